@@ -1,0 +1,38 @@
+-- An archive and the texts of its records.
+use Rattle.std.proofs.Common.{◌≡◌, ◌∙◌, ℕ, ◌+◌, List, [], ◌∷◌, ◌++◌, Some, Result, Ok, Err, Option, sym, ap, refl, append_assoc}
+use Rattle.std.specs.List.{concat}
+use Rattle.warc_core.specs.declared.fault.Cause.{Cause}
+use Rattle.warc_core.specs.HeadView.{HeadView, record_length}
+use Rattle.warc_core.specs.Walk.{record_at, Walks}
+use Rattle.warc_core.specs.RecordText.{AreTexts}
+use Rattle.warc_core.specs.Laws.{NoRecordAtDamage}
+use Rattle.warc_core.proofs.SpelledLemmas.{read-spelled, spelled-read}
+
+-- what is walked is spelled
+pub walk-spelled : (limit start : ℕ) (bytes : List ℕ) (heads : List HeadView) (end : ℕ) (rest : List ℕ) → Walks limit start bytes heads end rest → (texts : List (List ℕ)) × AreTexts limit start heads texts × (bytes ≡ concat texts ++ rest)
+walk-spelled limit start bytes [] end rest w = ([], tt, sym w.1)
+walk-spelled limit start bytes (h ∷ heads) end rest w =
+    let r = read-spelled limit start bytes w.0 h w.1 in
+    let t = walk-spelled limit (start + record_length h) w.0 heads end rest w.2 in
+    (r.1 ∷ t.0, (r.0, r.2, t.1), r.3 ∙ (ap (λ z. r.1 ++ z) t.2 ∙ sym (append_assoc r.1 (concat t.0) rest)))
+
+-- where the records of texts end
+abbrev pub end_of : ℕ → List HeadView → ℕ
+end_of start [] = start
+end_of start (h ∷ heads) = end_of (start + record_length h) heads
+
+-- what is spelled is walked
+pub spelled-walk : (limit start : ℕ) (heads : List HeadView) (texts : List (List ℕ)) (rest : List ℕ) → AreTexts limit start heads texts → Walks limit start (concat texts ++ rest) heads (end_of start heads) rest
+spelled-walk limit start [] [] rest a = (refl, refl)
+spelled-walk limit start [] (text ∷ texts) rest a = absurd a
+spelled-walk limit start (h ∷ heads) [] rest a = absurd a
+spelled-walk limit start (h ∷ heads) (text ∷ texts) rest a = (
+  concat texts ++ rest,
+  ap (record_at limit start) (append_assoc text (concat texts) rest) ∙ spelled-read limit start h a.0 text (concat texts ++ rest) a.1,
+  spelled-walk limit (start + record_length h) heads texts rest a.2,
+)
+
+-- no record begins where damage does
+pub no-record : NoRecordAtDamage
+no-record limit archive heads offset cause d h block text more e r =
+    let k : ◌≡◌ {A = Result (Option HeadView × List ℕ) Cause} (Ok (Some h, more)) (Err cause) = sym (spelled-read limit offset h block text more r) ∙ (ap (record_at limit offset) (sym e) ∙ d.refused) in cc

@@ -1,0 +1,76 @@
+-- What a piece of a head does to the reading of it.
+use Rattle.std.proofs.Common.{◌≡◌, ◌∙◌, ℕ, ◌+◌, ◌-◌, ◌<◌, ◌≤◌, List, [], ◌++◌, Option, None, Some, Result, Ok, Err, true, false, length, take, drop, arith, sym, ap, subst, append_assoc, length-append, inl, inr}
+use Rattle.std.specs.Io.KnownBytes.{IsAtEnd, prepend_known}
+use Rattle.std.proofs.lemmas.Grind.{common_steps}
+use Rattle.std.proofs.lemmas.List.{take-append-drop, length-take-le}
+use Rattle.warc_core.specs.declared.fault.Cause.{Cause}
+use Rattle.warc_core.specs.declared.fault.Cause.TheVariants as causes
+use Rattle.warc_core.specs.Reading.{Reads, GoesOn, IsFoundIn}
+use Rattle.warc_core.specs.Record.{has_version, is_closed, head_text, ClosesFirst}
+use Rattle.warc_core.proofs.ReadingLemmas.{GoesOn-fault, GoesOn-done, GoesOn-held, none_known}
+use Rattle.warc_core.proofs.HeadLemmas.{going, going-end, going-full, going-found, going-wrong, going-gathered, take-behind, has_version-longer, which}
+
+-- a fault that the held bytes show
+fault_held : {A : Type 0} (f g : List ℕ → Result (A × List ℕ) Cause) (c : Cause) (before left after : Option (List ℕ)) (b : List ℕ) → GoesOn f g before (prepend_known b left) → ((z : List ℕ) → IsFoundIn c (g (b ++ z))) → Reads f (Err c) before after
+fault_held f g c None left after b h e = tt
+fault_held f g c (Some z) None after b h e = absurd h
+fault_held f g c (Some z) (Some w) after b h e = subst (IsFoundIn c) (sym h) (e w)
+
+split_at : (count : ℕ) (b z : List ℕ) → b ++ z ≡ take count b ++ (drop count b ++ z)
+split_at count b z = ap (λ x. x ++ z) (sym (take-append-drop count b)) ∙ append_assoc (take count b) (drop count b) z
+
+take-take-le : (m n : ℕ) (xs : List ℕ) → m ≤ n → take m (take n xs) ≡ take m xs
+take-take-le m n xs h = grind (arith, common_steps)
+
+-- a front of what agrees
+pub has_version-front : (xs more : List ℕ) → has_version (xs ++ more) ≡ true → has_version xs ≡ true
+has_version-front xs more h =
+    elim (which (has_version xs)) [
+      | inl t ↦ t
+      | inr f ↦ absurd (let e = has_version-longer xs more f in let k : true ≡ false = sym h ∙ e in cc)
+    ]
+
+pub has_version-take : (n : ℕ) (xs : List ℕ) → has_version xs ≡ true → has_version (take n xs) ≡ true
+has_version-take n xs h = has_version-front (take n xs) (drop n xs) (ap has_version (take-append-drop n xs) ∙ h)
+
+module _ (limit : ℕ) (seen b : List ℕ) (before left : Option (List ℕ)) (unclosed : is_closed seen ≡ false) (same : GoesOn (head_text limit) (going limit seen) before (prepend_known b left)) where
+  -- the input ends
+  pub head-short : (after : Option (List ℕ)) → has_version seen ≡ true → length seen < limit → b ≡ [] → IsAtEnd left → Reads (head_text limit) (Err causes.ShortHead) before after
+  head-short after agree room e h =
+      GoesOn-fault (head_text limit) (going limit seen) causes.ShortHead before (prepend_known b left) after same
+      (λ w k. ap (going limit seen) (none_known b left w e h k) ∙ going-end limit seen unclosed agree room)
+
+  -- no room is left
+  pub head-long : (after : Option (List ℕ)) → has_version seen ≡ true → length seen ≡ limit → 10 ≤ limit → Reads (head_text limit) (Err causes.HeadTooLong) before after
+  head-long after agree full ten = GoesOn-fault (head_text limit) (going limit seen) causes.HeadTooLong before (prepend_known b left) after same (λ w k. going-full limit seen w unclosed agree full ten)
+
+  -- a piece more shows another version
+  pub head-wrong : (after : Option (List ℕ)) (count : ℕ) (new : List ℕ) → new ≡ seen ++ take count b → has_version new ≡ false → Reads (head_text limit) (Err causes.Version) before after
+  head-wrong after count new n h =
+      fault_held (head_text limit) (going limit seen) causes.Version before left after b same
+      (λ z. ap (going limit seen) (split_at count b z) ∙ going-wrong limit seen (take count b) (drop count b ++ z) (ap has_version (sym n) ∙ h))
+
+  -- a piece more
+  pub head-piece : (count : ℕ) (new : List ℕ) → count ≤ length b → new ≡ seen ++ take count b → ((n : ℕ) → length seen < n → n < length seen + count → is_closed (take n new) ≡ false) → length seen + count ≤ limit → GoesOn (head_text limit) (going limit new) before (prepend_known (drop count b) left)
+  head-piece count new c n u l =
+      let m : length (take count b) ≡ count = length-take-le count b c in
+      GoesOn-held (head_text limit) (going limit seen) (going limit new) before left b (drop count b)
+      (λ z. ap (going limit seen) (split_at count b z)
+      ∙ (going-gathered limit seen (take count b) (drop count b ++ z) unclosed (λ k p q. ap (λ t. is_closed (take k t)) (sym n) ∙ u k p (omega (arith, m, q))) (omega (arith, m, l))
+      ∙ ap (λ s. going limit s (drop count b ++ z)) (sym n)))
+      same
+
+  -- the piece has the end
+  pub head-found : (count end : ℕ) (new : List ℕ) → count ≤ length b → new ≡ seen ++ take count b → ClosesFirst new (length seen) end → length seen + count ≤ limit → has_version new ≡ true → Reads (head_text limit) (Ok (take end new)) before (prepend_known (drop (end - length seen) b) left)
+  head-found count end new c n h l agree =
+      let m : length (take count b) ≡ count = length-take-le count b c in
+      let k = end - length seen in
+      let longer = h.longer in
+      let within : end ≤ length new = h.within in
+      let len : length new ≡ length seen + length (take count b) = ap length n ∙ length-append seen (take count b) in
+      let e : end ≡ length seen + k = omega (arith, longer) in
+      let small : k ≤ count = omega (arith, len, m, within) in
+      let front : take end new ≡ seen ++ take k b = ap (take end) n ∙ (ap (λ j. take j (seen ++ take count b)) e ∙ (take-behind seen (take count b) k ∙ ap (λ t. seen ++ t) (take-take-le k count b small))) in
+      GoesOn-done (head_text limit) (going limit (take end new)) (take end new) before (prepend_known (drop k b) left)
+      (head-piece k (take end new) (omega (arith, small, c)) front (λ j p q. ap is_closed (take-take-le j end new (omega (arith, q, longer))) ∙ h.first j p (omega (arith, q, longer))) (omega (arith, small, l)))
+      (λ w. going-found limit (take end new) w h.closed (has_version-take end new agree))

@@ -1,0 +1,12 @@
+pub mod DeviceLemmas
+pub mod BufferLemmas
+pub mod ReadingLemmas
+pub mod RecordLemmas
+pub mod HeadLemmas
+pub mod GatherLemmas
+pub mod NextLemmas
+pub mod WalkLemmas
+pub mod SpelledLemmas
+pub mod PartsLemmas
+pub mod ClosingLemmas
+pub mod ArchiveLemmas

@@ -1,0 +1,17 @@
+-- The faults of a head as causes.
+use Rattle.std.proofs.Common.{ℕ, List, ap}
+use Rattle.warc_head.specs.declared.fault.HeadFault.{HeadFault}
+use Rattle.warc_head.specs.declared.fault.HeadFault.TheVariants as faults
+use Rattle.warc_head.specs.Answers.{IsFound}
+use Rattle.warc_head.specs.Parts as heads
+use Rattle.warc_core.specs.Head.{parts_of, by_cause, cause_of}
+use Rattle.warc_core.specs.Reading.{IsFoundPurely}
+
+pub purely-found : (f : HeadFault) (raw : List ℕ) → IsFound f (heads.parts_of raw) → IsFoundPurely (cause_of f) (parts_of raw)
+unfolding parts_of
+purely-found faults.Memory raw h = tt
+purely-found faults.FieldLine raw h = ap by_cause h
+purely-found faults.Missing raw h = ap by_cause h
+purely-found faults.Repeated raw h = ap by_cause h
+purely-found faults.BadLength raw h = ap by_cause h
+purely-found faults.BadDate raw h = ap by_cause h

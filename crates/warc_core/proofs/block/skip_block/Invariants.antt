@@ -1,0 +1,14 @@
+use Rattle.std.proofs.Common.{◌≡◌}
+use Rattle.std.specs.Io.KnownBytes.{prepend_known}
+use Rattle.warc_core.specs.Reading.{GoesOn}
+use Rattle.warc_core.specs.Record.{after_block}
+use Rattle.warc_core.proofs.block.skip_block.Given as goal
+
+abbrev pub invariant-loop-left : goal.invariant-loop-left
+invariant-loop-left g l = record {
+  same : GoesOn (after_block l.length) (after_block l.left) (prepend_known l.fn.buffer (g.I.Input.left l.fn.input)) (prepend_known l.buffer (g.I.Input.left l.input));
+  count : g.I.Input.failures l.input ≡ g.I.Input.failures l.fn.input;
+}
+
+abbrev pub decreases-loop-left : goal.decreases-loop-left
+decreases-loop-left g l = l.left

@@ -1,0 +1,11 @@
+use Rattle.std.proofs.Common.{◌≡◌, drop}
+use Rattle.std.specs.Io.KnownBytes.{prepend_known}
+use Rattle.warc_core.specs.Reading.{GoesOn}
+use Rattle.warc_core.specs.Record.{after_text, closing}
+use Rattle.warc_core.proofs.closing.expect_closing.Given as goal
+
+abbrev pub invariant-loop-expected : goal.invariant-loop-expected
+invariant-loop-expected g l = record {
+  same : GoesOn (after_text closing) (after_text (drop l.expected-index closing)) (prepend_known l.fn.buffer (g.I.Input.left l.fn.input)) (prepend_known l.buffer (g.I.Input.left l.input));
+  count : g.I.Input.failures l.input ≡ g.I.Input.failures l.fn.input;
+}

@@ -1,0 +1,11 @@
+use Rattle.std.proofs.Common.{ap}
+use Rattle.warc_core.specs.Head.{parts_of, by_cause}
+use Rattle.warc_core.proofs.PartsLemmas.{purely-found}
+use Rattle.warc_core.proofs.head.parts_of.Goals as goal
+
+pub returns-in-Ok : goal.returns-in-Ok
+unfolding parts_of
+returns-in-Ok c = ap by_cause c.in-Ok.ensures.answer
+
+pub returns-in-Err : goal.returns-in-Err
+returns-in-Err c = rw c.cause_of.ensures (purely-found c.in-Err.fault c.args.raw.now c.in-Err.ensures.answer)

@@ -1,0 +1,16 @@
+use Rattle.std.proofs.Common.{◌∙◌, subst, append-nil, []}
+use Rattle.warc_core.specs.Walk.{Walks}
+use Rattle.std.specs.List.{concat}
+use Rattle.warc_core.proofs.ArchiveLemmas.{walk-spelled, spelled-walk, end_of}
+use Rattle.warc_core.proofs.laws.archive_is_its_records.Goals as goal
+
+pub returns-clause-spelled : goal.returns-clause-spelled
+returns-clause-spelled c limit archive heads r =
+    let s = walk-spelled limit 0 archive heads r.end [] r.walks in
+    (s.0, s.1, s.2 ∙ append-nil (concat s.0))
+
+pub returns-clause-read : goal.returns-clause-read
+returns-clause-read c limit heads texts a = record {
+  end = end_of 0 heads;
+  walks = subst (λ z. Walks limit 0 z heads (end_of 0 heads) []) (append-nil (concat texts)) (spelled-walk limit 0 heads texts [] a);
+}

@@ -1,0 +1,19 @@
+-- The names of causes, as listings print them.
+use Rattle.std.specs.Prelude.{ℕ, List, codes}
+use Rattle.warc_core.specs.declared.fault.Cause.{Cause}
+use Rattle.warc_core.specs.declared.fault.Cause.TheVariants as causes
+
+abbrev pub cause_name : Cause → List ℕ
+cause_name causes.Memory = codes "Memory"
+cause_name causes.Read = codes "Read"
+cause_name causes.Version = codes "Version"
+cause_name causes.ShortHead = codes "ShortHead"
+cause_name causes.HeadTooLong = codes "HeadTooLong"
+cause_name causes.FieldLine = codes "FieldLine"
+cause_name causes.Missing = codes "Missing"
+cause_name causes.Repeated = codes "Repeated"
+cause_name causes.BadLength = codes "BadLength"
+cause_name causes.BadDate = codes "BadDate"
+cause_name causes.ShortBlock = codes "ShortBlock"
+cause_name causes.Closing = codes "Closing"
+cause_name causes.TooFar = codes "TooFar"

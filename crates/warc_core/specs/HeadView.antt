@@ -1,0 +1,23 @@
+-- What contracts see of a head.
+use Rattle.std.specs.Prelude.{◌≡◌, ℕ, ◌+◌, ◌-◌, ◌^◌, ◌≤◌, List, length}
+use Rattle.warc_head.specs.Parts.{HeadParts}
+
+pub record HeadView : Type 0 where
+  -- where the record begins
+  pub start : ℕ
+  -- the head as stored
+  pub raw : List ℕ
+  pub parts : HeadParts
+
+-- how long a record with this head is
+abbrev pub record_length : HeadView → ℕ
+record_length h = length h.raw + h.parts.length + 4
+
+-- the record ends by the greatest offset
+abbrev pub IsWithinOffsets : HeadView → Type 0
+IsWithinOffsets h = h.start + record_length h ≤ 2 ^ 63 - 1
+
+-- the head of a record that begins here, and ends by the greatest offset
+pub record BeginsAt (start : ℕ) (h : HeadView) : Type 0 where
+  pub start_is : h.start ≡ start
+  pub fits : start + record_length h ≤ 2 ^ 63 - 1

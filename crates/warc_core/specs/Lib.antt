@@ -1,0 +1,14 @@
+pub mod Device
+pub mod Cause
+pub mod Gathered
+pub mod FromStd
+pub mod Fused
+pub mod Reading
+pub mod Record
+pub mod ReaderView
+pub mod HeadView
+pub mod Head
+pub mod Next
+pub mod Walk
+pub mod RecordText
+pub mod Laws

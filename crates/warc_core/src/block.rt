@@ -1,0 +1,69 @@
+//! The bytes of a block.
+ghost use Rattle.std.specs.Prelude.{◌≡◌, ◌≢◌, Option, ℕ, ◌+◌, ◌-◌, ◌<◌, ◌≤◌, List, [], length, drop, take, IfOk, IfErr, OnOk, MatchResult};
+ghost use Rattle.std.specs.Io.KnownBytes.{Consumes, ReadConsumes, prepend_known};
+ghost use Rattle.warc_core.specs.Reading.{Reads, CountsRead, IsFoundAt};
+ghost use Rattle.warc_core.specs.Record.{after_block};
+
+use crate::buffer::Buffer;
+use crate::device::Input;
+use crate::fault::Cause;
+
+/// Gives out the next bytes, as a read of what is held and then of the input.
+fn give<I: Input>(buffer: &mut Buffer, input: &mut I, piece: &mut [u8]) -> Result<usize, Cause>
+    ensures bound { IfOk result (λ n. n ≤ length piece.new) }
+    ensures only_read { IfErr result (λ c. c ≡ Cause.Read) }
+    ensures bytes { ReadConsumes (prepend_known buffer.old (I.left input.old)) (prepend_known buffer.new (I.left input.new)) result piece.new }
+    ensures failures { CountsRead result (I.failures input.old) (I.failures input.new) }
+{
+    buffer.fill(input)?;
+    let held = buffer.as_slice();
+    let count = piece.len().min(held.len());
+    piece[..count].copy_from_slice(&held[..count]);
+    buffer.consume(count);
+    Ok(count)
+}
+
+/// Gives out the next bytes of a block of which so many are left.
+pub fn give_block<I: Input>(
+    buffer: &mut Buffer,
+    input: &mut I,
+    piece: &mut [u8],
+    left: u64,
+) -> Result<usize, Cause>
+    ensures only { IfErr result (λ c. c ≢ Cause.Memory) }
+    ensures count { IfOk result (λ n. (n ≤ left) × (n ≤ length piece.new) × (0 < left → 0 < length piece.new → 0 < n)) }
+    ensures bytes { MatchResult result
+        (λ n. Consumes (prepend_known buffer.old (I.left input.old)) (prepend_known buffer.new (I.left input.new)) (take n piece.new))
+        (λ c. IsFoundAt (after_block left) c (prepend_known buffer.old (I.left input.old))) }
+    ensures failures { CountsRead result (I.failures input.old) (I.failures input.new) }
+{
+    let most = left.min(piece.len() as u64) as usize;
+    if most == 0 {
+        return Ok(0);
+    }
+    let count = give(buffer, input, &mut piece[..most])?;
+    if count == 0 {
+        return Err(Cause::ShortBlock);
+    }
+    Ok(count)
+}
+
+/// Passes over a block's bytes.
+pub fn skip_block<I: Input>(buffer: &mut Buffer, input: &mut I, length: u64) -> Result<(), Cause>
+    ensures bytes { Reads (after_block length) result (prepend_known buffer.old (I.left input.old)) (prepend_known buffer.new (I.left input.new)) }
+    ensures only { IfErr result (λ c. c ≢ Cause.Memory) }
+    ensures failures { CountsRead result (I.failures input.old) (I.failures input.new) }
+{
+    let mut left = length;
+    while left > 0 {
+        buffer.fill(input)?;
+        let held = buffer.as_slice().len();
+        if held == 0 {
+            return Err(Cause::ShortBlock);
+        }
+        let count = left.min(held as u64);
+        buffer.consume(count as usize);
+        left -= count;
+    }
+    Ok(())
+}

@@ -1,0 +1,49 @@
+//! The end of a record.
+ghost use Rattle.std.specs.Prelude.{◌≡◌, ◌≢◌, Option, ℕ, ◌+◌, ◌-◌, ◌<◌, ◌≤◌, List, [], length, drop, take, IfOk, IfErr, OnOk, MatchResult};
+ghost use Rattle.std.specs.Io.KnownBytes.{prepend_known};
+ghost use Rattle.warc_core.specs.Reading.{Reads, CountsRead, first_of};
+ghost use Rattle.warc_core.specs.Record.{closing, after_text, after_record};
+
+use crate::block::skip_block;
+use crate::buffer::Buffer;
+use crate::device::Input;
+use crate::fault::Cause;
+
+/// The next byte, if there is one.
+fn next_byte<I: Input>(buffer: &mut Buffer, input: &mut I) -> Result<Option<u8>, Cause>
+    ensures bytes { Reads first_of result (prepend_known buffer.old (I.left input.old)) (prepend_known buffer.new (I.left input.new)) }
+    ensures only { IfErr result (λ c. c ≢ Cause.Memory) }
+    ensures failures { CountsRead result (I.failures input.old) (I.failures input.new) }
+{
+    buffer.fill(input)?;
+    let first = buffer.as_slice().first().copied();
+    if first.is_some() {
+        buffer.consume(1);
+    }
+    Ok(first)
+}
+
+/// Passes over the text, which has to come next.
+fn expect_closing<I: Input>(buffer: &mut Buffer, input: &mut I) -> Result<(), Cause>
+    ensures bytes { Reads (after_text closing) result (prepend_known buffer.old (I.left input.old)) (prepend_known buffer.new (I.left input.new)) }
+    ensures only { IfErr result (λ c. c ≢ Cause.Memory) }
+    ensures failures { CountsRead result (I.failures input.old) (I.failures input.new) }
+{
+    for expected in b"\r\n\r\n" {
+        match next_byte(buffer, input)? {
+            Some(byte) if byte == *expected => {}
+            _ => return Err(Cause::Closing),
+        }
+    }
+    Ok(())
+}
+
+/// Passes over what is left of a block, and its closing.
+pub fn skip_record<I: Input>(buffer: &mut Buffer, input: &mut I, left: u64) -> Result<(), Cause>
+    ensures only { IfErr result (λ c. c ≢ Cause.Memory) }
+    ensures bytes { Reads (after_record left) result (prepend_known buffer.old (I.left input.old)) (prepend_known buffer.new (I.left input.new)) }
+    ensures failures { CountsRead result (I.failures input.old) (I.failures input.new) }
+{
+    skip_block(buffer, input, left)?;
+    expect_closing(buffer, input)
+}

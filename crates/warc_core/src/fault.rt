@@ -1,0 +1,109 @@
+//! Why an archive can't be read further.
+ghost use Rattle.std.specs.Prelude.{◌≡◌};
+ghost use Rattle.warc_core.specs.declared.fault.Cause.TheVariants.{Memory, Read};
+
+use crate::device::DeviceFault;
+use std::alloc::{AllocError, AllocFailed};
+use thiserror::Error;
+
+/// What is wrong with a record, in the order in which the causes are looked for.
+#[derive(Clone, Copy, Debug, PartialEq, Eq, Error)]
+pub enum Cause {
+    /// A growth was refused.
+    #[error("out of memory")]
+    Memory,
+    /// The input failed.
+    #[error("the input can't be read")]
+    Read,
+    /// The first bytes aren't those of `WARC/1.1` or `WARC/1.0` and CR LF.
+    #[error("no WARC version line")]
+    Version,
+    /// The input ends before the head does.
+    #[error("the head is cut off")]
+    ShortHead,
+    /// The head doesn't end within 65,536 bytes.
+    #[error("the head is too long")]
+    HeadTooLong,
+    /// A line of the head is neither a named field nor goes on with one.
+    #[error("a line of the head is no field")]
+    FieldLine,
+    /// One of the four mandatory fields is absent.
+    #[error("a mandatory field is missing")]
+    Missing,
+    /// One of the four mandatory fields stands twice.
+    #[error("a mandatory field is repeated")]
+    Repeated,
+    /// `Content-Length` isn't a number of 1 to 19 digits below 2^63.
+    #[error("a bad Content-Length")]
+    BadLength,
+    /// `WARC-Date` is no date text, or names a date that doesn't exist.
+    #[error("a bad WARC-Date")]
+    BadDate,
+    /// The input ends before the block does.
+    #[error("the block is cut off")]
+    ShortBlock,
+    /// The block isn't followed by CR LF CR LF.
+    #[error("the record isn't closed")]
+    Closing,
+    /// The record would end at 2^63 or above.
+    #[error("the record ends too far")]
+    TooFar,
+}
+
+impl Cause {
+    ghost use Rattle.warc_core.specs.Cause.{cause_name};
+
+    /// The cause as listings print it.
+    pub fn name(self) -> &'static str
+        ensures { result.now ≡ cause_name self }
+    {
+        match self {
+            Cause::Memory => "Memory",
+            Cause::Read => "Read",
+            Cause::Version => "Version",
+            Cause::ShortHead => "ShortHead",
+            Cause::HeadTooLong => "HeadTooLong",
+            Cause::FieldLine => "FieldLine",
+            Cause::Missing => "Missing",
+            Cause::Repeated => "Repeated",
+            Cause::BadLength => "BadLength",
+            Cause::BadDate => "BadDate",
+            Cause::ShortBlock => "ShortBlock",
+            Cause::Closing => "Closing",
+            Cause::TooFar => "TooFar",
+        }
+    }
+}
+
+/// Where an archive can't be read further, and why.
+#[derive(Clone, Copy, Debug, PartialEq, Eq, Error)]
+#[error("record at offset {offset}: {cause}")]
+pub struct Fault {
+    /// Where the record at fault begins, in bytes from the archive's start.
+    pub offset: u64,
+    pub cause: Cause,
+}
+
+impl From<DeviceFault> for Cause {
+    ghost from_gives = { λ _ e. e ≡ Read };
+
+    fn from(_fault: DeviceFault) -> Cause {
+        Cause::Read
+    }
+}
+
+impl From<AllocError> for Cause {
+    ghost from_gives = { λ _ e. e ≡ Memory };
+
+    fn from(_error: AllocError) -> Cause {
+        Cause::Memory
+    }
+}
+
+impl<T: Drop> From<AllocFailed<T>> for Cause {
+    ghost from_gives = { λ _ e. e ≡ Memory };
+
+    fn from(_error: AllocFailed<T>) -> Cause {
+        Cause::Memory
+    }
+}

@@ -1,0 +1,113 @@
+//! The head of a record.
+ghost use Rattle.std.specs.Prelude.{◌≡◌};
+ghost use Rattle.warc_core.specs.Reading.{Gives};
+ghost use Rattle.warc_core.specs.Head.{parts_of, cause_of};
+
+use crate::fault::Cause;
+use std::alloc::Global;
+use std::marker::Model;
+use warc_head::{HeadFault, Kind, Parts, read_parts};
+
+/// A record's head, with the record's place in its archive.
+#[derive(Drop)]
+pub struct Head {
+    start: u64,
+    raw: Vec<u8>,
+    parts: Parts,
+}
+
+impl Model for Head {
+    ghost use Rattle.warc_core.specs.HeadView.{HeadView, IsWithinOffsets};
+
+    ghost Value = { HeadView };
+
+    ghost view = { λ h. record { start = h.start; raw = h.raw.items; parts = h.parts } };
+
+    ghost invariant = { λ h. IsWithinOffsets (record { start = h.start; raw = h.raw.items; parts = h.parts }) };
+}
+
+impl Head {
+    ghost use Rattle.std.specs.Prelude.{MatchOption, None, Some};
+    ghost use Rattle.warc_head.specs.Fields.{value_of};
+    ghost use Rattle.warc_core.specs.HeadView.{record_length, IsWithinOffsets};
+
+    pub(crate) fn from_parts(start: u64, raw: Vec<u8>, parts: Parts) -> Head
+        requires { IsWithinOffsets (record { start = start; raw = raw.items; parts = parts }) }
+        ensures { result ≡ record { start = start; raw = raw.items; parts = parts } }
+    {
+        Head { start, raw, parts }
+    }
+
+    /// Where the record begins, in bytes from the archive's start.
+    pub fn start(&self) -> u64
+        ensures { result ≡ self.now.start }
+    {
+        self.start
+    }
+
+    /// The record's type (ISO 28500:2017, WARC-Type).
+    pub fn kind(&self) -> Kind
+        ensures { result ≡ self.now.parts.kind }
+    {
+        self.parts.kind()
+    }
+
+    /// How many bytes the block has (ISO 28500:2017, Content-Length).
+    pub fn length(&self) -> u64
+        ensures { result ≡ self.now.parts.length }
+    {
+        self.parts.length()
+    }
+
+    /// How many bytes the whole record has: its head, its block and the closing.
+    pub fn record_length(&self) -> u64
+        ensures value { result ≡ record_length self.now }
+        ensures within { IsWithinOffsets self.now }
+    {
+        self.raw.len() as u64 + self.parts.length() + 4
+    }
+
+    /// When the record was made, as 14 digits (ISO 28500:2017, WARC-Date).
+    pub fn stamp(&self) -> [u8; 14]
+        ensures { result ≡ self.now.parts.stamp }
+    {
+        self.parts.stamp()
+    }
+
+    /// The value of the first field of this name, ASCII case ignored.
+    pub fn field(&self, name: &[u8]) -> Option<&[u8]>
+        ensures { MatchOption result (value_of name.now self.now.parts.fields ≡ None) (λ v. value_of name.now self.now.parts.fields ≡ Some v.now) }
+    {
+        self.parts.field(name)
+    }
+
+    /// The head as it is stored, from the version line to the empty line.
+    pub fn raw(&self) -> &[u8]
+        ensures { result.now ≡ self.now.raw }
+    {
+        self.raw.as_slice()
+    }
+}
+
+/// What the text of a head says.
+pub fn parts_of(alloc: Global, raw: &[u8]) -> Result<Parts, Cause>
+    ensures { Gives (λ p. p) result (parts_of raw.now) }
+{
+    match read_parts(alloc, raw) {
+        Ok(parts) => Ok(parts),
+        Err(fault) => Err(cause_of(fault)),
+    }
+}
+
+fn cause_of(fault: HeadFault) -> Cause
+    ensures { result ≡ cause_of fault }
+{
+    match fault {
+        HeadFault::Memory => Cause::Memory,
+        HeadFault::FieldLine => Cause::FieldLine,
+        HeadFault::Missing => Cause::Missing,
+        HeadFault::Repeated => Cause::Repeated,
+        HeadFault::BadLength => Cause::BadLength,
+        HeadFault::BadDate => Cause::BadDate,
+    }
+}

@@ -1,0 +1,78 @@
+//! The text of a head, taken from the input piece by piece.
+ghost use Rattle.std.specs.Prelude.{◌≡◌, Option, ℕ, ◌+◌, ◌-◌, ◌<◌, ◌≤◌, List, [], length, drop, take, IfOk, IfErr, OnOk, MatchResult, MatchOption};
+ghost use Rattle.std.specs.Io.KnownBytes.{Keeps, IsAtEnd, prepend_known, ReadConsumes};
+ghost use Rattle.warc_core.specs.Reading.{Reads, CountsRead, seen_as};
+ghost use Rattle.warc_core.specs.Record.{agrees, has_version, head_text, IsOpenAfter, ClosesFirst};
+
+use crate::buffer::Buffer;
+use crate::device::Input;
+use crate::fault::Cause;
+use memchr::memmem;
+use std::alloc::Global;
+
+/// How many bytes are added to a head at once. Most heads are shorter.
+const HEAD_PIECE: usize = 1024;
+
+/// Whether the bytes are those of the line, as far as both go.
+fn agrees(head: &[u8], line: &[u8]) -> bool
+    ensures { result ≡ agrees head.now line.now }
+{
+    head.iter()
+        .zip(line)
+        .all(|(byte, expected)| *byte == *expected)
+}
+
+/// Whether the bytes are those of a version line, as far as they go.
+fn has_version(head: &[u8]) -> bool
+    ensures { result ≡ has_version head.now }
+{
+    agrees(head, b"WARC/1.1\r\n") || agrees(head, b"WARC/1.0\r\n")
+}
+
+/// Where the first front that is longer than this and ends with CR LF CR LF ends.
+fn closing_end(text: &[u8], before: usize) -> Option<usize>
+    requires { before ≤ length text.now }
+    ensures { MatchOption result (IsOpenAfter text.now before) (ClosesFirst text.now before) }
+{
+    let from = before.saturating_sub(3);
+    match memmem::find(&text[from..], b"\r\n\r\n") {
+        Some(at) => Some(from + at + 4),
+        None => None,
+    }
+}
+
+/// The text of the head that comes next, of at most `limit` bytes.
+pub fn gather_head<I: Input>(
+    alloc: Global,
+    buffer: &mut Buffer,
+    input: &mut I,
+    limit: usize,
+) -> Result<Vec<u8>, Cause>
+    requires { 10 ≤ limit }
+    ensures bytes { Reads (head_text limit) (seen_as (λ v. v.items) result) (prepend_known buffer.old (I.left input.old)) (prepend_known buffer.new (I.left input.new)) }
+    ensures failures { CountsRead (seen_as (λ v. v.items) result) (I.failures input.old) (I.failures input.new) }
+{
+    let mut head = Vec::new(alloc);
+    while head.len() < limit {
+        buffer.fill(input)?;
+        let held = buffer.as_slice();
+        if held.is_empty() {
+            return Err(Cause::ShortHead);
+        }
+        let before = head.len();
+        let count = held.len().min(HEAD_PIECE).min(limit - before);
+        head.extend_from_slice(&held[..count])?;
+        if !has_version(head.as_slice()) {
+            return Err(Cause::Version);
+        }
+        match closing_end(head.as_slice(), before) {
+            Some(end) => {
+                head.truncate(end);
+                buffer.consume(end - before);
+                return Ok(head);
+            }
+            None => buffer.consume(count),
+        }
+    }
+    Err(Cause::HeadTooLong)
+}

@@ -1,0 +1,32 @@
+//! The records of a WARC file, read from any input (ISO 28500:2017, file and record model).
+//!
+//! A [`Reader`] is handed its input at each call, and gives the records one after another: a [`Head`], the bytes
+//! of its block, and the closing. It stops with a [`Fault`] at the first place where no record stands.
+#![tactic(auto)]
+
+mod block;
+mod buffer;
+mod closing;
+mod device;
+mod fault;
+mod fuse;
+mod head;
+mod head_text;
+pub mod laws;
+mod memory;
+mod next;
+mod phase;
+mod reader;
+mod standard;
+#[cfg(test)]
+mod tests;
+
+pub use crate::device::{DeviceFault, Input, Output, put};
+pub use crate::fault::{Cause, Fault};
+pub use crate::fuse::Fuse;
+pub use crate::head::Head;
+pub use crate::memory::{Gather, Slice};
+pub use crate::next::HEAD_LIMIT;
+pub use crate::phase::Phase;
+pub use crate::reader::Reader;
+pub use crate::standard::{FromRead, FromWrite};

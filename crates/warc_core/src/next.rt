@@ -1,0 +1,59 @@
+//! The head that comes next.
+ghost use Rattle.std.specs.Prelude.{◌≡◌, Option, ℕ, ◌+◌, ◌-◌, ◌<◌, ◌≤◌, ◌^◌, List, [], length, IfOk, IfSome};
+ghost use Rattle.std.specs.Option.{option_map};
+ghost use Rattle.std.specs.Io.KnownBytes.{prepend_known};
+ghost use Rattle.warc_core.specs.Reading.{Reads, CountsRead, seen_as};
+ghost use Rattle.warc_core.specs.Next.{head_at, next_at};
+ghost use Rattle.warc_core.specs.HeadView.{BeginsAt};
+
+use crate::buffer::Buffer;
+use crate::device::Input;
+use crate::fault::Cause;
+use crate::head::{Head, parts_of};
+use crate::head_text::gather_head;
+use std::alloc::Global;
+
+/// The most bytes of a head.
+pub const HEAD_LIMIT: usize = 65_536;
+
+const GREATEST_OFFSET: u128 = i64::MAX as u128;
+
+/// The head of the record that starts at this offset.
+fn read_head<I: Input>(
+    alloc: Global,
+    buffer: &mut Buffer,
+    input: &mut I,
+    start: u64,
+) -> Result<Head, Cause>
+    requires { start ≤ 2 ^ 63 - 1 }
+    ensures bytes { Reads (head_at HEAD_LIMIT start) result (prepend_known buffer.old (I.left input.old)) (prepend_known buffer.new (I.left input.new)) }
+    ensures begins { IfOk result (BeginsAt start) }
+    ensures failures { CountsRead result (I.failures input.old) (I.failures input.new) }
+{
+    let raw = gather_head(alloc, buffer, input, HEAD_LIMIT)?;
+    let parts = parts_of(alloc, raw.as_slice())?;
+    let end = u128::from(start) + raw.len() as u128 + u128::from(parts.length()) + 4;
+    if end > GREATEST_OFFSET {
+        return Err(Cause::TooFar);
+    }
+    Ok(Head::from_parts(start, raw, parts))
+}
+
+/// The head of the record that starts at this offset, if a byte follows.
+pub fn read_next<I: Input>(
+    alloc: Global,
+    buffer: &mut Buffer,
+    input: &mut I,
+    start: u64,
+) -> Result<Option<Head>, Cause>
+    requires { start ≤ 2 ^ 63 - 1 }
+    ensures begins { IfOk result (λ o. IfSome o (BeginsAt start)) }
+    ensures bytes { Reads (next_at HEAD_LIMIT start) result (prepend_known buffer.old (I.left input.old)) (prepend_known buffer.new (I.left input.new)) }
+    ensures failures { CountsRead result (I.failures input.old) (I.failures input.new) }
+{
+    buffer.fill(input)?;
+    if buffer.as_slice().is_empty() {
+        return Ok(None);
+    }
+    Ok(Some(read_head(alloc, buffer, input, start)?))
+}

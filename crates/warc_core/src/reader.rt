@@ -1,0 +1,179 @@
+//! Records, one after another, from an input that each call is handed.
+ghost use Rattle.std.specs.Prelude.{◌≡◌, ◌≢◌, ℕ, ◌-◌, ◌^◌, ◌≤◌, [], Ok, Err, IfOk, IfErr, OnOk};
+
+use crate::block::give_block;
+use crate::buffer::Buffer;
+use crate::closing::skip_record;
+use crate::device::Input;
+use crate::fault::{Cause, Fault};
+use crate::head::Head;
+use crate::next::{HEAD_LIMIT, read_next};
+use crate::phase::Phase;
+use std::alloc::Global;
+use std::marker::Model;
+
+/// Reads an archive's records in turn. It holds no input: each call is handed it.
+///
+/// A record is open from its head until its closing was read. A reader whose call failed answers the same fault for
+/// good, and reads nothing more.
+#[derive(Drop)]
+pub struct Reader {
+    alloc: Global,
+    offset: u64,
+    phase: Phase,
+    buffer: Buffer,
+}
+
+impl Model for Reader {
+    ghost use Rattle.warc_core.specs.ReaderView.{ReaderView, IsWithinLimit};
+
+    ghost Value = { ReaderView };
+
+    ghost view = { λ r. record { offset = r.offset; phase = r.phase; held = r.buffer } };
+
+    ghost invariant = { λ r. IsWithinLimit r.offset r.phase };
+}
+
+impl Reader {
+    ghost use Rattle.warc_core.specs.declared.fault.Fault.{Fault};
+    ghost use Rattle.warc_core.specs.declared.fault.Cause.{Cause};
+    ghost use Rattle.warc_core.specs.ReaderView.{Finishes, GivesBlock};
+    ghost use Rattle.warc_core.specs.Next.{GoesNext, FinishesAndGoesNext};
+
+    /// A reader at the start of an archive, with a buffer of 8,192 bytes.
+    ///
+    /// The only error is `Memory`, at offset 0.
+    pub fn new(alloc: Global) -> Result<Reader, Fault>
+        ensures start { IfOk result (λ r. r ≡ record { offset = 0; phase = Phase.Between; held = [] }) }
+        ensures memory { IfErr result (λ f. f ≡ record { offset = 0; cause = Cause.Memory }) }
+    {
+        match Buffer::new(alloc) {
+            Ok(buffer) => Ok(Reader {
+                alloc,
+                offset: 0,
+                phase: Phase::Between,
+                buffer,
+            }),
+            Err(_) => Err(Fault {
+                offset: 0,
+                cause: Cause::Memory,
+            }),
+        }
+    }
+
+    /// From here on each call answers this fault.
+    fn fail(&mut self, cause: Cause) -> Fault
+        ensures fault { result ≡ record { offset = self.old.offset; cause = cause } }
+        ensures reader { self.new ≡ record self.old { phase = Phase.Failed cause } }
+    {
+        self.phase = Phase::Failed { cause };
+        Fault {
+            offset: self.offset,
+            cause,
+        }
+    }
+
+    /// Reads what is left of the open record and its closing, and answers the record's length in bytes. Where no
+    /// record is open it answers 0 and reads nothing.
+    ///
+    /// Errors are `Read`, `ShortBlock` and `Closing`, at the record's offset.
+    pub fn finish<I: Input>(&mut self, input: &mut I) -> Result<u64, Fault>
+        ensures open { (left len : ℕ) → self.old.phase ≡ Phase.Open left len →
+            Finishes left len self.old self.new result (I.left input.old) (I.left input.new) (I.failures input.old) (I.failures input.new) }
+        ensures only { (left len : ℕ) → self.old.phase ≡ Phase.Open left len → IfErr result (λ f. f.cause ≢ Cause.Memory) }
+        ensures closed { self.old.phase ≡ Phase.Between →
+            (result ≡ Ok 0) × (self.new ≡ self.old) × (input.new ≡ input.old) }
+        ensures failed { (c : Cause) → self.old.phase ≡ Phase.Failed c →
+            (result ≡ Err (record { offset = self.old.offset; cause = c })) × (self.new ≡ self.old) × (input.new ≡ input.old) }
+        ensures ready { OnOk result (self.new.phase ≡ Phase.Between) }
+        ensures rises { self.old.offset ≤ self.new.offset }
+        ensures within { self.new.offset ≤ 2 ^ 63 - 1 }
+    {
+        match self.phase {
+            Phase::Between => Ok(0),
+            Phase::Failed { cause } => Err(Fault {
+                offset: self.offset,
+                cause,
+            }),
+            Phase::Open { left, length } => match skip_record(&mut self.buffer, input, left) {
+                Ok(()) => {
+                    self.offset += length;
+                    self.phase = Phase::Between;
+                    Ok(length)
+                }
+                Err(cause) => Err(self.fail(cause)),
+            },
+        }
+    }
+
+    /// Gives the next bytes of the open record's block in the front of `piece`, and answers how many: 0 only at the
+    /// block's end or for an empty piece. Where no record is open it answers 0 and reads nothing.
+    ///
+    /// Errors are `Read` and `ShortBlock`, at the record's offset.
+    pub fn block<I: Input>(&mut self, input: &mut I, piece: &mut [u8]) -> Result<usize, Fault>
+        ensures open { (left len : ℕ) → self.old.phase ≡ Phase.Open left len →
+            GivesBlock left len self.old self.new result piece.new (I.left input.old) (I.left input.new) (I.failures input.old) (I.failures input.new) }
+        ensures only { (left len : ℕ) → self.old.phase ≡ Phase.Open left len → IfErr result (λ f. f.cause ≢ Cause.Memory) }
+        ensures closed { self.old.phase ≡ Phase.Between →
+            (result ≡ Ok 0) × (self.new ≡ self.old) × (input.new ≡ input.old) }
+        ensures failed { (c : Cause) → self.old.phase ≡ Phase.Failed c →
+            (result ≡ Err (record { offset = self.old.offset; cause = c })) × (self.new ≡ self.old) × (input.new ≡ input.old) }
+        ensures stays { self.new.offset ≡ self.old.offset }
+        ensures within { self.new.offset ≤ 2 ^ 63 - 1 }
+    {
+        match self.phase {
+            Phase::Between => Ok(0),
+            Phase::Failed { cause } => Err(Fault {
+                offset: self.offset,
+                cause,
+            }),
+            Phase::Open { left, length } => match give_block(&mut self.buffer, input, piece, left) {
+                Ok(count) => {
+                    let left = left - count as u64;
+                    self.phase = Phase::Open { left, length };
+                    Ok(count)
+                }
+                Err(cause) => Err(self.fail(cause)),
+            },
+        }
+    }
+
+    /// What comes next where no record is open.
+    fn next_between<I: Input>(&mut self, input: &mut I) -> Result<Option<Head>, Fault>
+        requires { self.old.phase ≡ Phase.Between }
+        ensures next { GoesNext HEAD_LIMIT self.old self.new result (I.left input.old) (I.left input.new) (I.failures input.old) (I.failures input.new) }
+        ensures stays { self.new.offset ≡ self.old.offset }
+        ensures within { self.new.offset ≤ 2 ^ 63 - 1 }
+    {
+        match read_next(self.alloc, &mut self.buffer, input, self.offset) {
+            Ok(None) => Ok(None),
+            Ok(Some(head)) => {
+                self.phase = Phase::Open {
+                    left: head.length(),
+                    length: head.record_length(),
+                };
+                Ok(Some(head))
+            }
+            Err(cause) => Err(self.fail(cause)),
+        }
+    }
+
+    /// Reads what is left of the open record and its closing, and then the head that follows. `None` at the end of the
+    /// archive, and again as long as the input stays at its end.
+    ///
+    /// Errors are those of `finish` at the open record's offset, and `Memory`, `Read` and the causes from `Version` to
+    /// `BadDate` and `TooFar` at the offset where the next record would begin.
+    pub fn next<I: Input>(&mut self, input: &mut I) -> Result<Option<Head>, Fault>
+        ensures between { self.old.phase ≡ Phase.Between →
+            GoesNext HEAD_LIMIT self.old self.new result (I.left input.old) (I.left input.new) (I.failures input.old) (I.failures input.new) }
+        ensures open { (left len : ℕ) → self.old.phase ≡ Phase.Open left len →
+            FinishesAndGoesNext HEAD_LIMIT left len self.old self.new result (I.left input.old) (I.left input.new) (I.failures input.old) (I.failures input.new) }
+        ensures failed { (c : Cause) → self.old.phase ≡ Phase.Failed c →
+            (result ≡ Err (record { offset = self.old.offset; cause = c })) × (self.new ≡ self.old) × (input.new ≡ input.old) }
+        ensures rises { self.old.offset ≤ self.new.offset }
+        ensures within { self.new.offset ≤ 2 ^ 63 - 1 }
+    {
+        self.finish(input)?;
+        self.next_between(input)
+    }
+}

@@ -1,0 +1,172 @@
+-- The fields of lines, of which some were read.
+use Rattle.std.proofs.Common.{◌≡◌, ◌∙◌, ℕ, List, [], ◌∷◌, ◌++◌, length, Option, None, Some, Result, Ok, Err, refl, sym, ap, true, false, Bool, append_assoc, arith, if◌then◌else◌}
+use Rattle.std.specs.List.{ends_with, list_all}
+use Rattle.std.specs.Prelude.{nat_eq, ◌&&◌, take, ◌-◌}
+use Rattle.warc_head.specs.declared.fault.HeadFault.{HeadFault}
+use Rattle.warc_head.specs.declared.fault.HeadFault.TheVariants as faults
+use Rattle.warc_head.specs.Answers.{◌>>=◌, IsFound}
+use Rattle.warc_head.specs.Lines.{lines_of, text_of, continues, trim, is_plain, line_end}
+use Rattle.warc_head.specs.Names.{is_name}
+use Rattle.warc_head.specs.Fields.{Field, Given, given_by, fields_of, joined, added, begun, field_in, with_piece, with_field, named, at_colon}
+
+-- a field that goes on
+abbrev pub longer : Field → List ℕ → Field
+longer f more = record { name = f.name; value = joined f.value more }
+
+-- fields that were read, and what the lines after them give
+abbrev pub onto : List Field → Given → Result (List Field) HeadFault
+onto [] read = begun read.more read.fields
+onto (f ∷ []) read = Ok (longer f (added read.more) ∷ read.fields)
+onto (f ∷ g ∷ seen) read = onto (g ∷ seen) read >>= λ fs. Ok (f ∷ fs)
+
+abbrev pub going_lines : List Field → List (List ℕ) → Result (List Field) HeadFault
+going_lines seen lines = given_by lines >>= onto seen
+
+unfoldable pub going : List Field → List ℕ → Result (List Field) HeadFault
+going seen rest = going_lines seen (lines_of rest)
+
+joined-assoc : (a b c : List ℕ) → joined (joined a b) c ≡ joined a (joined b c)
+joined-assoc [] b c = refl
+joined-assoc (x ∷ a) [] c = refl
+joined-assoc (x ∷ a) (y ∷ b) [] = refl
+joined-assoc (x ∷ a) (y ∷ b) (z ∷ c) = append_assoc (x ∷ a) (32 ∷ y ∷ b) (32 ∷ z ∷ c)
+
+pub joined-nil : (a : List ℕ) → joined a [] ≡ a
+joined-nil [] = refl
+joined-nil (x ∷ a) = refl
+
+-- fields before the last one are left as they are
+onto-more : (seen : List Field) (f : Field) (read : Given) → onto (seen ++ f ∷ []) read ≡ Ok (seen ++ longer f (added read.more) ∷ read.fields)
+onto-more [] f read = refl
+onto-more (g ∷ []) f read = refl
+onto-more (g ∷ h ∷ seen) f read = ap (λ r. r >>= λ fs. Ok (g ∷ fs)) (onto-more (h ∷ seen) f read)
+
+-- a line that goes on, where a field stands before it
+onto-continued : (seen : List Field) (f : Field) (t : List ℕ) (read : Given) → onto (seen ++ f ∷ []) (with_piece t read) ≡ onto (seen ++ longer f t ∷ []) read
+onto-continued seen f t read =
+    onto-more seen f (with_piece t read)
+    ∙ (ap (λ v. Ok (seen ++ record { name = f.name; value = v } ∷ read.fields)) (sym (joined-assoc f.value t (added read.more)))
+    ∙ sym (onto-more seen (longer f t) read))
+
+-- a line that begins a field
+onto-began : (seen : List Field) (f : Field) (read : Given) → onto seen (with_field f read) ≡ onto (seen ++ f ∷ []) read
+onto-began [] f read = refl
+onto-began (g ∷ []) f read = ap (λ v. Ok (record { name = g.name; value = v } ∷ longer f (added read.more) ∷ read.fields)) (joined-nil g.value)
+onto-began (g ∷ h ∷ seen) f read = ap (λ r. r >>= λ fs. Ok (g ∷ fs)) (onto-began (h ∷ seen) f read)
+
+then_ok : {A B C : Type 0} (r : Result A HeadFault) (f : A → B) (g : B → Result C HeadFault) → ((r >>= λ x. Ok (f x)) >>= g) ≡ (r >>= λ x. g (f x))
+then_ok (Ok x) f g = refl
+then_ok (Err e) f g = refl
+
+same_then : {A B : Type 0} (r : Result A HeadFault) (f g : A → Result B HeadFault) → ((x : A) → f x ≡ g x) → (r >>= f) ≡ (r >>= g)
+same_then (Ok x) f g h = h x
+same_then (Err e) f g h = refl
+
+-- what one line does
+line-fault : (seen : List Field) (line : List ℕ) (lines : List (List ℕ)) (e : HeadFault) → text_of line ≡ Err e → going_lines seen (line ∷ lines) ≡ Err e
+unfolding given_by
+line-fault seen line lines e h = ap (λ r. (r >>= λ text. if continues text then (given_by lines >>= λ later. Ok (with_piece (trim text) later)) else (field_in text >>= λ field. given_by lines >>= λ later. Ok (with_field field later))) >>= onto seen) h
+
+line-continued : (seen : List Field) (f : Field) (line text : List ℕ) (lines : List (List ℕ)) → text_of line ≡ Ok text → continues text ≡ true → going_lines (seen ++ f ∷ []) (line ∷ lines) ≡ going_lines (seen ++ longer f (trim text) ∷ []) lines
+unfolding given_by
+line-continued seen f line text lines h c =
+    rw (h, c) (then_ok (given_by lines) (with_piece (trim text)) (onto (seen ++ f ∷ [])) ∙ same_then (given_by lines) _ _ (λ read. onto-continued seen f (trim text) read))
+
+line-unnamed : (seen : List Field) (line text : List ℕ) (lines : List (List ℕ)) (e : HeadFault) → text_of line ≡ Ok text → continues text ≡ false → field_in text ≡ Err e → going_lines seen (line ∷ lines) ≡ Err e
+unfolding given_by
+line-unnamed seen line text lines e h c n = rw (h, c, n) refl
+
+line-began : (seen : List Field) (f : Field) (line text : List ℕ) (lines : List (List ℕ)) → text_of line ≡ Ok text → continues text ≡ false → field_in text ≡ Ok f → going_lines seen (line ∷ lines) ≡ going_lines (seen ++ f ∷ []) lines
+unfolding given_by
+line-began seen f line text lines h c n =
+    rw (h, c, n) (then_ok (given_by lines) (with_field f) (onto seen) ∙ same_then (given_by lines) _ _ (λ read. onto-began seen f read))
+
+-- an answer without any other fault than FieldLine
+abbrev pub Plain : {A : Type 0} → Result A HeadFault → Type 0
+Plain (Ok x) = Unit {0}
+Plain (Err faults.FieldLine) = Unit {0}
+Plain (Err e) = ⊥
+
+Plain-then : {A B : Type 0} (r : Result A HeadFault) (f : A → Result B HeadFault) → Plain r → ((x : A) → Plain (f x)) → Plain (r >>= f)
+Plain-then (Ok x) f p h = h x
+Plain-then (Err faults.FieldLine) f p h = tt
+Plain-then (Err e) f p h = absurd p
+
+Plain-if : {A : Type 0} (t : Bool) (a b : Result A HeadFault) → Plain a → Plain b → Plain (if t then a else b)
+Plain-if true a b p q = p
+Plain-if false a b p q = q
+
+Plain-field : (p : Option (List ℕ × List ℕ)) → Plain (named p)
+Plain-field None = tt
+Plain-field (Some p) = Plain-if (is_name p.0) (Ok (record { name = p.0; value = trim p.1 })) (Err faults.FieldLine) tt tt
+
+Plain-name : (text : List ℕ) → Plain (field_in text)
+unfolding field_in
+Plain-name text = Plain-field (at_colon text)
+
+Plain-lines : (lines : List (List ℕ)) → Plain (given_by lines)
+unfolding given_by
+Plain-lines [] = tt
+Plain-lines (line ∷ lines) =
+    Plain-then (text_of line) _ (Plain-if (ends_with nat_eq line line_end && list_all is_plain (take (length line - 2) line)) (Ok (take (length line - 2) line)) (Err faults.FieldLine) tt tt)
+    (λ text. Plain-if (continues text) _ _ (Plain-then (given_by lines) _ (Plain-lines lines) (λ later. tt))
+    (Plain-then (field_in text) _ (Plain-name text) (λ field. Plain-then (given_by lines) _ (Plain-lines lines) (λ later. tt))))
+
+all_refused : {A B : Type 0} (r : Result A HeadFault) → Plain r → ◌≡◌ {A = Result B HeadFault} (r >>= λ x. Err faults.FieldLine) (Err faults.FieldLine)
+all_refused (Ok x) p = refl
+all_refused (Err faults.FieldLine) p = refl
+all_refused (Err e) p = absurd p
+
+line-first : (line text : List ℕ) (lines : List (List ℕ)) → text_of line ≡ Ok text → continues text ≡ true → going_lines [] (line ∷ lines) ≡ Err faults.FieldLine
+unfolding given_by
+line-first line text lines h c =
+    rw (h, c) (then_ok (given_by lines) (with_piece (trim text)) (onto []) ∙ all_refused (given_by lines) (Plain-lines lines))
+
+-- at the end
+onto-end : (seen : List Field) → onto seen (record { more = None; fields = [] }) ≡ Ok seen
+onto-end [] = refl
+onto-end (f ∷ []) = ap (λ v. Ok (record { name = f.name; value = v } ∷ [])) (joined-nil f.value)
+onto-end (f ∷ g ∷ seen) = ap (λ r. r >>= λ fs. Ok (f ∷ fs)) (onto-end (g ∷ seen))
+
+pub going-end : (seen : List Field) → going seen [] ≡ Ok seen
+unfolding going lines_of given_by
+going-end seen = onto-end seen
+
+pub going-start : (body : List ℕ) → fields_of body ≡ going [] body
+unfolding going fields_of
+going-start body = refl
+
+module _ (seen : List Field) (rest line later : List ℕ) (cut : lines_of rest ≡ line ∷ lines_of later) where
+  pub going-fault : (e : HeadFault) → text_of line ≡ Err e → going seen rest ≡ Err e
+  unfolding going
+  going-fault e h = ap (going_lines seen) cut ∙ line-fault seen line (lines_of later) e h
+
+  pub going-unnamed : (text : List ℕ) (e : HeadFault) → text_of line ≡ Ok text → continues text ≡ false → field_in text ≡ Err e → going seen rest ≡ Err e
+  unfolding going
+  going-unnamed text e h c n = ap (going_lines seen) cut ∙ line-unnamed seen line text (lines_of later) e h c n
+
+  pub going-began : (text : List ℕ) (f : Field) → text_of line ≡ Ok text → continues text ≡ false → field_in text ≡ Ok f → going seen rest ≡ going (seen ++ f ∷ []) later
+  unfolding going
+  going-began text f h c n = ap (going_lines seen) cut ∙ line-began seen f line text (lines_of later) h c n
+
+module _ (rest line later : List ℕ) (cut : lines_of rest ≡ line ∷ lines_of later) where
+  pub going-first : (text : List ℕ) → text_of line ≡ Ok text → continues text ≡ true → going [] rest ≡ Err faults.FieldLine
+  unfolding going
+  going-first text h c = ap (going_lines []) cut ∙ line-first line text (lines_of later) h c
+
+  pub going-continued : (seen : List Field) (f : Field) (text : List ℕ) → text_of line ≡ Ok text → continues text ≡ true → going (seen ++ f ∷ []) rest ≡ going (seen ++ longer f (trim text) ∷ []) later
+  unfolding going
+  going-continued seen f text h c = ap (going_lines (seen ++ f ∷ [])) cut ∙ line-continued seen f line text (lines_of later) h c
+
+-- a fault that is passed on
+pub IsFound-of : {A : Type 0} (e : HeadFault) (r : Result A HeadFault) → r ≡ Err e → IsFound e r
+IsFound-of faults.Memory r h = tt
+IsFound-of e r h = h
+
+pub IsFound-then : {A B : Type 0} (e : HeadFault) (r : Result A HeadFault) (s : Result B HeadFault) → (r ≡ Err e → s ≡ Err e) → IsFound e r → IsFound e s
+IsFound-then faults.Memory r s f h = tt
+IsFound-then e r s f h = f h
+
+pub nil_of : {A : Type 0} (xs : List A) → length xs ≡ 0 → xs ≡ []
+nil_of [] h = refl
+nil_of (x ∷ xs) h = absurd (omega arith)

@@ -1,0 +1,7 @@
+pub mod LineLemmas
+pub mod FieldLemmas
+pub mod NumberLemmas
+pub mod DayLemmas
+pub mod DateLemmas
+pub mod SpellingLemmas
+pub mod FoldingLemmas

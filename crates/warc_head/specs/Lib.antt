@@ -1,0 +1,13 @@
+pub mod Bytes
+pub mod Answers
+pub mod Lines
+pub mod Names
+pub mod Fields
+pub mod Mandatory
+pub mod Length
+pub mod Calendar
+pub mod Date
+pub mod Kind
+pub mod Parts
+pub mod Spelling
+pub mod Folding

@@ -1,0 +1,30 @@
+-- The four fields that each record has (ISO 28500:2017, 5.2 to 5.5).
+use Rattle.std.specs.Prelude.{ℕ, nat_lt, Bool, List, [], ◌∷◌, length, codes, Option, None, Some, Result, Ok, Err, if◌then◌else◌}
+use Rattle.std.specs.List.{list_all}
+use Rattle.warc_head.specs.declared.fault.HeadFault.{HeadFault}
+use Rattle.warc_head.specs.declared.fault.HeadFault.TheVariants as faults
+use Rattle.warc_head.specs.Fields.{Field, values_of, value_of}
+
+abbrev pub mandatory : List (List ℕ)
+mandatory = codes "WARC-Record-ID" ∷ codes "Content-Length" ∷ codes "WARC-Date" ∷ codes "WARC-Type" ∷ []
+
+-- each of these names stands at least once
+abbrev pub none_missing : List (List ℕ) → List Field → Bool
+none_missing names fields = list_all (λ name. nat_lt 0 (length (values_of name fields))) names
+
+-- each of these names stands at most once
+abbrev pub none_repeated : List (List ℕ) → List Field → Bool
+none_repeated names fields = list_all (λ name. nat_lt (length (values_of name fields)) 2) names
+
+-- each mandatory name stands once; a missing one is told before a repeated one
+unfoldable pub each_once : List Field → Result (Unit {0}) HeadFault
+each_once fields =
+    if none_missing mandatory fields then (if none_repeated mandatory fields then Ok tt else Err faults.Repeated) else Err faults.Missing
+
+abbrev pub found : Option (List ℕ) → Result (List ℕ) HeadFault
+found None = Err faults.Missing
+found (Some value) = Ok value
+
+-- a value that has to be there
+unfoldable pub required : List ℕ → List Field → Result (List ℕ) HeadFault
+required name fields = found (value_of name fields)

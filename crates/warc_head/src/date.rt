@@ -1,0 +1,142 @@
+//! The date of a record, and its stamp.
+ghost use Rattle.std.specs.Prelude.{◌≡◌, ⊤, ◌≤◌, ◌<◌, ◌+◌, length, MatchOption, true, IfOk};
+ghost use Rattle.warc_head.specs.Answers.{Answers};
+ghost use Rattle.warc_head.specs.Length.{all_digits};
+ghost use Rattle.warc_head.specs.Date.{fits, is_fraction, has_fraction, said_in, filled, two, to_the_second, is_moment, digits_of, stamp_of};
+
+use crate::calendar::date_exists;
+use crate::fault::HeadFault;
+use crate::length::all_digits;
+
+/// The stamp of a date text: year, month, day, hour, minute and second in fourteen digits.
+#[tactic(auto, unfolding(crate::specs::Date::stamp_of))]
+pub fn stamp_of(text: &[u8]) -> Result<[u8; 14], HeadFault>
+    ensures answer { Answers (λ s. s) result (stamp_of text.now) }
+    ensures digits { IfOk result (λ s. all_digits s ≡ true) }
+{
+    let Some(said) = said_in(text) else {
+        return Err(HeadFault::BadDate);
+    };
+    let whole = filled(text, said);
+    if !is_moment(&whole) {
+        return Err(HeadFault::BadDate);
+    }
+    Ok(digits_of(&whole))
+}
+
+/// How many bytes in front say the date and the time, without fraction and `Z`.
+#[tactic(auto, using(crate::proofs::DateLemmas::fits_long, crate::proofs::DateLemmas::long_fraction), unfolding(crate::specs::Date::said_in))]
+fn said_in(text: &[u8]) -> Option<usize>
+    ensures is { result ≡ said_in text.now }
+    ensures within { MatchOption result ⊤ (λ n. (n ≤ 19) × (n ≤ length text.now)) }
+{
+    if fits(b"0000", text) {
+        Some(4)
+    } else if fits(b"0000-00", text) {
+        Some(7)
+    } else if fits(b"0000-00-00", text) {
+        Some(10)
+    } else if fits(b"0000-00-00T00:00Z", text) {
+        Some(16)
+    } else if fits(b"0000-00-00T00:00:00Z", text) {
+        Some(19)
+    } else if has_fraction(text) {
+        Some(19)
+    } else {
+        None
+    }
+}
+
+/// Whether the text has the form, in which 0 stands for a digit.
+#[tactic(auto, unfolding(crate::specs::Date::fits))]
+fn fits(form: &[u8], text: &[u8]) -> bool
+    ensures { result ≡ fits form.now text.now }
+{
+    let mut left = form;
+    let mut rest = text;
+    loop {
+        let Some((first, more)) = left.split_first() else {
+            return rest.is_empty();
+        };
+        let Some((byte, later)) = rest.split_first() else {
+            return false;
+        };
+        let same = if *first == b'0' {
+            byte.is_ascii_digit()
+        } else {
+            *byte == *first
+        };
+        if !same {
+            return false;
+        }
+        left = more;
+        rest = later;
+    }
+}
+
+/// Whether a fraction of the second stands before `Z`.
+#[tactic(auto, using(crate::proofs::DateLemmas::short_fraction))]
+fn has_fraction(text: &[u8]) -> bool
+    ensures { result ≡ has_fraction text.now }
+{
+    if text.len() < 19 {
+        return false;
+    }
+    if !fits(b"0000-00-00T00:00:00", &text[..19]) {
+        return false;
+    }
+    is_fraction(&text[19..])
+}
+
+/// `.`, one to nine digits, `Z`.
+fn is_fraction(text: &[u8]) -> bool
+    ensures { result ≡ is_fraction text.now }
+{
+    if text.len() < 3 || text.len() > 11 {
+        return false;
+    }
+    text[0] == b'.' && text[text.len() - 1] == b'Z' && all_digits(&text[1..text.len() - 1])
+}
+
+/// A month or day that isn't said is 01, an hour, minute or second 00.
+fn filled(text: &[u8], said: usize) -> [u8; 19]
+    requires text { said ≤ length text.now }
+    requires whole { said ≤ 19 }
+    ensures { result ≡ filled text.now said }
+{
+    let mut whole = *b"0000-01-01T00:00:00";
+    whole[..said].copy_from_slice(&text[..said]);
+    whole
+}
+
+/// Whether the date exists, and the time of day.
+fn is_moment(whole: &[u8; 19]) -> bool
+    requires { fits to_the_second whole.now ≡ true }
+    ensures { result ≡ is_moment whole.now }
+{
+    date_exists(
+        100 * two(whole, 0) + two(whole, 2),
+        two(whole, 5),
+        two(whole, 8),
+    ) && two(whole, 11) <= 23
+        && two(whole, 14) <= 59
+        && two(whole, 17) <= 59
+}
+
+/// The number of two digits.
+fn two(text: &[u8], at: usize) -> u32
+    requires { at + 1 < length text.now }
+    ensures value { result ≡ two text.now at }
+    ensures small { result < 10000 }
+{
+    10 * u32::from(text[at].saturating_sub(b'0')) + u32::from(text[at + 1].saturating_sub(b'0'))
+}
+
+fn digits_of(whole: &[u8; 19]) -> [u8; 14]
+    ensures { result ≡ digits_of whole.now }
+{
+    [
+        whole[0], whole[1], whole[2], whole[3], whole[5], whole[6], whole[8], whole[9], whole[11],
+        whole[12], whole[14], whole[15], whole[17], whole[18],
+    ]
+}

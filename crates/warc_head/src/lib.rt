@@ -1,0 +1,21 @@
+//! The head of a WARC record: its fields, and what the mandatory ones say (ISO 28500:2017, WARC 1.0 and 1.1).
+#![tactic(auto)]
+
+mod calendar;
+mod date;
+mod fault;
+mod fields;
+mod kind;
+mod laws;
+mod length;
+mod lines;
+mod mandatory;
+mod names;
+mod parts;
+#[cfg(test)]
+mod tests;
+
+pub use fault::HeadFault;
+pub use kind::Kind;
+pub use laws::{fields_are_spelled, spelling_reads_back};
+pub use parts::{Parts, read_parts};

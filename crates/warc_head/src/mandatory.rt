@@ -1,0 +1,67 @@
+//! The fields that each record has.
+ghost use Rattle.std.specs.Prelude.{◌≡◌, length};
+ghost use Rattle.warc_head.specs.Answers.{Answers};
+ghost use Rattle.warc_head.specs.Fields.{values_of};
+ghost use Rattle.warc_head.specs.Mandatory.{mandatory, none_missing, none_repeated, each_once, required};
+
+use crate::fault::HeadFault;
+use crate::fields::{Field, value_of};
+use crate::names::same_name;
+
+/// Whether each mandatory field stands once.
+#[tactic(auto, unfolding(crate::specs::Mandatory::each_once))]
+pub fn each_once(fields: &[Field]) -> Result<(), HeadFault>
+    ensures { Answers (λ u. tt) result (each_once fields.now) }
+{
+    if !none_missing(fields) {
+        return Err(HeadFault::Missing);
+    }
+    if !none_repeated(fields) {
+        return Err(HeadFault::Repeated);
+    }
+    Ok(())
+}
+
+fn none_missing(fields: &[Field]) -> bool
+    ensures { result ≡ none_missing mandatory fields.now }
+{
+    count(fields, b"WARC-Record-ID") > 0
+        && count(fields, b"Content-Length") > 0
+        && count(fields, b"WARC-Date") > 0
+        && count(fields, b"WARC-Type") > 0
+}
+
+fn none_repeated(fields: &[Field]) -> bool
+    ensures { result ≡ none_repeated mandatory fields.now }
+{
+    count(fields, b"WARC-Record-ID") < 2
+        && count(fields, b"Content-Length") < 2
+        && count(fields, b"WARC-Date") < 2
+        && count(fields, b"WARC-Type") < 2
+}
+
+/// How many fields have this name.
+fn count(fields: &[Field], name: &[u8]) -> usize
+    ensures { result ≡ length (values_of name.now fields.now) }
+{
+    let mut count = 0;
+    let mut rest = fields;
+    while let Some((first, later)) = rest.split_first() {
+        if same_name(first.name(), name) {
+            count += 1;
+        }
+        rest = later;
+    }
+    count
+}
+
+/// A value that has to be there.
+#[tactic(auto, unfolding(crate::specs::Mandatory::required))]
+pub fn required<'a>(fields: &'a [Field], name: &[u8]) -> Result<&'a [u8], HeadFault>
+    ensures { Answers (λ v. v.now) result (required name.now fields.now) }
+{
+    match value_of(fields, name) {
+        Some(value) => Ok(value),
+        None => Err(HeadFault::Missing),
+    }
+}

@@ -1,0 +1,133 @@
+//! What the head of a record says.
+ghost use Rattle.std.specs.Prelude.{◌≡◌, ◌≤◌, ◌^◌, ◌-◌, true, IfOk};
+ghost use Rattle.warc_head.specs.Answers.{Answers};
+ghost use Rattle.warc_head.specs.Length.{all_digits};
+ghost use Rattle.warc_head.specs.Parts.{parts_of, body_of, said_by, length_in, stamp_in, kind_in};
+
+use crate::date::stamp_of;
+use crate::fault::HeadFault;
+use crate::fields::{Field, fields_of, value_of};
+use crate::kind::{Kind, kind_of};
+use crate::length::length_of;
+use crate::mandatory::{each_once, required};
+use std::alloc::Global;
+use std::marker::Model;
+
+/// What the head of a record says.
+#[derive(Drop)]
+pub struct Parts {
+    kind: Kind,
+    stamp: [u8; 14],
+    length: u64,
+    fields: Vec<Field>,
+}
+
+impl Model for Parts {
+    ghost use Rattle.warc_head.specs.Parts.{HeadParts};
+
+    ghost Value = { HeadParts };
+
+    ghost view = { λ p. record { kind = p.kind; stamp = p.stamp; length = p.length; fields = p.fields.items } };
+}
+
+impl Parts {
+    ghost use Rattle.std.specs.Prelude.{MatchOption, None, Some};
+    ghost use Rattle.warc_head.specs.Fields.{value_of};
+
+    /// The type of the record, by `WARC-Type` without regard to case.
+    pub fn kind(&self) -> Kind
+        ensures { result ≡ self.now.kind }
+    {
+        self.kind
+    }
+
+    /// The digits of year, month, day, hour, minute and second of `WARC-Date`; what the date leaves out is the
+    /// first of its kind, and a fraction of the second is dropped.
+    pub fn stamp(&self) -> [u8; 14]
+        ensures { result ≡ self.now.stamp }
+    {
+        self.stamp
+    }
+
+    /// The length of the block in bytes, at most 2^63 - 1, by `Content-Length`.
+    pub fn length(&self) -> u64
+        ensures { result ≡ self.now.length }
+    {
+        self.length
+    }
+
+    /// The value of the first field of this name; the case of ASCII letters makes no difference.
+    pub fn field(&self, name: &[u8]) -> Option<&[u8]>
+        ensures { MatchOption result (value_of name.now self.now.fields ≡ None) (λ v. value_of name.now self.now.fields ≡ Some v.now) }
+    {
+        value_of(self.fields.as_slice(), name)
+    }
+}
+
+/// The bytes of a version line: `WARC/1.1` or `WARC/1.0`, CR LF.
+const VERSION_LINE: usize = 10;
+
+/// What the text of a head says: the version line, the lines of the fields and an empty line, each with its CR LF.
+///
+/// Which version the text says, and that the last line is empty, isn't looked at. A text that is too short to hold
+/// the first and the last of these lines has no fields.
+#[tactic(auto, unfolding(crate::specs::Parts::parts_of))]
+pub fn read_parts(alloc: Global, raw: &[u8]) -> Result<Parts, HeadFault>
+    ensures answer { Answers (λ p. p) result (parts_of raw.now) }
+    ensures bound { IfOk result (λ p. p.length ≤ 2 ^ 63 - 1) }
+    ensures digits { IfOk result (λ p. all_digits p.stamp ≡ true) }
+{
+    said_by(fields_of(alloc, body_of(raw))?)
+}
+
+/// The lines between the version line and the empty line.
+fn body_of(raw: &[u8]) -> &[u8]
+    ensures { result.now ≡ body_of raw.now }
+{
+    if raw.len() < VERSION_LINE + 2 {
+        return &[];
+    }
+    &raw[VERSION_LINE..raw.len() - 2]
+}
+
+/// What fields say.
+#[tactic(auto, unfolding(crate::specs::Parts::said_by))]
+fn said_by(fields: Vec<Field>) -> Result<Parts, HeadFault>
+    ensures answer { Answers (λ p. p) result (said_by fields.items) }
+    ensures bound { IfOk result (λ p. p.length ≤ 2 ^ 63 - 1) }
+    ensures digits { IfOk result (λ p. all_digits p.stamp ≡ true) }
+{
+    each_once(fields.as_slice())?;
+    let length = length_in(fields.as_slice())?;
+    let stamp = stamp_in(fields.as_slice())?;
+    let kind = kind_in(fields.as_slice())?;
+    Ok(Parts {
+        kind,
+        stamp,
+        length,
+        fields,
+    })
+}
+
+#[tactic(auto, unfolding(crate::specs::Parts::length_in))]
+fn length_in(fields: &[Field]) -> Result<u64, HeadFault>
+    ensures answer { Answers (λ n. n) result (length_in fields.now) }
+    ensures bound { IfOk result (λ n. n ≤ 2 ^ 63 - 1) }
+{
+    length_of(required(fields, b"Content-Length")?)
+}
+
+#[tactic(auto, unfolding(crate::specs::Parts::stamp_in))]
+fn stamp_in(fields: &[Field]) -> Result<[u8; 14], HeadFault>
+    ensures answer { Answers (λ s. s) result (stamp_in fields.now) }
+    ensures digits { IfOk result (λ s. all_digits s ≡ true) }
+{
+    stamp_of(required(fields, b"WARC-Date")?)
+}
+
+#[tactic(auto, unfolding(crate::specs::Parts::kind_in))]
+fn kind_in(fields: &[Field]) -> Result<Kind, HeadFault>
+    ensures { Answers (λ k. k) result (kind_in fields.now) }
+{
+    Ok(kind_of(required(fields, b"WARC-Type")?))
+}

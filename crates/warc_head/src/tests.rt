@@ -1,0 +1,391 @@
+use crate::date::stamp_of;
+use crate::{HeadFault, Kind, Parts, read_parts};
+use std::alloc::Global;
+
+/// The head of these lines.
+fn read(alloc: Global, lines: &[&str]) -> Result<Parts, HeadFault> {
+    let mut raw = Vec::new(alloc);
+    raw.extend_from_slice(b"WARC/1.1\r\n")?;
+    for text in lines {
+        raw.extend_from_slice(text.as_bytes())?;
+    }
+    raw.extend_from_slice(b"\r\n\r\n")?;
+    read_parts(alloc, raw.as_slice())
+}
+
+/// The head of the four mandatory fields and these lines.
+fn read_more(alloc: Global, lines: &str) -> Result<Parts, HeadFault> {
+    read(alloc, &[MANDATORY, lines])
+}
+
+const MANDATORY: &str =
+    "WARC-Record-ID: <urn:x:1>\r\nContent-Length: 3\r\nWARC-Date: 2016\r\nWARC-Type: resource\r\n";
+
+const ORDERS: [(&str, HeadFault); 20] = [
+    // A bad line first, whatever else is wrong.
+    (
+        "WARC-Record-ID: a\r\nContent-Length: 3\r\nWARC-Date: 2016\r\nbad",
+        HeadFault::FieldLine,
+    ),
+    (
+        "bad\r\nWARC-Record-ID: a\r\nContent-Length: 3\r\nWARC-Date: 2016",
+        HeadFault::FieldLine,
+    ),
+    (
+        "WARC-Record-ID: a\r\nContent-Length: 3\r\nWARC-Date: 2016\r\nWARC-Type: b\r\nWARC-Type: b\r\nbad",
+        HeadFault::FieldLine,
+    ),
+    (
+        "WARC-Record-ID: a\r\nContent-Length: x\r\nWARC-Date: 2016\r\nWARC-Type: b\r\nbad",
+        HeadFault::FieldLine,
+    ),
+    (
+        "WARC-Record-ID: a\r\nContent-Length: 3\r\nWARC-Date: x\r\nWARC-Type: b\r\nbad",
+        HeadFault::FieldLine,
+    ),
+    // An absent field before a repeated one, whichever name comes first.
+    (
+        "WARC-Record-ID: a\r\nWARC-Record-ID: a\r\nContent-Length: 3\r\nWARC-Date: 2016",
+        HeadFault::Missing,
+    ),
+    (
+        "Content-Length: 3\r\nWARC-Date: 2016\r\nWARC-Type: b\r\nWARC-Type: b",
+        HeadFault::Missing,
+    ),
+    (
+        "WARC-Record-ID: a\r\nContent-Length: x\r\nWARC-Date: 2016",
+        HeadFault::Missing,
+    ),
+    (
+        "WARC-Record-ID: a\r\nContent-Length: 3\r\nWARC-Date: x",
+        HeadFault::Missing,
+    ),
+    // A repeated field before what a value says.
+    (
+        "WARC-Record-ID: a\r\nContent-Length: x\r\nContent-Length: 3\r\nWARC-Date: 2016\r\nWARC-Type: b",
+        HeadFault::Repeated,
+    ),
+    (
+        "WARC-Record-ID: a\r\nContent-Length: x\r\nWARC-Date: 2016\r\nWARC-Type: b\r\nwarc-type: b",
+        HeadFault::Repeated,
+    ),
+    (
+        "WARC-Record-ID: a\r\nContent-Length: 3\r\nWARC-Date: x\r\nWARC-Date: x\r\nWARC-Type: b",
+        HeadFault::Repeated,
+    ),
+    (
+        "WARC-Record-ID: a\r\nContent-Length: 3\r\nWARC-Date: x\r\nWARC-Type: b\r\nWARC-RECORD-ID: a",
+        HeadFault::Repeated,
+    ),
+    // The length before the date, whichever line comes first.
+    (
+        "WARC-Record-ID: a\r\nWARC-Date: x\r\nContent-Length: x\r\nWARC-Type: b",
+        HeadFault::BadLength,
+    ),
+    // Each cause alone.
+    (
+        "Content-Length: 3\r\nWARC-Date: 2016\r\nWARC-Type: b",
+        HeadFault::Missing,
+    ),
+    (
+        "WARC-Record-ID: a\r\nWARC-Date: 2016\r\nWARC-Type: b",
+        HeadFault::Missing,
+    ),
+    (
+        "WARC-Record-ID: a\r\nContent-Length: 3\r\nWARC-Type: b",
+        HeadFault::Missing,
+    ),
+    (
+        "WARC-Record-ID: a\r\nContent-Length: 3\r\nWARC-Date: 2016",
+        HeadFault::Missing,
+    ),
+    (
+        "WARC-Record-ID: a\r\nContent-Length: x\r\nWARC-Date: 2016\r\nWARC-Type: b",
+        HeadFault::BadLength,
+    ),
+    (
+        "WARC-Record-ID: a\r\nContent-Length: 3\r\nWARC-Date: x\r\nWARC-Type: b",
+        HeadFault::BadDate,
+    ),
+];
+
+#[test]
+fn answers_the_first_cause(rt: HostRuntime) {
+    for (lines, want) in ORDERS {
+        assert_eq!(rt; read(rt.alloc(), &[lines]).err(), Some(want), "{lines}");
+    }
+    for raw in [
+        b"".as_slice(),
+        b"WARC/1.",
+        b"WARC/1.1\r\n",
+        b"WARC/1.1\r\n\r\n",
+    ] {
+        assert_eq!(rt; read_parts(rt.alloc(), raw).err(), Some(HeadFault::Missing));
+    }
+}
+
+const BAD_LINES: [&str; 28] = [
+    "no colon",
+    "",
+    ": empty name",
+    "Space : before the colon",
+    "Tab\t: before the colon",
+    "A(: b",
+    "A): b",
+    "A<: b",
+    "A>: b",
+    "A@: b",
+    "A,: b",
+    "A;: b",
+    "A\\: b",
+    "A\": b",
+    "A/: b",
+    "A[: b",
+    "A]: b",
+    "A?: b",
+    "A=: b",
+    "A{: b",
+    "A}: b",
+    "A\u{7f}: b",
+    "A\u{e9}: b",
+    "A\0: b",
+    "A: lone\rCR",
+    "A: lone\nLF",
+    "A: CR before the end\r",
+    "A: b\r\n folded\nonce",
+];
+
+#[test]
+fn refuses_lines(rt: HostRuntime) {
+    for line in BAD_LINES {
+        let found = read_more(rt.alloc(), line).err();
+        assert_eq!(rt; found, Some(HeadFault::FieldLine), "{line}");
+    }
+    let continuation_first = read(rt.alloc(), &[" folded\r\n", MANDATORY, "A: b"]).err();
+    assert_eq!(rt; continuation_first, Some(HeadFault::FieldLine));
+    for cut in [
+        b"WARC/1.1\r\nA: b\r\r\n".as_slice(),
+        b"WARC/1.1\r\nA: b\n\r\n",
+        b"WARC/1.1\r\nA: b\r\n",
+    ] {
+        assert_eq!(rt;
+            read_parts(rt.alloc(), cut).err(),
+            Some(HeadFault::FieldLine)
+        );
+    }
+}
+
+const VALUES: [(&str, &str, Option<&str>); 22] = [
+    ("A: b", "A", Some("b")),
+    ("A:b", "A", Some("b")),
+    ("A: \t b \t ", "A", Some("b")),
+    ("A:", "A", Some("")),
+    ("A: \t", "A", Some("")),
+    ("A: b: c", "A", Some("b: c")),
+    ("A: b  c", "A", Some("b  c")),
+    ("A: \u{ff}\0\u{7f}", "A", Some("\u{ff}\0\u{7f}")),
+    (
+        "!#$%&'*+-.^_`|~09AZaz: b",
+        "!#$%&'*+-.^_`|~09AZaz",
+        Some("b"),
+    ),
+    // Folded values.
+    ("A: b\r\n c", "A", Some("b c")),
+    ("A: b \t\r\n\t \tc \t\r\n d", "A", Some("b c d")),
+    ("A:\r\n b", "A", Some("b")),
+    ("A: b\r\n \r\n\t\r\n c", "A", Some("b c")),
+    ("A: b\r\n ", "A", Some("b")),
+    ("A: b\r\n C: d", "A", Some("b C: d")),
+    ("A: b\r\n C: d", "C", None),
+    ("A: b\r\nC: d\r\n e", "A", Some("b")),
+    // The first of its name, in any case.
+    ("A: b\r\nA: c", "A", Some("b")),
+    ("a: b\r\nA: c", "A", Some("b")),
+    ("warc-TARGET-uri: b", "WARC-Target-URI", Some("b")),
+    ("A: b", "AA", None),
+    ("AA: b", "A", None),
+];
+
+#[test]
+fn reads_values(rt: HostRuntime) -> Result<(), HeadFault> {
+    for (lines, name, want) in VALUES {
+        let head = read_more(rt.alloc(), lines)?;
+        let found = head.field(name.as_bytes());
+        assert_eq!(rt; found, want.map(str::as_bytes), "{lines}");
+    }
+    Ok(())
+}
+
+const LENGTHS: [(&str, Option<u64>); 18] = [
+    ("0", Some(0)),
+    ("003", Some(3)),
+    ("59", Some(59)),
+    ("0000000000000000003", Some(3)),
+    ("9223372036854775807", Some(9_223_372_036_854_775_807)),
+    ("9223372036854775808", None),
+    ("9999999999999999999", None),
+    ("00000000000000000003", None),
+    ("18446744073709551619", None),
+    ("", None),
+    ("+3", None),
+    ("-3", None),
+    ("3.", None),
+    ("0x3", None),
+    ("3 3", None),
+    ("3\r\n 3", None),
+    ("\r\n 3", Some(3)),
+    ("3 \r\n\t", Some(3)),
+];
+
+#[test]
+fn reads_lengths(rt: HostRuntime) {
+    for (value, want) in LENGTHS {
+        let lines = [
+            "WARC-Record-ID: a\r\nWARC-Date: 2016\r\nWARC-Type: b\r\nContent-Length:",
+            value,
+        ];
+        let found = read(rt.alloc(), &lines).map(|head| head.length());
+        assert_eq!(rt; found, want.ok_or(HeadFault::BadLength), "{value}");
+    }
+}
+
+const DATES: [(&str, Option<&str>); 66] = [
+    ("2016", Some("20160101000000")),
+    ("2016-09", Some("20160901000000")),
+    ("2016-09-19", Some("20160919000000")),
+    ("2016-09-19T17:20Z", Some("20160919172000")),
+    ("2016-09-19T17:20:24Z", Some("20160919172024")),
+    ("2016-09-19T17:20:24.1Z", Some("20160919172024")),
+    ("2016-09-19T17:20:24.123456Z", Some("20160919172024")),
+    ("2016-09-19T17:20:24.123456789Z", Some("20160919172024")),
+    // The calendar's edges.
+    ("0000", Some("00000101000000")),
+    ("0000-02-29", Some("00000229000000")),
+    ("9999-12-31T23:59:59Z", Some("99991231235959")),
+    ("2015-02-28", Some("20150228000000")),
+    ("2015-02-29", None),
+    ("2015-02-29T00:00:00Z", None),
+    ("2016-02-29", Some("20160229000000")),
+    ("2016-02-30", None),
+    ("1900-02-29", None),
+    ("2000-02-29", Some("20000229000000")),
+    ("2100-02-29", None),
+    ("2016-01-31", Some("20160131000000")),
+    ("2016-04-30", Some("20160430000000")),
+    ("2016-04-31", None),
+    ("2016-06-31", None),
+    ("2016-09-31", None),
+    ("2016-11-31", None),
+    ("2016-12-31", Some("20161231000000")),
+    ("2016-00", None),
+    ("2016-13", None),
+    ("2016-12", Some("20161201000000")),
+    ("2016-00-01", None),
+    ("2016-13-01", None),
+    ("2016-01-00", None),
+    ("2016-01-32", None),
+    ("2016-99-99", None),
+    // The edges of the time of day.
+    ("2016-09-19T00:00Z", Some("20160919000000")),
+    ("2016-09-19T23:59Z", Some("20160919235900")),
+    ("2016-09-19T24:00Z", None),
+    ("2016-09-19T24:00:00Z", None),
+    ("2016-09-19T23:60Z", None),
+    ("2016-09-19T23:60:00Z", None),
+    ("2016-09-19T23:59:60Z", None),
+    ("2016-09-19T23:59:60.5Z", None),
+    // What has none of the forms.
+    ("", None),
+    ("201", None),
+    ("20166", None),
+    ("2016-", None),
+    ("2016-9", None),
+    ("2016-09-", None),
+    ("2016/09/19", None),
+    ("+2016", None),
+    ("2016-09-19T17Z", None),
+    ("2016-09-19T17:20", None),
+    ("2016-09-19T17:20:24", None),
+    ("2016-09-19T17:20:24+00:00", None),
+    ("2016-09-19 17:20:24Z", None),
+    ("2016-09-19t17:20:24Z", None),
+    ("2016-09-19T17:20:24z", None),
+    ("2016-09-19T17:20:24.Z", None),
+    ("2016-09-19T17:20:24.1234567890Z", None),
+    ("2016-09-19T17:20:24.5", None),
+    ("2016-09-19T17:20:24,5Z", None),
+    ("2016-09-19T17:20.5Z", None),
+    ("2016-09-19T17:20:24ZZ", None),
+    ("2016 ", None),
+    (" 2016", None),
+    ("2016-09-19T17:20:24Z ", None),
+];
+
+#[test]
+fn reads_dates(rt: HostRuntime) -> Result<(), HeadFault> {
+    for (value, want) in DATES {
+        let found = stamp_of(value.as_bytes());
+        match want {
+            Some(stamp) => {
+                let stamp_found = found?;
+                assert_eq!(rt; stamp_found.as_slice(), stamp.as_bytes(), "{value}");
+            }
+            None => assert_eq!(rt; found, Err(HeadFault::BadDate), "{value}"),
+        }
+    }
+    Ok(())
+}
+
+const KINDS: [(&str, Kind, &str); 13] = [
+    ("warcinfo", Kind::Warcinfo, "warcinfo"),
+    ("response", Kind::Response, "response"),
+    ("resource", Kind::Resource, "resource"),
+    ("request", Kind::Request, "request"),
+    ("metadata", Kind::Metadata, "metadata"),
+    ("revisit", Kind::Revisit, "revisit"),
+    ("conversion", Kind::Conversion, "conversion"),
+    ("continuation", Kind::Continuation, "continuation"),
+    ("Response", Kind::Response, "response"),
+    ("WARCINFO", Kind::Warcinfo, "warcinfo"),
+    ("responses", Kind::Other, "other"),
+    ("", Kind::Other, "other"),
+    ("re\r\n visit", Kind::Other, "other"),
+];
+
+#[test]
+fn tells_kinds(rt: HostRuntime) -> Result<(), HeadFault> {
+    for (value, kind, name) in KINDS {
+        let lines = [
+            "WARC-Record-ID: a\r\nContent-Length: 0\r\nWARC-Date: 2016\r\nWARC-Type: ",
+            value,
+        ];
+        let found = read(rt.alloc(), &lines)?.kind();
+        assert_eq!(rt; found, kind, "{value}");
+        assert_eq!(rt; found.name(), name, "{value}");
+    }
+    Ok(())
+}
+
+const RESPONSE: &[u8] =
+    b"WARC/1.0\r\nWARC-Type: response\r\nWARC-Record-ID: <urn:x:1>\r\nWARC-Date: 2016-09-19T17:20:24.123456Z\r\nWARC-Target-URI:\r\n <http://example.com/>\r\nContent-Type: application/http; msgtype=response\r\nContent-Length: 59\r\n\r\n";
+
+const FIELDS: [(&str, Option<&str>); 3] = [
+    ("warc-target-uri", Some("<http://example.com/>")),
+    ("WARC-Record-ID", Some("<urn:x:1>")),
+    ("WARC-Block-Digest", None),
+];
+
+#[test]
+fn reads_a_head(rt: HostRuntime) -> Result<(), HeadFault> {
+    let head = read_parts(rt.alloc(), RESPONSE)?;
+    assert_eq!(rt; head.kind(), Kind::Response);
+    assert_eq!(rt; head.stamp(), *b"20160919172024");
+    assert_eq!(rt; head.length(), 59);
+    for (name, want) in FIELDS {
+        let found = head.field(name.as_bytes());
+        assert_eq!(rt; found, want.map(str::as_bytes), "{name}");
+    }
+    let message = HeadFault::Missing.to_string(rt.alloc())?;
+    assert_eq!(rt; message.as_str(), "a mandatory field is missing");
+    Ok(())
+}
