@@ -62,7 +62,7 @@ run_refusing() { # NUMBER TESTS TEST
 
 # A test has passed, or has ended by an error that says Memory.
 is_answer() { # STATUS SAID
-    [ "$1" = 0 ] || [[ $1 == 101 && $2 =~ error:\ .*(Memory|AllocError) ]]
+    [ "$1" = 0 ] || [[ $1 == 101 && $2 =~ [Ee]rror:\ .*(Memory|AllocError) ]]
 }
 
 report() {

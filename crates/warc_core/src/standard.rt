@@ -1,5 +1,7 @@
 //! The readers and writers of `std` as devices.
-ghost use Rattle.std.specs.Prelude.{◌≡◌, None};
+ghost use Rattle.std.specs.Prelude.{◌≡◌, ◌≤◌, None, IfOk, MatchResult, length};
+ghost use Rattle.std.specs.Io.KnownBytes.{ReadConsumes, WriteAppends};
+ghost use Rattle.warc_core.specs.Device.{CountsFailure, TakesSome};
 
 use crate::device::{DeviceFault, Input, Output};
 use std::io;
@@ -12,11 +14,12 @@ pub struct FromRead<R> {
 }
 
 impl<R> FromRead<R> {
-    ghost use Rattle.warc_core.specs.FromStd.{read_failures};
+    ghost use Rattle.warc_core.specs.FromStd.{reader_of, read_failures};
 
     /// The input over a reader.
     pub fn new(reader: R) -> FromRead<R>
-        ensures { read_failures result ≡ 0 }
+        ensures reader { reader_of result ≡ reader }
+        ensures failures { read_failures result ≡ 0 }
     {
         FromRead {
             reader,
@@ -26,14 +29,19 @@ impl<R> FromRead<R> {
 }
 
 impl<R: io::Read> Input for FromRead<R> {
-    ghost use Rattle.std.specs.Prelude.{None};
-    ghost use Rattle.warc_core.specs.FromStd.{read_failures};
+    ghost use Rattle.warc_core.specs.FromStd.{reader_of, read_failures};
 
     ghost left = { λ _. None };
 
     ghost failures = { read_failures };
 
-    fn read(&mut self, piece: &mut [u8]) -> Result<usize, DeviceFault> {
+    /// Reads what the reader reads.
+    fn read(&mut self, piece: &mut [u8]) -> Result<usize, DeviceFault>
+        ensures bound { IfOk result (λ n. n ≤ length piece.new) }
+        ensures bytes { ReadConsumes None None result piece.new }
+        ensures failures { CountsFailure result (read_failures self.old) (read_failures self.new) }
+        ensures reader { ReadConsumes (R.remaining (reader_of self.old)) (R.remaining (reader_of self.new)) result piece.new }
+    {
         match self.reader.read(piece) {
             Ok(count) => Ok(count),
             Err(_) => {
@@ -52,11 +60,12 @@ pub struct FromWrite<W> {
 }
 
 impl<W> FromWrite<W> {
-    ghost use Rattle.warc_core.specs.FromStd.{write_failures};
+    ghost use Rattle.warc_core.specs.FromStd.{writer_of, write_failures};
 
     /// The output over a writer.
     pub fn new(writer: W) -> FromWrite<W>
-        ensures { write_failures result ≡ 0 }
+        ensures writer { writer_of result ≡ writer }
+        ensures failures { write_failures result ≡ 0 }
     {
         FromWrite {
             writer,
@@ -66,14 +75,19 @@ impl<W> FromWrite<W> {
 }
 
 impl<W: io::Write> Output for FromWrite<W> {
-    ghost use Rattle.std.specs.Prelude.{None};
-    ghost use Rattle.warc_core.specs.FromStd.{write_failures};
+    ghost use Rattle.warc_core.specs.FromStd.{writer_of, write_failures};
 
     ghost written = { λ _. None };
 
     ghost failures = { write_failures };
 
-    fn write(&mut self, piece: &[u8]) -> Result<usize, DeviceFault> {
+    /// Writes what the writer takes.
+    fn write(&mut self, piece: &[u8]) -> Result<usize, DeviceFault>
+        ensures some { IfOk result (TakesSome piece.now) }
+        ensures bytes { WriteAppends None None result piece.now }
+        ensures failures { CountsFailure result (write_failures self.old) (write_failures self.new) }
+        ensures writer { WriteAppends (W.contents (writer_of self.old)) (W.contents (writer_of self.new)) result piece.now }
+    {
         match self.writer.write(piece) {
             Ok(count) if count > 0 || piece.is_empty() => Ok(count),
             _ => {

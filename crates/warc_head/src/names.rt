@@ -1,5 +1,5 @@
 //! The names of fields.
-ghost use Rattle.std.specs.Prelude.{◌≡◌};
+ghost use Rattle.std.specs.Prelude.{◌≡◌, true};
 ghost use Rattle.std.specs.List.{list_all};
 ghost use Rattle.warc_head.specs.Names.{is_separator, is_name_byte, is_name, same_name};
 
@@ -16,10 +16,20 @@ fn all_name_bytes(name: &[u8]) -> bool
     name.iter().all(|byte| is_name_byte(*byte))
 }
 
+/// Most names are of small letters, capitals and `-` alone: those are looked for first.
 fn is_name_byte(byte: u8) -> bool
     ensures { result ≡ is_name_byte byte }
 {
+    if is_common(byte) {
+        return true;
+    }
     byte >= 0x21 && byte <= 0x7e && !is_separator(byte)
+}
+
+fn is_common(byte: u8) -> bool
+    ensures { result ≡ true → is_name_byte byte ≡ true }
+{
+    matches!(byte, b'a'..=b'z' | b'A'..=b'Z' | b'-')
 }
 
 fn is_separator(byte: u8) -> bool

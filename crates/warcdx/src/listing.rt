@@ -42,7 +42,7 @@ pub fn list<I: Input, O: Output>(
                 put_record(out, &head)?;
                 count += 1;
             }
-            Err(fault) => return Err(put_fault(out, fault)),
+            Err(damage) => return Err(put_fault(out, damage)),
         }
     }
 }

@@ -1,5 +1,5 @@
 use super::{MANDATORY, RESOURCE, RESPONSE, joined, walk};
-use crate::{Cause, Fault, Fuse, Reader, Slice};
+use crate::{Cause, Fault, Fuse, Head, Reader, Slice};
 use std::alloc::{AllocError, Global};
 use std::test::Fail;
 
@@ -201,6 +201,15 @@ fn stops_where_its_input_fails(rt: HostRuntime) -> Result<(), Fail> {
     Ok(())
 }
 
+/// The fault of a call, if it has one. Memory is an error of the test's.
+fn fault_of(answer: Result<Option<Head>, Fault>) -> Result<Option<Fault>, Fault> {
+    match answer {
+        Ok(_head) => Ok(None),
+        Err(fault) if fault.cause == Cause::Memory => Err(fault),
+        Err(fault) => Ok(Some(fault)),
+    }
+}
+
 #[test]
 fn repeats_its_fault(rt: HostRuntime) -> Result<(), Fail> {
     let fault = Some(Fault {
@@ -209,7 +218,7 @@ fn repeats_its_fault(rt: HostRuntime) -> Result<(), Fail> {
     });
     let mut input = Fuse::new(Slice::new(b"no version line"), 8192, 0);
     let mut reader = Reader::new(rt.alloc())?;
-    assert_eq!(rt; reader.next(&mut input).err(), fault);
+    assert_eq!(rt; fault_of(reader.next(&mut input))?, fault);
     let calls = input.calls;
     assert_eq!(rt; reader.next(&mut input).err(), fault);
     assert_eq!(rt; reader.finish(&mut input).err(), fault);

@@ -44,9 +44,9 @@ loop-reader-preserved g c =
 
 pub returns-in-Err-next_record-clause-damaged : goal.returns-in-Err-next_record-clause-damaged
 returns-in-Err-next_record-clause-damaged g c f q =
-    fault-told c.in-Err-next_record.fault c.put_fault-in-Err-next_record.result HEAD_LIMIT _ _ _ c.loop-reader.reader.offset c.loop-reader.count _ _ _ _ _ c.loop-reader.invariant.lines c.in-Err-next_record.ensures.bytes c.in-Err-next_record.ensures.state.at c.put_fault-in-Err-next_record.ensures f (cc)
+    fault-told c.in-Err-next_record.damage c.put_fault-in-Err-next_record.result HEAD_LIMIT _ _ _ c.loop-reader.reader.offset c.loop-reader.count _ _ _ _ _ c.loop-reader.invariant.lines c.in-Err-next_record.ensures.bytes c.in-Err-next_record.ensures.state.at c.put_fault-in-Err-next_record.ensures f (cc)
 
 pub returns-in-Err-next_record-clause-stopped : goal.returns-in-Err-next_record-clause-stopped
 returns-in-Err-next_record-clause-stopped g c q =
     let r : c.put_fault-in-Err-next_record.result ≡ faults.Write = cc in
-    fault-cut c.in-Err-next_record.fault c.put_fault-in-Err-next_record.result HEAD_LIMIT _ _ _ c.loop-reader.reader.offset c.loop-reader.count _ _ _ _ _ c.loop-reader.invariant.lines c.in-Err-next_record.ensures.bytes c.in-Err-next_record.ensures.state.at c.put_fault-in-Err-next_record.ensures r
+    fault-cut c.in-Err-next_record.damage c.put_fault-in-Err-next_record.result HEAD_LIMIT _ _ _ c.loop-reader.reader.offset c.loop-reader.count _ _ _ _ _ c.loop-reader.invariant.lines c.in-Err-next_record.ensures.bytes c.in-Err-next_record.ensures.state.at c.put_fault-in-Err-next_record.ensures r
