@@ -1,0 +1,17 @@
+pub mod Found
+pub mod LastSpace
+pub mod PairLaw
+pub mod EntryUtf8
+pub mod EntryWrite
+pub mod EntryRead
+pub mod EntryLaw
+pub mod KeyLaw
+pub mod Labels
+pub mod PlaceLaw
+pub mod PlaceOrder
+pub mod Offsets
+pub mod PlainBytes
+pub mod PlainCuts
+pub mod PlainLaw
+pub mod RisingLaws
+pub mod SortedRising

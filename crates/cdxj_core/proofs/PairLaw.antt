@@ -1,0 +1,100 @@
+-- A line that has values begins with their pair.
+use Rattle.std.proofs.Common.{◌≡◌, ℕ, zero, suc, ◌+◌, ◌-◌, ◌<◌, ◌≤◌, ◌==◌, ◌&&◌, Bool, true, false, cond, List, [], ◌∷◌, ◌++◌, length, take, drop, Option, Some, None, option_map, option_and_then, get_or, append-nil, nat_lt, codes, refl, sym, ap, ◌∙◌, arith, append_assoc, ⊎_elim, take-append-drop}
+use Rattle.std.specs.List.{position_or_len, before_first, after_first}
+use Rattle.std.proofs.lemmas.Bool.{and_parts, cond-true, eqb-true, cases_lt, ltb-true, lt-ltb}
+use Rattle.std.proofs.lemmas.List.{length-append}
+use Rattle.std.proofs.lemmas.List.Sums.{split_at_first, passes_at_first}
+use Rattle.std.proofs.Math.Seq.{take-append_seam, drop-append_seam}
+use Rattle.serde_json.specs.Data.{Data}
+use Rattle.serde_json.specs.Find.{get}
+use Rattle.serde_json.specs.Read.{read}
+use Rattle.serde_json.proofs.OnLiterals.{serde_json_on_literals}
+use Rattle.cdxj_core.specs.Pair.{is_space, is_key, is_stamp, stamp_part, tail_part, begins_with_space, begins_with_pair, pair_of}
+use Rattle.cdxj_core.specs.Lines.{LineValue, has_no_feed, body_of, line_object, line_parts, line_from, line_in, values_of, offset_value, filename_value}
+use Rattle.cdxj_core.proofs.PlaceLaw.{key_no_space, before_first_at, after_first_at, both}
+
+-- a key, a space, a stamp and a space begin with the pair
+pub pair_of-parts : (key stamp rest : List ℕ) → is_key key ≡ true → is_stamp stamp ≡ true → pair_of (key ++ 32 ∷ (stamp ++ 32 ∷ rest)) ≡ Some (key, stamp)
+pair_of-parts key stamp rest k s =
+    let free = key_no_space key k in
+    let tail = stamp ++ 32 ∷ rest in
+    let before = before_first_at key tail free in
+    let after = after_first_at key tail free in
+    let len : length stamp ≡ 14 = eqb-true _ _ (and_parts _ _ s).0 in
+    let stamp_is : stamp_part (key ++ 32 ∷ tail) ≡ stamp = ap (take 14) after ∙ ap (λ n. take n tail) (sym len) ∙ take-append_seam stamp (32 ∷ rest) in
+    let tail_is : tail_part (key ++ 32 ∷ tail) ≡ 32 ∷ rest = ap (drop 14) after ∙ ap (λ n. drop n tail) (sym len) ∙ drop-append_seam stamp (32 ∷ rest) in
+    let tests : begins_with_pair (key ++ 32 ∷ tail) ≡ true = both _ _ (both _ _ (ap is_key before ∙ k) (ap is_stamp stamp_is ∙ s)) (ap begins_with_space tail_is) in
+    cond-true _ _ _ tests ∙ (λ i. Some (before i, stamp_is i))
+
+-- what is left of a list that is cut past its end
+past : (text : List ℕ) (n : ℕ) → length text ≤ n → drop n text ≡ []
+past [] zero h = refl
+past [] (suc n) h = refl
+past (x ∷ xs) zero h = absurd (omega arith)
+past (x ∷ xs) (suc n) h = past xs n (omega arith)
+
+-- the text around its first space, unless nothing follows one
+around : (text : List ℕ) → 0 < length (after_first is_space text) → text ≡ before_first is_space text ++ 32 ∷ after_first is_space text
+around text some =
+    let within : position_or_len is_space text < length text = ⊎_elim (λ h. h) (λ h. absurd (let none = past text (position_or_len is_space text + 1) (omega arith) in omega (arith, ap length none))) (cases_lt (position_or_len is_space text) (length text)) in
+    let space : get_or text (position_or_len is_space text) 0 ≡ 32 = eqb-true _ _ (passes_at_first is_space text 0 within) in
+    split_at_first is_space text 0 within ∙ ap (λ b. before_first is_space text ++ b ∷ after_first is_space text) space
+
+if_test : {A : Type 0} (b : Bool) (x : Option A) (v : A) → cond b x None ≡ Some v → (b ≡ true) × (x ≡ Some v)
+if_test true x v h = (refl, h)
+if_test false x v h = absurd (cc)
+
+read_nil : read [] ≡ None
+unfolding serde_json_on_literals
+read_nil = refl
+
+and_then_some : {A B : Type 0} (f : A → Option B) (o : Option A) (v : B) → option_and_then f o ≡ Some v → (a : A) × (o ≡ Some a) × (f a ≡ Some v)
+and_then_some f None v h = absurd (cc)
+and_then_some f (Some a) v h = (a, refl, h)
+
+map_some : {A B : Type 0} (g : A → B) (o : Option A) (v : B) → option_map g o ≡ Some v → (a : A) × (g a ≡ v)
+map_some g None v h = absurd (cc)
+map_some g (Some a) v h = (a, let e : g a ≡ v = cc in e)
+
+some_read : (text : List ℕ) (d : Data) → read text ≡ Some d → 0 < length text
+some_read [] d h = absurd (let bad : None ≡ Some d = sym read_nil ∙ h in cc)
+some_read (x ∷ xs) d h = omega arith
+
+body_split : (b : Bool) (line : List ℕ) → (t : List ℕ) × (line ≡ cond b (take (length line - 1) line) line ++ t)
+body_split true line = (drop (length line - 1) line, sym (take-append-drop (length line - 1) line))
+body_split false line = ([], sym (append-nil line))
+
+pub line_pair : (line : List ℕ) (limit : ℕ) (v : LineValue) → line_in limit (body_of line) ≡ Some v → pair_of line ≡ Some (v.key, v.stamp)
+unfolding line_in
+line_pair line limit v h =
+    let body = body_of line in
+    let key = before_first is_space body in
+    let rest = after_first is_space body in
+    let stamp = before_first is_space rest in
+    let object = after_first is_space rest in
+    let outer = if_test (nat_lt (length body) limit && has_no_feed body) (line_parts key stamp object) v h in
+    let inner = if_test (is_key key && is_stamp stamp) (line_object key stamp object) v outer.1 in
+    let tests = and_parts (is_key key) (is_stamp stamp) inner.0 in
+    let was_read = and_then_some (line_from key stamp) (read object) v inner.1 in
+    let named = and_then_some (λ filename. option_map (values_of key stamp was_read.0 filename) (offset_value (get (codes "offset") was_read.0))) (filename_value (get (codes "filename") was_read.0)) v was_read.2 in
+    let made = map_some (values_of key stamp was_read.0 named.0) (offset_value (get (codes "offset") was_read.0)) v named.2 in
+    let object_some : 0 < length object = some_read object was_read.0 was_read.1 in
+    let stamp_len : length stamp ≡ 14 = eqb-true (length stamp) 14 (and_parts _ _ tests.1).0 in
+    let rest_is : rest ≡ stamp ++ 32 ∷ object = around rest object_some in
+    let rest_some : 0 < length rest = omega (arith, ap length rest_is, length-append stamp (32 ∷ object)) in
+    let body_is : body ≡ key ++ 32 ∷ rest = around body rest_some in
+    let split = body_split (get_or line (length line - 1) 0 == 10) line in
+    let whole : line ≡ key ++ 32 ∷ (stamp ++ 32 ∷ (object ++ split.0)) =
+    split.1 ∙ ap (λ b. b ++ split.0) (body_is ∙ ap (λ r. key ++ 32 ∷ r) rest_is) ∙ append_assoc key (32 ∷ (stamp ++ 32 ∷ object)) split.0 ∙ ap (λ r. key ++ 32 ∷ r) (append_assoc stamp (32 ∷ object) split.0) in
+    ap pair_of whole ∙ pair_of-parts key stamp (object ++ split.0) tests.0 tests.1 ∙ ap (λ w. Some (w.key, w.stamp)) made.1
+
+-- a line keeps its values under a higher limit
+pub line_in-higher : (low high : ℕ) → low ≤ high → (body : List ℕ) (v : LineValue) → line_in low body ≡ Some v → line_in high body ≡ Some v
+unfolding line_in
+line_in-higher low high le body v h =
+    let key = before_first is_space body in
+    let rest = after_first is_space body in
+    let outer = if_test (nat_lt (length body) low && has_no_feed body) (line_parts key (before_first is_space rest) (after_first is_space rest)) v h in
+    let tests = and_parts (nat_lt (length body) low) (has_no_feed body) outer.0 in
+    let below : length body < low = ltb-true (length body) low tests.0 in
+    cond-true _ _ _ (both _ _ (lt-ltb (length body) high (omega arith)) tests.1) ∙ outer.1

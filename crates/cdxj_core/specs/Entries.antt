@@ -1,0 +1,70 @@
+-- Entries, and the line that an index has of one.
+use Rattle.std.specs.Prelude.{◌≡◌, ℕ, ◌^◌, ◌<◌, true, List, [], ◌∷◌, ◌++◌, length, decimal}
+use Rattle.std.specs.List.{join_by}
+use Rattle.json.specs.Print.{quoted}
+use Rattle.cdxj_core.specs.Pair.{is_key, is_stamp}
+use Rattle.cdxj_core.specs.Places.{PlaceValue}
+use Rattle.cdxj_core.specs.Texts.{TextsValue, text_members}
+
+-- what an index says of a capture: texts as the lists of their bytes, length and offset in bytes
+pub record EntryValue : Type 0 where
+  pub key : List ℕ
+  pub stamp : List ℕ
+  pub url : List ℕ
+  pub mime : List ℕ
+  pub status : List ℕ
+  pub digest : List ℕ
+  pub length : ℕ
+  pub offset : ℕ
+  pub filename : List ℕ
+
+-- an entry that can be written
+pub record IsGood (e : EntryValue) : Type 0 where
+  pub key : is_key e.key ≡ true
+  pub stamp : is_stamp e.stamp ≡ true
+  pub url : 0 < length e.url
+  pub mime : 0 < length e.mime
+  pub status : 0 < length e.status
+  pub digest : 0 < length e.digest
+  pub size : e.length < 2 ^ 63
+  pub offset : e.offset < 2 ^ 63
+  pub filename : 0 < length e.filename
+
+abbrev pub entry_place : EntryValue → PlaceValue
+entry_place e = record { key = e.key; stamp = e.stamp; filename = e.filename; offset = e.offset }
+
+-- the texts of a written line; numbers are in decimal
+abbrev pub entry_texts : EntryValue → TextsValue
+entry_texts e = record {
+  url = e.url;
+  mime = e.mime;
+  status = e.status;
+  digest = e.digest;
+  length = decimal e.length;
+  offset = decimal e.offset;
+  filename = e.filename;
+}
+
+-- its members, in order
+abbrev pub members_of : EntryValue → List (List ℕ × List ℕ)
+members_of e = text_members (entry_texts e)
+
+-- `"name": "value"`
+abbrev pub member_text : List ℕ × List ℕ → List ℕ
+member_text (name, value) = quoted name ++ (58 ∷ 32 ∷ []) ++ quoted value
+
+-- a member after another
+abbrev pub later_text : List ℕ × List ℕ → List ℕ
+later_text member = 44 ∷ 32 ∷ member_text member
+
+-- the members between braces, with `, ` between
+abbrev pub object_text : List (List ℕ × List ℕ) → List ℕ
+object_text members = 123 ∷ (join_by member_text (44 ∷ 32 ∷ []) members ++ 125 ∷ [])
+
+-- the line without its line feed
+abbrev pub body_text : EntryValue → List ℕ
+body_text e = e.key ++ 32 ∷ (e.stamp ++ 32 ∷ object_text (members_of e))
+
+-- the line of an entry
+abbrev pub line_text : EntryValue → List ℕ
+line_text e = body_text e ++ 10 ∷ []

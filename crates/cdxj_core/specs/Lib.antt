@@ -1,0 +1,13 @@
+pub mod Key
+pub mod Pair
+pub mod Places
+pub mod PlaceViews
+pub mod Entries
+pub mod Texts
+pub mod Lines
+pub mod Plain
+pub mod PlainViews
+pub mod ValuesView
+pub mod LineRefView
+pub mod LineView
+pub mod Rising

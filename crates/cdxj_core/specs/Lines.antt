@@ -1,0 +1,155 @@
+-- What a line of an index says, for any limit of a line's bytes.
+use Rattle.std.specs.Prelude.{ℕ, ◌^◌, ◌&&◌, ◌==◌, Bool, not, nat_lt, List, take, length, ◌-◌, slice_index, codes, decimal, Option, Some, None, option_map, option_and_then, if◌then◌else◌}
+use Rattle.std.specs.List.{list_all, before_first, after_first}
+use Rattle.serde_json.specs.Data.{Num, unsigned, negative, float, Data, null, boolean, number, string, array, object}
+use Rattle.serde_json.specs.Read.{read}
+use Rattle.serde_json.specs.Find.{get}
+use Rattle.cdxj_core.specs.declared.field.Field.{Field}
+use Rattle.cdxj_core.specs.declared.field.Field.TheVariants.{Urlkey, Timestamp, Original, Mimetype, Statuscode, Digest, Length, Offset, Filename}
+use Rattle.cdxj_core.specs.Pair.{is_space, is_key, is_stamp}
+use Rattle.cdxj_core.specs.Places.{PlaceValue, offset_of}
+use Rattle.cdxj_core.specs.Entries.{EntryValue}
+use Rattle.cdxj_core.specs.Texts.{TextsValue, missing, or_missing}
+
+-- the nine values of a line; the offset is a number, all others are texts
+pub record LineValue : Type 0 where
+  pub key : List ℕ
+  pub stamp : List ℕ
+  pub original : List ℕ
+  pub mimetype : List ℕ
+  pub statuscode : List ℕ
+  pub digest : List ℕ
+  pub length : List ℕ
+  pub offset : ℕ
+  pub filename : List ℕ
+
+-- the value of a field
+abbrev pub field_value : Field → LineValue → List ℕ
+field_value Urlkey l = l.key
+field_value Timestamp l = l.stamp
+field_value Original l = l.original
+field_value Mimetype l = l.mimetype
+field_value Statuscode l = l.statuscode
+field_value Digest l = l.digest
+field_value Length l = l.length
+field_value Offset l = decimal l.offset
+field_value Filename l = l.filename
+
+-- the place of a line
+abbrev pub line_place : LineValue → PlaceValue
+line_place l = record { key = l.key; stamp = l.stamp; filename = l.filename; offset = l.offset }
+
+-- the values of a pair, the texts of the members and an offset
+abbrev pub line_value : List ℕ → List ℕ → TextsValue → ℕ → LineValue
+line_value key stamp texts offset = record {
+  key = key;
+  stamp = stamp;
+  original = texts.url;
+  mimetype = texts.mime;
+  statuscode = texts.status;
+  digest = texts.digest;
+  length = texts.length;
+  offset = offset;
+  filename = texts.filename;
+}
+
+-- the values that the line of a good entry has
+abbrev pub entry_values : EntryValue → LineValue
+entry_values e = record {
+  key = e.key;
+  stamp = e.stamp;
+  original = e.url;
+  mimetype = e.mime;
+  statuscode = e.status;
+  digest = e.digest;
+  length = decimal e.length;
+  offset = e.offset;
+  filename = e.filename;
+}
+
+abbrev pub number_value : Num → List ℕ
+number_value (unsigned n) = decimal n
+number_value (negative z) = missing
+number_value (float x) = missing
+
+-- a member's value: a text as it is, a number that fits 64 bits in decimal, and `-` for all else
+abbrev pub value_text : Option Data → List ℕ
+value_text None = missing
+value_text (Some null) = missing
+value_text (Some (boolean b)) = missing
+value_text (Some (number n)) = number_value n
+value_text (Some (string s)) = or_missing s
+value_text (Some (array ds)) = missing
+value_text (Some (object ms)) = missing
+
+-- the file name: a text that is not empty
+abbrev pub filename_value : Option Data → Option (List ℕ)
+filename_value None = None
+filename_value (Some null) = None
+filename_value (Some (boolean b)) = None
+filename_value (Some (number n)) = None
+filename_value (Some (string s)) = if length s == 0 then None else Some s
+filename_value (Some (array ds)) = None
+filename_value (Some (object ms)) = None
+
+abbrev pub offset_number : Num → Option ℕ
+offset_number (unsigned n) = if nat_lt n (2 ^ 63) then Some n else None
+offset_number (negative z) = None
+offset_number (float x) = None
+
+-- the offset: a number below 2^63, or its digits as a text
+abbrev pub offset_value : Option Data → Option ℕ
+offset_value None = None
+offset_value (Some null) = None
+offset_value (Some (boolean b)) = None
+offset_value (Some (number n)) = offset_number n
+offset_value (Some (string s)) = offset_of s
+offset_value (Some (array ds)) = None
+offset_value (Some (object ms)) = None
+
+-- the texts of an object's members
+abbrev pub texts_of : Data → List ℕ → ℕ → TextsValue
+texts_of d filename offset = record {
+  url = value_text (get (codes "url") d);
+  mime = value_text (get (codes "mime") d);
+  status = value_text (get (codes "status") d);
+  digest = value_text (get (codes "digest") d);
+  length = value_text (get (codes "length") d);
+  offset = decimal offset;
+  filename = filename;
+}
+
+-- the values of an object after a pair
+abbrev pub values_of : List ℕ → List ℕ → Data → List ℕ → ℕ → LineValue
+values_of key stamp d filename offset = line_value key stamp (texts_of d filename offset) offset
+
+-- the same, where the file name and the offset are good
+abbrev pub line_from : List ℕ → List ℕ → Data → Option LineValue
+line_from key stamp d =
+    option_and_then (λ filename. option_map (values_of key stamp d filename)
+    (offset_value (get (codes "offset") d))) (filename_value (get (codes "filename") d))
+
+-- the line without a line feed at its end
+abbrev pub body_of : List ℕ → List ℕ
+body_of line =
+    if slice_index line (length line - 1) == 10 then take (length line - 1) line else line
+
+abbrev pub has_no_feed : List ℕ → Bool
+has_no_feed text = list_all (λ b. not (b == 10)) text
+
+-- the values of the text of an object after a pair
+abbrev pub line_object : List ℕ → List ℕ → List ℕ → Option LineValue
+line_object key stamp text = option_and_then (line_from key stamp) (read text)
+
+-- the values of a body that was cut at its first two spaces
+abbrev pub line_parts : List ℕ → List ℕ → List ℕ → Option LineValue
+line_parts key stamp text = if is_key key && is_stamp stamp then line_object key stamp text else None
+
+-- The values of a line without its line feed, where it has an entry. The line is UTF-8 besides; the limit counts the line feed.
+unfoldable pub line_in : ℕ → List ℕ → Option LineValue
+line_in limit body =
+    if nat_lt (length body) limit && has_no_feed body
+    then line_parts (before_first is_space body)
+    (before_first is_space (after_first is_space body))
+    (after_first is_space (after_first is_space body))
+    else None

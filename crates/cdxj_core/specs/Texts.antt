@@ -1,0 +1,26 @@
+-- The texts of a line's members.
+use Rattle.std.specs.Prelude.{ℕ, ◌==◌, List, [], ◌∷◌, length, codes, if◌then◌else◌}
+
+pub record TextsValue : Type 0 where
+  pub url : List ℕ
+  pub mime : List ℕ
+  pub status : List ℕ
+  pub digest : List ℕ
+  pub length : List ℕ
+  pub offset : List ℕ
+  pub filename : List ℕ
+
+-- the members of these texts, in the order of a written line
+abbrev pub text_members : TextsValue → List (List ℕ × List ℕ)
+text_members t =
+    (codes "url", t.url) ∷ (codes "mime", t.mime) ∷ (codes "status", t.status)
+    ∷ (codes "digest", t.digest) ∷ (codes "length", t.length)
+    ∷ (codes "offset", t.offset) ∷ (codes "filename", t.filename) ∷ []
+
+-- `-`
+abbrev pub missing : List ℕ
+missing = 45 ∷ []
+
+-- a text, or `-` for an empty one
+abbrev pub or_missing : List ℕ → List ℕ
+or_missing s = if length s == 0 then missing else s

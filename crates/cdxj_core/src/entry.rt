@@ -1,0 +1,60 @@
+use crate::pair::{is_key, is_stamp};
+use std::marker::Model;
+
+/// What a line of an index says of one capture.
+#[derive(Debug, Drop)]
+pub struct Entry {
+    pub key: String,
+    /// `YYYYMMDDhhmmss`.
+    pub stamp: [u8; 14],
+    pub url: String,
+    pub mime: String,
+    pub status: String,
+    pub digest: String,
+    /// Bytes of the record.
+    pub length: u64,
+    /// Bytes from the archive's start.
+    pub offset: u64,
+    /// The archive's name.
+    pub filename: String,
+}
+
+impl Model for Entry {
+    ghost use Rattle.std.specs.Prelude.{string_bytes};
+    ghost use Rattle.cdxj_core.specs.Entries.{EntryValue};
+
+    ghost Value = { EntryValue };
+
+    ghost view = { λ e. record {
+      key = string_bytes e.key;
+      stamp = e.stamp;
+      url = string_bytes e.url;
+      mime = string_bytes e.mime;
+      status = string_bytes e.status;
+      digest = string_bytes e.digest;
+      length = e.length;
+      offset = e.offset;
+      filename = string_bytes e.filename;
+    } };
+}
+
+impl Entry {
+    ghost use Rattle.std.specs.Prelude.{◌↔◌, IsTrue};
+    ghost use Rattle.cdxj_core.specs.Entries.{IsGood};
+
+    /// Whether the entry can be written: the key is a key, the stamp fourteen digits, no text is
+    /// empty, and length and offset are below 2^63.
+    pub fn good(&self) -> bool
+        ensures { IsTrue result ↔ IsGood self.now }
+    {
+        is_key(self.key.as_bytes())
+            && is_stamp(&self.stamp)
+            && !self.url.is_empty()
+            && !self.mime.is_empty()
+            && !self.status.is_empty()
+            && !self.digest.is_empty()
+            && self.length < 1 << 63
+            && self.offset < 1 << 63
+            && !self.filename.is_empty()
+    }
+}

@@ -1,0 +1,67 @@
+ghost use Rattle.std.specs.Prelude.{◌≡◌};
+
+use std::alloc::AllocError;
+use thiserror::Error;
+
+/// Why a target has no key.
+#[derive(Clone, Copy, Debug, Drop, Error, PartialEq, Eq)]
+pub enum KeyFault {
+    #[error("out of memory")]
+    Memory,
+    /// The URL is longer than the URL parser can hold.
+    #[error("the URL is too long")]
+    TooLong,
+}
+
+impl From<AllocError> for KeyFault {
+    ghost use Rattle.cdxj_core.specs.declared.fault.KeyFault.TheVariants.{Memory};
+
+    ghost from_gives = { λ _ fault. fault ≡ Memory };
+
+    fn from(_refused: AllocError) -> KeyFault {
+        KeyFault::Memory
+    }
+}
+
+/// Why a line was not written or read.
+#[derive(Clone, Copy, Debug, Drop, Error, PartialEq, Eq)]
+pub enum LineFault {
+    #[error("out of memory")]
+    Memory,
+    /// The line is longer than `LINE_LIMIT` bytes.
+    #[error("the line is too long")]
+    LineTooLong,
+    /// The line has no entry.
+    #[error("the line has no entry")]
+    BadLine,
+}
+
+impl From<AllocError> for LineFault {
+    ghost use Rattle.cdxj_core.specs.declared.fault.LineFault.TheVariants.{Memory};
+
+    ghost from_gives = { λ _ fault. fault ≡ Memory };
+
+    fn from(_refused: AllocError) -> LineFault {
+        LineFault::Memory
+    }
+}
+
+/// Why a place was not kept, written or read.
+#[derive(Clone, Copy, Debug, Drop, Error, PartialEq, Eq)]
+pub enum PlaceFault {
+    #[error("out of memory")]
+    Memory,
+    /// The text is no resume key.
+    #[error("the resume key is bad")]
+    BadResume,
+}
+
+impl From<AllocError> for PlaceFault {
+    ghost use Rattle.cdxj_core.specs.declared.fault.PlaceFault.TheVariants.{Memory};
+
+    ghost from_gives = { λ _ fault. fault ≡ Memory };
+
+    fn from(_refused: AllocError) -> PlaceFault {
+        PlaceFault::Memory
+    }
+}

@@ -1,0 +1,128 @@
+// Keys in the manner of SURT: URLs with the host's labels reversed, so that a host's pages stand
+// together in an index.
+ghost use Rattle.std.specs.Prelude.{◌≡◌, ◌<◌, ◌++◌, option_copied, option_map, IfOk, string_bytes};
+ghost use Rattle.std.specs.Char.{digit_char};
+ghost use Rattle.cdxj_core.specs.Key.{port_text, query_text, is_web, web_text, key_byte, folded, key_of, host_key_of};
+
+use crate::fault::KeyFault;
+use crate::host::host_text;
+use std::alloc::{AllocError, Global};
+use url::{ParseError, Url};
+
+fn push_folded(text: &mut String, byte: u8) -> Result<(), AllocError>
+    ensures { IfOk result (λ _. string_bytes text.new ≡ string_bytes text.old ++ key_byte byte) }
+{
+    if byte.is_ascii_graphic() {
+        text.push(byte.to_ascii_lowercase() as char)
+    } else {
+        text.push('%')?;
+        text.push(hex(byte >> 4))?;
+        text.push(hex(byte & 15))
+    }
+}
+
+fn hex(digit: u8) -> char
+    requires { digit < 16 }
+    ensures { result ≡ digit_char digit }
+{
+    if digit < 10 {
+        (b'0' + digit) as char
+    } else {
+        (b'a' + (digit - 10)) as char
+    }
+}
+
+fn folded(alloc: Global, bytes: &[u8]) -> Result<String, AllocError>
+    ensures { IfOk result (λ text. string_bytes text ≡ folded bytes.now) }
+{
+    let mut text = String::with_capacity(alloc, bytes.len())?;
+    for byte in bytes {
+        push_folded(&mut text, *byte)?;
+    }
+    Ok(text)
+}
+
+fn is_web(url: &Url) -> bool
+    ensures { result ≡ is_web url.now }
+{
+    url.scheme() == "http" || url.scheme() == "https"
+}
+
+fn push_port(text: &mut Vec<u8>, alloc: Global, port: Option<u16>) -> Result<(), AllocError>
+    ensures { IfOk result (λ _. text.new.items ≡ text.old.items ++ port_text port) }
+{
+    if let Some(number) = port {
+        text.push(b':')?;
+        let digits = format!(in alloc; "{number}")?;
+        text.extend_from_slice(digits.as_bytes())?;
+    }
+    Ok(())
+}
+
+fn push_query(text: &mut Vec<u8>, query: Option<&str>) -> Result<(), AllocError>
+    ensures { IfOk result (λ _. text.new.items
+        ≡ text.old.items ++ query_text (option_copied query.entry)) }
+{
+    match query {
+        Some(query) if !query.is_empty() => {
+            text.push(b'?')?;
+            text.extend_from_slice(query.as_bytes())
+        }
+        _ => Ok(()),
+    }
+}
+
+fn web_text(alloc: Global, url: &Url) -> Result<Vec<u8>, AllocError>
+    ensures { IfOk result (λ text. text.items ≡ web_text url.now) }
+{
+    let mut text = host_text(alloc, url)?;
+    push_port(&mut text, alloc, url.port())?;
+    text.push(b')')?;
+    text.extend_from_slice(url.path().as_bytes())?;
+    push_query(&mut text, url.query())?;
+    Ok(text)
+}
+
+/// The key of a target. Of a web URL, as the URL Standard parses it, it is the host text, `:` and
+/// the port unless it is the scheme's own, `)`, the path, and `?` and the query unless it is empty;
+/// of any other target it is the target. ASCII letters are lowered, and bytes outside 0x21 to 0x7E
+/// written as `%` and two digits. `TooLong` only where the URL parser has no room for the URL.
+#[tactic(auto, unfolding(crate::specs::Key::key_of))]
+pub fn url_key(alloc: Global, target: &str) -> Result<String, KeyFault>
+    ensures { IfOk result (λ key. string_bytes key ≡ key_of target.now) }
+{
+    match Url::parse(alloc, target) {
+        Ok(url) => {
+            if is_web(&url) {
+                let text = web_text(alloc, &url)?;
+                Ok(folded(alloc, &text)?)
+            } else {
+                Ok(folded(alloc, target.as_bytes())?)
+            }
+        }
+        Err(ParseError::OutOfMemory) => Err(KeyFault::Memory),
+        Err(ParseError::Overflow) => Err(KeyFault::TooLong),
+        Err(_) => Ok(folded(alloc, target.as_bytes())?),
+    }
+}
+
+/// The host text of a target's key, in lower case, where the target is a web URL. Faults as of
+/// `url_key`.
+#[tactic(auto, unfolding(crate::specs::Key::host_key_of))]
+pub fn host_key(alloc: Global, target: &str) -> Result<Option<String>, KeyFault>
+    ensures { IfOk result (λ host. option_map string_bytes host ≡ host_key_of target.now) }
+{
+    match Url::parse(alloc, target) {
+        Ok(url) => {
+            if is_web(&url) {
+                let text = host_text(alloc, &url)?;
+                Ok(Some(folded(alloc, &text)?))
+            } else {
+                Ok(None)
+            }
+        }
+        Err(ParseError::OutOfMemory) => Err(KeyFault::Memory),
+        Err(ParseError::Overflow) => Err(KeyFault::TooLong),
+        Err(_) => Ok(None),
+    }
+}

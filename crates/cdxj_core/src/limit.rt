@@ -1,0 +1,2 @@
+/// The most bytes of a line, counted with its line feed, whether it is there or not.
+pub const LINE_LIMIT: usize = 1_048_576;

@@ -1,0 +1,20 @@
+ghost use Rattle.std.specs.Prelude.{◌≡◌, ◌<◌, ◌^◌, length, true};
+ghost use Rattle.cdxj_core.specs.Pair.{is_key, is_stamp};
+
+/// Where a capture stands in an index: places are ordered by key, stamp and file name, each by its
+/// bytes, and then by offset as a number.
+#[derive(Clone, Copy, Debug, PartialEq, Eq, PartialOrd, Ord)]
+pub struct Place<'a> {
+    /// One or more characters, none of them a space, a control or U+007F.
+    pub key: &'a str,
+    /// Fourteen digits, `YYYYMMDDhhmmss`.
+    pub stamp: [u8; 14],
+    /// Not empty.
+    pub filename: &'a str,
+    /// Bytes from the archive's start, below 2^63.
+    pub offset: u64,
+    pub ghost key_rule: { is_key key.now ≡ true },
+    pub ghost stamp_rule: { is_stamp stamp ≡ true },
+    pub ghost filename_rule: { 0 < length filename.now },
+    pub ghost offset_rule: { offset < 2 ^ 63 },
+}

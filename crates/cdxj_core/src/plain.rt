@@ -1,0 +1,61 @@
+// Plain objects: seven members in the order and the spelling of a written line, whose texts stand
+// between their quotes as they are.
+ghost use Rattle.std.specs.Prelude.{◌≡◌, ◌∷◌, ◌++◌, true, codes, IfSome};
+ghost use Rattle.std.specs.List.{list_all};
+ghost use Rattle.cdxj_core.specs.Plain.{is_open, plain_text, ArePlain, AreOpen};
+ghost use Rattle.cdxj_core.specs.PlainViews.{texts_view};
+
+use crate::scan::{has_no_control, quoted_part};
+use crate::texts::Texts;
+
+// The text after the front, up to its quote, and what follows that quote.
+#[inline(always)]
+fn text_after<'a>(text: &'a str, front: &str) -> Option<(&'a str, &'a str)>
+    ensures { IfSome result (λ p. (text.now ≡ front.now ++ (p.0.now ++ 34 ∷ p.1.now))
+        × (list_all is_open p.0.now ≡ true)) }
+{
+    quoted_part(text.strip_prefix(front)?)
+}
+
+#[inline(always)]
+fn is_closed(rest: &str) -> bool
+    ensures { result ≡ true → rest.now ≡ codes "}" }
+{
+    rest == "}"
+}
+
+fn open_texts(object: &str) -> Option<Texts<'_>>
+    ensures { IfSome result (λ t. (object.now ≡ plain_text (texts_view t)) × AreOpen (texts_view t)) }
+{
+    let (url, rest) = text_after(object, "{\"url\": \"")?;
+    let (mime, rest) = text_after(rest, ", \"mime\": \"")?;
+    let (status, rest) = text_after(rest, ", \"status\": \"")?;
+    let (digest, rest) = text_after(rest, ", \"digest\": \"")?;
+    let (length, rest) = text_after(rest, ", \"length\": \"")?;
+    let (offset, rest) = text_after(rest, ", \"offset\": \"")?;
+    let (filename, rest) = text_after(rest, ", \"filename\": \"")?;
+    if is_closed(rest) {
+        Some(Texts {
+            url,
+            mime,
+            status,
+            digest,
+            length,
+            offset,
+            filename,
+        })
+    } else {
+        None
+    }
+}
+
+/// The texts of a plain object. It may decline any object, which JSON then reads.
+pub fn plain_texts(object: &str) -> Option<Texts<'_>>
+    ensures { IfSome result (λ t. (object.now ≡ plain_text (texts_view t)) × ArePlain (texts_view t)) }
+{
+    if has_no_control(object.as_bytes()) {
+        open_texts(object)
+    } else {
+        None
+    }
+}

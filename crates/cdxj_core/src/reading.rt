@@ -1,0 +1,68 @@
+// The values of a line's members, as JSON has them.
+ghost use Rattle.std.specs.Prelude.{◌≡◌, ◌<◌, ◌^◌, IfOk, IfSome, option_map, string_bytes, length};
+ghost use Rattle.serde_json.specs.View.{view};
+ghost use Rattle.cdxj_core.specs.Lines.{value_text, filename_value, offset_value, body_of, has_no_feed};
+
+use crate::offset::read_offset;
+use memchr::memchr;
+use serde_json::Value;
+use std::alloc::{AllocError, Global};
+
+/// A member's value as a text: `-` where it is absent, empty or neither text nor number.
+pub fn value_text(alloc: Global, member: Option<&Value>) -> Result<String, AllocError>
+    ensures { IfOk result
+        (λ text. string_bytes text ≡ value_text (option_map (λ v. view v.now) member.entry)) }
+{
+    let Some(value) = member else {
+        return String::from_str(alloc, "-");
+    };
+    if let Some(text) = value.as_str() {
+        return String::from_str(alloc, if text.is_empty() { "-" } else { text });
+    }
+    match value.as_u64() {
+        Some(number) => format!(in alloc; "{number}"),
+        None => String::from_str(alloc, "-"),
+    }
+}
+
+/// A text that is not empty.
+pub fn filename_value(member: Option<&Value>) -> Option<&str>
+    ensures value { option_map (λ s. s.now) result
+        ≡ filename_value (option_map (λ v. view v.now) member.entry) }
+    ensures some { IfSome result (λ s. 0 < length s.now) }
+{
+    let text = member?.as_str()?;
+    if text.is_empty() { None } else { Some(text) }
+}
+
+/// An offset, as a number or as digits.
+pub fn offset_value(member: Option<&Value>) -> Option<u64>
+    ensures value { result ≡ offset_value (option_map (λ v. view v.now) member.entry) }
+    ensures small { IfSome result (λ n. n < 2 ^ 63) }
+{
+    let value = member?;
+    if let Some(text) = value.as_str() {
+        return read_offset(text);
+    }
+    match value.as_u64() {
+        Some(offset) if offset < 1 << 63 => Some(offset),
+        _ => None,
+    }
+}
+
+/// The line without a line feed at its end.
+pub fn body_of(line: &[u8]) -> &[u8]
+    ensures { result.now ≡ body_of line.now }
+{
+    match line {
+        [body @ .., b'\n'] => body,
+        _ => line,
+    }
+}
+
+#[tactic(auto, using(crate::proofs::Found::IsFirstByte_absent))]
+pub fn has_no_feed(text: &[u8]) -> bool
+    ensures { result ≡ has_no_feed text.now }
+{
+    memchr(b'\n', text).is_none()
+}

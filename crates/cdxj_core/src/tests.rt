@@ -1,0 +1,8 @@
+mod keys;
+mod limits;
+mod lines;
+mod memory;
+mod order;
+mod places;
+mod refusals;
+mod writing;

@@ -1,0 +1,58 @@
+use super::writing::{home, text};
+use crate::{Entry, Field, LineRef, in_order};
+use std::alloc::{AllocError, Global};
+use std::test::Fail;
+
+fn entry(alloc: Global, filename: &str, offset: u64, mime: &str) -> Result<Entry, AllocError> {
+    let mut entry = home(alloc)?;
+    entry.filename = text(alloc, filename)?;
+    entry.offset = offset;
+    entry.mime = text(alloc, mime)?;
+    Ok(entry)
+}
+
+// By file name, then by offset as a number; of two at one place the first.
+#[test]
+fn entries_rise_by_place(rt: HostRuntime) -> Result<(), Fail> {
+    let alloc = rt.alloc();
+    let mut entries = Vec::new(alloc);
+    for (filename, offset, mime) in [
+        ("b.warc", 10, "first"),
+        ("a.warc", 1000, "first"),
+        ("a.warc", 99, "first"),
+        ("a.warc", 1000, "second"),
+        ("b.warc", 10, "second"),
+    ] {
+        entries.push(entry(alloc, filename, offset, mime)?)?;
+    }
+    let order = in_order(alloc, &entries)?;
+    let wanted = [("a.warc", 99), ("a.warc", 1000), ("b.warc", 10)];
+    assert_eq!(rt; order.len(), 3);
+    for (found, (filename, offset)) in order.iter().zip(wanted) {
+        assert_eq!(rt; found.filename.as_str(), filename);
+        assert_eq!(rt; found.offset, offset);
+        assert_eq!(rt; found.mime.as_str(), "first");
+    }
+    Ok(())
+}
+
+#[test]
+fn lines_rise_by_place(rt: HostRuntime) -> Result<(), Fail> {
+    let alloc = rt.alloc();
+    let mut lines = Vec::new(alloc);
+    for line in [
+        b"k 20160101000000 {\"offset\": \"1000\", \"filename\": \"a.warc\"}".as_slice(),
+        b"k 20160101000000 {\"offset\": \"99\", \"filename\": \"a.warc\"}".as_slice(),
+        b"j 20170101000000 {\"offset\": \"5\", \"filename\": \"b.warc\"}".as_slice(),
+    ] {
+        lines.push(LineRef::read(alloc, line)?)?;
+    }
+    let order = in_order(alloc, &lines)?;
+    assert_eq!(rt; order.len(), 3);
+    assert_eq!(rt; order[0].value(Field::Offset), "5");
+    assert_eq!(rt; order[1].value(Field::Offset), "99");
+    assert_eq!(rt; order[2].value(Field::Offset), "1000");
+    let none: [Entry; 0] = [];
+    assert!(rt; in_order(alloc, &none)?.is_empty());
+    Ok(())
+}

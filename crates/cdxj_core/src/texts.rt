@@ -1,0 +1,40 @@
+// The seven texts of a line's members.
+ghost use Rattle.std.specs.Prelude.{◌≡◌};
+ghost use Rattle.cdxj_core.specs.Texts.{or_missing};
+
+#[derive(Clone, Copy, Debug)]
+pub struct Texts<'a> {
+    pub url: &'a str,
+    pub mime: &'a str,
+    pub status: &'a str,
+    pub digest: &'a str,
+    pub length: &'a str,
+    pub offset: &'a str,
+    pub filename: &'a str,
+}
+
+fn or_missing(text: &str) -> &str
+    ensures { result.now ≡ or_missing text.now }
+{
+    if text.is_empty() { "-" } else { text }
+}
+
+impl<'a> Texts<'a> {
+    ghost use Rattle.cdxj_core.specs.Plain.{values_of_texts};
+    ghost use Rattle.cdxj_core.specs.PlainViews.{texts_view};
+
+    /// The values that the texts stand for: an empty one counts as absent.
+    pub fn values(self) -> Texts<'a>
+        ensures { texts_view result ≡ values_of_texts (texts_view self.entry) }
+    {
+        Texts {
+            url: or_missing(self.url),
+            mime: or_missing(self.mime),
+            status: or_missing(self.status),
+            digest: or_missing(self.digest),
+            length: or_missing(self.length),
+            offset: self.offset,
+            filename: self.filename,
+        }
+    }
+}

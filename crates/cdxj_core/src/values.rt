@@ -1,0 +1,108 @@
+// What the object of a line says: the texts of its members, and its offset.
+ghost use Rattle.std.specs.Prelude.{◌≡◌, ◌<◌, ◌^◌, length, decimal, true};
+ghost use Rattle.cdxj_core.specs.PlainViews.{kept_view};
+
+use crate::fault::LineFault;
+use crate::kept::{Copies, Kept};
+use crate::offset::canonical_offset;
+use crate::pair::{is_key, is_stamp};
+use crate::plain::plain_texts;
+use crate::reading::{filename_value, offset_value, value_text};
+use serde_json::Value;
+use serde_json::error::Category;
+use std::alloc::Global;
+
+#[derive(Debug, Drop)]
+pub struct Values<'a> {
+    pub offset: u64,
+    pub texts: Kept<'a>,
+    pub ghost filename_rule: { 0 < length (kept_view texts).filename },
+    pub ghost offset_rule: { offset < 2 ^ 63 },
+    pub ghost offset_text_rule: { (kept_view texts).offset ≡ decimal offset },
+}
+
+impl<'a> Values<'a> {
+    ghost use Rattle.std.specs.Prelude.{◌≢◌, MatchResult, IfOk, IfSome, Some, None};
+    ghost use Rattle.cdxj_core.specs.Lines.{line_parts, line_object};
+    ghost use Rattle.cdxj_core.specs.Pair.{is_key, is_stamp};
+    ghost use Rattle.cdxj_core.specs.ValuesView.{parts_view};
+
+    /// The values of a line that was cut at its first two spaces.
+    pub fn read(
+        alloc: Global,
+        key: &str,
+        stamp: &str,
+        object: &'a str,
+    ) -> Result<Values<'a>, LineFault>
+        ensures value { MatchResult result
+            (λ found. line_parts key.now stamp.now object.now
+            ≡ Some (parts_view key.now stamp.now found))
+            (λ fault. (fault ≡ LineFault.BadLine
+            → line_parts key.now stamp.now object.now ≡ None)
+            × (fault ≢ LineFault.LineTooLong)) }
+        ensures key { IfOk result (λ _. is_key key.now ≡ true) }
+        ensures stamp { IfOk result (λ _. is_stamp stamp.now ≡ true) }
+    {
+        if !is_key(key.as_bytes()) || !is_stamp(stamp.as_bytes()) {
+            return Err(LineFault::BadLine);
+        }
+        match Values::read_plain(key, stamp, object) {
+            Some(found) => Ok(found),
+            None => Values::read_json(alloc, key, stamp, object),
+        }
+    }
+
+    // A plain object takes no memory.
+    fn read_plain(key: &str, stamp: &str, object: &'a str) -> Option<Values<'a>>
+        ensures { IfSome result (λ found. line_object key.now stamp.now object.now
+            ≡ Some (parts_view key.now stamp.now found)) }
+    {
+        let texts = plain_texts(object)?;
+        let offset = canonical_offset(texts.offset)?;
+        if texts.filename.is_empty() {
+            return None;
+        }
+        Some(Values {
+            offset,
+            texts: Kept::Plain(texts.values()),
+        })
+    }
+
+    fn read_json(
+        alloc: Global,
+        key: &str,
+        stamp: &str,
+        object: &str,
+    ) -> Result<Values<'a>, LineFault>
+        ensures { MatchResult result
+            (λ found. line_object key.now stamp.now object.now
+            ≡ Some (parts_view key.now stamp.now found))
+            (λ fault. (fault ≡ LineFault.BadLine
+            → line_object key.now stamp.now object.now ≡ None)
+            × (fault ≢ LineFault.LineTooLong)) }
+    {
+        let value = match Value::from_str(alloc, object) {
+            Ok(value) => value,
+            Err(e) if e.classify() == Category::Memory => return Err(LineFault::Memory),
+            Err(_) => return Err(LineFault::BadLine),
+        };
+        let Some(filename) = filename_value(value.get("filename")) else {
+            return Err(LineFault::BadLine);
+        };
+        let Some(offset) = offset_value(value.get("offset")) else {
+            return Err(LineFault::BadLine);
+        };
+        Ok(Values {
+            offset,
+            texts: Kept::Copied(Copies {
+                url: value_text(alloc, value.get("url"))?,
+                mime: value_text(alloc, value.get("mime"))?,
+                status: value_text(alloc, value.get("status"))?,
+                digest: value_text(alloc, value.get("digest"))?,
+                length: value_text(alloc, value.get("length"))?,
+                offset: format!(in alloc; "{offset}")?,
+                filename: String::from_str(alloc, filename)?,
+            }),
+        })
+    }
+}

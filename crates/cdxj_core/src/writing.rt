@@ -1,0 +1,146 @@
+// The line of an entry.
+ghost use Rattle.std.specs.Prelude.{◌≡◌, ◌≢◌, ◌<◌, ◌≤◌, ◌++◌, [], ◌∷◌, true, length, IfOk, MatchResult};
+ghost use Rattle.std.specs.List.{list_all};
+ghost use Rattle.json.specs.Run.{is_plain};
+ghost use Rattle.json.specs.Print.{quoted};
+ghost use Rattle.cdxj_core.specs.Entries.{IsGood, entry_texts, member_text, later_text, object_text, line_text};
+ghost use Rattle.cdxj_core.specs.Texts.{text_members};
+ghost use Rattle.cdxj_core.specs.PlainViews.{texts_view};
+
+use crate::entry::Entry;
+use crate::fault::LineFault;
+use crate::limit::LINE_LIMIT;
+use crate::scan::is_plain_text;
+use crate::texts::Texts;
+use serde_json::Value;
+use std::alloc::{AllocError, Global};
+
+// A text that needs no escape.
+fn push_plain(line: &mut Vec<u8>, text: &str) -> Result<(), AllocError>
+    requires { list_all is_plain text.now ≡ true }
+    ensures { IfOk result (λ _. line.new.items ≡ line.old.items ++ quoted text.now) }
+{
+    line.push(b'"')?;
+    line.extend_from_slice(text.as_bytes())?;
+    line.push(b'"')?;
+    Ok(())
+}
+
+fn push_quoted(line: &mut Vec<u8>, alloc: Global, text: &str) -> Result<(), AllocError>
+    ensures { IfOk result (λ _. line.new.items ≡ line.old.items ++ quoted text.now) }
+{
+    if is_plain_text(text.as_bytes()) {
+        return push_plain(line, text);
+    }
+    let value = Value::try_from_str(alloc, text)?;
+    let bytes = value.to_vec(alloc)?;
+    line.extend_from_slice(&bytes)
+}
+
+fn push_member(line: &mut Vec<u8>, alloc: Global, name: &str, value: &str) -> Result<(), AllocError>
+    ensures { IfOk result
+        (λ _. line.new.items ≡ line.old.items ++ member_text (name.now, value.now)) }
+{
+    push_quoted(line, alloc, name)?;
+    line.extend_from_slice(b": ")?;
+    push_quoted(line, alloc, value)
+}
+
+fn push_later(line: &mut Vec<u8>, alloc: Global, name: &str, value: &str) -> Result<(), AllocError>
+    ensures { IfOk result
+        (λ _. line.new.items ≡ line.old.items ++ later_text (name.now, value.now)) }
+{
+    line.extend_from_slice(b", ")?;
+    push_member(line, alloc, name, value)
+}
+
+fn push_object(line: &mut Vec<u8>, alloc: Global, texts: Texts<'_>) -> Result<(), AllocError>
+    ensures { IfOk result (λ _. line.new.items
+        ≡ line.old.items ++ object_text (text_members (texts_view texts.entry))) }
+{
+    line.push(b'{')?;
+    push_member(line, alloc, "url", texts.url)?;
+    push_later(line, alloc, "mime", texts.mime)?;
+    push_later(line, alloc, "status", texts.status)?;
+    push_later(line, alloc, "digest", texts.digest)?;
+    push_later(line, alloc, "length", texts.length)?;
+    push_later(line, alloc, "offset", texts.offset)?;
+    push_later(line, alloc, "filename", texts.filename)?;
+    line.push(b'}')?;
+    Ok(())
+}
+
+fn push_pair(line: &mut Vec<u8>, entry: &Entry) -> Result<(), AllocError>
+    ensures { IfOk result (λ _. line.new.items
+        ≡ line.old.items ++ (entry.now.key ++ 32 ∷ (entry.now.stamp ++ 32 ∷ []))) }
+{
+    line.extend_from_slice(entry.key.as_bytes())?;
+    line.push(b' ')?;
+    line.extend_from_slice(&entry.stamp)?;
+    line.push(b' ')?;
+    Ok(())
+}
+
+// The texts of the entry's members, its numbers as they are given.
+fn member_texts<'a>(entry: &'a Entry, length: &'a str, offset: &'a str) -> Texts<'a>
+    ensures { texts_view result
+        ≡ record (entry_texts entry.now) { length = length.now; offset = offset.now } }
+{
+    Texts {
+        url: entry.url.as_str(),
+        mime: entry.mime.as_str(),
+        status: entry.status.as_str(),
+        digest: entry.digest.as_str(),
+        length,
+        offset,
+        filename: entry.filename.as_str(),
+    }
+}
+
+// An empty line with room for that of most entries.
+fn room(alloc: Global, entry: &Entry) -> Result<Vec<u8>, AllocError>
+    ensures { IfOk result (λ line. line.items ≡ []) }
+{
+    let most = entry
+        .key
+        .len()
+        .saturating_add(entry.url.len())
+        .saturating_add(entry.mime.len())
+        .saturating_add(entry.digest.len())
+        .saturating_add(entry.filename.len())
+        .saturating_add(192);
+    Ok(Vec::with_capacity(alloc, most.min(LINE_LIMIT))?)
+}
+
+fn line_bytes(alloc: Global, entry: &Entry) -> Result<Vec<u8>, AllocError>
+    ensures { IfOk result (λ line. line.items ≡ line_text entry.now) }
+{
+    let length = format!(in alloc; "{}", entry.length)?;
+    let offset = format!(in alloc; "{}", entry.offset)?;
+    let mut line = room(alloc, entry)?;
+    push_pair(&mut line, entry)?;
+    push_object(
+        &mut line,
+        alloc,
+        member_texts(entry, length.as_str(), offset.as_str()),
+    )?;
+    line.push(b'\n')?;
+    Ok(line)
+}
+
+/// The line of a good entry, with its line feed: the key, the stamp and a JSON object with the
+/// members url, mime, status, digest, length, offset and filename, all as texts. `LineTooLong`
+/// where it has more than `LINE_LIMIT` bytes.
+pub fn write_line(alloc: Global, entry: &Entry) -> Result<Vec<u8>, LineFault>
+    requires { IsGood entry.now }
+    ensures { MatchResult result
+        (λ line. (line.items ≡ line_text entry.now) × (length line.items ≤ LINE_LIMIT))
+        (λ fault. (fault ≡ LineFault.LineTooLong → LINE_LIMIT < length (line_text entry.now))
+        × (fault ≢ LineFault.BadLine)) }
+{
+    let line = line_bytes(alloc, entry)?;
+    if line.len() > LINE_LIMIT {
+        return Err(LineFault::LineTooLong);
+    }
+    Ok(line)
+}
