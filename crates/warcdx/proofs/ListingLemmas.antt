@@ -1,5 +1,5 @@
 -- The lines of records, one record further, and at the end.
-use Rattle.std.proofs.Common.{◌≡◌, ◌∙◌, ℕ, ◌+◌, List, [], ◌∷◌, ◌++◌, ◌⊎◌, inl, inr, Option, None, Some, Result, Ok, Err, sym, ap, refl, subst, length, length-append, append-nil, append_assoc, arith}
+use Rattle.std.proofs.Common.{◌≡◌, ◌∙◌, ℕ, ◌+◌, List, [], ◌∷◌, ◌++◌, ◌⊎◌, inl, inr, Option, None, Some, Result, Ok, Err, sym, ap, refl, subst, length-append, append-nil, append_assoc, arith}
 use Rattle.std.specs.Prelude.{flat_map}
 use Rattle.std.proofs.lemmas.List.Concat.{flat_map-append}
 use Rattle.std.specs.Io.KnownBytes.{Appends, prepend_known}
@@ -9,7 +9,7 @@ use Rattle.warc_core.specs.declared.fault.Fault.{Fault}
 use Rattle.warc_core.specs.Device.{AppendsPrefix, next_count}
 use Rattle.warc_core.specs.HeadView.{HeadView, record_length}
 use Rattle.warc_core.specs.Reading.{Reads, IsFoundIn, CountsRead}
-use Rattle.warc_core.specs.Walk.{record_at, Walks, AreRecords, IsDamaged}
+use Rattle.warc_core.specs.Walk.{record_at, Walks}
 use Rattle.warc_core.proofs.DeviceLemmas.{Appends-none, Appends-join, AppendsPrefix-behind}
 use Rattle.warc_core.proofs.SpelledLemmas.{total}
 use Rattle.warc_core.proofs.WalkLemmas.{Walks-more, none_at_end, walk-extends}

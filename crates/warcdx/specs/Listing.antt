@@ -1,5 +1,5 @@
 -- The listing of an archive.
-use Rattle.std.specs.Prelude.{◌≡◌, ℕ, ◌+◌, ⊤, ◌⊎◌, List, [], ◌∷◌, ◌++◌, length, flat_map, Option, None, Some, Result, Ok, Err, codes, decimal}
+use Rattle.std.specs.Prelude.{◌≡◌, ℕ, ◌+◌, ⊤, ◌⊎◌, List, ◌++◌, length, flat_map, Option, None, Some, Result, Ok, Err, codes, decimal}
 use Rattle.std.specs.Io.KnownBytes.{Appends}
 use Rattle.warc_head.specs.Kind.{kind_name}
 use Rattle.warc_core.specs.declared.fault.Cause.{Cause}

@@ -1,14 +1,7 @@
-use Rattle.std.proofs.Common.{◌≡◌, ◌∙◌, ◌≤◌, ◌+◌, ℕ, List, [], Option, Ok, Err, Result, refl, sym, ap, subst, arith, length}
-use Rattle.std.proofs.lemmas.Result.{err_from_is_err_and}
+use Rattle.std.proofs.Common.{◌≡◌, ◌∙◌, ◌≤◌, [], ap, arith}
 use Rattle.std.specs.Io.KnownBytes.{prepend_known}
-use Rattle.warc_core.specs.declared.fault.Cause.{Cause}
-use Rattle.warc_core.specs.declared.fault.Cause.TheVariants as causes
-use Rattle.warc_core.specs.declared.fault.Fault.{Fault}
 use Rattle.warc_core.specs.declared.next.TheConstants.{HEAD_LIMIT}
-use Rattle.warc_core.specs.HeadView.{HeadView, record_length}
-use Rattle.warc_core.specs.Reading.{Reads}
 use Rattle.warc_core.specs.Walk.{record_at}
-use Rattle.warcdx.specs.declared.faults.IndexFault.{IndexFault}
 use Rattle.warcdx.specs.declared.faults.IndexFault.TheVariants as faults
 use Rattle.warcdx.proofs.ListingLemmas.{SoFar-start, SoFar-more, SoFar-end, SoFar-stopped, stopped-anywhere, fault-told, fault-cut}
 use Rattle.warcdx.proofs.listing.list.Goals as goal

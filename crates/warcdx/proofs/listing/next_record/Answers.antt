@@ -1,6 +1,6 @@
-use Rattle.std.proofs.Common.{◌≡◌, ◌∙◌, ℕ, List, Option, None, Some, Result, Ok, Err, refl, sym, ap, subst}
+use Rattle.std.proofs.Common.{◌≡◌, ◌∙◌, Option, Err, subst}
 use Rattle.std.proofs.lemmas.Result.{err_from_is_err_and}
-use Rattle.warc_core.specs.Reading.{Reads, CountsRead}
+use Rattle.warc_core.specs.Reading.{CountsRead}
 use Rattle.warc_core.specs.HeadView.{HeadView, record_length}
 use Rattle.warc_core.specs.ReaderView.{FailedBy}
 use Rattle.warc_core.specs.declared.next.TheConstants.{HEAD_LIMIT}
