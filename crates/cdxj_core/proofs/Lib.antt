@@ -15,3 +15,4 @@ pub mod PlainCuts
 pub mod PlainLaw
 pub mod RisingLaws
 pub mod SortedRising
+pub mod GraphicLemmas

@@ -1,8 +1,9 @@
 // Keys in the manner of SURT: URLs with the host's labels reversed, so that a host's pages stand
 // together in an index.
-ghost use Rattle.std.specs.Prelude.{◌≡◌, ◌<◌, ◌++◌, option_copied, option_map, IfOk, string_bytes};
+ghost use Rattle.std.specs.Prelude.{◌≡◌, ◌<◌, ◌++◌, option_copied, option_map, true, IfOk, string_bytes};
 ghost use Rattle.std.specs.Char.{digit_char};
-ghost use Rattle.cdxj_core.specs.Key.{port_text, query_text, is_web, web_text, key_byte, folded, key_of, host_key_of};
+ghost use Rattle.std.specs.List.{list_all};
+ghost use Rattle.cdxj_core.specs.Key.{port_text, query_text, is_web, web_text, is_graphic, key_byte, folded, key_of, host_key_of};
 
 use crate::fault::KeyFault;
 use crate::host::host_text;
@@ -32,9 +33,28 @@ fn hex(digit: u8) -> char
     }
 }
 
+fn is_graphic(bytes: &[u8]) -> bool
+    ensures { result ≡ list_all is_graphic bytes.now }
+{
+    bytes.iter().all(|byte| *byte >= 0x21 && *byte <= 0x7e)
+}
+
+/// A text without escapes, as most are.
+fn lowered(alloc: Global, text: &str) -> Result<String, AllocError>
+    requires { list_all is_graphic text.now ≡ true }
+    ensures { IfOk result (λ lower. string_bytes lower ≡ folded text.now) }
+{
+    text.to_ascii_lowercase(alloc)
+}
+
 fn folded(alloc: Global, bytes: &[u8]) -> Result<String, AllocError>
     ensures { IfOk result (λ text. string_bytes text ≡ folded bytes.now) }
 {
+    if is_graphic(bytes) {
+        if let Ok(text) = str::from_utf8(bytes) {
+            return lowered(alloc, text);
+        }
+    }
     let mut text = String::with_capacity(alloc, bytes.len())?;
     for byte in bytes {
         push_folded(&mut text, *byte)?;
