@@ -1,12 +1,14 @@
 -- An archive and the texts of its records.
-use Rattle.std.proofs.Common.{◌≡◌, ◌∙◌, ℕ, ◌+◌, List, [], ◌∷◌, ◌++◌, Some, Result, Ok, Err, Option, sym, ap, refl, append_assoc}
+use Rattle.std.proofs.Common.{◌≡◌, ◌∙◌, ℕ, ◌+◌, List, [], ◌∷◌, ◌++◌, Some, Result, Ok, Err, Option, sym, ap, refl, append_assoc, length, length-append, arith}
 use Rattle.std.specs.List.{concat}
 use Rattle.warc_core.specs.declared.fault.Cause.{Cause}
 use Rattle.warc_core.specs.HeadView.{HeadView, record_length}
+use Rattle.warc_core.specs.Record.{closing}
+use Rattle.warc_core.specs.Next.{next_at}
 use Rattle.warc_core.specs.Walk.{record_at, Walks}
-use Rattle.warc_core.specs.RecordText.{AreTexts}
+use Rattle.warc_core.specs.RecordText.{AreTexts, IsReadFrom}
 use Rattle.warc_core.specs.Laws.{NoRecordAtDamage}
-use Rattle.warc_core.proofs.SpelledLemmas.{read-spelled, spelled-read}
+use Rattle.warc_core.proofs.SpelledLemmas.{read-spelled, spelled-read, head-there, head-read-there, next-there}
 
 -- what is walked is spelled
 pub walk-spelled : (limit start : ℕ) (bytes : List ℕ) (heads : List HeadView) (end : ℕ) (rest : List ℕ) → Walks limit start bytes heads end rest → (texts : List (List ℕ)) × AreTexts limit start heads texts × (bytes ≡ concat texts ++ rest)
@@ -36,3 +38,25 @@ spelled-walk limit start (h ∷ heads) (text ∷ texts) rest a = (
 pub no-record : NoRecordAtDamage
 no-record limit archive heads offset cause d h block text more e r =
     let k : ◌≡◌ {A = Result (Option HeadView × List ℕ) Cause} (Ok (Some h, more)) (Err cause) = sym (spelled-read limit offset h block text more r) ∙ (ap (record_at limit offset) (sym e) ∙ d.refused) in cc
+
+record-size : (limit start : ℕ) (h : HeadView) (block text : List ℕ) → IsReadFrom limit start h block text → length text ≡ record_length h
+record-size limit start h block text r =
+    let t = r.is_text in
+    omega (arith, ap length t.spelled, length-append h.raw (block ++ closing), length-append block closing, t.block_length)
+
+-- what was walked over stands in front of what is left
+pub walk-front : (limit start : ℕ) (bytes : List ℕ) (heads : List HeadView) (end : ℕ) (rest : List ℕ) → Walks limit start bytes heads end rest → (front : List ℕ) × (bytes ≡ front ++ rest) × (end ≡ start + length front)
+walk-front limit start bytes [] end rest w = ([], sym w.1, omega (arith, w.0))
+walk-front limit start bytes (h ∷ heads) end rest w =
+    let r = read-spelled limit start bytes w.0 h w.1 in
+    let f = walk-front limit (start + record_length h) w.0 heads end rest w.2 in (
+      r.1 ++ f.0,
+      r.3 ∙ (ap (λ z. r.1 ++ z) f.1 ∙ sym (append_assoc r.1 f.0 rest)),
+      omega (arith, f.2, length-append r.1 f.0, record-size limit start h r.0 r.1 r.2),
+    )
+
+-- a head that was read stands in front of its block
+pub next-spelled : (limit start : ℕ) (bytes rest : List ℕ) (h : HeadView) → next_at limit start bytes ≡ Ok (Some h, rest) → (bytes ≡ h.raw ++ rest) × (h.start ≡ start)
+next-spelled limit start bytes rest h e =
+    let r = head-read-there limit start bytes rest h (next-there limit start bytes rest h e) in
+    ((head-there limit bytes h.raw rest r.0).1, r.2)

@@ -117,7 +117,7 @@ found_some limit bytes raw rest (Some head) e = let p = answered head raw (drop 
 found_some limit bytes raw rest None e = absurd (no_head (nat_lt (length bytes) limit) causes.ShortHead causes.HeadTooLong (raw, rest) e)
 
 -- what is read as a head is a head text, and the rest follows it
-head-there : (limit : ℕ) (bytes raw rest : List ℕ) → head_text limit bytes ≡ Ok (raw, rest) → IsHeadText limit raw × (bytes ≡ raw ++ rest)
+pub head-there : (limit : ℕ) (bytes raw rest : List ℕ) → head_text limit bytes ≡ Ok (raw, rest) → IsHeadText limit raw × (bytes ≡ raw ++ rest)
 unfolding head_text
 head-there limit bytes raw rest e =
     elim (which (has_version bytes)) [
@@ -167,7 +167,7 @@ no_room {A} true c x y e = cc
 no_room {A} false c x y e = (refl, (let f : ◌≡◌ {A = Result A Cause} (Ok x) (Ok y) = e in cc))
 
 -- what is read as a head here
-head-read-there : (limit start : ℕ) (bytes rest : List ℕ) (h : HeadView) → head_at limit start bytes ≡ Ok (h, rest)
+pub head-read-there : (limit start : ℕ) (bytes rest : List ℕ) (h : HeadView) → head_at limit start bytes ≡ Ok (h, rest)
     → (head_text limit bytes ≡ Ok (h.raw, rest)) × (parts_of h.raw ≡ Ok h.parts) × (h.start ≡ start) × (start + record_length h ≤ 2 ^ 63 - 1)
 unfolding head_at
 head-read-there limit start bytes rest h e =
@@ -188,7 +188,7 @@ head-read-there limit start bytes rest h e =
       subst (λ k. start + record_length k ≤ 2 ^ 63 - 1) is small,
     )
 
-next-there : (limit start : ℕ) (bytes rest : List ℕ) (h : HeadView) → next_at limit start bytes ≡ Ok (Some h, rest) → head_at limit start bytes ≡ Ok (h, rest)
+pub next-there : (limit start : ℕ) (bytes rest : List ℕ) (h : HeadView) → next_at limit start bytes ≡ Ok (Some h, rest) → head_at limit start bytes ≡ Ok (h, rest)
 unfolding next_at
 next-there limit start [] rest h e = absurd (let p = (answered None (Some h) [] rest e).0 in cc)
 next-there limit start (b ∷ bytes) rest h e =

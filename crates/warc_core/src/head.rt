@@ -27,8 +27,9 @@ impl Model for Head {
 }
 
 impl Head {
-    ghost use Rattle.std.specs.Prelude.{MatchOption, None, Some};
+    ghost use Rattle.std.specs.Prelude.{MatchOption, None, Some, true};
     ghost use Rattle.warc_head.specs.Fields.{value_of};
+    ghost use Rattle.warc_head.specs.Length.{all_digits};
     ghost use Rattle.warc_core.specs.HeadView.{record_length, IsWithinOffsets};
 
     pub(crate) fn from_parts(start: u64, raw: Vec<u8>, parts: Parts) -> Head
@@ -69,7 +70,8 @@ impl Head {
 
     /// When the record was made, as 14 digits (ISO 28500:2017, WARC-Date).
     pub fn stamp(&self) -> [u8; 14]
-        ensures { result ≡ self.now.parts.stamp }
+        ensures value { result ≡ self.now.parts.stamp }
+        ensures digits { all_digits result ≡ true }
     {
         self.parts.stamp()
     }

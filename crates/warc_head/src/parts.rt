@@ -23,11 +23,15 @@ pub struct Parts {
 }
 
 impl Model for Parts {
+    ghost use Rattle.std.specs.Prelude.{◌≡◌, true};
+    ghost use Rattle.warc_head.specs.Length.{all_digits};
     ghost use Rattle.warc_head.specs.Parts.{HeadParts};
 
     ghost Value = { HeadParts };
 
     ghost view = { λ p. record { kind = p.kind; stamp = p.stamp; length = p.length; fields = p.fields.items } };
+
+    ghost invariant = { λ p. all_digits p.stamp ≡ true };
 }
 
 impl Parts {
@@ -44,7 +48,8 @@ impl Parts {
     /// The digits of year, month, day, hour, minute and second of `WARC-Date`; what the date leaves out is the
     /// first of its kind, and a fraction of the second is dropped.
     pub fn stamp(&self) -> [u8; 14]
-        ensures { result ≡ self.now.stamp }
+        ensures value { result ≡ self.now.stamp }
+        ensures digits { all_digits result ≡ true }
     {
         self.stamp
     }
