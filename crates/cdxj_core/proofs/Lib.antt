@@ -16,3 +16,4 @@ pub mod PlainLaw
 pub mod RisingLaws
 pub mod SortedRising
 pub mod GraphicLemmas
+pub mod FoldedKey

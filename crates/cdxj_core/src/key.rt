@@ -1,8 +1,9 @@
 // Keys in the manner of SURT: URLs with the host's labels reversed, so that a host's pages stand
 // together in an index.
-ghost use Rattle.std.specs.Prelude.{◌≡◌, ◌<◌, ◌++◌, option_copied, option_map, true, IfOk, string_bytes};
+ghost use Rattle.std.specs.Prelude.{◌≡◌, ◌<◌, ◌++◌, length, option_copied, option_map, true, IfOk, string_bytes};
 ghost use Rattle.std.specs.Char.{digit_char};
 ghost use Rattle.std.specs.List.{list_all};
+ghost use Rattle.cdxj_core.specs.Pair.{is_key};
 ghost use Rattle.cdxj_core.specs.Key.{port_text, query_text, is_web, web_text, is_graphic, key_byte, folded, key_of, host_key_of};
 
 use crate::fault::KeyFault;
@@ -62,6 +63,14 @@ fn folded(alloc: Global, bytes: &[u8]) -> Result<String, AllocError>
     Ok(text)
 }
 
+/// The key of a key text.
+fn key_from(alloc: Global, text: &[u8]) -> Result<String, AllocError>
+    ensures value { IfOk result (λ key. string_bytes key ≡ folded text.now) }
+    ensures key { IfOk result (λ key. 0 < length text.now → is_key (string_bytes key) ≡ true) }
+{
+    folded(alloc, text)
+}
+
 fn is_web(url: &Url) -> bool
     ensures { result ≡ is_web url.now }
 {
@@ -106,23 +115,24 @@ fn web_text(alloc: Global, url: &Url) -> Result<Vec<u8>, AllocError>
 /// The key of a target. Of a web URL, as the URL Standard parses it, it is the host text, `:` and
 /// the port unless it is the scheme's own, `)`, the path, and `?` and the query unless it is empty;
 /// of any other target it is the target. ASCII letters are lowered, and bytes outside 0x21 to 0x7E
-/// written as `%` and two digits. `TooLong` only where the URL parser has no room for the URL.
-#[tactic(auto, unfolding(crate::specs::Key::key_of))]
+/// written as `%` and two digits; of a target that isn't empty it is a line's key. `TooLong` only where the URL parser has no room for the URL.
+#[tactic(auto, using(crate::proofs::FoldedKey::web_text_is_filled), unfolding(crate::specs::Key::key_of))]
 pub fn url_key(alloc: Global, target: &str) -> Result<String, KeyFault>
-    ensures { IfOk result (λ key. string_bytes key ≡ key_of target.now) }
+    ensures value { IfOk result (λ key. string_bytes key ≡ key_of target.now) }
+    ensures key { IfOk result (λ key. 0 < length target.now → is_key (string_bytes key) ≡ true) }
 {
     match Url::parse(alloc, target) {
         Ok(url) => {
             if is_web(&url) {
                 let text = web_text(alloc, &url)?;
-                Ok(folded(alloc, &text)?)
+                Ok(key_from(alloc, &text)?)
             } else {
-                Ok(folded(alloc, target.as_bytes())?)
+                Ok(key_from(alloc, target.as_bytes())?)
             }
         }
         Err(ParseError::OutOfMemory) => Err(KeyFault::Memory),
         Err(ParseError::Overflow) => Err(KeyFault::TooLong),
-        Err(_) => Ok(folded(alloc, target.as_bytes())?),
+        Err(_) => Ok(key_from(alloc, target.as_bytes())?),
     }
 }
 

@@ -1,0 +1,36 @@
+-- A folded text that isn't empty is a key.
+use Rattle.std.proofs.Common.{◌≡◌, ◌∙◌, ℕ, suc, ◌<◌, true, ◌&&◌, nat_lt, List, [], ◌∷◌, ◌++◌, length, length-append, All, refl, arith}
+use Rattle.std.proofs.lemmas.Bool.{agree_below_at}
+use Rattle.std.proofs.lemmas.List.Folds.{list_all-append}
+use Rattle.std.proofs.lemmas.Grind.{common_steps}
+use Rattle.std.specs.List.{list_all}
+use Rattle.url.specs.Parts.{Parts}
+use Rattle.cdxj_core.specs.Key.{key_byte, folded, web_text}
+use Rattle.cdxj_core.specs.Pair.{is_key_byte, is_key}
+
+byte_is_key : (b : ℕ) → b < 256 → list_all is_key_byte (key_byte b) ≡ true
+byte_is_key b h = agree_below_at (λ b. list_all is_key_byte (key_byte b)) (λ _. true) 256 b refl h
+
+bytes_are_key : (bytes : List ℕ) → All (λ b. b < 256) bytes → list_all is_key_byte (folded bytes) ≡ true
+bytes_are_key [] h = refl
+bytes_are_key (b ∷ bytes) h =
+    list_all-append is_key_byte (key_byte b) (folded bytes)
+    ∙ (λ i. byte_is_key b (h 0 0 (grind (arith, common_steps))) i && bytes_are_key bytes (λ k d below. h (suc k) d (grind (arith, common_steps))) i)
+
+byte_is_filled : (b : ℕ) → nat_lt 0 (length (key_byte b)) ≡ true
+byte_is_filled b = grind (arith, common_steps)
+
+filled_front : (xs ys : List ℕ) → nat_lt 0 (length xs) ≡ true → nat_lt 0 (length (xs ++ ys)) ≡ true
+filled_front [] ys h = absurd (cc)
+filled_front (x ∷ xs) ys h = grind (arith, common_steps)
+
+is_filled : (bytes : List ℕ) → 0 < length bytes → nat_lt 0 (length (folded bytes)) ≡ true
+is_filled [] h = absurd (omega arith)
+is_filled (b ∷ bytes) h = filled_front (key_byte b) (folded bytes) (byte_is_filled b)
+
+pub folded_is_key : (bytes : List ℕ) → All (λ b. b < 256) bytes → 0 < length bytes → is_key (folded bytes) ≡ true
+folded_is_key bytes small h = λ i. is_filled bytes h i && bytes_are_key bytes small i
+
+-- the key text of a web URL isn't empty
+pub web_text_is_filled : (url : Parts) → 0 < length (web_text url)
+web_text_is_filled url = grind (arith, common_steps, length-append {A = ℕ})
