@@ -1,0 +1,195 @@
+-- The capture of a record, from how its block was read.
+use Rattle.std.proofs.Common.{◌≡◌, ◌≢◌, ℕ, ◌+◌, ◌-◌, ◌≤◌, ◌∙◌, ◌⊎◌, inl, inr, List, [], ◌++◌, Bool, true, false, cond, Option, None, Some, Result, Ok, Err, IfOk, IfErr, IfSome, length, take, drop, min, nat_le, option_map, unwrap_or, refl, sym, ap, subst, arith, append-nil, append_assoc, if◌then◌else◌}
+use Rattle.std.proofs.lemmas.Bool.Decides.{nat_tests}
+use Rattle.std.proofs.Math.Nat.{min-le_left, min-eq_left, min-eq_right}
+use Rattle.std.proofs.Math.Seq.{take-append_seam, drop-append_seam}
+use Rattle.std.proofs.lemmas.List.{drop_all}
+use Rattle.std.specs.Io.KnownBytes.{prepend_known, Consumes}
+use Rattle.httparse.specs.Grammar.{ResponseHead}
+use Rattle.sha1.specs.Sha1.{sha1}
+use Rattle.warc_head.specs.declared.kind.Kind.{Kind}
+use Rattle.warc_core.specs.declared.fault.Cause.{Cause}
+use Rattle.warc_core.specs.declared.fault.Cause.TheVariants as causes
+use Rattle.warc_core.specs.declared.fault.Fault.{Fault}
+use Rattle.warc_core.specs.declared.phase.Phase.TheVariants.{Between, Open, Failed}
+use Rattle.warc_core.specs.HeadView.{HeadView, record_length}
+use Rattle.warc_core.specs.Reading.{◌>>=◌, Reads, GoesOn, IsFoundAt, IsFoundIn, CountsRead}
+use Rattle.warc_core.specs.ReaderView.{ReaderView, StandsAt, FailedBy, Finishes}
+use Rattle.warc_core.specs.Record.{after_block, after_record, after_text, closing}
+use Rattle.warc_core.proofs.ReadingLemmas.{GoesOn-start, GoesOn-reads, IsFoundIn-bind, nil_of}
+use Rattle.warc_core.proofs.RecordLemmas.{after_block-part}
+use Rattle.cdxj_core.specs.Entries.{EntryValue, IsGood, line_text}
+use Rattle.capture_core.specs.declared.fault.CaptureFault.{CaptureFault}
+use Rattle.capture_core.specs.declared.fault.CaptureFault.TheVariants.{Archive, LineTooLong, KeyTooLong}
+use Rattle.capture_core.specs.Base32.{base32_of}
+use Rattle.capture_core.specs.HttpHead.{IsHeadOf, then_more}
+use Rattle.capture_core.specs.Indexed.{may_have_head, url_of}
+use Rattle.capture_core.specs.Payload.{digest_of_rest, ReadsTo}
+use Rattle.capture_core.specs.Capture.{ResponseValue, IsHeadFor, IsCapture, IsCaptureUnder, entry_of, response_of, digest_of, settled_digest, payload_of}
+use Rattle.capture_core.specs.Captured.{read_to, reading_of, IsFaultAt, Leaves, ReadsRest, Limits, IsCaptureOf, IsFrontOf, IsEntryOf, front_limit, AnswersEntry}
+use Rattle.capture_core.proofs.HeadLemmas.{front_decides, take_past}
+use Rattle.capture_core.proofs.OpenLemmas.{GoesOn-consumes}
+use Rattle.capture_core.proofs.VerdictLemmas.{digest-then, digest-found}
+
+-- a fault that isn't a refused growth ends the reading
+pub read_to-fault : (c : Cause) → c ≢ causes.Memory → read_to c ≡ Err c
+read_to-fault causes.Memory n = absurd (n refl)
+read_to-fault c n = refl
+
+-- ---- how the record was read
+
+module _ {A : Type 0} (left : ℕ) (h : HeadView) (old new : ReaderView) (before after : Option (List ℕ)) (k k' : ℕ) where
+  -- an open record was read to its end, and then this was answered of it
+  pub rest-whole : (r : Result A CaptureFault) (n : ℕ) → old.offset ≡ h.start → Finishes left (record_length h) old new (Ok n) before after k k' → reading_of r ≡ Ok tt → IfErr r (IsFaultAt h.start) → ReadsRest left h old new r before after k k'
+  rest-whole r n o f own at = record {
+    bytes = subst (λ x. Reads (after_record left) x (prepend_known old.held before) (prepend_known new.held after)) (sym own) f.bytes;
+    state = subst (Leaves h new) (sym own) (subst (λ s. StandsAt new (s + record_length h) Between) o f.state.1);
+    fault = at;
+    failures = subst (λ x. CountsRead x k k') (sym own) f.failures;
+  }
+
+  -- the reader failed in what was left
+  pub rest-failed : (f : Fault) → f.cause ≢ causes.Memory → Reads (after_record left) (Err f.cause) (prepend_known old.held before) (prepend_known new.held after) → FailedBy new h.start f → CountsRead {A = Unit {0}} (Err f.cause) k k' → ReadsRest {A = A} left h old new (Err (Archive f)) before after k k'
+  rest-failed f m b s c = record {
+    bytes = subst (λ x. Reads (after_record left) x (prepend_known old.held before) (prepend_known new.held after)) (sym (read_to-fault f.cause m)) b;
+    state = subst (Leaves h new) (sym (read_to-fault f.cause m)) s.stands;
+    fault = s.at;
+    failures = subst (λ x. CountsRead x k k') (sym (read_to-fault f.cause m)) c;
+  }
+
+-- reading goes on after what was read of the block
+pub rest-behind : {A : Type 0} (left left' : ℕ) (h : HeadView) (old mid new : ReaderView) (r : Result A CaptureFault) (before between after : Option (List ℕ)) (k l k' : ℕ) → GoesOn (after_record left) (after_record left') (prepend_known old.held before) (prepend_known mid.held between) → l ≡ k → ReadsRest left' h mid new r between after l k' → ReadsRest left h old new r before after k k'
+rest-behind left left' h old mid new r before between after k l k' g e s = record {
+  bytes = GoesOn-reads (after_record left) (after_record left') (reading_of r) _ _ _ g s.bytes;
+  state = s.state;
+  fault = s.fault;
+  failures = subst (λ c. CountsRead (reading_of r) c k') e s.failures;
+}
+
+-- what is met in a block ends its record
+pub found-of-record : (c : Cause) (left : ℕ) (before after : Option (List ℕ)) → IsFoundAt (after_block left) c before → Reads (after_record left) (Err c) before after
+unfolding after_record
+found-of-record c left None after f = tt
+found-of-record c left (Some z) after f = IsFoundIn-bind c (after_block left z) (λ block. after_text closing block.1) f
+
+record-part : (n : ℕ) (front w : List ℕ) → length front ≤ n → after_record n (front ++ w) ≡ after_record (n - length front) w
+unfolding after_record
+record-part n front w l =
+    let none : drop (length front) front ≡ [] = drop_all (length front) front (omega arith) in
+    ap (λ r. r >>= λ block. after_text closing block.1) (after_block-part n (length front) front w l (omega arith) ∙ ap (λ t. after_block (n - length front) (t ++ w)) none)
+
+pub behind-front : (n : ℕ) (front : List ℕ) (before after : Option (List ℕ)) → length front ≤ n → Consumes before after front → GoesOn (after_record n) (after_record (n - length front)) before after
+behind-front n front before after l c = GoesOn-consumes (after_record n) (after_record n) (after_record (n - length front)) before before after front (λ w. record-part n front w l) (GoesOn-start (after_record n) before) c
+
+-- after a digest of what is left, only the closing is left
+pub behind-digest : (left : ℕ) (start digest : List ℕ) (before after : Option (List ℕ)) → Reads (digest_of_rest left start) (Ok digest) before after → GoesOn (after_record left) (after_record 0) before after
+behind-digest left start digest None after r = tt
+behind-digest left start digest (Some z) None r = absurd r
+behind-digest left start digest (Some z) (Some w) r = (digest-then left start z w digest r).0
+
+pub digest-met : (left : ℕ) (start : List ℕ) (c : Cause) (before after : Option (List ℕ)) → c ≢ causes.Memory → Reads (digest_of_rest left start) (Err c) before after → Reads (after_record left) (Err c) before after
+digest-met left start c None after m r = tt
+digest-met left start causes.Memory (Some z) after m r = tt
+digest-met left start causes.Read (Some z) after m r = tt
+digest-met left start c (Some z) after m r = digest-found c left start z r
+
+-- what was hashed, where the bytes are known
+pub digest-told : (left : ℕ) (start digest : List ℕ) (before after : Option (List ℕ)) → Reads (digest_of_rest left start) (Ok digest) before after → IfSome before (λ bytes. digest ≡ sha1 (start ++ take left bytes))
+digest-told left start digest None after r = tt
+digest-told left start digest (Some z) None r = absurd r
+digest-told left start digest (Some z) (Some w) r = (digest-then left start z w digest r).1
+
+-- ---- what the capture is
+
+-- the HTTP head of a block is that of its front
+head-behind : (limit few : ℕ) (front more : List ℕ) (found : Option (ResponseHead × List ℕ)) → (length front ≡ limit) ⊎ (more ≡ []) → IsHeadOf limit few front found → IsHeadOf limit few (front ++ more) (then_more more found)
+head-behind limit few front more found (inl full) e =
+    let front_is : take limit (front ++ more) ≡ front = ap (λ n. take n (front ++ more)) (sym full) ∙ take-append_seam front more in
+    let more_is : drop limit (front ++ more) ≡ more = ap (λ n. drop n (front ++ more)) (sym full) ∙ drop-append_seam front more in
+    subst (λ m. IsHeadOf limit few (front ++ more) (then_more m found)) more_is (front_decides limit few (front ++ more) found (subst (λ f. IsHeadOf limit few f found) (sym front_is) e))
+head-behind limit few front more found (inr none) e =
+    subst (λ m. IsHeadOf limit few (front ++ m) (then_more m found)) (sym none) (subst (λ f. IsHeadOf limit few f (then_more [] found)) (sym (append-nil front)) (subst (IsHeadOf limit few front) (sym (no_more found)) e))
+  where
+    no_more : (f : Option (ResponseHead × List ℕ)) → then_more [] f ≡ f
+    no_more None = refl
+    no_more (Some f) = ap (λ p. Some (f.0, p)) (append-nil f.1)
+
+le-or : (a b : ℕ) (t : Bool) → nat_le a b ≡ t → (a ≤ b) ⊎ (b ≤ a)
+le-or a b true e = inl (grind (arith, nat_tests))
+le-or a b false e = inr (grind (arith, nat_tests))
+
+front-or-all : (len limit n : ℕ) (bytes : List ℕ) → n ≡ min len limit → (n ≡ limit) ⊎ (take (len - n) bytes ≡ [])
+front-or-all len limit n bytes e = elim (le-or limit len (nat_le limit len) refl) [
+    | inl full ↦ inl (e ∙ min-eq_right full)
+    | inr all ↦ inr (let whole : n ≡ len = e ∙ min-eq_left all in let none : len - n ≡ 0 = omega arith in ap (λ k. take k bytes) none)
+  ]
+
+-- found in the front, found in the block
+head-for : (may : Bool) (limit few len : ℕ) (front bytes : List ℕ) (found : Option (ResponseHead × List ℕ)) → length front ≡ min len (if may then limit else 0) → cond may (IsHeadOf limit few front found) (found ≡ None) → cond may (IsHeadOf limit few (front ++ take (len - length front) bytes) (then_more (take (len - length front) bytes) found)) (then_more (take (len - length front) bytes) found ≡ None)
+head-for true limit few len front bytes found l f = head-behind limit few front (take (len - length front) bytes) found (front-or-all len limit (length front) bytes l) f
+head-for false limit few len front bytes found l f = ap (then_more (take (len - length front) bytes)) f
+
+payload-behind : (front more : List ℕ) (found : Option (ResponseHead × List ℕ)) → payload_of (front ++ more) (then_more more found) ≡ payload_of front found ++ more
+payload-behind front more None = refl
+payload-behind front more (Some f) = refl
+
+same-response : (more : List ℕ) (found : Option (ResponseHead × List ℕ)) → option_map (λ f. response_of f.0) (then_more more found) ≡ option_map (λ f. response_of f.0) found
+same-response more None = refl
+same-response more (Some f) = refl
+
+module _ (types : Kind → Bool) (limits : Limits) (h : HeadView) (name url front bytes digest : List ℕ) (response : Option ResponseValue) (found : Option (ResponseHead × List ℕ)) where
+  abbrev pub more : List ℕ
+  more = take (h.parts.length - length front) bytes
+
+  abbrev pub entry : EntryValue
+  entry = entry_of h name response digest url
+
+  capture-is : url_of types h ≡ Some url → IsFrontOf limits.head h front → IsHeadFor limits.head limits.fields h front found → response ≡ option_map (λ f. response_of f.0) found → digest ≡ digest_of h (payload_of front found ++ more) → IsCapture types limits.head limits.fields h (take h.parts.length (front ++ bytes)) name (Some entry)
+  capture-is u l f r d =
+      let short : length front ≤ h.parts.length = subst (λ n. n ≤ h.parts.length) (sym l) (min-le_left h.parts.length (front_limit limits.head h)) in
+      let block : take h.parts.length (front ++ bytes) ≡ front ++ more = take_past h.parts.length front bytes short in
+      let whole : IsCaptureUnder (Some url) limits.head limits.fields h (front ++ more) name (Some entry) = (
+        then_more more found,
+        head-for (may_have_head h) limits.head limits.fields h.parts.length front bytes found l f,
+        ap Some (ap (λ x. entry_of h name x digest url) (r ∙ sym (same-response more found)) ∙ ap (λ x. entry_of h name (option_map (λ p. response_of p.0) (then_more more found)) x url) (d ∙ ap (digest_of h) (sym (payload-behind front more found)))),
+      ) in
+      subst (λ o. IsCaptureUnder o limits.head limits.fields h (take h.parts.length (front ++ bytes)) name (Some entry)) (sym u) (subst (λ b. IsCaptureUnder (Some url) limits.head limits.fields h b name (Some entry)) (sym block) whole)
+
+  -- what the entry answers is the capture
+  pub capture-told : url_of types h ≡ Some url → IsFrontOf limits.head h front → IsHeadFor limits.head limits.fields h front found → response ≡ option_map (λ f. response_of f.0) found → digest ≡ digest_of h (payload_of front found ++ more) → (r : Result (Option EntryValue) CaptureFault) → AnswersEntry limits.line entry r → IsCaptureOf types limits h name (front ++ bytes) r
+  capture-told u l f e d (Ok captured) a = subst (IsCapture types limits.head limits.fields h (take h.parts.length (front ++ bytes)) name) (sym a) (capture-is u l f e d)
+  capture-told u l f e d (Err (Archive x)) a = tt
+  capture-told u l f e d (Err (LineTooLong o)) a = (entry, capture-is u l f e d, a)
+  capture-told u l f e d (Err (KeyTooLong o)) a = tt
+
+-- a digest that is settled is that of any payload
+pub digest-settled : (h : HeadView) (digest payload : List ℕ) → settled_digest h ≡ Some digest → digest ≡ digest_of h payload
+digest-settled h digest payload e = sym (ap (λ o. unwrap_or o (base32_of (sha1 payload))) e)
+
+pub digest-made : (h : HeadView) (digest payload : List ℕ) → settled_digest h ≡ None → digest ≡ sha1 payload → base32_of digest ≡ digest_of h payload
+digest-made h digest payload e d = ap base32_of d ∙ sym (ap (λ o. unwrap_or o (base32_of (sha1 payload))) e)
+
+-- what is told of the bytes behind the front is told of the block
+pub capture-behind : (types : Kind → Bool) (limits : Limits) (h : HeadView) (name front : List ℕ) (before mid : Option (List ℕ)) (r : Result (Option EntryValue) CaptureFault) → Consumes before mid front → IfSome mid (λ bytes. IsCaptureOf types limits h name (front ++ bytes) r) → IfSome before (λ bytes. IsCaptureOf types limits h name bytes r)
+capture-behind types limits h name front None mid r c t = tt
+capture-behind types limits h name front (Some z) None r c t = absurd c
+capture-behind types limits h name front (Some z) (Some w) r c t = subst (λ b. IsCaptureOf types limits h name b r) (sym c) t
+
+-- an entry whose line is within the limit
+pub entry-fits : (h : HeadView) (name : List ℕ) (limit : ℕ) (response : Option ResponseValue) (digest url : List ℕ) (e : EntryValue) (r : Result EntryValue CaptureFault) → IsGood e → e ≡ entry_of h name response digest url → IfOk r (λ x. (x ≡ e) × (length (line_text x) ≤ limit)) → IfOk r (IsEntryOf h name limit)
+entry-fits h name limit response digest url e (Err f) g v k = tt
+entry-fits h name limit response digest url e (Ok x) g v k = record {
+  good = subst IsGood (sym k.0) g;
+  filename = ap (λ y. y.filename) (k.0 ∙ v);
+  offset = ap (λ y. y.offset) (k.0 ∙ v);
+  size = ap (λ y. y.length) (k.0 ∙ v);
+  fits = k.1;
+}
+
+pub some-always : {A : Type 0} (o : Option A) (P : A → Type 0) → ((x : A) → P x) → IfSome o P
+some-always None P h = tt
+some-always (Some x) P h = h x
+
+pub some-then : {A : Type 0} (o : Option A) (P Q : A → Type 0) → ((x : A) → P x → Q x) → IfSome o P → IfSome o Q
+some-then None P Q h s = tt
+some-then (Some x) P Q h s = h x s

@@ -1,0 +1,23 @@
+-- A record has one capture.
+use Rattle.std.proofs.Common.{◌≡◌, ◌∙◌, ℕ, List, Bool, true, false, cond, Option, None, Some, option_map, sym, ap}
+use Rattle.httparse.specs.Grammar.{ResponseHead}
+use Rattle.warc_core.specs.HeadView.{HeadView}
+use Rattle.cdxj_core.specs.Entries.{EntryValue}
+use Rattle.capture_core.specs.HttpHead.{IsHeadOf}
+use Rattle.capture_core.specs.Indexed.{may_have_head, url_of}
+use Rattle.capture_core.specs.Capture.{IsCaptureUnder, entry_of, response_of, digest_of, payload_of, OneCapture}
+use Rattle.capture_core.proofs.HeadLemmas.{one_head}
+
+one_found : (may : Bool) (limit few : ℕ) (block : List ℕ) (f g : Option (ResponseHead × List ℕ))
+    → cond may (IsHeadOf limit few block f) (f ≡ None) → cond may (IsHeadOf limit few block g) (g ≡ None) → f ≡ g
+one_found true limit few block f g x y = one_head limit few block f g x y
+one_found false limit few block f g x y = x ∙ sym y
+
+one_under : (url : Option (List ℕ)) (limit few : ℕ) (h : HeadView) (block name : List ℕ) (a b : Option EntryValue)
+    → IsCaptureUnder url limit few h block name a → IsCaptureUnder url limit few h block name b → a ≡ b
+one_under None limit few h block name a b x y = x ∙ sym y
+one_under (Some url) limit few h block name a b x y =
+    x.2 ∙ ap (λ f. Some (entry_of h name (option_map (λ p. response_of p.0) f) (digest_of h (payload_of block f)) url)) (one_found (may_have_head h) limit few block x.0 y.0 x.1 y.1) ∙ sym y.2
+
+pub one_capture : OneCapture
+one_capture types limit few h block name a b x y = one_under (url_of types h) limit few h block name a b x y

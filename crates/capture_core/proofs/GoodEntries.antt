@@ -1,0 +1,58 @@
+-- The texts of an entry aren't empty, and its stamp is one.
+use Rattle.std.proofs.Common.{◌≡◌, ℕ, ◌<◌, Bool, true, false, cond, List, [], ◌∷◌, length, Option, Some, None, codes, arith}
+use Rattle.std.specs.Str.{is_utf8}
+use Rattle.std.specs.List.{flat_map}
+use Rattle.std.proofs.lemmas.Grind.{common_steps}
+use Rattle.warc_head.specs.declared.kind.Kind.{Kind}
+use Rattle.warc_head.specs.declared.kind.Kind.TheVariants as kinds
+use Rattle.warc_head.specs.Length.{all_digits}
+use Rattle.warc_core.specs.HeadView.{HeadView}
+use Rattle.cdxj_core.specs.Pair.{is_stamp}
+use Rattle.cdxj_core.specs.Texts.{or_missing}
+use Rattle.capture_core.specs.Indexed.{field, is_marked}
+use Rattle.capture_core.specs.Text.{escaped, text_of, media_type}
+use Rattle.capture_core.specs.Capture.{ResponseValue, media_of, content_of, mime_in, mime_of, status_of}
+
+escaped_is_filled : (value : List ℕ) → 0 < length value → 0 < length (flat_map escaped value)
+escaped_is_filled [] h = absurd (omega arith)
+escaped_is_filled (b ∷ value) h = grind (arith, common_steps)
+
+-- the text of a value that isn't empty isn't either
+pub text_is_filled : (value : List ℕ) → 0 < length value → 0 < length (text_of value)
+unfolding text_of
+text_is_filled value h = go (is_utf8 value)
+  where
+    go : (utf8 : Bool) → 0 < length (cond utf8 value (flat_map escaped value))
+    go true = h
+    go false = escaped_is_filled value h
+
+or_missing_is_filled : (value : List ℕ) → 0 < length (or_missing value)
+or_missing_is_filled [] = omega arith
+or_missing_is_filled (b ∷ value) = grind (arith, common_steps)
+
+media_is_filled : (value : Option (List ℕ)) → 0 < length (media_of value)
+media_is_filled None = omega arith
+media_is_filled (Some value) = or_missing_is_filled (media_type value)
+
+content_is_filled : (h : HeadView) (response : Option ResponseValue) → 0 < length (content_of h response)
+unfolding content_of
+content_is_filled h (Some response) = media_is_filled response.content_type
+content_is_filled h None = go (is_marked h)
+  where
+    go : (marked : Bool) → 0 < length (cond marked (45 ∷ []) (media_of (field (codes "Content-Type") h)))
+    go true = omega arith
+    go false = media_is_filled (field (codes "Content-Type") h)
+
+mime_in_is_filled : (kind : Kind) (content : List ℕ) → 0 < length content → 0 < length (mime_in kind content)
+mime_in_is_filled kinds.Revisit content h = omega arith
+mime_in_is_filled kind content h = h
+
+pub mime_is_filled : (h : HeadView) (response : Option ResponseValue) → 0 < length (mime_of h response)
+mime_is_filled h response = mime_in_is_filled h.parts.kind (content_of h response) (content_is_filled h response)
+
+pub status_is_filled : (response : Option ResponseValue) → 0 < length (status_of response)
+status_is_filled None = omega arith
+status_is_filled (Some response) = omega arith
+
+pub stamp_is : (stamp : List ℕ) → length stamp ≡ 14 → all_digits stamp ≡ true → is_stamp stamp ≡ true
+stamp_is stamp size digits = grind (arith, common_steps)

@@ -1,0 +1,10 @@
+pub mod Bits
+pub mod HeadLemmas
+pub mod OpenLemmas
+pub mod DigestLemmas
+pub mod FrontLemmas
+pub mod VerdictLemmas
+pub mod ShortLines
+pub mod GoodEntries
+pub mod Captures
+pub mod CaptureLemmas

@@ -1,0 +1,21 @@
+use Rattle.std.proofs.Common.{◌<◌, length, string_bytes, option_map, arith}
+use Rattle.capture_core.specs.Capture.{mime_of}
+use Rattle.capture_core.specs.ResponseView.{response_view}
+use Rattle.capture_core.proofs.GoodEntries.{text_is_filled, mime_is_filled, status_is_filled, stamp_is}
+use Rattle.capture_core.proofs.entry.entry.Goals as goal
+
+pub returns-clause-good : goal.returns-clause-good
+returns-clause-good c =
+    let response = option_map response_view c.args.response in
+    let targeted : 0 < length (string_bytes c.in_ok-url.url) = rw c.in_ok-url.ensures (text_is_filled c.args.url.now c.requires.targeted) in
+    record {
+      key = c.in_ok-url_key.ensures.key (rw c.deref.ensures targeted);
+      stamp = stamp_is c.stamp.result (omega arith) c.stamp.ensures.digits;
+      url = targeted;
+      mime = rw (c.in_ok-text.ensures, c.mime.ensures) (text_is_filled (mime_of c.args.head.now response) (mime_is_filled c.args.head.now response));
+      status = rw c.in_ok-status.ensures (status_is_filled response);
+      digest = rw c.in_ok-text-2.ensures (text_is_filled c.args.digest.now c.requires.digested);
+      size = omega (arith, c.record_length.ensures.value, c.record_length.ensures.within);
+      offset = omega (arith, c.start.ensures, c.record_length.ensures.within);
+      filename = rw c.in_ok-from_str.ensures.ok c.requires.named;
+    }

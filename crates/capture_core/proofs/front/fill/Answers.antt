@@ -1,0 +1,57 @@
+use Rattle.std.proofs.Common.{◌≡◌, ◌<◌, ◌-◌, ◌∙◌, Ok, Err, refl, arith, length}
+use Rattle.std.proofs.lemmas.Result.{err_from_is_err_and}
+use borrow.Rule.Slice.PartMut.{put_mid}
+use Rattle.capture_core.specs.Payload.{Fills}
+use Rattle.capture_core.proofs.OpenLemmas.{of_open}
+use Rattle.capture_core.proofs.FrontLemmas.{Filling-start, Filling-more, Filling-fault, Filling-end, part_long}
+use Rattle.capture_core.proofs.front.fill.Goals as goal
+
+pub loop-filled-init : goal.loop-filled-init
+loop-filled-init g c = (c.requires.0, c.requires.1, Filling-start _ _ _ _ _ c.requires.2 c.requires.3, refl)
+
+pub returns-in_err-filled : goal.returns-in_err-filled
+returns-in_err-filled g c left len e =
+    let p = err_from_is_err_and c.from_residual.result c.from_residual.ensures.1 in
+    let i = c.loop-filled.invariant in
+    let b = c.in_err-filled.ensures in
+    let phase = i.2.stands.phase_is in
+    let whole = put_mid c.loop-filled.filled (length c.loop-filled.piece - c.loop-filled.filled) c.loop-filled.piece c.block.new.piece in
+    let r = Filling-fault i.0 i.1 _ _ _ _ _ _ _ c.loop-filled.filled c.in_err-filled.field-0.0 c.loop-filled.piece c.block.new.piece whole _ _ _ i.2 (b.open _ _ phase) (b.only _ _ phase) i.3 in
+    rw (p.1, p.2) (of_open (λ a b. Fills a b c.args.reader.now c.block.new.self (Err c.in_err-filled.field-0.0) whole (g.I.Input.left c.args.input.now) (g.I.Input.left c.block.new.input) (g.I.Input.failures c.args.input.now) (g.I.Input.failures c.block.new.input)) _ i.0 i.1 left len i.2.opened e r)
+
+pub overflow_add-filled : goal.overflow_add-filled
+overflow_add-filled g c =
+    let i = c.loop-filled.invariant in
+    let b = c.in_ok-filled.ensures.open _ i.1 i.2.stands.phase_is in
+    let most = b.bound.1 in
+    let size : length c.block.new.piece ≡ length c.loop-filled.piece - c.loop-filled.filled = c.block.auto.piece ∙ part_long c.loop-filled.filled c.loop-filled.piece in
+    let long = i.2.long in
+    let within = i.2.within in
+    omega arith
+
+pub loop-filled-smaller : goal.loop-filled-smaller
+loop-filled-smaller g c =
+    let i = c.loop-filled.invariant in
+    let f = i.2 in
+    let b = c.in_ok-filled.ensures.open _ i.1 f.stands.phase_is in
+    let long = f.long in
+    let fits = f.fits in
+    let size : length c.block.new.piece ≡ length c.loop-filled.piece - c.loop-filled.filled = c.block.auto.piece ∙ part_long c.loop-filled.filled c.loop-filled.piece in
+    let some : 0 < c.in_ok-filled.field-0 = b.bound.2 (omega arith) (omega arith) in
+    omega arith
+
+pub loop-filled-preserved : goal.loop-filled-preserved
+loop-filled-preserved g c =
+    let i = c.loop-filled.invariant in
+    let b = c.in_ok-filled.ensures.open _ i.1 i.2.stands.phase_is in
+    let size : length c.block.new.piece ≡ length c.loop-filled.piece - c.loop-filled.filled = c.block.auto.piece ∙ part_long c.loop-filled.filled c.loop-filled.piece in
+    let long = i.2.long in
+    (i.0, i.1, Filling-more i.0 i.1 _ _ _ _ _ _ _ c.loop-filled.filled c.in_ok-filled.field-0 c.loop-filled.piece c.block.new.piece _ _ i.2 b (omega arith), b.failures ∙ i.3)
+
+pub returns : goal.returns
+returns g c left len e =
+    let i = c.loop-filled.invariant in
+    let long = i.2.long in
+    let within = i.2.within in
+    let r = Filling-end i.0 i.1 _ _ _ _ _ c.loop-filled.filled c.loop-filled.piece _ _ i.2 (omega arith) i.3 in
+    of_open (λ a b. Fills a b c.args.reader.now c.loop-filled.reader (Ok tt) c.loop-filled.piece (g.I.Input.left c.args.input.now) (g.I.Input.left c.loop-filled.input) (g.I.Input.failures c.args.input.now) (g.I.Input.failures c.loop-filled.input)) _ i.0 i.1 left len i.2.opened e r

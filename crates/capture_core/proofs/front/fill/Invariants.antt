@@ -1,0 +1,12 @@
+use Rattle.std.proofs.Common.{◌≡◌, ℕ, ◌-◌, length}
+use Rattle.capture_core.proofs.FrontLemmas.{Filling}
+use Rattle.capture_core.proofs.front.fill.Given as goal
+
+abbrev pub invariant-loop-filled : goal.invariant-loop-filled
+invariant-loop-filled g l =
+    (left : ℕ) × (len : ℕ)
+    × Filling left len l.fn.reader l.reader (g.I.Input.left l.fn.input) (g.I.Input.left l.input) (length l.fn.piece) l.filled l.piece
+    × (g.I.Input.failures l.input ≡ g.I.Input.failures l.fn.input)
+
+abbrev pub decreases-loop-filled : goal.decreases-loop-filled
+decreases-loop-filled g l = length l.fn.piece - l.filled

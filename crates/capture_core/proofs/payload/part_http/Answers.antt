@@ -1,0 +1,8 @@
+use Rattle.std.proofs.Common.{◌≡◌, ◌∙◌, ℕ, ◌≤◌, ◌-◌, List, Some, refl, drop, take, length, length-drop, arith}
+use Rattle.std.proofs.lemmas.List.{take_all}
+use Rattle.capture_core.proofs.payload.part_http.Goals as goal
+
+pub returns-in-Some-clause-parts : goal.returns-in-Some-clause-parts
+returns-in-Some-clause-parts c =
+    let f = c.in-Some.ensures.found in
+    (Some (f.0, drop c.in-Some.head.len c.args.front.now), f.1, rw (f.3, f.4) refl, take_all _ (drop c.in-Some.head.len c.args.front.now) (omega (arith, length-drop c.in-Some.head.len c.args.front.now)))

@@ -1,0 +1,101 @@
+-- What a call of `capture` owes.
+use Rattle.std.specs.Prelude.{◌≡◌, ℕ, ◌+◌, ◌<◌, ◌≤◌, ⊤, Bool, List, ◌++◌, length, min, take, if◌then◌else◌, Option, None, Some, Result, Ok, Err, MatchResult, IfErr, IfSome}
+use Rattle.std.specs.Io.KnownBytes.{prepend_known}
+use Rattle.warc_head.specs.declared.kind.Kind.{Kind}
+use Rattle.warc_core.specs.declared.fault.Cause.{Cause}
+use Rattle.warc_core.specs.declared.fault.Cause.TheVariants as causes
+use Rattle.warc_core.specs.declared.phase.Phase.TheVariants.{Between, Open, Failed}
+use Rattle.warc_core.specs.HeadView.{HeadView, record_length}
+use Rattle.warc_core.specs.Reading.{Reads, CountsRead}
+use Rattle.warc_core.specs.ReaderView.{ReaderView, StandsAt}
+use Rattle.warc_core.specs.Record.{after_record}
+use Rattle.cdxj_core.specs.Entries.{EntryValue, IsGood, line_text}
+use Rattle.cdxj_core.specs.declared.limit.TheConstants.{LINE_LIMIT}
+use Rattle.capture_core.specs.declared.http_head.TheConstants.{HTTP_HEAD_LIMIT, HTTP_FIELD_LIMIT}
+use Rattle.capture_core.specs.declared.fault.CaptureFault.{CaptureFault}
+use Rattle.capture_core.specs.declared.fault.CaptureFault.TheVariants.{Archive, LineTooLong, KeyTooLong}
+use Rattle.capture_core.specs.Indexed.{may_have_head}
+use Rattle.capture_core.specs.Capture.{IsCapture}
+
+-- how a record was read that ended so: a refused growth leaves it read whole
+abbrev pub read_to : Cause → Result (Unit {0}) Cause
+read_to causes.Memory = Ok tt
+read_to c = Err c
+
+-- how a record was read, by what was answered of it: only a fault of the archive ends the reading
+abbrev pub reading_of : {A : Type 0} → Result A CaptureFault → Result (Unit {0}) Cause
+reading_of (Ok x) = Ok tt
+reading_of (Err (Archive f)) = read_to f.cause
+reading_of (Err (LineTooLong o)) = Ok tt
+reading_of (Err (KeyTooLong o)) = Ok tt
+
+-- the fault names this offset
+abbrev pub IsFaultAt : ℕ → CaptureFault → Type 0
+IsFaultAt start (Archive f) = f.offset ≡ start
+IsFaultAt start (LineTooLong o) = o ≡ start
+IsFaultAt start (KeyTooLong o) = o ≡ start
+
+-- where the reader stands: after the record, or failed at its start
+abbrev pub Leaves : HeadView → ReaderView → Result (Unit {0}) Cause → Type 0
+Leaves h new (Ok x) = StandsAt new (h.start + record_length h) Between
+Leaves h new (Err c) = StandsAt new h.start (Failed c)
+
+-- A call read the record to its end, of whose block so many bytes were left, or failed by what it met.
+pub record ReadsRest {A : Type 0} (left : ℕ) (h : HeadView) (old new : ReaderView) (r : Result A CaptureFault) (before after : Option (List ℕ)) (count count' : ℕ) : Type 0 where
+  pub bytes : Reads (after_record left) (reading_of r) (prepend_known old.held before) (prepend_known new.held after)
+  pub state : Leaves h new (reading_of r)
+  pub fault : IfErr r (IsFaultAt h.start)
+  pub failures : CountsRead (reading_of r) count count'
+
+-- A call read the record to its end, or failed by what it met.
+abbrev pub ReadsWhole : {A : Type 0} → HeadView → ReaderView → ReaderView → Result A CaptureFault → Option (List ℕ) → Option (List ℕ) → ℕ → ℕ → Type 0
+ReadsWhole h old new r before after count count' = ReadsRest h.parts.length h old new r before after count count'
+
+-- the limits of an HTTP head, in bytes and fields, and that of a line, in bytes
+pub record Limits : Type 0 where
+  pub head : ℕ
+  pub fields : ℕ
+  pub line : ℕ
+
+-- The answer is the capture of the record that begins the bytes, within the limit of a line, or says that its line is too long.
+abbrev pub IsCaptureOf : (Kind → Bool) → Limits → HeadView → List ℕ → List ℕ → Result (Option EntryValue) CaptureFault → Type 0
+IsCaptureOf types limits h name bytes (Ok captured) = IsCapture types limits.head limits.fields h (take h.parts.length bytes) name captured
+IsCaptureOf types limits h name bytes (Err (LineTooLong o)) =
+    (entry : EntryValue) × IsCapture types limits.head limits.fields h (take h.parts.length bytes) name (Some entry) × (limits.line < length (line_text entry))
+IsCaptureOf types limits h name bytes (Err other) = ⊤
+
+-- the same, where these bytes come after the front of the block
+abbrev pub CapturesBehind : (Kind → Bool) → Limits → HeadView → List ℕ → List ℕ → Option (List ℕ) → Result (Option EntryValue) CaptureFault → Type 0
+CapturesBehind types limits h name front before r = IfSome before (λ bytes. IsCaptureOf types limits h name (front ++ bytes) r)
+
+abbrev pub Captures : (Kind → Bool) → Limits → HeadView → List ℕ → Option (List ℕ) → Result (Option EntryValue) CaptureFault → Type 0
+Captures types limits h name before r = IfSome before (λ bytes. IsCaptureOf types limits h name bytes r)
+
+abbrev pub usual_limits : Limits
+usual_limits = record { head = HTTP_HEAD_LIMIT; fields = HTTP_FIELD_LIMIT; line = LINE_LIMIT }
+
+-- An entry of this record under this name, which can be written.
+pub record IsEntryOf (h : HeadView) (name : List ℕ) (limit : ℕ) (e : EntryValue) : Type 0 where
+  pub good : IsGood e
+  pub filename : e.filename ≡ name
+  pub offset : e.offset ≡ h.start
+  pub size : e.length ≡ record_length h
+  pub fits : length (line_text e) ≤ limit
+
+-- how many bytes of the block are looked at for an HTTP head
+abbrev pub front_limit : ℕ → HeadView → ℕ
+front_limit limit h = if may_have_head h then limit else 0
+
+-- what is looked at for an HTTP head has this length
+abbrev pub IsFrontOf : ℕ → HeadView → List ℕ → Type 0
+IsFrontOf limit h front = length front ≡ min h.parts.length (front_limit limit h)
+
+-- the reader stands in this record
+abbrev pub IsOpenFor : HeadView → ReaderView → Type 0
+IsOpenFor h r = (left : ℕ) × StandsAt r h.start (Open left (record_length h))
+
+-- the answer is this entry, unless its line is too long
+abbrev pub AnswersEntry : ℕ → EntryValue → Result (Option EntryValue) CaptureFault → Type 0
+AnswersEntry limit entry (Ok captured) = captured ≡ Some entry
+AnswersEntry limit entry (Err (LineTooLong o)) = limit < length (line_text entry)
+AnswersEntry limit entry (Err other) = ⊤

@@ -1,0 +1,9 @@
+pub mod Base32
+pub mod HttpHead
+pub mod Payload
+pub mod BlockDigest
+pub mod Text
+pub mod Indexed
+pub mod Capture
+pub mod ResponseView
+pub mod Captured

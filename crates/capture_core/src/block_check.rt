@@ -1,0 +1,55 @@
+//! A block against the digest that its head names.
+ghost use Rattle.std.specs.Prelude.{◌≡◌, ℕ, ◌+◌, codes};
+ghost use Rattle.warc_head.specs.Fields.{value_of};
+ghost use Rattle.warc_core.specs.declared.phase.Phase.TheVariants.{Between, Open};
+ghost use Rattle.warc_core.specs.HeadView.{record_length};
+ghost use Rattle.warc_core.specs.ReaderView.{IsUnread};
+ghost use Rattle.sha1.specs.Sha1.{sha1};
+ghost use Rattle.capture_core.specs.Payload.{HasLeft, ReadsTo};
+ghost use Rattle.capture_core.specs.BlockDigest.{verdict_of, compared, judge_record};
+
+use crate::digest::digest_rest;
+use crate::digest_value::{compared, sha1_text};
+use crate::verdict::Verdict;
+use warc_core::{Fault, Head, Input, Reader};
+
+/// Reads a record that is unread to its end, and says whether its block has the digest that `WARC-Block-Digest` names
+/// (ISO 28500:2017, 5.8). It takes no memory.
+///
+/// Errors are those of `Reader::finish`.
+pub fn block_digest<I: Input>(
+    reader: &mut Reader,
+    input: &mut I,
+    head: &Head,
+) -> Result<Verdict, Fault>
+    requires { IsUnread reader.old head.now }
+    ensures { ReadsTo (judge_record (verdict_of (value_of (codes "WARC-Block-Digest") head.now.parts.fields)) head.now.parts.length) (head.now.start + record_length head.now) Between reader.old reader.new result (I.left input.old) (I.left input.new) (I.failures input.old) (I.failures input.new) }
+{
+    match head.field(b"WARC-Block-Digest") {
+        Some(value) => match sha1_text(value) {
+            Some(text) => compare(reader, input, text),
+            None => pass(reader, input, Verdict::NotSha1),
+        },
+        None => pass(reader, input, Verdict::Absent),
+    }
+}
+
+/// Reads what is left of the open record, whose block has this verdict without a look at it.
+fn pass<I: Input>(reader: &mut Reader, input: &mut I, verdict: Verdict) -> Result<Verdict, Fault>
+    ensures { (left len : ℕ) → reader.old.phase ≡ Open left len →
+        ReadsTo (judge_record (λ _. verdict) left) (reader.old.offset + len) Between reader.old reader.new result (I.left input.old) (I.left input.new) (I.failures input.old) (I.failures input.new) }
+{
+    reader.finish(input)?;
+    Ok(verdict)
+}
+
+/// Reads what is left of the open record, and compares its block with a digest's text.
+fn compare<I: Input>(reader: &mut Reader, input: &mut I, text: &[u8]) -> Result<Verdict, Fault>
+    requires { HasLeft 0 reader.old.phase }
+    ensures { (left len : ℕ) → reader.old.phase ≡ Open left len →
+        ReadsTo (judge_record (λ block. compared text.now (sha1 block)) left) (reader.old.offset + len) Between reader.old reader.new result (I.left input.old) (I.left input.new) (I.failures input.old) (I.failures input.new) }
+{
+    let digest = digest_rest(reader, input, &[])?;
+    reader.finish(input)?;
+    Ok(compared(text, &digest))
+}

@@ -1,0 +1,168 @@
+//! The capture of a record.
+ghost use Rattle.std.specs.Prelude.{◌≡◌, ◌<◌, ◌-◌, ℕ, length, Some, IfOk, IfSome, option_map};
+ghost use Rattle.std.specs.Io.KnownBytes.{prepend_known};
+ghost use Rattle.warc_core.specs.HeadView.{record_length};
+ghost use Rattle.warc_core.specs.declared.phase.Phase.TheVariants.{Open};
+ghost use Rattle.warc_core.specs.ReaderView.{IsUnread, StandsAt};
+ghost use Rattle.capture_core.specs.Indexed.{usual_types, url_of};
+ghost use Rattle.capture_core.specs.Capture.{entry_of};
+ghost use Rattle.capture_core.specs.ResponseView.{response_view};
+ghost use Rattle.capture_core.specs.Captured.{ReadsRest, ReadsWhole, Captures, CapturesBehind, IsEntryOf, IsFrontOf, IsOpenFor, AnswersEntry, usual_limits};
+
+use crate::capture_entry::{capture_entry, memory};
+use crate::digest::digest_rest;
+use crate::digest_text::base32;
+use crate::fault::CaptureFault;
+use crate::front::fill;
+use crate::http_head::HTTP_HEAD_LIMIT;
+use crate::payload::{front_buffer, part};
+use crate::payload_digest::settled_digest;
+use crate::response::Response;
+use crate::target::url;
+use cdxj_core::{Entry, LINE_LIMIT};
+use std::alloc::Global;
+use warc_core::{Head, Input, Reader};
+
+/// The entry of a record under the archive's name, or none where the record isn't indexed: a response, resource or revisit
+/// with a target is. Reads the record to its end, and hashes the payload where its head gives no digest of it.
+///
+/// The record is the reader's last, and none of its block was read; the name isn't empty. Errors are the archive's fault;
+/// and, once the record was read to its end, `KeyTooLong`, `LineTooLong` and `Memory`, all at the record's offset.
+pub fn capture<I: Input>(
+    alloc: Global,
+    reader: &mut Reader,
+    input: &mut I,
+    head: &Head,
+    name: &str,
+) -> Result<Option<Entry>, CaptureFault>
+    requires unread { IsUnread reader.old head.now }
+    requires named { 0 < length name.now }
+    ensures reads { ReadsWhole head.now reader.old reader.new result (I.left input.old) (I.left input.new) (I.failures input.old) (I.failures input.new) }
+    ensures capture { Captures usual_types usual_limits head.now name.now (prepend_known reader.old.held (I.left input.old)) result }
+    ensures entry { IfOk result (λ captured. IfSome captured (IsEntryOf head.now name.now LINE_LIMIT)) }
+{
+    match url(head) {
+        Some(url) => capture_as(alloc, reader, input, head, name, url),
+        None => match reader.finish(input) {
+            Ok(_length) => Ok(None),
+            Err(fault) => Err(CaptureFault::Archive(fault)),
+        },
+    }
+}
+
+/// The entry of a record that is indexed under this URL.
+fn capture_as<I: Input>(
+    alloc: Global,
+    reader: &mut Reader,
+    input: &mut I,
+    head: &Head,
+    name: &str,
+    url: &[u8],
+) -> Result<Option<Entry>, CaptureFault>
+    requires unread { IsUnread reader.old head.now }
+    requires named { 0 < length name.now }
+    requires target { 0 < length url.now }
+    requires url { url_of usual_types head.now ≡ Some url.now }
+    ensures reads { ReadsWhole head.now reader.old reader.new result (I.left input.old) (I.left input.new) (I.failures input.old) (I.failures input.new) }
+    ensures capture { Captures usual_types usual_limits head.now name.now (prepend_known reader.old.held (I.left input.old)) result }
+    ensures entry { IfOk result (λ captured. IfSome captured (IsEntryOf head.now name.now LINE_LIMIT)) }
+{
+    match front_buffer(alloc, head) {
+        Ok(mut front) => {
+            capture_through(alloc, reader, input, head, name, url, front.as_mut_slice())
+        }
+        Err(_) => match reader.finish(input) {
+            Ok(_length) => Err(memory(head)),
+            Err(fault) => Err(CaptureFault::Archive(fault)),
+        },
+    }
+}
+
+/// The same, by a buffer for the front of the block.
+fn capture_through<I: Input>(
+    alloc: Global,
+    reader: &mut Reader,
+    input: &mut I,
+    head: &Head,
+    name: &str,
+    url: &[u8],
+    front: &mut [u8],
+) -> Result<Option<Entry>, CaptureFault>
+    requires unread { IsUnread reader.old head.now }
+    requires named { 0 < length name.now }
+    requires target { 0 < length url.now }
+    requires url { url_of usual_types head.now ≡ Some url.now }
+    requires front { IsFrontOf HTTP_HEAD_LIMIT head.now front.old }
+    ensures reads { ReadsWhole head.now reader.old reader.new result (I.left input.old) (I.left input.new) (I.failures input.old) (I.failures input.new) }
+    ensures capture { Captures usual_types usual_limits head.now name.now (prepend_known reader.old.held (I.left input.old)) result }
+    ensures entry { IfOk result (λ captured. IfSome captured (IsEntryOf head.now name.now LINE_LIMIT)) }
+{
+    match fill(reader, input, front) {
+        Ok(()) => capture_behind(alloc, reader, input, head, name, url, front),
+        Err(fault) => Err(CaptureFault::Archive(fault)),
+    }
+}
+
+/// The same, where the front of the block was read.
+fn capture_behind<I: Input>(
+    alloc: Global,
+    reader: &mut Reader,
+    input: &mut I,
+    head: &Head,
+    name: &str,
+    url: &[u8],
+    front: &[u8],
+) -> Result<Option<Entry>, CaptureFault>
+    requires named { 0 < length name.now }
+    requires target { 0 < length url.now }
+    requires url { url_of usual_types head.now ≡ Some url.now }
+    requires front { IsFrontOf HTTP_HEAD_LIMIT head.now front.now }
+    requires stands { StandsAt reader.old head.now.start (Open (head.now.parts.length - length front.now) (record_length head.now)) }
+    ensures reads { ReadsRest (head.now.parts.length - length front.now) head.now reader.old reader.new result (I.left input.old) (I.left input.new) (I.failures input.old) (I.failures input.new) }
+    ensures capture { CapturesBehind usual_types usual_limits head.now name.now front.now (prepend_known reader.old.held (I.left input.old)) result }
+    ensures entry { IfOk result (λ captured. IfSome captured (IsEntryOf head.now name.now LINE_LIMIT)) }
+{
+    let parted = part(head, front);
+    match settled_digest(head) {
+        Some(digest) => {
+            capture_closed(alloc, reader, input, head, name, url, parted.response, digest)
+        }
+        None => match digest_rest(reader, input, parted.payload) {
+            Ok(digest) => {
+                let digest = base32(&digest);
+                capture_closed(alloc, reader, input, head, name, url, parted.response, &digest)
+            }
+            Err(fault) => Err(CaptureFault::Archive(fault)),
+        },
+    }
+}
+
+/// The same, where the digest is known: reads what is left of the record.
+fn capture_closed<I: Input>(
+    alloc: Global,
+    reader: &mut Reader,
+    input: &mut I,
+    head: &Head,
+    name: &str,
+    url: &[u8],
+    response: Option<Response<'_>>,
+    digest: &[u8],
+) -> Result<Option<Entry>, CaptureFault>
+    requires code { IfSome response (λ r. r.code < 1000) }
+    requires named { 0 < length name.now }
+    requires target { 0 < length url.now }
+    requires digested { 0 < length digest.now }
+    requires stands { IsOpenFor head.now reader.old }
+    ensures reads { (left len : ℕ) → reader.old.phase ≡ Open left len →
+        ReadsRest left head.now reader.old reader.new result (I.left input.old) (I.left input.new) (I.failures input.old) (I.failures input.new) }
+    ensures entry { IfOk result (λ captured. IfSome captured (IsEntryOf head.now name.now LINE_LIMIT)) }
+    ensures answers { AnswersEntry LINE_LIMIT (entry_of head.now name.now (option_map response_view response.entry) digest.now url.now) result }
+{
+    match reader.finish(input) {
+        Ok(_length) => match capture_entry(alloc, head, name, response, digest, url) {
+            Ok(entry) => Ok(Some(entry)),
+            Err(fault) => Err(fault),
+        },
+        Err(fault) => Err(CaptureFault::Archive(fault)),
+    }
+}

@@ -1,0 +1,50 @@
+//! The value of a field that names a digest.
+ghost use Rattle.std.specs.Prelude.{◌≡◌, MatchOption, None, Some};
+ghost use Rattle.std.specs.List.{list_all};
+ghost use Rattle.capture_core.specs.BlockDigest.{compared, is_base32_letter, is_base32_text, sha1_text};
+
+use crate::digest_text::base32;
+use crate::same_text::same_text;
+use crate::verdict::Verdict;
+
+/// The text of the SHA-1 digest that a value holds: 32 letters of base 32 after `sha1:`, each in any case.
+#[tactic(auto, unfolding(crate::specs::BlockDigest::sha1_text))]
+pub(crate) fn sha1_text(value: &[u8]) -> Option<&[u8]>
+    ensures { MatchOption result (sha1_text value.now ≡ None) (λ text. sha1_text value.now ≡ Some text.now) }
+{
+    let (label, text) = value.split_at_checked(5)?;
+    if same_text(label, b"sha1:") && is_base32_text(text) {
+        Some(text)
+    } else {
+        None
+    }
+}
+
+fn is_base32_text(text: &[u8]) -> bool
+    ensures { result ≡ is_base32_text text.now }
+{
+    text.len() == 32 && has_base32_letters(text)
+}
+
+fn has_base32_letters(text: &[u8]) -> bool
+    ensures { result ≡ list_all is_base32_letter text.now }
+{
+    text.iter().all(|byte| is_base32_letter(*byte))
+}
+
+fn is_base32_letter(byte: u8) -> bool
+    ensures { result ≡ is_base32_letter byte }
+{
+    matches!(byte, b'A'..=b'Z' | b'a'..=b'z' | b'2'..=b'7')
+}
+
+/// Whether the text is that of the digest, ASCII case ignored.
+pub(crate) fn compared(text: &[u8], digest: &[u8; 20]) -> Verdict
+    ensures { result ≡ compared text.now digest.now }
+{
+    if same_text(text, &base32(digest)) {
+        Verdict::Same
+    } else {
+        Verdict::Differs
+    }
+}

@@ -1,0 +1,37 @@
+//! Which records hold HTTP messages.
+ghost use Rattle.std.specs.Prelude.{◌≡◌, codes, option_map};
+ghost use Rattle.capture_core.specs.Indexed.{field, is_marked, holds_response, may_have_head};
+
+use crate::text::media_type;
+use warc_core::Head;
+use warc_head::{Kind, same_name};
+
+/// The value of the record's own `Content-Type`.
+pub(crate) fn content_type(head: &Head) -> Option<&[u8]>
+    ensures { option_map (λ v. v.now) result ≡ field (codes "Content-Type") head.now }
+{
+    head.field(b"Content-Type")
+}
+
+/// Whether the record's `Content-Type` is `application/http`, whatever its parameters.
+pub(crate) fn is_marked(head: &Head) -> bool
+    ensures { result ≡ is_marked head.now }
+{
+    match content_type(head) {
+        Some(value) => same_name(media_type(value), b"application/http"),
+        None => false,
+    }
+}
+
+fn holds_response(kind: Kind) -> bool
+    ensures { result ≡ holds_response kind }
+{
+    matches!(kind, Kind::Response | Kind::Revisit)
+}
+
+/// Whether the record's block may begin with an HTTP head: a response or revisit that is marked.
+pub(crate) fn may_have_head(head: &Head) -> bool
+    ensures { result ≡ may_have_head head.now }
+{
+    holds_response(head.kind()) && is_marked(head)
+}

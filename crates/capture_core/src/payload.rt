@@ -1,0 +1,73 @@
+//! The front of a record's block, parted into its HTTP head and what follows.
+ghost use Rattle.std.specs.Prelude.{◌≡◌, ◌<◌, ℕ, List, Option, option_map, IfOk, IfSome};
+ghost use Rattle.httparse.specs.Grammar.{ResponseHead};
+ghost use Rattle.capture_core.specs.Capture.{IsHeadFor, response_of, payload_of};
+ghost use Rattle.capture_core.specs.Captured.{IsFrontOf, front_limit};
+ghost use Rattle.capture_core.specs.HttpHead.{IsHeadOf};
+ghost use Rattle.capture_core.specs.ResponseView.{response_view};
+
+use crate::http_head::{HTTP_FIELD_LIMIT, HTTP_HEAD_LIMIT, http_head};
+use crate::marked::may_have_head;
+use crate::response::Response;
+use std::alloc::{AllocError, Global};
+use warc_core::Head;
+
+/// What an HTTP head says, where there is one, and the front of the payload.
+#[derive(Clone, Copy)]
+pub(crate) struct Parted<'a> {
+    pub response: Option<Response<'a>>,
+    pub payload: &'a [u8],
+}
+
+/// How many bytes of the record's block are looked at for an HTTP head.
+fn front_limit(head: &Head) -> usize
+    ensures { result ≡ front_limit HTTP_HEAD_LIMIT head.now }
+{
+    if may_have_head(head) { HTTP_HEAD_LIMIT } else { 0 }
+}
+
+/// Room for the front of the record's block that is looked at.
+pub(crate) fn front_buffer(alloc: Global, head: &Head) -> Result<Vec<u8>, AllocError>
+    ensures { IfOk result (λ v. IsFrontOf HTTP_HEAD_LIMIT head.now v.items) }
+{
+    let limit = front_limit(head) as u64;
+    vec![in alloc; 0; head.length().min(limit) as usize]
+}
+
+/// The front of a record's block, parted.
+pub(crate) fn part<'a>(head: &Head, front: &'a [u8]) -> Parted<'a>
+    ensures parts { (found : Option (ResponseHead × List ℕ)) × IsHeadFor HTTP_HEAD_LIMIT HTTP_FIELD_LIMIT head.now front.now found
+        × (option_map response_view result.response ≡ option_map (λ f. response_of f.0) found)
+        × (result.payload.now ≡ payload_of front.now found) }
+    ensures code { IfSome result.response (λ r. r.code < 1000) }
+{
+    if may_have_head(head) {
+        part_http(front)
+    } else {
+        Parted {
+            response: None,
+            payload: front,
+        }
+    }
+}
+
+fn part_http(front: &[u8]) -> Parted<'_>
+    ensures parts { (found : Option (ResponseHead × List ℕ)) × IsHeadOf HTTP_HEAD_LIMIT HTTP_FIELD_LIMIT front.now found
+        × (option_map response_view result.response ≡ option_map (λ f. response_of f.0) found)
+        × (result.payload.now ≡ payload_of front.now found) }
+    ensures code { IfSome result.response (λ r. r.code < 1000) }
+{
+    match http_head(front) {
+        Some(head) => Parted {
+            response: Some(Response {
+                code: head.code,
+                content_type: head.content_type,
+            }),
+            payload: &front[head.len..],
+        },
+        None => Parted {
+            response: None,
+            payload: front,
+        },
+    }
+}

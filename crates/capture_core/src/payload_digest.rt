@@ -1,0 +1,35 @@
+//! The digest of a capture's payload.
+ghost use Rattle.std.specs.Prelude.{◌≡◌, ◌<◌, length, MatchOption, IfSome, Some, None};
+ghost use Rattle.capture_core.specs.Indexed.{given_digest};
+ghost use Rattle.capture_core.specs.Capture.{settled_digest};
+
+use crate::target::filled;
+use crate::text::without_sha1;
+use warc_core::Head;
+use warc_head::Kind;
+
+/// The value of `WARC-Payload-Digest` without a leading `sha1:`; none where nothing remains.
+fn given_digest(head: &Head) -> Option<&[u8]>
+    ensures { MatchOption result (given_digest head.now ≡ None) (λ d. given_digest head.now ≡ Some d.now) }
+{
+    match head.field(b"WARC-Payload-Digest") {
+        Some(value) => filled(without_sha1(value)),
+        None => None,
+    }
+}
+
+/// The digest that is known without the payload: the given one, or `-` for a revisit. Where there
+/// is none, the entry's digest is the base 32 of the payload's SHA-1.
+pub(crate) fn settled_digest(head: &Head) -> Option<&[u8]>
+    ensures value { MatchOption result (settled_digest head.now ≡ None)
+        (λ d. settled_digest head.now ≡ Some d.now) }
+    ensures filled { IfSome result (λ d. 0 < length d.now) }
+{
+    match given_digest(head) {
+        Some(given) => Some(given),
+        None => match head.kind() {
+            Kind::Revisit => Some(b"-"),
+            _ => None,
+        },
+    }
+}
