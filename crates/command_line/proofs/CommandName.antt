@@ -1,0 +1,165 @@
+-- What clap makes of a command's name, and of the words after it.
+use Rattle.std.proofs.Common.{rules, ap₂, refl, inl, inr, ◌≡◌, ◌&&◌, List, [], ◌∷◌, ◌++◌, Some, None, Bool, true, false, codes, bytes_eq, ap, ◌∙◌, append_assoc, fold, map, option_map, find}
+use Rattle.std.proofs.lemmas.Slice.Eq.{bytes_eq-Decides}
+use Rattle.std.specs.Char.{encode_utf8}
+use Rattle.std.specs.Str.{chars}
+use Rattle.clap.specs.Words.{App, Shape, built, is_simple}
+use Rattle.clap.specs.Simple.{names_of, label_of, entered}
+use Rattle.clap.specs.Walk.{Walk, Names, walked, walk, walk_from, stop_after, nothing_held, answers_to}
+use Rattle.clap.specs.Faults.{flags_fault, walk_fault, defaults_fault, level_fault, built_fault, is_simple_and_free}
+use Rattle.clap.specs.Kinds.{Kinds, or_else}
+use Rattle.clap.specs.declared.error.kind.ErrorKind.TheVariants as kind
+use Rattle.command_line.specs.Words.{Text, asks_for_help}
+use Rattle.command_line.specs.Commands.{Form, commands}
+use Rattle.command_line.specs.Clap.{warcdx}
+use Rattle.command_line.proofs.PlainWords.{IsPlain, AllPlain, help_word}
+use Rattle.command_line.proofs.Operands.{shaped, fits, rows_of, values, are_usage}
+
+pub simple : is_simple warcdx ≡ true
+simple = refl
+
+pub free : is_simple_and_free warcdx ≡ true
+free = refl
+
+abbrev head : Shape
+head = (built warcdx).top
+
+-- the program as clap builds it, with any list of commands
+abbrev pub app_for : List (Text × Form) → App
+app_for cs = record { top = head; subs = map shaped cs }
+
+pub built_is : built warcdx ≡ app_for commands
+built_is = refl
+
+-- ---- finding a command by its name
+
+abbrev pub is_named : Text → Text × Form → Bool
+is_named word c = bytes_eq c.0 word
+
+met_in : (word : Text) (cs : List (Text × Form))
+    → find (answers_to word) (names_of (app_for cs)) ≡ option_map (λ c. label_of (shaped c)) (find (is_named word) cs)
+met_in word [] = refl
+met_in word (c ∷ cs) = go (bytes_eq c.0 word) refl (met_in word cs)
+  where
+    go : (b : Bool) → bytes_eq c.0 word ≡ b
+        → find (answers_to word) (names_of (app_for cs)) ≡ option_map (λ c. label_of (shaped c)) (find (is_named word) cs)
+        → find (answers_to word) (names_of (app_for (c ∷ cs))) ≡ option_map (λ c. label_of (shaped c)) (find (is_named word) (c ∷ cs))
+    go true e h = rw e refl
+    go false e h = rw e h
+
+shape_in : (word : Text) (cs : List (Text × Form))
+    → find (λ s. answers_to word (label_of s)) (app_for cs).subs ≡ option_map shaped (find (is_named word) cs)
+shape_in word [] = refl
+shape_in word (c ∷ cs) = go (bytes_eq c.0 word) refl (shape_in word cs)
+  where
+    go : (b : Bool) → bytes_eq c.0 word ≡ b
+        → find (λ s. answers_to word (label_of s)) (app_for cs).subs ≡ option_map shaped (find (is_named word) cs)
+        → find (λ s. answers_to word (label_of s)) (app_for (c ∷ cs)).subs ≡ option_map shaped (find (is_named word) (c ∷ cs))
+    go true e h = rw e refl
+    go false e h = rw e h
+
+-- what is found has the name that was asked for
+pub same_name : (word : Text) (cs : List (Text × Form)) (c : Text × Form) → find (is_named word) cs ≡ Some c
+    → find (is_named word) cs ≡ Some (word, c.1)
+same_name word [] c h = cc
+same_name word (d ∷ cs) c h = go (bytes_eq d.0 word) refl h (same_name word cs c)
+  where
+    go : (b : Bool) → bytes_eq d.0 word ≡ b → find (is_named word) (d ∷ cs) ≡ Some c
+        → (find (is_named word) cs ≡ Some c → find (is_named word) cs ≡ Some (word, c.1))
+        → find (is_named word) (d ∷ cs) ≡ Some (word, c.1)
+    go true e h k =
+        let n : d.0 ≡ word = (bytes_eq-Decides d.0 word).0 e in
+        let f : Some d ≡ Some c = rw e at h in
+        let g : d ≡ c = cc in
+        rw e (ap Some (ap₂ (λ (a : Text) (b : Form). (a, b)) n (ap (λ (x : Text × Form). x.1) g)))
+    go false e h k = let f : find (is_named word) cs ≡ Some c = rw e at h in rw e (k f)
+
+-- ---- the walk: the name is met, and the words after it are the command's
+
+abbrev stopped_at : Text → List Text → Walk
+stopped_at name words = record (walk_from nothing_held) { stopped = Some (name, words) }
+
+met : (word : Text) (form : Form) (cs : List (Text × Form)) → find (is_named word) cs ≡ Some (word, form)
+    → walked head.rules (names_of (app_for cs)) (walk_from nothing_held) word ≡ stopped_at word []
+unfolding walked
+met word form cs e = rw (met_in word cs, e) refl
+
+one_more : (names : Names) (name : Text) (before : List Text) (word : Text)
+    → walked head.rules names (stopped_at name before) word ≡ stopped_at name (before ++ word ∷ [])
+unfolding walked
+one_more names name before word = refl
+
+all_more : (names : Names) (name : Text) (before words : List Text)
+    → fold (walked head.rules names) (stopped_at name before) words ≡ stopped_at name (before ++ words)
+all_more names name before [] = search rules
+all_more names name before (word ∷ words) =
+    ap (λ w. fold (walked head.rules names) w words) (one_more names name before word)
+    ∙ all_more names name (before ++ word ∷ []) words ∙ ap (stopped_at name) (append_assoc before (word ∷ []) words)
+
+stops : (word : Text) (form : Form) (cs : List (Text × Form)) (rest : List Text) → find (is_named word) cs ≡ Some (word, form)
+    → walk head.rules (names_of (app_for cs)) nothing_held (word ∷ rest) ≡ stopped_at word rest
+stops word form cs rest e =
+    ap (λ w. fold (walked head.rules (names_of (app_for cs))) w rest) (met word form cs e)
+    ∙ all_more (names_of (app_for cs)) word [] rest
+
+pub given : (word : Text) (form : Form) (cs : List (Text × Form)) (rest : List Text) → find (is_named word) cs ≡ Some (word, form)
+    → fits form rest ≡ true → AllPlain rest
+    → entered (app_for cs) (stop_after head.rules (names_of (app_for cs)) (word ∷ rest)) ≡ Some (word, rows_of form rest)
+given word form cs rest e f p =
+    ap (λ (w : Walk). entered (app_for cs) w.stopped) (stops word form cs rest e)
+    ∙ rw (shape_in word cs, e, values form rest f p) refl
+
+-- ---- faults
+
+one_more_clear : (names : Names) (name : Text) (before : List Text) (word : Text) (words : List Text)
+    → walk_fault head names (stopped_at name before) (word ∷ words)
+    ≡ walk_fault head names (walked head.rules names (stopped_at name before) word) words
+unfolding walk_fault
+one_more_clear names name before word words = refl
+
+all_clear : (names : Names) (name : Text) (before words : List Text) → walk_fault head names (stopped_at name before) words ≡ []
+all_clear names name before [] = unfold walk_fault in refl
+all_clear names name before (word ∷ words) =
+    one_more_clear names name before word words ∙ ap (λ w. walk_fault head names w words) (one_more names name before word)
+    ∙ all_clear names name (before ++ word ∷ []) words
+
+never : (b : Bool) → (b && false) ≡ false
+never false = refl
+never true = refl
+
+name_clear : (word : Text) (form : Form) (cs : List (Text × Form)) (words : List Text) → find (is_named word) cs ≡ Some (word, form)
+    → walk_fault head (names_of (app_for cs)) (walk_from nothing_held) (word ∷ words)
+    ≡ walk_fault head (names_of (app_for cs)) (walked head.rules (names_of (app_for cs)) (walk_from nothing_held) word) words
+unfolding walk_fault
+name_clear word form cs words e = rw (met_in word cs, e, never (bytes_eq word (codes "help"))) refl
+
+above_clear : (word : Text) (form : Form) (cs : List (Text × Form)) (rest : List Text) → find (is_named word) cs ≡ Some (word, form)
+    → walk_fault head (names_of (app_for cs)) (walk_from nothing_held) (word ∷ rest) ≡ []
+above_clear word form cs rest e =
+    name_clear word form cs rest e ∙ ap (λ w. walk_fault head (names_of (app_for cs)) w rest) (met word form cs e)
+    ∙ all_clear (names_of (app_for cs)) word [] rest
+
+or_nothing : (ks : Kinds) → or_else ks [] ≡ ks
+or_nothing [] = refl
+or_nothing (k ∷ ks) = refl
+
+-- the fault is the command's
+pub below : (word : Text) (form : Form) (cs : List (Text × Form)) (rest : List Text) → find (is_named word) cs ≡ Some (word, form)
+    → built_fault (app_for cs) nothing_held (word ∷ rest) ≡ level_fault (shaped (word, form)) [] nothing_held rest false []
+unfolding defaults_fault
+below word form cs rest e =
+    rw (stops word form cs rest e, shape_in word cs, e, above_clear word form cs rest e)
+    (or_nothing (level_fault (shaped (word, form)) [] nothing_held rest false []))
+
+pub unknown : (word : Text) (cs : List (Text × Form)) (rest : List Text) → find (is_named word) cs ≡ None → IsPlain word
+    → are_usage (built_fault (app_for cs) nothing_held (word ∷ rest)) ≡ true
+unfolding walk_fault
+unknown word cs rest e p = rw (met_in word cs, e, p.dashes, p.long, p.short) refl
+
+pub top_help : (word : Text) (rest : List Text) → asks_for_help word ≡ true
+    → built_fault (app_for commands) nothing_held (word ∷ rest) ≡ kind.DisplayHelp ∷ []
+unfolding walk_fault flags_fault chars encode_utf8
+top_help word rest h = elim (help_word word h) [
+  | inl e ↦ rw e refl
+  | inr e ↦ rw e refl
+]

@@ -1,0 +1,4 @@
+pub mod PlainWords
+pub mod Operands
+pub mod CommandName
+pub mod CommandLine

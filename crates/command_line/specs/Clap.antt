@@ -1,0 +1,55 @@
+-- clap's command, made from the table of commands, and what is read of clap's answer.
+use Rattle.std.specs.Prelude.{List, [], ◌∷◌, Option, None, Some, true, false, codes, map, option_map, option_and_then}
+use Rattle.clap.specs.Words.{App, Row, Rule, Shape, new_rule, all_of}
+use Rattle.clap.specs.Simple.{new_shape}
+use Rattle.clap.specs.Lexer.{usize_max}
+use Rattle.clap.specs.declared.error.kind.ErrorKind.{ErrorKind}
+use Rattle.clap.specs.declared.error.kind.ErrorKind.TheVariants as kind
+use Rattle.command_line.specs.Words.{Text}
+use Rattle.command_line.specs.Commands.{Meaning, Form, Names, Refusal, Help, Usage, commands, command_of, list_input}
+
+-- ---- the command
+
+-- one name or more
+abbrev pub names_rule : Rule
+names_rule = record (new_rule (codes "names")) {
+  required = true;
+  value_names = 1;
+  range = Some (record { start_inclusive = 1; end_inclusive = usize_max });
+}
+
+abbrev pub rules_for : Form → List Rule
+rules_for (Names make) = names_rule ∷ []
+
+abbrev pub command_with : Text → List Rule → Shape
+command_with name rules = record (new_shape name) { rules = rules }
+
+abbrev pub command_for : Text × Form → Shape
+command_for c = command_with c.0 (rules_for c.1)
+
+abbrev pub program : Shape
+program = record (new_shape (codes "warcdx")) {
+  is_leaf = false;
+  no_binary_name = true;
+  disable_help_subcommand = true;
+}
+
+abbrev pub warcdx : App
+warcdx = record { top = program; subs = map command_for commands }
+
+-- ---- the answer
+
+-- the task that the values of a command make
+abbrev pub values_task : Form → List Row → Option Meaning
+values_task (Names make) rows = option_map make (all_of (codes "names") rows)
+
+-- the task of the command that was met, with its values
+abbrev pub matches_task : Option (Text × List Row) → Option Meaning
+matches_task None = Some list_input
+matches_task (Some met) = option_and_then (λ c. values_task c.1 met.1) (command_of met.0)
+
+-- what an error of clap's refuses; nothing for want of memory
+abbrev pub refusal_for : ErrorKind → Option Refusal
+refusal_for kind.OutOfMemory = None
+refusal_for kind.DisplayHelp = Some Help
+refusal_for _ = Some Usage

@@ -1,0 +1,80 @@
+-- The commands, and what the words of a command line ask for.
+use Rattle.std.specs.Prelude.{List, [], ◌∷◌, ◌||◌, Option, None, Some, Result, Ok, Err, MatchResult, ◌≡◌, if◌then◌else◌, codes, bytes_eq, find, is_some, option_and_then}
+use Rattle.std.specs.List.{list_any}
+use Rattle.std.specs.Option.{IfSome, ok_or}
+use Rattle.command_line.specs.declared.fault.WordsFault.{WordsFault}
+use Rattle.command_line.specs.declared.fault.WordsFault.TheVariants as fault
+use Rattle.command_line.specs.declared.task.Task.{Task}
+use Rattle.command_line.specs.declared.task.Task.TheVariants as task
+use Rattle.command_line.specs.Words.{Text, texts, asks_for_help, is_unknown_option}
+
+-- ---- the table of commands
+
+-- a task, with its words as texts
+pub data Meaning : Type 0 where
+  ToList : List Text → Meaning
+  ToVerify : List Text → Meaning
+
+-- which operands a command takes, and the task that they make: one name or more
+pub data Form : Type 0 where
+  Names : (List Text → Meaning) → Form
+
+abbrev pub commands : List (Text × Form)
+commands = (codes "list", Names ToList) ∷ (codes "verify", Names ToVerify) ∷ []
+
+-- ---- words with a task
+
+-- the task of a command's operands
+abbrev pub operands_task : Form → List Text → Option Meaning
+operands_task (Names make) (name ∷ names) = Some (make (name ∷ names))
+operands_task _ _ = None
+
+abbrev pub command_of : Text → Option (Text × Form)
+command_of word = find (λ c. bytes_eq c.0 word) commands
+
+-- `list -`
+abbrev pub list_input : Meaning
+list_input = ToList (codes "-" ∷ [])
+
+-- the task of words without options
+abbrev pub task_of : List Text → Option Meaning
+task_of [] = Some list_input
+task_of (word ∷ operands) = option_and_then (λ c. operands_task c.1 operands) (command_of word)
+
+-- ---- any words
+
+pub data Refusal : Type 0 where
+  Help : Refusal
+  Usage : Refusal
+
+-- of words that ask for help: the program's where they begin so, or that of the command that they begin with
+abbrev pub help_or_usage : List Text → Refusal
+help_or_usage [] = Usage
+help_or_usage (word ∷ rest) = if asks_for_help word || is_some (command_of word) then Help else Usage
+
+-- an unknown option outweighs help, and help the number of the operands
+abbrev pub asked : List Text → Result Meaning Refusal
+asked words = if list_any is_unknown_option words then Err Usage
+    else (if list_any asks_for_help words then Err (help_or_usage words)
+    else ok_or (task_of words) Usage)
+
+-- ---- what the code answers
+
+abbrev pub view : Task → Meaning
+view (task.List names) = ToList (texts names.items)
+view (task.Verify names) = ToVerify (texts names.items)
+
+-- nothing for want of memory
+abbrev pub refusal_of : WordsFault → Option Refusal
+refusal_of fault.Memory = None
+refusal_of (fault.Help text) = Some Help
+refusal_of (fault.Usage text) = Some Usage
+
+-- for want of memory, or a fault of usage
+abbrev pub IsUsage : WordsFault → Type 0
+IsUsage fault = IfSome (refusal_of fault) (λ refusal. refusal ≡ Usage)
+
+-- the answer is the one that is wanted, but for memory
+abbrev pub Answers : Result Meaning Refusal → Result Task WordsFault → Type 0
+Answers wanted result = MatchResult result (λ task. wanted ≡ Ok (view task))
+    (λ fault. IfSome (refusal_of fault) (λ refusal. wanted ≡ Err refusal))

@@ -1,0 +1,28 @@
+//! Why words have no task.
+ghost use Rattle.std.specs.Prelude.{◌≡◌};
+
+use std::alloc::AllocError;
+use thiserror::Error;
+
+/// Why words have no task.
+#[derive(Debug, Drop, Error, PartialEq, Eq)]
+pub enum WordsFault {
+    #[error("out of memory")]
+    Memory,
+    /// The words ask for help: its text, for standard output.
+    #[error("{0}")]
+    Help(String),
+    /// The words mean nothing: why, and what is meant, for standard error.
+    #[error("{0}")]
+    Usage(String),
+}
+
+impl From<AllocError> for WordsFault {
+    ghost use Rattle.command_line.specs.declared.fault.WordsFault.TheVariants.{Memory};
+
+    ghost from_gives = { λ _ fault. fault ≡ Memory };
+
+    fn from(_refused: AllocError) -> WordsFault {
+        WordsFault::Memory
+    }
+}

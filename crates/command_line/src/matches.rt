@@ -1,0 +1,70 @@
+//! The task in clap's matches.
+ghost use Rattle.std.specs.Prelude.{◌≡◌, IfOk, Some, option_map, codes, map};
+ghost use Rattle.clap.specs.Words.{all_of, found_of, rows_of, subcommand_rows_of};
+ghost use Rattle.command_line.specs.Words.{texts};
+ghost use Rattle.command_line.specs.Commands.{list_input, view};
+ghost use Rattle.command_line.specs.Clap.{matches_task};
+
+use crate::task::Task;
+use clap::ArgMatches;
+use std::alloc::{AllocError, Global};
+
+/// The task, where there is one.
+pub fn task_of(alloc: Global, matches: &ArgMatches) -> Result<Option<Task>, AllocError>
+    ensures { IfOk result (λ task. option_map view task ≡ matches_task (subcommand_rows_of matches.now)) }
+{
+    match matches.subcommand() {
+        Some((command, values)) => command_task(alloc, command, values),
+        None => Ok(Some(list_input(alloc)?)),
+    }
+}
+
+fn command_task(
+    alloc: Global,
+    command: &str,
+    values: &ArgMatches,
+) -> Result<Option<Task>, AllocError>
+    ensures { IfOk result (λ task. option_map view task
+        ≡ matches_task (Some (command.now, rows_of (found_of values.now)))) }
+{
+    match command {
+        "list" => Ok(names_of(alloc, values)?.map(|names| Task::List { names })),
+        "verify" => Ok(names_of(alloc, values)?.map(|names| Task::Verify { names })),
+        _ => Ok(None),
+    }
+}
+
+fn list_input(alloc: Global) -> Result<Task, AllocError>
+    ensures { IfOk result (λ task. view task ≡ list_input) }
+{
+    let name = String::from_str(alloc, "-")?;
+    let names = vec![in alloc; name]?;
+    Ok(Task::List { names })
+}
+
+fn names_of(alloc: Global, values: &ArgMatches) -> Result<Option<Vec<String>>, AllocError>
+    ensures { IfOk result (λ names. option_map (λ n. texts n.items) names
+        ≡ all_of (codes "names") (rows_of (found_of values.now))) }
+{
+    match values_of(values, "names") {
+        Some(words) => Ok(Some(copied(alloc, words)?)),
+        None => Ok(None),
+    }
+}
+
+fn values_of<'m, 'a>(values: &'m ArgMatches<'a>, id: &str) -> Option<&'m [&'a str]>
+    ensures { option_map (λ words. map (λ word. word.now) words.now) result
+        ≡ all_of id.now (rows_of (found_of values.now)) }
+{
+    values.get_strs(id)
+}
+
+fn copied(alloc: Global, words: &[&str]) -> Result<Vec<String>, AllocError>
+    ensures { IfOk result (λ names. texts names.items ≡ map (λ word. word.now) words.now) }
+{
+    let mut names = Vec::new(alloc);
+    for word in words {
+        names.push(String::from_str(alloc, word)?)?;
+    }
+    Ok(names)
+}

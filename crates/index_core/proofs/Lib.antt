@@ -1,0 +1,3 @@
+pub mod ReportLemmas
+pub mod ListingLemmas
+pub mod VerdictLemmas

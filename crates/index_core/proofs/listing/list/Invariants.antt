@@ -1,0 +1,20 @@
+use Rattle.std.proofs.Common.{◌≡◌, ◌≤◌, ◌-◌, ◌^◌}
+use Rattle.std.specs.Io.KnownBytes.{prepend_known}
+use Rattle.warc_core.specs.declared.next.TheConstants.{HEAD_LIMIT}
+use Rattle.warc_core.specs.declared.phase.Phase.TheVariants.{Between}
+use Rattle.index_core.specs.Listing.{listing_line, record_count}
+use Rattle.index_core.specs.Report.{SoFar}
+use Rattle.index_core.proofs.listing.list.Given as goal
+
+abbrev pub invariant-loop-reader : goal.invariant-loop-reader
+invariant-loop-reader g l = record {
+  phase : l.reader.phase ≡ Between;
+  within : l.reader.offset ≤ 2 ^ 63 - 1;
+  fewer : l.count ≤ l.reader.offset;
+  lines : SoFar HEAD_LIMIT listing_line record_count (g.I.Input.left l.fn.input) (prepend_known l.reader.held (g.I.Input.left l.input)) l.reader.offset l.count (g.O.Output.written l.fn.out) (g.O.Output.written l.out);
+  reads : g.I.Input.failures l.input ≡ g.I.Input.failures l.fn.input;
+  writes : g.O.Output.failures l.out ≡ g.O.Output.failures l.fn.out;
+}
+
+abbrev pub decreases-loop-reader : goal.decreases-loop-reader
+decreases-loop-reader g l = 2 ^ 63 - l.reader.offset

@@ -1,0 +1,96 @@
+-- A report on an archive: a line for each of its records, and one for its fault.
+use Rattle.std.specs.Prelude.{◌≡◌, ℕ, ◌+◌, ⊤, ◌⊎◌, List, ◌++◌, flat_map, Option, None, Some, Result, Ok, Err, codes, decimal}
+use Rattle.std.specs.Io.KnownBytes.{Appends}
+use Rattle.warc_core.specs.declared.fault.Cause.{Cause}
+use Rattle.warc_core.specs.declared.fault.Cause.TheVariants as causes
+use Rattle.warc_core.specs.declared.fault.Fault.{Fault}
+use Rattle.warc_core.specs.declared.phase.Phase.TheVariants.{Between}
+use Rattle.warc_core.specs.Cause.{cause_name}
+use Rattle.warc_core.specs.Device.{AppendsPrefix, next_count}
+use Rattle.warc_core.specs.HeadView.{HeadView, record_length}
+use Rattle.warc_core.specs.Reading.{IsFoundIn, CountsRead}
+use Rattle.warc_core.specs.ReaderView.{ReaderView, StandsAt}
+use Rattle.warc_core.specs.Walk.{Walks, AreRecords, IsDamaged, record_at}
+use Rattle.capture_core.specs.declared.fault.CaptureFault.TheVariants.{Archive, LineTooLong, KeyTooLong}
+use Rattle.index_core.specs.declared.fault.IndexFault.{IndexFault}
+use Rattle.index_core.specs.declared.fault.IndexFault.TheVariants as faults
+
+-- what a report says of a record of an archive, by the record's head
+abbrev pub Line : Type 0
+Line = List ℕ → HeadView → List ℕ
+
+-- the lines of these records
+abbrev pub lines_of : Line → List ℕ → List HeadView → List ℕ
+lines_of line archive heads = flat_map (line archive) heads
+
+-- `fault OFFSET CAUSE`
+abbrev pub fault_line : Fault → List ℕ
+fault_line f = codes "fault " ++ decimal f.offset ++ codes " " ++ cause_name f.cause ++ codes "\n"
+
+-- the text is the report on the archive: its records, or those before its damage and the damage
+abbrev pub IsReport : ℕ → Line → List ℕ → List ℕ → Type 0
+IsReport limit line archive text =
+    ((heads : List HeadView) × AreRecords limit archive heads × (text ≡ lines_of line archive heads))
+    ⊎ ((heads : List HeadView) × (f : Fault) × IsDamaged limit archive heads f.offset f.cause × (text ≡ lines_of line archive heads ++ fault_line f))
+
+-- the cause isn't the archive's
+abbrev pub IsNoDamage : Cause → Type 0
+IsNoDamage causes.Memory = ⊤
+IsNoDamage causes.Read = ⊤
+IsNoDamage c = ⊥
+
+-- the text is the report up to a record that couldn't be read, for want of memory or by the input's failure
+abbrev pub IsCutReport : ℕ → Line → List ℕ → List ℕ → Type 0
+IsCutReport limit line archive text =
+    (heads : List HeadView) × (f : Fault) × (rest : List ℕ) × IsNoDamage f.cause × Walks limit 0 archive heads f.offset rest × (text ≡ lines_of line archive heads ++ fault_line f)
+
+-- The lines of all records of the archive were written, where it is known, and the answer is their tally.
+abbrev pub Reported : {A : Type 0} → ℕ → Line → (List ℕ → List HeadView → A) → Option (List ℕ) → A → Option (List ℕ) → Option (List ℕ) → Type 0
+Reported limit line tally None answer before after = ⊤
+Reported limit line tally (Some archive) answer before after =
+    (heads : List HeadView) × AreRecords limit archive heads × (answer ≡ tally archive heads) × Appends before after (lines_of line archive heads)
+
+-- The lines of the records before the fault were written, and the fault's line.
+abbrev pub ReportedToFault : ℕ → Line → Option (List ℕ) → Fault → Option (List ℕ) → Option (List ℕ) → Type 0
+ReportedToFault limit line None f before after = ⊤
+ReportedToFault limit line (Some archive) f before after =
+    (heads : List HeadView) × (rest : List ℕ) × Walks limit 0 archive heads f.offset rest × IsFoundIn f.cause (record_at limit f.offset rest)
+    × Appends before after (lines_of line archive heads ++ fault_line f)
+
+-- A prefix of the report was written.
+abbrev pub ReportedInPart : ℕ → Line → Option (List ℕ) → Option (List ℕ) → Option (List ℕ) → Type 0
+ReportedInPart limit line None before after = ⊤
+ReportedInPart limit line (Some archive) before after =
+    (text : List ℕ) × (IsReport limit line archive text ⊎ IsCutReport limit line archive text) × AppendsPrefix before after text
+
+-- The lines of the records so far were written; the last of these records ends at the offset.
+abbrev pub SoFar : {A : Type 0} → ℕ → Line → (List ℕ → List HeadView → A) → Option (List ℕ) → Option (List ℕ) → ℕ → A → Option (List ℕ) → Option (List ℕ) → Type 0
+SoFar limit line tally None now offset answer before after = ⊤
+SoFar limit line tally (Some archive) None offset answer before after = ⊥
+SoFar limit line tally (Some archive) (Some rest) offset answer before after =
+    (heads : List HeadView) × Walks limit 0 archive heads offset rest × (answer ≡ tally archive heads) × Appends before after (lines_of line archive heads)
+
+-- the fault's line was written, or a prefix of it before the output failed
+abbrev pub WritesFault : Fault → IndexFault → Option (List ℕ) → Option (List ℕ) → ℕ → ℕ → Type 0
+WritesFault fault (faults.Capture (Archive f)) before after count count' = (f ≡ fault) × Appends before after (fault_line fault) × (count' ≡ count)
+WritesFault fault faults.Write before after count count' = AppendsPrefix before after (fault_line fault) × (count' ≡ next_count count)
+WritesFault fault other before after count count' = ⊥
+
+-- where a reader stands after a whole record, or at the end
+abbrev pub Passes : ReaderView → ℕ → Option HeadView → Type 0
+Passes new offset None = StandsAt new offset Between
+Passes new offset (Some h) = StandsAt new (offset + record_length h) Between
+
+-- An answer of Read goes with one more failure of the input, any other of the archive's with none. It failed at most once.
+abbrev pub CountsInput : {A : Type 0} → Result A IndexFault → ℕ → ℕ → Type 0
+CountsInput (Ok n) old new = new ≡ old
+CountsInput (Err (faults.Capture (Archive f))) old new = CountsRead {A = Unit {0}} (Err f.cause) old new
+CountsInput (Err faults.Write) old new = (new ≡ old) ⊎ (new ≡ next_count old)
+CountsInput (Err other) old new = ⊥
+
+-- An answer of Write goes with one more failure of the output, any other of a report with none.
+abbrev pub CountsOutput : {A : Type 0} → Result A IndexFault → ℕ → ℕ → Type 0
+CountsOutput (Ok n) old new = new ≡ old
+CountsOutput (Err (faults.Capture (Archive f))) old new = new ≡ old
+CountsOutput (Err faults.Write) old new = new ≡ next_count old
+CountsOutput (Err other) old new = ⊥

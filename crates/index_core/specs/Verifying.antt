@@ -1,0 +1,58 @@
+-- The verification of an archive: the digest of each block against the one that its record gives.
+use Rattle.std.specs.Prelude.{◌≡◌, ℕ, ◌+◌, List, ◌++◌, length, take, drop, Option, Some, Result, Ok, Err, option_map, codes, decimal}
+use Rattle.std.specs.List.{sum_by}
+use Rattle.warc_head.specs.Fields.{value_of}
+use Rattle.warc_core.specs.declared.fault.Fault.{Fault}
+use Rattle.warc_core.specs.HeadView.{HeadView}
+use Rattle.capture_core.specs.declared.verdict.Verdict.{Verdict}
+use Rattle.capture_core.specs.declared.verdict.Verdict.TheVariants as verdicts
+use Rattle.capture_core.specs.BlockDigest.{verdict_of, verdict_name}
+use Rattle.index_core.specs.declared.verified.Verified.{Verified}
+use Rattle.index_core.specs.Report.{Reported, ReportedToFault, ReportedInPart}
+
+-- what the head says of a block
+abbrev pub verdict_on : HeadView → List ℕ → Verdict
+verdict_on h block = verdict_of (value_of (codes "WARC-Block-Digest") h.parts.fields) block
+
+-- the block of the record that begins these bytes
+abbrev pub block_at : HeadView → List ℕ → List ℕ
+block_at h bytes = take h.parts.length (drop (length h.raw) bytes)
+
+-- the verdict on a record of the archive
+abbrev pub verdict_in : List ℕ → HeadView → Verdict
+verdict_in archive h = verdict_on h (block_at h (drop h.start archive))
+
+-- `OFFSET VERDICT`
+abbrev pub verdict_line : ℕ → Verdict → List ℕ
+verdict_line offset verdict = decimal offset ++ codes " " ++ verdict_name verdict ++ codes "\n"
+
+-- what a verification says of a record
+abbrev pub verification_line : List ℕ → HeadView → List ℕ
+verification_line archive h = verdict_line h.start (verdict_in archive h)
+
+-- one for a block with another digest
+abbrev pub differing_by : Verdict → ℕ
+differing_by verdicts.Differs = 1
+differing_by verdict = 0
+
+-- how many of the records have a block with another digest
+abbrev pub differing_in : List ℕ → List HeadView → ℕ
+differing_in archive heads = sum_by (λ h. differing_by (verdict_in archive h)) heads
+
+-- what a verification answers
+abbrev pub verified_in : List ℕ → List HeadView → Verified
+verified_in archive heads = record { records = length heads; differing = differing_in archive heads }
+
+abbrev pub Verifies : ℕ → Option (List ℕ) → Verified → Option (List ℕ) → Option (List ℕ) → Type 0
+Verifies limit left verified before after = Reported limit verification_line verified_in left verified before after
+
+abbrev pub VerifiesToFault : ℕ → Option (List ℕ) → Fault → Option (List ℕ) → Option (List ℕ) → Type 0
+VerifiesToFault limit left f before after = ReportedToFault limit verification_line left f before after
+
+abbrev pub VerifiesInPart : ℕ → Option (List ℕ) → Option (List ℕ) → Option (List ℕ) → Type 0
+VerifiesInPart limit left before after = ReportedInPart limit verification_line left before after
+
+-- an answer without its verdicts
+abbrev pub heads_of : Result (Option (HeadView × Verdict)) Fault → Result (Option HeadView) Fault
+heads_of (Ok judged) = Ok (option_map (λ j. j.0) judged)
+heads_of (Err f) = Err f

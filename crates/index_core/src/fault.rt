@@ -1,0 +1,17 @@
+//! Why a call on an archive couldn't be done.
+use capture_core::CaptureFault;
+use thiserror::Error;
+
+/// Why a call on an archive couldn't be done.
+#[derive(Clone, Copy, Debug, PartialEq, Eq, Error)]
+pub enum IndexFault {
+    /// A growth of the call's own was refused.
+    #[error("out of memory")]
+    Memory,
+    /// The archive's captures end.
+    #[error("{0}")]
+    Capture(CaptureFault),
+    /// The output failed.
+    #[error("the output can't be written")]
+    Write,
+}

@@ -1,0 +1,57 @@
+//! The lines of reports, made without allocating.
+ghost use Rattle.std.specs.Prelude.{◌≡◌, ◌+◌, ◌≤◌, ◌++◌, length};
+ghost use Rattle.arrayvec.specs.ArrayVec.{array_vec_len};
+ghost use Rattle.arrayvec.specs.ArrayString.{array_string_len};
+ghost use Rattle.index_core.specs.Listing.{record_line};
+ghost use Rattle.index_core.specs.Report.{fault_line};
+ghost use Rattle.index_core.specs.Verifying.{verdict_line};
+
+use arrayvec::ArrayString;
+use capture_core::Verdict;
+use itoa::Buffer;
+use warc_core::{Fault, Head};
+
+/// A line of a report, with its LF.
+pub type Line = ArrayString<64>;
+
+/// `OFFSET LENGTH KIND`
+pub fn record_line(head: &Head) -> Line
+    ensures { result.bytes ≡ record_line head.now }
+{
+    let mut digits = Buffer::new();
+    let mut line = Line::new();
+    line.push_str(digits.format(head.start()));
+    line.push_str(" ");
+    line.push_str(digits.format(head.record_length()));
+    line.push_str(" ");
+    line.push_str(head.kind().name());
+    line.push_str("\n");
+    line
+}
+
+/// `OFFSET VERDICT`
+pub fn verdict_line(offset: u64, verdict: Verdict) -> Line
+    ensures { result.bytes ≡ verdict_line offset verdict }
+{
+    let mut digits = Buffer::new();
+    let mut line = Line::new();
+    line.push_str(digits.format(offset));
+    line.push_str(" ");
+    line.push_str(verdict.name());
+    line.push_str("\n");
+    line
+}
+
+/// `fault OFFSET CAUSE`
+pub fn fault_line(fault: Fault) -> Line
+    ensures { result.bytes ≡ fault_line fault }
+{
+    let mut digits = Buffer::new();
+    let mut line = Line::new();
+    line.push_str("fault ");
+    line.push_str(digits.format(fault.offset));
+    line.push_str(" ");
+    line.push_str(fault.cause.name());
+    line.push_str("\n");
+    line
+}

@@ -1,0 +1,45 @@
+//! The listing of an archive: a line for each record.
+ghost use Rattle.std.specs.Prelude.{◌≡◌, ℕ, ◌-◌, ◌^◌, ◌≤◌, Err, IfOk};
+ghost use Rattle.warc_core.specs.declared.fault.Fault.{Fault};
+ghost use Rattle.index_core.specs.Listing.{Listed, ListedToFault, ListedInPart};
+ghost use Rattle.index_core.specs.Report.{CountsInput, CountsOutput};
+
+use crate::fault::IndexFault;
+use crate::lines::record_line;
+use crate::walk::next_record;
+use crate::writing::{put_fault, put_line};
+use capture_core::CaptureFault;
+use std::alloc::Global;
+use warc_core::{Fault, HEAD_LIMIT, Input, Output, Reader};
+
+/// Writes a line for each whole record of the archive, `OFFSET LENGTH KIND`, and a last line `fault OFFSET CAUSE` where it
+/// can't be read to its end. It answers how many whole records there are.
+///
+/// Errors are the archive's fault, once its line was written, and `Write` at the output's first failure.
+pub fn list<I: Input, O: Output>(
+    alloc: Global,
+    input: &mut I,
+    out: &mut O,
+) -> Result<u64, IndexFault>
+    ensures whole { IfOk result (λ n. Listed HEAD_LIMIT (I.left input.old) n (O.written out.old) (O.written out.new)) }
+    ensures damaged { (f : Fault) → result ≡ Err (IndexFault.Capture (CaptureFault.Archive f)) → ListedToFault HEAD_LIMIT (I.left input.old) f (O.written out.old) (O.written out.new) }
+    ensures stopped { result ≡ Err IndexFault.Write → ListedInPart HEAD_LIMIT (I.left input.old) (O.written out.old) (O.written out.new) }
+    ensures reads { CountsInput result (I.failures input.old) (I.failures input.new) }
+    ensures writes { CountsOutput result (O.failures out.old) (O.failures out.new) }
+{
+    let mut reader = match Reader::new(alloc) {
+        Ok(reader) => reader,
+        Err(fault) => return Err(put_fault(out, fault)),
+    };
+    let mut count = 0;
+    loop {
+        match next_record(&mut reader, input) {
+            Ok(None) => return Ok(count),
+            Ok(Some(head)) => {
+                put_line(out, &record_line(&head))?;
+                count += 1;
+            }
+            Err(damage) => return Err(put_fault(out, damage)),
+        }
+    }
+}

@@ -1,0 +1,59 @@
+//! The verification of an archive: a line for the digest of each block.
+ghost use Rattle.std.specs.Prelude.{◌≡◌, ℕ, ◌-◌, ◌^◌, ◌≤◌, Err, IfOk};
+ghost use Rattle.warc_core.specs.declared.fault.Fault.{Fault};
+ghost use Rattle.index_core.specs.Report.{CountsInput, CountsOutput};
+ghost use Rattle.index_core.specs.Verifying.{Verifies, VerifiesToFault, VerifiesInPart, differing_by};
+
+use crate::fault::IndexFault;
+use crate::lines::verdict_line;
+use crate::verified::Verified;
+use crate::walk::next_verdict;
+use crate::writing::{put_fault, put_line};
+use capture_core::{CaptureFault, Verdict};
+use std::alloc::Global;
+use warc_core::{Fault, HEAD_LIMIT, Input, Output, Reader};
+
+/// Writes a line for each whole record of the archive, `OFFSET VERDICT`, and a last line `fault OFFSET CAUSE` where it can't
+/// be read to its end. The verdict on a block is `same`, `differs`, `not-sha1` or `absent`, by the digest that its record
+/// gives. It answers how many whole records there are, and how many differ.
+///
+/// Errors are the archive's fault, once its line was written, and `Write` at the output's first failure.
+pub fn verify<I: Input, O: Output>(
+    alloc: Global,
+    input: &mut I,
+    out: &mut O,
+) -> Result<Verified, IndexFault>
+    ensures whole { IfOk result (λ v. Verifies HEAD_LIMIT (I.left input.old) v (O.written out.old) (O.written out.new)) }
+    ensures damaged { (f : Fault) → result ≡ Err (IndexFault.Capture (CaptureFault.Archive f)) → VerifiesToFault HEAD_LIMIT (I.left input.old) f (O.written out.old) (O.written out.new) }
+    ensures stopped { result ≡ Err IndexFault.Write → VerifiesInPart HEAD_LIMIT (I.left input.old) (O.written out.old) (O.written out.new) }
+    ensures reads { CountsInput result (I.failures input.old) (I.failures input.new) }
+    ensures writes { CountsOutput result (O.failures out.old) (O.failures out.new) }
+{
+    let mut reader = match Reader::new(alloc) {
+        Ok(reader) => reader,
+        Err(fault) => return Err(put_fault(out, fault)),
+    };
+    let mut records = 0;
+    let mut differing = 0;
+    loop {
+        match next_verdict(&mut reader, input) {
+            Ok(None) => return Ok(Verified { records, differing }),
+            Ok(Some((head, verdict))) => {
+                put_line(out, &verdict_line(head.start(), verdict))?;
+                records += 1;
+                differing += differing_by(verdict);
+            }
+            Err(damage) => return Err(put_fault(out, damage)),
+        }
+    }
+}
+
+/// One for a block with another digest, none for any other.
+fn differing_by(verdict: Verdict) -> u64
+    ensures { result ≡ differing_by verdict }
+{
+    match verdict {
+        Verdict::Differs => 1,
+        _ => 0,
+    }
+}

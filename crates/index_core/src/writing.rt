@@ -1,0 +1,32 @@
+//! The writing of a report's lines.
+ghost use Rattle.std.specs.Prelude.{◌≡◌, IfErr, OnOk};
+ghost use Rattle.std.specs.Io.KnownBytes.{Appends};
+ghost use Rattle.warc_core.specs.Device.{AppendsPrefix, CountsFailure};
+ghost use Rattle.index_core.specs.Report.{WritesFault};
+
+use crate::fault::IndexFault;
+use crate::lines::{Line, fault_line};
+use capture_core::CaptureFault;
+use warc_core::{Fault, Output, put};
+
+/// Writes a line.
+pub fn put_line<O: Output>(out: &mut O, line: &Line) -> Result<(), IndexFault>
+    ensures line { OnOk result (Appends (O.written out.old) (O.written out.new) line.now.bytes) }
+    ensures err { IfErr result (λ e. (e ≡ IndexFault.Write) × AppendsPrefix (O.written out.old) (O.written out.new) line.now.bytes) }
+    ensures failures { CountsFailure result (O.failures out.old) (O.failures out.new) }
+{
+    match put(out, line.as_str().as_bytes()) {
+        Ok(()) => Ok(()),
+        Err(_) => Err(IndexFault::Write),
+    }
+}
+
+/// Writes the line of a fault, and gives the answer that goes with it.
+pub fn put_fault<O: Output>(out: &mut O, fault: Fault) -> IndexFault
+    ensures { WritesFault fault result (O.written out.old) (O.written out.new) (O.failures out.old) (O.failures out.new) }
+{
+    match put(out, fault_line(fault).as_str().as_bytes()) {
+        Ok(()) => IndexFault::Capture(CaptureFault::Archive(fault)),
+        Err(_) => IndexFault::Write,
+    }
+}
