@@ -1,15 +1,14 @@
-//! `warcdx`: lists the records of the WARC file on its standard input.
+//! `warcdx`: lists the records of web archives, and checks their digests.
 #![tactic(auto)]
 
-mod faults;
-mod lines;
-mod listing;
+mod outcome;
 mod program;
-#[cfg(test)]
-mod tests;
+mod reports;
+mod status;
 
+use crate::status::status;
 use std::process::ExitCode;
 
 fn main(rt: HostRuntime) -> ExitCode {
-    ExitCode::from(program::run(&rt) as u8)
+    ExitCode::from(status(&program::run(&rt)))
 }

@@ -1,74 +1,80 @@
-//! What the program does with its words, its input and its output.
-use crate::faults::{CaptureFault, IndexFault};
-use crate::listing::list;
+//! What the program does with its words and its output.
+use crate::outcome::Outcome;
+use crate::reports::{Report, report_on};
+use command_line::{Task, WordsFault, read_words};
+use index_core::IndexFault;
 use std::env;
 use std::io::{self, BufWriter, ErrorKind, Write};
 use std::rt::Runtime;
-use warc_core::{Cause, FromRead, FromWrite};
-
-/// How a run ended. Its number is the status of the process.
-#[derive(Clone, Copy, Debug, PartialEq, Eq)]
-pub enum Status {
-    /// All was done.
-    Done = 0,
-    /// The archive is damaged.
-    Damaged = 1,
-    /// The words mean nothing.
-    Usage = 2,
-    /// Memory, the input or the output failed.
-    Failed = 3,
-}
+use warc_core::{FromWrite, Output};
 
 /// Runs the program.
-pub fn run<R: Runtime + AllocGlobal>(rt: &R) -> Status {
-    match has_words(rt) {
-        Ok(false) => list_input(rt),
-        Ok(true) => usage(rt),
-        Err(error) if error.kind() == ErrorKind::OutOfMemory => failed(rt, "Memory"),
-        Err(_) => usage(rt),
+pub fn run<R: Runtime + AllocGlobal>(rt: &R) -> Outcome {
+    match words(rt) {
+        Ok(words) => run_words(rt, &words),
+        Err(error) if error.kind() == ErrorKind::OutOfMemory => say_memory(rt),
+        Err(_error) => {
+            let _ = eprintln!(rt; "error: a word isn't UTF-8");
+            Outcome::Usage
+        }
     }
 }
 
-/// Whether the command line has words after the program's name.
-fn has_words<R: Runtime + AllocGlobal>(rt: &R) -> io::Result<bool> {
-    Ok(env::args(rt)?.len() > 1)
+/// The words after the program's name.
+fn words<R: Runtime + AllocGlobal>(rt: &R) -> io::Result<Vec<String>> {
+    Ok(env::args(rt)?.skip(1).collect(rt.alloc())?)
 }
 
-fn usage<R: Runtime>(rt: &R) -> Status {
-    let _ = eprintln!(rt; "usage: warcdx < FILE.warc");
-    Status::Usage
+fn run_words<R: Runtime + AllocGlobal>(rt: &R, words: &[String]) -> Outcome {
+    match read_words(rt.alloc(), words) {
+        Ok(task) => run_task(rt, &task),
+        Err(WordsFault::Memory) => say_memory(rt),
+        Err(WordsFault::Help(text)) => help(rt, &text),
+        Err(WordsFault::Usage(text)) => {
+            let _ = eprint!(rt; "{text}");
+            Outcome::Usage
+        }
+    }
 }
 
-/// Says on standard error what failed.
-fn failed<R: Runtime>(rt: &R, what: &str) -> Status {
-    let _ = eprintln!(rt; "warcdx: {what}");
-    Status::Failed
+fn say_memory<R: Runtime>(rt: &R) -> Outcome {
+    let _ = eprintln!(rt; "warcdx: Memory");
+    Outcome::Index(IndexFault::Memory)
 }
 
-/// Lists the archive on standard input.
-fn list_input<R: Runtime + AllocGlobal>(rt: &R) -> Status {
+fn help<R: Runtime>(rt: &R, text: &str) -> Outcome {
+    if print!(rt; "{text}").is_err() {
+        let _ = eprintln!(rt; "warcdx: cannot flush");
+        return Outcome::CannotFlush;
+    }
+    Outcome::Done
+}
+
+/// Does the task, with what it writes on standard output, and says on standard error what failed.
+fn run_task<R: Runtime + AllocGlobal>(rt: &R, task: &Task) -> Outcome {
     let Ok(mut writer) = BufWriter::new(rt.alloc(), io::writer(rt)) else {
-        return failed(rt, "Memory");
+        return say_memory(rt);
     };
-    let listed = list(
-        rt.alloc(),
-        &mut FromRead::new(rt.reader()),
-        &mut FromWrite::new(&mut writer),
-    );
+    let outcome = perform(rt, task, &mut FromWrite::new(&mut writer));
     let flushed = writer.flush();
-    match listed {
-        Err(IndexFault::Write) => failed(rt, "Write"),
-        Err(IndexFault::Memory) => failed(rt, "Memory"),
-        _ if flushed.is_err() => failed(rt, "cannot flush"),
-        Err(IndexFault::Capture(CaptureFault::Archive(fault))) => status_of(fault.cause),
-        Ok(_) => Status::Done,
+    match outcome {
+        Outcome::Index(IndexFault::Memory) => say_memory(rt),
+        Outcome::Index(IndexFault::Write) => {
+            let _ = eprintln!(rt; "warcdx: Write");
+            outcome
+        }
+        _ if flushed.is_err() => {
+            let _ = eprintln!(rt; "warcdx: cannot flush");
+            Outcome::CannotFlush
+        }
+        _ => outcome,
     }
 }
 
-/// The status of an archive that couldn't be read to its end.
-fn status_of(cause: Cause) -> Status {
-    match cause {
-        Cause::Memory | Cause::Read => Status::Failed,
-        _ => Status::Damaged,
+/// Does the task.
+pub fn perform<R: Runtime + AllocGlobal, O: Output>(rt: &R, task: &Task, out: &mut O) -> Outcome {
+    match task {
+        Task::List { names } => report_on(rt, names, Report::Listing, out),
+        Task::Verify { names } => report_on(rt, names, Report::Verdicts, out),
     }
 }

@@ -1,0 +1,80 @@
+//! The status of the process.
+ghost use Rattle.std.specs.Prelude.{◌≡◌};
+ghost use Rattle.warcdx.specs.Outcome.{status_of, index_status, capture_status, cause_status, is_memory, ends_command, worse_of};
+
+use crate::outcome::Outcome;
+use capture_core::CaptureFault;
+use index_core::IndexFault;
+use warc_core::Cause;
+
+/// The status of the process: 0 where all was done; 1 for a fault in an archive or a digest that differs; 2 for words that
+/// mean nothing; 3 where memory, a device or a file failed.
+pub fn status(outcome: &Outcome) -> u8
+    ensures { result ≡ status_of outcome.now }
+{
+    match outcome {
+        Outcome::Done => 0,
+        Outcome::Differs => 1,
+        Outcome::Usage => 2,
+        Outcome::Index(fault) => index_status(*fault),
+        Outcome::CannotOpen => 3,
+        Outcome::CannotFlush => 3,
+    }
+}
+
+fn index_status(fault: IndexFault) -> u8
+    ensures { result ≡ index_status fault }
+{
+    match fault {
+        IndexFault::Memory => 3,
+        IndexFault::Capture(fault) => capture_status(fault),
+        IndexFault::Write => 3,
+    }
+}
+
+fn capture_status(fault: CaptureFault) -> u8
+    ensures { result ≡ capture_status fault }
+{
+    match fault {
+        CaptureFault::Archive(fault) => cause_status(fault.cause),
+        _ => 1,
+    }
+}
+
+fn cause_status(cause: Cause) -> u8
+    ensures { result ≡ cause_status cause }
+{
+    match cause {
+        Cause::Memory | Cause::Read => 3,
+        _ => 1,
+    }
+}
+
+/// Of two outcomes the one with the greater status, the first where they have one status.
+pub fn worse(first: Outcome, second: Outcome) -> Outcome
+    ensures { result ≡ worse_of first second }
+{
+    if status(&first) < status(&second) {
+        second
+    } else {
+        first
+    }
+}
+
+/// Whether a command ends by this at once, in place of going on with its next archive: memory and the output fail so.
+pub fn ends_command(outcome: &Outcome) -> bool
+    ensures { result ≡ ends_command outcome.now }
+{
+    match outcome {
+        Outcome::Index(IndexFault::Memory) => true,
+        Outcome::Index(IndexFault::Write) => true,
+        Outcome::Index(IndexFault::Capture(CaptureFault::Archive(fault))) => is_memory(fault.cause),
+        _ => false,
+    }
+}
+
+fn is_memory(cause: Cause) -> bool
+    ensures { result ≡ is_memory cause }
+{
+    cause == Cause::Memory
+}
