@@ -1,5 +1,5 @@
 -- The capture of a record, from how its block was read.
-use Rattle.std.proofs.Common.{◌≡◌, ◌≢◌, ℕ, ◌+◌, ◌-◌, ◌≤◌, ◌∙◌, ◌⊎◌, inl, inr, List, [], ◌++◌, Bool, true, false, cond, Option, None, Some, Result, Ok, Err, IfOk, IfErr, IfSome, length, take, drop, min, nat_le, option_map, unwrap_or, refl, sym, ap, subst, arith, append-nil, append_assoc, if◌then◌else◌}
+use Rattle.std.proofs.Common.{◌≡◌, ◌≢◌, ℕ, ◌+◌, ◌-◌, ◌≤◌, ◌∙◌, ◌⊎◌, inl, inr, List, [], ◌++◌, Bool, true, false, cond, Option, None, Some, Result, Ok, Err, IfOk, IfErr, IfSome, length, take, drop, min, nat_le, option_map, unwrap_or, refl, sym, ap, subst, arith, append-nil, if◌then◌else◌}
 use Rattle.std.proofs.lemmas.Bool.Decides.{nat_tests}
 use Rattle.std.proofs.Math.Nat.{min-le_left, min-eq_left, min-eq_right}
 use Rattle.std.proofs.Math.Seq.{take-append_seam, drop-append_seam}
@@ -11,12 +11,12 @@ use Rattle.warc_head.specs.declared.kind.Kind.{Kind}
 use Rattle.warc_core.specs.declared.fault.Cause.{Cause}
 use Rattle.warc_core.specs.declared.fault.Cause.TheVariants as causes
 use Rattle.warc_core.specs.declared.fault.Fault.{Fault}
-use Rattle.warc_core.specs.declared.phase.Phase.TheVariants.{Between, Open, Failed}
+use Rattle.warc_core.specs.declared.phase.Phase.TheVariants.{Between}
 use Rattle.warc_core.specs.HeadView.{HeadView, record_length}
-use Rattle.warc_core.specs.Reading.{◌>>=◌, Reads, GoesOn, IsFoundAt, IsFoundIn, CountsRead}
+use Rattle.warc_core.specs.Reading.{◌>>=◌, Reads, GoesOn, IsFoundAt, CountsRead}
 use Rattle.warc_core.specs.ReaderView.{ReaderView, StandsAt, FailedBy, Finishes}
 use Rattle.warc_core.specs.Record.{after_block, after_record, after_text, closing}
-use Rattle.warc_core.proofs.ReadingLemmas.{GoesOn-start, GoesOn-reads, IsFoundIn-bind, nil_of}
+use Rattle.warc_core.proofs.ReadingLemmas.{GoesOn-start, GoesOn-reads, IsFoundIn-bind}
 use Rattle.warc_core.proofs.RecordLemmas.{after_block-part}
 use Rattle.cdxj_core.specs.Entries.{EntryValue, IsGood, line_text}
 use Rattle.capture_core.specs.declared.fault.CaptureFault.{CaptureFault}
@@ -24,7 +24,7 @@ use Rattle.capture_core.specs.declared.fault.CaptureFault.TheVariants.{Archive, 
 use Rattle.capture_core.specs.Base32.{base32_of}
 use Rattle.capture_core.specs.HttpHead.{IsHeadOf, then_more}
 use Rattle.capture_core.specs.Indexed.{may_have_head, url_of}
-use Rattle.capture_core.specs.Payload.{digest_of_rest, ReadsTo}
+use Rattle.capture_core.specs.Payload.{digest_of_rest}
 use Rattle.capture_core.specs.Capture.{ResponseValue, IsHeadFor, IsCapture, IsCaptureUnder, entry_of, response_of, digest_of, settled_digest, payload_of}
 use Rattle.capture_core.specs.Captured.{read_to, reading_of, IsFaultAt, Leaves, ReadsRest, Limits, IsCaptureOf, IsFrontOf, IsEntryOf, front_limit, AnswersEntry}
 use Rattle.capture_core.proofs.HeadLemmas.{front_decides, take_past}
@@ -120,9 +120,9 @@ le-or a b false e = inr (grind (arith, nat_tests))
 
 front-or-all : (len limit n : ℕ) (bytes : List ℕ) → n ≡ min len limit → (n ≡ limit) ⊎ (take (len - n) bytes ≡ [])
 front-or-all len limit n bytes e = elim (le-or limit len (nat_le limit len) refl) [
-    | inl full ↦ inl (e ∙ min-eq_right full)
-    | inr all ↦ inr (let whole : n ≡ len = e ∙ min-eq_left all in let none : len - n ≡ 0 = omega arith in ap (λ k. take k bytes) none)
-  ]
+  | inl full ↦ inl (e ∙ min-eq_right full)
+  | inr all ↦ inr (let whole : n ≡ len = e ∙ min-eq_left all in let none : len - n ≡ 0 = omega arith in ap (λ k. take k bytes) none)
+]
 
 -- found in the front, found in the block
 head-for : (may : Bool) (limit few len : ℕ) (front bytes : List ℕ) (found : Option (ResponseHead × List ℕ)) → length front ≡ min len (if may then limit else 0) → cond may (IsHeadOf limit few front found) (found ≡ None) → cond may (IsHeadOf limit few (front ++ take (len - length front) bytes) (then_more (take (len - length front) bytes) found)) (then_more (take (len - length front) bytes) found ≡ None)

@@ -1,5 +1,5 @@
 -- What a call of `capture` owes.
-use Rattle.std.specs.Prelude.{◌≡◌, ℕ, ◌+◌, ◌<◌, ◌≤◌, ⊤, Bool, List, ◌++◌, length, min, take, if◌then◌else◌, Option, None, Some, Result, Ok, Err, MatchResult, IfErr, IfSome}
+use Rattle.std.specs.Prelude.{◌≡◌, ℕ, ◌+◌, ◌<◌, ◌≤◌, ⊤, Bool, List, ◌++◌, length, min, take, if◌then◌else◌, Option, Some, Result, Ok, Err, IfErr, IfSome}
 use Rattle.std.specs.Io.KnownBytes.{prepend_known}
 use Rattle.warc_head.specs.declared.kind.Kind.{Kind}
 use Rattle.warc_core.specs.declared.fault.Cause.{Cause}

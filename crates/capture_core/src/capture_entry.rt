@@ -7,8 +7,9 @@ ghost use Rattle.capture_core.specs.ResponseView.{response_view};
 
 use crate::entry::entry;
 use crate::fault::CaptureFault;
+use crate::http_head::HttpHead;
+use crate::indexed::Indexed;
 use crate::line::fits_line;
-use crate::response::Response;
 use cdxj_core::{Entry, KeyFault, LINE_LIMIT};
 use std::alloc::Global;
 use warc_core::{Cause, Fault, Head};
@@ -28,27 +29,25 @@ pub(crate) fn memory(head: &Head) -> CaptureFault
 /// Errors are `KeyTooLong`, `LineTooLong` and `Memory`, at the record's offset.
 pub(crate) fn capture_entry(
     alloc: Global,
-    head: &Head,
-    name: &str,
-    response: Option<Response<'_>>,
+    indexed: Indexed<'_>,
+    response: Option<HttpHead<'_>>,
     digest: &[u8],
-    url: &[u8],
 ) -> Result<Entry, CaptureFault>
     requires code { IfSome response (λ r. r.code < 1000) }
-    requires named { 0 < length name.now }
-    requires target { 0 < length url.now }
+    requires named { 0 < length indexed.name.now }
+    requires target { 0 < length indexed.url.now }
     requires digested { 0 < length digest.now }
-    ensures ok { IfOk result (λ e. e ≡ entry_of head.now name.now (option_map response_view response.entry) digest.now url.now) }
-    ensures entry { IfOk result (IsEntryOf head.now name.now LINE_LIMIT) }
-    ensures long { result ≡ Err (CaptureFault.LineTooLong head.now.start) →
-        LINE_LIMIT < length (line_text (entry_of head.now name.now (option_map response_view response.entry) digest.now url.now)) }
-    ensures fault { IfErr result (IsFaultAt head.now.start) }
+    ensures ok { IfOk result (λ e. e ≡ entry_of indexed.entry.head.now indexed.entry.name.now (option_map response_view response.entry) digest.now indexed.entry.url.now) }
+    ensures entry { IfOk result (IsEntryOf indexed.entry.head.now indexed.entry.name.now LINE_LIMIT) }
+    ensures long { result ≡ Err (CaptureFault.LineTooLong indexed.entry.head.now.start) →
+        LINE_LIMIT < length (line_text (entry_of indexed.entry.head.now indexed.entry.name.now (option_map response_view response.entry) digest.now indexed.entry.url.now)) }
+    ensures fault { IfErr result (IsFaultAt indexed.entry.head.now.start) }
     ensures own { reading_of result ≡ Ok tt }
 {
-    match entry(alloc, head, name, response, digest, url) {
-        Ok(entry) => within_limit(alloc, head, entry),
-        Err(KeyFault::Memory) => Err(memory(head)),
-        Err(KeyFault::TooLong) => Err(CaptureFault::KeyTooLong(head.start())),
+    match entry(alloc, indexed, response, digest) {
+        Ok(entry) => within_limit(alloc, indexed.head, entry),
+        Err(KeyFault::Memory) => Err(memory(indexed.head)),
+        Err(KeyFault::TooLong) => Err(CaptureFault::KeyTooLong(indexed.head.start())),
     }
 }
 

@@ -14,10 +14,10 @@ use crate::digest::digest_rest;
 use crate::digest_text::base32;
 use crate::fault::CaptureFault;
 use crate::front::fill;
-use crate::http_head::HTTP_HEAD_LIMIT;
+use crate::http_head::{HTTP_HEAD_LIMIT, HttpHead};
+use crate::indexed::Indexed;
 use crate::payload::{front_buffer, part};
 use crate::payload_digest::settled_digest;
-use crate::response::Response;
 use crate::target::url;
 use cdxj_core::{Entry, LINE_LIMIT};
 use std::alloc::Global;
@@ -42,7 +42,10 @@ pub fn capture<I: Input>(
     ensures entry { IfOk result (λ captured. IfSome captured (IsEntryOf head.now name.now LINE_LIMIT)) }
 {
     match url(head) {
-        Some(url) => capture_as(alloc, reader, input, head, name, url),
+        Some(url) => {
+            let indexed = Indexed { head, name, url };
+            capture_as(alloc, reader, input, indexed)
+        }
         None => match reader.finish(input) {
             Ok(_length) => Ok(None),
             Err(fault) => Err(CaptureFault::Archive(fault)),
@@ -55,24 +58,20 @@ fn capture_as<I: Input>(
     alloc: Global,
     reader: &mut Reader,
     input: &mut I,
-    head: &Head,
-    name: &str,
-    url: &[u8],
+    indexed: Indexed<'_>,
 ) -> Result<Option<Entry>, CaptureFault>
-    requires unread { IsUnread reader.old head.now }
-    requires named { 0 < length name.now }
-    requires target { 0 < length url.now }
-    requires url { url_of usual_types head.now ≡ Some url.now }
-    ensures reads { ReadsWhole head.now reader.old reader.new result (I.left input.old) (I.left input.new) (I.failures input.old) (I.failures input.new) }
-    ensures capture { Captures usual_types usual_limits head.now name.now (prepend_known reader.old.held (I.left input.old)) result }
-    ensures entry { IfOk result (λ captured. IfSome captured (IsEntryOf head.now name.now LINE_LIMIT)) }
+    requires unread { IsUnread reader.old indexed.head.now }
+    requires named { 0 < length indexed.name.now }
+    requires target { 0 < length indexed.url.now }
+    requires url { url_of usual_types indexed.head.now ≡ Some indexed.url.now }
+    ensures reads { ReadsWhole indexed.entry.head.now reader.old reader.new result (I.left input.old) (I.left input.new) (I.failures input.old) (I.failures input.new) }
+    ensures capture { Captures usual_types usual_limits indexed.entry.head.now indexed.entry.name.now (prepend_known reader.old.held (I.left input.old)) result }
+    ensures entry { IfOk result (λ captured. IfSome captured (IsEntryOf indexed.entry.head.now indexed.entry.name.now LINE_LIMIT)) }
 {
-    match front_buffer(alloc, head) {
-        Ok(mut front) => {
-            capture_through(alloc, reader, input, head, name, url, front.as_mut_slice())
-        }
+    match front_buffer(alloc, indexed.head) {
+        Ok(mut front) => { capture_through(alloc, reader, input, indexed, front.as_mut_slice()) }
         Err(_) => match reader.finish(input) {
-            Ok(_length) => Err(memory(head)),
+            Ok(_length) => Err(memory(indexed.head)),
             Err(fault) => Err(CaptureFault::Archive(fault)),
         },
     }
@@ -83,22 +82,20 @@ fn capture_through<I: Input>(
     alloc: Global,
     reader: &mut Reader,
     input: &mut I,
-    head: &Head,
-    name: &str,
-    url: &[u8],
+    indexed: Indexed<'_>,
     front: &mut [u8],
 ) -> Result<Option<Entry>, CaptureFault>
-    requires unread { IsUnread reader.old head.now }
-    requires named { 0 < length name.now }
-    requires target { 0 < length url.now }
-    requires url { url_of usual_types head.now ≡ Some url.now }
-    requires front { IsFrontOf HTTP_HEAD_LIMIT head.now front.old }
-    ensures reads { ReadsWhole head.now reader.old reader.new result (I.left input.old) (I.left input.new) (I.failures input.old) (I.failures input.new) }
-    ensures capture { Captures usual_types usual_limits head.now name.now (prepend_known reader.old.held (I.left input.old)) result }
-    ensures entry { IfOk result (λ captured. IfSome captured (IsEntryOf head.now name.now LINE_LIMIT)) }
+    requires unread { IsUnread reader.old indexed.head.now }
+    requires named { 0 < length indexed.name.now }
+    requires target { 0 < length indexed.url.now }
+    requires url { url_of usual_types indexed.head.now ≡ Some indexed.url.now }
+    requires front { IsFrontOf HTTP_HEAD_LIMIT indexed.head.now front.old }
+    ensures reads { ReadsWhole indexed.entry.head.now reader.old reader.new result (I.left input.old) (I.left input.new) (I.failures input.old) (I.failures input.new) }
+    ensures capture { Captures usual_types usual_limits indexed.entry.head.now indexed.entry.name.now (prepend_known reader.old.held (I.left input.old)) result }
+    ensures entry { IfOk result (λ captured. IfSome captured (IsEntryOf indexed.entry.head.now indexed.entry.name.now LINE_LIMIT)) }
 {
     match fill(reader, input, front) {
-        Ok(()) => capture_behind(alloc, reader, input, head, name, url, front),
+        Ok(()) => capture_behind(alloc, reader, input, indexed, front),
         Err(fault) => Err(CaptureFault::Archive(fault)),
     }
 }
@@ -108,29 +105,25 @@ fn capture_behind<I: Input>(
     alloc: Global,
     reader: &mut Reader,
     input: &mut I,
-    head: &Head,
-    name: &str,
-    url: &[u8],
+    indexed: Indexed<'_>,
     front: &[u8],
 ) -> Result<Option<Entry>, CaptureFault>
-    requires named { 0 < length name.now }
-    requires target { 0 < length url.now }
-    requires url { url_of usual_types head.now ≡ Some url.now }
-    requires front { IsFrontOf HTTP_HEAD_LIMIT head.now front.now }
-    requires stands { StandsAt reader.old head.now.start (Open (head.now.parts.length - length front.now) (record_length head.now)) }
-    ensures reads { ReadsRest (head.now.parts.length - length front.now) head.now reader.old reader.new result (I.left input.old) (I.left input.new) (I.failures input.old) (I.failures input.new) }
-    ensures capture { CapturesBehind usual_types usual_limits head.now name.now front.now (prepend_known reader.old.held (I.left input.old)) result }
-    ensures entry { IfOk result (λ captured. IfSome captured (IsEntryOf head.now name.now LINE_LIMIT)) }
+    requires named { 0 < length indexed.name.now }
+    requires target { 0 < length indexed.url.now }
+    requires url { url_of usual_types indexed.head.now ≡ Some indexed.url.now }
+    requires front { IsFrontOf HTTP_HEAD_LIMIT indexed.head.now front.now }
+    requires stands { StandsAt reader.old indexed.head.now.start (Open (indexed.head.now.parts.length - length front.now) (record_length indexed.head.now)) }
+    ensures reads { ReadsRest (indexed.entry.head.now.parts.length - length front.now) indexed.entry.head.now reader.old reader.new result (I.left input.old) (I.left input.new) (I.failures input.old) (I.failures input.new) }
+    ensures capture { CapturesBehind usual_types usual_limits indexed.entry.head.now indexed.entry.name.now front.now (prepend_known reader.old.held (I.left input.old)) result }
+    ensures entry { IfOk result (λ captured. IfSome captured (IsEntryOf indexed.entry.head.now indexed.entry.name.now LINE_LIMIT)) }
 {
-    let parted = part(head, front);
-    match settled_digest(head) {
-        Some(digest) => {
-            capture_closed(alloc, reader, input, head, name, url, parted.response, digest)
-        }
+    let parted = part(indexed.head, front);
+    match settled_digest(indexed.head) {
+        Some(digest) => { capture_closed(alloc, reader, input, indexed, parted.response, digest) }
         None => match digest_rest(reader, input, parted.payload) {
             Ok(digest) => {
                 let digest = base32(&digest);
-                capture_closed(alloc, reader, input, head, name, url, parted.response, &digest)
+                capture_closed(alloc, reader, input, indexed, parted.response, &digest)
             }
             Err(fault) => Err(CaptureFault::Archive(fault)),
         },
@@ -142,24 +135,22 @@ fn capture_closed<I: Input>(
     alloc: Global,
     reader: &mut Reader,
     input: &mut I,
-    head: &Head,
-    name: &str,
-    url: &[u8],
-    response: Option<Response<'_>>,
+    indexed: Indexed<'_>,
+    response: Option<HttpHead<'_>>,
     digest: &[u8],
 ) -> Result<Option<Entry>, CaptureFault>
     requires code { IfSome response (λ r. r.code < 1000) }
-    requires named { 0 < length name.now }
-    requires target { 0 < length url.now }
+    requires named { 0 < length indexed.name.now }
+    requires target { 0 < length indexed.url.now }
     requires digested { 0 < length digest.now }
-    requires stands { IsOpenFor head.now reader.old }
+    requires stands { IsOpenFor indexed.head.now reader.old }
     ensures reads { (left len : ℕ) → reader.old.phase ≡ Open left len →
-        ReadsRest left head.now reader.old reader.new result (I.left input.old) (I.left input.new) (I.failures input.old) (I.failures input.new) }
-    ensures entry { IfOk result (λ captured. IfSome captured (IsEntryOf head.now name.now LINE_LIMIT)) }
-    ensures answers { AnswersEntry LINE_LIMIT (entry_of head.now name.now (option_map response_view response.entry) digest.now url.now) result }
+        ReadsRest left indexed.entry.head.now reader.old reader.new result (I.left input.old) (I.left input.new) (I.failures input.old) (I.failures input.new) }
+    ensures entry { IfOk result (λ captured. IfSome captured (IsEntryOf indexed.entry.head.now indexed.entry.name.now LINE_LIMIT)) }
+    ensures answers { AnswersEntry LINE_LIMIT (entry_of indexed.entry.head.now indexed.entry.name.now (option_map response_view response.entry) digest.now indexed.entry.url.now) result }
 {
     match reader.finish(input) {
-        Ok(_length) => match capture_entry(alloc, head, name, response, digest, url) {
+        Ok(_length) => match capture_entry(alloc, indexed, response, digest) {
             Ok(entry) => Ok(Some(entry)),
             Err(fault) => Err(fault),
         },

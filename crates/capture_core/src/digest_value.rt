@@ -4,8 +4,8 @@ ghost use Rattle.std.specs.List.{list_all};
 ghost use Rattle.capture_core.specs.BlockDigest.{compared, is_base32_letter, is_base32_text, sha1_text};
 
 use crate::digest_text::base32;
-use crate::same_text::same_text;
 use crate::verdict::Verdict;
+use warc_head::same_name as same_text;
 
 /// The text of the SHA-1 digest that a value holds: 32 letters of base 32 after `sha1:`, each in any case.
 #[tactic(auto, unfolding(crate::specs::BlockDigest::sha1_text))]

@@ -4,41 +4,39 @@ ghost use Rattle.cdxj_core.specs.Entries.{IsGood};
 ghost use Rattle.capture_core.specs.Capture.{entry_of};
 ghost use Rattle.capture_core.specs.ResponseView.{response_view};
 
+use crate::http_head::HttpHead;
+use crate::indexed::Indexed;
 use crate::mime::mime;
-use crate::response::Response;
 use crate::status::status;
 use crate::text::text;
 use cdxj_core::{Entry, KeyFault, url_key};
 use std::alloc::Global;
-use warc_core::Head;
 
 /// The entry of the record with this head, by its URL, what its HTTP head says, its digest and the
 /// archive's name.
 pub(crate) fn entry(
     alloc: Global,
-    head: &Head,
-    name: &str,
-    response: Option<Response<'_>>,
+    indexed: Indexed<'_>,
+    response: Option<HttpHead<'_>>,
     digest: &[u8],
-    url: &[u8],
 ) -> Result<Entry, KeyFault>
     requires code { IfSome response (λ r. r.code < 1000) }
-    requires named { 0 < length name.now }
+    requires named { 0 < length indexed.name.now }
     requires digested { 0 < length digest.now }
-    requires targeted { 0 < length url.now }
-    ensures value { IfOk result (λ e. e ≡ entry_of head.now name.now (option_map response_view response.entry) digest.now url.now) }
+    requires targeted { 0 < length indexed.url.now }
+    ensures value { IfOk result (λ e. e ≡ entry_of indexed.entry.head.now indexed.entry.name.now (option_map response_view response.entry) digest.now indexed.entry.url.now) }
     ensures good { IfOk result IsGood }
 {
-    let url = text(alloc, url)?;
+    let url = text(alloc, indexed.url)?;
     Ok(Entry {
         key: url_key(alloc, &url)?,
-        stamp: head.stamp(),
+        stamp: indexed.head.stamp(),
         url,
-        mime: text(alloc, mime(head, response))?,
+        mime: text(alloc, mime(indexed.head, response))?,
         status: status(alloc, response)?,
         digest: text(alloc, digest)?,
-        length: head.record_length(),
-        offset: head.start(),
-        filename: String::from_str(alloc, name)?,
+        length: indexed.head.record_length(),
+        offset: indexed.head.start(),
+        filename: String::from_str(alloc, indexed.name)?,
     })
 }

@@ -6,7 +6,11 @@ ghost use Rattle.capture_core.specs.Payload.{HasLeft, Fills};
 use warc_core::{Fault, Input, Reader};
 
 /// Fills the piece with the next bytes of the open record's block, which has as many.
-pub(crate) fn fill<I: Input>(reader: &mut Reader, input: &mut I, piece: &mut [u8]) -> Result<(), Fault>
+pub(crate) fn fill<I: Input>(
+    reader: &mut Reader,
+    input: &mut I,
+    piece: &mut [u8],
+) -> Result<(), Fault>
     requires { HasLeft (length piece.old) reader.old.phase }
     ensures { (left len : ℕ) → reader.old.phase ≡ Open left len →
         Fills left len reader.old reader.new result piece.new (I.left input.old) (I.left input.new) (I.failures input.old) (I.failures input.new) }

@@ -4,9 +4,9 @@ ghost use Rattle.httparse.specs.Grammar.{ResponseHead, print_response, status_co
 ghost use Rattle.httparse.specs.Spans.{IsHeaderWithin, header_bytes};
 ghost use Rattle.capture_core.specs.HttpHead.{BeginsWithHead, HasNoHead, field_of, first_value};
 
-use crate::same_text::same_text;
 use httparse::Status;
 use httparse::spans::{EMPTY_HEADER_SPAN, HeaderSpan, parse_response};
+use warc_head::same_name as same_text;
 
 /// The most bytes of an HTTP head.
 pub(crate) const HTTP_HEAD_LIMIT: usize = 65_536;

@@ -4,8 +4,8 @@ ghost use Rattle.cdxj_core.specs.Texts.{or_missing};
 ghost use Rattle.capture_core.specs.Capture.{media_of, content_of, mime_of};
 ghost use Rattle.capture_core.specs.ResponseView.{response_view};
 
+use crate::http_head::HttpHead;
 use crate::marked::{content_type, is_marked};
-use crate::response::Response;
 use crate::text::media_type;
 use warc_core::Head;
 use warc_head::Kind;
@@ -26,7 +26,7 @@ fn media(content_type: Option<&[u8]>) -> &[u8]
 }
 
 #[tactic(auto, unfolding(crate::specs::Capture::content_of))]
-fn content<'a>(head: &'a Head, response: Option<Response<'a>>) -> &'a [u8]
+fn content<'a>(head: &'a Head, response: Option<HttpHead<'a>>) -> &'a [u8]
     ensures { result.now ≡ content_of head.now (option_map response_view response.entry) }
 {
     match response {
@@ -44,7 +44,7 @@ fn content<'a>(head: &'a Head, response: Option<Response<'a>>) -> &'a [u8]
 /// The bytes of an entry's media type, the first that applies: `warc/revisit` for a revisit; the
 /// `Content-Type` of the HTTP head; `-` for a record marked HTTP; the record's `Content-Type`. The
 /// values are cut at `;` and trimmed, and `-` stands for one that is absent or empty.
-pub(crate) fn mime<'a>(head: &'a Head, response: Option<Response<'a>>) -> &'a [u8]
+pub(crate) fn mime<'a>(head: &'a Head, response: Option<HttpHead<'a>>) -> &'a [u8]
     ensures { result.now ≡ mime_of head.now (option_map response_view response.entry) }
 {
     match head.kind() {

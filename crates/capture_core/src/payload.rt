@@ -6,16 +6,15 @@ ghost use Rattle.capture_core.specs.Captured.{IsFrontOf, front_limit};
 ghost use Rattle.capture_core.specs.HttpHead.{IsHeadOf};
 ghost use Rattle.capture_core.specs.ResponseView.{response_view};
 
-use crate::http_head::{HTTP_FIELD_LIMIT, HTTP_HEAD_LIMIT, http_head};
+use crate::http_head::{HTTP_FIELD_LIMIT, HTTP_HEAD_LIMIT, HttpHead, http_head};
 use crate::marked::may_have_head;
-use crate::response::Response;
 use std::alloc::{AllocError, Global};
 use warc_core::Head;
 
 /// What an HTTP head says, where there is one, and the front of the payload.
 #[derive(Clone, Copy)]
 pub(crate) struct Parted<'a> {
-    pub response: Option<Response<'a>>,
+    pub response: Option<HttpHead<'a>>,
     pub payload: &'a [u8],
 }
 
@@ -23,7 +22,11 @@ pub(crate) struct Parted<'a> {
 fn front_limit(head: &Head) -> usize
     ensures { result ≡ front_limit HTTP_HEAD_LIMIT head.now }
 {
-    if may_have_head(head) { HTTP_HEAD_LIMIT } else { 0 }
+    if may_have_head(head) {
+        HTTP_HEAD_LIMIT
+    } else {
+        0
+    }
 }
 
 /// Room for the front of the record's block that is looked at.
@@ -59,10 +62,7 @@ fn part_http(front: &[u8]) -> Parted<'_>
 {
     match http_head(front) {
         Some(head) => Parted {
-            response: Some(Response {
-                code: head.code,
-                content_type: head.content_type,
-            }),
+            response: Some(head),
             payload: &front[head.len..],
         },
         None => Parted {

@@ -4,7 +4,7 @@ ghost use Rattle.capture_core.specs.Capture.{status_of};
 ghost use Rattle.capture_core.specs.ResponseView.{response_view};
 ghost use Rattle.capture_core.specs.Text.{three_digits};
 
-use crate::response::Response;
+use crate::http_head::HttpHead;
 use std::alloc::{AllocError, Global};
 
 fn digit(value: u16) -> char
@@ -27,7 +27,7 @@ fn three_digits(alloc: Global, code: u16) -> Result<String, AllocError>
 }
 
 /// The HTTP head's code in three digits, or `-` where there is no HTTP head.
-pub(crate) fn status(alloc: Global, response: Option<Response<'_>>) -> Result<String, AllocError>
+pub(crate) fn status(alloc: Global, response: Option<HttpHead<'_>>) -> Result<String, AllocError>
     requires { IfSome response (λ r. r.code < 1000) }
     ensures { IfOk result (λ text. string_bytes text
         ≡ status_of (option_map response_view response.entry)) }

@@ -1,6 +1,5 @@
 -- The lines of a report, one record further, and at the end.
 use Rattle.std.proofs.Common.{◌≡◌, ◌∙◌, ℕ, ◌+◌, List, [], ◌∷◌, ◌++◌, ◌⊎◌, inl, inr, Option, None, Some, Result, Ok, Err, sym, ap, refl, subst, append-nil, append_assoc}
-use Rattle.std.specs.Prelude.{flat_map}
 use Rattle.std.proofs.lemmas.List.Concat.{flat_map-append}
 use Rattle.std.specs.Io.KnownBytes.{Appends, prepend_known}
 use Rattle.warc_core.specs.declared.fault.Cause.{Cause}

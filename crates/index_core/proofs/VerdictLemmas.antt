@@ -5,17 +5,15 @@ use Rattle.std.proofs.lemmas.List.Sums.{sum_by-append}
 use Rattle.std.proofs.Math.Seq.{drop-append_seam}
 use Rattle.warc_core.specs.declared.fault.Cause.{Cause}
 use Rattle.warc_core.specs.declared.fault.Cause.TheVariants as causes
-use Rattle.warc_core.specs.HeadView.{HeadView, record_length}
+use Rattle.warc_core.specs.HeadView.{HeadView}
 use Rattle.warc_core.specs.Next.{next_at}
 use Rattle.warc_core.specs.Reading.{◌>>=◌, Reads, IsFoundIn}
 use Rattle.warc_core.specs.Record.{after_record}
-use Rattle.warc_core.specs.Walk.{Walks}
 use Rattle.warc_core.proofs.ArchiveLemmas.{walk-front, next-spelled}
 use Rattle.warc_core.proofs.ReadingLemmas.{answered}
 use Rattle.capture_core.specs.declared.verdict.Verdict.{Verdict}
 use Rattle.capture_core.specs.declared.verdict.Verdict.TheVariants as verdicts
 use Rattle.capture_core.specs.BlockDigest.{judge_record}
-use Rattle.index_core.specs.declared.verified.Verified.{Verified}
 use Rattle.index_core.specs.Report.{SoFar}
 use Rattle.index_core.specs.Verifying.{verdict_on, block_at, verdict_in, verdict_line, verification_line, differing_by, verified_in}
 use Rattle.index_core.proofs.ReportLemmas.{IsLine, CountsOn}

@@ -1,4 +1,4 @@
-use super::{MANDATORY, RESOURCE, RESPONSE, joined, walk};
+use super::{RESOURCE, RESPONSE, joined, walk};
 use crate::{Cause, Fault, Fuse, Head, Reader, Slice};
 use std::alloc::{AllocError, Global};
 use std::test::Fail;
@@ -224,22 +224,5 @@ fn repeats_its_fault(rt: HostRuntime) -> Result<(), Fail> {
     assert_eq!(rt; reader.finish(&mut input).err(), fault);
     assert_eq!(rt; reader.block(&mut input, &mut [0; 10]).err(), fault);
     assert_eq!(rt; input.calls, calls);
-    Ok(())
-}
-
-#[test]
-fn stops_at_a_short_block(rt: HostRuntime) -> Result<(), Fail> {
-    let text = joined(rt.alloc(), &[b"WARC/1.1\r\n", MANDATORY, b"\r\nab"])?;
-    let mut input = Slice::new(text.as_slice());
-    let mut reader = Reader::new(rt.alloc())?;
-    assert!(rt; reader.next(&mut input)?.is_some());
-    let mut piece = [0; 10];
-    assert_eq!(rt; reader.block(&mut input, &mut piece)?, 2);
-    let fault = Some(Fault {
-        offset: 0,
-        cause: Cause::ShortBlock,
-    });
-    assert_eq!(rt; reader.block(&mut input, &mut piece).err(), fault);
-    assert_eq!(rt; reader.finish(&mut input).err(), fault);
     Ok(())
 }

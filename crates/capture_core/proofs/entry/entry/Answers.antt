@@ -7,12 +7,12 @@ use Rattle.capture_core.proofs.entry.entry.Goals as goal
 pub returns-clause-good : goal.returns-clause-good
 returns-clause-good c =
     let response = option_map response_view c.args.response in
-    let targeted : 0 < length (string_bytes c.in_ok-url.url) = rw c.in_ok-url.ensures (text_is_filled c.args.url.now c.requires.targeted) in
+    let targeted : 0 < length (string_bytes c.in_ok-url.url) = rw c.in_ok-url.ensures (text_is_filled c.args.indexed.url.now c.requires.targeted) in
     record {
       key = c.in_ok-url_key.ensures.key (rw c.deref.ensures targeted);
       stamp = stamp_is c.stamp.result (omega arith) c.stamp.ensures.digits;
       url = targeted;
-      mime = rw (c.in_ok-text.ensures, c.mime.ensures) (text_is_filled (mime_of c.args.head.now response) (mime_is_filled c.args.head.now response));
+      mime = rw (c.in_ok-text.ensures, c.mime.ensures) (text_is_filled (mime_of c.args.indexed.head.now response) (mime_is_filled c.args.indexed.head.now response));
       status = rw c.in_ok-status.ensures (status_is_filled response);
       digest = rw c.in_ok-text-2.ensures (text_is_filled c.args.digest.now c.requires.digested);
       size = omega (arith, c.record_length.ensures.value, c.record_length.ensures.within);

@@ -1,4 +1,4 @@
-use Rattle.std.proofs.Common.{◌≡◌, ◌∙◌, ℕ, ◌≤◌, ◌-◌, List, Some, refl, drop, take, length, length-drop, arith}
+use Rattle.std.proofs.Common.{Some, refl, drop, length-drop, arith}
 use Rattle.std.proofs.lemmas.List.{take_all}
 use Rattle.capture_core.proofs.payload.part_http.Goals as goal
 

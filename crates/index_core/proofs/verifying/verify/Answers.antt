@@ -1,9 +1,9 @@
-use Rattle.std.proofs.Common.{◌≡◌, ℕ, ◌+◌, ◌∙◌, ◌≤◌, [], ap, arith, refl}
+use Rattle.std.proofs.Common.{◌≡◌, ℕ, ◌∙◌, ◌≤◌, [], ap, arith, refl}
 use Rattle.std.specs.Io.KnownBytes.{prepend_known}
 use Rattle.warc_core.specs.declared.next.TheConstants.{HEAD_LIMIT}
 use Rattle.warc_core.specs.Walk.{record_at}
 use Rattle.index_core.specs.declared.verified.Verified.{Verified}
-use Rattle.index_core.specs.Verifying.{verification_line, verified_in, differing_by}
+use Rattle.index_core.specs.Verifying.{verification_line, verified_in}
 use Rattle.index_core.specs.declared.fault.IndexFault.TheVariants as faults
 use Rattle.index_core.proofs.VerdictLemmas.{verdict-line, is-line, one-verdict, one-at-most}
 use Rattle.index_core.proofs.ReportLemmas.{SoFar-start, SoFar-more, SoFar-end, SoFar-stopped, stopped-anywhere, fault-told, fault-cut}

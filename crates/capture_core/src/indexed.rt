@@ -1,0 +1,12 @@
+//! What is known of an indexed record before its block is read.
+use warc_core::Head;
+
+/// A record that is indexed.
+#[derive(Clone, Copy)]
+pub(crate) struct Indexed<'a> {
+    pub head: &'a Head,
+    /// The archive's name, which isn't empty.
+    pub name: &'a str,
+    /// The URL under which the record is indexed, which isn't empty.
+    pub url: &'a [u8],
+}
