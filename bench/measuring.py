@@ -1,0 +1,99 @@
+"""Processor time and memory of programs that read an archive from standard input, and how they compare with goals."""
+import os
+import pathlib
+import platform
+import subprocess
+import sys
+from typing import NamedTuple
+
+ROOT = pathlib.Path(__file__).resolve().parent.parent
+ROUNDS = 3
+
+
+class Figure(NamedTuple):
+    name: str
+    found: float
+    goal: float
+    unit: str = ""
+
+    def is_met(self):
+        return self.found < self.goal
+
+    def __str__(self):
+        met = "met" if self.is_met() else "MISSED"
+        return f"{self.name:<34}{self.found:8.2f} {self.unit:<2}  goal {self.goal:<4} {self.unit:<2}  {met}"
+
+
+def report(times, figures):
+    """Prints the seconds by name, and the figures; answers the status of the script."""
+    print(f"{machine()}; processor times, the least of {ROUNDS} rounds\n")
+    for name, seconds in times.items():
+        print(f"{name:<34}{seconds:8.3f} s")
+    print()
+    for figure in figures:
+        print(figure)
+    return 0 if all(figure.is_met() for figure in figures) else 1
+
+
+def machine():
+    models = [line for line in open("/proc/cpuinfo") if line.startswith("model name")]
+    return f"{models[0].split(':')[1].strip()}, {len(models)} processors, Linux {platform.release()}"
+
+
+def program_of(words):
+    """The program that the caller names, or else the one of the repository, built where that is needed."""
+    if words:
+        return pathlib.Path(words[0]).resolve()
+    subprocess.run([ROOT / "warcdx", "--help"], stdout=subprocess.DEVNULL, check=True)
+    return ROOT / "crates/warcdx/out/warcdx"
+
+
+def write_archive(archive, path):
+    with open(path, "wb") as file:
+        file.writelines(archive.pieces)
+
+
+def expect(command, path, output):
+    """Ends the script where the command writes anything else on this file."""
+    with open(path, "rb") as file:
+        written = subprocess.run(command, stdin=file, stdout=subprocess.PIPE, check=True).stdout
+    if written != output:
+        sys.exit(f"{command} does not say what stands in {path}")
+
+
+def processor_time(command, path):
+    """The user and system time, in seconds, of one run that reads this file."""
+    with open(path, "rb") as file:
+        process = subprocess.Popen(command, stdin=file, stdout=subprocess.DEVNULL)
+    _, status, used = os.wait4(process.pid, 0)
+    process.returncode = os.waitstatus_to_exitcode(status)
+    if process.returncode:
+        sys.exit(f"{command} failed on {path}")
+    return used.ru_utime + used.ru_stime
+
+
+def least_times(runs):
+    """The least processor time of each run, by name. Each round has every run in turn."""
+    rounds = [[processor_time(*run) for run in runs.values()] for _ in range(ROUNDS)]
+    return {name: min(times) for name, times in zip(runs, zip(*rounds))}
+
+
+def peak_memory(command, pieces):
+    """The most memory, in bytes, that the program has held once it was handed these pieces by a pipe.
+
+    It is read before the pipe is closed, from the process's own account: the figure of wait4 is never below the memory
+    of the process that started it, here Python's.
+    """
+    with subprocess.Popen(command, stdin=subprocess.PIPE, stdout=subprocess.DEVNULL) as process:
+        for piece in pieces:
+            process.stdin.write(piece)
+        process.stdin.flush()
+        account = pathlib.Path(f"/proc/{process.pid}/status").read_text()
+    if process.returncode:
+        sys.exit(f"{command} failed on an archive from a pipe")
+    return next(int(line.split()[1]) * 1024 for line in account.splitlines() if line.startswith("VmHWM:"))
+
+
+def memory_figures(command, archives, goal):
+    """The peaks on these archives, in MB."""
+    return [Figure(f"memory: {name}", peak_memory(command, pieces) / 1e6, goal, "MB") for name, pieces in archives.items()]
