@@ -7,7 +7,7 @@ import sys
 from typing import NamedTuple
 
 ROOT = pathlib.Path(__file__).resolve().parent.parent
-ROUNDS = 3
+ROUNDS = 15
 
 
 class Figure(NamedTuple):
