@@ -110,11 +110,13 @@ check "verify: a missing file"          ""               "$missing"        3 ver
 
 no_list=$(refusal "the following required arguments were not provided:"$'\n  <WARC>...' "list <WARC>...")
 no_verify=$(refusal "the following required arguments were not provided:"$'\n  <WARC>...' "verify <WARC>...")
+misspelt=$(refusal "unrecognized subcommand 'lst'"$'\n\n  tip: a similar subcommand exists: \'list\'' "[COMMAND]")
 no_text="error: a word isn't UTF-8"
 
 check "list alone"                      "" "$no_list"                      2 list
 check "verify alone"                    "" "$no_verify"                    2 verify
 check "an unknown word"                 "" "$(unknown index)"              2 index
+check "a command misspelt"              "" "$misspelt"                     2 lst same.warc
 check "a name in place of a command"    "" "$(unknown same.warc)"          2 same.warc
 check "an empty word"                   "" "$(unknown "")"                 2 ""
 check "help"                            "" "$(unknown help)"               2 help
