@@ -111,7 +111,7 @@ check "verify: a missing file"          ""               "$missing"        3 ver
 no_list=$(refusal "the following required arguments were not provided:"$'\n  <WARC>...' "list <WARC>...")
 no_verify=$(refusal "the following required arguments were not provided:"$'\n  <WARC>...' "verify <WARC>...")
 misspelt=$(refusal "unrecognized subcommand 'lst'"$'\n\n  tip: a similar subcommand exists: \'list\'' "[COMMAND]")
-no_text="error: a word isn't UTF-8"
+no_text=$(lines "error: a word isn't UTF-8" "" "For more information, try '--help'.")
 
 check "list alone"                      "" "$no_list"                      2 list
 check "verify alone"                    "" "$no_verify"                    2 verify
