@@ -5,6 +5,8 @@ mod outcome;
 mod program;
 mod reports;
 mod status;
+#[cfg(test)]
+mod tests;
 
 use crate::status::status;
 use std::process::ExitCode;

@@ -1,0 +1,51 @@
+//! What no clause says: that calls succeed, and values from standards or worked out by hand.
+mod digests;
+mod listings;
+mod outcomes;
+mod verdicts;
+mod words;
+mod writes;
+
+use capture_core::CaptureFault;
+use index_core::IndexFault;
+use std::alloc::{AllocError, Global};
+use warc_core::{Cause, Fault};
+
+/// A response: a head of 201 bytes, a block of 59 and the closing, 264 in all.
+const RESPONSE: &[u8] =
+    b"WARC/1.1\r\nWARC-Type: response\r\nWARC-Record-ID: <urn:x:1>\r\nWARC-Date: 2016-09-19T17:20:24Z\r\nWARC-Target-URI: http://example.com/\r\nContent-Type: application/http; msgtype=response\r\nContent-Length: 59\r\n\r\nHTTP/1.1 200 OK\r\nContent-Type: text/html; charset=utf-8\r\n\r\n\r\n\r\n";
+
+/// A resource: a head of 177 bytes, the block `abc` and the closing, 184 in all.
+const RESOURCE: &[u8] =
+    b"WARC/1.1\r\nWARC-Type: resource\r\nWARC-Record-ID: <urn:x:3>\r\nWARC-Date: 2016-09-19T17:20:24Z\r\nWARC-Target-URI: http://example.com/r\r\nContent-Type: text/plain\r\nContent-Length: 3\r\n\r\nabc\r\n\r\n";
+
+/// A growth was refused.
+#[derive(Debug, Drop)]
+enum Refused {
+    Memory,
+}
+
+/// The pieces, one after another.
+fn joined(alloc: Global, pieces: &[&[u8]]) -> Result<Vec<u8>, AllocError> {
+    let mut text = Vec::new(alloc);
+    for piece in pieces {
+        text.extend_from_slice(piece)?;
+    }
+    Ok(text)
+}
+
+/// The first `length` bytes.
+fn cut(text: &[u8], length: usize) -> &[u8] {
+    text.get(..length).unwrap_or(text)
+}
+
+/// What a report answers; a refused growth, of its output's too, is an error.
+fn settled<A: Copy>(answer: Result<A, IndexFault>) -> Result<Result<A, Fault>, Refused> {
+    match answer {
+        Ok(value) => Ok(Ok(value)),
+        Err(IndexFault::Capture(CaptureFault::Archive(fault))) if fault.cause != Cause::Memory => {
+            Ok(Err(fault))
+        }
+        Err(_) => Err(Refused::Memory),
+    }
+}

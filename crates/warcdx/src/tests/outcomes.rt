@@ -1,0 +1,81 @@
+use crate::outcome::Outcome;
+use crate::status::{ends_command, status, worse};
+use capture_core::CaptureFault;
+use index_core::IndexFault;
+use warc_core::{Cause, Fault};
+
+fn archive(cause: Cause) -> Outcome {
+    Outcome::Index(IndexFault::Capture(CaptureFault::Archive(Fault { offset: 0, cause })))
+}
+
+/// Outcomes with their status, and whether they end a command at once.
+const OUTCOMES: [(Outcome, u8, bool); 9] = [
+    (Outcome::Done, 0, false),
+    (Outcome::Differs, 1, false),
+    (Outcome::Usage, 2, false),
+    (Outcome::Index(IndexFault::Memory), 3, true),
+    (Outcome::Index(IndexFault::Write), 3, true),
+    (
+        Outcome::Index(IndexFault::Capture(CaptureFault::LineTooLong(7))),
+        1,
+        false,
+    ),
+    (
+        Outcome::Index(IndexFault::Capture(CaptureFault::KeyTooLong(7))),
+        1,
+        false,
+    ),
+    (Outcome::CannotOpen, 3, false),
+    (Outcome::CannotFlush, 3, false),
+];
+
+/// The same of the faults of an archive.
+const CAUSES: [(Cause, u8, bool); 13] = [
+    (Cause::Memory, 3, true),
+    (Cause::Read, 3, false),
+    (Cause::Version, 1, false),
+    (Cause::ShortHead, 1, false),
+    (Cause::HeadTooLong, 1, false),
+    (Cause::FieldLine, 1, false),
+    (Cause::Missing, 1, false),
+    (Cause::Repeated, 1, false),
+    (Cause::BadLength, 1, false),
+    (Cause::BadDate, 1, false),
+    (Cause::ShortBlock, 1, false),
+    (Cause::Closing, 1, false),
+    (Cause::TooFar, 1, false),
+];
+
+#[test]
+fn outcomes_have_their_status(rt: HostRuntime) {
+    for (outcome, wanted, ends) in OUTCOMES {
+        assert_eq!(rt; status(&outcome), wanted, "{outcome:?}");
+        assert_eq!(rt; ends_command(&outcome), ends, "{outcome:?}");
+    }
+    for (cause, wanted, ends) in CAUSES {
+        assert_eq!(rt; status(&archive(cause)), wanted, "{cause:?}");
+        assert_eq!(rt; ends_command(&archive(cause)), ends, "{cause:?}");
+    }
+}
+
+#[test]
+fn of_two_outcomes_the_worse_is_taken(rt: HostRuntime) {
+    for (first, second, wanted) in [
+        (Outcome::Done, Outcome::Done, Outcome::Done),
+        (Outcome::Done, Outcome::Differs, Outcome::Differs),
+        (Outcome::Differs, Outcome::Done, Outcome::Differs),
+        (Outcome::Differs, archive(Cause::Closing), Outcome::Differs),
+        (
+            archive(Cause::Closing),
+            Outcome::CannotOpen,
+            Outcome::CannotOpen,
+        ),
+        (
+            archive(Cause::Read),
+            Outcome::CannotOpen,
+            archive(Cause::Read),
+        ),
+    ] {
+        assert_eq!(rt; worse(first, second), wanted);
+    }
+}
