@@ -1,4 +1,6 @@
 //! What no clause says: that calls succeed, and values from standards or worked out by hand.
+mod archives;
+mod captures;
 mod digests;
 mod listings;
 mod outcomes;
@@ -32,6 +34,23 @@ fn joined(alloc: Global, pieces: &[&[u8]]) -> Result<Vec<u8>, AllocError> {
         text.extend_from_slice(piece)?;
     }
     Ok(text)
+}
+
+/// The part so often.
+fn repeated(alloc: Global, part: &[u8], count: usize) -> Result<Vec<u8>, AllocError> {
+    let mut text = Vec::new(alloc);
+    for _ in 0..count {
+        text.extend_from_slice(part)?;
+    }
+    Ok(text)
+}
+
+fn owned(alloc: Global, words: &[&str]) -> Result<Vec<String>, AllocError> {
+    let mut owned = Vec::new(alloc);
+    for word in words {
+        owned.push(String::from_str(alloc, word)?)?;
+    }
+    Ok(owned)
 }
 
 /// The first `length` bytes.

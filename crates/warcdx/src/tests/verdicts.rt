@@ -1,4 +1,4 @@
-use super::{RESPONSE, Refused, cut, joined, settled};
+use super::{RESPONSE, Refused, cut, joined, repeated, settled};
 use index_core::{Verified, verify};
 use std::alloc::Global;
 use std::test::Fail;
@@ -149,7 +149,7 @@ const MILLION: &[u8] =
 
 #[test]
 fn verifies_archives(rt: HostRuntime) -> Result<(), Fail> {
-    let letters = vec![in rt.alloc(); b'a'; 1_000_000]?;
+    let letters = repeated(rt.alloc(), b"a", 1_000_000)?;
     for (pieces, lines, answer) in [
         (
             [RESOURCE, OTHER, RESOURCE, SAME, RESPONSE],
@@ -168,7 +168,7 @@ fn verifies_archives(rt: HostRuntime) -> Result<(), Fail> {
             }),
         ),
         (
-            [MILLION, &letters, b"\r\n\r\n", b"", b""],
+            [MILLION, letters.as_slice(), b"\r\n\r\n", b"", b""],
             b"0 same\n",
             Ok(Verified {
                 records: 1,

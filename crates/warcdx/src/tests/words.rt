@@ -1,6 +1,7 @@
 //! What words ask for, worked out by hand.
+use super::owned;
 use command_line::{Task, WordsFault, read_words};
-use std::alloc::{AllocError, Global};
+use std::alloc::Global;
 
 /// A task with these names, or a refusal whose text has this piece.
 enum Wanted {
@@ -70,14 +71,6 @@ fn asks(alloc: Global, words: &[&str], wanted: &Wanted) -> Result<bool, WordsFau
         Err(WordsFault::Help(text)) => Ok(is_help(text.as_str(), wanted)),
         Err(WordsFault::Usage(text)) => Ok(is_usage(text.as_str(), wanted)),
     }
-}
-
-fn owned(alloc: Global, words: &[&str]) -> Result<Vec<String>, AllocError> {
-    let mut owned = Vec::new(alloc);
-    for word in words {
-        owned.push(String::from_str(alloc, word)?)?;
-    }
-    Ok(owned)
 }
 
 fn is_task(task: &Task, wanted: &Wanted) -> bool {

@@ -1,0 +1,156 @@
+//! Tasks on archives by name.
+use super::{RESPONSE, Refused, cut, owned};
+use crate::outcome::Outcome;
+use crate::program::perform;
+use crate::reports::Report;
+use crate::status::ends_command;
+use capture_core::CaptureFault;
+use command_line::Task;
+use index_core::IndexFault;
+use std::alloc::{AllocError, Global};
+use std::fs;
+use std::rt::Runtime;
+use std::test::Fail;
+use warc_core::{Cause, Fault, Fuse, Gather};
+
+/// A resource of 242 bytes whose block has another digest than it says.
+const DIFFERING: &[u8] =
+    b"WARC/1.1\r\nWARC-Type: resource\r\nWARC-Record-ID: <urn:x:3>\r\nWARC-Date: 2016-09-19T17:20:24Z\r\nWARC-Target-URI: http://example.com/r\r\nContent-Type: text/plain\r\nContent-Length: 3\r\nWARC-Block-Digest: sha1:AGMT4NSHA2AWVOR6EVYXQUGCNSONBWE5\r\n\r\nabc\r\n\r\n";
+
+const CLOSING: Outcome = Outcome::Index(IndexFault::Capture(CaptureFault::Archive(Fault {
+    offset: 0,
+    cause: Cause::Closing,
+})));
+
+const READ: Outcome = Outcome::Index(IndexFault::Capture(CaptureFault::Archive(Fault {
+    offset: 0,
+    cause: Cause::Read,
+})));
+
+/// Names of archives, what a listing of them writes, and how it ends. There is no `none.warc`, and `.` is a folder.
+const LISTINGS: [(&[&str], &[u8], Outcome); 7] = [
+    (&["good.warc"], b"0 264 response\n", Outcome::Done),
+    (
+        &["good.warc", "./differing.warc"],
+        b"good.warc:\n0 264 response\n./differing.warc:\n0 242 resource\n",
+        Outcome::Done,
+    ),
+    (&["none.warc"], b"", Outcome::CannotOpen),
+    (
+        &["good.warc", "none.warc", "good.warc"],
+        b"good.warc:\n0 264 response\ngood.warc:\n0 264 response\n",
+        Outcome::CannotOpen,
+    ),
+    (
+        &["cut.warc", "good.warc"],
+        b"cut.warc:\nfault 0 Closing\ngood.warc:\n0 264 response\n",
+        CLOSING,
+    ),
+    (
+        &["cut.warc", "none.warc"],
+        b"cut.warc:\nfault 0 Closing\n",
+        Outcome::CannotOpen,
+    ),
+    (
+        &[".", "cut.warc"],
+        b".:\nfault 0 Read\ncut.warc:\nfault 0 Closing\n",
+        READ,
+    ),
+];
+
+/// The same of their digests.
+const VERDICTS: [(&[&str], &[u8], Outcome); 5] = [
+    (&["good.warc"], b"0 absent\n", Outcome::Done),
+    (&["differing.warc"], b"0 differs\n", Outcome::Differs),
+    (
+        &["differing.warc", "good.warc"],
+        b"differing.warc:\n0 differs\ngood.warc:\n0 absent\n",
+        Outcome::Differs,
+    ),
+    (
+        &["cut.warc", "differing.warc"],
+        b"cut.warc:\nfault 0 Closing\ndiffering.warc:\n0 differs\n",
+        CLOSING,
+    ),
+    (
+        &["differing.warc", "none.warc"],
+        b"differing.warc:\n0 differs\n",
+        Outcome::CannotOpen,
+    ),
+];
+
+/// What is written of two archives, in six calls, before each of these calls.
+const BEFORE_CALLS: [(u64, &[u8]); 6] = [
+    (1, b""),
+    (2, b"good.warc"),
+    (3, b"good.warc:\n"),
+    (4, b"good.warc:\n0 264 response\n"),
+    (5, b"good.warc:\n0 264 response\ngood.warc"),
+    (6, b"good.warc:\n0 264 response\ngood.warc:\n"),
+];
+
+fn task(alloc: Global, report: Report, names: &[&str]) -> Result<Task, AllocError> {
+    let names = owned(alloc, names)?;
+    match report {
+        Report::Listing => Ok(Task::List { names }),
+        Report::Verdicts => Ok(Task::Verify { names }),
+    }
+}
+
+/// How the task ends, whose output is a memory and fails at its call `at`.
+fn performed<R: Runtime + AllocGlobal>(
+    rt: &R,
+    report: Report,
+    names: &[&str],
+    at: u64,
+) -> Result<(Outcome, Fuse<Gather>), Refused> {
+    let Ok(task) = task(rt.alloc(), report, names) else {
+        return Err(Refused::Memory);
+    };
+    let mut out = Fuse::new(Gather::new(rt.alloc()), usize::MAX, at);
+    let outcome = perform(rt, &task, &mut out);
+    if ends_command(&outcome) && (outcome != Outcome::Index(IndexFault::Write) || out.calls != at) {
+        return Err(Refused::Memory);
+    }
+    Ok((outcome, out))
+}
+
+/// Whether the task writes this, and ends so.
+fn writes<R: Runtime + AllocGlobal>(
+    rt: &R,
+    report: Report,
+    names: &[&str],
+    lines: &[u8],
+    wanted: Outcome,
+) -> Result<bool, Refused> {
+    let (outcome, out) = performed(rt, report, names, 0)?;
+    Ok(out.device.bytes() == lines && outcome == wanted)
+}
+
+fn stops<R: Runtime + AllocGlobal>(rt: &R, at: u64, lines: &[u8]) -> Result<bool, Refused> {
+    let (outcome, out) = performed(rt, Report::Listing, &["good.warc", "good.warc"], at)?;
+    Ok(out.device.bytes() == lines && outcome == Outcome::Index(IndexFault::Write))
+}
+
+#[test]
+fn tasks_take_one_archive_after_another(rt: HostRuntime) -> Result<(), Fail> {
+    fs::write(&rt, "good.warc", RESPONSE)?;
+    fs::write(&rt, "cut.warc", cut(RESPONSE, 262))?;
+    fs::write(&rt, "differing.warc", DIFFERING)?;
+    for (names, lines, wanted) in LISTINGS {
+        assert!(rt;
+            writes(&rt, Report::Listing, names, lines, wanted)?,
+            "{names:?}"
+        );
+    }
+    for (names, lines, wanted) in VERDICTS {
+        assert!(rt;
+            writes(&rt, Report::Verdicts, names, lines, wanted)?,
+            "{names:?}"
+        );
+    }
+    for (at, lines) in BEFORE_CALLS {
+        assert!(rt; stops(&rt, at, lines)?, "{at}");
+    }
+    Ok(())
+}

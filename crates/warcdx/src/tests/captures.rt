@@ -1,0 +1,102 @@
+//! Captures of records that are built from their parts.
+mod entries;
+mod http_blocks;
+mod http_limits;
+mod line_limit;
+mod records;
+mod targets;
+
+use capture_core::{CaptureFault, capture};
+use cdxj_core::Entry;
+use std::alloc::{AllocError, Global};
+use std::test::Fail;
+use warc_core::{Reader, Slice};
+
+/// The SHA-1 of no bytes and of `abc` (FIPS 180-4), in base 32.
+const EMPTY: &str = "3I42H3S6NNFQ2MSVX7XZKYAYSCX5QBYJ";
+
+const ABC: &str = "VGMT4NSHA2AWVOR6EVYXQUGCNSONBWE5";
+
+/// The line that marks a record HTTP.
+const HTTP: &[u8] = b"Content-Type: application/http; msgtype=response\r\n";
+
+const FRONT: &[u8] =
+    b"WARC/1.1\r\nWARC-Record-ID: <urn:x:1>\r\nWARC-Date: 2016-09-19T17:20:24Z\r\nWARC-Type: ";
+
+/// The text of a record with this type, target, further lines of its head, and block.
+fn record_text(
+    alloc: Global,
+    kind: &str,
+    target: &[u8],
+    fields: &[u8],
+    block: &[u8],
+) -> Result<Vec<u8>, AllocError> {
+    let length = format!(in alloc; "{}", block.len())?;
+    super::joined(
+        alloc,
+        &[
+            FRONT,
+            kind.as_bytes(),
+            b"\r\nWARC-Target-URI: ",
+            target,
+            b"\r\nContent-Length: ",
+            length.as_bytes(),
+            b"\r\n",
+            fields,
+            b"\r\n",
+            block,
+            b"\r\n\r\n",
+        ],
+    )
+}
+
+/// The capture of the next record under a name that isn't empty.
+fn next_capture(
+    alloc: Global,
+    reader: &mut Reader,
+    input: &mut Slice<'_>,
+    name: &str,
+) -> Result<Option<Entry>, CaptureFault> {
+    match reader.next(input) {
+        Ok(Some(head)) if !name.is_empty() => capture(alloc, reader, input, &head, name),
+        Ok(_) => Ok(None),
+        Err(fault) => Err(CaptureFault::Archive(fault)),
+    }
+}
+
+/// The capture of the first record.
+fn captured(alloc: Global, archive: &[u8]) -> Result<Option<Entry>, Fail> {
+    let mut reader = Reader::new(alloc)?;
+    Ok(next_capture(alloc, &mut reader, &mut Slice::new(archive), "a.warc")?)
+}
+
+/// The capture of a record of `http://x/`.
+fn capture_of(
+    alloc: Global,
+    kind: &str,
+    fields: &[u8],
+    block: &[u8],
+) -> Result<Option<Entry>, Fail> {
+    let text = record_text(alloc, kind, b"http://x/", fields, block)?;
+    captured(alloc, text.as_slice())
+}
+
+/// Whether the capture has this media type, status and digest.
+fn says(captured: &Option<Entry>, mime: &str, status: &str, digest: &str) -> bool {
+    match captured {
+        Some(entry) => {
+            entry.mime.as_str() == mime
+                && entry.status.as_str() == status
+                && entry.digest.as_str() == digest
+        }
+        None => false,
+    }
+}
+
+/// Whether the capture of a record marked HTTP says that its block begins with no HTTP head.
+fn says_no_head(captured: &Option<Entry>) -> bool {
+    match captured {
+        Some(entry) => entry.mime.as_str() == "-" && entry.status.as_str() == "-",
+        None => false,
+    }
+}

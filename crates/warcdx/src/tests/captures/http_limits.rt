@@ -1,0 +1,34 @@
+use super::super::{joined, repeated};
+use super::{ABC, HTTP, capture_of, says, says_no_head};
+use cdxj_core::Entry;
+use std::test::Fail;
+
+/// A first part and a part that is repeated, how often, and whether they make a head: of 256 and 257 fields, and of
+/// 65,536, 65,537 and 100,024 bytes.
+const HEADS: [(&[u8], &[u8], usize, bool); 5] = [
+    (b"HTTP/1.1 200 OK", b"\r\na: b", 256, true),
+    (b"HTTP/1.1 200 OK", b"\r\na: b", 257, false),
+    (b"HTTP/1.1 200 OK\r\nX: ", b"a", 65_512, true),
+    (b"HTTP/1.1 200 OK\r\nX: ", b"a", 65_513, false),
+    (b"HTTP/1.1 200 OK\r\nX: ", b"a", 100_000, false),
+];
+
+/// Whether the capture says so of a head before `abc`.
+fn says_head(captured: &Option<Entry>, is_head: bool) -> bool {
+    if is_head {
+        says(captured, "-", "200", ABC)
+    } else {
+        says_no_head(captured)
+    }
+}
+
+#[test]
+fn http_heads_are_limited(rt: HostRuntime) -> Result<(), Fail> {
+    for (first, part, count, is_head) in HEADS {
+        let parts = repeated(rt.alloc(), part, count)?;
+        let block = joined(rt.alloc(), &[first, parts.as_slice(), b"\r\n\r\nabc"])?;
+        let captured = capture_of(rt.alloc(), "response", HTTP, block.as_slice())?;
+        assert!(rt; says_head(&captured, is_head), "{count}");
+    }
+    Ok(())
+}
