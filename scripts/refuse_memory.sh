@@ -58,7 +58,9 @@ refuse_in_turn() { # CRATE TEST
     echo "$1 $2: $runs allocations refused, one a run"
 }
 
+# In a folder of its own, where a test may write.
 run_refusing() { # NUMBER TESTS TEST
+    cd "$work"
     timeout 60 env REFUSE="$1" LD_PRELOAD="$work/refuse_memory.so" "$2" "$3" 2>&1
 }
 

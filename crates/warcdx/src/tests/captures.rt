@@ -20,8 +20,9 @@ const ABC: &str = "VGMT4NSHA2AWVOR6EVYXQUGCNSONBWE5";
 /// The line that marks a record HTTP.
 const HTTP: &[u8] = b"Content-Type: application/http; msgtype=response\r\n";
 
+/// The beginning of each record.
 const FRONT: &[u8] =
-    b"WARC/1.1\r\nWARC-Record-ID: <urn:x:1>\r\nWARC-Date: 2016-09-19T17:20:24Z\r\nWARC-Type: ";
+    b"WARC/1.1\r\nWARC-Record-ID: <urn:x:1>\r\nWARC-Date: 2016-09-19T17:20:24Z\r\n";
 
 /// The text of a record with this type, target, further lines of its head, and block.
 fn record_text(
@@ -32,34 +33,35 @@ fn record_text(
     block: &[u8],
 ) -> Result<Vec<u8>, AllocError> {
     let length = format!(in alloc; "{}", block.len())?;
-    super::joined(
-        alloc,
-        &[
-            FRONT,
-            kind.as_bytes(),
-            b"\r\nWARC-Target-URI: ",
-            target,
-            b"\r\nContent-Length: ",
-            length.as_bytes(),
-            b"\r\n",
-            fields,
-            b"\r\n",
-            block,
-            b"\r\n\r\n",
-        ],
-    )
+    let mut text = FRONT.to_vec(alloc)?;
+    push_line(&mut text, b"WARC-Type: ", kind.as_bytes())?;
+    push_line(&mut text, b"WARC-Target-URI: ", target)?;
+    push_line(&mut text, b"Content-Length: ", length.as_bytes())?;
+    push_line(&mut text, fields, b"")?;
+    push_line(&mut text, block, b"\r\n")?;
+    Ok(text)
 }
 
-/// The capture of the next record under a name that isn't empty.
+/// The two parts, and the end of a line.
+fn push_line(text: &mut Vec<u8>, first: &[u8], second: &[u8]) -> Result<(), AllocError> {
+    text.extend_from_slice(first)?;
+    text.extend_from_slice(second)?;
+    text.extend_from_slice(b"\r\n")
+}
+
+/// The capture of the record after those that were read, under a name that isn't empty.
 fn next_capture(
     alloc: Global,
     reader: &mut Reader,
     input: &mut Slice<'_>,
     name: &str,
 ) -> Result<Option<Entry>, CaptureFault> {
-    match reader.next(input) {
-        Ok(Some(head)) if !name.is_empty() => capture(alloc, reader, input, &head, name),
-        Ok(_) => Ok(None),
+    match reader.finish(input) {
+        Ok(_length) => match reader.next(input) {
+            Ok(Some(head)) if !name.is_empty() => capture(alloc, reader, input, &head, name),
+            Ok(_) => Ok(None),
+            Err(fault) => Err(CaptureFault::Archive(fault)),
+        },
         Err(fault) => Err(CaptureFault::Archive(fault)),
     }
 }

@@ -1,6 +1,6 @@
-use super::super::{joined, repeated};
 use super::{ABC, HTTP, capture_of, says, says_no_head};
 use cdxj_core::Entry;
+use std::alloc::{AllocError, Global};
 use std::test::Fail;
 
 /// A first part and a part that is repeated, how often, and whether they make a head: of 256 and 257 fields, and of
@@ -12,6 +12,21 @@ const HEADS: [(&[u8], &[u8], usize, bool); 5] = [
     (b"HTTP/1.1 200 OK\r\nX: ", b"a", 65_513, false),
     (b"HTTP/1.1 200 OK\r\nX: ", b"a", 100_000, false),
 ];
+
+/// The head, and `abc` after it.
+fn block_text(
+    alloc: Global,
+    first: &[u8],
+    part: &[u8],
+    count: usize,
+) -> Result<Vec<u8>, AllocError> {
+    let mut block = first.to_vec(alloc)?;
+    for _ in 0..count {
+        block.extend_from_slice(part)?;
+    }
+    block.extend_from_slice(b"\r\n\r\nabc")?;
+    Ok(block)
+}
 
 /// Whether the capture says so of a head before `abc`.
 fn says_head(captured: &Option<Entry>, is_head: bool) -> bool {
@@ -25,8 +40,7 @@ fn says_head(captured: &Option<Entry>, is_head: bool) -> bool {
 #[test]
 fn http_heads_are_limited(rt: HostRuntime) -> Result<(), Fail> {
     for (first, part, count, is_head) in HEADS {
-        let parts = repeated(rt.alloc(), part, count)?;
-        let block = joined(rt.alloc(), &[first, parts.as_slice(), b"\r\n\r\nabc"])?;
+        let block = block_text(rt.alloc(), first, part, count)?;
         let captured = capture_of(rt.alloc(), "response", HTTP, block.as_slice())?;
         assert!(rt; says_head(&captured, is_head), "{count}");
     }
