@@ -60,10 +60,24 @@ fn report_named<R: Runtime + AllocGlobal, O: Output>(
     out: &mut O,
 ) -> Outcome {
     if name == "-" {
-        return report_below(rt.alloc(), name, among, report, &mut FromRead::new(rt.reader()), out);
+        return report_below(
+            rt.alloc(),
+            name,
+            among,
+            report,
+            &mut FromRead::new(rt.reader()),
+            out,
+        );
     }
     match File::open(rt, name) {
-        Ok(file) => report_below(rt.alloc(), name, among, report, &mut FromRead::new(file), out),
+        Ok(file) => report_below(
+            rt.alloc(),
+            name,
+            among,
+            report,
+            &mut FromRead::new(file),
+            out,
+        ),
         Err(error) if error.kind() == ErrorKind::OutOfMemory => Outcome::Index(IndexFault::Memory),
         Err(_error) => {
             let _ = eprintln!(rt; "warcdx: {name}: cannot open");
