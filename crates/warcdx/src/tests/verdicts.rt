@@ -147,6 +147,38 @@ const OTHER: &[u8] = b"WARC-Block-Digest: sha1:AGMT4NSHA2AWVOR6EVYXQUGCNSONBWE5\
 const MILLION: &[u8] =
     b"WARC/1.1\r\nWARC-Type: resource\r\nWARC-Record-ID: <urn:x:4>\r\nWARC-Date: 2016\r\nContent-Length: 1000000\r\nWARC-Block-Digest: sha1:GSVJOPGUYTNKJ5Q65MV5XLJHGFSTIALP\r\n\r\n";
 
+/// Whether the archive, read by one byte a call of which the call `at` fails, is verified up to this offset.
+fn verifies_to_failed_read(
+    alloc: Global,
+    archive: &[u8],
+    at: u64,
+    lines: &[u8],
+    offset: u64,
+) -> Result<bool, Refused> {
+    let (out, answer) = verified(alloc, &mut Fuse::new(Slice::new(archive), 1, at))?;
+    let cause = Cause::Read;
+    Ok(out.bytes() == lines && answer == Err(Fault { offset, cause }))
+}
+
+#[test]
+fn verifies_up_to_a_failed_read(rt: HostRuntime) -> Result<(), Fail> {
+    let archive = joined(rt.alloc(), &[RESOURCE, OTHER, RESPONSE])?;
+    for (at, lines, offset) in [
+        (1, b"fault 0 Read\n".as_slice(), 0),
+        (236, b"fault 0 Read\n", 0),
+        (242, b"fault 0 Read\n", 0),
+        (243, b"0 differs\nfault 242 Read\n", 242),
+        (506, b"0 differs\nfault 242 Read\n", 242),
+        (507, b"0 differs\n242 absent\nfault 506 Read\n", 506),
+    ] {
+        assert!(rt;
+            verifies_to_failed_read(rt.alloc(), archive.as_slice(), at, lines, offset)?,
+            "at {at}"
+        );
+    }
+    Ok(())
+}
+
 #[test]
 fn verifies_archives(rt: HostRuntime) -> Result<(), Fail> {
     let letters = repeated(rt.alloc(), b"a", 1_000_000)?;

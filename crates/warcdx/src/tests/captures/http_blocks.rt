@@ -103,8 +103,17 @@ const NO_STATUS: [&[u8]; 27] = [
     b" HTTP/1.1 200 OK\r\n\r\n",
 ];
 
-/// Blocks whose lines have bytes that they may not have.
-const NO_FIELDS: [&[u8]; 6] = [
+/// Blocks whose reason or fields aren't read.
+const NO_FIELDS: [&[u8]; 13] = [
+    // Bytes that a reason or a value may not have.
+    b"HTTP/1.1 200 O\0K\r\n\r\n",
+    b"HTTP/1.1 200 O\rK\r\n\r\n",
+    b"HTTP/1.1 200 OK\r\nA: b\x7F\r\n\r\n",
+    b"HTTP/1.1 200 OK\r\nA: b\rc\r\n\r\n",
+    // Folded fields.
+    b"HTTP/1.1 200 OK\r\nA: b\r\n c\r\n\r\n",
+    b"HTTP/1.1 200 OK\r\nA: b\r\n\tc: d\r\n\r\n",
+    b"HTTP/1.1 200 OK\r\n A: b\r\n\r\n",
     // Lines that are no fields.
     b"HTTP/1.1 200 OK\r\nA : b\r\n\r\n",
     b"HTTP/1.1 200 OK\r\n: b\r\n\r\n",
