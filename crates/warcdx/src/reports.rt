@@ -33,8 +33,8 @@ impl Report {
     }
 }
 
-/// Writes the report on each archive, and goes on after an archive's fault. Of several archives each report stands under
-/// the name of its archive.
+/// Writes the report on each archive, and goes on after an archive's fault, but not where memory or the output failed. Of
+/// several archives each report stands under the name of its archive.
 pub fn report_on<R: Runtime + AllocGlobal, O: Output>(
     rt: &R,
     names: &[String],
@@ -43,10 +43,11 @@ pub fn report_on<R: Runtime + AllocGlobal, O: Output>(
 ) -> Outcome {
     let mut outcome = Outcome::Done;
     for name in names {
-        outcome = worse(outcome, report_named(rt, name, names.len(), report, out));
-        if ends_command(&outcome) {
-            break;
+        let ended = report_named(rt, name, names.len(), report, out);
+        if ends_command(&ended) {
+            return ended;
         }
+        outcome = worse(outcome, ended);
     }
     outcome
 }
