@@ -8,9 +8,9 @@ use capture_core::CaptureFault;
 use command_line::Task;
 use index_core::IndexFault;
 use std::alloc::{AllocError, Global};
-use std::fs;
 use std::rt::Runtime;
 use std::test::Fail;
+use std::{fs, io};
 use warc_core::{Cause, Fault, Fuse, Gather};
 
 /// A resource of 242 bytes whose block has another digest than it says.
@@ -89,6 +89,21 @@ const BEFORE_CALLS: [(u64, &[u8]); 6] = [
     (6, b"good.warc:\n0 264 response\ngood.warc:\n"),
 ];
 
+/// The same behind an archive that can't be opened.
+const BEHIND_NONE: [(u64, &[u8]); 2] = [(1, b""), (3, b"good.warc:\n")];
+
+fn write_archives<R: Runtime>(rt: &R) -> io::Result<()> {
+    fs::write(rt, "good.warc", RESPONSE)?;
+    fs::write(rt, "cut.warc", cut(RESPONSE, 262))?;
+    fs::write(rt, "differing.warc", DIFFERING)
+}
+
+fn remove_archives<R: Runtime>(rt: &R) -> io::Result<()> {
+    fs::remove_file(rt, "good.warc")?;
+    fs::remove_file(rt, "cut.warc")?;
+    fs::remove_file(rt, "differing.warc")
+}
+
 fn task(alloc: Global, report: Report, names: &[&str]) -> Result<Task, AllocError> {
     let names = owned(alloc, names)?;
     match report {
@@ -127,16 +142,20 @@ fn writes<R: Runtime + AllocGlobal>(
     Ok(out.device.bytes() == lines && outcome == wanted)
 }
 
-fn stops<R: Runtime + AllocGlobal>(rt: &R, at: u64, lines: &[u8]) -> Result<bool, Refused> {
-    let (outcome, out) = performed(rt, Report::Listing, &["good.warc", "good.warc"], at)?;
+/// Whether the listing ends at the output's call `at`, which fails.
+fn stops<R: Runtime + AllocGlobal>(
+    rt: &R,
+    names: &[&str],
+    at: u64,
+    lines: &[u8],
+) -> Result<bool, Refused> {
+    let (outcome, out) = performed(rt, Report::Listing, names, at)?;
     Ok(out.device.bytes() == lines && outcome == Outcome::Index(IndexFault::Write))
 }
 
 #[test]
 fn tasks_take_one_archive_after_another(rt: HostRuntime) -> Result<(), Fail> {
-    fs::write(&rt, "good.warc", RESPONSE)?;
-    fs::write(&rt, "cut.warc", cut(RESPONSE, 262))?;
-    fs::write(&rt, "differing.warc", DIFFERING)?;
+    write_archives(&rt)?;
     for (names, lines, wanted) in LISTINGS {
         assert!(rt;
             writes(&rt, Report::Listing, names, lines, wanted)?,
@@ -150,7 +169,10 @@ fn tasks_take_one_archive_after_another(rt: HostRuntime) -> Result<(), Fail> {
         );
     }
     for (at, lines) in BEFORE_CALLS {
-        assert!(rt; stops(&rt, at, lines)?, "{at}");
+        assert!(rt; stops(&rt, &["good.warc", "good.warc"], at, lines)?, "{at}");
     }
-    Ok(())
+    for (at, lines) in BEHIND_NONE {
+        assert!(rt; stops(&rt, &["none.warc", "good.warc"], at, lines)?, "{at}");
+    }
+    Ok(remove_archives(&rt)?)
 }
