@@ -1,3 +1,7 @@
 pub mod ReportLemmas
 pub mod ListingLemmas
 pub mod VerdictLemmas
+mod IndexLemmas
+mod GatherLemmas
+mod SoundLemmas
+mod OneIndexLemmas

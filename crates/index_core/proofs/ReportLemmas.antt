@@ -118,6 +118,8 @@ module _ (limit : ℕ) (line : Line) where
     module _ (fault : Fault) where
       pub fault-told : (result : IndexFault) (left now after : Option (List ℕ)) (o : ℕ) (x : A) (w v u : Option (List ℕ)) (k k' : ℕ) → SoFar limit line tally left now o x w v → Reads (record_at limit o) (Err fault.cause) now after → fault.offset ≡ o → WritesFault fault result v u k k' → (f : Fault) → result ≡ faults.Capture (Archive f) → ReportedToFault limit line left f w u
       fault-told faults.Memory left now after o x w v u k k' s r e h f q = absurd h
+      fault-told faults.BadName left now after o x w v u k k' s r e h f q = absurd h
+      fault-told faults.DuplicateName left now after o x w v u k k' s r e h f q = absurd h
       fault-told (faults.Capture (Archive g)) left now after o x w v u k k' s r e h f q =
           let p = h.0 in
           let same : f ≡ fault = cc in
@@ -128,6 +130,8 @@ module _ (limit : ℕ) (line : Line) where
 
       pub fault-cut : (result : IndexFault) (left now after : Option (List ℕ)) (o : ℕ) (x : A) (w v u : Option (List ℕ)) (k k' : ℕ) → SoFar limit line tally left now o x w v → Reads (record_at limit o) (Err fault.cause) now after → fault.offset ≡ o → WritesFault fault result v u k k' → result ≡ faults.Write → ReportedInPart limit line left w u
       fault-cut faults.Memory left now after o x w v u k k' s r e h q = absurd h
+      fault-cut faults.BadName left now after o x w v u k k' s r e h q = absurd h
+      fault-cut faults.DuplicateName left now after o x w v u k k' s r e h q = absurd h
       fault-cut (faults.Capture (Archive g)) left now after o x w v u k k' s r e h q = absurd (cc)
       fault-cut (faults.Capture (LineTooLong g)) left now after o x w v u k k' s r e h q = absurd h
       fault-cut (faults.Capture (KeyTooLong g)) left now after o x w v u k k' s r e h q = absurd h
@@ -136,6 +140,8 @@ module _ (limit : ℕ) (line : Line) where
 module _ (A : Type 0) (fault : Fault) where
   pub fault-reads : (B : Type 0) (result : IndexFault) (v u : Option (List ℕ)) (k k' i i' : ℕ) → WritesFault fault result v u k k' → CountsRead {A = B} (Err fault.cause) i i' → CountsInput {A = A} (Err result) i i'
   fault-reads B faults.Memory v u k k' i i' h c = absurd h
+  fault-reads B faults.BadName v u k k' i i' h c = absurd h
+  fault-reads B faults.DuplicateName v u k k' i i' h c = absurd h
   fault-reads B (faults.Capture (Archive g)) v u k k' i i' h c = subst (λ f. CountsRead {A = Unit {0}} (Err f.cause) i i') (sym h.0) (CountsRead-same B (Unit {0}) fault.cause i i' c)
   fault-reads B (faults.Capture (LineTooLong g)) v u k k' i i' h c = absurd h
   fault-reads B (faults.Capture (KeyTooLong g)) v u k k' i i' h c = absurd h
@@ -143,6 +149,8 @@ module _ (A : Type 0) (fault : Fault) where
 
   pub fault-writes : (result : IndexFault) (v u : Option (List ℕ)) (k k' : ℕ) → WritesFault fault result v u k k' → CountsOutput {A = A} (Err result) k k'
   fault-writes faults.Memory v u k k' h = absurd h
+  fault-writes faults.BadName v u k k' h = absurd h
+  fault-writes faults.DuplicateName v u k k' h = absurd h
   fault-writes (faults.Capture (Archive g)) v u k k' h = h.2
   fault-writes (faults.Capture (LineTooLong g)) v u k k' h = absurd h
   fault-writes (faults.Capture (KeyTooLong g)) v u k k' h = absurd h

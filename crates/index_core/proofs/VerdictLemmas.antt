@@ -60,7 +60,7 @@ judged-told limit start h v (Some z) (Some y) (Some w) r j =
     (judged-record (verdict_on h) h.parts.length y w v j).1 ∙ ap (λ t. verdict_on h (take h.parts.length t)) (sym rest)
 
 -- what stands behind the first records of an archive
-behind : (archive front z : List ℕ) (o : ℕ) → archive ≡ front ++ z → o ≡ 0 + length front → drop o archive ≡ z
+pub behind : (archive front z : List ℕ) (o : ℕ) → archive ≡ front ++ z → o ≡ 0 + length front → drop o archive ≡ z
 behind archive front z o e l = ap (λ n. drop n archive) (let k : o ≡ length front = omega (arith, l) in k) ∙ (ap (drop (length front)) e ∙ drop-append_seam front z)
 
 -- the line of a verdict is that of the record in the archive

@@ -1,3 +1,6 @@
 pub mod Report
 pub mod Listing
 pub mod Verifying
+pub mod Indexing
+pub mod Adding
+pub mod Gathering

@@ -11,6 +11,12 @@ pub enum IndexFault {
     /// The archive's captures end.
     #[error("{0}")]
     Capture(CaptureFault),
+    /// The name of an archive is empty, or longer than 255 bytes.
+    #[error("a bad archive name")]
+    BadName,
+    /// The indexer has had an archive of this name.
+    #[error("the archive name is used twice")]
+    DuplicateName,
     /// The output failed.
     #[error("the output can't be written")]
     Write,

@@ -9,7 +9,7 @@ use Rattle.index_core.specs.declared.fault.IndexFault.TheVariants as faults
 use Rattle.warcdx.specs.declared.outcome.Outcome.{Outcome}
 use Rattle.warcdx.specs.declared.outcome.Outcome.TheVariants as outcomes
 
--- memory and reading fail with 3, an archive's own faults with 1
+-- memory and reading fail with 3, an archive's own faults and refused names with 1
 abbrev pub cause_status : Cause → ℕ
 cause_status causes.Memory = 3
 cause_status causes.Read = 3
@@ -22,6 +22,8 @@ capture_status f = 1
 abbrev pub index_status : IndexFault → ℕ
 index_status faults.Memory = 3
 index_status (faults.Capture f) = capture_status f
+index_status faults.BadName = 1
+index_status faults.DuplicateName = 1
 index_status faults.Write = 3
 
 abbrev pub status_of : Outcome → ℕ

@@ -28,6 +28,8 @@ fn index_status(fault: IndexFault) -> u8
     match fault {
         IndexFault::Memory => 3,
         IndexFault::Capture(fault) => capture_status(fault),
+        IndexFault::BadName => 1,
+        IndexFault::DuplicateName => 1,
         IndexFault::Write => 3,
     }
 }

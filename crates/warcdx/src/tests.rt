@@ -2,6 +2,7 @@
 mod archives;
 mod captures;
 mod digests;
+mod indexes;
 mod listings;
 mod outcomes;
 mod verdicts;

@@ -9,12 +9,14 @@ fn archive(cause: Cause) -> Outcome {
 }
 
 /// Outcomes with their status, and whether they end a command at once.
-const OUTCOMES: [(Outcome, u8, bool); 9] = [
+const OUTCOMES: [(Outcome, u8, bool); 11] = [
     (Outcome::Done, 0, false),
     (Outcome::Differs, 1, false),
     (Outcome::Usage, 2, false),
     (Outcome::Index(IndexFault::Memory), 3, true),
     (Outcome::Index(IndexFault::Write), 3, true),
+    (Outcome::Index(IndexFault::BadName), 1, false),
+    (Outcome::Index(IndexFault::DuplicateName), 1, false),
     (
         Outcome::Index(IndexFault::Capture(CaptureFault::LineTooLong(7))),
         1,

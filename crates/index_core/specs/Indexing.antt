@@ -1,0 +1,61 @@
+-- What an indexer holds, and the index that it writes.
+use Rattle.std.specs.Prelude.{◌≡◌, ℕ, ◌<◌, ◌≤◌, ◌||◌, Bool, true, false, List, [], ◌∷◌, ◌⊎◌, length, flat_map, Option, Result, Err}
+use Rattle.std.specs.List.{AllByRecursion}
+use Rattle.std.specs.Str.{bytes_eq}
+use Rattle.std.specs.declared.cmp.Ordering.TheVariants.{Equal}
+use Rattle.warc_core.specs.Device.{AppendsPrefix, next_count}
+use Rattle.cdxj_core.specs.Entries.{EntryValue, IsGood, entry_place, line_text}
+use Rattle.cdxj_core.specs.Places.{place_cmp}
+use Rattle.cdxj_core.specs.Rising.{rising}
+use Rattle.index_core.specs.declared.fault.IndexFault.{IndexFault}
+use Rattle.index_core.specs.declared.fault.IndexFault.TheVariants as faults
+
+-- the names of the archives that were added, and their captures, in the order of adding
+pub record Held : Type 0 where
+  pub names : List (List ℕ)
+  pub captures : List EntryValue
+
+-- a name that an archive may have
+abbrev pub IsName : List ℕ → Type 0
+IsName name = (0 < length name) × (length name ≤ 255)
+
+-- the name is among these
+abbrev pub is_among : List (List ℕ) → List ℕ → Bool
+is_among [] name = false
+is_among (n ∷ names) name = bytes_eq n name || is_among names name
+
+-- the captures in the order of places
+abbrev pub in_places : List EntryValue → List EntryValue
+in_places captures = rising entry_place place_cmp captures
+
+-- the lines of entries
+abbrev pub lines_text : List EntryValue → List ℕ
+lines_text entries = flat_map line_text entries
+
+-- the index of these captures: their lines, in the order of places
+abbrev pub index_text : List EntryValue → List ℕ
+index_text captures = lines_text (in_places captures)
+
+-- no two captures have one place
+abbrev pub HaveOwnPlaces : List EntryValue → Type 0
+HaveOwnPlaces [] = Unit {0}
+HaveOwnPlaces (e ∷ captures) = AllByRecursion (λ other. place_cmp (entry_place e) (entry_place other) ≡ Equal → ⊥) captures × HaveOwnPlaces captures
+
+-- an entry whose line an index can have
+abbrev pub HasLine : ℕ → EntryValue → Type 0
+HasLine limit e = IsGood e × (length (line_text e) ≤ limit)
+
+-- What always holds of the captures of archives of these names.
+pub record AreSound (limit : ℕ) (names : List (List ℕ)) (captures : List EntryValue) : Type 0 where
+  pub places : HaveOwnPlaces captures
+  pub named : AllByRecursion (λ e. is_among names e.filename ≡ true) captures
+  pub lines : AllByRecursion (HasLine limit) captures
+
+-- Memory or the output was refused, and a prefix of the text was written.
+abbrev pub FailsIn : List ℕ → Option (List ℕ) → Option (List ℕ) → IndexFault → Type 0
+FailsIn text before after fault = ((fault ≡ faults.Memory) ⊎ (fault ≡ faults.Write)) × AppendsPrefix before after text
+
+-- An answer of Write goes with one more failure of the output, any other with none.
+abbrev pub CountsWrite : {A : Type 0} → Result A IndexFault → ℕ → ℕ → Type 0
+CountsWrite (Err faults.Write) old new = new ≡ next_count old
+CountsWrite r old new = new ≡ old

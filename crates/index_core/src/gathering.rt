@@ -1,0 +1,88 @@
+//! The gathering of an archive's captures.
+ghost use Rattle.std.specs.Prelude.{◌≡◌, ℕ, ◌<◌, ◌-◌, ◌^◌, ◌≤◌, ◌++◌, List, true, length, OnOk, OnErr, option_to_list};
+ghost use Rattle.std.specs.Io.KnownBytes.{prepend_known};
+ghost use Rattle.warc_core.specs.declared.phase.Phase.TheVariants.{Between};
+ghost use Rattle.warc_core.specs.declared.next.TheConstants.{HEAD_LIMIT};
+ghost use Rattle.cdxj_core.specs.declared.limit.TheConstants.{LINE_LIMIT};
+ghost use Rattle.cdxj_core.specs.Entries.{EntryValue};
+ghost use Rattle.capture_core.specs.Indexed.{usual_types};
+ghost use Rattle.capture_core.specs.Captured.{usual_limits};
+ghost use Rattle.index_core.specs.Indexing.{AreSound, is_among};
+ghost use Rattle.index_core.specs.Adding.{Gains, CountsCapture};
+ghost use Rattle.index_core.specs.Gathering.{StandBefore, TakesNext};
+
+use capture_core::{CaptureFault, capture};
+use cdxj_core::Entry;
+use std::alloc::{AllocError, Global};
+use warc_core::{Cause, Fault, Head, Input, Reader};
+
+/// The head of the next whole record, which is read to its end, and its capture under the archive's name.
+fn next_capture<I: Input>(
+    alloc: Global,
+    reader: &mut Reader,
+    input: &mut I,
+    name: &str,
+) -> Result<Option<(Head, Option<Entry>)>, CaptureFault>
+    requires between { reader.old.phase ≡ Between }
+    requires named { 0 < length name.now }
+    ensures takes { TakesNext usual_types usual_limits HEAD_LIMIT name.now reader.old.offset result reader.new (prepend_known reader.old.held (I.left input.old)) (prepend_known reader.new.held (I.left input.new)) }
+    ensures failures { CountsCapture result (I.failures input.old) (I.failures input.new) }
+{
+    match reader.next(input) {
+        Ok(None) => Ok(None),
+        Ok(Some(head)) => match capture(alloc, reader, input, &head, name) {
+            Ok(captured) => Ok(Some((head, captured))),
+            Err(fault) => Err(fault),
+        },
+        Err(fault) => Err(CaptureFault::Archive(fault)),
+    }
+}
+
+/// Keeps what a record has for a capture.
+fn keep(captures: &mut Vec<Entry>, captured: Option<Entry>) -> Result<(), AllocError>
+    ensures ok { OnOk result (captures.new.items ≡ captures.old.items ++ option_to_list captured) }
+    ensures err { OnErr result (captures.new.items ≡ captures.old.items) }
+{
+    match captured {
+        None => Ok(()),
+        Some(entry) => match captures.push(entry) {
+            Ok(()) => Ok(()),
+            Err(_) => Err(AllocError),
+        },
+    }
+}
+
+/// Adds the captures of an archive under its name, and answers how many they are.
+pub fn gather<I: Input>(
+    alloc: Global,
+    captures: &mut Vec<Entry>,
+    name: &str,
+    input: &mut I,
+) -> Result<u64, CaptureFault>
+    requires named { 0 < length name.now }
+    requires unused { StandBefore name.now 0 captures.old.items }
+    ensures gains { (gained : List EntryValue) × (captures.new.items ≡ captures.old.items ++ gained) × Gains usual_types usual_limits HEAD_LIMIT name.now (I.left input.old) gained result }
+    ensures sound { (names : List (List ℕ)) → is_among names name.now ≡ true → AreSound LINE_LIMIT names captures.old.items → AreSound LINE_LIMIT names captures.new.items }
+    ensures failures { CountsCapture result (I.failures input.old) (I.failures input.new) }
+{
+    let held = captures.len();
+    let mut reader = match Reader::new(alloc) {
+        Ok(reader) => reader,
+        Err(fault) => return Err(CaptureFault::Archive(fault)),
+    };
+    loop {
+        match next_capture(alloc, &mut reader, input, name) {
+            Ok(None) => return Ok((captures.len() - held) as u64),
+            Ok(Some((head, captured))) => match keep(captures, captured) {
+                Ok(()) => {}
+                Err(_) => {
+                    return Err(CaptureFault::Archive(Fault {
+                        offset: head.start(),
+                        cause: Cause::Memory,
+                    }));
+                }
+            },
+            Err(fault) => return Err(fault),
+        }
+    }
+}

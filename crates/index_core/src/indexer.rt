@@ -1,0 +1,92 @@
+//! The indexer.
+use crate::fault::IndexFault;
+use crate::gathering::gather;
+use crate::index_lines::put_index;
+use crate::names::{is_among, is_name, keep_name};
+use cdxj_core::Entry;
+use std::alloc::Global;
+use std::marker::Model;
+use warc_core::{Input, Output};
+
+/// Gathers the captures of archives, and writes them as an index.
+#[derive(Drop)]
+pub struct Indexer {
+    alloc: Global,
+    names: Vec<String>,
+    captures: Vec<Entry>,
+}
+
+impl Model for Indexer {
+    ghost use Rattle.std.specs.Prelude.{map};
+    ghost use Rattle.std.specs.String.{string_bytes};
+    ghost use Rattle.cdxj_core.specs.declared.limit.TheConstants.{LINE_LIMIT};
+    ghost use Rattle.index_core.specs.Indexing.{Held, AreSound};
+
+    ghost Value = { Held };
+
+    ghost view = { λ i. record { names = map string_bytes i.names.items; captures = i.captures.items } };
+
+    ghost invariant = { λ i. AreSound LINE_LIMIT (map string_bytes i.names.items) i.captures.items };
+}
+
+impl Indexer {
+    ghost use Rattle.std.specs.Prelude.{◌≡◌, ◌↔◌, true, [], length, Err, IfOk, IfErr, OnOk};
+    ghost use Rattle.std.specs.Io.KnownBytes.{Appends};
+    ghost use Rattle.warc_core.specs.declared.next.TheConstants.{HEAD_LIMIT};
+    ghost use Rattle.capture_core.specs.Indexed.{usual_types};
+    ghost use Rattle.capture_core.specs.Captured.{usual_limits};
+    ghost use Rattle.index_core.specs.Adding.{Adds, IsRefusal, CountsAdd};
+    ghost use Rattle.index_core.specs.Indexing.{FailsIn, CountsWrite, IsName, is_among, index_text, in_places};
+
+    /// An indexer that holds nothing. It takes no memory.
+    pub fn new(alloc: Global) -> Indexer
+        ensures { result ≡ record { names = []; captures = [] } }
+    {
+        Indexer {
+            alloc,
+            names: Vec::new(alloc),
+            captures: Vec::new(alloc),
+        }
+    }
+
+    /// Adds the captures of an archive's records under its name, of 1 to 255 bytes. It answers how many they are.
+    ///
+    /// Errors are `BadName`, `DuplicateName` for a name that an earlier call has kept, and `Memory` where the name can't be
+    /// kept: then nothing was read and nothing changed. Any other is `Capture`: then the name is kept, and with it the
+    /// captures of the whole records that end at or before the fault's offset, and nothing else.
+    pub fn add<I: Input>(&mut self, name: &str, input: &mut I) -> Result<u64, IndexFault>
+        ensures bad { (result ≡ Err IndexFault.BadName) ↔ ¬ (IsName name.now) }
+        ensures duplicate { (result ≡ Err IndexFault.DuplicateName) ↔ (IsName name.now × (is_among self.old.names name.now ≡ true)) }
+        ensures adds { Adds usual_types usual_limits HEAD_LIMIT name.now (I.left input.old) self.old self.new result }
+        ensures unread { IfErr result (λ fault. IsRefusal fault → input.new ≡ input.old) }
+        ensures failures { CountsAdd result (I.failures input.old) (I.failures input.new) }
+    {
+        if !is_name(name) {
+            return Err(IndexFault::BadName);
+        }
+        if is_among(&self.names, name) {
+            return Err(IndexFault::DuplicateName);
+        }
+        match keep_name(self.alloc, &mut self.names, name) {
+            Ok(()) => {}
+            Err(_) => return Err(IndexFault::Memory),
+        }
+        match gather(self.alloc, &mut self.captures, name, input) {
+            Ok(count) => Ok(count),
+            Err(fault) => Err(IndexFault::Capture(fault)),
+        }
+    }
+
+    /// Writes the index: a line for each capture that is held, in the order of places. It answers how many.
+    ///
+    /// Errors are `Memory`, and `Write` at the output's first failure; the first lines may have been written.
+    pub fn write<O: Output>(&self, out: &mut O) -> Result<u64, IndexFault>
+        ensures lines { OnOk result (Appends (O.written out.old) (O.written out.new) (index_text self.now.captures)) }
+        ensures number { IfOk result (λ n. n ≡ length (in_places self.now.captures)) }
+        ensures all { length (in_places self.now.captures) ≡ length self.now.captures }
+        ensures err { IfErr result (FailsIn (index_text self.now.captures) (O.written out.old) (O.written out.new)) }
+        ensures failures { CountsWrite result (O.failures out.old) (O.failures out.new) }
+    {
+        put_index(self.alloc, out, &self.captures)
+    }
+}

@@ -1,0 +1,78 @@
+//! Indexes of archives.
+use super::{RESOURCE, RESPONSE, Refused, cut, joined, repeated, settled};
+use index_core::{IndexFault, Indexer};
+use std::alloc::Global;
+use std::test::Fail;
+use warc_core::{Cause, Fault, Gather, Slice};
+
+const RESPONSE_LINE: &[u8] =
+    b"com,example)/ 20160919172024 {\"url\": \"http://example.com/\", \"mime\": \"text/html\", \"status\": \"200\", \"digest\": \"3I42H3S6NNFQ2MSVX7XZKYAYSCX5QBYJ\", \"length\": \"264\", \"offset\": \"0\", \"filename\": \"b.warc\"}\n";
+
+const RESOURCE_LINE: &[u8] =
+    b"com,example)/r 20160919172024 {\"url\": \"http://example.com/r\", \"mime\": \"text/plain\", \"status\": \"-\", \"digest\": \"VGMT4NSHA2AWVOR6EVYXQUGCNSONBWE5\", \"length\": \"184\", \"offset\": \"264\", \"filename\": \"b.warc\"}\n";
+
+/// Adds an archive.
+fn added(indexer: &mut Indexer, name: &str, archive: &[u8]) -> Result<Result<u64, Fault>, Refused> {
+    settled(indexer.add(name, &mut Slice::new(archive)))
+}
+
+/// Whether this is written, as so many lines.
+fn writes(
+    alloc: Global,
+    indexer: &Indexer,
+    lines: &[u8],
+    number: u64,
+) -> Result<bool, Refused> {
+    let mut out = Gather::new(alloc);
+    Ok(settled(indexer.write(&mut out))? == Ok(number) && out.bytes() == lines)
+}
+
+/// Whether the archive has this answer, and its index these lines.
+fn indexes(
+    alloc: Global,
+    archive: &[u8],
+    answer: Result<u64, Fault>,
+    lines: &[u8],
+    number: u64,
+) -> Result<bool, Refused> {
+    let mut indexer = Indexer::new(alloc);
+    Ok(added(&mut indexer, "b.warc", archive)? == answer && writes(alloc, &indexer, lines, number)?)
+}
+
+/// Whether the name is refused so, before anything is read.
+fn refuses(indexer: &mut Indexer, name: &str, fault: IndexFault) -> bool {
+    indexer.add(name, &mut Slice::new(RESPONSE)) == Err(fault)
+}
+
+#[test]
+fn indexes_have_the_captures_of_whole_records(rt: HostRuntime) -> Result<(), Fail> {
+    let alloc = rt.alloc();
+    let damaged = joined(alloc, &[RESPONSE, RESOURCE, cut(RESPONSE, 231)])?;
+    let longer = joined(alloc, &[damaged.as_slice(), RESOURCE])?;
+    let both = joined(alloc, &[RESPONSE_LINE, RESOURCE_LINE])?;
+    let fault = |cause| Err(Fault { offset: 448, cause });
+    for (archive, answer, lines, number) in [
+        (b"".as_slice(), Ok(0), b"".as_slice(), 0),
+        (RESPONSE, Ok(1), RESPONSE_LINE, 1),
+        (damaged.as_slice(), fault(Cause::ShortBlock), both.as_slice(), 2),
+        (longer.as_slice(), fault(Cause::Closing), both.as_slice(), 2),
+    ] {
+        assert!(rt; indexes(alloc, archive, answer, lines, number)?);
+    }
+    Ok(())
+}
+
+/// A name may be used once, and has 1 to 255 bytes.
+#[test]
+fn an_indexer_takes_each_name_once(rt: HostRuntime) -> Result<(), Fail> {
+    let alloc = rt.alloc();
+    let long = repeated(alloc, b"a", 256)?;
+    let long = str::from_utf8(long.as_slice())?;
+    let mut indexer = Indexer::new(alloc);
+    assert_eq!(rt; added(&mut indexer, "b.warc", RESPONSE)?, Ok(1));
+    assert!(rt; refuses(&mut indexer, "", IndexFault::BadName));
+    assert!(rt; refuses(&mut indexer, long, IndexFault::BadName));
+    assert!(rt; refuses(&mut indexer, "b.warc", IndexFault::DuplicateName));
+    assert!(rt; writes(alloc, &indexer, RESPONSE_LINE, 1)?);
+    Ok(())
+}
