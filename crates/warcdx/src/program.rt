@@ -14,7 +14,9 @@ pub fn run<R: Runtime + AllocGlobal>(rt: &R) -> Outcome {
         Ok(words) => run_words(rt, &words),
         Err(error) if error.kind() == ErrorKind::OutOfMemory => say_memory(rt),
         Err(_error) => {
-            let _ = eprintln!(rt; "error: a word isn't UTF-8\n\nFor more information, try '--help'.");
+            let _ = eprintln!(rt;
+                "error: a word isn't UTF-8\n\nFor more information, try '--help'."
+            );
             Outcome::Usage
         }
     }

@@ -17,12 +17,7 @@ fn added(indexer: &mut Indexer, name: &str, archive: &[u8]) -> Result<Result<u64
 }
 
 /// Whether this is written, as so many lines.
-fn writes(
-    alloc: Global,
-    indexer: &Indexer,
-    lines: &[u8],
-    number: u64,
-) -> Result<bool, Refused> {
+fn writes(alloc: Global, indexer: &Indexer, lines: &[u8], number: u64) -> Result<bool, Refused> {
     let mut out = Gather::new(alloc);
     Ok(settled(indexer.write(&mut out))? == Ok(number) && out.bytes() == lines)
 }
@@ -54,7 +49,12 @@ fn indexes_have_the_captures_of_whole_records(rt: HostRuntime) -> Result<(), Fai
     for (archive, answer, lines, number) in [
         (b"".as_slice(), Ok(0), b"".as_slice(), 0),
         (RESPONSE, Ok(1), RESPONSE_LINE, 1),
-        (damaged.as_slice(), fault(Cause::ShortBlock), both.as_slice(), 2),
+        (
+            damaged.as_slice(),
+            fault(Cause::ShortBlock),
+            both.as_slice(),
+            2,
+        ),
         (longer.as_slice(), fault(Cause::Closing), both.as_slice(), 2),
     ] {
         assert!(rt; indexes(alloc, archive, answer, lines, number)?);
