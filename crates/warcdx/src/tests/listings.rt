@@ -33,7 +33,7 @@ fn answer(cause: Option<Cause>) -> Result<u64, Fault> {
 
 /// Archives of one record with their lines, and the cause where it can't be read. The block of the first is the beginning
 /// of a record.
-const ARCHIVES: [(&[u8], &[u8], Option<Cause>); 13] = [
+const ARCHIVES: &[(&[u8], &[u8], Option<Cause>)] = &[
     (
         b"WARC/1.1\r\nWARC-Type: resource\r\nWARC-Record-ID: <urn:x:2>\r\nWARC-Date: 2016-09-19T17:20:24Z\r\nWARC-Target-URI: http://example.com/r\r\nContent-Type: text/plain\r\nContent-Length: 14\r\n\r\n\r\n\r\nWARC/1.1\r\n\r\n\r\n",
         b"0 196 resource\n",
@@ -94,7 +94,7 @@ const ARCHIVES: [(&[u8], &[u8], Option<Cause>); 13] = [
 fn lists_archives(rt: HostRuntime) -> Result<(), Fail> {
     for (archive, lines, cause) in ARCHIVES {
         assert!(rt;
-            lists(rt.alloc(), archive, lines, answer(cause))?,
+            lists(rt.alloc(), archive, lines, answer(*cause))?,
             "{lines:?}"
         );
     }

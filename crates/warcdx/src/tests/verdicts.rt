@@ -9,7 +9,7 @@ const RESOURCE: &[u8] =
     b"WARC/1.1\r\nWARC-Type: resource\r\nWARC-Record-ID: <urn:x:3>\r\nWARC-Date: 2016-09-19T17:20:24Z\r\nWARC-Target-URI: http://example.com/r\r\nContent-Type: text/plain\r\nContent-Length: 3\r\n";
 
 /// The fields of a resource whose block is `abc`, and what is said of it.
-const FIELDS: [(&[u8], &[u8]); 24] = [
+const FIELDS: &[(&[u8], &[u8])] = &[
     (
         b"WARC-Block-Digest: sha1:VGMT4NSHA2AWVOR6EVYXQUGCNSONBWE5\r\n",
         b"0 same\n",
@@ -129,7 +129,7 @@ fn counts(line: &[u8]) -> Result<Verified, Fault> {
 #[test]
 fn verifies_blocks_by_the_field(rt: HostRuntime) -> Result<(), Fail> {
     for (fields, line) in FIELDS {
-        let archive = joined(rt.alloc(), &[RESOURCE, fields, b"\r\nabc\r\n\r\n"])?;
+        let archive = joined(rt.alloc(), &[RESOURCE, *fields, b"\r\nabc\r\n\r\n"])?;
         assert!(rt;
             verifies(rt.alloc(), archive.as_slice(), line, counts(line))?,
             "{fields:?}"

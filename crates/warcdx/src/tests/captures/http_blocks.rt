@@ -5,7 +5,7 @@ use std::alloc::Global;
 use std::test::Fail;
 
 /// HTTP heads, with the status and the media type of the capture.
-const HEADS: [(&[u8], &str, &str); 24] = [
+const HEADS: &[(&[u8], &str, &str)] = &[
     (
         b"HTTP/1.1 200 OK\r\nContent-Type: text/html; charset=utf-8\r\n\r\n",
         "200",
@@ -70,7 +70,7 @@ const HEADS: [(&[u8], &str, &str); 24] = [
 ];
 
 /// Blocks without a whole status line and a whole head.
-const NO_STATUS: [&[u8]; 27] = [
+const NO_STATUS: &[&[u8]] = &[
     b"",
     b"\r\n",
     b"abc",
@@ -104,7 +104,7 @@ const NO_STATUS: [&[u8]; 27] = [
 ];
 
 /// Blocks whose reason or fields aren't read.
-const NO_FIELDS: [&[u8]; 13] = [
+const NO_FIELDS: &[&[u8]] = &[
     // Bytes that a reason or a value may not have.
     b"HTTP/1.1 200 O\0K\r\n\r\n",
     b"HTTP/1.1 200 O\rK\r\n\r\n",

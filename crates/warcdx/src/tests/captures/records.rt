@@ -22,7 +22,7 @@ const WHOLE_PAGE: &str = "3VCEUS3XON6CASQCPFYOGDLJAEWJAUIV";
 const PLAIN: &[u8] = b"Content-Type: text/plain\r\n";
 
 /// Where the media type and the status come from.
-const CONTENTS: [Sample; 28] = [
+const CONTENTS: &[Sample] = &[
     ("response", HTTP, PAGE, "text/html", "200", ABC),
     (
         "response",
@@ -167,7 +167,7 @@ const CONTENTS: [Sample; 28] = [
 ];
 
 /// Where the digest comes from.
-const DIGESTS: [Sample; 14] = [
+const DIGESTS: &[Sample] = &[
     (
         "resource",
         b"WARC-Payload-Digest: sha1:ABC\r\n",
@@ -291,10 +291,10 @@ fn is_captured(alloc: Global, sample: Sample) -> Result<bool, Fail> {
 #[test]
 fn captures_say_what_the_records_say(rt: HostRuntime) -> Result<(), Fail> {
     for sample in CONTENTS {
-        assert!(rt; is_captured(rt.alloc(), sample)?, "{sample:?}");
+        assert!(rt; is_captured(rt.alloc(), *sample)?, "{sample:?}");
     }
     for sample in DIGESTS {
-        assert!(rt; is_captured(rt.alloc(), sample)?, "{sample:?}");
+        assert!(rt; is_captured(rt.alloc(), *sample)?, "{sample:?}");
     }
     Ok(())
 }

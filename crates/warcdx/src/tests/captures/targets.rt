@@ -4,7 +4,7 @@ use std::alloc::Global;
 use std::test::Fail;
 
 /// Types and targets, with the URL of the capture where there is one.
-const TARGETS: [(&str, &[u8], Option<&str>); 18] = [
+const TARGETS: &[(&str, &[u8], Option<&str>)] = &[
     ("response", b"http://x/", Some("http://x/")),
     ("resource", b"<http://x/>", Some("http://x/")),
     ("revisit", b"<<http://x/>>", Some("<http://x/>")),
@@ -42,7 +42,7 @@ fn has_url(captured: &Option<Entry>, wanted: Option<&str>) -> bool {
 fn captures_are_under_their_targets(rt: HostRuntime) -> Result<(), Fail> {
     for (kind, target, wanted) in TARGETS {
         let captured = capture_under(rt.alloc(), kind, target)?;
-        assert!(rt; has_url(&captured, wanted), "{kind} {target:?}");
+        assert!(rt; has_url(&captured, *wanted), "{kind} {target:?}");
     }
     Ok(())
 }
