@@ -11,19 +11,22 @@ use memchr::memchr;
 use std::alloc::Global;
 use std::marker::Model;
 
-/// A name and its value.
+/// A name and its value, one after the other in one text.
 #[derive(Drop)]
 pub struct Field {
-    name: Vec<u8>,
-    value: Vec<u8>,
+    text: Vec<u8>,
+    name_length: usize,
 }
 
 impl Model for Field {
+    ghost use Rattle.std.specs.Prelude.{take, drop, length, ◌≤◌};
     ghost use Rattle.warc_head.specs.Fields.{Field};
 
     ghost Value = { Field };
 
-    ghost view = { λ f. record { name = f.name.items; value = f.value.items } };
+    ghost view = { λ f. record { name = take f.name_length f.text.items; value = drop f.name_length f.text.items } };
+
+    ghost invariant = { λ f. f.name_length ≤ length f.text.items };
 }
 
 impl Field {
@@ -34,22 +37,25 @@ impl Field {
         ensures ok { IfOk result (λ f. f ≡ record { name = name.now; value = value.now }) }
         ensures err { IfErr result (λ e. e ≡ Memory) }
     {
+        let mut text = Vec::with_capacity(alloc, name.len().saturating_add(value.len()))?;
+        text.extend_from_slice(name)?;
+        text.extend_from_slice(value)?;
         Ok(Field {
-            name: copy_of(alloc, name)?,
-            value: copy_of(alloc, value)?,
+            text,
+            name_length: name.len(),
         })
     }
 
     pub fn name(&self) -> &[u8]
         ensures { result.now ≡ self.now.name }
     {
-        self.name.as_slice()
+        &self.text.as_slice()[..self.name_length]
     }
 
     pub fn value(&self) -> &[u8]
         ensures { result.now ≡ self.now.value }
     {
-        self.value.as_slice()
+        &self.text.as_slice()[self.name_length..]
     }
 
     /// Goes on with a piece of a further line.
@@ -60,21 +66,12 @@ impl Field {
         if piece.is_empty() {
             return Ok(());
         }
-        if !self.value.is_empty() {
-            self.value.push(b' ')?;
+        if !self.value().is_empty() {
+            self.text.push(b' ')?;
         }
-        self.value.extend_from_slice(piece)?;
+        self.text.extend_from_slice(piece)?;
         Ok(())
     }
-}
-
-fn copy_of(alloc: Global, text: &[u8]) -> Result<Vec<u8>, HeadFault>
-    ensures ok { IfOk result (λ v. v.items ≡ text.now) }
-    ensures err { IfErr result (λ e. e ≡ Memory) }
-{
-    let mut copy = Vec::new(alloc);
-    copy.extend_from_slice(text)?;
-    Ok(copy)
 }
 
 /// Room for as many fields as most heads have.
