@@ -2,9 +2,11 @@
 mod archives;
 mod captures;
 mod digests;
+mod index_faults;
 mod indexes;
 mod listings;
 mod outcomes;
+mod prefixes;
 mod verdicts;
 mod words;
 mod writes;

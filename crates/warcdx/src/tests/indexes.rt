@@ -5,10 +5,10 @@ use std::alloc::Global;
 use std::test::Fail;
 use warc_core::{Cause, Fault, Gather, Slice};
 
-const RESPONSE_LINE: &[u8] =
+pub const RESPONSE_LINE: &[u8] =
     b"com,example)/ 20160919172024 {\"url\": \"http://example.com/\", \"mime\": \"text/html\", \"status\": \"200\", \"digest\": \"3I42H3S6NNFQ2MSVX7XZKYAYSCX5QBYJ\", \"length\": \"264\", \"offset\": \"0\", \"filename\": \"b.warc\"}\n";
 
-const RESOURCE_LINE: &[u8] =
+pub const RESOURCE_LINE: &[u8] =
     b"com,example)/r 20160919172024 {\"url\": \"http://example.com/r\", \"mime\": \"text/plain\", \"status\": \"-\", \"digest\": \"VGMT4NSHA2AWVOR6EVYXQUGCNSONBWE5\", \"length\": \"184\", \"offset\": \"264\", \"filename\": \"b.warc\"}\n";
 
 /// Adds an archive.
@@ -17,7 +17,12 @@ fn added(indexer: &mut Indexer, name: &str, archive: &[u8]) -> Result<Result<u64
 }
 
 /// Whether this is written, as so many lines.
-fn writes(alloc: Global, indexer: &Indexer, lines: &[u8], number: u64) -> Result<bool, Refused> {
+pub fn writes(
+    alloc: Global,
+    indexer: &Indexer,
+    lines: &[u8],
+    number: u64,
+) -> Result<bool, Refused> {
     let mut out = Gather::new(alloc);
     Ok(settled(indexer.write(&mut out))? == Ok(number) && out.bytes() == lines)
 }

@@ -1,3 +1,4 @@
+use super::prefixes::{prefix_gives, three_records};
 use super::{RESOURCE, RESPONSE, Refused, cut, joined, settled};
 use index_core::list;
 use std::alloc::{AllocError, Global};
@@ -101,26 +102,13 @@ fn lists_archives(rt: HostRuntime) -> Result<(), Fail> {
     Ok(())
 }
 
-/// The lines of the response, the resource and the response again.
-const LINES: &[u8] = b"0 264 response\n264 184 resource\n448 264 response\n";
-
-/// How many bytes of `LINES` a prefix of these three records gives, for how many records, and the fault that follows.
-fn prefix_gives(length: usize) -> (usize, u64, Option<Fault>) {
-    let fault = |offset, cause| Some(Fault { offset, cause });
-    match length {
-        0 => (0, 0, None),
-        1..=200 => (0, 0, fault(0, Cause::ShortHead)),
-        201..=259 => (0, 0, fault(0, Cause::ShortBlock)),
-        260..=263 => (0, 0, fault(0, Cause::Closing)),
-        264 => (15, 1, None),
-        265..=440 => (15, 1, fault(264, Cause::ShortHead)),
-        441..=443 => (15, 1, fault(264, Cause::ShortBlock)),
-        444..=447 => (15, 1, fault(264, Cause::Closing)),
-        448 => (32, 2, None),
-        449..=648 => (32, 2, fault(448, Cause::ShortHead)),
-        649..=707 => (32, 2, fault(448, Cause::ShortBlock)),
-        708..=711 => (32, 2, fault(448, Cause::Closing)),
-        _ => (49, 3, None),
+/// The lines of the first so many of the three records.
+fn lines_of(records: u64) -> &'static [u8] {
+    match records {
+        0 => b"",
+        1 => b"0 264 response\n",
+        2 => b"0 264 response\n264 184 resource\n",
+        _ => b"0 264 response\n264 184 resource\n448 264 response\n",
     }
 }
 
@@ -135,8 +123,8 @@ fn listing(alloc: Global, records: &[u8], fault: Option<Fault>) -> Result<Vec<u8
 }
 
 fn lists_prefix(alloc: Global, archive: &[u8]) -> Result<bool, Refused> {
-    let (written, records, fault) = prefix_gives(archive.len());
-    let Ok(lines) = listing(alloc, cut(LINES, written), fault) else {
+    let (records, fault) = prefix_gives(archive.len());
+    let Ok(lines) = listing(alloc, lines_of(records), fault) else {
         return Err(Refused::Memory);
     };
     lists(
@@ -149,7 +137,7 @@ fn lists_prefix(alloc: Global, archive: &[u8]) -> Result<bool, Refused> {
 
 #[test]
 fn lists_every_prefix(rt: HostRuntime) -> Result<(), Fail> {
-    let archive = joined(rt.alloc(), &[RESPONSE, RESOURCE, RESPONSE])?;
+    let archive = three_records(rt.alloc())?;
     assert_eq!(rt; archive.len(), 712);
     for length in 0..713 {
         assert!(rt;
