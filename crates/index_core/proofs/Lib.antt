@@ -5,3 +5,6 @@ mod IndexLemmas
 mod GatherLemmas
 mod SoundLemmas
 mod OneIndexLemmas
+mod CopyLemmas
+mod FetchLemmas
+mod OffsetLemmas

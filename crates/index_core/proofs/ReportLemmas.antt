@@ -5,7 +5,7 @@ use Rattle.std.specs.Io.KnownBytes.{Appends, prepend_known}
 use Rattle.warc_core.specs.declared.fault.Cause.{Cause}
 use Rattle.warc_core.specs.declared.fault.Cause.TheVariants as causes
 use Rattle.warc_core.specs.declared.fault.Fault.{Fault}
-use Rattle.warc_core.specs.Device.{AppendsPrefix, next_count}
+use Rattle.warc_core.specs.Device.{AppendsPrefix}
 use Rattle.warc_core.specs.HeadView.{HeadView, record_length}
 use Rattle.warc_core.specs.Reading.{Reads, IsFoundIn, CountsRead}
 use Rattle.warc_core.specs.Walk.{record_at, Walks}
@@ -15,7 +15,7 @@ use Rattle.warc_core.proofs.WalkLemmas.{Walks-more, none_at_end, walk-extends}
 use Rattle.capture_core.specs.declared.fault.CaptureFault.TheVariants.{Archive, LineTooLong, KeyTooLong}
 use Rattle.index_core.specs.declared.fault.IndexFault.{IndexFault}
 use Rattle.index_core.specs.declared.fault.IndexFault.TheVariants as faults
-use Rattle.index_core.specs.Report.{Line, lines_of, fault_line, SoFar, IsReport, IsCutReport, IsNoDamage, Reported, ReportedToFault, ReportedInPart, WritesFault, CountsInput, CountsOutput}
+use Rattle.index_core.specs.Report.{Line, lines_of, fault_line, SoFar, IsReport, IsCutReport, IsNoDamage, Reported, ReportedToFault, ReportedInPart, WritesFault}
 
 -- this text is the record's line, where the archive is known
 abbrev pub IsLine : Line → Option (List ℕ) → HeadView → List ℕ → Type 0
@@ -31,7 +31,7 @@ stopped-anywhere f c None after e = tt
 stopped-anywhere f c (Some z) after e = subst (λ k. IsFoundIn k (f z)) (sym e) tt
 
 -- a fault is the archive's, or its cause is no damage
-found-or-not : {A : Type 0} (c : Cause) (r : Result A Cause) → IsFoundIn c r → (r ≡ Err c) ⊎ IsNoDamage c
+pub found-or-not : {A : Type 0} (c : Cause) (r : Result A Cause) → IsFoundIn c r → (r ≡ Err c) ⊎ IsNoDamage c
 found-or-not causes.Memory r h = inr tt
 found-or-not causes.Read r h = inr tt
 found-or-not c r h = inl h
@@ -40,10 +40,6 @@ found-or-not c r h = inl h
 pub CountsRead-same : (A B : Type 0) (c : Cause) (old new : ℕ) → CountsRead {A = A} (Err c) old new → CountsRead {A = B} (Err c) old new
 CountsRead-same A B causes.Read old new h = h
 CountsRead-same A B c old new h = h
-
-once-or-not : (A : Type 0) (c : Cause) (old new : ℕ) → CountsRead {A = A} (Err c) old new → (new ≡ old) ⊎ (new ≡ next_count old)
-once-or-not A causes.Read old new h = inr h
-once-or-not A c old new h = inl h
 
 module _ (limit : ℕ) (line : Line) where
   report-to : (archive : List ℕ) (heads : List HeadView) (z : List ℕ) (f : Fault) → Walks limit 0 archive heads f.offset z → (record_at limit f.offset z ≡ Err f.cause) ⊎ IsNoDamage f.cause → IsReport limit line archive (lines_of line archive heads ++ fault_line f) ⊎ IsCutReport limit line archive (lines_of line archive heads ++ fault_line f)
@@ -120,6 +116,7 @@ module _ (limit : ℕ) (line : Line) where
       fault-told faults.Memory left now after o x w v u k k' s r e h f q = absurd h
       fault-told faults.BadName left now after o x w v u k k' s r e h f q = absurd h
       fault-told faults.DuplicateName left now after o x w v u k k' s r e h f q = absurd h
+      fault-told faults.NoRecord left now after o x w v u k k' s r e h f q = absurd h
       fault-told (faults.Capture (Archive g)) left now after o x w v u k k' s r e h f q =
           let p = h.0 in
           let same : f ≡ fault = cc in
@@ -132,26 +129,8 @@ module _ (limit : ℕ) (line : Line) where
       fault-cut faults.Memory left now after o x w v u k k' s r e h q = absurd h
       fault-cut faults.BadName left now after o x w v u k k' s r e h q = absurd h
       fault-cut faults.DuplicateName left now after o x w v u k k' s r e h q = absurd h
+      fault-cut faults.NoRecord left now after o x w v u k k' s r e h q = absurd h
       fault-cut (faults.Capture (Archive g)) left now after o x w v u k k' s r e h q = absurd (cc)
       fault-cut (faults.Capture (LineTooLong g)) left now after o x w v u k k' s r e h q = absurd h
       fault-cut (faults.Capture (KeyTooLong g)) left now after o x w v u k k' s r e h q = absurd h
       fault-cut faults.Write left now after o x w v u k k' s r e h q = SoFar-cut left now after o x fault w v u s r e h.0
-
-module _ (A : Type 0) (fault : Fault) where
-  pub fault-reads : (B : Type 0) (result : IndexFault) (v u : Option (List ℕ)) (k k' i i' : ℕ) → WritesFault fault result v u k k' → CountsRead {A = B} (Err fault.cause) i i' → CountsInput {A = A} (Err result) i i'
-  fault-reads B faults.Memory v u k k' i i' h c = absurd h
-  fault-reads B faults.BadName v u k k' i i' h c = absurd h
-  fault-reads B faults.DuplicateName v u k k' i i' h c = absurd h
-  fault-reads B (faults.Capture (Archive g)) v u k k' i i' h c = subst (λ f. CountsRead {A = Unit {0}} (Err f.cause) i i') (sym h.0) (CountsRead-same B (Unit {0}) fault.cause i i' c)
-  fault-reads B (faults.Capture (LineTooLong g)) v u k k' i i' h c = absurd h
-  fault-reads B (faults.Capture (KeyTooLong g)) v u k k' i i' h c = absurd h
-  fault-reads B faults.Write v u k k' i i' h c = once-or-not B fault.cause i i' c
-
-  pub fault-writes : (result : IndexFault) (v u : Option (List ℕ)) (k k' : ℕ) → WritesFault fault result v u k k' → CountsOutput {A = A} (Err result) k k'
-  fault-writes faults.Memory v u k k' h = absurd h
-  fault-writes faults.BadName v u k k' h = absurd h
-  fault-writes faults.DuplicateName v u k k' h = absurd h
-  fault-writes (faults.Capture (Archive g)) v u k k' h = h.2
-  fault-writes (faults.Capture (LineTooLong g)) v u k k' h = absurd h
-  fault-writes (faults.Capture (KeyTooLong g)) v u k k' h = absurd h
-  fault-writes faults.Write v u k k' h = h.1

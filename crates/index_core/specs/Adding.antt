@@ -72,6 +72,7 @@ module _ (types : Kind → Bool) (limits : Limits) (limit : ℕ) (name : List �
   Adds left old new (Ok n) = (captures : List EntryValue) × (new ≡ with_archive name captures old) × Gains left captures (Ok n)
   Adds left old new (Err (faults.Capture fault)) = (captures : List EntryValue) × (new ≡ with_archive name captures old) × Gains left captures (Err fault)
   Adds left old new (Err faults.Write) = ⊥
+  Adds left old new (Err faults.NoRecord) = ⊥
   Adds left old new (Err refusal) = new ≡ old
 
 -- the archive was refused before anything was read of it
@@ -84,9 +85,10 @@ abbrev pub CountsCapture : {A : Type 0} → Result A CaptureFault → ℕ → �
 CountsCapture (Err (Archive f)) old new = CountsRead {A = Unit {0}} (Err f.cause) old new
 CountsCapture r old new = new ≡ old
 
-abbrev pub CountsAdd : {A : Type 0} → Result A IndexFault → ℕ → ℕ → Type 0
-CountsAdd (Err (faults.Capture (Archive f))) old new = CountsRead {A = Unit {0}} (Err f.cause) old new
-CountsAdd r old new = new ≡ old
+-- the same of any call on an archive
+abbrev pub CountsIndex : {A : Type 0} → Result A IndexFault → ℕ → ℕ → Type 0
+CountsIndex (Err (faults.Capture (Archive f))) old new = CountsRead {A = Unit {0}} (Err f.cause) old new
+CountsIndex r old new = new ≡ old
 
 -- an archive is accepted with one list of captures
 abbrev pub OneIndexed : Type 0

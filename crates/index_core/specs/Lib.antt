@@ -4,3 +4,5 @@ pub mod Verifying
 pub mod Indexing
 pub mod Adding
 pub mod Gathering
+pub mod Fetching
+pub mod Copying

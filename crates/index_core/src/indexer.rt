@@ -35,7 +35,7 @@ impl Indexer {
     ghost use Rattle.warc_core.specs.declared.next.TheConstants.{HEAD_LIMIT};
     ghost use Rattle.capture_core.specs.Indexed.{usual_types};
     ghost use Rattle.capture_core.specs.Captured.{usual_limits};
-    ghost use Rattle.index_core.specs.Adding.{Adds, IsRefusal, CountsAdd};
+    ghost use Rattle.index_core.specs.Adding.{Adds, IsRefusal, CountsIndex};
     ghost use Rattle.index_core.specs.Indexing.{FailsIn, CountsWrite, IsName, is_among, index_text, in_places};
 
     /// An indexer that holds nothing. It takes no memory.
@@ -59,7 +59,7 @@ impl Indexer {
         ensures duplicate { (result ≡ Err IndexFault.DuplicateName) ↔ (IsName name.now × (is_among self.old.names name.now ≡ true)) }
         ensures adds { Adds usual_types usual_limits HEAD_LIMIT name.now (I.left input.old) self.old self.new result }
         ensures unread { IfErr result (λ fault. IsRefusal fault → input.new ≡ input.old) }
-        ensures failures { CountsAdd result (I.failures input.old) (I.failures input.new) }
+        ensures failures { CountsIndex result (I.failures input.old) (I.failures input.new) }
     {
         if !is_name(name) {
             return Err(IndexFault::BadName);

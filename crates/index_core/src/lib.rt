@@ -1,7 +1,9 @@
-//! Archives to indexes, and reports on archives; docs/COMMANDS.md has the lines of reports.
+//! Archives to indexes, reports on archives, and records by their offsets; docs/COMMANDS.md has the lines of reports.
 #![tactic(auto)]
 
+mod copying;
 mod fault;
+mod fetching;
 mod gathering;
 mod index_lines;
 mod indexer;
@@ -15,8 +17,9 @@ mod walk;
 mod writing;
 
 pub use crate::fault::IndexFault;
+pub use crate::fetching::get;
 pub use crate::indexer::Indexer;
-pub use crate::laws::archive_has_one_list_of_captures;
+pub use crate::laws::{archive_has_one_list_of_captures, one_thing_stands_at_an_offset};
 pub use crate::listing::list;
 pub use crate::verified::Verified;
 pub use crate::verifying::verify;

@@ -1,4 +1,4 @@
-//! The writing of a report's lines.
+//! The writing of bytes, and of a report's lines.
 ghost use Rattle.std.specs.Prelude.{◌≡◌, IfErr, OnOk};
 ghost use Rattle.std.specs.Io.KnownBytes.{Appends};
 ghost use Rattle.warc_core.specs.Device.{AppendsPrefix, CountsFailure};
@@ -9,16 +9,25 @@ use crate::lines::{Line, fault_line};
 use capture_core::CaptureFault;
 use warc_core::{Fault, Output, put};
 
+/// Writes these bytes.
+pub fn put_bytes<O: Output>(out: &mut O, bytes: &[u8]) -> Result<(), IndexFault>
+    ensures bytes { OnOk result (Appends (O.written out.old) (O.written out.new) bytes.now) }
+    ensures err { IfErr result (λ e. (e ≡ IndexFault.Write) × AppendsPrefix (O.written out.old) (O.written out.new) bytes.now) }
+    ensures failures { CountsFailure result (O.failures out.old) (O.failures out.new) }
+{
+    match put(out, bytes) {
+        Ok(()) => Ok(()),
+        Err(_) => Err(IndexFault::Write),
+    }
+}
+
 /// Writes a line.
 pub fn put_line<O: Output>(out: &mut O, line: &Line) -> Result<(), IndexFault>
     ensures line { OnOk result (Appends (O.written out.old) (O.written out.new) line.now.bytes) }
     ensures err { IfErr result (λ e. (e ≡ IndexFault.Write) × AppendsPrefix (O.written out.old) (O.written out.new) line.now.bytes) }
     ensures failures { CountsFailure result (O.failures out.old) (O.failures out.new) }
 {
-    match put(out, line.as_str().as_bytes()) {
-        Ok(()) => Ok(()),
-        Err(_) => Err(IndexFault::Write),
-    }
+    put_bytes(out, line.as_str().as_bytes())
 }
 
 /// Writes the line of a fault, and gives the answer that goes with it.

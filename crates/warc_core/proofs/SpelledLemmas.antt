@@ -141,7 +141,7 @@ head-there limit bytes raw rest e =
     ]
 
 -- what follows a block and its closing
-block-there : (n : ℕ) (bytes rest : List ℕ) → after_record n bytes ≡ Ok (tt, rest) → (block : List ℕ) × (length block ≡ n) × (bytes ≡ block ++ (closing ++ rest))
+pub block-there : (n : ℕ) (bytes rest : List ℕ) → after_record n bytes ≡ Ok (tt, rest) → (block : List ℕ) × (length block ≡ n) × (bytes ≡ block ++ (closing ++ rest))
 unfolding after_record after_block
 block-there n bytes rest e =
     elim (which (nat_lt (length bytes) n)) [

@@ -25,6 +25,7 @@ index_status (faults.Capture f) = capture_status f
 index_status faults.BadName = 1
 index_status faults.DuplicateName = 1
 index_status faults.Write = 3
+index_status faults.NoRecord = 1
 
 abbrev pub status_of : Outcome → ℕ
 status_of outcomes.Done = 0

@@ -31,6 +31,7 @@ fn index_status(fault: IndexFault) -> u8
         IndexFault::BadName => 1,
         IndexFault::DuplicateName => 1,
         IndexFault::Write => 3,
+        IndexFault::NoRecord => 1,
     }
 }
 

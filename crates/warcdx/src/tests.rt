@@ -2,6 +2,7 @@
 mod archives;
 mod captures;
 mod digests;
+mod fetches;
 mod index_faults;
 mod indexes;
 mod listings;

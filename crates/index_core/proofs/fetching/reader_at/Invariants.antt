@@ -1,0 +1,20 @@
+use Rattle.std.proofs.Common.{◌≡◌, ◌<◌, ◌≤◌, ◌-◌, ◌^◌, IfSome}
+use Rattle.std.specs.Io.KnownBytes.{prepend_known}
+use Rattle.warc_core.specs.declared.next.TheConstants.{HEAD_LIMIT}
+use Rattle.warc_core.specs.declared.phase.Phase.TheVariants.{Between}
+use Rattle.warc_core.specs.ReaderView.{StandsAt}
+use Rattle.index_core.specs.Copying.{WalkedTo}
+use Rattle.index_core.specs.Fetching.{IsInRecord}
+use Rattle.index_core.proofs.fetching.reader_at.Given as goal
+
+abbrev pub invariant-loop-end : goal.invariant-loop-end
+invariant-loop-end g l = record {
+  stands : StandsAt l.reader l.end Between;
+  within : l.end ≤ 2 ^ 63 - 1;
+  walked : WalkedTo HEAD_LIMIT l.end (g.I.Input.left l.fn.input) (prepend_known l.reader.held (g.I.Input.left l.input));
+  inside : l.offset < l.end → IfSome (g.I.Input.left l.fn.input) (λ archive. IsInRecord HEAD_LIMIT archive l.offset);
+  reads : g.I.Input.failures l.input ≡ g.I.Input.failures l.fn.input;
+}
+
+abbrev pub decreases-loop-end : goal.decreases-loop-end
+decreases-loop-end g l = l.offset - l.end

@@ -1,0 +1,59 @@
+//! The copying of a record.
+ghost use Rattle.std.specs.Prelude.{◌≡◌, ℕ};
+ghost use Rattle.std.specs.Io.KnownBytes.{prepend_known};
+ghost use Rattle.warc_core.specs.declared.phase.Phase.TheVariants.{Open};
+ghost use Rattle.warc_core.specs.ReaderView.{IsUnread};
+ghost use Rattle.capture_core.specs.Payload.{HasLeft};
+ghost use Rattle.index_core.specs.Adding.{CountsIndex};
+ghost use Rattle.index_core.specs.Copying.{CopiesBlock, CopiesRecord};
+ghost use Rattle.index_core.specs.Indexing.{CountsWrite};
+
+use crate::fault::IndexFault;
+use crate::writing::put_bytes;
+use capture_core::CaptureFault;
+use warc_core::{Head, Input, Output, Reader};
+
+/// Writes what is left of the open record's block.
+fn copy_block<I: Input, O: Output>(
+    reader: &mut Reader,
+    input: &mut I,
+    out: &mut O,
+) -> Result<(), IndexFault>
+    requires { HasLeft 0 reader.old.phase }
+    ensures copies { (left len : ℕ) → reader.old.phase ≡ Open left len →
+        CopiesBlock left len reader.old reader.new result (I.left input.old) (I.left input.new) (O.written out.old) (O.written out.new) }
+    ensures reads { CountsIndex result (I.failures input.old) (I.failures input.new) }
+    ensures writes { CountsWrite result (O.failures out.old) (O.failures out.new) }
+{
+    let mut piece = [0; 8192];
+    loop {
+        match reader.block(input, &mut piece) {
+            Ok(0) => return Ok(()),
+            Ok(count) => put_bytes(out, &piece[..count])?,
+            Err(fault) => return Err(IndexFault::Capture(CaptureFault::Archive(fault))),
+        }
+    }
+}
+
+/// Writes a record as it is stored, whose head is read and its block unread. It answers the record's length in bytes.
+pub fn copy_record<I: Input, O: Output>(
+    reader: &mut Reader,
+    input: &mut I,
+    head: &Head,
+    out: &mut O,
+) -> Result<u64, IndexFault>
+    requires { IsUnread reader.old head.now }
+    ensures copies { CopiesRecord head.now result (prepend_known reader.old.held (I.left input.old)) (prepend_known reader.new.held (I.left input.new)) (O.written out.old) (O.written out.new) }
+    ensures reads { CountsIndex result (I.failures input.old) (I.failures input.new) }
+    ensures writes { CountsWrite result (O.failures out.old) (O.failures out.new) }
+{
+    put_bytes(out, head.raw())?;
+    copy_block(reader, input, out)?;
+    match reader.finish(input) {
+        Ok(length) => {
+            put_bytes(out, b"\r\n\r\n")?;
+            Ok(length)
+        }
+        Err(fault) => Err(IndexFault::Capture(CaptureFault::Archive(fault))),
+    }
+}

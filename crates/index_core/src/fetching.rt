@@ -1,0 +1,80 @@
+//! The fetching of a record by its offset.
+ghost use Rattle.std.specs.Prelude.{◌≡◌, ℕ, ◌-◌, ◌^◌, ◌≤◌, Err, IfErr};
+ghost use Rattle.std.specs.Io.KnownBytes.{prepend_known};
+ghost use Rattle.warc_core.specs.Next.{causes_of};
+ghost use Rattle.warc_core.specs.Reading.{CountsRead};
+ghost use Rattle.index_core.specs.Adding.{CountsIndex};
+ghost use Rattle.index_core.specs.Copying.{CopiesNext, Reaches};
+ghost use Rattle.index_core.specs.Fetching.{Fetches, IsMetBefore};
+ghost use Rattle.index_core.specs.Indexing.{CountsWrite};
+
+use crate::copying::copy_record;
+use crate::fault::IndexFault;
+use crate::walk::next_record;
+use capture_core::CaptureFault;
+use std::alloc::Global;
+use warc_core::{Fault, HEAD_LIMIT, Input, Output, Phase, Reader};
+
+/// Writes the record that begins at `offset`, in bytes from the archive's start, as it is stored, and answers its length
+/// in bytes. No call of the input is made for what follows that record.
+///
+/// Errors are `NoRecord` where a record begins before the offset and ends behind it, or the archive ends at the offset or
+/// before it; the archive's fault at the offset or before it; and `Write` at the output's first failure. With `NoRecord`,
+/// and with a fault before the offset, nothing was written. With any other, the first bytes from the offset on may have
+/// been, and none behind the record that begins there.
+pub fn get<I: Input, O: Output>(
+    alloc: Global,
+    offset: u64,
+    input: &mut I,
+    out: &mut O,
+) -> Result<u64, IndexFault>
+    ensures fetches { Fetches HEAD_LIMIT offset (I.left input.old) result (O.written out.old) (O.written out.new) }
+    ensures unwritten { IfErr result (λ fault. IsMetBefore offset fault → out.new ≡ out.old) }
+    ensures reads { CountsIndex result (I.failures input.old) (I.failures input.new) }
+    ensures writes { CountsWrite result (O.failures out.old) (O.failures out.new) }
+{
+    match reader_at(alloc, input, offset) {
+        Ok(Some(mut reader)) => copy_next(&mut reader, input, out),
+        Ok(None) => Err(IndexFault::NoRecord),
+        Err(fault) => Err(IndexFault::Capture(CaptureFault::Archive(fault))),
+    }
+}
+
+/// A reader that has come to the offset, where whole records fill the archive up to there.
+fn reader_at<I: Input>(alloc: Global, input: &mut I, offset: u64) -> Result<Option<Reader>, Fault>
+    ensures reaches { Reaches HEAD_LIMIT offset result (I.left input.old) (I.left input.new) }
+    ensures reads { CountsRead (causes_of result) (I.failures input.old) (I.failures input.new) }
+{
+    let mut reader = Reader::new(alloc)?;
+    let mut end = 0;
+    while end < offset {
+        match next_record(&mut reader, input)? {
+            Some(head) => end += head.record_length(),
+            None => return Ok(None),
+        }
+    }
+    if end == offset {
+        Ok(Some(reader))
+    } else {
+        Ok(None)
+    }
+}
+
+/// Writes the record that comes next, and answers its length in bytes.
+fn copy_next<I: Input, O: Output>(
+    reader: &mut Reader,
+    input: &mut I,
+    out: &mut O,
+) -> Result<u64, IndexFault>
+    requires { reader.old.phase ≡ Phase.Between }
+    ensures copies { CopiesNext HEAD_LIMIT reader.old.offset result (prepend_known reader.old.held (I.left input.old)) (O.written out.old) (O.written out.new) }
+    ensures unwritten { result ≡ Err IndexFault.NoRecord → out.new ≡ out.old }
+    ensures reads { CountsIndex result (I.failures input.old) (I.failures input.new) }
+    ensures writes { CountsWrite result (O.failures out.old) (O.failures out.new) }
+{
+    match reader.next(input) {
+        Ok(Some(head)) => copy_record(reader, input, &head, out),
+        Ok(None) => Err(IndexFault::NoRecord),
+        Err(fault) => Err(IndexFault::Capture(CaptureFault::Archive(fault))),
+    }
+}

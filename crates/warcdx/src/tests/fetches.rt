@@ -1,0 +1,162 @@
+//! Records by their offsets.
+use super::prefixes::{prefix_gives, three_records};
+use super::{RESOURCE, RESPONSE, Refused, cut};
+use capture_core::CaptureFault;
+use index_core::{IndexFault, get};
+use std::alloc::Global;
+use std::test::Fail;
+use warc_core::{Cause, Fault, Fuse, Gather, Input, Slice};
+
+/// Whether a growth was refused.
+fn is_memory(fault: IndexFault) -> bool {
+    match fault {
+        IndexFault::Capture(CaptureFault::Archive(fault)) => fault.cause == Cause::Memory,
+        _ => false,
+    }
+}
+
+/// What `get` writes, and its answer. A refused growth, of the output's too, is an error.
+fn fetched<I: Input>(
+    alloc: Global,
+    offset: u64,
+    input: &mut I,
+) -> Result<(Gather, Result<u64, IndexFault>), Refused> {
+    let mut out = Gather::new(alloc);
+    let answer = get(alloc, offset, input, &mut out);
+    match answer {
+        Ok(_) => Ok((out, answer)),
+        Err(fault) if is_memory(fault) || fault == IndexFault::Write => Err(Refused::Memory),
+        Err(_) => Ok((out, answer)),
+    }
+}
+
+/// The record that begins there in a response, a resource and a response, one after another.
+fn record_at(offset: u64) -> &'static [u8] {
+    match offset {
+        0 | 448 => RESPONSE,
+        264 => RESOURCE,
+        _ => b"",
+    }
+}
+
+/// The answer over so many first bytes of these records.
+fn wanted(offset: u64, length: usize) -> Result<u64, IndexFault> {
+    let size = record_at(offset).len() as u64;
+    if size > 0 && offset.saturating_add(size) <= length as u64 {
+        return Ok(size);
+    }
+    match prefix_gives(length).1 {
+        Some(fault) if fault.offset <= offset => {
+            Err(IndexFault::Capture(CaptureFault::Archive(fault)))
+        }
+        _ => Err(IndexFault::NoRecord),
+    }
+}
+
+/// Whether this may be written with the answer: the record; a part of it where its own fault was met; else nothing.
+fn may_be_written(text: &[u8], offset: u64, answer: Result<u64, IndexFault>) -> bool {
+    match answer {
+        Ok(_) => text == record_at(offset),
+        Err(IndexFault::Capture(CaptureFault::Archive(fault))) if fault.offset == offset => {
+            record_at(offset).starts_with(text)
+        }
+        Err(_) => text.is_empty(),
+    }
+}
+
+fn fetches_from<I: Input>(
+    alloc: Global,
+    offset: u64,
+    input: &mut I,
+    length: usize,
+) -> Result<bool, Refused> {
+    let (out, answer) = fetched(alloc, offset, input)?;
+    Ok(answer == wanted(offset, length) && may_be_written(out.bytes(), offset, answer))
+}
+
+/// Whether a prefix of these records gives what it should at the offset, read in whole pieces and by one byte a call.
+fn fetches(alloc: Global, offset: u64, archive: &[u8]) -> Result<bool, Refused> {
+    let length = archive.len();
+    let mut by_byte = Fuse::new(Slice::new(archive), 1, 0);
+    Ok(
+        fetches_from(alloc, offset, &mut Slice::new(archive), length)?
+            && fetches_from(alloc, offset, &mut by_byte, length)?,
+    )
+}
+
+/// Where records begin, between these places, and behind all.
+const OFFSETS: &[u64] = &[0, 1, 264, 447, 448, 449, 712, u64::MAX];
+
+#[test]
+fn fetches_from_every_prefix(rt: HostRuntime) -> Result<(), Fail> {
+    let archive = three_records(rt.alloc())?;
+    for length in 0..713 {
+        for offset in OFFSETS {
+            assert!(rt;
+                fetches(rt.alloc(), *offset, cut(archive.as_slice(), length))?,
+                "{offset} of {length}"
+            );
+        }
+    }
+    Ok(())
+}
+
+/// The answer at 264 where the input's call `at` fails, each giving a byte. None is asked for behind the record.
+fn failed_read_gives(at: u64) -> Result<u64, IndexFault> {
+    let read = |offset| {
+        Err(IndexFault::Capture(CaptureFault::Archive(Fault {
+            offset,
+            cause: Cause::Read,
+        })))
+    };
+    match at {
+        0..=264 => read(0),
+        265..=448 => read(264),
+        _ => Ok(184),
+    }
+}
+
+fn fetches_to_failed_read(alloc: Global, archive: &[u8], at: u64) -> Result<bool, Refused> {
+    let (out, answer) = fetched(alloc, 264, &mut Fuse::new(Slice::new(archive), 1, at))?;
+    Ok(answer == failed_read_gives(at) && may_be_written(out.bytes(), 264, answer))
+}
+
+/// How many bytes are read, one a call, to say that no record begins at 1: those of the first record.
+fn reads_one_record(alloc: Global, archive: &[u8]) -> Result<bool, Refused> {
+    let mut input = Fuse::new(Slice::new(archive), 1, 0);
+    let (_, answer) = fetched(alloc, 1, &mut input)?;
+    Ok(answer == Err(IndexFault::NoRecord) && input.calls == 264)
+}
+
+#[test]
+fn fetches_up_to_a_failed_read(rt: HostRuntime) -> Result<(), Fail> {
+    let archive = three_records(rt.alloc())?;
+    for at in 1..450 {
+        assert!(rt;
+            fetches_to_failed_read(rt.alloc(), archive.as_slice(), at)?,
+            "at {at}"
+        );
+    }
+    assert!(rt; reads_one_record(rt.alloc(), archive.as_slice())?);
+    Ok(())
+}
+
+/// Whether the fetch of the resource, written by one byte a call, ends at the call `at`, which fails.
+fn stops(alloc: Global, archive: &[u8], at: u64) -> Result<bool, Refused> {
+    let mut out = Fuse::new(Gather::new(alloc), 1, at);
+    let answer = get(alloc, 264, &mut Slice::new(archive), &mut out);
+    if out.calls < at {
+        return Err(Refused::Memory);
+    }
+    let written = cut(RESOURCE, at.saturating_sub(1) as usize);
+    Ok(answer == Err(IndexFault::Write) && out.calls == at && out.device.bytes() == written)
+}
+
+#[test]
+fn fetches_stop_at_a_failed_write(rt: HostRuntime) -> Result<(), Fail> {
+    let archive = three_records(rt.alloc())?;
+    for at in 1..185 {
+        assert!(rt; stops(rt.alloc(), archive.as_slice(), at)?, "at {at}");
+    }
+    Ok(())
+}
