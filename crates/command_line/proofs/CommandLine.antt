@@ -1,5 +1,5 @@
 -- What clap answers to the words of a command line.
-use Rattle.std.proofs.Common.{arith, refl, ◌≡◌, ◌<◌, ◌^◌, ◌&&◌, ◌⊎◌, List, [], ◌∷◌, Option, Some, None, Bool, true, false, length, ap, ◌∙◌, sym, inl, inr, find, is_some, Result, Ok, Err}
+use Rattle.std.proofs.Common.{arith, refl, ◌≡◌, ◌<◌, ◌^◌, ◌&&◌, ◌⊎◌, List, [], ◌∷◌, Option, Some, None, Bool, true, false, length, ap, ◌∙◌, sym, inl, inr, find, Err}
 use Rattle.std.specs.List.{list_any, list_all}
 use Rattle.std.specs.Option.{IfSome, ok_or}
 use Rattle.clap.specs.Words.{Row, subcommand_of, fault_of, IsAmong}
@@ -8,98 +8,61 @@ use Rattle.clap.specs.Faults.{walk_fault, defaults_fault}
 use Rattle.clap.specs.declared.error.kind.ErrorKind.{ErrorKind}
 use Rattle.clap.specs.declared.error.kind.ErrorKind.TheVariants as kind
 use Rattle.command_line.specs.Words.{Text, asks_for_help, is_unknown_option}
-use Rattle.command_line.specs.Commands.{Meaning, Form, Refusal, Help, Usage, asked, operands_task, command_of, commands}
+use Rattle.command_line.specs.Commands.{Meaning, Form, Refusal, Help, Usage, asked, help_or_usage, task_of, operands_task, command_of, commands}
 use Rattle.command_line.specs.Clap.{warcdx, matches_task, refusal_for}
-use Rattle.command_line.proofs.PlainWords.{AllPlain, plain_word, all_plain, first_false, second_false}
-use Rattle.command_line.proofs.Operands.{fits, fits_task, reads, level_fits, level_unfit, level_help, is_usage, are_usage}
+use Rattle.command_line.proofs.PlainWords.{IsPlain, AllPlain, plain_word}
+use Rattle.command_line.proofs.Operands.{fits, reads, unfit_task, level_fits, level_unfit, level_help, is_usage, are_usage}
 use Rattle.command_line.proofs.CommandName.{is_named, same_name, given, below, unknown, top_help}
 
--- clap's fault and matches are those of the answer that is wanted
-abbrev pub Told : Result Meaning Refusal → Kinds → Option (Text × List Row) → Type 0
-Told (Ok meaning) kinds met = (kinds ≡ []) × (matches_task met ≡ Some meaning)
-Told (Err Help) kinds met = kinds ≡ kind.DisplayHelp ∷ []
-Told (Err Usage) kinds met = are_usage kinds ≡ true
+-- ---- words without options
 
-abbrev pub Tells : List Text → Type 0
-Tells words = Told (asked words) (fault_of warcdx words) (subcommand_of warcdx words)
+-- clap takes the words with their task, or refuses words that have none
+abbrev pub Told : Option Meaning → Kinds → Option (Text × List Row) → Type 0
+Told task kinds met = ((kinds ≡ []) × (matches_task met ≡ task)) ⊎ ((are_usage kinds ≡ true) × (task ≡ None))
+
+abbrev Tells : List Text → Type 0
+Tells words = Told (task_of words) (fault_of warcdx words) (subcommand_of warcdx words)
 
 no_words : Tells []
 unfolding walk_fault defaults_fault
-no_words = (refl, refl)
+no_words = inl (refl, refl)
 
-told_as : (a b : Result Meaning Refusal) (kinds : Kinds) (met : Option (Text × List Row)) → a ≡ b → Told b kinds met → Told a kinds met
+told_as : (a b : Option Meaning) (kinds : Kinds) (met : Option (Text × List Row)) → a ≡ b → Told b kinds met → Told a kinds met
 told_as a b kinds met e t = rw e t
 
--- ---- the answer that is wanted of words without unknown options
-
-abbrev Known : Text → List Text → Type 0
-Known word rest = (is_unknown_option word ≡ false) × (list_any is_unknown_option rest ≡ false)
-
-help_wanted : (word : Text) (rest : List Text) → Known word rest → asks_for_help word ≡ true → asked (word ∷ rest) ≡ Err Help
-help_wanted word rest k e = rw (k.0, k.1, e) refl
-
-usage_wanted : (word : Text) (rest : List Text) → Known word rest → asks_for_help word ≡ false → command_of word ≡ None
-    → asked (word ∷ rest) ≡ Err Usage
-usage_wanted word rest k e n = go (list_any asks_for_help rest) refl
-  where
-    go : (b : Bool) → list_any asks_for_help rest ≡ b → asked (word ∷ rest) ≡ Err Usage
-    go true f = rw (k.0, k.1, e, f, n) refl
-    go false f = rw (k.0, k.1, e, f, n) refl
-
-command_help_wanted : (word : Text) (rest : List Text) (c : Text × Form) → Known word rest → asks_for_help word ≡ false → command_of word ≡ Some c
-    → list_any asks_for_help rest ≡ true → asked (word ∷ rest) ≡ Err Help
-command_help_wanted word rest c k e n h = rw (k.0, k.1, e, h, n) refl
-
-task_wanted : (word : Text) (rest : List Text) (c : Text × Form) → Known word rest → asks_for_help word ≡ false → command_of word ≡ Some c
-    → list_any asks_for_help rest ≡ false → asked (word ∷ rest) ≡ ok_or (operands_task c.1 rest) Usage
-task_wanted word rest c k e n h = rw (k.0, k.1, e, h, n) refl
-
--- ---- what clap answers
-
-abbrev TellsAs : Result Meaning Refusal → List Text → Type 0
-TellsAs wanted words = Told wanted (fault_of warcdx words) (subcommand_of warcdx words)
-
 operands_told : (word : Text) (form : Form) (rest : List Text) → find (is_named word) commands ≡ Some (word, form) → AllPlain rest → length rest < 2 ^ 64
-    → (o : Option Meaning) → operands_task form rest ≡ o → TellsAs (ok_or o Usage) (word ∷ rest)
-operands_told word form rest e p short (Some meaning) t =
-    let f : fits form rest ≡ true = fits_task form rest ∙ ap is_some t in (
-      below word form commands rest e ∙ level_fits word form rest f p short,
-      ap matches_task (given word form commands rest e f p) ∙ rw e (reads form rest f ∙ t),
-    )
-operands_told word form rest e p short None t =
-    let f : fits form rest ≡ false = fits_task form rest ∙ ap is_some t in
-    ap are_usage (below word form commands rest e) ∙ level_unfit word form rest f p
+    → (b : Bool) → fits form rest ≡ b → Told (operands_task form rest) (fault_of warcdx (word ∷ rest)) (subcommand_of warcdx (word ∷ rest))
+operands_told word form rest e p short true f = inl (
+  below word form commands rest e ∙ level_fits word form rest f p short,
+  ap matches_task (given word form commands rest e f p) ∙ rw e (reads form rest f),
+)
+operands_told word form rest e p short false f = inr (
+  ap are_usage (below word form commands rest e) ∙ level_unfit word form rest f p,
+  unfit_task form rest f,
+)
 
-command_told : (word : Text) (rest : List Text) (c : Text × Form) → Known word rest → asks_for_help word ≡ false → command_of word ≡ Some c
-    → length rest < 2 ^ 64 → (b : Bool) → list_any asks_for_help rest ≡ b → Tells (word ∷ rest)
-command_told word rest c k e n short true h = told_as _ _ _ _ (command_help_wanted word rest c k e n h)
-    (below word c.1 commands rest (same_name word commands c n) ∙ level_help word c.1 rest k.1 h short)
-command_told word rest c k e n short false h = told_as _ _ _ _ (task_wanted word rest c k e n h)
-    (operands_told word c.1 rest (same_name word commands c n) (all_plain rest k.1 h) short (operands_task c.1 rest) refl)
-
-first_told : (word : Text) (rest : List Text) → Known word rest → asks_for_help word ≡ false → length rest < 2 ^ 64
+first_told : (word : Text) (rest : List Text) → IsPlain word → AllPlain rest → length rest < 2 ^ 64
     → (o : Option (Text × Form)) → command_of word ≡ o → Tells (word ∷ rest)
-first_told word rest k e short None n = told_as _ _ _ _ (usage_wanted word rest k e n) (unknown word commands rest n (plain_word word k.0 e))
-first_told word rest k e short (Some c) n = command_told word rest c k e n short (list_any asks_for_help rest) refl
+first_told word rest q p short None n = inr (unknown word commands rest n q, rw n refl)
+first_told word rest q p short (Some c) n = told_as (task_of (word ∷ rest)) (operands_task c.1 rest) (fault_of warcdx (word ∷ rest))
+    (subcommand_of warcdx (word ∷ rest)) (rw n refl)
+    (operands_told word c.1 rest (same_name word commands c n) p short (fits c.1 rest) refl)
 
-pub tells : (words : List Text) → list_any is_unknown_option words ≡ false → length words < 2 ^ 64 → Tells words
-tells [] u short = no_words
-tells (word ∷ rest) u short = go (asks_for_help word) refl
-  where
-    k : Known word rest
-    k = (first_false _ _ u, second_false (is_unknown_option word) _ u)
+pub tells : (words : List Text) → AllPlain words → length words < 2 ^ 64 → Tells words
+tells [] p short = no_words
+tells (word ∷ rest) p short = first_told word rest p.0 p.1 (omega (arith, short)) (command_of word) refl
 
-    go : (b : Bool) → asks_for_help word ≡ b → Tells (word ∷ rest)
-    go true e = told_as _ _ _ _ (help_wanted word rest k e) (top_help word rest e)
-    go false e = first_told word rest k e (omega (arith, short)) (command_of word) refl
+-- what is asked is the task of the words
+pub plain_asked : (words : List Text) → list_any is_unknown_option words ≡ false → list_any asks_for_help words ≡ false
+    → asked words ≡ ok_or (task_of words) Usage
+plain_asked words u h = rw (u, h) refl
 
--- ---- clap's Ok and Err
+pub matched : (task : Option Meaning) (kinds : Kinds) (met : Option (Text × List Row)) → Told task kinds met → kinds ≡ []
+    → ok_or task Usage ≡ ok_or (matches_task met) Usage
+matched task kinds met (inl t) e = ap (λ m. ok_or m Usage) (sym t.1)
+matched task kinds met (inr t) e = let no : are_usage [] ≡ true = ap are_usage (sym e) ∙ t.0 in cc
 
-pub matched : (wanted : Result Meaning Refusal) (kinds : Kinds) (met : Option (Text × List Row)) → Told wanted kinds met → kinds ≡ []
-    → wanted ≡ ok_or (matches_task met) Usage
-matched (Ok meaning) kinds met t e = rw t.1 refl
-matched (Err Help) kinds met t e = let no : kind.DisplayHelp ∷ [] ≡ [] = sym t ∙ e in cc
-matched (Err Usage) kinds met t e = let no : are_usage [] ≡ true = ap are_usage (sym e) ∙ t in cc
+-- ---- the kinds of clap's errors
 
 is_usage_is : (r : Option Refusal) → is_usage r ≡ true → r ≡ Some Usage
 is_usage_is None h = cc
@@ -122,6 +85,39 @@ all_usage : (kinds : Kinds) (k : ErrorKind) → are_usage kinds ≡ true → IsA
 all_usage [] k h m = absurd m
 all_usage (x ∷ xs) k h m = usage_kind (x ∷ xs) k h m
 
+pub refused : (task : Option Meaning) (kinds : Kinds) (met : Option (Text × List Row)) (k : ErrorKind) → Told task kinds met
+    → (k ≡ kind.OutOfMemory) ⊎ IsAmong k kinds → IfSome (refusal_for k) (λ refusal. ok_or task Usage ≡ Err refusal)
+refused task kinds met k t (inl e) = rw e tt
+refused task kinds met k (inl t) (inr m) = let no : IsAmong k [] = rw t.0 at m in absurd no
+refused task kinds met k (inr t) (inr m) = rw (all_usage kinds k t.0 m, t.1) refl
+
+-- ---- a first word beside one that asks for help
+
+abbrev pub ToldHelp : Refusal → Kinds → Type 0
+ToldHelp Help kinds = kinds ≡ kind.DisplayHelp ∷ []
+ToldHelp Usage kinds = are_usage kinds ≡ true
+
+help_told_as : (a b : Refusal) (kinds : Kinds) → a ≡ b → ToldHelp b kinds → ToldHelp a kinds
+help_told_as a b kinds e t = rw e t
+
+command_help : (first help : Text) → is_unknown_option first ≡ false → asks_for_help first ≡ false → asks_for_help help ≡ true
+    → (o : Option (Text × Form)) → command_of first ≡ o → ToldHelp (help_or_usage (first ∷ [])) (fault_of warcdx (first ∷ help ∷ []))
+command_help first help u n h None e = help_told_as _ Usage _ (rw (n, e) refl) (unknown first commands (help ∷ []) e (plain_word first u n))
+command_help first help u n h (Some c) e = help_told_as _ Help _ (rw (n, e) refl)
+    (below first c.1 commands (help ∷ []) (same_name first commands c e) ∙ level_help first c.1 help h)
+
+pub tells_help : (first help : Text) → is_unknown_option first ≡ false → asks_for_help help ≡ true
+    → ToldHelp (help_or_usage (first ∷ [])) (fault_of warcdx (first ∷ help ∷ []))
+tells_help first help u h = go (asks_for_help first) refl
+  where
+    go : (b : Bool) → asks_for_help first ≡ b → ToldHelp (help_or_usage (first ∷ [])) (fault_of warcdx (first ∷ help ∷ []))
+    go true e = help_told_as _ Help _ (rw e refl) (top_help first (help ∷ []) e)
+    go false e = command_help first help u e h (command_of first) refl
+
+pub never_taken : (wanted : Refusal) (kinds : Kinds) → ToldHelp wanted kinds → kinds ≡ [] → ⊥
+never_taken Help kinds t e = let no : kind.DisplayHelp ∷ [] ≡ [] = sym t ∙ e in cc
+never_taken Usage kinds t e = let no : are_usage [] ≡ true = ap are_usage (sym e) ∙ t in cc
+
 help_kind : (kinds : Kinds) (k : ErrorKind) → kinds ≡ kind.DisplayHelp ∷ [] → IsAmong k kinds → refusal_for k ≡ Some Help
 help_kind kinds k e m = go (rw e at m)
   where
@@ -129,12 +125,8 @@ help_kind kinds k e m = go (rw e at m)
     go (inl same) = ap refusal_for same
     go (inr none) = absurd none
 
-refuses : (wanted : Result Meaning Refusal) (r : Refusal) (o : Option Refusal) → o ≡ Some r → wanted ≡ Err r → IfSome o (λ refusal. wanted ≡ Err refusal)
-refuses wanted r o e w = rw e w
-
-pub refused : (wanted : Result Meaning Refusal) (kinds : Kinds) (met : Option (Text × List Row)) (k : ErrorKind) → Told wanted kinds met
-    → (k ≡ kind.OutOfMemory) ⊎ IsAmong k kinds → IfSome (refusal_for k) (λ refusal. wanted ≡ Err refusal)
-refused wanted kinds met k t (inl e) = rw e tt
-refused (Ok meaning) kinds met k t (inr m) = let no : IsAmong k [] = rw t.0 at m in absurd no
-refused (Err Help) kinds met k t (inr m) = refuses _ _ _ (help_kind kinds k t m) refl
-refused (Err Usage) kinds met k t (inr m) = refuses _ _ _ (all_usage kinds k t m) refl
+pub refused_help : (wanted : Refusal) (kinds : Kinds) (k : ErrorKind) → ToldHelp wanted kinds
+    → (k ≡ kind.OutOfMemory) ⊎ IsAmong k kinds → IfSome (refusal_for k) (λ refusal. refusal ≡ wanted)
+refused_help wanted kinds k t (inl e) = rw e tt
+refused_help Help kinds k t (inr m) = rw (help_kind kinds k t m) refl
+refused_help Usage kinds k t (inr m) = rw (all_usage kinds k t m) refl

@@ -1,22 +1,21 @@
 -- What clap makes of the words after a command's name.
-use Rattle.std.proofs.Common.{rules, arith, refl, ◌≡◌, ◌<◌, ◌+◌, ◌^◌, ◌==◌, ◌||◌, List, [], ◌∷◌, ◌++◌, Some, None, Bool, true, false, codes, length, ap, ◌∙◌, append_assoc, fold, nat_lt, Option, is_some, inl, inr}
-use Rattle.std.specs.List.{list_any, list_all}
+use Rattle.std.proofs.Common.{rules, arith, refl, ℕ, ◌≡◌, ◌<◌, ◌^◌, ◌==◌, List, [], ◌∷◌, ◌++◌, Some, None, Bool, true, false, codes, length, ap, ◌∙◌, append_assoc, fold, nat_lt, Option, inl, inr}
+use Rattle.std.specs.List.{list_all}
 use Rattle.std.proofs.lemmas.Bool.Decides.{nat_tests}
-use Rattle.std.proofs.lemmas.List.{length-append}
 use Rattle.std.specs.Char.{encode_utf8}
 use Rattle.std.specs.Str.{chars}
 use Rattle.clap.specs.Words.{Row, Rule, Shape}
 use Rattle.clap.specs.Simple.{built_leaf, inherited, with_leaf_noted, marked_built}
-use Rattle.clap.specs.Walk.{Walk, walked, walk, walk_from, nothing_held, positional, finished, reading_by}
+use Rattle.clap.specs.Walk.{Walk, walked, walk, walk_from, nothing_held, positional, idle, finished, reading_by}
 use Rattle.clap.specs.Faults.{flags_fault, walk_fault, defaults_fault, level_fault, values_fault}
 use Rattle.clap.specs.Kinds.{Kinds, range_kinds}
 use Rattle.clap.specs.Lexer.{usize_max}
 use Rattle.clap.specs.declared.error.kind.ErrorKind.TheVariants as kind
 use Rattle.clap.specs.declared.parser.matches.ValueSource.TheVariants.{CommandLine}
-use Rattle.command_line.specs.Words.{Text, asks_for_help, is_unknown_option}
-use Rattle.command_line.specs.Commands.{Meaning, Form, Names as OfNames, Refusal, Usage, operands_task}
+use Rattle.command_line.specs.Words.{Text, asks_for_help}
+use Rattle.command_line.specs.Commands.{Meaning, Form, Names as OfNames, Offset as OfOffset, Refusal, Usage, operands_task}
 use Rattle.command_line.specs.Clap.{names_rule, program, command_for, values_task, refusal_for}
-use Rattle.command_line.proofs.PlainWords.{IsPlain, AllPlain, help_word, plain_word, first_false, second_false}
+use Rattle.command_line.proofs.PlainWords.{IsPlain, AllPlain, help_word}
 
 -- a command as clap builds it
 abbrev pub shaped : Text × Form → Shape
@@ -27,73 +26,106 @@ rules_of form = (shaped ([], form)).rules
 
 abbrev pub fits : Form → List Text → Bool
 fits (OfNames make) (a ∷ more) = true
+fits (OfOffset make) (a ∷ b ∷ []) = true
 fits _ _ = false
+
+abbrev pub row : Text → List Text → Row
+row id values = record {
+  id = id;
+  values = values;
+  count = None;
+  source = Some CommandLine;
+  reading = reading_by names_rule;
+}
 
 -- ---- the walk over plain words
 
--- after some of the names, with the rows of the words before them
-abbrev after : Form → List Row → List Text → Walk
-after form rows words = record {
-  held = record { rows = rows; pending = Some (codes "names", words); skip = 0 };
+-- after some of the names
+abbrev after : (List Text → Meaning) → List Text → Walk
+after make words = record {
+  held = record { rows = []; pending = Some (codes "names", words); skip = 0 };
   waiting = positional;
   position = 1;
   is_trailing = false;
   stopped = None;
 }
 
-next : (form : Form) (rows : List Row) (before : List Text) (word : Text) → IsPlain word
-    → walked (rules_of form) [] (after form rows before) word ≡ after form rows (before ++ word ∷ [])
+next : (make : List Text → Meaning) (before : List Text) (word : Text) → IsPlain word
+    → walked (rules_of (OfNames make)) [] (after make before) word ≡ after make (before ++ word ∷ [])
 unfolding walked
-next (OfNames make) rows before word p = rw (p.dashes, p.long, p.short) refl
+next make before word p = rw (p.dashes, p.long, p.short) refl
 
-walk_on : (form : Form) (rows : List Row) (before words : List Text) → AllPlain words
-    → fold (walked (rules_of form) []) (after form rows before) words ≡ after form rows (before ++ words)
-walk_on form rows before [] p = search rules
-walk_on form rows before (word ∷ words) p =
-    ap (λ w. fold (walked (rules_of form) []) w words) (next form rows before word p.0)
-    ∙ walk_on form rows (before ++ word ∷ []) words p.1
-    ∙ ap (after form rows) (append_assoc before (word ∷ []) words)
+walk_on : (make : List Text → Meaning) (before words : List Text) → AllPlain words
+    → fold (walked (rules_of (OfNames make)) []) (after make before) words ≡ after make (before ++ words)
+walk_on make before [] p = search rules
+walk_on make before (word ∷ words) p =
+    ap (λ w. fold (walked (rules_of (OfNames make)) []) w words) (next make before word p.0)
+    ∙ walk_on make (before ++ word ∷ []) words p.1
+    ∙ ap (after make) (append_assoc before (word ∷ []) words)
+
+-- after an offset and a name
+abbrev after_offset : Text → Text → Walk
+after_offset offset name = record {
+  held = record { rows = row (codes "offset") (offset ∷ []) ∷ []; pending = Some (codes "name", name ∷ []); skip = 0 };
+  waiting = idle;
+  position = 3;
+  is_trailing = false;
+  stopped = None;
+}
 
 abbrev end_of : Form → List Text → Walk
-end_of (OfNames make) words = after (OfNames make) [] words
+end_of (OfNames make) words = after make words
+end_of (OfOffset make) (a ∷ b ∷ more) = after_offset a b
+end_of _ _ = walk_from nothing_held
 
 first_in : (make : List Text → Meaning) (a : Text) → IsPlain a
-    → walked (rules_of (OfNames make)) [] (walk_from nothing_held) a ≡ end_of (OfNames make) (a ∷ [])
+    → walked (rules_of (OfNames make)) [] (walk_from nothing_held) a ≡ after make (a ∷ [])
 unfolding walked
 first_in make a p = rw (p.dashes, p.long, p.short) refl
+
+both_in : (make : ℕ → Text → Meaning) (a b : Text) → IsPlain a → IsPlain b
+    → walk (rules_of (OfOffset make)) [] nothing_held (a ∷ b ∷ []) ≡ after_offset a b
+unfolding walked
+both_in make a b p q = rw (p.dashes, p.long, p.short, q.dashes, q.long, q.short) refl
 
 ends : (form : Form) (words : List Text) → fits form words ≡ true → AllPlain words
     → walk (rules_of form) [] nothing_held words ≡ end_of form words
 ends (OfNames make) (a ∷ more) f p =
-    ap (λ w. fold (walked (rules_of (OfNames make)) []) w more) (first_in make a p.0)
-    ∙ walk_on (OfNames make) [] (a ∷ []) more p.1
+    ap (λ w. fold (walked (rules_of (OfNames make)) []) w more) (first_in make a p.0) ∙ walk_on make (a ∷ []) more p.1
+ends (OfOffset make) (a ∷ b ∷ []) f p = both_in make a b p.0 p.1.0
 ends _ _ f p = cc
 
 -- ---- no fault in plain words
 
-next_clear : (name : Text) (form : Form) (rows : List Row) (before : List Text) (word : Text) (words : List Text) → IsPlain word
-    → walk_fault (shaped (name, form)) [] (after form rows before) (word ∷ words)
-    ≡ walk_fault (shaped (name, form)) [] (walked (rules_of form) [] (after form rows before) word) words
+next_clear : (name : Text) (make : List Text → Meaning) (before : List Text) (word : Text) (words : List Text) → IsPlain word
+    → walk_fault (shaped (name, OfNames make)) [] (after make before) (word ∷ words)
+    ≡ walk_fault (shaped (name, OfNames make)) [] (walked (rules_of (OfNames make)) [] (after make before) word) words
 unfolding walk_fault
-next_clear name (OfNames make) rows before word words p = rw (p.dashes, p.long, p.short) refl
+next_clear name make before word words p = rw (p.dashes, p.long, p.short) refl
 
-walk_clear : (name : Text) (form : Form) (rows : List Row) (before words : List Text) → AllPlain words
-    → walk_fault (shaped (name, form)) [] (after form rows before) words ≡ []
-walk_clear name form rows before [] p = unfold walk_fault in refl
-walk_clear name form rows before (word ∷ words) p =
-    next_clear name form rows before word words p.0
-    ∙ ap (λ w. walk_fault (shaped (name, form)) [] w words) (next form rows before word p.0)
-    ∙ walk_clear name form rows (before ++ word ∷ []) words p.1
+walk_clear : (name : Text) (make : List Text → Meaning) (before words : List Text) → AllPlain words
+    → walk_fault (shaped (name, OfNames make)) [] (after make before) words ≡ []
+walk_clear name make before [] p = unfold walk_fault in refl
+walk_clear name make before (word ∷ words) p =
+    next_clear name make before word words p.0
+    ∙ ap (λ w. walk_fault (shaped (name, OfNames make)) [] w words) (next make before word p.0)
+    ∙ walk_clear name make (before ++ word ∷ []) words p.1
 
 first_clear : (name : Text) (make : List Text → Meaning) (a : Text) (more : List Text) → IsPlain a
     → walk_fault (shaped (name, OfNames make)) [] (walk_from nothing_held) (a ∷ more)
-    ≡ walk_fault (shaped (name, OfNames make)) [] (end_of (OfNames make) (a ∷ [])) more
+    ≡ walk_fault (shaped (name, OfNames make)) [] (after make (a ∷ [])) more
 unfolding walk_fault walked
 first_clear name make a more p = rw (p.dashes, p.long, p.short) refl
 
+both_clear : (name : Text) (make : ℕ → Text → Meaning) (a b : Text) → IsPlain a → IsPlain b
+    → walk_fault (shaped (name, OfOffset make)) [] (walk_from nothing_held) (a ∷ b ∷ []) ≡ []
+unfolding walk_fault walked
+both_clear name make a b p q = rw (p.dashes, p.long, p.short, q.dashes, q.long, q.short) refl
+
 clear : (name : Text) (form : Form) (words : List Text) → fits form words ≡ true → AllPlain words
     → walk_fault (shaped (name, form)) [] (walk_from nothing_held) words ≡ []
-clear name (OfNames make) (a ∷ more) f p = first_clear name make a more p.0 ∙ walk_clear name (OfNames make) [] (a ∷ []) more p.1
+clear name (OfNames make) (a ∷ more) f p = first_clear name make a more p.0 ∙ walk_clear name make (a ∷ []) more p.1
+clear name (OfOffset make) (a ∷ b ∷ []) f p = both_clear name make a b p.0 p.1.0
 clear _ _ _ f p = cc
 
 -- ---- the number of names
@@ -116,6 +148,8 @@ pub level_fits : (name : Text) (form : Form) (words : List Text) → fits form w
 unfolding defaults_fault
 level_fits name (OfNames make) (a ∷ more) f p short =
     rw (ends (OfNames make) (a ∷ more) f p, clear name (OfNames make) (a ∷ more) f p, in_range (a ∷ more) (omega arith) short, any_text more) refl
+level_fits name (OfOffset make) (a ∷ b ∷ []) f p short =
+    rw (ends (OfOffset make) (a ∷ b ∷ []) f p, clear name (OfOffset make) (a ∷ b ∷ []) f p) refl
 level_fits _ _ _ f p short = cc
 
 abbrev pub is_usage : Option Refusal → Bool
@@ -131,90 +165,46 @@ pub level_unfit : (name : Text) (form : Form) (words : List Text) → fits form 
     → are_usage (level_fault (shaped (name, form)) [] nothing_held words false []) ≡ true
 unfolding walk_fault walked defaults_fault
 level_unfit name (OfNames make) [] f p = refl
+level_unfit name (OfOffset make) [] f p = refl
+level_unfit name (OfOffset make) (a ∷ []) f p = rw (p.0.dashes, p.0.long, p.0.short) refl
+level_unfit name (OfOffset make) (a ∷ b ∷ c ∷ more) f p =
+    rw (p.0.dashes, p.0.long, p.0.short, p.1.0.dashes, p.1.0.long, p.1.0.short, p.1.1.0.dashes, p.1.1.0.long, p.1.1.0.short) refl
 level_unfit _ _ _ f p = cc
 
--- ---- help among the words
-
-abbrev for_help : Kinds
-for_help = kind.DisplayHelp ∷ []
-
-help_next : (name : Text) (form : Form) (rows : List Row) (first : Text) (before : List Text) (word : Text) (words : List Text)
-    → asks_for_help word ≡ true → range_kinds 1 usize_max (length (first ∷ before)) ≡ []
-    → walk_fault (shaped (name, form)) [] (after form rows (first ∷ before)) (word ∷ words) ≡ for_help
+-- a command with a word that asks for help
+pub level_help : (name : Text) (form : Form) (help : Text) → asks_for_help help ≡ true
+    → level_fault (shaped (name, form)) [] nothing_held (help ∷ []) false [] ≡ kind.DisplayHelp ∷ []
 unfolding walk_fault flags_fault chars encode_utf8
-help_next name (OfNames make) rows first before word words h r = elim (help_word word h) [
-  | inl e ↦ rw (e, r, any_text before) refl
-  | inr e ↦ rw (e, r, any_text before) refl
+level_help name (OfNames make) help h = elim (help_word help h) [
+  | inl e ↦ rw e refl
+  | inr e ↦ rw e refl
 ]
-
-help_first : (name : Text) (form : Form) (word : Text) (words : List Text) → asks_for_help word ≡ true
-    → walk_fault (shaped (name, form)) [] (walk_from nothing_held) (word ∷ words) ≡ for_help
-unfolding walk_fault flags_fault chars encode_utf8
-help_first name (OfNames make) word words h = elim (help_word word h) [
+level_help name (OfOffset make) help h = elim (help_word help h) [
   | inl e ↦ rw e refl
   | inr e ↦ rw e refl
 ]
 
-walk_help : (name : Text) (form : Form) (rows : List Row) (first : Text) (before words : List Text) → list_any is_unknown_option words ≡ false
-    → list_any asks_for_help words ≡ true → length (first ∷ before) + length words < 2 ^ 64
-    → walk_fault (shaped (name, form)) [] (after form rows (first ∷ before)) words ≡ for_help
-walk_help name form rows first before [] u h short = cc
-walk_help name form rows first before (word ∷ words) u h short = go (asks_for_help word) refl h
-    (walk_help name form rows first (before ++ word ∷ []) words (second_false (is_unknown_option word) _ u))
-  where
-    go : (b : Bool) → asks_for_help word ≡ b → (b || list_any asks_for_help words) ≡ true
-        → (list_any asks_for_help words ≡ true → length (first ∷ before ++ word ∷ []) + length words < 2 ^ 64
-        → walk_fault (shaped (name, form)) [] (after form rows (first ∷ before ++ word ∷ [])) words ≡ for_help)
-        → walk_fault (shaped (name, form)) [] (after form rows (first ∷ before)) (word ∷ words) ≡ for_help
-    go true e f rest = help_next name form rows first before word words e (in_range (first ∷ before) (omega arith) (omega (arith, short)))
-    go false e f rest =
-        let p = plain_word word (first_false _ _ u) e in
-        let more : length (before ++ word ∷ []) ≡ length before + 1 = length-append before (word ∷ []) in
-        next_clear name form rows (first ∷ before) word words p
-        ∙ ap (λ w. walk_fault (shaped (name, form)) [] w words) (next form rows (first ∷ before) word p)
-        ∙ rest f (omega (arith, more, short))
-
-help_walk : (name : Text) (form : Form) (words : List Text) → list_any is_unknown_option words ≡ false
-    → list_any asks_for_help words ≡ true → length words < 2 ^ 64
-    → walk_fault (shaped (name, form)) [] (walk_from nothing_held) words ≡ for_help
-help_walk name form [] u h short = cc
-help_walk name (OfNames make) (word ∷ words) u h short = go (asks_for_help word) refl h
-  where
-    go : (b : Bool) → asks_for_help word ≡ b → (b || list_any asks_for_help words) ≡ true
-        → walk_fault (shaped (name, OfNames make)) [] (walk_from nothing_held) (word ∷ words) ≡ for_help
-    go true e f = help_first name (OfNames make) word words e
-    go false e f =
-        first_clear name make word words (plain_word word (first_false _ _ u) e)
-        ∙ walk_help name (OfNames make) [] word [] words (second_false (is_unknown_option word) _ u) f (omega (arith, short))
-
-pub level_help : (name : Text) (form : Form) (words : List Text) → list_any is_unknown_option words ≡ false
-    → list_any asks_for_help words ≡ true → length words < 2 ^ 64
-    → level_fault (shaped (name, form)) [] nothing_held words false [] ≡ for_help
-level_help name form words u h short = rw (help_walk name form words u h short) refl
-
 -- ---- the values of a command
-
-abbrev pub row : Text → List Text → Row
-row id values = record {
-  id = id;
-  values = values;
-  count = None;
-  source = Some CommandLine;
-  reading = reading_by names_rule;
-}
 
 abbrev pub rows_of : Form → List Text → List Row
 rows_of (OfNames make) words = row (codes "names") words ∷ []
+rows_of (OfOffset make) (a ∷ more) = row (codes "offset") (a ∷ []) ∷ row (codes "name") more ∷ []
+rows_of _ _ = []
 
 pub values : (form : Form) (words : List Text) → fits form words ≡ true → AllPlain words
     → finished (rules_of form) (walk (rules_of form) [] nothing_held words).held ≡ rows_of form words
 values (OfNames make) (a ∷ more) f p = rw (ends (OfNames make) (a ∷ more) f p) refl
+values (OfOffset make) (a ∷ b ∷ []) f p = rw (ends (OfOffset make) (a ∷ b ∷ []) f p) refl
 values _ _ f p = cc
 
 pub reads : (form : Form) (words : List Text) → fits form words ≡ true → values_task form (rows_of form words) ≡ operands_task form words
 reads (OfNames make) (a ∷ more) f = refl
+reads (OfOffset make) (a ∷ b ∷ []) f = refl
 reads _ _ f = cc
 
-pub fits_task : (form : Form) (words : List Text) → fits form words ≡ is_some (operands_task form words)
-fits_task (OfNames make) [] = refl
-fits_task (OfNames make) (a ∷ more) = refl
+pub unfit_task : (form : Form) (words : List Text) → fits form words ≡ false → operands_task form words ≡ None
+unfit_task (OfNames make) [] f = refl
+unfit_task (OfOffset make) [] f = refl
+unfit_task (OfOffset make) (a ∷ []) f = refl
+unfit_task (OfOffset make) (a ∷ b ∷ c ∷ more) f = refl
+unfit_task _ _ f = cc

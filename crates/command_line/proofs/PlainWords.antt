@@ -41,11 +41,11 @@ plain_word word h k = go (is_option word) refl
     go false e = plain word e
     go true e = let f : is_unknown_option word ≡ true = rw (e, k) refl in cc
 
-pub first_false : (a b : Bool) → (a || b) ≡ false → a ≡ false
+first_false : (a b : Bool) → (a || b) ≡ false → a ≡ false
 first_false false b h = refl
 first_false true b h = cc
 
-pub second_false : (a b : Bool) → (a || b) ≡ false → b ≡ false
+second_false : (a b : Bool) → (a || b) ≡ false → b ≡ false
 second_false false b h = h
 second_false true b h = cc
 

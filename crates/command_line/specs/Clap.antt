@@ -1,25 +1,31 @@
 -- clap's command, made from the table of commands, and what is read of clap's answer.
 use Rattle.std.specs.Prelude.{List, [], ◌∷◌, Option, None, Some, true, false, codes, map, option_map, option_and_then}
-use Rattle.clap.specs.Words.{App, Row, Rule, Shape, new_rule, all_of}
+use Rattle.clap.specs.Words.{App, Row, Rule, Shape, new_rule, all_of, first_of}
 use Rattle.clap.specs.Simple.{new_shape}
 use Rattle.clap.specs.Lexer.{usize_max}
 use Rattle.clap.specs.declared.error.kind.ErrorKind.{ErrorKind}
 use Rattle.clap.specs.declared.error.kind.ErrorKind.TheVariants as kind
-use Rattle.command_line.specs.Words.{Text}
-use Rattle.command_line.specs.Commands.{Meaning, Form, Names, Refusal, Help, Usage, commands, command_of, list_input}
+use Rattle.command_line.specs.Words.{Text, offset_of}
+use Rattle.command_line.specs.Commands.{Meaning, Form, Names, Offset, Refusal, Help, Usage, commands, command_of, list_input}
 
 -- ---- the command
 
--- one name or more
-abbrev pub names_rule : Rule
-names_rule = record (new_rule (codes "names")) {
+-- one word
+abbrev pub word_rule : Text → Rule
+word_rule id = record (new_rule id) {
   required = true;
   value_names = 1;
+}
+
+-- one name or more
+abbrev pub names_rule : Rule
+names_rule = record (word_rule (codes "names")) {
   range = Some (record { start_inclusive = 1; end_inclusive = usize_max });
 }
 
 abbrev pub rules_for : Form → List Rule
 rules_for (Names make) = names_rule ∷ []
+rules_for (Offset make) = word_rule (codes "offset") ∷ word_rule (codes "name") ∷ []
 
 abbrev pub command_with : Text → List Rule → Shape
 command_with name rules = record (new_shape name) { rules = rules }
@@ -42,6 +48,9 @@ warcdx = record { top = program; subs = map command_for commands }
 -- the task that the values of a command make
 abbrev pub values_task : Form → List Row → Option Meaning
 values_task (Names make) rows = option_map make (all_of (codes "names") rows)
+values_task (Offset make) rows = option_and_then
+    (λ offset. option_and_then (λ name. option_map (λ n. make n name) (offset_of offset)) (first_of (codes "name") rows))
+    (first_of (codes "offset") rows)
 
 -- the task of the command that was met, with its values
 abbrev pub matches_task : Option (Text × List Row) → Option Meaning

@@ -1,32 +1,37 @@
 -- The commands, and what the words of a command line ask for.
-use Rattle.std.specs.Prelude.{List, [], ◌∷◌, ◌||◌, Option, None, Some, Result, Ok, Err, MatchResult, ◌≡◌, if◌then◌else◌, codes, bytes_eq, find, is_some, option_and_then}
+use Rattle.std.specs.Prelude.{ℕ, List, [], ◌∷◌, ◌||◌, Option, None, Some, Result, Ok, Err, MatchResult, ◌≡◌, if◌then◌else◌, codes, bytes_eq, find, is_some, option_map, option_and_then, string_bytes}
 use Rattle.std.specs.List.{list_any}
 use Rattle.std.specs.Option.{IfSome, ok_or}
 use Rattle.command_line.specs.declared.fault.WordsFault.{WordsFault}
 use Rattle.command_line.specs.declared.fault.WordsFault.TheVariants as fault
 use Rattle.command_line.specs.declared.task.Task.{Task}
 use Rattle.command_line.specs.declared.task.Task.TheVariants as task
-use Rattle.command_line.specs.Words.{Text, texts, asks_for_help, is_unknown_option}
+use Rattle.command_line.specs.Words.{Text, texts, asks_for_help, is_unknown_option, offset_of}
 
 -- ---- the table of commands
 
--- a task, with its words as texts
+-- a task, with its names as texts
 pub data Meaning : Type 0 where
   ToList : List Text → Meaning
   ToVerify : List Text → Meaning
+  ToIndex : List Text → Meaning
+  ToGet : ℕ → Text → Meaning
 
--- which operands a command takes, and the task that they make: one name or more
+-- which operands a command takes, and the task that they make: one name or more; an offset and a name
 pub data Form : Type 0 where
   Names : (List Text → Meaning) → Form
+  Offset : (ℕ → Text → Meaning) → Form
 
 abbrev pub commands : List (Text × Form)
-commands = (codes "list", Names ToList) ∷ (codes "verify", Names ToVerify) ∷ []
+commands = (codes "list", Names ToList) ∷ (codes "verify", Names ToVerify) ∷ (codes "index", Names ToIndex)
+    ∷ (codes "get", Offset ToGet) ∷ []
 
 -- ---- words with a task
 
 -- the task of a command's operands
 abbrev pub operands_task : Form → List Text → Option Meaning
 operands_task (Names make) (name ∷ names) = Some (make (name ∷ names))
+operands_task (Offset make) (offset ∷ name ∷ []) = option_map (λ n. make n name) (offset_of offset)
 operands_task _ _ = None
 
 abbrev pub command_of : Text → Option (Text × Form)
@@ -49,7 +54,7 @@ pub data Refusal : Type 0 where
 
 -- of words that ask for help: the program's where they begin so, or that of the command that they begin with
 abbrev pub help_or_usage : List Text → Refusal
-help_or_usage [] = Usage
+help_or_usage [] = Help
 help_or_usage (word ∷ rest) = if asks_for_help word || is_some (command_of word) then Help else Usage
 
 -- an unknown option outweighs help, and help the number of the operands
@@ -63,6 +68,8 @@ asked words = if list_any is_unknown_option words then Err Usage
 abbrev pub view : Task → Meaning
 view (task.List names) = ToList (texts names.items)
 view (task.Verify names) = ToVerify (texts names.items)
+view (task.Index names) = ToIndex (texts names.items)
+view (task.Get offset name) = ToGet offset (string_bytes name)
 
 -- nothing for want of memory
 abbrev pub refusal_of : WordsFault → Option Refusal

@@ -1,9 +1,9 @@
 //! clap's command.
-ghost use Rattle.std.specs.Prelude.{◌≡◌, IfOk, [], ◌∷◌};
-ghost use Rattle.clap.specs.Words.{app_of, with_subcommand};
-ghost use Rattle.command_line.specs.Clap.{names_rule, command_with, warcdx};
+ghost use Rattle.std.specs.Prelude.{◌≡◌, IfOk, false, [], ◌∷◌, codes};
+ghost use Rattle.clap.specs.Words.{app_of, rule_of, with_subcommand};
+ghost use Rattle.command_line.specs.Clap.{word_rule, names_rule, command_with, warcdx};
 
-use crate::help::{ARCHIVES, LIST, Operand, PROGRAM, Page, VERIFY};
+use crate::help::{ARCHIVE, GET, INDEX, LIST, OFFSET, Operand, PROGRAM, Page, VERIFY};
 use clap::{Arg, Command};
 use std::alloc::{AllocError, Global};
 
@@ -17,8 +17,10 @@ pub fn command_line<'a>(alloc: Global) -> Result<Command<'a>, AllocError>
         .after_help(PROGRAM.details)
         .no_binary_name(true)
         .disable_help_subcommand(true);
-    let list = with_names(program, alloc, "list", LIST, ARCHIVES)?;
-    with_names(list, alloc, "verify", VERIFY, ARCHIVES)
+    let list = with_names(program, alloc, "list", LIST, ARCHIVE)?;
+    let verify = with_names(list, alloc, "verify", VERIFY, ARCHIVE)?;
+    let index = with_names(verify, alloc, "index", INDEX, ARCHIVE)?;
+    with_offset(index, alloc, "get", GET, ARCHIVE)
 }
 
 /// The command with one more, which takes one operand or more.
@@ -32,15 +34,42 @@ fn with_names<'a>(
     ensures { IfOk result (λ more. app_of more
         ≡ with_subcommand (app_of command.entry) (command_with name.entry.now (names_rule ∷ []))) }
 {
-    let names = Arg::new(alloc, "names")
-        .required(true)
-        .value_name(operand.name)
-        .help(operand.help)
-        .num_args(1..);
+    let names = word(alloc, "names", operand).num_args(1..);
     command.subcommand(
         Command::new(alloc, name)
             .about(page.about)
             .after_help(page.details)
             .arg(names)?,
     )
+}
+
+/// The command with one more, which takes an offset and another operand.
+fn with_offset<'a>(
+    command: Command<'a>,
+    alloc: Global,
+    name: &'a str,
+    page: Page<'a>,
+    operand: Operand<'a>,
+) -> Result<Command<'a>, AllocError>
+    ensures { IfOk result (λ more. app_of more ≡ with_subcommand (app_of command.entry)
+        (command_with name.entry.now (word_rule (codes "offset") ∷ word_rule (codes "name") ∷ []))) }
+{
+    command.subcommand(
+        Command::new(alloc, name)
+            .about(page.about)
+            .after_help(page.details)
+            .arg(word(alloc, "offset", OFFSET))?
+            .arg(word(alloc, "name", operand))?,
+    )
+}
+
+/// One operand.
+fn word<'a>(alloc: Global, id: &'a str, operand: Operand<'a>) -> Arg<'a>
+    ensures rule { rule_of result ≡ word_rule id.entry.now }
+    ensures local { result.global ≡ false }
+{
+    Arg::new(alloc, id)
+        .required(true)
+        .value_name(operand.name)
+        .help(operand.help)
 }

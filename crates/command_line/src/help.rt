@@ -8,7 +8,7 @@ pub struct Page<'a> {
 }
 
 pub const PROGRAM: Page = Page {
-    about: "Reads web archives: lists their records, and checks their digests",
+    about: "Reads web archives: lists, checks and indexes their records, and writes one",
     details: "\
 An archive is an uncompressed WARC file, version 1.0 or 1.1. The name - is
 standard input. Without a command, warcdx lists the archive on standard input.
@@ -16,15 +16,18 @@ standard input. Without a command, warcdx lists the archive on standard input.
 Examples:
   warcdx list crawl.warc
   warcdx verify crawl-1.warc crawl-2.warc
+  warcdx index crawl-1.warc crawl-2.warc > crawl.cdxj
+  warcdx get 4096 crawl.warc
   gunzip -c crawl.warc.gz | warcdx verify -
 
 Exit status:
-  0  everything was read, and no digest differs; or help was asked for
-  1  an archive is damaged, or a digest differs
+  0  everything was done, and no digest differs; or help was asked for
+  1  an archive is damaged, a digest differs, an archive's file name can't be
+     used in an index, or no record begins at the offset
   2  the words mean nothing
   3  a file can't be opened, or memory, an input or the output failed
 
-'warcdx list --help' and 'warcdx verify --help' say what is printed.",
+'warcdx COMMAND --help' says what a command prints.",
 };
 
 pub const LIST: Page = Page {
@@ -106,6 +109,76 @@ Exit status:
   3  a file can't be opened, or memory, an input or the output failed",
 };
 
+pub const INDEX: Page = Page {
+    about: "Writes an index of the captures of archives",
+    details: "\
+Writes one sorted CDXJ index of all the archives: a line for each response,
+resource and revisit record with a WARC-Target-URI.
+
+  KEY STAMP OBJECT
+
+KEY is made of the record's URL, and STAMP is its date in 14 digits. OBJECT is
+JSON with the members url, mime, status, digest, length, offset and filename;
+length and offset are in bytes, and 'warcdx get' writes the record from its
+offset. docs/CDXJ.md has the rules.
+
+An archive's file name in the index is the part of its word after the last /,
+1 to 255 bytes that no archive before it has; - is the file name of standard
+input. An archive whose file name can't be used so is left out, and BadName or
+DuplicateName said on standard error.
+
+A damaged archive is indexed up to the damage, and this is said on standard
+error, with the offset of the record at fault:
+
+  warcdx: NAME: fault OFFSET CAUSE
+
+'warcdx list --help' has the causes. Two more stand for a whole record that
+can't be indexed, and the archive is indexed up to it:
+
+  KeyTooLong    the record's URL is too long for the URL parser
+  LineTooLong   the record's line would be longer than 1,048,576 bytes
+
+Examples:
+  warcdx index crawl.warc > crawl.cdxj
+  warcdx index crawl-1.warc crawl-2.warc > crawl.cdxj
+  gunzip -c crawl.warc.gz | warcdx index - > crawl.cdxj
+
+Exit status:
+  0  everything was indexed
+  1  an archive is damaged, or its file name or a record can't be indexed
+  2  the words mean nothing
+  3  a file can't be opened, or memory, an input or the output failed",
+};
+
+pub const GET: Page = Page {
+    about: "Writes the record at an offset of an archive",
+    details: "\
+Writes the record that begins at OFFSET as it is stored, from its version line
+through the two line breaks after its block. An index has the offset of each
+record, and so has 'warcdx list'.
+
+The archive is read from its start. Where no record begins at OFFSET, nothing
+is written, and one of these lines is on standard error:
+
+  warcdx: NAME: NoRecord
+  warcdx: NAME: fault OFFSET CAUSE
+
+The second is for an archive that is damaged at or before OFFSET, with the
+offset of the record at fault. Where that is the record that was asked for, a
+first part of it may have been written. 'warcdx list --help' has the causes.
+
+Examples:
+  warcdx get 0 crawl.warc
+  warcdx get 4096 crawl.warc > record.warc
+  gunzip -c crawl.warc.gz | warcdx get 4096 -
+
+Exit status:
+  0  the record was written
+  1  no record begins at OFFSET, or the archive is damaged there or before
+  2  the words mean nothing
+  3  the file can't be opened, or memory, an input or the output failed",
+};
+
 /// What is said of words after a command's name.
 #[derive(Clone, Copy)]
 pub struct Operand<'a> {
@@ -113,7 +186,12 @@ pub struct Operand<'a> {
     pub help: &'a str,
 }
 
-pub const ARCHIVES: Operand = Operand {
+pub const ARCHIVE: Operand = Operand {
     name: "WARC",
     help: "A WARC file, or - for standard input",
+};
+
+pub const OFFSET: Operand = Operand {
+    name: "OFFSET",
+    help: "Where the record begins, in bytes from the archive's start",
 };

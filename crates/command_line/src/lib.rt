@@ -5,6 +5,7 @@ mod command;
 mod fault;
 mod help;
 mod matches;
+mod offset;
 mod options;
 mod task;
 mod words;

@@ -1,10 +1,11 @@
 //! The task in clap's matches.
-ghost use Rattle.std.specs.Prelude.{◌≡◌, IfOk, Some, option_map, codes, map};
-ghost use Rattle.clap.specs.Words.{all_of, found_of, rows_of, subcommand_rows_of};
+ghost use Rattle.std.specs.Prelude.{◌≡◌, IfOk, Some, option_map, codes, map, string_bytes};
+ghost use Rattle.clap.specs.Words.{all_of, first_of, found_of, rows_of, subcommand_rows_of};
 ghost use Rattle.command_line.specs.Words.{texts};
-ghost use Rattle.command_line.specs.Commands.{list_input, view};
-ghost use Rattle.command_line.specs.Clap.{matches_task};
+ghost use Rattle.command_line.specs.Commands.{Offset, ToGet, list_input, view};
+ghost use Rattle.command_line.specs.Clap.{matches_task, values_task};
 
+use crate::offset::read_offset;
 use crate::task::Task;
 use clap::ArgMatches;
 use std::alloc::{AllocError, Global};
@@ -19,6 +20,12 @@ pub fn task_of(alloc: Global, matches: &ArgMatches) -> Result<Option<Task>, Allo
     }
 }
 
+/// The word for an offset, as it was given.
+pub fn offset_word<'a>(matches: &ArgMatches<'a>) -> Option<&'a str> {
+    let (_command, values) = matches.subcommand()?;
+    values.get_str("offset")
+}
+
 fn command_task(
     alloc: Global,
     command: &str,
@@ -30,6 +37,8 @@ fn command_task(
     match command {
         "list" => Ok(names_of(alloc, values)?.map(|names| Task::List { names })),
         "verify" => Ok(names_of(alloc, values)?.map(|names| Task::Verify { names })),
+        "index" => Ok(names_of(alloc, values)?.map(|names| Task::Index { names })),
+        "get" => get_task(alloc, values),
         _ => Ok(None),
     }
 }
@@ -40,6 +49,38 @@ fn list_input(alloc: Global) -> Result<Task, AllocError>
     let name = String::from_str(alloc, "-")?;
     let names = vec![in alloc; name]?;
     Ok(Task::List { names })
+}
+
+fn get_task(alloc: Global, values: &ArgMatches) -> Result<Option<Task>, AllocError>
+    ensures { IfOk result (λ task. option_map view task
+        ≡ values_task (Offset ToGet) (rows_of (found_of values.now))) }
+{
+    let Some(offset) = value_of(values, "offset") else {
+        return Ok(None);
+    };
+    let Some(offset) = read_offset(offset) else {
+        return Ok(None);
+    };
+    match name_of(alloc, values)? {
+        Some(name) => Ok(Some(Task::Get { offset, name })),
+        None => Ok(None),
+    }
+}
+
+fn name_of(alloc: Global, values: &ArgMatches) -> Result<Option<String>, AllocError>
+    ensures { IfOk result (λ name. option_map string_bytes name
+        ≡ first_of (codes "name") (rows_of (found_of values.now))) }
+{
+    match value_of(values, "name") {
+        Some(word) => Ok(Some(String::from_str(alloc, word)?)),
+        None => Ok(None),
+    }
+}
+
+fn value_of<'a>(values: &ArgMatches<'a>, id: &str) -> Option<&'a str>
+    ensures { option_map (λ word. word.now) result ≡ first_of id.now (rows_of (found_of values.now)) }
+{
+    values.get_str(id)
 }
 
 fn names_of(alloc: Global, values: &ArgMatches) -> Result<Option<Vec<String>>, AllocError>

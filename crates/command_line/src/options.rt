@@ -9,6 +9,13 @@ pub fn unknown_option(words: &[String]) -> Option<&String>
     words.iter().find(|word| is_unknown_option(word))
 }
 
+/// The first word that asks for help.
+pub fn help_option(words: &[String]) -> Option<&String>
+    ensures { option_map (λ word. string_bytes word.now) result ≡ find asks_for_help (texts words.now) }
+{
+    words.iter().find(|word| asks_for_help(word))
+}
+
 fn is_unknown_option(word: &str) -> bool
     ensures { result ≡ is_unknown_option word.now }
 {

@@ -5,4 +5,8 @@ pub enum Task {
     List { names: Vec<String> },
     /// Check the digests of each archive's records.
     Verify { names: Vec<String> },
+    /// Index the captures of the archives.
+    Index { names: Vec<String> },
+    /// Write the record that begins at the offset, in bytes from the archive's start.
+    Get { offset: u64, name: String },
 }

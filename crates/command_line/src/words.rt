@@ -1,20 +1,20 @@
 //! What the words of a command line ask for.
-ghost use Rattle.std.specs.Prelude.{◌≡◌, IfOk, IfErr, false, Err, Some};
+ghost use Rattle.std.specs.Prelude.{◌≡◌, IfOk, IfErr, true, false, Err, Some, [], ◌∷◌, string_bytes};
 ghost use Rattle.std.specs.List.{list_any};
 ghost use Rattle.std.specs.Option.{IfSome, ok_or};
 ghost use Rattle.clap.specs.Words.{kind_of, subcommand_rows_of};
-ghost use Rattle.command_line.specs.Words.{texts, is_unknown_option};
-ghost use Rattle.command_line.specs.Commands.{Answers, IsUsage, Usage, asked, refusal_of};
+ghost use Rattle.command_line.specs.Words.{texts, asks_for_help, is_unknown_option};
+ghost use Rattle.command_line.specs.Commands.{Answers, IsUsage, Usage, asked, help_or_usage, refusal_of};
 ghost use Rattle.command_line.specs.Clap.{matches_task, refusal_for};
 
 use crate::command::command_line;
 use crate::fault::WordsFault;
-use crate::matches::task_of;
-use crate::options::unknown_option;
+use crate::matches::{offset_word, task_of};
+use crate::options::{help_option, unknown_option};
 use crate::task::Task;
 use clap::error::ErrorKind;
 use clap::{ArgMatches, Error};
-use std::alloc::Global;
+use std::alloc::{AllocError, Global};
 
 /// What the words after the program's name ask for. No words at all are `list -`.
 ///
@@ -25,7 +25,7 @@ use std::alloc::Global;
 ///
 /// - `Help` where help is asked for.
 /// - `Usage` for another word that begins with `-` and goes on, wherever it stands; else for a first word that is no
-///   command, and for a wrong number of words.
+///   command, for a wrong number of words, and for an offset that isn't 1 to 19 digits below 2^63.
 /// - `Memory` where a growth was refused.
 pub fn read_words(alloc: Global, words: &[String]) -> Result<Task, WordsFault>
     ensures { Answers (asked (texts words.now)) result }
@@ -33,18 +33,22 @@ pub fn read_words(alloc: Global, words: &[String]) -> Result<Task, WordsFault>
     if let Some(option) = unknown_option(words) {
         return Err(unexpected(alloc, option));
     }
+    if let Some(help) = help_option(words) {
+        return Err(help_fault(alloc, words, help));
+    }
     match matches_of(alloc, words) {
         Ok(matches) => match task_of(alloc, &matches)? {
             Some(task) => Ok(task),
-            None => Err(usage(alloc, "error: the command doesn't take these words\n")),
+            None => Err(no_offset(alloc, offset_word(&matches).unwrap_or(""))),
         },
         Err(error) => Err(fault_of(alloc, &error)),
     }
 }
 
-/// clap's answer to words without unknown options.
+/// clap's answer to words without options.
 fn matches_of<'a>(alloc: Global, words: &'a [String]) -> Result<ArgMatches<'a>, Error>
-    requires { list_any is_unknown_option (texts words.now) ≡ false }
+    requires known { list_any is_unknown_option (texts words.now) ≡ false }
+    requires plain { list_any asks_for_help (texts words.now) ≡ false }
     ensures matches { IfOk result (λ matches. asked (texts words.entry.now)
         ≡ ok_or (matches_task (subcommand_rows_of matches)) Usage) }
     ensures refused { IfErr result (λ error. IfSome (refusal_for (kind_of error))
@@ -53,6 +57,30 @@ fn matches_of<'a>(alloc: Global, words: &'a [String]) -> Result<ArgMatches<'a>, 
     // the proof needs that a slice has fewer than 2^64 words
     let _count = words.len();
     command_line(alloc)?.try_get_matches_from(words)
+}
+
+/// What clap says of the first word beside one that asks for help. Of all the words it could refuse one too many first.
+fn help_fault(alloc: Global, words: &[String], help: &String) -> WordsFault
+    requires known { list_any is_unknown_option (texts words.now) ≡ false }
+    requires asks { asks_for_help (string_bytes help.now) ≡ true }
+    ensures { IfSome (refusal_of result) (λ refusal. refusal ≡ help_or_usage (texts words.now)) }
+{
+    let first = words.first().unwrap_or(help);
+    fault_of(alloc, &help_error(alloc, first, help))
+}
+
+fn help_error(alloc: Global, first: &str, help: &str) -> Error
+    requires known { is_unknown_option first.now ≡ false }
+    requires asks { asks_for_help help.now ≡ true }
+    ensures { IfSome (refusal_for (kind_of result)) (λ refusal. refusal ≡ help_or_usage (first.now ∷ [])) }
+{
+    match command_line(alloc) {
+        Ok(command) => match command.try_get_matches_from(&[first, help]) {
+            Ok(_matches) => unreachable!(),
+            Err(error) => error,
+        },
+        Err(refused) => Error::from(refused),
+    }
 }
 
 /// What clap says of words that it refuses.
@@ -73,22 +101,28 @@ fn fault_of(alloc: Global, error: &Error) -> WordsFault
 fn unexpected(alloc: Global, option: &str) -> WordsFault
     ensures { IsUsage result }
 {
-    let text = format!(in alloc;
+    usage(format!(in alloc;
         "error: unexpected option '{option}'\n\n  \
          tip: a file whose name begins with '-' is written './-name'\n\n\
          For more information, try '--help'.\n"
-    );
-    match text {
-        Ok(text) => WordsFault::Usage(text),
-        Err(_) => WordsFault::Memory,
-    }
+    ))
 }
 
-fn usage(alloc: Global, text: &str) -> WordsFault
+/// clap takes any word for an offset; the text is in its style.
+fn no_offset(alloc: Global, word: &str) -> WordsFault
     ensures { IsUsage result }
 {
-    match String::from_str(alloc, text) {
+    usage(format!(in alloc;
+        "error: invalid value '{word}' for '<OFFSET>': an offset is 1 to 19 digits, below 2^63\n\n\
+         For more information, try '--help'.\n"
+    ))
+}
+
+fn usage(text: Result<String, AllocError>) -> WordsFault
+    ensures { IsUsage result }
+{
+    match text {
         Ok(text) => WordsFault::Usage(text),
-        Err(_) => WordsFault::Memory,
+        Err(_refused) => WordsFault::Memory,
     }
 }

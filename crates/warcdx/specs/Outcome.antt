@@ -1,5 +1,5 @@
 -- How commands end, and the status of the process.
-use Rattle.std.specs.Prelude.{ℕ, Bool, true, false, nat_lt, if◌then◌else◌}
+use Rattle.std.specs.Prelude.{ℕ, Bool, true, false, nat_lt, if◌then◌else◌, Result, Ok, Err}
 use Rattle.warc_core.specs.declared.fault.Cause.{Cause}
 use Rattle.warc_core.specs.declared.fault.Cause.TheVariants as causes
 use Rattle.capture_core.specs.declared.fault.CaptureFault.{CaptureFault}
@@ -53,3 +53,8 @@ ends_command o = false
 -- of two outcomes the one with the greater status, the first where it is one
 abbrev pub worse_of : Outcome → Outcome → Outcome
 worse_of a b = if nat_lt (status_of a) (status_of b) then b else a
+
+-- how a call on an archive ended
+abbrev pub outcome_of : {A : Type 0} → Result A IndexFault → Outcome
+outcome_of (Ok answer) = outcomes.Done
+outcome_of (Err fault) = outcomes.Index fault

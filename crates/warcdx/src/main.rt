@@ -1,6 +1,10 @@
-//! `warcdx`: lists the records of web archives, and checks their digests.
+//! `warcdx`: lists, checks and indexes the records of web archives, and writes one.
 #![tactic(auto)]
 
+mod archives;
+mod faults;
+mod fetching;
+mod indexing;
 mod outcome;
 mod program;
 mod reports;

@@ -1,4 +1,6 @@
 //! What the program does with its words and its output.
+use crate::fetching::fetch;
+use crate::indexing::index_all;
 use crate::outcome::Outcome;
 use crate::reports::{Report, report_on};
 use command_line::{Task, WordsFault, read_words};
@@ -78,5 +80,7 @@ pub fn perform<R: Runtime + AllocGlobal, O: Output>(rt: &R, task: &Task, out: &m
     match task {
         Task::List { names } => report_on(rt, names, Report::Listing, out),
         Task::Verify { names } => report_on(rt, names, Report::Verdicts, out),
+        Task::Index { names } => index_all(rt, names, out),
+        Task::Get { offset, name } => fetch(rt, *offset, name, out),
     }
 }

@@ -1,12 +1,10 @@
 //! Reports on archives, one archive after another.
+use crate::archives::{open, with_each};
 use crate::outcome::Outcome;
-use crate::status::{ends_command, worse};
 use index_core::{IndexFault, list, verify};
 use std::alloc::Global;
-use std::fs::File;
-use std::io::ErrorKind;
 use std::rt::Runtime;
-use warc_core::{FromRead, Input, Output, put};
+use warc_core::{Input, Output, put};
 
 /// What is said of an archive.
 #[derive(Clone, Copy)]
@@ -33,23 +31,17 @@ impl Report {
     }
 }
 
-/// Writes the report on each archive, and goes on after an archive's fault, but not where memory or the output failed. Of
-/// several archives each report stands under the name of its archive.
+/// Writes the report on each archive. Of several archives each report stands under the name of its archive.
 pub fn report_on<R: Runtime + AllocGlobal, O: Output>(
     rt: &R,
     names: &[String],
     report: Report,
     out: &mut O,
 ) -> Outcome {
-    let mut outcome = Outcome::Done;
-    for name in names {
-        let ended = report_named(rt, name, names.len(), report, out);
-        if ends_command(&ended) {
-            return ended;
-        }
-        outcome = worse(outcome, ended);
-    }
-    outcome
+    with_each(
+        names,
+        |name| report_named(rt, name, names.len(), report, out),
+    )
 }
 
 /// Writes the report on the archive of this name, one of so many; `-` is standard input.
@@ -60,30 +52,9 @@ fn report_named<R: Runtime + AllocGlobal, O: Output>(
     report: Report,
     out: &mut O,
 ) -> Outcome {
-    if name == "-" {
-        return report_below(
-            rt.alloc(),
-            name,
-            among,
-            report,
-            &mut FromRead::new(rt.reader()),
-            out,
-        );
-    }
-    match File::open(rt, name) {
-        Ok(file) => report_below(
-            rt.alloc(),
-            name,
-            among,
-            report,
-            &mut FromRead::new(file),
-            out,
-        ),
-        Err(error) if error.kind() == ErrorKind::OutOfMemory => Outcome::Index(IndexFault::Memory),
-        Err(_error) => {
-            let _ = eprintln!(rt; "warcdx: {name}: cannot open");
-            Outcome::CannotOpen
-        }
+    match open(rt, name) {
+        Ok(mut archive) => report_below(rt.alloc(), name, among, report, &mut archive, out),
+        Err(outcome) => outcome,
     }
 }
 

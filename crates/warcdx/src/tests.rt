@@ -6,16 +6,22 @@ mod fetches;
 mod index_faults;
 mod indexes;
 mod listings;
+mod named;
 mod outcomes;
 mod prefixes;
 mod verdicts;
 mod words;
 mod writes;
 
+use crate::outcome::Outcome;
+use crate::program::perform;
+use crate::status::ends_command;
 use capture_core::CaptureFault;
+use command_line::Task;
 use index_core::IndexFault;
 use std::alloc::{AllocError, Global};
-use warc_core::{Cause, Fault};
+use std::rt::Runtime;
+use warc_core::{Cause, Fault, Fuse, Gather};
 
 /// A response: a head of 201 bytes, a block of 59 and the closing, 264 in all.
 const RESPONSE: &[u8] =
@@ -71,4 +77,21 @@ fn settled<A: Copy>(answer: Result<A, IndexFault>) -> Result<Result<A, Fault>, R
         }
         Err(_) => Err(Refused::Memory),
     }
+}
+
+/// How the task ends, whose output is a memory and fails at its call `at`.
+fn performed<R: Runtime + AllocGlobal>(
+    rt: &R,
+    task: Result<Task, AllocError>,
+    at: u64,
+) -> Result<(Outcome, Fuse<Gather>), Refused> {
+    let Ok(task) = task else {
+        return Err(Refused::Memory);
+    };
+    let mut out = Fuse::new(Gather::new(rt.alloc()), usize::MAX, at);
+    let outcome = perform(rt, &task, &mut out);
+    if ends_command(&outcome) && (outcome != Outcome::Index(IndexFault::Write) || out.calls != at) {
+        return Err(Refused::Memory);
+    }
+    Ok((outcome, out))
 }

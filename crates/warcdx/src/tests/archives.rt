@@ -1,9 +1,7 @@
 //! Tasks on archives by name.
-use super::{RESPONSE, Refused, cut, owned};
+use super::{RESPONSE, Refused, cut, owned, performed};
 use crate::outcome::Outcome;
-use crate::program::perform;
 use crate::reports::Report;
-use crate::status::ends_command;
 use capture_core::CaptureFault;
 use command_line::Task;
 use index_core::IndexFault;
@@ -11,7 +9,7 @@ use std::alloc::{AllocError, Global};
 use std::rt::Runtime;
 use std::test::Fail;
 use std::{fs, io};
-use warc_core::{Cause, Fault, Fuse, Gather};
+use warc_core::{Cause, Fault};
 
 /// A resource of 242 bytes whose block has another digest than it says.
 const DIFFERING: &[u8] =
@@ -22,7 +20,7 @@ const CLOSING: Outcome = Outcome::Index(IndexFault::Capture(CaptureFault::Archiv
     cause: Cause::Closing,
 })));
 
-const READ: Outcome = Outcome::Index(IndexFault::Capture(CaptureFault::Archive(Fault {
+pub const READ: Outcome = Outcome::Index(IndexFault::Capture(CaptureFault::Archive(Fault {
     offset: 0,
     cause: Cause::Read,
 })));
@@ -112,24 +110,6 @@ fn task(alloc: Global, report: Report, names: &[&str]) -> Result<Task, AllocErro
     }
 }
 
-/// How the task ends, whose output is a memory and fails at its call `at`.
-fn performed<R: Runtime + AllocGlobal>(
-    rt: &R,
-    report: Report,
-    names: &[&str],
-    at: u64,
-) -> Result<(Outcome, Fuse<Gather>), Refused> {
-    let Ok(task) = task(rt.alloc(), report, names) else {
-        return Err(Refused::Memory);
-    };
-    let mut out = Fuse::new(Gather::new(rt.alloc()), usize::MAX, at);
-    let outcome = perform(rt, &task, &mut out);
-    if ends_command(&outcome) && (outcome != Outcome::Index(IndexFault::Write) || out.calls != at) {
-        return Err(Refused::Memory);
-    }
-    Ok((outcome, out))
-}
-
 /// Whether the task writes this, and ends so.
 fn writes<R: Runtime + AllocGlobal>(
     rt: &R,
@@ -138,7 +118,7 @@ fn writes<R: Runtime + AllocGlobal>(
     lines: &[u8],
     wanted: Outcome,
 ) -> Result<bool, Refused> {
-    let (outcome, out) = performed(rt, report, names, 0)?;
+    let (outcome, out) = performed(rt, task(rt.alloc(), report, names), 0)?;
     Ok(out.device.bytes() == lines && outcome == wanted)
 }
 
@@ -149,7 +129,7 @@ fn stops<R: Runtime + AllocGlobal>(
     at: u64,
     lines: &[u8],
 ) -> Result<bool, Refused> {
-    let (outcome, out) = performed(rt, Report::Listing, names, at)?;
+    let (outcome, out) = performed(rt, task(rt.alloc(), Report::Listing, names), at)?;
     Ok(out.device.bytes() == lines && outcome == Outcome::Index(IndexFault::Write))
 }
 

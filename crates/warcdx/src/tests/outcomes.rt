@@ -9,7 +9,7 @@ fn archive(cause: Cause) -> Outcome {
 }
 
 /// Outcomes with their status, and whether they end a command at once.
-const OUTCOMES: [(Outcome, u8, bool); 11] = [
+const OUTCOMES: [(Outcome, u8, bool); 12] = [
     (Outcome::Done, 0, false),
     (Outcome::Differs, 1, false),
     (Outcome::Usage, 2, false),
@@ -17,6 +17,7 @@ const OUTCOMES: [(Outcome, u8, bool); 11] = [
     (Outcome::Index(IndexFault::Write), 3, true),
     (Outcome::Index(IndexFault::BadName), 1, false),
     (Outcome::Index(IndexFault::DuplicateName), 1, false),
+    (Outcome::Index(IndexFault::NoRecord), 1, false),
     (
         Outcome::Index(IndexFault::Capture(CaptureFault::LineTooLong(7))),
         1,

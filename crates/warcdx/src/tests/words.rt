@@ -7,6 +7,8 @@ use std::alloc::Global;
 enum Wanted {
     List(&'static [&'static str]),
     Verify(&'static [&'static str]),
+    Index(&'static [&'static str]),
+    Get(u64, &'static str),
     Help(&'static str),
     Usage(&'static str),
 }
@@ -17,9 +19,22 @@ const LIST: Wanted = Wanted::Help("Usage: warcdx list <WARC>...\n");
 
 const VERIFY: Wanted = Wanted::Help("Usage: warcdx verify <WARC>...\n");
 
+const INDEX: Wanted = Wanted::Help("Usage: warcdx index <WARC>...\n");
+
+const GET: Wanted = Wanted::Help("Usage: warcdx get <OFFSET> <WARC>\n");
+
 const NO_NAME: Wanted = Wanted::Usage("required arguments were not provided:\n  <WARC>...\n");
 
 const WITH_X: Wanted = Wanted::Usage("error: unexpected option '-x'\n");
+
+/// 2^63 - 1.
+const LARGEST: &str = "9223372036854775807";
+
+/// 2^63.
+const TOO_LARGE: &str = "9223372036854775808";
+
+/// Twenty digits.
+const TOO_LONG: &str = "00000000000000000007";
 
 const ROWS: &[(&[&str], Wanted)] = &[
     (&[], Wanted::List(&["-"])),
@@ -28,8 +43,43 @@ const ROWS: &[(&[&str], Wanted)] = &[
     (&["list", "a", "b"], Wanted::List(&["a", "b"])),
     (&["list", "list", "", "a"], Wanted::List(&["list", "", "a"])),
     (&["verify", "-", "./-x"], Wanted::Verify(&["-", "./-x"])),
+    (&["index", "a", "b"], Wanted::Index(&["a", "b"])),
+    (&["get", "264", "a.warc"], Wanted::Get(264, "a.warc")),
+    (&["get", "007", "-"], Wanted::Get(7, "-")),
+    (&["get", LARGEST, "a"], Wanted::Get((1 << 63) - 1, "a")),
     (&["list"], NO_NAME),
     (&["verify"], NO_NAME),
+    (&["index"], NO_NAME),
+    (
+        &["get"],
+        Wanted::Usage("not provided:\n  <OFFSET>\n  <WARC>\n"),
+    ),
+    (&["get", "0"], Wanted::Usage("not provided:\n  <WARC>\n")),
+    (
+        &["get", "0", "a", "b"],
+        Wanted::Usage("error: unexpected argument 'b' found\n"),
+    ),
+    (
+        &["get", "x", "a.warc"],
+        Wanted::Usage("invalid value 'x' for '<OFFSET>': "),
+    ),
+    (&["get", "", "a"], Wanted::Usage("invalid value '' for ")),
+    (
+        &["get", "+1", "a"],
+        Wanted::Usage("invalid value '+1' for "),
+    ),
+    (
+        &["get", TOO_LARGE, "a"],
+        Wanted::Usage("invalid value '9223372036854775808' for "),
+    ),
+    (
+        &["get", TOO_LONG, "a"],
+        Wanted::Usage("invalid value '00000000000000000007' for "),
+    ),
+    (
+        &["get", "-1", "a"],
+        Wanted::Usage("unexpected option '-1'\n"),
+    ),
     (&["frob"], Wanted::Usage("unrecognized subcommand 'frob'\n")),
     (
         &["a.warc", "list"],
@@ -46,6 +96,10 @@ const ROWS: &[(&[&str], Wanted)] = &[
     (&["list", "-h"], LIST),
     (&["list", "a", "--help", "b"], LIST),
     (&["verify", "--help"], VERIFY),
+    (&["index", "-h"], INDEX),
+    (&["get", "--help"], GET),
+    (&["get", "x", "-h"], GET),
+    (&["get", "0", "a", "b", "-h"], GET),
     (&["list", "a", "-x"], WITH_X),
     (&["-h", "-x"], WITH_X),
     (&["list", "-x", "--help"], WITH_X),
@@ -77,6 +131,10 @@ fn is_task(task: &Task, wanted: &Wanted) -> bool {
     match (task, wanted) {
         (Task::List { names }, Wanted::List(wanted)) => are(names.as_slice(), wanted),
         (Task::Verify { names }, Wanted::Verify(wanted)) => are(names.as_slice(), wanted),
+        (Task::Index { names }, Wanted::Index(wanted)) => are(names.as_slice(), wanted),
+        (Task::Get { offset, name }, Wanted::Get(at, wanted)) => {
+            offset == at && name.as_str() == *wanted
+        }
         _ => false,
     }
 }

@@ -1,14 +1,10 @@
-use Rattle.std.proofs.Common.{rules, tests, refl, ◌≡◌, ◌∙◌, ap, option_map, Option, None, Some, String, string_bytes}
-use Rattle.std.specs.Global.{Global}
+use Rattle.std.proofs.Common.{rules, tests, ◌∙◌, ap, option_map, string_bytes}
 use Rattle.std.proofs.lemmas.Iterator.{YieldsList-from_slice}
 use Rattle.std.proofs.lemmas.Iterator.Search.{find_from_yields_List}
 use Rattle.clap.proofs.WalkLemmas.{find-map}
 use Rattle.command_line.specs.Words.{is_unknown_option}
+use Rattle.command_line.proofs.Finding.{in_turn}
 use Rattle.command_line.proofs.options.unknown_option.Goals as goal
-
-in_turn : {A : Type 0} (o : Option A) (f : A → String Global) → option_map (λ x. string_bytes (f x)) o ≡ option_map string_bytes (option_map f o)
-in_turn None f = refl
-in_turn (Some x) f = refl
 
 pub returns : goal.returns
 returns c =

@@ -3,9 +3,10 @@ use Rattle.std.specs.Option.{ok_or}
 use Rattle.std.proofs.lemmas.List.{length-map}
 use Rattle.clap.specs.Words.{app_of, is_simple, subcommand_of, fault_of, is_simple_and_free, kind_of}
 use Rattle.command_line.specs.Words.{texts}
-use Rattle.command_line.specs.Commands.{Usage, asked}
+use Rattle.command_line.specs.Commands.{Usage, task_of}
 use Rattle.command_line.specs.Clap.{matches_task, warcdx}
-use Rattle.command_line.proofs.CommandLine.{tells, matched, refused}
+use Rattle.command_line.proofs.PlainWords.{all_plain}
+use Rattle.command_line.proofs.CommandLine.{tells, plain_asked, matched, refused}
 use Rattle.command_line.proofs.words.matches_of.Goals as goal
 
 both : {T E : Type 0} (r : Result T E) (P Q S : T → Type 0) (R : E → Type 0) → ((x : T) → P x → Q x → S x)
@@ -24,9 +25,10 @@ returns-clause-matches c =
     let count : length words ≡ length c.args.words.now = length-map c.args.words.now string_bytes in
     let bound : length c.args.words.now < 2 ^ 64 = search rules in
     let short : length words < 2 ^ 64 = omega (arith, count, bound) in
+    let told = tells words (all_plain words c.requires.known c.requires.plain) short in
     let parse = c.try_get_matches_from in
-    both parse.result _ _ _ _ (λ m h k. matched (asked words) (fault_of warcdx words) (subcommand_of warcdx words) (tells words c.requires short)
-    (ap (λ a. fault_of a words) (sym same) ∙ k)
+    both parse.result _ _ _ _ (λ m h k. plain_asked words c.requires.known c.requires.plain
+    ∙ matched (task_of words) (fault_of warcdx words) (subcommand_of warcdx words) told (ap (λ a. fault_of a words) (sym same) ∙ k)
     ∙ ap (λ met. ok_or (matches_task met) Usage) (sym ((h (ap is_simple same)).1 ∙ ap (λ a. subcommand_of a words) same)))
     parse.ensures.matches (parse.ensures.kinds (ap is_simple_and_free same))
 
@@ -37,6 +39,8 @@ returns-clause-refused c =
     let count : length words ≡ length c.args.words.now = length-map c.args.words.now string_bytes in
     let bound : length c.args.words.now < 2 ^ 64 = search rules in
     let short : length words < 2 ^ 64 = omega (arith, count, bound) in
+    let told = tells words (all_plain words c.requires.known c.requires.plain) short in
     let parse = c.try_get_matches_from in
-    error parse.result _ _ _ (λ e h. refused (asked words) (fault_of warcdx words) (subcommand_of warcdx words) (kind_of e) (tells words c.requires short) h)
+    error parse.result _ _ _ (λ e h. rw (plain_asked words c.requires.known c.requires.plain)
+    (refused (task_of words) (fault_of warcdx words) (subcommand_of warcdx words) (kind_of e) told h))
     (rw (ap (λ a. fault_of a words) same) at parse.ensures.kinds (ap is_simple_and_free same))

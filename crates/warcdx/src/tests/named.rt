@@ -1,0 +1,151 @@
+//! Indexes of archives by name, and their records.
+use super::archives::READ;
+use super::indexes::{RESOURCE_LINE, RESPONSE_LINE};
+use super::{RESOURCE, RESPONSE, Refused, cut, joined, owned, performed};
+use crate::archives::file_name;
+use crate::outcome::Outcome;
+use capture_core::CaptureFault;
+use command_line::Task;
+use index_core::IndexFault;
+use std::alloc::{AllocError, Global};
+use std::rt::Runtime;
+use std::test::Fail;
+use std::{fs, io};
+use warc_core::{Cause, Fault};
+
+const BAD_NAME: Outcome = Outcome::Index(IndexFault::BadName);
+
+const DUPLICATE_NAME: Outcome = Outcome::Index(IndexFault::DuplicateName);
+
+const NO_RECORD: Outcome = Outcome::Index(IndexFault::NoRecord);
+
+const WRITE: Outcome = Outcome::Index(IndexFault::Write);
+
+/// `b.warc` has the two records, and is damaged after them.
+const SHORT_BLOCK: Outcome = Outcome::Index(IndexFault::Capture(CaptureFault::Archive(Fault {
+    offset: 448,
+    cause: Cause::ShortBlock,
+})));
+
+/// Names of archives, what their index is, and how its writing ends. `whole/b.warc` has the response alone; there is no
+/// `none`, and `whole` is a folder.
+const INDEXES: &[(&[&str], &[&[u8]], Outcome)] = &[
+    (&["whole/b.warc"], &[RESPONSE_LINE], Outcome::Done),
+    (&["b.warc"], &[RESPONSE_LINE, RESOURCE_LINE], SHORT_BLOCK),
+    (
+        &["none", "b.warc"],
+        &[RESPONSE_LINE, RESOURCE_LINE],
+        Outcome::CannotOpen,
+    ),
+    (
+        &["whole/b.warc", "b.warc"],
+        &[RESPONSE_LINE],
+        DUPLICATE_NAME,
+    ),
+    (
+        &["none/b.warc", "whole/b.warc"],
+        &[RESPONSE_LINE],
+        Outcome::CannotOpen,
+    ),
+    (&["whole/", "whole/b.warc"], &[RESPONSE_LINE], BAD_NAME),
+    (&["whole", "./whole/b.warc"], &[RESPONSE_LINE], READ),
+];
+
+/// Offsets in archives, what is written of them, and how that ends.
+const RECORDS: &[(u64, &str, &[u8], Outcome)] = &[
+    (0, "whole/b.warc", RESPONSE, Outcome::Done),
+    (264, "b.warc", RESOURCE, Outcome::Done),
+    (1, "b.warc", b"", NO_RECORD),
+    (264, "whole/b.warc", b"", NO_RECORD),
+    (449, "b.warc", b"", SHORT_BLOCK),
+    (0, "none", b"", Outcome::CannotOpen),
+    (0, "whole", b"", READ),
+];
+
+fn index(alloc: Global, names: &[&str]) -> Result<Task, AllocError> {
+    let names = owned(alloc, names)?;
+    Ok(Task::Index { names })
+}
+
+fn record_at(alloc: Global, offset: u64, name: &str) -> Result<Task, AllocError> {
+    let name = String::from_str(alloc, name)?;
+    Ok(Task::Get { offset, name })
+}
+
+/// Whether the task writes these pieces, one after another, and ends so.
+fn writes<R: Runtime + AllocGlobal>(
+    rt: &R,
+    task: Result<Task, AllocError>,
+    pieces: &[&[u8]],
+    wanted: Outcome,
+) -> Result<bool, Refused> {
+    let Ok(text) = joined(rt.alloc(), pieces) else {
+        return Err(Refused::Memory);
+    };
+    let (outcome, out) = performed(rt, task, 0)?;
+    Ok(out.device.bytes() == text.as_slice() && outcome == wanted)
+}
+
+/// Whether the task's first write fails, and ends it.
+fn stops<R: Runtime + AllocGlobal>(
+    rt: &R,
+    task: Result<Task, AllocError>,
+) -> Result<bool, Refused> {
+    let (outcome, out) = performed(rt, task, 1)?;
+    Ok(out.device.bytes().is_empty() && outcome == WRITE)
+}
+
+/// Whether a first part of the response is written before its block ends too early.
+fn writes_in_part<R: Runtime + AllocGlobal>(rt: &R) -> Result<bool, Refused> {
+    let (outcome, out) = performed(rt, record_at(rt.alloc(), 448, "b.warc"), 0)?;
+    Ok(cut(RESPONSE, 231).starts_with(out.device.bytes()) && outcome == SHORT_BLOCK)
+}
+
+fn write_archives<R: Runtime + AllocGlobal>(rt: &R) -> Result<(), Fail> {
+    let damaged = joined(rt.alloc(), &[RESPONSE, RESOURCE, cut(RESPONSE, 231)])?;
+    fs::create_dir(rt, "whole")?;
+    fs::write(rt, "whole/b.warc", RESPONSE)?;
+    Ok(fs::write(rt, "b.warc", damaged.as_slice())?)
+}
+
+fn remove_archives<R: Runtime>(rt: &R) -> io::Result<()> {
+    fs::remove_file(rt, "b.warc")?;
+    fs::remove_file(rt, "whole/b.warc")?;
+    fs::remove_dir(rt, "whole")
+}
+
+#[test]
+fn archives_are_indexed_and_read_by_name(rt: HostRuntime) -> Result<(), Fail> {
+    let alloc = rt.alloc();
+    write_archives(&rt)?;
+    for (names, lines, wanted) in INDEXES {
+        assert!(rt;
+            writes(&rt, index(alloc, names), lines, *wanted)?,
+            "{names:?}"
+        );
+    }
+    for (offset, name, record, wanted) in RECORDS {
+        assert!(rt;
+            writes(&rt, record_at(alloc, *offset, name), &[record], *wanted)?,
+            "{offset} {name}"
+        );
+    }
+    assert!(rt; writes_in_part(&rt)?);
+    assert!(rt; stops(&rt, index(alloc, &["none", "b.warc"]))?);
+    assert!(rt; stops(&rt, record_at(alloc, 264, "b.warc"))?);
+    Ok(remove_archives(&rt)?)
+}
+
+#[test]
+fn a_file_name_stands_after_the_last_slash(rt: HostRuntime) {
+    for (name, wanted) in [
+        ("a.warc", "a.warc"),
+        ("-", "-"),
+        ("/x/y/a.warc", "a.warc"),
+        ("x/", ""),
+        ("", ""),
+        ("é/ü", "ü"),
+    ] {
+        assert_eq!(rt; file_name(name), wanted);
+    }
+}
