@@ -50,10 +50,14 @@ class Archive:
 
 def head(number, block, length):
     """The head of a record whose block has these pieces."""
+    return (HEAD % (number, digest_of(block), length)).encode()
+
+
+def digest_of(pieces):
     digest = hashlib.sha1()
-    for piece in block:
+    for piece in pieces:
         digest.update(piece)
-    return (HEAD % (number, base64.b32encode(digest.digest()).decode(), length)).encode()
+    return base64.b32encode(digest.digest()).decode()
 
 
 def record(choice, length):

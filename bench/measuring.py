@@ -1,13 +1,20 @@
 """Processor time and memory of programs that read an archive from standard input, and how they compare with goals."""
+import array
+import fcntl
 import os
 import pathlib
 import platform
+import resource
+import shutil
 import subprocess
 import sys
+import termios
+import time
 from typing import NamedTuple
 
 ROOT = pathlib.Path(__file__).resolve().parent.parent
 ROUNDS = 15
+PIECE = 1 << 20  # bytes handed to a pipe at once
 
 
 class Figure(NamedTuple):
@@ -63,19 +70,68 @@ def expect(command, path, output):
 
 def processor_time(command, path):
     """The user and system time, in seconds, of one run that reads this file."""
-    with open(path, "rb") as file:
-        process = subprocess.Popen(command, stdin=file, stdout=subprocess.DEVNULL)
-    _, status, used = os.wait4(process.pid, 0)
-    process.returncode = os.waitstatus_to_exitcode(status)
-    if process.returncode:
-        sys.exit(f"{command} failed on {path}")
-    return used.ru_utime + used.ru_stime
+    return seconds(used_by_run(command, path))
 
 
 def least_times(runs):
-    """The least processor time of each run, by name. Each round has every run in turn."""
-    rounds = [[processor_time(*run) for run in runs.values()] for _ in range(ROUNDS)]
+    """The least time of each run, by name. Each round has every run in turn."""
+    rounds = [[run() for run in runs.values()] for _ in range(ROUNDS)]
     return {name: min(times) for name, times in zip(runs, zip(*rounds))}
+
+
+def time_after_input(command, path):
+    """The same of what the run does once it has read all of the file, which comes by a pipe, and waits for its end."""
+    process = subprocess.Popen(command, stdin=subprocess.PIPE, stdout=subprocess.DEVNULL)
+    with open(path, "rb") as file, process.stdin:
+        shutil.copyfileobj(file, process.stdin, PIECE)
+        process.stdin.flush()
+        while unread(process.stdin) or not sleeps(process):
+            time.sleep(0.001)
+        reading = int(account(process, "schedstat").split()[0]) / 1e9
+    return seconds(used_by(process, command)) - reading
+
+
+def unread(pipe):
+    """The number of bytes that a pipe holds."""
+    count = array.array("i", [0])
+    fcntl.ioctl(pipe, termios.FIONREAD, count)
+    return count[0]
+
+
+def sleeps(process):
+    return "\nState:\tS" in account(process, "status")
+
+
+def account(process, name):
+    return pathlib.Path(f"/proc/{process.pid}/{name}").read_text()
+
+
+def used_by_run(command, path):
+    with open(path, "rb") as file:
+        return used_by(subprocess.Popen(command, stdin=file, stdout=subprocess.DEVNULL), command)
+
+
+def used_by(process, command):
+    """What the process has used, once it has ended well."""
+    _, status, used = os.wait4(process.pid, 0)
+    process.returncode = os.waitstatus_to_exitcode(status)
+    if process.returncode:
+        sys.exit(f"{command} failed")
+    return used
+
+
+def seconds(used):
+    return used.ru_utime + used.ru_stime
+
+
+def peak_of_run(command, path):
+    """The most memory, in bytes, that one run has held. It has to be more than this process has ever held, as wait4 answers
+    the greater of the two.
+    """
+    peak, own = used_by_run(command, path).ru_maxrss, resource.getrusage(resource.RUSAGE_SELF).ru_maxrss
+    if peak <= own:
+        sys.exit(f"{command} held no more than the measuring process, so it can't be said how much")
+    return peak * 1024
 
 
 def peak_memory(command, pieces):
@@ -88,10 +144,10 @@ def peak_memory(command, pieces):
         for piece in pieces:
             process.stdin.write(piece)
         process.stdin.flush()
-        account = pathlib.Path(f"/proc/{process.pid}/status").read_text()
+        status = account(process, "status")
     if process.returncode:
         sys.exit(f"{command} failed on an archive from a pipe")
-    return next(int(line.split()[1]) * 1024 for line in account.splitlines() if line.startswith("VmHWM:"))
+    return next(int(line.split()[1]) * 1024 for line in status.splitlines() if line.startswith("VmHWM:"))
 
 
 def memory_figures(command, archives, goal):
