@@ -12,6 +12,10 @@ impl<'a> HasPlace for Place<'a> {
 
     ghost place_of = { place_view };
 
+    fn key(&self) -> &str {
+        self.key
+    }
+
     fn compare_place(&self, other: &Place<'a>) -> Ordering {
         self.cmp(other)
     }
@@ -21,6 +25,10 @@ impl HasPlace for OwnedPlace {
     ghost use Rattle.cdxj_core.specs.PlaceViews.{owned_view};
 
     ghost place_of = { owned_view };
+
+    fn key(&self) -> &str {
+        self.place().key
+    }
 
     fn compare_place(&self, other: &OwnedPlace) -> Ordering {
         self.place().compare_place(&other.place())
@@ -33,6 +41,10 @@ impl<'a> HasPlace for LineRef<'a> {
 
     ghost place_of = { λ line. line_place (line_view line) };
 
+    fn key(&self) -> &str {
+        self.place().key
+    }
+
     fn compare_place(&self, other: &LineRef<'a>) -> Ordering {
         self.place().compare_place(&other.place())
     }
@@ -44,6 +56,10 @@ impl HasPlace for Line {
 
     ghost place_of = { λ line. line_place (own_line_view line) };
 
+    fn key(&self) -> &str {
+        self.place().key
+    }
+
     fn compare_place(&self, other: &Line) -> Ordering {
         self.place().compare_place(&other.place())
     }
@@ -54,12 +70,16 @@ impl HasPlace for Entry {
 
     ghost place_of = { entry_place };
 
+    fn key(&self) -> &str {
+        self.key.as_str()
+    }
+
     fn compare_place(&self, other: &Entry) -> Ordering {
         self.key
             .as_str()
             .cmp(other.key.as_str())
-            .then(self.stamp.cmp(&other.stamp))
-            .then(self.filename.as_str().cmp(other.filename.as_str()))
-            .then(self.offset.cmp(&other.offset))
+            .then_with(|| self.stamp.cmp(&other.stamp))
+            .then_with(|| self.filename.as_str().cmp(other.filename.as_str()))
+            .then_with(|| self.offset.cmp(&other.offset))
     }
 }

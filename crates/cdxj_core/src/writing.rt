@@ -12,6 +12,7 @@ use crate::fault::LineFault;
 use crate::limit::LINE_LIMIT;
 use crate::scan::is_plain_text;
 use crate::texts::Texts;
+use itoa::Buffer;
 use serde_json::Value;
 use std::alloc::{AllocError, Global};
 
@@ -115,14 +116,18 @@ fn room(alloc: Global, entry: &Entry) -> Result<Vec<u8>, AllocError>
 fn line_bytes(alloc: Global, entry: &Entry) -> Result<Vec<u8>, AllocError>
     ensures { IfOk result (λ line. line.items ≡ line_text entry.now) }
 {
-    let length = format!(in alloc; "{}", entry.length)?;
-    let offset = format!(in alloc; "{}", entry.offset)?;
+    let mut length = Buffer::new();
+    let mut offset = Buffer::new();
     let mut line = room(alloc, entry)?;
     push_pair(&mut line, entry)?;
     push_object(
         &mut line,
         alloc,
-        member_texts(entry, length.as_str(), offset.as_str()),
+        member_texts(
+            entry,
+            length.format(entry.length),
+            offset.format(entry.offset),
+        ),
     )?;
     line.push(b'\n')?;
     Ok(line)

@@ -9,8 +9,8 @@ pub returns : goal.returns
 returns c =
     let e = c.args.entry.now in
     let seen = c.entry.view_is in
-    let size = c.as_str.ensures.value ∙ c.in_ok-length.ensures.ok ∙ ap (λ e. decimal e.length) seen in
-    let offset = c.as_str-2.ensures.value ∙ c.in_ok-offset.ensures.ok ∙ ap (λ e. decimal e.offset) seen in
+    let size = c.format.ensures.text ∙ ap (λ e. decimal e.length) seen in
+    let offset = c.format-2.ensures.text ∙ ap (λ e. decimal e.offset) seen in
     let texts : texts_view c.member_texts.result ≡ entry_texts e = c.member_texts.ensures ∙ (λ i. record (entry_texts e) { length = size i; offset = offset i }) in
     let pair = c.in_ok-push_pair.ensures ∙ ap (λ l. l ++ (e.key ++ 32 ∷ (e.stamp ++ 32 ∷ []))) c.in_ok-line.ensures in
     let object = c.in_ok-push_object.ensures ∙ (λ i. pair i ++ object_text (text_members (texts i))) in
