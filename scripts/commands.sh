@@ -29,11 +29,32 @@ make_archives() {
     repeated 20000 < same.warc > many.warc
     cp same.warc ./-dash.warc
     mkdir folder
+
+    # Records of 158 bytes that have a capture.
+    resource "WARC-Target-URI: http://example.com/q" > q.warc
+    resource "WARC-Target-URI: http://example.com/r" > r.warc
+    cp r.warc folder
+    cat r.warc q.warc > both.warc
+    { cat both.warc; head --bytes=100 r.warc; } > torn.warc
+    : > empty.warc
+    # The index of this one, and the record of the next, are longer than any buffer of the program.
+    repeated 20000 < r.warc > captures.warc
+    {
+        printf '%s\r\n' WARC/1.1 "WARC-Type: metadata" "WARC-Record-ID: <urn:x:2>" "WARC-Date: 2016-09-19T17:20:24Z" \
+            "Content-Length: 100000" ""
+        printf a | repeated 100000
+        printf '\r\n\r\n'
+    } > large.warc
 }
 
 resource() { # FIELD: a record with the block "abc"
     printf '%s\r\n' WARC/1.1 "WARC-Type: resource" "WARC-Record-ID: <urn:x:1>" "WARC-Date: 2016-09-19T17:20:24Z" \
         "$1" "Content-Length: 3" "" abc ""
+}
+
+capture() { # PATH OFFSET NAME: the line of a capture
+    echo "com,example)/$1 20160919172024 {\"url\": \"http://example.com/$1\", \"mime\": \"-\", \"status\": \"-\"," \
+        "\"digest\": \"$abc\", \"length\": \"158\", \"offset\": \"$2\", \"filename\": \"$3\"}"
 }
 
 lines() {
@@ -46,6 +67,11 @@ refusal() { # ERROR USAGE
 
 unknown() { # WORD
     refusal "unrecognized subcommand '$1'" "[COMMAND]"
+}
+
+no_offset() { # WORD
+    lines "error: invalid value '$1' for '<OFFSET>': an offset is 1 to 19 digits, below 2^63" "" \
+        "For more information, try '--help'."
 }
 
 unexpected() { # OPTION
@@ -108,14 +134,77 @@ check "verify: a fault, then differs"   "$cut_first"     ""                1 ver
 check "verify: a fault, then missing"   "$cut"           "$missing"        3 verify cut.warc missing
 check "verify: a missing file"          ""               "$missing"        3 verify missing
 
+of_r=$(capture r 0 r.warc)
+of_both=$(capture q 158 both.warc; capture r 0 both.warc)
+of_two=$(lines "$of_both" "$of_r")
+of_torn=$(capture q 158 torn.warc; capture r 0 torn.warc)
+torn_first=$(capture q 158 torn.warc; capture r 0 r.warc; capture r 0 torn.warc)
+of_input=$(capture r 0 -)
+input_among=$(capture q 158 both.warc; capture r 0 -; capture r 0 both.warc)
+torn="warcdx: torn.warc: fault 316 ShortHead"
+
+check "index: an archive"               "$of_r"          ""                0 index r.warc
+check "index: by keys"                  "$of_both"       ""                0 index both.warc
+check "index: two archives"             "$of_two"        ""                0 index r.warc both.warc
+check "index: no captures"              ""               ""                0 index same.warc empty.warc
+check "index: -"                        "$of_input"      ""                0 index - < r.warc
+check "index: - among others"           "$input_among"   ""                0 index both.warc - < r.warc
+check "index: - twice"    "$of_input"  "warcdx: -: DuplicateName"          1 index - - < r.warc
+check "index: a missing file"           ""               "$missing"        3 index missing
+check "index: a missing file among good ones"  "$of_two" "$missing"        3 index r.warc missing both.warc
+check "index: a fault"                  "$of_torn"       "$torn"           1 index torn.warc
+check "index: a fault in the first of two"  "$torn_first" "$torn"          1 index torn.warc r.warc
+check "index: a fault, then missing" "$of_torn" "$(lines "$torn" "$missing")" 3 index torn.warc missing
+check "index: a file name twice" "$of_r" "warcdx: folder/r.warc: DuplicateName" 1 index r.warc folder/r.warc
+check "index: a damaged archive's name again" "$of_torn" "$(lines "$torn" "warcdx: torn.warc: DuplicateName")" 1 index torn.warc torn.warc
+check "index: a missing file's name again" "$of_r" "warcdx: missing/r.warc: cannot open" 3 index missing/r.warc r.warc
+check "index: a folder"                 ""   "warcdx: folder: fault 0 Read" 3 index folder
+check "index: a folder, and a good archive" "$of_r" "warcdx: folder: fault 0 Read" 3 index folder r.warc
+check "index: a folder without a name"  "$of_r" "warcdx: folder/: BadName" 1 index folder/ r.warc
+check "index: an empty name"            ""      "warcdx: : cannot open"    3 index ""
+
+# A record ends with LF, which the comparing adds.
+q=$(< q.warc)
+r=$(< r.warc)
+none="warcdx: r.warc: NoRecord"
+
+check "get: the first record"           "$r"             ""                0 get 0 both.warc
+check "get: the second record"          "$q"             ""                0 get 158 both.warc
+check "get: zeros before the offset"    "$q"             ""                0 get 0000000000000000158 both.warc
+check "get: -"                          "$q"             ""                0 get 158 - < both.warc
+check "get: before a fault"             "$q"             ""                0 get 158 torn.warc
+check "get: inside a record"            ""               "$none"           1 get 1 r.warc
+check "get: at the end"                 ""               "$none"           1 get 158 r.warc
+check "get: behind the end"             ""               "$none"           1 get 9223372036854775807 r.warc
+check "get: of nothing"     "" "warcdx: empty.warc: NoRecord"              1 get 0 empty.warc
+check "get: a fault"                    ""               "$torn"           1 get 316 torn.warc
+check "get: behind a fault"             ""               "$torn"           1 get 400 torn.warc
+check "get: a missing file"             ""               "$missing"        3 get 0 missing
+check "get: a folder"       "" "warcdx: folder: fault 0 Read"              3 get 0 folder
+
 no_list=$(refusal "the following required arguments were not provided:"$'\n  <WARC>...' "list <WARC>...")
 no_verify=$(refusal "the following required arguments were not provided:"$'\n  <WARC>...' "verify <WARC>...")
+no_index=$(refusal "the following required arguments were not provided:"$'\n  <WARC>...' "index <WARC>...")
+no_get=$(refusal "the following required arguments were not provided:"$'\n  <OFFSET>\n  <WARC>' "get <OFFSET> <WARC>")
+no_archive=$(refusal "the following required arguments were not provided:"$'\n  <WARC>' "get <OFFSET> <WARC>")
+one_too_many=$(refusal "unexpected argument 'q.warc' found" "get <OFFSET> <WARC>")
 misspelt=$(refusal "unrecognized subcommand 'lst'"$'\n\n  tip: a similar subcommand exists: \'list\'' "[COMMAND]")
 no_text=$(lines "error: a word isn't UTF-8" "" "For more information, try '--help'.")
 
 check "list alone"                      "" "$no_list"                      2 list
 check "verify alone"                    "" "$no_verify"                    2 verify
-check "an unknown word"                 "" "$(unknown index)"              2 index
+check "index alone"                     "" "$no_index"                     2 index
+check "get alone"                       "" "$no_get"                       2 get
+check "get without an archive"          "" "$no_archive"                   2 get 0
+check "get of two archives"             "" "$one_too_many"                 2 get 0 r.warc q.warc
+check "get x"                           "" "$(no_offset x)"                2 get x r.warc
+check "get of an empty offset"          "" "$(no_offset "")"               2 get "" r.warc
+check "get +1"                          "" "$(no_offset +1)"               2 get +1 r.warc
+check "get -1"                          "" "$(unexpected -1)"              2 get -1 r.warc
+check "get 0x0"                         "" "$(no_offset 0x0)"              2 get 0x0 r.warc
+check "get 2^63"          "" "$(no_offset 9223372036854775808)"            2 get 9223372036854775808 r.warc
+check "get of twenty digits" "" "$(no_offset 00000000000000000000)"        2 get 00000000000000000000 r.warc
+check "an unknown word"                 "" "$(unknown frob)"               2 frob
 check "a command misspelt"              "" "$misspelt"                     2 lst same.warc
 check "a name in place of a command"    "" "$(unknown same.warc)"          2 same.warc
 check "an empty word"                   "" "$(unknown "")"                 2 ""
@@ -133,8 +222,10 @@ check "an option beside -h"             "" "$(unexpected -x)"              2 lis
 check "a word that isn't UTF-8"         "" "$no_text"                      2 $'\xff'
 check "a name that isn't UTF-8"         "" "$no_text"                      2 list same.warc $'\xff'
 
-of_program=$(lines "Reads web archives: lists their records, and checks their digests" "" "Usage: warcdx [COMMAND]")
+of_program=$(lines "Reads web archives: lists, checks and indexes their records, and writes one" "" "Usage: warcdx [COMMAND]")
 of_list=$(lines "Lists the records of archives" "" "Usage: warcdx list <WARC>...")
+of_index=$(lines "Writes an index of the captures of archives" "" "Usage: warcdx index <WARC>...")
+of_get=$(lines "Writes the record at an offset of an archive" "" "Usage: warcdx get <OFFSET> <WARC>")
 of_verify=$(lines "Checks the digests of the records of archives" "" "Usage: warcdx verify <WARC>...")
 
 check_help "-h"                         "$of_program" -h
@@ -145,6 +236,9 @@ check_help "list NAME -h"               "$of_list"    list same.warc -h
 check_help "list --help NAME"           "$of_list"    list --help missing
 check_help "verify -h"                  "$of_verify"  verify -h
 check_help "verify NAME NAME --help"    "$of_verify"  verify same.warc missing --help
+check_help "index -h"                   "$of_index"   index -h
+check_help "get --help"                 "$of_get"     get --help
+check_help "get NAME NAME NAME -h"      "$of_get"     get r.warc q.warc missing -h
 
 flush="warcdx: cannot flush"
 write="warcdx: Write"
@@ -158,7 +252,14 @@ for way in full closed broken; do
     check_into $way "$way: differs"        "" "$flush"                       3 verify differs.warc
     check_into $way "$way: missing first"  "" "$(lines "$missing" "$flush")" 3 list missing same.warc
     check_into $way "$way: Write ends it"  "" "$write"                       3 list many.warc missing
+    check_into $way "$way: index, one"     "" "$flush"                       3 index r.warc
+    check_into $way "$way: index, many"    "" "$write"                       3 index captures.warc
+    check_into $way "$way: index, a fault" "" "$(lines "$torn" "$flush")"    3 index torn.warc
+    check_into $way "$way: index, none"    "" ""                             0 index same.warc
+    check_into $way "$way: get, short"     "" "$flush"                       3 get 0 r.warc
+    check_into $way "$way: get, long"      "" "$write"                       3 get 0 large.warc
+    check_into $way "$way: get, none"      "" "$none"                        1 get 1 r.warc
     check_into $way "$way: -h"             "" "$flush"                       3 -h
-    check_into $way "$way: usage"          "" "$(unknown index)"             2 index
+    check_into $way "$way: usage"          "" "$(unknown frob)"              2 frob
 done
 exit "$differing"
