@@ -158,14 +158,17 @@ through the two line breaks after its block. An index has the offset of each
 record, and so has 'warcdx list'.
 
 The archive is read from its start. Where no record begins at OFFSET, nothing
-is written, and one of these lines is on standard error:
+is written, and this line is on standard error:
 
   warcdx: NAME: NoRecord
+
+Where the archive is damaged at OFFSET or before it, this one is, with the
+offset of the record at fault; 'warcdx list --help' has the causes:
+
   warcdx: NAME: fault OFFSET CAUSE
 
-The second is for an archive that is damaged at or before OFFSET, with the
-offset of the record at fault. Where that is the record that was asked for, a
-first part of it may have been written. 'warcdx list --help' has the causes.
+Nothing is written then, but for a first part of the record at OFFSET where
+that is the one at fault.
 
 Examples:
   warcdx get 0 crawl.warc
@@ -174,7 +177,7 @@ Examples:
 
 Exit status:
   0  the record was written
-  1  no record begins at OFFSET, or the archive is damaged there or before
+  1  no record begins at OFFSET, or the archive is damaged there or before it
   2  the words mean nothing
   3  the file can't be opened, or memory, an input or the output failed",
 };

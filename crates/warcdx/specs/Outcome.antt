@@ -9,7 +9,7 @@ use Rattle.index_core.specs.declared.fault.IndexFault.TheVariants as faults
 use Rattle.warcdx.specs.declared.outcome.Outcome.{Outcome}
 use Rattle.warcdx.specs.declared.outcome.Outcome.TheVariants as outcomes
 
--- memory and reading fail with 3, an archive's own faults and refused names with 1
+-- memory, reading and writing fail with 3; an archive's own faults, refused names and an offset without a record with 1
 abbrev pub cause_status : Cause → ℕ
 cause_status causes.Memory = 3
 cause_status causes.Read = 3

@@ -7,8 +7,8 @@ use capture_core::CaptureFault;
 use index_core::IndexFault;
 use warc_core::Cause;
 
-/// The status of the process: 0 where all was done; 1 for a fault in an archive or a digest that differs; 2 for words that
-/// mean nothing; 3 where memory, a device or a file failed.
+/// The status of the process: 0 where all was done; 1 for a fault in an archive, a digest that differs, a refused name, or an
+/// offset where no record begins; 2 for words that mean nothing; 3 where memory, a device or a file failed.
 pub fn status(outcome: &Outcome) -> u8
     ensures { result ≡ status_of outcome.now }
 {
