@@ -103,7 +103,7 @@ fn writes_in_part<R: Runtime + AllocGlobal>(rt: &R) -> Result<bool, Refused> {
 
 fn write_archives<R: Runtime + AllocGlobal>(rt: &R) -> Result<(), Fail> {
     let damaged = joined(rt.alloc(), &[RESPONSE, RESOURCE, cut(RESPONSE, 231)])?;
-    fs::create_dir(rt, "whole")?;
+    fs::create_dir_all(rt, "whole")?;
     fs::write(rt, "whole/b.warc", RESPONSE)?;
     Ok(fs::write(rt, "b.warc", damaged.as_slice())?)
 }
