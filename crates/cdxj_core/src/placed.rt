@@ -12,8 +12,8 @@ impl<'a> HasPlace for Place<'a> {
 
     ghost place_of = { place_view };
 
-    fn key(&self) -> &str {
-        self.key
+    fn key_bytes(&self) -> &[u8] {
+        self.key.as_bytes()
     }
 
     fn compare_place(&self, other: &Place<'a>) -> Ordering {
@@ -26,8 +26,8 @@ impl HasPlace for OwnedPlace {
 
     ghost place_of = { owned_view };
 
-    fn key(&self) -> &str {
-        self.place().key
+    fn key_bytes(&self) -> &[u8] {
+        self.place().key.as_bytes()
     }
 
     fn compare_place(&self, other: &OwnedPlace) -> Ordering {
@@ -41,8 +41,8 @@ impl<'a> HasPlace for LineRef<'a> {
 
     ghost place_of = { λ line. line_place (line_view line) };
 
-    fn key(&self) -> &str {
-        self.place().key
+    fn key_bytes(&self) -> &[u8] {
+        self.place().key.as_bytes()
     }
 
     fn compare_place(&self, other: &LineRef<'a>) -> Ordering {
@@ -56,8 +56,8 @@ impl HasPlace for Line {
 
     ghost place_of = { λ line. line_place (own_line_view line) };
 
-    fn key(&self) -> &str {
-        self.place().key
+    fn key_bytes(&self) -> &[u8] {
+        self.place().key.as_bytes()
     }
 
     fn compare_place(&self, other: &Line) -> Ordering {
@@ -70,8 +70,8 @@ impl HasPlace for Entry {
 
     ghost place_of = { entry_place };
 
-    fn key(&self) -> &str {
-        self.key.as_str()
+    fn key_bytes(&self) -> &[u8] {
+        self.key.as_bytes()
     }
 
     fn compare_place(&self, other: &Entry) -> Ordering {

@@ -98,19 +98,24 @@ fn member_texts<'a>(entry: &'a Entry, length: &'a str, offset: &'a str) -> Texts
     }
 }
 
-// An empty line with room for that of most entries.
-fn room(alloc: Global, entry: &Entry) -> Result<Vec<u8>, AllocError>
+// What a line has beside its key and its texts: bytes.
+const FRAME: usize = 112;
+
+// An empty line with room for one of this key and these texts, where none needs an escape.
+fn room(alloc: Global, key: &str, texts: &Texts<'_>) -> Result<Vec<u8>, AllocError>
     ensures { IfOk result (λ line. line.items ≡ []) }
 {
-    let most = entry
-        .key
+    let length = key
         .len()
-        .saturating_add(entry.url.len())
-        .saturating_add(entry.mime.len())
-        .saturating_add(entry.digest.len())
-        .saturating_add(entry.filename.len())
-        .saturating_add(192);
-    Ok(Vec::with_capacity(alloc, most.min(LINE_LIMIT))?)
+        .saturating_add(texts.url.len())
+        .saturating_add(texts.mime.len())
+        .saturating_add(texts.status.len())
+        .saturating_add(texts.digest.len())
+        .saturating_add(texts.length.len())
+        .saturating_add(texts.offset.len())
+        .saturating_add(texts.filename.len())
+        .saturating_add(FRAME);
+    Ok(Vec::with_capacity(alloc, length.min(LINE_LIMIT))?)
 }
 
 fn line_bytes(alloc: Global, entry: &Entry) -> Result<Vec<u8>, AllocError>
@@ -118,17 +123,14 @@ fn line_bytes(alloc: Global, entry: &Entry) -> Result<Vec<u8>, AllocError>
 {
     let mut length = Buffer::new();
     let mut offset = Buffer::new();
-    let mut line = room(alloc, entry)?;
+    let texts = member_texts(
+        entry,
+        length.format(entry.length),
+        offset.format(entry.offset),
+    );
+    let mut line = room(alloc, entry.key.as_str(), &texts)?;
     push_pair(&mut line, entry)?;
-    push_object(
-        &mut line,
-        alloc,
-        member_texts(
-            entry,
-            length.format(entry.length),
-            offset.format(entry.offset),
-        ),
-    )?;
+    push_object(&mut line, alloc, texts)?;
     line.push(b'\n')?;
     Ok(line)
 }

@@ -1,5 +1,5 @@
 -- The lines of an index, and captures that have their own places.
-use Rattle.std.proofs.Common.{◌≡◌, ◌∙◌, ℕ, zero, suc, ◌+◌, ◌<◌, List, [], ◌∷◌, ◌++◌, append-nil, length, map, take, drop, get_or, Option, refl, sym, ap, subst, arith}
+use Rattle.std.proofs.Common.{◌≡◌, ◌∙◌, ℕ, suc, ◌+◌, ◌<◌, List, [], ◌∷◌, ◌++◌, append-nil, length, map, take, drop, get_or, Option, refl, sym, ap}
 use Rattle.std.specs.List.{AllByRecursion}
 use Rattle.std.specs.declared.cmp.Ordering.TheVariants.{Less, Equal, Greater}
 use Rattle.std.proofs.lemmas.List.{take-append-drop, at_drop_more, map-append, take_more}
@@ -42,12 +42,6 @@ lines-more xs k x h e =
     ap lines_now (take_more xs k x h ∙ ap (λ (y : Bor EntryValue). take k xs ++ y ∷ []) (sym e))
     ∙ (lines_now-append (take k xs) (x ∷ []) ∙ ap (λ (t : List ℕ). lines_now (take k xs) ++ t) (append-nil (line_text x.now)))
 
--- what holds of each holds of this one
-pub each-now : (A : EntryValue → Type 0) (xs : List (Bor EntryValue)) (k : ℕ) (x : Bor EntryValue) → AllByRecursion A (map (λ e. e.now) xs) → k < length xs → x ≡ get_or xs k x → A x.now
-each-now A [] k x h l e = absurd (omega (arith, l))
-each-now A (y ∷ xs) zero x h l e = subst (λ (t : Bor EntryValue). A t.now) (sym e) h.0
-each-now A (y ∷ xs) (suc k) x h l e = each-now A xs k x h.1 (omega (arith, l)) e
-
 -- ---- places
 
 each-put : (A : EntryValue → Type 0) (e : EntryValue) (es : List EntryValue) → A e → AllByRecursion A es → AllByRecursion A (put entry_place place_cmp e es)
@@ -57,7 +51,7 @@ each-put A e (f ∷ es) a h =
     [ Less ↦ (a, h) | Equal ↦ (a, h.1) | Greater ↦ (h.0, each-put A e es a h.1) ]
 
 -- what holds of each holds of each in the order of places
-pub each-in-places : (A : EntryValue → Type 0) (es : List EntryValue) → AllByRecursion A es → AllByRecursion A (in_places es)
+each-in-places : (A : EntryValue → Type 0) (es : List EntryValue) → AllByRecursion A es → AllByRecursion A (in_places es)
 each-in-places A [] h = tt
 each-in-places A (e ∷ es) h = each-put A e (in_places es) h.0 (each-in-places A es h.1)
 

@@ -3,6 +3,7 @@ pub mod ListingLemmas
 pub mod VerdictLemmas
 mod IndexLemmas
 mod GatherLemmas
+mod SpellingLemmas
 mod SoundLemmas
 mod OneIndexLemmas
 mod CopyLemmas

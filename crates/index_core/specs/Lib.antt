@@ -2,6 +2,7 @@ pub mod Report
 pub mod Listing
 pub mod Verifying
 pub mod Indexing
+pub mod Spelling
 pub mod Adding
 pub mod Gathering
 pub mod Fetching

@@ -1,5 +1,5 @@
 //! The gathering of an archive's captures.
-ghost use Rattle.std.specs.Prelude.{◌≡◌, ℕ, ◌<◌, ◌-◌, ◌^◌, ◌≤◌, ◌++◌, List, true, length, OnOk, OnErr, option_to_list};
+ghost use Rattle.std.specs.Prelude.{◌≡◌, ℕ, ◌<◌, ◌-◌, ◌^◌, ◌≤◌, ◌++◌, List, true, [], ◌∷◌, length, IfSome, OnOk, OnErr, option_to_list};
 ghost use Rattle.std.specs.Io.KnownBytes.{prepend_known};
 ghost use Rattle.warc_core.specs.declared.phase.Phase.TheVariants.{Between};
 ghost use Rattle.warc_core.specs.declared.next.TheConstants.{HEAD_LIMIT};
@@ -7,10 +7,11 @@ ghost use Rattle.cdxj_core.specs.declared.limit.TheConstants.{LINE_LIMIT};
 ghost use Rattle.cdxj_core.specs.Entries.{EntryValue};
 ghost use Rattle.capture_core.specs.Indexed.{usual_types};
 ghost use Rattle.capture_core.specs.Captured.{usual_limits};
-ghost use Rattle.index_core.specs.Indexing.{AreSound, is_among};
+ghost use Rattle.index_core.specs.Indexing.{AreSound, HasLine, is_among};
 ghost use Rattle.index_core.specs.Adding.{Gains, CountsCapture};
 ghost use Rattle.index_core.specs.Gathering.{StandBefore, TakesNext};
 
+use crate::held_line::HeldLine;
 use capture_core::{CaptureFault, capture};
 use cdxj_core::Entry;
 use std::alloc::{AllocError, Global};
@@ -38,24 +39,37 @@ fn next_capture<I: Input>(
     }
 }
 
+/// Keeps one more capture.
+fn keep_line(captures: &mut Vec<HeldLine>, line: HeldLine) -> Result<(), AllocError>
+    ensures ok { OnOk result (captures.new.items ≡ captures.old.items ++ line ∷ []) }
+    ensures err { OnErr result (captures.new.items ≡ captures.old.items) }
+{
+    match captures.push(line) {
+        Ok(()) => Ok(()),
+        Err(_) => Err(AllocError),
+    }
+}
+
 /// Keeps what a record has for a capture.
-fn keep(captures: &mut Vec<Entry>, captured: Option<Entry>) -> Result<(), AllocError>
+fn keep(
+    alloc: Global,
+    captures: &mut Vec<HeldLine>,
+    captured: Option<Entry>,
+) -> Result<(), AllocError>
+    requires { IfSome captured (HasLine LINE_LIMIT) }
     ensures ok { OnOk result (captures.new.items ≡ captures.old.items ++ option_to_list captured) }
     ensures err { OnErr result (captures.new.items ≡ captures.old.items) }
 {
     match captured {
         None => Ok(()),
-        Some(entry) => match captures.push(entry) {
-            Ok(()) => Ok(()),
-            Err(_) => Err(AllocError),
-        },
+        Some(entry) => keep_line(captures, HeldLine::new(alloc, entry)?),
     }
 }
 
 /// Adds the captures of an archive under its name, and answers how many they are.
 pub fn gather<I: Input>(
     alloc: Global,
-    captures: &mut Vec<Entry>,
+    captures: &mut Vec<HeldLine>,
     name: &str,
     input: &mut I,
 ) -> Result<u64, CaptureFault>
@@ -73,7 +87,7 @@ pub fn gather<I: Input>(
     loop {
         match next_capture(alloc, &mut reader, input, name) {
             Ok(None) => return Ok((captures.len() - held) as u64),
-            Ok(Some((head, captured))) => match keep(captures, captured) {
+            Ok(Some((head, captured))) => match keep(alloc, captures, captured) {
                 Ok(()) => {}
                 Err(_) => {
                     return Err(CaptureFault::Archive(Fault {

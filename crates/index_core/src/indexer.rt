@@ -1,9 +1,9 @@
 //! The indexer.
 use crate::fault::IndexFault;
 use crate::gathering::gather;
+use crate::held_line::HeldLine;
 use crate::index_lines::put_index;
 use crate::names::{is_among, is_name, keep_name};
-use cdxj_core::Entry;
 use std::alloc::Global;
 use std::marker::Model;
 use warc_core::{Input, Output};
@@ -13,7 +13,7 @@ use warc_core::{Input, Output};
 pub struct Indexer {
     alloc: Global,
     names: Vec<String>,
-    captures: Vec<Entry>,
+    captures: Vec<HeldLine>,
 }
 
 impl Model for Indexer {

@@ -5,6 +5,7 @@ mod copying;
 mod fault;
 mod fetching;
 mod gathering;
+mod held_line;
 mod index_lines;
 mod indexer;
 mod laws;

@@ -1,0 +1,38 @@
+-- The entry that a line spells.
+use Rattle.std.specs.Prelude.{◌≡◌, ℕ, List, [], length, Option, None, Some}
+use Rattle.std.specs.Str.Parse.{digits_value}
+use Rattle.cdxj_core.specs.declared.limit.TheConstants.{LINE_LIMIT}
+use Rattle.cdxj_core.specs.Entries.{EntryValue, line_text}
+use Rattle.cdxj_core.specs.Lines.{LineValue, body_of, line_in}
+use Rattle.index_core.specs.Indexing.{HasLine}
+
+-- the entry with these values
+abbrev pub entry_of : LineValue → EntryValue
+entry_of l = record {
+  key = l.key;
+  stamp = l.stamp;
+  url = l.original;
+  mime = l.mimetype;
+  status = l.statuscode;
+  digest = l.digest;
+  length = digits_value 10 l.length;
+  offset = l.offset;
+  filename = l.filename;
+}
+
+-- the same, or an entry of nothing where there are no values
+abbrev pub entry_or_nothing : Option LineValue → EntryValue
+entry_or_nothing (Some l) = entry_of l
+entry_or_nothing None = record { key = []; stamp = []; url = []; mime = []; status = []; digest = []; length = 0; offset = 0; filename = [] }
+
+-- the entry that a line spells
+unfoldable pub entry_in : List ℕ → EntryValue
+entry_in line = entry_or_nothing (line_in LINE_LIMIT (body_of line))
+
+-- a line is that of an entry, whose key has this length and whose file name and offset are these
+pub record IsLineOf (e : EntryValue) (line : List ℕ) (key_length : ℕ) (filename : List ℕ) (offset : ℕ) : Type 0 where
+  pub has_line : HasLine LINE_LIMIT e
+  pub line_is : line ≡ line_text e
+  pub key_length_is : key_length ≡ length e.key
+  pub filename_is : filename ≡ e.filename
+  pub offset_is : offset ≡ e.offset
