@@ -1,3 +1,4 @@
+pub mod Each
 pub mod Faults
 pub mod Indexing
 pub mod Outcome

@@ -1,6 +1,8 @@
 //! Archives by name.
-ghost use Rattle.std.specs.Prelude.{◌≡◌};
+ghost use Rattle.std.specs.Prelude.{◌≡◌, map, string_bytes};
+ghost use Rattle.warcdx.specs.Each.{GoesThrough};
 ghost use Rattle.warcdx.specs.Indexing.{file_name};
+ghost use Rattle.warcdx.specs.declared.outcome.Outcome.TheVariants.{Done};
 
 use crate::outcome::Outcome;
 use crate::status::{ends_command, worse};
@@ -32,8 +34,10 @@ pub fn open<R: Runtime + AllocGlobal>(rt: &R, name: &str) -> Result<FromRead<Arc
 }
 
 /// Does this with one archive after another, and goes on after an archive's fault, but not where memory or the output failed.
+/// The answer is the outcome that ended it, or else the worst.
 pub fn with_each<F: FnMut(&str) -> Outcome>(names: &[String], mut act: F) -> Outcome
     requires { F.IsAlwaysCallable act }
+    ensures { GoesThrough F.FnMut Done act (map string_bytes names.now) result }
 {
     let mut outcome = Outcome::Done;
     for name in names {
