@@ -222,7 +222,7 @@ check "an option beside -h"             "" "$(unexpected -x)"              2 lis
 check "a word that isn't UTF-8"         "" "$no_text"                      2 $'\xff'
 check "a name that isn't UTF-8"         "" "$no_text"                      2 list same.warc $'\xff'
 
-of_program=$(lines "Reads web archives: lists, checks and indexes their records, and writes one" "" "Usage: warcdx [COMMAND]")
+of_program=$(lines "Indexes web archives; lists, checks and fetches their records" "" "Usage: warcdx [COMMAND]")
 of_list=$(lines "Lists the records of archives" "" "Usage: warcdx list <WARC>...")
 of_index=$(lines "Writes an index of the captures of archives" "" "Usage: warcdx index <WARC>...")
 of_get=$(lines "Writes the record at an offset of an archive" "" "Usage: warcdx get <OFFSET> <WARC>")

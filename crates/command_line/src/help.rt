@@ -8,7 +8,7 @@ pub struct Page<'a> {
 }
 
 pub const PROGRAM: Page = Page {
-    about: "Reads web archives: lists, checks and indexes their records, and writes one",
+    about: "Indexes web archives; lists, checks and fetches their records",
     details: "\
 An archive is an uncompressed WARC file, version 1.0 or 1.1. The name - is
 standard input. Without a command, warcdx lists the archive on standard input.

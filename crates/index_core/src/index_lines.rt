@@ -11,7 +11,7 @@ use std::alloc::Global;
 use warc_core::{Output, put};
 
 /// Writes the line of a capture.
-fn put_line<O: Output>(out: &mut O, held: &HeldLine) -> Result<(), IndexFault>
+fn put_capture<O: Output>(out: &mut O, held: &HeldLine) -> Result<(), IndexFault>
     ensures line { OnOk result (Appends (O.written out.old) (O.written out.new) (line_text held.now)) }
     ensures err { IfErr result (FailsIn (line_text held.now) (O.written out.old) (O.written out.new)) }
     ensures failures { CountsWrite result (O.failures out.old) (O.failures out.new) }
@@ -30,7 +30,7 @@ fn put_lines<O: Output>(out: &mut O, lines: &[&HeldLine]) -> Result<u64, IndexFa
     ensures failures { CountsWrite result (O.failures out.old) (O.failures out.new) }
 {
     for line in lines {
-        match put_line(out, line) {
+        match put_capture(out, line) {
             Ok(()) => {}
             Err(fault) => return Err(fault),
         }

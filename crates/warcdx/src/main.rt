@@ -1,4 +1,4 @@
-//! `warcdx`: lists, checks and indexes the records of web archives, and writes one.
+//! `warcdx`: indexes web archives; lists, checks and fetches their records.
 #![tactic(auto)]
 
 mod archives;
