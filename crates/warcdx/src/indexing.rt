@@ -1,9 +1,10 @@
 //! The index of archives.
-ghost use Rattle.std.specs.Prelude.{◌≡◌, true, false};
+ghost use Rattle.std.specs.Prelude.{◌≡◌, ◌↔◌, true, false, Err};
 ghost use Rattle.warc_core.specs.declared.next.TheConstants.{HEAD_LIMIT};
 ghost use Rattle.capture_core.specs.Indexed.{usual_types};
 ghost use Rattle.capture_core.specs.Captured.{usual_limits};
 ghost use Rattle.index_core.specs.Adding.{Adds};
+ghost use Rattle.index_core.specs.Indexing.{IsName, is_among};
 ghost use Rattle.warcdx.specs.Indexing.{CountsOutcome, Writes, file_name};
 ghost use Rattle.warcdx.specs.Outcome.{ends_command};
 
@@ -37,6 +38,8 @@ fn add_named<R: Runtime + AllocGlobal>(rt: &R, name: &str, indexer: &mut Indexer
 
 /// Adds an archive under its file name.
 fn add<I: Input>(indexer: &mut Indexer, name: &str, archive: &mut I) -> Result<u64, IndexFault>
+    ensures bad { (result ≡ Err IndexFault.BadName) ↔ ¬ (IsName (file_name name.now)) }
+    ensures duplicate { (result ≡ Err IndexFault.DuplicateName) ↔ (IsName (file_name name.now) × (is_among indexer.old.names (file_name name.now) ≡ true)) }
     ensures adds { Adds usual_types usual_limits HEAD_LIMIT (file_name name.now) (I.left archive.old) indexer.old indexer.new result }
 {
     indexer.add(file_name(name), archive)
