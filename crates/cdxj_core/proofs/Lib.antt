@@ -9,11 +9,13 @@ pub mod KeyLaw
 pub mod Labels
 pub mod PlaceLaw
 pub mod PlaceOrder
+pub mod Abbreviations
 pub mod Offsets
 pub mod PlainBytes
 pub mod PlainCuts
 pub mod PlainLaw
 pub mod RisingLaws
+pub mod RisingAlike
 pub mod SortedRising
 pub mod GraphicLemmas
 pub mod FoldedKey

@@ -10,4 +10,5 @@ pub mod PlainViews
 pub mod ValuesView
 pub mod LineRefView
 pub mod LineView
+pub mod Abbreviated
 pub mod Rising

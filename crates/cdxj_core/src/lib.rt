@@ -1,6 +1,7 @@
 //! The keys, lines and places of CDXJ indexes; docs/CDXJ.md has the rules.
 #![tactic(auto)]
 
+mod abbreviated;
 mod cuts;
 mod entry;
 mod fault;

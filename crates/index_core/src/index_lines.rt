@@ -1,26 +1,14 @@
 //! The writing of an index's lines.
 ghost use Rattle.std.specs.Prelude.{◌≡◌, map, length, IfOk, IfErr, OnOk};
 ghost use Rattle.std.specs.Io.KnownBytes.{Appends};
-ghost use Rattle.cdxj_core.specs.Entries.{line_text};
 ghost use Rattle.index_core.specs.Indexing.{FailsIn, CountsWrite, lines_text, index_text, in_places};
 
 use crate::fault::IndexFault;
 use crate::held_line::HeldLine;
+use crate::writing::put_bytes;
 use cdxj_core::in_order;
 use std::alloc::Global;
-use warc_core::{Output, put};
-
-/// Writes the line of a capture.
-fn put_capture<O: Output>(out: &mut O, held: &HeldLine) -> Result<(), IndexFault>
-    ensures line { OnOk result (Appends (O.written out.old) (O.written out.new) (line_text held.now)) }
-    ensures err { IfErr result (FailsIn (line_text held.now) (O.written out.old) (O.written out.new)) }
-    ensures failures { CountsWrite result (O.failures out.old) (O.failures out.new) }
-{
-    match put(out, held.line()) {
-        Ok(()) => Ok(()),
-        Err(_) => Err(IndexFault::Write),
-    }
-}
+use warc_core::Output;
 
 /// Writes the lines of captures, and answers how many.
 fn put_lines<O: Output>(out: &mut O, lines: &[&HeldLine]) -> Result<u64, IndexFault>
@@ -30,10 +18,7 @@ fn put_lines<O: Output>(out: &mut O, lines: &[&HeldLine]) -> Result<u64, IndexFa
     ensures failures { CountsWrite result (O.failures out.old) (O.failures out.new) }
 {
     for line in lines {
-        match put_capture(out, line) {
-            Ok(()) => {}
-            Err(fault) => return Err(fault),
-        }
+        put_bytes(out, line.line())?;
     }
     Ok(lines.len() as u64)
 }

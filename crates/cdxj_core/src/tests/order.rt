@@ -36,6 +36,45 @@ fn entries_rise_by_place(rt: HostRuntime) -> Result<(), Fail> {
     Ok(())
 }
 
+// Each key is above the one before it, by its bytes: some differ in what all begin with alike, some far behind that, one
+// is the start of the next.
+const RISING: &[&[&str]] = &[
+    &[
+        "com,example)/",
+        "com,example)/a",
+        "com,example)/a-path-that-is-long/0",
+        "com,example)/a-path-that-is-long/00",
+        "com,example)/a-path-that-is-long/1",
+        "com,example)/b",
+        "com,example)/\u{e9}",
+    ],
+    &["com,example)/", "com,example,www)/", "org,example)/"],
+    &["k"],
+];
+
+fn keyed(alloc: Global, key: &str) -> Result<Entry, AllocError> {
+    let mut entry = home(alloc)?;
+    entry.key = text(alloc, key)?;
+    Ok(entry)
+}
+
+#[test]
+fn keys_rise_by_their_bytes(rt: HostRuntime) -> Result<(), Fail> {
+    let alloc = rt.alloc();
+    for keys in RISING {
+        let mut entries = Vec::new(alloc);
+        for key in keys.iter().rev() {
+            entries.push(keyed(alloc, key)?)?;
+        }
+        let order = in_order(alloc, &entries)?;
+        assert_eq!(rt; order.len(), keys.len());
+        for (found, key) in order.iter().zip(keys.iter()) {
+            assert_eq!(rt; found.key.as_str(), *key);
+        }
+    }
+    Ok(())
+}
+
 #[test]
 fn lines_rise_by_place(rt: HostRuntime) -> Result<(), Fail> {
     let alloc = rt.alloc();
