@@ -7,21 +7,23 @@ use std::test::Fail;
 pub const FOREIGN: &[u8] =
     b"com,example)/ 20140103030321 {\"url\": \"http://example.com/\", \"mime\": \"text/html\", \"status\": 200, \"digest\": \"B2LTWWPUOYAH7UIPQ7ZUPQ4VMBSVC36A\", \"length\": \"1043\", \"offset\": \"333\", \"filename\": \"example.warc\", \"source\": \"x\"}";
 
+const FOREIGN_VALUES: &[(Field, &str)] = &[
+    (Field::Urlkey, "com,example)/"),
+    (Field::Timestamp, "20140103030321"),
+    (Field::Original, "http://example.com/"),
+    (Field::Mimetype, "text/html"),
+    (Field::Statuscode, "200"),
+    (Field::Digest, "B2LTWWPUOYAH7UIPQ7ZUPQ4VMBSVC36A"),
+    (Field::Length, "1043"),
+    (Field::Offset, "333"),
+    (Field::Filename, "example.warc"),
+];
+
 #[test]
 fn a_foreign_line_is_read(rt: HostRuntime) -> Result<(), Fail> {
     let read = LineRef::read(rt.alloc(), FOREIGN)?;
-    for (field, value) in [
-        (Field::Urlkey, "com,example)/"),
-        (Field::Timestamp, "20140103030321"),
-        (Field::Original, "http://example.com/"),
-        (Field::Mimetype, "text/html"),
-        (Field::Statuscode, "200"),
-        (Field::Digest, "B2LTWWPUOYAH7UIPQ7ZUPQ4VMBSVC36A"),
-        (Field::Length, "1043"),
-        (Field::Offset, "333"),
-        (Field::Filename, "example.warc"),
-    ] {
-        assert_eq!(rt; read.value(field), value);
+    for (field, value) in FOREIGN_VALUES {
+        assert_eq!(rt; read.value(*field), *value);
     }
     let (key, stamp) = read.pair();
     assert_eq!(rt; key, "com,example)/");
@@ -57,164 +59,168 @@ fn has_values(
     Ok(())
 }
 
+const ENTRIES: &[(&str, &str, &str)] = &[
+    (
+        "as a line is written",
+        "k 20160101000000 {\"url\": \"http://x/\", \"mime\": \"text/html\", \"status\": \"200\", \"digest\": \"D\", \"length\": \"1\", \"offset\": \"7\", \"filename\": \"f\"}\n",
+        "http://x/|text/html|200|D|1|7|f",
+    ),
+    (
+        "without its line feed",
+        "k 20160101000000 {\"url\": \"http://x/\", \"mime\": \"text/html\", \"status\": \"200\", \"digest\": \"D\", \"length\": \"1\", \"offset\": \"7\", \"filename\": \"f\"}",
+        "http://x/|text/html|200|D|1|7|f",
+    ),
+    (
+        "with a carriage return before it",
+        "k 20160101000000 {\"url\": \"http://x/\", \"mime\": \"text/html\", \"status\": \"200\", \"digest\": \"D\", \"length\": \"1\", \"offset\": \"7\", \"filename\": \"f\"}\r\n",
+        "http://x/|text/html|200|D|1|7|f",
+    ),
+    (
+        "with white space round the object",
+        "k 20160101000000  \t{\"url\": \"http://x/\", \"mime\": \"text/html\", \"status\": \"200\", \"digest\": \"D\", \"length\": \"1\", \"offset\": \"7\", \"filename\": \"f\"} \t\r\n",
+        "http://x/|text/html|200|D|1|7|f",
+    ),
+    (
+        "with other white space in the object",
+        "k 20160101000000 {\"url\":\"http://x/\"\t,  \"mime\":\"text/html\"\t,  \"status\":\"200\"\t,  \"digest\":\"D\"\t,  \"length\":\"1\"\t,  \"offset\":\"7\"\t,  \"filename\":\"f\"}\n",
+        "http://x/|text/html|200|D|1|7|f",
+    ),
+    (
+        "members in another order",
+        "k 20160101000000 {\"filename\": \"f\", \"offset\": \"7\", \"length\": \"1\", \"digest\": \"D\", \"status\": \"200\", \"mime\": \"text/html\", \"url\": \"http://x/\"}\n",
+        "http://x/|text/html|200|D|1|7|f",
+    ),
+    (
+        "further members",
+        "k 20160101000000 {\"a\": 1, \"url\": \"http://x/\", \"mime\": \"text/html\", \"b\": [{}], \"status\": \"200\", \"digest\": \"D\", \"length\": \"1\", \"offset\": \"7\", \"filename\": \"f\", \"source\": \"x\", \"charset\": \"utf-8\"}\n",
+        "http://x/|text/html|200|D|1|7|f",
+    ),
+    (
+        "numbers as numbers",
+        "k 20160101000000 {\"url\": \"u\", \"mime\": \"m\", \"status\": 200, \"digest\": \"D\", \"length\": 1043, \"offset\": 333, \"filename\": \"f\"}\n",
+        "u|m|200|D|1043|333|f",
+    ),
+    (
+        "empty texts",
+        "k 20160101000000 {\"url\": \"\", \"mime\": \"\", \"status\": \"\", \"digest\": \"\", \"length\": \"\", \"offset\": \"7\", \"filename\": \"f\"}\n",
+        "-|-|-|-|-|7|f",
+    ),
+    (
+        "absent members",
+        "k 20160101000000 {\"offset\": \"7\", \"filename\": \"f\"}\n",
+        "-|-|-|-|-|7|f",
+    ),
+    (
+        "members of other kinds",
+        "k 20160101000000 {\"url\": null, \"mime\": true, \"status\": [200], \"digest\": {\"a\": \"b\"}, \"length\": false, \"offset\": \"7\", \"filename\": \"f\"}\n",
+        "-|-|-|-|-|7|f",
+    ),
+    (
+        "numbers that fit no 64 bits without a sign",
+        "k 20160101000000 {\"url\": -1, \"mime\": 1.5, \"status\": -0, \"digest\": 1e2, \"length\": 18446744073709551616, \"offset\": \"7\", \"filename\": \"f\"}\n",
+        "-|-|-|-|-|7|f",
+    ),
+];
+
 #[test]
 fn lines_with_an_entry(rt: HostRuntime) -> Result<(), Fail> {
-    for (name, line, values) in [
-        (
-            "as a line is written",
-            "k 20160101000000 {\"url\": \"http://x/\", \"mime\": \"text/html\", \"status\": \"200\", \"digest\": \"D\", \"length\": \"1\", \"offset\": \"7\", \"filename\": \"f\"}\n",
-            "http://x/|text/html|200|D|1|7|f",
-        ),
-        (
-            "without its line feed",
-            "k 20160101000000 {\"url\": \"http://x/\", \"mime\": \"text/html\", \"status\": \"200\", \"digest\": \"D\", \"length\": \"1\", \"offset\": \"7\", \"filename\": \"f\"}",
-            "http://x/|text/html|200|D|1|7|f",
-        ),
-        (
-            "with a carriage return before it",
-            "k 20160101000000 {\"url\": \"http://x/\", \"mime\": \"text/html\", \"status\": \"200\", \"digest\": \"D\", \"length\": \"1\", \"offset\": \"7\", \"filename\": \"f\"}\r\n",
-            "http://x/|text/html|200|D|1|7|f",
-        ),
-        (
-            "with white space round the object",
-            "k 20160101000000  \t{\"url\": \"http://x/\", \"mime\": \"text/html\", \"status\": \"200\", \"digest\": \"D\", \"length\": \"1\", \"offset\": \"7\", \"filename\": \"f\"} \t\r\n",
-            "http://x/|text/html|200|D|1|7|f",
-        ),
-        (
-            "with other white space in the object",
-            "k 20160101000000 {\"url\":\"http://x/\"\t,  \"mime\":\"text/html\"\t,  \"status\":\"200\"\t,  \"digest\":\"D\"\t,  \"length\":\"1\"\t,  \"offset\":\"7\"\t,  \"filename\":\"f\"}\n",
-            "http://x/|text/html|200|D|1|7|f",
-        ),
-        (
-            "members in another order",
-            "k 20160101000000 {\"filename\": \"f\", \"offset\": \"7\", \"length\": \"1\", \"digest\": \"D\", \"status\": \"200\", \"mime\": \"text/html\", \"url\": \"http://x/\"}\n",
-            "http://x/|text/html|200|D|1|7|f",
-        ),
-        (
-            "further members",
-            "k 20160101000000 {\"a\": 1, \"url\": \"http://x/\", \"mime\": \"text/html\", \"b\": [{}], \"status\": \"200\", \"digest\": \"D\", \"length\": \"1\", \"offset\": \"7\", \"filename\": \"f\", \"source\": \"x\", \"charset\": \"utf-8\"}\n",
-            "http://x/|text/html|200|D|1|7|f",
-        ),
-        (
-            "numbers as numbers",
-            "k 20160101000000 {\"url\": \"u\", \"mime\": \"m\", \"status\": 200, \"digest\": \"D\", \"length\": 1043, \"offset\": 333, \"filename\": \"f\"}\n",
-            "u|m|200|D|1043|333|f",
-        ),
-        (
-            "empty texts",
-            "k 20160101000000 {\"url\": \"\", \"mime\": \"\", \"status\": \"\", \"digest\": \"\", \"length\": \"\", \"offset\": \"7\", \"filename\": \"f\"}\n",
-            "-|-|-|-|-|7|f",
-        ),
-        (
-            "absent members",
-            "k 20160101000000 {\"offset\": \"7\", \"filename\": \"f\"}\n",
-            "-|-|-|-|-|7|f",
-        ),
-        (
-            "members of other kinds",
-            "k 20160101000000 {\"url\": null, \"mime\": true, \"status\": [200], \"digest\": {\"a\": \"b\"}, \"length\": false, \"offset\": \"7\", \"filename\": \"f\"}\n",
-            "-|-|-|-|-|7|f",
-        ),
-        (
-            "numbers that fit no 64 bits without a sign",
-            "k 20160101000000 {\"url\": -1, \"mime\": 1.5, \"status\": -0, \"digest\": 1e2, \"length\": 18446744073709551616, \"offset\": \"7\", \"filename\": \"f\"}\n",
-            "-|-|-|-|-|7|f",
-        ),
-    ] {
+    for (name, line, values) in ENTRIES {
         has_values(&rt, rt.alloc(), name, line, values)?;
     }
     Ok(())
 }
 
+const OFFSETS: &[(&str, &str, &str)] = &[
+    (
+        "the largest number and nought",
+        "k 20160101000000 {\"url\": 18446744073709551615, \"mime\": 0, \"offset\": \"7\", \"filename\": \"f\"}\n",
+        "18446744073709551615|0|-|-|-|7|f",
+    ),
+    (
+        "an offset with leading zeros",
+        "k 20160101000000 {\"offset\": \"007\", \"filename\": \"f\"}\n",
+        "-|-|-|-|-|7|f",
+    ),
+    (
+        "an offset of nineteen digits",
+        "k 20160101000000 {\"offset\": \"0000000000000000009\", \"filename\": \"f\"}\n",
+        "-|-|-|-|-|9|f",
+    ),
+    (
+        "the largest offset, as a text",
+        "k 20160101000000 {\"offset\": \"9223372036854775807\", \"filename\": \"f\"}\n",
+        "-|-|-|-|-|9223372036854775807|f",
+    ),
+    (
+        "the largest offset, as a number",
+        "k 20160101000000 {\"offset\": 9223372036854775807, \"filename\": \"f\"}\n",
+        "-|-|-|-|-|9223372036854775807|f",
+    ),
+    (
+        "offset 0",
+        "k 20160101000000 {\"offset\": 0, \"filename\": \"f\"}\n",
+        "-|-|-|-|-|0|f",
+    ),
+    (
+        "a plain object with an offset that is not canonical",
+        "k 20160101000000 {\"url\": \"http://x/\", \"mime\": \"text/html\", \"status\": \"200\", \"digest\": \"D\", \"length\": \"1\", \"offset\": \"07\", \"filename\": \"f\"}\n",
+        "http://x/|text/html|200|D|1|7|f",
+    ),
+    (
+        "escapes",
+        "k 20160101000000 {\"url\": \"a\\u0062\\\"\\\\\\/\\n\", \"filename\": \"\\u00e9\\ud83d\\ude00\", \"offset\": \"7\"}\n",
+        "ab\"\\/\n|-|-|-|-|7|\u{e9}\u{1f600}",
+    ),
+    (
+        "texts beyond ASCII",
+        "k 20160101000000 {\"url\": \"\u{e9}\u{1f600}\", \"mime\": \"\u{7f}\", \"offset\": \"7\", \"filename\": \"f\"}\n",
+        "\u{e9}\u{1f600}|\u{7f}|-|-|-|7|f",
+    ),
+    (
+        "a member that is given twice",
+        "k 20160101000000 {\"filename\": \"g\", \"offset\": \"1\", \"offset\": \"7\", \"filename\": \"f\"}\n",
+        "-|-|-|-|-|7|f",
+    ),
+    (
+        "an escaped name",
+        "k 20160101000000 {\"\\u0075rl\": \"u\", \"offset\": \"7\", \"filename\": \"f\"}\n",
+        "u|-|-|-|-|7|f",
+    ),
+    (
+        "names in another case",
+        "k 20160101000000 {\"URL\": \"u\", \"offset\": \"7\", \"filename\": \"f\"}\n",
+        "-|-|-|-|-|7|f",
+    ),
+    (
+        "a key that begins with !",
+        "!meta 20160101000000 {\"offset\": \"7\", \"filename\": \"f\"}\n",
+        "-|-|-|-|-|7|f",
+    ),
+    (
+        "a key beyond ASCII",
+        "\u{e9})/?\u{2028} 20160101000000 {\"offset\": \"7\", \"filename\": \"f\"}\n",
+        "-|-|-|-|-|7|f",
+    ),
+    (
+        "a file name with spaces",
+        "k 20160101000000 {\"offset\": \"7\", \"filename\": \" a b \"}\n",
+        "-|-|-|-|-|7| a b ",
+    ),
+    (
+        "nested 127 deep",
+        "k 20160101000000 {\"a\": [[[[[[[[[[[[[[[[[[[[[[[[[[[[[[[[[[[[[[[[[[[[[[[[[[[[[[[[[[[[[[[[[[[[[[[[[[[[[[[[[[[[[[[[[[[[[[[[[[[[[[[[[[[[[[[[[[[[[[[[[[[[[[]]]]]]]]]]]]]]]]]]]]]]]]]]]]]]]]]]]]]]]]]]]]]]]]]]]]]]]]]]]]]]]]]]]]]]]]]]]]]]]]]]]]]]]]]]]]]]]]]]]]]]]]]]]]]]]]]]]]]]]]]]]]]], \"offset\": \"7\", \"filename\": \"f\"}\n",
+        "-|-|-|-|-|7|f",
+    ),
+    (
+        "a stamp that is no date",
+        "k 00000000000000 {\"offset\": \"7\", \"filename\": \"f\"}",
+        "-|-|-|-|-|7|f",
+    ),
+];
+
 #[test]
 fn lines_with_an_offset_and_a_file_name(rt: HostRuntime) -> Result<(), Fail> {
-    for (name, line, values) in [
-        (
-            "the largest number and nought",
-            "k 20160101000000 {\"url\": 18446744073709551615, \"mime\": 0, \"offset\": \"7\", \"filename\": \"f\"}\n",
-            "18446744073709551615|0|-|-|-|7|f",
-        ),
-        (
-            "an offset with leading zeros",
-            "k 20160101000000 {\"offset\": \"007\", \"filename\": \"f\"}\n",
-            "-|-|-|-|-|7|f",
-        ),
-        (
-            "an offset of nineteen digits",
-            "k 20160101000000 {\"offset\": \"0000000000000000009\", \"filename\": \"f\"}\n",
-            "-|-|-|-|-|9|f",
-        ),
-        (
-            "the largest offset, as a text",
-            "k 20160101000000 {\"offset\": \"9223372036854775807\", \"filename\": \"f\"}\n",
-            "-|-|-|-|-|9223372036854775807|f",
-        ),
-        (
-            "the largest offset, as a number",
-            "k 20160101000000 {\"offset\": 9223372036854775807, \"filename\": \"f\"}\n",
-            "-|-|-|-|-|9223372036854775807|f",
-        ),
-        (
-            "offset 0",
-            "k 20160101000000 {\"offset\": 0, \"filename\": \"f\"}\n",
-            "-|-|-|-|-|0|f",
-        ),
-        (
-            "a plain object with an offset that is not canonical",
-            "k 20160101000000 {\"url\": \"http://x/\", \"mime\": \"text/html\", \"status\": \"200\", \"digest\": \"D\", \"length\": \"1\", \"offset\": \"07\", \"filename\": \"f\"}\n",
-            "http://x/|text/html|200|D|1|7|f",
-        ),
-        (
-            "escapes",
-            "k 20160101000000 {\"url\": \"a\\u0062\\\"\\\\\\/\\n\", \"filename\": \"\\u00e9\\ud83d\\ude00\", \"offset\": \"7\"}\n",
-            "ab\"\\/\n|-|-|-|-|7|\u{e9}\u{1f600}",
-        ),
-        (
-            "texts beyond ASCII",
-            "k 20160101000000 {\"url\": \"\u{e9}\u{1f600}\", \"mime\": \"\u{7f}\", \"offset\": \"7\", \"filename\": \"f\"}\n",
-            "\u{e9}\u{1f600}|\u{7f}|-|-|-|7|f",
-        ),
-        (
-            "a member that is given twice",
-            "k 20160101000000 {\"filename\": \"g\", \"offset\": \"1\", \"offset\": \"7\", \"filename\": \"f\"}\n",
-            "-|-|-|-|-|7|f",
-        ),
-        (
-            "an escaped name",
-            "k 20160101000000 {\"\\u0075rl\": \"u\", \"offset\": \"7\", \"filename\": \"f\"}\n",
-            "u|-|-|-|-|7|f",
-        ),
-        (
-            "names in another case",
-            "k 20160101000000 {\"URL\": \"u\", \"offset\": \"7\", \"filename\": \"f\"}\n",
-            "-|-|-|-|-|7|f",
-        ),
-        (
-            "a key that begins with !",
-            "!meta 20160101000000 {\"offset\": \"7\", \"filename\": \"f\"}\n",
-            "-|-|-|-|-|7|f",
-        ),
-        (
-            "a key beyond ASCII",
-            "\u{e9})/?\u{2028} 20160101000000 {\"offset\": \"7\", \"filename\": \"f\"}\n",
-            "-|-|-|-|-|7|f",
-        ),
-        (
-            "a file name with spaces",
-            "k 20160101000000 {\"offset\": \"7\", \"filename\": \" a b \"}\n",
-            "-|-|-|-|-|7| a b ",
-        ),
-        (
-            "nested 127 deep",
-            "k 20160101000000 {\"a\": [[[[[[[[[[[[[[[[[[[[[[[[[[[[[[[[[[[[[[[[[[[[[[[[[[[[[[[[[[[[[[[[[[[[[[[[[[[[[[[[[[[[[[[[[[[[[[[[[[[[[[[[[[[[[[[[[[[[[[[[[[[[[[]]]]]]]]]]]]]]]]]]]]]]]]]]]]]]]]]]]]]]]]]]]]]]]]]]]]]]]]]]]]]]]]]]]]]]]]]]]]]]]]]]]]]]]]]]]]]]]]]]]]]]]]]]]]]]]]]]]]]]]]]]]]]], \"offset\": \"7\", \"filename\": \"f\"}\n",
-            "-|-|-|-|-|7|f",
-        ),
-        (
-            "a stamp that is no date",
-            "k 00000000000000 {\"offset\": \"7\", \"filename\": \"f\"}",
-            "-|-|-|-|-|7|f",
-        ),
-    ] {
+    for (name, line, values) in OFFSETS {
         has_values(&rt, rt.alloc(), name, line, values)?;
     }
     Ok(())

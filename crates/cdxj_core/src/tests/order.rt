@@ -11,26 +11,29 @@ fn entry(alloc: Global, filename: &str, offset: u64, mime: &str) -> Result<Entry
     Ok(entry)
 }
 
+const ENTRIES: &[(&str, u64, &str)] = &[
+    ("b.warc", 10, "first"),
+    ("a.warc", 1000, "first"),
+    ("a.warc", 99, "first"),
+    ("a.warc", 1000, "second"),
+    ("b.warc", 10, "second"),
+];
+
+const IN_ORDER: &[(&str, u64)] = &[("a.warc", 99), ("a.warc", 1000), ("b.warc", 10)];
+
 // By file name, then by offset as a number; of two at one place the first.
 #[test]
 fn entries_rise_by_place(rt: HostRuntime) -> Result<(), Fail> {
     let alloc = rt.alloc();
     let mut entries = Vec::new(alloc);
-    for (filename, offset, mime) in [
-        ("b.warc", 10, "first"),
-        ("a.warc", 1000, "first"),
-        ("a.warc", 99, "first"),
-        ("a.warc", 1000, "second"),
-        ("b.warc", 10, "second"),
-    ] {
-        entries.push(entry(alloc, filename, offset, mime)?)?;
+    for (filename, offset, mime) in ENTRIES {
+        entries.push(entry(alloc, filename, *offset, mime)?)?;
     }
     let order = in_order(alloc, &entries)?;
-    let wanted = [("a.warc", 99), ("a.warc", 1000), ("b.warc", 10)];
-    assert_eq!(rt; order.len(), 3);
-    for (found, (filename, offset)) in order.iter().zip(wanted) {
-        assert_eq!(rt; found.filename.as_str(), filename);
-        assert_eq!(rt; found.offset, offset);
+    assert_eq!(rt; order.len(), IN_ORDER.len());
+    for (found, (filename, offset)) in order.iter().zip(IN_ORDER.iter()) {
+        assert_eq!(rt; found.filename.as_str(), *filename);
+        assert_eq!(rt; found.offset, *offset);
         assert_eq!(rt; found.mime.as_str(), "first");
     }
     Ok(())
@@ -75,15 +78,17 @@ fn keys_rise_by_their_bytes(rt: HostRuntime) -> Result<(), Fail> {
     Ok(())
 }
 
+const LINES: &[&[u8]] = &[
+    b"k 20160101000000 {\"offset\": \"1000\", \"filename\": \"a.warc\"}",
+    b"k 20160101000000 {\"offset\": \"99\", \"filename\": \"a.warc\"}",
+    b"j 20170101000000 {\"offset\": \"5\", \"filename\": \"b.warc\"}",
+];
+
 #[test]
 fn lines_rise_by_place(rt: HostRuntime) -> Result<(), Fail> {
     let alloc = rt.alloc();
     let mut lines = Vec::new(alloc);
-    for line in [
-        b"k 20160101000000 {\"offset\": \"1000\", \"filename\": \"a.warc\"}".as_slice(),
-        b"k 20160101000000 {\"offset\": \"99\", \"filename\": \"a.warc\"}".as_slice(),
-        b"j 20170101000000 {\"offset\": \"5\", \"filename\": \"b.warc\"}".as_slice(),
-    ] {
+    for line in LINES {
         lines.push(LineRef::read(alloc, line)?)?;
     }
     let order = in_order(alloc, &lines)?;

@@ -19,76 +19,80 @@ fn resume_keys_name_places(rt: HostRuntime) -> Result<(), Fail> {
     Ok(())
 }
 
+const RESUME_KEYS: &[(&str, &str, u64, &str)] = &[
+    ("k 20160101000000 f 0", "f", 0, "k+20160101000000+f+0"),
+    (
+        "k+20160101000000+a++b+7",
+        "a  b",
+        7,
+        "k+20160101000000+a++b+7",
+    ),
+    ("k+20160101000000++f+7", " f", 7, "k+20160101000000++f+7"),
+    ("k+20160101000000+%66+007", "f", 7, "k+20160101000000+f+7"),
+    (
+        "k+20160101000000+a%2Bb+1",
+        "a+b",
+        1,
+        "k+20160101000000+a%2Bb+1",
+    ),
+    (
+        "k+20160101000000+%C3%A9+1",
+        "\u{e9}",
+        1,
+        "k+20160101000000+%C3%A9+1",
+    ),
+    (
+        "k+20160101000000+a%3Db%26c+1",
+        "a=b&c",
+        1,
+        "k+20160101000000+a%3Db%26c+1",
+    ),
+    (
+        "k+20160101000000+f+9223372036854775807",
+        "f",
+        9_223_372_036_854_775_807,
+        "k+20160101000000+f+9223372036854775807",
+    ),
+];
+
 // The form encoding is that of the URL Standard, section 5.
 #[test]
 fn resume_keys_are_form_encoded(rt: HostRuntime) -> Result<(), Fail> {
     let alloc = rt.alloc();
-    for (text, filename, offset, written) in [
-        ("k 20160101000000 f 0", "f", 0, "k+20160101000000+f+0"),
-        (
-            "k+20160101000000+a++b+7",
-            "a  b",
-            7,
-            "k+20160101000000+a++b+7",
-        ),
-        ("k+20160101000000++f+7", " f", 7, "k+20160101000000++f+7"),
-        ("k+20160101000000+%66+007", "f", 7, "k+20160101000000+f+7"),
-        (
-            "k+20160101000000+a%2Bb+1",
-            "a+b",
-            1,
-            "k+20160101000000+a%2Bb+1",
-        ),
-        (
-            "k+20160101000000+%C3%A9+1",
-            "\u{e9}",
-            1,
-            "k+20160101000000+%C3%A9+1",
-        ),
-        (
-            "k+20160101000000+a%3Db%26c+1",
-            "a=b&c",
-            1,
-            "k+20160101000000+a%3Db%26c+1",
-        ),
-        (
-            "k+20160101000000+f+9223372036854775807",
-            "f",
-            9_223_372_036_854_775_807,
-            "k+20160101000000+f+9223372036854775807",
-        ),
-    ] {
+    for (text, filename, offset, written) in RESUME_KEYS {
         let kept = OwnedPlace::read(alloc, text)?;
-        assert_eq!(rt; kept.place().filename, filename, "at {text}");
-        assert_eq!(rt; kept.place().offset, offset, "at {text}");
         let back = resume_text(alloc, kept.place())?;
-        assert_eq!(rt; back.as_str(), written, "at {text}");
+        assert_eq!(rt; kept.place().filename, *filename, "at {text}");
+        assert_eq!(rt; kept.place().offset, *offset, "at {text}");
+        assert_eq!(rt; back.as_str(), *written, "at {text}");
     }
     Ok(())
 }
 
+const NO_RESUME_KEYS: &[&str] = &[
+    "x",
+    "",
+    "+20160101000000+f+1",
+    "k+20160101000000+f",
+    "k+20160101000000++1",
+    "k+2016010100000+f+1",
+    "k+201601010000000+f+1",
+    "k+2016010100000x+f+1",
+    "k++f+1",
+    "k+20160101000000+f+",
+    "k+20160101000000+f+-1",
+    "k+20160101000000+f+%2B1",
+    "k+20160101000000+f+1x",
+    "k+20160101000000+f+9223372036854775808",
+    "k+20160101000000+f+00000000000000000001",
+    "%09+20160101000000+f+1",
+    "k%7F+20160101000000+f+1",
+    "k%20x+20160101000000+f+1",
+];
+
 #[test]
 fn other_texts_are_no_resume_keys(rt: HostRuntime) -> Result<(), Fail> {
-    for text in [
-        "x",
-        "",
-        "+20160101000000+f+1",
-        "k+20160101000000+f",
-        "k+20160101000000++1",
-        "k+2016010100000+f+1",
-        "k+201601010000000+f+1",
-        "k+2016010100000x+f+1",
-        "k++f+1",
-        "k+20160101000000+f+",
-        "k+20160101000000+f+-1",
-        "k+20160101000000+f+%2B1",
-        "k+20160101000000+f+1x",
-        "k+20160101000000+f+9223372036854775808",
-        "k+20160101000000+f+00000000000000000001",
-        "%09+20160101000000+f+1",
-        "k%7F+20160101000000+f+1",
-        "k%20x+20160101000000+f+1",
-    ] {
+    for text in NO_RESUME_KEYS {
         let refused = OwnedPlace::read(rt.alloc(), text).err();
         if refused == Some(PlaceFault::Memory) {
             return Err(PlaceFault::Memory)?;

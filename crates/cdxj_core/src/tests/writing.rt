@@ -40,6 +40,18 @@ const HOME: &[u8] =
 const RESOURCE: &[u8] =
     b"com,example)/r 20160919172024 {\"url\": \"http://example.com/r\", \"mime\": \"text/plain\", \"status\": \"-\", \"digest\": \"VGMT4NSHA2AWVOR6EVYXQUGCNSONBWE5\", \"length\": \"184\", \"offset\": \"264\", \"filename\": \"b.warc\"}\n";
 
+const HOME_VALUES: &[(Field, &str)] = &[
+    (Field::Urlkey, "com,example)/"),
+    (Field::Timestamp, "20160919172024"),
+    (Field::Original, "http://example.com/"),
+    (Field::Mimetype, "text/html"),
+    (Field::Statuscode, "200"),
+    (Field::Digest, "3I42H3S6NNFQ2MSVX7XZKYAYSCX5QBYJ"),
+    (Field::Length, "264"),
+    (Field::Offset, "0"),
+    (Field::Filename, "a.warc"),
+];
+
 #[test]
 fn entries_are_written_and_read_back(rt: HostRuntime) -> Result<(), Fail> {
     let alloc = rt.alloc();
@@ -48,18 +60,8 @@ fn entries_are_written_and_read_back(rt: HostRuntime) -> Result<(), Fail> {
     let line = write_line(alloc, &entry)?;
     assert!(rt; line.as_slice() == HOME);
     let read = LineRef::read(alloc, &line)?;
-    for (field, value) in [
-        (Field::Urlkey, "com,example)/"),
-        (Field::Timestamp, "20160919172024"),
-        (Field::Original, "http://example.com/"),
-        (Field::Mimetype, "text/html"),
-        (Field::Statuscode, "200"),
-        (Field::Digest, "3I42H3S6NNFQ2MSVX7XZKYAYSCX5QBYJ"),
-        (Field::Length, "264"),
-        (Field::Offset, "0"),
-        (Field::Filename, "a.warc"),
-    ] {
-        assert_eq!(rt; read.value(field), value);
+    for (field, value) in HOME_VALUES {
+        assert_eq!(rt; read.value(*field), *value);
     }
     let entry = resource(alloc)?;
     assert!(rt; entry.good());
