@@ -31,7 +31,7 @@ fn refusal(head: Result<Parts, HeadFault>) -> Result<Option<HeadFault>, HeadFaul
 const MANDATORY: &str =
     "WARC-Record-ID: <urn:x:1>\r\nContent-Length: 3\r\nWARC-Date: 2016\r\nWARC-Type: resource\r\n";
 
-const ORDERS: [(&str, HeadFault); 20] = [
+const ORDERS: &[(&str, HeadFault)] = &[
     // A bad line first, whatever else is wrong.
     (
         "WARC-Record-ID: a\r\nContent-Length: 3\r\nWARC-Date: 2016\r\nbad",
@@ -119,25 +119,22 @@ const ORDERS: [(&str, HeadFault); 20] = [
     ),
 ];
 
+const WITHOUT_FIELDS: &[&[u8]] = &[b"", b"WARC/1.", b"WARC/1.1\r\n", b"WARC/1.1\r\n\r\n"];
+
 #[test]
 fn answers_the_first_cause(rt: HostRuntime) -> Result<(), HeadFault> {
     for (lines, want) in ORDERS {
-        let found = refusal(read(rt.alloc(), &[lines]))?;
-        assert_eq!(rt; found, Some(want), "{lines}");
+        let found = refusal(read(rt.alloc(), &[*lines]))?;
+        assert_eq!(rt; found, Some(*want), "{lines}");
     }
-    for raw in [
-        b"".as_slice(),
-        b"WARC/1.",
-        b"WARC/1.1\r\n",
-        b"WARC/1.1\r\n\r\n",
-    ] {
+    for raw in WITHOUT_FIELDS {
         let found = refusal(read_parts(rt.alloc(), raw))?;
         assert_eq!(rt; found, Some(HeadFault::Missing));
     }
     Ok(())
 }
 
-const BAD_LINES: [&str; 28] = [
+const BAD_LINES: &[&str] = &[
     "no colon",
     "",
     ": empty name",
@@ -168,6 +165,12 @@ const BAD_LINES: [&str; 28] = [
     "A: b\r\n folded\nonce",
 ];
 
+const CUT_HEADS: &[&[u8]] = &[
+    b"WARC/1.1\r\nA: b\r\r\n",
+    b"WARC/1.1\r\nA: b\n\r\n",
+    b"WARC/1.1\r\nA: b\r\n",
+];
+
 #[test]
 fn refuses_lines(rt: HostRuntime) -> Result<(), HeadFault> {
     for line in BAD_LINES {
@@ -176,18 +179,14 @@ fn refuses_lines(rt: HostRuntime) -> Result<(), HeadFault> {
     }
     let continuation_first = refusal(read(rt.alloc(), &[" folded\r\n", MANDATORY, "A: b"]))?;
     assert_eq!(rt; continuation_first, Some(HeadFault::FieldLine));
-    for cut in [
-        b"WARC/1.1\r\nA: b\r\r\n".as_slice(),
-        b"WARC/1.1\r\nA: b\n\r\n",
-        b"WARC/1.1\r\nA: b\r\n",
-    ] {
+    for cut in CUT_HEADS {
         let found = refusal(read_parts(rt.alloc(), cut))?;
         assert_eq!(rt; found, Some(HeadFault::FieldLine));
     }
     Ok(())
 }
 
-const VALUES: [(&str, &str, Option<&str>); 22] = [
+const VALUES: &[(&str, &str, Option<&str>)] = &[
     ("A: b", "A", Some("b")),
     ("A:b", "A", Some("b")),
     ("A: \t b \t ", "A", Some("b")),
@@ -228,7 +227,7 @@ fn reads_values(rt: HostRuntime) -> Result<(), HeadFault> {
     Ok(())
 }
 
-const LENGTHS: [(&str, Option<u64>); 18] = [
+const LENGTHS: &[(&str, Option<u64>)] = &[
     ("0", Some(0)),
     ("003", Some(3)),
     ("59", Some(59)),
@@ -254,10 +253,10 @@ fn reads_lengths(rt: HostRuntime) -> Result<(), HeadFault> {
     for (value, want) in LENGTHS {
         let lines = [
             "WARC-Record-ID: a\r\nWARC-Date: 2016\r\nWARC-Type: b\r\nContent-Length:",
-            value,
+            *value,
         ];
         match want {
-            Some(length) => assert_eq!(rt; read(rt.alloc(), &lines)?.length(), length, "{value}"),
+            Some(length) => assert_eq!(rt; read(rt.alloc(), &lines)?.length(), *length, "{value}"),
             None => {
                 let found = refusal(read(rt.alloc(), &lines))?;
                 assert_eq!(rt; found, Some(HeadFault::BadLength), "{value}");
@@ -267,7 +266,7 @@ fn reads_lengths(rt: HostRuntime) -> Result<(), HeadFault> {
     Ok(())
 }
 
-const KINDS: [(&str, Kind, &str); 13] = [
+const KINDS: &[(&str, Kind, &str)] = &[
     ("warcinfo", Kind::Warcinfo, "warcinfo"),
     ("response", Kind::Response, "response"),
     ("resource", Kind::Resource, "resource"),
@@ -288,11 +287,11 @@ fn tells_kinds(rt: HostRuntime) -> Result<(), HeadFault> {
     for (value, kind, name) in KINDS {
         let lines = [
             "WARC-Record-ID: a\r\nContent-Length: 0\r\nWARC-Date: 2016\r\nWARC-Type: ",
-            value,
+            *value,
         ];
         let found = read(rt.alloc(), &lines)?.kind();
-        assert_eq!(rt; found, kind, "{value}");
-        assert_eq!(rt; found.name(), name, "{value}");
+        assert_eq!(rt; found, *kind, "{value}");
+        assert_eq!(rt; found.name(), *name, "{value}");
     }
     Ok(())
 }
@@ -300,7 +299,7 @@ fn tells_kinds(rt: HostRuntime) -> Result<(), HeadFault> {
 const RESPONSE: &[u8] =
     b"WARC/1.0\r\nWARC-Type: response\r\nWARC-Record-ID: <urn:x:1>\r\nWARC-Date: 2016-09-19T17:20:24.123456Z\r\nWARC-Target-URI:\r\n <http://example.com/>\r\nContent-Type: application/http; msgtype=response\r\nContent-Length: 59\r\n\r\n";
 
-const FIELDS: [(&str, Option<&str>); 3] = [
+const FIELDS: &[(&str, Option<&str>)] = &[
     ("warc-target-uri", Some("<http://example.com/>")),
     ("WARC-Record-ID", Some("<urn:x:1>")),
     ("WARC-Block-Digest", None),

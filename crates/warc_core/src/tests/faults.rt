@@ -3,7 +3,7 @@ use crate::{Cause, Fault, Fuse, Head, Reader, Slice};
 use std::alloc::{AllocError, Global};
 use std::test::Fail;
 
-const NAMES: [(Cause, &str); 13] = [
+const NAMES: &[(Cause, &str)] = &[
     (Cause::Memory, "Memory"),
     (Cause::Read, "Read"),
     (Cause::Version, "Version"),
@@ -22,12 +22,12 @@ const NAMES: [(Cause, &str); 13] = [
 #[test]
 fn names_causes(rt: HostRuntime) {
     for (cause, name) in NAMES {
-        assert_eq!(rt; cause.name(), name);
+        assert_eq!(rt; cause.name(), *name);
     }
 }
 
 /// Archives of one record, and what is wrong with it. Where two things are, the earlier is answered.
-const ONE_RECORD: [(&str, Cause); 33] = [
+const ONE_RECORD: &[(&str, Cause)] = &[
     ("W", Cause::ShortHead),
     ("WARC/1.", Cause::ShortHead),
     ("WARC/1.0\r", Cause::ShortHead),
@@ -124,7 +124,13 @@ fn answers_the_first_cause(rt: HostRuntime) -> Result<(), Fail> {
             )?;
             assert_eq!(rt;
                 found,
-                (0, Some(Fault { offset: 0, cause })),
+                (
+                    0,
+                    Some(Fault {
+                        offset: 0,
+                        cause: *cause
+                    })
+                ),
                 "{most} of {text}"
             );
         }

@@ -1,7 +1,7 @@
 use crate::HeadFault;
 use crate::date::stamp_of;
 
-const DATES: [(&str, Option<&str>); 66] = [
+const DATES: &[(&str, Option<&str>)] = &[
     ("2016", Some("20160101000000")),
     ("2016-09", Some("20160901000000")),
     ("2016-09-19", Some("20160919000000")),

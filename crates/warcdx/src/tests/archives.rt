@@ -26,7 +26,7 @@ pub const READ: Outcome = Outcome::Index(IndexFault::Capture(CaptureFault::Archi
 })));
 
 /// Names of archives, what a listing of them writes, and how it ends. There is no `none.warc`, and `.` is a folder.
-const LISTINGS: [(&[&str], &[u8], Outcome); 7] = [
+const LISTINGS: &[(&[&str], &[u8], Outcome)] = &[
     (&["good.warc"], b"0 264 response\n", Outcome::Done),
     (
         &["good.warc", "./differing.warc"],
@@ -57,7 +57,7 @@ const LISTINGS: [(&[&str], &[u8], Outcome); 7] = [
 ];
 
 /// The same of their digests.
-const VERDICTS: [(&[&str], &[u8], Outcome); 5] = [
+const VERDICTS: &[(&[&str], &[u8], Outcome)] = &[
     (&["good.warc"], b"0 absent\n", Outcome::Done),
     (&["differing.warc"], b"0 differs\n", Outcome::Differs),
     (
@@ -78,7 +78,7 @@ const VERDICTS: [(&[&str], &[u8], Outcome); 5] = [
 ];
 
 /// What is written of two archives, in six calls, before each of these calls.
-const BEFORE_CALLS: [(u64, &[u8]); 6] = [
+const BEFORE_CALLS: &[(u64, &[u8])] = &[
     (1, b""),
     (2, b"good.warc"),
     (3, b"good.warc:\n"),
@@ -88,7 +88,7 @@ const BEFORE_CALLS: [(u64, &[u8]); 6] = [
 ];
 
 /// The same behind an archive that can't be opened.
-const BEHIND_NONE: [(u64, &[u8]); 2] = [(1, b""), (3, b"good.warc:\n")];
+const BEHIND_NONE: &[(u64, &[u8])] = &[(1, b""), (3, b"good.warc:\n")];
 
 fn write_archives<R: Runtime>(rt: &R) -> io::Result<()> {
     fs::write(rt, "good.warc", RESPONSE)?;
@@ -138,21 +138,21 @@ fn tasks_take_one_archive_after_another(rt: HostRuntime) -> Result<(), Fail> {
     write_archives(&rt)?;
     for (names, lines, wanted) in LISTINGS {
         assert!(rt;
-            writes(&rt, Report::Listing, names, lines, wanted)?,
+            writes(&rt, Report::Listing, names, lines, *wanted)?,
             "{names:?}"
         );
     }
     for (names, lines, wanted) in VERDICTS {
         assert!(rt;
-            writes(&rt, Report::Verdicts, names, lines, wanted)?,
+            writes(&rt, Report::Verdicts, names, lines, *wanted)?,
             "{names:?}"
         );
     }
     for (at, lines) in BEFORE_CALLS {
-        assert!(rt; stops(&rt, &["good.warc", "good.warc"], at, lines)?, "{at}");
+        assert!(rt; stops(&rt, &["good.warc", "good.warc"], *at, lines)?, "{at}");
     }
     for (at, lines) in BEHIND_NONE {
-        assert!(rt; stops(&rt, &["none.warc", "good.warc"], at, lines)?, "{at}");
+        assert!(rt; stops(&rt, &["none.warc", "good.warc"], *at, lines)?, "{at}");
     }
     Ok(remove_archives(&rt)?)
 }

@@ -1,7 +1,7 @@
 use capture_core::base32;
 
 /// Twenty bytes and their letters. RFC 4648, section 10 has `fooba` and its letters; the third row counts from 0 to 31.
-const BYTES: [(&[u8; 20], &[u8; 32]); 5] = [
+const BYTES: &[(&[u8; 20], &[u8; 32])] = &[
     (&[0; 20], b"AAAAAAAAAAAAAAAAAAAAAAAAAAAAAAAA"),
     (&[255; 20], b"77777777777777777777777777777777"),
     (
@@ -18,6 +18,6 @@ const BYTES: [(&[u8; 20], &[u8; 32]); 5] = [
 #[test]
 fn letters_of_bytes(rt: HostRuntime) {
     for (bytes, letters) in BYTES {
-        assert_eq!(rt; base32(bytes), *letters);
+        assert_eq!(rt; base32(bytes), **letters);
     }
 }

@@ -136,16 +136,18 @@ fn archives_are_indexed_and_read_by_name(rt: HostRuntime) -> Result<(), Fail> {
     Ok(remove_archives(&rt)?)
 }
 
+const FILE_NAMES: &[(&str, &str)] = &[
+    ("a.warc", "a.warc"),
+    ("-", "-"),
+    ("/x/y/a.warc", "a.warc"),
+    ("x/", ""),
+    ("", ""),
+    ("é/ü", "ü"),
+];
+
 #[test]
 fn a_file_name_stands_after_the_last_slash(rt: HostRuntime) {
-    for (name, wanted) in [
-        ("a.warc", "a.warc"),
-        ("-", "-"),
-        ("/x/y/a.warc", "a.warc"),
-        ("x/", ""),
-        ("", ""),
-        ("é/ü", "ü"),
-    ] {
-        assert_eq!(rt; file_name(name), wanted);
+    for (name, wanted) in FILE_NAMES {
+        assert_eq!(rt; file_name(name), *wanted);
     }
 }

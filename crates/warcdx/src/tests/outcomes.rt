@@ -9,7 +9,7 @@ fn archive(cause: Cause) -> Outcome {
 }
 
 /// Outcomes with their status, and whether they end a command at once.
-const OUTCOMES: [(Outcome, u8, bool); 12] = [
+const OUTCOMES: &[(Outcome, u8, bool)] = &[
     (Outcome::Done, 0, false),
     (Outcome::Differs, 1, false),
     (Outcome::Usage, 2, false),
@@ -33,7 +33,7 @@ const OUTCOMES: [(Outcome, u8, bool); 12] = [
 ];
 
 /// The same of the faults of an archive.
-const CAUSES: [(Cause, u8, bool); 13] = [
+const CAUSES: &[(Cause, u8, bool)] = &[
     (Cause::Memory, 3, true),
     (Cause::Read, 3, false),
     (Cause::Version, 1, false),
@@ -52,12 +52,12 @@ const CAUSES: [(Cause, u8, bool); 13] = [
 #[test]
 fn outcomes_have_their_status(rt: HostRuntime) {
     for (outcome, wanted, ends) in OUTCOMES {
-        assert_eq!(rt; status(&outcome), wanted, "{outcome:?}");
-        assert_eq!(rt; ends_command(&outcome), ends, "{outcome:?}");
+        assert_eq!(rt; status(outcome), *wanted, "{outcome:?}");
+        assert_eq!(rt; ends_command(outcome), *ends, "{outcome:?}");
     }
     for (cause, wanted, ends) in CAUSES {
-        assert_eq!(rt; status(&archive(cause)), wanted, "{cause:?}");
-        assert_eq!(rt; ends_command(&archive(cause)), ends, "{cause:?}");
+        assert_eq!(rt; status(&archive(*cause)), *wanted, "{cause:?}");
+        assert_eq!(rt; ends_command(&archive(*cause)), *ends, "{cause:?}");
     }
 }
 

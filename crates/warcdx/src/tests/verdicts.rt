@@ -160,19 +160,22 @@ fn verifies_to_failed_read(
     Ok(out.bytes() == lines && answer == Err(Fault { offset, cause }))
 }
 
+/// Calls that fail, with the lines and the offset that the verifying ends at.
+const FAILED_READS: &[(u64, &[u8], u64)] = &[
+    (1, b"fault 0 Read\n", 0),
+    (236, b"fault 0 Read\n", 0),
+    (242, b"fault 0 Read\n", 0),
+    (243, b"0 differs\nfault 242 Read\n", 242),
+    (506, b"0 differs\nfault 242 Read\n", 242),
+    (507, b"0 differs\n242 absent\nfault 506 Read\n", 506),
+];
+
 #[test]
 fn verifies_up_to_a_failed_read(rt: HostRuntime) -> Result<(), Fail> {
     let archive = joined(rt.alloc(), &[RESOURCE, OTHER, RESPONSE])?;
-    for (at, lines, offset) in [
-        (1, b"fault 0 Read\n".as_slice(), 0),
-        (236, b"fault 0 Read\n", 0),
-        (242, b"fault 0 Read\n", 0),
-        (243, b"0 differs\nfault 242 Read\n", 242),
-        (506, b"0 differs\nfault 242 Read\n", 242),
-        (507, b"0 differs\n242 absent\nfault 506 Read\n", 506),
-    ] {
+    for (at, lines, offset) in FAILED_READS {
         assert!(rt;
-            verifies_to_failed_read(rt.alloc(), archive.as_slice(), at, lines, offset)?,
+            verifies_to_failed_read(rt.alloc(), archive.as_slice(), *at, lines, *offset)?,
             "at {at}"
         );
     }

@@ -45,7 +45,7 @@ fn stops_at_each_write(
 }
 
 /// The reports that end for want of memory.
-const OUT_OF_MEMORY: [&[u8]; 5] = [
+const OUT_OF_MEMORY: &[&[u8]] = &[
     b"fault 0 Memory\n",
     b"0 264 response\nfault 264 Memory\n",
     b"0 264 response\n264 184 resource\nfault 448 Memory\n",

@@ -26,7 +26,7 @@ const WARCINFO: &[u8] =
     b"WARC/1.1\r\nWARC-Type: warcinfo\r\nWARC-Record-ID: <urn:x:5>\r\nWARC-Date: 2016\r\nContent-Length: 0\r\n\r\n\r\n\r\n";
 
 /// Two records, and the lines of their captures.
-const ARCHIVES: [([&[u8]; 2], &[u8]); 6] = [
+const ARCHIVES: &[([&[u8]; 2], &[u8])] = &[
     (
         [RESPONSE, b""],
         b"com,example)/ 20160919172024 {\"url\": \"http://example.com/\", \"mime\": \"text/html\", \"status\": \"200\", \"digest\": \"3I42H3S6NNFQ2MSVX7XZKYAYSCX5QBYJ\", \"length\": \"264\", \"offset\": \"0\", \"filename\": \"a.warc\"}\n",
@@ -77,9 +77,9 @@ fn push_line(alloc: Global, lines: &mut Vec<u8>, entry: &Entry) -> Result<(), Fa
 #[test]
 fn captures_have_their_lines(rt: HostRuntime) -> Result<(), Fail> {
     for (records, wanted) in ARCHIVES {
-        let archive = joined(rt.alloc(), &records)?;
+        let archive = joined(rt.alloc(), records)?;
         let lines = lines_of(rt.alloc(), archive.as_slice())?;
-        assert_eq!(rt; lines.as_slice(), wanted);
+        assert_eq!(rt; lines.as_slice(), *wanted);
     }
     Ok(())
 }

@@ -5,7 +5,7 @@ use std::test::Fail;
 
 /// A first part and a part that is repeated, how often, and whether they make a head: of 256 and 257 fields, and of
 /// 65,536, 65,537 and 100,024 bytes.
-const HEADS: [(&[u8], &[u8], usize, bool); 5] = [
+const HEADS: &[(&[u8], &[u8], usize, bool)] = &[
     (b"HTTP/1.1 200 OK", b"\r\na: b", 256, true),
     (b"HTTP/1.1 200 OK", b"\r\na: b", 257, false),
     (b"HTTP/1.1 200 OK\r\nX: ", b"a", 65_512, true),
@@ -40,9 +40,9 @@ fn says_head(captured: &Option<Entry>, is_head: bool) -> bool {
 #[test]
 fn http_heads_are_limited(rt: HostRuntime) -> Result<(), Fail> {
     for (first, part, count, is_head) in HEADS {
-        let block = block_text(rt.alloc(), first, part, count)?;
+        let block = block_text(rt.alloc(), first, part, *count)?;
         let captured = capture_of(rt.alloc(), "response", HTTP, block.as_slice())?;
-        assert!(rt; says_head(&captured, is_head), "{count}");
+        assert!(rt; says_head(&captured, *is_head), "{count}");
     }
     Ok(())
 }
