@@ -149,10 +149,16 @@ fn tasks_take_one_archive_after_another(rt: HostRuntime) -> Result<(), Fail> {
         );
     }
     for (at, lines) in BEFORE_CALLS {
-        assert!(rt; stops(&rt, &["good.warc", "good.warc"], *at, lines)?, "{at}");
+        assert!(rt;
+            stops(&rt, &["good.warc", "good.warc"], *at, lines)?,
+            "{at}"
+        );
     }
     for (at, lines) in BEHIND_NONE {
-        assert!(rt; stops(&rt, &["none.warc", "good.warc"], *at, lines)?, "{at}");
+        assert!(rt;
+            stops(&rt, &["none.warc", "good.warc"], *at, lines)?,
+            "{at}"
+        );
     }
     Ok(remove_archives(&rt)?)
 }

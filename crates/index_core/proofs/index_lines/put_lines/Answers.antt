@@ -12,8 +12,8 @@ returns-in_err-put_bytes-clause-err g c =
     let line = rw c.line.ensures at c.in_err-put_bytes.ensures.err in
     rw (p.1, p.2)
     (subst (λ text. FailsIn text (g.O.Output.written c.args.out.now) (g.O.Output.written c.put_bytes.new.out) c.in_err-put_bytes.field-0.0)
-      (sym (lines-at _ _ _ c.loop-line-test.true c.line-item.is))
-      (fails-behind _ _ _ _ _ _ _ c.loop-line.invariant.lines (inr line.0, line.1)))
+    (sym (lines-at _ _ _ c.loop-line-test.true c.line-item.is))
+    (fails-behind _ _ _ _ _ _ _ c.loop-line.invariant.lines (inr line.0, line.1)))
 
 pub loop-line-preserved : goal.loop-line-preserved
 loop-line-preserved g c =
