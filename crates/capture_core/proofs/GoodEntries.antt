@@ -7,7 +7,7 @@ use Rattle.warc_head.specs.declared.kind.Kind.{Kind}
 use Rattle.warc_head.specs.declared.kind.Kind.TheVariants as kinds
 use Rattle.warc_head.specs.Length.{all_digits}
 use Rattle.warc_core.specs.HeadView.{HeadView}
-use Rattle.cdxj_core.specs.Pair.{is_stamp}
+use Rattle.cdxj_places.specs.Pair.{is_stamp}
 use Rattle.cdxj_core.specs.Texts.{or_missing}
 use Rattle.capture_core.specs.Indexed.{field, is_marked}
 use Rattle.capture_core.specs.Text.{escaped, text_of, media_type}

@@ -6,7 +6,7 @@ use Rattle.std.proofs.lemmas.Bool.{and_parts, eqb-true}
 use Rattle.std.proofs.lemmas.Fmt.{length-decimal-le}
 use Rattle.std.proofs.lemmas.Grind.{common_steps}
 use Rattle.json.specs.Print.{escape_byte, escape}
-use Rattle.cdxj_core.specs.Pair.{is_stamp}
+use Rattle.cdxj_places.specs.Pair.{is_stamp}
 use Rattle.cdxj_core.specs.Entries.{EntryValue, IsGood, object_text, members_of, line_text}
 
 -- a byte is written in at most six

@@ -37,8 +37,8 @@ pub fn capture<I: Input>(
 ) -> Result<Option<Entry>, CaptureFault>
     requires unread { IsUnread reader.old head.now }
     requires named { 0 < length name.now }
-    ensures reads { ReadsWhole head.now reader.old reader.new result (I.left input.old) (I.left input.new) (I.failures input.old) (I.failures input.new) }
-    ensures capture { Captures usual_types usual_limits head.now name.now (prepend_known reader.old.held (I.left input.old)) result }
+    ensures reads { ReadsWhole head.now reader.old reader.new result (I.remaining input.old) (I.remaining input.new) (I.failures input.old) (I.failures input.new) }
+    ensures capture { Captures usual_types usual_limits head.now name.now (prepend_known reader.old.held (I.remaining input.old)) result }
     ensures entry { IfOk result (λ captured. IfSome captured (IsEntryOf head.now name.now LINE_LIMIT)) }
 {
     match url(head) {
@@ -64,8 +64,8 @@ fn capture_as<I: Input>(
     requires named { 0 < length indexed.name.now }
     requires target { 0 < length indexed.url.now }
     requires url { url_of usual_types indexed.head.now ≡ Some indexed.url.now }
-    ensures reads { ReadsWhole indexed.entry.head.now reader.old reader.new result (I.left input.old) (I.left input.new) (I.failures input.old) (I.failures input.new) }
-    ensures capture { Captures usual_types usual_limits indexed.entry.head.now indexed.entry.name.now (prepend_known reader.old.held (I.left input.old)) result }
+    ensures reads { ReadsWhole indexed.entry.head.now reader.old reader.new result (I.remaining input.old) (I.remaining input.new) (I.failures input.old) (I.failures input.new) }
+    ensures capture { Captures usual_types usual_limits indexed.entry.head.now indexed.entry.name.now (prepend_known reader.old.held (I.remaining input.old)) result }
     ensures entry { IfOk result (λ captured. IfSome captured (IsEntryOf indexed.entry.head.now indexed.entry.name.now LINE_LIMIT)) }
 {
     match front_buffer(alloc, indexed.head) {
@@ -90,8 +90,8 @@ fn capture_through<I: Input>(
     requires target { 0 < length indexed.url.now }
     requires url { url_of usual_types indexed.head.now ≡ Some indexed.url.now }
     requires front { IsFrontOf HTTP_HEAD_LIMIT indexed.head.now front.old }
-    ensures reads { ReadsWhole indexed.entry.head.now reader.old reader.new result (I.left input.old) (I.left input.new) (I.failures input.old) (I.failures input.new) }
-    ensures capture { Captures usual_types usual_limits indexed.entry.head.now indexed.entry.name.now (prepend_known reader.old.held (I.left input.old)) result }
+    ensures reads { ReadsWhole indexed.entry.head.now reader.old reader.new result (I.remaining input.old) (I.remaining input.new) (I.failures input.old) (I.failures input.new) }
+    ensures capture { Captures usual_types usual_limits indexed.entry.head.now indexed.entry.name.now (prepend_known reader.old.held (I.remaining input.old)) result }
     ensures entry { IfOk result (λ captured. IfSome captured (IsEntryOf indexed.entry.head.now indexed.entry.name.now LINE_LIMIT)) }
 {
     match fill(reader, input, front) {
@@ -113,8 +113,8 @@ fn capture_behind<I: Input>(
     requires url { url_of usual_types indexed.head.now ≡ Some indexed.url.now }
     requires front { IsFrontOf HTTP_HEAD_LIMIT indexed.head.now front.now }
     requires stands { StandsAt reader.old indexed.head.now.start (Open (indexed.head.now.parts.length - length front.now) (record_length indexed.head.now)) }
-    ensures reads { ReadsRest (indexed.entry.head.now.parts.length - length front.now) indexed.entry.head.now reader.old reader.new result (I.left input.old) (I.left input.new) (I.failures input.old) (I.failures input.new) }
-    ensures capture { CapturesBehind usual_types usual_limits indexed.entry.head.now indexed.entry.name.now front.now (prepend_known reader.old.held (I.left input.old)) result }
+    ensures reads { ReadsRest (indexed.entry.head.now.parts.length - length front.now) indexed.entry.head.now reader.old reader.new result (I.remaining input.old) (I.remaining input.new) (I.failures input.old) (I.failures input.new) }
+    ensures capture { CapturesBehind usual_types usual_limits indexed.entry.head.now indexed.entry.name.now front.now (prepend_known reader.old.held (I.remaining input.old)) result }
     ensures entry { IfOk result (λ captured. IfSome captured (IsEntryOf indexed.entry.head.now indexed.entry.name.now LINE_LIMIT)) }
 {
     let parted = part(indexed.head, front);
@@ -145,7 +145,7 @@ fn capture_closed<I: Input>(
     requires digested { 0 < length digest.now }
     requires stands { IsOpenFor indexed.head.now reader.old }
     ensures reads { (left len : ℕ) → reader.old.phase ≡ Open left len →
-        ReadsRest left indexed.entry.head.now reader.old reader.new result (I.left input.old) (I.left input.new) (I.failures input.old) (I.failures input.new) }
+        ReadsRest left indexed.entry.head.now reader.old reader.new result (I.remaining input.old) (I.remaining input.new) (I.failures input.old) (I.failures input.new) }
     ensures entry { IfOk result (λ captured. IfSome captured (IsEntryOf indexed.entry.head.now indexed.entry.name.now LINE_LIMIT)) }
     ensures answers { AnswersEntry LINE_LIMIT (entry_of indexed.entry.head.now indexed.entry.name.now (option_map response_view response.entry) digest.now indexed.entry.url.now) result }
 {

@@ -16,7 +16,7 @@ pub(crate) fn digest_rest<I: Input>(
 ) -> Result<[u8; 20], Fault>
     requires { HasLeft 0 reader.old.phase }
     ensures { (left len : ℕ) → reader.old.phase ≡ Open left len →
-        ReadsTo (digest_of_rest left start.now) reader.old.offset (Open 0 len) reader.old reader.new result (I.left input.old) (I.left input.new) (I.failures input.old) (I.failures input.new) }
+        ReadsTo (digest_of_rest left start.now) reader.old.offset (Open 0 len) reader.old reader.new result (I.remaining input.old) (I.remaining input.new) (I.failures input.old) (I.failures input.new) }
 {
     let mut hasher = Sha1::new();
     hasher.update(start);

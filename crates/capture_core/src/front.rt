@@ -13,7 +13,7 @@ pub(crate) fn fill<I: Input>(
 ) -> Result<(), Fault>
     requires { HasLeft (length piece.old) reader.old.phase }
     ensures { (left len : ℕ) → reader.old.phase ≡ Open left len →
-        Fills left len reader.old reader.new result piece.new (I.left input.old) (I.left input.new) (I.failures input.old) (I.failures input.new) }
+        Fills left len reader.old reader.new result piece.new (I.remaining input.old) (I.remaining input.new) (I.failures input.old) (I.failures input.new) }
 {
     let mut filled = 0;
     while filled < piece.len() {

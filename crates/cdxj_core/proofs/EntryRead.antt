@@ -11,13 +11,13 @@ use Rattle.json.specs.Print.{quoted, escape, escape_byte}
 use Rattle.json.proofs.Printed.Strings.{escape_byte_plain}
 use Rattle.serde_json.specs.Data.{Data, string, no_members}
 use Rattle.serde_json.specs.Find.{get}
-use Rattle.cdxj_core.specs.Pair.{is_space, is_key_byte}
-use Rattle.cdxj_core.specs.Places.{offset_of}
+use Rattle.cdxj_places.specs.Pair.{is_space, is_key_byte}
+use Rattle.cdxj_places.specs.Places.{offset_of}
 use Rattle.cdxj_core.specs.Entries.{EntryValue, IsGood, member_text, object_text, members_of, body_text, line_text}
 use Rattle.cdxj_core.specs.Lines.{LineValue, has_no_feed, body_of, line_parts, line_from, line_in, entry_values, value_text, filename_value, offset_value}
 use Rattle.cdxj_core.proofs.EntryLaw.{Pair, found_in, written, read_object, get_put_all}
-use Rattle.cdxj_core.proofs.PlaceLaw.{key_no_space, digits_no_space, before_first_at, after_first_at, both, offset_text}
-use Rattle.cdxj_core.proofs.Offsets.{own}
+use Rattle.cdxj_places.proofs.PlaceLaw.{key_no_space, digits_no_space, before_first_at, after_first_at, both, offset_text}
+use Rattle.cdxj_places.proofs.Offsets.{own}
 
 -- ---- no line feed
 

@@ -6,7 +6,7 @@ use Rattle.std.proofs.lemmas.Grind.{common_steps}
 use Rattle.std.specs.List.{list_all}
 use Rattle.url.specs.Parts.{Parts}
 use Rattle.cdxj_core.specs.Key.{key_byte, folded, web_text}
-use Rattle.cdxj_core.specs.Pair.{is_key_byte, is_key}
+use Rattle.cdxj_places.specs.Pair.{is_key_byte, is_key}
 
 byte_is_key : (b : ℕ) → b < 256 → list_all is_key_byte (key_byte b) ≡ true
 byte_is_key b h = agree_below_at (λ b. list_all is_key_byte (key_byte b)) (λ _. true) 256 b refl h

@@ -1,5 +1,3 @@
-pub mod Found
-pub mod LastSpace
 pub mod PairLaw
 pub mod EntryUtf8
 pub mod EntryWrite
@@ -7,15 +5,8 @@ pub mod EntryRead
 pub mod EntryLaw
 pub mod KeyLaw
 pub mod Labels
-pub mod PlaceLaw
-pub mod PlaceOrder
-pub mod Abbreviations
-pub mod Offsets
 pub mod PlainBytes
 pub mod PlainCuts
 pub mod PlainLaw
-pub mod RisingLaws
-pub mod RisingAlike
-pub mod SortedRising
 pub mod GraphicLemmas
 pub mod FoldedKey

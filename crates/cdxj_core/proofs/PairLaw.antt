@@ -9,9 +9,9 @@ use Rattle.serde_json.specs.Data.{Data}
 use Rattle.serde_json.specs.Find.{get}
 use Rattle.serde_json.specs.Read.{read}
 use Rattle.serde_json.proofs.OnLiterals.{serde_json_on_literals}
-use Rattle.cdxj_core.specs.Pair.{is_space, is_key, is_stamp, stamp_part, tail_part, begins_with_space, begins_with_pair, pair_of}
+use Rattle.cdxj_places.specs.Pair.{is_space, is_key, is_stamp, stamp_part, tail_part, begins_with_space, begins_with_pair, pair_of}
 use Rattle.cdxj_core.specs.Lines.{LineValue, has_no_feed, body_of, line_object, line_parts, line_from, line_in, values_of, offset_value, filename_value}
-use Rattle.cdxj_core.proofs.PlaceLaw.{key_no_space, before_first_at, after_first_at, both}
+use Rattle.cdxj_places.proofs.PlaceLaw.{key_no_space, before_first_at, after_first_at, both}
 
 -- a key, a space, a stamp and a space begin with the pair
 pub pair_of-parts : (key stamp rest : List ℕ) → is_key key ≡ true → is_stamp stamp ≡ true → pair_of (key ++ 32 ∷ (stamp ++ 32 ∷ rest)) ≡ Some (key, stamp)

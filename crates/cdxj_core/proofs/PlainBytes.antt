@@ -7,7 +7,7 @@ use Rattle.std.proofs.lemmas.List.Folds.{list_all-append}
 use Rattle.json.specs.Run.{is_plain}
 use Rattle.cdxj_core.specs.Texts.{TextsValue}
 use Rattle.cdxj_core.specs.Plain.{is_open, is_visible, AreOpen, ArePlain, after, plain_text}
-use Rattle.cdxj_core.proofs.PlaceLaw.{both}
+use Rattle.cdxj_places.proofs.PlaceLaw.{both}
 
 not_or : (a b : Bool) → not (a || b) ≡ (not a && not b)
 not_or true b = refl

@@ -10,13 +10,13 @@ use Rattle.json.proofs.Printed.Strings.{escape_byte_plain}
 use Rattle.serde_json.specs.Data.{Data, string, object, no_members}
 use Rattle.serde_json.specs.Find.{get}
 use Rattle.serde_json.specs.Read.{read}
-use Rattle.cdxj_core.specs.Places.{offset_of, is_offset}
+use Rattle.cdxj_places.specs.Places.{offset_of, is_offset}
 use Rattle.cdxj_core.specs.Lines.{LineValue, line_value, line_object, line_from, value_text, filename_value, offset_value}
 use Rattle.cdxj_core.specs.Entries.{member_text, object_text}
 use Rattle.cdxj_core.specs.Texts.{TextsValue, or_missing}
 use Rattle.cdxj_core.specs.Plain.{ArePlain, plain_text, values_of_texts}
 use Rattle.cdxj_core.proofs.EntryLaw.{Pair, put_all, found_in, get_put_all, read_object}
-use Rattle.cdxj_core.proofs.Offsets.{own}
+use Rattle.cdxj_places.proofs.Offsets.{own}
 
 -- ---- plain texts stand as they are
 

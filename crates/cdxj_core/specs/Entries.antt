@@ -2,8 +2,8 @@
 use Rattle.std.specs.Prelude.{◌≡◌, ℕ, ◌^◌, ◌<◌, true, List, [], ◌∷◌, ◌++◌, length, decimal}
 use Rattle.std.specs.List.{join_by}
 use Rattle.json.specs.Print.{quoted}
-use Rattle.cdxj_core.specs.Pair.{is_key, is_stamp}
-use Rattle.cdxj_core.specs.Places.{PlaceValue}
+use Rattle.cdxj_places.specs.Pair.{is_key, is_stamp}
+use Rattle.cdxj_places.specs.Places.{PlaceValue}
 use Rattle.cdxj_core.specs.Texts.{TextsValue, text_members}
 
 -- what an index says of a capture: texts as the lists of their bytes, length and offset in bytes

@@ -1,7 +1,4 @@
 pub mod Key
-pub mod Pair
-pub mod Places
-pub mod PlaceViews
 pub mod Entries
 pub mod Texts
 pub mod Lines
@@ -10,5 +7,8 @@ pub mod PlainViews
 pub mod ValuesView
 pub mod LineRefView
 pub mod LineView
-pub mod Abbreviated
-pub mod Rising
+-- what contracts see of places
+pub use Rattle.cdxj_places.specs.Pair
+pub use Rattle.cdxj_places.specs.Places
+pub use Rattle.cdxj_places.specs.PlaceViews
+pub use Rattle.cdxj_places.specs.Rising

@@ -6,8 +6,8 @@ use Rattle.serde_json.specs.Read.{read}
 use Rattle.serde_json.specs.Find.{get}
 use Rattle.cdxj_core.specs.declared.field.Field.{Field}
 use Rattle.cdxj_core.specs.declared.field.Field.TheVariants.{Urlkey, Timestamp, Original, Mimetype, Statuscode, Digest, Length, Offset, Filename}
-use Rattle.cdxj_core.specs.Pair.{is_space, is_key, is_stamp}
-use Rattle.cdxj_core.specs.Places.{PlaceValue, offset_of}
+use Rattle.cdxj_places.specs.Pair.{is_space, is_key, is_stamp}
+use Rattle.cdxj_places.specs.Places.{PlaceValue, offset_of}
 use Rattle.cdxj_core.specs.Entries.{EntryValue}
 use Rattle.cdxj_core.specs.Texts.{TextsValue, missing, or_missing}
 

@@ -1,4 +1,6 @@
-use crate::pair::{is_key, is_stamp};
+//! What an index says of a capture.
+use cdxj_places::{HasPlace, is_key, is_stamp};
+use std::cmp::Ordering;
 use std::marker::Model;
 
 /// What a line of an index says of one capture.
@@ -56,5 +58,24 @@ impl Entry {
             && self.length < 1 << 63
             && self.offset < 1 << 63
             && !self.filename.is_empty()
+    }
+}
+
+impl HasPlace for Entry {
+    ghost use Rattle.cdxj_core.specs.Entries.{entry_place};
+
+    ghost place_of = { entry_place };
+
+    fn key_bytes(&self) -> &[u8] {
+        self.key.as_bytes()
+    }
+
+    fn compare_place(&self, other: &Entry) -> Ordering {
+        self.key
+            .as_str()
+            .cmp(other.key.as_str())
+            .then_with(|| self.stamp.cmp(&other.stamp))
+            .then_with(|| self.filename.as_str().cmp(other.filename.as_str()))
+            .then_with(|| self.offset.cmp(&other.offset))
     }
 }

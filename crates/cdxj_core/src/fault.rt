@@ -45,23 +45,3 @@ impl From<AllocError> for LineFault {
         LineFault::Memory
     }
 }
-
-/// Why a place was not kept, written or read.
-#[derive(Clone, Copy, Debug, Drop, Error, PartialEq, Eq)]
-pub enum PlaceFault {
-    #[error("out of memory")]
-    Memory,
-    /// The text is no resume key.
-    #[error("the resume key is bad")]
-    BadResume,
-}
-
-impl From<AllocError> for PlaceFault {
-    ghost use Rattle.cdxj_core.specs.declared.fault.PlaceFault.TheVariants.{Memory};
-
-    ghost from_gives = { λ _ fault. fault ≡ Memory };
-
-    fn from(_refused: AllocError) -> PlaceFault {
-        PlaceFault::Memory
-    }
-}

@@ -1,10 +1,10 @@
-// The host text of a key: a domain's labels reversed, or an address as URLs write it.
+//! The host text of a key: a domain's labels reversed, or an address as URLs write it.
 ghost use Rattle.std.specs.Prelude.{◌≡◌, ◌==◌, map, reverse, IfOk};
 ghost use Rattle.std.specs.List.{slice_split, join_with_byte};
 ghost use Rattle.url.specs.Parts.{host_or_empty};
 ghost use Rattle.cdxj_core.specs.Key.{is_www, drop_empty_last, drop_www, domain_text, key_host};
 
-use crate::pair::has_digits;
+use cdxj_places::has_digits;
 use std::alloc::{AllocError, Global};
 use url::Url;
 

@@ -1,4 +1,4 @@
-// The values of a line: borrowed from a plain one, copied from any other.
+//! The values of a line: borrowed from a plain one, copied from any other.
 ghost use Rattle.std.specs.Prelude.{◌≡◌, IfOk, string_bytes};
 
 use crate::texts::Texts;

@@ -1,9 +1,9 @@
-// Keys in the manner of SURT: URLs with the host's labels reversed, so that a host's pages stand
-// together in an index.
+//! Keys in the manner of SURT: URLs with the host's labels reversed, so that a host's pages stand
+//! together in an index.
 ghost use Rattle.std.specs.Prelude.{◌≡◌, ◌<◌, ◌++◌, length, option_copied, option_map, true, IfOk, string_bytes};
 ghost use Rattle.std.specs.Char.{digit_char};
 ghost use Rattle.std.specs.List.{list_all};
-ghost use Rattle.cdxj_core.specs.Pair.{is_key};
+ghost use Rattle.cdxj_places.specs.Pair.{is_key};
 ghost use Rattle.cdxj_core.specs.Key.{port_text, query_text, is_web, web_text, is_graphic, key_byte, folded, key_of, host_key_of};
 
 use crate::fault::KeyFault;

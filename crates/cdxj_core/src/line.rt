@@ -1,14 +1,15 @@
 ghost use Rattle.std.specs.Prelude.{◌≡◌, ◌<◌, ◌^◌, length, true, string_bytes, decimal, Some};
 ghost use Rattle.cdxj_core.specs.declared.limit.TheConstants.{LINE_LIMIT};
-ghost use Rattle.cdxj_core.specs.Pair.{is_key, is_stamp};
+ghost use Rattle.cdxj_places.specs.Pair.{is_key, is_stamp};
 ghost use Rattle.cdxj_core.specs.Lines.{line_in, line_value};
 ghost use Rattle.cdxj_core.specs.PlainViews.{copies_view};
 
 use crate::field::Field;
 use crate::kept::{Copies, refilled};
 use crate::line_ref::LineRef;
-use crate::place::Place;
+use cdxj_places::{HasPlace, Place};
 use std::alloc::{AllocError, Global};
+use std::cmp::Ordering;
 
 #[derive(Debug, Drop)]
 struct Buffers {
@@ -39,7 +40,7 @@ impl Line {
     ghost use Rattle.cdxj_core.specs.Lines.{field_value, line_place};
     ghost use Rattle.cdxj_core.specs.LineRefView.{line_view, line_body};
     ghost use Rattle.cdxj_core.specs.LineView.{own_line_view, own_line_body};
-    ghost use Rattle.cdxj_core.specs.PlaceViews.{place_view};
+    ghost use Rattle.cdxj_places.specs.PlaceViews.{place_view};
 
     /// A copy of a line that was read.
     pub fn new(alloc: Global, line: &LineRef<'_>) -> Result<Line, AllocError>
@@ -132,5 +133,20 @@ impl Line {
         ensures entry { line_in LINE_LIMIT result.now ≡ Some (own_line_view self.now) }
     {
         self.buffers.body.as_str().as_bytes()
+    }
+}
+
+impl HasPlace for Line {
+    ghost use Rattle.cdxj_core.specs.Lines.{line_place};
+    ghost use Rattle.cdxj_core.specs.LineView.{own_line_view};
+
+    ghost place_of = { λ line. line_place (own_line_view line) };
+
+    fn key_bytes(&self) -> &[u8] {
+        self.place().key.as_bytes()
+    }
+
+    fn compare_place(&self, other: &Line) -> Ordering {
+        self.place().compare_place(&other.place())
     }
 }

@@ -1,18 +1,18 @@
 ghost use Rattle.std.specs.Prelude.{◌≡◌, Some, true};
 ghost use Rattle.cdxj_core.specs.declared.limit.TheConstants.{LINE_LIMIT};
-ghost use Rattle.cdxj_core.specs.Pair.{is_key, is_stamp};
+ghost use Rattle.cdxj_places.specs.Pair.{is_key, is_stamp};
 ghost use Rattle.cdxj_core.specs.Lines.{line_in};
 ghost use Rattle.cdxj_core.specs.ValuesView.{parts_view};
 
-use crate::cuts::cut_first;
 use crate::fault::LineFault;
 use crate::field::Field;
 use crate::limit::LINE_LIMIT;
-use crate::place::Place;
 use crate::reading::{body_of, has_no_feed};
 use crate::texts::Texts;
 use crate::values::Values;
+use cdxj_places::{HasPlace, Place, cut_first};
 use std::alloc::Global;
+use std::cmp::Ordering;
 
 /// A line of an index that was read, with all that it says.
 #[derive(Debug, Drop)]
@@ -32,7 +32,7 @@ impl<'a> LineRef<'a> {
     ghost use Rattle.std.specs.Prelude.{◌≤◌, length, MatchResult, IfOk, IfErr, Err, None, IsUtf8};
     ghost use Rattle.cdxj_core.specs.Lines.{body_of, field_value, line_place};
     ghost use Rattle.cdxj_core.specs.LineRefView.{line_view, line_body};
-    ghost use Rattle.cdxj_core.specs.PlaceViews.{place_view};
+    ghost use Rattle.cdxj_places.specs.PlaceViews.{place_view};
     ghost use Rattle.cdxj_core.specs.PlainViews.{texts_view, kept_view};
 
     /// Reads a line, with or without its line feed: a key, a space, a stamp, a space and a JSON
@@ -136,5 +136,20 @@ impl<'a> LineRef<'a> {
         ensures entry { line_in LINE_LIMIT result.now ≡ Some (line_view self.now) }
     {
         self.body.as_bytes()
+    }
+}
+
+impl<'a> HasPlace for LineRef<'a> {
+    ghost use Rattle.cdxj_core.specs.Lines.{line_place};
+    ghost use Rattle.cdxj_core.specs.LineRefView.{line_view};
+
+    ghost place_of = { λ line. line_place (line_view line) };
+
+    fn key_bytes(&self) -> &[u8] {
+        self.place().key.as_bytes()
+    }
+
+    fn compare_place(&self, other: &LineRef<'a>) -> Ordering {
+        self.place().compare_place(&other.place())
     }
 }

@@ -1,23 +1,8 @@
-// Offsets, written in decimal.
+//! Offsets as a written line has them.
 ghost use Rattle.std.specs.Prelude.{◌≡◌, ◌<◌, ◌^◌, IfSome, Some, decimal};
-ghost use Rattle.cdxj_core.specs.Places.{offset_of};
+ghost use Rattle.cdxj_places.specs.Places.{offset_of};
 
-use crate::pair::has_digits;
-
-/// The number in 1 to 19 digits, if it is below 2^63.
-#[tactic(auto, using(crate::proofs::Offsets::digits_parsed))]
-pub fn read_offset(text: &str) -> Option<u64>
-    ensures value { result ≡ offset_of text.now }
-    ensures small { IfSome result (λ n. n < 2 ^ 63) }
-{
-    if text.is_empty() || text.len() > 19 || !has_digits(text.as_bytes()) {
-        return None;
-    }
-    match text.parse::<u64>() {
-        Ok(offset) if offset < 1 << 63 => Some(offset),
-        _ => None,
-    }
-}
+use cdxj_places::read_offset;
 
 /// An offset with no leading zero, as a line is written with.
 pub fn canonical_offset(text: &str) -> Option<u64>

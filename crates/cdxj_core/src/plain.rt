@@ -1,5 +1,5 @@
-// Plain objects: seven members in the order and the spelling of a written line, whose texts stand
-// between their quotes as they are.
+//! Plain objects: seven members in the order and the spelling of a written line, whose texts stand
+//! between their quotes as they are.
 ghost use Rattle.std.specs.Prelude.{◌≡◌, ◌∷◌, ◌++◌, true, codes, IfSome};
 ghost use Rattle.std.specs.List.{list_all};
 ghost use Rattle.cdxj_core.specs.Plain.{is_open, plain_text, ArePlain, AreOpen};

@@ -1,9 +1,9 @@
-// The values of a line's members, as JSON has them.
+//! The values of a line's members, as JSON has them.
 ghost use Rattle.std.specs.Prelude.{◌≡◌, ◌<◌, ◌^◌, IfOk, IfSome, option_map, string_bytes, length};
 ghost use Rattle.serde_json.specs.View.{view};
 ghost use Rattle.cdxj_core.specs.Lines.{value_text, filename_value, offset_value, body_of, has_no_feed};
 
-use crate::offset::read_offset;
+use cdxj_places::read_offset;
 use memchr::memchr;
 use serde_json::Value;
 use std::alloc::{AllocError, Global};
@@ -60,7 +60,7 @@ pub fn body_of(line: &[u8]) -> &[u8]
     }
 }
 
-#[tactic(auto, using(crate::proofs::Found::IsFirstByte_absent))]
+#[tactic(auto, using(cdxj_places::proofs::Found::IsFirstByte_absent))]
 pub fn has_no_feed(text: &[u8]) -> bool
     ensures { result ≡ has_no_feed text.now }
 {

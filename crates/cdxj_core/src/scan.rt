@@ -1,4 +1,4 @@
-// Texts that stand between their quotes as they are: no quote, no backslash, no control.
+//! Texts that stand between their quotes as they are: no quote, no backslash, no control.
 ghost use Rattle.std.specs.Prelude.{◌≡◌, ◌∷◌, ◌++◌, true, IfSome};
 ghost use Rattle.std.specs.List.{list_all};
 ghost use Rattle.json.specs.Run.{is_plain};
@@ -17,7 +17,7 @@ pub(crate) fn has_no_control(text: &[u8]) -> bool
     good
 }
 
-#[tactic(auto, using(crate::proofs::Found::IsFirstByte_absent))]
+#[tactic(auto, using(cdxj_places::proofs::Found::IsFirstByte_absent))]
 fn has_no_mark(text: &[u8]) -> bool
     ensures { result ≡ list_all is_open text.now }
 {

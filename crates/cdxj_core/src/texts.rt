@@ -1,4 +1,4 @@
-// The seven texts of a line's members.
+//! The seven texts of a line's members.
 ghost use Rattle.std.specs.Prelude.{◌≡◌};
 ghost use Rattle.cdxj_core.specs.Texts.{or_missing};
 

@@ -1,13 +1,13 @@
-// What the object of a line says: the texts of its members, and its offset.
+//! What the object of a line says: the texts of its members, and its offset.
 ghost use Rattle.std.specs.Prelude.{◌≡◌, ◌<◌, ◌^◌, length, decimal, true};
 ghost use Rattle.cdxj_core.specs.PlainViews.{kept_view};
 
 use crate::fault::LineFault;
 use crate::kept::{Copies, Kept};
 use crate::offset::canonical_offset;
-use crate::pair::{is_key, is_stamp};
 use crate::plain::plain_texts;
 use crate::reading::{filename_value, offset_value, value_text};
+use cdxj_places::{is_key, is_stamp};
 use serde_json::Value;
 use serde_json::error::Category;
 use std::alloc::Global;
@@ -24,7 +24,7 @@ pub struct Values<'a> {
 impl<'a> Values<'a> {
     ghost use Rattle.std.specs.Prelude.{◌≢◌, MatchResult, IfOk, IfSome, Some, None};
     ghost use Rattle.cdxj_core.specs.Lines.{line_parts, line_object};
-    ghost use Rattle.cdxj_core.specs.Pair.{is_key, is_stamp};
+    ghost use Rattle.cdxj_places.specs.Pair.{is_key, is_stamp};
     ghost use Rattle.cdxj_core.specs.ValuesView.{parts_view};
 
     /// The values of a line that was cut at its first two spaces.

@@ -5,12 +5,12 @@ use Rattle.std.specs.Io.KnownBytes.{Appends, Consumes, prepend_known}
 use Rattle.warc_core.specs.declared.fault.Cause.{Cause}
 use Rattle.warc_core.specs.declared.fault.Fault.{Fault}
 use Rattle.warc_core.specs.declared.phase.Phase.TheVariants.{Open}
-use Rattle.warc_core.specs.Device.{AppendsPrefix}
+use Rattle.devices.specs.Device.{AppendsPrefix}
 use Rattle.warc_core.specs.HeadView.{HeadView, record_length}
 use Rattle.warc_core.specs.Reading.{Reads, IsFoundAt}
 use Rattle.warc_core.specs.ReaderView.{ReaderView, StandsAt, GivesBlock, Finishes}
 use Rattle.warc_core.specs.Record.{closing, after_block, after_record}
-use Rattle.warc_core.proofs.DeviceLemmas.{Appends-none, Appends-join}
+use Rattle.devices.proofs.DeviceLemmas.{Appends-none, Appends-join}
 use Rattle.warc_core.proofs.ReadingLemmas.{GoesOn-reads, nil_of}
 use Rattle.warc_core.proofs.SpelledLemmas.{block-there}
 use Rattle.capture_core.specs.declared.fault.CaptureFault.TheVariants.{Archive, LineTooLong, KeyTooLong}

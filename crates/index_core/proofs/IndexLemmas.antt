@@ -6,11 +6,11 @@ use Rattle.std.proofs.lemmas.List.{take-append-drop, at_drop_more, map-append, t
 use Rattle.std.proofs.lemmas.List.Concat.{flat_map-append}
 use Rattle.std.specs.Io.KnownBytes.{Appends}
 use denote.Ref.{Bor}
-use Rattle.warc_core.specs.Device.{AppendsPrefix}
-use Rattle.warc_core.proofs.DeviceLemmas.{WroteUpTo-start, AppendsPrefix-behind}
+use Rattle.devices.specs.Device.{AppendsPrefix}
+use Rattle.devices.proofs.DeviceLemmas.{WroteUpTo-start, AppendsPrefix-behind}
 use Rattle.cdxj_core.specs.Entries.{EntryValue, entry_place, line_text}
-use Rattle.cdxj_core.specs.Places.{place_cmp}
-use Rattle.cdxj_core.specs.Rising.{choose, put}
+use Rattle.cdxj_places.specs.Places.{place_cmp}
+use Rattle.cdxj_places.specs.Rising.{choose, put}
 use Rattle.index_core.specs.declared.fault.IndexFault.{IndexFault}
 use Rattle.index_core.specs.Indexing.{lines_text, in_places, HaveOwnPlaces, FailsIn}
 

@@ -5,11 +5,11 @@ use Rattle.std.specs.Io.KnownBytes.{Appends, prepend_known}
 use Rattle.warc_core.specs.declared.fault.Cause.{Cause}
 use Rattle.warc_core.specs.declared.fault.Cause.TheVariants as causes
 use Rattle.warc_core.specs.declared.fault.Fault.{Fault}
-use Rattle.warc_core.specs.Device.{AppendsPrefix}
+use Rattle.devices.specs.Device.{AppendsPrefix}
 use Rattle.warc_core.specs.HeadView.{HeadView, record_length}
 use Rattle.warc_core.specs.Reading.{Reads, IsFoundIn, CountsRead}
 use Rattle.warc_core.specs.Walk.{record_at, Walks}
-use Rattle.warc_core.proofs.DeviceLemmas.{Appends-none, Appends-join, AppendsPrefix-behind}
+use Rattle.devices.proofs.DeviceLemmas.{Appends-none, Appends-join, AppendsPrefix-behind}
 use Rattle.warc_core.proofs.SpelledLemmas.{total}
 use Rattle.warc_core.proofs.WalkLemmas.{Walks-more, none_at_end, walk-extends}
 use Rattle.capture_core.specs.declared.fault.CaptureFault.TheVariants.{Archive, LineTooLong, KeyTooLong}

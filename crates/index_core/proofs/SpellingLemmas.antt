@@ -6,7 +6,7 @@ use Rattle.std.proofs.Math.Seq.{take-append_seam, drop-append-add}
 use Rattle.cdxj_core.specs.declared.limit.TheConstants.{LINE_LIMIT}
 use Rattle.cdxj_core.specs.Entries.{EntryValue, IsGood, line_text, object_text, members_of}
 use Rattle.cdxj_core.proofs.EntryUtf8.{line_law}
-use Rattle.cdxj_core.proofs.Offsets.{own}
+use Rattle.cdxj_places.proofs.Offsets.{own}
 use Rattle.index_core.specs.Indexing.{HasLine}
 use Rattle.index_core.specs.Spelling.{entry_or_nothing, entry_in, IsLineOf}
 

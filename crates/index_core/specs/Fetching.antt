@@ -3,7 +3,7 @@ use Rattle.std.specs.Prelude.{◌≡◌, ℕ, ◌+◌, ◌<◌, ◌≤◌, ⊤, 
 use Rattle.std.specs.Io.KnownBytes.{Appends}
 use Rattle.warc_core.specs.declared.fault.Cause.{Cause}
 use Rattle.warc_core.specs.declared.fault.Fault.{Fault}
-use Rattle.warc_core.specs.Device.{AppendsPrefix}
+use Rattle.devices.specs.Device.{AppendsPrefix}
 use Rattle.warc_core.specs.HeadView.{HeadView, record_length}
 use Rattle.warc_core.specs.Walk.{record_at, Walks, AreRecords, IsDamaged}
 use Rattle.capture_core.specs.declared.fault.CaptureFault.TheVariants.{Archive}

@@ -3,10 +3,10 @@ use Rattle.std.specs.Prelude.{◌≡◌, ℕ, ◌<◌, ◌≤◌, ◌||◌, Bool
 use Rattle.std.specs.List.{AllByRecursion}
 use Rattle.std.specs.Str.{bytes_eq}
 use Rattle.std.specs.declared.cmp.Ordering.TheVariants.{Equal}
-use Rattle.warc_core.specs.Device.{AppendsPrefix, next_count}
+use Rattle.devices.specs.Device.{AppendsPrefix, next_count}
 use Rattle.cdxj_core.specs.Entries.{EntryValue, IsGood, entry_place, line_text}
-use Rattle.cdxj_core.specs.Places.{place_cmp}
-use Rattle.cdxj_core.specs.Rising.{rising}
+use Rattle.cdxj_places.specs.Places.{place_cmp}
+use Rattle.cdxj_places.specs.Rising.{rising}
 use Rattle.index_core.specs.declared.fault.IndexFault.{IndexFault}
 use Rattle.index_core.specs.declared.fault.IndexFault.TheVariants as faults
 

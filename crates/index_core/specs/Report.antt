@@ -6,7 +6,7 @@ use Rattle.warc_core.specs.declared.fault.Cause.TheVariants as causes
 use Rattle.warc_core.specs.declared.fault.Fault.{Fault}
 use Rattle.warc_core.specs.declared.phase.Phase.TheVariants.{Between}
 use Rattle.warc_core.specs.Cause.{cause_name}
-use Rattle.warc_core.specs.Device.{AppendsPrefix, next_count}
+use Rattle.devices.specs.Device.{AppendsPrefix, next_count}
 use Rattle.warc_core.specs.HeadView.{HeadView, record_length}
 use Rattle.warc_core.specs.Reading.{IsFoundIn, CountsRead}
 use Rattle.warc_core.specs.ReaderView.{ReaderView, StandsAt}

@@ -21,7 +21,7 @@ fn copy_block<I: Input, O: Output>(
 ) -> Result<(), IndexFault>
     requires { HasLeft 0 reader.old.phase }
     ensures copies { (left len : ℕ) → reader.old.phase ≡ Open left len →
-        CopiesBlock left len reader.old reader.new result (I.left input.old) (I.left input.new) (O.written out.old) (O.written out.new) }
+        CopiesBlock left len reader.old reader.new result (I.remaining input.old) (I.remaining input.new) (O.written out.old) (O.written out.new) }
     ensures reads { CountsIndex result (I.failures input.old) (I.failures input.new) }
     ensures writes { CountsWrite result (O.failures out.old) (O.failures out.new) }
 {
@@ -43,7 +43,7 @@ pub fn copy_record<I: Input, O: Output>(
     out: &mut O,
 ) -> Result<u64, IndexFault>
     requires { IsUnread reader.old head.now }
-    ensures copies { CopiesRecord head.now result (prepend_known reader.old.held (I.left input.old)) (prepend_known reader.new.held (I.left input.new)) (O.written out.old) (O.written out.new) }
+    ensures copies { CopiesRecord head.now result (prepend_known reader.old.held (I.remaining input.old)) (prepend_known reader.new.held (I.remaining input.new)) (O.written out.old) (O.written out.new) }
     ensures reads { CountsIndex result (I.failures input.old) (I.failures input.new) }
     ensures writes { CountsWrite result (O.failures out.old) (O.failures out.new) }
 {

@@ -57,7 +57,7 @@ impl Indexer {
     pub fn add<I: Input>(&mut self, name: &str, input: &mut I) -> Result<u64, IndexFault>
         ensures bad { (result ≡ Err IndexFault.BadName) ↔ ¬ (IsName name.now) }
         ensures duplicate { (result ≡ Err IndexFault.DuplicateName) ↔ (IsName name.now × (is_among self.old.names name.now ≡ true)) }
-        ensures adds { Adds usual_types usual_limits HEAD_LIMIT name.now (I.left input.old) self.old self.new result }
+        ensures adds { Adds usual_types usual_limits HEAD_LIMIT name.now (I.remaining input.old) self.old self.new result }
         ensures unread { IfErr result (λ fault. IsRefusal fault → input.new ≡ input.old) }
         ensures failures { CountsIndex result (I.failures input.old) (I.failures input.new) }
     {

@@ -21,9 +21,9 @@ pub fn list<I: Input, O: Output>(
     input: &mut I,
     out: &mut O,
 ) -> Result<u64, IndexFault>
-    ensures whole { IfOk result (λ n. Listed HEAD_LIMIT (I.left input.old) n (O.written out.old) (O.written out.new)) }
-    ensures damaged { (f : Fault) → result ≡ Err (IndexFault.Capture (CaptureFault.Archive f)) → ListedToFault HEAD_LIMIT (I.left input.old) f (O.written out.old) (O.written out.new) }
-    ensures stopped { result ≡ Err IndexFault.Write → ListedInPart HEAD_LIMIT (I.left input.old) (O.written out.old) (O.written out.new) }
+    ensures whole { IfOk result (λ n. Listed HEAD_LIMIT (I.remaining input.old) n (O.written out.old) (O.written out.new)) }
+    ensures damaged { (f : Fault) → result ≡ Err (IndexFault.Capture (CaptureFault.Archive f)) → ListedToFault HEAD_LIMIT (I.remaining input.old) f (O.written out.old) (O.written out.new) }
+    ensures stopped { result ≡ Err IndexFault.Write → ListedInPart HEAD_LIMIT (I.remaining input.old) (O.written out.old) (O.written out.new) }
     ensures reads { CountsInput result (I.failures input.old) (I.failures input.new) }
     ensures writes { CountsOutput result (O.failures out.old) (O.failures out.new) }
 {

@@ -23,9 +23,9 @@ pub fn verify<I: Input, O: Output>(
     input: &mut I,
     out: &mut O,
 ) -> Result<Verified, IndexFault>
-    ensures whole { IfOk result (λ v. Verifies HEAD_LIMIT (I.left input.old) v (O.written out.old) (O.written out.new)) }
-    ensures damaged { (f : Fault) → result ≡ Err (IndexFault.Capture (CaptureFault.Archive f)) → VerifiesToFault HEAD_LIMIT (I.left input.old) f (O.written out.old) (O.written out.new) }
-    ensures stopped { result ≡ Err IndexFault.Write → VerifiesInPart HEAD_LIMIT (I.left input.old) (O.written out.old) (O.written out.new) }
+    ensures whole { IfOk result (λ v. Verifies HEAD_LIMIT (I.remaining input.old) v (O.written out.old) (O.written out.new)) }
+    ensures damaged { (f : Fault) → result ≡ Err (IndexFault.Capture (CaptureFault.Archive f)) → VerifiesToFault HEAD_LIMIT (I.remaining input.old) f (O.written out.old) (O.written out.new) }
+    ensures stopped { result ≡ Err IndexFault.Write → VerifiesInPart HEAD_LIMIT (I.remaining input.old) (O.written out.old) (O.written out.new) }
     ensures reads { CountsInput result (I.failures input.old) (I.failures input.new) }
     ensures writes { CountsOutput result (O.failures out.old) (O.failures out.new) }
 {

@@ -1,7 +1,7 @@
 //! The writing of bytes, and of a report's lines.
 ghost use Rattle.std.specs.Prelude.{◌≡◌, IfErr, OnOk};
 ghost use Rattle.std.specs.Io.KnownBytes.{Appends};
-ghost use Rattle.warc_core.specs.Device.{AppendsPrefix, CountsFailure};
+ghost use Rattle.devices.specs.Device.{AppendsPrefix, CountsFailure};
 ghost use Rattle.index_core.specs.Report.{WritesFault};
 
 use crate::fault::IndexFault;

@@ -1,5 +1,3 @@
-pub mod DeviceLemmas
-pub mod BufferLemmas
 pub mod ReadingLemmas
 pub mod RecordLemmas
 pub mod HeadLemmas

@@ -1,8 +1,4 @@
-pub mod Device
 pub mod Cause
-pub mod Gathered
-pub mod FromStd
-pub mod Fused
 pub mod Reading
 pub mod Record
 pub mod ReaderView
@@ -12,3 +8,9 @@ pub mod Next
 pub mod Walk
 pub mod RecordText
 pub mod Laws
+-- what contracts see of devices
+pub use Rattle.devices.specs.Device
+pub use Rattle.devices.specs.Writing
+pub use Rattle.devices.specs.Gathered
+pub use Rattle.devices.specs.FromStd
+pub use Rattle.devices.specs.Fused

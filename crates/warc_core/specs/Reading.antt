@@ -1,7 +1,7 @@
 -- How bytes are read from the front of a text, and what a reader's call owes to the bytes it is given.
 use Rattle.std.specs.Prelude.{◌≡◌, ℕ, ⊤, Option, None, Some, Result, Ok, Err}
 use Rattle.std.specs.Prelude.{List, [], ◌∷◌}
-use Rattle.warc_core.specs.Device.{next_count}
+use Rattle.devices.specs.Device.{next_count}
 use Rattle.warc_core.specs.declared.fault.Cause.{Cause}
 use Rattle.warc_core.specs.declared.fault.Cause.TheVariants as causes
 

@@ -4,15 +4,14 @@ ghost use Rattle.std.specs.Io.KnownBytes.{Consumes, ReadConsumes, prepend_known}
 ghost use Rattle.warc_core.specs.Reading.{Reads, CountsRead, IsFoundAt};
 ghost use Rattle.warc_core.specs.Record.{after_block};
 
-use crate::buffer::Buffer;
-use crate::device::Input;
 use crate::fault::Cause;
+use devices::{Buffer, Input};
 
 /// Gives out the next bytes, as a read of what is held and then of the input.
 fn give<I: Input>(buffer: &mut Buffer, input: &mut I, piece: &mut [u8]) -> Result<usize, Cause>
     ensures bound { IfOk result (λ n. n ≤ length piece.new) }
     ensures only_read { IfErr result (λ c. c ≡ Cause.Read) }
-    ensures bytes { ReadConsumes (prepend_known buffer.old (I.left input.old)) (prepend_known buffer.new (I.left input.new)) result piece.new }
+    ensures bytes { ReadConsumes (prepend_known buffer.old (I.remaining input.old)) (prepend_known buffer.new (I.remaining input.new)) result piece.new }
     ensures failures { CountsRead result (I.failures input.old) (I.failures input.new) }
 {
     buffer.fill(input)?;
@@ -33,8 +32,8 @@ pub fn give_block<I: Input>(
     ensures only { IfErr result (λ c. c ≢ Cause.Memory) }
     ensures count { IfOk result (λ n. (n ≤ left) × (n ≤ length piece.new) × (0 < left → 0 < length piece.new → 0 < n)) }
     ensures bytes { MatchResult result
-        (λ n. Consumes (prepend_known buffer.old (I.left input.old)) (prepend_known buffer.new (I.left input.new)) (take n piece.new))
-        (λ c. IsFoundAt (after_block left) c (prepend_known buffer.old (I.left input.old))) }
+        (λ n. Consumes (prepend_known buffer.old (I.remaining input.old)) (prepend_known buffer.new (I.remaining input.new)) (take n piece.new))
+        (λ c. IsFoundAt (after_block left) c (prepend_known buffer.old (I.remaining input.old))) }
     ensures failures { CountsRead result (I.failures input.old) (I.failures input.new) }
 {
     let most = left.min(piece.len() as u64) as usize;
@@ -50,7 +49,7 @@ pub fn give_block<I: Input>(
 
 /// Passes over a block's bytes.
 pub fn skip_block<I: Input>(buffer: &mut Buffer, input: &mut I, length: u64) -> Result<(), Cause>
-    ensures bytes { Reads (after_block length) result (prepend_known buffer.old (I.left input.old)) (prepend_known buffer.new (I.left input.new)) }
+    ensures bytes { Reads (after_block length) result (prepend_known buffer.old (I.remaining input.old)) (prepend_known buffer.new (I.remaining input.new)) }
     ensures only { IfErr result (λ c. c ≢ Cause.Memory) }
     ensures failures { CountsRead result (I.failures input.old) (I.failures input.new) }
 {

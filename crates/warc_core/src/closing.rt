@@ -5,13 +5,12 @@ ghost use Rattle.warc_core.specs.Reading.{Reads, CountsRead, first_of};
 ghost use Rattle.warc_core.specs.Record.{closing, after_text, after_record};
 
 use crate::block::skip_block;
-use crate::buffer::Buffer;
-use crate::device::Input;
 use crate::fault::Cause;
+use devices::{Buffer, Input};
 
 /// The next byte, if there is one.
 fn next_byte<I: Input>(buffer: &mut Buffer, input: &mut I) -> Result<Option<u8>, Cause>
-    ensures bytes { Reads first_of result (prepend_known buffer.old (I.left input.old)) (prepend_known buffer.new (I.left input.new)) }
+    ensures bytes { Reads first_of result (prepend_known buffer.old (I.remaining input.old)) (prepend_known buffer.new (I.remaining input.new)) }
     ensures only { IfErr result (λ c. c ≢ Cause.Memory) }
     ensures failures { CountsRead result (I.failures input.old) (I.failures input.new) }
 {
@@ -25,7 +24,7 @@ fn next_byte<I: Input>(buffer: &mut Buffer, input: &mut I) -> Result<Option<u8>,
 
 /// Passes over the text, which has to come next.
 fn expect_closing<I: Input>(buffer: &mut Buffer, input: &mut I) -> Result<(), Cause>
-    ensures bytes { Reads (after_text closing) result (prepend_known buffer.old (I.left input.old)) (prepend_known buffer.new (I.left input.new)) }
+    ensures bytes { Reads (after_text closing) result (prepend_known buffer.old (I.remaining input.old)) (prepend_known buffer.new (I.remaining input.new)) }
     ensures only { IfErr result (λ c. c ≢ Cause.Memory) }
     ensures failures { CountsRead result (I.failures input.old) (I.failures input.new) }
 {
@@ -41,7 +40,7 @@ fn expect_closing<I: Input>(buffer: &mut Buffer, input: &mut I) -> Result<(), Ca
 /// Passes over what is left of a block, and its closing.
 pub fn skip_record<I: Input>(buffer: &mut Buffer, input: &mut I, left: u64) -> Result<(), Cause>
     ensures only { IfErr result (λ c. c ≢ Cause.Memory) }
-    ensures bytes { Reads (after_record left) result (prepend_known buffer.old (I.left input.old)) (prepend_known buffer.new (I.left input.new)) }
+    ensures bytes { Reads (after_record left) result (prepend_known buffer.old (I.remaining input.old)) (prepend_known buffer.new (I.remaining input.new)) }
     ensures failures { CountsRead result (I.failures input.old) (I.failures input.new) }
 {
     skip_block(buffer, input, left)?;

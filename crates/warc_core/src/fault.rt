@@ -2,7 +2,7 @@
 ghost use Rattle.std.specs.Prelude.{◌≡◌};
 ghost use Rattle.warc_core.specs.declared.fault.Cause.TheVariants.{Memory, Read};
 
-use crate::device::DeviceFault;
+use devices::DeviceFault;
 use std::alloc::{AllocError, AllocFailed};
 use thiserror::Error;
 

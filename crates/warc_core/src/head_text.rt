@@ -4,9 +4,8 @@ ghost use Rattle.std.specs.Io.KnownBytes.{Keeps, IsAtEnd, prepend_known, ReadCon
 ghost use Rattle.warc_core.specs.Reading.{Reads, CountsRead, seen_as};
 ghost use Rattle.warc_core.specs.Record.{agrees, has_version, head_text, IsOpenAfter, ClosesFirst};
 
-use crate::buffer::Buffer;
-use crate::device::Input;
 use crate::fault::Cause;
+use devices::{Buffer, Input};
 use memchr::memmem;
 use std::alloc::Global;
 
@@ -49,7 +48,7 @@ pub fn gather_head<I: Input>(
     limit: usize,
 ) -> Result<Vec<u8>, Cause>
     requires { 10 ≤ limit }
-    ensures bytes { Reads (head_text limit) (seen_as (λ v. v.items) result) (prepend_known buffer.old (I.left input.old)) (prepend_known buffer.new (I.left input.new)) }
+    ensures bytes { Reads (head_text limit) (seen_as (λ v. v.items) result) (prepend_known buffer.old (I.remaining input.old)) (prepend_known buffer.new (I.remaining input.new)) }
     ensures failures { CountsRead (seen_as (λ v. v.items) result) (I.failures input.old) (I.failures input.new) }
 {
     let mut head = Vec::new(alloc);

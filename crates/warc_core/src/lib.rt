@@ -5,28 +5,18 @@
 #![tactic(auto)]
 
 mod block;
-mod buffer;
 mod closing;
-mod device;
 mod fault;
-mod fuse;
 mod head;
 mod head_text;
 pub mod laws;
-mod memory;
 mod next;
 mod phase;
 mod reader;
-mod standard;
-#[cfg(test)]
-mod tests;
 
-pub use crate::device::{DeviceFault, Input, Output, put};
 pub use crate::fault::{Cause, Fault};
-pub use crate::fuse::Fuse;
 pub use crate::head::Head;
-pub use crate::memory::{Gather, Slice};
 pub use crate::next::HEAD_LIMIT;
 pub use crate::phase::Phase;
 pub use crate::reader::Reader;
-pub use crate::standard::{FromRead, FromWrite};
+pub use devices::{DeviceFault, FromRead, FromWrite, Fuse, Gather, Input, Output, Slice, put};

@@ -6,11 +6,10 @@ ghost use Rattle.warc_core.specs.Reading.{Reads, CountsRead, seen_as};
 ghost use Rattle.warc_core.specs.Next.{head_at, next_at};
 ghost use Rattle.warc_core.specs.HeadView.{BeginsAt};
 
-use crate::buffer::Buffer;
-use crate::device::Input;
 use crate::fault::Cause;
 use crate::head::{Head, parts_of};
 use crate::head_text::gather_head;
+use devices::{Buffer, Input};
 use std::alloc::Global;
 
 /// The most bytes of a head.
@@ -26,7 +25,7 @@ fn read_head<I: Input>(
     start: u64,
 ) -> Result<Head, Cause>
     requires { start ≤ 2 ^ 63 - 1 }
-    ensures bytes { Reads (head_at HEAD_LIMIT start) result (prepend_known buffer.old (I.left input.old)) (prepend_known buffer.new (I.left input.new)) }
+    ensures bytes { Reads (head_at HEAD_LIMIT start) result (prepend_known buffer.old (I.remaining input.old)) (prepend_known buffer.new (I.remaining input.new)) }
     ensures begins { IfOk result (BeginsAt start) }
     ensures failures { CountsRead result (I.failures input.old) (I.failures input.new) }
 {
@@ -48,7 +47,7 @@ pub fn read_next<I: Input>(
 ) -> Result<Option<Head>, Cause>
     requires { start ≤ 2 ^ 63 - 1 }
     ensures begins { IfOk result (λ o. IfSome o (BeginsAt start)) }
-    ensures bytes { Reads (next_at HEAD_LIMIT start) result (prepend_known buffer.old (I.left input.old)) (prepend_known buffer.new (I.left input.new)) }
+    ensures bytes { Reads (next_at HEAD_LIMIT start) result (prepend_known buffer.old (I.remaining input.old)) (prepend_known buffer.new (I.remaining input.new)) }
     ensures failures { CountsRead result (I.failures input.old) (I.failures input.new) }
 {
     buffer.fill(input)?;

@@ -2,13 +2,12 @@
 ghost use Rattle.std.specs.Prelude.{◌≡◌, ◌≢◌, ℕ, ◌-◌, ◌^◌, ◌≤◌, [], Ok, Err, IfOk, IfErr, OnOk};
 
 use crate::block::give_block;
-use crate::buffer::Buffer;
 use crate::closing::skip_record;
-use crate::device::Input;
 use crate::fault::{Cause, Fault};
 use crate::head::Head;
 use crate::next::{HEAD_LIMIT, read_next};
 use crate::phase::Phase;
+use devices::{Buffer, Input};
 use std::alloc::Global;
 use std::marker::Model;
 
@@ -79,7 +78,7 @@ impl Reader {
     /// Errors are `Read`, `ShortBlock` and `Closing`, at the record's offset.
     pub fn finish<I: Input>(&mut self, input: &mut I) -> Result<u64, Fault>
         ensures open { (left len : ℕ) → self.old.phase ≡ Phase.Open left len →
-            Finishes left len self.old self.new result (I.left input.old) (I.left input.new) (I.failures input.old) (I.failures input.new) }
+            Finishes left len self.old self.new result (I.remaining input.old) (I.remaining input.new) (I.failures input.old) (I.failures input.new) }
         ensures only { (left len : ℕ) → self.old.phase ≡ Phase.Open left len → IfErr result (λ f. f.cause ≢ Cause.Memory) }
         ensures closed { self.old.phase ≡ Phase.Between →
             (result ≡ Ok 0) × (self.new ≡ self.old) × (input.new ≡ input.old) }
@@ -112,7 +111,7 @@ impl Reader {
     /// Errors are `Read` and `ShortBlock`, at the record's offset.
     pub fn block<I: Input>(&mut self, input: &mut I, piece: &mut [u8]) -> Result<usize, Fault>
         ensures open { (left len : ℕ) → self.old.phase ≡ Phase.Open left len →
-            GivesBlock left len self.old self.new result piece.new (I.left input.old) (I.left input.new) (I.failures input.old) (I.failures input.new) }
+            GivesBlock left len self.old self.new result piece.new (I.remaining input.old) (I.remaining input.new) (I.failures input.old) (I.failures input.new) }
         ensures only { (left len : ℕ) → self.old.phase ≡ Phase.Open left len → IfErr result (λ f. f.cause ≢ Cause.Memory) }
         ensures closed { self.old.phase ≡ Phase.Between →
             (result ≡ Ok 0) × (self.new ≡ self.old) × (input.new ≡ input.old) }
@@ -141,7 +140,7 @@ impl Reader {
     /// What comes next where no record is open.
     fn next_between<I: Input>(&mut self, input: &mut I) -> Result<Option<Head>, Fault>
         requires { self.old.phase ≡ Phase.Between }
-        ensures next { GoesNext HEAD_LIMIT self.old self.new result (I.left input.old) (I.left input.new) (I.failures input.old) (I.failures input.new) }
+        ensures next { GoesNext HEAD_LIMIT self.old self.new result (I.remaining input.old) (I.remaining input.new) (I.failures input.old) (I.failures input.new) }
         ensures stays { self.new.offset ≡ self.old.offset }
         ensures within { self.new.offset ≤ 2 ^ 63 - 1 }
     {
@@ -165,9 +164,9 @@ impl Reader {
     /// `BadDate` and `TooFar` at the offset where the next record would begin.
     pub fn next<I: Input>(&mut self, input: &mut I) -> Result<Option<Head>, Fault>
         ensures between { self.old.phase ≡ Phase.Between →
-            GoesNext HEAD_LIMIT self.old self.new result (I.left input.old) (I.left input.new) (I.failures input.old) (I.failures input.new) }
+            GoesNext HEAD_LIMIT self.old self.new result (I.remaining input.old) (I.remaining input.new) (I.failures input.old) (I.failures input.new) }
         ensures open { (left len : ℕ) → self.old.phase ≡ Phase.Open left len →
-            FinishesAndGoesNext HEAD_LIMIT left len self.old self.new result (I.left input.old) (I.left input.new) (I.failures input.old) (I.failures input.new) }
+            FinishesAndGoesNext HEAD_LIMIT left len self.old self.new result (I.remaining input.old) (I.remaining input.new) (I.failures input.old) (I.failures input.new) }
         ensures failed { (c : Cause) → self.old.phase ≡ Phase.Failed c →
             (result ≡ Err (record { offset = self.old.offset; cause = c })) × (self.new ≡ self.old) × (input.new ≡ input.old) }
         ensures rises { self.old.offset ≤ self.new.offset }

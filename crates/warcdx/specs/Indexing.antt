@@ -2,7 +2,7 @@
 use Rattle.std.specs.Prelude.{◌≡◌, ◌⊎◌, ℕ, List, Option, Bool, ◌==◌}
 use Rattle.std.specs.List.{after_last}
 use Rattle.std.specs.Io.KnownBytes.{Appends}
-use Rattle.warc_core.specs.Device.{next_count}
+use Rattle.devices.specs.Device.{next_count}
 use Rattle.index_core.specs.declared.fault.IndexFault.{IndexFault}
 use Rattle.index_core.specs.declared.fault.IndexFault.TheVariants as faults
 use Rattle.index_core.specs.Indexing.{Held, FailsIn, index_text}

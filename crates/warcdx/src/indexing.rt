@@ -40,7 +40,7 @@ fn add_named<R: Runtime + AllocGlobal>(rt: &R, name: &str, indexer: &mut Indexer
 fn add<I: Input>(indexer: &mut Indexer, name: &str, archive: &mut I) -> Result<u64, IndexFault>
     ensures bad { (result ≡ Err IndexFault.BadName) ↔ ¬ (IsName (file_name name.now)) }
     ensures duplicate { (result ≡ Err IndexFault.DuplicateName) ↔ (IsName (file_name name.now) × (is_among indexer.old.names (file_name name.now) ≡ true)) }
-    ensures adds { Adds usual_types usual_limits HEAD_LIMIT (file_name name.now) (I.left archive.old) indexer.old indexer.new result }
+    ensures adds { Adds usual_types usual_limits HEAD_LIMIT (file_name name.now) (I.remaining archive.old) indexer.old indexer.new result }
 {
     indexer.add(file_name(name), archive)
 }

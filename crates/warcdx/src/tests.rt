@@ -1,6 +1,7 @@
 //! What no clause says: that calls succeed, and values from standards or worked out by hand.
 mod archives;
 mod captures;
+mod cdxj;
 mod digests;
 mod fetches;
 mod index_faults;
@@ -9,6 +10,7 @@ mod listings;
 mod named;
 mod outcomes;
 mod prefixes;
+mod reader;
 mod verdicts;
 mod words;
 mod writes;

@@ -17,7 +17,7 @@ returns-in_err-filled g c left len e =
     let phase = i.2.stands.phase_is in
     let whole = put_mid c.loop-filled.filled (length c.loop-filled.piece - c.loop-filled.filled) c.loop-filled.piece c.block.new.piece in
     let r = Filling-fault i.0 i.1 _ _ _ _ _ _ _ c.loop-filled.filled c.in_err-filled.field-0.0 c.loop-filled.piece c.block.new.piece whole _ _ _ i.2 (b.open _ _ phase) (b.only _ _ phase) i.3 in
-    rw (p.1, p.2) (of_open (λ a b. Fills a b c.args.reader.now c.block.new.self (Err c.in_err-filled.field-0.0) whole (g.I.Input.left c.args.input.now) (g.I.Input.left c.block.new.input) (g.I.Input.failures c.args.input.now) (g.I.Input.failures c.block.new.input)) _ i.0 i.1 left len i.2.opened e r)
+    rw (p.1, p.2) (of_open (λ a b. Fills a b c.args.reader.now c.block.new.self (Err c.in_err-filled.field-0.0) whole (g.I.Input.remaining c.args.input.now) (g.I.Input.remaining c.block.new.input) (g.I.Input.failures c.args.input.now) (g.I.Input.failures c.block.new.input)) _ i.0 i.1 left len i.2.opened e r)
 
 pub overflow_add-filled : goal.overflow_add-filled
 overflow_add-filled g c =
@@ -54,4 +54,4 @@ returns g c left len e =
     let long = i.2.long in
     let within = i.2.within in
     let r = Filling-end i.0 i.1 _ _ _ _ _ c.loop-filled.filled c.loop-filled.piece _ _ i.2 (omega arith) i.3 in
-    of_open (λ a b. Fills a b c.args.reader.now c.loop-filled.reader (Ok tt) c.loop-filled.piece (g.I.Input.left c.args.input.now) (g.I.Input.left c.loop-filled.input) (g.I.Input.failures c.args.input.now) (g.I.Input.failures c.loop-filled.input)) _ i.0 i.1 left len i.2.opened e r
+    of_open (λ a b. Fills a b c.args.reader.now c.loop-filled.reader (Ok tt) c.loop-filled.piece (g.I.Input.remaining c.args.input.now) (g.I.Input.remaining c.loop-filled.input) (g.I.Input.failures c.args.input.now) (g.I.Input.failures c.loop-filled.input)) _ i.0 i.1 left len i.2.opened e r

@@ -2,7 +2,7 @@ use Rattle.std.proofs.Common.{◌≡◌, ◌∙◌, ◌<◌, ℕ, true, length, 
 use Rattle.std.proofs.lemmas.List.Elements.{All-from_get_or}
 use Rattle.std.proofs.lemmas.Result.{IfOk-weaker}
 use Rattle.cdxj_core.specs.Key.{folded}
-use Rattle.cdxj_core.specs.Pair.{is_key}
+use Rattle.cdxj_places.specs.Pair.{is_key}
 use Rattle.cdxj_core.proofs.FoldedKey.{folded_is_key}
 use Rattle.cdxj_core.proofs.key.key_from.Goals as goal
 

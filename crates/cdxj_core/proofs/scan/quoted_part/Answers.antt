@@ -4,7 +4,7 @@ use Rattle.std.proofs.lemmas.Str.{IsCharBoundary-after_ascii}
 use Rattle.memchr.specs.Find.{is_byte2}
 use Rattle.cdxj_core.specs.Plain.{is_open}
 use Rattle.cdxj_core.proofs.PlainCuts.{cut_at}
-use Rattle.cdxj_core.proofs.Found.{none_before}
+use Rattle.cdxj_places.proofs.Found.{none_before}
 use Rattle.cdxj_core.proofs.scan.quoted_part.Goals as goal
 
 pub range_from-requires : goal.range_from-requires

@@ -2,7 +2,7 @@ use Rattle.std.proofs.Common.{◌≡◌, ◌≤◌, ◌-◌, ◌∙◌, Err, Ok,
 use Rattle.std.proofs.lemmas.List.{length-take-le}
 use Rattle.std.proofs.lemmas.Result.{err_from_is_err_and}
 use Rattle.std.specs.Io.KnownBytes.{Appends}
-use Rattle.warc_core.proofs.DeviceLemmas.{Appends-none}
+use Rattle.devices.proofs.DeviceLemmas.{Appends-none}
 use Rattle.capture_core.proofs.OpenLemmas.{left_in, of_open, zero_of}
 use Rattle.index_core.specs.Copying.{CopiesBlock}
 use Rattle.index_core.specs.declared.fault.IndexFault.TheVariants as faults
@@ -28,7 +28,7 @@ returns-in-Ok-eq0-clause-copies g c left len e =
     let zero : c.in-Ok-eq0.field-0 ≡ 0 = c.in-Ok-eq0.field-0-test in
     let none : i.rest ≡ 0 = zero_of i.rest (λ some. let more = b.bound.2 some (omega (arith, c.block.auto.piece)) in omega (arith, zero, more)) in
     let last = Copying-more i.left i.len i.rest _ _ _ _ _ _ _ _ _ i.copying c.in-Ok-eq0.field-0 c.block.new.piece _ _ b (subst (λ n. Appends (g.O.Output.written c.loop-count.out) (g.O.Output.written c.loop-count.out) (take n c.block.new.piece)) (sym zero) (Appends-none _)) in
-    of_open (λ a b. CopiesBlock a b c.args.reader.now c.block.new.self (Ok tt) (g.I.Input.left c.args.input.now) (g.I.Input.left c.block.new.input) (g.O.Output.written c.args.out.now) (g.O.Output.written c.loop-count.out)) _ i.left i.len left len i.opened e
+    of_open (λ a b. CopiesBlock a b c.args.reader.now c.block.new.self (Ok tt) (g.I.Input.remaining c.args.input.now) (g.I.Input.remaining c.block.new.input) (g.O.Output.written c.args.out.now) (g.O.Output.written c.loop-count.out)) _ i.left i.len left len i.opened e
     (Copying-end i.left i.len (i.rest - c.in-Ok-eq0.field-0) _ _ _ _ _ _ (omega (arith, none)) last)
 
 pub returns-in-Ok-eq0-clause-reads : goal.returns-in-Ok-eq0-clause-reads
@@ -77,7 +77,7 @@ returns-in_err-put_bytes-in-Ok-clause-copies g c left len e =
     let b = c.in-Ok.ensures.open i.rest i.len i.copying.stands.phase_is in
     let r = c.in_err-put_bytes-in-Ok.ensures.err in
     rw (p.1, p.2)
-    (of_open (λ a b. CopiesBlock a b c.args.reader.now c.block.new.self (Err c.in_err-put_bytes-in-Ok.field-0.0) (g.I.Input.left c.args.input.now) (g.I.Input.left c.block.new.input) (g.O.Output.written c.args.out.now) (g.O.Output.written c.put_bytes.new.out)) _ i.left i.len left len i.opened e
+    (of_open (λ a b. CopiesBlock a b c.args.reader.now c.block.new.self (Err c.in_err-put_bytes-in-Ok.field-0.0) (g.I.Input.remaining c.args.input.now) (g.I.Input.remaining c.block.new.input) (g.O.Output.written c.args.out.now) (g.O.Output.written c.put_bytes.new.out)) _ i.left i.len left len i.opened e
     (Copying-cut i.left i.len i.rest _ _ _ _ _ _ _ _ _ i.copying c.in_err-put_bytes-in-Ok.field-0.0 c.in-Ok.count c.block.new.piece _ _ r.0 b r.1))
 
 pub returns-in_err-put_bytes-in-Ok-clause-reads : goal.returns-in_err-put_bytes-in-Ok-clause-reads
@@ -91,5 +91,5 @@ pub returns-in-Err-clause-copies : goal.returns-in-Err-clause-copies
 returns-in-Err-clause-copies g c left len e =
     let i = c.loop-count.invariant in
     let b = c.in-Err.ensures.open i.rest i.len i.copying.stands.phase_is in
-    of_open (λ a b. CopiesBlock a b c.args.reader.now c.block.new.self (Err (faults.Capture (Archive c.in-Err.fault))) (g.I.Input.left c.args.input.now) (g.I.Input.left c.block.new.input) (g.O.Output.written c.args.out.now) (g.O.Output.written c.loop-count.out)) _ i.left i.len left len i.opened e
+    of_open (λ a b. CopiesBlock a b c.args.reader.now c.block.new.self (Err (faults.Capture (Archive c.in-Err.fault))) (g.I.Input.remaining c.args.input.now) (g.I.Input.remaining c.block.new.input) (g.O.Output.written c.args.out.now) (g.O.Output.written c.loop-count.out)) _ i.left i.len left len i.opened e
     (Copying-fault i.left i.len i.rest _ _ _ _ _ _ _ _ (g.O.Output.written c.loop-count.out) i.copying c.in-Err.fault c.block.new.piece _ _ b)

@@ -13,7 +13,7 @@ use Rattle.index_core.proofs.gathering.next_capture.Goals as goal
 pub returns-in-Ok-None-clause-takes : goal.returns-in-Ok-None-clause-takes
 returns-in-Ok-None-clause-takes g c =
     let n = rw c.in-Ok-None.field-0-is at (c.in-Ok-None.ensures.between c.requires.between) in
-    record-end HEAD_LIMIT c.args.reader.now.offset _ (g.I.Input.left c.args.input.now) _ n.bytes
+    record-end HEAD_LIMIT c.args.reader.now.offset _ (g.I.Input.remaining c.args.input.now) _ n.bytes
 
 pub returns-in-Ok-clause-takes : goal.returns-in-Ok-clause-takes
 returns-in-Ok-clause-takes g c =
@@ -36,4 +36,4 @@ returns-in-Err-capture-clause-takes g c =
 pub returns-in-Err-clause-takes : goal.returns-in-Err-clause-takes
 returns-in-Err-clause-takes g c =
     let n = c.in-Err.ensures.between c.requires.between in
-    (n.state.at, found-there (record_at HEAD_LIMIT c.args.reader.now.offset) c.in-Err.fault.cause _ _ (record-stopped HEAD_LIMIT c.args.reader.now.offset _ (g.I.Input.left c.args.input.now) _ c.in-Err.fault.cause n.bytes))
+    (n.state.at, found-there (record_at HEAD_LIMIT c.args.reader.now.offset) c.in-Err.fault.cause _ _ (record-stopped HEAD_LIMIT c.args.reader.now.offset _ (g.I.Input.remaining c.args.input.now) _ c.in-Err.fault.cause n.bytes))

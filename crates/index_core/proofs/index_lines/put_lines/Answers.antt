@@ -1,7 +1,7 @@
 use Rattle.std.proofs.Common.{◌∙◌, inr, subst, sym}
 use Rattle.std.specs.Io.KnownBytes.{Appends}
 use Rattle.std.proofs.lemmas.Result.{err_from_is_err_and}
-use Rattle.warc_core.proofs.DeviceLemmas.{Appends-join}
+use Rattle.devices.proofs.DeviceLemmas.{Appends-join}
 use Rattle.index_core.specs.Indexing.{FailsIn}
 use Rattle.index_core.proofs.IndexLemmas.{lines-at, lines-more, fails-behind}
 use Rattle.index_core.proofs.index_lines.put_lines.Goals as goal

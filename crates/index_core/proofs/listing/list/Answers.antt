@@ -11,7 +11,7 @@ use Rattle.index_core.proofs.listing.list.Goals as goal
 pub returns-in-Err-clause-stopped : goal.returns-in-Err-clause-stopped
 returns-in-Err-clause-stopped g c q =
     let r : c.put_fault.result ≡ faults.Write = cc in
-    let left = g.I.Input.left c.args.input.now in
+    let left = g.I.Input.remaining c.args.input.now in
     fault-cut HEAD_LIMIT listing_line record_count c.in-Err.fault c.put_fault.result left (prepend_known [] left) left 0 0 _ _ _ _ _ (SoFar-start HEAD_LIMIT listing_line record_count left _ 0 (λ archive. refl)) (stopped-anywhere (record_at HEAD_LIMIT 0) c.in-Err.fault.cause (prepend_known [] left) left (ap (λ f. f.cause) c.in-Err.ensures.memory)) (ap (λ f. f.offset) c.in-Err.ensures.memory) c.put_fault.ensures r
 
 pub returns-in-Ok-None-clause-whole : goal.returns-in-Ok-None-clause-whole

@@ -15,7 +15,7 @@ so_far records differing = record { records = records; differing = differing }
 pub returns-in-Err-clause-stopped : goal.returns-in-Err-clause-stopped
 returns-in-Err-clause-stopped g c q =
     let r : c.put_fault.result ≡ faults.Write = cc in
-    let left = g.I.Input.left c.args.input.now in
+    let left = g.I.Input.remaining c.args.input.now in
     let none : Verified = record { records = 0; differing = 0 } in
     fault-cut HEAD_LIMIT verification_line verified_in c.in-Err.fault c.put_fault.result left (prepend_known [] left) left 0 none _ _ _ _ _ (SoFar-start HEAD_LIMIT verification_line verified_in left _ none (λ archive. refl)) (stopped-anywhere (record_at HEAD_LIMIT 0) c.in-Err.fault.cause (prepend_known [] left) left (ap (λ f. f.cause) c.in-Err.ensures.memory)) (ap (λ f. f.offset) c.in-Err.ensures.memory) c.put_fault.ensures r
 

@@ -12,7 +12,7 @@ pub returns-in_err-next-clause-bytes : goal.returns-in_err-next-clause-bytes
 returns-in_err-next-clause-bytes g c =
     let p = err_from_is_err_and c.from_residual.result c.from_residual.ensures.1 in
     let n = c.in_err-next.ensures.between c.requires in
-    rw (p.1, p.2) (record-stopped HEAD_LIMIT c.args.reader.now.offset _ (g.I.Input.left c.args.input.now) _ c.in_err-next.field-0.0.cause n.bytes)
+    rw (p.1, p.2) (record-stopped HEAD_LIMIT c.args.reader.now.offset _ (g.I.Input.remaining c.args.input.now) _ c.in_err-next.field-0.0.cause n.bytes)
 
 pub returns-in_err-finish-in-Some-clause-bytes : goal.returns-in_err-finish-in-Some-clause-bytes
 returns-in_err-finish-in-Some-clause-bytes g c =
@@ -40,7 +40,7 @@ returns-in_err-finish-in-Some-clause-failures g c =
 pub returns-in-None-clause-bytes : goal.returns-in-None-clause-bytes
 returns-in-None-clause-bytes g c =
     let n = rw c.in-None.is at (c.in_ok-next.ensures.between c.requires) in
-    record-end HEAD_LIMIT c.args.reader.now.offset _ (g.I.Input.left c.args.input.now) _ n.bytes
+    record-end HEAD_LIMIT c.args.reader.now.offset _ (g.I.Input.remaining c.args.input.now) _ n.bytes
 
 pub returns-in_ok-finish-in-Some-clause-bytes : goal.returns-in_ok-finish-in-Some-clause-bytes
 returns-in_ok-finish-in-Some-clause-bytes g c =

@@ -13,7 +13,7 @@ pub returns-in_err-next-clause-bytes : goal.returns-in_err-next-clause-bytes
 returns-in_err-next-clause-bytes g c =
     let p = err_from_is_err_and c.from_residual.result c.from_residual.ensures.1 in
     let n = c.in_err-next.ensures.between c.requires in
-    rw (p.1, p.2) (record-stopped HEAD_LIMIT c.args.reader.now.offset _ (g.I.Input.left c.args.input.now) _ c.in_err-next.field-0.0.cause n.bytes)
+    rw (p.1, p.2) (record-stopped HEAD_LIMIT c.args.reader.now.offset _ (g.I.Input.remaining c.args.input.now) _ c.in_err-next.field-0.0.cause n.bytes)
 
 pub returns-in_err-verdict-in-Some-clause-bytes : goal.returns-in_err-verdict-in-Some-clause-bytes
 returns-in_err-verdict-in-Some-clause-bytes g c =
@@ -26,7 +26,7 @@ returns-in_err-verdict-in-Some-clause-bytes g c =
 pub returns-in-None-clause-bytes : goal.returns-in-None-clause-bytes
 returns-in-None-clause-bytes g c =
     let n = rw c.in-None.is at (c.in_ok-next.ensures.between c.requires) in
-    record-end HEAD_LIMIT c.args.reader.now.offset _ (g.I.Input.left c.args.input.now) _ n.bytes
+    record-end HEAD_LIMIT c.args.reader.now.offset _ (g.I.Input.remaining c.args.input.now) _ n.bytes
 
 pub returns-in_ok-verdict-in-Some-clause-bytes : goal.returns-in_ok-verdict-in-Some-clause-bytes
 returns-in_ok-verdict-in-Some-clause-bytes g c =
@@ -40,4 +40,4 @@ returns-in_ok-verdict-in-Some-clause-verdict g c h v e =
     let j = c.in_ok-verdict-in-Some.ensures in
     let t = judged-told HEAD_LIMIT c.args.reader.now.offset c.in-Some.head c.in_ok-verdict-in-Some.verdict _ _ _ n.bytes j.bytes in
     let same : ◌≡◌ {A = HeadView × Verdict} (c.in-Some.head, c.in_ok-verdict-in-Some.verdict) (h, v) = cc in
-    subst (λ p. IfSome (prepend_known c.args.reader.now.held (g.I.Input.left c.args.input.now)) (λ bytes. p.1 ≡ verdict_on p.0 (block_at p.0 bytes))) same t
+    subst (λ p. IfSome (prepend_known c.args.reader.now.held (g.I.Input.remaining c.args.input.now)) (λ bytes. p.1 ≡ verdict_on p.0 (block_at p.0 bytes))) same t

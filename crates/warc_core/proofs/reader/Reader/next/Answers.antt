@@ -7,7 +7,7 @@ returns-in_err-finish-clause-open g c left len e =
     let p = err_from_is_err_and c.from_residual.result c.from_residual.ensures.1 in
     record {
       mid = c.finish.new.self;
-      between = g.I.Input.left c.finish.new.input;
+      between = g.I.Input.remaining c.finish.new.input;
       counted = g.I.Input.failures c.finish.new.input;
       finish = Err c.in_err-finish.field-0.0;
       finished = c.in_err-finish.ensures.open left len e;
@@ -17,7 +17,7 @@ returns-in_err-finish-clause-open g c left len e =
 pub returns-clause-open : goal.returns-clause-open
 returns-clause-open g c left len e = record {
   mid = c.finish.new.self;
-  between = g.I.Input.left c.finish.new.input;
+  between = g.I.Input.remaining c.finish.new.input;
   counted = g.I.Input.failures c.finish.new.input;
   finish = Ok c.in_ok-finish.field-0;
   finished = c.in_ok-finish.ensures.open left len e;

@@ -1,5 +1,0 @@
-use Rattle.cdxj_core.proofs.PlaceOrder.{place_cmp_total}
-use Rattle.cdxj_core.proofs.laws.places_are_ordered.Goals as goal
-
-pub returns : goal.returns
-returns c = place_cmp_total

@@ -1,8 +1,0 @@
-mod keys;
-mod limits;
-mod lines;
-mod memory;
-mod order;
-mod places;
-mod refusals;
-mod writing;

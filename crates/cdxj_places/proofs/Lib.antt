@@ -1,0 +1,9 @@
+pub mod Found
+pub mod LastSpace
+pub mod Offsets
+pub mod PlaceLaw
+pub mod PlaceOrder
+pub mod Abbreviations
+pub mod RisingLaws
+pub mod RisingAlike
+pub mod SortedRising

@@ -1,0 +1,5 @@
+pub mod Pair
+pub mod Places
+pub mod PlaceViews
+pub mod Abbreviated
+pub mod Rising

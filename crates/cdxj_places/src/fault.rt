@@ -1,0 +1,25 @@
+//! Why a place can't be had.
+ghost use Rattle.std.specs.Prelude.{◌≡◌};
+
+use std::alloc::AllocError;
+use thiserror::Error;
+
+/// Why a place was not kept, written or read.
+#[derive(Clone, Copy, Debug, Drop, Error, PartialEq, Eq)]
+pub enum PlaceFault {
+    #[error("out of memory")]
+    Memory,
+    /// The text is no resume key.
+    #[error("the resume key is bad")]
+    BadResume,
+}
+
+impl From<AllocError> for PlaceFault {
+    ghost use Rattle.cdxj_places.specs.declared.fault.PlaceFault.TheVariants.{Memory};
+
+    ghost from_gives = { λ _ fault. fault ≡ Memory };
+
+    fn from(_refused: AllocError) -> PlaceFault {
+        PlaceFault::Memory
+    }
+}

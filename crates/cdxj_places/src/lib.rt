@@ -1,0 +1,23 @@
+//! The places of captures in an index: their order, their resume keys, and the pair that a line begins with.
+#![tactic(auto)]
+
+mod abbreviated;
+mod cuts;
+mod fault;
+mod laws;
+mod offset;
+mod order;
+mod owned_place;
+mod pair;
+mod place;
+mod resume;
+
+pub use crate::cuts::{cut_first, cut_last};
+pub use crate::fault::PlaceFault;
+pub use crate::laws::{places_are_ordered, resume_key_is_read, rising_list_is_unique};
+pub use crate::offset::read_offset;
+pub use crate::order::{HasPlace, in_order};
+pub use crate::owned_place::OwnedPlace;
+pub use crate::pair::{has_digits, is_key, is_stamp, split_pair};
+pub use crate::place::Place;
+pub use crate::resume::resume_text;

@@ -1,0 +1,85 @@
+//! The key and the stamp at the front of a line.
+ghost use Rattle.std.specs.Prelude.{◌≡◌, option_map, take, drop};
+ghost use Rattle.std.specs.List.{list_all, position, before_first, after_first};
+ghost use Rattle.std.specs.Char.{is_ascii_digit};
+ghost use Rattle.cdxj_places.specs.Pair.{is_key_byte, is_space, is_key, is_stamp, begins_with_space, pair_of};
+
+use memchr::memchr;
+
+#[tactic(auto, using(crate::proofs::Found::IsFirstByte_position))]
+fn first_space(line: &[u8]) -> Option<usize>
+    ensures { result ≡ position is_space line.now }
+{
+    memchr(b' ', line)
+}
+
+// The bytes before the first space, or all of them, and those after it.
+fn cut_at_space(line: &[u8]) -> (&[u8], &[u8])
+    ensures before { result.0.now ≡ before_first is_space line.now }
+    ensures after { result.1.now ≡ after_first is_space line.now }
+{
+    match first_space(line) {
+        Some(i) => (&line[..i], &line[i + 1..]),
+        None => (line, &[]),
+    }
+}
+
+// The first fourteen bytes, or all of them, and the others.
+fn cut_stamp(bytes: &[u8]) -> (&[u8], &[u8])
+    ensures front { result.0.now ≡ take 14 bytes.now }
+    ensures back { result.1.now ≡ drop 14 bytes.now }
+{
+    if bytes.len() < 14 {
+        (bytes, &[])
+    } else {
+        bytes.split_at(14)
+    }
+}
+
+fn has_key_bytes(text: &[u8]) -> bool
+    ensures { result ≡ list_all is_key_byte text.now }
+{
+    // No early exit, so that it compiles to vector tests.
+    let mut good = true;
+    for byte in text {
+        good &= *byte > b' ' && *byte != 0x7f;
+    }
+    good
+}
+
+pub fn has_digits(text: &[u8]) -> bool
+    ensures { result ≡ list_all is_ascii_digit text.now }
+{
+    text.iter().all(|&b| b.is_ascii_digit())
+}
+
+pub fn is_key(text: &[u8]) -> bool
+    ensures { result ≡ is_key text.now }
+{
+    !text.is_empty() && has_key_bytes(text)
+}
+
+pub fn is_stamp(text: &[u8]) -> bool
+    ensures { result ≡ is_stamp text.now }
+{
+    text.len() == 14 && has_digits(text)
+}
+
+fn begins_with_space(bytes: &[u8]) -> bool
+    ensures { result ≡ begins_with_space bytes.now }
+{
+    matches!(bytes, [b' ', ..])
+}
+
+/// The key and the stamp's fourteen digits, where the bytes begin with a key, a space, a stamp and a space.
+pub fn split_pair(line: &[u8]) -> Option<(&[u8], &[u8])>
+    ensures { option_map (λ p. (p.0.now, p.1.now)) result ≡ pair_of line.now }
+{
+    let (key, rest) = cut_at_space(line);
+    let (stamp, tail) = cut_stamp(rest);
+    if is_key(key) && is_stamp(stamp) && begins_with_space(tail) {
+        Some((key, stamp))
+    } else {
+        None
+    }
+}

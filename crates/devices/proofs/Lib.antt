@@ -1,0 +1,3 @@
+pub mod DeviceLemmas
+pub mod WritingLemmas
+pub mod BufferLemmas

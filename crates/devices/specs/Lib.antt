@@ -1,0 +1,5 @@
+pub mod Device
+pub mod Writing
+pub mod Gathered
+pub mod FromStd
+pub mod Fused

@@ -1,0 +1,66 @@
+//! What was read from an input and not yet given out.
+ghost use Rattle.std.specs.Prelude.{◌≡◌, Option, ℕ, ◌+◌, ◌-◌, ◌<◌, ◌≤◌, List, [], length, drop, take, IfOk, OnOk, MatchResult};
+ghost use Rattle.std.specs.Io.KnownBytes.{Keeps, IsAtEnd, prepend_known};
+ghost use Rattle.devices.specs.Device.{CountsFailure};
+
+use crate::device::{DeviceFault, Input};
+use std::alloc::{AllocError, Global};
+use std::marker::Model;
+
+/// How many bytes are asked of an input at once.
+pub const PIECE: usize = 8192;
+
+#[derive(Drop)]
+pub struct Buffer {
+    bytes: Vec<u8>,
+    from: usize,
+    to: usize,
+}
+
+impl Model for Buffer {
+    ghost Value = { List ℕ };
+
+    ghost view = { λ b. take (b.to - b.from) (drop b.from b.bytes.items) };
+
+    ghost invariant = { λ b. (b.from ≤ b.to) × (b.to ≤ length b.bytes.items) × (0 < length b.bytes.items) };
+}
+
+impl Buffer {
+    pub fn new(alloc: Global) -> Result<Buffer, AllocError>
+        ensures { IfOk result (λ b. b ≡ []) }
+    {
+        let bytes = vec![in alloc; 0; PIECE]?;
+        Ok(Buffer {
+            bytes,
+            from: 0,
+            to: 0,
+        })
+    }
+
+    pub fn as_slice(&self) -> &[u8]
+        ensures { result.now ≡ self.now }
+    {
+        &self.bytes.as_slice()[self.from..self.to]
+    }
+
+    pub fn consume(&mut self, count: usize)
+        requires { count ≤ length self.old }
+        ensures { self.new ≡ drop count self.old }
+    {
+        self.from += count;
+    }
+
+    /// Takes a piece from the input where nothing is held.
+    pub fn fill<I: Input>(&mut self, input: &mut I) -> Result<(), DeviceFault>
+        ensures bytes { Keeps (prepend_known self.old (I.remaining input.old)) (prepend_known self.new (I.remaining input.new)) }
+        ensures end { OnOk result (self.new ≡ [] → IsAtEnd (I.remaining input.new)) }
+        ensures failures { CountsFailure result (I.failures input.old) (I.failures input.new) }
+    {
+        if self.from == self.to {
+            let count = input.read(self.bytes.as_mut_slice())?;
+            self.from = 0;
+            self.to = count;
+        }
+        Ok(())
+    }
+}

@@ -1,0 +1,97 @@
+//! A device that fails at one of its calls, for tests of failures.
+ghost use Rattle.std.specs.Prelude.{◌≡◌, ◌+◌, ◌-◌, ◌^◌, ◌<◌, ◌≤◌, ◌↔◌, IsTrue, IfOk, MatchResult, length, min};
+ghost use Rattle.std.specs.Io.KnownBytes.{ReadConsumes, WriteAppends};
+ghost use Rattle.devices.specs.Device.{CountsFailure, TakesSome};
+
+use crate::device::{DeviceFault, Input, Output};
+
+/// A device that lets another one move only so many bytes a call, and fails at one of its own calls.
+///
+/// That call doesn't reach the device within; the ones after it do.
+#[derive(Drop)]
+pub struct Fuse<D> {
+    /// The device within, whose bytes it tells.
+    pub device: D,
+    /// The most bytes that a call moves. 0 counts as 1.
+    pub piece: usize,
+    /// The call that fails; the first is 1. 0 and 2^64 - 1 mean none.
+    pub at: u64,
+    /// How many calls there were. It stays at 2^64 - 1.
+    pub calls: u64,
+    /// How many of them failed, those that failed within too. It stays at 2^64 - 1.
+    pub failures: u64,
+}
+
+impl<D> Fuse<D> {
+    ghost use Rattle.devices.specs.Fused.{IsNewFuse, IsBlown};
+
+    /// A fuse that had no call yet.
+    pub fn new(device: D, piece: usize, at: u64) -> Fuse<D>
+        ensures { IsNewFuse device piece at result }
+    {
+        Fuse {
+            device,
+            piece,
+            at,
+            calls: 0,
+            failures: 0,
+        }
+    }
+
+    /// Counts a call, and answers whether it is the one that fails.
+    pub fn blows(&mut self) -> bool
+        ensures call { self.new ≡ record self.old { calls = min (self.old.calls + 1) (2 ^ 64 - 1) } }
+        ensures at { IsTrue result ↔ IsBlown self.new.calls self.old.at }
+    {
+        self.calls = self.calls.saturating_add(1);
+        self.calls == self.at && self.at < u64::MAX
+    }
+}
+
+impl<D: Input> Input for Fuse<D> {
+    ghost use Rattle.devices.specs.Fused.{IsFusedCall};
+
+    ghost remaining = { λ f. D.remaining f.device };
+
+    ghost failures = { λ f. f.failures };
+
+    fn read(&mut self, piece: &mut [u8]) -> Result<usize, DeviceFault>
+        ensures bound { IfOk result (λ n. n ≤ length piece.new) }
+        ensures bytes { ReadConsumes (D.remaining self.old.device) (D.remaining self.new.device) result piece.new }
+        ensures failures { CountsFailure result self.old.failures self.new.failures }
+        ensures call { IsFusedCall (λ d. D.failures d) self.old self.new result }
+    {
+        let most = piece.len().min(self.piece.max(1));
+        if !self.blows() {
+            if let Ok(count) = self.device.read(&mut piece[..most]) {
+                return Ok(count);
+            }
+        }
+        self.failures = self.failures.saturating_add(1);
+        Err(DeviceFault)
+    }
+}
+
+impl<D: Output> Output for Fuse<D> {
+    ghost use Rattle.devices.specs.Fused.{IsFusedCall};
+
+    ghost written = { λ f. D.written f.device };
+
+    ghost failures = { λ f. f.failures };
+
+    fn write(&mut self, piece: &[u8]) -> Result<usize, DeviceFault>
+        ensures some { IfOk result (TakesSome piece.now) }
+        ensures bytes { WriteAppends (D.written self.old.device) (D.written self.new.device) result piece.now }
+        ensures failures { CountsFailure result self.old.failures self.new.failures }
+        ensures call { IsFusedCall (λ d. D.failures d) self.old self.new result }
+    {
+        let most = piece.len().min(self.piece.max(1));
+        if !self.blows() {
+            if let Ok(count) = self.device.write(&piece[..most]) {
+                return Ok(count);
+            }
+        }
+        self.failures = self.failures.saturating_add(1);
+        Err(DeviceFault)
+    }
+}

@@ -1,0 +1,19 @@
+//! Where bytes come from and where they go: inputs and outputs that count the calls that failed.
+//!
+//! An [`Input`] or an [`Output`] is a slice or a list in memory, a reader or a writer of `std`, or a [`Fuse`] round
+//! another device, which fails at one of its calls.
+#![tactic(auto)]
+
+mod buffer;
+mod device;
+mod fuse;
+mod memory;
+mod standard;
+#[cfg(test)]
+mod tests;
+
+pub use crate::buffer::{Buffer, PIECE};
+pub use crate::device::{DeviceFault, Input, Output, put};
+pub use crate::fuse::Fuse;
+pub use crate::memory::{Gather, Slice};
+pub use crate::standard::{FromRead, FromWrite};

@@ -1,0 +1,96 @@
+//! Devices over memory.
+ghost use Rattle.std.specs.Prelude.{◌≡◌, ℕ, ◌≤◌, List, [], length, Some, IfOk, IsOk, MatchResult};
+ghost use Rattle.std.specs.Io.KnownBytes.{ReadConsumes};
+ghost use Rattle.devices.specs.Device.{CountsFailure};
+
+use crate::device::{DeviceFault, Input, Output};
+use std::alloc::Global;
+use std::marker::Model;
+
+/// An input over a text in memory. It tells its bytes, and never fails.
+#[derive(Drop)]
+pub struct Slice<'a> {
+    rest: &'a [u8],
+}
+
+impl<'a> Model for Slice<'a> {
+    ghost Value = { List ℕ };
+
+    ghost view = { λ s. s.rest.now };
+}
+
+impl<'a> Slice<'a> {
+    /// The input of these bytes.
+    pub fn new(bytes: &'a [u8]) -> Slice<'a>
+        ensures { result ≡ bytes.now }
+    {
+        Slice { rest: bytes }
+    }
+}
+
+impl Input for Slice<'_> {
+    ghost remaining = { λ s. Some s };
+
+    ghost failures = { λ _. 0 };
+
+    fn read(&mut self, piece: &mut [u8]) -> Result<usize, DeviceFault>
+        ensures bound { IfOk result (λ n. n ≤ length piece.new) }
+        ensures bytes { ReadConsumes (Some self.old) (Some self.new) result piece.new }
+        ensures failures { CountsFailure result 0 0 }
+        ensures never_fails { IsOk result }
+    {
+        let count = piece.len().min(self.rest.len());
+        let (given, later) = self.rest.split_at(count);
+        piece[..count].copy_from_slice(given);
+        self.rest = later;
+        Ok(count)
+    }
+}
+
+/// An output that keeps what it took, in memory. A growth that is refused is its failure.
+#[derive(Drop)]
+pub struct Gather {
+    bytes: Vec<u8>,
+    failures: u64,
+}
+
+impl Gather {
+    ghost use Rattle.devices.specs.Gathered.{gathered, gather_failures};
+
+    /// An output that took nothing yet.
+    pub fn new(alloc: Global) -> Gather
+        ensures none { gathered result ≡ [] }
+        ensures failures { gather_failures result ≡ 0 }
+    {
+        Gather {
+            bytes: Vec::new(alloc),
+            failures: 0,
+        }
+    }
+
+    /// What it took.
+    pub fn bytes(&self) -> &[u8]
+        ensures { result.now ≡ gathered self.now }
+    {
+        self.bytes.as_slice()
+    }
+}
+
+impl Output for Gather {
+    ghost use Rattle.std.specs.Prelude.{Some};
+    ghost use Rattle.devices.specs.Gathered.{gathered, gather_failures};
+
+    ghost written = { λ g. Some (gathered g) };
+
+    ghost failures = { gather_failures };
+
+    fn write(&mut self, piece: &[u8]) -> Result<usize, DeviceFault> {
+        match self.bytes.extend_from_slice(piece) {
+            Ok(()) => Ok(piece.len()),
+            Err(_) => {
+                self.failures = self.failures.saturating_add(1);
+                Err(DeviceFault)
+            }
+        }
+    }
+}

@@ -1,0 +1,99 @@
+//! The readers and writers of `std` as devices.
+ghost use Rattle.std.specs.Prelude.{◌≡◌, ◌≤◌, None, IfOk, MatchResult, length};
+ghost use Rattle.std.specs.Io.KnownBytes.{ReadConsumes, WriteAppends};
+ghost use Rattle.devices.specs.Device.{CountsFailure, TakesSome};
+
+use crate::device::{DeviceFault, Input, Output};
+use std::io;
+
+/// A reader of `std` as an input. It tells no bytes.
+#[derive(Drop)]
+pub struct FromRead<R> {
+    reader: R,
+    failures: u64,
+}
+
+impl<R> FromRead<R> {
+    ghost use Rattle.devices.specs.FromStd.{reader_of, read_failures};
+
+    /// The input over a reader.
+    pub fn new(reader: R) -> FromRead<R>
+        ensures reader { reader_of result ≡ reader }
+        ensures failures { read_failures result ≡ 0 }
+    {
+        FromRead {
+            reader,
+            failures: 0,
+        }
+    }
+}
+
+impl<R: io::Read> Input for FromRead<R> {
+    ghost use Rattle.devices.specs.FromStd.{reader_of, read_failures};
+
+    ghost remaining = { λ _. None };
+
+    ghost failures = { read_failures };
+
+    /// Reads what the reader reads.
+    fn read(&mut self, piece: &mut [u8]) -> Result<usize, DeviceFault>
+        ensures bound { IfOk result (λ n. n ≤ length piece.new) }
+        ensures bytes { ReadConsumes None None result piece.new }
+        ensures failures { CountsFailure result (read_failures self.old) (read_failures self.new) }
+        ensures reader { ReadConsumes (R.remaining (reader_of self.old)) (R.remaining (reader_of self.new)) result piece.new }
+    {
+        match self.reader.read(piece) {
+            Ok(count) => Ok(count),
+            Err(_) => {
+                self.failures = self.failures.saturating_add(1);
+                Err(DeviceFault)
+            }
+        }
+    }
+}
+
+/// A writer of `std` as an output. It tells no bytes. The writer's `Ok(0)` for a piece that isn't empty is a failure.
+#[derive(Drop)]
+pub struct FromWrite<W> {
+    writer: W,
+    failures: u64,
+}
+
+impl<W> FromWrite<W> {
+    ghost use Rattle.devices.specs.FromStd.{writer_of, write_failures};
+
+    /// The output over a writer.
+    pub fn new(writer: W) -> FromWrite<W>
+        ensures writer { writer_of result ≡ writer }
+        ensures failures { write_failures result ≡ 0 }
+    {
+        FromWrite {
+            writer,
+            failures: 0,
+        }
+    }
+}
+
+impl<W: io::Write> Output for FromWrite<W> {
+    ghost use Rattle.devices.specs.FromStd.{writer_of, write_failures};
+
+    ghost written = { λ _. None };
+
+    ghost failures = { write_failures };
+
+    /// Writes what the writer takes.
+    fn write(&mut self, piece: &[u8]) -> Result<usize, DeviceFault>
+        ensures some { IfOk result (TakesSome piece.now) }
+        ensures bytes { WriteAppends None None result piece.now }
+        ensures failures { CountsFailure result (write_failures self.old) (write_failures self.new) }
+        ensures writer { WriteAppends (W.contents (writer_of self.old)) (W.contents (writer_of self.new)) result piece.now }
+    {
+        match self.writer.write(piece) {
+            Ok(count) if count > 0 || piece.is_empty() => Ok(count),
+            _ => {
+                self.failures = self.failures.saturating_add(1);
+                Err(DeviceFault)
+            }
+        }
+    }
+}

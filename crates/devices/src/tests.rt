@@ -1,0 +1,94 @@
+//! What no clause says: that calls succeed, and values worked out by hand.
+use crate::{DeviceFault, FromRead, FromWrite, Fuse, Gather, Input, Output, Slice, put};
+use std::io;
+use std::test::Fail;
+
+const TEXT: &[u8] = b"WARC/1.1\r\nWARC-Type: resource\r\n\r\n";
+
+#[test]
+fn reads_memory(rt: HostRuntime) -> Result<(), Fail> {
+    let mut input = Slice::new(b"abcde");
+    let mut piece = [0; 3];
+    for (count, text) in [(3, b"abc"), (2, b"dec"), (0, b"dec")] {
+        assert_eq!(rt; input.read(&mut piece)?, count);
+        assert_eq!(rt; piece.as_slice(), text.as_slice());
+    }
+    Ok(())
+}
+
+#[test]
+fn writes_all_or_a_prefix(rt: HostRuntime) -> Result<(), Fail> {
+    for (most, at, want, written) in [
+        (0, 0, Ok(()), 33),
+        (1, 34, Ok(()), 33),
+        (1, 1, Err(DeviceFault), 0),
+        (1, 33, Err(DeviceFault), 32),
+        (20, 2, Err(DeviceFault), 20),
+        (8192, u64::MAX, Ok(()), 33),
+    ] {
+        let mut out = Fuse::new(Gather::new(rt.alloc()), most, at);
+        let answer = put(&mut out, TEXT);
+        if out.device.bytes().len() < written {
+            return Err("Memory")?;
+        }
+        assert_eq!(rt; answer, want);
+        assert_eq!(rt; out.device.bytes().len(), written);
+        assert!(rt; TEXT.starts_with(out.device.bytes()));
+        assert_eq!(rt; out.failures, if want.is_ok() { 0 } else { 1 });
+    }
+    Ok(())
+}
+
+/// A fuse blows once, without touching its device, and the device goes on.
+#[test]
+fn fails_at_one_call(rt: HostRuntime) -> Result<(), Fail> {
+    let mut input = Fuse::new(Slice::new(b"abcde"), 2, 2);
+    let mut piece = [0; 5];
+    assert_eq!(rt; input.read(&mut piece)?, 2);
+    assert_eq!(rt; input.read(&mut piece), Err(DeviceFault));
+    assert_eq!(rt; input.read(&mut piece)?, 2);
+    assert_eq!(rt; piece.as_slice(), b"cd\0\0\0".as_slice());
+    assert_eq!(rt; input.calls, 3);
+    assert_eq!(rt; input.failures, 1);
+    Ok(())
+}
+
+/// A writer that takes nothing, or says that it failed.
+#[derive(Drop)]
+struct Full {
+    says_so: bool,
+}
+
+impl io::Write for Full {
+    fn write(&mut self, _piece: &[u8]) -> io::Result<usize> {
+        if self.says_so {
+            Err(io::Error::from(io::ErrorKind::StorageFull))
+        } else {
+            Ok(0)
+        }
+    }
+
+    fn flush(&mut self) -> io::Result<()> {
+        Ok(())
+    }
+}
+
+#[test]
+fn lifts_the_devices_of_std(rt: HostRuntime) -> Result<(), Fail> {
+    let mut input = FromRead::new(b"abc".as_slice());
+    let mut piece = [0; 2];
+    assert_eq!(rt; input.read(&mut piece)?, 2);
+    assert_eq!(rt; piece.as_slice(), b"ab".as_slice());
+    let mut written = [0; 2];
+    let mut out = FromWrite::new(written.as_mut_slice());
+    assert_eq!(rt; out.write(b"xy")?, 2);
+    assert_eq!(rt; out.write(b"z"), Err(DeviceFault));
+    assert_eq!(rt; out.write(b"")?, 0);
+    for says_so in [false, true] {
+        assert_eq!(rt;
+            put(&mut FromWrite::new(Full { says_so }), b"x"),
+            Err(DeviceFault)
+        );
+    }
+    Ok(())
+}

@@ -1,0 +1,254 @@
+use cdxj_core::{Field, Line, LineRef, split_pair};
+use std::alloc::Global;
+use std::process::Abort;
+use std::test::Fail;
+
+// A line as another program writes it, with a number and a further member.
+pub const FOREIGN: &[u8] =
+    b"com,example)/ 20140103030321 {\"url\": \"http://example.com/\", \"mime\": \"text/html\", \"status\": 200, \"digest\": \"B2LTWWPUOYAH7UIPQ7ZUPQ4VMBSVC36A\", \"length\": \"1043\", \"offset\": \"333\", \"filename\": \"example.warc\", \"source\": \"x\"}";
+
+const FOREIGN_VALUES: &[(Field, &str)] = &[
+    (Field::Urlkey, "com,example)/"),
+    (Field::Timestamp, "20140103030321"),
+    (Field::Original, "http://example.com/"),
+    (Field::Mimetype, "text/html"),
+    (Field::Statuscode, "200"),
+    (Field::Digest, "B2LTWWPUOYAH7UIPQ7ZUPQ4VMBSVC36A"),
+    (Field::Length, "1043"),
+    (Field::Offset, "333"),
+    (Field::Filename, "example.warc"),
+];
+
+#[test]
+fn a_foreign_line_is_read(rt: HostRuntime) -> Result<(), Fail> {
+    let read = LineRef::read(rt.alloc(), FOREIGN)?;
+    for (field, value) in FOREIGN_VALUES {
+        assert_eq!(rt; read.value(*field), *value);
+    }
+    let (key, stamp) = read.pair();
+    assert_eq!(rt; key, "com,example)/");
+    assert!(rt; stamp == *b"20140103030321");
+    assert!(rt; read.line() == FOREIGN);
+    Ok(())
+}
+
+// The values of the members url, mime, status, digest, length, offset and filename, which stand in
+// the line by RFC 8259 and the rules of docs/CDXJ.md, with `|` between.
+fn has_values(
+    rt: &impl Abort,
+    alloc: Global,
+    name: &str,
+    line: &str,
+    values: &str,
+) -> Result<(), Fail> {
+    let read = LineRef::read(alloc, line.as_bytes())?;
+    let found = format!(in alloc;
+        "{}|{}|{}|{}|{}|{}|{}",
+        read.value(Field::Original),
+        read.value(Field::Mimetype),
+        read.value(Field::Statuscode),
+        read.value(Field::Digest),
+        read.value(Field::Length),
+        read.value(Field::Offset),
+        read.value(Field::Filename)
+    )?;
+    assert_eq!(rt; found.as_str(), values, "of {name}");
+    let end = line.strip_suffix('\n').unwrap_or(line);
+    assert!(rt; read.line() == end.as_bytes(), "of {name}");
+    assert!(rt; split_pair(line.as_bytes()).is_some(), "of {name}");
+    Ok(())
+}
+
+const ENTRIES: &[(&str, &str, &str)] = &[
+    (
+        "as a line is written",
+        "k 20160101000000 {\"url\": \"http://x/\", \"mime\": \"text/html\", \"status\": \"200\", \"digest\": \"D\", \"length\": \"1\", \"offset\": \"7\", \"filename\": \"f\"}\n",
+        "http://x/|text/html|200|D|1|7|f",
+    ),
+    (
+        "without its line feed",
+        "k 20160101000000 {\"url\": \"http://x/\", \"mime\": \"text/html\", \"status\": \"200\", \"digest\": \"D\", \"length\": \"1\", \"offset\": \"7\", \"filename\": \"f\"}",
+        "http://x/|text/html|200|D|1|7|f",
+    ),
+    (
+        "with a carriage return before it",
+        "k 20160101000000 {\"url\": \"http://x/\", \"mime\": \"text/html\", \"status\": \"200\", \"digest\": \"D\", \"length\": \"1\", \"offset\": \"7\", \"filename\": \"f\"}\r\n",
+        "http://x/|text/html|200|D|1|7|f",
+    ),
+    (
+        "with white space round the object",
+        "k 20160101000000  \t{\"url\": \"http://x/\", \"mime\": \"text/html\", \"status\": \"200\", \"digest\": \"D\", \"length\": \"1\", \"offset\": \"7\", \"filename\": \"f\"} \t\r\n",
+        "http://x/|text/html|200|D|1|7|f",
+    ),
+    (
+        "with other white space in the object",
+        "k 20160101000000 {\"url\":\"http://x/\"\t,  \"mime\":\"text/html\"\t,  \"status\":\"200\"\t,  \"digest\":\"D\"\t,  \"length\":\"1\"\t,  \"offset\":\"7\"\t,  \"filename\":\"f\"}\n",
+        "http://x/|text/html|200|D|1|7|f",
+    ),
+    (
+        "members in another order",
+        "k 20160101000000 {\"filename\": \"f\", \"offset\": \"7\", \"length\": \"1\", \"digest\": \"D\", \"status\": \"200\", \"mime\": \"text/html\", \"url\": \"http://x/\"}\n",
+        "http://x/|text/html|200|D|1|7|f",
+    ),
+    (
+        "further members",
+        "k 20160101000000 {\"a\": 1, \"url\": \"http://x/\", \"mime\": \"text/html\", \"b\": [{}], \"status\": \"200\", \"digest\": \"D\", \"length\": \"1\", \"offset\": \"7\", \"filename\": \"f\", \"source\": \"x\", \"charset\": \"utf-8\"}\n",
+        "http://x/|text/html|200|D|1|7|f",
+    ),
+    (
+        "numbers as numbers",
+        "k 20160101000000 {\"url\": \"u\", \"mime\": \"m\", \"status\": 200, \"digest\": \"D\", \"length\": 1043, \"offset\": 333, \"filename\": \"f\"}\n",
+        "u|m|200|D|1043|333|f",
+    ),
+    (
+        "empty texts",
+        "k 20160101000000 {\"url\": \"\", \"mime\": \"\", \"status\": \"\", \"digest\": \"\", \"length\": \"\", \"offset\": \"7\", \"filename\": \"f\"}\n",
+        "-|-|-|-|-|7|f",
+    ),
+    (
+        "absent members",
+        "k 20160101000000 {\"offset\": \"7\", \"filename\": \"f\"}\n",
+        "-|-|-|-|-|7|f",
+    ),
+    (
+        "members of other kinds",
+        "k 20160101000000 {\"url\": null, \"mime\": true, \"status\": [200], \"digest\": {\"a\": \"b\"}, \"length\": false, \"offset\": \"7\", \"filename\": \"f\"}\n",
+        "-|-|-|-|-|7|f",
+    ),
+    (
+        "numbers that fit no 64 bits without a sign",
+        "k 20160101000000 {\"url\": -1, \"mime\": 1.5, \"status\": -0, \"digest\": 1e2, \"length\": 18446744073709551616, \"offset\": \"7\", \"filename\": \"f\"}\n",
+        "-|-|-|-|-|7|f",
+    ),
+];
+
+#[test]
+fn lines_with_an_entry(rt: HostRuntime) -> Result<(), Fail> {
+    for (name, line, values) in ENTRIES {
+        has_values(&rt, rt.alloc(), name, line, values)?;
+    }
+    Ok(())
+}
+
+const OFFSETS: &[(&str, &str, &str)] = &[
+    (
+        "the largest number and nought",
+        "k 20160101000000 {\"url\": 18446744073709551615, \"mime\": 0, \"offset\": \"7\", \"filename\": \"f\"}\n",
+        "18446744073709551615|0|-|-|-|7|f",
+    ),
+    (
+        "an offset with leading zeros",
+        "k 20160101000000 {\"offset\": \"007\", \"filename\": \"f\"}\n",
+        "-|-|-|-|-|7|f",
+    ),
+    (
+        "an offset of nineteen digits",
+        "k 20160101000000 {\"offset\": \"0000000000000000009\", \"filename\": \"f\"}\n",
+        "-|-|-|-|-|9|f",
+    ),
+    (
+        "the largest offset, as a text",
+        "k 20160101000000 {\"offset\": \"9223372036854775807\", \"filename\": \"f\"}\n",
+        "-|-|-|-|-|9223372036854775807|f",
+    ),
+    (
+        "the largest offset, as a number",
+        "k 20160101000000 {\"offset\": 9223372036854775807, \"filename\": \"f\"}\n",
+        "-|-|-|-|-|9223372036854775807|f",
+    ),
+    (
+        "offset 0",
+        "k 20160101000000 {\"offset\": 0, \"filename\": \"f\"}\n",
+        "-|-|-|-|-|0|f",
+    ),
+    (
+        "a plain object with an offset that is not canonical",
+        "k 20160101000000 {\"url\": \"http://x/\", \"mime\": \"text/html\", \"status\": \"200\", \"digest\": \"D\", \"length\": \"1\", \"offset\": \"07\", \"filename\": \"f\"}\n",
+        "http://x/|text/html|200|D|1|7|f",
+    ),
+    (
+        "escapes",
+        "k 20160101000000 {\"url\": \"a\\u0062\\\"\\\\\\/\\n\", \"filename\": \"\\u00e9\\ud83d\\ude00\", \"offset\": \"7\"}\n",
+        "ab\"\\/\n|-|-|-|-|7|\u{e9}\u{1f600}",
+    ),
+    (
+        "texts beyond ASCII",
+        "k 20160101000000 {\"url\": \"\u{e9}\u{1f600}\", \"mime\": \"\u{7f}\", \"offset\": \"7\", \"filename\": \"f\"}\n",
+        "\u{e9}\u{1f600}|\u{7f}|-|-|-|7|f",
+    ),
+    (
+        "a member that is given twice",
+        "k 20160101000000 {\"filename\": \"g\", \"offset\": \"1\", \"offset\": \"7\", \"filename\": \"f\"}\n",
+        "-|-|-|-|-|7|f",
+    ),
+    (
+        "an escaped name",
+        "k 20160101000000 {\"\\u0075rl\": \"u\", \"offset\": \"7\", \"filename\": \"f\"}\n",
+        "u|-|-|-|-|7|f",
+    ),
+    (
+        "names in another case",
+        "k 20160101000000 {\"URL\": \"u\", \"offset\": \"7\", \"filename\": \"f\"}\n",
+        "-|-|-|-|-|7|f",
+    ),
+    (
+        "a key that begins with !",
+        "!meta 20160101000000 {\"offset\": \"7\", \"filename\": \"f\"}\n",
+        "-|-|-|-|-|7|f",
+    ),
+    (
+        "a key beyond ASCII",
+        "\u{e9})/?\u{2028} 20160101000000 {\"offset\": \"7\", \"filename\": \"f\"}\n",
+        "-|-|-|-|-|7|f",
+    ),
+    (
+        "a file name with spaces",
+        "k 20160101000000 {\"offset\": \"7\", \"filename\": \" a b \"}\n",
+        "-|-|-|-|-|7| a b ",
+    ),
+    (
+        "nested 127 deep",
+        "k 20160101000000 {\"a\": [[[[[[[[[[[[[[[[[[[[[[[[[[[[[[[[[[[[[[[[[[[[[[[[[[[[[[[[[[[[[[[[[[[[[[[[[[[[[[[[[[[[[[[[[[[[[[[[[[[[[[[[[[[[[[[[[[[[[[[[[[[[[[]]]]]]]]]]]]]]]]]]]]]]]]]]]]]]]]]]]]]]]]]]]]]]]]]]]]]]]]]]]]]]]]]]]]]]]]]]]]]]]]]]]]]]]]]]]]]]]]]]]]]]]]]]]]]]]]]]]]]]]]]]]]]], \"offset\": \"7\", \"filename\": \"f\"}\n",
+        "-|-|-|-|-|7|f",
+    ),
+    (
+        "a stamp that is no date",
+        "k 00000000000000 {\"offset\": \"7\", \"filename\": \"f\"}",
+        "-|-|-|-|-|7|f",
+    ),
+];
+
+#[test]
+fn lines_with_an_offset_and_a_file_name(rt: HostRuntime) -> Result<(), Fail> {
+    for (name, line, values) in OFFSETS {
+        has_values(&rt, rt.alloc(), name, line, values)?;
+    }
+    Ok(())
+}
+
+#[test]
+fn a_kept_line_outlives_further_reads(rt: HostRuntime) -> Result<(), Fail> {
+    let alloc = rt.alloc();
+    let other = b"k 20160101000000 {\"offset\": 7, \"filename\": \"f\"}\n";
+    let kept = Line::new(alloc, &LineRef::read(alloc, FOREIGN)?)?;
+    let second = LineRef::read(alloc, other)?;
+    let third = LineRef::read(
+        alloc,
+        b"l 20160101000000 {\"offset\": 8, \"filename\": \"g\"}",
+    )?;
+    assert_eq!(rt; second.value(Field::Filename), "f");
+    assert_eq!(rt; third.value(Field::Filename), "g");
+    assert!(rt; kept.line() == FOREIGN);
+    assert_eq!(rt; kept.value(Field::Statuscode), "200");
+    assert_eq!(rt; kept.value(Field::Timestamp), "20140103030321");
+    assert_eq!(rt; kept.value(Field::Offset), "333");
+    assert_eq!(rt; kept.pair().0, "com,example)/");
+    assert_eq!(rt; kept.place().filename, "example.warc");
+    let kept = kept.refill(&second)?;
+    assert!(rt; kept.line() == other.strip_suffix(b"\n").unwrap_or(other));
+    assert_eq!(rt; kept.value(Field::Original), "-");
+    assert_eq!(rt; kept.value(Field::Offset), "7");
+    assert!(rt; kept.pair().1 == *b"20160101000000");
+    assert!(rt; kept.place() == second.place());
+    Ok(())
+}

@@ -1,0 +1,121 @@
+use super::{MANDATORY, joined, walk};
+use warc_core::{Cause, Fault, Fuse, HEAD_LIMIT, Input, Reader, Slice};
+use std::alloc::{AllocError, Global};
+use std::test::Fail;
+
+/// A head of this many bytes, which ends with CR LF CR LF or, where it is open, lacks the last LF.
+fn head_of(alloc: Global, length: usize, open: bool) -> Result<Vec<u8>, AllocError> {
+    let mut head = joined(alloc, &[b"WARC/1.1\r\n", MANDATORY, b"X: "])?;
+    let end = if open {
+        b"\r\n\r".as_slice()
+    } else {
+        b"\r\n\r\n"
+    };
+    let filled = length.saturating_sub(end.len());
+    for _ in head.len()..filled {
+        head.push(b'x')?;
+    }
+    head.extend_from_slice(end)?;
+    Ok(head)
+}
+
+#[test]
+fn reads_heads_up_to_the_limit(rt: HostRuntime) -> Result<(), Fail> {
+    assert_eq!(rt; HEAD_LIMIT, 65_536);
+    let long = Some(Fault {
+        offset: 0,
+        cause: Cause::HeadTooLong,
+    });
+    let short = Some(Fault {
+        offset: 0,
+        cause: Cause::ShortHead,
+    });
+    for (length, open, want) in [
+        (65_535, false, (1, None)),
+        (65_536, false, (1, None)),
+        (65_537, false, (0, long)),
+        (65_538, false, (0, long)),
+        (65_535, true, (0, short)),
+        (65_536, true, (0, long)),
+    ] {
+        let head = head_of(rt.alloc(), length, open)?;
+        assert_eq!(rt; head.len(), length);
+        let text = if open {
+            head
+        } else {
+            joined(rt.alloc(), &[head.as_slice(), b"abc\r\n\r\n"])?
+        };
+        assert_eq!(rt;
+            walk(rt.alloc(), &mut Slice::new(text.as_slice()))?,
+            want,
+            "{length} {open}"
+        );
+    }
+    Ok(())
+}
+
+/// A head that is too long is so before a line of it is looked at.
+#[test]
+fn finds_a_long_head_before_its_lines(rt: HostRuntime) -> Result<(), Fail> {
+    let filler = head_of(rt.alloc(), 70_000, false)?;
+    let text = joined(
+        rt.alloc(),
+        &[b"WARC/1.1\r\nno colon\r\n", filler.as_slice()],
+    )?;
+    let long = Some(Fault {
+        offset: 0,
+        cause: Cause::HeadTooLong,
+    });
+    assert_eq!(rt;
+        walk(rt.alloc(), &mut Slice::new(text.as_slice()))?,
+        (0, long)
+    );
+    Ok(())
+}
+
+fn is_read<I: Input>(alloc: Global, input: &mut I, length: usize) -> Result<bool, Fault> {
+    let mut reader = Reader::new(alloc)?;
+    let Some(head) = reader.next(input)? else {
+        return Ok(false);
+    };
+    Ok(
+        head.raw().len() == length
+            && head.record_length() == length as u64 + 7
+            && reader.finish(input)? == head.record_length(),
+    )
+}
+
+/// The end of the head may stand anywhere in the pieces that it is gathered from.
+#[test]
+fn reads_heads_across_pieces(rt: HostRuntime) -> Result<(), Fail> {
+    for edge in [1024, 8192] {
+        for length in edge - 4..edge + 6 {
+            let head = head_of(rt.alloc(), length, false)?;
+            let text = joined(rt.alloc(), &[head.as_slice(), b"abc\r\n\r\n"])?;
+            for most in [1, 7, 8192] {
+                let mut input = Fuse::new(Slice::new(text.as_slice()), most, 0);
+                assert!(rt;
+                    is_read(rt.alloc(), &mut input, length)?,
+                    "{length} by {most}"
+                );
+            }
+        }
+    }
+    Ok(())
+}
+
+#[test]
+fn reads_folded_fields_of_the_older_version(rt: HostRuntime) -> Result<(), Fail> {
+    let text =
+        b"WARC/1.0\r\nWARC-Type: response\r\nWARC-Record-ID: <urn:x:1>\r\nWARC-Date: 2016-09-19T17:20:24.123456Z\r\nWARC-Target-URI:\r\n <http://example.com/>\r\nContent-Length: 0\r\n\r\n\r\n\r\n";
+    let mut input = Slice::new(text);
+    let head = Reader::new(rt.alloc())?
+        .next(&mut input)?
+        .ok_or("a record")?;
+    assert_eq!(rt;
+        head.field(b"WARC-Target-URI"),
+        Some(b"<http://example.com/>".as_slice())
+    );
+    assert_eq!(rt; head.stamp().as_slice(), b"20160919172024".as_slice());
+    Ok(())
+}
