@@ -1,12 +1,13 @@
 -- What a piece of a head does to the reading of it.
-use Rattle.std.proofs.Common.{◌≡◌, ◌∙◌, ℕ, ◌+◌, ◌-◌, ◌<◌, ◌≤◌, List, [], ◌++◌, Option, None, Some, Result, Ok, Err, true, false, length, take, drop, arith, sym, ap, subst, append_assoc, length-append, inl, inr}
+use Rattle.std.proofs.Common.{◌≡◌, ◌∙◌, ℕ, ◌+◌, ◌-◌, ◌<◌, ◌≤◌, List, [], ◌++◌, Option, None, Some, Result, Ok, Err, true, false, length, take, drop, nat_lt, arith, sym, ap, subst, append_assoc, length-append, inl, inr}
+use Rattle.std.proofs.lemmas.Bool.Decides.{nat_tests}
 use Rattle.std.specs.Io.KnownBytes.{IsAtEnd, prepend_known}
 use Rattle.std.proofs.lemmas.Grind.{common_steps}
-use Rattle.std.proofs.lemmas.List.{take-append-drop, length-take-le}
+use Rattle.std.proofs.lemmas.List.{take-append-drop, length-take-le, take-append-le}
 use Rattle.warc_core.specs.declared.fault.Cause.{Cause}
 use Rattle.warc_core.specs.declared.fault.Cause.TheVariants as causes
 use Rattle.warc_core.specs.Reading.{Reads, GoesOn, IsFoundIn}
-use Rattle.warc_core.specs.Record.{has_version, is_closed, head_text, ClosesFirst}
+use Rattle.warc_core.specs.Record.{has_version, is_closed, head_text, IsFoundHead, IsOpenAfter, ClosesFirst}
 use Rattle.warc_core.proofs.ReadingLemmas.{GoesOn-fault, GoesOn-done, GoesOn-held, none_known}
 use Rattle.warc_core.proofs.HeadLemmas.{going, going-end, going-full, going-found, going-wrong, going-gathered, take-behind, has_version-longer, which}
 
@@ -74,3 +75,29 @@ module _ (limit : ℕ) (seen b : List ℕ) (before left : Option (List ℕ)) (un
       GoesOn-done (head_text limit) (going limit (take end new)) (take end new) before (prepend_known (drop k b) left)
       (head-piece k (take end new) (omega (arith, small, c)) front (λ j p q. ap is_closed (take-take-le j end new (omega (arith, q, longer))) ∙ h.first j p (omega (arith, q, longer))) (omega (arith, small, l)))
       (λ w. going-found limit (take end new) w h.closed (has_version-take end new agree))
+
+-- a front of what was seen, or a longer one
+open-or-more : (seen piece new : List ℕ) (end : ℕ) → new ≡ seen ++ piece → ((n : ℕ) → n ≤ length seen → is_closed (take n seen) ≡ false) → ((n : ℕ) → length seen < n → n < end → is_closed (take n new) ≡ false) → (n : ℕ) → n < end → is_closed (take n new) ≡ false
+open-or-more seen piece new end e before behind n l =
+    elim (which (nat_lt (length seen) n)) [
+      | inl t ↦ behind n (grind (arith, nat_tests)) l
+      | inr f ↦ (let within : n ≤ length seen = grind (arith, nat_tests) in ap (λ t. is_closed (take n t)) e ∙ (ap is_closed (take-append-le n seen piece within) ∙ before n within))
+    ]
+
+-- no front of what was seen ends a head, nor does one of what was added
+pub open-more : (seen piece new : List ℕ) → new ≡ seen ++ piece → ((n : ℕ) → n ≤ length seen → is_closed (take n seen) ≡ false) → IsOpenAfter new (length seen) → (n : ℕ) → n ≤ length new → is_closed (take n new) ≡ false
+open-more seen piece new e before after n l = open-or-more seen piece new (length new + 1) e before (λ k p q. after k p (omega (arith, q))) n (omega (arith, l))
+
+-- the text that was gathered is a head
+pub head-is-found : (limit : ℕ) (seen b new : List ℕ) (count end : ℕ) → count ≤ length b → new ≡ seen ++ take count b → ((n : ℕ) → n ≤ length seen → is_closed (take n seen) ≡ false) → ClosesFirst new (length seen) end → length seen + count ≤ limit → has_version new ≡ true → IsFoundHead limit (take end new)
+head-is-found limit seen b new count end c e before h room agree =
+    let within = h.within in
+    let size : length (take end new) ≡ end = length-take-le end new within in
+    let long : length new ≡ length seen + count = ap length e ∙ (length-append seen (take count b) ∙ ap (λ n. length seen + n) (length-take-le count b c)) in
+    record {
+      version = has_version-take end new agree;
+      closed = h.closed;
+      first = λ n l. let small : n < end = omega (arith, size, l) in
+          ap is_closed (take-take-le n end new (omega (arith, small))) ∙ open-or-more seen (take count b) new end e before h.first n small;
+      small = omega (arith, size, within, long, room);
+    }

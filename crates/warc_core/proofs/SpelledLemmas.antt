@@ -8,13 +8,12 @@ use Rattle.std.proofs.lemmas.List.{length-take-le}
 use Rattle.warc_core.specs.declared.fault.Cause.{Cause}
 use Rattle.warc_core.specs.declared.fault.Cause.TheVariants as causes
 use Rattle.warc_head.specs.Parts.{HeadParts}
-use Rattle.warc_core.specs.Record.{after_text, after_block, after_record, shortest, found_head, head_text, has_version, is_closed, closing}
+use Rattle.warc_core.specs.Record.{after_text, after_block, after_record, shortest, found_head, head_text, has_version, is_closed, closing, IsFoundHead}
 use Rattle.warc_core.specs.Reading.{◌>>=◌}
 use Rattle.warc_core.specs.Head.{parts_of}
 use Rattle.warc_core.specs.HeadView.{HeadView, record_length}
 use Rattle.warc_core.specs.Next.{head_at, next_at}
 use Rattle.warc_core.specs.Walk.{record_at, closed_at, Walks}
-use Rattle.warc_core.specs.RecordText.{IsHeadText}
 use Rattle.warc_core.specs.Laws.{ReadIsSpelled, SpelledIsRead, NoPrefix, RecordsOrDamage}
 use Rattle.warc_core.proofs.GatherLemmas.{has_version-front}
 use Rattle.warc_core.proofs.WalkLemmas.{none_at_end}
@@ -102,7 +101,7 @@ shortest-first test seen (b ∷ bytes) head e n l m =
     ]
 
 -- a head text is read, whatever follows
-head-back : (limit : ℕ) (raw x : List ℕ) → IsHeadText limit raw → head_text limit (raw ++ x) ≡ Ok (raw, x)
+head-back : (limit : ℕ) (raw x : List ℕ) → IsFoundHead limit raw → head_text limit (raw ++ x) ≡ Ok (raw, x)
 head-back limit raw x h =
     going-start limit (raw ++ x)
     ∙ (going-piece limit [] raw x (λ j k. h.first j k) (let s = h.small in omega (arith, s))
@@ -117,7 +116,7 @@ found_some limit bytes raw rest (Some head) e = let p = answered head raw (drop 
 found_some limit bytes raw rest None e = absurd (no_head (nat_lt (length bytes) limit) causes.ShortHead causes.HeadTooLong (raw, rest) e)
 
 -- what is read as a head is a head text, and the rest follows it
-pub head-there : (limit : ℕ) (bytes raw rest : List ℕ) → head_text limit bytes ≡ Ok (raw, rest) → IsHeadText limit raw × (bytes ≡ raw ++ rest)
+pub head-there : (limit : ℕ) (bytes raw rest : List ℕ) → head_text limit bytes ≡ Ok (raw, rest) → IsFoundHead limit raw × (bytes ≡ raw ++ rest)
 unfolding head_text
 head-there limit bytes raw rest e =
     elim (which (has_version bytes)) [
@@ -221,12 +220,12 @@ read-spelled limit start bytes rest h e =
     w.1 ∙ (ap (λ x. h.raw ++ x) b.2 ∙ sym (append_assoc h.raw (block ++ closing) rest ∙ ap (λ x. h.raw ++ x) (append_assoc block closing rest))) in (
       block,
       h.raw ++ (block ++ closing),
-      record { is_text = record { spelled = refl; is_head = w.0; says = r.1; block_length = b.1 }; start_is = r.2; fits = r.3 },
+      record { is_text = record { spelled = refl; is_head = record { found = w.0; says = r.1 }; block_length = b.1 }; start_is = r.2; fits = r.3 },
       spelling,
     )
 
 -- a head that is there
-head-read-back : (limit start : ℕ) (h : HeadView) (x : List ℕ) → IsHeadText limit h.raw → parts_of h.raw ≡ Ok h.parts → h.start ≡ start → start + record_length h ≤ 2 ^ 63 - 1 → head_at limit start (h.raw ++ x) ≡ Ok (h, x)
+head-read-back : (limit start : ℕ) (h : HeadView) (x : List ℕ) → IsFoundHead limit h.raw → parts_of h.raw ≡ Ok h.parts → h.start ≡ start → start + record_length h ≤ 2 ^ 63 - 1 → head_at limit start (h.raw ++ x) ≡ Ok (h, x)
 unfolding head_at
 head-read-back limit start h x t p s f =
     let e = head-back limit h.raw x t in
@@ -244,7 +243,7 @@ spelled-read limit start h block text rest r =
     let t = r.is_text in
     let x = block ++ (closing ++ rest) in
     let whole : text ++ rest ≡ h.raw ++ x = ap (λ y. y ++ rest) t.spelled ∙ (append_assoc h.raw (block ++ closing) rest ∙ ap (λ y. h.raw ++ y) (append_assoc block closing rest)) in
-    let head = head-read-back limit start h x t.is_head t.says r.start_is r.fits in
+    let head = head-read-back limit start h x t.is_head.found t.is_head.says r.start_is r.fits in
     let some : 0 < length (h.raw ++ x) = omega (arith, length-append h.raw x, length-append block (closing ++ rest), length-append closing rest) in
     let next = next-back limit start (h.raw ++ x) x h some head in
     let b : after_record h.parts.length x ≡ Ok (tt, rest) = ap (λ n. after_record n x) (sym t.block_length) ∙ block-back block rest in
@@ -254,11 +253,11 @@ pub no-prefix : NoPrefix
 no-prefix limit head head' parts parts' block block' text more t u =
     let a : text ++ more ≡ head ++ ((block ++ closing) ++ more) = ap (λ y. y ++ more) t.spelled ∙ append_assoc head (block ++ closing) more in
     let b : text ++ more ≡ head' ++ (block' ++ closing) = u.spelled in
-    let p = head-back limit head ((block ++ closing) ++ more) t.is_head in
-    let q = head-back limit head' (block' ++ closing) u.is_head in
+    let p = head-back limit head ((block ++ closing) ++ more) t.is_head.found in
+    let q = head-back limit head' (block' ++ closing) u.is_head.found in
     let same : ◌≡◌ {A = Result (List ℕ × List ℕ) Cause} (Ok (head, (block ++ closing) ++ more)) (Ok (head', block' ++ closing)) = sym p ∙ (ap (head_text limit) (sym a ∙ b) ∙ q) in
     let r = answered head head' ((block ++ closing) ++ more) (block' ++ closing) same in
-    let says : ◌≡◌ {A = Result HeadParts Cause} (Ok parts) (Ok parts') = sym t.says ∙ (ap parts_of r.0 ∙ u.says) in
+    let says : ◌≡◌ {A = Result HeadParts Cause} (Ok parts) (Ok parts') = sym t.is_head.says ∙ (ap parts_of r.0 ∙ u.is_head.says) in
     let is : parts ≡ parts' = cc in
     let size : length block ≡ length block' = t.block_length ∙ (ap (λ k. k.length) is ∙ sym u.block_length) in
     let sizes : length ((block ++ closing) ++ more) ≡ length (block' ++ closing) = ap length r.1 in

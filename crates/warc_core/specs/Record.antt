@@ -60,6 +60,13 @@ unfoldable pub shortest : (List ℕ → Bool) → List ℕ → List ℕ → Opti
 shortest test seen [] = if test seen then Some seen else None
 shortest test seen (b ∷ bytes) = if test seen then Some seen else shortest test (seen ++ b ∷ []) bytes
 
+-- a text that begins with a version line, and ends with its first CR LF CR LF
+pub record IsFoundHead (limit : ℕ) (text : List ℕ) : Type 0 where
+  pub version : has_version text ≡ true
+  pub closed : is_closed text ≡ true
+  pub first : (n : ℕ) → n < length text → is_closed (take n text) ≡ false
+  pub small : length text ≤ limit
+
 -- the shortest front that ends with CR LF CR LF, within the limit
 abbrev pub found_head : ℕ → List ℕ → Option (List ℕ) → Result (List ℕ × List ℕ) Cause
 found_head limit bytes (Some head) = Ok (head, drop (length head) bytes)

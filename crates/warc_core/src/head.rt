@@ -17,23 +17,27 @@ pub struct Head {
 }
 
 impl Model for Head {
-    ghost use Rattle.warc_core.specs.HeadView.{HeadView, IsWithinOffsets};
+    ghost use Rattle.warc_core.specs.declared.next.TheConstants.{HEAD_LIMIT};
+    ghost use Rattle.warc_core.specs.HeadView.{HeadView};
+    ghost use Rattle.warc_core.specs.RecordText.{IsHead};
 
     ghost Value = { HeadView };
 
     ghost view = { λ h. record { start = h.start; raw = h.raw.items; parts = h.parts } };
 
-    ghost invariant = { λ h. IsWithinOffsets (record { start = h.start; raw = h.raw.items; parts = h.parts }) };
+    ghost invariant = { λ h. IsHead HEAD_LIMIT (record { start = h.start; raw = h.raw.items; parts = h.parts }) };
 }
 
 impl Head {
     ghost use Rattle.std.specs.Prelude.{MatchOption, None, Some, true};
     ghost use Rattle.warc_head.specs.Fields.{value_of};
     ghost use Rattle.warc_head.specs.Length.{all_digits};
+    ghost use Rattle.warc_core.specs.declared.next.TheConstants.{HEAD_LIMIT};
     ghost use Rattle.warc_core.specs.HeadView.{record_length, IsWithinOffsets};
+    ghost use Rattle.warc_core.specs.RecordText.{IsHead};
 
     pub(crate) fn from_parts(start: u64, raw: Vec<u8>, parts: Parts) -> Head
-        requires { IsWithinOffsets (record { start = start; raw = raw.items; parts = parts }) }
+        requires { IsHead HEAD_LIMIT (record { start = start; raw = raw.items; parts = parts }) }
         ensures { result ≡ record { start = start; raw = raw.items; parts = parts } }
     {
         Head { start, raw, parts }
@@ -85,7 +89,8 @@ impl Head {
 
     /// The head as it is stored, from the version line to the empty line.
     pub fn raw(&self) -> &[u8]
-        ensures { result.now ≡ self.now.raw }
+        ensures value { result.now ≡ self.now.raw }
+        ensures said { IsHead HEAD_LIMIT self.now }
     {
         self.raw.as_slice()
     }

@@ -2,7 +2,7 @@
 ghost use Rattle.std.specs.Prelude.{◌≡◌, Option, ℕ, ◌+◌, ◌-◌, ◌<◌, ◌≤◌, List, [], length, drop, take, IfOk, IfErr, OnOk, MatchResult, MatchOption};
 ghost use Rattle.std.specs.Io.KnownBytes.{Keeps, IsAtEnd, prepend_known, ReadConsumes};
 ghost use Rattle.warc_core.specs.Reading.{Reads, CountsRead, seen_as};
-ghost use Rattle.warc_core.specs.Record.{agrees, has_version, head_text, IsOpenAfter, ClosesFirst};
+ghost use Rattle.warc_core.specs.Record.{agrees, has_version, head_text, IsFoundHead, IsOpenAfter, ClosesFirst};
 
 use crate::fault::Cause;
 use devices::{Buffer, Input};
@@ -48,6 +48,7 @@ pub fn gather_head<I: Input>(
     limit: usize,
 ) -> Result<Vec<u8>, Cause>
     requires { 10 ≤ limit }
+    ensures found { IfOk result (λ v. IsFoundHead limit v.items) }
     ensures bytes { Reads (head_text limit) (seen_as (λ v. v.items) result) (prepend_known buffer.old (I.remaining input.old)) (prepend_known buffer.new (I.remaining input.new)) }
     ensures failures { CountsRead (seen_as (λ v. v.items) result) (I.failures input.old) (I.failures input.new) }
 {

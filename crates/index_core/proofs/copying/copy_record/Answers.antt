@@ -8,20 +8,20 @@ use Rattle.index_core.proofs.copying.copy_record.Goals as goal
 pub returns-in_err-put_bytes-clause-copies : goal.returns-in_err-put_bytes-clause-copies
 returns-in_err-put_bytes-clause-copies g c =
     let p = err_from_is_err_and c.from_residual.result c.from_residual.ensures.1 in
-    let e = rw c.raw.ensures at c.in_err-put_bytes.ensures.err in
+    let e = rw c.raw.ensures.value at c.in_err-put_bytes.ensures.err in
     rw (p.1, p.2) (head-cut c.args.head.now _ _ c.in_err-put_bytes.field-0.0 _ _ e.0 e.1)
 
 pub returns-in_err-copy_block-clause-copies : goal.returns-in_err-copy_block-clause-copies
 returns-in_err-copy_block-clause-copies g c =
     let p = err_from_is_err_and c.from_residual-in_err-copy_block.result c.from_residual-in_err-copy_block.ensures.1 in
     let h = c.args.head.now in
-    let head = rw c.raw.ensures at c.in_ok-put_bytes.ensures.bytes in
+    let head = rw c.raw.ensures.value at c.in_ok-put_bytes.ensures.bytes in
     rw (p.1, p.2) (block-cut h _ _ _ _ _ _ _ c.requires.offset_is head c.in_err-copy_block.field-0.0 _ (c.in_err-copy_block.ensures.copies h.parts.length (record_length h) c.requires.phase_is))
 
 pub returns-in-Err-clause-copies : goal.returns-in-Err-clause-copies
 returns-in-Err-clause-copies g c =
     let h = c.args.head.now in
-    let head = rw c.raw.ensures at c.in_ok-put_bytes.ensures.bytes in
+    let head = rw c.raw.ensures.value at c.in_ok-put_bytes.ensures.bytes in
     let block = c.in_ok-copy_block.ensures.copies h.parts.length (record_length h) c.requires.phase_is in
     finish-cut h _ _ _ _ _ _ _ c.requires.offset_is head block _ _ _ _ c.in-Err.fault (c.in-Err.ensures.open 0 (record_length h) block.ends.2.phase_is)
 
@@ -35,7 +35,7 @@ pub returns-in_err-put_bytes-in-Ok-clause-copies : goal.returns-in_err-put_bytes
 returns-in_err-put_bytes-in-Ok-clause-copies g c =
     let p = err_from_is_err_and c.from_residual-in_err-put_bytes-in-Ok.result c.from_residual-in_err-put_bytes-in-Ok.ensures.1 in
     let h = c.args.head.now in
-    let head = rw c.raw.ensures at c.in_ok-put_bytes.ensures.bytes in
+    let head = rw c.raw.ensures.value at c.in_ok-put_bytes.ensures.bytes in
     let block = c.in_ok-copy_block.ensures.copies h.parts.length (record_length h) c.requires.phase_is in
     let e = c.in_err-put_bytes-in-Ok.ensures.err in
     rw (p.1, p.2) (closing-cut h _ _ _ _ _ _ _ c.requires.offset_is head block _ _ _ _ _ c.in-Ok.length (c.in-Ok.ensures.open 0 (record_length h) block.ends.2.phase_is) c.in_err-put_bytes-in-Ok.field-0.0 e.0 e.1)
@@ -50,7 +50,7 @@ returns-in_err-put_bytes-in-Ok-clause-reads g c =
 pub returns-in_ok-put_bytes-in-Ok-clause-copies : goal.returns-in_ok-put_bytes-in-Ok-clause-copies
 returns-in_ok-put_bytes-in-Ok-clause-copies g c =
     let h = c.args.head.now in
-    let head = rw c.raw.ensures at c.in_ok-put_bytes.ensures.bytes in
+    let head = rw c.raw.ensures.value at c.in_ok-put_bytes.ensures.bytes in
     let block = c.in_ok-copy_block.ensures.copies h.parts.length (record_length h) c.requires.phase_is in
     record-copied h _ _ _ _ _ _ _ c.requires.offset_is head block _ _ _ _ _ c.in-Ok.length (c.in-Ok.ensures.open 0 (record_length h) block.ends.2.phase_is) c.in_ok-put_bytes-in-Ok.ensures.bytes
 

@@ -1,15 +1,17 @@
 use Rattle.std.proofs.Common.{◌≡◌, ◌∙◌, ◌+◌, ◌<◌, ◌≤◌, [], ◌++◌, length, take, arith, sym, ap, refl, length-append}
 use Rattle.std.proofs.lemmas.List.{take_all, length-take-le}
+use Rattle.std.proofs.Math.Seq.{take-nil}
 use Rattle.warc_core.specs.Record.{has_version, is_closed, head_text, ClosesFirst, IsOpenAfter}
 use Rattle.warc_core.proofs.ReadingLemmas.{GoesOn-equal, GoesOn-keeps, no_bytes, some_bytes}
 use Rattle.warc_core.proofs.HeadLemmas.{going, going-start}
-use Rattle.warc_core.proofs.GatherLemmas.{head-short, head-long, head-wrong, head-piece, head-found}
+use Rattle.warc_core.proofs.GatherLemmas.{head-short, head-long, head-wrong, head-piece, head-found, head-is-found, open-more}
 use Rattle.warc_core.proofs.head_text.gather_head.Goals as goal
 
 pub loop-buffer-init : goal.loop-buffer-init
 loop-buffer-init g c = rw c.new-head.ensures.items (record {
   short = omega arith;
   unclosed = refl;
+  open_so_far = λ n l. ap is_closed (take-nil n);
   agree = refl;
   same = GoesOn-equal (head_text c.args.limit) (going c.args.limit []) _ (going-start c.args.limit);
   failures = refl;
@@ -27,6 +29,18 @@ returns-then-not-has_version-clause-bytes g c =
     head-wrong c.args.limit c.loop-buffer.head.items c.fill.new.self _ _ c.loop-buffer.invariant.unclosed same _ c.min-count.result c.extend_from_slice.new.self.items
     (c.in_ok-extend_from_slice.ensures.items ∙ ap (λ h. c.loop-buffer.head.items ++ take c.min-count.result h) c.as_slice-held.ensures)
     (ap has_version (sym c.as_slice.ensures.value) ∙ sym c.if-not-has_version.ensures)
+
+pub returns-in-Some-clause-found : goal.returns-in-Some-clause-found
+returns-in-Some-clause-found g c =
+    let from : c.len-before.result ≡ length c.loop-buffer.head.items = omega (arith, c.len-before.ensures) in
+    let closes : ClosesFirst c.extend_from_slice.new.self.items (length c.loop-buffer.head.items) c.in-Some.end = rw (c.as_slice-in-loop-buffer.ensures.value, from) at c.in-Some.ensures in
+    let held : length c.as_slice-held.result.now ≡ length c.fill.new.self = ap length c.as_slice-held.ensures in
+    let new : c.extend_from_slice.new.self.items ≡ c.loop-buffer.head.items ++ take c.min-count.result c.fill.new.self =
+    c.in_ok-extend_from_slice.ensures.items ∙ ap (λ h. c.loop-buffer.head.items ++ take c.min-count.result h) c.as_slice-held.ensures in
+    let few : c.min-count.result ≤ length c.fill.new.self = omega (arith, c.min-count.ensures, c.min.ensures, held) in
+    let room : length c.loop-buffer.head.items + c.min-count.result ≤ c.args.limit = omega (arith, c.min-count.ensures, c.min.ensures, c.loop-buffer.invariant.short) in
+    rw c.truncate.ensures.items (head-is-found c.args.limit c.loop-buffer.head.items c.fill.new.self c.extend_from_slice.new.self.items c.min-count.result c.in-Some.end few new c.loop-buffer.invariant.open_so_far closes room
+    (ap has_version (sym c.as_slice.ensures.value) ∙ sym c.if-not-has_version.ensures))
 
 pub returns-in-Some-clause-bytes : goal.returns-in-Some-clause-bytes
 returns-in-Some-clause-bytes g c =
@@ -57,6 +71,7 @@ loop-buffer-preserved g c =
     record {
       short = omega (arith, len, room);
       unclosed = ap is_closed (sym (take_all (length c.extend_from_slice.new.self.items) c.extend_from_slice.new.self.items (omega arith))) ∙ unended (length c.extend_from_slice.new.self.items) (omega (arith, len, c.min-count.ensures, c.min.ensures, some, held)) (omega arith);
+      open_so_far = open-more c.loop-buffer.head.items (take c.min-count.result c.fill.new.self) c.extend_from_slice.new.self.items new c.loop-buffer.invariant.open_so_far unended;
       agree = ap has_version (sym c.as_slice.ensures.value) ∙ sym c.if-not-has_version.ensures;
       same = rw c.consume-in-None.ensures (head-piece c.args.limit c.loop-buffer.head.items c.fill.new.self _ _ c.loop-buffer.invariant.unclosed same c.min-count.result c.extend_from_slice.new.self.items few new
           (λ n p q. unended n p (omega (arith, len, q))) room);

@@ -1,4 +1,4 @@
-use Rattle.std.proofs.Common.{◌≡◌, ◌≤◌, ◌-◌, true, false, length}
+use Rattle.std.proofs.Common.{◌≡◌, ℕ, ◌≤◌, ◌-◌, true, false, length, take}
 use Rattle.std.specs.Io.KnownBytes.{prepend_known}
 use Rattle.warc_core.specs.Reading.{GoesOn}
 use Rattle.warc_core.specs.Record.{has_version, is_closed, head_text}
@@ -9,6 +9,7 @@ abbrev pub invariant-loop-buffer : goal.invariant-loop-buffer
 invariant-loop-buffer g l = record {
   short : length l.head.items ≤ l.limit;
   unclosed : is_closed l.head.items ≡ false;
+  open_so_far : (n : ℕ) → n ≤ length l.head.items → is_closed (take n l.head.items) ≡ false;
   agree : has_version l.head.items ≡ true;
   same : GoesOn (head_text l.limit) (going l.limit l.head.items) (prepend_known l.fn.buffer (g.I.Input.remaining l.fn.input)) (prepend_known l.buffer (g.I.Input.remaining l.input));
   failures : g.I.Input.failures l.input ≡ g.I.Input.failures l.fn.input;
