@@ -13,10 +13,14 @@ use Rattle.warc_core.specs.declared.fault.Cause.TheVariants as causes
 use Rattle.warc_core.specs.declared.fault.Fault.{Fault}
 use Rattle.warc_core.specs.declared.phase.Phase.TheVariants.{Between}
 use Rattle.warc_core.specs.HeadView.{HeadView, record_length}
-use Rattle.warc_core.specs.Reading.{◌>>=◌, Reads, GoesOn, IsFoundAt, CountsRead}
-use Rattle.warc_core.specs.ReaderView.{ReaderView, StandsAt, FailedBy, Finishes}
+use Rattle.warc_core.specs.Reading.{◌>>=◌, Reads, IsFoundAt}
+use Rattle.warc_core.proofs.ReadingLemmas.{GoesOn, GoesOn-start, GoesOn-reads, IsFoundIn-bind}
+use Rattle.warc_core.specs.Answers.{CountsRead}
+use Rattle.warc_core.specs.ReaderView.{ReaderView, StandsAt, FailedBy, state_of}
+use Rattle.warc_core.specs.Calls.{Finishes}
 use Rattle.warc_core.specs.Record.{after_block, after_record, after_text, closing}
-use Rattle.warc_core.proofs.ReadingLemmas.{GoesOn-start, GoesOn-reads, IsFoundIn-bind}
+use Rattle.warc_core.specs.Cause.{StopsRecord}
+use Rattle.warc_core.proofs.CauseLemmas.{not-memory}
 use Rattle.warc_core.proofs.RecordLemmas.{after_block-part}
 use Rattle.cdxj_core.specs.Entries.{EntryValue, IsGood, line_text}
 use Rattle.capture_core.specs.declared.fault.CaptureFault.{CaptureFault}
@@ -28,7 +32,7 @@ use Rattle.capture_core.specs.Payload.{digest_of_rest}
 use Rattle.capture_core.specs.Capture.{ResponseValue, IsHeadFor, IsCapture, IsCaptureUnder, entry_of, response_of, digest_of, settled_digest, payload_of}
 use Rattle.capture_core.specs.Captured.{read_to, reading_of, IsFaultAt, Leaves, ReadsRest, Limits, IsCaptureOf, IsFrontOf, IsEntryOf, front_limit, AnswersEntry}
 use Rattle.capture_core.proofs.HeadLemmas.{front_decides, take_past}
-use Rattle.capture_core.proofs.OpenLemmas.{GoesOn-consumes}
+use Rattle.warc_core.proofs.OpenLemmas.{GoesOn-consumes}
 use Rattle.capture_core.proofs.VerdictLemmas.{digest-then, digest-found}
 
 -- a fault that isn't a refused growth ends the reading
@@ -40,7 +44,7 @@ read_to-fault c n = refl
 
 module _ {A : Type 0} (left : ℕ) (h : HeadView) (old new : ReaderView) (before after : Option (List ℕ)) (k k' : ℕ) where
   -- an open record was read to its end, and then this was answered of it
-  pub rest-whole : (r : Result A CaptureFault) (n : ℕ) → old.offset ≡ h.start → Finishes left (record_length h) old new (Ok n) before after k k' → reading_of r ≡ Ok tt → IfErr r (IsFaultAt h.start) → ReadsRest left h old new r before after k k'
+  pub rest-whole : (r : Result A CaptureFault) (n : ℕ) → old.offset ≡ h.start → Finishes left (record_length h) (state_of old before k) (state_of new after k') (Ok n) → reading_of r ≡ Ok tt → IfErr r (IsFaultAt h.start) → ReadsRest left h (state_of old before k) (state_of new after k') r
   rest-whole r n o f own at = record {
     bytes = subst (λ x. Reads (after_record left) x (prepend_known old.held before) (prepend_known new.held after)) (sym own) f.bytes;
     state = subst (Leaves h new) (sym own) (subst (λ s. StandsAt new (s + record_length h) Between) o f.state.1);
@@ -49,8 +53,8 @@ module _ {A : Type 0} (left : ℕ) (h : HeadView) (old new : ReaderView) (before
   }
 
   -- the reader failed in what was left
-  pub rest-failed : (f : Fault) → f.cause ≢ causes.Memory → Reads (after_record left) (Err f.cause) (prepend_known old.held before) (prepend_known new.held after) → FailedBy new h.start f → CountsRead {A = Unit {0}} (Err f.cause) k k' → ReadsRest {A = A} left h old new (Err (Archive f)) before after k k'
-  rest-failed f m b s c = record {
+  pub rest-failed : (f : Fault) → StopsRecord f.cause → Reads (after_record left) (Err f.cause) (prepend_known old.held before) (prepend_known new.held after) → FailedBy new h.start f → CountsRead {A = Unit {0}} (Err f.cause) k k' → ReadsRest {A = A} left h (state_of old before k) (state_of new after k') (Err (Archive f))
+  rest-failed f stops b s c = let m = not-memory f.cause stops in record {
     bytes = subst (λ x. Reads (after_record left) x (prepend_known old.held before) (prepend_known new.held after)) (sym (read_to-fault f.cause m)) b;
     state = subst (Leaves h new) (sym (read_to-fault f.cause m)) s.stands;
     fault = s.at;
@@ -58,7 +62,7 @@ module _ {A : Type 0} (left : ℕ) (h : HeadView) (old new : ReaderView) (before
   }
 
 -- reading goes on after what was read of the block
-pub rest-behind : {A : Type 0} (left left' : ℕ) (h : HeadView) (old mid new : ReaderView) (r : Result A CaptureFault) (before between after : Option (List ℕ)) (k l k' : ℕ) → GoesOn (after_record left) (after_record left') (prepend_known old.held before) (prepend_known mid.held between) → l ≡ k → ReadsRest left' h mid new r between after l k' → ReadsRest left h old new r before after k k'
+pub rest-behind : {A : Type 0} (left left' : ℕ) (h : HeadView) (old mid new : ReaderView) (r : Result A CaptureFault) (before between after : Option (List ℕ)) (k l k' : ℕ) → GoesOn (after_record left) (after_record left') (prepend_known old.held before) (prepend_known mid.held between) → l ≡ k → ReadsRest left' h (state_of mid between l) (state_of new after k') r → ReadsRest left h (state_of old before k) (state_of new after k') r
 rest-behind left left' h old mid new r before between after k l k' g e s = record {
   bytes = GoesOn-reads (after_record left) (after_record left') (reading_of r) _ _ _ g s.bytes;
   state = s.state;

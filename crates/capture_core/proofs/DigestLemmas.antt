@@ -6,15 +6,18 @@ use Rattle.sha1.specs.declared.Sha1.{Sha1}
 use Rattle.sha1.specs.Sha1.{Holds, sha1}
 use Rattle.warc_core.specs.declared.fault.Cause.TheVariants as causes
 use Rattle.warc_core.specs.declared.phase.Phase.TheVariants.{Open}
-use Rattle.warc_core.specs.Reading.{GoesOn, IsFoundAt, CountsRead}
+use Rattle.warc_core.proofs.ReadingLemmas.{GoesOn, GoesOn-start, GoesOn-done, GoesOn-fault, IsFoundIn-bind}
+use Rattle.warc_core.specs.Reading.{IsFoundAt}
+use Rattle.warc_core.specs.Answers.{CountsRead}
 use Rattle.warc_core.specs.Record.{after_block}
-use Rattle.warc_core.specs.ReaderView.{ReaderView, StandsAt, FailedBy, GivesBlock}
+use Rattle.warc_core.specs.ReaderView.{ReaderView, StandsAt, FailedBy, state_of}
+use Rattle.warc_core.specs.Calls.{GivesBlock, ReadsTo}
 use Rattle.warc_core.specs.declared.fault.Fault.{Fault}
-use Rattle.warc_core.proofs.ReadingLemmas.{GoesOn-start, GoesOn-done, GoesOn-fault, IsFoundIn-bind}
+use Rattle.warc_core.proofs.CauseLemmas.{stops-record}
 use Rattle.warc_core.proofs.RecordLemmas.{after_block-part, after_block-zero}
-use Rattle.capture_core.specs.Payload.{digest_of_rest, ReadsTo}
+use Rattle.capture_core.specs.Payload.{digest_of_rest}
 use Rattle.capture_core.proofs.HeadLemmas.{take_past}
-use Rattle.capture_core.proofs.OpenLemmas.{GoesOn-consumes, CountsRead-as}
+use Rattle.warc_core.proofs.OpenLemmas.{GoesOn-consumes, CountsRead-as}
 
 -- what a hasher took of an open record's block, of which rest bytes are left, and where the reader stands
 pub record Digesting (left len rest : ℕ) (start : List ℕ) (old now : ReaderView) (before mid : Option (List ℕ)) (hasher : Sha1) : Type 0 where
@@ -35,7 +38,7 @@ digest-part n m taken piece more l h =
     rw (e, drop_piece n piece l, part, append_assoc taken piece (take (m - n) more)) refl
 
 module _ (left len rest : ℕ) (start : List ℕ) (old now next : ReaderView) (before mid after : Option (List ℕ)) (hasher : Sha1) (d : Digesting left len rest start old now before mid hasher) where
-  pub Digesting-more : (hasher' : Sha1) (n : ℕ) (piece : List ℕ) (k k' : ℕ) → GivesBlock rest len now next (Ok n) piece mid after k k' → ((m : List ℕ) → Holds hasher m → Holds hasher' (m ++ take n piece)) → Digesting left len (rest - n) start old next before after hasher'
+  pub Digesting-more : (hasher' : Sha1) (n : ℕ) (piece : List ℕ) (k k' : ℕ) → GivesBlock rest len (state_of now mid k) (state_of next after k') (Ok n) piece → ((m : List ℕ) → Holds hasher m → Holds hasher' (m ++ take n piece)) → Digesting left len (rest - n) start old next before after hasher'
   Digesting-more hasher' n piece k k' g more = record {
     taken = d.taken ++ take n piece;
     holds = more d.taken d.holds;
@@ -44,13 +47,13 @@ module _ (left len rest : ℕ) (start : List ℕ) (old now next : ReaderView) (b
         (λ w. digest-part n rest d.taken (take n piece) w (length-take-le n piece g.bound.1) g.bound.0) d.same g.bytes;
   }
 
-  pub Digesting-fault : (fault : Fault) (piece : List ℕ) (count k k' : ℕ) → GivesBlock rest len now next (Err fault) piece mid after k k' → fault.cause ≢ causes.Memory → k ≡ count → ReadsTo (digest_of_rest left start) old.offset (Open 0 len) old next (Err fault) before after count k'
+  pub Digesting-fault : (fault : Fault) (piece : List ℕ) (count k k' : ℕ) → GivesBlock rest len (state_of now mid k) (state_of next after k') (Err fault) piece → k ≡ count → ReadsTo (digest_of_rest left start) old.offset (Open 0 len) (state_of old before count) (state_of next after k') (Err fault)
   unfolding digest_of_rest
-  Digesting-fault fault piece count k k' g only e = record {
+  Digesting-fault fault piece count k k' g e = record {
     bytes = GoesOn-fault (digest_of_rest left start) (digest_of_rest rest d.taken) fault.cause _ _ _ d.same
         (λ w known. IsFoundIn-bind fault.cause (after_block rest w) (λ later. Ok (sha1 (d.taken ++ take rest w), later.1)) (subst (IsFoundAt (after_block rest) fault.cause) known g.bytes));
     state = subst (λ o. FailedBy next o fault) d.stands.offset_is g.state;
-    only = only;
+    cause = stops-record fault.cause g.cause;
     failures = subst (λ c. CountsRead {A = List ℕ} (Err fault.cause) c k') e (CountsRead-as (Unit {0}) (List ℕ) fault.cause k k' g.failures);
   }
 
@@ -66,11 +69,11 @@ Digesting-start left len start old before hasher e h = record {
   same = GoesOn-start (digest_of_rest left start) (prepend_known old.held before);
 }
 
-pub Digesting-end : (left len : ℕ) (start : List ℕ) (old now : ReaderView) (before mid : Option (List ℕ)) (hasher : Sha1) → Digesting left len 0 start old now before mid hasher → (digest : List ℕ) → ((m : List ℕ) → Holds hasher m → digest ≡ sha1 m) → (k k' : ℕ) → k' ≡ k → ReadsTo (digest_of_rest left start) old.offset (Open 0 len) old now (Ok digest) before mid k k'
+pub Digesting-end : (left len : ℕ) (start : List ℕ) (old now : ReaderView) (before mid : Option (List ℕ)) (hasher : Sha1) → Digesting left len 0 start old now before mid hasher → (digest : List ℕ) → ((m : List ℕ) → Holds hasher m → digest ≡ sha1 m) → (k k' : ℕ) → k' ≡ k → ReadsTo (digest_of_rest left start) old.offset (Open 0 len) (state_of old before k) (state_of now mid k') (Ok digest)
 Digesting-end left len start old now before mid hasher d digest finished k k' e = record {
   bytes = GoesOn-done (digest_of_rest left start) (digest_of_rest 0 d.taken) digest _ _ d.same
       (λ w. rw (finished d.taken d.holds) (digest-none d.taken w));
   state = record { offset_is = d.stands.offset_is; phase_is = d.stands.phase_is };
-  only = tt;
+  cause = tt;
   failures = e;
 }

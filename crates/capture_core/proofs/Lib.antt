@@ -1,8 +1,6 @@
 pub mod Bits
 pub mod HeadLemmas
-pub mod OpenLemmas
 pub mod DigestLemmas
-pub mod FrontLemmas
 pub mod VerdictLemmas
 pub mod ShortLines
 pub mod GoodEntries

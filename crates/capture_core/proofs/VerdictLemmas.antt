@@ -7,11 +7,12 @@ use Rattle.warc_core.specs.declared.fault.Fault.{Fault}
 use Rattle.warc_core.specs.declared.phase.Phase.TheVariants.{Between}
 use Rattle.warc_core.specs.Reading.{◌>>=◌, Reads, IsFoundIn}
 use Rattle.warc_core.specs.Record.{after_block, after_text, after_record, closing}
-use Rattle.warc_core.specs.ReaderView.{ReaderView}
+use Rattle.warc_core.specs.ReaderView.{ReaderView, state_of}
 use Rattle.warc_core.proofs.ReadingLemmas.{answered, IsFoundIn-bind}
 use Rattle.warc_core.proofs.RecordLemmas.{after_block-zero}
 use Rattle.capture_core.specs.declared.verdict.Verdict.{Verdict}
-use Rattle.capture_core.specs.Payload.{digest_of_rest, ReadsTo}
+use Rattle.capture_core.specs.Payload.{digest_of_rest}
+use Rattle.warc_core.specs.Calls.{ReadsTo}
 use Rattle.capture_core.specs.BlockDigest.{judge_record}
 
 -- what is found of the record is found of its block's verdict
@@ -87,6 +88,6 @@ compare-closed judge verdict left digest (Some z) (Some w) (Some v) h k e =
     judge-read judge left z v (d.0 ∙ k) ∙ ap (λ x. Ok (x, v)) (sym (e (take left z) d.1))
 
 -- the same record, by another name of the verdict and of where it ends
-pub judged-as : (judge other : List ℕ → Verdict) (left end other_end : ℕ) (old new : ReaderView) (r : Result Verdict Fault) (before after : Option (List ℕ)) (count count' : ℕ) → other ≡ judge → other_end ≡ end → ReadsTo (judge_record other left) other_end Between old new r before after count count' → ReadsTo (judge_record judge left) end Between old new r before after count count'
+pub judged-as : (judge other : List ℕ → Verdict) (left end other_end : ℕ) (old new : ReaderView) (r : Result Verdict Fault) (before after : Option (List ℕ)) (count count' : ℕ) → other ≡ judge → other_end ≡ end → ReadsTo (judge_record other left) other_end Between (state_of old before count) (state_of new after count') r → ReadsTo (judge_record judge left) end Between (state_of old before count) (state_of new after count') r
 judged-as judge other left end other_end old new r before after count count' e f h =
-    subst (λ j. ReadsTo (judge_record j left) end Between old new r before after count count') e (subst (λ o. ReadsTo (judge_record other left) o Between old new r before after count count') f h)
+    subst (λ j. ReadsTo (judge_record j left) end Between (state_of old before count) (state_of new after count') r) e (subst (λ o. ReadsTo (judge_record other left) o Between (state_of old before count) (state_of new after count') r) f h)

@@ -1,13 +1,13 @@
 -- What a call of `capture` owes.
 use Rattle.std.specs.Prelude.{◌≡◌, ℕ, ◌+◌, ◌<◌, ◌≤◌, ⊤, Bool, List, ◌++◌, length, min, take, if◌then◌else◌, Option, Some, Result, Ok, Err, IfErr, IfSome}
-use Rattle.std.specs.Io.KnownBytes.{prepend_known}
 use Rattle.warc_head.specs.declared.kind.Kind.{Kind}
 use Rattle.warc_core.specs.declared.fault.Cause.{Cause}
 use Rattle.warc_core.specs.declared.fault.Cause.TheVariants as causes
 use Rattle.warc_core.specs.declared.phase.Phase.TheVariants.{Between, Open, Failed}
 use Rattle.warc_core.specs.HeadView.{HeadView, record_length}
-use Rattle.warc_core.specs.Reading.{Reads, CountsRead}
-use Rattle.warc_core.specs.ReaderView.{ReaderView, StandsAt}
+use Rattle.warc_core.specs.Reading.{Reads}
+use Rattle.warc_core.specs.Answers.{CountsRead}
+use Rattle.warc_core.specs.ReaderView.{ReaderView, ReaderState, ahead, StandsAt}
 use Rattle.warc_core.specs.Record.{after_record}
 use Rattle.cdxj_core.specs.Entries.{EntryValue, IsGood, line_text}
 use Rattle.cdxj_core.specs.declared.limit.TheConstants.{LINE_LIMIT}
@@ -41,15 +41,15 @@ Leaves h new (Ok x) = StandsAt new (h.start + record_length h) Between
 Leaves h new (Err c) = StandsAt new h.start (Failed c)
 
 -- A call read the record to its end, of whose block so many bytes were left, or failed by what it met.
-pub record ReadsRest {A : Type 0} (left : ℕ) (h : HeadView) (old new : ReaderView) (r : Result A CaptureFault) (before after : Option (List ℕ)) (count count' : ℕ) : Type 0 where
-  pub bytes : Reads (after_record left) (reading_of r) (prepend_known old.held before) (prepend_known new.held after)
-  pub state : Leaves h new (reading_of r)
+pub record ReadsRest {A : Type 0} (left : ℕ) (h : HeadView) (old new : ReaderState) (r : Result A CaptureFault) : Type 0 where
+  pub bytes : Reads (after_record left) (reading_of r) (ahead old) (ahead new)
+  pub state : Leaves h new.reader (reading_of r)
   pub fault : IfErr r (IsFaultAt h.start)
-  pub failures : CountsRead (reading_of r) count count'
+  pub failures : CountsRead (reading_of r) old.failures new.failures
 
 -- A call read the record to its end, or failed by what it met.
-abbrev pub ReadsWhole : {A : Type 0} → HeadView → ReaderView → ReaderView → Result A CaptureFault → Option (List ℕ) → Option (List ℕ) → ℕ → ℕ → Type 0
-ReadsWhole h old new r before after count count' = ReadsRest h.parts.length h old new r before after count count'
+abbrev pub ReadsWhole : {A : Type 0} → HeadView → ReaderState → ReaderState → Result A CaptureFault → Type 0
+ReadsWhole h old new r = ReadsRest h.parts.length h old new r
 
 -- the limits of an HTTP head, in bytes and fields, and that of a line, in bytes
 pub record Limits : Type 0 where

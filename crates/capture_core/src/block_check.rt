@@ -3,9 +3,9 @@ ghost use Rattle.std.specs.Prelude.{◌≡◌, ℕ, ◌+◌, codes};
 ghost use Rattle.warc_head.specs.Fields.{value_of};
 ghost use Rattle.warc_core.specs.declared.phase.Phase.TheVariants.{Between, Open};
 ghost use Rattle.warc_core.specs.HeadView.{record_length};
-ghost use Rattle.warc_core.specs.ReaderView.{IsUnread};
+ghost use Rattle.warc_core.specs.ReaderView.{IsUnread, HasLeft, state_of};
 ghost use Rattle.sha1.specs.Sha1.{sha1};
-ghost use Rattle.capture_core.specs.Payload.{HasLeft, ReadsTo};
+ghost use Rattle.warc_core.specs.Calls.{ReadsTo};
 ghost use Rattle.capture_core.specs.BlockDigest.{verdict_of, compared, judge_record};
 
 use crate::digest::digest_rest;
@@ -23,7 +23,7 @@ pub fn block_digest<I: Input>(
     head: &Head,
 ) -> Result<Verdict, Fault>
     requires { IsUnread reader.old head.now }
-    ensures { ReadsTo (judge_record (verdict_of (value_of (codes "WARC-Block-Digest") head.now.parts.fields)) head.now.parts.length) (head.now.start + record_length head.now) Between reader.old reader.new result (I.remaining input.old) (I.remaining input.new) (I.failures input.old) (I.failures input.new) }
+    ensures { ReadsTo (judge_record (verdict_of (value_of (codes "WARC-Block-Digest") head.now.parts.fields)) head.now.parts.length) (head.now.start + record_length head.now) Between (state_of reader.old (I.remaining input.old) (I.failures input.old)) (state_of reader.new (I.remaining input.new) (I.failures input.new)) result }
 {
     match head.field(b"WARC-Block-Digest") {
         Some(value) => match sha1_text(value) {
@@ -37,7 +37,7 @@ pub fn block_digest<I: Input>(
 /// Reads what is left of the open record, whose block has this verdict without a look at it.
 fn pass<I: Input>(reader: &mut Reader, input: &mut I, verdict: Verdict) -> Result<Verdict, Fault>
     ensures { (left len : ℕ) → reader.old.phase ≡ Open left len →
-        ReadsTo (judge_record (λ _. verdict) left) (reader.old.offset + len) Between reader.old reader.new result (I.remaining input.old) (I.remaining input.new) (I.failures input.old) (I.failures input.new) }
+        ReadsTo (judge_record (λ _. verdict) left) (reader.old.offset + len) Between (state_of reader.old (I.remaining input.old) (I.failures input.old)) (state_of reader.new (I.remaining input.new) (I.failures input.new)) result }
 {
     reader.finish(input)?;
     Ok(verdict)
@@ -47,7 +47,7 @@ fn pass<I: Input>(reader: &mut Reader, input: &mut I, verdict: Verdict) -> Resul
 fn compare<I: Input>(reader: &mut Reader, input: &mut I, text: &[u8]) -> Result<Verdict, Fault>
     requires { HasLeft 0 reader.old.phase }
     ensures { (left len : ℕ) → reader.old.phase ≡ Open left len →
-        ReadsTo (judge_record (λ block. compared text.now (sha1 block)) left) (reader.old.offset + len) Between reader.old reader.new result (I.remaining input.old) (I.remaining input.new) (I.failures input.old) (I.failures input.new) }
+        ReadsTo (judge_record (λ block. compared text.now (sha1 block)) left) (reader.old.offset + len) Between (state_of reader.old (I.remaining input.old) (I.failures input.old)) (state_of reader.new (I.remaining input.new) (I.failures input.new)) result }
 {
     let digest = digest_rest(reader, input, &[])?;
     reader.finish(input)?;

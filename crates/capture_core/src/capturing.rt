@@ -3,7 +3,7 @@ ghost use Rattle.std.specs.Prelude.{◌≡◌, ◌<◌, ◌-◌, ℕ, length, So
 ghost use Rattle.std.specs.Io.KnownBytes.{prepend_known};
 ghost use Rattle.warc_core.specs.HeadView.{record_length};
 ghost use Rattle.warc_core.specs.declared.phase.Phase.TheVariants.{Open};
-ghost use Rattle.warc_core.specs.ReaderView.{IsUnread, StandsAt};
+ghost use Rattle.warc_core.specs.ReaderView.{IsUnread, StandsAt, state_of};
 ghost use Rattle.capture_core.specs.Indexed.{usual_types, url_of};
 ghost use Rattle.capture_core.specs.Capture.{entry_of};
 ghost use Rattle.capture_core.specs.ResponseView.{response_view};
@@ -13,7 +13,6 @@ use crate::capture_entry::{capture_entry, memory};
 use crate::digest::digest_rest;
 use crate::digest_text::base32;
 use crate::fault::CaptureFault;
-use crate::front::fill;
 use crate::http_head::{HTTP_HEAD_LIMIT, HttpHead};
 use crate::indexed::Indexed;
 use crate::payload::{front_buffer, part};
@@ -37,7 +36,7 @@ pub fn capture<I: Input>(
 ) -> Result<Option<Entry>, CaptureFault>
     requires unread { IsUnread reader.old head.now }
     requires named { 0 < length name.now }
-    ensures reads { ReadsWhole head.now reader.old reader.new result (I.remaining input.old) (I.remaining input.new) (I.failures input.old) (I.failures input.new) }
+    ensures reads { ReadsWhole head.now (state_of reader.old (I.remaining input.old) (I.failures input.old)) (state_of reader.new (I.remaining input.new) (I.failures input.new)) result }
     ensures capture { Captures usual_types usual_limits head.now name.now (prepend_known reader.old.held (I.remaining input.old)) result }
     ensures entry { IfOk result (λ captured. IfSome captured (IsEntryOf head.now name.now LINE_LIMIT)) }
 {
@@ -64,7 +63,7 @@ fn capture_as<I: Input>(
     requires named { 0 < length indexed.name.now }
     requires target { 0 < length indexed.url.now }
     requires url { url_of usual_types indexed.head.now ≡ Some indexed.url.now }
-    ensures reads { ReadsWhole indexed.entry.head.now reader.old reader.new result (I.remaining input.old) (I.remaining input.new) (I.failures input.old) (I.failures input.new) }
+    ensures reads { ReadsWhole indexed.entry.head.now (state_of reader.old (I.remaining input.old) (I.failures input.old)) (state_of reader.new (I.remaining input.new) (I.failures input.new)) result }
     ensures capture { Captures usual_types usual_limits indexed.entry.head.now indexed.entry.name.now (prepend_known reader.old.held (I.remaining input.old)) result }
     ensures entry { IfOk result (λ captured. IfSome captured (IsEntryOf indexed.entry.head.now indexed.entry.name.now LINE_LIMIT)) }
 {
@@ -90,11 +89,11 @@ fn capture_through<I: Input>(
     requires target { 0 < length indexed.url.now }
     requires url { url_of usual_types indexed.head.now ≡ Some indexed.url.now }
     requires front { IsFrontOf HTTP_HEAD_LIMIT indexed.head.now front.old }
-    ensures reads { ReadsWhole indexed.entry.head.now reader.old reader.new result (I.remaining input.old) (I.remaining input.new) (I.failures input.old) (I.failures input.new) }
+    ensures reads { ReadsWhole indexed.entry.head.now (state_of reader.old (I.remaining input.old) (I.failures input.old)) (state_of reader.new (I.remaining input.new) (I.failures input.new)) result }
     ensures capture { Captures usual_types usual_limits indexed.entry.head.now indexed.entry.name.now (prepend_known reader.old.held (I.remaining input.old)) result }
     ensures entry { IfOk result (λ captured. IfSome captured (IsEntryOf indexed.entry.head.now indexed.entry.name.now LINE_LIMIT)) }
 {
-    match fill(reader, input, front) {
+    match reader.block_exact(input, front) {
         Ok(()) => capture_behind(alloc, reader, input, indexed, front),
         Err(fault) => Err(CaptureFault::Archive(fault)),
     }
@@ -113,7 +112,7 @@ fn capture_behind<I: Input>(
     requires url { url_of usual_types indexed.head.now ≡ Some indexed.url.now }
     requires front { IsFrontOf HTTP_HEAD_LIMIT indexed.head.now front.now }
     requires stands { StandsAt reader.old indexed.head.now.start (Open (indexed.head.now.parts.length - length front.now) (record_length indexed.head.now)) }
-    ensures reads { ReadsRest (indexed.entry.head.now.parts.length - length front.now) indexed.entry.head.now reader.old reader.new result (I.remaining input.old) (I.remaining input.new) (I.failures input.old) (I.failures input.new) }
+    ensures reads { ReadsRest (indexed.entry.head.now.parts.length - length front.now) indexed.entry.head.now (state_of reader.old (I.remaining input.old) (I.failures input.old)) (state_of reader.new (I.remaining input.new) (I.failures input.new)) result }
     ensures capture { CapturesBehind usual_types usual_limits indexed.entry.head.now indexed.entry.name.now front.now (prepend_known reader.old.held (I.remaining input.old)) result }
     ensures entry { IfOk result (λ captured. IfSome captured (IsEntryOf indexed.entry.head.now indexed.entry.name.now LINE_LIMIT)) }
 {
@@ -145,7 +144,7 @@ fn capture_closed<I: Input>(
     requires digested { 0 < length digest.now }
     requires stands { IsOpenFor indexed.head.now reader.old }
     ensures reads { (left len : ℕ) → reader.old.phase ≡ Open left len →
-        ReadsRest left indexed.entry.head.now reader.old reader.new result (I.remaining input.old) (I.remaining input.new) (I.failures input.old) (I.failures input.new) }
+        ReadsRest left indexed.entry.head.now (state_of reader.old (I.remaining input.old) (I.failures input.old)) (state_of reader.new (I.remaining input.new) (I.failures input.new)) result }
     ensures entry { IfOk result (λ captured. IfSome captured (IsEntryOf indexed.entry.head.now indexed.entry.name.now LINE_LIMIT)) }
     ensures answers { AnswersEntry LINE_LIMIT (entry_of indexed.entry.head.now indexed.entry.name.now (option_map response_view response.entry) digest.now indexed.entry.url.now) result }
 {

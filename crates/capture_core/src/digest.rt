@@ -1,7 +1,9 @@
 //! The SHA-1 of a block's bytes.
 ghost use Rattle.std.specs.Prelude.{◌≡◌, ℕ};
 ghost use Rattle.warc_core.specs.declared.phase.Phase.TheVariants.{Open};
-ghost use Rattle.capture_core.specs.Payload.{HasLeft, ReadsTo, digest_of_rest};
+ghost use Rattle.warc_core.specs.ReaderView.{HasLeft, state_of};
+ghost use Rattle.warc_core.specs.Calls.{ReadsTo};
+ghost use Rattle.capture_core.specs.Payload.{digest_of_rest};
 
 use sha1::Sha1;
 use warc_core::{Fault, Input, Reader};
@@ -16,7 +18,7 @@ pub(crate) fn digest_rest<I: Input>(
 ) -> Result<[u8; 20], Fault>
     requires { HasLeft 0 reader.old.phase }
     ensures { (left len : ℕ) → reader.old.phase ≡ Open left len →
-        ReadsTo (digest_of_rest left start.now) reader.old.offset (Open 0 len) reader.old reader.new result (I.remaining input.old) (I.remaining input.new) (I.failures input.old) (I.failures input.new) }
+        ReadsTo (digest_of_rest left start.now) reader.old.offset (Open 0 len) (state_of reader.old (I.remaining input.old) (I.failures input.old)) (state_of reader.new (I.remaining input.new) (I.failures input.new)) result }
 {
     let mut hasher = Sha1::new();
     hasher.update(start);

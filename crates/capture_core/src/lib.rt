@@ -9,7 +9,6 @@ mod digest_text;
 mod digest_value;
 mod entry;
 mod fault;
-mod front;
 mod http_head;
 mod indexed;
 mod laws;

@@ -8,14 +8,15 @@ use Rattle.warc_core.specs.declared.phase.Phase.TheVariants.{Open}
 use Rattle.devices.specs.Device.{AppendsPrefix}
 use Rattle.warc_core.specs.HeadView.{HeadView, record_length}
 use Rattle.warc_core.specs.Reading.{Reads, IsFoundAt}
-use Rattle.warc_core.specs.ReaderView.{ReaderView, StandsAt, GivesBlock, Finishes}
+use Rattle.warc_core.specs.ReaderView.{ReaderView, StandsAt, state_of}
+use Rattle.warc_core.specs.Calls.{GivesBlock, Finishes}
 use Rattle.warc_core.specs.Record.{closing, after_block, after_record}
 use Rattle.devices.proofs.DeviceLemmas.{Appends-none, Appends-join}
 use Rattle.warc_core.proofs.ReadingLemmas.{GoesOn-reads, nil_of}
 use Rattle.warc_core.proofs.SpelledLemmas.{block-there}
 use Rattle.capture_core.specs.declared.fault.CaptureFault.TheVariants.{Archive, LineTooLong, KeyTooLong}
 use Rattle.capture_core.proofs.CaptureLemmas.{behind-front, found-of-record}
-use Rattle.capture_core.proofs.FrontLemmas.{Consumes-none, Consumes-join, found-behind}
+use Rattle.warc_core.proofs.FillLemmas.{Consumes-none, Consumes-join, found-behind}
 use Rattle.index_core.specs.declared.fault.IndexFault.{IndexFault}
 use Rattle.index_core.specs.declared.fault.IndexFault.TheVariants as faults
 use Rattle.index_core.specs.Copying.{WroteFront, CopiesBlock, CopiesRecord}
@@ -85,7 +86,7 @@ Copying-start left len old before written e = record {
 }
 
 module _ (left len rest : ℕ) (old now next : ReaderView) (before mid after w v u : Option (List ℕ)) (d : Copying left len rest old now before mid w v) where
-  pub Copying-more : (n : ℕ) (piece : List ℕ) (k k' : ℕ) → GivesBlock rest len now next (Ok n) piece mid after k k' → Appends v u (take n piece) → Copying left len (rest - n) old next before after w u
+  pub Copying-more : (n : ℕ) (piece : List ℕ) (k k' : ℕ) → GivesBlock rest len (state_of now mid k) (state_of next after k') (Ok n) piece → Appends v u (take n piece) → Copying left len (rest - n) old next before after w u
   Copying-more n piece k k' g a =
       let low = g.bound.0 in
       let long = length-take-le n piece g.bound.1 in
@@ -99,7 +100,7 @@ module _ (left len rest : ℕ) (old now next : ReaderView) (before mid after w v
       }
 
   -- the output failed in a piece
-  pub Copying-cut : (fault : IndexFault) (n : ℕ) (piece : List ℕ) (k k' : ℕ) → fault ≡ faults.Write → GivesBlock rest len now next (Ok n) piece mid after k k' → AppendsPrefix v u (take n piece) → CopiesBlock left len old next (Err fault) before after w u
+  pub Copying-cut : (fault : IndexFault) (n : ℕ) (piece : List ℕ) (k k' : ℕ) → fault ≡ faults.Write → GivesBlock rest len (state_of now mid k) (state_of next after k') (Ok n) piece → AppendsPrefix v u (take n piece) → CopiesBlock left len old next (Err fault) before after w u
   Copying-cut faults.Write n piece k k' e g p =
       let low = g.bound.0 in
       let long = length-take-le n piece g.bound.1 in
@@ -111,7 +112,7 @@ module _ (left len rest : ℕ) (old now next : ReaderView) (before mid after w v
   Copying-cut fault n piece k k' e g p = absurd (cc)
 
   -- the block couldn't be read on
-  pub Copying-fault : (f : Fault) (piece : List ℕ) (k k' : ℕ) → GivesBlock rest len now next (Err f) piece mid after k k' → CopiesBlock left len old next (Err (faults.Capture (Archive f))) before after w v
+  pub Copying-fault : (f : Fault) (piece : List ℕ) (k k' : ℕ) → GivesBlock rest len (state_of now mid k) (state_of next after k') (Err f) piece → CopiesBlock left len old next (Err (faults.Capture (Archive f))) before after w v
   Copying-fault f piece k k' g =
       let whole = d.whole in
       let same : rest ≡ left - length d.taken = omega (arith, whole) in
@@ -168,13 +169,13 @@ module _ (h : HeadView) (w v : Option (List ℕ)) where
 
     module _ (block : CopiesBlock h.parts.length (record_length h) old mid (Ok tt) before between v u) (new : ReaderView) (after : Option (List ℕ)) (k k' : ℕ) where
       -- the record couldn't be finished
-      pub finish-cut : (f : Fault) → Finishes 0 (record_length h) mid new (Err f) between after k k' → CopiesRecord h (Err (faults.Capture (Archive f))) (prepend_known old.held before) (prepend_known new.held after) w u
+      pub finish-cut : (f : Fault) → Finishes 0 (record_length h) (state_of mid between k) (state_of new after k') (Err f) → CopiesRecord h (Err (faults.Capture (Archive f))) (prepend_known old.held before) (prepend_known new.held after) w u
       finish-cut f s = record {
         wrote = behind-head block.wrote;
         ends = (s.state.at ∙ (block.ends.2.offset_is ∙ unread), behind-block (Err f.cause) h.parts.length block.wrote.front _ _ _ block.ends.0 block.ends.1 s.bytes);
       }
 
-      module _ (x : Option (List ℕ)) (n : ℕ) (s : Finishes 0 (record_length h) mid new (Ok n) between after k k') where
+      module _ (x : Option (List ℕ)) (n : ℕ) (s : Finishes 0 (record_length h) (state_of mid between k) (state_of new after k') (Ok n)) where
         -- the output failed in the closing
         pub closing-cut : (fault : IndexFault) → fault ≡ faults.Write → AppendsPrefix u x closing → CopiesRecord h (Err fault) (prepend_known old.held before) (prepend_known new.held after) w x
         closing-cut faults.Write e p =

@@ -7,7 +7,8 @@ use Rattle.warc_core.specs.declared.fault.Cause.TheVariants as causes
 use Rattle.warc_core.specs.declared.fault.Fault.{Fault}
 use Rattle.devices.specs.Device.{AppendsPrefix}
 use Rattle.warc_core.specs.HeadView.{HeadView, record_length}
-use Rattle.warc_core.specs.Reading.{Reads, IsFoundIn, CountsRead}
+use Rattle.warc_core.specs.Reading.{Reads, IsFoundIn}
+use Rattle.warc_core.specs.Answers.{CountsRead}
 use Rattle.warc_core.specs.Walk.{record_at, Walks}
 use Rattle.devices.proofs.DeviceLemmas.{Appends-none, Appends-join, AppendsPrefix-behind}
 use Rattle.warc_core.proofs.SpelledLemmas.{total}

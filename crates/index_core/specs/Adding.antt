@@ -2,7 +2,8 @@
 use Rattle.std.specs.Prelude.{◌≡◌, ℕ, ◌<◌, ◌≤◌, ⊤, Bool, List, [], ◌∷◌, ◌++◌, length, drop, option_to_list, Option, Some, Result, Ok, Err, IfSome}
 use Rattle.warc_head.specs.declared.kind.Kind.{Kind}
 use Rattle.warc_core.specs.HeadView.{HeadView}
-use Rattle.warc_core.specs.Reading.{IsFoundIn, CountsRead}
+use Rattle.warc_core.specs.Reading.{IsFoundIn}
+use Rattle.warc_core.specs.Answers.{CountsRead}
 use Rattle.warc_core.specs.Walk.{record_at, Walks, AreRecords}
 use Rattle.cdxj_core.specs.Entries.{EntryValue, line_text}
 use Rattle.capture_core.specs.declared.fault.CaptureFault.{CaptureFault}

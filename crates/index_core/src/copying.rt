@@ -2,8 +2,7 @@
 ghost use Rattle.std.specs.Prelude.{◌≡◌, ℕ};
 ghost use Rattle.std.specs.Io.KnownBytes.{prepend_known};
 ghost use Rattle.warc_core.specs.declared.phase.Phase.TheVariants.{Open};
-ghost use Rattle.warc_core.specs.ReaderView.{IsUnread};
-ghost use Rattle.capture_core.specs.Payload.{HasLeft};
+ghost use Rattle.warc_core.specs.ReaderView.{IsUnread, HasLeft};
 ghost use Rattle.index_core.specs.Adding.{CountsIndex};
 ghost use Rattle.index_core.specs.Copying.{CopiesBlock, CopiesRecord};
 ghost use Rattle.index_core.specs.Indexing.{CountsWrite};

@@ -1,8 +1,7 @@
 //! The fetching of a record by its offset.
 ghost use Rattle.std.specs.Prelude.{◌≡◌, ℕ, ◌-◌, ◌^◌, ◌≤◌, Err, IfErr};
 ghost use Rattle.std.specs.Io.KnownBytes.{prepend_known};
-ghost use Rattle.warc_core.specs.Next.{causes_of};
-ghost use Rattle.warc_core.specs.Reading.{CountsRead};
+ghost use Rattle.warc_core.specs.Answers.{causes_of, CountsRead};
 ghost use Rattle.index_core.specs.Adding.{CountsIndex};
 ghost use Rattle.index_core.specs.Copying.{CopiesNext, Reaches};
 ghost use Rattle.index_core.specs.Fetching.{Fetches, IsMetBefore};

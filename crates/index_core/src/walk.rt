@@ -3,8 +3,8 @@ ghost use Rattle.std.specs.Prelude.{◌≡◌, ℕ, List, Some, Ok, IfOk, IfSome
 ghost use Rattle.std.specs.Io.KnownBytes.{prepend_known};
 ghost use Rattle.warc_core.specs.HeadView.{HeadView, BeginsAt};
 ghost use Rattle.capture_core.specs.declared.verdict.Verdict.{Verdict};
-ghost use Rattle.warc_core.specs.Next.{causes_of};
-ghost use Rattle.warc_core.specs.Reading.{Reads, CountsRead};
+ghost use Rattle.warc_core.specs.Answers.{causes_of, CountsRead};
+ghost use Rattle.warc_core.specs.Reading.{Reads};
 ghost use Rattle.warc_core.specs.ReaderView.{FailedBy};
 ghost use Rattle.warc_core.specs.Walk.{record_at};
 ghost use Rattle.index_core.specs.Report.{Passes};

@@ -4,7 +4,8 @@ use Rattle.std.proofs.lemmas.List.{get_or-drop, get_or-take, length-take-le, tak
 use Rattle.std.proofs.lemmas.Bool.Decides.{nat_tests}
 use Rattle.std.specs.Cmp.Lexicographic.{pointwise}
 use Rattle.memchr.specs.Find.{OccursAt}
-use Rattle.warc_core.specs.Record.{is_closed, closing, ClosesFirst, IsOpenAfter}
+use Rattle.warc_core.specs.HeadText.{is_closed, ClosesFirst, IsOpenAfter}
+use Rattle.warc_core.specs.Record.{closing}
 use Rattle.warc_core.proofs.HeadLemmas.{which, and_both}
 
 same_texts : (a b : List ℕ) → pointwise nat_eq a b ≡ true → a ≡ b

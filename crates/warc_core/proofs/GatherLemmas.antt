@@ -6,9 +6,9 @@ use Rattle.std.proofs.lemmas.Grind.{common_steps}
 use Rattle.std.proofs.lemmas.List.{take-append-drop, length-take-le, take-append-le}
 use Rattle.warc_core.specs.declared.fault.Cause.{Cause}
 use Rattle.warc_core.specs.declared.fault.Cause.TheVariants as causes
-use Rattle.warc_core.specs.Reading.{Reads, GoesOn, IsFoundIn}
-use Rattle.warc_core.specs.Record.{has_version, is_closed, head_text, IsFoundHead, IsOpenAfter, ClosesFirst}
-use Rattle.warc_core.proofs.ReadingLemmas.{GoesOn-fault, GoesOn-done, GoesOn-held, none_known}
+use Rattle.warc_core.specs.Reading.{Reads, IsFoundIn}
+use Rattle.warc_core.proofs.ReadingLemmas.{GoesOn, GoesOn-fault, GoesOn-done, GoesOn-held, none_known}
+use Rattle.warc_core.specs.HeadText.{has_version, is_closed, head_text, IsFoundHead, IsOpenAfter, ClosesFirst}
 use Rattle.warc_core.proofs.HeadLemmas.{going, going-end, going-full, going-found, going-wrong, going-gathered, take-behind, has_version-longer, which}
 
 -- a fault that the held bytes show

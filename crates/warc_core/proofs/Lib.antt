@@ -8,3 +8,6 @@ pub mod SpelledLemmas
 pub mod PartsLemmas
 pub mod ClosingLemmas
 pub mod ArchiveLemmas
+pub mod OpenLemmas
+pub mod FillLemmas
+pub mod CauseLemmas

@@ -5,12 +5,13 @@ use Rattle.std.specs.Io.KnownBytes.{prepend_known, IsAtEnd}
 use Rattle.warc_core.specs.declared.fault.Cause.{Cause}
 use Rattle.warc_core.specs.declared.fault.Cause.TheVariants as causes
 use Rattle.warc_head.specs.Parts.{HeadParts}
-use Rattle.warc_core.specs.Reading.{Reads, GoesOn, IsFoundPurely, ◌>>=◌}
-use Rattle.warc_core.specs.Record.{head_text}
+use Rattle.warc_core.specs.Reading.{Reads, ◌>>=◌}
+use Rattle.warc_core.proofs.ReadingLemmas.{GoesOn, GoesOn-then, GoesOn-fault, GoesOn-done, GoesOn-done_at, GoesOn-renamed, IsFoundIn-bind, IsFoundIn-purely, none_known, GoesOn-reads, Reads-stopped}
+use Rattle.warc_core.specs.Answers.{IsFoundPurely}
+use Rattle.warc_core.specs.HeadText.{head_text}
 use Rattle.warc_core.specs.Head.{parts_of}
 use Rattle.warc_core.specs.HeadView.{HeadView, record_length}
 use Rattle.warc_core.specs.Next.{head_at, next_at, within_limit}
-use Rattle.warc_core.proofs.ReadingLemmas.{GoesOn-then, GoesOn-fault, GoesOn-done, GoesOn-done_at, GoesOn-renamed, IsFoundIn-bind, IsFoundIn-purely, none_known, GoesOn-reads, Reads-stopped}
 
 -- the head that these parts and this text make
 abbrev pub head_of : ℕ → List ℕ → HeadParts → HeadView

@@ -5,7 +5,7 @@ use Rattle.warc_head.specs.declared.fault.HeadFault.TheVariants as faults
 use Rattle.warc_head.specs.Answers.{IsFound}
 use Rattle.warc_head.specs.Parts as heads
 use Rattle.warc_core.specs.Head.{parts_of, by_cause, cause_of}
-use Rattle.warc_core.specs.Reading.{IsFoundPurely}
+use Rattle.warc_core.specs.Answers.{IsFoundPurely}
 
 pub purely-found : (f : HeadFault) (raw : List ℕ) → IsFound f (heads.parts_of raw) → IsFoundPurely (cause_of f) (parts_of raw)
 unfolding parts_of

@@ -6,8 +6,15 @@ use Rattle.std.specs.Io.KnownBytes.{Keeps, Consumes, IsAtEnd, prepend_known}
 use Rattle.std.proofs.Math.Seq.{take-append_seam, drop-nil}
 use Rattle.std.proofs.lemmas.List.{take-append-drop}
 use Rattle.warc_core.specs.declared.fault.Cause.{Cause}
-use Rattle.warc_core.specs.Reading.{Reads, GoesOn, IsFoundIn, first_of, ◌>>=◌, IsFoundPurely, CountsRead}
+use Rattle.warc_core.specs.Reading.{Reads, IsFoundIn, first_of, ◌>>=◌}
+use Rattle.warc_core.specs.Answers.{IsFoundPurely, CountsRead}
 use Rattle.warc_core.specs.declared.fault.Cause.TheVariants as causes
+
+-- Reading by g from here on is reading by f from the start.
+abbrev pub GoesOn : {A : Type 0} → (List ℕ → Result A Cause) → (List ℕ → Result A Cause) → Option (List ℕ) → Option (List ℕ) → Type 0
+GoesOn f g None now = Unit {0}
+GoesOn f g (Some z) None = ⊥
+GoesOn f g (Some z) (Some w) = f z ≡ g w
 
 pub GoesOn-start : {A : Type 0} (f : List ℕ → Result A Cause) (now : Option (List ℕ)) → GoesOn f f now now
 GoesOn-start f None = tt

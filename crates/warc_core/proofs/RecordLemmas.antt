@@ -4,10 +4,10 @@ use Rattle.std.proofs.lemmas.Bool.Decides.{nat_tests}
 use Rattle.std.proofs.lemmas.List.{drop-append-le, drop-drop}
 use Rattle.warc_core.specs.declared.fault.Cause.{Cause}
 use Rattle.warc_core.specs.declared.fault.Cause.TheVariants as causes
-use Rattle.warc_core.specs.Reading.{Reads, GoesOn, IsFoundAt, first_of}
+use Rattle.warc_core.specs.Reading.{Reads, IsFoundAt, first_of}
+use Rattle.warc_core.proofs.ReadingLemmas.{GoesOn, first-is, first-none, GoesOn-fault, was_read}
 use Rattle.std.specs.Io.KnownBytes.{Consumes, IsAtEnd}
 use Rattle.warc_core.specs.Record.{after_block, after_text, closing}
-use Rattle.warc_core.proofs.ReadingLemmas.{first-is, first-none, GoesOn-fault, was_read}
 
 pub after_block-zero : (w : List ℕ) → after_block 0 w ≡ Ok (tt, w)
 unfolding after_block

@@ -8,7 +8,8 @@ use Rattle.std.proofs.lemmas.List.{length-take-le}
 use Rattle.warc_core.specs.declared.fault.Cause.{Cause}
 use Rattle.warc_core.specs.declared.fault.Cause.TheVariants as causes
 use Rattle.warc_head.specs.Parts.{HeadParts}
-use Rattle.warc_core.specs.Record.{after_text, after_block, after_record, shortest, found_head, head_text, has_version, is_closed, closing, IsFoundHead}
+use Rattle.warc_core.specs.Record.{after_text, after_block, after_record, closing}
+use Rattle.warc_core.specs.HeadText.{shortest, found_head, head_text, has_version, is_closed, IsFoundHead}
 use Rattle.warc_core.specs.Reading.{◌>>=◌}
 use Rattle.warc_core.specs.Head.{parts_of}
 use Rattle.warc_core.specs.HeadView.{HeadView, record_length}

@@ -1,10 +1,13 @@
 pub mod Cause
 pub mod Reading
+pub mod Answers
 pub mod Record
+pub mod HeadText
 pub mod ReaderView
 pub mod HeadView
 pub mod Head
 pub mod Next
+pub mod Calls
 pub mod Walk
 pub mod RecordText
 pub mod Laws

@@ -3,7 +3,8 @@ use Rattle.std.specs.Prelude.{◌≡◌, ℕ, ◌+◌, ◌-◌, ◌^◌, ◌≤�
 use Rattle.warc_head.specs.Parts.{HeadParts}
 use Rattle.warc_core.specs.HeadView.{HeadView, record_length}
 use Rattle.warc_core.specs.Head.{parts_of}
-use Rattle.warc_core.specs.Record.{closing, IsFoundHead}
+use Rattle.warc_core.specs.Record.{closing}
+use Rattle.warc_core.specs.HeadText.{IsFoundHead}
 
 -- a text is a head, and says these parts
 pub record IsHeadText (limit : ℕ) (parts : HeadParts) (text : List ℕ) : Type 0 where

@@ -1,8 +1,10 @@
 //! The bytes of a block.
-ghost use Rattle.std.specs.Prelude.{◌≡◌, ◌≢◌, Option, ℕ, ◌+◌, ◌-◌, ◌<◌, ◌≤◌, List, [], length, drop, take, IfOk, IfErr, OnOk, MatchResult};
+ghost use Rattle.std.specs.Prelude.{◌≡◌, Option, ℕ, ◌+◌, ◌-◌, ◌<◌, ◌≤◌, List, [], length, drop, take, IfOk, IfErr, OnOk, MatchResult};
 ghost use Rattle.std.specs.Io.KnownBytes.{Consumes, ReadConsumes, prepend_known};
-ghost use Rattle.warc_core.specs.Reading.{Reads, CountsRead, IsFoundAt};
+ghost use Rattle.warc_core.specs.Reading.{Reads, IsFoundAt};
+ghost use Rattle.warc_core.specs.Answers.{CountsRead};
 ghost use Rattle.warc_core.specs.Record.{after_block};
+ghost use Rattle.warc_core.specs.Cause.{StopsBlock};
 
 use crate::fault::Cause;
 use devices::{Buffer, Input};
@@ -10,7 +12,7 @@ use devices::{Buffer, Input};
 /// Gives out the next bytes, as a read of what is held and then of the input.
 fn give<I: Input>(buffer: &mut Buffer, input: &mut I, piece: &mut [u8]) -> Result<usize, Cause>
     ensures bound { IfOk result (λ n. n ≤ length piece.new) }
-    ensures only_read { IfErr result (λ c. c ≡ Cause.Read) }
+    ensures cause { IfErr result (λ c. c ≡ Cause.Read) }
     ensures bytes { ReadConsumes (prepend_known buffer.old (I.remaining input.old)) (prepend_known buffer.new (I.remaining input.new)) result piece.new }
     ensures failures { CountsRead result (I.failures input.old) (I.failures input.new) }
 {
@@ -29,7 +31,7 @@ pub fn give_block<I: Input>(
     piece: &mut [u8],
     left: u64,
 ) -> Result<usize, Cause>
-    ensures only { IfErr result (λ c. c ≢ Cause.Memory) }
+    ensures cause { IfErr result StopsBlock }
     ensures count { IfOk result (λ n. (n ≤ left) × (n ≤ length piece.new) × (0 < left → 0 < length piece.new → 0 < n)) }
     ensures bytes { MatchResult result
         (λ n. Consumes (prepend_known buffer.old (I.remaining input.old)) (prepend_known buffer.new (I.remaining input.new)) (take n piece.new))
@@ -50,7 +52,7 @@ pub fn give_block<I: Input>(
 /// Passes over a block's bytes.
 pub fn skip_block<I: Input>(buffer: &mut Buffer, input: &mut I, length: u64) -> Result<(), Cause>
     ensures bytes { Reads (after_block length) result (prepend_known buffer.old (I.remaining input.old)) (prepend_known buffer.new (I.remaining input.new)) }
-    ensures only { IfErr result (λ c. c ≢ Cause.Memory) }
+    ensures cause { IfErr result StopsBlock }
     ensures failures { CountsRead result (I.failures input.old) (I.failures input.new) }
 {
     let mut left = length;

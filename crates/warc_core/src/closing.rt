@@ -1,8 +1,10 @@
 //! The end of a record.
-ghost use Rattle.std.specs.Prelude.{◌≡◌, ◌≢◌, Option, ℕ, ◌+◌, ◌-◌, ◌<◌, ◌≤◌, List, [], length, drop, take, IfOk, IfErr, OnOk, MatchResult};
+ghost use Rattle.std.specs.Prelude.{◌≡◌, Option, ℕ, ◌+◌, ◌-◌, ◌<◌, ◌≤◌, List, [], length, drop, take, IfOk, IfErr, OnOk, MatchResult};
 ghost use Rattle.std.specs.Io.KnownBytes.{prepend_known};
-ghost use Rattle.warc_core.specs.Reading.{Reads, CountsRead, first_of};
+ghost use Rattle.warc_core.specs.Reading.{Reads, first_of};
+ghost use Rattle.warc_core.specs.Answers.{CountsRead};
 ghost use Rattle.warc_core.specs.Record.{closing, after_text, after_record};
+ghost use Rattle.warc_core.specs.Cause.{StopsRecord};
 
 use crate::block::skip_block;
 use crate::fault::Cause;
@@ -11,7 +13,7 @@ use devices::{Buffer, Input};
 /// The next byte, if there is one.
 fn next_byte<I: Input>(buffer: &mut Buffer, input: &mut I) -> Result<Option<u8>, Cause>
     ensures bytes { Reads first_of result (prepend_known buffer.old (I.remaining input.old)) (prepend_known buffer.new (I.remaining input.new)) }
-    ensures only { IfErr result (λ c. c ≢ Cause.Memory) }
+    ensures cause { IfErr result (λ c. c ≡ Cause.Read) }
     ensures failures { CountsRead result (I.failures input.old) (I.failures input.new) }
 {
     buffer.fill(input)?;
@@ -25,7 +27,7 @@ fn next_byte<I: Input>(buffer: &mut Buffer, input: &mut I) -> Result<Option<u8>,
 /// Passes over the text, which has to come next.
 fn expect_closing<I: Input>(buffer: &mut Buffer, input: &mut I) -> Result<(), Cause>
     ensures bytes { Reads (after_text closing) result (prepend_known buffer.old (I.remaining input.old)) (prepend_known buffer.new (I.remaining input.new)) }
-    ensures only { IfErr result (λ c. c ≢ Cause.Memory) }
+    ensures cause { IfErr result StopsRecord }
     ensures failures { CountsRead result (I.failures input.old) (I.failures input.new) }
 {
     for expected in b"\r\n\r\n" {
@@ -39,7 +41,7 @@ fn expect_closing<I: Input>(buffer: &mut Buffer, input: &mut I) -> Result<(), Ca
 
 /// Passes over what is left of a block, and its closing.
 pub fn skip_record<I: Input>(buffer: &mut Buffer, input: &mut I, left: u64) -> Result<(), Cause>
-    ensures only { IfErr result (λ c. c ≢ Cause.Memory) }
+    ensures cause { IfErr result StopsRecord }
     ensures bytes { Reads (after_record left) result (prepend_known buffer.old (I.remaining input.old)) (prepend_known buffer.new (I.remaining input.new)) }
     ensures failures { CountsRead result (I.failures input.old) (I.failures input.new) }
 {

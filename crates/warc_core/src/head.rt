@@ -1,7 +1,8 @@
 //! The head of a record.
-ghost use Rattle.std.specs.Prelude.{◌≡◌};
-ghost use Rattle.warc_core.specs.Reading.{Gives};
+ghost use Rattle.std.specs.Prelude.{◌≡◌, IfErr};
+ghost use Rattle.warc_core.specs.Answers.{Gives};
 ghost use Rattle.warc_core.specs.Head.{parts_of, cause_of};
+ghost use Rattle.warc_core.specs.Cause.{StopsHead};
 
 use crate::fault::Cause;
 use std::alloc::Global;
@@ -98,7 +99,8 @@ impl Head {
 
 /// What the text of a head says.
 pub fn parts_of(alloc: Global, raw: &[u8]) -> Result<Parts, Cause>
-    ensures { Gives (λ p. p) result (parts_of raw.now) }
+    ensures answer { Gives (λ p. p) result (parts_of raw.now) }
+    ensures cause { IfErr result StopsHead }
 {
     match read_parts(alloc, raw) {
         Ok(parts) => Ok(parts),
@@ -107,7 +109,8 @@ pub fn parts_of(alloc: Global, raw: &[u8]) -> Result<Parts, Cause>
 }
 
 fn cause_of(fault: HeadFault) -> Cause
-    ensures { result ≡ cause_of fault }
+    ensures value { result ≡ cause_of fault }
+    ensures cause { StopsHead result }
 {
     match fault {
         HeadFault::Memory => Cause::Memory,

@@ -1,8 +1,10 @@
 //! The text of a head, taken from the input piece by piece.
 ghost use Rattle.std.specs.Prelude.{◌≡◌, Option, ℕ, ◌+◌, ◌-◌, ◌<◌, ◌≤◌, List, [], length, drop, take, IfOk, IfErr, OnOk, MatchResult, MatchOption};
 ghost use Rattle.std.specs.Io.KnownBytes.{Keeps, IsAtEnd, prepend_known, ReadConsumes};
-ghost use Rattle.warc_core.specs.Reading.{Reads, CountsRead, seen_as};
-ghost use Rattle.warc_core.specs.Record.{agrees, has_version, head_text, IsFoundHead, IsOpenAfter, ClosesFirst};
+ghost use Rattle.warc_core.specs.Reading.{Reads};
+ghost use Rattle.warc_core.specs.Answers.{CountsRead, seen_as};
+ghost use Rattle.warc_core.specs.HeadText.{agrees, has_version, head_text, IsFoundHead, IsOpenAfter, ClosesFirst};
+ghost use Rattle.warc_core.specs.Cause.{StopsHead};
 
 use crate::fault::Cause;
 use devices::{Buffer, Input};
@@ -48,6 +50,7 @@ pub fn gather_head<I: Input>(
     limit: usize,
 ) -> Result<Vec<u8>, Cause>
     requires { 10 ≤ limit }
+    ensures cause { IfErr result StopsHead }
     ensures found { IfOk result (λ v. IsFoundHead limit v.items) }
     ensures bytes { Reads (head_text limit) (seen_as (λ v. v.items) result) (prepend_known buffer.old (I.remaining input.old)) (prepend_known buffer.new (I.remaining input.new)) }
     ensures failures { CountsRead (seen_as (λ v. v.items) result) (I.failures input.old) (I.failures input.new) }

@@ -1,10 +1,12 @@
 //! The head that comes next.
-ghost use Rattle.std.specs.Prelude.{◌≡◌, Option, ℕ, ◌+◌, ◌-◌, ◌<◌, ◌≤◌, ◌^◌, List, [], length, IfOk, IfSome};
+ghost use Rattle.std.specs.Prelude.{◌≡◌, Option, ℕ, ◌+◌, ◌-◌, ◌<◌, ◌≤◌, ◌^◌, List, [], length, IfOk, IfErr, IfSome};
 ghost use Rattle.std.specs.Option.{option_map};
 ghost use Rattle.std.specs.Io.KnownBytes.{prepend_known};
-ghost use Rattle.warc_core.specs.Reading.{Reads, CountsRead, seen_as};
+ghost use Rattle.warc_core.specs.Reading.{Reads};
+ghost use Rattle.warc_core.specs.Answers.{CountsRead, seen_as};
 ghost use Rattle.warc_core.specs.Next.{head_at, next_at};
 ghost use Rattle.warc_core.specs.HeadView.{BeginsAt};
+ghost use Rattle.warc_core.specs.Cause.{StopsHead};
 
 use crate::fault::Cause;
 use crate::head::{Head, parts_of};
@@ -26,6 +28,7 @@ fn read_head<I: Input>(
 ) -> Result<Head, Cause>
     requires { start ≤ 2 ^ 63 - 1 }
     ensures bytes { Reads (head_at HEAD_LIMIT start) result (prepend_known buffer.old (I.remaining input.old)) (prepend_known buffer.new (I.remaining input.new)) }
+    ensures cause { IfErr result StopsHead }
     ensures begins { IfOk result (BeginsAt start) }
     ensures failures { CountsRead result (I.failures input.old) (I.failures input.new) }
 {
@@ -46,6 +49,7 @@ pub fn read_next<I: Input>(
     start: u64,
 ) -> Result<Option<Head>, Cause>
     requires { start ≤ 2 ^ 63 - 1 }
+    ensures cause { IfErr result StopsHead }
     ensures begins { IfOk result (λ o. IfSome o (BeginsAt start)) }
     ensures bytes { Reads (next_at HEAD_LIMIT start) result (prepend_known buffer.old (I.remaining input.old)) (prepend_known buffer.new (I.remaining input.new)) }
     ensures failures { CountsRead result (I.failures input.old) (I.failures input.new) }

@@ -1,5 +1,5 @@
 //! Records, one after another, from an input that each call is handed.
-ghost use Rattle.std.specs.Prelude.{◌≡◌, ◌≢◌, ℕ, ◌-◌, ◌^◌, ◌≤◌, [], Ok, Err, IfOk, IfErr, OnOk};
+ghost use Rattle.std.specs.Prelude.{◌≡◌, ℕ, ◌-◌, ◌^◌, ◌≤◌, [], length, Ok, Err, IfOk, IfErr, OnOk};
 
 use crate::block::give_block;
 use crate::closing::skip_record;
@@ -36,8 +36,8 @@ impl Model for Reader {
 impl Reader {
     ghost use Rattle.warc_core.specs.declared.fault.Fault.{Fault};
     ghost use Rattle.warc_core.specs.declared.fault.Cause.{Cause};
-    ghost use Rattle.warc_core.specs.ReaderView.{Finishes, GivesBlock};
-    ghost use Rattle.warc_core.specs.Next.{GoesNext, FinishesAndGoesNext};
+    ghost use Rattle.warc_core.specs.ReaderView.{HasLeft, state_of};
+    ghost use Rattle.warc_core.specs.Calls.{Finishes, GivesBlock, Fills, GoesNext, FinishesAndGoesNext};
 
     /// A reader at the start of an archive, with a buffer of 8,192 bytes.
     ///
@@ -78,8 +78,7 @@ impl Reader {
     /// Errors are `Read`, `ShortBlock` and `Closing`, at the record's offset.
     pub fn finish<I: Input>(&mut self, input: &mut I) -> Result<u64, Fault>
         ensures open { (left len : ℕ) → self.old.phase ≡ Phase.Open left len →
-            Finishes left len self.old self.new result (I.remaining input.old) (I.remaining input.new) (I.failures input.old) (I.failures input.new) }
-        ensures only { (left len : ℕ) → self.old.phase ≡ Phase.Open left len → IfErr result (λ f. f.cause ≢ Cause.Memory) }
+            Finishes left len (state_of self.old (I.remaining input.old) (I.failures input.old)) (state_of self.new (I.remaining input.new) (I.failures input.new)) result }
         ensures closed { self.old.phase ≡ Phase.Between →
             (result ≡ Ok 0) × (self.new ≡ self.old) × (input.new ≡ input.old) }
         ensures failed { (c : Cause) → self.old.phase ≡ Phase.Failed c →
@@ -111,8 +110,7 @@ impl Reader {
     /// Errors are `Read` and `ShortBlock`, at the record's offset.
     pub fn block<I: Input>(&mut self, input: &mut I, piece: &mut [u8]) -> Result<usize, Fault>
         ensures open { (left len : ℕ) → self.old.phase ≡ Phase.Open left len →
-            GivesBlock left len self.old self.new result piece.new (I.remaining input.old) (I.remaining input.new) (I.failures input.old) (I.failures input.new) }
-        ensures only { (left len : ℕ) → self.old.phase ≡ Phase.Open left len → IfErr result (λ f. f.cause ≢ Cause.Memory) }
+            GivesBlock left len (state_of self.old (I.remaining input.old) (I.failures input.old)) (state_of self.new (I.remaining input.new) (I.failures input.new)) result piece.new }
         ensures closed { self.old.phase ≡ Phase.Between →
             (result ≡ Ok 0) × (self.new ≡ self.old) × (input.new ≡ input.old) }
         ensures failed { (c : Cause) → self.old.phase ≡ Phase.Failed c →
@@ -137,10 +135,25 @@ impl Reader {
         }
     }
 
+    /// Fills `piece` with the next bytes of the open record's block, which has as many.
+    ///
+    /// Errors are those of `block`.
+    pub fn block_exact<I: Input>(&mut self, input: &mut I, piece: &mut [u8]) -> Result<(), Fault>
+        requires { HasLeft (length piece.old) self.old.phase }
+        ensures { (left len : ℕ) → self.old.phase ≡ Phase.Open left len →
+            Fills left len (state_of self.old (I.remaining input.old) (I.failures input.old)) (state_of self.new (I.remaining input.new) (I.failures input.new)) result piece.new }
+    {
+        let mut filled = 0;
+        while filled < piece.len() {
+            filled += self.block(input, &mut piece[filled..])?;
+        }
+        Ok(())
+    }
+
     /// What comes next where no record is open.
     fn next_between<I: Input>(&mut self, input: &mut I) -> Result<Option<Head>, Fault>
         requires { self.old.phase ≡ Phase.Between }
-        ensures next { GoesNext HEAD_LIMIT self.old self.new result (I.remaining input.old) (I.remaining input.new) (I.failures input.old) (I.failures input.new) }
+        ensures next { GoesNext HEAD_LIMIT (state_of self.old (I.remaining input.old) (I.failures input.old)) (state_of self.new (I.remaining input.new) (I.failures input.new)) result }
         ensures stays { self.new.offset ≡ self.old.offset }
         ensures within { self.new.offset ≤ 2 ^ 63 - 1 }
     {
@@ -164,9 +177,9 @@ impl Reader {
     /// `BadDate` and `TooFar` at the offset where the next record would begin.
     pub fn next<I: Input>(&mut self, input: &mut I) -> Result<Option<Head>, Fault>
         ensures between { self.old.phase ≡ Phase.Between →
-            GoesNext HEAD_LIMIT self.old self.new result (I.remaining input.old) (I.remaining input.new) (I.failures input.old) (I.failures input.new) }
+            GoesNext HEAD_LIMIT (state_of self.old (I.remaining input.old) (I.failures input.old)) (state_of self.new (I.remaining input.new) (I.failures input.new)) result }
         ensures open { (left len : ℕ) → self.old.phase ≡ Phase.Open left len →
-            FinishesAndGoesNext HEAD_LIMIT left len self.old self.new result (I.remaining input.old) (I.remaining input.new) (I.failures input.old) (I.failures input.new) }
+            FinishesAndGoesNext HEAD_LIMIT left len (state_of self.old (I.remaining input.old) (I.failures input.old)) (state_of self.new (I.remaining input.new) (I.failures input.new)) result }
         ensures failed { (c : Cause) → self.old.phase ≡ Phase.Failed c →
             (result ≡ Err (record { offset = self.old.offset; cause = c })) × (self.new ≡ self.old) × (input.new ≡ input.old) }
         ensures rises { self.old.offset ≤ self.new.offset }

@@ -1,11 +1,11 @@
 use Rattle.std.proofs.Common.{◌+◌, ◌∙◌, List, ℕ, Err, ap, subst}
 use Rattle.std.proofs.lemmas.Result.{err_from_is_err_and}
 use Rattle.sha1.specs.Sha1.{sha1}
-use Rattle.warc_core.specs.Reading.{CountsRead}
+use Rattle.warc_core.specs.Answers.{CountsRead}
 use Rattle.warc_core.specs.ReaderView.{FailedBy}
 use Rattle.capture_core.specs.declared.verdict.Verdict.{Verdict}
 use Rattle.capture_core.specs.BlockDigest.{compared}
-use Rattle.capture_core.proofs.OpenLemmas.{CountsRead-as}
+use Rattle.warc_core.proofs.OpenLemmas.{CountsRead-as}
 use Rattle.capture_core.proofs.VerdictLemmas.{compare-stopped, compare-unclosed, compare-closed}
 use Rattle.capture_core.proofs.block_check.compare.Goals as goal
 
@@ -16,7 +16,7 @@ returns-in_err-digest g c left len e =
     rw (p.1, p.2) (record {
       bytes = compare-stopped (λ block. compared c.args.text.now (sha1 block)) c.in_err-digest.field-0.0.cause left _ _ d.bytes;
       state = d.state;
-      only = d.only;
+      cause = d.cause;
       failures = CountsRead-as (List ℕ) Verdict c.in_err-digest.field-0.0.cause _ _ d.failures;
     })
 
@@ -29,7 +29,7 @@ returns-in_err-finish g c left len e =
     rw (p.1, p.2) (record {
       bytes = compare-unclosed (λ block. compared c.args.text.now (sha1 block)) cause left c.in_ok-digest.digest _ _ _ d.bytes f.bytes;
       state = subst (λ o. FailedBy c.finish.new.self o c.in_err-finish.field-0.0) d.state.offset_is f.state;
-      only = c.in_err-finish.ensures.only 0 len d.state.phase_is;
+      cause = f.cause;
       failures = subst (λ k. CountsRead {A = Verdict} (Err cause) k (g.I.Input.failures c.finish.new.input)) d.failures (CountsRead-as (Unit {0}) Verdict cause _ _ f.failures);
     })
 
@@ -42,6 +42,6 @@ returns g c left len e =
       bytes = compare-closed (λ block. compared c.args.text.now (sha1 block)) c.compared.result left c.in_ok-digest.digest _ _ _ d.bytes f.bytes
           (λ block h. c.compared.ensures ∙ ap (compared c.args.text.now) h);
       state = record { offset_is = s.offset_is ∙ ap (λ o. o + len) d.state.offset_is; phase_is = s.phase_is };
-      only = tt;
+      cause = tt;
       failures = f.failures ∙ d.failures;
     }

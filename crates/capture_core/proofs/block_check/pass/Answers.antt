@@ -1,7 +1,7 @@
 use Rattle.std.proofs.Common.{refl}
 use Rattle.std.proofs.lemmas.Result.{err_from_is_err_and}
 use Rattle.capture_core.specs.declared.verdict.Verdict.{Verdict}
-use Rattle.capture_core.proofs.OpenLemmas.{CountsRead-as}
+use Rattle.warc_core.proofs.OpenLemmas.{CountsRead-as}
 use Rattle.capture_core.proofs.VerdictLemmas.{judge-passed, judge-stopped}
 use Rattle.capture_core.proofs.block_check.pass.Goals as goal
 
@@ -12,7 +12,7 @@ returns-in_err-finish g c left len e =
     rw (p.1, p.2) (record {
       bytes = judge-stopped (λ _. c.args.verdict) c.in_err-finish.field-0.0.cause left _ _ f.bytes;
       state = f.state;
-      only = c.in_err-finish.ensures.only left len e;
+      cause = f.cause;
       failures = CountsRead-as (Unit {0}) Verdict c.in_err-finish.field-0.0.cause _ _ f.failures;
     })
 
@@ -22,6 +22,6 @@ returns g c left len e =
     record {
       bytes = judge-passed (λ _. c.args.verdict) c.args.verdict left _ _ (λ block. refl) f.bytes;
       state = f.state.1;
-      only = tt;
+      cause = tt;
       failures = f.failures;
     }

@@ -10,4 +10,4 @@ returns-in-Ok-clause-reads g c =
 pub returns-in-Err-clause-reads : goal.returns-in-Err-clause-reads
 returns-in-Err-clause-reads g c =
     let f = c.in-Err.ensures.open _ (record_length c.args.head.now) c.requires.unread.phase_is in
-    rest-failed _ c.args.head.now _ _ _ _ _ _ c.in-Err.fault (c.in-Err.ensures.only _ (record_length c.args.head.now) c.requires.unread.phase_is) f.bytes (rw (← c.requires.unread.offset_is) f.state) f.failures
+    rest-failed _ c.args.head.now _ _ _ _ _ _ c.in-Err.fault f.cause f.bytes (rw (← c.requires.unread.offset_is) f.state) f.failures

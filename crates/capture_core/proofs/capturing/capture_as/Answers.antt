@@ -10,4 +10,4 @@ returns-in-Ok-finish-clause-reads g c =
 pub returns-in-Err-finish-clause-reads : goal.returns-in-Err-finish-clause-reads
 returns-in-Err-finish-clause-reads g c =
     let f = c.in-Err-finish.ensures.open _ (record_length c.args.indexed.head.now) c.requires.unread.phase_is in
-    rest-failed _ c.args.indexed.head.now _ _ _ _ _ _ c.in-Err-finish.fault (c.in-Err-finish.ensures.only _ (record_length c.args.indexed.head.now) c.requires.unread.phase_is) f.bytes (rw (← c.requires.unread.offset_is) f.state) f.failures
+    rest-failed _ c.args.indexed.head.now _ _ _ _ _ _ c.in-Err-finish.fault f.cause f.bytes (rw (← c.requires.unread.offset_is) f.state) f.failures

@@ -4,7 +4,8 @@ use Rattle.warc_core.specs.HeadView.{record_length}
 use Rattle.capture_core.specs.Indexed.{usual_types}
 use Rattle.capture_core.specs.ResponseView.{response_view}
 use Rattle.capture_core.specs.Captured.{usual_limits}
-use Rattle.capture_core.proofs.OpenLemmas.{CountsRead-as}
+use Rattle.warc_core.proofs.OpenLemmas.{CountsRead-as}
+use Rattle.warc_core.proofs.CauseLemmas.{not-memory}
 use Rattle.capture_core.proofs.CaptureLemmas.{rest-behind, rest-failed, behind-digest, digest-met, digest-told, digest-settled, digest-made, capture-told, some-always, some-then}
 use Rattle.capture_core.proofs.capturing.capture_behind.Goals as goal
 
@@ -39,4 +40,4 @@ returns-in-Ok-clause-capture g c =
 pub returns-in-Err-clause-reads : goal.returns-in-Err-clause-reads
 returns-in-Err-clause-reads g c =
     let d = c.in-Err.ensures _ (record_length c.args.indexed.head.now) c.requires.stands.phase_is in
-    rest-failed _ c.args.indexed.head.now _ _ _ _ _ _ c.in-Err.fault d.only (digest-met _ c.part-parted.result.payload.now c.in-Err.fault.cause _ _ d.only d.bytes) (rw (← c.requires.stands.offset_is) d.state) (CountsRead-as (List ℕ) (Unit {0}) c.in-Err.fault.cause _ _ d.failures)
+    rest-failed _ c.args.indexed.head.now _ _ _ _ _ _ c.in-Err.fault d.cause (digest-met _ c.part-parted.result.payload.now c.in-Err.fault.cause _ _ (not-memory c.in-Err.fault.cause d.cause) d.bytes) (rw (← c.requires.stands.offset_is) d.state) (CountsRead-as (List ℕ) (Unit {0}) c.in-Err.fault.cause _ _ d.failures)

@@ -1,6 +1,6 @@
 use Rattle.std.proofs.Common.{◌∙◌, sym, refl}
 use Rattle.warc_core.specs.HeadView.{record_length}
-use Rattle.capture_core.proofs.OpenLemmas.{same_open}
+use Rattle.warc_core.proofs.OpenLemmas.{same_open}
 use Rattle.capture_core.proofs.CaptureLemmas.{rest-whole, rest-failed}
 use Rattle.capture_core.proofs.capturing.capture_closed.Goals as goal
 
@@ -22,4 +22,4 @@ pub returns-in-Err-clause-reads : goal.returns-in-Err-clause-reads
 returns-in-Err-clause-reads g c left len e =
     let s = c.requires.stands in
     let f = c.in-Err.ensures.open left len e in
-    rest-failed left c.args.indexed.head.now _ _ _ _ _ _ c.in-Err.fault (c.in-Err.ensures.only left len e) f.bytes (rw (← s.1.offset_is) f.state) f.failures
+    rest-failed left c.args.indexed.head.now _ _ _ _ _ _ c.in-Err.fault f.cause f.bytes (rw (← s.1.offset_is) f.state) f.failures

@@ -3,8 +3,10 @@ use Rattle.std.proofs.lemmas.List.{length-take-le}
 use Rattle.std.proofs.lemmas.Result.{err_from_is_err_and}
 use Rattle.warc_core.specs.declared.phase.Phase.TheVariants.{Open}
 use Rattle.sha1.specs.Sha1.{Holds}
-use Rattle.capture_core.specs.Payload.{ReadsTo, digest_of_rest}
-use Rattle.capture_core.proofs.OpenLemmas.{left_in, of_open, zero_of}
+use Rattle.warc_core.specs.Calls.{ReadsTo}
+use Rattle.warc_core.specs.ReaderView.{state_of}
+use Rattle.capture_core.specs.Payload.{digest_of_rest}
+use Rattle.warc_core.proofs.OpenLemmas.{left_in, of_open, zero_of}
 use Rattle.capture_core.proofs.DigestLemmas.{Digesting-start, Digesting-more, Digesting-fault, Digesting-end}
 use Rattle.capture_core.proofs.digest.digest_rest.Goals as goal
 
@@ -18,8 +20,8 @@ returns-in_err-count g c left len e =
     let i = c.pieces.invariant in
     let d = i.4 in
     let b = c.in_err-count.ensures in
-    let r = Digesting-fault i.0 i.1 i.2 _ _ _ _ _ _ _ _ d c.in_err-count.field-0.0 _ _ _ _ (b.open i.2 i.1 d.stands.phase_is) (b.only i.2 i.1 d.stands.phase_is) i.5 in
-    rw (p.1, p.2) (of_open (λ a b. ReadsTo (digest_of_rest a c.args.start.now) c.args.reader.now.offset (Open 0 b) c.args.reader.now c.block.new.self (Err c.in_err-count.field-0.0) (g.I.Input.remaining c.args.input.now) (g.I.Input.remaining c.block.new.input) (g.I.Input.failures c.args.input.now) (g.I.Input.failures c.block.new.input)) _ i.0 i.1 left len i.3 e r)
+    let r = Digesting-fault i.0 i.1 i.2 _ _ _ _ _ _ _ _ d c.in_err-count.field-0.0 _ _ _ _ (b.open i.2 i.1 d.stands.phase_is) i.5 in
+    rw (p.1, p.2) (of_open (λ a b. ReadsTo (digest_of_rest a c.args.start.now) c.args.reader.now.offset (Open 0 b) (state_of c.args.reader.now (g.I.Input.remaining c.args.input.now) (g.I.Input.failures c.args.input.now)) (state_of c.block.new.self (g.I.Input.remaining c.block.new.input) (g.I.Input.failures c.block.new.input)) (Err c.in_err-count.field-0.0)) _ i.0 i.1 left len i.3 e r)
 
 pub slice_bounds-piece-end : goal.slice_bounds-piece-end
 slice_bounds-piece-end g c =
@@ -59,4 +61,4 @@ returns g c left len e =
     let none : i.2 ≡ 0 = zero_of i.2 (λ some. let more = b.bound.2 some (omega (arith, c.block.auto.piece)) in omega (arith, zero)) in
     let last = Digesting-more i.0 i.1 i.2 _ _ _ _ _ _ _ _ d c.pieces.hasher c.in_ok-count.count c.block.new.piece _ _ b (λ m h. subst (Holds c.pieces.hasher) (sym (ap (λ n. m ++ take n c.block.new.piece) zero ∙ append-nil m)) h) in
     let r = Digesting-end i.0 i.1 _ _ _ _ _ _ (let rest : i.2 - c.in_ok-count.count ≡ 0 = omega arith in rw rest at last) c.finalize.result c.finalize.ensures _ _ (b.failures ∙ i.5) in
-    of_open (λ a b. ReadsTo (digest_of_rest a c.args.start.now) c.args.reader.now.offset (Open 0 b) c.args.reader.now c.block.new.self (Ok c.finalize.result) (g.I.Input.remaining c.args.input.now) (g.I.Input.remaining c.block.new.input) (g.I.Input.failures c.args.input.now) (g.I.Input.failures c.block.new.input)) _ i.0 i.1 left len i.3 e r
+    of_open (λ a b. ReadsTo (digest_of_rest a c.args.start.now) c.args.reader.now.offset (Open 0 b) (state_of c.args.reader.now (g.I.Input.remaining c.args.input.now) (g.I.Input.failures c.args.input.now)) (state_of c.block.new.self (g.I.Input.remaining c.block.new.input) (g.I.Input.failures c.block.new.input)) (Ok c.finalize.result)) _ i.0 i.1 left len i.3 e r

@@ -3,7 +3,7 @@ use Rattle.std.proofs.lemmas.List.{length-take-le}
 use Rattle.std.proofs.lemmas.Result.{err_from_is_err_and}
 use Rattle.std.specs.Io.KnownBytes.{Appends}
 use Rattle.devices.proofs.DeviceLemmas.{Appends-none}
-use Rattle.capture_core.proofs.OpenLemmas.{left_in, of_open, zero_of}
+use Rattle.warc_core.proofs.OpenLemmas.{left_in, of_open, zero_of}
 use Rattle.index_core.specs.Copying.{CopiesBlock}
 use Rattle.index_core.specs.declared.fault.IndexFault.TheVariants as faults
 use Rattle.capture_core.specs.declared.fault.CaptureFault.TheVariants.{Archive}

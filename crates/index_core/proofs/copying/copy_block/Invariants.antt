@@ -1,6 +1,6 @@
 use Rattle.std.proofs.Common.{◌≡◌, ℕ}
 use Rattle.warc_core.specs.declared.phase.Phase.TheVariants.{Open}
-use Rattle.capture_core.proofs.OpenLemmas.{left_in}
+use Rattle.warc_core.proofs.OpenLemmas.{left_in}
 use Rattle.index_core.proofs.CopyLemmas.{Copying}
 use Rattle.index_core.proofs.copying.copy_block.Given as goal
 

@@ -1,7 +1,7 @@
 use Rattle.std.proofs.Common.{◌∙◌, Err, subst}
 use Rattle.std.proofs.lemmas.Result.{err_from_is_err_and}
 use Rattle.warc_core.specs.HeadView.{record_length}
-use Rattle.warc_core.specs.Reading.{CountsRead}
+use Rattle.warc_core.specs.Answers.{CountsRead}
 use Rattle.index_core.proofs.CopyLemmas.{head-cut, block-cut, finish-cut, closing-cut, record-copied}
 use Rattle.index_core.proofs.copying.copy_record.Goals as goal
 

@@ -1,6 +1,6 @@
 use Rattle.std.proofs.Common.{◌≡◌, ◌∙◌, Option, Err, subst}
 use Rattle.std.proofs.lemmas.Result.{err_from_is_err_and}
-use Rattle.warc_core.specs.Reading.{CountsRead}
+use Rattle.warc_core.specs.Answers.{CountsRead}
 use Rattle.warc_core.specs.HeadView.{HeadView, record_length}
 use Rattle.warc_core.specs.ReaderView.{FailedBy}
 use Rattle.warc_core.specs.declared.next.TheConstants.{HEAD_LIMIT}

@@ -7,7 +7,7 @@ use Rattle.warc_core.proofs.block.give_block.Goals as goal
 pub returns-in_err-count-clause-bytes : goal.returns-in_err-count-clause-bytes
 returns-in_err-count-clause-bytes g c =
     let p = err_from_is_err_and c.from_residual.result c.from_residual.ensures.1 in
-    rw (p.1, p.2) (read_at (after_block c.args.left) c.in_err-count.field-0.0 _ c.in_err-count.ensures.only_read)
+    rw (p.1, p.2) (read_at (after_block c.args.left) c.in_err-count.field-0.0 _ c.in_err-count.ensures.cause)
 
 pub returns-then-count-eq0-clause-bytes : goal.returns-then-count-eq0-clause-bytes
 returns-then-count-eq0-clause-bytes g c =

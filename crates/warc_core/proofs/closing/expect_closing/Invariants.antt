@@ -1,6 +1,6 @@
 use Rattle.std.proofs.Common.{◌≡◌, drop}
 use Rattle.std.specs.Io.KnownBytes.{prepend_known}
-use Rattle.warc_core.specs.Reading.{GoesOn}
+use Rattle.warc_core.proofs.ReadingLemmas.{GoesOn}
 use Rattle.warc_core.specs.Record.{after_text, closing}
 use Rattle.warc_core.proofs.closing.expect_closing.Given as goal
 

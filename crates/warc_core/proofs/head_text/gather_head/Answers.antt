@@ -1,7 +1,7 @@
 use Rattle.std.proofs.Common.{◌≡◌, ◌∙◌, ◌+◌, ◌<◌, ◌≤◌, [], ◌++◌, length, take, arith, sym, ap, refl, length-append}
 use Rattle.std.proofs.lemmas.List.{take_all, length-take-le}
 use Rattle.std.proofs.Math.Seq.{take-nil}
-use Rattle.warc_core.specs.Record.{has_version, is_closed, head_text, ClosesFirst, IsOpenAfter}
+use Rattle.warc_core.specs.HeadText.{has_version, is_closed, head_text, ClosesFirst, IsOpenAfter}
 use Rattle.warc_core.proofs.ReadingLemmas.{GoesOn-equal, GoesOn-keeps, no_bytes, some_bytes}
 use Rattle.warc_core.proofs.HeadLemmas.{going, going-start}
 use Rattle.warc_core.proofs.GatherLemmas.{head-short, head-long, head-wrong, head-piece, head-found, head-is-found, open-more}

@@ -1,6 +1,6 @@
 use Rattle.std.proofs.Common.{arith}
 use Rattle.std.proofs.lemmas.Result.{err_from_is_err_and}
-use Rattle.warc_core.specs.Record.{head_text}
+use Rattle.warc_core.specs.HeadText.{head_text}
 use Rattle.warc_core.specs.Head.{parts_of}
 use Rattle.warc_core.specs.Next.{head_at}
 use Rattle.warc_core.specs.HeadView.{HeadView}
@@ -18,17 +18,17 @@ returns-in_err-raw-clause-bytes g c =
 pub returns-in_err-parts-clause-bytes : goal.returns-in_err-parts-clause-bytes
 returns-in_err-parts-clause-bytes g c =
     let p = err_from_is_err_and c.from_residual-in_err-parts.result c.from_residual-in_err-parts.ensures.1 in
-    rw (p.1, p.2) (head-unread HEAD_LIMIT c.args.start c.in_ok-raw.raw.items _ _ c.in_ok-raw.ensures.bytes c.in_err-parts.field-0.0 (rw (← c.as_slice.ensures.value) c.in_err-parts.ensures))
+    rw (p.1, p.2) (head-unread HEAD_LIMIT c.args.start c.in_ok-raw.raw.items _ _ c.in_ok-raw.ensures.bytes c.in_err-parts.field-0.0 (rw (← c.as_slice.ensures.value) c.in_err-parts.ensures.answer))
 
 pub returns-in_err-parts-clause-failures : goal.returns-in_err-parts-clause-failures
 returns-in_err-parts-clause-failures g c =
     let p = err_from_is_err_and c.from_residual-in_err-parts.result c.from_residual-in_err-parts.ensures.1 in
-    rw (p.1, p.2) (CountsRead-purely HeadView c.in_err-parts.field-0.0 (parts_of c.as_slice.result.now) _ _ c.in_err-parts.ensures c.in_ok-raw.ensures.failures)
+    rw (p.1, p.2) (CountsRead-purely HeadView c.in_err-parts.field-0.0 (parts_of c.as_slice.result.now) _ _ c.in_err-parts.ensures.answer c.in_ok-raw.ensures.failures)
 
 pub returns-then-end-gt-GREATEST_OFFSET-clause-bytes : goal.returns-then-end-gt-GREATEST_OFFSET-clause-bytes
 returns-then-end-gt-GREATEST_OFFSET-clause-bytes g c =
-    head-far HEAD_LIMIT c.args.start c.in_ok-raw.raw.items _ _ c.in_ok-raw.ensures.bytes c.in_ok-parts.parts (rw (← c.as_slice.ensures.value) c.in_ok-parts.ensures) (omega arith)
+    head-far HEAD_LIMIT c.args.start c.in_ok-raw.raw.items _ _ c.in_ok-raw.ensures.bytes c.in_ok-parts.parts (rw (← c.as_slice.ensures.value) c.in_ok-parts.ensures.answer) (omega arith)
 
 pub returns-clause-bytes : goal.returns-clause-bytes
 returns-clause-bytes g c =
-    rw c.from_parts.ensures (head-read HEAD_LIMIT c.args.start c.in_ok-raw.raw.items _ _ c.in_ok-raw.ensures.bytes c.in_ok-parts.parts (rw (← c.as_slice.ensures.value) c.in_ok-parts.ensures) (omega arith))
+    rw c.from_parts.ensures (head-read HEAD_LIMIT c.args.start c.in_ok-raw.raw.items _ _ c.in_ok-raw.ensures.bytes c.in_ok-parts.parts (rw (← c.as_slice.ensures.value) c.in_ok-parts.ensures.answer) (omega arith))

@@ -1,10 +1,11 @@
 use Rattle.std.proofs.Common.{◌≡◌, ◌<◌, ◌-◌, ◌∙◌, Ok, Err, refl, arith, length}
 use Rattle.std.proofs.lemmas.Result.{err_from_is_err_and}
 use borrow.Rule.Slice.PartMut.{put_mid}
-use Rattle.capture_core.specs.Payload.{Fills}
-use Rattle.capture_core.proofs.OpenLemmas.{of_open}
-use Rattle.capture_core.proofs.FrontLemmas.{Filling-start, Filling-more, Filling-fault, Filling-end, part_long}
-use Rattle.capture_core.proofs.front.fill.Goals as goal
+use Rattle.warc_core.specs.Calls.{Fills}
+use Rattle.warc_core.specs.ReaderView.{state_of}
+use Rattle.warc_core.proofs.OpenLemmas.{of_open}
+use Rattle.warc_core.proofs.FillLemmas.{Filling-start, Filling-more, Filling-fault, Filling-end, part_long}
+use Rattle.warc_core.proofs.reader.Reader.block_exact.Goals as goal
 
 pub loop-filled-init : goal.loop-filled-init
 loop-filled-init g c = (c.requires.0, c.requires.1, Filling-start _ _ _ _ _ c.requires.2 c.requires.3, refl)
@@ -16,8 +17,8 @@ returns-in_err-filled g c left len e =
     let b = c.in_err-filled.ensures in
     let phase = i.2.stands.phase_is in
     let whole = put_mid c.loop-filled.filled (length c.loop-filled.piece - c.loop-filled.filled) c.loop-filled.piece c.block.new.piece in
-    let r = Filling-fault i.0 i.1 _ _ _ _ _ _ _ c.loop-filled.filled c.in_err-filled.field-0.0 c.loop-filled.piece c.block.new.piece whole _ _ _ i.2 (b.open _ _ phase) (b.only _ _ phase) i.3 in
-    rw (p.1, p.2) (of_open (λ a b. Fills a b c.args.reader.now c.block.new.self (Err c.in_err-filled.field-0.0) whole (g.I.Input.remaining c.args.input.now) (g.I.Input.remaining c.block.new.input) (g.I.Input.failures c.args.input.now) (g.I.Input.failures c.block.new.input)) _ i.0 i.1 left len i.2.opened e r)
+    let r = Filling-fault i.0 i.1 _ _ _ _ _ _ _ c.loop-filled.filled c.in_err-filled.field-0.0 c.loop-filled.piece c.block.new.piece whole _ _ _ i.2 (b.open _ _ phase) i.3 in
+    rw (p.1, p.2) (of_open (λ a b. Fills a b (state_of c.args.self.now (g.I.Input.remaining c.args.input.now) (g.I.Input.failures c.args.input.now)) (state_of c.block.new.self (g.I.Input.remaining c.block.new.input) (g.I.Input.failures c.block.new.input)) (Err c.in_err-filled.field-0.0) whole) _ i.0 i.1 left len i.2.opened e r)
 
 pub overflow_add-filled : goal.overflow_add-filled
 overflow_add-filled g c =
@@ -54,4 +55,4 @@ returns g c left len e =
     let long = i.2.long in
     let within = i.2.within in
     let r = Filling-end i.0 i.1 _ _ _ _ _ c.loop-filled.filled c.loop-filled.piece _ _ i.2 (omega arith) i.3 in
-    of_open (λ a b. Fills a b c.args.reader.now c.loop-filled.reader (Ok tt) c.loop-filled.piece (g.I.Input.remaining c.args.input.now) (g.I.Input.remaining c.loop-filled.input) (g.I.Input.failures c.args.input.now) (g.I.Input.failures c.loop-filled.input)) _ i.0 i.1 left len i.2.opened e r
+    of_open (λ a b. Fills a b (state_of c.args.self.now (g.I.Input.remaining c.args.input.now) (g.I.Input.failures c.args.input.now)) (state_of c.loop-filled.self (g.I.Input.remaining c.loop-filled.input) (g.I.Input.failures c.loop-filled.input)) (Ok tt) c.loop-filled.piece) _ i.0 i.1 left len i.2.opened e r

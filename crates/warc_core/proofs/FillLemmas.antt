@@ -1,5 +1,5 @@
 -- A block's first bytes, piece by piece.
-use Rattle.std.proofs.Common.{◌≡◌, ◌≢◌, ℕ, ◌+◌, ◌-◌, ◌≤◌, List, [], ◌++◌, Option, None, Some, Ok, Err, length, take, drop, refl, sym, ap, ◌∙◌, subst, arith, append_assoc, length-drop}
+use Rattle.std.proofs.Common.{◌≡◌, ℕ, ◌+◌, ◌-◌, ◌≤◌, List, [], ◌++◌, Option, None, Some, Ok, Err, length, take, drop, refl, sym, ap, ◌∙◌, subst, arith, append_assoc, length-drop}
 use Rattle.std.proofs.lemmas.List.{length-take-le, drop_all, take-take, take_all}
 use Rattle.std.proofs.lemmas.Slice.{take-put_mid}
 use Rattle.std.proofs.Math.Seq.{take-append-add}
@@ -7,13 +7,13 @@ use borrow.Rule.Slice.PartMut.{put_mid, same_len_mid}
 use Rattle.std.specs.Io.KnownBytes.{prepend_known, Consumes}
 use Rattle.warc_core.specs.declared.fault.Cause.{Cause}
 use Rattle.warc_core.specs.declared.phase.Phase.TheVariants.{Open}
-use Rattle.warc_core.specs.declared.fault.Cause.TheVariants as causes
 use Rattle.warc_core.specs.declared.fault.Fault.{Fault}
-use Rattle.warc_core.specs.Reading.{IsFoundAt, IsFoundIn, CountsRead}
+use Rattle.warc_core.specs.Reading.{IsFoundAt, IsFoundIn}
+use Rattle.warc_core.specs.Answers.{CountsRead}
 use Rattle.warc_core.specs.Record.{after_block}
-use Rattle.warc_core.specs.ReaderView.{ReaderView, StandsAt, FailedBy, GivesBlock}
+use Rattle.warc_core.specs.ReaderView.{ReaderView, StandsAt, FailedBy, state_of}
+use Rattle.warc_core.specs.Calls.{GivesBlock, Fills}
 use Rattle.warc_core.proofs.RecordLemmas.{after_block-part}
-use Rattle.capture_core.specs.Payload.{Fills}
 
 pub Consumes-none : (known : Option (List ℕ)) → Consumes known known []
 Consumes-none None = tt
@@ -52,7 +52,7 @@ pub record Filling (left len : ℕ) (old now : ReaderView) (before mid : Option 
   pub given : Consumes (prepend_known old.held before) (prepend_known now.held mid) (take filled piece)
 
 pub Filling-more : (left len : ℕ) (old now next : ReaderView) (before mid after : Option (List ℕ)) (size filled n : ℕ) (piece part : List ℕ) (count count' : ℕ) → Filling left len old now before mid size filled piece
-    → GivesBlock (left - filled) len now next (Ok n) part mid after count count' → length part ≡ size - filled
+    → GivesBlock (left - filled) len (state_of now mid count) (state_of next after count') (Ok n) part → length part ≡ size - filled
     → Filling left len old next before after size (filled + n) (put_mid filled (length piece - filled) piece part)
 Filling-more left len old now next before mid after size filled n piece part count count' f g l =
     let long = f.long in
@@ -79,23 +79,23 @@ Filling-start left len old before piece e h = record {
 }
 
 pub Filling-fault : (left len : ℕ) (old now next : ReaderView) (before mid after : Option (List ℕ)) (size filled : ℕ) (fault : Fault) (piece part whole : List ℕ) (count k k' : ℕ) → Filling left len old now before mid size filled piece
-    → GivesBlock (left - filled) len now next (Err fault) part mid after k k' → fault.cause ≢ causes.Memory → k ≡ count → Fills left len old next (Err fault) whole before after count k'
-Filling-fault left len old now next before mid after size filled fault piece part whole count k k' f g only e =
+    → GivesBlock (left - filled) len (state_of now mid k) (state_of next after k') (Err fault) part → k ≡ count → Fills left len (state_of old before count) (state_of next after k') (Err fault) whole
+Filling-fault left len old now next before mid after size filled fault piece part whole count k k' f g e =
     let long = f.long in
     let within = f.within in
     let fits = f.fits in
     record {
       given = found-behind fault.cause left filled (take filled piece) _ _ (length-take-le filled piece (omega arith)) (omega arith) f.given g.bytes;
       state = subst (λ o. FailedBy next o fault) f.stands.offset_is g.state;
-      only = only;
+      cause = g.cause;
       failures = subst (λ c. CountsRead {A = Unit {0}} (Err fault.cause) c k') e g.failures;
     }
 
-pub Filling-end : (left len : ℕ) (old now : ReaderView) (before mid : Option (List ℕ)) (size filled : ℕ) (piece : List ℕ) (count k : ℕ) → Filling left len old now before mid size filled piece → filled ≡ length piece → k ≡ count → Fills left len old now (Ok tt) piece before mid count k
+pub Filling-end : (left len : ℕ) (old now : ReaderView) (before mid : Option (List ℕ)) (size filled : ℕ) (piece : List ℕ) (count k : ℕ) → Filling left len old now before mid size filled piece → filled ≡ length piece → k ≡ count → Fills left len (state_of old before count) (state_of now mid k) (Ok tt) piece
 Filling-end left len old now before mid size filled piece count k f e c = record {
   given = subst (Consumes _ _) (take_all filled piece (omega arith)) f.given;
   state = record { offset_is = f.stands.offset_is; phase_is = f.stands.phase_is ∙ ap (λ n. Open (left - n) len) e };
-  only = tt;
+  cause = tt;
   failures = c;
 }
 

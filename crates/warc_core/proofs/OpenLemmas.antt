@@ -5,7 +5,8 @@ use Rattle.warc_core.specs.declared.fault.Cause.{Cause}
 use Rattle.warc_core.specs.declared.fault.Cause.TheVariants as causes
 use Rattle.warc_core.specs.declared.phase.Phase.{Phase}
 use Rattle.warc_core.specs.declared.phase.Phase.TheVariants.{Open}
-use Rattle.warc_core.specs.Reading.{GoesOn, CountsRead}
+use Rattle.warc_core.proofs.ReadingLemmas.{GoesOn}
+use Rattle.warc_core.specs.Answers.{CountsRead}
 
 -- how many bytes of an open record's block are left
 abbrev pub left_in : Phase → ℕ
