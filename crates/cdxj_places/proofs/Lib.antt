@@ -3,6 +3,7 @@ pub mod LastSpace
 pub mod Offsets
 pub mod PlaceLaw
 pub mod PlaceOrder
+pub mod PairLemmas
 pub mod Abbreviations
 pub mod RisingLaws
 pub mod RisingAlike

@@ -1,26 +1,48 @@
 //! Laws of the definitions that the contracts cite. These functions do nothing: each law is a
 //! contract.
-ghost use Rattle.std.specs.Prelude.{◌≡◌, ◌<◌, ◌++◌, ◌↔◌, ℕ, List, Some, Bool, not, filter, All};
+ghost use Rattle.std.specs.Prelude.{◌≡◌, ◌<◌, ◌++◌, ◌↔◌, ℕ, List, Some, Bool, not, filter, map, All};
 ghost use Rattle.std.specs.Cmp.{IsTotalOrder};
-ghost use Rattle.cdxj_places.specs.Places.{place_cmp, resume_place, resume_text};
+ghost use Rattle.std.specs.declared.cmp.Ordering.{Ordering};
+ghost use Rattle.std.specs.declared.cmp.Ordering.TheVariants.{Less, Equal, Greater};
+ghost use Rattle.cdxj_places.specs.Pair.{pair_of};
+ghost use Rattle.cdxj_places.specs.Pairs.{Pair, pair_cmp, place_pair};
+ghost use Rattle.cdxj_places.specs.Places.{PlaceValue, IsPlace, place_cmp, resume_place, resume_text};
 ghost use Rattle.cdxj_places.specs.PlaceViews.{place_view};
 ghost use Rattle.cdxj_places.specs.Rising.{IsIn, IsFirst, Rises, IsLower, rising};
 
 use crate::order::HasPlace;
 use crate::place::Place;
 
-/// Places are totally ordered.
+/// Places are totally ordered, and none but the same place compares as equal.
 pub fn places_are_ordered()
-    ensures { IsTotalOrder place_cmp }
+    ensures total { IsTotalOrder place_cmp }
+    ensures same { (p q : PlaceValue) → place_cmp p q ≡ Equal → p ≡ q }
+{}
+
+/// Pairs are totally ordered, and places of different pairs are ordered as these.
+pub fn pairs_are_ordered()
+    ensures total { IsTotalOrder pair_cmp }
+    ensures lower { (p q : PlaceValue) → pair_cmp (place_pair p) (place_pair q) ≡ Less → place_cmp p q ≡ Less }
+    ensures higher { (p q : PlaceValue) → pair_cmp (place_pair p) (place_pair q) ≡ Greater → place_cmp p q ≡ Greater }
+{}
+
+/// The pair that a text begins with is that of each longer text.
+pub fn longer_text_has_the_pair()
+    ensures { (text rest : List ℕ) → (pair : Pair) → pair_of text ≡ Some pair → pair_of (text ++ rest) ≡ Some pair }
+{}
+
+/// The resume key of a place is read as that place.
+pub fn resume_key_is_read()
+    ensures { (place : PlaceValue) → IsPlace place → resume_place (resume_text place) ≡ Some place }
 {}
 
 fn see_bytes(bytes: &[u8])
     ensures { All (λ b. b < 256) bytes.now }
 {}
 
-/// The resume key of a place is read as that place.
-pub fn resume_key_is_read(place: Place<'_>)
-    ensures { resume_place (resume_text (place_view place.entry)) ≡ Some (place_view place.entry) }
+/// A place keeps the rules of places.
+pub fn place_is_good(place: Place<'_>)
+    ensures { IsPlace (place_view place.entry) }
 {
     let key = place.key.as_bytes();
     see_bytes(key);
@@ -41,4 +63,10 @@ pub fn rising_list_is_unique<T: HasPlace>()
         → rising T.place_of place_cmp things
         ≡ rising T.place_of place_cmp (filter is_low things)
         ++ rising T.place_of place_cmp (filter (λ thing. not (is_low thing)) things) }
+{}
+
+/// The list of what things show, in the order of places, is what the things in that order show.
+pub fn rising_list_of_views<X, Y, P>()
+    ensures { (view : X → Y) → (place : Y → P) → (cmp : P → P → Ordering) → (things : List X)
+        → map view (rising (λ thing. place (view thing)) cmp things) ≡ rising place cmp (map view things) }
 {}

@@ -14,7 +14,10 @@ mod resume;
 
 pub use crate::cuts::{cut_first, cut_last};
 pub use crate::fault::PlaceFault;
-pub use crate::laws::{places_are_ordered, resume_key_is_read, rising_list_is_unique};
+pub use crate::laws::{
+    longer_text_has_the_pair, pairs_are_ordered, place_is_good, places_are_ordered,
+    resume_key_is_read, rising_list_is_unique, rising_list_of_views,
+};
 pub use crate::offset::read_offset;
 pub use crate::order::{HasPlace, in_order};
 pub use crate::owned_place::OwnedPlace;

@@ -1,0 +1,97 @@
+-- The pair of a line, and the order of pairs.
+use Rattle.std.proofs.Common.{◌≡◌, ℕ, zero, suc, ◌+◌, ◌<◌, ◌≤◌, ◌&&◌, Bool, true, false, cond, List, [], ◌∷◌, ◌++◌, length, take, drop, Some, None, get_or, refl, sym, ap, ◌∙◌, arith, append_assoc, ⊎_elim, take-append-drop, Ordering, Less, Equal, Greater}
+use Rattle.std.specs.List.{position_or_len, before_first, after_first}
+use Rattle.std.specs.Cmp.{IsTotalOrder}
+use Rattle.std.specs.Ordering.{nat_cmp, ordering_then}
+use Rattle.std.specs.Cmp.Lexicographic.{slice_cmp}
+use Rattle.std.proofs.lemmas.Bool.{and_parts, cond-true, eqb-true, cases_lt}
+use Rattle.std.proofs.lemmas.Cmp.{nat_list_cmp_total, on_total, then_total}
+use Rattle.std.proofs.lemmas.List.{length-append, drop_all}
+use Rattle.std.proofs.lemmas.List.Sums.{split_at_first, passes_at_first}
+use Rattle.std.proofs.Math.Seq.{take-append_seam, drop-append_seam}
+use Rattle.cdxj_places.specs.Pair.{is_space, is_key, is_stamp, key_part, stamp_part, tail_part, begins_with_space, begins_with_pair, pair_of}
+use Rattle.cdxj_places.specs.Pairs.{Pair, pair_cmp, place_pair}
+use Rattle.cdxj_places.specs.Places.{PlaceValue, place_cmp}
+use Rattle.cdxj_places.proofs.PlaceLaw.{key_no_space, before_first_at, after_first_at, both}
+
+-- ---- the pair of a text
+
+-- a key, a space, a stamp and a space begin with the pair
+pub pair_of-parts : (key stamp rest : List ℕ) → is_key key ≡ true → is_stamp stamp ≡ true → pair_of (key ++ 32 ∷ (stamp ++ 32 ∷ rest)) ≡ Some (key, stamp)
+pair_of-parts key stamp rest k s =
+    let free = key_no_space key k in
+    let tail = stamp ++ 32 ∷ rest in
+    let before = before_first_at key tail free in
+    let after = after_first_at key tail free in
+    let len : length stamp ≡ 14 = eqb-true _ _ (and_parts _ _ s).0 in
+    let stamp_is : stamp_part (key ++ 32 ∷ tail) ≡ stamp = ap (take 14) after ∙ ap (λ n. take n tail) (sym len) ∙ take-append_seam stamp (32 ∷ rest) in
+    let tail_is : tail_part (key ++ 32 ∷ tail) ≡ 32 ∷ rest = ap (drop 14) after ∙ ap (λ n. drop n tail) (sym len) ∙ drop-append_seam stamp (32 ∷ rest) in
+    let tests : begins_with_pair (key ++ 32 ∷ tail) ≡ true = both _ _ (both _ _ (ap is_key before ∙ k) (ap is_stamp stamp_is ∙ s)) (ap begins_with_space tail_is) in
+    cond-true _ _ _ tests ∙ (λ i. Some (before i, stamp_is i))
+
+-- the text around its first space, unless nothing follows one
+pub around : (text : List ℕ) → 0 < length (after_first is_space text) → text ≡ before_first is_space text ++ 32 ∷ after_first is_space text
+around text some =
+    let within : position_or_len is_space text < length text = ⊎_elim (λ h. h) (λ h. absurd (let none = drop_all (position_or_len is_space text + 1) text (omega arith) in omega (arith, ap length none))) (cases_lt (position_or_len is_space text) (length text)) in
+    let space : get_or text (position_or_len is_space text) 0 ≡ 32 = eqb-true _ _ (passes_at_first is_space text 0 within) in
+    split_at_first is_space text 0 within ∙ ap (λ b. before_first is_space text ++ b ∷ after_first is_space text) space
+
+space_first : (s : List ℕ) → begins_with_space s ≡ true → (rest : List ℕ) × (s ≡ 32 ∷ rest)
+space_first [] h = absurd (cc)
+space_first (b ∷ s) h = (s, ap (λ b. b ∷ s) (eqb-true b 32 h))
+
+has_pair : (x : List ℕ) (p : Pair) (b : Bool) → begins_with_pair x ≡ b → cond b (Some (key_part x, stamp_part x)) None ≡ Some p
+    → (begins_with_pair x ≡ true) × (Some (key_part x, stamp_part x) ≡ Some p)
+has_pair x p true e h = (e, h)
+has_pair x p false e h = absurd (cc)
+
+-- the pair of a text is that of each longer text
+pub pair_longer : (x y : List ℕ) (p : Pair) → pair_of x ≡ Some p → pair_of (x ++ y) ≡ Some p
+pair_longer x y p h =
+    let has = has_pair x p (begins_with_pair x) refl h in
+    let outer = and_parts (is_key (key_part x) && is_stamp (stamp_part x)) (begins_with_space (tail_part x)) has.0 in
+    let inner = and_parts (is_key (key_part x)) (is_stamp (stamp_part x)) outer.0 in
+    let after = after_first is_space x in
+    let tail = space_first (tail_part x) outer.1 in
+    let after_is : after ≡ stamp_part x ++ 32 ∷ tail.0 = sym (take-append-drop 14 after) ∙ ap (λ s. stamp_part x ++ s) tail.1 in
+    let some : 0 < length after = omega (arith, ap length after_is, length-append (stamp_part x) (32 ∷ tail.0)) in
+    let x_is : x ≡ key_part x ++ 32 ∷ (stamp_part x ++ 32 ∷ tail.0) = around x some ∙ ap (λ s. key_part x ++ 32 ∷ s) after_is in
+    let whole : x ++ y ≡ key_part x ++ 32 ∷ (stamp_part x ++ 32 ∷ (tail.0 ++ y)) =
+    ap (λ s. s ++ y) x_is ∙ append_assoc (key_part x) (32 ∷ (stamp_part x ++ 32 ∷ tail.0)) y
+    ∙ ap (λ s. key_part x ++ 32 ∷ s) (append_assoc (stamp_part x) (32 ∷ tail.0) y) in
+    ap pair_of whole ∙ pair_of-parts (key_part x) (stamp_part x) (tail.0 ++ y) inner.0 inner.1 ∙ has.1
+
+-- ---- the order of pairs
+
+pub pair_cmp_total : IsTotalOrder pair_cmp
+pair_cmp_total = then_total (on_total (λ (p : Pair). p.0) nat_list_cmp_total) (on_total (λ (p : Pair). p.1) nat_list_cmp_total)
+
+-- a pair that decides
+abbrev Decides : Ordering → Type 0
+Decides o = (a b c : Ordering) → ordering_then a b ≡ o → ordering_then a (ordering_then b c) ≡ o
+
+less : Decides Less
+less Less b c e = refl
+less Equal Less c e = refl
+less Equal Equal c e = cc
+less Equal Greater c e = cc
+less Greater b c e = cc
+
+greater : Decides Greater
+greater Less b c e = cc
+greater Equal Less c e = cc
+greater Equal Equal c e = cc
+greater Equal Greater c e = refl
+greater Greater b c e = refl
+
+module _ (p q : PlaceValue) where
+  abbrev later : Ordering
+  later = ordering_then (slice_cmp nat_cmp p.filename q.filename) (nat_cmp p.offset q.offset)
+
+  -- places of a lower pair are lower
+  pub lower_pair : pair_cmp (place_pair p) (place_pair q) ≡ Less → place_cmp p q ≡ Less
+  lower_pair e = less (slice_cmp nat_cmp p.key q.key) (slice_cmp nat_cmp p.stamp q.stamp) later e
+
+  -- places of a higher pair are higher
+  pub higher_pair : pair_cmp (place_pair p) (place_pair q) ≡ Greater → place_cmp p q ≡ Greater
+  higher_pair e = greater (slice_cmp nat_cmp p.key q.key) (slice_cmp nat_cmp p.stamp q.stamp) later e

@@ -1,0 +1,8 @@
+-- The lines of a text, cut after each line feed.
+use Rattle.std.specs.Prelude.{ℕ, ◌==◌, List, [], ◌∷◌, if◌then◌else◌}
+use Rattle.std.specs.List.{onto_first}
+
+-- each line with its line feed; the last may lack it
+abbrev pub lines : List ℕ → List (List ℕ)
+lines [] = []
+lines (b ∷ bytes) = if b == 10 then (b ∷ []) ∷ lines bytes else onto_first b (lines bytes)
