@@ -5,7 +5,8 @@ use Rattle.clap.specs.Simple.{new_shape}
 use Rattle.clap.specs.Lexer.{usize_max}
 use Rattle.clap.specs.declared.error.kind.ErrorKind.{ErrorKind}
 use Rattle.clap.specs.declared.error.kind.ErrorKind.TheVariants as kind
-use Rattle.command_line.specs.Words.{Text, offset_of}
+use Rattle.cdxj_places.specs.Places.{offset_of}
+use Rattle.command_line.specs.Words.{Text}
 use Rattle.command_line.specs.Commands.{Meaning, Form, Names, Offset, Refusal, Help, Usage, commands, command_of, list_input}
 
 -- ---- the command

@@ -2,11 +2,12 @@
 use Rattle.std.specs.Prelude.{ℕ, List, [], ◌∷◌, ◌||◌, Option, None, Some, Result, Ok, Err, MatchResult, ◌≡◌, if◌then◌else◌, codes, bytes_eq, find, is_some, option_map, option_and_then, string_bytes}
 use Rattle.std.specs.List.{list_any}
 use Rattle.std.specs.Option.{IfSome, ok_or}
+use Rattle.cdxj_places.specs.Places.{offset_of}
 use Rattle.command_line.specs.declared.fault.WordsFault.{WordsFault}
 use Rattle.command_line.specs.declared.fault.WordsFault.TheVariants as fault
 use Rattle.command_line.specs.declared.task.Task.{Task}
 use Rattle.command_line.specs.declared.task.Task.TheVariants as task
-use Rattle.command_line.specs.Words.{Text, texts, asks_for_help, is_unknown_option, offset_of}
+use Rattle.command_line.specs.Words.{Text, texts, asks_for_help, is_unknown_option}
 
 -- ---- the table of commands
 

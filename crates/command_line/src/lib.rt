@@ -5,7 +5,6 @@ mod command;
 mod fault;
 mod help;
 mod matches;
-mod offset;
 mod options;
 mod task;
 mod words;

@@ -5,8 +5,8 @@ ghost use Rattle.command_line.specs.Words.{texts};
 ghost use Rattle.command_line.specs.Commands.{Offset, ToGet, list_input, view};
 ghost use Rattle.command_line.specs.Clap.{matches_task, values_task};
 
-use crate::offset::read_offset;
 use crate::task::Task;
+use cdxj_places::read_offset;
 use clap::ArgMatches;
 use std::alloc::{AllocError, Global};
 

@@ -1,3 +1,5 @@
+//! What the program is asked to do.
+
 /// What the program is asked to do. Names are the words as they were given; `-` is standard input.
 #[derive(Debug, Drop, PartialEq, Eq)]
 pub enum Task {
