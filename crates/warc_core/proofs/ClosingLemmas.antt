@@ -29,7 +29,7 @@ four (a ∷ b ∷ c ∷ d ∷ []) l p q r s = let e : a ≡ 13 = p in let f : b 
 four (a ∷ b ∷ c ∷ d ∷ e ∷ es) l p q r s = absurd (omega arith)
 
 -- what ends with CR LF CR LF has it as its last four bytes
-closed-last : (text : List ℕ) → is_closed text ≡ true → drop (length text - 4) text ≡ closing
+pub closed-last : (text : List ℕ) → is_closed text ≡ true → drop (length text - 4) text ≡ closing
 closed-last text h = sym (same_texts closing (drop (length text - 4) text) h)
 
 last-closed : (text : List ℕ) → drop (length text - 4) text ≡ closing → is_closed text ≡ true

@@ -51,7 +51,7 @@ agrees-front (x ∷ xs) (y ∷ ys) h l =
     cc
 
 -- a text that agrees and is as long begins with the other
-agrees-begins : (xs ys : List ℕ) → agrees xs ys ≡ true → length ys ≤ length xs → (more : List ℕ) × (xs ≡ ys ++ more)
+pub agrees-begins : (xs ys : List ℕ) → agrees xs ys ≡ true → length ys ≤ length xs → (more : List ℕ) × (xs ≡ ys ++ more)
 agrees-begins xs [] h l = (xs, refl)
 agrees-begins [] (y ∷ ys) h l = absurd (omega arith)
 agrees-begins (x ∷ xs) (y ∷ ys) h l =
@@ -137,7 +137,7 @@ or_false : (a b : Bool) → (a || b) ≡ false → (a ≡ false) × (b ≡ false
 or_false true b h = absurd (let e : true ≡ false = h in cc)
 or_false false b h = (refl, h)
 
-or_true : (a b : Bool) → (a || b) ≡ true → (a ≡ true) ⊎ (b ≡ true)
+pub or_true : (a b : Bool) → (a || b) ≡ true → (a ≡ true) ⊎ (b ≡ true)
 or_true true b h = inl refl
 or_true false b h = inr h
 
@@ -207,10 +207,6 @@ unfolding head_text going
 going-start limit bytes =
     let e : limit ≡ limit - 0 = omega arith in
     ap (λ m. judged limit bytes (shortest is_closed [] (take m bytes))) e
-
-pub going-disagrees : (limit : ℕ) (seen bytes : List ℕ) → has_version seen ≡ false → going limit seen bytes ≡ Err causes.Version
-unfolding going
-going-disagrees limit seen bytes h = let e = has_version-longer seen bytes h in rw e refl
 
 pub going-more : (limit : ℕ) (seen bytes : List ℕ) (b : ℕ) → is_closed seen ≡ false → length seen < limit → going limit seen (b ∷ bytes) ≡ going limit (seen ++ b ∷ []) bytes
 unfolding going

@@ -11,3 +11,5 @@ pub mod ArchiveLemmas
 pub mod OpenLemmas
 pub mod FillLemmas
 pub mod CauseLemmas
+pub mod HeadTextLemmas
+pub mod DamageLemmas

@@ -16,6 +16,7 @@ use Rattle.warc_core.specs.HeadView.{HeadView, record_length}
 use Rattle.warc_core.specs.Next.{head_at, next_at}
 use Rattle.warc_core.specs.Walk.{record_at, closed_at, Walks}
 use Rattle.warc_core.specs.Laws.{ReadIsSpelled, SpelledIsRead, NoPrefix, RecordsOrDamage}
+use Rattle.warc_core.proofs.HeadTextLemmas.{found-spelled, spelled-found}
 use Rattle.warc_core.proofs.GatherLemmas.{has_version-front}
 use Rattle.warc_core.proofs.WalkLemmas.{none_at_end}
 use Rattle.warc_core.proofs.HeadLemmas.{going-start, going-piece, going-found}
@@ -221,7 +222,7 @@ read-spelled limit start bytes rest h e =
     w.1 ∙ (ap (λ x. h.raw ++ x) b.2 ∙ sym (append_assoc h.raw (block ++ closing) rest ∙ ap (λ x. h.raw ++ x) (append_assoc block closing rest))) in (
       block,
       h.raw ++ (block ++ closing),
-      record { is_text = record { spelled = refl; is_head = record { found = w.0; says = r.1 }; block_length = b.1 }; start_is = r.2; fits = r.3 },
+      record { is_text = record { spelled = refl; is_head = found-spelled limit h.raw h.parts w.0 r.1; block_length = b.1 }; start_is = r.2; fits = r.3 },
       spelling,
     )
 
@@ -244,7 +245,8 @@ spelled-read limit start h block text rest r =
     let t = r.is_text in
     let x = block ++ (closing ++ rest) in
     let whole : text ++ rest ≡ h.raw ++ x = ap (λ y. y ++ rest) t.spelled ∙ (append_assoc h.raw (block ++ closing) rest ∙ ap (λ y. h.raw ++ y) (append_assoc block closing rest)) in
-    let head = head-read-back limit start h x t.is_head.found t.is_head.says r.start_is r.fits in
+    let f = spelled-found limit h.raw h.parts t.is_head in
+    let head = head-read-back limit start h x f.found f.says r.start_is r.fits in
     let some : 0 < length (h.raw ++ x) = omega (arith, length-append h.raw x, length-append block (closing ++ rest), length-append closing rest) in
     let next = next-back limit start (h.raw ++ x) x h some head in
     let b : after_record h.parts.length x ≡ Ok (tt, rest) = ap (λ n. after_record n x) (sym t.block_length) ∙ block-back block rest in
@@ -254,11 +256,13 @@ pub no-prefix : NoPrefix
 no-prefix limit head head' parts parts' block block' text more t u =
     let a : text ++ more ≡ head ++ ((block ++ closing) ++ more) = ap (λ y. y ++ more) t.spelled ∙ append_assoc head (block ++ closing) more in
     let b : text ++ more ≡ head' ++ (block' ++ closing) = u.spelled in
-    let p = head-back limit head ((block ++ closing) ++ more) t.is_head.found in
-    let q = head-back limit head' (block' ++ closing) u.is_head.found in
+    let f = spelled-found limit head parts t.is_head in
+    let g = spelled-found limit head' parts' u.is_head in
+    let p = head-back limit head ((block ++ closing) ++ more) f.found in
+    let q = head-back limit head' (block' ++ closing) g.found in
     let same : ◌≡◌ {A = Result (List ℕ × List ℕ) Cause} (Ok (head, (block ++ closing) ++ more)) (Ok (head', block' ++ closing)) = sym p ∙ (ap (head_text limit) (sym a ∙ b) ∙ q) in
     let r = answered head head' ((block ++ closing) ++ more) (block' ++ closing) same in
-    let says : ◌≡◌ {A = Result HeadParts Cause} (Ok parts) (Ok parts') = sym t.is_head.says ∙ (ap parts_of r.0 ∙ u.is_head.says) in
+    let says : ◌≡◌ {A = Result HeadParts Cause} (Ok parts) (Ok parts') = sym f.says ∙ (ap parts_of r.0 ∙ g.says) in
     let is : parts ≡ parts' = cc in
     let size : length block ≡ length block' = t.block_length ∙ (ap (λ k. k.length) is ∙ sym u.block_length) in
     let sizes : length ((block ++ closing) ++ more) ≡ length (block' ++ closing) = ap length r.1 in

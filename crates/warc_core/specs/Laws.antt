@@ -3,9 +3,11 @@ use Rattle.std.specs.Prelude.{◌≡◌, ℕ, List, [], ◌++◌, Some, Ok, ◌�
 use Rattle.std.specs.List.{concat}
 use Rattle.warc_head.specs.Parts.{HeadParts}
 use Rattle.warc_core.specs.declared.fault.Cause.{Cause}
+use Rattle.warc_core.specs.Cause.{StopsHead}
 use Rattle.warc_core.specs.HeadView.{HeadView}
+use Rattle.warc_core.specs.Next.{next_at}
 use Rattle.warc_core.specs.Walk.{record_at, AreRecords, IsDamaged}
-use Rattle.warc_core.specs.RecordText.{IsRecordText, IsReadFrom, AreTexts}
+use Rattle.warc_core.specs.RecordText.{IsHead, IsRecordText, IsReadFrom, AreTexts}
 
 -- what is read as a record is spelled as one, and the rest follows it
 abbrev pub ReadIsSpelled : Type 0
@@ -41,3 +43,12 @@ RecordsOrDamage = (limit : ℕ) (archive : List ℕ) → ((heads : List HeadView
 -- no record stands where an archive is damaged
 abbrev pub NoRecordAtDamage : Type 0
 NoRecordAtDamage = (limit : ℕ) (archive : List ℕ) (heads : List HeadView) (offset : ℕ) (cause : Cause) (d : IsDamaged limit archive heads offset cause) (h : HeadView) (block text more : List ℕ) → d.rest ≡ text ++ more → IsReadFrom limit offset h block text → ⊥
+
+-- a head that is read is a head text, and stands in front of what follows it
+abbrev pub HeadIsSpelled : Type 0
+HeadIsSpelled = (limit start : ℕ) (bytes rest : List ℕ) (h : HeadView) → next_at limit start bytes ≡ Ok (Some h, rest) → IsHead limit h × (h.start ≡ start) × (bytes ≡ h.raw ++ rest)
+
+-- where an archive is damaged behind a head, in a block or its closing, the head is read, and stands in front of what is left
+abbrev pub HeadAtDamage : Type 0
+HeadAtDamage = (limit : ℕ) (archive : List ℕ) (heads : List HeadView) (offset : ℕ) (cause : Cause) (d : IsDamaged limit archive heads offset cause) → (StopsHead cause → ⊥) →
+    (h : HeadView) × (rest : List ℕ) × (next_at limit offset d.rest ≡ Ok (Some h, rest)) × IsHead limit h × (h.start ≡ offset) × (d.rest ≡ h.raw ++ rest)

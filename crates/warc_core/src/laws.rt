@@ -1,6 +1,6 @@
 //! Laws over the definitions of records, archives and damage that the calls of this crate cite.
 ghost use Rattle.std.specs.Prelude.{ℕ, List};
-ghost use Rattle.warc_core.specs.Laws.{ReadIsSpelled, SpelledIsRead, NoPrefix, RecordsAreSpelled, SpelledAreRecords, OneReading, RecordsOrDamage, NoRecordAtDamage};
+ghost use Rattle.warc_core.specs.Laws.{ReadIsSpelled, SpelledIsRead, NoPrefix, RecordsAreSpelled, SpelledAreRecords, OneReading, RecordsOrDamage, NoRecordAtDamage, HeadIsSpelled, HeadAtDamage};
 
 /// A record is read exactly where its text stands: a head, a block of the length that the head says, CR LF CR LF.
 pub fn reading_and_spelling()
@@ -32,4 +32,10 @@ pub fn records_or_damage()
 /// No record stands where an archive is damaged.
 pub fn no_record_at_damage()
     ensures { NoRecordAtDamage }
+{}
+
+/// A head that is read is a head text in front of its block, also where the record then proves damaged.
+pub fn head_is_spelled()
+    ensures read { HeadIsSpelled }
+    ensures damaged { HeadAtDamage }
 {}

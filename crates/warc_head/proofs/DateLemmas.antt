@@ -2,7 +2,7 @@
 use Rattle.std.proofs.Common.{◌≡◌, ℕ, ◌<◌, ◌≤◌, Bool, true, false, ◌&&◌, List, [], ◌∷◌, length, take, drop, refl, sym, arith, length-take, ◌⊎◌, inl, inr, Option, Some, None, if◌then◌else◌, nat_le, codes, zero, suc, ◌+◌, ◌++◌, get_or, subst, lit≤, append-nil}
 use Rattle.std.proofs.lemmas.Bool.Decides.{nat_tests}
 use Rattle.warc_head.specs.Length.{is_digit, all_digits}
-use Rattle.warc_head.specs.Date.{fits, fits_byte, two, digits_of, filled, said_in, has_fraction, to_the_second, is_fraction}
+use Rattle.warc_head.specs.Date.{fits, fits_byte, two, digits_of, full_date, date_length, has_fraction, to_the_second, is_fraction}
 
 which : (b : Bool) → (b ≡ true) ⊎ (b ≡ false)
 which true = inl refl
@@ -70,10 +70,10 @@ unfolding fits
 zeros_fit = refl
 
 -- each of the six forms, filled up, says a date and a time to the second
-pub whole_fits : (t : List ℕ) (n : ℕ) → said_in t ≡ Some n → fits to_the_second (filled t n) ≡ true
-unfolding said_in
+pub whole_fits : (t : List ℕ) (n : ℕ) → date_length t ≡ Some n → fits to_the_second (full_date t n) ≡ true
+unfolding date_length
 whole_fits t =
-    let P = λ (n : ℕ). fits to_the_second (filled t n) ≡ true in
+    let P = λ (n : ℕ). fits to_the_second (full_date t n) ≡ true in
     let z = codes "0000-01-01T00:00:00" in
     let fill : (g : List ℕ) (u : List ℕ) (n : ℕ) → fits g u ≡ true → take n g ≡ take n to_the_second → n ≤ length g → fits to_the_second (take n u ++ drop n z) ≡ true = λ g u n h e l. fits_filled to_the_second g z u n zeros_fit h e l in
     if_some (fits (codes "0000") t) 4 _ P (λ h. fill (codes "0000") t 4 h refl (lit≤ tt))

@@ -5,7 +5,7 @@ use Rattle.std.specs.Prelude.{nat_eq, ◌&&◌, take, ◌-◌}
 use Rattle.warc_head.specs.declared.fault.HeadFault.{HeadFault}
 use Rattle.warc_head.specs.declared.fault.HeadFault.TheVariants as faults
 use Rattle.warc_head.specs.Answers.{◌>>=◌, IsFound}
-use Rattle.warc_head.specs.Lines.{lines_of, text_of, continues, trim, is_plain, line_end}
+use Rattle.warc_head.specs.Lines.{lines_of, line_content, continues, trim, is_plain, line_end}
 use Rattle.warc_head.specs.Names.{is_name}
 use Rattle.warc_head.specs.Fields.{Field, Given, given_by, fields_of, joined, added, begun, field_in, with_piece, with_field, named, at_colon}
 
@@ -63,20 +63,20 @@ same_then (Ok x) f g h = h x
 same_then (Err e) f g h = refl
 
 -- what one line does
-line-fault : (seen : List Field) (line : List ℕ) (lines : List (List ℕ)) (e : HeadFault) → text_of line ≡ Err e → going_lines seen (line ∷ lines) ≡ Err e
+line-fault : (seen : List Field) (line : List ℕ) (lines : List (List ℕ)) (e : HeadFault) → line_content line ≡ Err e → going_lines seen (line ∷ lines) ≡ Err e
 unfolding given_by
 line-fault seen line lines e h = ap (λ r. (r >>= λ text. if continues text then (given_by lines >>= λ later. Ok (with_piece (trim text) later)) else (field_in text >>= λ field. given_by lines >>= λ later. Ok (with_field field later))) >>= onto seen) h
 
-line-continued : (seen : List Field) (f : Field) (line text : List ℕ) (lines : List (List ℕ)) → text_of line ≡ Ok text → continues text ≡ true → going_lines (seen ++ f ∷ []) (line ∷ lines) ≡ going_lines (seen ++ longer f (trim text) ∷ []) lines
+line-continued : (seen : List Field) (f : Field) (line text : List ℕ) (lines : List (List ℕ)) → line_content line ≡ Ok text → continues text ≡ true → going_lines (seen ++ f ∷ []) (line ∷ lines) ≡ going_lines (seen ++ longer f (trim text) ∷ []) lines
 unfolding given_by
 line-continued seen f line text lines h c =
     rw (h, c) (then_ok (given_by lines) (with_piece (trim text)) (onto (seen ++ f ∷ [])) ∙ same_then (given_by lines) _ _ (λ read. onto-continued seen f (trim text) read))
 
-line-unnamed : (seen : List Field) (line text : List ℕ) (lines : List (List ℕ)) (e : HeadFault) → text_of line ≡ Ok text → continues text ≡ false → field_in text ≡ Err e → going_lines seen (line ∷ lines) ≡ Err e
+line-unnamed : (seen : List Field) (line text : List ℕ) (lines : List (List ℕ)) (e : HeadFault) → line_content line ≡ Ok text → continues text ≡ false → field_in text ≡ Err e → going_lines seen (line ∷ lines) ≡ Err e
 unfolding given_by
 line-unnamed seen line text lines e h c n = rw (h, c, n) refl
 
-line-began : (seen : List Field) (f : Field) (line text : List ℕ) (lines : List (List ℕ)) → text_of line ≡ Ok text → continues text ≡ false → field_in text ≡ Ok f → going_lines seen (line ∷ lines) ≡ going_lines (seen ++ f ∷ []) lines
+line-began : (seen : List Field) (f : Field) (line text : List ℕ) (lines : List (List ℕ)) → line_content line ≡ Ok text → continues text ≡ false → field_in text ≡ Ok f → going_lines seen (line ∷ lines) ≡ going_lines (seen ++ f ∷ []) lines
 unfolding given_by
 line-began seen f line text lines h c n =
     rw (h, c, n) (then_ok (given_by lines) (with_field f) (onto seen) ∙ same_then (given_by lines) _ _ (λ read. onto-began seen f read))
@@ -108,7 +108,7 @@ Plain-lines : (lines : List (List ℕ)) → Plain (given_by lines)
 unfolding given_by
 Plain-lines [] = tt
 Plain-lines (line ∷ lines) =
-    Plain-then (text_of line) _ (Plain-if (ends_with nat_eq line line_end && list_all is_plain (take (length line - 2) line)) (Ok (take (length line - 2) line)) (Err faults.FieldLine) tt tt)
+    Plain-then (line_content line) _ (Plain-if (ends_with nat_eq line line_end && list_all is_plain (take (length line - 2) line)) (Ok (take (length line - 2) line)) (Err faults.FieldLine) tt tt)
     (λ text. Plain-if (continues text) _ _ (Plain-then (given_by lines) _ (Plain-lines lines) (λ later. tt))
     (Plain-then (field_in text) _ (Plain-name text) (λ field. Plain-then (given_by lines) _ (Plain-lines lines) (λ later. tt))))
 
@@ -117,7 +117,7 @@ all_refused (Ok x) p = refl
 all_refused (Err faults.FieldLine) p = refl
 all_refused (Err e) p = absurd p
 
-line-first : (line text : List ℕ) (lines : List (List ℕ)) → text_of line ≡ Ok text → continues text ≡ true → going_lines [] (line ∷ lines) ≡ Err faults.FieldLine
+line-first : (line text : List ℕ) (lines : List (List ℕ)) → line_content line ≡ Ok text → continues text ≡ true → going_lines [] (line ∷ lines) ≡ Err faults.FieldLine
 unfolding given_by
 line-first line text lines h c =
     rw (h, c) (then_ok (given_by lines) (with_piece (trim text)) (onto []) ∙ all_refused (given_by lines) (Plain-lines lines))
@@ -137,24 +137,24 @@ unfolding going fields_of
 going-start body = refl
 
 module _ (seen : List Field) (rest line later : List ℕ) (cut : lines_of rest ≡ line ∷ lines_of later) where
-  pub going-fault : (e : HeadFault) → text_of line ≡ Err e → going seen rest ≡ Err e
+  pub going-fault : (e : HeadFault) → line_content line ≡ Err e → going seen rest ≡ Err e
   unfolding going
   going-fault e h = ap (going_lines seen) cut ∙ line-fault seen line (lines_of later) e h
 
-  pub going-unnamed : (text : List ℕ) (e : HeadFault) → text_of line ≡ Ok text → continues text ≡ false → field_in text ≡ Err e → going seen rest ≡ Err e
+  pub going-unnamed : (text : List ℕ) (e : HeadFault) → line_content line ≡ Ok text → continues text ≡ false → field_in text ≡ Err e → going seen rest ≡ Err e
   unfolding going
   going-unnamed text e h c n = ap (going_lines seen) cut ∙ line-unnamed seen line text (lines_of later) e h c n
 
-  pub going-began : (text : List ℕ) (f : Field) → text_of line ≡ Ok text → continues text ≡ false → field_in text ≡ Ok f → going seen rest ≡ going (seen ++ f ∷ []) later
+  pub going-began : (text : List ℕ) (f : Field) → line_content line ≡ Ok text → continues text ≡ false → field_in text ≡ Ok f → going seen rest ≡ going (seen ++ f ∷ []) later
   unfolding going
   going-began text f h c n = ap (going_lines seen) cut ∙ line-began seen f line text (lines_of later) h c n
 
 module _ (rest line later : List ℕ) (cut : lines_of rest ≡ line ∷ lines_of later) where
-  pub going-first : (text : List ℕ) → text_of line ≡ Ok text → continues text ≡ true → going [] rest ≡ Err faults.FieldLine
+  pub going-first : (text : List ℕ) → line_content line ≡ Ok text → continues text ≡ true → going [] rest ≡ Err faults.FieldLine
   unfolding going
   going-first text h c = ap (going_lines []) cut ∙ line-first line text (lines_of later) h c
 
-  pub going-continued : (seen : List Field) (f : Field) (text : List ℕ) → text_of line ≡ Ok text → continues text ≡ true → going (seen ++ f ∷ []) rest ≡ going (seen ++ longer f (trim text) ∷ []) later
+  pub going-continued : (seen : List Field) (f : Field) (text : List ℕ) → line_content line ≡ Ok text → continues text ≡ true → going (seen ++ f ∷ []) rest ≡ going (seen ++ longer f (trim text) ∷ []) later
   unfolding going
   going-continued seen f text h c = ap (going_lines (seen ++ f ∷ [])) cut ∙ line-continued seen f line text (lines_of later) h c
 

@@ -11,7 +11,7 @@ use Rattle.std.proofs.lemmas.List.{take-append-drop}
 use Rattle.warc_head.specs.declared.fault.HeadFault.{HeadFault}
 use Rattle.warc_head.specs.declared.fault.HeadFault.TheVariants as faults
 use Rattle.warc_head.specs.Answers.{◌>>=◌}
-use Rattle.warc_head.specs.Lines.{lines_of, with_first, text_of, line_end, continues, is_plain, trim}
+use Rattle.warc_head.specs.Lines.{lines_of, with_first, line_content, line_end, continues, is_plain, trim}
 use Rattle.warc_head.specs.Names.{is_name}
 use Rattle.warc_head.specs.Fields.{Field, Given, at_colon, field_in, named, given_by, begun, fields_of, with_field, with_piece, added, joined}
 use Rattle.warc_head.specs.Folding.{Folded, IsContinuation, IsFolded, ended, folded_text, joined_all, unfolded, IsSpelling, FieldsAreSpelled}
@@ -119,7 +119,7 @@ line_if line true text e h =
     subst (λ t. IsLine line t) same
     (record { spelled = sym (take-append-drop (length line - 2) line) ∙ ap (λ d. take (length line - 2) line ++ d) (line_end_is (drop (length line - 2) line) p.0); plain = p.1 })
 
-line_of_text : (line text : List ℕ) → text_of line ≡ Ok text → IsLine line text
+line_of_text : (line text : List ℕ) → line_content line ≡ Ok text → IsLine line text
 line_of_text line text h = line_if line _ text refl h
 
 abbrev option_cons : ℕ → Option (List ℕ × List ℕ) → Option (List ℕ × List ℕ)
@@ -245,7 +245,7 @@ module _ (line : List ℕ) (lines : List (List ℕ)) (given : Given) (ih : (late
   from_text text l true c h = goes_on text l c (given_by lines) refl h
   from_text text l false c h = from_field text l (field_in text) refl h
 
-  from_line : (r : Result (List ℕ) HeadFault) → text_of line ≡ r
+  from_line : (r : Result (List ℕ) HeadFault) → line_content line ≡ r
       → (r >>= λ text. if continues text then (given_by lines >>= λ later. Ok (with_piece (trim text) later)) else (field_in text >>= λ field. given_by lines >>= λ later. Ok (with_field field later))) ≡ Ok given
       → Spells (line ++ concat lines) given
   from_line (Err e) l h = absurd (let k : ◌≡◌ {A = Result Given HeadFault} (Err e) (Ok given) = h in cc)
@@ -257,7 +257,7 @@ spells [] given h =
     let k : ◌≡◌ {A = Result Given HeadFault} (Ok (record { more = None; fields = [] })) (Ok given) = h in
     let same : ◌≡◌ {A = Given} (record { more = None; fields = [] }) given = cc in
     subst (λ v. Spells [] v) same (record { more = []; folded = []; each_more = All-nil IsContinuation; each = All-nil IsFolded; text = refl; adds = refl; says = refl })
-spells (line ∷ lines) given h = from_line line lines given (spells lines) (text_of line) refl h
+spells (line ∷ lines) given h = from_line line lines given (spells lines) (line_content line) refl h
 
 no_more : (more : List (List ℕ)) → ◌≡◌ {A = Option (List ℕ)} None (said_more more) → more ≡ []
 no_more [] h = refl

@@ -7,7 +7,7 @@ use Rattle.std.proofs.lemmas.Bool.Decides.{nat_tests}
 use Rattle.std.proofs.lemmas.List.Folds.{list_all-append}
 use Rattle.std.proofs.lemmas.List.{drop_at}
 use Rattle.std.proofs.Math.Seq.{take-append_seam, drop-append_seam}
-use Rattle.warc_head.specs.Lines.{lines_of, with_first, text_of, line_end, continues, is_space, is_plain}
+use Rattle.warc_head.specs.Lines.{lines_of, with_first, line_content, line_end, continues, is_space, is_plain}
 use Rattle.warc_head.specs.Names.{is_name, is_name_byte, is_separator}
 use Rattle.warc_head.specs.Fields.{Field, at_colon, field_in, given_by, fields_of}
 use Rattle.warc_head.specs.Parts.{parts_of, body_of}
@@ -36,7 +36,7 @@ back text =
     let n : length (text ++ line_end) - 2 ≡ length text = simp length-append (omega arith) in
     rw (n, drop-append_seam text line_end) refl
 
-pub line_text : (text : List ℕ) → list_all is_plain text ≡ true → text_of (text ++ line_end) ≡ Ok text
+pub line_text : (text : List ℕ) → list_all is_plain text ≡ true → line_content (text ++ line_end) ≡ Ok text
 line_text text h = rw (back text, front text, h) refl
 
 name-not_space : (b : ℕ) → is_name_byte b ≡ true → is_space b ≡ false
@@ -101,7 +101,7 @@ fields_back : (fields : List Field) → All IsOneLine fields → fields_of (spel
 unfolding fields_of
 fields_back fields h = rw (given_back fields h) refl
 
-body : (version text : List ℕ) → length version ≡ 10 → body_of (version ++ (text ++ line_end)) ≡ text
+pub body : (version text : List ℕ) → length version ≡ 10 → body_of (version ++ (text ++ line_end)) ≡ text
 body version text h =
     let d : drop 10 (version ++ (text ++ line_end)) ≡ text ++ line_end = drop_at version (text ++ line_end) 10 h in
     let n : length (version ++ (text ++ line_end)) - 2 - 10 ≡ length text = simp length-append (omega (arith, h)) in

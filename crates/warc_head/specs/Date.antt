@@ -29,9 +29,9 @@ to_the_second = codes "0000-00-00T00:00:00"
 abbrev pub has_fraction : List ℕ → Bool
 has_fraction text = fits to_the_second (take 19 text) && is_fraction (drop 19 text)
 
--- how many bytes in front say the date and the time, without fraction and `Z`
-unfoldable pub said_in : List ℕ → Option ℕ
-said_in text =
+-- how many bytes the date and the time have, without fraction and `Z`
+unfoldable pub date_length : List ℕ → Option ℕ
+date_length text =
     if fits (codes "0000") text then Some 4
     else (if fits (codes "0000-00") text then Some 7
     else (if fits (codes "0000-00-00") text then Some 10
@@ -39,9 +39,9 @@ said_in text =
     else (if fits (codes "0000-00-00T00:00:00Z") text then Some 19
     else (if has_fraction text then Some 19 else None)))))
 
--- a month or day that isn't said is 01, an hour, minute or second 00
-abbrev pub filled : List ℕ → ℕ → List ℕ
-filled text n = take n text ++ drop n (codes "0000-01-01T00:00:00")
+-- the date and time whose first n bytes the text gives: an absent month or day is 01, an absent hour, minute or second 00
+abbrev pub full_date : List ℕ → ℕ → List ℕ
+full_date text n = take n text ++ drop n (codes "0000-01-01T00:00:00")
 
 -- the number of two digits
 abbrev pub two : List ℕ → ℕ → ℕ
@@ -64,8 +64,8 @@ digits_of whole =
 
 abbrev pub stamp_from : List ℕ → Option ℕ → Result (List ℕ) HeadFault
 stamp_from text None = Err faults.BadDate
-stamp_from text (Some n) = if is_moment (filled text n) then Ok (digits_of (filled text n)) else Err faults.BadDate
+stamp_from text (Some n) = if is_moment (full_date text n) then Ok (digits_of (full_date text n)) else Err faults.BadDate
 
 -- the stamp of a date text
 unfoldable pub stamp_of : List ℕ → Result (List ℕ) HeadFault
-stamp_of text = stamp_from text (said_in text)
+stamp_of text = stamp_from text (date_length text)

@@ -5,7 +5,7 @@ use Rattle.warc_head.specs.Bytes.{space, colon}
 use Rattle.warc_head.specs.declared.fault.HeadFault.{HeadFault}
 use Rattle.warc_head.specs.declared.fault.HeadFault.TheVariants as faults
 use Rattle.warc_head.specs.Answers.{◌>>=◌}
-use Rattle.warc_head.specs.Lines.{lines_of, text_of, continues, trim}
+use Rattle.warc_head.specs.Lines.{lines_of, line_content, continues, trim}
 use Rattle.warc_head.specs.Names.{is_name, same_name}
 
 pub record Field : Type 0 where
@@ -52,7 +52,7 @@ with_field field later = record { more = None; fields = record { name = field.na
 unfoldable pub given_by : List (List ℕ) → Result Given HeadFault
 given_by [] = Ok (record { more = None; fields = [] })
 given_by (line ∷ lines) = do
-  text ← text_of line
+  text ← line_content line
   if continues text then (given_by lines >>= λ later. Ok (with_piece (trim text) later))
       else (field_in text >>= λ field. given_by lines >>= λ later. Ok (with_field field later))
 

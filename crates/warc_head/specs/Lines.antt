@@ -26,9 +26,9 @@ unfoldable pub lines_of : List ℕ → List (List ℕ)
 lines_of [] = []
 lines_of (b ∷ bs) = if b == lf then (b ∷ []) ∷ lines_of bs else with_first b (lines_of bs)
 
--- what a line says before its CR LF; no other CR or LF may stand in it
-abbrev pub text_of : List ℕ → Result (List ℕ) HeadFault
-text_of line =
+-- a line without its CR LF; no other CR or LF may stand in it
+abbrev pub line_content : List ℕ → Result (List ℕ) HeadFault
+line_content line =
     let text = take (length line - 2) line in
     if ends_with nat_eq line line_end && list_all is_plain text then Ok text else Err faults.FieldLine
 

@@ -28,8 +28,8 @@ unfoldable pub kind_in : List Field → Result Kind HeadFault
 kind_in fields = required (codes "WARC-Type") fields >>= λ value. Ok (kind_of value)
 
 -- what fields say; their faults in this order
-unfoldable pub said_by : List Field → Result HeadParts HeadFault
-said_by fields = do
+unfoldable pub parts_in : List Field → Result HeadParts HeadFault
+parts_in fields = do
   once ← each_once fields
   length ← length_in fields
   stamp ← stamp_in fields
@@ -42,4 +42,4 @@ body_of raw = take (length raw - 2 - 10) (drop 10 raw)
 
 -- what the text of a head says: its fields, and what they say
 unfoldable pub parts_of : List ℕ → Result HeadParts HeadFault
-parts_of raw = fields_of (body_of raw) >>= said_by
+parts_of raw = fields_of (body_of raw) >>= parts_in

@@ -5,7 +5,7 @@ use Rattle.warc_head.specs.Bytes.{space, colon}
 use Rattle.warc_head.specs.Lines.{line_end, is_plain, trim}
 use Rattle.warc_head.specs.Names.{is_name}
 use Rattle.warc_head.specs.Fields.{Field}
-use Rattle.warc_head.specs.Parts.{parts_of, said_by}
+use Rattle.warc_head.specs.Parts.{parts_of, parts_in}
 
 -- a field that needs no folding: its value has no CR or LF, and no white space at its ends
 pub record IsOneLine (f : Field) : Type 0 where
@@ -24,4 +24,4 @@ spelled fields = flat_map (λ f. field_text f ++ line_end) fields
 -- a head spelled from its fields, after a version line of ten bytes, is read as these fields
 abbrev pub SpellingReadsBack : Type 0
 SpellingReadsBack = (version : List ℕ) (fields : List Field) → length version ≡ 10 → All IsOneLine fields
-    → parts_of (version ++ (spelled fields ++ line_end)) ≡ said_by fields
+    → parts_of (version ++ (spelled fields ++ line_end)) ≡ parts_in fields

@@ -2,7 +2,7 @@
 ghost use Rattle.std.specs.Prelude.{◌≡◌, ⊤, ◌≤◌, ◌<◌, ◌+◌, length, MatchOption, true, IfOk};
 ghost use Rattle.warc_head.specs.Answers.{Answers};
 ghost use Rattle.warc_head.specs.Length.{all_digits};
-ghost use Rattle.warc_head.specs.Date.{fits, is_fraction, has_fraction, said_in, filled, two, to_the_second, is_moment, digits_of, stamp_of};
+ghost use Rattle.warc_head.specs.Date.{fits, is_fraction, has_fraction, date_length, full_date, two, to_the_second, is_moment, digits_of, stamp_of};
 
 use crate::calendar::date_exists;
 use crate::fault::HeadFault;
@@ -14,20 +14,20 @@ pub fn stamp_of(text: &[u8]) -> Result<[u8; 14], HeadFault>
     ensures answer { Answers (λ s. s) result (stamp_of text.now) }
     ensures digits { IfOk result (λ s. all_digits s ≡ true) }
 {
-    let Some(said) = said_in(text) else {
+    let Some(size) = date_length(text) else {
         return Err(HeadFault::BadDate);
     };
-    let whole = filled(text, said);
+    let whole = full_date(text, size);
     if !is_moment(&whole) {
         return Err(HeadFault::BadDate);
     }
     Ok(digits_of(&whole))
 }
 
-/// How many bytes in front say the date and the time, without fraction and `Z`.
-#[tactic(auto, using(crate::proofs::DateLemmas::fits_long, crate::proofs::DateLemmas::long_fraction), unfolding(crate::specs::Date::said_in))]
-fn said_in(text: &[u8]) -> Option<usize>
-    ensures is { result ≡ said_in text.now }
+/// How many bytes the date and the time have, without fraction and `Z`.
+#[tactic(auto, using(crate::proofs::DateLemmas::fits_long, crate::proofs::DateLemmas::long_fraction), unfolding(crate::specs::Date::date_length))]
+fn date_length(text: &[u8]) -> Option<usize>
+    ensures is { result ≡ date_length text.now }
     ensures within { MatchOption result ⊤ (λ n. (n ≤ 19) × (n ≤ length text.now)) }
 {
     if fits(b"0000", text) {
@@ -98,14 +98,14 @@ fn is_fraction(text: &[u8]) -> bool
     text[0] == b'.' && text[text.len() - 1] == b'Z' && all_digits(&text[1..text.len() - 1])
 }
 
-/// A month or day that isn't said is 01, an hour, minute or second 00.
-fn filled(text: &[u8], said: usize) -> [u8; 19]
-    requires text { said ≤ length text.now }
-    requires whole { said ≤ 19 }
-    ensures { result ≡ filled text.now said }
+/// The date and time whose first bytes the text gives: an absent month or day is 01, an absent hour, minute or second 00.
+fn full_date(text: &[u8], size: usize) -> [u8; 19]
+    requires text { size ≤ length text.now }
+    requires whole { size ≤ 19 }
+    ensures { result ≡ full_date text.now size }
 {
     let mut whole = *b"0000-01-01T00:00:00";
-    whole[..said].copy_from_slice(&text[..said]);
+    whole[..size].copy_from_slice(&text[..size]);
     whole
 }
 

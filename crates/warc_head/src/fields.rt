@@ -5,7 +5,7 @@ ghost use Rattle.warc_head.specs.declared.fault.HeadFault.TheVariants.{Memory};
 ghost use Rattle.warc_head.specs.Fields.{at_colon, field_in, fields_of, value_of};
 
 use crate::fault::HeadFault;
-use crate::lines::{continues, cut_line, text_of, trim};
+use crate::lines::{continues, cut_line, line_content, trim};
 use crate::names::{is_name, same_name};
 use memchr::memchr;
 use std::alloc::Global;
@@ -85,7 +85,7 @@ pub fn fields_of(alloc: Global, body: &[u8]) -> Result<Vec<Field>, HeadFault>
     let mut rest = body;
     while !rest.is_empty() {
         let (line, later) = cut_line(rest);
-        let text = text_of(line)?;
+        let text = line_content(line)?;
         if continues(text) {
             let Some(mut field) = fields.pop() else {
                 return Err(HeadFault::FieldLine);

@@ -1,7 +1,7 @@
 //! The lines of a head.
 ghost use Rattle.std.specs.Prelude.{◌≡◌, ◌<◌, ◌∷◌, length, Ok, Err, MatchResult};
 ghost use Rattle.std.specs.List.{list_all};
-ghost use Rattle.warc_head.specs.Lines.{lines_of, text_of, continues, is_space, is_plain, trim_front, trim_end, trim};
+ghost use Rattle.warc_head.specs.Lines.{lines_of, line_content, continues, is_space, is_plain, trim_front, trim_end, trim};
 
 use crate::fault::HeadFault;
 use memchr::{memchr, memchr2};
@@ -18,9 +18,9 @@ pub fn cut_line(text: &[u8]) -> (&[u8], &[u8])
     }
 }
 
-/// What a line says before the CR LF that ends it.
-pub fn text_of(line: &[u8]) -> Result<&[u8], HeadFault>
-    ensures { MatchResult result (λ text. text_of line.now ≡ Ok text.now) (λ e. text_of line.now ≡ Err e) }
+/// A line without the CR LF that ends it.
+pub fn line_content(line: &[u8]) -> Result<&[u8], HeadFault>
+    ensures { MatchResult result (λ text. line_content line.now ≡ Ok text.now) (λ e. line_content line.now ≡ Err e) }
 {
     if !line.ends_with(b"\r\n") {
         return Err(HeadFault::FieldLine);

@@ -2,7 +2,7 @@
 ghost use Rattle.std.specs.Prelude.{◌≡◌, ◌≤◌, ◌^◌, ◌-◌, true, IfOk};
 ghost use Rattle.warc_head.specs.Answers.{Answers};
 ghost use Rattle.warc_head.specs.Length.{all_digits};
-ghost use Rattle.warc_head.specs.Parts.{parts_of, body_of, said_by, length_in, stamp_in, kind_in};
+ghost use Rattle.warc_head.specs.Parts.{parts_of, body_of, parts_in, length_in, stamp_in, kind_in};
 
 use crate::date::stamp_of;
 use crate::fault::HeadFault;
@@ -82,7 +82,7 @@ pub fn read_parts(alloc: Global, raw: &[u8]) -> Result<Parts, HeadFault>
     ensures bound { IfOk result (λ p. p.length ≤ 2 ^ 63 - 1) }
     ensures digits { IfOk result (λ p. all_digits p.stamp ≡ true) }
 {
-    said_by(fields_of(alloc, body_of(raw))?)
+    parts_in(fields_of(alloc, body_of(raw))?)
 }
 
 /// The lines between the version line and the empty line.
@@ -96,9 +96,9 @@ fn body_of(raw: &[u8]) -> &[u8]
 }
 
 /// What fields say.
-#[tactic(auto, unfolding(crate::specs::Parts::said_by))]
-fn said_by(fields: Vec<Field>) -> Result<Parts, HeadFault>
-    ensures answer { Answers (λ p. p) result (said_by fields.items) }
+#[tactic(auto, unfolding(crate::specs::Parts::parts_in))]
+fn parts_in(fields: Vec<Field>) -> Result<Parts, HeadFault>
+    ensures answer { Answers (λ p. p) result (parts_in fields.items) }
     ensures bound { IfOk result (λ p. p.length ≤ 2 ^ 63 - 1) }
     ensures digits { IfOk result (λ p. all_digits p.stamp ≡ true) }
 {

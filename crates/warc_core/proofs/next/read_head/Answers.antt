@@ -6,6 +6,7 @@ use Rattle.warc_core.specs.Next.{head_at}
 use Rattle.warc_core.specs.HeadView.{HeadView}
 use Rattle.warc_core.specs.declared.next.TheConstants.{HEAD_LIMIT}
 use Rattle.warc_core.proofs.ReadingLemmas.{Reads-stopped, CountsRead-purely}
+use Rattle.warc_core.proofs.HeadTextLemmas.{found-spelled}
 use Rattle.warc_core.proofs.NextLemmas.{of_text, head-unread, head-far, head-read}
 use Rattle.warc_core.proofs.next.read_head.Goals as goal
 
@@ -32,3 +33,9 @@ returns-then-end-gt-GREATEST_OFFSET-clause-bytes g c =
 pub returns-clause-bytes : goal.returns-clause-bytes
 returns-clause-bytes g c =
     rw c.from_parts.ensures (head-read HEAD_LIMIT c.args.start c.in_ok-raw.raw.items _ _ c.in_ok-raw.ensures.bytes c.in_ok-parts.parts (rw (← c.as_slice.ensures.value) c.in_ok-parts.ensures.answer) (omega arith))
+
+pub from_parts-requires : goal.from_parts-requires
+from_parts-requires g c = record {
+  is_text = found-spelled HEAD_LIMIT c.in_ok-raw.raw.items c.in_ok-parts.parts c.in_ok-raw.ensures.found (rw (← c.as_slice.ensures.value) c.in_ok-parts.ensures.answer);
+  fits = omega arith;
+}

@@ -1,0 +1,113 @@
+-- A head that is found is a head text, and a head text is found.
+use Rattle.std.proofs.Common.{◌≡◌, ◌∙◌, ℕ, ◌+◌, ◌-◌, ◌≤◌, true, List, ◌++◌, Result, Ok, Err, length, take, drop, sym, ap, refl, subst, arith, inl, inr}
+use Rattle.std.proofs.lemmas.List.{take-append-drop, drop-drop, drop_at}
+use Rattle.warc_head.specs.declared.fault.HeadFault.{HeadFault}
+use Rattle.warc_head.specs.Answers.{◌>>=◌}
+use Rattle.warc_head.specs.Fields.{Field, fields_of}
+use Rattle.warc_head.specs.Lines.{line_end}
+use Rattle.warc_head.specs.Mandatory.{each_once}
+use Rattle.warc_head.specs.Parts.{HeadParts, parts_in, body_of, length_in, stamp_in, kind_in}
+use Rattle.warc_head.specs.Parts as parts
+use Rattle.warc_head.proofs.FoldingLemmas.{fields_spelled}
+use Rattle.warc_head.proofs.SpellingLemmas.{body}
+use Rattle.warc_core.specs.declared.fault.Cause.{Cause}
+use Rattle.warc_core.specs.Head.{parts_of, by_cause, cause_of}
+use Rattle.warc_core.specs.HeadText.{version_1_1, version_1_0, agrees, has_version, is_closed, IsFoundHead}
+use Rattle.warc_core.specs.Record.{closing}
+use Rattle.warc_core.specs.RecordText.{IsVersionLine, IsHeadText, IsHeadOf}
+use Rattle.warc_core.proofs.ClosingLemmas.{closed-last}
+use Rattle.warc_core.proofs.HeadLemmas.{or_true, agrees-begins, closed-long, has_version-whole}
+
+-- a text that was found as a head, and read as these parts
+pub record IsFoundOf (limit : ℕ) (parts : HeadParts) (text : List ℕ) : Type 0 where
+  pub found : IsFoundHead limit text
+  pub says : parts_of text ≡ Ok parts
+
+by_cause-ok : (r : Result HeadParts HeadFault) (p : HeadParts) → by_cause r ≡ Ok p → r ≡ Ok p
+by_cause-ok (Ok q) p h = let e : ◌≡◌ {A = Result HeadParts Cause} (Ok q) (Ok p) = h in let same : q ≡ p = cc in ap Ok same
+by_cause-ok (Err f) p h = absurd (let e : ◌≡◌ {A = Result HeadParts Cause} (Err (cause_of f)) (Ok p) = h in cc)
+
+bind_ok : {A B : Type 0} (r : Result A HeadFault) (f : A → Result B HeadFault) (y : B) → (r >>= f) ≡ Ok y → (x : A) × (r ≡ Ok x) × (f x ≡ Ok y)
+bind_ok {A} {B} (Ok x) f y h = (x, refl, h)
+bind_ok {A} {B} (Err c) f y h = absurd (let e : ◌≡◌ {A = Result B HeadFault} (Err c) (Ok y) = h in cc)
+
+-- parts have the fields that say them
+parts_in-fields : (fields : List Field) (p : HeadParts) → parts_in fields ≡ Ok p → p.fields ≡ fields
+unfolding parts_in
+parts_in-fields fields p h =
+    let a = bind_ok (each_once fields) _ p h in
+    let b = bind_ok (length_in fields) _ p a.2 in
+    let c = bind_ok (stamp_in fields) _ p b.2 in
+    let d = bind_ok (kind_in fields) _ p c.2 in
+    let made : HeadParts = record { kind = d.0; stamp = c.0; length = b.0; fields = fields } in
+    let e : ◌≡◌ {A = Result HeadParts HeadFault} (Ok made) (Ok p) = d.2 in
+    let same : made ≡ p = cc in
+    ap (λ q. q.fields) (sym same)
+
+-- what is read of a text is read of its fields
+read-in : (raw : List ℕ) (p : HeadParts) → parts_of raw ≡ Ok p → (fields_of (body_of raw) ≡ Ok p.fields) × (parts_in p.fields ≡ Ok p)
+unfolding parts_of parts.parts_of
+read-in raw p h =
+    let e = bind_ok (fields_of (body_of raw)) parts_in p (by_cause-ok (fields_of (body_of raw) >>= parts_in) p h) in
+    let same = parts_in-fields e.0 p e.2 in
+    (e.1 ∙ ap Ok (sym same), ap parts_in same ∙ e.2)
+
+read-back : (raw : List ℕ) (p : HeadParts) → fields_of (body_of raw) ≡ Ok p.fields → parts_in p.fields ≡ Ok p → parts_of raw ≡ Ok p
+unfolding parts_of parts.parts_of
+read-back raw p f h = ap (λ r. by_cause (r >>= parts_in)) f ∙ ap by_cause h
+
+-- a text with a version begins with a version line
+version-begins : (text : List ℕ) → has_version text ≡ true → 10 ≤ length text → (version : List ℕ) × (more : List ℕ) × IsVersionLine version × (length version ≡ 10) × (text ≡ version ++ more)
+version-begins text h l =
+    elim (or_true (agrees text version_1_1) (agrees text version_1_0) h) [
+      | inl a ↦ (let r = agrees-begins text version_1_1 a l in (version_1_1, r.0, inl refl, refl, r.1))
+      | inr b ↦ (let r = agrees-begins text version_1_0 b l in (version_1_0, r.0, inr refl, refl, r.1))
+    ]
+
+-- the last line of a closed text is empty
+last-empty : (text : List ℕ) → is_closed text ≡ true → 12 ≤ length text → drop 10 text ≡ body_of text ++ line_end
+last-empty text h l =
+    let n = length text - 2 - 10 in
+    let at : length text - 4 + 2 ≡ 10 + n = omega (arith, l) in
+    let end : drop n (drop 10 text) ≡ line_end = drop-drop n 10 text ∙ (ap (λ m. drop m text) (sym at) ∙ (sym (drop-drop 2 (length text - 4) text) ∙ ap (drop 2) (closed-last text h))) in
+    sym (take-append-drop n (drop 10 text)) ∙ ap (λ t. body_of text ++ t) end
+
+pub found-spelled : (limit : ℕ) (raw : List ℕ) (p : HeadParts) → IsFoundHead limit raw → parts_of raw ≡ Ok p → IsHeadOf limit p raw
+found-spelled limit raw p f h =
+    let r = read-in raw p h in
+    let long = closed-long raw f.closed f.version in
+    let v = version-begins raw f.version (omega (arith, long)) in
+    let more : drop 10 raw ≡ v.1 = ap (drop 10) v.4 ∙ drop_at v.0 v.1 10 v.3 in
+    record {
+      is_head = record {
+        version = v.0;
+        body = body_of raw;
+        spelled = v.4 ∙ ap (λ t. v.0 ++ t) (sym more ∙ last-empty raw f.closed long);
+        is_version = v.2;
+        is_body = (fields_spelled (body_of raw) p.fields).0 r.0;
+        closed = f.closed;
+        first = f.first;
+        small = f.small;
+      };
+      says = r.1;
+    }
+
+-- a version line has ten bytes, and is one however it goes on
+version-found : (version more : List ℕ) → IsVersionLine version → (length version ≡ 10) × (has_version (version ++ more) ≡ true)
+version-found version more (inl e) = let long : length version ≡ 10 = ap length e in (long, has_version-whole version more (ap has_version e) (omega (arith, long)))
+version-found version more (inr e) = let long : length version ≡ 10 = ap length e in (long, has_version-whole version more (ap has_version e) (omega (arith, long)))
+
+pub spelled-found : (limit : ℕ) (raw : List ℕ) (p : HeadParts) → IsHeadOf limit p raw → IsFoundOf limit p raw
+spelled-found limit raw p h =
+    let t = h.is_head in
+    let v = version-found t.version (t.body ++ line_end) t.is_version in
+    let whole : body_of raw ≡ t.body = ap body_of t.spelled ∙ body t.version t.body v.0 in
+    record {
+      found = record {
+        version = ap has_version t.spelled ∙ v.1;
+        closed = t.closed;
+        first = t.first;
+        small = t.small;
+      };
+      says = read-back raw p (ap fields_of whole ∙ (fields_spelled t.body p.fields).1 t.is_body) h.says;
+    }
