@@ -100,7 +100,7 @@ later_members e =
     (codes "mime", e.mime) ∷ (codes "status", e.status) ∷ (codes "digest", e.digest) ∷ (codes "length", decimal e.length) ∷ (codes "offset", decimal e.offset)
     ∷ (codes "filename", e.filename) ∷ []
 
-body_feed : (e : EntryValue) → IsGood e → has_no_feed (body_text e) ≡ true
+pub body_feed : (e : EntryValue) → IsGood e → has_no_feed (body_text e) ≡ true
 body_feed e h =
     let object = object_text (members_of e) in
     joined e.key (32 ∷ (e.stamp ++ 32 ∷ object)) (weaker is_key_byte key_feed e.key (and_parts _ _ h.key).1)

@@ -41,44 +41,36 @@ object_utf8 m ms h =
     let inner = join_by member_text (44 ∷ 32 ∷ []) (m ∷ ms) in
     after 123 (inner ++ 125 ∷ []) (omega arith) (IsUtf8-append inner (125 ∷ []) (IsUtf8-append (member_text m) (flat_map (λ m. (44 ∷ 32 ∷ []) ++ member_text m) ms) (member_utf8 m h.0 h.1.0) (later_utf8 ms h.1.1)) (byte 125 (omega arith)))
 
-pub record AreText (e : EntryValue) : Type 0 where
-  pub key : IsUtf8 e.key
-  pub url : IsUtf8 e.url
-  pub mime : IsUtf8 e.mime
-  pub status : IsUtf8 e.status
-  pub digest : IsUtf8 e.digest
-  pub filename : IsUtf8 e.filename
-
 ascii_name : (s : List ℕ) → list_all (λ b. ltb b 128) s ≡ true → IsUtf8 s
 ascii_name [] h = IsUtf8-nil
 ascii_name (b ∷ s) h = let parts = and_parts (ltb b 128) (list_all (λ b. ltb b 128) s) h in after b s (ltb-true b 128 parts.0) (ascii_name s parts.1)
 
-pub body_utf8 : (e : EntryValue) → IsGood e → AreText e → IsUtf8 (body_text e)
-body_utf8 e h t =
+pub body_utf8 : (e : EntryValue) → IsGood e → IsUtf8 (body_text e)
+body_utf8 e h =
     let size_fits : e.length < 2 ^ 64 = let b = h.size in omega (arith, b) in
     let offset_fits : e.offset < 2 ^ 64 = let b = h.offset in omega (arith, b) in
     let object : IsUtf8 (object_text (members_of e)) =
     object_utf8 (codes "url", e.url) ((codes "mime", e.mime) ∷ (codes "status", e.status) ∷ (codes "digest", e.digest) ∷ (codes "length", decimal e.length) ∷ (codes "offset", decimal e.offset) ∷ (codes "filename", e.filename) ∷ []) (
       ascii_name (codes "url") refl,
       (
-        t.url,
+        h.utf8_url,
         (
           ascii_name (codes "mime") refl,
           (
-            t.mime,
+            h.utf8_mime,
             (
               ascii_name (codes "status") refl,
               (
-                t.status,
+                h.utf8_status,
                 (
                   ascii_name (codes "digest") refl,
                   (
-                    t.digest,
+                    h.utf8_digest,
                     (
                       ascii_name (codes "length") refl,
                       (
                         digits_utf8 (decimal e.length) (digits_decimal own e.length size_fits),
-                        (ascii_name (codes "offset") refl, (digits_utf8 (decimal e.offset) (digits_decimal own e.offset offset_fits), (ascii_name (codes "filename") refl, (t.filename, tt)))),
+                        (ascii_name (codes "offset") refl, (digits_utf8 (decimal e.offset) (digits_decimal own e.offset offset_fits), (ascii_name (codes "filename") refl, (h.utf8_filename, tt)))),
                       ),
                     ),
                   ),
@@ -89,10 +81,10 @@ body_utf8 e h t =
         ),
       ),
     ) in
-    IsUtf8-append e.key (32 ∷ (e.stamp ++ 32 ∷ object_text (members_of e))) t.key (after 32 (e.stamp ++ 32 ∷ object_text (members_of e)) (omega arith) (IsUtf8-append e.stamp (32 ∷ object_text (members_of e)) (digits_utf8 e.stamp (and_parts _ _ h.stamp).1) (after 32 (object_text (members_of e)) (omega arith) object)))
+    IsUtf8-append e.key (32 ∷ (e.stamp ++ 32 ∷ object_text (members_of e))) h.utf8_key (after 32 (e.stamp ++ 32 ∷ object_text (members_of e)) (omega arith) (IsUtf8-append e.stamp (32 ∷ object_text (members_of e)) (digits_utf8 e.stamp (and_parts _ _ h.stamp).1) (after 32 (object_text (members_of e)) (omega arith) object)))
 
 pub line_law : (limit : ℕ) (e : EntryValue) → IsGood e → length (line_text e) ≤ limit → line_in limit (body_of (line_text e)) ≡ Some (entry_values e)
 line_law limit e h short = ap (line_in limit) (body_of-feed (body_text e)) ∙ line_in-body_text limit e h short
 
-pub line_utf8 : (e : EntryValue) → IsGood e → AreText e → IsUtf8 (body_of (line_text e))
-line_utf8 e h t = subst IsUtf8 (sym (body_of-feed (body_text e))) (body_utf8 e h t)
+pub line_utf8 : (e : EntryValue) → IsGood e → IsUtf8 (body_of (line_text e))
+line_utf8 e h = subst IsUtf8 (sym (body_of-feed (body_text e))) (body_utf8 e h)

@@ -1,4 +1,6 @@
 pub mod PairLaw
+pub mod MemberLemmas
+pub mod IndexLemmas
 pub mod EntryUtf8
 pub mod EntryWrite
 pub mod EntryRead

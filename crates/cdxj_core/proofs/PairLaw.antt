@@ -11,36 +11,10 @@ use Rattle.serde_json.specs.Read.{read}
 use Rattle.serde_json.proofs.OnLiterals.{serde_json_on_literals}
 use Rattle.cdxj_places.specs.Pair.{is_space, is_key, is_stamp, stamp_part, tail_part, begins_with_space, begins_with_pair, pair_of}
 use Rattle.cdxj_core.specs.Lines.{LineValue, has_no_feed, body_of, line_object, line_parts, line_from, line_in, values_of, offset_value, filename_value}
-use Rattle.cdxj_places.proofs.PlaceLaw.{key_no_space, before_first_at, after_first_at, both}
+use Rattle.cdxj_places.proofs.PlaceLaw.{both}
+use Rattle.cdxj_places.proofs.PairLemmas.{pair_of-parts, around}
 
--- a key, a space, a stamp and a space begin with the pair
-pub pair_of-parts : (key stamp rest : List ℕ) → is_key key ≡ true → is_stamp stamp ≡ true → pair_of (key ++ 32 ∷ (stamp ++ 32 ∷ rest)) ≡ Some (key, stamp)
-pair_of-parts key stamp rest k s =
-    let free = key_no_space key k in
-    let tail = stamp ++ 32 ∷ rest in
-    let before = before_first_at key tail free in
-    let after = after_first_at key tail free in
-    let len : length stamp ≡ 14 = eqb-true _ _ (and_parts _ _ s).0 in
-    let stamp_is : stamp_part (key ++ 32 ∷ tail) ≡ stamp = ap (take 14) after ∙ ap (λ n. take n tail) (sym len) ∙ take-append_seam stamp (32 ∷ rest) in
-    let tail_is : tail_part (key ++ 32 ∷ tail) ≡ 32 ∷ rest = ap (drop 14) after ∙ ap (λ n. drop n tail) (sym len) ∙ drop-append_seam stamp (32 ∷ rest) in
-    let tests : begins_with_pair (key ++ 32 ∷ tail) ≡ true = both _ _ (both _ _ (ap is_key before ∙ k) (ap is_stamp stamp_is ∙ s)) (ap begins_with_space tail_is) in
-    cond-true _ _ _ tests ∙ (λ i. Some (before i, stamp_is i))
-
--- what is left of a list that is cut past its end
-past : (text : List ℕ) (n : ℕ) → length text ≤ n → drop n text ≡ []
-past [] zero h = refl
-past [] (suc n) h = refl
-past (x ∷ xs) zero h = absurd (omega arith)
-past (x ∷ xs) (suc n) h = past xs n (omega arith)
-
--- the text around its first space, unless nothing follows one
-around : (text : List ℕ) → 0 < length (after_first is_space text) → text ≡ before_first is_space text ++ 32 ∷ after_first is_space text
-around text some =
-    let within : position_or_len is_space text < length text = ⊎_elim (λ h. h) (λ h. absurd (let none = past text (position_or_len is_space text + 1) (omega arith) in omega (arith, ap length none))) (cases_lt (position_or_len is_space text) (length text)) in
-    let space : get_or text (position_or_len is_space text) 0 ≡ 32 = eqb-true _ _ (passes_at_first is_space text 0 within) in
-    split_at_first is_space text 0 within ∙ ap (λ b. before_first is_space text ++ b ∷ after_first is_space text) space
-
-if_test : {A : Type 0} (b : Bool) (x : Option A) (v : A) → cond b x None ≡ Some v → (b ≡ true) × (x ≡ Some v)
+pub if_test : {A : Type 0} (b : Bool) (x : Option A) (v : A) → cond b x None ≡ Some v → (b ≡ true) × (x ≡ Some v)
 if_test true x v h = (refl, h)
 if_test false x v h = absurd (cc)
 
@@ -98,3 +72,11 @@ line_in-higher low high le body v h =
     let tests = and_parts (nat_lt (length body) low) (has_no_feed body) outer.0 in
     let below : length body < low = ltb-true (length body) low tests.0 in
     cond-true _ _ _ (both _ _ (lt-ltb (length body) high (omega arith)) tests.1) ∙ outer.1
+
+-- a body that has values has no line feed
+pub line_in-feed : (limit : ℕ) (body : List ℕ) (v : LineValue) → line_in limit body ≡ Some v → has_no_feed body ≡ true
+unfolding line_in
+line_in-feed limit body v h =
+    let rest = after_first is_space body in
+    let outer = if_test (nat_lt (length body) limit && has_no_feed body) (line_parts (before_first is_space body) (before_first is_space rest) (after_first is_space rest)) v h in
+    (and_parts (nat_lt (length body) limit) (has_no_feed body) outer.0).1

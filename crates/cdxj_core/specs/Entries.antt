@@ -1,8 +1,10 @@
 -- Entries, and the line that an index has of one.
-use Rattle.std.specs.Prelude.{◌≡◌, ℕ, ◌^◌, ◌<◌, true, List, [], ◌∷◌, ◌++◌, length, decimal}
+use Rattle.std.specs.Prelude.{◌≡◌, ℕ, ◌^◌, ◌<◌, ◌≤◌, true, List, [], ◌∷◌, ◌++◌, length, decimal}
 use Rattle.std.specs.List.{join_by}
+use Rattle.std.specs.Str.{IsUtf8}
 use Rattle.json.specs.Print.{quoted}
 use Rattle.cdxj_places.specs.Pair.{is_key, is_stamp}
+use Rattle.cdxj_places.specs.Pairs.{Pair}
 use Rattle.cdxj_places.specs.Places.{PlaceValue}
 use Rattle.cdxj_core.specs.Texts.{TextsValue, text_members}
 
@@ -21,17 +23,26 @@ pub record EntryValue : Type 0 where
 -- an entry that can be written
 pub record IsGood (e : EntryValue) : Type 0 where
   pub key : is_key e.key ≡ true
+  pub utf8_key : IsUtf8 e.key
   pub stamp : is_stamp e.stamp ≡ true
   pub url : 0 < length e.url
+  pub utf8_url : IsUtf8 e.url
   pub mime : 0 < length e.mime
+  pub utf8_mime : IsUtf8 e.mime
   pub status : 0 < length e.status
+  pub utf8_status : IsUtf8 e.status
   pub digest : 0 < length e.digest
+  pub utf8_digest : IsUtf8 e.digest
   pub size : e.length < 2 ^ 63
   pub offset : e.offset < 2 ^ 63
   pub filename : 0 < length e.filename
+  pub utf8_filename : IsUtf8 e.filename
 
 abbrev pub entry_place : EntryValue → PlaceValue
 entry_place e = record { key = e.key; stamp = e.stamp; filename = e.filename; offset = e.offset }
+
+abbrev pub entry_pair : EntryValue → Pair
+entry_pair e = (e.key, e.stamp)
 
 -- the texts of a written line; numbers are in decimal
 abbrev pub entry_texts : EntryValue → TextsValue
@@ -68,3 +79,7 @@ body_text e = e.key ++ 32 ∷ (e.stamp ++ 32 ∷ object_text (members_of e))
 -- the line of an entry
 abbrev pub line_text : EntryValue → List ℕ
 line_text e = body_text e ++ 10 ∷ []
+
+-- an entry whose line an index can have
+abbrev pub HasLine : ℕ → EntryValue → Type 0
+HasLine limit e = IsGood e × (length (line_text e) ≤ limit)

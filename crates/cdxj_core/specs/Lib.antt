@@ -5,10 +5,12 @@ pub mod Lines
 pub mod Plain
 pub mod PlainViews
 pub mod ValuesView
-pub mod LineRefView
-pub mod LineView
+pub mod Members
+pub mod Indexes
 -- what contracts see of places
 pub use Rattle.cdxj_places.specs.Pair
+pub use Rattle.cdxj_places.specs.Pairs
 pub use Rattle.cdxj_places.specs.Places
 pub use Rattle.cdxj_places.specs.PlaceViews
 pub use Rattle.cdxj_places.specs.Rising
+pub use Rattle.cdxj_places.specs.TextLines

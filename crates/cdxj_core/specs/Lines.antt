@@ -53,6 +53,18 @@ line_value key stamp texts offset = record {
   filename = texts.filename;
 }
 
+-- the texts of the members that have these values
+abbrev pub value_texts : LineValue → TextsValue
+value_texts l = record {
+  url = l.original;
+  mime = l.mimetype;
+  status = l.statuscode;
+  digest = l.digest;
+  length = l.length;
+  offset = decimal l.offset;
+  filename = l.filename;
+}
+
 -- the values that the line of a good entry has
 abbrev pub entry_values : EntryValue → LineValue
 entry_values e = record {
@@ -145,7 +157,7 @@ line_object key stamp text = option_and_then (line_from key stamp) (read text)
 abbrev pub line_parts : List ℕ → List ℕ → List ℕ → Option LineValue
 line_parts key stamp text = if is_key key && is_stamp stamp then line_object key stamp text else None
 
--- The values of a line without its line feed, where it has an entry. The line is UTF-8 besides; the limit counts the line feed.
+-- The values of a line without its line feed; the limit counts the line feed.
 unfoldable pub line_in : ℕ → List ℕ → Option LineValue
 line_in limit body =
     if nat_lt (length body) limit && has_no_feed body

@@ -41,7 +41,7 @@ impl Model for Entry {
 }
 
 impl Entry {
-    ghost use Rattle.std.specs.Prelude.{◌↔◌, IsTrue};
+    ghost use Rattle.std.specs.Prelude.{◌↔◌, IsTrue, IsUtf8};
     ghost use Rattle.cdxj_core.specs.Entries.{IsGood};
 
     /// Whether the entry can be written: the key is a key, the stamp fourteen digits, no text is
@@ -49,6 +49,7 @@ impl Entry {
     pub fn good(&self) -> bool
         ensures { IsTrue result ↔ IsGood self.now }
     {
+        self.see_texts();
         is_key(self.key.as_bytes())
             && is_stamp(&self.stamp)
             && !self.url.is_empty()
@@ -58,6 +59,18 @@ impl Entry {
             && self.length < 1 << 63
             && self.offset < 1 << 63
             && !self.filename.is_empty()
+    }
+
+    // Strings are UTF-8.
+    fn see_texts(&self)
+        ensures key { IsUtf8 self.now.key }
+        ensures url { IsUtf8 self.now.url }
+        ensures mime { IsUtf8 self.now.mime }
+        ensures status { IsUtf8 self.now.status }
+        ensures digest { IsUtf8 self.now.digest }
+        ensures filename { IsUtf8 self.now.filename }
+    {
+        let _opened = &self.key;
     }
 }
 

@@ -1,12 +1,15 @@
 //! Laws of the definitions that the contracts cite. These functions do nothing: each law is a
 //! contract.
-ghost use Rattle.std.specs.Prelude.{◌≡◌, ◌≤◌, ◌++◌, ℕ, List, Some, length, IsUtf8};
-ghost use Rattle.cdxj_core.specs.Key.{key_of, host_key_of};
+ghost use Rattle.std.specs.Prelude.{◌≡◌, ◌≤◌, ◌++◌, ℕ, List, Some, length, map, flat_map};
+ghost use Rattle.std.specs.List.{AllByRecursion};
 ghost use Rattle.cdxj_places.specs.Pair.{pair_of};
-ghost use Rattle.cdxj_core.specs.Entries.{IsGood, line_text};
-ghost use Rattle.cdxj_core.specs.Lines.{LineValue, line_in, body_of, entry_values};
-
-use crate::entry::Entry;
+ghost use Rattle.cdxj_places.specs.Pairs.{pair_cmp};
+ghost use Rattle.cdxj_places.specs.Places.{place_cmp};
+ghost use Rattle.cdxj_places.specs.Rising.{Rises, NeverFalls};
+ghost use Rattle.cdxj_core.specs.Key.{key_of, host_key_of};
+ghost use Rattle.cdxj_core.specs.Entries.{EntryValue, HasLine, entry_pair, entry_place, line_text};
+ghost use Rattle.cdxj_core.specs.Members.{Member, entry_member, line_entry, member_pair};
+ghost use Rattle.cdxj_core.specs.Indexes.{IsIndex};
 
 /// The host key of a web URL begins its key.
 pub fn host_key_begins_key()
@@ -14,29 +17,37 @@ pub fn host_key_begins_key()
         → (rest : List ℕ) × (key_of target ≡ host ++ rest) }
 {}
 
-/// The line of a good entry, where it is within the limit, has the values of that entry.
-pub fn written_line_is_read(entry: &Entry)
-    requires { IsGood entry.now }
-    ensures values { (limit : ℕ) → length (line_text entry.now) ≤ limit
-        → line_in limit (body_of (line_text entry.now)) ≡ Some (entry_values entry.now) }
-    ensures utf8 { IsUtf8 (body_of (line_text entry.now)) }
-{
-    let _key = entry.key.as_str();
-    let _url = entry.url.as_str();
-    let _mime = entry.mime.as_str();
-    let _status = entry.status.as_str();
-    let _digest = entry.digest.as_str();
-    let _filename = entry.filename.as_str();
-}
+/// The line of a good entry, where it is within the limit, is read as that entry.
+pub fn written_line_is_read()
+    ensures { (limit : ℕ) → (entry : EntryValue) → HasLine limit entry
+        → line_entry limit (line_text entry) ≡ Some (entry_member entry) }
+{}
 
-/// A line keeps its values under a higher limit.
+/// A line keeps its entry under a higher limit.
 pub fn line_stays_under_higher_limit()
-    ensures { (low high : ℕ) → low ≤ high → (body : List ℕ) → (value : LineValue)
-        → line_in low body ≡ Some value → line_in high body ≡ Some value }
+    ensures { (low high : ℕ) → low ≤ high → (line : List ℕ) → (member : Member)
+        → line_entry low line ≡ Some member → line_entry high line ≡ Some member }
 {}
 
 /// A line that has an entry begins with the entry's pair.
 pub fn line_begins_with_its_pair()
-    ensures { (limit : ℕ) → (line : List ℕ) → (value : LineValue) → line_in limit (body_of line) ≡ Some value
-        → pair_of line ≡ Some (value.key, value.stamp) }
+    ensures { (limit : ℕ) → (line : List ℕ) → (member : Member)
+        → line_entry limit line ≡ Some member → pair_of line ≡ Some (member_pair member) }
+{}
+
+/// The lines of good entries are an index with their members, where the pairs never fall, and so
+/// where the places rise.
+pub fn written_lines_are_an_index()
+    ensures pairs { (limit : ℕ) → (entries : List EntryValue) → AllByRecursion (HasLine limit) entries
+        → NeverFalls entry_pair pair_cmp entries
+        → IsIndex limit (flat_map line_text entries) (map entry_member entries) }
+    ensures places { (limit : ℕ) → (entries : List EntryValue) → AllByRecursion (HasLine limit) entries
+        → Rises entry_place place_cmp entries
+        → IsIndex limit (flat_map line_text entries) (map entry_member entries) }
+{}
+
+/// An index has one list of members.
+pub fn index_has_one_list_of_members()
+    ensures { (limit : ℕ) → (text : List ℕ) → (these those : List Member)
+        → IsIndex limit text these → IsIndex limit text those → these ≡ those }
 {}

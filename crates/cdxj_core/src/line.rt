@@ -1,7 +1,9 @@
+//! Lines that own their bytes.
 ghost use Rattle.std.specs.Prelude.{◌≡◌, ◌<◌, ◌^◌, length, true, string_bytes, decimal, Some};
 ghost use Rattle.cdxj_core.specs.declared.limit.TheConstants.{LINE_LIMIT};
 ghost use Rattle.cdxj_places.specs.Pair.{is_key, is_stamp};
-ghost use Rattle.cdxj_core.specs.Lines.{line_in, line_value};
+ghost use Rattle.cdxj_core.specs.Lines.{line_value};
+ghost use Rattle.cdxj_core.specs.Members.{line_entry};
 ghost use Rattle.cdxj_core.specs.PlainViews.{copies_view};
 
 use crate::field::Field;
@@ -10,6 +12,7 @@ use crate::line_ref::LineRef;
 use cdxj_places::{HasPlace, Place};
 use std::alloc::{AllocError, Global};
 use std::cmp::Ordering;
+use std::marker::Model;
 
 #[derive(Debug, Drop)]
 struct Buffers {
@@ -31,21 +34,34 @@ pub struct Line {
     pub ghost filename_rule: { 0 < length (string_bytes buffers.texts.filename) },
     pub ghost offset_rule: { offset < 2 ^ 63 },
     pub ghost offset_text_rule: { string_bytes buffers.texts.offset ≡ decimal offset },
-    pub ghost entry_rule: { line_in LINE_LIMIT (string_bytes buffers.body) ≡ Some (line_value
-        (string_bytes buffers.key) (string_bytes buffers.stamp) (copies_view buffers.texts) offset) },
+    pub ghost entry_rule: { line_entry LINE_LIMIT (string_bytes buffers.body) ≡ Some (record {
+        values = line_value (string_bytes buffers.key) (string_bytes buffers.stamp) (copies_view buffers.texts) offset;
+        line = string_bytes buffers.body; }) },
+}
+
+impl Model for Line {
+    ghost use Rattle.std.specs.Prelude.{string_bytes};
+    ghost use Rattle.cdxj_core.specs.Lines.{line_value};
+    ghost use Rattle.cdxj_core.specs.Members.{Member};
+    ghost use Rattle.cdxj_core.specs.PlainViews.{copies_view};
+
+    ghost Value = { Member };
+
+    ghost view = { λ l. record {
+      values = line_value (string_bytes l.buffers.key) (string_bytes l.buffers.stamp) (copies_view l.buffers.texts) l.offset;
+      line = string_bytes l.buffers.body;
+    } };
 }
 
 impl Line {
-    ghost use Rattle.std.specs.Prelude.{IfOk, IsUtf8};
-    ghost use Rattle.cdxj_core.specs.Lines.{field_value, line_place};
-    ghost use Rattle.cdxj_core.specs.LineRefView.{line_view, line_body};
-    ghost use Rattle.cdxj_core.specs.LineView.{own_line_view, own_line_body};
+    ghost use Rattle.std.specs.Prelude.{IfOk};
+    ghost use Rattle.cdxj_core.specs.Lines.{field_value};
+    ghost use Rattle.cdxj_core.specs.Members.{member_place, line_entry};
     ghost use Rattle.cdxj_places.specs.PlaceViews.{place_view};
 
     /// A copy of a line that was read.
     pub fn new(alloc: Global, line: &LineRef<'_>) -> Result<Line, AllocError>
-        ensures view { IfOk result (λ kept. own_line_view kept ≡ line_view line.now) }
-        ensures body { IfOk result (λ kept. own_line_body kept ≡ line_body line.now) }
+        ensures { IfOk result (λ kept. kept ≡ line.now) }
     {
         let empty = Buffers {
             body: String::new(alloc),
@@ -59,15 +75,13 @@ impl Line {
     /// A copy of a line that was read, in the buffers of this one: where they are large enough, it
     /// takes no memory.
     pub fn refill(self, line: &LineRef<'_>) -> Result<Line, AllocError>
-        ensures view { IfOk result (λ kept. own_line_view kept ≡ line_view line.now) }
-        ensures body { IfOk result (λ kept. own_line_body kept ≡ line_body line.now) }
+        ensures { IfOk result (λ kept. kept ≡ line.now) }
     {
         Line::filled(self.buffers, line)
     }
 
     fn filled(buffers: Buffers, line: &LineRef<'_>) -> Result<Line, AllocError>
-        ensures view { IfOk result (λ kept. own_line_view kept ≡ line_view line.now) }
-        ensures body { IfOk result (λ kept. own_line_body kept ≡ line_body line.now) }
+        ensures { IfOk result (λ kept. kept ≡ line.now) }
     {
         let Buffers {
             body,
@@ -90,7 +104,7 @@ impl Line {
 
     /// The value of a field, as of the line that was read.
     pub fn value(&self, field: Field) -> &str
-        ensures { result.now ≡ field_value field (own_line_view self.now) }
+        ensures { result.now ≡ field_value field self.now.values }
     {
         let texts = &self.buffers.texts;
         match field {
@@ -108,15 +122,15 @@ impl Line {
 
     /// The key and the stamp.
     pub fn pair(&self) -> (&str, [u8; 14])
-        ensures key { result.0.now ≡ (own_line_view self.now).key }
-        ensures stamp { result.1 ≡ (own_line_view self.now).stamp }
+        ensures key { result.0.now ≡ self.now.values.key }
+        ensures stamp { result.1 ≡ self.now.values.stamp }
     {
         (self.buffers.key.as_str(), self.digits)
     }
 
     /// The place of the line's capture.
     pub fn place(&self) -> Place<'_>
-        ensures { place_view result ≡ line_place (own_line_view self.now) }
+        ensures { place_view result ≡ member_place self.now }
     {
         Place {
             key: self.buffers.key.as_str(),
@@ -128,19 +142,17 @@ impl Line {
 
     /// The line without its line feed, from which the values were read.
     pub fn line(&self) -> &[u8]
-        ensures value { result.now ≡ own_line_body self.now }
-        ensures utf8 { IsUtf8 result.now }
-        ensures entry { line_in LINE_LIMIT result.now ≡ Some (own_line_view self.now) }
+        ensures value { result.now ≡ self.now.line }
+        ensures entry { line_entry LINE_LIMIT result.now ≡ Some self.now }
     {
         self.buffers.body.as_str().as_bytes()
     }
 }
 
 impl HasPlace for Line {
-    ghost use Rattle.cdxj_core.specs.Lines.{line_place};
-    ghost use Rattle.cdxj_core.specs.LineView.{own_line_view};
+    ghost use Rattle.cdxj_core.specs.Members.{member_place};
 
-    ghost place_of = { λ line. line_place (own_line_view line) };
+    ghost place_of = { member_place };
 
     fn key_bytes(&self) -> &[u8] {
         self.place().key.as_bytes()

@@ -1,7 +1,8 @@
+//! Lines that were read, over the bytes that they were read from.
 ghost use Rattle.std.specs.Prelude.{◌≡◌, Some, true};
 ghost use Rattle.cdxj_core.specs.declared.limit.TheConstants.{LINE_LIMIT};
 ghost use Rattle.cdxj_places.specs.Pair.{is_key, is_stamp};
-ghost use Rattle.cdxj_core.specs.Lines.{line_in};
+ghost use Rattle.cdxj_core.specs.Members.{line_entry};
 ghost use Rattle.cdxj_core.specs.ValuesView.{parts_view};
 
 use crate::fault::LineFault;
@@ -13,6 +14,7 @@ use crate::values::Values;
 use cdxj_places::{HasPlace, Place, cut_first};
 use std::alloc::Global;
 use std::cmp::Ordering;
+use std::marker::Model;
 
 /// A line of an index that was read, with all that it says.
 #[derive(Debug, Drop)]
@@ -25,31 +27,32 @@ pub struct LineRef<'a> {
     pub ghost key_rule: { is_key key.now ≡ true },
     pub ghost stamp_rule: { is_stamp digits ≡ true },
     pub ghost digits_rule: { digits ≡ stamp.now },
-    pub ghost entry_rule: { line_in LINE_LIMIT body.now ≡ Some (parts_view key.now stamp.now values) },
+    pub ghost entry_rule: { line_entry LINE_LIMIT body.now
+        ≡ Some (record { values = parts_view key.now stamp.now values; line = body.now }) },
+}
+
+impl<'a> Model for LineRef<'a> {
+    ghost use Rattle.cdxj_core.specs.Members.{Member};
+    ghost use Rattle.cdxj_core.specs.ValuesView.{parts_view};
+
+    ghost Value = { Member };
+
+    ghost view = { λ l. record { values = parts_view l.key.now l.stamp.now l.values; line = l.body.now } };
 }
 
 impl<'a> LineRef<'a> {
     ghost use Rattle.std.specs.Prelude.{◌≤◌, length, MatchResult, IfOk, IfErr, Err, None, IsUtf8};
-    ghost use Rattle.cdxj_core.specs.Lines.{body_of, field_value, line_place};
-    ghost use Rattle.cdxj_core.specs.LineRefView.{line_view, line_body};
+    ghost use Rattle.cdxj_core.specs.Lines.{field_value, value_texts};
+    ghost use Rattle.cdxj_core.specs.Members.{member_place, line_entry, IsReading};
     ghost use Rattle.cdxj_places.specs.PlaceViews.{place_view};
-    ghost use Rattle.cdxj_core.specs.PlainViews.{texts_view, kept_view};
+    ghost use Rattle.cdxj_core.specs.PlainViews.{texts_view};
 
     /// Reads a line, with or without its line feed: a key, a space, a stamp, a space and a JSON
     /// object with a file name and an offset. `LineTooLong`, which comes first, where it has more
     /// than `LINE_LIMIT` bytes counted with a line feed; `BadLine` where it is no such line.
     #[tactic(auto, unfolding(crate::specs::Lines::line_in))]
     pub fn read(alloc: Global, line: &'a [u8]) -> Result<LineRef<'a>, LineFault>
-        ensures value { MatchResult result
-            (λ found. line_in LINE_LIMIT (body_of line.now) ≡ Some (line_view found))
-            (λ fault. fault ≡ LineFault.BadLine → IsUtf8 (body_of line.now)
-            → line_in LINE_LIMIT (body_of line.now) ≡ None) }
-        ensures body { IfOk result
-            (λ found. (line_body found ≡ body_of line.now) × IsUtf8 (body_of line.now)) }
-        ensures long { IfErr result (λ fault. fault ≡ LineFault.LineTooLong
-            → LINE_LIMIT ≤ length (body_of line.now)) }
-        ensures long_first { LINE_LIMIT ≤ length (body_of line.now)
-            → result ≡ Err LineFault.LineTooLong }
+        ensures { IsReading LINE_LIMIT line.now result }
     {
         let body = body_of(line);
         if body.len() >= LINE_LIMIT {
@@ -79,7 +82,7 @@ impl<'a> LineRef<'a> {
     /// The value of a field: the key, the stamp, the offset in decimal, or the text of a member,
     /// where a member that is absent, empty or neither text nor number of 64 bits is `-`.
     pub fn value(&self, field: Field) -> &str
-        ensures { result.now ≡ field_value field (line_view self.now) }
+        ensures { result.now ≡ field_value field self.now.values }
     {
         let texts = self.values.texts.texts();
         match field {
@@ -97,15 +100,15 @@ impl<'a> LineRef<'a> {
 
     /// The key and the stamp.
     pub fn pair(&self) -> (&str, [u8; 14])
-        ensures key { result.0.now ≡ (line_view self.now).key }
-        ensures stamp { result.1 ≡ (line_view self.now).stamp }
+        ensures key { result.0.now ≡ self.now.values.key }
+        ensures stamp { result.1 ≡ self.now.values.stamp }
     {
         (self.key, self.digits)
     }
 
     /// The place of the line's capture.
     pub fn place(&self) -> Place<'_>
-        ensures { place_view result ≡ line_place (line_view self.now) }
+        ensures { place_view result ≡ member_place self.now }
     {
         Place {
             key: self.key,
@@ -117,33 +120,32 @@ impl<'a> LineRef<'a> {
 
     /// The line without its line feed.
     pub(crate) fn text(&self) -> &str
-        ensures { result.now ≡ line_body self.now }
+        ensures value { result.now ≡ self.now.line }
+        ensures entry { line_entry LINE_LIMIT result.now ≡ Some self.now }
     {
         self.body
     }
 
     /// The texts of the members.
     pub(crate) fn texts(&self) -> Texts<'_>
-        ensures { texts_view result ≡ kept_view self.now.values.texts }
+        ensures { texts_view result ≡ value_texts self.now.values }
     {
         self.values.texts.texts()
     }
 
     /// The line without its line feed, from which the values were read.
     pub fn line(&self) -> &[u8]
-        ensures value { result.now ≡ line_body self.now }
-        ensures utf8 { IsUtf8 result.now }
-        ensures entry { line_in LINE_LIMIT result.now ≡ Some (line_view self.now) }
+        ensures value { result.now ≡ self.now.line }
+        ensures entry { line_entry LINE_LIMIT result.now ≡ Some self.now }
     {
         self.body.as_bytes()
     }
 }
 
 impl<'a> HasPlace for LineRef<'a> {
-    ghost use Rattle.cdxj_core.specs.Lines.{line_place};
-    ghost use Rattle.cdxj_core.specs.LineRefView.{line_view};
+    ghost use Rattle.cdxj_core.specs.Members.{member_place};
 
-    ghost place_of = { λ line. line_place (line_view line) };
+    ghost place_of = { member_place };
 
     fn key_bytes(&self) -> &[u8] {
         self.place().key.as_bytes()

@@ -4,7 +4,8 @@ use Rattle.std.specs.List.{AllByRecursion}
 use Rattle.std.specs.Str.{bytes_eq}
 use Rattle.std.specs.declared.cmp.Ordering.TheVariants.{Equal}
 use Rattle.devices.specs.Device.{AppendsPrefix, next_count}
-use Rattle.cdxj_core.specs.Entries.{EntryValue, IsGood, entry_place, line_text}
+use Rattle.cdxj_core.specs.Entries.{EntryValue, entry_place, line_text}
+pub use Rattle.cdxj_core.specs.Entries.{HasLine}
 use Rattle.cdxj_places.specs.Places.{place_cmp}
 use Rattle.cdxj_places.specs.Rising.{rising}
 use Rattle.index_core.specs.declared.fault.IndexFault.{IndexFault}
@@ -40,10 +41,6 @@ index_text captures = lines_text (in_places captures)
 abbrev pub HaveOwnPlaces : List EntryValue → Type 0
 HaveOwnPlaces [] = Unit {0}
 HaveOwnPlaces (e ∷ captures) = AllByRecursion (λ other. place_cmp (entry_place e) (entry_place other) ≡ Equal → ⊥) captures × HaveOwnPlaces captures
-
--- an entry whose line an index can have
-abbrev pub HasLine : ℕ → EntryValue → Type 0
-HasLine limit e = IsGood e × (length (line_text e) ≤ limit)
 
 -- What always holds of the captures of archives of these names.
 pub record AreSound (limit : ℕ) (names : List (List ℕ)) (captures : List EntryValue) : Type 0 where

@@ -1,0 +1,126 @@
+-- The entry of a line.
+use Rattle.std.proofs.Common.{◌≡◌, ◌≢◌, ℕ, ◌-◌, ◌<◌, ◌≤◌, ◌==◌, Bool, true, false, not, cond, List, [], ◌∷◌, length, take, get_or, Option, Some, None, option_map, Err, refl, sym, ap, ap₂, ◌∙◌, subst, arith, le-ltb}
+use Rattle.std.specs.Str.{IsUtf8, is_utf8}
+use Rattle.std.proofs.lemmas.Bool.{and_parts, cond-true, cond-false, not-true, lt-ltb}
+use Rattle.std.proofs.lemmas.List.Sums.{AllPass-from_list_all}
+use Rattle.std.proofs.lemmas.Str.{IsUtf8-from_is_utf8, is_utf8-from_IsUtf8}
+use Rattle.std.specs.List.{before_first, after_first}
+use Rattle.cdxj_places.specs.Pair.{is_space, pair_of}
+use Rattle.cdxj_places.proofs.PlaceLaw.{both}
+use Rattle.cdxj_core.specs.Entries.{EntryValue, HasLine, body_text, line_text}
+use Rattle.cdxj_core.specs.Lines.{LineValue, has_no_feed, line_parts, line_in, body_of}
+use Rattle.cdxj_core.specs.Members.{Member, member_pair, entry_member, line_entry, IsReading}
+use Rattle.cdxj_core.specs.declared.fault.LineFault.{LineFault}
+use Rattle.cdxj_core.specs.declared.fault.LineFault.TheVariants.{Memory, LineTooLong, BadLine}
+use Rattle.cdxj_core.proofs.EntryRead.{body_of-feed}
+use Rattle.cdxj_core.proofs.EntryUtf8.{line_law, line_utf8}
+use Rattle.cdxj_core.proofs.PairLaw.{if_test, line_pair, line_in-higher, line_in-feed}
+
+abbrev with_line : List ℕ → LineValue → Member
+with_line body values = record { values = values; line = body }
+
+pub entry_there : (limit : ℕ) (line : List ℕ) (values : LineValue) → IsUtf8 (body_of line) → line_in limit (body_of line) ≡ Some values
+    → line_entry limit line ≡ Some (record { values = values; line = body_of line })
+entry_there limit line values utf8 e = cond-true (is_utf8 (body_of line)) _ _ (is_utf8-from_IsUtf8 _ utf8) ∙ ap (option_map (with_line (body_of line))) e
+
+abbrev NoEntry : Option Member → Type 0
+NoEntry entry = entry ≡ None
+
+pub entry_none : (limit : ℕ) (line : List ℕ) → (IsUtf8 (body_of line) → line_in limit (body_of line) ≡ None) → line_entry limit line ≡ None
+entry_none limit line none =
+    (elim (is_utf8 (body_of line)) as (λ b. is_utf8 (body_of line) ≡ b → NoEntry (cond b (option_map (with_line (body_of line)) (line_in limit (body_of line))) None))
+    [ true ↦ (λ e. ap (option_map (with_line (body_of line))) (none (IsUtf8-from_is_utf8 _ e))) | false ↦ (λ e. refl) ]) refl
+
+map_is : {A B : Type 0} (g : A → B) (o : Option A) (v : B) → option_map g o ≡ Some v → (a : A) × (o ≡ Some a) × (g a ≡ v)
+map_is g None v h = absurd (cc)
+map_is g (Some a) v h = (a, refl, let e : g a ≡ v = cc in e)
+
+-- what a line with an entry is
+pub record Entered (limit : ℕ) (line : List ℕ) (member : Member) : Type 0 where
+  pub utf8 : IsUtf8 (body_of line)
+  pub values : line_in limit (body_of line) ≡ Some member.values
+  pub body : member.line ≡ body_of line
+
+pub entered : (limit : ℕ) (line : List ℕ) (member : Member) → line_entry limit line ≡ Some member → Entered limit line member
+entered limit line member h =
+    let outer = if_test (is_utf8 (body_of line)) (option_map (with_line (body_of line)) (line_in limit (body_of line))) member h in
+    let inner = map_is (with_line (body_of line)) (line_in limit (body_of line)) member outer.1 in
+    record {
+      utf8 = IsUtf8-from_is_utf8 _ outer.0;
+      values = inner.1 ∙ ap (λ m. Some m.values) inner.2;
+      body = sym (ap (λ m. m.line) inner.2);
+    }
+
+pub entry_from : (limit : ℕ) (line : List ℕ) (member : Member) → Entered limit line member → line_entry limit line ≡ Some member
+entry_from limit line member h = entry_there limit line member.values h.utf8 h.values ∙ ap (λ b. Some (with_line b member.values)) (sym h.body)
+
+-- a body without a line feed is its own
+pub body_of-body : (body : List ℕ) → has_no_feed body ≡ true → body_of body ≡ body
+body_of-body [] h = refl
+body_of-body (b ∷ body) h = cond-false (get_or (b ∷ body) (length (b ∷ body) - 1) 0 == 10) (take (length (b ∷ body) - 1) (b ∷ body)) (b ∷ body) (last_no_feed (b ∷ body) (length (b ∷ body) - 1) (omega arith) h)
+  where
+    last_no_feed : (xs : List ℕ) (i : ℕ) → i < length xs → has_no_feed xs ≡ true → (get_or xs i 0 == 10) ≡ false
+    last_no_feed xs i l h = not-true (get_or xs i 0 == 10) (AllPass-from_list_all (λ b. not (b == 10)) xs h i 0 l)
+
+-- the body of a line with an entry has it too
+pub entry_of-body : (limit : ℕ) (line : List ℕ) (member : Member) → line_entry limit line ≡ Some member → line_entry limit (body_of line) ≡ Some member
+entry_of-body limit line member h =
+    let e = entered limit line member h in
+    let same = body_of-body (body_of line) (line_in-feed limit (body_of line) member.values e.values) in
+    entry_from limit (body_of line) member (record {
+      utf8 = subst IsUtf8 (sym same) e.utf8;
+      values = ap (line_in limit) same ∙ e.values;
+      body = e.body ∙ sym same;
+    })
+
+-- ---- laws
+
+pub entry-higher : (low high : ℕ) → low ≤ high → (line : List ℕ) (member : Member) → line_entry low line ≡ Some member → line_entry high line ≡ Some member
+entry-higher low high le line member h =
+    let e = entered low line member h in
+    entry_from high line member (record { utf8 = e.utf8; values = line_in-higher low high le (body_of line) member.values e.values; body = e.body })
+
+pub entry_pair_is : (limit : ℕ) (line : List ℕ) (member : Member) → line_entry limit line ≡ Some member → pair_of line ≡ Some (member_pair member)
+entry_pair_is limit line member h = line_pair line limit member.values (entered limit line member h).values
+
+pub written_entry : (limit : ℕ) (e : EntryValue) → HasLine limit e → line_entry limit (line_text e) ≡ Some (entry_member e)
+written_entry limit e h =
+    entry_from limit (line_text e) (entry_member e) (record { utf8 = line_utf8 e h.0; values = line_law limit e h.0 h.1; body = sym (body_of-feed (body_text e)) })
+
+-- ---- reading
+
+pub reading_refused : (limit : ℕ) (line : List ℕ) (fault : LineFault) → length (body_of line) < limit
+    → (fault ≡ BadLine → line_in limit (body_of line) ≡ None) → fault ≢ LineTooLong → IsReading limit line (Err fault)
+reading_refused limit line Memory short bad long = short
+reading_refused limit line LineTooLong short bad long = absurd (long refl)
+reading_refused limit line BadLine short bad long = (short, entry_none limit line (λ utf8. bad refl))
+
+body_values : (limit : ℕ) (body key rest stamp object : List ℕ) (v : LineValue) → length body < limit → has_no_feed body ≡ true
+    → key ≡ before_first is_space body → rest ≡ after_first is_space body → stamp ≡ before_first is_space rest → object ≡ after_first is_space rest
+    → line_parts key stamp object ≡ Some v → line_in limit body ≡ Some v
+unfolding line_in
+body_values limit body key rest stamp object v short whole k r s o read =
+    cond-true _ _ _ (both _ _ (lt-ltb (length body) limit short) whole)
+    ∙ sym (λ i. line_parts (k i) ((s ∙ ap (before_first is_space) r) i) ((o ∙ ap (after_first is_space) r) i))
+    ∙ read
+
+-- a body that was cut at its first two spaces
+pub body_entry : (limit : ℕ) (body text key rest stamp object : List ℕ) (v : LineValue) → text ≡ body → IsUtf8 body → length body < limit → true ≡ has_no_feed body
+    → key ≡ before_first is_space text → rest ≡ after_first is_space text → stamp ≡ before_first is_space rest → object ≡ after_first is_space rest
+    → line_parts key stamp object ≡ Some v → line_entry limit text ≡ Some (record { values = v; line = text })
+body_entry limit body text key rest stamp object v same utf8 short whole k r s o read =
+    let feed : has_no_feed text ≡ true = ap has_no_feed same ∙ sym whole in
+    let its = body_of-body text feed in
+    let less : length text < limit = omega (arith, ap length same, short) in
+    entry_from limit text (record { values = v; line = text }) (record {
+      utf8 = subst IsUtf8 (sym (its ∙ same)) utf8;
+      values = ap (line_in limit) its ∙ body_values limit text key rest stamp object v less feed k r s o read;
+      body = sym its;
+    })
+
+-- a line whose body has an entry
+pub line_of_body : (limit : ℕ) (line body text : List ℕ) (member : Member) → text ≡ body → body ≡ body_of line → true ≡ has_no_feed body → line_entry limit text ≡ Some member → line_entry limit line ≡ Some member
+line_of_body limit line body text member same its whole h =
+    let e = entered limit text member h in
+    let bodies : body_of text ≡ body_of line = body_of-body text (ap has_no_feed same ∙ sym whole) ∙ same ∙ its in
+    entry_from limit line member (record { utf8 = subst IsUtf8 bodies e.utf8; values = ap (line_in limit) (sym bodies) ∙ e.values; body = e.body ∙ bodies })
