@@ -122,14 +122,6 @@ const ENTRIES: &[(&str, &str, &str)] = &[
     ),
 ];
 
-#[test]
-fn lines_with_an_entry(rt: HostRuntime) -> Result<(), Fail> {
-    for (name, line, values) in ENTRIES {
-        has_values(&rt, rt.alloc(), name, line, values)?;
-    }
-    Ok(())
-}
-
 const OFFSETS: &[(&str, &str, &str)] = &[
     (
         "the largest number and nought",
@@ -219,9 +211,11 @@ const OFFSETS: &[(&str, &str, &str)] = &[
 ];
 
 #[test]
-fn lines_with_an_offset_and_a_file_name(rt: HostRuntime) -> Result<(), Fail> {
-    for (name, line, values) in OFFSETS {
-        has_values(&rt, rt.alloc(), name, line, values)?;
+fn lines_have_their_values(rt: HostRuntime) -> Result<(), Fail> {
+    for table in [ENTRIES, OFFSETS] {
+        for (name, line, values) in table.iter() {
+            has_values(&rt, rt.alloc(), name, line, values)?;
+        }
     }
     Ok(())
 }

@@ -122,14 +122,6 @@ const WITHOUT_A_PLACE: &[(&str, &str)] = &[
     ),
 ];
 
-#[test]
-fn lines_without_a_place(rt: HostRuntime) -> Result<(), LineFault> {
-    for (name, line) in WITHOUT_A_PLACE {
-        assert!(rt; is_bad(rt.alloc(), line.as_bytes())?, "of {name}");
-    }
-    Ok(())
-}
-
 const WITHOUT_AN_OBJECT: &[(&str, &str)] = &[
     ("an array", "k 20160101000000 [\"offset\", \"7\"]\n"),
     ("a text", "k 20160101000000 \"x\"\n"),
@@ -257,35 +249,22 @@ const WITHOUT_AN_OBJECT: &[(&str, &str)] = &[
     ),
 ];
 
-#[test]
-fn lines_without_an_object(rt: HostRuntime) -> Result<(), LineFault> {
-    for (name, line) in WITHOUT_AN_OBJECT {
-        assert!(rt; is_bad(rt.alloc(), line.as_bytes())?, "of {name}");
-    }
-    Ok(())
-}
+// In a text, in the key, and the bytes of a surrogate.
+const NO_UTF8: &[&[u8]] = &[
+    b"k 20160101000000 {\"a\": \"\xff\", \"offset\": \"7\", \"filename\": \"f\"}",
+    b"\xc0\x80 20160101000000 {\"offset\": \"7\", \"filename\": \"f\"}",
+    b"k 20160101000000 {\"a\": \"\xed\xa0\x80\", \"offset\": \"7\", \"filename\": \"f\"}",
+];
 
 #[test]
-fn lines_that_are_no_utf8(rt: HostRuntime) -> Result<(), LineFault> {
-    let alloc = rt.alloc();
-    // in a text, in the key, and a surrogate's bytes
-    assert!(rt;
-        is_bad(
-            alloc,
-            b"k 20160101000000 {\"a\": \"\xff\", \"offset\": \"7\", \"filename\": \"f\"}"
-        )?
-    );
-    assert!(rt;
-        is_bad(
-            alloc,
-            b"\xc0\x80 20160101000000 {\"offset\": \"7\", \"filename\": \"f\"}"
-        )?
-    );
-    assert!(rt;
-        is_bad(
-            alloc,
-            b"k 20160101000000 {\"a\": \"\xed\xa0\x80\", \"offset\": \"7\", \"filename\": \"f\"}"
-        )?
-    );
+fn bad_lines_are_refused(rt: HostRuntime) -> Result<(), LineFault> {
+    for table in [WITHOUT_A_PLACE, WITHOUT_AN_OBJECT] {
+        for (name, line) in table.iter() {
+            assert!(rt; is_bad(rt.alloc(), line.as_bytes())?, "of {name}");
+        }
+    }
+    for line in NO_UTF8 {
+        assert!(rt; is_bad(rt.alloc(), line)?);
+    }
     Ok(())
 }

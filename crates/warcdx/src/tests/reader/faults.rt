@@ -1,7 +1,7 @@
 use super::{RESOURCE, RESPONSE, joined, walk};
-use warc_core::{Cause, Fault, Fuse, Head, Reader, Slice};
 use std::alloc::{AllocError, Global};
 use std::test::Fail;
+use warc_core::{Cause, Fault, Fuse, Head, Reader, Slice};
 
 const NAMES: &[(Cause, &str)] = &[
     (Cause::Memory, "Memory"),

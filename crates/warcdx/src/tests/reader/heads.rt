@@ -1,7 +1,7 @@
 use super::{MANDATORY, joined, walk};
-use warc_core::{Cause, Fault, Fuse, HEAD_LIMIT, Input, Reader, Slice};
 use std::alloc::{AllocError, Global};
 use std::test::Fail;
+use warc_core::{Cause, Fault, Fuse, HEAD_LIMIT, Input, Reader, Slice};
 
 /// A head of this many bytes, which ends with CR LF CR LF or, where it is open, lacks the last LF.
 fn head_of(alloc: Global, length: usize, open: bool) -> Result<Vec<u8>, AllocError> {
