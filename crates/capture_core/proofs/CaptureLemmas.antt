@@ -7,7 +7,7 @@ use Rattle.std.proofs.lemmas.List.{drop_all}
 use Rattle.std.specs.Io.KnownBytes.{prepend_known, Consumes}
 use Rattle.httparse.specs.Grammar.{ResponseHead}
 use Rattle.sha1.specs.Sha1.{sha1}
-use Rattle.warc_head.specs.declared.kind.Kind.{Kind}
+use Rattle.warc_core.specs.Kind.{Kind}
 use Rattle.warc_core.specs.declared.fault.Cause.{Cause}
 use Rattle.warc_core.specs.declared.fault.Cause.TheVariants as causes
 use Rattle.warc_core.specs.declared.fault.Fault.{Fault}

@@ -3,9 +3,9 @@ use Rattle.std.proofs.Common.{◌≡◌, ℕ, ◌<◌, Bool, true, false, cond, 
 use Rattle.std.specs.Str.{is_utf8}
 use Rattle.std.specs.List.{flat_map}
 use Rattle.std.proofs.lemmas.Grind.{common_steps}
-use Rattle.warc_head.specs.declared.kind.Kind.{Kind}
-use Rattle.warc_head.specs.declared.kind.Kind.TheVariants as kinds
-use Rattle.warc_head.specs.Length.{all_digits}
+use Rattle.warc_core.specs.Kind.{Kind}
+use Rattle.warc_core.specs.Kind.kinds
+use Rattle.warc_core.specs.Length.{all_digits}
 use Rattle.warc_core.specs.HeadView.{HeadView}
 use Rattle.cdxj_places.specs.Pair.{is_stamp}
 use Rattle.cdxj_core.specs.Texts.{or_missing}

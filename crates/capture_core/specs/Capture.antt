@@ -2,8 +2,8 @@
 use Rattle.std.specs.Prelude.{◌≡◌, ℕ, Bool, cond, List, Option, Some, None, option_map, unwrap_or, codes}
 use Rattle.httparse.specs.Grammar.{ResponseHead, status_code}
 use Rattle.sha1.specs.Sha1.{sha1}
-use Rattle.warc_head.specs.declared.kind.Kind.{Kind}
-use Rattle.warc_head.specs.declared.kind.Kind.TheVariants as kinds
+use Rattle.warc_core.specs.Kind.{Kind}
+use Rattle.warc_core.specs.Kind.kinds
 use Rattle.warc_core.specs.HeadView.{HeadView, record_length}
 use Rattle.cdxj_core.specs.Entries.{EntryValue}
 use Rattle.cdxj_core.specs.Key.{key_of}

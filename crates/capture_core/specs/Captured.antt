@@ -1,6 +1,6 @@
 -- What a call of `capture` owes.
 use Rattle.std.specs.Prelude.{◌≡◌, ℕ, ◌+◌, ◌<◌, ◌≤◌, ⊤, Bool, List, ◌++◌, length, min, take, if◌then◌else◌, Option, Some, Result, Ok, Err, IfErr, IfSome}
-use Rattle.warc_head.specs.declared.kind.Kind.{Kind}
+use Rattle.warc_core.specs.Kind.{Kind}
 use Rattle.warc_core.specs.declared.fault.Cause.{Cause}
 use Rattle.warc_core.specs.declared.fault.Cause.TheVariants as causes
 use Rattle.warc_core.specs.declared.phase.Phase.TheVariants.{Between, Open, Failed}

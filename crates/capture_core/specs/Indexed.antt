@@ -1,8 +1,8 @@
 -- Which records are indexed, and what their heads say of it (ISO 28500:2017, clauses 5 and 6).
 use Rattle.std.specs.Prelude.{ℕ, ◌&&◌, Bool, true, false, List, [], ◌∷◌, codes, Option, Some, None, option_and_then, if◌then◌else◌}
-use Rattle.warc_head.specs.declared.kind.Kind.{Kind}
-use Rattle.warc_head.specs.declared.kind.Kind.TheVariants as kinds
-use Rattle.warc_head.specs.Fields.{value_of}
+use Rattle.warc_core.specs.Kind.{Kind}
+use Rattle.warc_core.specs.Kind.kinds
+use Rattle.warc_core.specs.Fields.{value_of}
 use Rattle.warc_head.specs.Names.{same_name}
 use Rattle.warc_core.specs.HeadView.{HeadView}
 use Rattle.capture_core.specs.Text.{without_brackets, media_type, without_sha1}

@@ -1,6 +1,6 @@
 //! A block against the digest that its head names.
 ghost use Rattle.std.specs.Prelude.{◌≡◌, ℕ, ◌+◌, codes};
-ghost use Rattle.warc_head.specs.Fields.{value_of};
+ghost use Rattle.warc_core.specs.Fields.{value_of};
 ghost use Rattle.warc_core.specs.declared.phase.Phase.TheVariants.{Between, Open};
 ghost use Rattle.warc_core.specs.HeadView.{record_length};
 ghost use Rattle.warc_core.specs.ReaderView.{IsUnread, HasLeft, state_of};

@@ -3,8 +3,8 @@ ghost use Rattle.std.specs.Prelude.{◌≡◌, codes, option_map};
 ghost use Rattle.capture_core.specs.Indexed.{field, is_marked, holds_response, may_have_head};
 
 use crate::text::media_type;
-use warc_core::Head;
-use warc_head::{Kind, same_name};
+use warc_core::{Head, Kind};
+use warc_head::same_name;
 
 /// The value of the record's own `Content-Type`.
 pub(crate) fn content_type(head: &Head) -> Option<&[u8]>

@@ -7,8 +7,7 @@ ghost use Rattle.capture_core.specs.ResponseView.{response_view};
 use crate::http_head::HttpHead;
 use crate::marked::{content_type, is_marked};
 use crate::text::media_type;
-use warc_core::Head;
-use warc_head::Kind;
+use warc_core::{Head, Kind};
 
 fn or_missing(value: &[u8]) -> &[u8]
     ensures { result.now ≡ or_missing value.now }

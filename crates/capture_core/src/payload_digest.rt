@@ -5,8 +5,7 @@ ghost use Rattle.capture_core.specs.Capture.{settled_digest};
 
 use crate::target::filled;
 use crate::text::without_sha1;
-use warc_core::Head;
-use warc_head::Kind;
+use warc_core::{Head, Kind};
 
 /// The value of `WARC-Payload-Digest` without a leading `sha1:`; none where nothing remains.
 fn given_digest(head: &Head) -> Option<&[u8]>

@@ -3,8 +3,7 @@ ghost use Rattle.std.specs.Prelude.{◌≡◌, ◌<◌, length, MatchOption, IfS
 ghost use Rattle.capture_core.specs.Indexed.{usual_types, filled, target_of, url_of};
 
 use crate::text::without_brackets;
-use warc_core::Head;
-use warc_head::Kind;
+use warc_core::{Head, Kind};
 
 /// Whether records of this type are indexed.
 pub(crate) fn is_indexed(kind: Kind) -> bool

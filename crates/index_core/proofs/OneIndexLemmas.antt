@@ -1,6 +1,6 @@
 -- An archive has one list of captures.
 use Rattle.std.proofs.Common.{◌≡◌, ◌∙◌, ℕ, ◌+◌, Bool, List, [], ◌∷◌, ◌++◌, Some, option_to_list, sym, ap₂, refl, subst, arith}
-use Rattle.warc_head.specs.declared.kind.Kind.{Kind}
+use Rattle.warc_core.specs.Kind.{Kind}
 use Rattle.warc_core.specs.HeadView.{HeadView, record_length}
 use Rattle.warc_core.specs.Walk.{Walks}
 use Rattle.warc_core.proofs.ArchiveLemmas.{walk-front}

@@ -1,6 +1,6 @@
 -- What the addition of an archive owes: the captures of its whole records.
 use Rattle.std.specs.Prelude.{◌≡◌, ℕ, ◌<◌, ◌≤◌, ⊤, Bool, List, [], ◌∷◌, ◌++◌, length, drop, option_to_list, Option, Some, Result, Ok, Err, IfSome}
-use Rattle.warc_head.specs.declared.kind.Kind.{Kind}
+use Rattle.warc_core.specs.Kind.{Kind}
 use Rattle.warc_core.specs.HeadView.{HeadView}
 use Rattle.warc_core.specs.Reading.{IsFoundIn}
 use Rattle.warc_core.specs.Answers.{CountsRead}

@@ -1,6 +1,6 @@
 -- The listing of an archive.
 use Rattle.std.specs.Prelude.{ℕ, List, ◌++◌, length, Option, codes, decimal}
-use Rattle.warc_head.specs.Kind.{kind_name}
+use Rattle.warc_core.specs.Kind.{kind_name}
 use Rattle.warc_core.specs.declared.fault.Fault.{Fault}
 use Rattle.warc_core.specs.HeadView.{HeadView, record_length}
 use Rattle.index_core.specs.Report.{Reported, ReportedToFault, ReportedInPart}

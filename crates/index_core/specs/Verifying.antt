@@ -1,7 +1,7 @@
 -- The verification of an archive: the digest of each block against the one that its record gives.
 use Rattle.std.specs.Prelude.{ℕ, List, ◌++◌, length, take, drop, Option, Result, Ok, Err, option_map, codes, decimal}
 use Rattle.std.specs.List.{sum_by}
-use Rattle.warc_head.specs.Fields.{value_of}
+use Rattle.warc_core.specs.Fields.{value_of}
 use Rattle.warc_core.specs.declared.fault.Fault.{Fault}
 use Rattle.warc_core.specs.HeadView.{HeadView}
 use Rattle.capture_core.specs.declared.verdict.Verdict.{Verdict}

@@ -20,3 +20,4 @@ pub use crate::next::HEAD_LIMIT;
 pub use crate::phase::Phase;
 pub use crate::reader::Reader;
 pub use devices::{DeviceFault, FromRead, FromWrite, Fuse, Gather, Input, Output, Slice, put};
+pub use warc_head::Kind;

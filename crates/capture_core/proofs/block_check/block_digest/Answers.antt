@@ -1,6 +1,6 @@
 use Rattle.std.proofs.Common.{◌+◌, ◌∙◌, codes, ap, sym}
 use Rattle.sha1.specs.Sha1.{sha1}
-use Rattle.warc_head.specs.Fields.{value_of}
+use Rattle.warc_core.specs.Fields.{value_of}
 use Rattle.warc_core.specs.HeadView.{record_length}
 use Rattle.capture_core.specs.declared.verdict.Verdict.TheVariants as verdicts
 use Rattle.capture_core.specs.BlockDigest.{verdict_of, judged, compared}
