@@ -6,4 +6,5 @@ pub mod Text
 pub mod Indexed
 pub mod Capture
 pub mod ResponseView
+pub mod Fault
 pub mod Captured

@@ -45,10 +45,10 @@ pub fn capture<I: Input>(
             let indexed = Indexed { head, name, url };
             capture_as(alloc, reader, input, indexed)
         }
-        None => match reader.finish(input) {
-            Ok(_length) => Ok(None),
-            Err(fault) => Err(CaptureFault::Archive(fault)),
-        },
+        None => {
+            reader.finish(input)?;
+            Ok(None)
+        }
     }
 }
 
@@ -69,10 +69,10 @@ fn capture_as<I: Input>(
 {
     match front_buffer(alloc, indexed.head) {
         Ok(mut front) => { capture_through(alloc, reader, input, indexed, front.as_mut_slice()) }
-        Err(_) => match reader.finish(input) {
-            Ok(_length) => Err(memory(indexed.head)),
-            Err(fault) => Err(CaptureFault::Archive(fault)),
-        },
+        Err(_) => {
+            reader.finish(input)?;
+            Err(memory(indexed.head))
+        }
     }
 }
 
@@ -93,10 +93,8 @@ fn capture_through<I: Input>(
     ensures capture { Captures usual_types usual_limits indexed.entry.head.now indexed.entry.name.now (prepend_known reader.old.held (I.remaining input.old)) result }
     ensures entry { IfOk result (λ captured. IfSome captured (IsEntryOf indexed.entry.head.now indexed.entry.name.now LINE_LIMIT)) }
 {
-    match reader.block_exact(input, front) {
-        Ok(()) => capture_behind(alloc, reader, input, indexed, front),
-        Err(fault) => Err(CaptureFault::Archive(fault)),
-    }
+    reader.block_exact(input, front)?;
+    capture_behind(alloc, reader, input, indexed, front)
 }
 
 /// The same, where the front of the block was read.
@@ -119,13 +117,10 @@ fn capture_behind<I: Input>(
     let parted = part(indexed.head, front);
     match settled_digest(indexed.head) {
         Some(digest) => { capture_closed(alloc, reader, input, indexed, parted.response, digest) }
-        None => match digest_rest(reader, input, parted.payload) {
-            Ok(digest) => {
-                let digest = base32(&digest);
-                capture_closed(alloc, reader, input, indexed, parted.response, &digest)
-            }
-            Err(fault) => Err(CaptureFault::Archive(fault)),
-        },
+        None => {
+            let digest = base32(&digest_rest(reader, input, parted.payload)?);
+            capture_closed(alloc, reader, input, indexed, parted.response, &digest)
+        }
     }
 }
 
@@ -148,11 +143,9 @@ fn capture_closed<I: Input>(
     ensures entry { IfOk result (λ captured. IfSome captured (IsEntryOf indexed.entry.head.now indexed.entry.name.now LINE_LIMIT)) }
     ensures answers { AnswersEntry LINE_LIMIT (entry_of indexed.entry.head.now indexed.entry.name.now (option_map response_view response.entry) digest.now indexed.entry.url.now) result }
 {
-    match reader.finish(input) {
-        Ok(_length) => match capture_entry(alloc, indexed, response, digest) {
-            Ok(entry) => Ok(Some(entry)),
-            Err(fault) => Err(fault),
-        },
-        Err(fault) => Err(CaptureFault::Archive(fault)),
+    reader.finish(input)?;
+    match capture_entry(alloc, indexed, response, digest) {
+        Ok(entry) => Ok(Some(entry)),
+        Err(fault) => Err(fault),
     }
 }

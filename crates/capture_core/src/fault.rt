@@ -1,4 +1,7 @@
 //! Why the captures of an archive end.
+ghost use Rattle.std.specs.Prelude.{◌≡◌};
+ghost use Rattle.capture_core.specs.declared.fault.CaptureFault.TheVariants.{Archive};
+
 use thiserror::Error;
 use warc_core::Fault;
 
@@ -16,4 +19,38 @@ pub enum CaptureFault {
     /// in bytes from the archive's start.
     #[error("record at offset {0}: the URL is too long")]
     KeyTooLong(u64),
+}
+
+impl CaptureFault {
+    ghost use Rattle.capture_core.specs.Fault.{fault_offset, fault_name};
+
+    /// Where the record at fault begins, in bytes from the archive's start.
+    pub fn offset(self) -> u64
+        ensures { result ≡ fault_offset self }
+    {
+        match self {
+            CaptureFault::Archive(fault) => fault.offset,
+            CaptureFault::LineTooLong(offset) => offset,
+            CaptureFault::KeyTooLong(offset) => offset,
+        }
+    }
+
+    /// The cause as listings print it: that of the archive's fault, `LineTooLong` or `KeyTooLong`.
+    pub fn name(self) -> &'static str
+        ensures { result.now ≡ fault_name self }
+    {
+        match self {
+            CaptureFault::Archive(fault) => fault.cause.name(),
+            CaptureFault::LineTooLong(_) => "LineTooLong",
+            CaptureFault::KeyTooLong(_) => "KeyTooLong",
+        }
+    }
+}
+
+impl From<Fault> for CaptureFault {
+    ghost from_gives = { λ fault e. e ≡ Archive fault };
+
+    fn from(fault: Fault) -> CaptureFault {
+        CaptureFault::Archive(fault)
+    }
 }
