@@ -27,7 +27,8 @@ fn push_plain(line: &mut Vec<u8>, text: &str) -> Result<(), AllocError>
     Ok(())
 }
 
-fn push_quoted(line: &mut Vec<u8>, alloc: Global, text: &str) -> Result<(), AllocError>
+/// Puts the text behind the line, between quotes, as `serde_json` writes it.
+pub fn push_quoted(line: &mut Vec<u8>, alloc: Global, text: &str) -> Result<(), AllocError>
     ensures { IfOk result (λ _. line.new.items ≡ line.old.items ++ quoted text.now) }
 {
     if is_plain_text(text.as_bytes()) {

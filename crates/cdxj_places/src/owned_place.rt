@@ -11,6 +11,7 @@ use crate::place::Place;
 use form_urlencoded::decode;
 use std::alloc::Global;
 use std::cmp::Ordering;
+use std::marker::Model;
 
 /// A place that owns its texts.
 #[derive(Debug, Drop)]
@@ -25,14 +26,28 @@ pub struct OwnedPlace {
     pub ghost offset_rule: { offset < 2 ^ 63 },
 }
 
+impl Model for OwnedPlace {
+    ghost use Rattle.std.specs.Prelude.{string_bytes};
+    ghost use Rattle.cdxj_places.specs.Places.{PlaceValue};
+
+    ghost Value = { PlaceValue };
+
+    ghost view = { λ p. record {
+      key = string_bytes p.key;
+      stamp = p.stamp;
+      filename = string_bytes p.filename;
+      offset = p.offset;
+    } };
+}
+
 impl OwnedPlace {
     ghost use Rattle.std.specs.Prelude.{MatchResult, Some, None};
     ghost use Rattle.cdxj_places.specs.Places.{resume_place, place_in};
-    ghost use Rattle.cdxj_places.specs.PlaceViews.{place_view, owned_view};
+    ghost use Rattle.cdxj_places.specs.PlaceViews.{place_view};
 
     /// A copy of the place.
     pub fn new(alloc: Global, place: Place<'_>) -> Result<OwnedPlace, PlaceFault>
-        ensures { MatchResult result (λ kept. owned_view kept ≡ place_view place.entry)
+        ensures { MatchResult result (λ kept. kept ≡ place_view place.entry)
             (λ fault. fault ≡ PlaceFault.Memory) }
     {
         Ok(OwnedPlace {
@@ -48,7 +63,7 @@ impl OwnedPlace {
     /// two spaces and at its last. `BadResume` where the parts are no key, stamp, file name and
     /// offset of 1 to 19 digits.
     pub fn read(alloc: Global, text: &str) -> Result<OwnedPlace, PlaceFault>
-        ensures { MatchResult result (λ kept. resume_place text.now ≡ Some (owned_view kept))
+        ensures { MatchResult result (λ kept. resume_place text.now ≡ Some kept)
             (λ fault. fault ≡ PlaceFault.BadResume → resume_place text.now ≡ None) }
     {
         let decoded = decode(alloc, text.as_bytes())?;
@@ -57,7 +72,7 @@ impl OwnedPlace {
 
     #[tactic(auto, unfolding(crate::specs::Places::place_in))]
     fn read_decoded(alloc: Global, text: &str) -> Result<OwnedPlace, PlaceFault>
-        ensures { MatchResult result (λ kept. place_in text.now ≡ Some (owned_view kept))
+        ensures { MatchResult result (λ kept. place_in text.now ≡ Some kept)
             (λ fault. fault ≡ PlaceFault.BadResume → place_in text.now ≡ None) }
     {
         let (key, rest) = cut_first(text);
@@ -83,7 +98,7 @@ impl OwnedPlace {
 
     /// The place that is kept.
     pub fn place(&self) -> Place<'_>
-        ensures { place_view result ≡ owned_view self.now }
+        ensures { place_view result ≡ self.now }
     {
         Place {
             key: self.key.as_str(),
@@ -95,9 +110,7 @@ impl OwnedPlace {
 }
 
 impl HasPlace for OwnedPlace {
-    ghost use Rattle.cdxj_places.specs.PlaceViews.{owned_view};
-
-    ghost place_of = { owned_view };
+    ghost place_of = { λ place. place };
 
     fn key_bytes(&self) -> &[u8] {
         self.place().key.as_bytes()
