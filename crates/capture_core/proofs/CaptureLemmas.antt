@@ -30,7 +30,8 @@ use Rattle.capture_core.specs.HttpHead.{IsHeadOf, then_more}
 use Rattle.capture_core.specs.Indexed.{may_have_head, url_of}
 use Rattle.capture_core.specs.Payload.{digest_of_rest}
 use Rattle.capture_core.specs.Capture.{ResponseValue, IsHeadFor, IsCapture, IsCaptureUnder, entry_of, response_of, digest_of, settled_digest, payload_of}
-use Rattle.capture_core.specs.Captured.{read_to, reading_of, IsFaultAt, Leaves, ReadsRest, Limits, IsCaptureOf, IsFrontOf, IsEntryOf, front_limit, AnswersEntry}
+use Rattle.capture_core.specs.RecordReading.{read_to, reading_of, IsFaultAt, Leaves, ReadsRest, IsFrontOf, front_limit}
+use Rattle.capture_core.specs.CaptureAnswer.{Limits, IsCaptureOf, IsEntryOf, AnswersEntry}
 use Rattle.capture_core.proofs.HeadLemmas.{front_decides, take_past}
 use Rattle.warc_core.proofs.OpenLemmas.{GoesOn-consumes}
 use Rattle.capture_core.proofs.VerdictLemmas.{digest-then, digest-found}
@@ -70,21 +71,6 @@ rest-behind left left' h old mid new r before between after k l k' g e s = recor
   failures = subst (λ c. CountsRead (reading_of r) c k') e s.failures;
 }
 
--- what is met in a block ends its record
-pub found-of-record : (c : Cause) (left : ℕ) (before after : Option (List ℕ)) → IsFoundAt (after_block left) c before → Reads (after_record left) (Err c) before after
-unfolding after_record
-found-of-record c left None after f = tt
-found-of-record c left (Some z) after f = IsFoundIn-bind c (after_block left z) (λ block. after_text closing block.1) f
-
-record-part : (n : ℕ) (front w : List ℕ) → length front ≤ n → after_record n (front ++ w) ≡ after_record (n - length front) w
-unfolding after_record
-record-part n front w l =
-    let none : drop (length front) front ≡ [] = drop_all (length front) front (omega arith) in
-    ap (λ r. r >>= λ block. after_text closing block.1) (after_block-part n (length front) front w l (omega arith) ∙ ap (λ t. after_block (n - length front) (t ++ w)) none)
-
-pub behind-front : (n : ℕ) (front : List ℕ) (before after : Option (List ℕ)) → length front ≤ n → Consumes before after front → GoesOn (after_record n) (after_record (n - length front)) before after
-behind-front n front before after l c = GoesOn-consumes (after_record n) (after_record n) (after_record (n - length front)) before before after front (λ w. record-part n front w l) (GoesOn-start (after_record n) before) c
-
 -- after a digest of what is left, only the closing is left
 pub behind-digest : (left : ℕ) (start digest : List ℕ) (before after : Option (List ℕ)) → Reads (digest_of_rest left start) (Ok digest) before after → GoesOn (after_record left) (after_record 0) before after
 behind-digest left start digest None after r = tt
@@ -98,10 +84,10 @@ digest-met left start causes.Read (Some z) after m r = tt
 digest-met left start c (Some z) after m r = digest-found c left start z r
 
 -- what was hashed, where the bytes are known
-pub digest-told : (left : ℕ) (start digest : List ℕ) (before after : Option (List ℕ)) → Reads (digest_of_rest left start) (Ok digest) before after → IfSome before (λ bytes. digest ≡ sha1 (start ++ take left bytes))
-digest-told left start digest None after r = tt
-digest-told left start digest (Some z) None r = absurd r
-digest-told left start digest (Some z) (Some w) r = (digest-then left start z w digest r).1
+pub digest-known : (left : ℕ) (start digest : List ℕ) (before after : Option (List ℕ)) → Reads (digest_of_rest left start) (Ok digest) before after → IfSome before (λ bytes. digest ≡ sha1 (start ++ take left bytes))
+digest-known left start digest None after r = tt
+digest-known left start digest (Some z) None r = absurd r
+digest-known left start digest (Some z) (Some w) r = (digest-then left start z w digest r).1
 
 -- ---- what the capture is
 
@@ -160,11 +146,11 @@ module _ (types : Kind → Bool) (limits : Limits) (h : HeadView) (name url fron
       subst (λ o. IsCaptureUnder o limits.head limits.fields h (take h.parts.length (front ++ bytes)) name (Some entry)) (sym u) (subst (λ b. IsCaptureUnder (Some url) limits.head limits.fields h b name (Some entry)) (sym block) whole)
 
   -- what the entry answers is the capture
-  pub capture-told : url_of types h ≡ Some url → IsFrontOf limits.head h front → IsHeadFor limits.head limits.fields h front found → response ≡ option_map (λ f. response_of f.0) found → digest ≡ digest_of h (payload_of front found ++ more) → (r : Result (Option EntryValue) CaptureFault) → AnswersEntry limits.line entry r → IsCaptureOf types limits h name (front ++ bytes) r
-  capture-told u l f e d (Ok captured) a = subst (IsCapture types limits.head limits.fields h (take h.parts.length (front ++ bytes)) name) (sym a) (capture-is u l f e d)
-  capture-told u l f e d (Err (Archive x)) a = tt
-  capture-told u l f e d (Err (LineTooLong o)) a = (entry, capture-is u l f e d, a)
-  capture-told u l f e d (Err (KeyTooLong o)) a = tt
+  pub capture-known : url_of types h ≡ Some url → IsFrontOf limits.head h front → IsHeadFor limits.head limits.fields h front found → response ≡ option_map (λ f. response_of f.0) found → digest ≡ digest_of h (payload_of front found ++ more) → (r : Result (Option EntryValue) CaptureFault) → AnswersEntry limits.line entry r → IsCaptureOf types limits h name (front ++ bytes) r
+  capture-known u l f e d (Ok captured) a = subst (IsCapture types limits.head limits.fields h (take h.parts.length (front ++ bytes)) name) (sym a) (capture-is u l f e d)
+  capture-known u l f e d (Err (Archive x)) a = tt
+  capture-known u l f e d (Err (LineTooLong o)) a = (entry, capture-is u l f e d, a)
+  capture-known u l f e d (Err (KeyTooLong o)) a = tt
 
 -- a digest that is settled is that of any payload
 pub digest-settled : (h : HeadView) (digest payload : List ℕ) → settled_digest h ≡ Some digest → digest ≡ digest_of h payload
@@ -173,7 +159,7 @@ digest-settled h digest payload e = sym (ap (λ o. unwrap_or o (base32_of (sha1 
 pub digest-made : (h : HeadView) (digest payload : List ℕ) → settled_digest h ≡ None → digest ≡ sha1 payload → base32_of digest ≡ digest_of h payload
 digest-made h digest payload e d = ap base32_of d ∙ sym (ap (λ o. unwrap_or o (base32_of (sha1 payload))) e)
 
--- what is told of the bytes behind the front is told of the block
+-- what is known of the bytes behind the front is known of the block
 pub capture-behind : (types : Kind → Bool) (limits : Limits) (h : HeadView) (name front : List ℕ) (before mid : Option (List ℕ)) (r : Result (Option EntryValue) CaptureFault) → Consumes before mid front → IfSome mid (λ bytes. IsCaptureOf types limits h name (front ++ bytes) r) → IfSome before (λ bytes. IsCaptureOf types limits h name bytes r)
 capture-behind types limits h name front None mid r c t = tt
 capture-behind types limits h name front (Some z) None r c t = absurd c

@@ -10,7 +10,8 @@ use Rattle.warc_core.specs.HeadView.{HeadView}
 use Rattle.cdxj_places.specs.Pair.{is_stamp}
 use Rattle.cdxj_core.specs.Texts.{or_missing}
 use Rattle.capture_core.specs.Indexed.{field, is_marked}
-use Rattle.capture_core.specs.Text.{escaped, text_of, media_type}
+use Rattle.capture_core.specs.Utf8Text.{escaped, utf8_text}
+use Rattle.capture_core.specs.FieldValue.{media_type}
 use Rattle.capture_core.specs.Capture.{ResponseValue, media_of, content_of, mime_in, mime_of, status_of}
 
 escaped_is_filled : (value : List ℕ) → 0 < length value → 0 < length (flat_map escaped value)
@@ -18,8 +19,8 @@ escaped_is_filled [] h = absurd (omega arith)
 escaped_is_filled (b ∷ value) h = grind (arith, common_steps)
 
 -- the text of a value that isn't empty isn't either
-pub text_is_filled : (value : List ℕ) → 0 < length value → 0 < length (text_of value)
-unfolding text_of
+pub text_is_filled : (value : List ℕ) → 0 < length value → 0 < length (utf8_text value)
+unfolding utf8_text
 text_is_filled value h = go (is_utf8 value)
   where
     go : (utf8 : Bool) → 0 < length (cond utf8 value (flat_map escaped value))

@@ -36,13 +36,13 @@ sha1_text value =
     then Some (drop (length label) value) else None
 
 -- a digest's text against a digest
-abbrev pub compared : List ℕ → List ℕ → Verdict
-compared text digest = if str_eq_ignore_ascii_case text (base32_of digest) then verdicts.Same else verdicts.Differs
+abbrev pub digest_verdict : List ℕ → List ℕ → Verdict
+digest_verdict text digest = if str_eq_ignore_ascii_case text (base32_of digest) then verdicts.Same else verdicts.Differs
 
 -- the verdict on a block, by the digest's text in the value, if there is one
 abbrev pub judged : Option (List ℕ) → List ℕ → Verdict
 judged None block = verdicts.NotSha1
-judged (Some text) block = compared text (sha1 block)
+judged (Some text) block = digest_verdict text (sha1 block)
 
 -- the verdict on a block, by the value of the field
 abbrev pub verdict_of : Option (List ℕ) → List ℕ → Verdict

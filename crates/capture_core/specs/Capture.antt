@@ -1,5 +1,5 @@
 -- The capture of a record: the entry that an index has of it.
-use Rattle.std.specs.Prelude.{◌≡◌, ℕ, Bool, cond, List, Option, Some, None, option_map, unwrap_or, codes}
+use Rattle.std.specs.Prelude.{◌≡◌, ℕ, ◌+◌, ◌/◌, ◌%◌, [], ◌∷◌, Bool, cond, List, Option, Some, None, option_map, unwrap_or, codes}
 use Rattle.httparse.specs.Grammar.{ResponseHead, status_code}
 use Rattle.sha1.specs.Sha1.{sha1}
 use Rattle.warc_core.specs.Kind.{Kind}
@@ -11,7 +11,8 @@ use Rattle.cdxj_core.specs.Texts.{missing, or_missing}
 use Rattle.capture_core.specs.Base32.{base32_of}
 use Rattle.capture_core.specs.HttpHead.{IsHeadOf, field_of}
 use Rattle.capture_core.specs.Indexed.{field, url_of, is_marked, may_have_head, given_digest}
-use Rattle.capture_core.specs.Text.{text_of, media_type, three_digits}
+use Rattle.capture_core.specs.FieldValue.{media_type}
+use Rattle.capture_core.specs.Utf8Text.{utf8_text}
 
 -- what an entry takes from an HTTP head: the status code, and the first Content-Type
 pub record ResponseValue : Type 0 where
@@ -39,6 +40,10 @@ mime_in kind content = content
 abbrev pub mime_of : HeadView → Option ResponseValue → List ℕ
 mime_of h response = mime_in h.parts.kind (content_of h response)
 
+-- a status code in three digits (RFC 9110, section 15)
+abbrev pub three_digits : ℕ → List ℕ
+three_digits code = (48 + code / 100) ∷ (48 + code / 10 % 10) ∷ (48 + code % 10) ∷ []
+
 -- the status code
 abbrev pub status_of : Option ResponseValue → List ℕ
 status_of None = missing
@@ -60,12 +65,12 @@ digest_of h payload = unwrap_or (settled_digest h) (base32_of (sha1 payload))
 -- the entry of a record, by its head and what was found in its block
 abbrev pub entry_of : HeadView → List ℕ → Option ResponseValue → List ℕ → List ℕ → EntryValue
 entry_of h name response digest url = record {
-  key = key_of (text_of url);
+  key = key_of (utf8_text url);
   stamp = h.parts.stamp;
-  url = text_of url;
-  mime = text_of (mime_of h response);
+  url = utf8_text url;
+  mime = utf8_text (mime_of h response);
   status = status_of response;
-  digest = text_of digest;
+  digest = utf8_text digest;
   length = record_length h;
   offset = h.start;
   filename = name;

@@ -5,7 +5,7 @@ use Rattle.warc_core.specs.Kind.kinds
 use Rattle.warc_core.specs.Fields.{value_of}
 use Rattle.warc_head.specs.Names.{same_name}
 use Rattle.warc_core.specs.HeadView.{HeadView}
-use Rattle.capture_core.specs.Text.{without_brackets, media_type, without_sha1}
+use Rattle.capture_core.specs.FieldValue.{non_empty, without_brackets, media_type, without_sha1}
 
 -- the types of records that are indexed
 abbrev pub usual_types : Kind → Bool
@@ -18,14 +18,9 @@ usual_types kind = false
 abbrev pub field : List ℕ → HeadView → Option (List ℕ)
 field name h = value_of name h.parts.fields
 
--- a value that is not empty
-abbrev pub filled : List ℕ → Option (List ℕ)
-filled [] = None
-filled (b ∷ bytes) = Some (b ∷ bytes)
-
 -- the target of the record, without the brackets that some writers put around it
 abbrev pub target_of : HeadView → Option (List ℕ)
-target_of h = option_and_then (λ value. filled (without_brackets value)) (field (codes "WARC-Target-URI") h)
+target_of h = option_and_then (λ value. non_empty (without_brackets value)) (field (codes "WARC-Target-URI") h)
 
 -- the URL under which the record is indexed, where its type is among these and it has a target
 abbrev pub url_of : (Kind → Bool) → HeadView → Option (List ℕ)
@@ -52,4 +47,4 @@ may_have_head h = holds_response h.parts.kind && is_marked h
 
 -- the payload's digest that the head gives
 abbrev pub given_digest : HeadView → Option (List ℕ)
-given_digest h = option_and_then (λ value. filled (without_sha1 value)) (field (codes "WARC-Payload-Digest") h)
+given_digest h = option_and_then (λ value. non_empty (without_sha1 value)) (field (codes "WARC-Payload-Digest") h)

@@ -2,9 +2,11 @@ pub mod Base32
 pub mod HttpHead
 pub mod Payload
 pub mod BlockDigest
-pub mod Text
+pub mod Utf8Text
+pub mod FieldValue
 pub mod Indexed
 pub mod Capture
 pub mod ResponseView
 pub mod Fault
-pub mod Captured
+pub mod RecordReading
+pub mod CaptureAnswer

@@ -6,10 +6,10 @@ ghost use Rattle.warc_core.specs.HeadView.{record_length};
 ghost use Rattle.warc_core.specs.ReaderView.{IsUnread, HasLeft, state_of};
 ghost use Rattle.sha1.specs.Sha1.{sha1};
 ghost use Rattle.warc_core.specs.Calls.{ReadsTo};
-ghost use Rattle.capture_core.specs.BlockDigest.{verdict_of, compared, judge_record};
+ghost use Rattle.capture_core.specs.BlockDigest.{verdict_of, digest_verdict, judge_record};
 
 use crate::digest::digest_rest;
-use crate::digest_value::{compared, sha1_text};
+use crate::digest_value::{digest_verdict, sha1_text};
 use crate::verdict::Verdict;
 use warc_core::{Fault, Head, Input, Reader};
 
@@ -47,9 +47,9 @@ fn pass<I: Input>(reader: &mut Reader, input: &mut I, verdict: Verdict) -> Resul
 fn compare<I: Input>(reader: &mut Reader, input: &mut I, text: &[u8]) -> Result<Verdict, Fault>
     requires { HasLeft 0 reader.old.phase }
     ensures { (left len : ℕ) → reader.old.phase ≡ Open left len →
-        ReadsTo (judge_record (λ block. compared text.now (sha1 block)) left) (reader.old.offset + len) Between (state_of reader.old (I.remaining input.old) (I.failures input.old)) (state_of reader.new (I.remaining input.new) (I.failures input.new)) result }
+        ReadsTo (judge_record (λ block. digest_verdict text.now (sha1 block)) left) (reader.old.offset + len) Between (state_of reader.old (I.remaining input.old) (I.failures input.old)) (state_of reader.new (I.remaining input.new) (I.failures input.new)) result }
 {
     let digest = digest_rest(reader, input, &[])?;
     reader.finish(input)?;
-    Ok(compared(text, &digest))
+    Ok(digest_verdict(text, &digest))
 }

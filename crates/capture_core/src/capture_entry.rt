@@ -2,7 +2,8 @@
 ghost use Rattle.std.specs.Prelude.{◌≡◌, ◌<◌, ◌≤◌, length, Ok, Err, IfOk, IfErr, IfSome, option_map};
 ghost use Rattle.cdxj_core.specs.Entries.{IsGood, line_text};
 ghost use Rattle.capture_core.specs.Capture.{entry_of};
-ghost use Rattle.capture_core.specs.Captured.{IsEntryOf, IsFaultAt, reading_of};
+ghost use Rattle.capture_core.specs.CaptureAnswer.{IsEntryOf};
+ghost use Rattle.capture_core.specs.RecordReading.{IsFaultAt, reading_of};
 ghost use Rattle.capture_core.specs.ResponseView.{response_view};
 
 use crate::entry::entry;

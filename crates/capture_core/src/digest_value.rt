@@ -1,7 +1,7 @@
 //! The value of a field that names a digest.
 ghost use Rattle.std.specs.Prelude.{◌≡◌, MatchOption, None, Some};
 ghost use Rattle.std.specs.List.{list_all};
-ghost use Rattle.capture_core.specs.BlockDigest.{compared, is_base32_letter, is_base32_text, sha1_text};
+ghost use Rattle.capture_core.specs.BlockDigest.{digest_verdict, is_base32_letter, is_base32_text, sha1_text};
 
 use crate::digest_text::base32;
 use crate::verdict::Verdict;
@@ -39,8 +39,8 @@ fn is_base32_letter(byte: u8) -> bool
 }
 
 /// Whether the text is that of the digest, ASCII case ignored.
-pub(crate) fn compared(text: &[u8], digest: &[u8; 20]) -> Verdict
-    ensures { result ≡ compared text.now digest.now }
+pub(crate) fn digest_verdict(text: &[u8], digest: &[u8; 20]) -> Verdict
+    ensures { result ≡ digest_verdict text.now digest.now }
 {
     if same_text(text, &base32(digest)) {
         Verdict::Same

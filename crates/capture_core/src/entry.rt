@@ -8,7 +8,7 @@ use crate::http_head::HttpHead;
 use crate::indexed::Indexed;
 use crate::mime::mime;
 use crate::status::status;
-use crate::text::text;
+use crate::utf8_text::utf8_text;
 use cdxj_core::{Entry, KeyFault, url_key};
 use std::alloc::Global;
 
@@ -27,14 +27,14 @@ pub(crate) fn entry(
     ensures value { IfOk result (λ e. e ≡ entry_of indexed.entry.head.now indexed.entry.name.now (option_map response_view response.entry) digest.now indexed.entry.url.now) }
     ensures good { IfOk result IsGood }
 {
-    let url = text(alloc, indexed.url)?;
+    let url = utf8_text(alloc, indexed.url)?;
     Ok(Entry {
         key: url_key(alloc, &url)?,
         stamp: indexed.head.stamp(),
         url,
-        mime: text(alloc, mime(indexed.head, response))?,
+        mime: utf8_text(alloc, mime(indexed.head, response))?,
         status: status(alloc, response)?,
-        digest: text(alloc, digest)?,
+        digest: utf8_text(alloc, digest)?,
         length: indexed.head.record_length(),
         offset: indexed.head.start(),
         filename: String::from_str(alloc, indexed.name)?,

@@ -3,28 +3,30 @@
 
 mod block_check;
 mod capture_entry;
-mod capturing;
+mod closing;
 mod digest;
 mod digest_text;
 mod digest_value;
 mod entry;
 mod fault;
+mod field_value;
 mod http_head;
+mod http_record;
 mod indexed;
 mod laws;
 mod line;
-mod marked;
 mod mime;
 mod payload;
 mod payload_digest;
+mod record_capture;
 mod status;
 mod target;
-mod text;
+mod utf8_text;
 mod verdict;
 
 pub use crate::block_check::block_digest;
-pub use crate::capturing::capture;
 pub use crate::digest_text::base32;
 pub use crate::fault::CaptureFault;
 pub use crate::laws::{block_has_one_head, record_has_one_capture};
+pub use crate::record_capture::capture;
 pub use crate::verdict::Verdict;

@@ -28,8 +28,8 @@ fn is_short_entry(entry: &Entry) -> bool
         && is_short(&entry.filename)
 }
 
-/// Whether the entry's line has at most `LINE_LIMIT` bytes. It is written out only where that can't
-/// be told by the lengths of its texts.
+/// Whether the entry's line has at most `LINE_LIMIT` bytes. It is written out only where the
+/// lengths of its texts don't show it.
 pub(crate) fn fits_line(alloc: Global, entry: &Entry) -> Result<bool, AllocError>
     requires { IsGood entry.now }
     ensures { IfOk result (λ fits. IsTrue fits ↔ length (line_text entry.now) ≤ LINE_LIMIT) }

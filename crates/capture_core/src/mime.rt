@@ -4,9 +4,9 @@ ghost use Rattle.cdxj_core.specs.Texts.{or_missing};
 ghost use Rattle.capture_core.specs.Capture.{media_of, content_of, mime_of};
 ghost use Rattle.capture_core.specs.ResponseView.{response_view};
 
+use crate::field_value::media_type;
 use crate::http_head::HttpHead;
-use crate::marked::{content_type, is_marked};
-use crate::text::media_type;
+use crate::http_record::{content_type, is_marked};
 use warc_core::{Head, Kind};
 
 fn or_missing(value: &[u8]) -> &[u8]

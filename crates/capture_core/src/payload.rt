@@ -2,12 +2,12 @@
 ghost use Rattle.std.specs.Prelude.{◌≡◌, ◌<◌, ℕ, List, Option, option_map, IfOk, IfSome};
 ghost use Rattle.httparse.specs.Grammar.{ResponseHead};
 ghost use Rattle.capture_core.specs.Capture.{IsHeadFor, response_of, payload_of};
-ghost use Rattle.capture_core.specs.Captured.{IsFrontOf, front_limit};
+ghost use Rattle.capture_core.specs.RecordReading.{IsFrontOf, front_limit};
 ghost use Rattle.capture_core.specs.HttpHead.{IsHeadOf};
 ghost use Rattle.capture_core.specs.ResponseView.{response_view};
 
 use crate::http_head::{HTTP_FIELD_LIMIT, HTTP_HEAD_LIMIT, HttpHead, http_head};
-use crate::marked::may_have_head;
+use crate::http_record::may_have_head;
 use std::alloc::{AllocError, Global};
 use warc_core::Head;
 

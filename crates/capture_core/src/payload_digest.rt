@@ -3,8 +3,7 @@ ghost use Rattle.std.specs.Prelude.{◌≡◌, ◌<◌, length, MatchOption, IfS
 ghost use Rattle.capture_core.specs.Indexed.{given_digest};
 ghost use Rattle.capture_core.specs.Capture.{settled_digest};
 
-use crate::target::filled;
-use crate::text::without_sha1;
+use crate::field_value::{non_empty, without_sha1};
 use warc_core::{Head, Kind};
 
 /// The value of `WARC-Payload-Digest` without a leading `sha1:`; none where nothing remains.
@@ -12,7 +11,7 @@ fn given_digest(head: &Head) -> Option<&[u8]>
     ensures { MatchOption result (given_digest head.now ≡ None) (λ d. given_digest head.now ≡ Some d.now) }
 {
     match head.field(b"WARC-Payload-Digest") {
-        Some(value) => filled(without_sha1(value)),
+        Some(value) => non_empty(without_sha1(value)),
         None => None,
     }
 }

@@ -1,8 +1,7 @@
 //! The status of a capture.
 ghost use Rattle.std.specs.Prelude.{◌≡◌, ◌+◌, ◌<◌, IfOk, IfSome, option_map, string_bytes};
-ghost use Rattle.capture_core.specs.Capture.{status_of};
+ghost use Rattle.capture_core.specs.Capture.{status_of, three_digits};
 ghost use Rattle.capture_core.specs.ResponseView.{response_view};
-ghost use Rattle.capture_core.specs.Text.{three_digits};
 
 use crate::http_head::HttpHead;
 use std::alloc::{AllocError, Global};

@@ -1,8 +1,8 @@
 //! Which records are indexed, and under which URL.
 ghost use Rattle.std.specs.Prelude.{◌≡◌, ◌<◌, length, MatchOption, IfSome, Some, None};
-ghost use Rattle.capture_core.specs.Indexed.{usual_types, filled, target_of, url_of};
+ghost use Rattle.capture_core.specs.Indexed.{usual_types, target_of, url_of};
 
-use crate::text::without_brackets;
+use crate::field_value::{non_empty, without_brackets};
 use warc_core::{Head, Kind};
 
 /// Whether records of this type are indexed.
@@ -12,20 +12,13 @@ pub(crate) fn is_indexed(kind: Kind) -> bool
     matches!(kind, Kind::Response | Kind::Resource | Kind::Revisit)
 }
 
-/// A value that is not empty.
-pub(crate) fn filled(value: &[u8]) -> Option<&[u8]>
-    ensures { MatchOption result (filled value.now ≡ None) (λ v. filled value.now ≡ Some v.now) }
-{
-    if value.is_empty() { None } else { Some(value) }
-}
-
 /// The value of `WARC-Target-URI` without one enclosing pair of `<` and `>`; none where nothing
 /// remains.
 fn target(head: &Head) -> Option<&[u8]>
     ensures { MatchOption result (target_of head.now ≡ None) (λ t. target_of head.now ≡ Some t.now) }
 {
     match head.field(b"WARC-Target-URI") {
-        Some(value) => filled(without_brackets(value)),
+        Some(value) => non_empty(without_brackets(value)),
         None => None,
     }
 }

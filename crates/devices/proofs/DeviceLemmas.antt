@@ -34,7 +34,3 @@ AppendsPrefix-behind old mid new a b more h p = (
     grown = Appends-join old mid new a p.1.front h p.1.grown;
   },
 )
-
--- `&xs[n..]` is what follows the first n
-pub rest_range : {X : Type 0} (n : ℕ) (xs : List X) → take (length xs - n) (drop n xs) ≡ drop n xs
-rest_range n xs = take_all (length xs - n) (drop n xs) (simp length-drop (omega arith))

@@ -10,6 +10,8 @@ use std::marker::Model;
 /// How many bytes are asked of an input at once.
 pub const PIECE: usize = 8192;
 
+/// Bytes that were read from an input and not given out yet, at most [`PIECE`] of them. It is handed its input at each
+/// call that reads.
 #[derive(Drop)]
 pub struct Buffer {
     bytes: Vec<u8>,
@@ -26,6 +28,7 @@ impl Model for Buffer {
 }
 
 impl Buffer {
+    /// A buffer that holds nothing, with room for [`PIECE`] bytes.
     pub fn new(alloc: Global) -> Result<Buffer, AllocError>
         ensures { IfOk result (λ b. b ≡ []) }
     {
@@ -37,12 +40,14 @@ impl Buffer {
         })
     }
 
+    /// The bytes that are held.
     pub fn as_slice(&self) -> &[u8]
         ensures { result.now ≡ self.now }
     {
         &self.bytes.as_slice()[self.from..self.to]
     }
 
+    /// Gives out the first `count` bytes.
     pub fn consume(&mut self, count: usize)
         requires { count ≤ length self.old }
         ensures { self.new ≡ drop count self.old }
@@ -50,7 +55,9 @@ impl Buffer {
         self.from += count;
     }
 
-    /// Takes a piece from the input where nothing is held.
+    /// Reads once from the input where nothing is held. It then still holds nothing only at the input's end.
+    ///
+    /// The only error is the input's failure.
     pub fn fill<I: Input>(&mut self, input: &mut I) -> Result<(), DeviceFault>
         ensures bytes { Keeps (prepend_known self.old (I.remaining input.old)) (prepend_known self.new (I.remaining input.new)) }
         ensures end { OnOk result (self.new ≡ [] → IsAtEnd (I.remaining input.new)) }

@@ -12,7 +12,7 @@ pub struct DeviceFault;
 
 /// Where bytes come from.
 pub trait Input {
-    /// The bytes that are left, where the input tells them.
+    /// The bytes that are left, where they are known.
     ghost remaining: { Self → Option (List ℕ) };
 
     /// How many calls have failed.
@@ -28,7 +28,7 @@ pub trait Input {
 
 /// Where bytes go.
 pub trait Output {
-    /// What was written, where the output tells it.
+    /// What was written, where it is known.
     ghost written: { Self → Option (List ℕ) };
 
     /// How many calls have failed.

@@ -10,7 +10,7 @@ use crate::device::{DeviceFault, Input, Output};
 /// That call doesn't reach the device within; the ones after it do.
 #[derive(Drop)]
 pub struct Fuse<D> {
-    /// The device within, whose bytes it tells.
+    /// The device within.
     pub device: D,
     /// The most bytes that a call moves. 0 counts as 1.
     pub piece: usize,

@@ -7,7 +7,7 @@ use crate::device::{DeviceFault, Input, Output};
 use std::alloc::Global;
 use std::marker::Model;
 
-/// An input over a text in memory. It tells its bytes, and never fails.
+/// An input over a text in memory. Its bytes are known, and it never fails.
 #[derive(Drop)]
 pub struct Slice<'a> {
     rest: &'a [u8],

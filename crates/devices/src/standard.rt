@@ -6,7 +6,7 @@ ghost use Rattle.devices.specs.Device.{CountsFailure, TakesSome};
 use crate::device::{DeviceFault, Input, Output};
 use std::io;
 
-/// A reader of `std` as an input. It tells no bytes.
+/// A reader of `std` as an input. Its bytes are not known.
 #[derive(Drop)]
 pub struct FromRead<R> {
     reader: R,
@@ -52,7 +52,7 @@ impl<R: io::Read> Input for FromRead<R> {
     }
 }
 
-/// A writer of `std` as an output. It tells no bytes. The writer's `Ok(0)` for a piece that isn't empty is a failure.
+/// A writer of `std` as an output. Its bytes are not known. The writer's `Ok(0)` for a piece that isn't empty is a failure.
 #[derive(Drop)]
 pub struct FromWrite<W> {
     writer: W,

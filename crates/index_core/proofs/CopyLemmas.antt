@@ -15,7 +15,7 @@ use Rattle.devices.proofs.DeviceLemmas.{Appends-none, Appends-join}
 use Rattle.warc_core.proofs.ReadingLemmas.{GoesOn-reads, nil_of}
 use Rattle.warc_core.proofs.SpelledLemmas.{block-there}
 use Rattle.capture_core.specs.declared.fault.CaptureFault.TheVariants.{Archive, LineTooLong, KeyTooLong}
-use Rattle.capture_core.proofs.CaptureLemmas.{behind-front, found-of-record}
+use Rattle.warc_core.proofs.OpenLemmas.{behind-front, found-of-record}
 use Rattle.warc_core.proofs.FillLemmas.{Consumes-none, Consumes-join, found-behind}
 use Rattle.index_core.specs.declared.fault.IndexFault.{IndexFault}
 use Rattle.index_core.specs.declared.fault.IndexFault.TheVariants as faults

@@ -16,7 +16,8 @@ use Rattle.cdxj_core.specs.Entries.{EntryValue, line_text}
 use Rattle.capture_core.specs.declared.fault.CaptureFault.{CaptureFault}
 use Rattle.capture_core.specs.declared.fault.CaptureFault.TheVariants.{Archive, LineTooLong, KeyTooLong}
 use Rattle.capture_core.specs.Capture.{IsCapture}
-use Rattle.capture_core.specs.Captured.{Limits, IsEntryOf, IsFaultAt, Captures, read_to, reading_of}
+use Rattle.capture_core.specs.CaptureAnswer.{Limits, IsEntryOf, Captures}
+use Rattle.capture_core.specs.RecordReading.{IsFaultAt, read_to, reading_of}
 use Rattle.index_core.specs.Adding.{fault_offset, IsCaptureAt, IsCaptured, AreCaptured, IsAccepted, IsRefused}
 use Rattle.index_core.specs.Gathering.{TakesRecord, Gathers}
 use Rattle.index_core.proofs.ReportLemmas.{stopped-anywhere}

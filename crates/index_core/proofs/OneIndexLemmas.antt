@@ -7,7 +7,7 @@ use Rattle.warc_core.proofs.ArchiveLemmas.{walk-front}
 use Rattle.warc_core.proofs.ReadingLemmas.{answered}
 use Rattle.warc_core.proofs.WalkLemmas.{one_list}
 use Rattle.cdxj_core.specs.Entries.{EntryValue}
-use Rattle.capture_core.specs.Captured.{Limits}
+use Rattle.capture_core.specs.CaptureAnswer.{Limits}
 use Rattle.capture_core.proofs.Captures.{one_capture}
 use Rattle.index_core.specs.Adding.{AreCaptured, fault_offset, OneIndexed, OneIndexedTo}
 

@@ -10,7 +10,7 @@ use Rattle.std.proofs.lemmas.Slice.Eq.{bytes_eq-Decides}
 use Rattle.warc_core.specs.HeadView.{HeadView}
 use Rattle.cdxj_core.specs.Entries.{EntryValue, entry_place}
 use Rattle.cdxj_places.specs.Places.{place_cmp}
-use Rattle.capture_core.specs.Captured.{IsEntryOf}
+use Rattle.capture_core.specs.CaptureAnswer.{IsEntryOf}
 use Rattle.index_core.specs.Indexing.{HaveOwnPlaces, HasLine, AreSound, is_among}
 use Rattle.index_core.specs.Gathering.{StandBefore}
 

@@ -5,7 +5,7 @@ use Rattle.std.proofs.lemmas.List.Sums.{sum_by-append}
 use Rattle.std.proofs.Math.Seq.{drop-append_seam}
 use Rattle.warc_core.specs.declared.fault.Cause.{Cause}
 use Rattle.warc_core.specs.declared.fault.Cause.TheVariants as causes
-use Rattle.warc_core.specs.HeadView.{HeadView}
+use Rattle.warc_core.specs.HeadView.{HeadView, block_at}
 use Rattle.warc_core.specs.Next.{next_at}
 use Rattle.warc_core.specs.Reading.{◌>>=◌, Reads, IsFoundIn}
 use Rattle.warc_core.specs.Record.{after_record}
@@ -15,7 +15,7 @@ use Rattle.capture_core.specs.declared.verdict.Verdict.{Verdict}
 use Rattle.capture_core.specs.declared.verdict.Verdict.TheVariants as verdicts
 use Rattle.capture_core.specs.BlockDigest.{judge_record}
 use Rattle.index_core.specs.Report.{SoFar}
-use Rattle.index_core.specs.Verifying.{verdict_on, block_at, verdict_in, verdict_line, verification_line, differing_by, verified_in}
+use Rattle.index_core.specs.Verifying.{verdict_on, verdict_in, verdict_line, verification_line, differing_by, verified_in}
 use Rattle.index_core.proofs.ReportLemmas.{IsLine, CountsOn}
 
 judged : (judge : List ℕ → Verdict) (n : ℕ) (z w : List ℕ) (v : Verdict) (r : Result (Unit {0} × List ℕ) Cause) → after_record n z ≡ r → (◌>>=◌ {B = Verdict × List ℕ} r (λ rest. Ok (judge (take n z), rest.1))) ≡ Ok (v, w) → (after_record n z ≡ Ok (tt, w)) × (v ≡ judge (take n z))

@@ -1,7 +1,7 @@
 -- What the addition of an archive owes: the captures of its whole records.
 use Rattle.std.specs.Prelude.{◌≡◌, ℕ, ◌<◌, ◌≤◌, ⊤, Bool, List, [], ◌∷◌, ◌++◌, length, drop, option_to_list, Option, Some, Result, Ok, Err, IfSome}
 use Rattle.warc_core.specs.Kind.{Kind}
-use Rattle.warc_core.specs.HeadView.{HeadView}
+use Rattle.warc_core.specs.HeadView.{HeadView, block_at}
 use Rattle.warc_core.specs.Reading.{IsFoundIn}
 use Rattle.warc_core.specs.Answers.{CountsRead}
 use Rattle.warc_core.specs.Walk.{record_at, Walks, AreRecords}
@@ -9,11 +9,10 @@ use Rattle.cdxj_core.specs.Entries.{EntryValue, line_text}
 use Rattle.capture_core.specs.declared.fault.CaptureFault.{CaptureFault}
 use Rattle.capture_core.specs.declared.fault.CaptureFault.TheVariants.{Archive, LineTooLong, KeyTooLong}
 use Rattle.capture_core.specs.Capture.{IsCapture}
-use Rattle.capture_core.specs.Captured.{Limits}
+use Rattle.capture_core.specs.CaptureAnswer.{Limits}
 use Rattle.index_core.specs.declared.fault.IndexFault.{IndexFault}
 use Rattle.index_core.specs.declared.fault.IndexFault.TheVariants as faults
 use Rattle.index_core.specs.Indexing.{Held}
-use Rattle.index_core.specs.Verifying.{block_at}
 
 -- where the record at fault begins
 abbrev pub fault_offset : CaptureFault → ℕ

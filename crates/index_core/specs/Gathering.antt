@@ -9,7 +9,7 @@ use Rattle.warc_core.specs.ReaderView.{ReaderView, StandsAt}
 use Rattle.warc_core.specs.Walk.{record_at, Walks}
 use Rattle.cdxj_core.specs.Entries.{EntryValue}
 use Rattle.capture_core.specs.declared.fault.CaptureFault.{CaptureFault}
-use Rattle.capture_core.specs.Captured.{Limits, IsEntryOf}
+use Rattle.capture_core.specs.CaptureAnswer.{Limits, IsEntryOf}
 use Rattle.index_core.specs.Adding.{fault_offset, IsCaptureAt, AreCaptured, IsRefused}
 
 -- each capture of that name stands before the offset

@@ -3,7 +3,7 @@ use Rattle.std.specs.Prelude.{ℕ, List, ◌++◌, length, take, drop, Option, R
 use Rattle.std.specs.List.{sum_by}
 use Rattle.warc_core.specs.Fields.{value_of}
 use Rattle.warc_core.specs.declared.fault.Fault.{Fault}
-use Rattle.warc_core.specs.HeadView.{HeadView}
+use Rattle.warc_core.specs.HeadView.{HeadView, block_at}
 use Rattle.capture_core.specs.declared.verdict.Verdict.{Verdict}
 use Rattle.capture_core.specs.declared.verdict.Verdict.TheVariants as verdicts
 use Rattle.capture_core.specs.BlockDigest.{verdict_of, verdict_name}
@@ -13,10 +13,6 @@ use Rattle.index_core.specs.Report.{Reported, ReportedToFault, ReportedInPart}
 -- what the head says of a block
 abbrev pub verdict_on : HeadView → List ℕ → Verdict
 verdict_on h block = verdict_of (value_of (codes "WARC-Block-Digest") h.parts.fields) block
-
--- the block of the record that begins these bytes
-abbrev pub block_at : HeadView → List ℕ → List ℕ
-block_at h bytes = take h.parts.length (drop (length h.raw) bytes)
 
 -- the verdict on a record of the archive
 abbrev pub verdict_in : List ℕ → HeadView → Verdict

@@ -6,7 +6,7 @@ ghost use Rattle.warc_core.specs.declared.next.TheConstants.{HEAD_LIMIT};
 ghost use Rattle.cdxj_core.specs.declared.limit.TheConstants.{LINE_LIMIT};
 ghost use Rattle.cdxj_core.specs.Entries.{EntryValue};
 ghost use Rattle.capture_core.specs.Indexed.{usual_types};
-ghost use Rattle.capture_core.specs.Captured.{usual_limits};
+ghost use Rattle.capture_core.specs.CaptureAnswer.{usual_limits};
 ghost use Rattle.index_core.specs.Indexing.{AreSound, HasLine, is_among};
 ghost use Rattle.index_core.specs.Adding.{Gains, CountsCapture};
 ghost use Rattle.index_core.specs.Gathering.{StandBefore, TakesNext};

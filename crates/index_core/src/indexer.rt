@@ -34,7 +34,7 @@ impl Indexer {
     ghost use Rattle.std.specs.Io.KnownBytes.{Appends};
     ghost use Rattle.warc_core.specs.declared.next.TheConstants.{HEAD_LIMIT};
     ghost use Rattle.capture_core.specs.Indexed.{usual_types};
-    ghost use Rattle.capture_core.specs.Captured.{usual_limits};
+    ghost use Rattle.capture_core.specs.CaptureAnswer.{usual_limits};
     ghost use Rattle.index_core.specs.Adding.{Adds, IsRefusal, CountsIndex};
     ghost use Rattle.index_core.specs.Indexing.{FailsIn, CountsWrite, IsName, is_among, index_text, in_places};
 

@@ -1,14 +1,14 @@
 //! The walk over an archive's records.
 ghost use Rattle.std.specs.Prelude.{◌≡◌, ℕ, List, Some, Ok, IfOk, IfSome, MatchResult};
 ghost use Rattle.std.specs.Io.KnownBytes.{prepend_known};
-ghost use Rattle.warc_core.specs.HeadView.{HeadView, BeginsAt};
+ghost use Rattle.warc_core.specs.HeadView.{HeadView, BeginsAt, block_at};
 ghost use Rattle.capture_core.specs.declared.verdict.Verdict.{Verdict};
 ghost use Rattle.warc_core.specs.Answers.{causes_of, CountsRead};
 ghost use Rattle.warc_core.specs.Reading.{Reads};
 ghost use Rattle.warc_core.specs.ReaderView.{FailedBy};
 ghost use Rattle.warc_core.specs.Walk.{record_at};
 ghost use Rattle.index_core.specs.Report.{Passes};
-ghost use Rattle.index_core.specs.Verifying.{heads_of, verdict_on, block_at};
+ghost use Rattle.index_core.specs.Verifying.{heads_of, verdict_on};
 
 use capture_core::{Verdict, block_digest};
 use warc_core::{Fault, HEAD_LIMIT, Head, Input, Phase, Reader};

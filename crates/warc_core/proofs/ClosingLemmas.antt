@@ -97,7 +97,3 @@ found-first xs before from at e l none h =
 
 pub found-none : (xs : List ℕ) (before from : ℕ) → from ≡ before - 3 → before ≤ length xs → ((k : ℕ) → k < length (drop from xs) + 1 → OccursAt (drop from xs) closing k → ⊥) → IsOpenAfter xs before
 found-none xs before from e l none n b w = open-below xs before from (length (drop from xs) + 1) e l none n b w (omega (arith, length-drop from xs, w, e, l))
-
--- `&xs[n..]` is what follows the first n
-pub rest_range : {X : Type 0} (n : ℕ) (xs : List X) → take (length xs - n) (drop n xs) ≡ drop n xs
-rest_range n xs = take_all (length xs - n) (drop n xs) (simp length-drop (omega arith))

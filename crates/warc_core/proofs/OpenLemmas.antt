@@ -1,12 +1,16 @@
 -- Calls in an open record.
-use Rattle.std.proofs.Common.{◌≡◌, ℕ, ◌<◌, List, ◌++◌, Option, None, Some, Result, Err, refl, sym, ap, ◌∙◌, subst, arith, zero, suc}
+use Rattle.std.proofs.Common.{◌≡◌, ℕ, ◌-◌, ◌<◌, ◌≤◌, List, [], ◌++◌, Option, None, Some, Result, Err, length, drop, refl, sym, ap, ◌∙◌, subst, arith, zero, suc}
+use Rattle.std.proofs.lemmas.List.{drop_all}
 use Rattle.std.specs.Io.KnownBytes.{Consumes}
 use Rattle.warc_core.specs.declared.fault.Cause.{Cause}
 use Rattle.warc_core.specs.declared.fault.Cause.TheVariants as causes
 use Rattle.warc_core.specs.declared.phase.Phase.{Phase}
 use Rattle.warc_core.specs.declared.phase.Phase.TheVariants.{Open}
-use Rattle.warc_core.proofs.ReadingLemmas.{GoesOn}
 use Rattle.warc_core.specs.Answers.{CountsRead}
+use Rattle.warc_core.specs.Reading.{◌>>=◌, Reads, IsFoundAt}
+use Rattle.warc_core.specs.Record.{after_block, after_record, after_text, closing}
+use Rattle.warc_core.proofs.ReadingLemmas.{GoesOn, GoesOn-start, IsFoundIn-bind}
+use Rattle.warc_core.proofs.RecordLemmas.{after_block-part}
 
 -- how many bytes of an open record's block are left
 abbrev pub left_in : Phase → ℕ
@@ -35,3 +39,18 @@ of_open P phase a b c d h k p = let s = same_open a b c d (sym h ∙ k) in subst
 pub zero_of : (n : ℕ) → (0 < n → ⊥) → n ≡ 0
 zero_of zero h = refl
 zero_of (suc n) h = absurd (h (omega arith))
+
+-- what is met in a block ends its record
+pub found-of-record : (c : Cause) (left : ℕ) (before after : Option (List ℕ)) → IsFoundAt (after_block left) c before → Reads (after_record left) (Err c) before after
+unfolding after_record
+found-of-record c left None after f = tt
+found-of-record c left (Some z) after f = IsFoundIn-bind c (after_block left z) (λ block. after_text closing block.1) f
+
+record-part : (n : ℕ) (front w : List ℕ) → length front ≤ n → after_record n (front ++ w) ≡ after_record (n - length front) w
+unfolding after_record
+record-part n front w l =
+    let none : drop (length front) front ≡ [] = drop_all (length front) front (omega arith) in
+    ap (λ r. r >>= λ block. after_text closing block.1) (after_block-part n (length front) front w l (omega arith) ∙ ap (λ t. after_block (n - length front) (t ++ w)) none)
+
+pub behind-front : (n : ℕ) (front : List ℕ) (before after : Option (List ℕ)) → length front ≤ n → Consumes before after front → GoesOn (after_record n) (after_record (n - length front)) before after
+behind-front n front before after l c = GoesOn-consumes (after_record n) (after_record n) (after_record (n - length front)) before before after front (λ w. record-part n front w l) (GoesOn-start (after_record n) before) c

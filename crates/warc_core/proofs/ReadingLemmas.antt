@@ -115,13 +115,6 @@ pub GoesOn-equal : {A : Type 0} (f g : List ℕ → Result A Cause) (now : Optio
 GoesOn-equal f g None e = tt
 GoesOn-equal f g (Some z) e = e z
 
--- one byte on
-pub GoesOn-byte : {A : Type 0} (f g h : List ℕ → Result A Cause) (b : ℕ) (before now after : Option (List ℕ)) → ((w : List ℕ) → g (b ∷ w) ≡ h w) → GoesOn f g before now → Reads first_of (Ok (Some b)) now after → GoesOn f h before after
-GoesOn-byte f g h b None now after e s r = tt
-GoesOn-byte f g h b (Some z) None after e s r = absurd s
-GoesOn-byte f g h b (Some z) (Some w) None e s r = absurd r
-GoesOn-byte f g h b (Some z) (Some w) (Some v) e s r = s ∙ (ap g (first-is w v b r) ∙ e v)
-
 -- the end of the reading, where these bytes are left
 pub GoesOn-done_at : {A : Type 0} (f g : List ℕ → Result (A × List ℕ) Cause) (x : A) (before now : Option (List ℕ)) → GoesOn f g before now → ((w : List ℕ) → now ≡ Some w → g w ≡ Ok (x, w)) → Reads f (Ok x) before now
 GoesOn-done_at f g x None now h e = tt

@@ -1,5 +1,5 @@
 -- What contracts see of a head.
-use Rattle.std.specs.Prelude.{◌≡◌, ℕ, ◌+◌, ◌-◌, ◌^◌, ◌≤◌, List, length}
+use Rattle.std.specs.Prelude.{◌≡◌, ℕ, ◌+◌, ◌-◌, ◌^◌, ◌≤◌, List, length, take, drop}
 use Rattle.warc_head.specs.Parts.{HeadParts}
 
 pub record HeadView : Type 0 where
@@ -12,6 +12,10 @@ pub record HeadView : Type 0 where
 -- how long a record with this head is
 abbrev pub record_length : HeadView → ℕ
 record_length h = length h.raw + h.parts.length + 4
+
+-- the block of the record that begins these bytes
+abbrev pub block_at : HeadView → List ℕ → List ℕ
+block_at h bytes = take h.parts.length (drop (length h.raw) bytes)
 
 -- the record ends by the greatest offset
 abbrev pub IsWithinOffsets : HeadView → Type 0

@@ -6,7 +6,9 @@ use devices::DeviceFault;
 use std::alloc::{AllocError, AllocFailed};
 use thiserror::Error;
 
-/// What is wrong with a record, in the order in which the causes are looked for.
+/// What is wrong with a record.
+///
+/// Of several causes the one that stands first here is answered, but `TooFar` comes before `ShortBlock` and `Closing`.
 #[derive(Clone, Copy, Debug, PartialEq, Eq, Error)]
 pub enum Cause {
     /// A growth was refused.

@@ -43,7 +43,7 @@ fn closing_end(text: &[u8], before: usize) -> Option<usize>
 }
 
 /// The text of the head that comes next, of at most `limit` bytes.
-pub fn gather_head<I: Input>(
+pub fn read_head_text<I: Input>(
     alloc: Global,
     buffer: &mut Buffer,
     input: &mut I,

@@ -10,7 +10,7 @@ ghost use Rattle.warc_core.specs.Cause.{StopsHead};
 
 use crate::fault::Cause;
 use crate::head::{Head, parts_of};
-use crate::head_text::gather_head;
+use crate::head_text::read_head_text;
 use devices::{Buffer, Input};
 use std::alloc::Global;
 
@@ -32,7 +32,7 @@ fn read_head<I: Input>(
     ensures begins { IfOk result (BeginsAt start) }
     ensures failures { CountsRead result (I.failures input.old) (I.failures input.new) }
 {
-    let raw = gather_head(alloc, buffer, input, HEAD_LIMIT)?;
+    let raw = read_head_text(alloc, buffer, input, HEAD_LIMIT)?;
     let parts = parts_of(alloc, raw.as_slice())?;
     let end = u128::from(start) + raw.len() as u128 + u128::from(parts.length()) + 4;
     if end > GREATEST_OFFSET {

@@ -13,10 +13,6 @@ false_of : (t : Bool) → (t ≡ true → ⊥) → t ≡ false
 false_of true h = absurd (h refl)
 false_of false h = refl
 
--- `&xs[n..]` is what follows the first n
-pub rest_range : {X : Type 0} (n : ℕ) (xs : List X) → take (length xs - n) (drop n xs) ≡ drop n xs
-rest_range n xs = take_all (length xs - n) (drop n xs) (simp length-drop (omega arith))
-
 -- a text whose first LF stands at a place
 pub cut_at : (text : List ℕ) (at : ℕ) → at < length text → (get_or text at 0 == 10) ≡ true → ((k : ℕ) → k < at → (get_or text k 0 == 10) ≡ true → ⊥) → lines_of text ≡ take (at + 1) text ∷ lines_of (drop (at + 1) text)
 unfolding lines_of

@@ -16,7 +16,7 @@ none_missing names fields = list_all (λ name. nat_lt 0 (length (values_of name 
 abbrev pub none_repeated : List (List ℕ) → List Field → Bool
 none_repeated names fields = list_all (λ name. nat_lt (length (values_of name fields)) 2) names
 
--- each mandatory name stands once; a missing one is told before a repeated one
+-- each mandatory name stands once; a missing one comes before a repeated one
 unfoldable pub each_once : List Field → Result (Unit {0}) HeadFault
 each_once fields =
     if none_missing mandatory fields then (if none_repeated mandatory fields then Ok tt else Err faults.Repeated) else Err faults.Missing

@@ -2,7 +2,7 @@
 ghost use Rattle.std.specs.Prelude.{◌≡◌, ◌↔◌, true, false, Err};
 ghost use Rattle.warc_core.specs.declared.next.TheConstants.{HEAD_LIMIT};
 ghost use Rattle.capture_core.specs.Indexed.{usual_types};
-ghost use Rattle.capture_core.specs.Captured.{usual_limits};
+ghost use Rattle.capture_core.specs.CaptureAnswer.{usual_limits};
 ghost use Rattle.index_core.specs.Adding.{Adds};
 ghost use Rattle.index_core.specs.Indexing.{IsName, is_among};
 ghost use Rattle.warcdx.specs.Indexing.{CountsOutcome, Writes, file_name};

@@ -3,7 +3,7 @@ use Rattle.sha1.specs.Sha1.{sha1}
 use Rattle.warc_core.specs.Fields.{value_of}
 use Rattle.warc_core.specs.HeadView.{record_length}
 use Rattle.capture_core.specs.declared.verdict.Verdict.TheVariants as verdicts
-use Rattle.capture_core.specs.BlockDigest.{verdict_of, judged, compared}
+use Rattle.capture_core.specs.BlockDigest.{verdict_of, judged, digest_verdict}
 use Rattle.capture_core.proofs.VerdictLemmas.{judged-as}
 use Rattle.capture_core.proofs.block_check.block_digest.Goals as goal
 
@@ -12,7 +12,7 @@ returns-in-Some-sha1_text g c =
     let head = c.args.head.now in
     let named = ap verdict_of c.in-Some.ensures in
     let text = ap (λ t. λ block. judged t block) c.in-Some-sha1_text.ensures in
-    judged-as (verdict_of (value_of (codes "WARC-Block-Digest") head.parts.fields)) (λ block. compared c.in-Some-sha1_text.text.now (sha1 block)) head.parts.length _ _ _ _ _ _ _ _ _
+    judged-as (verdict_of (value_of (codes "WARC-Block-Digest") head.parts.fields)) (λ block. digest_verdict c.in-Some-sha1_text.text.now (sha1 block)) head.parts.length _ _ _ _ _ _ _ _ _
     (sym (named ∙ text)) (ap (λ o. o + record_length head) c.requires.offset_is) (c.compare.ensures head.parts.length (record_length head) c.requires.phase_is)
 
 pub returns-in-None-sha1_text : goal.returns-in-None-sha1_text

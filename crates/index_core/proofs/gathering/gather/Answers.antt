@@ -3,7 +3,7 @@ use Rattle.warc_core.specs.declared.next.TheConstants.{HEAD_LIMIT}
 use Rattle.cdxj_core.specs.declared.limit.TheConstants.{LINE_LIMIT}
 use Rattle.cdxj_core.specs.Entries.{EntryValue}
 use Rattle.capture_core.specs.Indexed.{usual_types}
-use Rattle.capture_core.specs.Captured.{usual_limits}
+use Rattle.capture_core.specs.CaptureAnswer.{usual_limits}
 use Rattle.index_core.specs.Indexing.{AreSound}
 use Rattle.index_core.specs.Gathering.{StandBefore}
 use Rattle.index_core.proofs.GatherLemmas.{Gathers-more, Gathers-end}

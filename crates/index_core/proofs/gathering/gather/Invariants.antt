@@ -5,7 +5,7 @@ use Rattle.warc_core.specs.declared.phase.Phase.TheVariants.{Between}
 use Rattle.cdxj_core.specs.declared.limit.TheConstants.{LINE_LIMIT}
 use Rattle.cdxj_core.specs.Entries.{EntryValue}
 use Rattle.capture_core.specs.Indexed.{usual_types}
-use Rattle.capture_core.specs.Captured.{usual_limits}
+use Rattle.capture_core.specs.CaptureAnswer.{usual_limits}
 use Rattle.index_core.specs.Indexing.{AreSound, is_among}
 use Rattle.index_core.specs.Gathering.{StandBefore, Gathers}
 use Rattle.index_core.proofs.gathering.gather.Given as goal

@@ -6,7 +6,7 @@ use Rattle.warc_core.specs.ReaderView.{StandsAt}
 use Rattle.warc_core.specs.Walk.{record_at}
 use Rattle.warc_core.proofs.WalkLemmas.{record-stopped, record-end, record-whole}
 use Rattle.capture_core.specs.Indexed.{usual_types}
-use Rattle.capture_core.specs.Captured.{usual_limits}
+use Rattle.capture_core.specs.CaptureAnswer.{usual_limits}
 use Rattle.index_core.proofs.GatherLemmas.{fault-at, found-there, capture-there, refused-there}
 use Rattle.index_core.proofs.gathering.next_capture.Goals as goal
 

@@ -1,11 +1,12 @@
 use Rattle.std.proofs.Common.{arith}
-use Rattle.warc_head.proofs.LineLemmas.{colon_at, colon_none, rest_range}
+use Rattle.warc_head.proofs.LineLemmas.{colon_at, colon_none}
+use Rattle.std.proofs.lemmas.List.{take_rest}
 use Rattle.warc_head.proofs.fields.at_colon.Goals as goal
 
 pub returns-in-Some : goal.returns-in-Some
 returns-in-Some c =
     let f = c.in-Some.ensures in
-    rw rest_range (colon_at c.args.text.now c.in-Some.at f.0.high f.1 (λ k l. f.0.before k (omega arith) l))
+    rw take_rest (colon_at c.args.text.now c.in-Some.at f.0.high f.1 (λ k l. f.0.before k (omega arith) l))
 
 pub returns-in-None : goal.returns-in-None
 returns-in-None c =

@@ -2,7 +2,7 @@
 ghost use Rattle.std.specs.Prelude.{◌≡◌, codes, option_map};
 ghost use Rattle.capture_core.specs.Indexed.{field, is_marked, holds_response, may_have_head};
 
-use crate::text::media_type;
+use crate::field_value::media_type;
 use warc_core::{Head, Kind};
 use warc_head::same_name;
 

@@ -2,7 +2,7 @@ use Rattle.std.proofs.Common.{refl}
 use Rattle.std.proofs.lemmas.Result.{err_from_is_err_and}
 use Rattle.warc_core.specs.HeadView.{record_length}
 use Rattle.capture_core.proofs.CaptureLemmas.{rest-whole, rest-failed}
-use Rattle.capture_core.proofs.capturing.capture_as.Goals as goal
+use Rattle.capture_core.proofs.record_capture.capture_as.Goals as goal
 
 pub returns-in_ok-finish-in-Err-clause-reads : goal.returns-in_ok-finish-in-Err-clause-reads
 returns-in_ok-finish-in-Err-clause-reads g c =

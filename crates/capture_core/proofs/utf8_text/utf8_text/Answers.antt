@@ -3,15 +3,15 @@ use Rattle.std.proofs.lemmas.Grind.{common_steps}
 use Rattle.std.proofs.lemmas.Str.{is_utf8-from_IsUtf8, IsUtf8-from_is_utf8}
 use Rattle.std.proofs.Common.{arith}
 use Rattle.std.specs.Str.{is_utf8}
-use Rattle.capture_core.specs.Text.{text_of}
-use Rattle.capture_core.proofs.text.text.Goals as goal
+use Rattle.capture_core.specs.Utf8Text.{utf8_text}
+use Rattle.capture_core.proofs.utf8_text.utf8_text.Goals as goal
 
 pub returns-in-Ok : goal.returns-in-Ok
-unfolding text_of
+unfolding utf8_text
 returns-in-Ok c = grind (arith, common_steps, is_utf8-from_IsUtf8 _ c.in-Ok.ensures.cases.1)
 
 pub returns-in-Err : goal.returns-in-Err
-unfolding text_of
+unfolding utf8_text
 returns-in-Err c =
     let broken = false_from_ne_true (is_utf8 c.args.value.now) (λ e. c.in-Err.ensures.cases.0 (IsUtf8-from_is_utf8 _ e)) in
     grind (arith, common_steps)

@@ -3,7 +3,7 @@ use Rattle.std.proofs.lemmas.Result.{err_from_is_err_and}
 use Rattle.warc_core.specs.HeadView.{record_length}
 use Rattle.warc_core.proofs.OpenLemmas.{same_open}
 use Rattle.capture_core.proofs.CaptureLemmas.{rest-whole, rest-failed}
-use Rattle.capture_core.proofs.capturing.capture_closed.Goals as goal
+use Rattle.capture_core.proofs.closing.capture_closed.Goals as goal
 
 pub returns-in-Ok-clause-reads : goal.returns-in-Ok-clause-reads
 returns-in-Ok-clause-reads g c left len e =

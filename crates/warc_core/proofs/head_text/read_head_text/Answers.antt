@@ -5,7 +5,7 @@ use Rattle.warc_core.specs.HeadText.{has_version, is_closed, head_text, ClosesFi
 use Rattle.warc_core.proofs.ReadingLemmas.{GoesOn-equal, GoesOn-keeps, no_bytes, some_bytes}
 use Rattle.warc_core.proofs.HeadLemmas.{going, going-start}
 use Rattle.warc_core.proofs.GatherLemmas.{head-short, head-long, head-wrong, head-piece, head-found, head-is-found, open-more}
-use Rattle.warc_core.proofs.head_text.gather_head.Goals as goal
+use Rattle.warc_core.proofs.head_text.read_head_text.Goals as goal
 
 pub loop-buffer-init : goal.loop-buffer-init
 loop-buffer-init g c = rw c.new-head.ensures.items (record {

@@ -7,9 +7,11 @@ ghost use Rattle.warc_core.specs.ReaderView.{IsUnread, StandsAt, state_of};
 ghost use Rattle.capture_core.specs.Indexed.{usual_types, url_of};
 ghost use Rattle.capture_core.specs.Capture.{entry_of};
 ghost use Rattle.capture_core.specs.ResponseView.{response_view};
-ghost use Rattle.capture_core.specs.Captured.{ReadsRest, ReadsWhole, Captures, CapturesBehind, IsEntryOf, IsFrontOf, IsOpenFor, AnswersEntry, usual_limits};
+ghost use Rattle.capture_core.specs.RecordReading.{ReadsRest, ReadsWhole, IsFrontOf, IsOpenFor};
+ghost use Rattle.capture_core.specs.CaptureAnswer.{Captures, CapturesBehind, IsEntryOf, AnswersEntry, usual_limits};
 
-use crate::capture_entry::{capture_entry, memory};
+use crate::capture_entry::memory;
+use crate::closing::capture_closed;
 use crate::digest::digest_rest;
 use crate::digest_text::base32;
 use crate::fault::CaptureFault;
@@ -121,31 +123,5 @@ fn capture_behind<I: Input>(
             let digest = base32(&digest_rest(reader, input, parted.payload)?);
             capture_closed(alloc, reader, input, indexed, parted.response, &digest)
         }
-    }
-}
-
-/// The same, where the digest is known: reads what is left of the record.
-fn capture_closed<I: Input>(
-    alloc: Global,
-    reader: &mut Reader,
-    input: &mut I,
-    indexed: Indexed<'_>,
-    response: Option<HttpHead<'_>>,
-    digest: &[u8],
-) -> Result<Option<Entry>, CaptureFault>
-    requires code { IfSome response (λ r. r.code < 1000) }
-    requires named { 0 < length indexed.name.now }
-    requires target { 0 < length indexed.url.now }
-    requires digested { 0 < length digest.now }
-    requires stands { IsOpenFor indexed.head.now reader.old }
-    ensures reads { (left len : ℕ) → reader.old.phase ≡ Open left len →
-        ReadsRest left indexed.entry.head.now (state_of reader.old (I.remaining input.old) (I.failures input.old)) (state_of reader.new (I.remaining input.new) (I.failures input.new)) result }
-    ensures entry { IfOk result (λ captured. IfSome captured (IsEntryOf indexed.entry.head.now indexed.entry.name.now LINE_LIMIT)) }
-    ensures answers { AnswersEntry LINE_LIMIT (entry_of indexed.entry.head.now indexed.entry.name.now (option_map response_view response.entry) digest.now indexed.entry.url.now) result }
-{
-    reader.finish(input)?;
-    match capture_entry(alloc, indexed, response, digest) {
-        Ok(entry) => Ok(Some(entry)),
-        Err(fault) => Err(fault),
     }
 }

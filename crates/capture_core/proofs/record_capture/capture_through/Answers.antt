@@ -3,10 +3,11 @@ use Rattle.std.proofs.lemmas.Result.{err_from_is_err_and}
 use Rattle.std.proofs.Math.Nat.{min-le_left}
 use Rattle.warc_core.specs.HeadView.{record_length}
 use Rattle.capture_core.specs.Indexed.{usual_types}
-use Rattle.capture_core.specs.Captured.{usual_limits}
+use Rattle.capture_core.specs.CaptureAnswer.{usual_limits}
+use Rattle.warc_core.proofs.OpenLemmas.{behind-front, found-of-record}
 use Rattle.warc_core.proofs.CauseLemmas.{stops-record}
-use Rattle.capture_core.proofs.CaptureLemmas.{rest-failed, rest-behind, behind-front, found-of-record, capture-behind}
-use Rattle.capture_core.proofs.capturing.capture_through.Goals as goal
+use Rattle.capture_core.proofs.CaptureLemmas.{rest-failed, rest-behind, capture-behind}
+use Rattle.capture_core.proofs.record_capture.capture_through.Goals as goal
 
 pub block_exact-requires : goal.block_exact-requires
 block_exact-requires g c = (c.args.indexed.head.now.parts.length, record_length c.args.indexed.head.now, c.requires.unread.phase_is, subst (λ n. n ≤ c.args.indexed.head.now.parts.length) (sym c.requires.front) (min-le_left c.args.indexed.head.now.parts.length _))

@@ -1,0 +1,59 @@
+-- How a capture reads its record.
+use Rattle.std.specs.Prelude.{◌≡◌, ℕ, ◌+◌, List, length, min, Result, Ok, Err, IfErr, if◌then◌else◌}
+use Rattle.warc_core.specs.declared.fault.Cause.{Cause}
+use Rattle.warc_core.specs.declared.fault.Cause.TheVariants as causes
+use Rattle.warc_core.specs.declared.phase.Phase.TheVariants.{Between, Open, Failed}
+use Rattle.warc_core.specs.Answers.{CountsRead}
+use Rattle.warc_core.specs.HeadView.{HeadView, record_length}
+use Rattle.warc_core.specs.Reading.{Reads}
+use Rattle.warc_core.specs.ReaderView.{ReaderView, ReaderState, ahead, StandsAt}
+use Rattle.warc_core.specs.Record.{after_record}
+use Rattle.capture_core.specs.declared.fault.CaptureFault.{CaptureFault}
+use Rattle.capture_core.specs.declared.fault.CaptureFault.TheVariants.{Archive, LineTooLong, KeyTooLong}
+use Rattle.capture_core.specs.Indexed.{may_have_head}
+
+-- how a record was read that ended so: a refused growth leaves it read whole
+abbrev pub read_to : Cause → Result (Unit {0}) Cause
+read_to causes.Memory = Ok tt
+read_to c = Err c
+
+-- how a record was read, by what was answered of it: only a fault of the archive ends the reading
+abbrev pub reading_of : {A : Type 0} → Result A CaptureFault → Result (Unit {0}) Cause
+reading_of (Ok x) = Ok tt
+reading_of (Err (Archive f)) = read_to f.cause
+reading_of (Err (LineTooLong o)) = Ok tt
+reading_of (Err (KeyTooLong o)) = Ok tt
+
+-- the fault names this offset
+abbrev pub IsFaultAt : ℕ → CaptureFault → Type 0
+IsFaultAt start (Archive f) = f.offset ≡ start
+IsFaultAt start (LineTooLong o) = o ≡ start
+IsFaultAt start (KeyTooLong o) = o ≡ start
+
+-- where the reader stands: after the record, or failed at its start
+abbrev pub Leaves : HeadView → ReaderView → Result (Unit {0}) Cause → Type 0
+Leaves h new (Ok x) = StandsAt new (h.start + record_length h) Between
+Leaves h new (Err c) = StandsAt new h.start (Failed c)
+
+-- A call read the record to its end, of whose block so many bytes were left, or failed by what it met.
+pub record ReadsRest {A : Type 0} (left : ℕ) (h : HeadView) (old new : ReaderState) (r : Result A CaptureFault) : Type 0 where
+  pub bytes : Reads (after_record left) (reading_of r) (ahead old) (ahead new)
+  pub state : Leaves h new.reader (reading_of r)
+  pub fault : IfErr r (IsFaultAt h.start)
+  pub failures : CountsRead (reading_of r) old.failures new.failures
+
+-- A call read the record to its end, or failed by what it met.
+abbrev pub ReadsWhole : {A : Type 0} → HeadView → ReaderState → ReaderState → Result A CaptureFault → Type 0
+ReadsWhole h old new r = ReadsRest h.parts.length h old new r
+
+-- the reader stands in this record
+abbrev pub IsOpenFor : HeadView → ReaderView → Type 0
+IsOpenFor h r = (left : ℕ) × StandsAt r h.start (Open left (record_length h))
+
+-- how many bytes of the block are looked at for an HTTP head
+abbrev pub front_limit : ℕ → HeadView → ℕ
+front_limit limit h = if may_have_head h then limit else 0
+
+-- what is looked at for an HTTP head has this length
+abbrev pub IsFrontOf : ℕ → HeadView → List ℕ → Type 0
+IsFrontOf limit h front = length front ≡ min h.parts.length (front_limit limit h)

@@ -1,0 +1,42 @@
+//! The end of a capture: what is left of its record is read, and its entry is made.
+ghost use Rattle.std.specs.Prelude.{◌≡◌, ◌<◌, ℕ, length, IfOk, IfSome, option_map};
+ghost use Rattle.warc_core.specs.declared.phase.Phase.TheVariants.{Open};
+ghost use Rattle.warc_core.specs.ReaderView.{state_of};
+ghost use Rattle.capture_core.specs.Capture.{entry_of};
+ghost use Rattle.capture_core.specs.CaptureAnswer.{IsEntryOf, AnswersEntry};
+ghost use Rattle.capture_core.specs.RecordReading.{ReadsRest, IsOpenFor};
+ghost use Rattle.capture_core.specs.ResponseView.{response_view};
+
+use crate::capture_entry::capture_entry;
+use crate::fault::CaptureFault;
+use crate::http_head::HttpHead;
+use crate::indexed::Indexed;
+use cdxj_core::{Entry, LINE_LIMIT};
+use std::alloc::Global;
+use warc_core::{Input, Reader};
+
+/// The capture of a record whose digest is known: reads what is left of the record.
+pub(crate) fn capture_closed<I: Input>(
+    alloc: Global,
+    reader: &mut Reader,
+    input: &mut I,
+    indexed: Indexed<'_>,
+    response: Option<HttpHead<'_>>,
+    digest: &[u8],
+) -> Result<Option<Entry>, CaptureFault>
+    requires code { IfSome response (λ r. r.code < 1000) }
+    requires named { 0 < length indexed.name.now }
+    requires target { 0 < length indexed.url.now }
+    requires digested { 0 < length digest.now }
+    requires stands { IsOpenFor indexed.head.now reader.old }
+    ensures reads { (left len : ℕ) → reader.old.phase ≡ Open left len →
+        ReadsRest left indexed.entry.head.now (state_of reader.old (I.remaining input.old) (I.failures input.old)) (state_of reader.new (I.remaining input.new) (I.failures input.new)) result }
+    ensures entry { IfOk result (λ captured. IfSome captured (IsEntryOf indexed.entry.head.now indexed.entry.name.now LINE_LIMIT)) }
+    ensures answers { AnswersEntry LINE_LIMIT (entry_of indexed.entry.head.now indexed.entry.name.now (option_map response_view response.entry) digest.now indexed.entry.url.now) result }
+{
+    reader.finish(input)?;
+    match capture_entry(alloc, indexed, response, digest) {
+        Ok(entry) => Ok(Some(entry)),
+        Err(fault) => Err(fault),
+    }
+}

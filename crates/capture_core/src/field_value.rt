@@ -1,0 +1,58 @@
+//! What of a field's value goes into an entry.
+ghost use Rattle.std.specs.Prelude.{◌≡◌, ◌==◌, ◌<◌, length, position, MatchOption, IfSome, Some, None};
+ghost use Rattle.capture_core.specs.FieldValue.{non_empty, without_brackets, before_semicolon, media_type, without_sha1};
+
+use warc_head::{same_name, trim};
+
+/// A value that is not empty.
+pub(crate) fn non_empty(value: &[u8]) -> Option<&[u8]>
+    ensures { MatchOption result (non_empty value.now ≡ None) (λ v. non_empty value.now ≡ Some v.now) }
+{
+    if value.is_empty() { None } else { Some(value) }
+}
+
+/// The value without one enclosing pair of `<` and `>`.
+#[tactic(auto, unfolding(crate::specs::FieldValue::without_brackets))]
+pub(crate) fn without_brackets(value: &[u8]) -> &[u8]
+    ensures { result.now ≡ without_brackets value.now }
+{
+    match value {
+        [b'<', inner @ .., b'>'] => inner,
+        _ => value,
+    }
+}
+
+/// A digest without a leading `sha1:`, in any case.
+#[tactic(auto, unfolding(crate::specs::FieldValue::without_sha1))]
+pub(crate) fn without_sha1(value: &[u8]) -> &[u8]
+    ensures { result.now ≡ without_sha1 value.now }
+{
+    match value.split_at_checked(5) {
+        Some((front, digest)) if same_name(front, b"sha1:") => digest,
+        _ => value,
+    }
+}
+
+/// A media type without its parameters and the white space around it.
+#[tactic(auto, unfolding(crate::specs::FieldValue::media_type))]
+pub(crate) fn media_type(value: &[u8]) -> &[u8]
+    ensures { result.now ≡ media_type value.now }
+{
+    trim(before_semicolon(value))
+}
+
+fn before_semicolon(value: &[u8]) -> &[u8]
+    ensures { result.now ≡ before_semicolon value.now }
+{
+    match semicolon(value) {
+        Some(end) => &value[..end],
+        None => value,
+    }
+}
+
+fn semicolon(value: &[u8]) -> Option<usize>
+    ensures place { result ≡ position (λ byte. byte == 59) value.now }
+    ensures within { IfSome result (λ end. end < length value.now) }
+{
+    value.iter().position(|byte| *byte == b';')
+}
