@@ -41,7 +41,7 @@ object_utf8 m ms h =
     let inner = join_by member_text (44 ∷ 32 ∷ []) (m ∷ ms) in
     after 123 (inner ++ 125 ∷ []) (omega arith) (IsUtf8-append inner (125 ∷ []) (IsUtf8-append (member_text m) (flat_map (λ m. (44 ∷ 32 ∷ []) ++ member_text m) ms) (member_utf8 m h.0 h.1.0) (later_utf8 ms h.1.1)) (byte 125 (omega arith)))
 
-ascii_name : (s : List ℕ) → list_all (λ b. ltb b 128) s ≡ true → IsUtf8 s
+pub ascii_name : (s : List ℕ) → list_all (λ b. ltb b 128) s ≡ true → IsUtf8 s
 ascii_name [] h = IsUtf8-nil
 ascii_name (b ∷ s) h = let parts = and_parts (ltb b 128) (list_all (λ b. ltb b 128) s) h in after b s (ltb-true b 128 parts.0) (ascii_name s parts.1)
 

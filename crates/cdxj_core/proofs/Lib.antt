@@ -1,5 +1,6 @@
 pub mod PairLaw
 pub mod MemberLemmas
+pub mod KeptLemmas
 pub mod IndexLemmas
 pub mod EntryUtf8
 pub mod EntryWrite

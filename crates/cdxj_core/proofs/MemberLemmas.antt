@@ -14,7 +14,7 @@ use Rattle.cdxj_core.specs.declared.fault.LineFault.{LineFault}
 use Rattle.cdxj_core.specs.declared.fault.LineFault.TheVariants.{Memory, LineTooLong, BadLine}
 use Rattle.cdxj_core.proofs.EntryRead.{body_of-feed}
 use Rattle.cdxj_core.proofs.EntryUtf8.{line_law, line_utf8}
-use Rattle.cdxj_core.proofs.PairLaw.{if_test, line_pair, line_in-higher, line_in-feed}
+use Rattle.cdxj_core.proofs.PairLaw.{if_test, line_pair, line_in-higher, line_in-feed, line_in-short}
 
 abbrev with_line : List ℕ → LineValue → Member
 with_line body values = record { values = values; line = body }
@@ -124,3 +124,6 @@ line_of_body limit line body text member same its whole h =
     let e = entered limit text member h in
     let bodies : body_of text ≡ body_of line = body_of-body text (ap has_no_feed same ∙ sym whole) ∙ same ∙ its in
     entry_from limit line member (record { utf8 = subst IsUtf8 bodies e.utf8; values = ap (line_in limit) (sym bodies) ∙ e.values; body = e.body ∙ bodies })
+
+pub entry_is_short : (limit : ℕ) (line : List ℕ) (member : Member) → line_entry limit line ≡ Some member → length (body_of line) < limit
+entry_is_short limit line member h = line_in-short limit (body_of line) member.values (entered limit line member h).values

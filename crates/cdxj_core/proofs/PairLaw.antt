@@ -80,3 +80,11 @@ line_in-feed limit body v h =
     let rest = after_first is_space body in
     let outer = if_test (nat_lt (length body) limit && has_no_feed body) (line_parts (before_first is_space body) (before_first is_space rest) (after_first is_space rest)) v h in
     (and_parts (nat_lt (length body) limit) (has_no_feed body) outer.0).1
+
+-- and is below the limit
+pub line_in-short : (limit : ℕ) (body : List ℕ) (v : LineValue) → line_in limit body ≡ Some v → length body < limit
+unfolding line_in
+line_in-short limit body v h =
+    let rest = after_first is_space body in
+    let outer = if_test (nat_lt (length body) limit && has_no_feed body) (line_parts (before_first is_space body) (before_first is_space rest) (after_first is_space rest)) v h in
+    ltb-true (length body) limit (and_parts (nat_lt (length body) limit) (has_no_feed body) outer.0).0

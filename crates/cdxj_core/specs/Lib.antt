@@ -6,6 +6,7 @@ pub mod Plain
 pub mod PlainViews
 pub mod ValuesView
 pub mod Members
+pub mod KeptLine
 pub mod Indexes
 -- what contracts see of places
 pub use Rattle.cdxj_places.specs.Pair

@@ -11,6 +11,7 @@ mod laws;
 mod limit;
 mod line;
 mod line_ref;
+mod name_ends;
 mod offset;
 mod plain;
 mod reading;

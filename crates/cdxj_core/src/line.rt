@@ -1,122 +1,169 @@
 //! Lines that own their bytes.
-ghost use Rattle.std.specs.Prelude.{◌≡◌, ◌<◌, ◌^◌, length, true, string_bytes, decimal, Some};
+ghost use Rattle.std.specs.Prelude.{◌≡◌, ◌≤◌, length, string_bytes, OnOk};
+ghost use Rattle.std.specs.String.{string_capacity};
 ghost use Rattle.cdxj_core.specs.declared.limit.TheConstants.{LINE_LIMIT};
-ghost use Rattle.cdxj_places.specs.Pair.{is_key, is_stamp};
-ghost use Rattle.cdxj_core.specs.Lines.{line_value};
-ghost use Rattle.cdxj_core.specs.Members.{line_entry};
-ghost use Rattle.cdxj_core.specs.PlainViews.{copies_view};
 
-use crate::field::Field;
-use crate::kept::{Copies, refilled};
+use crate::fault::LineFault;
 use crate::line_ref::LineRef;
+use crate::name_ends::cut_name;
 use cdxj_places::{HasPlace, Place};
 use std::alloc::{AllocError, Global};
 use std::cmp::Ordering;
 use std::marker::Model;
 
-#[derive(Debug, Drop)]
-struct Buffers {
-    body: String,
-    key: String,
-    stamp: String,
-    texts: Copies,
-}
-
-/// A line that was read and owns its bytes and values, in buffers that can be used again.
+/// A line that was read and owns its bytes, in a buffer that can be used again.
 #[derive(Debug, Drop)]
 pub struct Line {
-    buffers: Buffers,
-    digits: [u8; 14],
+    alloc: Global,
+    body: String,
+    key_length: usize,
+    stamp: [u8; 14],
+    /// Where the file name stands in the body, if it does.
+    within: Option<(usize, usize)>,
+    /// The file name, if it does not.
+    apart: String,
     offset: u64,
-    pub ghost key_rule: { is_key (string_bytes buffers.key) ≡ true },
-    pub ghost stamp_rule: { is_stamp digits ≡ true },
-    pub ghost digits_rule: { digits ≡ string_bytes buffers.stamp },
-    pub ghost filename_rule: { 0 < length (string_bytes buffers.texts.filename) },
-    pub ghost offset_rule: { offset < 2 ^ 63 },
-    pub ghost offset_text_rule: { string_bytes buffers.texts.offset ≡ decimal offset },
-    pub ghost entry_rule: { line_entry LINE_LIMIT (string_bytes buffers.body) ≡ Some (record {
-        values = line_value (string_bytes buffers.key) (string_bytes buffers.stamp) (copies_view buffers.texts) offset;
-        line = string_bytes buffers.body; }) },
 }
 
 impl Model for Line {
     ghost use Rattle.std.specs.Prelude.{string_bytes};
-    ghost use Rattle.cdxj_core.specs.Lines.{line_value};
+    ghost use Rattle.cdxj_core.specs.declared.limit.TheConstants.{LINE_LIMIT};
+    ghost use Rattle.cdxj_core.specs.KeptLine.{IsKept, member_in};
     ghost use Rattle.cdxj_core.specs.Members.{Member};
-    ghost use Rattle.cdxj_core.specs.PlainViews.{copies_view};
 
     ghost Value = { Member };
 
-    ghost view = { λ l. record {
-      values = line_value (string_bytes l.buffers.key) (string_bytes l.buffers.stamp) (copies_view l.buffers.texts) l.offset;
-      line = string_bytes l.buffers.body;
-    } };
+    ghost view = { λ l. member_in LINE_LIMIT (string_bytes l.body) };
+
+    ghost invariant = { λ l. IsKept LINE_LIMIT (string_bytes l.body) l.key_length l.stamp l.within
+        (string_bytes l.apart) l.offset (member_in LINE_LIMIT (string_bytes l.body)) };
+}
+
+// What a line keeps of one that was read.
+#[derive(Clone, Copy)]
+struct Parts<'a> {
+    body: &'a str,
+    key_length: usize,
+    stamp: [u8; 14],
+    within: Option<(usize, usize)>,
+    apart: &'a str,
+    offset: u64,
+}
+
+impl<'a> Parts<'a> {
+    ghost use Rattle.std.specs.Prelude.{◌≡◌};
+    ghost use Rattle.cdxj_core.specs.declared.limit.TheConstants.{LINE_LIMIT};
+    ghost use Rattle.cdxj_core.specs.KeptLine.{IsKept};
+
+    fn of(line: &'a LineRef<'_>) -> Parts<'a>
+        ensures { IsKept LINE_LIMIT result.body.now result.key_length result.stamp result.within
+            result.apart.now result.offset line.now }
+    {
+        let body = line.text();
+        let place = line.place();
+        let (within, apart) = cut_name(body, place.filename);
+        Parts {
+            body,
+            key_length: place.key.len(),
+            stamp: place.stamp,
+            within,
+            apart,
+            offset: place.offset,
+        }
+    }
+}
+
+// Room for a text of this length.
+fn make_room(buffer: &mut String, length: usize) -> Result<(), AllocError>
+    ensures bytes { string_bytes buffer.new ≡ string_bytes buffer.old }
+    ensures room { OnOk result (length ≤ string_capacity buffer.new) }
+{
+    buffer.reserve(length.saturating_sub(buffer.len()))
+}
+
+fn fill(buffer: &mut String, text: &str)
+    requires { length text.now ≤ string_capacity buffer.old }
+    ensures { string_bytes buffer.new ≡ text.now }
+{
+    buffer.clear();
+    let _ = buffer.push_str(text);
 }
 
 impl Line {
-    ghost use Rattle.std.specs.Prelude.{IfOk};
-    ghost use Rattle.cdxj_core.specs.Lines.{field_value};
-    ghost use Rattle.cdxj_core.specs.Members.{member_place, line_entry};
+    ghost use Rattle.std.specs.Prelude.{IfOk, OnErr, MatchResult, Ok, Err, Some};
+    ghost use Rattle.cdxj_core.specs.Members.{member_place, line_entry, IsReading};
     ghost use Rattle.cdxj_places.specs.PlaceViews.{place_view};
+
+    /// Reads a line, with or without its line feed. Faults as of `LineRef::read`.
+    #[tactic(auto, using(crate::proofs::MemberLemmas::entry_is_short))]
+    pub fn read(alloc: Global, line: &[u8]) -> Result<Line, LineFault>
+        ensures { IsReading LINE_LIMIT line.now result }
+    {
+        let line = LineRef::read(alloc, line)?;
+        match Line::new(alloc, &line) {
+            Ok(kept) => Ok(kept),
+            Err(_) => Err(LineFault::Memory),
+        }
+    }
 
     /// A copy of a line that was read.
     pub fn new(alloc: Global, line: &LineRef<'_>) -> Result<Line, AllocError>
         ensures { IfOk result (λ kept. kept ≡ line.now) }
     {
-        let empty = Buffers {
-            body: String::new(alloc),
-            key: String::new(alloc),
-            stamp: String::new(alloc),
-            texts: Copies::new(alloc),
-        };
-        Line::filled(empty, line)
-    }
-
-    /// A copy of a line that was read, in the buffers of this one: where they are large enough, it
-    /// takes no memory.
-    pub fn refill(self, line: &LineRef<'_>) -> Result<Line, AllocError>
-        ensures { IfOk result (λ kept. kept ≡ line.now) }
-    {
-        Line::filled(self.buffers, line)
-    }
-
-    fn filled(buffers: Buffers, line: &LineRef<'_>) -> Result<Line, AllocError>
-        ensures { IfOk result (λ kept. kept ≡ line.now) }
-    {
-        let Buffers {
-            body,
-            key,
-            stamp,
-            texts,
-        } = buffers;
-        let place = line.place();
+        let parts = Parts::of(line);
         Ok(Line {
-            buffers: Buffers {
-                body: refilled(body, line.text())?,
-                key: refilled(key, place.key)?,
-                stamp: refilled(stamp, line.value(Field::Timestamp))?,
-                texts: texts.refilled(line.texts())?,
-            },
-            digits: place.stamp,
-            offset: place.offset,
+            alloc,
+            body: String::from_str(alloc, parts.body)?,
+            key_length: parts.key_length,
+            stamp: parts.stamp,
+            within: parts.within,
+            apart: String::from_str(alloc, parts.apart)?,
+            offset: parts.offset,
         })
     }
 
-    /// The value of a field, as of the line that was read.
-    pub fn value(&self, field: Field) -> &str
-        ensures { result.now ≡ field_value field self.now.values }
+    /// Reads another line into this one's buffer: where that is large enough, a plain line takes no
+    /// memory. Faults as of `LineRef::read`; then this line stays as it was.
+    #[tactic(auto, using(crate::proofs::MemberLemmas::entry_is_short))]
+    pub fn refill(&mut self, line: &[u8]) -> Result<(), LineFault>
+        ensures { MatchResult result (λ _. IsReading LINE_LIMIT line.now (Ok self.new))
+            (λ fault. IsReading LINE_LIMIT line.now (Err fault) × (self.new ≡ self.old)) }
     {
-        let texts = &self.buffers.texts;
-        match field {
-            Field::Urlkey => self.buffers.key.as_str(),
-            Field::Timestamp => self.buffers.stamp.as_str(),
-            Field::Original => texts.url.as_str(),
-            Field::Mimetype => texts.mime.as_str(),
-            Field::Statuscode => texts.status.as_str(),
-            Field::Digest => texts.digest.as_str(),
-            Field::Length => texts.length.as_str(),
-            Field::Offset => texts.offset.as_str(),
-            Field::Filename => texts.filename.as_str(),
+        let line = LineRef::read(self.alloc, line)?;
+        match self.keep(&line) {
+            Ok(()) => Ok(()),
+            Err(_) => Err(LineFault::Memory),
+        }
+    }
+
+    fn keep(&mut self, line: &LineRef<'_>) -> Result<(), AllocError>
+        ensures ok { OnOk result (self.new ≡ line.now) }
+        ensures err { OnErr result (self.new ≡ self.old) }
+    {
+        let parts = Parts::of(line);
+        make_room(&mut self.body, parts.body.len())?;
+        make_room(&mut self.apart, parts.apart.len())?;
+        fill(&mut self.body, parts.body);
+        fill(&mut self.apart, parts.apart);
+        self.key_length = parts.key_length;
+        self.stamp = parts.stamp;
+        self.within = parts.within;
+        self.offset = parts.offset;
+        Ok(())
+    }
+
+    fn key(&self) -> &str
+        ensures { result.now ≡ self.now.values.key }
+    {
+        &self.body.as_str()[..self.key_length]
+    }
+
+    fn filename(&self) -> &str
+        ensures { result.now ≡ self.now.values.filename }
+    {
+        match self.within {
+            Some((start, end)) => &self.body.as_str()[start..end],
+            None => self.apart.as_str(),
         }
     }
 
@@ -125,7 +172,7 @@ impl Line {
         ensures key { result.0.now ≡ self.now.values.key }
         ensures stamp { result.1 ≡ self.now.values.stamp }
     {
-        (self.buffers.key.as_str(), self.digits)
+        (self.key(), self.stamp)
     }
 
     /// The place of the line's capture.
@@ -133,19 +180,29 @@ impl Line {
         ensures { place_view result ≡ member_place self.now }
     {
         Place {
-            key: self.buffers.key.as_str(),
-            stamp: self.digits,
-            filename: self.buffers.texts.filename.as_str(),
+            key: self.key(),
+            stamp: self.stamp,
+            filename: self.filename(),
             offset: self.offset,
         }
     }
 
-    /// The line without its line feed, from which the values were read.
+    /// The line without its line feed.
     pub fn line(&self) -> &[u8]
         ensures value { result.now ≡ self.now.line }
         ensures entry { line_entry LINE_LIMIT result.now ≡ Some self.now }
     {
-        self.buffers.body.as_str().as_bytes()
+        self.body.as_bytes()
+    }
+
+    /// The line with all its values, read again.
+    pub fn values(&self) -> Result<LineRef<'_>, AllocError>
+        ensures { IfOk result (λ found. found ≡ self.now) }
+    {
+        match LineRef::read(self.alloc, self.line()) {
+            Ok(found) => Ok(found),
+            Err(_) => Err(AllocError),
+        }
     }
 }
 
@@ -155,7 +212,7 @@ impl HasPlace for Line {
     ghost place_of = { member_place };
 
     fn key_bytes(&self) -> &[u8] {
-        self.place().key.as_bytes()
+        self.key().as_bytes()
     }
 
     fn compare_place(&self, other: &Line) -> Ordering {

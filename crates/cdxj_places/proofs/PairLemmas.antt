@@ -1,5 +1,5 @@
 -- The pair of a line, and the order of pairs.
-use Rattle.std.proofs.Common.{◌≡◌, ℕ, zero, suc, ◌+◌, ◌<◌, ◌≤◌, ◌&&◌, Bool, true, false, cond, List, [], ◌∷◌, ◌++◌, length, take, drop, Some, None, get_or, refl, sym, ap, ◌∙◌, arith, append_assoc, ⊎_elim, take-append-drop, Ordering, Less, Equal, Greater}
+use Rattle.std.proofs.Common.{◌≡◌, ℕ, zero, suc, ◌+◌, ◌<◌, ◌≤◌, ◌&&◌, Bool, true, false, cond, List, [], ◌∷◌, ◌++◌, length, take, drop, Some, None, unwrap_or, get_or, refl, sym, ap, ◌∙◌, arith, append_assoc, ⊎_elim, take-append-drop, Ordering, Less, Equal, Greater}
 use Rattle.std.specs.List.{position_or_len, before_first, after_first}
 use Rattle.std.specs.Cmp.{IsTotalOrder}
 use Rattle.std.specs.Ordering.{nat_cmp, ordering_then}
@@ -45,9 +45,16 @@ has_pair : (x : List ℕ) (p : Pair) (b : Bool) → begins_with_pair x ≡ b →
 has_pair x p true e h = (e, h)
 has_pair x p false e h = absurd (cc)
 
--- the pair of a text is that of each longer text
-pub pair_longer : (x y : List ℕ) (p : Pair) → pair_of x ≡ Some p → pair_of (x ++ y) ≡ Some p
-pair_longer x y p h =
+-- what a text with a pair is
+record Begun (x : List ℕ) : Type 0 where
+  key : is_key (key_part x) ≡ true
+  stamp : is_stamp (stamp_part x) ≡ true
+  rest : List ℕ
+  text : x ≡ key_part x ++ 32 ∷ (stamp_part x ++ 32 ∷ rest)
+  pair : Some (key_part x, stamp_part x) ≡ pair_of x
+
+begun : (x : List ℕ) (p : Pair) → pair_of x ≡ Some p → Begun x
+begun x p h =
     let has = has_pair x p (begins_with_pair x) refl h in
     let outer = and_parts (is_key (key_part x) && is_stamp (stamp_part x)) (begins_with_space (tail_part x)) has.0 in
     let inner = and_parts (is_key (key_part x)) (is_stamp (stamp_part x)) outer.0 in
@@ -55,11 +62,30 @@ pair_longer x y p h =
     let tail = space_first (tail_part x) outer.1 in
     let after_is : after ≡ stamp_part x ++ 32 ∷ tail.0 = sym (take-append-drop 14 after) ∙ ap (λ s. stamp_part x ++ s) tail.1 in
     let some : 0 < length after = omega (arith, ap length after_is, length-append (stamp_part x) (32 ∷ tail.0)) in
-    let x_is : x ≡ key_part x ++ 32 ∷ (stamp_part x ++ 32 ∷ tail.0) = around x some ∙ ap (λ s. key_part x ++ 32 ∷ s) after_is in
-    let whole : x ++ y ≡ key_part x ++ 32 ∷ (stamp_part x ++ 32 ∷ (tail.0 ++ y)) =
-    ap (λ s. s ++ y) x_is ∙ append_assoc (key_part x) (32 ∷ (stamp_part x ++ 32 ∷ tail.0)) y
-    ∙ ap (λ s. key_part x ++ 32 ∷ s) (append_assoc (stamp_part x) (32 ∷ tail.0) y) in
-    ap pair_of whole ∙ pair_of-parts (key_part x) (stamp_part x) (tail.0 ++ y) inner.0 inner.1 ∙ has.1
+    record {
+      key = inner.0;
+      stamp = inner.1;
+      rest = tail.0;
+      text = around x some ∙ ap (λ s. key_part x ++ 32 ∷ s) after_is;
+      pair = has.1 ∙ sym h;
+    }
+
+-- a text begins with its key and a space
+pub pair_front : (x : List ℕ) (p : Pair) → pair_of x ≡ Some p → (rest : List ℕ) × (x ≡ p.0 ++ 32 ∷ rest)
+pair_front x p h =
+    let b = begun x p h in
+    let both_are : Some (key_part x, stamp_part x) ≡ Some p = b.pair ∙ h in
+    let key : key_part x ≡ p.0 = ap (λ o. (unwrap_or o p).0) both_are in
+    (stamp_part x ++ 32 ∷ b.rest, b.text ∙ ap (λ k. k ++ 32 ∷ (stamp_part x ++ 32 ∷ b.rest)) key)
+
+-- the pair of a text is that of each longer text
+pub pair_longer : (x y : List ℕ) (p : Pair) → pair_of x ≡ Some p → pair_of (x ++ y) ≡ Some p
+pair_longer x y p h =
+    let b = begun x p h in
+    let whole : x ++ y ≡ key_part x ++ 32 ∷ (stamp_part x ++ 32 ∷ (b.rest ++ y)) =
+    ap (λ s. s ++ y) b.text ∙ append_assoc (key_part x) (32 ∷ (stamp_part x ++ 32 ∷ b.rest)) y
+    ∙ ap (λ s. key_part x ++ 32 ∷ s) (append_assoc (stamp_part x) (32 ∷ b.rest) y) in
+    ap pair_of whole ∙ pair_of-parts (key_part x) (stamp_part x) (b.rest ++ y) b.key b.stamp ∙ b.pair ∙ h
 
 -- ---- the order of pairs
 
