@@ -1,7 +1,9 @@
 -- The texts of an entry aren't empty, and its stamp is one.
 use Rattle.std.proofs.Common.{◌≡◌, ℕ, ◌<◌, Bool, true, false, cond, List, [], ◌∷◌, length, Option, Some, None, codes, arith}
 use Rattle.std.specs.Str.{is_utf8}
-use Rattle.std.specs.List.{flat_map}
+use Rattle.percent_encoding.specs.Percent.{percent_encode}
+use Rattle.percent_encoding.specs.declared.ascii_set.TheConstants.AsciiSet.{EMPTY}
+use Rattle.percent_encoding.proofs.PercentLemmas.{percent_encode_nonempty}
 use Rattle.std.proofs.lemmas.Grind.{common_steps}
 use Rattle.warc_core.specs.Kind.{Kind}
 use Rattle.warc_core.specs.Kind.kinds
@@ -10,22 +12,18 @@ use Rattle.warc_core.specs.HeadView.{HeadView}
 use Rattle.cdxj_places.specs.Pair.{is_stamp}
 use Rattle.cdxj_core.specs.Texts.{or_missing}
 use Rattle.capture_core.specs.Indexed.{field, is_marked}
-use Rattle.capture_core.specs.Utf8Text.{escaped, utf8_text}
+use Rattle.capture_core.specs.Utf8Text.{utf8_text}
 use Rattle.capture_core.specs.FieldValue.{media_type}
 use Rattle.capture_core.specs.Capture.{ResponseValue, media_of, content_of, mime_in, mime_of, status_of}
-
-escaped_is_filled : (value : List ℕ) → 0 < length value → 0 < length (flat_map escaped value)
-escaped_is_filled [] h = absurd (omega arith)
-escaped_is_filled (b ∷ value) h = grind (arith, common_steps)
 
 -- the text of a value that isn't empty isn't either
 pub text_is_filled : (value : List ℕ) → 0 < length value → 0 < length (utf8_text value)
 unfolding utf8_text
 text_is_filled value h = go (is_utf8 value)
   where
-    go : (utf8 : Bool) → 0 < length (cond utf8 value (flat_map escaped value))
+    go : (utf8 : Bool) → 0 < length (cond utf8 value (percent_encode EMPTY value))
     go true = h
-    go false = escaped_is_filled value h
+    go false = percent_encode_nonempty EMPTY value h
 
 or_missing_is_filled : (value : List ℕ) → 0 < length (or_missing value)
 or_missing_is_filled [] = omega arith

@@ -5,7 +5,6 @@ ghost use Rattle.capture_core.specs.BlockDigest.{digest_verdict, is_base32_lette
 
 use crate::digest_text::base32;
 use crate::verdict::Verdict;
-use warc_head::same_name as same_text;
 
 /// The text of the SHA-1 digest that a value holds: 32 letters of base 32 after `sha1:`, each in any case.
 #[tactic(auto, unfolding(crate::specs::BlockDigest::sha1_text))]
@@ -13,7 +12,7 @@ pub(crate) fn sha1_text(value: &[u8]) -> Option<&[u8]>
     ensures { MatchOption result (sha1_text value.now ≡ None) (λ text. sha1_text value.now ≡ Some text.now) }
 {
     let (label, text) = value.split_at_checked(5)?;
-    if same_text(label, b"sha1:") && is_base32_text(text) {
+    if label.eq_ignore_ascii_case(b"sha1:") && is_base32_text(text) {
         Some(text)
     } else {
         None
@@ -42,7 +41,7 @@ fn is_base32_letter(byte: u8) -> bool
 pub(crate) fn digest_verdict(text: &[u8], digest: &[u8; 20]) -> Verdict
     ensures { result ≡ digest_verdict text.now digest.now }
 {
-    if same_text(text, &base32(digest)) {
+    if text.eq_ignore_ascii_case(&base32(digest)) {
         Verdict::Same
     } else {
         Verdict::Differs

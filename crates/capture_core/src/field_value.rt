@@ -2,7 +2,7 @@
 ghost use Rattle.std.specs.Prelude.{◌≡◌, ◌==◌, ◌<◌, length, position, MatchOption, IfSome, Some, None};
 ghost use Rattle.capture_core.specs.FieldValue.{non_empty, without_brackets, before_semicolon, media_type, without_sha1};
 
-use warc_head::{same_name, trim};
+use warc_head::trim;
 
 /// A value that is not empty.
 pub(crate) fn non_empty(value: &[u8]) -> Option<&[u8]>
@@ -28,7 +28,7 @@ pub(crate) fn without_sha1(value: &[u8]) -> &[u8]
     ensures { result.now ≡ without_sha1 value.now }
 {
     match value.split_at_checked(5) {
-        Some((front, digest)) if same_name(front, b"sha1:") => digest,
+        Some((front, digest)) if front.eq_ignore_ascii_case(b"sha1:") => digest,
         _ => value,
     }
 }

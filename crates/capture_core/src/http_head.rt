@@ -1,12 +1,12 @@
 //! The HTTP head at the front of a block.
 ghost use Rattle.std.specs.Prelude.{◌≡◌, ℕ, ◌<◌, ◌≤◌, List, length, drop, map, codes, All, IfSome, IfNone, option_map};
+ghost use Rattle.std.specs.Str.{str_eq_ignore_ascii_case};
 ghost use Rattle.httparse.specs.Grammar.{ResponseHead, print_response, status_code};
 ghost use Rattle.httparse.specs.Spans.{IsHeaderWithin, header_bytes};
 ghost use Rattle.capture_core.specs.HttpHead.{BeginsWithHead, HasNoHead, field_of, first_value};
 
 use httparse::Status;
 use httparse::spans::{EMPTY_HEADER_SPAN, HeaderSpan, parse_response};
-use warc_head::same_name as same_text;
 
 /// The most bytes of an HTTP head.
 pub(crate) const HTTP_HEAD_LIMIT: usize = 65_536;
@@ -53,9 +53,16 @@ fn value_of<'a>(bytes: &'a [u8], fields: &[HeaderSpan], name: &[u8]) -> Option<&
     ensures { option_map (λ v. v.now) result ≡ first_value name.now (map (header_bytes bytes.now) fields.now) }
 {
     for field in fields {
-        if same_text(field.name.of(bytes), name) {
+        if is_named(field.name.of(bytes), name) {
             return Some(field.value.of(bytes));
         }
     }
     None
+}
+
+/// Whether a field's name is this one, ASCII case ignored.
+fn is_named(field: &[u8], name: &[u8]) -> bool
+    ensures { result ≡ str_eq_ignore_ascii_case field.now name.now }
+{
+    field.eq_ignore_ascii_case(name)
 }

@@ -4,7 +4,6 @@ ghost use Rattle.capture_core.specs.Indexed.{field, is_marked, holds_response, m
 
 use crate::field_value::media_type;
 use warc_core::{Head, Kind};
-use warc_head::same_name;
 
 /// The value of the record's own `Content-Type`.
 pub(crate) fn content_type(head: &Head) -> Option<&[u8]>
@@ -18,7 +17,7 @@ pub(crate) fn is_marked(head: &Head) -> bool
     ensures { result ≡ is_marked head.now }
 {
     match content_type(head) {
-        Some(value) => same_name(media_type(value), b"application/http"),
+        Some(value) => media_type(value).eq_ignore_ascii_case(b"application/http"),
         None => false,
     }
 }

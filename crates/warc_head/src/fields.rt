@@ -6,7 +6,7 @@ ghost use Rattle.warc_head.specs.Fields.{at_colon, field_in, fields_of, value_of
 
 use crate::fault::HeadFault;
 use crate::lines::{continues, cut_line, line_content, trim};
-use crate::names::{is_name, same_name};
+use crate::names::is_name;
 use memchr::memchr;
 use std::alloc::Global;
 use std::marker::Model;
@@ -131,7 +131,7 @@ pub fn value_of<'a>(fields: &'a [Field], name: &[u8]) -> Option<&'a [u8]>
 {
     let mut rest = fields;
     while let Some((first, later)) = rest.split_first() {
-        if same_name(first.name(), name) {
+        if first.name().eq_ignore_ascii_case(name) {
             return Some(first.value());
         }
         rest = later;

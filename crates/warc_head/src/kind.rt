@@ -2,8 +2,6 @@
 ghost use Rattle.std.specs.Prelude.{◌≡◌};
 ghost use Rattle.warc_head.specs.Kind.{kind_of};
 
-use crate::names::same_name;
-
 /// The type of a record (ISO 28500:2017, clause 6), `Other` where the standard has none of that name.
 #[derive(Clone, Copy, Debug, PartialEq, Eq)]
 pub enum Kind {
@@ -44,21 +42,21 @@ impl Kind {
 pub fn kind_of(value: &[u8]) -> Kind
     ensures { result ≡ kind_of value.now }
 {
-    if same_name(value, b"warcinfo") {
+    if value.eq_ignore_ascii_case(b"warcinfo") {
         Kind::Warcinfo
-    } else if same_name(value, b"response") {
+    } else if value.eq_ignore_ascii_case(b"response") {
         Kind::Response
-    } else if same_name(value, b"resource") {
+    } else if value.eq_ignore_ascii_case(b"resource") {
         Kind::Resource
-    } else if same_name(value, b"request") {
+    } else if value.eq_ignore_ascii_case(b"request") {
         Kind::Request
-    } else if same_name(value, b"metadata") {
+    } else if value.eq_ignore_ascii_case(b"metadata") {
         Kind::Metadata
-    } else if same_name(value, b"revisit") {
+    } else if value.eq_ignore_ascii_case(b"revisit") {
         Kind::Revisit
-    } else if same_name(value, b"conversion") {
+    } else if value.eq_ignore_ascii_case(b"conversion") {
         Kind::Conversion
-    } else if same_name(value, b"continuation") {
+    } else if value.eq_ignore_ascii_case(b"continuation") {
         Kind::Continuation
     } else {
         Kind::Other

@@ -19,5 +19,4 @@ pub use fault::HeadFault;
 pub use kind::Kind;
 pub use laws::{fields_are_spelled, spelling_reads_back};
 pub use lines::trim;
-pub use names::same_name;
 pub use parts::{Parts, read_parts};

@@ -6,7 +6,6 @@ ghost use Rattle.warc_head.specs.Mandatory.{mandatory, none_missing, none_repeat
 
 use crate::fault::HeadFault;
 use crate::fields::{Field, value_of};
-use crate::names::same_name;
 
 /// Whether each mandatory field stands once.
 #[tactic(auto, unfolding(crate::specs::Mandatory::each_once))]
@@ -47,7 +46,7 @@ fn count(fields: &[Field], name: &[u8]) -> usize
     let mut count = 0;
     let mut rest = fields;
     while let Some((first, later)) = rest.split_first() {
-        if same_name(first.name(), name) {
+        if first.name().eq_ignore_ascii_case(name) {
             count += 1;
         }
         rest = later;

@@ -1,7 +1,7 @@
 //! The names of fields.
 ghost use Rattle.std.specs.Prelude.{◌≡◌, true};
 ghost use Rattle.std.specs.List.{list_all};
-ghost use Rattle.warc_head.specs.Names.{is_separator, is_name_byte, is_name, same_name};
+ghost use Rattle.warc_head.specs.Names.{is_separator, is_name_byte, is_name};
 
 /// Whether the text is one or more bytes that a name may hold.
 pub fn is_name(name: &[u8]) -> bool
@@ -54,11 +54,4 @@ fn is_separator(byte: u8) -> bool
             | b'{'
             | b'}'
     )
-}
-
-/// Whether two names are the same but for the case of ASCII letters.
-pub fn same_name(a: &[u8], b: &[u8]) -> bool
-    ensures { result ≡ same_name a.now b.now }
-{
-    a.eq_ignore_ascii_case(b)
 }
