@@ -10,8 +10,5 @@ pub object_steps : (old : List ℕ) (a b c d e f g : Pair)
     ≡ old ++ object_text (a ∷ b ∷ c ∷ d ∷ e ∷ f ∷ g ∷ [])
 object_steps old a b c d e f g = simp (append_assoc, append-nil)
 
-pub pair_steps : (old key stamp : List ℕ) → (((old ++ key) ++ 32 ∷ []) ++ stamp) ++ 32 ∷ [] ≡ old ++ (key ++ 32 ∷ (stamp ++ 32 ∷ []))
-pair_steps old key stamp = simp append_assoc
-
 pub line_steps : (key stamp object : List ℕ) → (([] ++ (key ++ 32 ∷ (stamp ++ 32 ∷ []))) ++ object) ++ 10 ∷ [] ≡ (key ++ 32 ∷ (stamp ++ 32 ∷ object)) ++ 10 ∷ []
 line_steps key stamp object = simp append_assoc

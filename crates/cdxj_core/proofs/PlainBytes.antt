@@ -6,7 +6,7 @@ use Rattle.std.proofs.lemmas.Bool.Decides.{nat_tests}
 use Rattle.std.proofs.lemmas.List.Folds.{list_all-append}
 use Rattle.json.specs.Run.{is_plain}
 use Rattle.cdxj_core.specs.Texts.{TextsValue}
-use Rattle.cdxj_core.specs.Plain.{is_open, is_visible, AreOpen, ArePlain, after, plain_text}
+use Rattle.cdxj_core.specs.Plain.{is_open, is_unescaped, AreOpen, ArePlain, after, plain_text}
 use Rattle.cdxj_places.proofs.PlaceLaw.{both}
 
 not_or : (a b : Bool) → not (a || b) ≡ (not a && not b)
@@ -16,8 +16,17 @@ not_or false b = refl
 not_below : (b : ℕ) → not (nat_lt b 32) ≡ nat_le 32 b
 not_below b = grind (arith, nat_tests)
 
-plain_byte : (b : ℕ) → is_plain b ≡ (is_open b && is_visible b)
-plain_byte b = not_or (b == 34 || b == 92) (nat_lt b 32) ∙ ap (λ t. is_open b && t) (not_below b)
+moved : (a b c : Bool) → ((a && b) && c) ≡ (a && (c && b))
+moved true true true = refl
+moved true true false = refl
+moved true false true = refl
+moved true false false = refl
+moved false b c = refl
+
+plain_byte : (b : ℕ) → is_plain b ≡ (is_open b && is_unescaped b)
+plain_byte b =
+    not_or (b == 34 || b == 92) (nat_lt b 32) ∙ (λ i. not_or (b == 34) (b == 92) i && not_below b i)
+    ∙ moved (not (b == 34)) (not (b == 92)) (nat_le 32 b)
 
 regroup : (a b c d : Bool) → ((a && b) && (c && d)) ≡ ((a && c) && (b && d))
 regroup true true c d = refl
@@ -25,24 +34,24 @@ regroup true false true d = refl
 regroup true false false d = refl
 regroup false b c d = refl
 
-pub list_all_plain : (xs : List ℕ) → list_all is_plain xs ≡ (list_all is_open xs && list_all is_visible xs)
+pub list_all_plain : (xs : List ℕ) → list_all is_plain xs ≡ (list_all is_open xs && list_all is_unescaped xs)
 list_all_plain [] = refl
 list_all_plain (x ∷ xs) =
-    (λ i. plain_byte x i && list_all_plain xs i) ∙ regroup (is_open x) (is_visible x) (list_all is_open xs) (list_all is_visible xs)
+    (λ i. plain_byte x i && list_all_plain xs i) ∙ regroup (is_open x) (is_unescaped x) (list_all is_open xs) (list_all is_unescaped xs)
 
 -- ---- the texts of an object that has no control
 
-within : (front text rest : List ℕ) → list_all is_visible (after front text rest) ≡ true → (list_all is_visible text ≡ true) × (list_all is_visible rest ≡ true)
+within : (front text rest : List ℕ) → list_all is_unescaped (after front text rest) ≡ true → (list_all is_unescaped text ≡ true) × (list_all is_unescaped rest ≡ true)
 within front text rest h =
-    let inner = (and_parts _ _ (sym (list_all-append is_visible front (text ++ 34 ∷ rest)) ∙ h)).1 in
-    let parts = and_parts _ _ (sym (list_all-append is_visible text (34 ∷ rest)) ∙ inner) in
-    (parts.0, (and_parts true (list_all is_visible rest) parts.1).1)
+    let inner = (and_parts _ _ (sym (list_all-append is_unescaped front (text ++ 34 ∷ rest)) ∙ h)).1 in
+    let parts = and_parts _ _ (sym (list_all-append is_unescaped text (34 ∷ rest)) ∙ inner) in
+    (parts.0, (and_parts true (list_all is_unescaped rest) parts.1).1)
 
-plain_from : (xs : List ℕ) → list_all is_open xs ≡ true → list_all is_visible xs ≡ true → list_all is_plain xs ≡ true
+plain_from : (xs : List ℕ) → list_all is_open xs ≡ true → list_all is_unescaped xs ≡ true → list_all is_plain xs ≡ true
 plain_from xs h k = list_all_plain xs ∙ both _ _ h k
 
-pub plain_where_visible : (t : TextsValue) → AreOpen t → list_all is_visible (plain_text t) ≡ true → ArePlain t
-plain_where_visible t h k =
+pub plain_where_unescaped : (t : TextsValue) → AreOpen t → list_all is_unescaped (plain_text t) ≡ true → ArePlain t
+plain_where_unescaped t h k =
     let url = within (codes "{\"url\": \"") t.url _ k in
     let mime = within (codes ", \"mime\": \"") t.mime _ url.1 in
     let status = within (codes ", \"status\": \"") t.status _ mime.1 in

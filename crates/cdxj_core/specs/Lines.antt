@@ -53,18 +53,6 @@ line_value key stamp texts offset = record {
   filename = texts.filename;
 }
 
--- the texts of the members that have these values
-abbrev pub value_texts : LineValue → TextsValue
-value_texts l = record {
-  url = l.original;
-  mime = l.mimetype;
-  status = l.statuscode;
-  digest = l.digest;
-  length = l.length;
-  offset = decimal l.offset;
-  filename = l.filename;
-}
-
 -- the values that the line of a good entry has
 abbrev pub entry_values : EntryValue → LineValue
 entry_values e = record {

@@ -1,18 +1,18 @@
 -- A plain object: seven members in the order and the spelling of a written line, with texts that stand between their quotes as they are.
-use Rattle.std.specs.Prelude.{◌≡◌, ℕ, ◌==◌, ◌||◌, Bool, true, not, nat_le, List, [], ◌∷◌, ◌++◌, codes}
+use Rattle.std.specs.Prelude.{◌≡◌, ℕ, ◌==◌, ◌&&◌, Bool, true, not, nat_le, List, [], ◌∷◌, ◌++◌, codes}
 use Rattle.std.specs.List.{list_all}
 use Rattle.json.specs.Run.{is_plain}
 use Rattle.cdxj_core.specs.Texts.{TextsValue, or_missing}
 
--- no quote and no backslash
+-- no quote
 abbrev pub is_open : ℕ → Bool
-is_open b = not (b == 34 || b == 92)
+is_open b = not (b == 34)
 
--- no control
-abbrev pub is_visible : ℕ → Bool
-is_visible b = nat_le 32 b
+-- no control and no backslash
+abbrev pub is_unescaped : ℕ → Bool
+is_unescaped b = nat_le 32 b && not (b == 92)
 
--- no text has a quote or a backslash
+-- no text has a quote
 pub record AreOpen (t : TextsValue) : Type 0 where
   pub url : list_all is_open t.url ≡ true
   pub mime : list_all is_open t.mime ≡ true

@@ -1,8 +1,7 @@
 //! The values of a line: borrowed from a plain one, copied from any other.
-ghost use Rattle.std.specs.Prelude.{◌≡◌, IfOk, string_bytes};
+ghost use Rattle.std.specs.Prelude.{◌≡◌};
 
 use crate::texts::Texts;
-use std::alloc::{AllocError, Global};
 
 /// Seven texts of their own.
 #[derive(Debug, Drop)]
@@ -16,54 +15,8 @@ pub struct Copies {
     pub filename: String,
 }
 
-/// The text in an earlier text's buffer.
-pub fn refilled(mut buffer: String, text: &str) -> Result<String, AllocError>
-    ensures { IfOk result (λ s. string_bytes s ≡ text.now) }
-{
-    buffer.clear();
-    buffer.push_str(text)?;
-    Ok(buffer)
-}
-
 impl Copies {
     ghost use Rattle.cdxj_core.specs.PlainViews.{texts_view, copies_view};
-
-    /// Seven empty texts.
-    pub fn new(alloc: Global) -> Copies {
-        Copies {
-            url: String::new(alloc),
-            mime: String::new(alloc),
-            status: String::new(alloc),
-            digest: String::new(alloc),
-            length: String::new(alloc),
-            offset: String::new(alloc),
-            filename: String::new(alloc),
-        }
-    }
-
-    /// The texts in the buffers of earlier ones.
-    pub fn refilled(self, texts: Texts<'_>) -> Result<Copies, AllocError>
-        ensures { IfOk result (λ copies. copies_view copies ≡ texts_view texts.entry) }
-    {
-        let Copies {
-            url,
-            mime,
-            status,
-            digest,
-            length,
-            offset,
-            filename,
-        } = self;
-        Ok(Copies {
-            url: refilled(url, texts.url)?,
-            mime: refilled(mime, texts.mime)?,
-            status: refilled(status, texts.status)?,
-            digest: refilled(digest, texts.digest)?,
-            length: refilled(length, texts.length)?,
-            offset: refilled(offset, texts.offset)?,
-            filename: refilled(filename, texts.filename)?,
-        })
-    }
 
     #[inline]
     pub fn texts(&self) -> Texts<'_>

@@ -15,8 +15,8 @@ mod name_ends;
 mod offset;
 mod plain;
 mod reading;
-mod scan;
 mod texts;
+mod unescaped;
 mod values;
 mod writing;
 

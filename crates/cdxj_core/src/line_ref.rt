@@ -9,7 +9,6 @@ use crate::fault::LineFault;
 use crate::field::Field;
 use crate::limit::LINE_LIMIT;
 use crate::reading::{body_of, has_no_feed};
-use crate::texts::Texts;
 use crate::values::Values;
 use cdxj_places::{HasPlace, Place, cut_first};
 use std::alloc::Global;
@@ -42,10 +41,9 @@ impl<'a> Model for LineRef<'a> {
 
 impl<'a> LineRef<'a> {
     ghost use Rattle.std.specs.Prelude.{◌≤◌, length, MatchResult, IfOk, IfErr, Err, None, IsUtf8};
-    ghost use Rattle.cdxj_core.specs.Lines.{field_value, value_texts};
+    ghost use Rattle.cdxj_core.specs.Lines.{field_value};
     ghost use Rattle.cdxj_core.specs.Members.{member_place, line_entry, IsReading};
     ghost use Rattle.cdxj_places.specs.PlaceViews.{place_view};
-    ghost use Rattle.cdxj_core.specs.PlainViews.{texts_view};
 
     /// Reads a line, with or without its line feed: a key, a space, a stamp, a space and a JSON
     /// object with a file name and an offset. `LineTooLong`, which comes first, where it has more
@@ -124,13 +122,6 @@ impl<'a> LineRef<'a> {
         ensures entry { line_entry LINE_LIMIT result.now ≡ Some self.now }
     {
         self.body
-    }
-
-    /// The texts of the members.
-    pub(crate) fn texts(&self) -> Texts<'_>
-        ensures { texts_view result ≡ value_texts self.now.values }
-    {
-        self.values.texts.texts()
     }
 
     /// The line without its line feed, from which the values were read.

@@ -5,7 +5,7 @@ ghost use Rattle.std.specs.List.{list_all};
 ghost use Rattle.cdxj_core.specs.Plain.{is_open, plain_text, ArePlain, AreOpen};
 ghost use Rattle.cdxj_core.specs.PlainViews.{texts_view};
 
-use crate::scan::{has_no_control, quoted_part};
+use crate::unescaped::{is_unescaped, quoted_part};
 use crate::texts::Texts;
 
 // The text after the front, up to its quote, and what follows that quote.
@@ -53,7 +53,7 @@ fn open_texts(object: &str) -> Option<Texts<'_>>
 pub fn plain_texts(object: &str) -> Option<Texts<'_>>
     ensures { IfSome result (λ t. (object.now ≡ plain_text (texts_view t)) × ArePlain (texts_view t)) }
 {
-    if has_no_control(object.as_bytes()) {
+    if is_unescaped(object.as_bytes()) {
         open_texts(object)
     } else {
         None

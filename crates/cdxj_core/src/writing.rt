@@ -10,7 +10,7 @@ ghost use Rattle.cdxj_core.specs.PlainViews.{texts_view};
 use crate::entry::Entry;
 use crate::fault::LineFault;
 use crate::limit::LINE_LIMIT;
-use crate::scan::is_plain_text;
+use crate::unescaped::is_plain_text;
 use crate::texts::Texts;
 use itoa::Buffer;
 use serde_json::Value;

@@ -33,3 +33,10 @@ pub none_before : (test : ℕ → Bool) (hay : List ℕ) (i : ℕ) → i ≤ len
 none_before test hay zero h none = refl
 none_before test [] (suc i) h none = refl
 none_before test (x ∷ xs) (suc i) h none = both _ _ (ap not (untrue (test x) (none 0 (omega arith)))) (none_before test xs i (omega arith) (λ k l. none (suc k) (omega arith)))
+
+-- where the first byte that passes stands
+pub first_byte_at : (test : ℕ → Bool) (hay : List ℕ) (i : ℕ) → IsFirstByte test hay (Some i) → position_or_len test hay ≡ i
+first_byte_at test hay i found = position_or_len_is test hay i 0 (omega (arith, found.0.high)) (λ k h. untrue _ (found.0.before k (omega arith) h)) (λ h. found.1)
+
+pub first_byte_none : (test : ℕ → Bool) (hay : List ℕ) → IsFirstByte test hay None → position_or_len test hay ≡ length hay
+first_byte_none test hay none = position_or_len_is test hay (length hay) 0 (omega arith) (λ k h. untrue _ (none k (omega arith) h)) (λ h. absurd (omega arith))

@@ -3,12 +3,17 @@ ghost use Rattle.std.specs.Prelude.{◌≡◌};
 ghost use Rattle.std.specs.List.{before_first, after_first, before_last, after_last};
 ghost use Rattle.cdxj_places.specs.Pair.{is_space};
 
+use memchr::memchr;
+
 /// What stands before the first space, or the whole text, and what stands after it.
 pub fn cut_first(text: &str) -> (&str, &str)
     ensures before { result.0.now ≡ before_first is_space text.now }
     ensures after { result.1.now ≡ after_first is_space text.now }
 {
-    text.split_once(' ').unwrap_or((text, ""))
+    let Some(at) = memchr(b' ', text.as_bytes()) else {
+        return (text, "");
+    };
+    (&text[..at], &text[at + 1..])
 }
 
 /// What stands before the last space, or nothing, and what stands after it.
