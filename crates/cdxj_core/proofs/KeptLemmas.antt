@@ -8,9 +8,10 @@ use Rattle.cdxj_places.specs.Pair.{is_key, is_stamp}
 use Rattle.cdxj_places.specs.Places.{PlaceValue}
 use Rattle.cdxj_places.proofs.PairLemmas.{pair_front}
 use Rattle.cdxj_core.specs.Members.{Member, member_pair, member_place, line_entry}
+use Rattle.cdxj_core.specs.Lines.{body_of}
 use Rattle.cdxj_core.specs.KeptLine.{StandsAt, IsNamed, IsKept, no_member, member_in}
 use Rattle.cdxj_core.proofs.EntryUtf8.{ascii_name}
-use Rattle.cdxj_core.proofs.MemberLemmas.{entry_pair_is}
+use Rattle.cdxj_core.proofs.MemberLemmas.{entry_pair_is, entry_of-body, entered}
 
 pub stands : (text front close start name : List ℕ) → text ≡ front ++ close → front ≡ start ++ name → IsUtf8 name → IsUtf8 close → StandsAt text (length start) (length front) name
 stands text front close start name t f u v =
@@ -67,3 +68,11 @@ kept_copies limit body text k s w a apart o member b e h =
 pub copied_member : (limit : ℕ) (body text : List ℕ) (k : ℕ) (s : List ℕ) (w : Option (ℕ × ℕ)) (a : List ℕ) (o : ℕ) (member : Member)
     → body ≡ text → IsKept limit text k s w a o member → member_in limit body ≡ member
 copied_member limit body text k s w a o member b h = ap (member_in limit) b ∙ kept_member limit text k s w a o member h
+
+-- the key ends before its line
+pub key_short : (limit : ℕ) (line : List ℕ) (member : Member) → line_entry limit line ≡ Some member → length member.values.key < length member.line
+key_short limit line member h =
+    let whole = entry_of-body limit line member h in
+    let front = pair_front (body_of line) (member_pair member) (entry_pair_is limit (body_of line) member whole) in
+    let body = (entered limit line member h).body in
+    omega (arith, ap length body, ap length front.1, length-append member.values.key (32 ∷ front.0))

@@ -3,7 +3,7 @@ pub mod Entries
 pub mod Texts
 pub mod Lines
 pub mod Plain
-pub mod PlainViews
+pub mod MemberViews
 pub mod ValuesView
 pub mod Members
 pub mod KeptLine

@@ -1,6 +1,6 @@
 //! Laws of the definitions that the contracts cite. These functions do nothing: each law is a
 //! contract.
-ghost use Rattle.std.specs.Prelude.{◌≡◌, ◌≤◌, ◌++◌, ℕ, List, Some, length, map, flat_map};
+ghost use Rattle.std.specs.Prelude.{◌≡◌, ◌≤◌, ◌<◌, ◌++◌, ℕ, List, Some, length, map, flat_map};
 ghost use Rattle.std.specs.List.{AllByRecursion};
 ghost use Rattle.cdxj_places.specs.Pair.{pair_of};
 ghost use Rattle.cdxj_places.specs.Pairs.{pair_cmp};
@@ -33,6 +33,12 @@ pub fn line_stays_under_higher_limit()
 pub fn line_begins_with_its_pair()
     ensures { (limit : ℕ) → (line : List ℕ) → (member : Member)
         → line_entry limit line ≡ Some member → pair_of line ≡ Some (member_pair member) }
+{}
+
+/// The key of a line is shorter than the line without its line feed.
+pub fn key_is_shorter_than_its_line()
+    ensures { (limit : ℕ) → (line : List ℕ) → (member : Member)
+        → line_entry limit line ≡ Some member → length member.values.key < length member.line }
 {}
 
 /// The lines of good entries are an index with their members, where the pairs never fall, and so

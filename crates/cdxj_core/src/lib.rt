@@ -1,21 +1,23 @@
 //! The keys, lines and places of CDXJ indexes; docs/CDXJ.md has the rules.
 #![tactic(auto)]
 
+mod body;
+mod borrowed_members;
 mod entry;
 mod fault;
 mod field;
 mod host;
-mod kept;
 mod key;
 mod laws;
 mod limit;
 mod line;
+mod line_members;
 mod line_ref;
+mod member_values;
 mod name_ends;
 mod offset;
+mod owned_members;
 mod plain;
-mod reading;
-mod texts;
 mod unescaped;
 mod values;
 mod writing;
@@ -25,8 +27,8 @@ pub use crate::fault::{KeyFault, LineFault};
 pub use crate::field::Field;
 pub use crate::key::{host_key, url_key};
 pub use crate::laws::{
-    host_key_begins_key, index_has_one_list_of_members, line_begins_with_its_pair,
-    line_stays_under_higher_limit, written_line_is_read, written_lines_are_an_index,
+    host_key_begins_key, index_has_one_list_of_members, key_is_shorter_than_its_line,
+    line_begins_with_its_pair, line_stays_under_higher_limit, written_line_is_read, written_lines_are_an_index,
 };
 pub use crate::limit::LINE_LIMIT;
 pub use crate::line::Line;

@@ -8,7 +8,7 @@ ghost use Rattle.cdxj_core.specs.ValuesView.{parts_view};
 use crate::fault::LineFault;
 use crate::field::Field;
 use crate::limit::LINE_LIMIT;
-use crate::reading::{body_of, has_no_feed};
+use crate::body::{body_of, has_no_feed};
 use crate::values::Values;
 use cdxj_places::{HasPlace, Place, cut_first};
 use std::alloc::Global;
@@ -82,7 +82,7 @@ impl<'a> LineRef<'a> {
     pub fn value(&self, field: Field) -> &str
         ensures { result.now ≡ field_value field self.now.values }
     {
-        let texts = self.values.texts.texts();
+        let texts = self.values.members.borrowed();
         match field {
             Field::Urlkey => self.key,
             Field::Timestamp => self.stamp,
@@ -111,7 +111,7 @@ impl<'a> LineRef<'a> {
         Place {
             key: self.key,
             stamp: self.digits,
-            filename: self.values.texts.texts().filename,
+            filename: self.values.members.borrowed().filename,
             offset: self.values.offset,
         }
     }

@@ -3,10 +3,10 @@
 ghost use Rattle.std.specs.Prelude.{◌≡◌, ◌∷◌, ◌++◌, true, codes, IfSome};
 ghost use Rattle.std.specs.List.{list_all};
 ghost use Rattle.cdxj_core.specs.Plain.{is_open, plain_text, ArePlain, AreOpen};
-ghost use Rattle.cdxj_core.specs.PlainViews.{texts_view};
+ghost use Rattle.cdxj_core.specs.MemberViews.{borrowed_view};
 
 use crate::unescaped::{is_unescaped, quoted_part};
-use crate::texts::Texts;
+use crate::borrowed_members::BorrowedMembers;
 
 // The text after the front, up to its quote, and what follows that quote.
 #[inline(always)]
@@ -24,8 +24,8 @@ fn is_closed(rest: &str) -> bool
     rest == "}"
 }
 
-fn open_texts(object: &str) -> Option<Texts<'_>>
-    ensures { IfSome result (λ t. (object.now ≡ plain_text (texts_view t)) × AreOpen (texts_view t)) }
+fn open_texts(object: &str) -> Option<BorrowedMembers<'_>>
+    ensures { IfSome result (λ t. (object.now ≡ plain_text (borrowed_view t)) × AreOpen (borrowed_view t)) }
 {
     let (url, rest) = text_after(object, "{\"url\": \"")?;
     let (mime, rest) = text_after(rest, ", \"mime\": \"")?;
@@ -35,7 +35,7 @@ fn open_texts(object: &str) -> Option<Texts<'_>>
     let (offset, rest) = text_after(rest, ", \"offset\": \"")?;
     let (filename, rest) = text_after(rest, ", \"filename\": \"")?;
     if is_closed(rest) {
-        Some(Texts {
+        Some(BorrowedMembers {
             url,
             mime,
             status,
@@ -50,8 +50,8 @@ fn open_texts(object: &str) -> Option<Texts<'_>>
 }
 
 /// The texts of a plain object. It may decline any object, which JSON then reads.
-pub fn plain_texts(object: &str) -> Option<Texts<'_>>
-    ensures { IfSome result (λ t. (object.now ≡ plain_text (texts_view t)) × ArePlain (texts_view t)) }
+pub fn plain_texts(object: &str) -> Option<BorrowedMembers<'_>>
+    ensures { IfSome result (λ t. (object.now ≡ plain_text (borrowed_view t)) × ArePlain (borrowed_view t)) }
 {
     if is_unescaped(object.as_bytes()) {
         open_texts(object)

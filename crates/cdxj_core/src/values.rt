@@ -1,12 +1,13 @@
 //! What the object of a line says: the texts of its members, and its offset.
 ghost use Rattle.std.specs.Prelude.{◌≡◌, ◌<◌, ◌^◌, length, decimal, true};
-ghost use Rattle.cdxj_core.specs.PlainViews.{kept_view};
+ghost use Rattle.cdxj_core.specs.MemberViews.{members_view};
 
 use crate::fault::LineFault;
-use crate::kept::{Copies, Kept};
+use crate::line_members::LineMembers;
+use crate::owned_members::OwnedMembers;
 use crate::offset::canonical_offset;
 use crate::plain::plain_texts;
-use crate::reading::{filename_value, offset_value, value_text};
+use crate::member_values::{filename_value, offset_value, value_text};
 use cdxj_places::{is_key, is_stamp};
 use serde_json::Value;
 use serde_json::error::Category;
@@ -15,10 +16,10 @@ use std::alloc::Global;
 #[derive(Debug, Drop)]
 pub struct Values<'a> {
     pub offset: u64,
-    pub texts: Kept<'a>,
-    pub ghost filename_rule: { 0 < length (kept_view texts).filename },
+    pub members: LineMembers<'a>,
+    pub ghost filename_rule: { 0 < length (members_view members).filename },
     pub ghost offset_rule: { offset < 2 ^ 63 },
-    pub ghost offset_text_rule: { (kept_view texts).offset ≡ decimal offset },
+    pub ghost offset_text_rule: { (members_view members).offset ≡ decimal offset },
 }
 
 impl<'a> Values<'a> {
@@ -64,7 +65,7 @@ impl<'a> Values<'a> {
         }
         Some(Values {
             offset,
-            texts: Kept::Plain(texts.values()),
+            members: LineMembers::Borrowed(texts.values()),
         })
     }
 
@@ -94,7 +95,7 @@ impl<'a> Values<'a> {
         };
         Ok(Values {
             offset,
-            texts: Kept::Copied(Copies {
+            members: LineMembers::Owned(OwnedMembers {
                 url: value_text(alloc, value.get("url"))?,
                 mime: value_text(alloc, value.get("mime"))?,
                 status: value_text(alloc, value.get("status"))?,

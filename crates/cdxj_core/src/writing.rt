@@ -5,13 +5,13 @@ ghost use Rattle.json.specs.Run.{is_plain};
 ghost use Rattle.json.specs.Print.{quoted};
 ghost use Rattle.cdxj_core.specs.Entries.{IsGood, entry_texts, member_text, later_text, object_text, line_text};
 ghost use Rattle.cdxj_core.specs.Texts.{text_members};
-ghost use Rattle.cdxj_core.specs.PlainViews.{texts_view};
+ghost use Rattle.cdxj_core.specs.MemberViews.{borrowed_view};
 
 use crate::entry::Entry;
 use crate::fault::LineFault;
 use crate::limit::LINE_LIMIT;
 use crate::unescaped::is_plain_text;
-use crate::texts::Texts;
+use crate::borrowed_members::BorrowedMembers;
 use itoa::Buffer;
 use serde_json::Value;
 use std::alloc::{AllocError, Global};
@@ -56,9 +56,9 @@ fn push_later(line: &mut Vec<u8>, alloc: Global, name: &str, value: &str) -> Res
     push_member(line, alloc, name, value)
 }
 
-fn push_object(line: &mut Vec<u8>, alloc: Global, texts: Texts<'_>) -> Result<(), AllocError>
+fn push_object(line: &mut Vec<u8>, alloc: Global, texts: BorrowedMembers<'_>) -> Result<(), AllocError>
     ensures { IfOk result (λ _. line.new.items
-        ≡ line.old.items ++ object_text (text_members (texts_view texts.entry))) }
+        ≡ line.old.items ++ object_text (text_members (borrowed_view texts.entry))) }
 {
     line.push(b'{')?;
     push_member(line, alloc, "url", texts.url)?;
@@ -84,11 +84,11 @@ fn push_pair(line: &mut Vec<u8>, entry: &Entry) -> Result<(), AllocError>
 }
 
 // The texts of the entry's members, its numbers as they are given.
-fn member_texts<'a>(entry: &'a Entry, length: &'a str, offset: &'a str) -> Texts<'a>
-    ensures { texts_view result
+fn member_texts<'a>(entry: &'a Entry, length: &'a str, offset: &'a str) -> BorrowedMembers<'a>
+    ensures { borrowed_view result
         ≡ record (entry_texts entry.now) { length = length.now; offset = offset.now } }
 {
-    Texts {
+    BorrowedMembers {
         url: entry.url.as_str(),
         mime: entry.mime.as_str(),
         status: entry.status.as_str(),
@@ -103,7 +103,7 @@ fn member_texts<'a>(entry: &'a Entry, length: &'a str, offset: &'a str) -> Texts
 const FRAME: usize = 112;
 
 // An empty line with room for one of this key and these texts, where none needs an escape.
-fn room(alloc: Global, key: &str, texts: &Texts<'_>) -> Result<Vec<u8>, AllocError>
+fn room(alloc: Global, key: &str, texts: &BorrowedMembers<'_>) -> Result<Vec<u8>, AllocError>
     ensures { IfOk result (λ line. line.items ≡ []) }
 {
     let length = key

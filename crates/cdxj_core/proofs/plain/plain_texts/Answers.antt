@@ -2,7 +2,7 @@ use Rattle.std.proofs.Common.{◌≡◌, true, sym, ap, ◌∙◌}
 use Rattle.std.specs.List.{list_all}
 use Rattle.std.proofs.lemmas.Option.{IfSome_then}
 use Rattle.cdxj_core.specs.Plain.{is_unescaped}
-use Rattle.cdxj_core.specs.PlainViews.{texts_view}
+use Rattle.cdxj_core.specs.MemberViews.{borrowed_view}
 use Rattle.cdxj_core.proofs.PlainBytes.{plain_where_unescaped}
 use Rattle.cdxj_core.proofs.plain.plain_texts.Goals as goal
 
@@ -10,4 +10,4 @@ pub returns-then-is_unescaped : goal.returns-then-is_unescaped
 returns-then-is_unescaped c =
     let visible : list_all is_unescaped c.args.object.now ≡ true =
     ap (list_all is_unescaped) (sym c.as_bytes.ensures.value) ∙ sym c.is_unescaped.ensures ∙ c.if-is_unescaped.true in
-    IfSome_then c.open_texts.result c.open_texts.ensures (λ t h. (h.0, plain_where_unescaped (texts_view t) h.1 (ap (list_all is_unescaped) (sym h.0) ∙ visible)))
+    IfSome_then c.open_texts.result c.open_texts.ensures (λ t h. (h.0, plain_where_unescaped (borrowed_view t) h.1 (ap (list_all is_unescaped) (sym h.0) ∙ visible)))

@@ -1,11 +1,11 @@
 use Rattle.std.proofs.Common.{codes}
-use Rattle.cdxj_core.specs.PlainViews.{texts_view}
+use Rattle.cdxj_core.specs.MemberViews.{borrowed_view}
 use Rattle.cdxj_core.proofs.EntryWrite.{object_steps}
 use Rattle.cdxj_core.proofs.writing.push_object.Goals as goal
 
 pub returns : goal.returns
 returns c =
-    let t = texts_view c.args.texts in
+    let t = borrowed_view c.args.texts in
     let e = object_steps c.args.line.now.items (codes "url", t.url) (codes "mime", t.mime) (codes "status", t.status) (codes "digest", t.digest) (codes "length", t.length) (codes "offset", t.offset) (codes "filename", t.filename) in
     let p = c.in_ok-push.ensures.items in
     let m = c.in_ok-push_member.ensures in

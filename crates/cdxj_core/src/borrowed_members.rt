@@ -3,7 +3,7 @@ ghost use Rattle.std.specs.Prelude.{◌≡◌};
 ghost use Rattle.cdxj_core.specs.Texts.{or_missing};
 
 #[derive(Clone, Copy, Debug)]
-pub struct Texts<'a> {
+pub struct BorrowedMembers<'a> {
     pub url: &'a str,
     pub mime: &'a str,
     pub status: &'a str,
@@ -19,15 +19,15 @@ fn or_missing(text: &str) -> &str
     if text.is_empty() { "-" } else { text }
 }
 
-impl<'a> Texts<'a> {
+impl<'a> BorrowedMembers<'a> {
     ghost use Rattle.cdxj_core.specs.Plain.{values_of_texts};
-    ghost use Rattle.cdxj_core.specs.PlainViews.{texts_view};
+    ghost use Rattle.cdxj_core.specs.MemberViews.{borrowed_view};
 
     /// The values that the texts stand for: an empty one counts as absent.
-    pub fn values(self) -> Texts<'a>
-        ensures { texts_view result ≡ values_of_texts (texts_view self.entry) }
+    pub fn values(self) -> BorrowedMembers<'a>
+        ensures { borrowed_view result ≡ values_of_texts (borrowed_view self.entry) }
     {
-        Texts {
+        BorrowedMembers {
             url: or_missing(self.url),
             mime: or_missing(self.mime),
             status: or_missing(self.status),

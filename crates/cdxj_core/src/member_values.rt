@@ -1,10 +1,9 @@
 //! The values of a line's members, as JSON has them.
 ghost use Rattle.std.specs.Prelude.{◌≡◌, ◌<◌, ◌^◌, IfOk, IfSome, option_map, string_bytes, length};
 ghost use Rattle.serde_json.specs.View.{view};
-ghost use Rattle.cdxj_core.specs.Lines.{value_text, filename_value, offset_value, body_of, has_no_feed};
+ghost use Rattle.cdxj_core.specs.Lines.{value_text, filename_value, offset_value};
 
 use cdxj_places::read_offset;
-use memchr::memchr;
 use serde_json::Value;
 use std::alloc::{AllocError, Global};
 
@@ -48,21 +47,4 @@ pub fn offset_value(member: Option<&Value>) -> Option<u64>
         Some(offset) if offset < 1 << 63 => Some(offset),
         _ => None,
     }
-}
-
-/// The line without a line feed at its end.
-pub fn body_of(line: &[u8]) -> &[u8]
-    ensures { result.now ≡ body_of line.now }
-{
-    match line {
-        [body @ .., b'\n'] => body,
-        _ => line,
-    }
-}
-
-#[tactic(auto, using(cdxj_places::proofs::Found::IsFirstByte_absent))]
-pub fn has_no_feed(text: &[u8]) -> bool
-    ensures { result ≡ has_no_feed text.now }
-{
-    memchr(b'\n', text).is_none()
 }
