@@ -24,30 +24,30 @@ use Rattle.index_core.specs.Copying.{WroteFront, CopiesBlock, CopiesRecord}
 -- ---- fronts of what is known
 
 -- what was taken stands in front
-front-there : (known known' : Option (List ℕ)) (a : List ℕ) → Consumes known known' a → IfSome known (λ bytes. (more : List ℕ) × (bytes ≡ a ++ more))
-front-there None known' a c = tt
-front-there (Some z) None a c = absurd c
-front-there (Some z) (Some w) a c = (w, c)
+front_there : (known known' : Option (List ℕ)) (a : List ℕ) → Consumes known known' a → IfSome known (λ bytes. (more : List ℕ) × (bytes ≡ a ++ more))
+front_there None known' a c = tt
+front_there (Some z) None a c = absurd c
+front_there (Some z) (Some w) a c = (w, c)
 
-begins-behind : (known known' : Option (List ℕ)) (a front : List ℕ) → Consumes known known' a → IfSome known' (λ bytes. (more : List ℕ) × (bytes ≡ front ++ more)) → IfSome known (λ bytes. (more : List ℕ) × (bytes ≡ (a ++ front) ++ more))
-begins-behind None known' a front c b = tt
-begins-behind (Some z) None a front c b = absurd c
-begins-behind (Some z) (Some w) a front c b = (b.0, c ∙ (ap (λ t. a ++ t) b.1 ∙ sym (append_assoc a front b.0)))
+begins_behind : (known known' : Option (List ℕ)) (a front : List ℕ) → Consumes known known' a → IfSome known' (λ bytes. (more : List ℕ) × (bytes ≡ front ++ more)) → IfSome known (λ bytes. (more : List ℕ) × (bytes ≡ (a ++ front) ++ more))
+begins_behind None known' a front c b = tt
+begins_behind (Some z) None a front c b = absurd c
+begins_behind (Some z) (Some w) a front c b = (b.0, c ∙ (ap (λ t. a ++ t) b.1 ∙ sym (append_assoc a front b.0)))
 
 -- a head stands in front of what follows it
-pub consumes-head : (raw : List ℕ) (known : Option (List ℕ)) → Consumes (prepend_known raw known) known raw
-consumes-head raw None = tt
-consumes-head raw (Some z) = refl
+pub consumes_head : (raw : List ℕ) (known : Option (List ℕ)) → Consumes (prepend_known raw known) known raw
+consumes_head raw None = tt
+consumes_head raw (Some z) = refl
 
 -- all that was taken was written
-pub wrote-all : (a : List ℕ) (known known' old new : Option (List ℕ)) → Consumes known known' a → Appends old new a → WroteFront (length a) known old new
-wrote-all a known known' old new c k = record { front = a; most = omega arith; begins = front-there known known' a c; grown = k }
+pub wrote_all : (a : List ℕ) (known known' old new : Option (List ℕ)) → Consumes known known' a → Appends old new a → WroteFront (length a) known old new
+wrote_all a known known' old new c k = record { front = a; most = omega arith; begins = front_there known known' a c; grown = k }
 
 -- a prefix of what was taken was written
-pub wrote-part : (a : List ℕ) (known known' old new : Option (List ℕ)) → Consumes known known' a → AppendsPrefix old new a → WroteFront (length a) known old new
-wrote-part a None known' old new c p = record { front = p.1.front; most = omega (arith, ap length p.1.whole, length-append p.1.front p.0); begins = tt; grown = p.1.grown }
-wrote-part a (Some z) None old new c p = absurd c
-wrote-part a (Some z) (Some w) old new c p = record {
+pub wrote_part : (a : List ℕ) (known known' old new : Option (List ℕ)) → Consumes known known' a → AppendsPrefix old new a → WroteFront (length a) known old new
+wrote_part a None known' old new c p = record { front = p.1.front; most = omega (arith, ap length p.1.whole, length-append p.1.front p.0); begins = tt; grown = p.1.grown }
+wrote_part a (Some z) None old new c p = absurd c
+wrote_part a (Some z) (Some w) old new c p = record {
   front = p.1.front;
   most = omega (arith, ap length p.1.whole, length-append p.1.front p.0);
   begins = (p.0 ++ w, c ∙ (ap (λ t. t ++ w) p.1.whole ∙ append_assoc p.1.front p.0 w));
@@ -55,16 +55,16 @@ wrote-part a (Some z) (Some w) old new c p = record {
 }
 
 -- a front behind what was written before
-pub wrote-behind : (n : ℕ) (a : List ℕ) (known known' old mid new : Option (List ℕ)) → Consumes known known' a → Appends old mid a → WroteFront n known' mid new → WroteFront (length a + n) known old new
-wrote-behind n a known known' old mid new c k w = record {
+pub wrote_behind : (n : ℕ) (a : List ℕ) (known known' old mid new : Option (List ℕ)) → Consumes known known' a → Appends old mid a → WroteFront n known' mid new → WroteFront (length a + n) known old new
+wrote_behind n a known known' old mid new c k w = record {
   front = a ++ w.front;
   most = (let most = w.most in omega (arith, most, length-append a w.front));
-  begins = begins-behind known known' a w.front c w.begins;
+  begins = begins_behind known known' a w.front c w.begins;
   grown = Appends-join old mid new a w.front k w.grown;
 }
 
-pub wrote-within : (n m : ℕ) (known old new : Option (List ℕ)) → n ≤ m → WroteFront n known old new → WroteFront m known old new
-wrote-within n m known old new l w = record { front = w.front; most = (let most = w.most in omega (arith, most, l)); begins = w.begins; grown = w.grown }
+pub wrote_within : (n m : ℕ) (known old new : Option (List ℕ)) → n ≤ m → WroteFront n known old new → WroteFront m known old new
+wrote_within n m known old new l w = record { front = w.front; most = (let most = w.most in omega (arith, most, l)); begins = w.begins; grown = w.grown }
 
 -- ---- a block
 
@@ -106,7 +106,7 @@ module _ (left len rest : ℕ) (old now next : ReaderView) (before mid after w v
       let long = length-take-le n piece g.bound.1 in
       let whole = d.whole in
       record {
-        wrote = wrote-within (length d.taken + length (take n piece)) left _ w u (omega (arith, low, long, whole)) (wrote-behind (length (take n piece)) d.taken _ _ w v u d.given d.grown (wrote-part (take n piece) _ _ v u g.bytes p));
+        wrote = wrote_within (length d.taken + length (take n piece)) left _ w u (omega (arith, low, long, whole)) (wrote_behind (length (take n piece)) d.taken _ _ w v u d.given d.grown (wrote_part (take n piece) _ _ v u g.bytes p));
         ends = tt;
       }
   Copying-cut fault n piece k k' e g p = absurd (cc)
@@ -117,7 +117,7 @@ module _ (left len rest : ℕ) (old now next : ReaderView) (before mid after w v
       let whole = d.whole in
       let same : rest ≡ left - length d.taken = omega (arith, whole) in
       record {
-        wrote = wrote-within (length d.taken) left _ w v (omega (arith, whole)) (wrote-all d.taken _ _ w v d.given d.grown);
+        wrote = wrote_within (length d.taken) left _ w v (omega (arith, whole)) (wrote_all d.taken _ _ w v d.given d.grown);
         ends = (g.state.at ∙ d.stands.offset_is, found-behind f.cause left (length d.taken) d.taken _ _ refl (omega (arith, whole)) d.given (subst (λ n. IsFoundAt (after_block n) f.cause (prepend_known now.held mid)) same g.bytes));
       }
 
@@ -125,73 +125,73 @@ pub Copying-end : (left len rest : ℕ) (old now : ReaderView) (before mid w v :
 Copying-end left len rest old now before mid w v e d =
     let whole = d.whole in
     record {
-      wrote = record { front = d.taken; most = omega (arith, whole); begins = front-there _ _ d.taken d.given; grown = d.grown };
+      wrote = record { front = d.taken; most = omega (arith, whole); begins = front_there _ _ d.taken d.given; grown = d.grown };
       ends = (omega (arith, whole, e), d.given, record { offset_is = d.stands.offset_is; phase_is = d.stands.phase_is ∙ ap (λ n. Open n len) e });
     }
 
 -- ---- a record
 
 -- the closing was taken
-closing-taken : (before after : Option (List ℕ)) → Reads (after_record 0) (Ok tt) before after → Consumes before after closing
-closing-taken None after r = tt
-closing-taken (Some z) None r = absurd r
-closing-taken (Some z) (Some w) r = let b = block-there 0 z w r in b.2 ∙ ap (λ block. block ++ (closing ++ w)) (nil_of b.0 b.1)
+closing_taken : (before after : Option (List ℕ)) → Reads (after_record 0) (Ok tt) before after → Consumes before after closing
+closing_taken None after r = tt
+closing_taken (Some z) None r = absurd r
+closing_taken (Some z) (Some w) r = let b = block-there 0 z w r in b.2 ∙ ap (λ block. block ++ (closing ++ w)) (nil_of b.0 b.1)
 
 -- what is read behind a block that was taken whole is read behind its record's head
-behind-block : (r : Result (Unit {0}) Cause) (n : ℕ) (block : List ℕ) (before mid after : Option (List ℕ)) → length block ≡ n → Consumes before mid block → Reads (after_record 0) r mid after → Reads (after_record n) r before after
-behind-block r n block before mid after l c s =
+behind_block : (r : Result (Unit {0}) Cause) (n : ℕ) (block : List ℕ) (before mid after : Option (List ℕ)) → length block ≡ n → Consumes before mid block → Reads (after_record 0) r mid after → Reads (after_record n) r before after
+behind_block r n block before mid after l c s =
     let none : n - length block ≡ 0 = omega (arith, l) in
     GoesOn-reads (after_record n) (after_record (n - length block)) r before mid after (behind-front n block before mid (omega (arith, l)) c) (subst (λ m. Reads (after_record m) r mid after) (sym none) s)
 
 module _ (h : HeadView) (w v : Option (List ℕ)) where
   -- the output failed in the head
-  pub head-cut : (fault : IndexFault) (before after : Option (List ℕ)) → fault ≡ faults.Write → AppendsPrefix w v h.raw → CopiesRecord h (Err fault) before after w v
-  head-cut faults.Write before after e p = record {
-    wrote = wrote-within (length h.raw) (record_length h) _ w v (omega arith) (wrote-part h.raw _ before w v (consumes-head h.raw before) p);
+  pub head_cut : (fault : IndexFault) (before after : Option (List ℕ)) → fault ≡ faults.Write → AppendsPrefix w v h.raw → CopiesRecord h (Err fault) before after w v
+  head_cut faults.Write before after e p = record {
+    wrote = wrote_within (length h.raw) (record_length h) _ w v (omega arith) (wrote_part h.raw _ before w v (consumes_head h.raw before) p);
     ends = tt;
   }
-  head-cut fault before after e p = absurd (cc)
+  head_cut fault before after e p = absurd (cc)
 
   module _ (u : Option (List ℕ)) (old mid : ReaderView) (before between : Option (List ℕ)) (unread : old.offset ≡ h.start) (head : Appends w v h.raw) where
-    behind-head : WroteFront h.parts.length (prepend_known old.held before) v u → WroteFront (record_length h) (prepend_known h.raw (prepend_known old.held before)) w u
-    behind-head f = wrote-within (length h.raw + h.parts.length) (record_length h) _ w u (omega arith) (wrote-behind h.parts.length h.raw _ _ w v u (consumes-head h.raw _) head f)
+    behind_head : WroteFront h.parts.length (prepend_known old.held before) v u → WroteFront (record_length h) (prepend_known h.raw (prepend_known old.held before)) w u
+    behind_head f = wrote_within (length h.raw + h.parts.length) (record_length h) _ w u (omega arith) (wrote_behind h.parts.length h.raw _ _ w v u (consumes_head h.raw _) head f)
 
     -- the block couldn't be copied
-    pub block-cut : (fault : IndexFault) (after : Option (List ℕ)) → CopiesBlock h.parts.length (record_length h) old mid (Err fault) before between v u → CopiesRecord h (Err fault) (prepend_known old.held before) after w u
-    block-cut faults.Memory after b = absurd b.ends
-    block-cut faults.BadName after b = absurd b.ends
-    block-cut faults.DuplicateName after b = absurd b.ends
-    block-cut faults.NoRecord after b = absurd b.ends
-    block-cut (faults.Capture (LineTooLong o)) after b = absurd b.ends
-    block-cut (faults.Capture (KeyTooLong o)) after b = absurd b.ends
-    block-cut (faults.Capture (Archive f)) after b = record { wrote = behind-head b.wrote; ends = (b.ends.0 ∙ unread, found-of-record f.cause h.parts.length _ after b.ends.1) }
-    block-cut faults.Write after b = record { wrote = behind-head b.wrote; ends = tt }
+    pub block_cut : (fault : IndexFault) (after : Option (List ℕ)) → CopiesBlock h.parts.length (record_length h) old mid (Err fault) before between v u → CopiesRecord h (Err fault) (prepend_known old.held before) after w u
+    block_cut faults.Memory after b = absurd b.ends
+    block_cut faults.BadName after b = absurd b.ends
+    block_cut faults.DuplicateName after b = absurd b.ends
+    block_cut faults.NoRecord after b = absurd b.ends
+    block_cut (faults.Capture (LineTooLong o)) after b = absurd b.ends
+    block_cut (faults.Capture (KeyTooLong o)) after b = absurd b.ends
+    block_cut (faults.Capture (Archive f)) after b = record { wrote = behind_head b.wrote; ends = (b.ends.0 ∙ unread, found-of-record f.cause h.parts.length _ after b.ends.1) }
+    block_cut faults.Write after b = record { wrote = behind_head b.wrote; ends = tt }
 
     module _ (block : CopiesBlock h.parts.length (record_length h) old mid (Ok tt) before between v u) (new : ReaderView) (after : Option (List ℕ)) (k k' : ℕ) where
       -- the record couldn't be finished
-      pub finish-cut : (f : Fault) → Finishes 0 (record_length h) (state_of mid between k) (state_of new after k') (Err f) → CopiesRecord h (Err (faults.Capture (Archive f))) (prepend_known old.held before) (prepend_known new.held after) w u
-      finish-cut f s = record {
-        wrote = behind-head block.wrote;
-        ends = (s.state.at ∙ (block.ends.2.offset_is ∙ unread), behind-block (Err f.cause) h.parts.length block.wrote.front _ _ _ block.ends.0 block.ends.1 s.bytes);
+      pub finish_cut : (f : Fault) → Finishes 0 (record_length h) (state_of mid between k) (state_of new after k') (Err f) → CopiesRecord h (Err (faults.Capture (Archive f))) (prepend_known old.held before) (prepend_known new.held after) w u
+      finish_cut f s = record {
+        wrote = behind_head block.wrote;
+        ends = (s.state.at ∙ (block.ends.2.offset_is ∙ unread), behind_block (Err f.cause) h.parts.length block.wrote.front _ _ _ block.ends.0 block.ends.1 s.bytes);
       }
 
       module _ (x : Option (List ℕ)) (n : ℕ) (s : Finishes 0 (record_length h) (state_of mid between k) (state_of new after k') (Ok n)) where
         -- the output failed in the closing
-        pub closing-cut : (fault : IndexFault) → fault ≡ faults.Write → AppendsPrefix u x closing → CopiesRecord h (Err fault) (prepend_known old.held before) (prepend_known new.held after) w x
-        closing-cut faults.Write e p =
+        pub closing_cut : (fault : IndexFault) → fault ≡ faults.Write → AppendsPrefix u x closing → CopiesRecord h (Err fault) (prepend_known old.held before) (prepend_known new.held after) w x
+        closing_cut faults.Write e p =
             let front = block.wrote.front in
             let long = block.ends.0 in
             record {
-              wrote = wrote-within (length h.raw + (length front + 4)) (record_length h) _ w x (omega (arith, long))
-                  (wrote-behind (length front + 4) h.raw _ _ w v x (consumes-head h.raw _) head
-                  (wrote-behind 4 front _ _ v u x block.ends.1 block.wrote.grown (wrote-part closing _ _ u x (closing-taken _ _ s.bytes) p)));
+              wrote = wrote_within (length h.raw + (length front + 4)) (record_length h) _ w x (omega (arith, long))
+                  (wrote_behind (length front + 4) h.raw _ _ w v x (consumes_head h.raw _) head
+                  (wrote_behind 4 front _ _ v u x block.ends.1 block.wrote.grown (wrote_part closing _ _ u x (closing_taken _ _ s.bytes) p)));
               ends = tt;
             }
-        closing-cut fault e p = absurd (cc)
+        closing_cut fault e p = absurd (cc)
 
         -- the whole record was copied
-        pub record-copied : Appends u x closing → CopiesRecord h (Ok n) (prepend_known old.held before) (prepend_known new.held after) w x
-        record-copied p =
+        pub record_copied : Appends u x closing → CopiesRecord h (Ok n) (prepend_known old.held before) (prepend_known new.held after) w x
+        record_copied p =
             let front = block.wrote.front in
             let long = block.ends.0 in
             let size : length (h.raw ++ (front ++ closing)) ≡ record_length h = omega (arith, long, length-append h.raw (front ++ closing), length-append front closing) in
@@ -199,8 +199,8 @@ module _ (h : HeadView) (w v : Option (List ℕ)) where
               wrote = record {
                 front = h.raw ++ (front ++ closing);
                 most = omega (arith, size);
-                begins = begins-behind _ _ h.raw (front ++ closing) (consumes-head h.raw _) (begins-behind _ _ front closing block.ends.1 (front-there _ _ closing (closing-taken _ _ s.bytes)));
+                begins = begins_behind _ _ h.raw (front ++ closing) (consumes_head h.raw _) (begins_behind _ _ front closing block.ends.1 (front_there _ _ closing (closing_taken _ _ s.bytes)));
                 grown = Appends-join w v x h.raw (front ++ closing) head (Appends-join v u x front closing block.wrote.grown p);
               };
-              ends = (s.state.0 ∙ sym size, s.state.0, behind-block (Ok tt) h.parts.length front _ _ _ long block.ends.1 s.bytes);
+              ends = (s.state.0 ∙ sym size, s.state.0, behind_block (Ok tt) h.parts.length front _ _ _ long block.ends.1 s.bytes);
             }

@@ -2,10 +2,11 @@ pub mod ReportLemmas
 pub mod ListingLemmas
 pub mod VerdictLemmas
 mod IndexLemmas
-mod GatherLemmas
+mod AddingLemmas
 mod SpellingLemmas
 mod SoundLemmas
 mod OneIndexLemmas
+mod WholeLemmas
 mod CopyLemmas
 mod FetchLemmas
 mod OffsetLemmas

@@ -4,8 +4,8 @@ use Rattle.warc_core.specs.HeadView.{HeadView}
 use Rattle.index_core.specs.Listing.{record_line, listing_line, record_count}
 use Rattle.index_core.proofs.ReportLemmas.{IsLine, CountsOn}
 
-pub record-line : (left : Option (List ℕ)) (h : HeadView) → IsLine listing_line left h (record_line h)
-record-line left h archive e = refl
+pub is_listing_line : (left : Option (List ℕ)) (h : HeadView) → IsLine listing_line left h (record_line h)
+is_listing_line left h archive e = refl
 
-pub one-record : (left : Option (List ℕ)) (h : HeadView) (n : ℕ) → CountsOn record_count left h n (n + 1)
-one-record left h n archive heads e k = omega (arith, k, length-append heads (h ∷ []))
+pub one_record : (left : Option (List ℕ)) (h : HeadView) (n : ℕ) → CountsOn record_count left h n (n + 1)
+one_record left h n archive heads e k = omega (arith, k, length-append heads (h ∷ []))

@@ -1,6 +1,7 @@
 -- The lines of a report, one record further, and at the end.
 use Rattle.std.proofs.Common.{◌≡◌, ◌∙◌, ℕ, ◌+◌, List, [], ◌∷◌, ◌++◌, ◌⊎◌, inl, inr, Option, None, Some, Result, Ok, Err, sym, ap, refl, subst, append-nil, append_assoc}
 use Rattle.std.proofs.lemmas.List.Concat.{flat_map-append}
+use Rattle.std.specs.Bool.{⊤}
 use Rattle.std.specs.Io.KnownBytes.{Appends, prepend_known}
 use Rattle.warc_core.specs.declared.fault.Cause.{Cause}
 use Rattle.warc_core.specs.declared.fault.Cause.TheVariants as causes
@@ -16,7 +17,7 @@ use Rattle.warc_core.proofs.WalkLemmas.{Walks-more, none_at_end, walk-extends}
 use Rattle.capture_core.specs.declared.fault.CaptureFault.TheVariants.{Archive, LineTooLong, KeyTooLong}
 use Rattle.index_core.specs.declared.fault.IndexFault.{IndexFault}
 use Rattle.index_core.specs.declared.fault.IndexFault.TheVariants as faults
-use Rattle.index_core.specs.Report.{Line, lines_of, fault_line, SoFar, IsReport, IsCutReport, IsNoDamage, Reported, ReportedToFault, ReportedInPart, WritesFault}
+use Rattle.index_core.specs.Report.{Line, lines_of, fault_line, IsReport, IsCutReport, IsNoDamage, Reported, ReportedToFault, ReportedInPart, Reports, WritesFault}
 
 -- this text is the record's line, where the archive is known
 abbrev pub IsLine : Line → Option (List ℕ) → HeadView → List ℕ → Type 0
@@ -26,16 +27,23 @@ IsLine line left h text = (archive : List ℕ) → left ≡ Some archive → tex
 abbrev pub CountsOn : {A : Type 0} → (List ℕ → List HeadView → A) → Option (List ℕ) → HeadView → A → A → Type 0
 CountsOn tally left h old new = (archive : List ℕ) (heads : List HeadView) → left ≡ Some archive → old ≡ tally archive heads → new ≡ tally archive (heads ++ h ∷ [])
 
+-- The lines of the records so far were written; the last of these records ends at the offset.
+abbrev pub SoFar : {A : Type 0} → ℕ → Line → (List ℕ → List HeadView → A) → Option (List ℕ) → Option (List ℕ) → ℕ → A → Option (List ℕ) → Option (List ℕ) → Type 0
+SoFar limit line tally None now offset answer before after = ⊤
+SoFar limit line tally (Some archive) None offset answer before after = ⊥
+SoFar limit line tally (Some archive) (Some rest) offset answer before after =
+    (heads : List HeadView) × Walks limit 0 archive heads offset rest × (answer ≡ tally archive heads) × Appends before after (lines_of line archive heads)
+
 -- for want of memory any reading may stop
-pub stopped-anywhere : {A : Type 0} (f : List ℕ → Result (A × List ℕ) Cause) (c : Cause) (before after : Option (List ℕ)) → c ≡ causes.Memory → Reads f (Err c) before after
-stopped-anywhere f c None after e = tt
-stopped-anywhere f c (Some z) after e = subst (λ k. IsFoundIn k (f z)) (sym e) tt
+pub stopped_anywhere : {A : Type 0} (f : List ℕ → Result (A × List ℕ) Cause) (c : Cause) (before after : Option (List ℕ)) → c ≡ causes.Memory → Reads f (Err c) before after
+stopped_anywhere f c None after e = tt
+stopped_anywhere f c (Some z) after e = subst (λ k. IsFoundIn k (f z)) (sym e) tt
 
 -- a fault is the archive's, or its cause is no damage
-pub found-or-not : {A : Type 0} (c : Cause) (r : Result A Cause) → IsFoundIn c r → (r ≡ Err c) ⊎ IsNoDamage c
-found-or-not causes.Memory r h = inr tt
-found-or-not causes.Read r h = inr tt
-found-or-not c r h = inl h
+pub found_or_not : {A : Type 0} (c : Cause) (r : Result A Cause) → IsFoundIn c r → (r ≡ Err c) ⊎ IsNoDamage c
+found_or_not causes.Memory r h = inr tt
+found_or_not causes.Read r h = inr tt
+found_or_not c r h = inl h
 
 -- counts of another answer with the same cause
 pub CountsRead-same : (A B : Type 0) (c : Cause) (old new : ℕ) → CountsRead {A = A} (Err c) old new → CountsRead {A = B} (Err c) old new
@@ -43,13 +51,13 @@ CountsRead-same A B causes.Read old new h = h
 CountsRead-same A B c old new h = h
 
 module _ (limit : ℕ) (line : Line) where
-  report-to : (archive : List ℕ) (heads : List HeadView) (z : List ℕ) (f : Fault) → Walks limit 0 archive heads f.offset z → (record_at limit f.offset z ≡ Err f.cause) ⊎ IsNoDamage f.cause → IsReport limit line archive (lines_of line archive heads ++ fault_line f) ⊎ IsCutReport limit line archive (lines_of line archive heads ++ fault_line f)
-  report-to archive heads z f w (inl e) = inl (inr (heads, f, record { rest = z; walks = w; refused = e }, refl))
-  report-to archive heads z f w (inr n) = inr (heads, f, z, n, w, refl)
+  report_to : (archive : List ℕ) (heads : List HeadView) (z : List ℕ) (f : Fault) → Walks limit 0 archive heads f.offset z → (record_at limit f.offset z ≡ Err f.cause) ⊎ IsNoDamage f.cause → IsReport limit line archive (lines_of line archive heads ++ fault_line f) ⊎ IsCutReport limit line archive (lines_of line archive heads ++ fault_line f)
+  report_to archive heads z f w (inl e) = inl (inr (heads, f, record { rest = z; walks = w; refused = e }, refl))
+  report_to archive heads z f w (inr n) = inr (heads, f, z, n, w, refl)
 
   -- the archive's report goes on where the lines of its first records end
-  report-behind : (archive : List ℕ) (heads : List HeadView) (o : ℕ) (rest : List ℕ) → Walks limit 0 archive heads o rest → (tail : List ℕ) × IsReport limit line archive (lines_of line archive heads ++ tail)
-  report-behind archive heads o rest w =
+  report_behind : (archive : List ℕ) (heads : List HeadView) (o : ℕ) (rest : List ℕ) → Walks limit 0 archive heads o rest → (tail : List ℕ) × IsReport limit line archive (lines_of line archive heads ++ tail)
+  report_behind archive heads o rest w =
       elim (total limit archive) [
         | inl a ↦ (let m = walk-extends limit 0 archive heads a.0 o a.1.end rest [] w a.1.walks (inl refl) in
             (lines_of line archive m.0, inl (a.0, a.1, sym (ap (lines_of line archive) m.1 ∙ flat_map-append (line archive) heads m.0))))
@@ -59,8 +67,8 @@ module _ (limit : ℕ) (line : Line) where
       ]
 
   -- the lines with one more
-  one-more : (archive : List ℕ) (heads : List HeadView) (h : HeadView) → lines_of line archive (heads ++ h ∷ []) ≡ lines_of line archive heads ++ line archive h
-  one-more archive heads h = flat_map-append (line archive) heads (h ∷ []) ∙ ap (λ t. lines_of line archive heads ++ t) (append-nil (line archive h))
+  one_more : (archive : List ℕ) (heads : List HeadView) (h : HeadView) → lines_of line archive (heads ++ h ∷ []) ≡ lines_of line archive heads ++ line archive h
+  one_more archive heads h = flat_map-append (line archive) heads (h ∷ []) ∙ ap (λ t. lines_of line archive heads ++ t) (append-nil (line archive h))
 
   module _ {A : Type 0} (tally : List ℕ → List HeadView → A) where
     pub SoFar-start : (left written : Option (List ℕ)) (x : A) → ((archive : List ℕ) → x ≡ tally archive []) → SoFar limit line tally left (prepend_known [] left) 0 x written written
@@ -75,7 +83,7 @@ module _ (limit : ℕ) (line : Line) where
       s.0 ++ h ∷ [],
       Walks-more limit 0 archive s.0 o z h later s.1 r,
       k archive s.0 refl s.2,
-      subst (Appends w u) (sym (one-more archive s.0 h)) (Appends-join w v u (lines_of line archive s.0) (line archive h) s.3 (subst (Appends v u) (l archive refl) a)),
+      subst (Appends w u) (sym (one_more archive s.0 h)) (Appends-join w v u (lines_of line archive s.0) (line archive h) s.3 (subst (Appends v u) (l archive refl) a)),
     )
 
     pub SoFar-end : (left now after : Option (List ℕ)) (o : ℕ) (x : A) (w v : Option (List ℕ)) → SoFar limit line tally left now o x w v → Reads (record_at limit o) (Ok None) now after → Reported limit line tally left x w v
@@ -96,7 +104,7 @@ module _ (limit : ℕ) (line : Line) where
     SoFar-cut (Some archive) None after o x f w v u s r e a = absurd s
     SoFar-cut (Some archive) (Some z) after o x f w v u s r e a = (
       lines_of line archive s.0 ++ fault_line f,
-      report-to archive s.0 z f (subst (λ p. Walks limit 0 archive s.0 p z) (sym e) s.1) (found-or-not f.cause (record_at limit f.offset z) (subst (λ p. IsFoundIn f.cause (record_at limit p z)) (sym e) r)),
+      report_to archive s.0 z f (subst (λ p. Walks limit 0 archive s.0 p z) (sym e) s.1) (found_or_not f.cause (record_at limit f.offset z) (subst (λ p. IsFoundIn f.cause (record_at limit p z)) (sym e) r)),
       subst (λ t. AppendsPrefix w u (lines_of line archive s.0 ++ t)) (append-nil (fault_line f)) (AppendsPrefix-behind w v u (lines_of line archive s.0) (fault_line f) [] s.3 a),
     )
 
@@ -106,32 +114,19 @@ module _ (limit : ℕ) (line : Line) where
     SoFar-stopped (Some archive) None after o x h text w v u s r l a = absurd s
     SoFar-stopped (Some archive) (Some z) None o x h text w v u s r l a = absurd r
     SoFar-stopped (Some archive) (Some z) (Some y) o x h text w v u s r l a =
-        let t = report-behind archive (s.0 ++ h ∷ []) (o + record_length h) y (Walks-more limit 0 archive s.0 o z h y s.1 r) in
+        let t = report_behind archive (s.0 ++ h ∷ []) (o + record_length h) y (Walks-more limit 0 archive s.0 o z h y s.1 r) in
         let e : lines_of line archive (s.0 ++ h ∷ []) ++ t.0 ≡ lines_of line archive s.0 ++ (line archive h ++ t.0) =
-        ap (λ x. x ++ t.0) (one-more archive s.0 h) ∙ append_assoc (lines_of line archive s.0) (line archive h) t.0 in
+        ap (λ x. x ++ t.0) (one_more archive s.0 h) ∙ append_assoc (lines_of line archive s.0) (line archive h) t.0 in
         (lines_of line archive s.0 ++ (line archive h ++ t.0), inl (subst (IsReport limit line archive) e t.1), AppendsPrefix-behind w v u (lines_of line archive s.0) (line archive h) t.0 s.3 (subst (AppendsPrefix v u) (l archive refl) a))
 
     -- what the writing of a fault's line leaves
-    module _ (fault : Fault) where
-      pub fault-told : (result : IndexFault) (left now after : Option (List ℕ)) (o : ℕ) (x : A) (w v u : Option (List ℕ)) (k k' : ℕ) → SoFar limit line tally left now o x w v → Reads (record_at limit o) (Err fault.cause) now after → fault.offset ≡ o → WritesFault fault result v u k k' → (f : Fault) → result ≡ faults.Capture (Archive f) → ReportedToFault limit line left f w u
-      fault-told faults.Memory left now after o x w v u k k' s r e h f q = absurd h
-      fault-told faults.BadName left now after o x w v u k k' s r e h f q = absurd h
-      fault-told faults.DuplicateName left now after o x w v u k k' s r e h f q = absurd h
-      fault-told faults.NoRecord left now after o x w v u k k' s r e h f q = absurd h
-      fault-told (faults.Capture (Archive g)) left now after o x w v u k k' s r e h f q =
-          let p = h.0 in
-          let same : f ≡ fault = cc in
-          rw same (SoFar-fault left now after o x fault w v u s r e h.1)
-      fault-told (faults.Capture (LineTooLong g)) left now after o x w v u k k' s r e h f q = absurd h
-      fault-told (faults.Capture (KeyTooLong g)) left now after o x w v u k k' s r e h f q = absurd h
-      fault-told faults.Write left now after o x w v u k k' s r e h f q = absurd (cc)
-
-      pub fault-cut : (result : IndexFault) (left now after : Option (List ℕ)) (o : ℕ) (x : A) (w v u : Option (List ℕ)) (k k' : ℕ) → SoFar limit line tally left now o x w v → Reads (record_at limit o) (Err fault.cause) now after → fault.offset ≡ o → WritesFault fault result v u k k' → result ≡ faults.Write → ReportedInPart limit line left w u
-      fault-cut faults.Memory left now after o x w v u k k' s r e h q = absurd h
-      fault-cut faults.BadName left now after o x w v u k k' s r e h q = absurd h
-      fault-cut faults.DuplicateName left now after o x w v u k k' s r e h q = absurd h
-      fault-cut faults.NoRecord left now after o x w v u k k' s r e h q = absurd h
-      fault-cut (faults.Capture (Archive g)) left now after o x w v u k k' s r e h q = absurd (cc)
-      fault-cut (faults.Capture (LineTooLong g)) left now after o x w v u k k' s r e h q = absurd h
-      fault-cut (faults.Capture (KeyTooLong g)) left now after o x w v u k k' s r e h q = absurd h
-      fault-cut faults.Write left now after o x w v u k k' s r e h q = SoFar-cut left now after o x fault w v u s r e h.0
+    pub fault_reported : (fault : Fault) (given : IndexFault) (left now after : Option (List ℕ)) (o : ℕ) (x : A) (w v u : Option (List ℕ)) (k k' : ℕ) → SoFar limit line tally left now o x w v → Reads (record_at limit o) (Err fault.cause) now after → fault.offset ≡ o → WritesFault fault given v u k k' → Reports limit line tally left (Err given) w u
+    fault_reported fault faults.Memory left now after o x w v u k k' s r e h = h
+    fault_reported fault faults.BadName left now after o x w v u k k' s r e h = h
+    fault_reported fault faults.DuplicateName left now after o x w v u k k' s r e h = h
+    fault_reported fault faults.NoRecord left now after o x w v u k k' s r e h = h
+    fault_reported fault (faults.Capture (LineTooLong g)) left now after o x w v u k k' s r e h = h
+    fault_reported fault (faults.Capture (KeyTooLong g)) left now after o x w v u k k' s r e h = h
+    fault_reported fault (faults.Capture (Archive f)) left now after o x w v u k k' s r e h =
+        subst (λ g. ReportedToFault limit line left g w u) (sym h.0) (SoFar-fault left now after o x fault w v u s r e h.1)
+    fault_reported fault faults.Write left now after o x w v u k k' s r e h = SoFar-cut left now after o x fault w v u s r e h.0

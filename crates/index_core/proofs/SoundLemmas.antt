@@ -11,80 +11,81 @@ use Rattle.warc_core.specs.HeadView.{HeadView}
 use Rattle.cdxj_core.specs.Entries.{EntryValue, entry_place}
 use Rattle.cdxj_places.specs.Places.{place_cmp}
 use Rattle.capture_core.specs.CaptureAnswer.{IsEntryOf}
-use Rattle.index_core.specs.Indexing.{HaveOwnPlaces, HasLine, AreSound, is_among}
-use Rattle.index_core.specs.Gathering.{StandBefore}
+use Rattle.index_core.specs.Indexing.{HaveOwnPlaces, AreSound, is_among}
+use Rattle.cdxj_core.specs.Entries.{HasLine}
+use Rattle.index_core.specs.Captures.{StandBefore}
 
 -- ---- lists with one more
 
-each-push : (A : EntryValue → Type 0) (xs : List EntryValue) (e : EntryValue) → AllByRecursion A xs → A e → AllByRecursion A (xs ++ e ∷ [])
-each-push A [] e h a = (a, tt)
-each-push A (x ∷ xs) e h a = (h.0, each-push A xs e h.1 a)
+each_push : (A : EntryValue → Type 0) (xs : List EntryValue) (e : EntryValue) → AllByRecursion A xs → A e → AllByRecursion A (xs ++ e ∷ [])
+each_push A [] e h a = (a, tt)
+each_push A (x ∷ xs) e h a = (h.0, each_push A xs e h.1 a)
 
-each-weaker : (A B : EntryValue → Type 0) → ((x : EntryValue) → A x → B x) → (xs : List EntryValue) → AllByRecursion A xs → AllByRecursion B xs
-each-weaker A B f [] h = tt
-each-weaker A B f (x ∷ xs) h = (f x h.0, each-weaker A B f xs h.1)
+each_weaker : (A B : EntryValue → Type 0) → ((x : EntryValue) → A x → B x) → (xs : List EntryValue) → AllByRecursion A xs → AllByRecursion B xs
+each_weaker A B f [] h = tt
+each_weaker A B f (x ∷ xs) h = (f x h.0, each_weaker A B f xs h.1)
 
 -- ---- places
 
-both-equal : (a b : Ordering) → ordering_then a b ≡ Equal → (a ≡ Equal) × (b ≡ Equal)
-both-equal Less b e = cc
-both-equal Equal b e = (refl, e)
-both-equal Greater b e = cc
+both_equal : (a b : Ordering) → ordering_then a b ≡ Equal → (a ≡ Equal) × (b ≡ Equal)
+both_equal Less b e = cc
+both_equal Equal b e = (refl, e)
+both_equal Greater b e = cc
 
 -- a capture that stands before the offset has another place than one at the offset
 apart : (name : List ℕ) (o : ℕ) (x e : EntryValue) → e.offset ≡ o → e.filename ≡ name → (x.filename ≡ name → x.offset < o) → place_cmp (entry_place x) (entry_place e) ≡ Equal → ⊥
 apart name o x e at named before q =
-    let a = both-equal _ _ q in
-    let b = both-equal _ _ a.1 in
-    let d = both-equal _ _ b.1 in
+    let a = both_equal _ _ q in
+    let b = both_equal _ _ a.1 in
+    let d = both_equal _ _ b.1 in
     let names : x.filename ≡ e.filename = slice_cmp-IsAntisymmetric nat_cmp-IsAntisymmetric x.filename e.filename d.0 in
     let offsets : x.offset ≡ e.offset = nat_cmp-IsAntisymmetric x.offset e.offset d.1 in
     let less = before (names ∙ named) in
     absurd (omega (arith, less, offsets, at))
 
-places-push : (name : List ℕ) (o : ℕ) (xs : List EntryValue) (e : EntryValue) → e.offset ≡ o → e.filename ≡ name → StandBefore name o xs → HaveOwnPlaces xs → HaveOwnPlaces (xs ++ e ∷ [])
-places-push name o [] e at named before own = (tt, tt)
-places-push name o (x ∷ xs) e at named before own =
-    (each-push (λ other. place_cmp (entry_place x) (entry_place other) ≡ Equal → ⊥) xs e own.0 (apart name o x e at named before.0), places-push name o xs e at named before.1 own.1)
+places_push : (name : List ℕ) (o : ℕ) (xs : List EntryValue) (e : EntryValue) → e.offset ≡ o → e.filename ≡ name → StandBefore name o xs → HaveOwnPlaces xs → HaveOwnPlaces (xs ++ e ∷ [])
+places_push name o [] e at named before own = (tt, tt)
+places_push name o (x ∷ xs) e at named before own =
+    (each_push (λ other. place_cmp (entry_place x) (entry_place other) ≡ Equal → ⊥) xs e own.0 (apart name o x e at named before.0), places_push name o xs e at named before.1 own.1)
 
-before-more : (name : List ℕ) (o p : ℕ) (xs : List EntryValue) → o < p → StandBefore name o xs → StandBefore name p xs
-before-more name o p xs less h = each-weaker (λ e. e.filename ≡ name → e.offset < o) (λ e. e.filename ≡ name → e.offset < p) (λ e k n. (let l = k n in omega (arith, l, less))) xs h
+before_more : (name : List ℕ) (o p : ℕ) (xs : List EntryValue) → o < p → StandBefore name o xs → StandBefore name p xs
+before_more name o p xs less h = each_weaker (λ e. e.filename ≡ name → e.offset < o) (λ e. e.filename ≡ name → e.offset < p) (λ e k n. (let l = k n in omega (arith, l, less))) xs h
 
 -- what a record at the offset adds stands before its end
-pub before-step : (name : List ℕ) (limit o p : ℕ) (h : HeadView) (xs : List EntryValue) (captured : Option EntryValue) → o < p → h.start ≡ o → IfSome captured (IsEntryOf h name limit) → StandBefore name o xs → StandBefore name p (xs ++ option_to_list captured)
-before-step name limit o p h xs None less at e before = subst (StandBefore name p) (sym (append-nil xs)) (before-more name o p xs less before)
-before-step name limit o p h xs (Some x) less at e before = each-push (λ y. y.filename ≡ name → y.offset < p) xs x (before-more name o p xs less before) (λ n. omega (arith, less, at, e.offset))
+pub before_step : (name : List ℕ) (limit o p : ℕ) (h : HeadView) (xs : List EntryValue) (captured : Option EntryValue) → o < p → h.start ≡ o → IfSome captured (IsEntryOf h name limit) → StandBefore name o xs → StandBefore name p (xs ++ option_to_list captured)
+before_step name limit o p h xs None less at e before = subst (StandBefore name p) (sym (append-nil xs)) (before_more name o p xs less before)
+before_step name limit o p h xs (Some x) less at e before = each_push (λ y. y.filename ≡ name → y.offset < p) xs x (before_more name o p xs less before) (λ n. omega (arith, less, at, e.offset))
 
-pub sound-step : (limit : ℕ) (names : List (List ℕ)) (name : List ℕ) (o : ℕ) (h : HeadView) (xs : List EntryValue) (captured : Option EntryValue) → is_among names name ≡ true → h.start ≡ o → IfSome captured (IsEntryOf h name limit) → StandBefore name o xs → AreSound limit names xs → AreSound limit names (xs ++ option_to_list captured)
-sound-step limit names name o h xs None used at e before s = subst (AreSound limit names) (sym (append-nil xs)) s
-sound-step limit names name o h xs (Some x) used at e before s = record {
-  places = places-push name o xs x (e.offset ∙ at) e.filename before s.places;
-  named = each-push (λ y. is_among names y.filename ≡ true) xs x s.named (ap (is_among names) e.filename ∙ used);
-  lines = each-push (HasLine limit) xs x s.lines (e.good, e.fits);
+pub sound_step : (limit : ℕ) (names : List (List ℕ)) (name : List ℕ) (o : ℕ) (h : HeadView) (xs : List EntryValue) (captured : Option EntryValue) → is_among names name ≡ true → h.start ≡ o → IfSome captured (IsEntryOf h name limit) → StandBefore name o xs → AreSound limit names xs → AreSound limit names (xs ++ option_to_list captured)
+sound_step limit names name o h xs None used at e before s = subst (AreSound limit names) (sym (append-nil xs)) s
+sound_step limit names name o h xs (Some x) used at e before s = record {
+  places = places_push name o xs x (e.offset ∙ at) e.filename before s.places;
+  named = each_push (λ y. is_among names y.filename ≡ true) xs x s.named (ap (is_among names) e.filename ∙ used);
+  lines = each_push (HasLine limit) xs x s.lines (e.good, e.fits);
 }
 
 -- ---- names
 
-among-more : (names more : List (List ℕ)) (name : List ℕ) → is_among names name ≡ true → is_among (names ++ more) name ≡ true
-among-more [] more name h = cc
-among-more (n ∷ names) more name h =
+among_more : (names more : List (List ℕ)) (name : List ℕ) → is_among names name ≡ true → is_among (names ++ more) name ≡ true
+among_more [] more name h = cc
+among_more (n ∷ names) more name h =
     elim (bytes_eq n name) as (λ b. (b || is_among names name) ≡ true → (b || is_among (names ++ more) name) ≡ true) [
       | true ↦ λ _. refl
-      | false ↦ λ k. among-more names more name k
+      | false ↦ λ k. among_more names more name k
     ] h
 
-among-last : (names : List (List ℕ)) (name : List ℕ) → is_among (names ++ name ∷ []) name ≡ true
-among-last [] name = ap (λ b. b || false) ((bytes_eq-Decides name name).1 refl)
-among-last (n ∷ names) name = elim (bytes_eq n name) as (λ b. (b || is_among (names ++ name ∷ []) name) ≡ true) [ true ↦ refl | false ↦ among-last names name ]
+among_last : (names : List (List ℕ)) (name : List ℕ) → is_among (names ++ name ∷ []) name ≡ true
+among_last [] name = ap (λ b. b || false) ((bytes_eq-Decides name name).1 refl)
+among_last (n ∷ names) name = elim (bytes_eq n name) as (λ b. (b || is_among (names ++ name ∷ []) name) ≡ true) [ true ↦ refl | false ↦ among_last names name ]
 
 -- a name that is kept is among the names
-pub kept-name : (names new : List (List ℕ)) (name : List ℕ) → new ≡ names ++ name ∷ [] → is_among new name ≡ true
-kept-name names new name e = ap (λ ns. is_among ns name) e ∙ among-last names name
+pub is_among_kept : (names new : List (List ℕ)) (name : List ℕ) → new ≡ names ++ name ∷ [] → is_among new name ≡ true
+is_among_kept names new name e = ap (λ ns. is_among ns name) e ∙ among_last names name
 
 -- captures stay sound under more names
-pub sound-under : (limit : ℕ) (names new : List (List ℕ)) (name : List ℕ) (xs : List EntryValue) → new ≡ names ++ name ∷ [] → AreSound limit names xs → AreSound limit new xs
-sound-under limit names new name xs e s = record {
+pub sound_under : (limit : ℕ) (names new : List (List ℕ)) (name : List ℕ) (xs : List EntryValue) → new ≡ names ++ name ∷ [] → AreSound limit names xs → AreSound limit new xs
+sound_under limit names new name xs e s = record {
   places = s.places;
-  named = each-weaker (λ y. is_among names y.filename ≡ true) (λ y. is_among new y.filename ≡ true) (λ y k. ap (λ ns. is_among ns y.filename) e ∙ among-more names (name ∷ []) y.filename k) xs s.named;
+  named = each_weaker (λ y. is_among names y.filename ≡ true) (λ y. is_among new y.filename ≡ true) (λ y k. ap (λ ns. is_among ns y.filename) e ∙ among_more names (name ∷ []) y.filename k) xs s.named;
   lines = s.lines;
 }

@@ -7,18 +7,18 @@ use Rattle.cdxj_core.specs.declared.limit.TheConstants.{LINE_LIMIT}
 use Rattle.cdxj_core.specs.Entries.{EntryValue, IsGood, line_text, object_text, members_of}
 use Rattle.cdxj_core.proofs.EntryUtf8.{line_law}
 use Rattle.cdxj_places.proofs.Offsets.{own}
-use Rattle.index_core.specs.Indexing.{HasLine}
+use Rattle.cdxj_core.specs.Entries.{HasLine}
 use Rattle.index_core.specs.Spelling.{entry_or_nothing, entry_in, IsLineOf}
 
-entry_in-line_text : (e : EntryValue) → HasLine LINE_LIMIT e → entry_in (line_text e) ≡ e
+entry_in_line_text : (e : EntryValue) → HasLine LINE_LIMIT e → entry_in (line_text e) ≡ e
 unfolding entry_in
-entry_in-line_text e h =
+entry_in_line_text e h =
     let size_fits : e.length < 2 ^ 64 = omega (arith, h.0.size) in
     ap entry_or_nothing (line_law LINE_LIMIT e h.0 h.1) ∙ (λ i. record e { length = digits_value-decimal own e.length size_fits i })
 
 -- the line of an entry spells that entry
 pub spells : (e : EntryValue) (line : List ℕ) → HasLine LINE_LIMIT e → line ≡ line_text e → entry_in line ≡ e
-spells e line h is = ap entry_in is ∙ entry_in-line_text e h
+spells e line h is = ap entry_in is ∙ entry_in_line_text e h
 
 -- the line of an entry is that of the entry that it spells
 pub spelled : (e : EntryValue) (line : List ℕ) (n : ℕ) (filename : List ℕ) (o : ℕ) → IsLineOf e line n filename o → IsLineOf (entry_in line) line n filename o

@@ -14,77 +14,76 @@ use Rattle.warc_core.proofs.ReadingLemmas.{answered}
 use Rattle.capture_core.specs.declared.verdict.Verdict.{Verdict}
 use Rattle.capture_core.specs.declared.verdict.Verdict.TheVariants as verdicts
 use Rattle.capture_core.specs.BlockDigest.{judge_record}
-use Rattle.index_core.specs.Report.{SoFar}
 use Rattle.index_core.specs.Verifying.{verdict_on, verdict_in, verdict_line, verification_line, differing_by, verified_in}
-use Rattle.index_core.proofs.ReportLemmas.{IsLine, CountsOn}
+use Rattle.index_core.proofs.ReportLemmas.{IsLine, CountsOn, SoFar}
 
 judged : (judge : List ℕ → Verdict) (n : ℕ) (z w : List ℕ) (v : Verdict) (r : Result (Unit {0} × List ℕ) Cause) → after_record n z ≡ r → (◌>>=◌ {B = Verdict × List ℕ} r (λ rest. Ok (judge (take n z), rest.1))) ≡ Ok (v, w) → (after_record n z ≡ Ok (tt, w)) × (v ≡ judge (take n z))
 judged judge n z w v (Err c) e h = absurd (let k : ◌≡◌ {A = Result (Verdict × List ℕ) Cause} (Err c) (Ok (v, w)) = h in cc)
 judged judge n z w v (Ok (u, rest)) e h = let a = answered (judge (take n z)) v rest w h in (e ∙ ap (λ t. Ok (tt, t)) a.1, sym a.0)
 
-judged-record : (judge : List ℕ → Verdict) (n : ℕ) (z w : List ℕ) (v : Verdict) → judge_record judge n z ≡ Ok (v, w) → (after_record n z ≡ Ok (tt, w)) × (v ≡ judge (take n z))
+judged_record : (judge : List ℕ → Verdict) (n : ℕ) (z w : List ℕ) (v : Verdict) → judge_record judge n z ≡ Ok (v, w) → (after_record n z ≡ Ok (tt, w)) × (v ≡ judge (take n z))
 unfolding judge_record
-judged-record judge n z w v h = judged judge n z w v (after_record n z) refl h
+judged_record judge n z w v h = judged judge n z w v (after_record n z) refl h
 
 refused : (judge : List ℕ → Verdict) (n : ℕ) (z : List ℕ) (c : Cause) (r : Result (Unit {0} × List ℕ) Cause) → (◌>>=◌ {B = Verdict × List ℕ} r (λ rest. Ok (judge (take n z), rest.1))) ≡ Err c → r ≡ Err c
 refused judge n z c (Err d) h = let k : ◌≡◌ {A = Result (Verdict × List ℕ) Cause} (Err d) (Err c) = h in cc
 refused judge n z c (Ok (u, rest)) h = absurd (let k : ◌≡◌ {A = Result (Verdict × List ℕ) Cause} (Ok (judge (take n z), rest)) (Err c) = h in cc)
 
-refused-record : (judge : List ℕ → Verdict) (n : ℕ) (z : List ℕ) (c : Cause) → judge_record judge n z ≡ Err c → after_record n z ≡ Err c
+refused_record : (judge : List ℕ → Verdict) (n : ℕ) (z : List ℕ) (c : Cause) → judge_record judge n z ≡ Err c → after_record n z ≡ Err c
 unfolding judge_record
-refused-record judge n z c h = refused judge n z c (after_record n z) h
+refused_record judge n z c h = refused judge n z c (after_record n z) h
 
-found-record : (judge : List ℕ → Verdict) (n : ℕ) (z : List ℕ) (c : Cause) → IsFoundIn c (judge_record judge n z) → IsFoundIn c (after_record n z)
-found-record judge n z causes.Memory h = tt
-found-record judge n z causes.Read h = tt
-found-record judge n z c h = refused-record judge n z c h
+found_record : (judge : List ℕ → Verdict) (n : ℕ) (z : List ℕ) (c : Cause) → IsFoundIn c (judge_record judge n z) → IsFoundIn c (after_record n z)
+found_record judge n z causes.Memory h = tt
+found_record judge n z causes.Read h = tt
+found_record judge n z c h = refused_record judge n z c h
 
 -- a judged record was read
-pub judged-reads : (judge : List ℕ → Verdict) (n : ℕ) (v : Verdict) (before after : Option (List ℕ)) → Reads (judge_record judge n) (Ok v) before after → Reads (after_record n) (Ok tt) before after
-judged-reads judge n v None after h = tt
-judged-reads judge n v (Some z) None h = absurd h
-judged-reads judge n v (Some z) (Some w) h = (judged-record judge n z w v h).0
+pub judged_reads : (judge : List ℕ → Verdict) (n : ℕ) (v : Verdict) (before after : Option (List ℕ)) → Reads (judge_record judge n) (Ok v) before after → Reads (after_record n) (Ok tt) before after
+judged_reads judge n v None after h = tt
+judged_reads judge n v (Some z) None h = absurd h
+judged_reads judge n v (Some z) (Some w) h = (judged_record judge n z w v h).0
 
-pub judged-met : (judge : List ℕ → Verdict) (n : ℕ) (c : Cause) (before after : Option (List ℕ)) → Reads (judge_record judge n) (Err c) before after → Reads (after_record n) (Err c) before after
-judged-met judge n c None after h = tt
-judged-met judge n c (Some z) after h = found-record judge n z c h
+pub judged_met : (judge : List ℕ → Verdict) (n : ℕ) (c : Cause) (before after : Option (List ℕ)) → Reads (judge_record judge n) (Err c) before after → Reads (after_record n) (Err c) before after
+judged_met judge n c None after h = tt
+judged_met judge n c (Some z) after h = found_record judge n z c h
 
 -- the verdict on a record that begins the bytes
-pub judged-told : (limit start : ℕ) (h : HeadView) (v : Verdict) (before mid after : Option (List ℕ)) → Reads (next_at limit start) (Ok (Some h)) before mid → Reads (judge_record (verdict_on h) h.parts.length) (Ok v) mid after → IfSome before (λ bytes. v ≡ verdict_on h (block_at h bytes))
-judged-told limit start h v None mid after r j = tt
-judged-told limit start h v (Some z) None after r j = absurd r
-judged-told limit start h v (Some z) (Some y) None r j = absurd j
-judged-told limit start h v (Some z) (Some y) (Some w) r j =
+pub judged_verdict : (limit start : ℕ) (h : HeadView) (v : Verdict) (before mid after : Option (List ℕ)) → Reads (next_at limit start) (Ok (Some h)) before mid → Reads (judge_record (verdict_on h) h.parts.length) (Ok v) mid after → IfSome before (λ bytes. v ≡ verdict_on h (block_at h bytes))
+judged_verdict limit start h v None mid after r j = tt
+judged_verdict limit start h v (Some z) None after r j = absurd r
+judged_verdict limit start h v (Some z) (Some y) None r j = absurd j
+judged_verdict limit start h v (Some z) (Some y) (Some w) r j =
     let spelled = next-spelled limit start z y h r in
     let rest : drop (length h.raw) z ≡ y = ap (drop (length h.raw)) spelled.0 ∙ drop-append_seam h.raw y in
-    (judged-record (verdict_on h) h.parts.length y w v j).1 ∙ ap (λ t. verdict_on h (take h.parts.length t)) (sym rest)
+    (judged_record (verdict_on h) h.parts.length y w v j).1 ∙ ap (λ t. verdict_on h (take h.parts.length t)) (sym rest)
 
 -- what stands behind the first records of an archive
 pub behind : (archive front z : List ℕ) (o : ℕ) → archive ≡ front ++ z → o ≡ 0 + length front → drop o archive ≡ z
 behind archive front z o e l = ap (λ n. drop n archive) (let k : o ≡ length front = omega (arith, l) in k) ∙ (ap (drop (length front)) e ∙ drop-append_seam front z)
 
 -- the line of a verdict is that of the record in the archive
-pub verdict-line : {A : Type 0} (limit : ℕ) (tally : List ℕ → List HeadView → A) (left now : Option (List ℕ)) (o : ℕ) (x : A) (w u : Option (List ℕ)) (h : HeadView) (v : Verdict) → SoFar limit verification_line tally left now o x w u → h.start ≡ o → IfSome now (λ bytes. v ≡ verdict_on h (block_at h bytes)) → (archive : List ℕ) → left ≡ Some archive → v ≡ verdict_in archive h
-verdict-line limit tally None now o x w u h v s b t archive e = absurd (let k : ◌≡◌ {A = Option (List ℕ)} None (Some archive) = e in cc)
-verdict-line limit tally (Some a) None o x w u h v s b t archive e = absurd s
-verdict-line limit tally (Some a) (Some z) o x w u h v s b t archive e =
+pub verdict_known : {A : Type 0} (limit : ℕ) (tally : List ℕ → List HeadView → A) (left now : Option (List ℕ)) (o : ℕ) (x : A) (w u : Option (List ℕ)) (h : HeadView) (v : Verdict) → SoFar limit verification_line tally left now o x w u → h.start ≡ o → IfSome now (λ bytes. v ≡ verdict_on h (block_at h bytes)) → (archive : List ℕ) → left ≡ Some archive → v ≡ verdict_in archive h
+verdict_known limit tally None now o x w u h v s b t archive e = absurd (let k : ◌≡◌ {A = Option (List ℕ)} None (Some archive) = e in cc)
+verdict_known limit tally (Some a) None o x w u h v s b t archive e = absurd s
+verdict_known limit tally (Some a) (Some z) o x w u h v s b t archive e =
     let same : a ≡ archive = (let k : ◌≡◌ {A = Option (List ℕ)} (Some a) (Some archive) = e in cc) in
     let f = walk-front limit 0 a s.0 o z s.1 in
     subst (λ r. v ≡ verdict_in r h) same (t ∙ ap (λ y. verdict_on h (block_at h y)) (sym (ap (λ n. drop n a) b ∙ behind a f.0 z o f.1 f.2)))
 
-pub is-line : (left : Option (List ℕ)) (h : HeadView) (v : Verdict) → ((archive : List ℕ) → left ≡ Some archive → v ≡ verdict_in archive h) → IsLine verification_line left h (verdict_line h.start v)
-is-line left h v t archive e = ap (verdict_line h.start) (t archive e)
+pub is_line : (left : Option (List ℕ)) (h : HeadView) (v : Verdict) → ((archive : List ℕ) → left ≡ Some archive → v ≡ verdict_in archive h) → IsLine verification_line left h (verdict_line h.start v)
+is_line left h v t archive e = ap (verdict_line h.start) (t archive e)
 
-pub one-verdict : (left : Option (List ℕ)) (h : HeadView) (v : Verdict) (n d : ℕ) → ((archive : List ℕ) → left ≡ Some archive → v ≡ verdict_in archive h) → CountsOn verified_in left h (record { records = n; differing = d }) (record { records = n + 1; differing = d + differing_by v })
-one-verdict left h v n d t archive heads e k =
+pub one_verdict : (left : Option (List ℕ)) (h : HeadView) (v : Verdict) (n d : ℕ) → ((archive : List ℕ) → left ≡ Some archive → v ≡ verdict_in archive h) → CountsOn verified_in left h (record { records = n; differing = d }) (record { records = n + 1; differing = d + differing_by v })
+one_verdict left h v n d t archive heads e k =
     let records : n + 1 ≡ length (heads ++ h ∷ []) = omega (arith, ap (λ y. y.records) k, length-append heads (h ∷ [])) in
     let by = λ (g : HeadView). differing_by (verdict_in archive g) in
     let last : sum_by by (h ∷ []) ≡ differing_by v = omega (arith, ap differing_by (t archive e)) in
     let differing : d + differing_by v ≡ sum_by by (heads ++ h ∷ []) = omega (arith, ap (λ y. y.differing) k, sum_by-append by heads (h ∷ []), last) in
     ap (λ a. record { records = a; differing = d + differing_by v }) records ∙ ap (λ b. record { records = length (heads ++ h ∷ []); differing = b }) differing
 
-pub one-at-most : (v : Verdict) → differing_by v ≤ 1
-one-at-most verdicts.Same = omega arith
-one-at-most verdicts.Differs = omega arith
-one-at-most verdicts.NotSha1 = omega arith
-one-at-most verdicts.Absent = omega arith
+pub one_at_most : (v : Verdict) → differing_by v ≤ 1
+one_at_most verdicts.Same = omega arith
+one_at_most verdicts.Differs = omega arith
+one_at_most verdicts.NotSha1 = omega arith
+one_at_most verdicts.Absent = omega arith

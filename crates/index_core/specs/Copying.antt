@@ -12,7 +12,7 @@ use Rattle.warc_core.specs.Walk.{record_at, Walks}
 use Rattle.capture_core.specs.declared.fault.CaptureFault.TheVariants.{Archive}
 use Rattle.index_core.specs.declared.fault.IndexFault.{IndexFault}
 use Rattle.index_core.specs.declared.fault.IndexFault.TheVariants as faults
-use Rattle.index_core.specs.Fetching.{IsInRecord, IsBehindRecords, StopsAt, text_at}
+use Rattle.index_core.specs.Fetching.{IsInRecord, IsBehindRecords, StopsAt, most_written_at}
 
 -- The output grew by a front of the known bytes, of n bytes at most.
 pub record WroteFront (n : ℕ) (known old new : Option (List ℕ)) : Type 0 where
@@ -53,8 +53,8 @@ CopiesNext limit offset (Ok n) before written written' =
     × IfSome before (λ bytes. (h : HeadView) × (rest : List ℕ) × (record_at limit offset bytes ≡ Ok (Some h, rest)) × (text ≡ take (record_length h) bytes))
 CopiesNext limit offset (Err faults.NoRecord) before written written' = IfSome before (λ bytes. bytes ≡ [])
 CopiesNext limit offset (Err (faults.Capture (Archive f))) before written written' =
-    (f.offset ≡ offset) × IfSome before (λ bytes. IsFoundIn f.cause (record_at limit offset bytes) × AppendsPrefix written written' (text_at limit offset bytes))
-CopiesNext limit offset (Err faults.Write) before written written' = IfSome before (λ bytes. AppendsPrefix written written' (text_at limit offset bytes))
+    (f.offset ≡ offset) × IfSome before (λ bytes. IsFoundIn f.cause (record_at limit offset bytes) × AppendsPrefix written written' (most_written_at limit offset bytes))
+CopiesNext limit offset (Err faults.Write) before written written' = IfSome before (λ bytes. AppendsPrefix written written' (most_written_at limit offset bytes))
 CopiesNext limit offset (Err other) before written written' = ⊥
 
 -- whole records fill the archive up to the offset, and these bytes follow them

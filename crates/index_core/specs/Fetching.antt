@@ -9,7 +9,7 @@ use Rattle.warc_core.specs.Walk.{record_at, Walks, AreRecords, IsDamaged}
 use Rattle.capture_core.specs.declared.fault.CaptureFault.TheVariants.{Archive}
 use Rattle.index_core.specs.declared.fault.IndexFault.{IndexFault}
 use Rattle.index_core.specs.declared.fault.IndexFault.TheVariants as faults
-use Rattle.index_core.specs.Adding.{fault_offset}
+use Rattle.capture_core.specs.Fault.{fault_offset}
 use Rattle.index_core.specs.Report.{IsNoDamage}
 
 -- the limit of a head, and the archive
@@ -54,13 +54,13 @@ module _ (limit : ℕ) (archive : List ℕ) where
   StopsAt offset f = StandsIn offset (Err (faults.Capture (Archive f))) ⊎ (IsNoDamage f.cause × AreRecordsTo f.offset)
 
 -- of these bytes the text of the record that begins them, and all where none does
-abbrev pub text_of : Result (Option HeadView × List ℕ) Cause → List ℕ → List ℕ
-text_of (Ok (Some h, rest)) bytes = take (record_length h) bytes
-text_of read bytes = bytes
+abbrev pub most_written : Result (Option HeadView × List ℕ) Cause → List ℕ → List ℕ
+most_written (Ok (Some h, rest)) bytes = take (record_length h) bytes
+most_written read bytes = bytes
 
 -- what is written at most of the bytes from an offset on
-abbrev pub text_at : ℕ → ℕ → List ℕ → List ℕ
-text_at limit offset bytes = text_of (record_at limit offset bytes) bytes
+abbrev pub most_written_at : ℕ → ℕ → List ℕ → List ℕ
+most_written_at limit offset bytes = most_written (record_at limit offset bytes) bytes
 
 -- What a call has written, and what it says of the archive where that is known.
 abbrev pub Fetches : ℕ → ℕ → Option (List ℕ) → Result ℕ IndexFault → Option (List ℕ) → Option (List ℕ) → Type 0
@@ -68,21 +68,20 @@ Fetches limit offset left (Ok n) before after =
     (text : List ℕ) × (n ≡ length text) × Appends before after text × IfSome left (λ archive. StandsIn limit archive offset (Ok text))
 Fetches limit offset left (Err faults.NoRecord) before after = IfSome left (λ archive. StandsIn limit archive offset (Err faults.NoRecord))
 Fetches limit offset left (Err (faults.Capture (Archive f))) before after =
-    (f.offset ≤ offset) × IfSome left (λ archive. StopsAt limit archive offset f × AppendsPrefix before after (text_at limit offset (drop offset archive)))
+    (f.offset ≤ offset) × IfSome left (λ archive. StopsAt limit archive offset f × AppendsPrefix before after (most_written_at limit offset (drop offset archive)))
 Fetches limit offset left (Err faults.Write) before after =
-    IfSome left (λ archive. AreRecordsTo limit archive offset × AppendsPrefix before after (text_at limit offset (drop offset archive)))
+    IfSome left (λ archive. AreRecordsTo limit archive offset × AppendsPrefix before after (most_written_at limit offset (drop offset archive)))
 Fetches limit offset left (Err other) before after = ⊥
+
+-- a record isn't fetched where none begins, for the archive's fault, or where the output failed
+abbrev pub IsFetchFault : IndexFault → Type 0
+IsFetchFault faults.NoRecord = ⊤
+IsFetchFault (faults.Capture (Archive f)) = ⊤
+IsFetchFault faults.Write = ⊤
+IsFetchFault other = ⊥
 
 -- the fault was met before the offset was reached, or where no record begins
 abbrev pub IsMetBefore : ℕ → IndexFault → Type 0
 IsMetBefore offset faults.NoRecord = ⊤
 IsMetBefore offset (faults.Capture fault) = fault_offset fault < offset
 IsMetBefore offset other = ⊥
-
--- one thing stands at an offset of an archive
-abbrev pub OneStands : Type 0
-OneStands = (limit offset : ℕ) (archive : List ℕ) (this that : Result (List ℕ) IndexFault) → StandsIn limit archive offset this → StandsIn limit archive offset that → this ≡ that
-
--- and something does
-abbrev pub SomeStands : Type 0
-SomeStands = (limit offset : ℕ) (archive : List ℕ) → (answer : Result (List ℕ) IndexFault) × StandsIn limit archive offset answer

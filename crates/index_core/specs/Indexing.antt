@@ -1,11 +1,9 @@
 -- What an indexer holds, and the index that it writes.
-use Rattle.std.specs.Prelude.{◌≡◌, ℕ, ◌<◌, ◌≤◌, ◌||◌, Bool, true, false, List, [], ◌∷◌, ◌⊎◌, length, flat_map, Option, Result, Err}
+use Rattle.std.specs.Prelude.{◌≡◌, ℕ, ◌<◌, ◌≤◌, ◌||◌, Bool, true, false, List, [], ◌∷◌, ⊤, length, flat_map, Result, Err}
 use Rattle.std.specs.List.{AllByRecursion}
 use Rattle.std.specs.Str.{bytes_eq}
 use Rattle.std.specs.declared.cmp.Ordering.TheVariants.{Equal}
-use Rattle.devices.specs.Device.{AppendsPrefix, next_count}
-use Rattle.cdxj_core.specs.Entries.{EntryValue, entry_place, line_text}
-pub use Rattle.cdxj_core.specs.Entries.{HasLine}
+use Rattle.cdxj_core.specs.Entries.{EntryValue, HasLine, entry_place, line_text}
 use Rattle.cdxj_places.specs.Places.{place_cmp}
 use Rattle.cdxj_places.specs.Rising.{rising}
 use Rattle.index_core.specs.declared.fault.IndexFault.{IndexFault}
@@ -48,11 +46,8 @@ pub record AreSound (limit : ℕ) (names : List (List ℕ)) (captures : List Ent
   pub named : AllByRecursion (λ e. is_among names e.filename ≡ true) captures
   pub lines : AllByRecursion (HasLine limit) captures
 
--- Memory or the output was refused, and a prefix of the text was written.
-abbrev pub FailsIn : List ℕ → Option (List ℕ) → Option (List ℕ) → IndexFault → Type 0
-FailsIn text before after fault = ((fault ≡ faults.Memory) ⊎ (fault ≡ faults.Write)) × AppendsPrefix before after text
-
--- An answer of Write goes with one more failure of the output, any other with none.
-abbrev pub CountsWrite : {A : Type 0} → Result A IndexFault → ℕ → ℕ → Type 0
-CountsWrite (Err faults.Write) old new = new ≡ next_count old
-CountsWrite r old new = new ≡ old
+-- an index isn't written for want of memory, or where the output failed
+abbrev pub IsWriteFault : IndexFault → Type 0
+IsWriteFault faults.Memory = ⊤
+IsWriteFault faults.Write = ⊤
+IsWriteFault other = ⊥

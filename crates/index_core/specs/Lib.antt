@@ -3,7 +3,10 @@ pub mod Listing
 pub mod Verifying
 pub mod Indexing
 pub mod Spelling
+pub mod Accepted
+pub mod Captures
 pub mod Adding
-pub mod Gathering
 pub mod Fetching
 pub mod Copying
+pub mod Counting
+pub mod Laws

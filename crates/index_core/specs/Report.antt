@@ -64,12 +64,18 @@ ReportedInPart limit line None before after = ⊤
 ReportedInPart limit line (Some archive) before after =
     (text : List ℕ) × (IsReport limit line archive text ⊎ IsCutReport limit line archive text) × AppendsPrefix before after text
 
--- The lines of the records so far were written; the last of these records ends at the offset.
-abbrev pub SoFar : {A : Type 0} → ℕ → Line → (List ℕ → List HeadView → A) → Option (List ℕ) → Option (List ℕ) → ℕ → A → Option (List ℕ) → Option (List ℕ) → Type 0
-SoFar limit line tally None now offset answer before after = ⊤
-SoFar limit line tally (Some archive) None offset answer before after = ⊥
-SoFar limit line tally (Some archive) (Some rest) offset answer before after =
-    (heads : List HeadView) × Walks limit 0 archive heads offset rest × (answer ≡ tally archive heads) × Appends before after (lines_of line archive heads)
+-- What a call wrote that reports on an archive, by its answer.
+abbrev pub Reports : {A : Type 0} → ℕ → Line → (List ℕ → List HeadView → A) → Option (List ℕ) → Result A IndexFault → Option (List ℕ) → Option (List ℕ) → Type 0
+Reports limit line tally left (Ok answer) before after = Reported limit line tally left answer before after
+Reports limit line tally left (Err (faults.Capture (Archive f))) before after = ReportedToFault limit line left f before after
+Reports limit line tally left (Err faults.Write) before after = ReportedInPart limit line left before after
+Reports limit line tally left (Err other) before after = ⊥
+
+-- a report is refused for the archive's fault, or where the output failed
+abbrev pub IsReportFault : IndexFault → Type 0
+IsReportFault (faults.Capture (Archive f)) = ⊤
+IsReportFault faults.Write = ⊤
+IsReportFault other = ⊥
 
 -- the fault's line was written, or a prefix of it before the output failed
 abbrev pub WritesFault : Fault → IndexFault → Option (List ℕ) → Option (List ℕ) → ℕ → ℕ → Type 0
@@ -81,17 +87,3 @@ WritesFault fault other before after count count' = ⊥
 abbrev pub Passes : ReaderView → ℕ → Option HeadView → Type 0
 Passes new offset None = StandsAt new offset Between
 Passes new offset (Some h) = StandsAt new (offset + record_length h) Between
-
--- An answer of Read goes with one more failure of the input, any other of the archive's with none. It failed at most once.
-abbrev pub CountsInput : {A : Type 0} → Result A IndexFault → ℕ → ℕ → Type 0
-CountsInput (Ok n) old new = new ≡ old
-CountsInput (Err (faults.Capture (Archive f))) old new = CountsRead {A = Unit {0}} (Err f.cause) old new
-CountsInput (Err faults.Write) old new = (new ≡ old) ⊎ (new ≡ next_count old)
-CountsInput (Err other) old new = ⊥
-
--- An answer of Write goes with one more failure of the output, any other of a report with none.
-abbrev pub CountsOutput : {A : Type 0} → Result A IndexFault → ℕ → ℕ → Type 0
-CountsOutput (Ok n) old new = new ≡ old
-CountsOutput (Err (faults.Capture (Archive f))) old new = new ≡ old
-CountsOutput (Err faults.Write) old new = new ≡ next_count old
-CountsOutput (Err other) old new = ⊥

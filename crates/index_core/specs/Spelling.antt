@@ -4,7 +4,7 @@ use Rattle.std.specs.Str.Parse.{digits_value}
 use Rattle.cdxj_core.specs.declared.limit.TheConstants.{LINE_LIMIT}
 use Rattle.cdxj_core.specs.Entries.{EntryValue, line_text}
 use Rattle.cdxj_core.specs.Lines.{LineValue, body_of, line_in}
-use Rattle.index_core.specs.Indexing.{HasLine}
+use Rattle.cdxj_core.specs.Entries.{HasLine}
 
 -- the entry with these values
 abbrev pub entry_of : LineValue → EntryValue

@@ -7,8 +7,9 @@ use Rattle.warc_core.specs.HeadView.{HeadView, block_at}
 use Rattle.capture_core.specs.declared.verdict.Verdict.{Verdict}
 use Rattle.capture_core.specs.declared.verdict.Verdict.TheVariants as verdicts
 use Rattle.capture_core.specs.BlockDigest.{verdict_of, verdict_name}
+use Rattle.index_core.specs.declared.fault.IndexFault.{IndexFault}
 use Rattle.index_core.specs.declared.verified.Verified.{Verified}
-use Rattle.index_core.specs.Report.{Reported, ReportedToFault, ReportedInPart}
+use Rattle.index_core.specs.Report.{Reports}
 
 -- what the head says of a block
 abbrev pub verdict_on : HeadView → List ℕ → Verdict
@@ -39,14 +40,9 @@ differing_in archive heads = sum_by (λ h. differing_by (verdict_in archive h)) 
 abbrev pub verified_in : List ℕ → List HeadView → Verified
 verified_in archive heads = record { records = length heads; differing = differing_in archive heads }
 
-abbrev pub Verifies : ℕ → Option (List ℕ) → Verified → Option (List ℕ) → Option (List ℕ) → Type 0
-Verifies limit left verified before after = Reported limit verification_line verified_in left verified before after
-
-abbrev pub VerifiesToFault : ℕ → Option (List ℕ) → Fault → Option (List ℕ) → Option (List ℕ) → Type 0
-VerifiesToFault limit left f before after = ReportedToFault limit verification_line left f before after
-
-abbrev pub VerifiesInPart : ℕ → Option (List ℕ) → Option (List ℕ) → Option (List ℕ) → Type 0
-VerifiesInPart limit left before after = ReportedInPart limit verification_line left before after
+-- what a verification wrote, by its answer
+abbrev pub Verifies : ℕ → Option (List ℕ) → Result Verified IndexFault → Option (List ℕ) → Option (List ℕ) → Type 0
+Verifies limit left answer before after = Reports limit verification_line verified_in left answer before after
 
 -- an answer without its verdicts
 abbrev pub heads_of : Result (Option (HeadView × Verdict)) Fault → Result (Option HeadView) Fault

@@ -3,13 +3,12 @@ ghost use Rattle.std.specs.Prelude.{◌≡◌, ℕ};
 ghost use Rattle.std.specs.Io.KnownBytes.{prepend_known};
 ghost use Rattle.warc_core.specs.declared.phase.Phase.TheVariants.{Open};
 ghost use Rattle.warc_core.specs.ReaderView.{IsUnread, HasLeft};
-ghost use Rattle.index_core.specs.Adding.{CountsIndex};
+ghost use Rattle.index_core.specs.Counting.{CountsIndex};
 ghost use Rattle.index_core.specs.Copying.{CopiesBlock, CopiesRecord};
-ghost use Rattle.index_core.specs.Indexing.{CountsWrite};
+ghost use Rattle.index_core.specs.Counting.{CountsWrite};
 
 use crate::fault::IndexFault;
 use crate::writing::put_bytes;
-use capture_core::CaptureFault;
 use warc_core::{Head, Input, Output, Reader};
 
 /// Writes what is left of the open record's block.
@@ -26,11 +25,11 @@ fn copy_block<I: Input, O: Output>(
 {
     let mut piece = [0; 8192];
     loop {
-        match reader.block(input, &mut piece) {
-            Ok(0) => return Ok(()),
-            Ok(count) => put_bytes(out, &piece[..count])?,
-            Err(fault) => return Err(IndexFault::Capture(CaptureFault::Archive(fault))),
+        let count = reader.block(input, &mut piece)?;
+        if count == 0 {
+            return Ok(());
         }
+        put_bytes(out, &piece[..count])?;
     }
 }
 
@@ -48,11 +47,7 @@ pub fn copy_record<I: Input, O: Output>(
 {
     put_bytes(out, head.raw())?;
     copy_block(reader, input, out)?;
-    match reader.finish(input) {
-        Ok(length) => {
-            put_bytes(out, b"\r\n\r\n")?;
-            Ok(length)
-        }
-        Err(fault) => Err(IndexFault::Capture(CaptureFault::Archive(fault))),
-    }
+    let length = reader.finish(input)?;
+    put_bytes(out, b"\r\n\r\n")?;
+    Ok(length)
 }

@@ -1,6 +1,11 @@
 //! Why a call on an archive couldn't be done.
+ghost use Rattle.std.specs.Prelude.{◌≡◌};
+ghost use Rattle.capture_core.specs.declared.fault.CaptureFault.TheVariants.{Archive};
+ghost use Rattle.index_core.specs.declared.fault.IndexFault.TheVariants.{Capture};
+
 use capture_core::CaptureFault;
 use thiserror::Error;
+use warc_core::Fault;
 
 /// Why a call on an archive couldn't be done.
 #[derive(Clone, Copy, Debug, PartialEq, Eq, Error)]
@@ -23,4 +28,20 @@ pub enum IndexFault {
     /// No record begins at the offset that was asked for.
     #[error("no record begins there")]
     NoRecord,
+}
+
+impl From<Fault> for IndexFault {
+    ghost from_gives = { λ fault given. given ≡ Capture (Archive fault) };
+
+    fn from(fault: Fault) -> IndexFault {
+        IndexFault::Capture(CaptureFault::Archive(fault))
+    }
+}
+
+impl From<CaptureFault> for IndexFault {
+    ghost from_gives = { λ fault given. given ≡ Capture fault };
+
+    fn from(fault: CaptureFault) -> IndexFault {
+        IndexFault::Capture(fault)
+    }
 }

@@ -2,15 +2,14 @@
 ghost use Rattle.std.specs.Prelude.{◌≡◌, ℕ, ◌-◌, ◌^◌, ◌≤◌, Err, IfErr};
 ghost use Rattle.std.specs.Io.KnownBytes.{prepend_known};
 ghost use Rattle.warc_core.specs.Answers.{causes_of, CountsRead};
-ghost use Rattle.index_core.specs.Adding.{CountsIndex};
+ghost use Rattle.index_core.specs.Counting.{CountsIndex};
 ghost use Rattle.index_core.specs.Copying.{CopiesNext, Reaches};
-ghost use Rattle.index_core.specs.Fetching.{Fetches, IsMetBefore};
-ghost use Rattle.index_core.specs.Indexing.{CountsWrite};
+ghost use Rattle.index_core.specs.Fetching.{Fetches, IsFetchFault, IsMetBefore};
+ghost use Rattle.index_core.specs.Counting.{CountsWrite};
 
 use crate::copying::copy_record;
 use crate::fault::IndexFault;
 use crate::walk::next_record;
-use capture_core::CaptureFault;
 use std::alloc::Global;
 use warc_core::{Fault, HEAD_LIMIT, Input, Output, Phase, Reader};
 
@@ -28,14 +27,14 @@ pub fn get<I: Input, O: Output>(
     out: &mut O,
 ) -> Result<u64, IndexFault>
     ensures fetches { Fetches HEAD_LIMIT offset (I.remaining input.old) result (O.written out.old) (O.written out.new) }
+    ensures refusals { IfErr result IsFetchFault }
     ensures unwritten { IfErr result (λ fault. IsMetBefore offset fault → out.new ≡ out.old) }
     ensures reads { CountsIndex result (I.failures input.old) (I.failures input.new) }
     ensures writes { CountsWrite result (O.failures out.old) (O.failures out.new) }
 {
-    match reader_at(alloc, input, offset) {
-        Ok(Some(mut reader)) => copy_next(&mut reader, input, out),
-        Ok(None) => Err(IndexFault::NoRecord),
-        Err(fault) => Err(IndexFault::Capture(CaptureFault::Archive(fault))),
+    match reader_at(alloc, input, offset)? {
+        Some(mut reader) => copy_next(&mut reader, input, out),
+        None => Err(IndexFault::NoRecord),
     }
 }
 
@@ -71,9 +70,8 @@ fn copy_next<I: Input, O: Output>(
     ensures reads { CountsIndex result (I.failures input.old) (I.failures input.new) }
     ensures writes { CountsWrite result (O.failures out.old) (O.failures out.new) }
 {
-    match reader.next(input) {
-        Ok(Some(head)) => copy_record(reader, input, &head, out),
-        Ok(None) => Err(IndexFault::NoRecord),
-        Err(fault) => Err(IndexFault::Capture(CaptureFault::Archive(fault))),
+    match reader.next(input)? {
+        Some(head) => copy_record(reader, input, &head, out),
+        None => Err(IndexFault::NoRecord),
     }
 }

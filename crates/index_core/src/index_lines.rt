@@ -1,7 +1,8 @@
 //! The writing of an index's lines.
-ghost use Rattle.std.specs.Prelude.{◌≡◌, map, length, IfOk, IfErr, OnOk};
-ghost use Rattle.std.specs.Io.KnownBytes.{Appends};
-ghost use Rattle.index_core.specs.Indexing.{FailsIn, CountsWrite, lines_text, index_text, in_places};
+ghost use Rattle.std.specs.Prelude.{◌≡◌, map, length, IfOk, IfErr};
+ghost use Rattle.devices.specs.Writing.{WritesText};
+ghost use Rattle.index_core.specs.Indexing.{IsWriteFault, lines_text, index_text, in_places};
+ghost use Rattle.index_core.specs.Counting.{CountsWrite};
 
 use crate::fault::IndexFault;
 use crate::held_line::HeldLine;
@@ -12,9 +13,9 @@ use warc_core::Output;
 
 /// Writes the lines of captures, and answers how many.
 fn put_lines<O: Output>(out: &mut O, lines: &[&HeldLine]) -> Result<u64, IndexFault>
-    ensures lines { OnOk result (Appends (O.written out.old) (O.written out.new) (lines_text (map (λ e. e.now) lines.now))) }
+    ensures lines { WritesText result (O.written out.old) (O.written out.new) (lines_text (map (λ line. line.now) lines.now)) }
     ensures number { IfOk result (λ n. n ≡ length lines.now) }
-    ensures err { IfErr result (FailsIn (lines_text (map (λ e. e.now) lines.now)) (O.written out.old) (O.written out.new)) }
+    ensures refusal { IfErr result (λ fault. fault ≡ IndexFault.Write) }
     ensures failures { CountsWrite result (O.failures out.old) (O.failures out.new) }
 {
     for line in lines {
@@ -29,9 +30,9 @@ pub fn put_index<O: Output>(
     out: &mut O,
     captures: &[HeldLine],
 ) -> Result<u64, IndexFault>
-    ensures lines { OnOk result (Appends (O.written out.old) (O.written out.new) (index_text captures.now)) }
+    ensures lines { WritesText result (O.written out.old) (O.written out.new) (index_text captures.now) }
     ensures number { IfOk result (λ n. n ≡ length (in_places captures.now)) }
-    ensures err { IfErr result (FailsIn (index_text captures.now) (O.written out.old) (O.written out.new)) }
+    ensures refusals { IfErr result IsWriteFault }
     ensures failures { CountsWrite result (O.failures out.old) (O.failures out.new) }
 {
     match in_order(alloc, captures) {

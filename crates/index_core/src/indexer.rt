@@ -1,6 +1,6 @@
 //! The indexer.
+use crate::captures::add_captures;
 use crate::fault::IndexFault;
-use crate::gathering::gather;
 use crate::held_line::HeldLine;
 use crate::index_lines::put_index;
 use crate::names::{is_among, is_name, keep_name};
@@ -8,7 +8,7 @@ use std::alloc::Global;
 use std::marker::Model;
 use warc_core::{Input, Output};
 
-/// Gathers the captures of archives, and writes them as an index.
+/// AddedSoFar the captures of archives, and writes them as an index.
 #[derive(Drop)]
 pub struct Indexer {
     alloc: Global,
@@ -30,13 +30,18 @@ impl Model for Indexer {
 }
 
 impl Indexer {
-    ghost use Rattle.std.specs.Prelude.{◌≡◌, ◌↔◌, true, [], length, Err, IfOk, IfErr, OnOk};
-    ghost use Rattle.std.specs.Io.KnownBytes.{Appends};
+    ghost use Rattle.std.specs.Prelude.{◌≡◌, ◌↔◌, true, [], length, map, Err, IfOk, IfErr};
+    ghost use Rattle.cdxj_core.specs.declared.limit.TheConstants.{LINE_LIMIT};
+    ghost use Rattle.cdxj_core.specs.Indexes.{IsIndex};
+    ghost use Rattle.cdxj_core.specs.Members.{entry_member};
+    ghost use Rattle.devices.specs.Writing.{WritesText};
     ghost use Rattle.warc_core.specs.declared.next.TheConstants.{HEAD_LIMIT};
     ghost use Rattle.capture_core.specs.Indexed.{usual_types};
     ghost use Rattle.capture_core.specs.CaptureAnswer.{usual_limits};
-    ghost use Rattle.index_core.specs.Adding.{Adds, IsRefusal, CountsIndex};
-    ghost use Rattle.index_core.specs.Indexing.{FailsIn, CountsWrite, IsName, is_among, index_text, in_places};
+    ghost use Rattle.index_core.specs.Adding.{Adds, IsAddFault, IsRefusal};
+    ghost use Rattle.index_core.specs.Counting.{CountsIndex};
+    ghost use Rattle.index_core.specs.Indexing.{IsWriteFault, IsName, is_among, index_text, in_places};
+    ghost use Rattle.index_core.specs.Counting.{CountsWrite};
 
     /// An indexer that holds nothing. It takes no memory.
     pub fn new(alloc: Global) -> Indexer
@@ -58,6 +63,7 @@ impl Indexer {
         ensures bad { (result ≡ Err IndexFault.BadName) ↔ ¬ (IsName name.now) }
         ensures duplicate { (result ≡ Err IndexFault.DuplicateName) ↔ (IsName name.now × (is_among self.old.names name.now ≡ true)) }
         ensures adds { Adds usual_types usual_limits HEAD_LIMIT name.now (I.remaining input.old) self.old self.new result }
+        ensures refusals { IfErr result IsAddFault }
         ensures unread { IfErr result (λ fault. IsRefusal fault → input.new ≡ input.old) }
         ensures failures { CountsIndex result (I.failures input.old) (I.failures input.new) }
     {
@@ -71,20 +77,25 @@ impl Indexer {
             Ok(()) => {}
             Err(_) => return Err(IndexFault::Memory),
         }
-        match gather(self.alloc, &mut self.captures, name, input) {
-            Ok(count) => Ok(count),
-            Err(fault) => Err(IndexFault::Capture(fault)),
-        }
+        Ok(add_captures(self.alloc, &mut self.captures, name, input)?)
     }
 
-    /// Writes the index: a line for each capture that is held, in the order of places. It answers how many.
+    /// Forgets the captures that it holds. Names that were added stay used.
+    pub fn forget_captures(&mut self)
+        ensures { self.new ≡ record self.old { captures = [] } }
+    {
+        self.captures.clear();
+    }
+
+    /// Writes the index: a line for each capture that is held, in the order of places. It answers how many lines there are.
     ///
     /// Errors are `Memory`, and `Write` at the output's first failure; the first lines may have been written.
     pub fn write<O: Output>(&self, out: &mut O) -> Result<u64, IndexFault>
-        ensures lines { OnOk result (Appends (O.written out.old) (O.written out.new) (index_text self.now.captures)) }
+        ensures lines { WritesText result (O.written out.old) (O.written out.new) (index_text self.now.captures) }
+        ensures index { IsIndex LINE_LIMIT (index_text self.now.captures) (map entry_member (in_places self.now.captures)) }
         ensures number { IfOk result (λ n. n ≡ length (in_places self.now.captures)) }
         ensures all { length (in_places self.now.captures) ≡ length self.now.captures }
-        ensures err { IfErr result (FailsIn (index_text self.now.captures) (O.written out.old) (O.written out.new)) }
+        ensures refusals { IfErr result IsWriteFault }
         ensures failures { CountsWrite result (O.failures out.old) (O.failures out.new) }
     {
         put_index(self.alloc, out, &self.captures)

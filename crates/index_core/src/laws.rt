@@ -1,6 +1,5 @@
 //! Laws of the definitions that the contracts cite. These functions do nothing: each law is a contract.
-ghost use Rattle.index_core.specs.Adding.{OneIndexed, OneIndexedTo};
-ghost use Rattle.index_core.specs.Fetching.{OneStands, SomeStands};
+ghost use Rattle.index_core.specs.Laws.{OneIndexed, OneIndexedTo, OneStands, SomeStands, WholeIsNotRefused};
 
 /// An archive has one list of captures, whether it is accepted whole or up to a fault's offset.
 pub fn archive_has_one_list_of_captures()
@@ -12,4 +11,10 @@ pub fn archive_has_one_list_of_captures()
 pub fn one_thing_stands_at_an_offset()
     ensures one { OneStands }
     ensures some { SomeStands }
+{}
+
+/// An archive that is accepted whole is refused for want of memory, by its input's failure or for a key that is too long, and
+/// for no damage nor a line that is too long.
+pub fn accepted_archive_is_not_refused()
+    ensures { WholeIsNotRefused }
 {}

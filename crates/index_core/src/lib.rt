@@ -1,10 +1,10 @@
 //! Archives to indexes, reports on archives, and records by their offsets; docs/COMMANDS.md has the lines of reports.
 #![tactic(auto)]
 
+mod captures;
 mod copying;
 mod fault;
 mod fetching;
-mod gathering;
 mod held_line;
 mod index_lines;
 mod indexer;
@@ -20,7 +20,10 @@ mod writing;
 pub use crate::fault::IndexFault;
 pub use crate::fetching::get;
 pub use crate::indexer::Indexer;
-pub use crate::laws::{archive_has_one_list_of_captures, one_thing_stands_at_an_offset};
+pub use crate::laws::{
+    accepted_archive_is_not_refused, archive_has_one_list_of_captures,
+    one_thing_stands_at_an_offset,
+};
 pub use crate::listing::list;
 pub use crate::verified::Verified;
 pub use crate::verifying::verify;

@@ -1,16 +1,16 @@
 //! The listing of an archive: a line for each record.
-ghost use Rattle.std.specs.Prelude.{◌≡◌, ℕ, ◌-◌, ◌^◌, ◌≤◌, Err, IfOk};
-ghost use Rattle.warc_core.specs.declared.fault.Fault.{Fault};
-ghost use Rattle.index_core.specs.Listing.{Listed, ListedToFault, ListedInPart};
-ghost use Rattle.index_core.specs.Report.{CountsInput, CountsOutput};
+ghost use Rattle.std.specs.Prelude.{IfErr};
+ghost use Rattle.index_core.specs.Counting.{CountsWrite};
+ghost use Rattle.index_core.specs.Listing.{Lists};
+ghost use Rattle.index_core.specs.Counting.{CountsInput};
+ghost use Rattle.index_core.specs.Report.{IsReportFault};
 
 use crate::fault::IndexFault;
 use crate::lines::record_line;
 use crate::walk::next_record;
 use crate::writing::{put_fault, put_line};
-use capture_core::CaptureFault;
 use std::alloc::Global;
-use warc_core::{Fault, HEAD_LIMIT, Input, Output, Reader};
+use warc_core::{HEAD_LIMIT, Input, Output, Reader};
 
 /// Writes a line for each whole record of the archive, `OFFSET LENGTH KIND`, and a last line `fault OFFSET CAUSE` where it
 /// can't be read to its end. It answers how many whole records there are.
@@ -21,11 +21,10 @@ pub fn list<I: Input, O: Output>(
     input: &mut I,
     out: &mut O,
 ) -> Result<u64, IndexFault>
-    ensures whole { IfOk result (λ n. Listed HEAD_LIMIT (I.remaining input.old) n (O.written out.old) (O.written out.new)) }
-    ensures damaged { (f : Fault) → result ≡ Err (IndexFault.Capture (CaptureFault.Archive f)) → ListedToFault HEAD_LIMIT (I.remaining input.old) f (O.written out.old) (O.written out.new) }
-    ensures stopped { result ≡ Err IndexFault.Write → ListedInPart HEAD_LIMIT (I.remaining input.old) (O.written out.old) (O.written out.new) }
+    ensures lists { Lists HEAD_LIMIT (I.remaining input.old) result (O.written out.old) (O.written out.new) }
+    ensures refusals { IfErr result IsReportFault }
     ensures reads { CountsInput result (I.failures input.old) (I.failures input.new) }
-    ensures writes { CountsOutput result (O.failures out.old) (O.failures out.new) }
+    ensures writes { CountsWrite result (O.failures out.old) (O.failures out.new) }
 {
     let mut reader = match Reader::new(alloc) {
         Ok(reader) => reader,

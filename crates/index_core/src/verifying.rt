@@ -1,17 +1,18 @@
 //! The verification of an archive: a line for the digest of each block.
-ghost use Rattle.std.specs.Prelude.{◌≡◌, ℕ, ◌-◌, ◌^◌, ◌≤◌, Err, IfOk};
-ghost use Rattle.warc_core.specs.declared.fault.Fault.{Fault};
-ghost use Rattle.index_core.specs.Report.{CountsInput, CountsOutput};
-ghost use Rattle.index_core.specs.Verifying.{Verifies, VerifiesToFault, VerifiesInPart, differing_by};
+ghost use Rattle.std.specs.Prelude.{◌≡◌, IfErr};
+ghost use Rattle.index_core.specs.Counting.{CountsWrite};
+ghost use Rattle.index_core.specs.Counting.{CountsInput};
+ghost use Rattle.index_core.specs.Report.{IsReportFault};
+ghost use Rattle.index_core.specs.Verifying.{Verifies, differing_by};
 
 use crate::fault::IndexFault;
 use crate::lines::verdict_line;
 use crate::verified::Verified;
 use crate::walk::next_verdict;
 use crate::writing::{put_fault, put_line};
-use capture_core::{CaptureFault, Verdict};
+use capture_core::Verdict;
 use std::alloc::Global;
-use warc_core::{Fault, HEAD_LIMIT, Input, Output, Reader};
+use warc_core::{HEAD_LIMIT, Input, Output, Reader};
 
 /// Writes a line for each whole record of the archive, `OFFSET VERDICT`, and a last line `fault OFFSET CAUSE` where it can't
 /// be read to its end. The verdict on a block is `same`, `differs`, `not-sha1` or `absent`, by the digest that its record
@@ -23,11 +24,10 @@ pub fn verify<I: Input, O: Output>(
     input: &mut I,
     out: &mut O,
 ) -> Result<Verified, IndexFault>
-    ensures whole { IfOk result (λ v. Verifies HEAD_LIMIT (I.remaining input.old) v (O.written out.old) (O.written out.new)) }
-    ensures damaged { (f : Fault) → result ≡ Err (IndexFault.Capture (CaptureFault.Archive f)) → VerifiesToFault HEAD_LIMIT (I.remaining input.old) f (O.written out.old) (O.written out.new) }
-    ensures stopped { result ≡ Err IndexFault.Write → VerifiesInPart HEAD_LIMIT (I.remaining input.old) (O.written out.old) (O.written out.new) }
+    ensures verifies { Verifies HEAD_LIMIT (I.remaining input.old) result (O.written out.old) (O.written out.new) }
+    ensures refusals { IfErr result IsReportFault }
     ensures reads { CountsInput result (I.failures input.old) (I.failures input.new) }
-    ensures writes { CountsOutput result (O.failures out.old) (O.failures out.new) }
+    ensures writes { CountsWrite result (O.failures out.old) (O.failures out.new) }
 {
     let mut reader = match Reader::new(alloc) {
         Ok(reader) => reader,

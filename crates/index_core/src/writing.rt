@@ -1,18 +1,17 @@
 //! The writing of bytes, and of a report's lines.
-ghost use Rattle.std.specs.Prelude.{◌≡◌, IfErr, OnOk};
-ghost use Rattle.std.specs.Io.KnownBytes.{Appends};
-ghost use Rattle.devices.specs.Device.{AppendsPrefix, CountsFailure};
+ghost use Rattle.std.specs.Prelude.{◌≡◌, IfErr};
+ghost use Rattle.devices.specs.Device.{CountsFailure};
+ghost use Rattle.devices.specs.Writing.{WritesText};
 ghost use Rattle.index_core.specs.Report.{WritesFault};
 
 use crate::fault::IndexFault;
 use crate::lines::{Line, fault_line};
-use capture_core::CaptureFault;
 use warc_core::{Fault, Output, put};
 
 /// Writes these bytes.
 pub fn put_bytes<O: Output>(out: &mut O, bytes: &[u8]) -> Result<(), IndexFault>
-    ensures bytes { OnOk result (Appends (O.written out.old) (O.written out.new) bytes.now) }
-    ensures err { IfErr result (λ e. (e ≡ IndexFault.Write) × AppendsPrefix (O.written out.old) (O.written out.new) bytes.now) }
+    ensures bytes { WritesText result (O.written out.old) (O.written out.new) bytes.now }
+    ensures refusal { IfErr result (λ fault. fault ≡ IndexFault.Write) }
     ensures failures { CountsFailure result (O.failures out.old) (O.failures out.new) }
 {
     match put(out, bytes) {
@@ -23,8 +22,8 @@ pub fn put_bytes<O: Output>(out: &mut O, bytes: &[u8]) -> Result<(), IndexFault>
 
 /// Writes a line.
 pub fn put_line<O: Output>(out: &mut O, line: &Line) -> Result<(), IndexFault>
-    ensures line { OnOk result (Appends (O.written out.old) (O.written out.new) line.now.bytes) }
-    ensures err { IfErr result (λ e. (e ≡ IndexFault.Write) × AppendsPrefix (O.written out.old) (O.written out.new) line.now.bytes) }
+    ensures line { WritesText result (O.written out.old) (O.written out.new) line.now.bytes }
+    ensures refusal { IfErr result (λ fault. fault ≡ IndexFault.Write) }
     ensures failures { CountsFailure result (O.failures out.old) (O.failures out.new) }
 {
     put_bytes(out, line.as_str().as_bytes())
@@ -35,7 +34,7 @@ pub fn put_fault<O: Output>(out: &mut O, fault: Fault) -> IndexFault
     ensures { WritesFault fault result (O.written out.old) (O.written out.new) (O.failures out.old) (O.failures out.new) }
 {
     match put(out, fault_line(fault).as_str().as_bytes()) {
-        Ok(()) => IndexFault::Capture(CaptureFault::Archive(fault)),
+        Ok(()) => IndexFault::from(fault),
         Err(_) => IndexFault::Write,
     }
 }

@@ -1,1 +1,2 @@
 pub mod LastSlash
+mod WordsLemmas

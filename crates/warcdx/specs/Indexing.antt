@@ -1,13 +1,17 @@
--- The name of an archive in an index, and how the writing of an index ends.
-use Rattle.std.specs.Prelude.{◌≡◌, ◌⊎◌, ℕ, List, Option, Bool, ◌==◌}
+-- The name of an archive in an index, its adding, and the writing of an index.
+use Rattle.std.specs.Prelude.{◌≡◌, ◌↔◌, ℕ, List, Option, Bool, true, ◌==◌, Result, Ok, Err, IfErr}
 use Rattle.std.specs.List.{after_last}
-use Rattle.std.specs.Io.KnownBytes.{Appends}
-use Rattle.devices.specs.Device.{next_count}
+use Rattle.devices.specs.Writing.{WritesText}
+use Rattle.warc_core.specs.declared.next.TheConstants.{HEAD_LIMIT}
+use Rattle.capture_core.specs.Indexed.{usual_types}
+use Rattle.capture_core.specs.CaptureAnswer.{usual_limits}
 use Rattle.index_core.specs.declared.fault.IndexFault.{IndexFault}
 use Rattle.index_core.specs.declared.fault.IndexFault.TheVariants as faults
-use Rattle.index_core.specs.Indexing.{Held, FailsIn, index_text}
+use Rattle.index_core.specs.Adding.{Adds}
+use Rattle.index_core.specs.Indexing.{Held, IsName, IsWriteFault, index_text, is_among}
 use Rattle.warcdx.specs.declared.outcome.Outcome.{Outcome}
 use Rattle.warcdx.specs.declared.outcome.Outcome.TheVariants as outcomes
+use Rattle.warcdx.specs.Outcome.{outcome_of}
 
 -- `/`
 abbrev pub is_slash : ℕ → Bool
@@ -17,13 +21,21 @@ is_slash byte = byte == 47
 abbrev pub file_name : List ℕ → List ℕ
 file_name name = after_last is_slash name
 
--- the whole index is written, and the outcome stays; or it is written in part, and the refusal is the outcome
-abbrev pub Writes : Held → Outcome → Option (List ℕ) → Option (List ℕ) → Outcome → Type 0
-Writes held added before after ended =
-    ((ended ≡ added) × Appends before after (index_text held.captures))
-    ⊎ ((fault : IndexFault) × (ended ≡ outcomes.Index fault) × FailsIn (index_text held.captures) before after fault)
+-- an archive was added under its file name, by the outcome
+pub record AddsArchive (name : List ℕ) (archive : Option (List ℕ)) (old new : Held) (outcome : Outcome) : Type 0 where
+  pub answer : Result ℕ IndexFault
+  pub outcome_is : outcome ≡ outcome_of answer
+  pub bad : (answer ≡ Err faults.BadName) ↔ ¬ (IsName (file_name name))
+  pub duplicate : (answer ≡ Err faults.DuplicateName) ↔ (IsName (file_name name) × (is_among old.names (file_name name) ≡ true))
+  pub adds : Adds usual_types usual_limits HEAD_LIMIT (file_name name) archive old new answer
 
--- a failed write goes with one more failure of the output, any other outcome with none
-abbrev pub CountsOutcome : Outcome → ℕ → ℕ → Type 0
-CountsOutcome (outcomes.Index faults.Write) old new = new ≡ next_count old
-CountsOutcome ended old new = new ≡ old
+-- the outcome of the adding, unless the writing was refused
+abbrev pub unless_refused : {A : Type 0} → Outcome → Result A IndexFault → Outcome
+unless_refused added (Ok number) = added
+unless_refused added (Err fault) = outcomes.Index fault
+
+-- the index was written, whole or in part
+abbrev pub WritesIndex : Held → Outcome → Option (List ℕ) → Option (List ℕ) → Outcome → Type 0
+WritesIndex held added before after outcome =
+    (answer : Result ℕ IndexFault) × (outcome ≡ unless_refused added answer) × IfErr answer IsWriteFault
+    × WritesText answer before after (index_text held.captures)

@@ -1,4 +1,6 @@
 pub mod Each
-pub mod Faults
+pub mod Fetching
 pub mod Indexing
 pub mod Outcome
+pub mod Reports
+pub mod Words

@@ -1,11 +1,12 @@
 -- How commands end, and the status of the process.
-use Rattle.std.specs.Prelude.{ℕ, Bool, true, false, nat_lt, if◌then◌else◌, Result, Ok, Err}
+use Rattle.std.specs.Prelude.{ℕ, List, ⊤, Bool, true, false, nat_lt, if◌then◌else◌, Option, Some, None, Result, Ok, Err, codes}
 use Rattle.warc_core.specs.declared.fault.Cause.{Cause}
 use Rattle.warc_core.specs.declared.fault.Cause.TheVariants as causes
 use Rattle.capture_core.specs.declared.fault.CaptureFault.{CaptureFault}
 use Rattle.capture_core.specs.declared.fault.CaptureFault.TheVariants as captures
 use Rattle.index_core.specs.declared.fault.IndexFault.{IndexFault}
 use Rattle.index_core.specs.declared.fault.IndexFault.TheVariants as faults
+use Rattle.index_core.specs.declared.verified.Verified.{Verified}
 use Rattle.warcdx.specs.declared.outcome.Outcome.{Outcome}
 use Rattle.warcdx.specs.declared.outcome.Outcome.TheVariants as outcomes
 
@@ -58,3 +59,39 @@ worse_of a b = if nat_lt (status_of a) (status_of b) then b else a
 abbrev pub outcome_of : {A : Type 0} → Result A IndexFault → Outcome
 outcome_of (Ok answer) = outcomes.Done
 outcome_of (Err fault) = outcomes.Index fault
+
+-- how a verification ended: something differs where at least one block does
+abbrev pub verification_outcome : Result Verified IndexFault → Outcome
+verification_outcome (Ok verified) = if nat_lt 0 verified.differing then outcomes.Differs else outcomes.Done
+verification_outcome (Err fault) = outcomes.Index fault
+
+-- an outcome as the answer of a call
+abbrev pub answer_of : Outcome → Result (Unit {0}) IndexFault
+answer_of (outcomes.Index fault) = Err fault
+answer_of outcome = Ok tt
+
+-- how a command ends whose output could be flushed, or couldn't be: memory and a failed write are said in the stead of that
+abbrev pub flushed_outcome : Outcome → Bool → Outcome
+flushed_outcome outcome true = outcome
+flushed_outcome (outcomes.Index faults.Memory) false = outcomes.Index faults.Memory
+flushed_outcome (outcomes.Index faults.Write) false = outcomes.Index faults.Write
+flushed_outcome outcome false = outcomes.CannotFlush
+
+-- what is said at a command's end
+abbrev pub message_of : Outcome → Option (List ℕ)
+message_of (outcomes.Index faults.Memory) = Some (codes "Memory")
+message_of (outcomes.Index faults.Write) = Some (codes "Write")
+message_of outcomes.CannotFlush = Some (codes "cannot flush")
+message_of outcome = None
+
+-- an archive isn't opened for want of memory, or where its file can't be
+abbrev pub IsUnopened : Outcome → Type 0
+IsUnopened (outcomes.Index faults.Memory) = ⊤
+IsUnopened outcomes.CannotOpen = ⊤
+IsUnopened outcome = ⊥
+
+-- help was printed, or couldn't be
+abbrev pub IsHelpOutcome : Outcome → Type 0
+IsHelpOutcome outcomes.Done = ⊤
+IsHelpOutcome outcomes.CannotFlush = ⊤
+IsHelpOutcome outcome = ⊥

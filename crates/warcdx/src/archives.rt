@@ -1,7 +1,8 @@
 //! Archives by name.
-ghost use Rattle.std.specs.Prelude.{◌≡◌, map, string_bytes};
+ghost use Rattle.std.specs.Prelude.{◌≡◌, map, string_bytes, IfErr};
 ghost use Rattle.warcdx.specs.Each.{GoesThrough};
 ghost use Rattle.warcdx.specs.Indexing.{file_name};
+ghost use Rattle.warcdx.specs.Outcome.{IsUnopened};
 ghost use Rattle.warcdx.specs.declared.outcome.Outcome.TheVariants.{Done};
 
 use crate::outcome::Outcome;
@@ -16,8 +17,10 @@ use warc_core::FromRead;
 /// Standard input, or a file.
 type Archive<R> = Either<<R as io::Input>::Reader, <R as Files>::File>;
 
-/// Opens the archive of this name; `-` is standard input. A file that can't be opened is told on standard error.
-pub fn open<R: Runtime + AllocGlobal>(rt: &R, name: &str) -> Result<FromRead<Archive<R>>, Outcome> {
+/// Opens the archive of this name; `-` is standard input. That a file can't be opened is said on standard error.
+pub fn open<R: Runtime + AllocGlobal>(rt: &R, name: &str) -> Result<FromRead<Archive<R>>, Outcome>
+    ensures { IfErr result IsUnopened }
+{
     if name == "-" {
         return Ok(FromRead::new(Either::Left(rt.reader())));
     }

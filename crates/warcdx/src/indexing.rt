@@ -1,18 +1,14 @@
 //! The index of archives.
-ghost use Rattle.std.specs.Prelude.{◌≡◌, ◌↔◌, true, false, Err};
-ghost use Rattle.warc_core.specs.declared.next.TheConstants.{HEAD_LIMIT};
-ghost use Rattle.capture_core.specs.Indexed.{usual_types};
-ghost use Rattle.capture_core.specs.CaptureAnswer.{usual_limits};
-ghost use Rattle.index_core.specs.Adding.{Adds};
-ghost use Rattle.index_core.specs.Indexing.{IsName, is_among};
-ghost use Rattle.warcdx.specs.Indexing.{CountsOutcome, Writes, file_name};
-ghost use Rattle.warcdx.specs.Outcome.{ends_command};
+ghost use Rattle.std.specs.Prelude.{◌≡◌, true, false, MatchResult};
+ghost use Rattle.index_core.specs.Counting.{CountsWrite};
+ghost use Rattle.warcdx.specs.Indexing.{AddsArchive, WritesIndex};
+ghost use Rattle.warcdx.specs.Outcome.{answer_of, ends_command};
 
 use crate::archives::{file_name, open, with_each};
-use crate::faults::ended;
+use crate::faults::said_outcome;
 use crate::outcome::Outcome;
 use crate::status::ends_command;
-use index_core::{IndexFault, Indexer};
+use index_core::Indexer;
 use std::rt::Runtime;
 use warc_core::{Input, Output};
 
@@ -24,32 +20,40 @@ pub fn index_all<R: Runtime + AllocGlobal, O: Output>(
     out: &mut O,
 ) -> Outcome {
     let mut indexer = Indexer::new(rt.alloc());
-    let added = with_each(names, |name| add_named(rt, name, &mut indexer));
+    let added = with_each(
+        names,
+        |name| add_opened(rt, &mut indexer, name, open(rt, name)),
+    );
     write_index(&indexer, added, out)
 }
 
-/// Adds the archive of this name; `-` is standard input.
-fn add_named<R: Runtime + AllocGlobal>(rt: &R, name: &str, indexer: &mut Indexer) -> Outcome {
-    match open(rt, name) {
-        Ok(mut archive) => ended(rt, name, add(indexer, name, &mut archive)),
+/// Adds an archive that was opened, or couldn't be, under its file name.
+fn add_opened<R: Runtime, I: Input + Drop>(
+    rt: &R,
+    indexer: &mut Indexer,
+    name: &str,
+    opened: Result<I, Outcome>,
+) -> Outcome
+    ensures { MatchResult opened
+        (λ archive. AddsArchive name.now (I.remaining archive) indexer.old indexer.new result)
+        (λ outcome. (result ≡ outcome) × (indexer.new ≡ indexer.old)) }
+{
+    match opened {
+        Ok(mut archive) => {
+            let answer = indexer.add(file_name(name), &mut archive);
+            said_outcome(rt, name, answer)
+        }
         Err(outcome) => outcome,
     }
-}
-
-/// Adds an archive under its file name.
-fn add<I: Input>(indexer: &mut Indexer, name: &str, archive: &mut I) -> Result<u64, IndexFault>
-    ensures bad { (result ≡ Err IndexFault.BadName) ↔ ¬ (IsName (file_name name.now)) }
-    ensures duplicate { (result ≡ Err IndexFault.DuplicateName) ↔ (IsName (file_name name.now) × (is_among indexer.old.names (file_name name.now) ≡ true)) }
-    ensures adds { Adds usual_types usual_limits HEAD_LIMIT (file_name name.now) (I.remaining archive.old) indexer.old indexer.new result }
-{
-    indexer.add(file_name(name), archive)
 }
 
 /// Writes the index, unless the command has ended.
 fn write_index<O: Output>(indexer: &Indexer, added: Outcome, out: &mut O) -> Outcome
     ensures ended { ends_command added ≡ true → (result ≡ added) × (out.new ≡ out.old) }
-    ensures written { ends_command added ≡ false → Writes indexer.now added (O.written out.old) (O.written out.new) result }
-    ensures failures { ends_command added ≡ false → CountsOutcome result (O.failures out.old) (O.failures out.new) }
+    ensures written { ends_command added ≡ false →
+        WritesIndex indexer.now added (O.written out.old) (O.written out.new) result }
+    ensures failures { ends_command added ≡ false →
+        CountsWrite (answer_of result) (O.failures out.old) (O.failures out.new) }
 {
     if ends_command(&added) {
         return added;

@@ -1,6 +1,15 @@
 //! Reports on archives, one archive after another.
+ghost use Rattle.std.specs.Prelude.{◌≡◌, MatchResult};
+ghost use Rattle.devices.specs.Device.{CountsFailure};
+ghost use Rattle.devices.specs.Writing.{WritesText};
+ghost use Rattle.index_core.specs.Counting.{CountsWrite};
+ghost use Rattle.index_core.specs.Counting.{CountsInput};
+ghost use Rattle.warcdx.specs.Outcome.{answer_of};
+ghost use Rattle.warcdx.specs.Reports.{WritesReport, WritesBelow, heading, heading_among};
+
 use crate::archives::{open, with_each};
-use crate::outcome::Outcome;
+use crate::outcome::{Outcome, outcome_of, verification_outcome};
+use devices::DeviceFault;
 use index_core::{IndexFault, list, verify};
 use std::alloc::Global;
 use std::rt::Runtime;
@@ -8,73 +17,100 @@ use warc_core::{Input, Output, put};
 
 /// What is said of an archive.
 #[derive(Clone, Copy)]
-pub enum Report {
+pub enum ArchiveReport {
     /// A line for each record.
     Listing,
     /// A line for each record's digest.
     Verdicts,
 }
 
-impl Report {
-    fn write<I: Input, O: Output>(self, alloc: Global, input: &mut I, out: &mut O) -> Outcome {
-        match self {
-            Report::Listing => match list(alloc, input, out) {
-                Ok(_count) => Outcome::Done,
-                Err(fault) => Outcome::Index(fault),
-            },
-            Report::Verdicts => match verify(alloc, input, out) {
-                Ok(verified) if verified.differing > 0 => Outcome::Differs,
-                Ok(_verified) => Outcome::Done,
-                Err(fault) => Outcome::Index(fault),
-            },
-        }
-    }
-}
-
 /// Writes the report on each archive. Of several archives each report stands under the name of its archive.
 pub fn report_on<R: Runtime + AllocGlobal, O: Output>(
     rt: &R,
     names: &[String],
-    report: Report,
+    report: ArchiveReport,
     out: &mut O,
 ) -> Outcome {
     with_each(
         names,
-        |name| report_named(rt, name, names.len(), report, out),
+        |name| report_on_opened(rt.alloc(), name, names.len(), report, open(rt, name), out),
     )
 }
 
-/// Writes the report on the archive of this name, one of so many; `-` is standard input.
-fn report_named<R: Runtime + AllocGlobal, O: Output>(
-    rt: &R,
+/// Writes the report on an archive that was opened, or couldn't be; it is one of so many.
+fn report_on_opened<I: Input + Drop, O: Output>(
+    alloc: Global,
     name: &str,
     among: usize,
-    report: Report,
+    report: ArchiveReport,
+    opened: Result<I, Outcome>,
     out: &mut O,
-) -> Outcome {
-    match open(rt, name) {
-        Ok(mut archive) => report_below(rt.alloc(), name, among, report, &mut archive, out),
+) -> Outcome
+    ensures report { MatchResult opened
+        (λ archive. WritesBelow (heading_among among name.now) report (I.remaining archive) result (O.written out.old) (O.written out.new))
+        (λ outcome. (result ≡ outcome) × (out.new ≡ out.old)) }
+    ensures failures { MatchResult opened
+        (λ _. CountsWrite (answer_of result) (O.failures out.old) (O.failures out.new))
+        (λ _. out.new ≡ out.old) }
+{
+    match opened {
+        Ok(mut archive) => report_below(alloc, name, among, report, &mut archive, out),
         Err(outcome) => outcome,
     }
 }
 
-/// Writes the report below its archive's name, where there are several.
+/// Writes the report below its archive's heading.
 fn report_below<I: Input, O: Output>(
     alloc: Global,
     name: &str,
     among: usize,
-    report: Report,
-    input: &mut I,
+    report: ArchiveReport,
+    archive: &mut I,
     out: &mut O,
-) -> Outcome {
-    if among > 1 && put_heading(name, out).is_err() {
-        return Outcome::Index(IndexFault::Write);
+) -> Outcome
+    ensures report { WritesBelow (heading_among among name.now) report (I.remaining archive.old) result (O.written out.old) (O.written out.new) }
+    ensures reads { CountsInput (answer_of result) (I.failures archive.old) (I.failures archive.new) }
+    ensures writes { CountsWrite (answer_of result) (O.failures out.old) (O.failures out.new) }
+{
+    match put_heading_among(among, name, out) {
+        Ok(()) => write_report(alloc, report, archive, out),
+        Err(_) => Outcome::Index(IndexFault::Write),
     }
-    report.write(alloc, input, out)
+}
+
+/// Writes `NAME:`, where there are several archives.
+fn put_heading_among<O: Output>(among: usize, name: &str, out: &mut O) -> Result<(), DeviceFault>
+    ensures heading { WritesText result (O.written out.old) (O.written out.new) (heading_among among name.now) }
+    ensures failures { CountsFailure result (O.failures out.old) (O.failures out.new) }
+{
+    if among > 1 {
+        put_heading(name, out)?;
+    }
+    Ok(())
 }
 
 /// `NAME:`
-fn put_heading<O: Output>(name: &str, out: &mut O) -> Result<(), warc_core::DeviceFault> {
+fn put_heading<O: Output>(name: &str, out: &mut O) -> Result<(), DeviceFault>
+    ensures heading { WritesText result (O.written out.old) (O.written out.new) (heading name.now) }
+    ensures failures { CountsFailure result (O.failures out.old) (O.failures out.new) }
+{
     put(out, name.as_bytes())?;
-    put(out, b":\n")
+    put(out, b":\n")?;
+    Ok(())
+}
+
+fn write_report<I: Input, O: Output>(
+    alloc: Global,
+    report: ArchiveReport,
+    archive: &mut I,
+    out: &mut O,
+) -> Outcome
+    ensures report { WritesReport report (I.remaining archive.old) result (O.written out.old) (O.written out.new) }
+    ensures reads { CountsInput (answer_of result) (I.failures archive.old) (I.failures archive.new) }
+    ensures writes { CountsWrite (answer_of result) (O.failures out.old) (O.failures out.new) }
+{
+    match report {
+        ArchiveReport::Listing => outcome_of(list(alloc, archive, out)),
+        ArchiveReport::Verdicts => verification_outcome(verify(alloc, archive, out)),
+    }
 }

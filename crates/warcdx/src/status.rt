@@ -1,4 +1,4 @@
-//! The status of the process.
+//! The status of the process, and which outcomes end a command.
 ghost use Rattle.std.specs.Prelude.{◌≡◌};
 ghost use Rattle.warcdx.specs.Outcome.{status_of, index_status, capture_status, cause_status, is_memory, ends_command, worse_of};
 

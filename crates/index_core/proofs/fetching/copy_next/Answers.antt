@@ -1,18 +1,20 @@
+use Rattle.std.proofs.lemmas.Result.{err_from_is_err_and}
 use Rattle.warc_core.specs.declared.next.TheConstants.{HEAD_LIMIT}
-use Rattle.index_core.proofs.FetchLemmas.{next-copied, next-none, next-stopped}
+use Rattle.index_core.proofs.FetchLemmas.{next_copied, next_none, next_stopped}
 use Rattle.index_core.proofs.fetching.copy_next.Goals as goal
 
-pub returns-in-Ok-Some-clause-copies : goal.returns-in-Ok-Some-clause-copies
-returns-in-Ok-Some-clause-copies g c =
-    let n = rw c.in-Ok-Some.field-0-is at (c.in-Ok-Some.ensures.between c.requires) in
-    next-copied HEAD_LIMIT c.args.reader.now.offset c.in-Ok-Some.head c.copy_record.result _ _ _ _ _ n.bytes n.begins.start_is c.copy_record.ensures.copies
+pub returns-in-Some-clause-copies : goal.returns-in-Some-clause-copies
+returns-in-Some-clause-copies g c =
+    let n = rw c.in-Some.is at (c.in_ok-head.ensures.between c.requires) in
+    next_copied HEAD_LIMIT c.args.reader.now.offset c.in-Some.head c.copy_record.result _ _ _ _ _ n.bytes n.begins.start_is c.copy_record.ensures.copies
 
-pub returns-in-Ok-None-clause-copies : goal.returns-in-Ok-None-clause-copies
-returns-in-Ok-None-clause-copies g c =
-    let n = rw c.in-Ok-None.field-0-is at (c.in-Ok-None.ensures.between c.requires) in
-    next-none HEAD_LIMIT c.args.reader.now.offset _ _ n.bytes
+pub returns-in-None-clause-copies : goal.returns-in-None-clause-copies
+returns-in-None-clause-copies g c =
+    let n = rw c.in-None.is at (c.in_ok-head.ensures.between c.requires) in
+    next_none HEAD_LIMIT c.args.reader.now.offset _ _ n.bytes
 
-pub returns-in-Err-clause-copies : goal.returns-in-Err-clause-copies
-returns-in-Err-clause-copies g c =
-    let n = c.in-Err.ensures.between c.requires in
-    next-stopped HEAD_LIMIT c.args.reader.now.offset c.in-Err.fault _ _ _ n.bytes n.state.at
+pub returns-in_err-head-clause-copies : goal.returns-in_err-head-clause-copies
+returns-in_err-head-clause-copies g c =
+    let p = err_from_is_err_and c.from_residual.result c.from_residual.ensures.1 in
+    let n = c.in_err-head.ensures.between c.requires in
+    rw (p.1, p.2) (next_stopped HEAD_LIMIT c.args.reader.now.offset c.in_err-head.field-0.0 _ _ _ n.bytes n.state.at)

@@ -1,7 +1,7 @@
 use Rattle.std.proofs.Common.{◌∙◌, ◌+◌, ◌<◌, sym, ap, arith}
 use Rattle.warc_core.specs.declared.next.TheConstants.{HEAD_LIMIT}
 use Rattle.warc_core.specs.HeadView.{record_length}
-use Rattle.index_core.proofs.FetchLemmas.{WalkedTo-more, went-past, ended-before}
+use Rattle.index_core.proofs.FetchLemmas.{WalkedTo-more, went_past, ends_before}
 use Rattle.index_core.proofs.fetching.reader_at.Goals as goal
 
 pub loop-end-preserved : goal.loop-end-preserved
@@ -19,7 +19,7 @@ loop-end-preserved g c =
       stands = record { offset_is = n.state.offset_is ∙ (ap (λ p. p + record_length h) o ∙ ap (λ l. end + l) (sym length)); phase_is = n.state.phase_is };
       within = omega (arith, fits, o, length);
       walked = rw length (WalkedTo-more HEAD_LIMIT end _ _ _ h i.walked bytes);
-      inside = λ past. went-past HEAD_LIMIT end _ _ _ c.args.offset h i.walked bytes less (omega (arith, past, length));
+      inside = λ past. went_past HEAD_LIMIT end _ _ _ c.args.offset h i.walked bytes less (omega (arith, past, length));
       reads = n.failures ∙ i.reads;
     }
 
@@ -28,4 +28,4 @@ returns-in-None-clause-reaches g c =
     let i = c.loop-end.invariant in
     let n = rw c.in-None.is at c.in_ok-head.ensures in
     let less : c.loop-end.end < c.args.offset = c.loop-end-test.true in
-    ended-before HEAD_LIMIT c.loop-end.end _ _ _ c.args.offset i.walked (rw i.stands.offset_is at n.bytes) (omega (arith, less))
+    ends_before HEAD_LIMIT c.loop-end.end _ _ _ c.args.offset i.walked (rw i.stands.offset_is at n.bytes) (omega (arith, less))

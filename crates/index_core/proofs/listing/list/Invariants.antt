@@ -3,7 +3,7 @@ use Rattle.std.specs.Io.KnownBytes.{prepend_known}
 use Rattle.warc_core.specs.declared.next.TheConstants.{HEAD_LIMIT}
 use Rattle.warc_core.specs.declared.phase.Phase.TheVariants.{Between}
 use Rattle.index_core.specs.Listing.{listing_line, record_count}
-use Rattle.index_core.specs.Report.{SoFar}
+use Rattle.index_core.proofs.ReportLemmas.{SoFar}
 use Rattle.index_core.proofs.listing.list.Given as goal
 
 abbrev pub invariant-loop-reader : goal.invariant-loop-reader

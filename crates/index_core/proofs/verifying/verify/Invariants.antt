@@ -2,7 +2,7 @@ use Rattle.std.proofs.Common.{◌≡◌, ◌≤◌, ◌-◌, ◌^◌}
 use Rattle.std.specs.Io.KnownBytes.{prepend_known}
 use Rattle.warc_core.specs.declared.next.TheConstants.{HEAD_LIMIT}
 use Rattle.warc_core.specs.declared.phase.Phase.TheVariants.{Between}
-use Rattle.index_core.specs.Report.{SoFar}
+use Rattle.index_core.proofs.ReportLemmas.{SoFar}
 use Rattle.index_core.specs.Verifying.{verification_line, verified_in}
 use Rattle.index_core.proofs.verifying.verify.Given as goal
 

@@ -7,8 +7,8 @@ use Rattle.warc_core.specs.Walk.{record_at}
 use Rattle.warc_core.proofs.WalkLemmas.{record-stopped, record-end, record-whole}
 use Rattle.capture_core.specs.Indexed.{usual_types}
 use Rattle.capture_core.specs.CaptureAnswer.{usual_limits}
-use Rattle.index_core.proofs.GatherLemmas.{fault-at, found-there, capture-there, refused-there}
-use Rattle.index_core.proofs.gathering.next_capture.Goals as goal
+use Rattle.index_core.proofs.AddingLemmas.{fault_at, found_there, capture_there, refused_there}
+use Rattle.index_core.proofs.captures.next_capture.Goals as goal
 
 pub returns-in-Ok-None-clause-takes : goal.returns-in-Ok-None-clause-takes
 returns-in-Ok-None-clause-takes g c =
@@ -23,7 +23,7 @@ returns-in-Ok-clause-takes g c =
       bytes = record-whole HEAD_LIMIT c.args.reader.now.offset _ _ _ c.in-Ok-Some.head n.bytes k.reads.bytes;
       stands = subst (λ s. StandsAt c.capture.new.reader (s + record_length c.in-Ok-Some.head) Between) n.begins.start_is k.reads.state;
       begins = n.begins;
-      capture = capture-there usual_types usual_limits HEAD_LIMIT c.args.name.now c.args.reader.now.offset c.in-Ok-Some.head c.in-Ok.captured _ _ _ n.bytes k.reads.bytes k.capture;
+      capture = capture_there usual_types usual_limits HEAD_LIMIT c.args.name.now c.args.reader.now.offset c.in-Ok-Some.head c.in-Ok.captured _ _ _ n.bytes k.reads.bytes k.capture;
       entry = k.entry;
     }
 
@@ -31,9 +31,9 @@ pub returns-in-Err-capture-clause-takes : goal.returns-in-Err-capture-clause-tak
 returns-in-Err-capture-clause-takes g c =
     let n = rw c.in-Ok-Some.field-0-is at (c.in-Ok-Some.ensures.between c.requires.between) in
     let k = c.in-Err-capture.ensures in
-    (fault-at c.in-Ok-Some.head.start c.in-Err-capture.fault k.reads.fault ∙ n.begins.start_is, refused-there usual_types usual_limits HEAD_LIMIT c.args.name.now c.args.reader.now.offset c.in-Ok-Some.head c.in-Err-capture.fault _ _ _ n.bytes k.reads.bytes k.capture)
+    (fault_at c.in-Ok-Some.head.start c.in-Err-capture.fault k.reads.fault ∙ n.begins.start_is, refused_there usual_types usual_limits HEAD_LIMIT c.args.name.now c.args.reader.now.offset c.in-Ok-Some.head c.in-Err-capture.fault _ _ _ n.bytes k.reads.bytes k.capture)
 
 pub returns-in-Err-clause-takes : goal.returns-in-Err-clause-takes
 returns-in-Err-clause-takes g c =
     let n = c.in-Err.ensures.between c.requires.between in
-    (n.state.at, found-there (record_at HEAD_LIMIT c.args.reader.now.offset) c.in-Err.fault.cause _ _ (record-stopped HEAD_LIMIT c.args.reader.now.offset _ (g.I.Input.remaining c.args.input.now) _ c.in-Err.fault.cause n.bytes))
+    (n.state.at, found_there (record_at HEAD_LIMIT c.args.reader.now.offset) c.in-Err.fault.cause _ _ (record-stopped HEAD_LIMIT c.args.reader.now.offset _ (g.I.Input.remaining c.args.input.now) _ c.in-Err.fault.cause n.bytes))

@@ -7,15 +7,16 @@ use Rattle.cdxj_core.specs.Entries.{EntryValue}
 use Rattle.capture_core.specs.Indexed.{usual_types}
 use Rattle.capture_core.specs.CaptureAnswer.{usual_limits}
 use Rattle.index_core.specs.Indexing.{AreSound, is_among}
-use Rattle.index_core.specs.Gathering.{StandBefore, Gathers}
-use Rattle.index_core.proofs.gathering.gather.Given as goal
+use Rattle.index_core.specs.Captures.{StandBefore}
+use Rattle.index_core.proofs.AddingLemmas.{AddedSoFar}
+use Rattle.index_core.proofs.captures.add_captures.Given as goal
 
 abbrev pub invariant-loop-captures : goal.invariant-loop-captures
 invariant-loop-captures g l = record {
   held : l.held ≡ length l.fn.captures.items;
   phase : l.reader.phase ≡ Between;
   within : l.reader.offset ≤ 2 ^ 63 - 1;
-  gains : (gained : List EntryValue) × (l.captures.items ≡ l.fn.captures.items ++ gained) × Gathers usual_types usual_limits HEAD_LIMIT l.name (g.I.Input.remaining l.fn.input) (prepend_known l.reader.held (g.I.Input.remaining l.input)) l.reader.offset gained;
+  gains : (gained : List EntryValue) × (l.captures.items ≡ l.fn.captures.items ++ gained) × AddedSoFar usual_types usual_limits HEAD_LIMIT l.name (g.I.Input.remaining l.fn.input) (prepend_known l.reader.held (g.I.Input.remaining l.input)) l.reader.offset gained;
   before : StandBefore l.name l.reader.offset l.captures.items;
   sound : (names : List (List ℕ)) → is_among names l.name ≡ true → AreSound LINE_LIMIT names l.fn.captures.items → AreSound LINE_LIMIT names l.captures.items;
   reads : g.I.Input.failures l.input ≡ g.I.Input.failures l.fn.input;

@@ -1,15 +1,16 @@
-//! The gathering of an archive's captures.
+//! The captures of an archive, taken record by record.
 ghost use Rattle.std.specs.Prelude.{◌≡◌, ℕ, ◌<◌, ◌-◌, ◌^◌, ◌≤◌, ◌++◌, List, true, [], ◌∷◌, length, IfSome, OnOk, OnErr, option_to_list};
 ghost use Rattle.std.specs.Io.KnownBytes.{prepend_known};
 ghost use Rattle.warc_core.specs.declared.phase.Phase.TheVariants.{Between};
 ghost use Rattle.warc_core.specs.declared.next.TheConstants.{HEAD_LIMIT};
 ghost use Rattle.cdxj_core.specs.declared.limit.TheConstants.{LINE_LIMIT};
-ghost use Rattle.cdxj_core.specs.Entries.{EntryValue};
+ghost use Rattle.cdxj_core.specs.Entries.{EntryValue, HasLine};
 ghost use Rattle.capture_core.specs.Indexed.{usual_types};
 ghost use Rattle.capture_core.specs.CaptureAnswer.{usual_limits};
-ghost use Rattle.index_core.specs.Indexing.{AreSound, HasLine, is_among};
-ghost use Rattle.index_core.specs.Adding.{Gains, CountsCapture};
-ghost use Rattle.index_core.specs.Gathering.{StandBefore, TakesNext};
+ghost use Rattle.index_core.specs.Indexing.{AreSound, is_among};
+ghost use Rattle.index_core.specs.Adding.{Gains};
+ghost use Rattle.index_core.specs.Counting.{CountsCapture};
+ghost use Rattle.index_core.specs.Captures.{StandBefore, TakesNext};
 
 use crate::held_line::HeldLine;
 use capture_core::{CaptureFault, capture};
@@ -67,7 +68,7 @@ fn keep(
 }
 
 /// Adds the captures of an archive under its name, and answers how many they are.
-pub fn gather<I: Input>(
+pub fn add_captures<I: Input>(
     alloc: Global,
     captures: &mut Vec<HeldLine>,
     name: &str,

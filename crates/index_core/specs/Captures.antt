@@ -1,4 +1,4 @@
--- The captures that are gathered while an archive is read.
+-- The captures of records, read one after another.
 use Rattle.std.specs.Prelude.{◌≡◌, ℕ, ◌+◌, ◌<◌, ⊤, Bool, List, Option, None, Some, Result, Ok, Err, IfSome}
 use Rattle.std.specs.List.{AllByRecursion}
 use Rattle.warc_core.specs.Kind.{Kind}
@@ -10,7 +10,8 @@ use Rattle.warc_core.specs.Walk.{record_at, Walks}
 use Rattle.cdxj_core.specs.Entries.{EntryValue}
 use Rattle.capture_core.specs.declared.fault.CaptureFault.{CaptureFault}
 use Rattle.capture_core.specs.CaptureAnswer.{Limits, IsEntryOf}
-use Rattle.index_core.specs.Adding.{fault_offset, IsCaptureAt, AreCaptured, IsRefused}
+use Rattle.index_core.specs.Accepted.{IsCaptureAt, AreCaptured, IsRefused}
+use Rattle.capture_core.specs.Fault.{fault_offset}
 
 -- each capture of that name stands before the offset
 abbrev pub StandBefore : List ℕ → ℕ → List EntryValue → Type 0
@@ -30,9 +31,3 @@ module _ (types : Kind → Bool) (limits : Limits) (limit : ℕ) (name : List �
   TakesNext offset (Ok None) new before after = Reads (record_at limit offset) (Ok None) before after
   TakesNext offset (Ok (Some (h, captured))) new before after = TakesRecord offset h captured new before after
   TakesNext offset (Err fault) new before after = (fault_offset fault ≡ offset) × IfSome before (λ bytes. IsRefused types limits limit name offset bytes fault)
-
-  -- the captures of the records so far, the last of which ends at the offset
-  abbrev pub Gathers : Option (List ℕ) → Option (List ℕ) → ℕ → List EntryValue → Type 0
-  Gathers None now offset captures = ⊤
-  Gathers (Some archive) None offset captures = ⊥
-  Gathers (Some archive) (Some rest) offset captures = (heads : List HeadView) × Walks limit 0 archive heads offset rest × AreCaptured types limits limit name archive heads captures

@@ -1,0 +1,5 @@
+use Rattle.index_core.proofs.WholeLemmas.{whole_is_not_refused}
+use Rattle.index_core.proofs.laws.accepted_archive_is_not_refused.Goals as goal
+
+pub returns : goal.returns
+returns c = whole_is_not_refused

@@ -1,0 +1,42 @@
+-- Laws of the definitions that the contracts cite.
+use Rattle.std.specs.Prelude.{◌≡◌, ℕ, ⊤, Bool, List, Option, Some, Result, Err}
+use Rattle.warc_core.specs.Kind.{Kind}
+use Rattle.cdxj_core.specs.Entries.{EntryValue}
+use Rattle.capture_core.specs.declared.fault.CaptureFault.{CaptureFault}
+use Rattle.capture_core.specs.declared.fault.CaptureFault.TheVariants.{Archive, LineTooLong, KeyTooLong}
+use Rattle.capture_core.specs.CaptureAnswer.{Limits}
+use Rattle.index_core.specs.declared.fault.IndexFault.{IndexFault}
+use Rattle.index_core.specs.Accepted.{IsAccepted, IsAcceptedTo, IsAcceptedWhole}
+use Rattle.index_core.specs.Adding.{Gains}
+use Rattle.index_core.specs.Fetching.{StandsIn}
+use Rattle.index_core.specs.Report.{IsNoDamage}
+
+-- an archive is accepted with one list of captures
+abbrev pub OneIndexed : Type 0
+OneIndexed = (types : Kind → Bool) (limits : Limits) (limit : ℕ) (name archive : List ℕ) (these those : List EntryValue)
+    → IsAccepted types limits limit name archive these → IsAccepted types limits limit name archive those → these ≡ those
+
+-- up to a fault's offset it is too
+abbrev pub OneIndexedTo : Type 0
+OneIndexedTo = (types : Kind → Bool) (limits : Limits) (limit : ℕ) (name archive : List ℕ) (fault : CaptureFault) (these those : List EntryValue)
+    → IsAcceptedTo types limits limit name fault archive these → IsAcceptedTo types limits limit name fault archive those → these ≡ those
+
+-- the fault is neither damage of an archive nor a line that is too long
+abbrev pub IsNoFaultOfArchive : CaptureFault → Type 0
+IsNoFaultOfArchive (Archive f) = IsNoDamage f.cause
+IsNoFaultOfArchive (LineTooLong offset) = ⊥
+IsNoFaultOfArchive (KeyTooLong offset) = ⊤
+
+-- an archive that is accepted whole is refused for want of memory, by its input's failure or for a key that is too long, and no
+-- other cause
+abbrev pub WholeIsNotRefused : Type 0
+WholeIsNotRefused = (types : Kind → Bool) (limits : Limits) (limit : ℕ) (name archive : List ℕ) (gained : List EntryValue) (fault : CaptureFault)
+    → IsAcceptedWhole types limits limit name archive → Gains types limits limit name (Some archive) gained (Err fault) → IsNoFaultOfArchive fault
+
+-- one thing stands at an offset of an archive
+abbrev pub OneStands : Type 0
+OneStands = (limit offset : ℕ) (archive : List ℕ) (this that : Result (List ℕ) IndexFault) → StandsIn limit archive offset this → StandsIn limit archive offset that → this ≡ that
+
+-- and something does
+abbrev pub SomeStands : Type 0
+SomeStands = (limit offset : ℕ) (archive : List ℕ) → (answer : Result (List ℕ) IndexFault) × StandsIn limit archive offset answer
