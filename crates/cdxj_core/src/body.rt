@@ -5,7 +5,7 @@ ghost use Rattle.cdxj_core.specs.Lines.{body_of, has_no_feed};
 use memchr::memchr;
 
 /// The line without a line feed at its end.
-pub fn body_of(line: &[u8]) -> &[u8]
+pub(crate) fn body_of(line: &[u8]) -> &[u8]
     ensures { result.now ≡ body_of line.now }
 {
     match line {
@@ -15,7 +15,7 @@ pub fn body_of(line: &[u8]) -> &[u8]
 }
 
 #[tactic(auto, using(cdxj_places::proofs::Found::IsFirstByte_absent))]
-pub fn has_no_feed(text: &[u8]) -> bool
+pub(crate) fn has_no_feed(text: &[u8]) -> bool
     ensures { result ≡ has_no_feed text.now }
 {
     memchr(b'\n', text).is_none()

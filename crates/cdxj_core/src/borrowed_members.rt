@@ -3,7 +3,7 @@ ghost use Rattle.std.specs.Prelude.{◌≡◌};
 ghost use Rattle.cdxj_core.specs.Texts.{or_missing};
 
 #[derive(Clone, Copy, Debug)]
-pub struct BorrowedMembers<'a> {
+pub(crate) struct BorrowedMembers<'a> {
     pub url: &'a str,
     pub mime: &'a str,
     pub status: &'a str,
@@ -24,7 +24,7 @@ impl<'a> BorrowedMembers<'a> {
     ghost use Rattle.cdxj_core.specs.MemberViews.{borrowed_view};
 
     /// The values that the texts stand for: an empty one counts as absent.
-    pub fn values(self) -> BorrowedMembers<'a>
+    pub(crate) fn values(self) -> BorrowedMembers<'a>
         ensures { borrowed_view result ≡ values_of_texts (borrowed_view self.entry) }
     {
         BorrowedMembers {

@@ -78,7 +78,7 @@ fn domain_text(alloc: Global, domain: &str) -> Result<Vec<u8>, AllocError>
 }
 
 /// The host text, and nothing where the URL has no host.
-pub fn host_text(alloc: Global, url: &Url) -> Result<Vec<u8>, AllocError>
+pub(crate) fn host_text(alloc: Global, url: &Url) -> Result<Vec<u8>, AllocError>
     ensures { IfOk result (λ text. text.items ≡ key_host (host_or_empty url.now)) }
 {
     if let Some(domain) = url.domain() {

@@ -8,7 +8,7 @@ use serde_json::Value;
 use std::alloc::{AllocError, Global};
 
 /// A member's value as a text: `-` where it is absent, empty or neither text nor number.
-pub fn value_text(alloc: Global, member: Option<&Value>) -> Result<String, AllocError>
+pub(crate) fn value_text(alloc: Global, member: Option<&Value>) -> Result<String, AllocError>
     ensures { IfOk result
         (λ text. string_bytes text ≡ value_text (option_map (λ v. view v.now) member.entry)) }
 {
@@ -25,7 +25,7 @@ pub fn value_text(alloc: Global, member: Option<&Value>) -> Result<String, Alloc
 }
 
 /// A text that is not empty.
-pub fn filename_value(member: Option<&Value>) -> Option<&str>
+pub(crate) fn filename_value(member: Option<&Value>) -> Option<&str>
     ensures value { option_map (λ s. s.now) result
         ≡ filename_value (option_map (λ v. view v.now) member.entry) }
     ensures some { IfSome result (λ s. 0 < length s.now) }
@@ -35,7 +35,7 @@ pub fn filename_value(member: Option<&Value>) -> Option<&str>
 }
 
 /// An offset, as a number or as digits.
-pub fn offset_value(member: Option<&Value>) -> Option<u64>
+pub(crate) fn offset_value(member: Option<&Value>) -> Option<u64>
     ensures value { result ≡ offset_value (option_map (λ v. view v.now) member.entry) }
     ensures small { IfSome result (λ n. n < 2 ^ 63) }
 {

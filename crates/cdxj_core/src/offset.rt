@@ -5,7 +5,7 @@ ghost use Rattle.cdxj_places.specs.Places.{offset_of};
 use cdxj_places::read_offset;
 
 /// An offset with no leading zero, as a line is written with.
-pub fn canonical_offset(text: &str) -> Option<u64>
+pub(crate) fn canonical_offset(text: &str) -> Option<u64>
     ensures value { IfSome result (λ n. offset_of text.now ≡ Some n) }
     ensures small { IfSome result (λ n. n < 2 ^ 63) }
     ensures text { IfSome result (λ n. text.now ≡ decimal n) }

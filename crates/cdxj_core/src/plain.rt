@@ -50,7 +50,7 @@ fn open_texts(object: &str) -> Option<BorrowedMembers<'_>>
 }
 
 /// The texts of a plain object. It may decline any object, which JSON then reads.
-pub fn plain_texts(object: &str) -> Option<BorrowedMembers<'_>>
+pub(crate) fn plain_texts(object: &str) -> Option<BorrowedMembers<'_>>
     ensures { IfSome result (λ t. (object.now ≡ plain_text (borrowed_view t)) × ArePlain (borrowed_view t)) }
 {
     if is_unescaped(object.as_bytes()) {

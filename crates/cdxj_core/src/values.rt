@@ -14,7 +14,7 @@ use serde_json::error::Category;
 use std::alloc::Global;
 
 #[derive(Debug, Drop)]
-pub struct Values<'a> {
+pub(crate) struct Values<'a> {
     pub offset: u64,
     pub members: LineMembers<'a>,
     pub ghost filename_rule: { 0 < length (members_view members).filename },
@@ -29,7 +29,7 @@ impl<'a> Values<'a> {
     ghost use Rattle.cdxj_core.specs.ValuesView.{parts_view};
 
     /// The values of a line that was cut at its first two spaces.
-    pub fn read(
+    pub(crate) fn read(
         alloc: Global,
         key: &str,
         stamp: &str,

@@ -4,6 +4,7 @@
 mod abbreviated;
 mod cuts;
 mod fault;
+mod key_and_stamp;
 mod laws;
 mod offset;
 mod order;
@@ -14,6 +15,7 @@ mod resume;
 
 pub use crate::cuts::{cut_first, cut_last};
 pub use crate::fault::PlaceFault;
+pub use crate::key_and_stamp::{has_digits, is_key, is_stamp};
 pub use crate::laws::{
     longer_text_has_the_pair, pairs_are_ordered, place_is_good, places_are_ordered,
     resume_key_is_read, rising_list_is_unique, rising_list_of_views,
@@ -21,6 +23,6 @@ pub use crate::laws::{
 pub use crate::offset::read_offset;
 pub use crate::order::{HasPlace, in_order};
 pub use crate::owned_place::OwnedPlace;
-pub use crate::pair::{has_digits, is_key, is_stamp, split_pair};
+pub use crate::pair::split_pair;
 pub use crate::place::Place;
 pub use crate::resume::resume_text;

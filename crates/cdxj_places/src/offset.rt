@@ -2,7 +2,7 @@
 ghost use Rattle.std.specs.Prelude.{◌≡◌, ◌<◌, ◌^◌, IfSome};
 ghost use Rattle.cdxj_places.specs.Places.{offset_of};
 
-use crate::pair::has_digits;
+use crate::key_and_stamp::has_digits;
 
 /// The number in 1 to 19 digits, if it is below 2^63.
 #[tactic(auto, using(crate::proofs::Offsets::digits_parsed))]

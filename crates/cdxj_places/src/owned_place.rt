@@ -6,7 +6,7 @@ use crate::cuts::{cut_first, cut_last};
 use crate::fault::PlaceFault;
 use crate::offset::read_offset;
 use crate::order::HasPlace;
-use crate::pair::{is_key, is_stamp};
+use crate::key_and_stamp::{is_key, is_stamp};
 use crate::place::Place;
 use form_urlencoded::decode;
 use std::alloc::Global;

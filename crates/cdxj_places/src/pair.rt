@@ -1,9 +1,9 @@
 //! The key and the stamp at the front of a line.
 ghost use Rattle.std.specs.Prelude.{◌≡◌, option_map, take, drop};
-ghost use Rattle.std.specs.List.{list_all, position, before_first, after_first};
-ghost use Rattle.std.specs.Char.{is_ascii_digit};
-ghost use Rattle.cdxj_places.specs.Pair.{is_key_byte, is_space, is_key, is_stamp, begins_with_space, pair_of};
+ghost use Rattle.std.specs.List.{position, before_first, after_first};
+ghost use Rattle.cdxj_places.specs.Pair.{is_space, begins_with_space, pair_of};
 
+use crate::key_and_stamp::{is_key, is_stamp};
 use memchr::memchr;
 
 #[tactic(auto, using(crate::proofs::Found::IsFirstByte_position))]
@@ -34,35 +34,6 @@ fn cut_stamp(bytes: &[u8]) -> (&[u8], &[u8])
     } else {
         bytes.split_at(14)
     }
-}
-
-fn has_key_bytes(text: &[u8]) -> bool
-    ensures { result ≡ list_all is_key_byte text.now }
-{
-    // No early exit, so that it compiles to vector tests.
-    let mut good = true;
-    for byte in text {
-        good &= *byte > b' ' && *byte != 0x7f;
-    }
-    good
-}
-
-pub fn has_digits(text: &[u8]) -> bool
-    ensures { result ≡ list_all is_ascii_digit text.now }
-{
-    text.iter().all(|&b| b.is_ascii_digit())
-}
-
-pub fn is_key(text: &[u8]) -> bool
-    ensures { result ≡ is_key text.now }
-{
-    !text.is_empty() && has_key_bytes(text)
-}
-
-pub fn is_stamp(text: &[u8]) -> bool
-    ensures { result ≡ is_stamp text.now }
-{
-    text.len() == 14 && has_digits(text)
 }
 
 fn begins_with_space(bytes: &[u8]) -> bool

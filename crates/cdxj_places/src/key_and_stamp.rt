@@ -1,0 +1,34 @@
+//! What a key is, and what a stamp is.
+ghost use Rattle.std.specs.Prelude.{◌≡◌};
+ghost use Rattle.std.specs.List.{list_all};
+ghost use Rattle.std.specs.Char.{is_ascii_digit};
+ghost use Rattle.cdxj_places.specs.Pair.{is_key_byte, is_key, is_stamp};
+
+fn has_key_bytes(text: &[u8]) -> bool
+    ensures { result ≡ list_all is_key_byte text.now }
+{
+    // No early exit, so that it compiles to vector tests.
+    let mut good = true;
+    for byte in text {
+        good &= *byte > b' ' && *byte != 0x7f;
+    }
+    good
+}
+
+pub fn has_digits(text: &[u8]) -> bool
+    ensures { result ≡ list_all is_ascii_digit text.now }
+{
+    text.iter().all(|&b| b.is_ascii_digit())
+}
+
+pub fn is_key(text: &[u8]) -> bool
+    ensures { result ≡ is_key text.now }
+{
+    !text.is_empty() && has_key_bytes(text)
+}
+
+pub fn is_stamp(text: &[u8]) -> bool
+    ensures { result ≡ is_stamp text.now }
+{
+    text.len() == 14 && has_digits(text)
+}
