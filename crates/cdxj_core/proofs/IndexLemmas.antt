@@ -1,5 +1,5 @@
 -- The lines of entries are an index.
-use Rattle.std.proofs.Common.{◌≡◌, ℕ, ◌==◌, Bool, true, false, not, cond, List, [], ◌∷◌, ◌++◌, map, flat_map, Option, Some, refl, sym, ap, ap₂, ◌∙◌, append_assoc, Ordering, Less, Equal, Greater, is_gt}
+use Rattle.std.proofs.Common.{◌≡◌, ℕ, ◌==◌, true, false, not, cond, List, [], ◌∷◌, ◌++◌, map, flat_map, Some, refl, sym, ap, ap₂, ◌∙◌, append_assoc, Ordering, Less, Equal, Greater, is_gt}
 use Rattle.std.specs.List.{AllByRecursion, onto_first}
 use Rattle.std.specs.Ordering.{ordering_reverse}
 use Rattle.std.proofs.lemmas.Bool.{and_parts, not-true, true≢false}
@@ -9,11 +9,11 @@ use Rattle.cdxj_places.specs.Rising.{Rises, NeverFalls}
 use Rattle.cdxj_places.specs.TextLines.{lines}
 use Rattle.cdxj_places.proofs.PairLemmas.{higher_pair}
 use Rattle.cdxj_places.proofs.PlaceOrder.{place_cmp_total}
-use Rattle.cdxj_places.proofs.RisingLaws.{each_weaker, is_gt-true}
+use Rattle.cdxj_places.proofs.RisingLaws.{each_weaker}
 use Rattle.cdxj_core.specs.Entries.{EntryValue, HasLine, entry_pair, entry_place, body_text, line_text}
 use Rattle.cdxj_core.specs.Lines.{has_no_feed}
 use Rattle.cdxj_core.specs.Members.{Member, member_pair, entry_member, line_entry}
-use Rattle.cdxj_core.specs.Indexes.{IsRun, IsIndex}
+use Rattle.cdxj_core.specs.Indexes.{IsIndex}
 use Rattle.cdxj_core.proofs.EntryRead.{body_feed}
 use Rattle.cdxj_core.proofs.MemberLemmas.{written_entry}
 

@@ -1,6 +1,5 @@
 -- A line that is kept in one buffer.
-use Rattle.std.proofs.Common.{◌≡◌, ℕ, ◌+◌, ◌-◌, ◌<◌, ◌≤◌, ◌^◌, true, List, [], ◌∷◌, ◌++◌, take, drop, length, get_or, codes, Option, None, Some, unwrap_or, refl, sym, ap, ◌∙◌, subst, arith, append_assoc, IsUtf8}
-use Rattle.std.specs.Str.{IsCharBoundary}
+use Rattle.std.proofs.Common.{◌≡◌, ℕ, ◌+◌, ◌-◌, ◌<◌, ◌^◌, true, List, ◌∷◌, ◌++◌, take, drop, length, get_or, codes, Option, Some, unwrap_or, refl, sym, ap, ◌∙◌, subst, arith, append_assoc, IsUtf8}
 use Rattle.std.proofs.lemmas.List.{length-append}
 use Rattle.std.proofs.lemmas.Str.{IsUtf8-append, IsCharBoundary-at_seam, IsCharBoundary-before_ascii}
 use Rattle.std.proofs.Math.Seq.{take-append_seam, drop-append_seam, get_or-append_seam}

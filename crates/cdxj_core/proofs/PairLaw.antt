@@ -1,15 +1,13 @@
 -- A line that has values begins with their pair.
-use Rattle.std.proofs.Common.{◌≡◌, ℕ, zero, suc, ◌+◌, ◌-◌, ◌<◌, ◌≤◌, ◌==◌, ◌&&◌, Bool, true, false, cond, List, [], ◌∷◌, ◌++◌, length, take, drop, Option, Some, None, option_map, option_and_then, get_or, append-nil, nat_lt, codes, refl, sym, ap, ◌∙◌, arith, append_assoc, ⊎_elim, take-append-drop}
-use Rattle.std.specs.List.{position_or_len, before_first, after_first}
-use Rattle.std.proofs.lemmas.Bool.{and_parts, cond-true, eqb-true, cases_lt, ltb-true, lt-ltb}
+use Rattle.std.proofs.Common.{◌≡◌, ℕ, ◌-◌, ◌<◌, ◌≤◌, ◌==◌, ◌&&◌, Bool, true, false, cond, List, [], ◌∷◌, ◌++◌, length, take, drop, Option, Some, None, option_map, option_and_then, get_or, append-nil, nat_lt, codes, refl, sym, ap, ◌∙◌, arith, append_assoc, take-append-drop}
+use Rattle.std.specs.List.{before_first, after_first}
+use Rattle.std.proofs.lemmas.Bool.{and_parts, cond-true, eqb-true, ltb-true, lt-ltb}
 use Rattle.std.proofs.lemmas.List.{length-append}
-use Rattle.std.proofs.lemmas.List.Sums.{split_at_first, passes_at_first}
-use Rattle.std.proofs.Math.Seq.{take-append_seam, drop-append_seam}
 use Rattle.serde_json.specs.Data.{Data}
 use Rattle.serde_json.specs.Find.{get}
 use Rattle.serde_json.specs.Read.{read}
 use Rattle.serde_json.proofs.OnLiterals.{serde_json_on_literals}
-use Rattle.cdxj_places.specs.Pair.{is_space, is_key, is_stamp, stamp_part, tail_part, begins_with_space, begins_with_pair, pair_of}
+use Rattle.cdxj_places.specs.Pair.{is_space, is_key, is_stamp, pair_of}
 use Rattle.cdxj_core.specs.Lines.{LineValue, has_no_feed, body_of, line_object, line_parts, line_from, line_in, values_of, offset_value, filename_value}
 use Rattle.cdxj_places.proofs.PlaceLaw.{both}
 use Rattle.cdxj_places.proofs.PairLemmas.{pair_of-parts, around}

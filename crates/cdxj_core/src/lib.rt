@@ -28,7 +28,8 @@ pub use crate::field::Field;
 pub use crate::key::{host_key, url_key};
 pub use crate::laws::{
     host_key_begins_key, index_has_one_list_of_members, key_is_shorter_than_its_line,
-    line_begins_with_its_pair, line_stays_under_higher_limit, written_line_is_read, written_lines_are_an_index,
+    line_begins_with_its_pair, line_stays_under_higher_limit, written_line_is_read,
+    written_lines_are_an_index,
 };
 pub use crate::limit::LINE_LIMIT;
 pub use crate::line::Line;

@@ -5,10 +5,10 @@ ghost use Rattle.cdxj_places.specs.Pair.{is_key, is_stamp};
 ghost use Rattle.cdxj_core.specs.Members.{line_entry};
 ghost use Rattle.cdxj_core.specs.ValuesView.{parts_view};
 
+use crate::body::{body_of, has_no_feed};
 use crate::fault::LineFault;
 use crate::field::Field;
 use crate::limit::LINE_LIMIT;
-use crate::body::{body_of, has_no_feed};
 use crate::values::Values;
 use cdxj_places::{HasPlace, Place, cut_first};
 use std::alloc::Global;

@@ -5,8 +5,8 @@ ghost use Rattle.std.specs.List.{list_all};
 ghost use Rattle.cdxj_core.specs.Plain.{is_open, plain_text, ArePlain, AreOpen};
 ghost use Rattle.cdxj_core.specs.MemberViews.{borrowed_view};
 
-use crate::unescaped::{is_unescaped, quoted_part};
 use crate::borrowed_members::BorrowedMembers;
+use crate::unescaped::{is_unescaped, quoted_part};
 
 // The text after the front, up to its quote, and what follows that quote.
 #[inline(always)]

@@ -4,10 +4,10 @@ ghost use Rattle.cdxj_core.specs.MemberViews.{members_view};
 
 use crate::fault::LineFault;
 use crate::line_members::LineMembers;
-use crate::owned_members::OwnedMembers;
-use crate::offset::canonical_offset;
-use crate::plain::plain_texts;
 use crate::member_values::{filename_value, offset_value, value_text};
+use crate::offset::canonical_offset;
+use crate::owned_members::OwnedMembers;
+use crate::plain::plain_texts;
 use cdxj_places::{is_key, is_stamp};
 use serde_json::Value;
 use serde_json::error::Category;

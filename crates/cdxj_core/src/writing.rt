@@ -7,11 +7,11 @@ ghost use Rattle.cdxj_core.specs.Entries.{IsGood, entry_texts, member_text, late
 ghost use Rattle.cdxj_core.specs.Texts.{text_members};
 ghost use Rattle.cdxj_core.specs.MemberViews.{borrowed_view};
 
+use crate::borrowed_members::BorrowedMembers;
 use crate::entry::Entry;
 use crate::fault::LineFault;
 use crate::limit::LINE_LIMIT;
 use crate::unescaped::is_plain_text;
-use crate::borrowed_members::BorrowedMembers;
 use itoa::Buffer;
 use serde_json::Value;
 use std::alloc::{AllocError, Global};
@@ -56,7 +56,11 @@ fn push_later(line: &mut Vec<u8>, alloc: Global, name: &str, value: &str) -> Res
     push_member(line, alloc, name, value)
 }
 
-fn push_object(line: &mut Vec<u8>, alloc: Global, texts: BorrowedMembers<'_>) -> Result<(), AllocError>
+fn push_object(
+    line: &mut Vec<u8>,
+    alloc: Global,
+    texts: BorrowedMembers<'_>,
+) -> Result<(), AllocError>
     ensures { IfOk result (λ _. line.new.items
         ≡ line.old.items ++ object_text (text_members (borrowed_view texts.entry))) }
 {

@@ -1,5 +1,5 @@
 -- The pair of a line, and the order of pairs.
-use Rattle.std.proofs.Common.{◌≡◌, ℕ, zero, suc, ◌+◌, ◌<◌, ◌≤◌, ◌&&◌, Bool, true, false, cond, List, [], ◌∷◌, ◌++◌, length, take, drop, Some, None, unwrap_or, get_or, refl, sym, ap, ◌∙◌, arith, append_assoc, ⊎_elim, take-append-drop, Ordering, Less, Equal, Greater}
+use Rattle.std.proofs.Common.{◌≡◌, ℕ, ◌+◌, ◌<◌, ◌&&◌, Bool, true, false, cond, List, [], ◌∷◌, ◌++◌, length, take, drop, Some, None, unwrap_or, get_or, refl, sym, ap, ◌∙◌, arith, append_assoc, ⊎_elim, take-append-drop, Ordering, Less, Equal, Greater}
 use Rattle.std.specs.List.{position_or_len, before_first, after_first}
 use Rattle.std.specs.Cmp.{IsTotalOrder}
 use Rattle.std.specs.Ordering.{nat_cmp, ordering_then}

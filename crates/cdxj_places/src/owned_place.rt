@@ -4,9 +4,9 @@ ghost use Rattle.cdxj_places.specs.Pair.{is_key, is_stamp};
 
 use crate::cuts::{cut_first, cut_last};
 use crate::fault::PlaceFault;
+use crate::key_and_stamp::{is_key, is_stamp};
 use crate::offset::read_offset;
 use crate::order::HasPlace;
-use crate::key_and_stamp::{is_key, is_stamp};
 use crate::place::Place;
 use form_urlencoded::decode;
 use std::alloc::Global;

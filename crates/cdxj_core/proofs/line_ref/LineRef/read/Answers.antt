@@ -1,8 +1,7 @@
-use Rattle.std.proofs.Common.{◌≡◌, ◌<◌, Some, length, subst, IsUtf8, sym, true, arith}
+use Rattle.std.proofs.Common.{◌≡◌, ◌<◌, length, subst, IsUtf8, sym, true, arith}
 use Rattle.std.proofs.lemmas.Grind.{common_steps}
 use Rattle.cdxj_core.specs.declared.limit.TheConstants.{LINE_LIMIT}
 use Rattle.cdxj_places.specs.Pair.{is_stamp}
-use Rattle.cdxj_core.specs.Members.{line_entry}
 use Rattle.cdxj_core.specs.ValuesView.{parts_view}
 use Rattle.cdxj_core.proofs.MemberLemmas.{entry_none, body_entry, line_of_body}
 use Rattle.cdxj_core.proofs.line_ref.LineRef.read.Goals as goal
