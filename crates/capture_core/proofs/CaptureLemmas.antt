@@ -3,7 +3,6 @@ use Rattle.std.proofs.Common.{◌≡◌, ◌≢◌, ℕ, ◌+◌, ◌-◌, ◌�
 use Rattle.std.proofs.lemmas.Bool.Decides.{nat_tests}
 use Rattle.std.proofs.Math.Nat.{min-le_left, min-eq_left, min-eq_right}
 use Rattle.std.proofs.Math.Seq.{take-append_seam, drop-append_seam}
-use Rattle.std.proofs.lemmas.List.{drop_all}
 use Rattle.std.specs.Io.KnownBytes.{prepend_known, Consumes}
 use Rattle.httparse.specs.Grammar.{ResponseHead}
 use Rattle.sha1.specs.Sha1.{sha1}
@@ -13,15 +12,14 @@ use Rattle.warc_core.specs.declared.fault.Cause.TheVariants as causes
 use Rattle.warc_core.specs.declared.fault.Fault.{Fault}
 use Rattle.warc_core.specs.declared.phase.Phase.TheVariants.{Between}
 use Rattle.warc_core.specs.HeadView.{HeadView, record_length}
-use Rattle.warc_core.specs.Reading.{◌>>=◌, Reads, IsFoundAt}
-use Rattle.warc_core.proofs.ReadingLemmas.{GoesOn, GoesOn-start, GoesOn-reads, IsFoundIn-bind}
+use Rattle.warc_core.specs.Reading.{Reads}
+use Rattle.warc_core.proofs.ReadingLemmas.{GoesOn, GoesOn-reads}
 use Rattle.warc_core.specs.Answers.{CountsRead}
 use Rattle.warc_core.specs.ReaderView.{ReaderView, StandsAt, FailedBy, state_of}
 use Rattle.warc_core.specs.Calls.{Finishes}
-use Rattle.warc_core.specs.Record.{after_block, after_record, after_text, closing}
+use Rattle.warc_core.specs.Record.{after_record}
 use Rattle.warc_core.specs.Cause.{StopsRecord}
 use Rattle.warc_core.proofs.CauseLemmas.{not-memory}
-use Rattle.warc_core.proofs.RecordLemmas.{after_block-part}
 use Rattle.cdxj_core.specs.Entries.{EntryValue, IsGood, line_text}
 use Rattle.capture_core.specs.declared.fault.CaptureFault.{CaptureFault}
 use Rattle.capture_core.specs.declared.fault.CaptureFault.TheVariants.{Archive, LineTooLong, KeyTooLong}
@@ -33,7 +31,6 @@ use Rattle.capture_core.specs.Capture.{ResponseValue, IsHeadFor, IsCapture, IsCa
 use Rattle.capture_core.specs.RecordReading.{read_to, reading_of, IsFaultAt, Leaves, ReadsRest, IsFrontOf, front_limit}
 use Rattle.capture_core.specs.CaptureAnswer.{Limits, IsCaptureOf, IsEntryOf, AnswersEntry}
 use Rattle.capture_core.proofs.HeadLemmas.{front_decides, take_past}
-use Rattle.warc_core.proofs.OpenLemmas.{GoesOn-consumes}
 use Rattle.capture_core.proofs.VerdictLemmas.{digest-then, digest-found}
 
 -- a fault that isn't a refused growth ends the reading

@@ -1,10 +1,9 @@
 -- A digest of a block, piece by piece.
-use Rattle.std.proofs.Common.{◌≡◌, ◌≢◌, ℕ, ◌-◌, ◌≤◌, List, [], ◌++◌, Option, Ok, Err, length, take, drop, refl, ap, ◌∙◌, subst, arith, append_assoc, append-nil}
+use Rattle.std.proofs.Common.{◌≡◌, ℕ, ◌-◌, ◌≤◌, List, [], ◌++◌, Option, Ok, Err, length, take, drop, refl, ap, ◌∙◌, subst, arith, append_assoc, append-nil}
 use Rattle.std.proofs.lemmas.List.{length-take-le, drop_all}
 use Rattle.std.specs.Io.KnownBytes.{prepend_known}
 use Rattle.sha1.specs.declared.Sha1.{Sha1}
 use Rattle.sha1.specs.Sha1.{Holds, sha1}
-use Rattle.warc_core.specs.declared.fault.Cause.TheVariants as causes
 use Rattle.warc_core.specs.declared.phase.Phase.TheVariants.{Open}
 use Rattle.warc_core.proofs.ReadingLemmas.{GoesOn, GoesOn-start, GoesOn-done, GoesOn-fault, IsFoundIn-bind}
 use Rattle.warc_core.specs.Reading.{IsFoundAt}

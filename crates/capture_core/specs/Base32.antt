@@ -12,9 +12,22 @@ five_bits bytes i =
     16 * bit_at bytes (5 * i) + 8 * bit_at bytes (5 * i + 1) + 4 * bit_at bytes (5 * i + 2)
     + 2 * bit_at bytes (5 * i + 3) + bit_at bytes (5 * i + 4)
 
--- the alphabet's letter for a value below 32: A to Z, then 2 to 7
+-- the first and last bytes of the two parts of the alphabet, A to Z and 2 to 7
+abbrev pub letter_a : ℕ
+letter_a = 65
+
+abbrev pub letter_z : ℕ
+letter_z = 90
+
+abbrev pub digit_2 : ℕ
+digit_2 = 50
+
+abbrev pub digit_7 : ℕ
+digit_7 = 55
+
+-- the alphabet's letter for a value below 32
 abbrev pub letter_of : ℕ → ℕ
-letter_of value = if nat_lt value 26 then 65 + value else 24 + value
+letter_of value = if nat_lt value 26 then letter_a + value else digit_2 + (value - 26)
 
 -- the letters for the first n groups of five bits
 abbrev pub letters_of : List ℕ → ℕ → List ℕ

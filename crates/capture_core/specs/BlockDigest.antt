@@ -1,5 +1,5 @@
 -- What WARC-Block-Digest (ISO 28500:2017, 5.8) says of a block, where it names SHA-1.
-use Rattle.std.specs.Prelude.{ℕ, ◌==◌, ◌&&◌, ◌||◌, nat_le, Bool, List, length, take, drop, codes, Option, None, Some, Result, Ok, if◌then◌else◌}
+use Rattle.std.specs.Prelude.{ℕ, ◌+◌, ◌==◌, ◌&&◌, ◌||◌, nat_le, Bool, List, length, take, drop, codes, Option, None, Some, Result, Ok, if◌then◌else◌}
 use Rattle.std.specs.List.{list_all}
 use Rattle.std.specs.Str.{str_eq_ignore_ascii_case}
 use Rattle.sha1.specs.Sha1.{sha1}
@@ -8,7 +8,7 @@ use Rattle.warc_core.specs.Reading.{◌>>=◌}
 use Rattle.warc_core.specs.Record.{after_record}
 use Rattle.capture_core.specs.declared.verdict.Verdict.{Verdict}
 use Rattle.capture_core.specs.declared.verdict.Verdict.TheVariants as verdicts
-use Rattle.capture_core.specs.Base32.{base32_of}
+use Rattle.capture_core.specs.Base32.{base32_of, letter_a, letter_z, digit_2, digit_7}
 
 -- the names of verdicts, as listings print them
 abbrev pub verdict_name : Verdict → List ℕ
@@ -21,9 +21,13 @@ verdict_name verdicts.Absent = codes "absent"
 abbrev pub label : List ℕ
 label = codes "sha1:"
 
--- A to Z, a to z, 2 to 7: the alphabet of RFC 4648, section 6, in any case
+-- a letter in lower case
+abbrev pub lower : ℕ → ℕ
+lower letter = letter + 32
+
+-- a byte of the alphabet of RFC 4648, section 6, in any case
 abbrev pub is_base32_letter : ℕ → Bool
-is_base32_letter b = (nat_le 65 b && nat_le b 90) || (nat_le 97 b && nat_le b 122) || (nat_le 50 b && nat_le b 55)
+is_base32_letter b = (nat_le letter_a b && nat_le b letter_z) || (nat_le (lower letter_a) b && nat_le b (lower letter_z)) || (nat_le digit_2 b && nat_le b digit_7)
 
 -- 32 letters: twenty bytes
 abbrev pub is_base32_text : List ℕ → Bool

@@ -2,6 +2,7 @@
 use Rattle.std.specs.Prelude.{◌≡◌, ℕ, ◌+◌, ◌/◌, ◌%◌, [], ◌∷◌, Bool, cond, List, Option, Some, None, option_map, unwrap_or, codes}
 use Rattle.httparse.specs.Grammar.{ResponseHead, status_code}
 use Rattle.sha1.specs.Sha1.{sha1}
+use Rattle.warc_head.specs.Bytes.{digit_0}
 use Rattle.warc_core.specs.Kind.{Kind}
 use Rattle.warc_core.specs.Kind.kinds
 use Rattle.warc_core.specs.HeadView.{HeadView, record_length}
@@ -42,7 +43,7 @@ mime_of h response = mime_in h.parts.kind (content_of h response)
 
 -- a status code in three digits (RFC 9110, section 15)
 abbrev pub three_digits : ℕ → List ℕ
-three_digits code = (48 + code / 100) ∷ (48 + code / 10 % 10) ∷ (48 + code % 10) ∷ []
+three_digits code = (digit_0 + code / 100) ∷ (digit_0 + code / 10 % 10) ∷ (digit_0 + code % 10) ∷ []
 
 -- the status code
 abbrev pub status_of : Option ResponseValue → List ℕ

@@ -1,5 +1,5 @@
 -- Which causes end which reading.
-use Rattle.std.proofs.Common.{◌≢◌, refl, arith}
+use Rattle.std.proofs.Common.{◌≢◌}
 use Rattle.warc_core.specs.declared.fault.Cause.{Cause}
 use Rattle.warc_core.specs.declared.fault.Cause.TheVariants as causes
 use Rattle.warc_core.specs.Cause.{StopsBlock, StopsRecord}

@@ -1,6 +1,6 @@
 -- The first CR LF CR LF.
 use Rattle.std.proofs.Common.{◌≡◌, ◌∙◌, ℕ, ◌+◌, ◌-◌, ◌<◌, ◌≤◌, true, false, nat_eq, List, [], ◌∷◌, length, take, drop, get_or, refl, sym, ap, arith, length-drop, inl, inr, lit<}
-use Rattle.std.proofs.lemmas.List.{get_or-drop, get_or-take, length-take-le, take_all}
+use Rattle.std.proofs.lemmas.List.{get_or-drop, get_or-take, length-take-le}
 use Rattle.std.proofs.lemmas.Bool.Decides.{nat_tests}
 use Rattle.std.specs.Cmp.Lexicographic.{pointwise}
 use Rattle.memchr.specs.Find.{OccursAt}

@@ -1,5 +1,5 @@
 -- The head in front of a damaged record.
-use Rattle.std.proofs.Common.{◌≡◌, ◌∙◌, ℕ, ◌+◌, ◌-◌, ◌^◌, ◌≤◌, Bool, true, false, nat_lt, List, [], ◌∷◌, Option, None, Some, Result, Ok, Err, ◌⊎◌, inl, inr, sym, ap, refl, subst, length, take, if◌then◌else◌}
+use Rattle.std.proofs.Common.{◌≡◌, ◌∙◌, ℕ, ◌+◌, ◌-◌, ◌^◌, ◌≤◌, Bool, true, false, nat_lt, List, [], ◌∷◌, Option, None, Some, Result, Ok, Err, sym, ap, refl, subst, length, take, if◌then◌else◌}
 use Rattle.warc_head.specs.declared.fault.HeadFault.{HeadFault}
 use Rattle.warc_head.specs.declared.fault.HeadFault.TheVariants as faults
 use Rattle.warc_head.specs.Parts.{HeadParts}
@@ -14,7 +14,6 @@ use Rattle.warc_core.specs.Laws.{HeadIsSpelled, HeadAtDamage}
 use Rattle.warc_core.specs.Next.{head_at, next_at, within_limit}
 use Rattle.warc_core.specs.Reading.{◌>>=◌}
 use Rattle.warc_core.specs.Walk.{record_at, closed_at}
-use Rattle.warc_core.proofs.HeadLemmas.{which}
 use Rattle.warc_core.proofs.HeadTextLemmas.{found-spelled}
 use Rattle.warc_core.proofs.NextLemmas.{as_next}
 use Rattle.warc_core.proofs.SpelledLemmas.{head-there, head-read-there, next-there}

@@ -1,5 +1,5 @@
 -- A head that is found is a head text, and a head text is found.
-use Rattle.std.proofs.Common.{◌≡◌, ◌∙◌, ℕ, ◌+◌, ◌-◌, ◌≤◌, true, List, ◌++◌, Result, Ok, Err, length, take, drop, sym, ap, refl, subst, arith, inl, inr}
+use Rattle.std.proofs.Common.{◌≡◌, ◌∙◌, ℕ, ◌+◌, ◌-◌, ◌≤◌, true, List, ◌++◌, Result, Ok, Err, length, drop, sym, ap, refl, arith, inl, inr}
 use Rattle.std.proofs.lemmas.List.{take-append-drop, drop-drop, drop_at}
 use Rattle.warc_head.specs.declared.fault.HeadFault.{HeadFault}
 use Rattle.warc_head.specs.Answers.{◌>>=◌}
@@ -13,8 +13,7 @@ use Rattle.warc_head.proofs.SpellingLemmas.{body}
 use Rattle.warc_core.specs.declared.fault.Cause.{Cause}
 use Rattle.warc_core.specs.Head.{parts_of, by_cause, cause_of}
 use Rattle.warc_core.specs.HeadText.{version_1_1, version_1_0, agrees, has_version, is_closed, IsFoundHead}
-use Rattle.warc_core.specs.Record.{closing}
-use Rattle.warc_core.specs.RecordText.{IsVersionLine, IsHeadText, IsHeadOf}
+use Rattle.warc_core.specs.RecordText.{IsVersionLine, IsHeadOf}
 use Rattle.warc_core.proofs.ClosingLemmas.{closed-last}
 use Rattle.warc_core.proofs.HeadLemmas.{or_true, agrees-begins, closed-long, has_version-whole}
 

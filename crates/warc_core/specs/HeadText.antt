@@ -7,10 +7,10 @@ use Rattle.warc_core.specs.Record.{closing}
 
 -- the two version lines
 abbrev pub version_1_1 : List ℕ
-version_1_1 = codes "WARC/1.1" ++ 13 ∷ 10 ∷ []
+version_1_1 = codes "WARC/1.1\r\n"
 
 abbrev pub version_1_0 : List ℕ
-version_1_0 = codes "WARC/1.0" ++ 13 ∷ 10 ∷ []
+version_1_0 = codes "WARC/1.0\r\n"
 
 -- the two texts have the same bytes as far as both go
 abbrev pub agrees : List ℕ → List ℕ → Bool

@@ -1,12 +1,12 @@
 -- What follows a head: a block and its closing.
-use Rattle.std.specs.Prelude.{ℕ, ◌==◌, nat_lt, List, [], ◌∷◌, length, drop, Result, Ok, Err, if◌then◌else◌}
+use Rattle.std.specs.Prelude.{ℕ, ◌==◌, nat_lt, codes, List, [], ◌∷◌, length, drop, Result, Ok, Err, if◌then◌else◌}
 use Rattle.warc_core.specs.declared.fault.Cause.{Cause}
 use Rattle.warc_core.specs.declared.fault.Cause.TheVariants as causes
 use Rattle.warc_core.specs.Reading.{◌>>=◌}
 
 -- CR LF CR LF
 abbrev pub closing : List ℕ
-closing = 13 ∷ 10 ∷ 13 ∷ 10 ∷ []
+closing = codes "\r\n\r\n"
 
 -- what follows the text, where it begins the bytes
 unfoldable pub after_text : List ℕ → List ℕ → Result (Unit {0} × List ℕ) Cause

@@ -1,6 +1,5 @@
 -- The first line of a text.
-use Rattle.std.proofs.Common.{◌≡◌, ℕ, zero, suc, ◌+◌, ◌<◌, List, [], ◌∷◌, length, take, drop, get_or, refl, sym, ap, arith, true, false, Bool, add-one, ◌-◌, length-drop}
-use Rattle.std.proofs.lemmas.List.{take_all}
+use Rattle.std.proofs.Common.{◌≡◌, ℕ, zero, suc, ◌+◌, ◌<◌, List, [], ◌∷◌, length, take, drop, get_or, refl, sym, ap, arith, true, false, Bool, add-one}
 use Rattle.std.specs.Prelude.{◌==◌}
 use Rattle.warc_head.specs.Lines.{lines_of, with_first, is_plain}
 use Rattle.warc_head.specs.Fields.{at_colon}

@@ -1,5 +1,5 @@
 -- The length of a block (ISO 28500:2017, 5.3).
-use Rattle.std.specs.Prelude.{ℕ, ◌+◌, ◌-◌, ◌*◌, ◌&&◌, nat_le, Bool, List, [], ◌∷◌, length, Result, Ok, Err, if◌then◌else◌}
+use Rattle.std.specs.Prelude.{ℕ, ◌+◌, ◌-◌, ◌*◌, ◌^◌, ◌&&◌, nat_le, Bool, List, [], ◌∷◌, length, Result, Ok, Err, if◌then◌else◌}
 use Rattle.std.specs.List.{list_all}
 use Rattle.warc_head.specs.Bytes.{digit_0, digit_9}
 use Rattle.warc_head.specs.declared.fault.HeadFault.{HeadFault}
@@ -23,5 +23,5 @@ number_of digits = number_after 0 digits
 -- the number of 1 to 19 digits, at most 2^63 - 1
 unfoldable pub length_of : List ℕ → Result ℕ HeadFault
 length_of value =
-    if nat_le 1 (length value) && nat_le (length value) 19 && all_digits value && nat_le (number_of value) 9223372036854775807
+    if nat_le 1 (length value) && nat_le (length value) 19 && all_digits value && nat_le (number_of value) (2 ^ 63 - 1)
     then Ok (number_of value) else Err faults.BadLength

@@ -6,9 +6,16 @@ use Rattle.std.specs.Str.{str_eq_ignore_ascii_case}
 abbrev pub is_separator : ℕ → Bool
 is_separator b = list_any (λ s. s == b) (codes "()<>@,;:\\\"/[]?={}")
 
--- from 0x21 to 0x7E, and no separator
+-- the visible ASCII characters, from first to last
+abbrev pub exclamation_mark : ℕ
+exclamation_mark = 0x21
+
+abbrev pub tilde : ℕ
+tilde = 0x7e
+
+-- visible, and no separator
 abbrev pub is_name_byte : ℕ → Bool
-is_name_byte b = nat_le 33 b && nat_le b 126 && not (is_separator b)
+is_name_byte b = nat_le exclamation_mark b && nat_le b tilde && not (is_separator b)
 
 abbrev pub is_name : List ℕ → Bool
 is_name name = not (length name == 0) && list_all is_name_byte name
