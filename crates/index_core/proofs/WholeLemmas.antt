@@ -1,5 +1,5 @@
 -- An archive that is accepted whole is refused for no fault of its own.
-use Rattle.std.proofs.Common.{◌≡◌, ◌∙◌, ℕ, ◌+◌, ◌<◌, ◌≤◌, Bool, List, [], ◌∷◌, ◌++◌, Option, None, Some, Result, Ok, Err, length, drop, sym, ap, subst, arith}
+use Rattle.std.proofs.Common.{◌≡◌, ◌∙◌, ℕ, ◌+◌, ◌<◌, Bool, List, [], ◌∷◌, None, Some, Ok, length, drop, sym, ap, subst, arith}
 use Rattle.std.specs.List.{AllByRecursion}
 use Rattle.warc_core.specs.Kind.{Kind}
 use Rattle.warc_core.specs.declared.fault.Cause.{Cause}
@@ -17,7 +17,6 @@ use Rattle.capture_core.specs.declared.fault.CaptureFault.{CaptureFault}
 use Rattle.capture_core.specs.declared.fault.CaptureFault.TheVariants.{Archive, LineTooLong, KeyTooLong}
 use Rattle.capture_core.specs.CaptureAnswer.{Limits}
 use Rattle.index_core.specs.Accepted.{IsCaptureAt, IsTaken, IsAcceptedTo, IsAcceptedWhole}
-use Rattle.capture_core.specs.Fault.{fault_offset}
 use Rattle.index_core.specs.Laws.{IsNoFaultOfArchive, WholeIsNotRefused}
 use Rattle.index_core.specs.Report.{IsNoDamage}
 use Rattle.index_core.proofs.VerdictLemmas.{behind}

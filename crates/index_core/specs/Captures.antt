@@ -1,16 +1,16 @@
 -- The captures of records, read one after another.
-use Rattle.std.specs.Prelude.{◌≡◌, ℕ, ◌+◌, ◌<◌, ⊤, Bool, List, Option, None, Some, Result, Ok, Err, IfSome}
+use Rattle.std.specs.Prelude.{◌≡◌, ℕ, ◌+◌, ◌<◌, Bool, List, Option, None, Some, Result, Ok, Err, IfSome}
 use Rattle.std.specs.List.{AllByRecursion}
 use Rattle.warc_core.specs.Kind.{Kind}
 use Rattle.warc_core.specs.declared.phase.Phase.TheVariants.{Between}
 use Rattle.warc_core.specs.HeadView.{HeadView, record_length, BeginsAt}
 use Rattle.warc_core.specs.Reading.{Reads}
 use Rattle.warc_core.specs.ReaderView.{ReaderView, StandsAt}
-use Rattle.warc_core.specs.Walk.{record_at, Walks}
+use Rattle.warc_core.specs.Walk.{record_at}
 use Rattle.cdxj_core.specs.Entries.{EntryValue}
 use Rattle.capture_core.specs.declared.fault.CaptureFault.{CaptureFault}
 use Rattle.capture_core.specs.CaptureAnswer.{Limits, IsEntryOf}
-use Rattle.index_core.specs.Accepted.{IsCaptureAt, AreCaptured, IsRefused}
+use Rattle.index_core.specs.Accepted.{IsCaptureAt, IsRefused}
 use Rattle.capture_core.specs.Fault.{fault_offset}
 
 -- each capture of that name stands before the offset

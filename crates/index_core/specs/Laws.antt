@@ -1,5 +1,5 @@
 -- Laws of the definitions that the contracts cite.
-use Rattle.std.specs.Prelude.{◌≡◌, ℕ, ⊤, Bool, List, Option, Some, Result, Err}
+use Rattle.std.specs.Prelude.{◌≡◌, ℕ, ⊤, Bool, List, Some, Result, Err}
 use Rattle.warc_core.specs.Kind.{Kind}
 use Rattle.cdxj_core.specs.Entries.{EntryValue}
 use Rattle.capture_core.specs.declared.fault.CaptureFault.{CaptureFault}

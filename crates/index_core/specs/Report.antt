@@ -9,7 +9,6 @@ use Rattle.warc_core.specs.Cause.{cause_name}
 use Rattle.devices.specs.Device.{AppendsPrefix, next_count}
 use Rattle.warc_core.specs.HeadView.{HeadView, record_length}
 use Rattle.warc_core.specs.Reading.{IsFoundIn}
-use Rattle.warc_core.specs.Answers.{CountsRead}
 use Rattle.warc_core.specs.ReaderView.{ReaderView, StandsAt}
 use Rattle.warc_core.specs.Walk.{Walks, AreRecords, IsDamaged, record_at}
 use Rattle.capture_core.specs.declared.fault.CaptureFault.TheVariants.{Archive}

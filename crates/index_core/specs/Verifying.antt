@@ -1,5 +1,5 @@
 -- The verification of an archive: the digest of each block against the one that its record gives.
-use Rattle.std.specs.Prelude.{ℕ, List, ◌++◌, length, take, drop, Option, Result, Ok, Err, option_map, codes, decimal}
+use Rattle.std.specs.Prelude.{ℕ, List, ◌++◌, length, drop, Option, Result, Ok, Err, option_map, codes, decimal}
 use Rattle.std.specs.List.{sum_by}
 use Rattle.warc_core.specs.Fields.{value_of}
 use Rattle.warc_core.specs.declared.fault.Fault.{Fault}
