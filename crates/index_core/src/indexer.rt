@@ -8,7 +8,7 @@ use std::alloc::Global;
 use std::marker::Model;
 use warc_core::{Input, Output};
 
-/// AddedSoFar the captures of archives, and writes them as an index.
+/// Gathers the captures of archives, and writes them as an index.
 #[derive(Drop)]
 pub struct Indexer {
     alloc: Global,
