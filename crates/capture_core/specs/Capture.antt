@@ -7,7 +7,7 @@ use Rattle.warc_core.specs.Kind.{Kind}
 use Rattle.warc_core.specs.Kind.kinds
 use Rattle.warc_core.specs.HeadView.{HeadView, record_length}
 use Rattle.cdxj_core.specs.Entries.{EntryValue}
-use Rattle.cdxj_core.specs.Key.{key_of}
+use Rattle.cdxj_keys.specs.Key.{key_of}
 use Rattle.cdxj_core.specs.Texts.{missing, or_missing}
 use Rattle.capture_core.specs.Base32.{base32_of}
 use Rattle.capture_core.specs.HttpHead.{IsHeadOf, field_of}

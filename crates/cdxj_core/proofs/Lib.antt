@@ -6,10 +6,6 @@ pub mod EntryUtf8
 pub mod EntryWrite
 pub mod EntryRead
 pub mod EntryLaw
-pub mod KeyLaw
-pub mod Labels
 pub mod PlainBytes
 pub mod PlainCuts
 pub mod PlainLaw
-pub mod GraphicLemmas
-pub mod FoldedKey

@@ -1,4 +1,3 @@
-pub mod Key
 pub mod Entries
 pub mod Texts
 pub mod Lines
@@ -15,3 +14,5 @@ pub use Rattle.cdxj_places.specs.Places
 pub use Rattle.cdxj_places.specs.PlaceViews
 pub use Rattle.cdxj_places.specs.Rising
 pub use Rattle.cdxj_places.specs.TextLines
+-- what contracts see of keys
+pub use Rattle.cdxj_keys.specs.Key

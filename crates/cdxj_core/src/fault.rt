@@ -1,27 +1,8 @@
+//! Why a line can't be written or read.
 ghost use Rattle.std.specs.Prelude.{◌≡◌};
 
 use std::alloc::AllocError;
 use thiserror::Error;
-
-/// Why a target has no key.
-#[derive(Clone, Copy, Debug, Drop, Error, PartialEq, Eq)]
-pub enum KeyFault {
-    #[error("out of memory")]
-    Memory,
-    /// The URL is longer than the URL parser can hold.
-    #[error("the URL is too long")]
-    TooLong,
-}
-
-impl From<AllocError> for KeyFault {
-    ghost use Rattle.cdxj_core.specs.declared.fault.KeyFault.TheVariants.{Memory};
-
-    ghost from_gives = { λ _ fault. fault ≡ Memory };
-
-    fn from(_refused: AllocError) -> KeyFault {
-        KeyFault::Memory
-    }
-}
 
 /// Why a line was not written or read.
 #[derive(Clone, Copy, Debug, Drop, Error, PartialEq, Eq)]

@@ -6,16 +6,9 @@ ghost use Rattle.cdxj_places.specs.Pair.{pair_of};
 ghost use Rattle.cdxj_places.specs.Pairs.{pair_cmp};
 ghost use Rattle.cdxj_places.specs.Places.{place_cmp};
 ghost use Rattle.cdxj_places.specs.Rising.{Rises, NeverFalls};
-ghost use Rattle.cdxj_core.specs.Key.{key_of, host_key_of};
 ghost use Rattle.cdxj_core.specs.Entries.{EntryValue, HasLine, entry_pair, entry_place, line_text};
 ghost use Rattle.cdxj_core.specs.Members.{Member, entry_member, line_entry, member_pair};
 ghost use Rattle.cdxj_core.specs.Indexes.{IsIndex};
-
-/// The host key of a web URL begins its key.
-pub fn host_key_begins_key()
-    ensures { (target host : List ℕ) → host_key_of target ≡ Some host
-        → (rest : List ℕ) × (key_of target ≡ host ++ rest) }
-{}
 
 /// The line of a good entry, where it is within the limit, is read as that entry.
 pub fn written_line_is_read()

@@ -6,8 +6,6 @@ mod borrowed_members;
 mod entry;
 mod fault;
 mod field;
-mod host;
-mod key;
 mod laws;
 mod limit;
 mod line;
@@ -23,18 +21,17 @@ mod values;
 mod writing;
 
 pub use crate::entry::Entry;
-pub use crate::fault::{KeyFault, LineFault};
+pub use crate::fault::LineFault;
 pub use crate::field::Field;
-pub use crate::key::{host_key, url_key};
 pub use crate::laws::{
-    host_key_begins_key, index_has_one_list_of_members, key_is_shorter_than_its_line,
-    line_begins_with_its_pair, line_stays_under_higher_limit, written_line_is_read,
-    written_lines_are_an_index,
+    index_has_one_list_of_members, key_is_shorter_than_its_line, line_begins_with_its_pair,
+    line_stays_under_higher_limit, written_line_is_read, written_lines_are_an_index,
 };
 pub use crate::limit::LINE_LIMIT;
 pub use crate::line::Line;
 pub use crate::line_ref::LineRef;
 pub use crate::writing::{push_quoted, write_line};
+pub use cdxj_keys::{KeyFault, host_key, host_key_begins_key, url_key};
 pub use cdxj_places::{
     HasPlace, OwnedPlace, Place, PlaceFault, in_order, longer_text_has_the_pair, pairs_are_ordered,
     place_is_good, places_are_ordered, resume_key_is_read, resume_text, rising_list_is_unique,

@@ -1,8 +1,8 @@
 use Rattle.std.proofs.Common.{◌≡◌, List, ℕ, sym, subst}
 use Rattle.std.specs.Result.{IfOk}
 use Rattle.std.specs.String.{string_bytes}
-use Rattle.cdxj_core.proofs.GraphicLemmas.{folded-graphic}
-use Rattle.cdxj_core.proofs.key.lowered.Goals as goal
+use Rattle.cdxj_keys.proofs.GraphicLemmas.{folded-graphic}
+use Rattle.cdxj_keys.proofs.key.lowered.Goals as goal
 
 pub returns : goal.returns
 returns c =

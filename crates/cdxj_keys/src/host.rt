@@ -2,7 +2,7 @@
 ghost use Rattle.std.specs.Prelude.{◌≡◌, ◌==◌, map, reverse, IfOk};
 ghost use Rattle.std.specs.List.{slice_split, join_with_byte};
 ghost use Rattle.url.specs.Parts.{host_or_empty};
-ghost use Rattle.cdxj_core.specs.Key.{is_www, drop_empty_last, drop_www, domain_text, key_host};
+ghost use Rattle.cdxj_keys.specs.Key.{is_www, drop_empty_last, drop_www, domain_text, key_host};
 
 use cdxj_places::has_digits;
 use std::alloc::{AllocError, Global};

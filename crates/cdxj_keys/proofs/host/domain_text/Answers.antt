@@ -1,8 +1,8 @@
 use Rattle.std.proofs.Common.{◌≡◌, ap, ◌∙◌, subst, reverse, List, ℕ, IfOk}
 use Rattle.std.specs.List.{join_with_byte}
-use Rattle.cdxj_core.specs.Key.{drop_www, drop_empty_last, labels_of}
-use Rattle.cdxj_core.proofs.Labels.{texts, reverse_map}
-use Rattle.cdxj_core.proofs.host.domain_text.Goals as goal
+use Rattle.cdxj_keys.specs.Key.{drop_www, drop_empty_last, labels_of}
+use Rattle.cdxj_keys.proofs.Labels.{texts, reverse_map}
+use Rattle.cdxj_keys.proofs.host.domain_text.Goals as goal
 
 pub returns : goal.returns
 returns c =

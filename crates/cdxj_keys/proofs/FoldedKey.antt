@@ -5,7 +5,7 @@ use Rattle.std.proofs.lemmas.List.Folds.{list_all-append}
 use Rattle.std.proofs.lemmas.Grind.{common_steps}
 use Rattle.std.specs.List.{list_all}
 use Rattle.url.specs.Parts.{Parts}
-use Rattle.cdxj_core.specs.Key.{key_byte, folded, web_text}
+use Rattle.cdxj_keys.specs.Key.{key_byte, folded, web_text}
 use Rattle.cdxj_places.specs.Pair.{is_key_byte, is_key}
 
 byte_is_key : (b : ℕ) → b < 256 → list_all is_key_byte (key_byte b) ≡ true

@@ -1,6 +1,6 @@
-use Rattle.cdxj_core.proofs.Labels.{join_more, join_first, no_label}
-use Rattle.cdxj_core.proofs.host.join_labels.Goals as goal
-use Rattle.cdxj_core.proofs.host.join_labels.Goals.{then-i-gt0+in_ok-push, else-i-gt0}
+use Rattle.cdxj_keys.proofs.Labels.{join_more, join_first, no_label}
+use Rattle.cdxj_keys.proofs.host.join_labels.Goals as goal
+use Rattle.cdxj_keys.proofs.host.join_labels.Goals.{then-i-gt0+in_ok-push, else-i-gt0}
 
 pub loop-i-preserved : goal.loop-i-preserved
 loop-i-preserved c =

@@ -4,7 +4,7 @@ ghost use Rattle.std.specs.Prelude.{◌≡◌, ◌<◌, ◌++◌, length, option
 ghost use Rattle.std.specs.Char.{digit_char};
 ghost use Rattle.std.specs.List.{list_all};
 ghost use Rattle.cdxj_places.specs.Pair.{is_key};
-ghost use Rattle.cdxj_core.specs.Key.{port_text, query_text, is_web, web_text, is_graphic, key_byte, folded, key_of, host_key_of};
+ghost use Rattle.cdxj_keys.specs.Key.{port_text, query_text, is_web, web_text, is_graphic, key_byte, folded, key_of, host_key_of};
 
 use crate::fault::KeyFault;
 use crate::host::host_text;

@@ -1,10 +1,10 @@
 use Rattle.std.proofs.Common.{◌≡◌, ◌∙◌, ◌<◌, ℕ, true, length, string_bytes, ap, arith}
 use Rattle.std.proofs.lemmas.List.Elements.{All-from_get_or}
 use Rattle.std.proofs.lemmas.Result.{IfOk-weaker}
-use Rattle.cdxj_core.specs.Key.{folded}
+use Rattle.cdxj_keys.specs.Key.{folded}
 use Rattle.cdxj_places.specs.Pair.{is_key}
-use Rattle.cdxj_core.proofs.FoldedKey.{folded_is_key}
-use Rattle.cdxj_core.proofs.key.key_from.Goals as goal
+use Rattle.cdxj_keys.proofs.FoldedKey.{folded_is_key}
+use Rattle.cdxj_keys.proofs.key.key_from.Goals as goal
 
 pub returns-clause-key : goal.returns-clause-key
 returns-clause-key c =

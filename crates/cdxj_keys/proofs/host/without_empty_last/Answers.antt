@@ -1,7 +1,7 @@
 use Rattle.std.proofs.Common.{◌≡◌, ◌<◌, ◌-◌, length, take, map, get_or, arith, ap, sym, ◌∙◌, subst}
 use Rattle.std.proofs.lemmas.Bool.{eqb-true, eqb-false}
-use Rattle.cdxj_core.proofs.Labels.{last_dropped, last_kept, no_label}
-use Rattle.cdxj_core.proofs.host.without_empty_last.Goals as goal
+use Rattle.cdxj_keys.proofs.Labels.{last_dropped, last_kept, no_label}
+use Rattle.cdxj_keys.proofs.host.without_empty_last.Goals as goal
 
 pub returns-then-is_empty : goal.returns-then-is_empty
 returns-then-is_empty c =

@@ -2,7 +2,7 @@
 use Rattle.std.proofs.Common.{◌≡◌, ℕ, Bool, true, false, ◌&&◌, List, [], ◌∷◌, map, refl, ap}
 use Rattle.std.specs.List.{list_all}
 use Rattle.std.specs.Char.{to_ascii_lowercase}
-use Rattle.cdxj_core.specs.Key.{is_graphic, folded}
+use Rattle.cdxj_keys.specs.Key.{is_graphic, folded}
 
 and_both : (t a : Bool) → (t && a) ≡ true → (t ≡ true) × (a ≡ true)
 and_both true a h = (refl, h)

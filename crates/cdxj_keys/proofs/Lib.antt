@@ -1,0 +1,4 @@
+pub mod GraphicLemmas
+pub mod FoldedKey
+pub mod Labels
+pub mod KeyLaw

@@ -1,0 +1,11 @@
+//! The keys of captures in an index, in the manner of SURT; docs/CDXJ.md has the rules.
+#![tactic(auto)]
+
+mod fault;
+mod host;
+mod key;
+mod laws;
+
+pub use crate::fault::KeyFault;
+pub use crate::key::{host_key, url_key};
+pub use crate::laws::host_key_begins_key;
