@@ -13,7 +13,7 @@ use Rattle.warc_head.proofs.SpellingLemmas.{body}
 use Rattle.warc_core.specs.declared.fault.Cause.{Cause}
 use Rattle.warc_core.specs.Head.{parts_of, by_cause, cause_of}
 use Rattle.warc_core.specs.HeadText.{version_1_1, version_1_0, agrees, has_version, is_closed, IsFoundHead}
-use Rattle.warc_core.specs.RecordText.{IsVersionLine, IsHeadOf}
+use Rattle.warc_core.specs.RecordText.{IsVersionLine, IsRecordHead}
 use Rattle.warc_core.proofs.ClosingLemmas.{closed-last}
 use Rattle.warc_core.proofs.HeadLemmas.{or_true, agrees-begins, closed-long, has_version-whole}
 
@@ -71,7 +71,7 @@ last-empty text h l =
     let end : drop n (drop 10 text) ≡ line_end = drop-drop n 10 text ∙ (ap (λ m. drop m text) (sym at) ∙ (sym (drop-drop 2 (length text - 4) text) ∙ ap (drop 2) (closed-last text h))) in
     sym (take-append-drop n (drop 10 text)) ∙ ap (λ t. body_of text ++ t) end
 
-pub found-spelled : (limit : ℕ) (raw : List ℕ) (p : HeadParts) → IsFoundHead limit raw → parts_of raw ≡ Ok p → IsHeadOf limit p raw
+pub found-spelled : (limit : ℕ) (raw : List ℕ) (p : HeadParts) → IsFoundHead limit raw → parts_of raw ≡ Ok p → IsRecordHead limit p raw
 found-spelled limit raw p f h =
     let r = read-in raw p h in
     let long = closed-long raw f.closed f.version in
@@ -96,7 +96,7 @@ version-found : (version more : List ℕ) → IsVersionLine version → (length 
 version-found version more (inl e) = let long : length version ≡ 10 = ap length e in (long, has_version-whole version more (ap has_version e) (omega (arith, long)))
 version-found version more (inr e) = let long : length version ≡ 10 = ap length e in (long, has_version-whole version more (ap has_version e) (omega (arith, long)))
 
-pub spelled-found : (limit : ℕ) (raw : List ℕ) (p : HeadParts) → IsHeadOf limit p raw → IsFoundOf limit p raw
+pub spelled-found : (limit : ℕ) (raw : List ℕ) (p : HeadParts) → IsRecordHead limit p raw → IsFoundOf limit p raw
 spelled-found limit raw p h =
     let t = h.is_head in
     let v = version-found t.version (t.body ++ line_end) t.is_version in

@@ -25,14 +25,14 @@ pub record IsHeadText (limit : ℕ) (fields : List Field) (text : List ℕ) : Ty
   pub small : length text ≤ limit
 
 -- a text is a head, and its fields say these parts
-pub record IsHeadOf (limit : ℕ) (parts : HeadParts) (text : List ℕ) : Type 0 where
+pub record IsRecordHead (limit : ℕ) (parts : HeadParts) (text : List ℕ) : Type 0 where
   pub is_head : IsHeadText limit parts.fields text
   pub says : parts_in parts.fields ≡ Ok parts
 
 -- a text is a head, a block of the length that the head says, and CR LF CR LF
 pub record IsRecordText (limit : ℕ) (head : List ℕ) (parts : HeadParts) (block text : List ℕ) : Type 0 where
   pub spelled : text ≡ head ++ (block ++ closing)
-  pub is_head : IsHeadOf limit parts head
+  pub is_head : IsRecordHead limit parts head
   pub block_length : length block ≡ parts.length
 
 -- the record that was read from a place is this text
@@ -43,7 +43,7 @@ pub record IsReadFrom (limit start : ℕ) (h : HeadView) (block text : List ℕ)
 
 -- a head is what its text says, and its record ends by the greatest offset
 pub record IsHead (limit : ℕ) (h : HeadView) : Type 0 where
-  pub is_text : IsHeadOf limit h.parts h.raw
+  pub is_text : IsRecordHead limit h.parts h.raw
   pub fits : h.start + record_length h ≤ 2 ^ 63 - 1
 
 -- these texts are the records with these heads, one after another from this offset

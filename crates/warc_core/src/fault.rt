@@ -8,7 +8,7 @@ use thiserror::Error;
 
 /// What is wrong with a record.
 ///
-/// Of several causes the one that stands first here is answered, but `TooFar` comes before `ShortBlock` and `Closing`.
+/// Of several causes from `Version` on, the one that stands first here is answered; but `TooFar` comes before `ShortBlock`.
 #[derive(Clone, Copy, Debug, PartialEq, Eq, Error)]
 pub enum Cause {
     /// A growth was refused.
