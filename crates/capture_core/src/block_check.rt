@@ -23,7 +23,9 @@ pub fn block_digest<I: Input>(
     head: &Head,
 ) -> Result<Verdict, Fault>
     requires { IsUnread reader.old head.now }
-    ensures { ReadsTo (judge_record (verdict_of (value_of (codes "WARC-Block-Digest") head.now.parts.fields)) head.now.parts.length) (head.now.start + record_length head.now) Between (state_of reader.old (I.remaining input.old) (I.failures input.old)) (state_of reader.new (I.remaining input.new) (I.failures input.new)) result }
+    ensures { ReadsTo (judge_record (verdict_of (value_of (codes "WARC-Block-Digest") head.now.parts.fields)) head.now.parts.length) (head.now.start + record_length head.now) Between
+        (state_of reader.old (I.remaining input.old) (I.failures input.old))
+        (state_of reader.new (I.remaining input.new) (I.failures input.new)) result }
 {
     match head.field(b"WARC-Block-Digest") {
         Some(value) => match sha1_text(value) {
@@ -37,7 +39,9 @@ pub fn block_digest<I: Input>(
 /// Reads what is left of the open record, whose block has this verdict without a look at it.
 fn pass<I: Input>(reader: &mut Reader, input: &mut I, verdict: Verdict) -> Result<Verdict, Fault>
     ensures { (left len : ℕ) → reader.old.phase ≡ Open left len →
-        ReadsTo (judge_record (λ _. verdict) left) (reader.old.offset + len) Between (state_of reader.old (I.remaining input.old) (I.failures input.old)) (state_of reader.new (I.remaining input.new) (I.failures input.new)) result }
+        ReadsTo (judge_record (λ _. verdict) left) (reader.old.offset + len) Between
+        (state_of reader.old (I.remaining input.old) (I.failures input.old))
+        (state_of reader.new (I.remaining input.new) (I.failures input.new)) result }
 {
     reader.finish(input)?;
     Ok(verdict)
@@ -47,7 +51,9 @@ fn pass<I: Input>(reader: &mut Reader, input: &mut I, verdict: Verdict) -> Resul
 fn compare<I: Input>(reader: &mut Reader, input: &mut I, text: &[u8]) -> Result<Verdict, Fault>
     requires { HasLeft 0 reader.old.phase }
     ensures { (left len : ℕ) → reader.old.phase ≡ Open left len →
-        ReadsTo (judge_record (λ block. digest_verdict text.now (sha1 block)) left) (reader.old.offset + len) Between (state_of reader.old (I.remaining input.old) (I.failures input.old)) (state_of reader.new (I.remaining input.new) (I.failures input.new)) result }
+        ReadsTo (judge_record (λ block. digest_verdict text.now (sha1 block)) left) (reader.old.offset + len) Between
+        (state_of reader.old (I.remaining input.old) (I.failures input.old))
+        (state_of reader.new (I.remaining input.new) (I.failures input.new)) result }
 {
     let digest = digest_rest(reader, input, &[])?;
     reader.finish(input)?;

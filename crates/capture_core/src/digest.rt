@@ -18,7 +18,9 @@ pub(crate) fn digest_rest<I: Input>(
 ) -> Result<[u8; 20], Fault>
     requires { HasLeft 0 reader.old.phase }
     ensures { (left len : ℕ) → reader.old.phase ≡ Open left len →
-        ReadsTo (digest_of_rest left start.now) reader.old.offset (Open 0 len) (state_of reader.old (I.remaining input.old) (I.failures input.old)) (state_of reader.new (I.remaining input.new) (I.failures input.new)) result }
+        ReadsTo (digest_of_rest left start.now) reader.old.offset (Open 0 len)
+        (state_of reader.old (I.remaining input.old) (I.failures input.old))
+        (state_of reader.new (I.remaining input.new) (I.failures input.new)) result }
 {
     let mut hasher = Sha1::new();
     hasher.update(start);

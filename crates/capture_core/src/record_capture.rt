@@ -38,7 +38,9 @@ pub fn capture<I: Input>(
 ) -> Result<Option<Entry>, CaptureFault>
     requires unread { IsUnread reader.old head.now }
     requires named { 0 < length name.now }
-    ensures reads { ReadsWhole head.now (state_of reader.old (I.remaining input.old) (I.failures input.old)) (state_of reader.new (I.remaining input.new) (I.failures input.new)) result }
+    ensures reads { ReadsWhole head.now
+        (state_of reader.old (I.remaining input.old) (I.failures input.old))
+        (state_of reader.new (I.remaining input.new) (I.failures input.new)) result }
     ensures capture { Captures usual_types usual_limits head.now name.now (prepend_known reader.old.held (I.remaining input.old)) result }
     ensures entry { IfOk result (λ captured. IfSome captured (IsEntryOf head.now name.now LINE_LIMIT)) }
 {
@@ -65,7 +67,9 @@ fn capture_as<I: Input>(
     requires named { 0 < length indexed.name.now }
     requires target { 0 < length indexed.url.now }
     requires url { url_of usual_types indexed.head.now ≡ Some indexed.url.now }
-    ensures reads { ReadsWhole indexed.entry.head.now (state_of reader.old (I.remaining input.old) (I.failures input.old)) (state_of reader.new (I.remaining input.new) (I.failures input.new)) result }
+    ensures reads { ReadsWhole indexed.entry.head.now
+        (state_of reader.old (I.remaining input.old) (I.failures input.old))
+        (state_of reader.new (I.remaining input.new) (I.failures input.new)) result }
     ensures capture { Captures usual_types usual_limits indexed.entry.head.now indexed.entry.name.now (prepend_known reader.old.held (I.remaining input.old)) result }
     ensures entry { IfOk result (λ captured. IfSome captured (IsEntryOf indexed.entry.head.now indexed.entry.name.now LINE_LIMIT)) }
 {
@@ -91,7 +95,9 @@ fn capture_through<I: Input>(
     requires target { 0 < length indexed.url.now }
     requires url { url_of usual_types indexed.head.now ≡ Some indexed.url.now }
     requires front { IsFrontOf HTTP_HEAD_LIMIT indexed.head.now front.old }
-    ensures reads { ReadsWhole indexed.entry.head.now (state_of reader.old (I.remaining input.old) (I.failures input.old)) (state_of reader.new (I.remaining input.new) (I.failures input.new)) result }
+    ensures reads { ReadsWhole indexed.entry.head.now
+        (state_of reader.old (I.remaining input.old) (I.failures input.old))
+        (state_of reader.new (I.remaining input.new) (I.failures input.new)) result }
     ensures capture { Captures usual_types usual_limits indexed.entry.head.now indexed.entry.name.now (prepend_known reader.old.held (I.remaining input.old)) result }
     ensures entry { IfOk result (λ captured. IfSome captured (IsEntryOf indexed.entry.head.now indexed.entry.name.now LINE_LIMIT)) }
 {
@@ -112,7 +118,9 @@ fn capture_behind<I: Input>(
     requires url { url_of usual_types indexed.head.now ≡ Some indexed.url.now }
     requires front { IsFrontOf HTTP_HEAD_LIMIT indexed.head.now front.now }
     requires stands { StandsAt reader.old indexed.head.now.start (Open (indexed.head.now.parts.length - length front.now) (record_length indexed.head.now)) }
-    ensures reads { ReadsRest (indexed.entry.head.now.parts.length - length front.now) indexed.entry.head.now (state_of reader.old (I.remaining input.old) (I.failures input.old)) (state_of reader.new (I.remaining input.new) (I.failures input.new)) result }
+    ensures reads { ReadsRest (indexed.entry.head.now.parts.length - length front.now) indexed.entry.head.now
+        (state_of reader.old (I.remaining input.old) (I.failures input.old))
+        (state_of reader.new (I.remaining input.new) (I.failures input.new)) result }
     ensures capture { CapturesBehind usual_types usual_limits indexed.entry.head.now indexed.entry.name.now front.now (prepend_known reader.old.held (I.remaining input.old)) result }
     ensures entry { IfOk result (λ captured. IfSome captured (IsEntryOf indexed.entry.head.now indexed.entry.name.now LINE_LIMIT)) }
 {

@@ -78,7 +78,9 @@ impl Reader {
     /// Errors are `Read`, `ShortBlock` and `Closing`, at the record's offset.
     pub fn finish<I: Input>(&mut self, input: &mut I) -> Result<u64, Fault>
         ensures open { (left len : ℕ) → self.old.phase ≡ Phase.Open left len →
-            Finishes left len (state_of self.old (I.remaining input.old) (I.failures input.old)) (state_of self.new (I.remaining input.new) (I.failures input.new)) result }
+            Finishes left len
+            (state_of self.old (I.remaining input.old) (I.failures input.old))
+            (state_of self.new (I.remaining input.new) (I.failures input.new)) result }
         ensures closed { self.old.phase ≡ Phase.Between →
             (result ≡ Ok 0) × (self.new ≡ self.old) × (input.new ≡ input.old) }
         ensures failed { (c : Cause) → self.old.phase ≡ Phase.Failed c →
@@ -110,7 +112,9 @@ impl Reader {
     /// Errors are `Read` and `ShortBlock`, at the record's offset.
     pub fn block<I: Input>(&mut self, input: &mut I, piece: &mut [u8]) -> Result<usize, Fault>
         ensures open { (left len : ℕ) → self.old.phase ≡ Phase.Open left len →
-            GivesBlock left len (state_of self.old (I.remaining input.old) (I.failures input.old)) (state_of self.new (I.remaining input.new) (I.failures input.new)) result piece.new }
+            GivesBlock left len
+            (state_of self.old (I.remaining input.old) (I.failures input.old))
+            (state_of self.new (I.remaining input.new) (I.failures input.new)) result piece.new }
         ensures closed { self.old.phase ≡ Phase.Between →
             (result ≡ Ok 0) × (self.new ≡ self.old) × (input.new ≡ input.old) }
         ensures failed { (c : Cause) → self.old.phase ≡ Phase.Failed c →
@@ -141,7 +145,9 @@ impl Reader {
     pub fn block_exact<I: Input>(&mut self, input: &mut I, piece: &mut [u8]) -> Result<(), Fault>
         requires { HasLeft (length piece.old) self.old.phase }
         ensures { (left len : ℕ) → self.old.phase ≡ Phase.Open left len →
-            Fills left len (state_of self.old (I.remaining input.old) (I.failures input.old)) (state_of self.new (I.remaining input.new) (I.failures input.new)) result piece.new }
+            Fills left len
+            (state_of self.old (I.remaining input.old) (I.failures input.old))
+            (state_of self.new (I.remaining input.new) (I.failures input.new)) result piece.new }
     {
         let mut filled = 0;
         while filled < piece.len() {
@@ -153,7 +159,9 @@ impl Reader {
     /// What comes next where no record is open.
     fn next_between<I: Input>(&mut self, input: &mut I) -> Result<Option<Head>, Fault>
         requires { self.old.phase ≡ Phase.Between }
-        ensures next { GoesNext HEAD_LIMIT (state_of self.old (I.remaining input.old) (I.failures input.old)) (state_of self.new (I.remaining input.new) (I.failures input.new)) result }
+        ensures next { GoesNext HEAD_LIMIT
+            (state_of self.old (I.remaining input.old) (I.failures input.old))
+            (state_of self.new (I.remaining input.new) (I.failures input.new)) result }
         ensures stays { self.new.offset ≡ self.old.offset }
         ensures within { self.new.offset ≤ 2 ^ 63 - 1 }
     {
@@ -177,9 +185,13 @@ impl Reader {
     /// `BadDate` and `TooFar` at the offset where the next record would begin.
     pub fn next<I: Input>(&mut self, input: &mut I) -> Result<Option<Head>, Fault>
         ensures between { self.old.phase ≡ Phase.Between →
-            GoesNext HEAD_LIMIT (state_of self.old (I.remaining input.old) (I.failures input.old)) (state_of self.new (I.remaining input.new) (I.failures input.new)) result }
+            GoesNext HEAD_LIMIT
+            (state_of self.old (I.remaining input.old) (I.failures input.old))
+            (state_of self.new (I.remaining input.new) (I.failures input.new)) result }
         ensures open { (left len : ℕ) → self.old.phase ≡ Phase.Open left len →
-            FinishesAndGoesNext HEAD_LIMIT left len (state_of self.old (I.remaining input.old) (I.failures input.old)) (state_of self.new (I.remaining input.new) (I.failures input.new)) result }
+            FinishesAndGoesNext HEAD_LIMIT left len
+            (state_of self.old (I.remaining input.old) (I.failures input.old))
+            (state_of self.new (I.remaining input.new) (I.failures input.new)) result }
         ensures failed { (c : Cause) → self.old.phase ≡ Phase.Failed c →
             (result ≡ Err (record { offset = self.old.offset; cause = c })) × (self.new ≡ self.old) × (input.new ≡ input.old) }
         ensures rises { self.old.offset ≤ self.new.offset }
