@@ -30,13 +30,12 @@ fn next_capture<I: Input>(
     ensures takes { TakesNext usual_types usual_limits HEAD_LIMIT name.now reader.old.offset result reader.new (prepend_known reader.old.held (I.remaining input.old)) (prepend_known reader.new.held (I.remaining input.new)) }
     ensures failures { CountsCapture result (I.failures input.old) (I.failures input.new) }
 {
-    match reader.next(input) {
-        Ok(None) => Ok(None),
-        Ok(Some(head)) => match capture(alloc, reader, input, &head, name) {
-            Ok(captured) => Ok(Some((head, captured))),
-            Err(fault) => Err(fault),
-        },
-        Err(fault) => Err(CaptureFault::Archive(fault)),
+    match reader.next(input)? {
+        None => Ok(None),
+        Some(head) => {
+            let captured = capture(alloc, reader, input, &head, name)?;
+            Ok(Some((head, captured)))
+        }
     }
 }
 
@@ -81,10 +80,7 @@ pub fn add_captures<I: Input>(
     ensures failures { CountsCapture result (I.failures input.old) (I.failures input.new) }
 {
     let held = captures.len();
-    let mut reader = match Reader::new(alloc) {
-        Ok(reader) => reader,
-        Err(fault) => return Err(CaptureFault::Archive(fault)),
-    };
+    let mut reader = Reader::new(alloc)?;
     loop {
         match next_capture(alloc, &mut reader, input, name) {
             Ok(None) => return Ok((captures.len() - held) as u64),

@@ -29,12 +29,12 @@ loop-captures-preserved g c =
       within = rw t.stands.offset_is t.begins.fits;
       gains = (
         i.gains.0 ++ more,
-        c.in-Ok-keep.ensures.ok ∙ (ap (λ (xs : List EntryValue). xs ++ more) i.gains.1 ∙ append_assoc c.args.captures.now.items i.gains.0 more),
+        c.in-Ok.ensures.ok ∙ (ap (λ (xs : List EntryValue). xs ++ more) i.gains.1 ∙ append_assoc c.args.captures.now.items i.gains.0 more),
         rw t.stands.offset_is (AddedSoFar-more usual_types usual_limits HEAD_LIMIT c.args.name.now _ _ _ o i.gains.0 c.in-Ok-Some.head c.in-Ok-Some.captured _ i.gains.2 t),
       );
-      before = subst (StandBefore c.args.name.now c.next_capture.new.reader.offset) (sym c.in-Ok-keep.ensures.ok)
+      before = subst (StandBefore c.args.name.now c.next_capture.new.reader.offset) (sym c.in-Ok.ensures.ok)
           (before_step c.args.name.now LINE_LIMIT o c.next_capture.new.reader.offset c.in-Ok-Some.head _ c.in-Ok-Some.captured (rw t.stands.offset_is (omega arith)) t.begins.start_is t.entry i.before);
-      sound = λ names used s. subst (AreSound LINE_LIMIT names) (sym c.in-Ok-keep.ensures.ok)
+      sound = λ names used s. subst (AreSound LINE_LIMIT names) (sym c.in-Ok.ensures.ok)
           (sound_step LINE_LIMIT names c.args.name.now o c.in-Ok-Some.head _ c.in-Ok-Some.captured used t.begins.start_is t.entry i.before (i.sound names used s));
       reads = e.failures ∙ i.reads;
     }
