@@ -40,7 +40,7 @@ abbrev pub plain_text : TextsValue → List ℕ
 plain_text t =
     after (codes "{\"url\": \"") t.url (after (codes ", \"mime\": \"") t.mime (after (codes ", \"status\": \"") t.status
     (after (codes ", \"digest\": \"") t.digest (after (codes ", \"length\": \"") t.length (after (codes ", \"offset\": \"") t.offset
-    (after (codes ", \"filename\": \"") t.filename (125 ∷ [])))))))
+    (after (codes ", \"filename\": \"") t.filename (codes "}")))))))
 
 -- the values that the texts stand for
 abbrev pub values_of_texts : TextsValue → TextsValue
