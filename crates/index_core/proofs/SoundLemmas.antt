@@ -8,11 +8,10 @@ use Rattle.std.specs.declared.cmp.Ordering.{Ordering}
 use Rattle.std.specs.declared.cmp.Ordering.TheVariants.{Less, Equal, Greater}
 use Rattle.std.proofs.lemmas.Slice.Eq.{bytes_eq-Decides}
 use Rattle.warc_core.specs.HeadView.{HeadView}
-use Rattle.cdxj_core.specs.Entries.{EntryValue, entry_place}
+use Rattle.cdxj_core.specs.Entries.{EntryValue, entry_place, HasLine}
 use Rattle.cdxj_places.specs.Places.{place_cmp}
 use Rattle.capture_core.specs.CaptureAnswer.{IsEntryOf}
 use Rattle.index_core.specs.Indexing.{HaveOwnPlaces, AreSound, is_among}
-use Rattle.cdxj_core.specs.Entries.{HasLine}
 use Rattle.index_core.specs.Captures.{StandBefore}
 
 -- ---- lists with one more

@@ -4,10 +4,9 @@ use Rattle.std.proofs.lemmas.Bool.{and_parts, eqb-true}
 use Rattle.std.proofs.lemmas.Fmt.{digits_value-decimal}
 use Rattle.std.proofs.Math.Seq.{take-append_seam, drop-append-add}
 use Rattle.cdxj_core.specs.declared.limit.TheConstants.{LINE_LIMIT}
-use Rattle.cdxj_core.specs.Entries.{EntryValue, IsGood, line_text, object_text, members_of}
+use Rattle.cdxj_core.specs.Entries.{EntryValue, IsGood, line_text, object_text, members_of, HasLine}
 use Rattle.cdxj_core.proofs.EntryUtf8.{line_law}
 use Rattle.cdxj_places.proofs.Offsets.{own}
-use Rattle.cdxj_core.specs.Entries.{HasLine}
 use Rattle.index_core.specs.Spelling.{entry_or_nothing, entry_in, IsLineOf}
 
 entry_in_line_text : (e : EntryValue) → HasLine LINE_LIMIT e → entry_in (line_text e) ≡ e

@@ -2,7 +2,7 @@
 use Rattle.std.specs.Prelude.{◌≡◌, ℕ, ◌<◌, ◌≤◌, Bool, List, [], ◌∷◌, ◌++◌, length, drop, option_to_list, Option, Some, Ok, IfSome}
 use Rattle.std.specs.List.{AllByRecursion}
 use Rattle.warc_core.specs.Kind.{Kind}
-use Rattle.warc_core.specs.HeadView.{HeadView}
+use Rattle.warc_core.specs.HeadView.{HeadView, block_at}
 use Rattle.warc_core.specs.Reading.{IsFoundIn}
 use Rattle.warc_core.specs.Walk.{record_at, Walks, AreRecords}
 use Rattle.cdxj_core.specs.Entries.{EntryValue, line_text}
@@ -11,7 +11,6 @@ use Rattle.capture_core.specs.declared.fault.CaptureFault.TheVariants.{Archive, 
 use Rattle.capture_core.specs.Fault.{fault_offset}
 use Rattle.capture_core.specs.Capture.{IsCapture}
 use Rattle.capture_core.specs.CaptureAnswer.{Limits}
-use Rattle.warc_core.specs.HeadView.{block_at}
 
 -- the types of records that are indexed, the limits of captures and of a head, and the archive's name
 module _ (types : Kind → Bool) (limits : Limits) (limit : ℕ) (name : List ℕ) where

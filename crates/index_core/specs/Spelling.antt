@@ -2,9 +2,8 @@
 use Rattle.std.specs.Prelude.{◌≡◌, ℕ, List, [], length, Option, None, Some}
 use Rattle.std.specs.Str.Parse.{digits_value}
 use Rattle.cdxj_core.specs.declared.limit.TheConstants.{LINE_LIMIT}
-use Rattle.cdxj_core.specs.Entries.{EntryValue, line_text}
+use Rattle.cdxj_core.specs.Entries.{EntryValue, line_text, HasLine}
 use Rattle.cdxj_core.specs.Lines.{LineValue, body_of, line_in}
-use Rattle.cdxj_core.specs.Entries.{HasLine}
 
 -- the entry with these values
 abbrev pub entry_of : LineValue → EntryValue

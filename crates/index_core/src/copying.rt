@@ -3,9 +3,8 @@ ghost use Rattle.std.specs.Prelude.{◌≡◌, ℕ};
 ghost use Rattle.std.specs.Io.KnownBytes.{prepend_known};
 ghost use Rattle.warc_core.specs.declared.phase.Phase.TheVariants.{Open};
 ghost use Rattle.warc_core.specs.ReaderView.{IsUnread, HasLeft};
-ghost use Rattle.index_core.specs.Counting.{CountsIndex};
+ghost use Rattle.index_core.specs.Counting.{CountsIndex, CountsWrite};
 ghost use Rattle.index_core.specs.Copying.{CopiesBlock, CopiesRecord};
-ghost use Rattle.index_core.specs.Counting.{CountsWrite};
 
 use crate::fault::IndexFault;
 use crate::writing::put_bytes;

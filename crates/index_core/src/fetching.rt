@@ -2,10 +2,9 @@
 ghost use Rattle.std.specs.Prelude.{◌≡◌, ℕ, ◌-◌, ◌^◌, ◌≤◌, Err, IfErr};
 ghost use Rattle.std.specs.Io.KnownBytes.{prepend_known};
 ghost use Rattle.warc_core.specs.Answers.{causes_of, CountsRead};
-ghost use Rattle.index_core.specs.Counting.{CountsIndex};
+ghost use Rattle.index_core.specs.Counting.{CountsIndex, CountsWrite};
 ghost use Rattle.index_core.specs.Copying.{CopiesNext, Reaches};
 ghost use Rattle.index_core.specs.Fetching.{Fetches, IsFetchFault, IsMetBefore};
-ghost use Rattle.index_core.specs.Counting.{CountsWrite};
 
 use crate::copying::copy_record;
 use crate::fault::IndexFault;

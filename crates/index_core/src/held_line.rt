@@ -29,8 +29,7 @@ impl Model for HeldLine {
 impl HeldLine {
     ghost use Rattle.std.specs.Prelude.{◌≡◌, IfOk};
     ghost use Rattle.cdxj_core.specs.declared.limit.TheConstants.{LINE_LIMIT};
-    ghost use Rattle.cdxj_core.specs.Entries.{line_text};
-    ghost use Rattle.cdxj_core.specs.Entries.{HasLine};
+    ghost use Rattle.cdxj_core.specs.Entries.{line_text, HasLine};
 
     /// Holds an entry by its line.
     pub fn new(alloc: Global, entry: Entry) -> Result<HeldLine, AllocError>

@@ -39,9 +39,8 @@ impl Indexer {
     ghost use Rattle.capture_core.specs.Indexed.{usual_types};
     ghost use Rattle.capture_core.specs.CaptureAnswer.{usual_limits};
     ghost use Rattle.index_core.specs.Adding.{Adds, IsAddFault, IsRefusal};
-    ghost use Rattle.index_core.specs.Counting.{CountsIndex};
+    ghost use Rattle.index_core.specs.Counting.{CountsIndex, CountsWrite};
     ghost use Rattle.index_core.specs.Indexing.{IsWriteFault, IsName, is_among, index_text, in_places};
-    ghost use Rattle.index_core.specs.Counting.{CountsWrite};
 
     /// An indexer that holds nothing. It takes no memory.
     pub fn new(alloc: Global) -> Indexer

@@ -1,8 +1,7 @@
 //! The listing of an archive: a line for each record.
 ghost use Rattle.std.specs.Prelude.{IfErr};
-ghost use Rattle.index_core.specs.Counting.{CountsWrite};
+ghost use Rattle.index_core.specs.Counting.{CountsWrite, CountsInput};
 ghost use Rattle.index_core.specs.Listing.{Lists};
-ghost use Rattle.index_core.specs.Counting.{CountsInput};
 ghost use Rattle.index_core.specs.Report.{IsReportFault};
 
 use crate::fault::IndexFault;

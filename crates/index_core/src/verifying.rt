@@ -1,7 +1,6 @@
 //! The verification of an archive: a line for the digest of each block.
 ghost use Rattle.std.specs.Prelude.{◌≡◌, IfErr};
-ghost use Rattle.index_core.specs.Counting.{CountsWrite};
-ghost use Rattle.index_core.specs.Counting.{CountsInput};
+ghost use Rattle.index_core.specs.Counting.{CountsWrite, CountsInput};
 ghost use Rattle.index_core.specs.Report.{IsReportFault};
 ghost use Rattle.index_core.specs.Verifying.{Verifies, differing_by};
 

@@ -2,9 +2,8 @@
 use Rattle.std.proofs.Common.{◌≡◌, ◌∙◌, ℕ, ◌+◌, ◌<◌, ◌≤◌, Bool, true, false, nat_lt, List, [], ◌∷◌, ◌++◌, Option, None, Some, Result, Ok, Err, sym, ap, refl, subst, length, take, drop, inl, inr, ◌⊎◌, ◌-◌, ◌^◌, zero, suc, length-append, length-take, append_assoc, append-nil, arith, if◌then◌else◌}
 use Rattle.std.specs.Prelude.{◌==◌}
 use Rattle.std.proofs.lemmas.Bool.Decides.{nat_tests}
-use Rattle.std.proofs.lemmas.List.{take-append-drop}
+use Rattle.std.proofs.lemmas.List.{take-append-drop, length-take-le}
 use Rattle.std.proofs.Math.Seq.{drop-append_seam, take-append_seam}
-use Rattle.std.proofs.lemmas.List.{length-take-le}
 use Rattle.warc_core.specs.declared.fault.Cause.{Cause}
 use Rattle.warc_core.specs.declared.fault.Cause.TheVariants as causes
 use Rattle.warc_head.specs.Parts.{HeadParts}
@@ -19,9 +18,8 @@ use Rattle.warc_core.specs.Laws.{ReadIsSpelled, SpelledIsRead, NoPrefix, Records
 use Rattle.warc_core.proofs.HeadTextLemmas.{found-spelled, spelled-found}
 use Rattle.warc_core.proofs.GatherLemmas.{has_version-front}
 use Rattle.warc_core.proofs.WalkLemmas.{none_at_end}
-use Rattle.warc_core.proofs.HeadLemmas.{going-start, going-piece, going-found}
+use Rattle.warc_core.proofs.HeadLemmas.{going-start, going-piece, going-found, which}
 use Rattle.warc_core.proofs.ReadingLemmas.{answered, nil_of}
-use Rattle.warc_core.proofs.HeadLemmas.{which}
 
 -- what follows a text stands behind it
 pub after_text-spelled : (text bytes rest : List ℕ) → after_text text bytes ≡ Ok (tt, rest) → bytes ≡ text ++ rest

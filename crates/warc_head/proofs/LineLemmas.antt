@@ -1,12 +1,11 @@
 -- The first line of a text.
 use Rattle.std.proofs.Common.{◌≡◌, ℕ, zero, suc, ◌+◌, ◌<◌, List, [], ◌∷◌, length, take, drop, get_or, refl, sym, ap, arith, true, false, Bool, add-one}
-use Rattle.std.specs.Prelude.{◌==◌}
+use Rattle.std.specs.Prelude.{◌==◌, Option, Some, None, is_some, not, ◌&&◌}
 use Rattle.warc_head.specs.Lines.{lines_of, with_first, is_plain}
 use Rattle.warc_head.specs.Fields.{at_colon}
 use Rattle.memchr.specs.Find.{IsFirstByte, is_byte2}
 use Rattle.std.specs.List.{list_all}
 use Rattle.std.specs.Option.{option_map}
-use Rattle.std.specs.Prelude.{Option, Some, None, is_some, not, ◌&&◌}
 
 false_of : (t : Bool) → (t ≡ true → ⊥) → t ≡ false
 false_of true h = absurd (h refl)

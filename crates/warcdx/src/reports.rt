@@ -2,8 +2,7 @@
 ghost use Rattle.std.specs.Prelude.{◌≡◌, MatchResult};
 ghost use Rattle.devices.specs.Device.{CountsFailure};
 ghost use Rattle.devices.specs.Writing.{WritesText};
-ghost use Rattle.index_core.specs.Counting.{CountsWrite};
-ghost use Rattle.index_core.specs.Counting.{CountsInput};
+ghost use Rattle.index_core.specs.Counting.{CountsWrite, CountsInput};
 ghost use Rattle.warcdx.specs.Outcome.{answer_of};
 ghost use Rattle.warcdx.specs.Reports.{WritesReport, WritesBelow, heading, heading_among};
 
