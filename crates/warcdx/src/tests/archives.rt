@@ -1,7 +1,7 @@
 //! Tasks on archives by name.
 use super::{RESPONSE, Refused, cut, owned, performed};
 use crate::outcome::Outcome;
-use crate::reports::Report;
+use crate::reports::ArchiveReport;
 use capture_core::CaptureFault;
 use command_line::Task;
 use index_core::IndexFault;
@@ -102,18 +102,18 @@ fn remove_archives<R: Runtime>(rt: &R) -> io::Result<()> {
     fs::remove_file(rt, "differing.warc")
 }
 
-fn task(alloc: Global, report: Report, names: &[&str]) -> Result<Task, AllocError> {
+fn task(alloc: Global, report: ArchiveReport, names: &[&str]) -> Result<Task, AllocError> {
     let names = owned(alloc, names)?;
     match report {
-        Report::Listing => Ok(Task::List { names }),
-        Report::Verdicts => Ok(Task::Verify { names }),
+        ArchiveReport::Listing => Ok(Task::List { names }),
+        ArchiveReport::Verdicts => Ok(Task::Verify { names }),
     }
 }
 
 /// Whether the task writes this, and ends so.
 fn writes<R: Runtime + AllocGlobal>(
     rt: &R,
-    report: Report,
+    report: ArchiveReport,
     names: &[&str],
     lines: &[u8],
     wanted: Outcome,
@@ -129,7 +129,7 @@ fn stops<R: Runtime + AllocGlobal>(
     at: u64,
     lines: &[u8],
 ) -> Result<bool, Refused> {
-    let (outcome, out) = performed(rt, task(rt.alloc(), Report::Listing, names), at)?;
+    let (outcome, out) = performed(rt, task(rt.alloc(), ArchiveReport::Listing, names), at)?;
     Ok(out.device.bytes() == lines && outcome == Outcome::Index(IndexFault::Write))
 }
 
@@ -138,13 +138,13 @@ fn tasks_take_one_archive_after_another(rt: HostRuntime) -> Result<(), Fail> {
     write_archives(&rt)?;
     for (names, lines, wanted) in LISTINGS {
         assert!(rt;
-            writes(&rt, Report::Listing, names, lines, *wanted)?,
+            writes(&rt, ArchiveReport::Listing, names, lines, *wanted)?,
             "{names:?}"
         );
     }
     for (names, lines, wanted) in VERDICTS {
         assert!(rt;
-            writes(&rt, Report::Verdicts, names, lines, *wanted)?,
+            writes(&rt, ArchiveReport::Verdicts, names, lines, *wanted)?,
             "{names:?}"
         );
     }

@@ -1,5 +1,5 @@
 use super::{RESOURCE, RESPONSE, Refused, cut, joined};
-use crate::reports::Report;
+use crate::reports::ArchiveReport;
 use index_core::{IndexFault, list, verify};
 use std::alloc::Global;
 use std::test::Fail;
@@ -13,13 +13,13 @@ const VERDICTS: &[u8] = b"0 absent\n264 absent\nfault 448 ShortBlock\n";
 /// The fault of a report on an archive.
 fn report_fault(
     alloc: Global,
-    report: Report,
+    report: ArchiveReport,
     archive: &[u8],
     out: &mut Fuse<Gather>,
 ) -> Option<IndexFault> {
     match report {
-        Report::Listing => list(alloc, &mut Slice::new(archive), out).err(),
-        Report::Verdicts => verify(alloc, &mut Slice::new(archive), out).err(),
+        ArchiveReport::Listing => list(alloc, &mut Slice::new(archive), out).err(),
+        ArchiveReport::Verdicts => verify(alloc, &mut Slice::new(archive), out).err(),
     }
 }
 
@@ -27,7 +27,7 @@ fn report_fault(
 /// it is there, and no more.
 fn stops_at_each_write(
     alloc: Global,
-    report: Report,
+    report: ArchiveReport,
     archive: &[u8],
     lines: &[u8],
 ) -> Result<bool, Refused> {
@@ -61,7 +61,10 @@ fn is_out_of_memory(text: &[u8], lines: &[u8]) -> bool {
 #[test]
 fn reports_stop_at_a_failed_write(rt: HostRuntime) -> Result<(), Fail> {
     let archive = joined(rt.alloc(), &[RESPONSE, RESOURCE, cut(RESPONSE, 231)])?;
-    for (report, lines) in [(Report::Listing, LISTING), (Report::Verdicts, VERDICTS)] {
+    for (report, lines) in [
+        (ArchiveReport::Listing, LISTING),
+        (ArchiveReport::Verdicts, VERDICTS),
+    ] {
         assert!(rt;
             stops_at_each_write(rt.alloc(), report, archive.as_slice(), lines)?,
             "{lines:?}"
