@@ -1,5 +1,6 @@
 use cdxj_core::{Entry, Field, LINE_LIMIT, LineFault, LineRef, split_pair, write_line};
 use std::alloc::{AllocError, Global};
+use std::process::Abort;
 use std::test::Fail;
 
 pub fn text(alloc: Global, text: &str) -> Result<String, AllocError> {
@@ -139,36 +140,39 @@ fn an_entry_is_good_where_each_member_is(rt: HostRuntime) -> Result<(), Fail> {
     Ok(())
 }
 
+/// Whether the line of a good entry is too long. Memory is an error of the test's.
+fn is_too_long(rt: &impl Abort, alloc: Global, entry: &Entry) -> Result<bool, LineFault> {
+    assert!(rt; entry.good());
+    match write_line(alloc, entry) {
+        Err(LineFault::Memory) => Err(LineFault::Memory),
+        Err(fault) => Ok(fault == LineFault::LineTooLong),
+        Ok(_line) => Ok(false),
+    }
+}
+
+/// The home page's entry with a URL of this many letters.
+fn with_long_url(alloc: Global, letters: usize) -> Result<Entry, AllocError> {
+    let mut entry = home(alloc)?;
+    entry.url = String::new(alloc);
+    for _ in 0..letters {
+        entry.url.push('a')?;
+    }
+    Ok(entry)
+}
+
 #[test]
 fn a_line_has_at_most_the_limit(rt: HostRuntime) -> Result<(), Fail> {
     let alloc = rt.alloc();
-    let mut entry = home(alloc)?;
-    let rest = HOME.len().saturating_sub(entry.url.len());
+    let rest = HOME.len().saturating_sub("http://example.com/".len());
     let room = LINE_LIMIT.saturating_sub(rest);
-    entry.url = text(alloc, "")?;
-    for _ in 0..room {
-        entry.url.push('a')?;
-    }
+    let entry = with_long_url(alloc, room)?;
     assert!(rt; entry.good());
     let line = write_line(alloc, &entry)?;
     assert_eq!(rt; line.len(), 1_048_576);
     let read = LineRef::read(alloc, &line)?;
     assert_eq!(rt; read.value(Field::Original).len(), room);
-    entry.url.push('a')?;
-    assert!(rt; entry.good());
-    let refused = write_line(alloc, &entry).err();
-    if refused == Some(LineFault::Memory) {
-        return Err(LineFault::Memory)?;
+    for letters in [room.saturating_add(1), 1_048_576] {
+        assert!(rt; is_too_long(&rt, alloc, &with_long_url(alloc, letters)?)?);
     }
-    assert_eq!(rt; refused, Some(LineFault::LineTooLong));
-    for _ in room.saturating_add(1)..1_048_576 {
-        entry.url.push('a')?;
-    }
-    assert!(rt; entry.good());
-    let refused = write_line(alloc, &entry).err();
-    if refused == Some(LineFault::Memory) {
-        return Err(LineFault::Memory)?;
-    }
-    assert_eq!(rt; refused, Some(LineFault::LineTooLong));
     Ok(())
 }
