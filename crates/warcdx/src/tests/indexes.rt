@@ -81,3 +81,17 @@ fn an_indexer_takes_each_name_once(rt: HostRuntime) -> Result<(), Fail> {
     assert!(rt; writes(alloc, &indexer, RESPONSE_LINE, 1)?);
     Ok(())
 }
+
+/// Archives get an index each, and their names stay used.
+#[test]
+fn captures_are_forgotten_and_names_are_not(rt: HostRuntime) -> Result<(), Fail> {
+    let alloc = rt.alloc();
+    let mut indexer = Indexer::new(alloc);
+    assert_eq!(rt; added(&mut indexer, "a.warc", RESOURCE)?, Ok(1));
+    indexer.forget_captures();
+    assert!(rt; writes(alloc, &indexer, b"", 0)?);
+    assert!(rt; refuses(&mut indexer, "a.warc", IndexFault::DuplicateName));
+    assert_eq!(rt; added(&mut indexer, "b.warc", RESPONSE)?, Ok(1));
+    assert!(rt; writes(alloc, &indexer, RESPONSE_LINE, 1)?);
+    Ok(())
+}

@@ -82,3 +82,19 @@ fn of_two_outcomes_the_worse_is_taken(rt: HostRuntime) {
         assert_eq!(rt; worse(first, second), wanted);
     }
 }
+
+#[test]
+fn faults_of_captures_have_an_offset_and_a_name(rt: HostRuntime) {
+    let damage = CaptureFault::from(Fault {
+        offset: 448,
+        cause: Cause::ShortBlock,
+    });
+    for (fault, offset, name) in [
+        (damage, 448, "ShortBlock"),
+        (CaptureFault::LineTooLong(7), 7, "LineTooLong"),
+        (CaptureFault::KeyTooLong(9), 9, "KeyTooLong"),
+    ] {
+        assert_eq!(rt; fault.offset(), offset);
+        assert_eq!(rt; fault.name(), name);
+    }
+}

@@ -91,7 +91,11 @@ fn lines_rise_by_place(rt: HostRuntime) -> Result<(), Fail> {
     for line in LINES {
         lines.push(LineRef::read(alloc, line)?)?;
     }
-    let order = in_order(alloc, &lines)?;
+    let mut references = Vec::new(alloc);
+    for line in &lines {
+        references.push(line)?;
+    }
+    let order = in_order(alloc, &references)?;
     assert_eq!(rt; order.len(), 3);
     assert_eq!(rt; order[0].value(Field::Offset), "5");
     assert_eq!(rt; order[1].value(Field::Offset), "99");

@@ -1,4 +1,6 @@
-use cdxj_core::{Entry, Field, LINE_LIMIT, LineFault, LineRef, split_pair, write_line};
+use cdxj_core::{
+    Entry, Field, LINE_LIMIT, LineFault, LineRef, push_quoted, split_pair, write_line,
+};
 use std::alloc::{AllocError, Global};
 use std::process::Abort;
 use std::test::Fail;
@@ -97,6 +99,15 @@ fn texts_are_escaped(rt: HostRuntime) -> Result<(), Fail> {
     assert_eq!(rt; read.value(Field::Original), "a\"b\\c/\u{e9}\u{7f}");
     assert_eq!(rt; read.value(Field::Mimetype), "\t\n\u{1}");
     assert_eq!(rt; read.value(Field::Filename), "\u{1f600} \".warc");
+    Ok(())
+}
+
+#[test]
+fn a_text_is_quoted(rt: HostRuntime) -> Result<(), Fail> {
+    let mut quoted = Vec::new(rt.alloc());
+    push_quoted(&mut quoted, rt.alloc(), "a\"b\u{e9}")?;
+    push_quoted(&mut quoted, rt.alloc(), "c")?;
+    assert!(rt; quoted.as_slice() == "\"a\\\"b\u{e9}\"\"c\"".as_bytes());
     Ok(())
 }
 
