@@ -1,6 +1,8 @@
 pub mod PairLaw
 pub mod MemberLemmas
 pub mod KeptLemmas
+pub mod StringLength
+pub mod FilenameLength
 pub mod IndexLemmas
 pub mod EntryUtf8
 pub mod EntryWrite

@@ -20,15 +20,15 @@ read_nil : read [] ≡ None
 unfolding serde_json_on_literals
 read_nil = refl
 
-and_then_some : {A B : Type 0} (f : A → Option B) (o : Option A) (v : B) → option_and_then f o ≡ Some v → (a : A) × (o ≡ Some a) × (f a ≡ Some v)
+pub and_then_some : {A B : Type 0} (f : A → Option B) (o : Option A) (v : B) → option_and_then f o ≡ Some v → (a : A) × (o ≡ Some a) × (f a ≡ Some v)
 and_then_some f None v h = absurd (cc)
 and_then_some f (Some a) v h = (a, refl, h)
 
-map_some : {A B : Type 0} (g : A → B) (o : Option A) (v : B) → option_map g o ≡ Some v → (a : A) × (g a ≡ v)
+pub map_some : {A B : Type 0} (g : A → B) (o : Option A) (v : B) → option_map g o ≡ Some v → (a : A) × (g a ≡ v)
 map_some g None v h = absurd (cc)
 map_some g (Some a) v h = (a, let e : g a ≡ v = cc in e)
 
-some_read : (text : List ℕ) (d : Data) → read text ≡ Some d → 0 < length text
+pub some_read : (text : List ℕ) (d : Data) → read text ≡ Some d → 0 < length text
 some_read [] d h = absurd (let bad : None ≡ Some d = sym read_nil ∙ h in cc)
 some_read (x ∷ xs) d h = omega arith
 

@@ -28,10 +28,13 @@ pub fn line_begins_with_its_pair()
         → line_entry limit line ≡ Some member → pair_of line ≡ Some (member_pair member) }
 {}
 
-/// The key of a line is shorter than the line without its line feed.
-pub fn key_is_shorter_than_its_line()
-    ensures { (limit : ℕ) → (line : List ℕ) → (member : Member)
+/// The key of a line is shorter than the line without its line feed. The file name is no longer than
+/// that.
+pub fn key_and_file_name_are_no_longer_than_their_line()
+    ensures key { (limit : ℕ) → (line : List ℕ) → (member : Member)
         → line_entry limit line ≡ Some member → length member.values.key < length member.line }
+    ensures filename { (limit : ℕ) → (line : List ℕ) → (member : Member)
+        → line_entry limit line ≡ Some member → length member.values.filename ≤ length member.line }
 {}
 
 /// The lines of good entries are an index with their members, where the pairs never fall, and so

@@ -1,0 +1,179 @@
+-- No string among the tokens of a text is longer than the text.
+use Rattle.std.proofs.Common.{ℕ, ◌+◌, ◌≤◌, Bool, true, false, cond, ◌&&◌, ◌==◌, nat_lt, List, [], ◌∷◌, length, drop, nat_eq, codes, Option, Some, None, option_map, option_and_then, arith}
+use Rattle.std.specs.Prelude.{⊤}
+use Rattle.std.specs.List.{AllByRecursion, starts_with}
+use Rattle.std.specs.Char.{encode_utf8}
+use Rattle.std.proofs.lemmas.List.{length-append}
+use Rattle.json.specs.Text.{code_unit, short_escape, is_high_surrogate, is_low_surrogate, surrogate_pair, Within, plain, after_backslash, after_u, after_high, prepend, content}
+use Rattle.json.specs.Token.{Token}
+use Rattle.json.specs.Word.{head, ends_word, after_number, number_before, literal, word}
+use Rattle.json.specs.Lex.{Lexeme, token, comma, colon, Class, quote, backslash, operator, space, other, class, operator_lexeme, string_token, Mode, between, in_word, in_string, in_escape, lex_byte, lex, Place, fresh, after_value, after_comma, after_key, begins_colon, may_begin, may_close, if_allowed, place_token, punctuate, tokens}
+
+-- ---- what an option may have
+
+abbrev pub Each : {A : Type 0} → (A → Type 0) → Option A → Type 0
+Each P None = ⊤
+Each P (Some a) = P a
+
+pub each_map : {A B : Type 0} (P : A → Type 0) (Q : B → Type 0) (f : A → B) → ((a : A) → P a → Q (f a)) → (o : Option A) → Each P o → Each Q (option_map f o)
+each_map P Q f h None x = tt
+each_map P Q f h (Some a) x = h a x
+
+pub each_then : {A B : Type 0} (P : A → Type 0) (Q : B → Type 0) (f : A → Option B) → ((a : A) → P a → Each Q (f a)) → (o : Option A) → Each P o → Each Q (option_and_then f o)
+each_then P Q f h None x = tt
+each_then P Q f h (Some a) x = h a x
+
+pub either : {A : Type 0} (P : A → Type 0) (b : Bool) (x y : A) → P x → P y → P (cond b x y)
+either P true x y p q = p
+either P false x y p q = q
+
+-- ---- the content of a string
+
+abbrev pub UpTo : ℕ → List ℕ → Type 0
+UpTo n s = length s ≤ n
+
+after_unit : (n : ℕ) (f : ℕ → Option (List ℕ)) (o : Option ℕ) → ((u : ℕ) → Each (UpTo n) (f u)) → Each (UpTo n) (option_and_then f o)
+after_unit n f None h = tt
+after_unit n f (Some u) h = h u
+
+prepended : (n m : ℕ) (a : List ℕ) (r : Option (List ℕ)) → length a + m ≤ n → Each (UpTo m) r → Each (UpTo n) (prepend a r)
+prepended n m a None le h = tt
+prepended n m a (Some s) le h = omega (arith, length-append a s)
+
+length-encode : (u : ℕ) → length (encode_utf8 u) ≤ 4
+unfolding encode_utf8
+length-encode u = grind arith
+
+short_content : (n : ℕ) (w : Within) (xs : List ℕ) → length xs ≤ n → Each (UpTo n) (content w xs)
+unfolding content
+short_content n plain [] le = tt
+short_content n plain (x ∷ xs) le =
+    either (Each (UpTo n)) (x == 34) _ _ (omega arith) (either (Each (UpTo n)) (x == 92) _ _ (short_content n after_backslash xs (omega arith))
+    (either (Each (UpTo n)) (nat_lt x 32) _ _ tt (prepended n (length xs) (x ∷ []) _ (omega arith) (short_content (length xs) plain xs (omega arith)))))
+short_content n after_backslash [] le = tt
+short_content n after_backslash (x ∷ xs) le =
+    either (Each (UpTo n)) (x == 117) _ _ (short_content n after_u xs (omega arith))
+    (after_unit n _ (short_escape x) (λ c. prepended n (length xs) (c ∷ []) _ (omega arith) (short_content (length xs) plain xs (omega arith))))
+short_content n after_u [] le = tt
+short_content n after_u (a ∷ []) le = tt
+short_content n after_u (a ∷ b ∷ []) le = tt
+short_content n after_u (a ∷ b ∷ c ∷ []) le = tt
+short_content n after_u (a ∷ b ∷ c ∷ d ∷ xs) le =
+    after_unit n _ (code_unit a b c d) (λ u. either (Each (UpTo n)) (is_high_surrogate u) _ _ (short_content n (after_high u) xs (omega arith))
+    (either (Each (UpTo n)) (is_low_surrogate u) _ _ tt (prepended n (length xs) (encode_utf8 u) _ (omega (arith, length-encode u)) (short_content (length xs) plain xs (omega arith)))))
+short_content n (after_high h) [] le = tt
+short_content n (after_high h) (s ∷ []) le = tt
+short_content n (after_high h) (s ∷ u ∷ []) le = tt
+short_content n (after_high h) (s ∷ u ∷ a ∷ []) le = tt
+short_content n (after_high h) (s ∷ u ∷ a ∷ b ∷ []) le = tt
+short_content n (after_high h) (s ∷ u ∷ a ∷ b ∷ c ∷ []) le = tt
+short_content n (after_high h) (s ∷ u ∷ a ∷ b ∷ c ∷ d ∷ xs) le =
+    either (Each (UpTo n)) ((s == 92) && (u == 117)) _ _ (after_unit n _ (code_unit a b c d) (λ l. either (Each (UpTo n)) (is_low_surrogate l) _ _
+    (prepended n (length xs) (encode_utf8 (surrogate_pair h l)) _ (omega (arith, length-encode (surrogate_pair h l))) (short_content (length xs) plain xs (omega arith))) tt)) tt
+
+-- ---- the tokens of a text
+
+abbrev pub ShortToken : ℕ → Token → Type 0
+ShortToken n Token.begin_object = ⊤
+ShortToken n Token.end_object = ⊤
+ShortToken n Token.begin_array = ⊤
+ShortToken n Token.end_array = ⊤
+ShortToken n (Token.key s) = ⊤
+ShortToken n (Token.string s) = UpTo n s
+ShortToken n (Token.number s) = ⊤
+ShortToken n (Token.boolean b) = ⊤
+ShortToken n Token.null = ⊤
+ShortToken n Token.bad = ⊤
+
+abbrev ShortLexeme : ℕ → Lexeme → Type 0
+ShortLexeme n (token t) = ShortToken n t
+ShortLexeme n comma = ⊤
+ShortLexeme n colon = ⊤
+
+abbrev pub AreShort : ℕ → List Token → Type 0
+AreShort n = AllByRecursion (ShortToken n)
+
+short_string : (n : ℕ) (o : Option (List ℕ)) → Each (UpTo n) o → ShortToken n (string_token o)
+short_string n None h = tt
+short_string n (Some s) h = h
+
+short_number : (n : ℕ) (t : List ℕ) (o : Option (List ℕ)) → ShortToken n (number_before t o)
+short_number n t None = tt
+short_number n t (Some rest) = either (ShortToken n) (ends_word rest) _ _ tt tt
+
+short_literal : (n : ℕ) (name : List ℕ) (k : Token) (t : List ℕ) → ShortToken n k → ShortToken n (literal name k t)
+short_literal n name k t h = either (ShortToken n) (starts_with nat_eq t name && ends_word (drop (length name) t)) k Token.bad h tt
+
+short_word : (n : ℕ) (t : List ℕ) → ShortToken n (word t)
+unfolding word
+short_word n t =
+    either (ShortToken n) (head t == 116) _ _ (short_literal n (codes "true") (Token.boolean true) t tt)
+    (either (ShortToken n) (head t == 102) _ _ (short_literal n (codes "false") (Token.boolean false) t tt)
+    (either (ShortToken n) (head t == 110) _ _ (short_literal n (codes "null") Token.null t tt) (short_number n t (after_number t))))
+
+short_operator : (n x : ℕ) → ShortLexeme n (operator_lexeme x)
+short_operator n x =
+    either (ShortLexeme n) (x == 123) _ _ tt (either (ShortLexeme n) (x == 125) _ _ tt (either (ShortLexeme n) (x == 91) _ _ tt
+    (either (ShortLexeme n) (x == 93) _ _ tt (either (ShortLexeme n) (x == 44) _ _ tt tt))))
+
+short_byte : (n : ℕ) (m : Mode) (c : Class) (x : ℕ) (xs : List ℕ) (k : Mode → List Lexeme) → length xs ≤ n → ((next : Mode) → AllByRecursion (ShortLexeme n) (k next)) → AllByRecursion (ShortLexeme n) (lex_byte m c x xs k)
+short_byte n between quote x xs k le h = (short_string n (content plain xs) (short_content n plain xs le), h in_string)
+short_byte n between backslash x xs k le h = (tt, h in_word)
+short_byte n between operator x xs k le h = (short_operator n x, h between)
+short_byte n between space x xs k le h = h between
+short_byte n between other x xs k le h = (short_word n (x ∷ xs), h in_word)
+short_byte n in_word quote x xs k le h = h in_word
+short_byte n in_word backslash x xs k le h = h in_word
+short_byte n in_word operator x xs k le h = (short_operator n x, h between)
+short_byte n in_word space x xs k le h = h between
+short_byte n in_word other x xs k le h = h in_word
+short_byte n in_string quote x xs k le h = h between
+short_byte n in_string backslash x xs k le h = h in_escape
+short_byte n in_string operator x xs k le h = h in_string
+short_byte n in_string space x xs k le h = h in_string
+short_byte n in_string other x xs k le h = h in_string
+short_byte n in_escape c x xs k le h = h in_string
+
+short_lex : (n : ℕ) (m : Mode) (xs : List ℕ) → length xs ≤ n → AllByRecursion (ShortLexeme n) (lex m xs)
+unfolding lex
+short_lex n m [] le = tt
+short_lex n m (x ∷ xs) le = short_byte n m (class x) x xs (λ next. lex next xs) (omega arith) (λ next. short_lex n next xs (omega arith))
+
+short_allowed : (n : ℕ) (b : Bool) (t : Token) (k : Place → List Token) (next : Place) → ShortToken n t → ((p : Place) → AreShort n (k p)) → AreShort n (if_allowed b t k next)
+short_allowed n true t k next h rest = (h, rest next)
+short_allowed n false t k next h rest = (tt, tt)
+
+short_placed : (n : ℕ) (p : Place) (t : Token) (before_colon : Bool) (k : Place → List Token) → ShortToken n t → ((next : Place) → AreShort n (k next)) → AreShort n (place_token p t before_colon k)
+short_placed n p Token.begin_object b k h rest = short_allowed n (may_begin p) Token.begin_object k fresh tt rest
+short_placed n p Token.end_object b k h rest = short_allowed n (may_close p) Token.end_object k after_value tt rest
+short_placed n p Token.begin_array b k h rest = short_allowed n (may_begin p) Token.begin_array k fresh tt rest
+short_placed n p Token.end_array b k h rest = short_allowed n (may_close p) Token.end_array k after_value tt rest
+short_placed n p (Token.key s) b k h rest = (tt, tt)
+short_placed n p (Token.string s) true k h rest = short_allowed n (may_begin p) (Token.key s) k after_key tt rest
+short_placed n p (Token.string s) false k h rest = short_allowed n (may_begin p) (Token.string s) k after_value h rest
+short_placed n p (Token.number s) b k h rest = short_allowed n (may_begin p) (Token.number s) k after_value tt rest
+short_placed n p (Token.boolean v) b k h rest = short_allowed n (may_begin p) (Token.boolean v) k after_value tt rest
+short_placed n p Token.null b k h rest = short_allowed n (may_begin p) Token.null k after_value tt rest
+short_placed n p Token.bad b k h rest = (tt, tt)
+
+short_punctuated : (n : ℕ) (p : Place) (ls : List Lexeme) → AllByRecursion (ShortLexeme n) ls → AreShort n (punctuate p ls)
+unfolding punctuate
+short_punctuated n fresh [] h = tt
+short_punctuated n after_value [] h = tt
+short_punctuated n after_comma [] h = (tt, tt)
+short_punctuated n after_key [] h = (tt, tt)
+short_punctuated n fresh (token t ∷ ls) h = short_placed n fresh t (begins_colon ls) (λ next. punctuate next ls) h.0 (λ next. short_punctuated n next ls h.1)
+short_punctuated n after_value (token t ∷ ls) h = short_placed n after_value t (begins_colon ls) (λ next. punctuate next ls) h.0 (λ next. short_punctuated n next ls h.1)
+short_punctuated n after_comma (token t ∷ ls) h = short_placed n after_comma t (begins_colon ls) (λ next. punctuate next ls) h.0 (λ next. short_punctuated n next ls h.1)
+short_punctuated n after_key (token t ∷ ls) h = short_placed n after_key t (begins_colon ls) (λ next. punctuate next ls) h.0 (λ next. short_punctuated n next ls h.1)
+short_punctuated n fresh (comma ∷ ls) h = (tt, tt)
+short_punctuated n after_value (comma ∷ ls) h = short_punctuated n after_comma ls h.1
+short_punctuated n after_comma (comma ∷ ls) h = (tt, tt)
+short_punctuated n after_key (comma ∷ ls) h = (tt, tt)
+short_punctuated n fresh (colon ∷ ls) h = (tt, tt)
+short_punctuated n after_value (colon ∷ ls) h = (tt, tt)
+short_punctuated n after_comma (colon ∷ ls) h = (tt, tt)
+short_punctuated n after_key (colon ∷ ls) h = short_punctuated n fresh ls h.1
+
+pub short_tokens : (text : List ℕ) → AreShort (length text) (tokens text)
+short_tokens text = short_punctuated (length text) fresh (lex between text) (short_lex (length text) between text (omega arith))
