@@ -1,5 +1,5 @@
 -- A plain object: seven members in the order and the spelling of a written line, with texts that stand between their quotes as they are.
-use Rattle.std.specs.Prelude.{◌≡◌, ℕ, ◌==◌, ◌&&◌, Bool, true, not, nat_le, List, [], ◌∷◌, ◌++◌, codes}
+use Rattle.std.specs.Prelude.{◌≡◌, ℕ, ◌==◌, ◌&&◌, Bool, true, not, nat_le, List, ◌∷◌, ◌++◌, codes}
 use Rattle.std.specs.List.{list_all}
 use Rattle.json.specs.Run.{is_plain}
 use Rattle.cdxj_core.specs.Texts.{TextsValue, or_missing}
