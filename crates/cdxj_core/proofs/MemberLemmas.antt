@@ -1,7 +1,7 @@
 -- The entry of a line.
 use Rattle.std.proofs.Common.{◌≡◌, ◌≢◌, ℕ, ◌-◌, ◌<◌, ◌≤◌, ◌==◌, true, false, not, cond, List, [], ◌∷◌, length, take, get_or, Option, Some, None, option_map, Err, refl, sym, ap, ◌∙◌, subst, arith}
 use Rattle.std.specs.Str.{IsUtf8, is_utf8}
-use Rattle.std.proofs.lemmas.Bool.{cond-true, cond-false, not-true, lt-ltb}
+use Rattle.std.proofs.lemmas.Bool.{cond-true, cond-false, not-true, lt-ltb, le-ltb}
 use Rattle.std.proofs.lemmas.List.Sums.{AllPass-from_list_all}
 use Rattle.std.proofs.lemmas.Str.{IsUtf8-from_is_utf8, is_utf8-from_IsUtf8}
 use Rattle.std.specs.List.{before_first, after_first}
@@ -124,6 +124,15 @@ line_of_body limit line body text member same its whole h =
     let e = entered limit text member h in
     let bodies : body_of text ≡ body_of line = body_of-body text (ap has_no_feed same ∙ sym whole) ∙ same ∙ its in
     entry_from limit line member (record { utf8 = subst IsUtf8 bodies e.utf8; values = ap (line_in limit) (sym bodies) ∙ e.values; body = e.body ∙ bodies })
+
+-- a body that is too long has no values
+long_has_none : (limit : ℕ) (body : List ℕ) → limit ≤ length body → line_in limit body ≡ None
+unfolding line_in
+long_has_none limit body long = rw (le-ltb (length body) limit long) refl
+
+-- a line that is too long has no entry
+pub long_line_none : (limit : ℕ) (line : List ℕ) → limit ≤ length (body_of line) → line_entry limit line ≡ None
+long_line_none limit line long = entry_none limit line (λ utf8. long_has_none limit (body_of line) long)
 
 pub entry_is_short : (limit : ℕ) (line : List ℕ) (member : Member) → line_entry limit line ≡ Some member → length (body_of line) < limit
 entry_is_short limit line member h = line_in-short limit (body_of line) member.values (entered limit line member h).values

@@ -1,12 +1,13 @@
 //! Laws of the definitions that the contracts cite. These functions do nothing: each law is a
 //! contract.
-ghost use Rattle.std.specs.Prelude.{◌≡◌, ◌≤◌, ◌<◌, ◌++◌, ℕ, List, Some, length, map, flat_map};
+ghost use Rattle.std.specs.Prelude.{◌≡◌, ◌≤◌, ◌<◌, ◌++◌, ℕ, List, None, Some, length, map, flat_map};
 ghost use Rattle.std.specs.List.{AllByRecursion};
 ghost use Rattle.cdxj_places.specs.Pair.{pair_of};
 ghost use Rattle.cdxj_places.specs.Pairs.{pair_cmp};
 ghost use Rattle.cdxj_places.specs.Places.{place_cmp};
 ghost use Rattle.cdxj_places.specs.Rising.{Rises, NeverFalls};
 ghost use Rattle.cdxj_core.specs.Entries.{EntryValue, HasLine, entry_pair, entry_place, line_text};
+ghost use Rattle.cdxj_core.specs.Lines.{body_of};
 ghost use Rattle.cdxj_core.specs.Members.{Member, entry_member, line_entry, member_pair};
 ghost use Rattle.cdxj_core.specs.Indexes.{IsIndex};
 
@@ -20,6 +21,11 @@ pub fn written_line_is_read()
 pub fn line_stays_under_higher_limit()
     ensures { (low high : ℕ) → low ≤ high → (line : List ℕ) → (member : Member)
         → line_entry low line ≡ Some member → line_entry high line ≡ Some member }
+{}
+
+/// A line that is too long has no entry.
+pub fn long_line_has_no_entry()
+    ensures { (limit : ℕ) → (line : List ℕ) → limit ≤ length (body_of line) → line_entry limit line ≡ None }
 {}
 
 /// A line that has an entry begins with the entry's pair.
