@@ -16,17 +16,31 @@ import time
 TICKS = os.sysconf("SC_CLK_TCK")
 
 
+def status_of(pid):
+    """The fields of the process's status that follow its name."""
+    with open(f"/proc/{pid}/stat") as file:
+        return file.read().rsplit(")", 1)[1].split()
+
+
+def is_ours(pid):
+    """Whether this script has started the process, or one that has."""
+    while pid > 1:
+        if pid == os.getpid():
+            return True
+        pid = int(status_of(pid)[1])
+    return False
+
+
 def checks():
     """(process, crate, kind, processor seconds) of each check that runs now."""
     for pid in filter(str.isdigit, os.listdir("/proc")):
         try:
             with open(f"/proc/{pid}/cmdline", "rb") as file:
                 words = file.read().decode(errors="replace").split("\0")
-            if os.path.basename(words[0]) != "rattle":
+            if os.path.basename(words[0]) != "rattle" or not is_ours(int(pid)):
                 continue
             folder = os.readlink(f"/proc/{pid}/cwd")
-            with open(f"/proc/{pid}/stat") as file:
-                fields = file.read().rsplit(")", 1)[1].split()
+            fields = status_of(pid)
         except (OSError, IndexError):
             continue
         crate = words[words.index("--crate-name") + 1] if "--crate-name" in words else "other"
