@@ -1,0 +1,103 @@
+use Rattle.std.proofs.Common.{◌≡◌, ℕ, zero, suc, ◌+◌, ◌-◌, ◌<◌, ◌≤◌, List, [], ◌∷◌, ◌++◌, length, take, drop, get_or, refl, sym, ap, ap₂, ◌∙◌, subst, arith, cond, eqb, ne_eqb, eqb-true, true, false, Option, append_assoc, append-nil, drop-drop, take-append-drop}
+use Rattle.std.proofs.lemmas.List.{drop-take, take-take, take_all, drop_all}
+use Rattle.std.specs.List.{onto_first}
+use Rattle.memchr.specs.Find.{Nowhere, NoneBefore, Passes, is_byte}
+use Rattle.cdxj_places.specs.TextLines.{lines}
+use Rattle.source_core.specs.Cursors.{NoFeed, PartOf, Filled}
+use Rattle.source_core.specs.declared.cursor.Cursor.{Cursor}
+
+-- a line that ends with its LF
+pub lines_front : (u v : List ℕ) → NoFeed u → lines (u ++ 10 ∷ v) ≡ (u ++ 10 ∷ []) ∷ lines v
+lines_front [] v h = refl
+lines_front (b ∷ u) v h = ap (λ t. cond t ((b ∷ []) ∷ lines (u ++ 10 ∷ v)) (onto_first b (lines (u ++ 10 ∷ v)))) h.0 ∙ ap (onto_first b) (lines_front u v h.1)
+
+-- one that the end cuts
+pub lines_last : (b : ℕ) (u : List ℕ) → NoFeed (b ∷ u) → lines (b ∷ u) ≡ (b ∷ u) ∷ []
+lines_last b [] h = ap (λ t. cond t ((b ∷ []) ∷ []) ((b ∷ []) ∷ [])) h.0
+lines_last b (c ∷ u) h = ap (λ t. cond t ((b ∷ []) ∷ lines (c ∷ u)) (onto_first b (lines (c ∷ u)))) h.0 ∙ ap (onto_first b) (lines_last c u h.1)
+
+pub no_feed-append : (u v : List ℕ) → NoFeed u → NoFeed v → NoFeed (u ++ v)
+no_feed-append [] v h k = k
+no_feed-append (b ∷ u) v h k = (h.0, no_feed-append u v h.1 k)
+
+no_feed_at : (n : ℕ) (u : List ℕ) → n ≤ length u → ((k : ℕ) → k < n → eqb (get_or u k 0) 10 ≡ false) → NoFeed (take n u)
+no_feed_at zero u l h = tt
+no_feed_at (suc n) [] l h = tt
+no_feed_at (suc n) (b ∷ u) l h = (h 0 (omega arith), no_feed_at n u (omega arith) (λ k l. h (suc k) (omega arith)))
+
+take_at_feed : (k : ℕ) (u : List ℕ) → k < length u → get_or u k 0 ≡ 10 → take (suc k) u ≡ take k u ++ 10 ∷ []
+take_at_feed k [] l e = absurd (omega arith)
+take_at_feed zero (b ∷ u) l e = ap (λ b. b ∷ []) e
+take_at_feed (suc k) (b ∷ u) l e = ap (λ v. b ∷ v) (take_at_feed k u (omega arith) e)
+
+pub part_found : (i : ℕ) (piece : List ℕ) → NoneBefore (Passes (is_byte 10) piece) 0 (length piece) i → Passes (is_byte 10) piece i → PartOf piece (i + 1) true
+part_found i piece h e =
+    let l = h.high in (
+      i,
+      (omega arith),
+      no_feed_at i piece (omega arith) (λ k l. ne_eqb _ 10 (λ q. h.before k (omega arith) l (ap (λ b. eqb b 10) q))),
+      ap (λ n. take n piece) (let q : i + 1 ≡ suc i = omega arith in q) ∙ take_at_feed i piece l (eqb-true _ 10 e),
+    )
+
+pub part_none : (piece : List ℕ) → Nowhere (Passes (is_byte 10) piece) 0 (length piece) → PartOf piece (length piece) false
+part_none piece h =
+    (refl, subst NoFeed (take_all (length piece) piece (omega arith)) (no_feed_at (length piece) piece (omega arith) (λ k l. ne_eqb _ 10 (λ q. h k (omega arith) l (ap (λ b. eqb b 10) q)))))
+
+-- What is held, and n bytes of it
+module _ (t buffer : List ℕ) (low m at n : ℕ) (bytes : take m (drop low buffer) ≡ take m (drop at t)) (inside : n ≤ m) where
+  pub here : drop at t ≡ take n (take m (drop low buffer)) ++ drop (at + n) t
+  here =
+      sym (take-append-drop n (drop at t))
+      ∙ ap₂ (λ u v. u ++ v) (sym (ap (take n) bytes ∙ take-take n m (drop at t) inside)) (drop-drop n at t)
+
+  pub left : take (m - n) (drop (low + n) buffer) ≡ take (m - n) (drop (at + n) t)
+  left =
+      let e : n + (m - n) ≡ m = omega arith in
+      ap (take (m - n)) (sym (drop-drop n low buffer)) ∙ sym (drop-take n (m - n) (drop low buffer)) ∙ ap (λ k. drop n (take k (drop low buffer))) e
+      ∙ ap (drop n) bytes ∙ sym (ap (λ k. drop n (take k (drop at t))) e) ∙ drop-take n (m - n) (drop at t) ∙ ap (take (m - n)) (drop-drop n at t)
+
+  -- the line that ends here
+  pub ended : (at0 : ℕ) (line : List ℕ) → drop at0 t ≡ line ++ drop at t → NoFeed line → PartOf (take m (drop low buffer)) n true
+      → lines (drop at0 t) ≡ (line ++ take n (take m (drop low buffer))) ∷ lines (drop (at + n) t)
+  ended at0 line e f p =
+      ap lines (e ∙ ap (λ u. line ++ u) (here ∙ ap (λ u. u ++ drop (at + n) t) p.3 ∙ append_assoc (take p.0 (take m (drop low buffer))) (10 ∷ []) (drop (at + n) t)) ∙ sym (append_assoc line _ _))
+      ∙ lines_front (line ++ take p.0 (take m (drop low buffer))) (drop (at + n) t) (no_feed-append line _ f p.2)
+      ∙ ap (λ l. l ∷ lines (drop (at + n) t)) (append_assoc line _ _ ∙ ap (λ u. line ++ u) (sym p.3))
+
+  -- the line goes on
+  pub goes_on : (at0 : ℕ) (line : List ℕ) → drop at0 t ≡ line ++ drop at t → NoFeed line → PartOf (take m (drop low buffer)) n false
+      → (drop at0 t ≡ (line ++ take n (take m (drop low buffer))) ++ drop (at + n) t) × NoFeed (line ++ take n (take m (drop low buffer)))
+  goes_on at0 line e f p = (
+    e ∙ ap (λ u. line ++ u) here ∙ sym (append_assoc line _ _),
+    no_feed-append line _ f (subst NoFeed (sym (take_all n (take m (drop low buffer)) (let q = p.0 in omega arith))) p.1),
+  )
+
+-- at the end
+pub cut_short : (t : List ℕ) (at0 at : ℕ) (line : List ℕ) → drop at0 t ≡ line ++ drop at t → NoFeed line → length t ≡ at → 0 < length line → lines (drop at0 t) ≡ line ∷ lines (drop at t)
+cut_short t at0 at [] e f l h = absurd (omega arith)
+cut_short t at0 at (b ∷ u) e f l h =
+    let none : drop at t ≡ [] = drop_all at t (let q = l in omega arith) in
+    ap lines (e ∙ ap (λ v. (b ∷ u) ++ v) none ∙ append-nil (b ∷ u)) ∙ lines_last b u f ∙ ap (λ v. (b ∷ u) ∷ lines v) (sym none)
+
+pub no_more : (t : List ℕ) (at0 at : ℕ) (line : List ℕ) → drop at0 t ≡ line ++ drop at t → length t ≡ at → length line ≡ 0 → lines (drop at0 t) ≡ []
+no_more t at0 at [] e l h = ap lines (e ∙ drop_all at t (let q = l in omega arith))
+no_more t at0 at (b ∷ u) e l h = absurd (omega arith)
+
+-- one line more was given
+pub given_more : {X : Type 0} (all now later : List X) (l : X) (n : ℕ) → now ≡ drop n all → now ≡ l ∷ later → later ≡ drop (n + 1) all
+given_more all now later l n e f = sym (ap (drop 1) (sym e ∙ f)) ∙ drop-drop 1 n all
+
+-- n bytes of those held were taken
+pub consumed : (text : Option (List ℕ)) (extent : ℕ) (c : Cursor) (n count : ℕ) → Filled text extent c → n ≤ c.high - c.low
+    → Filled text extent (record { buffer = c.buffer; low = c.low + n; high = c.high; at = c.at + n; start = c.start; count = count })
+consumed text extent c n count f l =
+    let o = f.ordered in
+    let w = f.within in
+    let q : (c.high - c.low) - n ≡ c.high - (c.low + n) = omega arith in
+    record {
+      room = f.room;
+      ordered = omega arith;
+      ends = f.ends;
+      within = omega arith;
+      bytes = λ t e. subst (λ k. take k (drop (c.low + n) c.buffer.items) ≡ take k (drop (c.at + n) t)) q (left t c.buffer.items c.low (c.high - c.low) c.at n (f.bytes t e) l);
+    }

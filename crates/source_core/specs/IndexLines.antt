@@ -1,0 +1,32 @@
+-- The lines of an index's text, cut after each LF.
+use Rattle.std.specs.Prelude.{◌≡◌, ℕ, zero, suc, List, [], ◌∷◌, ◌++◌, length, flat_map, max, cond, drop, nat_eq, Bool, true, false, Option, Some, None}
+pub use Rattle.cdxj_places.specs.TextLines.{lines}
+
+-- what follows the first LF
+abbrev pub after_line : List ℕ → List ℕ
+after_line [] = []
+after_line (b ∷ bs) = cond (nat_eq b 10) bs (after_line bs)
+
+-- the text from the first line on that begins at the offset or after it
+abbrev pub from_line : ℕ → List ℕ → List ℕ
+from_line zero text = text
+from_line (suc m) text = after_line (drop m text)
+
+-- the line, where one was found
+abbrev pub line_found : Bool → List ℕ → Option (List ℕ)
+line_found true line = Some line
+line_found false line = None
+
+-- a line and the lines after it, or no line
+abbrev pub first_then : Option (List ℕ) → List (List ℕ) → List (List ℕ)
+first_then None ls = []
+first_then (Some l) ls = l ∷ ls
+
+-- the length of the longest
+abbrev pub longest : List (List ℕ) → ℕ
+longest [] = 0
+longest (l ∷ ls) = max (length l) (longest ls)
+
+-- these lines stand before the offset, and a line begins there, or the text ends
+abbrev pub BeginsAfter : List ℕ → ℕ → List (List ℕ) → Type 0
+BeginsAfter text offset front = (lines text ≡ front ++ lines (drop offset text)) × (offset ≡ length (flat_map (λ l. l) front))
