@@ -11,3 +11,4 @@ pub mod EntryLaw
 pub mod PlainBytes
 pub mod PlainCuts
 pub mod PlainLaw
+pub mod UnescapedAscii

@@ -1,5 +1,5 @@
 -- A plain object: seven members in the order and the spelling of a written line, with texts that stand between their quotes as they are.
-use Rattle.std.specs.Prelude.{◌≡◌, ℕ, ◌==◌, ◌&&◌, Bool, true, not, nat_le, List, ◌∷◌, ◌++◌, codes}
+use Rattle.std.specs.Prelude.{◌≡◌, ℕ, ◌==◌, ◌&&◌, Bool, true, not, nat_le, nat_lt, List, ◌∷◌, ◌++◌, codes}
 use Rattle.std.specs.List.{list_all}
 use Rattle.json.specs.Run.{is_plain}
 use Rattle.cdxj_core.specs.Texts.{TextsValue, or_missing}
@@ -11,6 +11,10 @@ is_open b = not (b == 34)
 -- no control and no backslash
 abbrev pub is_unescaped : ℕ → Bool
 is_unescaped b = nat_le 32 b && not (b == 92)
+
+-- a character of ASCII that is no control and no backslash
+abbrev pub is_unescaped_ascii : ℕ → Bool
+is_unescaped_ascii b = is_unescaped b && nat_lt b 127
 
 -- no text has a quote
 pub record AreOpen (t : TextsValue) : Type 0 where

@@ -1,7 +1,12 @@
 //! The body of a line: the line without its line feed.
-ghost use Rattle.std.specs.Prelude.{◌≡◌};
+ghost use Rattle.std.specs.Prelude.{◌≡◌, ◌<◌, length, true, IfSome};
+ghost use Rattle.std.specs.List.{list_all};
+ghost use Rattle.cdxj_core.specs.declared.limit.TheConstants.{LINE_LIMIT};
 ghost use Rattle.cdxj_core.specs.Lines.{body_of, has_no_feed};
+ghost use Rattle.cdxj_core.specs.Plain.{is_unescaped_ascii};
 
+use crate::limit::LINE_LIMIT;
+use crate::unescaped::is_unescaped_ascii;
 use memchr::memchr;
 
 /// The line without a line feed at its end.
@@ -19,4 +24,19 @@ pub(crate) fn has_no_feed(text: &[u8]) -> bool
     ensures { result ≡ has_no_feed text.now }
 {
     memchr(b'\n', text).is_none()
+}
+
+/// The body as a text, where it is within the limit and each of its bytes is a character of ASCII
+/// that is no control and no backslash.
+#[inline(always)]
+pub(crate) fn unescaped_text(body: &[u8]) -> Option<&str>
+    ensures value { IfSome result (λ text. text.now ≡ body.now) }
+    ensures short { IfSome result (λ text. length text.now < LINE_LIMIT) }
+    ensures ascii { IfSome result (λ text. list_all is_unescaped_ascii text.now ≡ true) }
+{
+    if body.len() < LINE_LIMIT && is_unescaped_ascii(body) {
+        Some(unsafe { str::from_utf8_unchecked(body) })
+    } else {
+        None
+    }
 }

@@ -129,8 +129,21 @@ impl Line {
         ensures { MatchResult result (λ _. IsReading LINE_LIMIT line.now (Ok self.new))
             (λ fault. IsReading LINE_LIMIT line.now (Err fault) × (self.new ≡ self.old)) }
     {
-        let line = LineRef::read(self.alloc, line)?;
-        match self.keep(&line) {
+        match LineRef::read_plain(line) {
+            Some(plain) => self.take_on(&plain),
+            None => {
+                let line = LineRef::read_any(self.alloc, line)?;
+                self.take_on(&line)
+            }
+        }
+    }
+
+    #[inline(always)]
+    fn take_on(&mut self, line: &LineRef<'_>) -> Result<(), LineFault>
+        ensures { MatchResult result (λ _. self.new ≡ line.now)
+            (λ fault. (fault ≡ LineFault.Memory) × (self.new ≡ self.old)) }
+    {
+        match self.keep(line) {
             Ok(()) => Ok(()),
             Err(_) => Err(LineFault::Memory),
         }

@@ -5,7 +5,7 @@ ghost use Rattle.cdxj_places.specs.Pair.{is_key, is_stamp};
 ghost use Rattle.cdxj_core.specs.Members.{line_entry};
 ghost use Rattle.cdxj_core.specs.ValuesView.{parts_view};
 
-use crate::body::{body_of, has_no_feed};
+use crate::body::{body_of, has_no_feed, unescaped_text};
 use crate::fault::LineFault;
 use crate::field::Field;
 use crate::limit::LINE_LIMIT;
@@ -40,7 +40,7 @@ impl<'a> Model for LineRef<'a> {
 }
 
 impl<'a> LineRef<'a> {
-    ghost use Rattle.std.specs.Prelude.{◌≤◌, length, MatchResult, IfOk, IfErr, Err, None, IsUtf8};
+    ghost use Rattle.std.specs.Prelude.{◌≤◌, length, MatchResult, IfOk, IfSome, IfErr, Err, None, IsUtf8};
     ghost use Rattle.cdxj_core.specs.Lines.{field_value};
     ghost use Rattle.cdxj_core.specs.Members.{member_place, line_entry, IsReading};
     ghost use Rattle.cdxj_places.specs.PlaceViews.{place_view};
@@ -48,8 +48,40 @@ impl<'a> LineRef<'a> {
     /// Reads a line, with or without its line feed: a key, a space, a stamp, a space and a JSON
     /// object with a file name and an offset. `LineTooLong`, which comes first, where it has more
     /// than `LINE_LIMIT` bytes counted with a line feed; `BadLine` where it is no such line.
-    #[tactic(auto, unfolding(crate::specs::Lines::line_in))]
     pub fn read(alloc: Global, line: &'a [u8]) -> Result<LineRef<'a>, LineFault>
+        ensures { IsReading LINE_LIMIT line.now result }
+    {
+        match LineRef::read_plain(line) {
+            Some(found) => Ok(found),
+            None => LineRef::read_any(alloc, line),
+        }
+    }
+
+    /// Reads a line whose object is plain. It may decline any line, and takes no memory.
+    #[inline(always)]
+    pub(crate) fn read_plain(line: &'a [u8]) -> Option<LineRef<'a>>
+        ensures { IfSome result (λ found. line_entry LINE_LIMIT line.now ≡ Some found) }
+    {
+        let body = body_of(line);
+        let text = unescaped_text(body)?;
+        let (key, rest) = cut_first(text);
+        let (stamp, object) = cut_first(rest);
+        let values = Values::read_unescaped(key, stamp, object)?;
+        let Ok(digits) = <[u8; 14]>::try_from(stamp.as_bytes()) else {
+            return None;
+        };
+        Some(LineRef {
+            body: text,
+            key,
+            stamp,
+            digits,
+            values,
+        })
+    }
+
+    /// Reads any line.
+    #[tactic(auto, unfolding(crate::specs::Lines::line_in))]
+    pub(crate) fn read_any(alloc: Global, line: &'a [u8]) -> Result<LineRef<'a>, LineFault>
         ensures { IsReading LINE_LIMIT line.now result }
     {
         let body = body_of(line);

@@ -2,7 +2,7 @@
 //! between their quotes as they are.
 ghost use Rattle.std.specs.Prelude.{◌≡◌, ◌∷◌, ◌++◌, true, codes, IfSome};
 ghost use Rattle.std.specs.List.{list_all};
-ghost use Rattle.cdxj_core.specs.Plain.{is_open, plain_text, ArePlain, AreOpen};
+ghost use Rattle.cdxj_core.specs.Plain.{is_open, is_unescaped, plain_text, ArePlain, AreOpen};
 ghost use Rattle.cdxj_core.specs.MemberViews.{borrowed_view};
 
 use crate::borrowed_members::BorrowedMembers;
@@ -24,6 +24,7 @@ fn is_closed(rest: &str) -> bool
     rest == "}"
 }
 
+#[inline(always)]
 fn open_texts(object: &str) -> Option<BorrowedMembers<'_>>
     ensures { IfSome result (λ t. (object.now ≡ plain_text (borrowed_view t)) × AreOpen (borrowed_view t)) }
 {
@@ -49,12 +50,22 @@ fn open_texts(object: &str) -> Option<BorrowedMembers<'_>>
     }
 }
 
+/// The texts of a plain object, of which no byte is a control or a backslash. It may decline any
+/// object.
+#[inline(always)]
+pub(crate) fn unescaped_texts(object: &str) -> Option<BorrowedMembers<'_>>
+    requires { list_all is_unescaped object.now ≡ true }
+    ensures { IfSome result (λ t. (object.now ≡ plain_text (borrowed_view t)) × ArePlain (borrowed_view t)) }
+{
+    open_texts(object)
+}
+
 /// The texts of a plain object. It may decline any object, which JSON then reads.
 pub(crate) fn plain_texts(object: &str) -> Option<BorrowedMembers<'_>>
     ensures { IfSome result (λ t. (object.now ≡ plain_text (borrowed_view t)) × ArePlain (borrowed_view t)) }
 {
     if is_unescaped(object.as_bytes()) {
-        open_texts(object)
+        unescaped_texts(object)
     } else {
         None
     }

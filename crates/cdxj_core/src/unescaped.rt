@@ -2,7 +2,7 @@
 ghost use Rattle.std.specs.Prelude.{◌≡◌, ◌∷◌, ◌++◌, true, IfSome};
 ghost use Rattle.std.specs.List.{list_all};
 ghost use Rattle.json.specs.Run.{is_plain};
-ghost use Rattle.cdxj_core.specs.Plain.{is_open, is_unescaped};
+ghost use Rattle.cdxj_core.specs.Plain.{is_open, is_unescaped, is_unescaped_ascii};
 
 use memchr::memchr;
 
@@ -14,6 +14,18 @@ pub(crate) fn is_unescaped(text: &[u8]) -> bool
     let mut good = true;
     for byte in text {
         good &= *byte >= b' ' && *byte != b'\\';
+    }
+    good
+}
+
+/// Whether every byte is a character of ASCII, and none is a control or a backslash. One pass, as
+/// above.
+pub(crate) fn is_unescaped_ascii(text: &[u8]) -> bool
+    ensures { result ≡ list_all is_unescaped_ascii text.now }
+{
+    let mut good = true;
+    for byte in text {
+        good &= *byte >= b' ' && *byte != b'\\' && *byte < 0x7f;
     }
     good
 }

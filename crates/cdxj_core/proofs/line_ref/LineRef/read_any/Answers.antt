@@ -4,7 +4,7 @@ use Rattle.cdxj_core.specs.declared.limit.TheConstants.{LINE_LIMIT}
 use Rattle.cdxj_places.specs.Pair.{is_stamp}
 use Rattle.cdxj_core.specs.ValuesView.{parts_view}
 use Rattle.cdxj_core.proofs.MemberLemmas.{entry_none, body_entry, line_of_body}
-use Rattle.cdxj_core.proofs.line_ref.LineRef.read.Goals as goal
+use Rattle.cdxj_core.proofs.line_ref.LineRef.read_any.Goals as goal
 
 pub returns-in_default : goal.returns-in_default
 returns-in_default c =
