@@ -1,0 +1,7 @@
+pub mod Rows
+pub mod Pages
+pub mod Form
+pub mod FormView
+pub mod PageText
+pub mod Faults
+pub mod Laws

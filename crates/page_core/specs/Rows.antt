@@ -1,0 +1,51 @@
+-- How one capture is written in each output.
+use Rattle.std.specs.Prelude.{ℕ, ◌+◌, ◌/◌, ◌%◌, ◌==◌, ◌||◌, Bool, nat_lt, nat_le, List, [], ◌∷◌, ◌++◌, flat_map, codes, if◌then◌else◌}
+use Rattle.std.specs.List.{join_by}
+use Rattle.json.specs.Print.{quoted}
+use Rattle.cdxj_core.specs.declared.field.Field.{Field}
+use Rattle.cdxj_core.specs.declared.field.Field.TheVariants.{Urlkey, Timestamp, Original, Mimetype, Statuscode, Digest, Length, Offset, Filename}
+use Rattle.cdxj_core.specs.Lines.{field_value}
+use Rattle.cdxj_core.specs.Members.{Member}
+
+-- the value of a field
+abbrev pub value_of : Member → Field → List ℕ
+value_of m field = field_value field m.values
+
+-- the name of a field
+abbrev pub field_name : Field → List ℕ
+field_name Urlkey = codes "urlkey"
+field_name Timestamp = codes "timestamp"
+field_name Original = codes "original"
+field_name Mimetype = codes "mimetype"
+field_name Statuscode = codes "statuscode"
+field_name Digest = codes "digest"
+field_name Length = codes "length"
+field_name Offset = codes "offset"
+field_name Filename = codes "filename"
+
+-- a digit of base 16, as `0` to `9` and `A` to `F`
+abbrev pub hex_digit : ℕ → ℕ
+hex_digit d = if nat_lt d 10 then 48 + d else 55 + d
+
+-- a space, a control or the delete
+abbrev pub is_hidden : ℕ → Bool
+is_hidden b = nat_le b 32 || (b == 127)
+
+-- such a byte as `%XX`, and every other as it is
+abbrev pub escaped_byte : ℕ → List ℕ
+escaped_byte b = if is_hidden b then 37 ∷ hex_digit (b / 16) ∷ hex_digit (b % 16) ∷ [] else b ∷ []
+
+abbrev pub escaped : List ℕ → List ℕ
+escaped text = flat_map escaped_byte text
+
+-- the values, with one space between
+abbrev pub text_row : List Field → Member → List ℕ
+text_row fields m = join_by (λ f. escaped (value_of m f)) (32 ∷ []) fields ++ 10 ∷ []
+
+-- the line as it stands
+abbrev pub line_row : Member → List ℕ
+line_row m = m.line ++ 10 ∷ []
+
+-- texts between brackets, with a comma between
+abbrev pub json_row : List (List ℕ) → List ℕ
+json_row texts = 91 ∷ (join_by quoted (44 ∷ []) texts ++ 93 ∷ [])

@@ -1,0 +1,73 @@
+//! In which form a page is written.
+ghost use Rattle.std.specs.Prelude.{◌≡◌, ◌++◌, IfOk, option_map};
+ghost use Rattle.page_core.specs.PageText.{page_start, row_text, page_end};
+ghost use Rattle.page_core.specs.FormView.{form_view};
+
+use crate::json_rows::{push_json_end, push_json_row, push_json_start};
+use crate::text_rows::{push_key_lines, push_line_row, push_text_row};
+use cdxj_core::{Field, Line};
+use std::alloc::{AllocError, Global};
+
+/// The output of a query, with the fields that it prints.
+#[derive(Clone, Copy, Debug)]
+pub enum PageForm<'f> {
+    /// The values of these fields, a line for each capture.
+    Text(&'f [Field]),
+    /// The lines as they stand in their indexes.
+    Cdxj,
+    /// One array of rows, of which the first has the names of these fields.
+    Json(&'f [Field]),
+}
+
+impl PageForm<'_> {
+    /// Puts behind the text what stands before the first capture of a page.
+    pub(crate) fn push_start(self, text: &mut Vec<u8>, alloc: Global) -> Result<(), AllocError>
+        ensures { IfOk result (λ _. text.new.items
+            ≡ text.old.items ++ page_start (form_view self.entry)) }
+    {
+        match self {
+            PageForm::Text(_) | PageForm::Cdxj => Ok(()),
+            PageForm::Json(fields) => push_json_start(text, alloc, fields),
+        }
+    }
+
+    /// Puts behind the text what a capture adds to a page.
+    pub(crate) fn push_row(
+        self,
+        text: &mut Vec<u8>,
+        alloc: Global,
+        line: &Line,
+    ) -> Result<(), AllocError>
+        ensures { IfOk result (λ _. text.new.items
+            ≡ text.old.items ++ row_text (form_view self.entry) line.now) }
+    {
+        match self {
+            PageForm::Text(fields) => {
+                let values = line.values()?;
+                push_text_row(text, fields, &values)
+            }
+            PageForm::Cdxj => push_line_row(text, line),
+            PageForm::Json(fields) => {
+                let values = line.values()?;
+                push_json_row(text, alloc, fields, &values)
+            }
+        }
+    }
+
+    /// Puts behind the text what stands after the last capture of a page, with the resume key where
+    /// there is one.
+    pub(crate) fn push_end(
+        self,
+        text: &mut Vec<u8>,
+        alloc: Global,
+        key: Option<&str>,
+    ) -> Result<(), AllocError>
+        ensures { IfOk result (λ _. text.new.items
+            ≡ text.old.items ++ page_end (form_view self.entry) (option_map (λ k. k.now) key.entry)) }
+    {
+        match self {
+            PageForm::Text(_) | PageForm::Cdxj => push_key_lines(text, key),
+            PageForm::Json(_) => push_json_end(text, alloc, key),
+        }
+    }
+}

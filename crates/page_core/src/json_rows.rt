@@ -1,0 +1,123 @@
+//! Rows of JSON pages.
+ghost use Rattle.std.specs.Prelude.{◌≡◌, [], ◌∷◌, ◌++◌, map, flat_map, IfOk, option_map};
+ghost use Rattle.json.specs.Print.{quoted};
+ghost use Rattle.page_core.specs.Rows.{value_of, field_name, json_row};
+ghost use Rattle.page_core.specs.PageText.{key_rows, later_row};
+
+use cdxj_core::{Field, LineRef, push_quoted};
+use std::alloc::{AllocError, Global};
+
+/// The name of a field, as queries and JSON pages write it.
+pub fn field_name(field: Field) -> &'static str
+    ensures { result.now ≡ field_name field }
+{
+    match field {
+        Field::Urlkey => "urlkey",
+        Field::Timestamp => "timestamp",
+        Field::Original => "original",
+        Field::Mimetype => "mimetype",
+        Field::Statuscode => "statuscode",
+        Field::Digest => "digest",
+        Field::Length => "length",
+        Field::Offset => "offset",
+        Field::Filename => "filename",
+    }
+}
+
+fn push_later_quoted(text: &mut Vec<u8>, alloc: Global, value: &str) -> Result<(), AllocError>
+    ensures { IfOk result (λ _. text.new.items ≡ text.old.items ++ (44 ∷ [] ++ quoted value.now)) }
+{
+    text.extend_from_slice(b",")?;
+    push_quoted(text, alloc, value)
+}
+
+// A row of the names of the fields.
+fn push_names(text: &mut Vec<u8>, alloc: Global, fields: &[Field]) -> Result<(), AllocError>
+    ensures { IfOk result (λ _. text.new.items
+        ≡ text.old.items ++ json_row (map field_name fields.now)) }
+{
+    text.extend_from_slice(b"[")?;
+    if let Some((first, later)) = fields.split_first() {
+        push_quoted(text, alloc, field_name(*first))?;
+        for field in later {
+            push_later_quoted(text, alloc, field_name(*field))?;
+        }
+    }
+    text.extend_from_slice(b"]")?;
+    Ok(())
+}
+
+// A row of the values of the fields.
+fn push_values(
+    text: &mut Vec<u8>,
+    alloc: Global,
+    fields: &[Field],
+    line: &LineRef<'_>,
+) -> Result<(), AllocError>
+    ensures { IfOk result (λ _. text.new.items
+        ≡ text.old.items ++ json_row (map (value_of line.now) fields.now)) }
+{
+    text.extend_from_slice(b"[")?;
+    if let Some((first, later)) = fields.split_first() {
+        push_quoted(text, alloc, line.value(*first))?;
+        for field in later {
+            push_later_quoted(text, alloc, line.value(*field))?;
+        }
+    }
+    text.extend_from_slice(b"]")?;
+    Ok(())
+}
+
+// A row of one text.
+fn push_single(text: &mut Vec<u8>, alloc: Global, value: &str) -> Result<(), AllocError>
+    ensures { IfOk result (λ _. text.new.items ≡ text.old.items ++ json_row (value.now ∷ [])) }
+{
+    text.extend_from_slice(b"[")?;
+    push_quoted(text, alloc, value)?;
+    text.extend_from_slice(b"]")?;
+    Ok(())
+}
+
+/// Puts the start of the array behind the text, with the row of the names of the fields.
+pub(crate) fn push_json_start(
+    text: &mut Vec<u8>,
+    alloc: Global,
+    fields: &[Field],
+) -> Result<(), AllocError>
+    ensures { IfOk result (λ _. text.new.items
+        ≡ text.old.items ++ (91 ∷ json_row (map field_name fields.now))) }
+{
+    text.extend_from_slice(b"[")?;
+    push_names(text, alloc, fields)
+}
+
+/// Puts a further row of the array behind the text, with the values of the fields.
+pub(crate) fn push_json_row(
+    text: &mut Vec<u8>,
+    alloc: Global,
+    fields: &[Field],
+    line: &LineRef<'_>,
+) -> Result<(), AllocError>
+    ensures { IfOk result (λ _. text.new.items
+        ≡ text.old.items ++ later_row (map (value_of line.now) fields.now)) }
+{
+    text.extend_from_slice(b",\n")?;
+    push_values(text, alloc, fields, line)
+}
+
+/// Puts the rows of the resume key behind the text, where there is a key, and the end of the array.
+pub(crate) fn push_json_end(
+    text: &mut Vec<u8>,
+    alloc: Global,
+    key: Option<&str>,
+) -> Result<(), AllocError>
+    ensures { IfOk result (λ _. text.new.items ≡ text.old.items
+        ++ (flat_map later_row (key_rows (option_map (λ k. k.now) key.entry)) ++ 93 ∷ 10 ∷ [])) }
+{
+    if let Some(key) = key {
+        text.extend_from_slice(b",\n[],\n")?;
+        push_single(text, alloc, key)?;
+    }
+    text.extend_from_slice(b"]\n")?;
+    Ok(())
+}

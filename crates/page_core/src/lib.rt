@@ -1,0 +1,16 @@
+//! Pages of captures: their laws, and their text in the three outputs; docs/QUERY.md has the rules.
+#![tactic(auto)]
+
+mod escaping;
+mod fault;
+mod form;
+mod json_rows;
+mod laws;
+mod page_output;
+mod text_rows;
+
+pub use crate::fault::TextFault;
+pub use crate::form::PageForm;
+pub use crate::json_rows::field_name;
+pub use crate::laws::{begun_page_is_front, page_is_its_pieces, pages_join};
+pub use crate::page_output::PageOutput;

@@ -1,0 +1,81 @@
+//! The text of a page, written piece by piece.
+ghost use Rattle.std.specs.Prelude.{◌≡◌, option_map};
+ghost use Rattle.devices.specs.Writing.{WritesText};
+ghost use Rattle.page_core.specs.Faults.{CountsWrite};
+ghost use Rattle.page_core.specs.FormView.{form_view};
+ghost use Rattle.page_core.specs.PageText.{page_start, row_text, page_end};
+
+use crate::fault::TextFault;
+use crate::form::PageForm;
+use cdxj_core::Line;
+use devices::{Output, put};
+use std::alloc::Global;
+use std::marker::Model;
+
+/// Writes a page in one form: its start, a row for each capture, and its end. Each piece is made in
+/// one buffer, which is used again, and put whole.
+#[derive(Drop)]
+pub struct PageOutput<'f> {
+    alloc: Global,
+    form: PageForm<'f>,
+    text: Vec<u8>,
+}
+
+impl<'f> Model for PageOutput<'f> {
+    ghost use Rattle.page_core.specs.Form.{Form};
+    ghost use Rattle.page_core.specs.FormView.{form_view};
+
+    ghost Value = { Form };
+
+    ghost view = { λ page. form_view page.form };
+}
+
+impl<'f> PageOutput<'f> {
+    /// The output of a page in this form, of which nothing was written.
+    pub fn new(alloc: Global, form: PageForm<'f>) -> PageOutput<'f>
+        ensures { result ≡ form_view form.entry }
+    {
+        PageOutput {
+            alloc,
+            form,
+            text: Vec::new(alloc),
+        }
+    }
+
+    /// Writes what stands before the first capture.
+    pub fn put_start<O: Output>(&mut self, out: &mut O) -> Result<(), TextFault>
+        ensures form { self.new ≡ self.old }
+        ensures text { WritesText result (O.written out.old) (O.written out.new) (page_start self.old) }
+        ensures failures { CountsWrite result (O.failures out.old) (O.failures out.new) }
+    {
+        self.text.clear();
+        self.form.push_start(&mut self.text, self.alloc)?;
+        put(out, &self.text)?;
+        Ok(())
+    }
+
+    /// Writes what a capture adds.
+    pub fn put_row<O: Output>(&mut self, line: &Line, out: &mut O) -> Result<(), TextFault>
+        ensures form { self.new ≡ self.old }
+        ensures text { WritesText result (O.written out.old) (O.written out.new) (row_text self.old line.now) }
+        ensures failures { CountsWrite result (O.failures out.old) (O.failures out.new) }
+    {
+        self.text.clear();
+        self.form.push_row(&mut self.text, self.alloc, line)?;
+        put(out, &self.text)?;
+        Ok(())
+    }
+
+    /// Writes what stands after the last capture, with the resume key where there is one.
+    pub fn put_end<O: Output>(&mut self, key: Option<&str>, out: &mut O) -> Result<(), TextFault>
+        ensures form { self.new ≡ self.old }
+        ensures text { WritesText result (O.written out.old) (O.written out.new)
+            (page_end self.old (option_map (λ k. k.now) key.entry)) }
+        ensures failures { CountsWrite result (O.failures out.old) (O.failures out.new) }
+    {
+        self.text.clear();
+        self.form.push_end(&mut self.text, self.alloc, key)?;
+        put(out, &self.text)?;
+        Ok(())
+    }
+}

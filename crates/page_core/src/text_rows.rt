@@ -1,0 +1,69 @@
+//! Rows of text pages and of pages of lines.
+ghost use Rattle.std.specs.Prelude.{◌≡◌, [], ◌∷◌, ◌++◌, Option, IfOk, option_map};
+ghost use Rattle.std.specs.List.{join_by};
+ghost use Rattle.page_core.specs.Rows.{value_of, escaped, text_row, line_row};
+ghost use Rattle.page_core.specs.PageText.{key_lines};
+
+use crate::escaping::push_escaped;
+use cdxj_core::{Field, Line, LineRef};
+use std::alloc::AllocError;
+
+fn push_later_escaped(text: &mut Vec<u8>, value: &str) -> Result<(), AllocError>
+    ensures { IfOk result (λ _. text.new.items ≡ text.old.items ++ (32 ∷ [] ++ escaped value.now)) }
+{
+    text.extend_from_slice(b" ")?;
+    push_escaped(text, value)
+}
+
+// The values of the fields, with one space between.
+fn push_text_values(
+    text: &mut Vec<u8>,
+    fields: &[Field],
+    line: &LineRef<'_>,
+) -> Result<(), AllocError>
+    ensures { IfOk result (λ _. text.new.items ≡ text.old.items
+        ++ join_by (λ f. escaped (value_of line.now f)) (32 ∷ []) fields.now) }
+{
+    if let Some((first, later)) = fields.split_first() {
+        push_escaped(text, line.value(*first))?;
+        for field in later {
+            push_later_escaped(text, line.value(*field))?;
+        }
+    }
+    Ok(())
+}
+
+/// Puts the values of the fields behind the text, with one space between, and a line feed.
+pub(crate) fn push_text_row(
+    text: &mut Vec<u8>,
+    fields: &[Field],
+    line: &LineRef<'_>,
+) -> Result<(), AllocError>
+    ensures { IfOk result (λ _. text.new.items ≡ text.old.items ++ text_row fields.now line.now) }
+{
+    push_text_values(text, fields, line)?;
+    text.extend_from_slice(b"\n")?;
+    Ok(())
+}
+
+/// Puts the line behind the text as it stands in its index, with a line feed.
+pub(crate) fn push_line_row(text: &mut Vec<u8>, line: &Line) -> Result<(), AllocError>
+    ensures { IfOk result (λ _. text.new.items ≡ text.old.items ++ line_row line.now) }
+{
+    text.extend_from_slice(line.line())?;
+    text.extend_from_slice(b"\n")?;
+    Ok(())
+}
+
+/// Puts an empty line and the resume key behind the text, where there is a key.
+pub(crate) fn push_key_lines(text: &mut Vec<u8>, key: Option<&str>) -> Result<(), AllocError>
+    ensures { IfOk result (λ _. text.new.items
+        ≡ text.old.items ++ key_lines (option_map (λ k. k.now) key.entry)) }
+{
+    if let Some(key) = key {
+        text.extend_from_slice(b"\n")?;
+        text.extend_from_slice(key.as_bytes())?;
+        text.extend_from_slice(b"\n")?;
+    }
+    Ok(())
+}
