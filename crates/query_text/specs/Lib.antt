@@ -1,0 +1,12 @@
+pub mod FaultNames
+pub mod Readings
+pub mod Parts
+pub mod Values
+pub mod Filters
+pub mod Targets
+pub mod Outputs
+pub mod ParameterNames
+pub mod Parameters
+pub mod ParameterViews
+pub mod Queries
+pub mod Matching

@@ -1,0 +1,19 @@
+-- What contracts see of the parameters that were read.
+use Rattle.std.specs.Prelude.{option_map, string_bytes}
+use Rattle.query_text.specs.declared.parameters.Parameters.{Parameters}
+use Rattle.query_text.specs.Parameters.{ParameterValues}
+
+abbrev pub values_of : Parameters → ParameterValues
+values_of p = record {
+  url = option_map string_bytes p.url;
+  key = option_map string_bytes p.key;
+  kind = p.kind;
+  from = p.from;
+  to = p.to;
+  filters = p.filters.items;
+  limit = p.limit;
+  resume = p.resume;
+  show_resume_key = p.show_resume_key;
+  fields = option_map (λ fields. fields.items) p.fields;
+  output = p.output;
+}

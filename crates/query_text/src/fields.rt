@@ -1,0 +1,46 @@
+//! The fields that a query names.
+ghost use Rattle.std.specs.Prelude.{◌≡◌};
+ghost use Rattle.query_text.specs.Readings.{IsReadingBy};
+ghost use Rattle.query_text.specs.Values.{field_named, fields_of};
+
+use crate::fault::QueryFault;
+use crate::parts::cut_part;
+use cdxj_core::Field;
+use std::alloc::Global;
+
+/// The field of a name, as queries write it.
+pub(crate) fn field_named(name: &str) -> Option<Field>
+    ensures { result ≡ field_named name.now }
+{
+    match name {
+        "urlkey" => Some(Field::Urlkey),
+        "timestamp" => Some(Field::Timestamp),
+        "original" => Some(Field::Original),
+        "mimetype" => Some(Field::Mimetype),
+        "statuscode" => Some(Field::Statuscode),
+        "digest" => Some(Field::Digest),
+        "length" => Some(Field::Length),
+        "offset" => Some(Field::Offset),
+        "filename" => Some(Field::Filename),
+        _ => None,
+    }
+}
+
+/// The fields of names with commas between.
+pub(crate) fn read_fields(alloc: Global, names: &str) -> Result<Vec<Field>, QueryFault>
+    ensures { IsReadingBy (λ fields. fields.items) (fields_of names.now) result }
+{
+    let mut fields = Vec::new(alloc);
+    let mut left = Some(names);
+    while let Some(names) = left {
+        let (name, later) = cut_part(names, ',');
+        let Some(field) = field_named(name) else {
+            return Err(QueryFault::BadField);
+        };
+        if fields.push(field).is_err() {
+            return Err(QueryFault::Memory);
+        }
+        left = later;
+    }
+    Ok(fields)
+}

@@ -1,0 +1,124 @@
+//! Filters: conditions on the fields of lines.
+ghost use Rattle.std.specs.Prelude.{◌≡◌, string_bytes};
+ghost use Rattle.query_text.specs.Readings.{IsReading};
+ghost use Rattle.query_text.specs.Filters.{filter_of, literal_of, is_literal, bang_cut, occurs, holds};
+
+use crate::fault::QueryFault;
+use crate::fields::field_named;
+use cdxj_core::{Field, LineRef};
+use memchr::memmem;
+use std::alloc::Global;
+use std::marker::Model;
+
+/// What a filter asks of a value: to equal a text or not, to have it somewhere or not.
+#[derive(Clone, Copy, Debug, Drop, PartialEq, Eq)]
+pub enum Test {
+    Is,
+    IsNot,
+    Has,
+    HasNot,
+}
+
+/// A condition on one field of a line.
+#[derive(Debug, Drop)]
+pub struct Filter {
+    field: Field,
+    test: Test,
+    text: String,
+}
+
+impl Model for Filter {
+    ghost use Rattle.std.specs.Prelude.{string_bytes};
+    ghost use Rattle.query_text.specs.Filters.{FilterValue};
+
+    ghost Value = { FilterValue };
+
+    ghost view = { λ f. record { field = f.field; test = f.test; text = string_bytes f.text } };
+}
+
+impl Filter {
+    /// The filter of `field:text`. `BadFilter` where there is no `:`, or no such field.
+    pub(crate) fn read(alloc: Global, test: Test, condition: &str) -> Result<Filter, QueryFault>
+        ensures { IsReading (filter_of test condition.now) result }
+    {
+        let Some((name, text)) = condition.split_once(':') else {
+            return Err(QueryFault::BadFilter);
+        };
+        let Some(field) = field_named(name) else {
+            return Err(QueryFault::BadFilter);
+        };
+        let text = String::from_str(alloc, text)?;
+        Ok(Filter { field, test, text })
+    }
+
+    /// The filter of `field:text` or `!field:text`. `BadFilter`, then `NotLiteral` where the text
+    /// has a character that patterns use.
+    pub(crate) fn read_literal(alloc: Global, condition: &str) -> Result<Filter, QueryFault>
+        ensures { IsReading (literal_of condition.now) result }
+    {
+        let (test, condition) = cut_bang(condition);
+        let filter = Filter::read(alloc, test, condition)?;
+        if is_literal(filter.text.as_bytes()) {
+            Ok(filter)
+        } else {
+            Err(QueryFault::NotLiteral)
+        }
+    }
+
+    /// Whether the filter holds of the line.
+    pub(crate) fn holds(&self, line: &LineRef<'_>) -> bool
+        ensures { result ≡ holds line.now.values self.now }
+    {
+        let value = line.value(self.field);
+        let text = self.text.as_str();
+        match self.test {
+            Test::Is => value == text,
+            Test::IsNot => value != text,
+            Test::Has => occurs(text, value),
+            Test::HasNot => !occurs(text, value),
+        }
+    }
+}
+
+/// One leading `!`, and what follows it.
+fn cut_bang(condition: &str) -> (Test, &str)
+    ensures { (result.0, result.1.now) ≡ bang_cut condition.now }
+{
+    match condition.strip_prefix('!') {
+        Some(rest) => (Test::IsNot, rest),
+        None => (Test::Is, condition),
+    }
+}
+
+/// Whether the text stands for itself alone, and for no pattern.
+fn is_literal(text: &[u8]) -> bool
+    ensures { result ≡ is_literal text.now }
+{
+    text.iter().all(|byte| {
+        !matches!(
+            byte,
+            b'\\'
+                | b'^'
+                | b'$'
+                | b'.'
+                | b'|'
+                | b'?'
+                | b'*'
+                | b'+'
+                | b'('
+                | b')'
+                | b'['
+                | b']'
+                | b'{'
+                | b'}'
+        )
+    })
+}
+
+/// Whether the text occurs in the value.
+#[tactic(auto, using(crate::proofs::Occurs::occurs_found))]
+fn occurs(text: &str, value: &str) -> bool
+    ensures { result ≡ occurs text.now value.now }
+{
+    memmem::find(value.as_bytes(), text.as_bytes()).is_some()
+}

@@ -1,0 +1,24 @@
+//! What the text of a query says, and which lines it selects; docs/QUERY.md has the rules.
+#![tactic(auto)]
+
+mod address;
+mod fault;
+mod fields;
+mod filter;
+mod laws;
+mod limit;
+mod output;
+mod parameter;
+mod parameters;
+mod parts;
+mod query;
+mod resume;
+mod stamp;
+mod target;
+
+pub use crate::fault::QueryFault;
+pub use crate::filter::{Filter, Test};
+pub use crate::laws::matching_keys_are_in_one_range;
+pub use crate::output::OutputFormat;
+pub use crate::query::{QUERY_LIMIT, Query};
+pub use crate::target::{MatchKind, Target};

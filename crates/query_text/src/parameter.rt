@@ -1,0 +1,46 @@
+//! The names of parameters.
+ghost use Rattle.std.specs.Prelude.{◌≡◌};
+ghost use Rattle.query_text.specs.ParameterNames.{parameter_named};
+
+use crate::filter::Test;
+
+/// A parameter of a query text. The conditions are `is`, `isnot`, `has` and `hasnot`.
+#[derive(Clone, Copy)]
+pub(crate) enum Parameter {
+    Url,
+    Key,
+    MatchType,
+    From,
+    To,
+    Filter,
+    Condition(Test),
+    Limit,
+    ResumeKey,
+    ShowResumeKey,
+    Fl,
+    Output,
+}
+
+/// The parameter of a name, in which case counts.
+pub(crate) fn parameter_named(name: &str) -> Option<Parameter>
+    ensures { result ≡ parameter_named name.now }
+{
+    match name {
+        "url" => Some(Parameter::Url),
+        "key" => Some(Parameter::Key),
+        "matchType" => Some(Parameter::MatchType),
+        "from" => Some(Parameter::From),
+        "to" => Some(Parameter::To),
+        "filter" => Some(Parameter::Filter),
+        "is" => Some(Parameter::Condition(Test::Is)),
+        "isnot" => Some(Parameter::Condition(Test::IsNot)),
+        "has" => Some(Parameter::Condition(Test::Has)),
+        "hasnot" => Some(Parameter::Condition(Test::HasNot)),
+        "limit" => Some(Parameter::Limit),
+        "resumeKey" => Some(Parameter::ResumeKey),
+        "showResumeKey" => Some(Parameter::ShowResumeKey),
+        "fl" => Some(Parameter::Fl),
+        "output" => Some(Parameter::Output),
+        _ => None,
+    }
+}

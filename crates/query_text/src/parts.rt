@@ -1,0 +1,49 @@
+//! The pieces of a query text.
+ghost use Rattle.std.specs.Prelude.{◌≡◌, ◌∷◌, ◌<◌, ◌==◌, IfSome, IfOk, length, string_bytes};
+ghost use Rattle.std.specs.List.{list_all, slice_split, before_first, after_first};
+ghost use Rattle.std.specs.Char.{is_ascii_digit};
+ghost use Rattle.query_text.specs.Parts.{parts_left, is_equals, decoded};
+ghost use Rattle.query_text.specs.Values.{is_number};
+
+use form_urlencoded::decode;
+use std::alloc::{AllocError, Global};
+
+/// The part of a text before its first `sign`, and what follows that sign, if there is one.
+pub(crate) fn cut_part(text: &str, sign: char) -> (&str, Option<&str>)
+    requires { sign < 128 }
+    ensures parts { slice_split (λ b. b == sign) text.now ≡ result.0.now ∷ parts_left sign result.1 }
+    ensures smaller { IfSome result.1 (λ later. length later.now < length text.now) }
+{
+    match text.split_once(sign) {
+        Some((part, later)) => (part, Some(later)),
+        None => (text, None),
+    }
+}
+
+/// The name before the first `=`, and the text of the value after it.
+pub(crate) fn cut_pair(piece: &str) -> (&str, &str)
+    ensures name { result.0.now ≡ before_first is_equals piece.now }
+    ensures value { result.1.now ≡ after_first is_equals piece.now }
+{
+    piece.split_once('=').unwrap_or((piece, ""))
+}
+
+/// What a name or a value means, by the form encoding of the URL Standard.
+pub(crate) fn decoded(alloc: Global, text: &str) -> Result<String, AllocError>
+    ensures { IfOk result (λ found. string_bytes found ≡ decoded text.now) }
+{
+    decode(alloc, text.as_bytes())?.into_owned(alloc)
+}
+
+fn are_digits(bytes: &[u8]) -> bool
+    ensures { result ≡ list_all is_ascii_digit bytes.now }
+{
+    bytes.iter().all(|byte| byte.is_ascii_digit())
+}
+
+/// Whether the text is digits, at least one and at most so many.
+pub(crate) fn is_number(text: &str, most: usize) -> bool
+    ensures { result ≡ is_number most text.now }
+{
+    !text.is_empty() && text.len() <= most && are_digits(text.as_bytes())
+}

@@ -1,0 +1,231 @@
+//! Queries: what is asked of the captures of indexes.
+ghost use Rattle.std.specs.Prelude.{◌≡◌, IfOk, option_map, string_bytes};
+ghost use Rattle.std.specs.List.{list_all};
+ghost use Rattle.query_text.specs.Readings.{IsReading};
+ghost use Rattle.query_text.specs.Filters.{holds};
+ghost use Rattle.query_text.specs.Queries.{usual_fields, target_of};
+
+use crate::fault::QueryFault;
+use crate::filter::Filter;
+use crate::limit::Limit;
+use crate::output::OutputFormat;
+use crate::parameters::Parameters;
+use crate::stamp::{StampStart, not_after, not_before};
+use crate::target::{MatchKind, Target};
+use cdxj_core::{Field, Line, LineRef, OwnedPlace, Place};
+use std::alloc::{AllocError, Global};
+use std::marker::Model;
+
+/// The most bytes of a query text.
+pub const QUERY_LIMIT: usize = 65_536;
+
+/// What is asked of the captures of indexes.
+#[derive(Drop)]
+pub struct Query {
+    target: Target,
+    from: Option<StampStart>,
+    to: Option<StampStart>,
+    filters: Vec<Filter>,
+    limit: Option<Limit>,
+    resume: Option<OwnedPlace>,
+    show_resume_key: bool,
+    fields: Vec<Field>,
+    output: OutputFormat,
+}
+
+impl Model for Query {
+    ghost use Rattle.query_text.specs.Queries.{QueryValue};
+
+    ghost Value = { QueryValue };
+
+    ghost view = { λ q. record {
+      target = q.target;
+      from = q.from;
+      to = q.to;
+      filters = q.filters.items;
+      limit = q.limit;
+      resume = q.resume;
+      show_resume_key = q.show_resume_key;
+      fields = q.fields.items;
+      output = q.output;
+    } };
+}
+
+/// The fields of a row where a query names none.
+fn usual_fields(alloc: Global) -> Result<Vec<Field>, AllocError>
+    ensures { IfOk result (λ fields. fields.items ≡ usual_fields) }
+{
+    Vec::from_slice(
+        alloc,
+        &[
+            Field::Urlkey,
+            Field::Timestamp,
+            Field::Original,
+            Field::Mimetype,
+            Field::Statuscode,
+            Field::Digest,
+            Field::Length,
+        ],
+    )
+}
+
+/// The target of a `url` or of a `key`. `NoUrl` where there is neither, `UrlAndKey` where there are
+/// both, then `BadUrl`.
+fn target_of(
+    alloc: Global,
+    url: Option<String>,
+    key: Option<String>,
+    kind: Option<MatchKind>,
+) -> Result<Target, QueryFault>
+    ensures { IsReading
+        (target_of (option_map string_bytes url) (option_map string_bytes key) kind) result }
+{
+    match (url, key) {
+        (None, None) => Err(QueryFault::NoUrl),
+        (Some(_), Some(_)) => Err(QueryFault::UrlAndKey),
+        (Some(url), None) => Target::of_url(alloc, url.as_str(), kind),
+        (None, Some(key)) => Ok(Target::of_key(key, kind.unwrap_or(MatchKind::Exact))),
+    }
+}
+
+fn all_hold(filters: &[Filter], line: &LineRef<'_>) -> bool
+    ensures { result ≡ list_all (holds line.now.values) filters.now }
+{
+    filters.iter().all(|filter| filter.holds(line))
+}
+
+impl Query {
+    ghost use Rattle.std.specs.Prelude.{◌≢◌, ◌<◌, ◌≤◌, [], IsOk, IfSome, MatchResult, Ok, Err};
+    ghost use Rattle.cdxj_core.specs.PlaceViews.{place_view};
+    ghost use Rattle.query_text.specs.declared.query.TheConstants.{QUERY_LIMIT};
+    ghost use Rattle.query_text.specs.ParameterViews.{values_of};
+    ghost use Rattle.query_text.specs.Queries.{query_with, query_of};
+    ghost use Rattle.query_text.specs.Matching.{matches_pair, matches};
+
+    fn with_parameters(alloc: Global, parameters: Parameters) -> Result<Query, QueryFault>
+        ensures { IsReading (query_with (values_of parameters)) result }
+    {
+        let Parameters {
+            url,
+            key,
+            kind,
+            from,
+            to,
+            filters,
+            limit,
+            resume,
+            show_resume_key,
+            fields,
+            output,
+        } = parameters;
+        let target = target_of(alloc, url, key, kind)?;
+        let fields = match fields {
+            Some(fields) => fields,
+            None => usual_fields(alloc)?,
+        };
+        Ok(Query {
+            target,
+            from,
+            to,
+            filters,
+            limit,
+            resume,
+            show_resume_key: show_resume_key.unwrap_or(false),
+            fields,
+            output: output.unwrap_or(OutputFormat::Text),
+        })
+    }
+
+    /// The query of a text, or the first refusal: `QueryTooLong` over `QUERY_LIMIT` bytes; those of
+    /// the parameters, from left to right; then `NoUrl`, `UrlAndKey` and `BadUrl`. `Memory` also
+    /// where the URL parser has no room for the URL.
+    pub fn read(alloc: Global, text: &str) -> Result<Query, QueryFault>
+        ensures { MatchResult result (λ query. query_of QUERY_LIMIT text.now ≡ Ok query)
+            (λ fault. fault ≢ QueryFault.Memory → query_of QUERY_LIMIT text.now ≡ Err fault) }
+    {
+        if text.len() > QUERY_LIMIT {
+            return Err(QueryFault::QueryTooLong);
+        }
+        Query::with_parameters(alloc, Parameters::read(alloc, text)?)
+    }
+
+    /// The keys that the query asks for.
+    pub fn target(&self) -> &Target
+        ensures { result.now ≡ self.now.target }
+    {
+        &self.target
+    }
+
+    /// Whether the query asks for lines of this key and stamp, whatever its filters say of them.
+    pub fn matches_pair(&self, key: &str, stamp: [u8; 14]) -> bool
+        ensures { result ≡ matches_pair self.now key.now stamp }
+    {
+        self.target.matches(key) && not_before(&self.from, &stamp) && not_after(&self.to, &stamp)
+    }
+
+    /// Whether the query asks for the line.
+    pub fn matches(&self, line: &LineRef<'_>) -> bool
+        ensures { result ≡ matches self.now line.now.values }
+    {
+        let (key, stamp) = line.pair();
+        self.matches_pair(key, stamp) && all_hold(self.filters.as_slice(), line)
+    }
+
+    /// Whether the query asks for the line, whose values are read again only where the query has
+    /// filters.
+    pub fn matches_kept(&self, line: &Line) -> Result<bool, AllocError>
+        ensures value { IfOk result (λ found. found ≡ matches self.now line.now.values) }
+        ensures unfiltered { self.now.filters ≡ [] → IsOk result }
+    {
+        let (key, stamp) = line.pair();
+        if !self.matches_pair(key, stamp) {
+            return Ok(false);
+        }
+        if self.filters.is_empty() {
+            return Ok(true);
+        }
+        Ok(all_hold(self.filters.as_slice(), &line.values()?))
+    }
+
+    /// The most captures of a page, if there is a bound.
+    pub fn limit(&self) -> Option<u64>
+        ensures value { result ≡ self.now.limit }
+        ensures bounds { IfSome result (λ limit. (0 < limit) × (limit ≤ 1000000)) }
+    {
+        match &self.limit {
+            Some(limit) => Some(limit.captures()),
+            None => None,
+        }
+    }
+
+    /// The place after which the page begins, if one was given.
+    pub fn resume(&self) -> Option<Place<'_>>
+        ensures { option_map place_view result ≡ self.now.resume }
+    {
+        match &self.resume {
+            Some(place) => Some(place.place()),
+            None => None,
+        }
+    }
+
+    /// Whether the page ends with the resume key of the next.
+    pub fn shows_resume_key(&self) -> bool
+        ensures { result ≡ self.now.show_resume_key }
+    {
+        self.show_resume_key
+    }
+
+    /// The fields of a row, in order.
+    pub fn fields(&self) -> &[Field]
+        ensures { result.now ≡ self.now.fields }
+    {
+        self.fields.as_slice()
+    }
+
+    /// How the page is written.
+    pub fn output(&self) -> OutputFormat
+        ensures { result ≡ self.now.output }
+    {
+        self.output
+    }
+}

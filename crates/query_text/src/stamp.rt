@@ -1,0 +1,82 @@
+//! The stamps between which a query selects.
+ghost use Rattle.std.specs.Prelude.{◌≡◌, take, string_bytes};
+ghost use Rattle.query_text.specs.Readings.{IsReading};
+ghost use Rattle.query_text.specs.Values.{stamp_start_of};
+ghost use Rattle.query_text.specs.Matching.{not_before, not_after};
+
+use crate::fault::QueryFault;
+use crate::parts::is_number;
+use std::marker::Model;
+
+/// The digits with which a stamp may begin, 1 to 14 of them.
+#[derive(Debug, Drop)]
+pub(crate) struct StampStart {
+    digits: String,
+}
+
+impl Model for StampStart {
+    ghost use Rattle.std.specs.Prelude.{◌≡◌, ℕ, List, true, string_bytes};
+    ghost use Rattle.query_text.specs.Values.{is_number};
+
+    ghost Value = { List ℕ };
+
+    ghost view = { λ s. string_bytes s.digits };
+
+    ghost invariant = { λ s. is_number 14 (string_bytes s.digits) ≡ true };
+}
+
+impl StampStart {
+    /// `BadStamp` where the text is anything but 1 to 14 digits.
+    pub(crate) fn read(text: String) -> Result<StampStart, QueryFault>
+        ensures { IsReading (stamp_start_of (string_bytes text)) result }
+    {
+        if is_number(text.as_str(), 14) {
+            Ok(StampStart { digits: text })
+        } else {
+            Err(QueryFault::BadStamp)
+        }
+    }
+
+    fn as_bytes(&self) -> &[u8]
+        ensures { result.now ≡ self.now }
+    {
+        self.digits.as_bytes()
+    }
+}
+
+/// The first bytes of a stamp, or all of them.
+fn front(stamp: &[u8], count: usize) -> &[u8]
+    ensures { result.now ≡ take count stamp.now }
+{
+    if count < stamp.len() {
+        &stamp[..count]
+    } else {
+        stamp
+    }
+}
+
+/// Whether the stamp's first digits are not below these.
+pub(crate) fn not_before(from: &Option<StampStart>, stamp: &[u8]) -> bool
+    ensures { result ≡ not_before from.now stamp.now }
+{
+    match from {
+        Some(from) => {
+            let digits = from.as_bytes();
+            front(stamp, digits.len()).cmp(digits).is_ge()
+        }
+        None => true,
+    }
+}
+
+/// Whether the stamp's first digits are not above these.
+pub(crate) fn not_after(to: &Option<StampStart>, stamp: &[u8]) -> bool
+    ensures { result ≡ not_after to.now stamp.now }
+{
+    match to {
+        Some(to) => {
+            let digits = to.as_bytes();
+            front(stamp, digits.len()).cmp(digits).is_le()
+        }
+        None => true,
+    }
+}

@@ -1,0 +1,149 @@
+//! Targets: the keys that a query asks for.
+ghost use Rattle.std.specs.Prelude.{◌≡◌, ◌≤◌, IsTrue, length, string_bytes};
+ghost use Rattle.query_text.specs.Readings.{IsReading};
+ghost use Rattle.query_text.specs.Targets.{kind_of, star_cut};
+ghost use Rattle.query_text.specs.Matching.{may_follow};
+
+use crate::address::{address_host, address_key, web_address};
+use crate::fault::QueryFault;
+use std::alloc::Global;
+use std::marker::Model;
+
+/// Which keys match a target.
+#[derive(Clone, Copy, Debug, Drop, PartialEq, Eq)]
+pub enum MatchKind {
+    /// The target alone.
+    Exact,
+    /// Those that begin with it.
+    Prefix,
+    /// Those of a host, at any port.
+    Host,
+    /// Those of a host and its subdomains, at any port.
+    Domain,
+}
+
+/// `BadMatch` where the name is no match type's.
+pub(crate) fn read_kind(name: &str) -> Result<MatchKind, QueryFault>
+    ensures { IsReading (kind_of name.now) result }
+{
+    match name {
+        "exact" => Ok(MatchKind::Exact),
+        "prefix" => Ok(MatchKind::Prefix),
+        "host" => Ok(MatchKind::Host),
+        "domain" => Ok(MatchKind::Domain),
+        _ => Err(QueryFault::BadMatch),
+    }
+}
+
+/// The keys that a query asks for. They are in one range of keys: at or above the target's text, and
+/// none above a key that is past it.
+#[derive(Debug, Drop)]
+pub struct Target {
+    kind: MatchKind,
+    text: String,
+}
+
+impl Model for Target {
+    ghost use Rattle.std.specs.Prelude.{string_bytes};
+    ghost use Rattle.query_text.specs.Targets.{TargetValue};
+
+    ghost Value = { TargetValue };
+
+    ghost view = { λ t. record { kind = t.kind; text = string_bytes t.text } };
+}
+
+/// The match type that stars in a text name, and the text without them.
+fn cut_star(text: &str) -> (MatchKind, &str)
+    ensures { (result.0, result.1.now) ≡ star_cut text.now }
+{
+    if let Some(domain) = text.strip_prefix("*.") {
+        return (MatchKind::Domain, domain);
+    }
+    match text.strip_suffix('*') {
+        Some(front) => (MatchKind::Prefix, front),
+        None => (MatchKind::Exact, text),
+    }
+}
+
+/// Whether a key that begins with the target may go on with these bytes.
+fn may_follow(kind: MatchKind, rest: &[u8]) -> bool
+    ensures { result ≡ may_follow kind rest.now }
+{
+    match kind {
+        MatchKind::Exact | MatchKind::Prefix => true,
+        MatchKind::Host => matches!(rest, [b')' | b':', ..]),
+        MatchKind::Domain => matches!(rest, [b')' | b',' | b':', ..]),
+    }
+}
+
+impl Target {
+    ghost use Rattle.query_text.specs.Targets.{url_target};
+    ghost use Rattle.query_text.specs.Matching.{covers, key_matches, is_past};
+
+    /// The target of a `url`, with the match type that was given, if one was.
+    pub(crate) fn of_url(
+        alloc: Global,
+        url: &str,
+        kind: Option<MatchKind>,
+    ) -> Result<Target, QueryFault>
+        ensures { IsReading (url_target url.now kind) result }
+    {
+        let (kind, text) = match kind {
+            Some(kind) => (kind, url),
+            None => cut_star(url),
+        };
+        let address = web_address(alloc, text)?;
+        let text = match kind {
+            MatchKind::Exact | MatchKind::Prefix => address_key(alloc, address.as_str())?,
+            MatchKind::Host | MatchKind::Domain => address_host(alloc, address.as_str())?,
+        };
+        Ok(Target { kind, text })
+    }
+
+    /// The target of a `key`, which stands as it is.
+    pub(crate) fn of_key(key: String, kind: MatchKind) -> Target
+        ensures { result ≡ record { kind = kind; text = string_bytes key } }
+    {
+        Target { kind, text: key }
+    }
+
+    /// Which keys match.
+    pub fn kind(&self) -> MatchKind
+        ensures { result ≡ self.now.kind }
+    {
+        self.kind
+    }
+
+    /// The key, or the bytes with which a key begins: where the target's range begins.
+    pub fn text(&self) -> &str
+        ensures { result.now ≡ self.now.text }
+    {
+        self.text.as_str()
+    }
+
+    /// Whether the key is in the target's range: it is the target for an exact match, and begins
+    /// with it for any other.
+    pub fn covers(&self, key: &str) -> bool
+        ensures value { result ≡ covers self.now key.now }
+        ensures long { IsTrue result → length self.now.text ≤ length key.now }
+    {
+        match self.kind {
+            MatchKind::Exact => key == self.text.as_str(),
+            _ => key.as_bytes().starts_with(self.text.as_bytes()),
+        }
+    }
+
+    /// Whether the target asks for the key.
+    pub fn matches(&self, key: &str) -> bool
+        ensures { result ≡ key_matches self.now key.now }
+    {
+        self.covers(key) && may_follow(self.kind, &key.as_bytes()[self.text.len()..])
+    }
+
+    /// Whether the key is past the target's range; then so is each key above it.
+    pub fn is_past(&self, key: &str) -> bool
+        ensures { result ≡ is_past self.now key.now }
+    {
+        key > self.text.as_str() && !self.covers(key)
+    }
+}
