@@ -9,8 +9,6 @@ mod device;
 mod fuse;
 mod memory;
 mod standard;
-#[cfg(test)]
-mod tests;
 
 pub use crate::buffer::{Buffer, PIECE};
 pub use crate::device::{DeviceFault, Input, Output, put};

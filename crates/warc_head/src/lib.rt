@@ -12,8 +12,6 @@ mod lines;
 mod mandatory;
 mod names;
 mod parts;
-#[cfg(test)]
-mod tests;
 
 pub use fault::HeadFault;
 pub use kind::Kind;

@@ -1,5 +1,12 @@
-use crate::HeadFault;
-use crate::date::stamp_of;
+use super::read;
+use std::alloc::Global;
+use warc_head::HeadFault;
+
+/// The stamp of a head with this date.
+fn stamp_of(alloc: Global, date: &str) -> Result<[u8; 14], HeadFault> {
+    let lines = "WARC-Record-ID: a\r\nContent-Length: 3\r\nWARC-Type: b\r\nWARC-Date: ";
+    Ok(read(alloc, &[lines, date])?.stamp())
+}
 
 const DATES: &[(&str, Option<&str>)] = &[
     ("2016", Some("20160101000000")),
@@ -68,21 +75,18 @@ const DATES: &[(&str, Option<&str>)] = &[
     ("2016-09-19T17:20:24,5Z", None),
     ("2016-09-19T17:20.5Z", None),
     ("2016-09-19T17:20:24ZZ", None),
-    ("2016 ", None),
-    (" 2016", None),
-    ("2016-09-19T17:20:24Z ", None),
+    ("2016 09", None),
 ];
 
 #[test]
 fn reads_dates(rt: HostRuntime) -> Result<(), HeadFault> {
     for (value, want) in DATES {
-        let found = stamp_of(value.as_bytes());
-        match want {
-            Some(stamp) => {
-                let stamp_found = found?;
-                assert_eq!(rt; stamp_found.as_slice(), stamp.as_bytes(), "{value}");
+        match (stamp_of(rt.alloc(), value), want) {
+            (Err(HeadFault::Memory), _) => return Err(HeadFault::Memory),
+            (Ok(found), Some(stamp)) => {
+                assert_eq!(rt; found.as_slice(), stamp.as_bytes(), "{value}");
             }
-            None => assert_eq!(rt; found, Err(HeadFault::BadDate), "{value}"),
+            (found, _) => assert_eq!(rt; found, Err(HeadFault::BadDate), "{value}"),
         }
     }
     Ok(())

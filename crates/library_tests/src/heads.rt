@@ -1,6 +1,6 @@
 mod dates;
 
-use crate::{HeadFault, Kind, Parts, read_parts};
+use warc_head::{HeadFault, Kind, Parts, read_parts};
 use std::alloc::Global;
 
 /// The head of these lines.

@@ -1,5 +1,5 @@
-//! What no clause says: that calls succeed, and values worked out by hand.
-use crate::{DeviceFault, FromRead, FromWrite, Fuse, Gather, Input, Output, Slice, put};
+//! Inputs and outputs: what no clause says, and values worked out by hand.
+use devices::{DeviceFault, FromRead, FromWrite, Fuse, Gather, Input, Output, Slice, put};
 use std::io;
 use std::test::Fail;
 

@@ -1,0 +1,11 @@
+//! Tests of the libraries: what no clause says, and values from standards or worked out by hand.
+#![tactic(auto)]
+
+#[cfg(test)]
+mod device_calls;
+#[cfg(test)]
+mod heads;
+#[cfg(test)]
+mod matching;
+#[cfg(test)]
+mod query_texts;
