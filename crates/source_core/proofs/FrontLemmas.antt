@@ -9,7 +9,7 @@ use Rattle.cdxj_places.proofs.PairLemmas.{pair_longer}
 use Rattle.cdxj_places.specs.TextLines.{lines}
 use Rattle.source_core.specs.LinePairs.{Pair, is_below, is_some_below, line_below}
 use Rattle.source_core.specs.Halving.{stops_lines}
-use Rattle.source_core.specs.Cursors.{NoFeed, PartOf, BeginsWith, ReadsOn}
+use Rattle.source_core.specs.LineParts.{NoFeed, PartOf, BeginsWith, ReadsOn}
 use Rattle.source_core.proofs.Parts.{ended, goes_on, lines_last}
 use Rattle.source_core.proofs.Seeks.{lines_first}
 
@@ -23,10 +23,10 @@ reads_on t piece front new offset count n ends bytes inside grown len part b =
     let there : (offset + length front) + n ≡ offset + length new = omega arith in
     (elim ends as (λ ends. PartOf (take count piece) n ends → ReadsOn t offset new ends) [
       | true ↦ (λ p.
-          ended t piece 0 count (offset + length front) n bytes inside offset front b.is b.goes_on p
+          ended t (take count piece) count (offset + length front) n bytes inside offset front b.is b.goes_on p
           ∙ ap₂ (λ l k. l ∷ lines (drop k t)) new_is there)
       | false ↦ (λ p.
-          let r = goes_on t piece 0 count (offset + length front) n bytes inside offset front b.is b.goes_on p in
+          let r = goes_on t (take count piece) count (offset + length front) n bytes inside offset front b.is b.goes_on p in
           record { is = r.0 ∙ ap₂ (λ l k. l ++ drop k t) new_is there; goes_on = subst NoFeed new_is r.1 })
     ]) part
 

@@ -1,10 +1,10 @@
-use Rattle.std.proofs.Common.{◌≡◌, ℕ, zero, suc, ◌+◌, ◌-◌, ◌<◌, ◌≤◌, List, [], ◌∷◌, ◌++◌, length, take, drop, get_or, refl, sym, ap, ap₂, ◌∙◌, subst, arith, cond, eqb, ne_eqb, eqb-true, true, false, Option, append_assoc, append-nil, drop-drop, take-append-drop}
+use Rattle.std.proofs.Common.{◌≡◌, ℕ, zero, suc, ◌+◌, ◌-◌, ◌<◌, ◌≤◌, List, [], ◌∷◌, ◌++◌, length, take, drop, get_or, refl, sym, ap, ap₂, ◌∙◌, subst, arith, cond, eqb, ne_eqb, eqb-true, true, false, Option, append_assoc, append-nil, drop-drop, take-append-drop, length-drop}
 use Rattle.std.proofs.lemmas.List.{drop-take, take-take, take_all, drop_all}
 use Rattle.std.specs.List.{onto_first}
 use Rattle.memchr.specs.Find.{Nowhere, NoneBefore, Passes, is_byte}
 use Rattle.cdxj_places.specs.TextLines.{lines}
-use Rattle.source_core.specs.Cursors.{NoFeed, PartOf, Filled}
-use Rattle.source_core.specs.declared.cursor.Cursor.{Cursor}
+use Rattle.source_core.specs.LineParts.{NoFeed, PartOf}
+use Rattle.source_core.specs.Ahead.{StandsAt}
 
 -- a line that ends with its LF
 pub lines_front : (u v : List ℕ) → NoFeed u → lines (u ++ 10 ∷ v) ≡ (u ++ 10 ∷ []) ∷ lines v
@@ -43,33 +43,32 @@ pub part_none : (piece : List ℕ) → Nowhere (Passes (is_byte 10) piece) 0 (le
 part_none piece h =
     (refl, subst NoFeed (take_all (length piece) piece (omega arith)) (no_feed_at (length piece) piece (omega arith) (λ k l. ne_eqb _ 10 (λ q. h k (omega arith) l (ap (λ b. eqb b 10) q)))))
 
--- What is held, and n bytes of it
-module _ (t buffer : List ℕ) (low m at n : ℕ) (bytes : take m (drop low buffer) ≡ take m (drop at t)) (inside : n ≤ m) where
-  pub here : drop at t ≡ take n (take m (drop low buffer)) ++ drop (at + n) t
+-- What is held of a text from an offset on, and n bytes of it
+module _ (t held : List ℕ) (m at n : ℕ) (bytes : held ≡ take m (drop at t)) (inside : n ≤ m) where
+  pub here : drop at t ≡ take n held ++ drop (at + n) t
   here =
       sym (take-append-drop n (drop at t))
       ∙ ap₂ (λ u v. u ++ v) (sym (ap (take n) bytes ∙ take-take n m (drop at t) inside)) (drop-drop n at t)
 
-  pub left : take (m - n) (drop (low + n) buffer) ≡ take (m - n) (drop (at + n) t)
+  pub left : drop n held ≡ take (m - n) (drop (at + n) t)
   left =
       let e : n + (m - n) ≡ m = omega arith in
-      ap (take (m - n)) (sym (drop-drop n low buffer)) ∙ sym (drop-take n (m - n) (drop low buffer)) ∙ ap (λ k. drop n (take k (drop low buffer))) e
-      ∙ ap (drop n) bytes ∙ sym (ap (λ k. drop n (take k (drop at t))) e) ∙ drop-take n (m - n) (drop at t) ∙ ap (take (m - n)) (drop-drop n at t)
+      ap (drop n) bytes ∙ sym (ap (λ k. drop n (take k (drop at t))) e) ∙ drop-take n (m - n) (drop at t) ∙ ap (take (m - n)) (drop-drop n at t)
 
   -- the line that ends here
-  pub ended : (at0 : ℕ) (line : List ℕ) → drop at0 t ≡ line ++ drop at t → NoFeed line → PartOf (take m (drop low buffer)) n true
-      → lines (drop at0 t) ≡ (line ++ take n (take m (drop low buffer))) ∷ lines (drop (at + n) t)
+  pub ended : (at0 : ℕ) (line : List ℕ) → drop at0 t ≡ line ++ drop at t → NoFeed line → PartOf held n true
+      → lines (drop at0 t) ≡ (line ++ take n held) ∷ lines (drop (at + n) t)
   ended at0 line e f p =
-      ap lines (e ∙ ap (λ u. line ++ u) (here ∙ ap (λ u. u ++ drop (at + n) t) p.3 ∙ append_assoc (take p.0 (take m (drop low buffer))) (10 ∷ []) (drop (at + n) t)) ∙ sym (append_assoc line _ _))
-      ∙ lines_front (line ++ take p.0 (take m (drop low buffer))) (drop (at + n) t) (no_feed-append line _ f p.2)
+      ap lines (e ∙ ap (λ u. line ++ u) (here ∙ ap (λ u. u ++ drop (at + n) t) p.3 ∙ append_assoc (take p.0 held) (10 ∷ []) (drop (at + n) t)) ∙ sym (append_assoc line _ _))
+      ∙ lines_front (line ++ take p.0 held) (drop (at + n) t) (no_feed-append line _ f p.2)
       ∙ ap (λ l. l ∷ lines (drop (at + n) t)) (append_assoc line _ _ ∙ ap (λ u. line ++ u) (sym p.3))
 
   -- the line goes on
-  pub goes_on : (at0 : ℕ) (line : List ℕ) → drop at0 t ≡ line ++ drop at t → NoFeed line → PartOf (take m (drop low buffer)) n false
-      → (drop at0 t ≡ (line ++ take n (take m (drop low buffer))) ++ drop (at + n) t) × NoFeed (line ++ take n (take m (drop low buffer)))
+  pub goes_on : (at0 : ℕ) (line : List ℕ) → drop at0 t ≡ line ++ drop at t → NoFeed line → PartOf held n false
+      → (drop at0 t ≡ (line ++ take n held) ++ drop (at + n) t) × NoFeed (line ++ take n held)
   goes_on at0 line e f p = (
     e ∙ ap (λ u. line ++ u) here ∙ sym (append_assoc line _ _),
-    no_feed-append line _ f (subst NoFeed (sym (take_all n (take m (drop low buffer)) (let q = p.0 in omega arith))) p.1),
+    no_feed-append line _ f (subst NoFeed (sym (take_all n held (let q = p.0 in omega arith))) p.1),
   )
 
 -- at the end
@@ -87,17 +86,14 @@ no_more t at0 at (b ∷ u) e l h = absurd (omega arith)
 pub given_more : {X : Type 0} (all now later : List X) (l : X) (n : ℕ) → now ≡ drop n all → now ≡ l ∷ later → later ≡ drop (n + 1) all
 given_more all now later l n e f = sym (ap (drop 1) (sym e ∙ f)) ∙ drop-drop 1 n all
 
--- n bytes of those held were taken
-pub consumed : (text : Option (List ℕ)) (extent : ℕ) (c : Cursor) (n count : ℕ) → Filled text extent c → n ≤ c.high - c.low
-    → Filled text extent (record { buffer = c.buffer; low = c.low + n; high = c.high; at = c.at + n; start = c.start; count = count })
-consumed text extent c n count f l =
-    let o = f.ordered in
-    let w = f.within in
-    let q : (c.high - c.low) - n ≡ c.high - (c.low + n) = omega arith in
+-- n bytes of those held were given out
+pub given_out : (text : Option (List ℕ)) (extent at n : ℕ) (held : List ℕ) → StandsAt text extent at held → n ≤ length held → StandsAt text extent (at + n) (drop n held)
+given_out text extent at n held f l =
+    let within = f.within in
+    let most = f.most in
+    let rest : length held - n ≡ length (drop n held) = sym (length-drop n held) in
     record {
-      room = f.room;
-      ordered = omega arith;
-      ends = f.ends;
       within = omega arith;
-      bytes = λ t e. subst (λ k. take k (drop (c.low + n) c.buffer.items) ≡ take k (drop (c.at + n) t)) q (left t c.buffer.items c.low (c.high - c.low) c.at n (f.bytes t e) l);
+      most = omega arith;
+      bytes = λ t e. subst (λ k. drop n held ≡ take k (drop (at + n) t)) rest (left t held (length held) at n (f.bytes t e) l);
     }

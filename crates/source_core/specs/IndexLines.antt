@@ -22,6 +22,11 @@ abbrev pub first_then : Option (List ℕ) → List (List ℕ) → List (List ℕ
 first_then None ls = []
 first_then (Some l) ls = l ∷ ls
 
+-- the length of the first line, in bytes; 0 where there is none
+abbrev pub first_length : List (List ℕ) → ℕ
+first_length [] = 0
+first_length (l ∷ ls) = length l
+
 -- the length of the longest
 abbrev pub longest : List (List ℕ) → ℕ
 longest [] = 0

@@ -1,97 +1,69 @@
-ghost use Rattle.std.specs.Prelude.{◌≡◌, ◌+◌, ◌-◌, ◌<◌, ◌≤◌, ◌++◌, ◌∷◌, ℕ, Option, List, [], length, take, drop, IfOk, IfErr, OnOk, MatchOption, IfSome, Some};
-ghost use Rattle.devices.specs.Device.{CountsFailure, next_count};
-ghost use Rattle.source_core.specs.IndexLines.{lines, first_then, line_found};
-ghost use Rattle.source_core.specs.Cursors.{Filled, Stands, reach, PartOf};
+//! The lines of a source, one after another.
+ghost use Rattle.std.specs.Prelude.{◌≡◌, ◌+◌, ◌<◌, ◌≤◌, ◌≢◌, ℕ, Option, List, length, drop, IfOk, IfErr, OnOk, MatchOption, IfSome, Some};
+ghost use Rattle.cdxj_core.specs.declared.limit.TheConstants.{LINE_LIMIT};
 
+use crate::ahead::Ahead;
+use crate::fault::LineReadFault;
+use crate::line_part::line_part;
 use crate::source::Source;
 use cdxj_core::LINE_LIMIT;
-use memchr::memchr;
-use std::alloc::Global;
+use std::alloc::{AllocError, Global};
+use std::marker::Model;
 
-/// Why no line could be had.
-#[derive(Debug, Clone, Copy, PartialEq, Eq, Drop)]
-pub enum LineReadFault {
-    Memory,
-    Read,
-    Long,
-}
-
-/// How much of a piece belongs to its first line, and whether the line ends there.
-pub fn line_part(piece: &[u8]) -> (usize, bool)
-    ensures within { result.0 ≤ length piece.now }
-    ensures some { 0 < length piece.now → 0 < result.0 }
-    ensures part { PartOf piece.now result.0 result.1 }
-{
-    match memchr(10, piece) {
-        Some(i) => (i + 1, true),
-        None => (piece.len(), false),
-    }
-}
-
-/// Where a source is read from, and what was read ahead.
+/// Gives the lines of a source from an offset on. It holds no source: each call is handed it.
+///
+/// It reads pieces of at most [`PIECE`](devices::PIECE) bytes and holds one of them.
 #[derive(Drop)]
 pub struct Cursor {
-    pub buffer: Vec<u8>,
-    pub low: usize,
-    pub high: usize,
-    pub at: u64,
-    pub start: u64,
-    pub count: u64,
+    ahead: Ahead,
+    at: u64,
+    start: u64,
+    count: u64,
+}
+
+impl Model for Cursor {
+    ghost use Rattle.source_core.specs.Cursors.{CursorState};
+
+    ghost Value = { CursorState };
+
+    ghost view = { λ c. record { ahead = c.ahead; at = c.at; start = c.start; count = c.count } };
 }
 
 impl Cursor {
-    /// A cursor at a line's start.
-    pub fn new(alloc: Global, start: u64) -> Result<Cursor, LineReadFault>
+    ghost use Rattle.source_core.specs.IndexLines.{lines, first_length, first_then, line_found};
+    ghost use Rattle.source_core.specs.Cursors.{Filled, Stands, reach, CountsLineRead};
+
+    /// A cursor at the offset `start`, in bytes from the source's start, at which a line begins.
+    pub fn new(alloc: Global, start: u64) -> Result<Cursor, AllocError>
         ensures stands { IfOk result (λ c. (text : Option (List ℕ)) → (extent : ℕ) → start ≤ extent → Stands text extent c) }
         ensures start { IfOk result (λ c. (c.start ≡ start) × (c.at ≡ start) × (c.count ≡ 0)) }
         ensures ahead { IfOk result (λ c. reach c ≡ start) }
     {
-        let mut buffer = Vec::new(alloc);
-        if buffer.resize(8192, 0).is_err() {
-            return Err(LineReadFault::Memory);
-        }
         Ok(Cursor {
-            buffer,
-            low: 0,
-            high: 0,
+            ahead: Ahead::new(alloc)?,
             at: start,
             start,
             count: 0,
         })
     }
 
-    /// Reads ahead where nothing is held; then something is held, save at the end.
-    fn fill<S: Source>(&mut self, source: &mut S) -> Result<(), LineReadFault>
-        requires filled { Filled (S.text source.old) (S.extent source.old) self.old }
-        ensures text { S.text source.new ≡ S.text source.old }
-        ensures extent { S.extent source.new ≡ S.extent source.old }
-        ensures filled { Filled (S.text source.new) (S.extent source.new) self.new }
-        ensures kept { (self.new.at ≡ self.old.at) × (self.new.start ≡ self.old.start) × (self.new.count ≡ self.old.count) }
-        ensures some { OnOk result (self.old.at < S.extent source.old → self.new.low < self.new.high) }
-        ensures gave { S.gave source.new + reach self.old ≤ S.gave source.old + reach self.new }
-        ensures failures { CountsFailure result (S.failures source.old) (S.failures source.new) }
-        ensures cause { IfErr result (λ e. e ≡ LineReadFault.Read) }
+    /// The offset of the next line, in bytes from the source's start.
+    pub fn at(&self) -> u64
+        ensures { result ≡ self.now.at }
     {
-        if self.low < self.high {
-            return Ok(());
-        }
-        let size = source.size();
-        if self.at == size {
-            return Ok(());
-        }
-        self.low = 0;
-        self.high = 0;
-        match source.read_at(self.at, &mut self.buffer) {
-            Ok(n) => {
-                self.high = n;
-                Ok(())
-            }
-            Err(_) => Err(LineReadFault::Read),
-        }
+        self.at
     }
 
-    /// Reads the next line, with its LF, into `line`, in the stead of what stood there; false where none is left. `Long` where
-    /// it has more than `LINE_LIMIT` bytes, of which no more are read than are held.
+    /// How many lines were given.
+    pub fn count(&self) -> u64
+        ensures { result ≡ self.now.count }
+    {
+        self.count
+    }
+
+    /// Reads the next line, with its line feed, into `line`, whose older bytes are dropped. Answers whether there was one.
+    ///
+    /// Of a line that is too long, no more is read than the piece that shows it. After a fault the cursor gives no lines.
     pub fn next<S: Source>(
         &mut self,
         source: &mut S,
@@ -101,29 +73,27 @@ impl Cursor {
         ensures text { S.text source.new ≡ S.text source.old }
         ensures extent { S.extent source.new ≡ S.extent source.old }
         ensures stands { OnOk result (Stands (S.text source.new) (S.extent source.new) self.new) }
+        ensures filled { Filled (S.text source.new) (S.extent source.new) self.new }
         ensures start { self.new.start ≡ self.old.start }
         ensures count { IfOk result (λ found. MatchOption (line_found found line.new.items) (self.new.count ≡ self.old.count) (λ _. self.new.count ≡ self.old.count + 1)) }
         ensures there { IfOk result (λ found. MatchOption (line_found found line.new.items) (self.new.at ≡ S.extent source.old) (λ l. self.new.at ≡ self.old.at + length l)) }
         ensures some { IfOk result (λ found. IfSome (line_found found line.new.items) (λ l. 0 < length l)) }
         ensures given { (t : List ℕ) → S.text source.old ≡ Some t → IfOk result (λ found. lines (drop self.old.at t) ≡ first_then (line_found found line.new.items) (lines (drop self.new.at t))) }
+        ensures long { (t : List ℕ) → S.text source.old ≡ Some t → IfErr result (λ e. e ≡ LineReadFault.Long → LINE_LIMIT < first_length (lines (drop self.old.at t))) }
         ensures gave { S.gave source.new + reach self.old ≤ S.gave source.old + reach self.new }
-        ensures failed { IfErr result (λ e. e ≡ LineReadFault.Read → S.failures source.new ≡ next_count (S.failures source.old)) }
-        ensures worked { OnOk result (S.failures source.new ≡ S.failures source.old) }
+        ensures failures { CountsLineRead result (S.failures source.old) (S.failures source.new) }
     {
         line.clear();
         let size = source.size();
         while self.at < size {
-            self.fill(source)?;
-            let piece = &self.buffer[self.low..self.high];
-            let (n, ends) = line_part(piece);
-            if n > LINE_LIMIT - line.len() {
+            self.ahead.fill(source, self.at)?;
+            let (length, ends) = line_part(self.ahead.as_slice());
+            if length > LINE_LIMIT - line.len() {
                 return Err(LineReadFault::Long);
             }
-            if line.extend_from_slice(&piece[..n]).is_err() {
-                return Err(LineReadFault::Memory);
-            }
-            self.low += n;
-            self.at += n as u64;
+            line.extend_from_slice(&self.ahead.as_slice()[..length])?;
+            self.ahead.consume(length);
+            self.at += length as u64;
             if ends {
                 self.count += 1;
                 return Ok(true);

@@ -6,20 +6,14 @@ ghost use Rattle.devices.specs.Device.{next_count};
 ghost use Rattle.source_core.specs.IndexLines.{lines, from_line, longest, BeginsAfter};
 ghost use Rattle.source_core.specs.LinePairs.{Pair, is_below, line_below, AreSorted, IsCut};
 ghost use Rattle.source_core.specs.Halving.{stops, stops_lines, digits};
-ghost use Rattle.source_core.specs.Cursors.{BeginsWith, ReadsOn};
+ghost use Rattle.source_core.specs.LineParts.{BeginsWith, ReadsOn};
 
-use crate::cursor::line_part;
+use crate::fault::SearchFault;
+use crate::line_part::line_part;
 use crate::source::Source;
 use crate::start::next_start;
 use cdxj_core::{LINE_LIMIT, split_pair};
 use std::alloc::Global;
-
-/// Why a search couldn't be ended.
-#[derive(Clone, Copy, Debug, Drop, PartialEq, Eq)]
-pub enum SearchFault {
-    Memory,
-    Read,
-}
 
 /// What a search found.
 #[derive(Clone, Copy, Debug, Drop, PartialEq, Eq)]

@@ -1,6 +1,6 @@
 use Rattle.std.proofs.Common.{◌≡◌, ◌+◌, ◌-◌, ◌<◌, ◌≤◌, ℕ, List, length, Some, None}
 use Rattle.cdxj_places.specs.Pair.{pair_of}
-use Rattle.source_core.specs.Cursors.{BeginsWith}
+use Rattle.source_core.specs.LineParts.{BeginsWith}
 use Rattle.source_core.proofs.seeking.stops_at.Given as goal
 
 abbrev pub invariant-loop-front : goal.invariant-loop-front

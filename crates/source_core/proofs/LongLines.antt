@@ -1,0 +1,19 @@
+-- Lines that are too long.
+use Rattle.std.proofs.Common.{◌≡◌, ℕ, ◌+◌, ◌<◌, ◌≤◌, List, ◌∷◌, ◌++◌, Bool, true, false, length, take, drop, ap, arith}
+use Rattle.source_core.specs.IndexLines.{lines, first_length}
+use Rattle.source_core.specs.LineParts.{NoFeed, PartOf}
+use Rattle.source_core.proofs.Parts.{ended, goes_on}
+use Rattle.source_core.proofs.LongestLines.{no_feed_first}
+
+-- a line's bytes so far, and n of those held, are as many as the line's, or fewer
+pub first_at_least : (t held : List ℕ) (m at n at0 : ℕ) (line : List ℕ) → held ≡ take m (drop at t) → n ≤ m
+    → drop at0 t ≡ line ++ drop at t → NoFeed line → (ends : Bool) → PartOf held n ends → length (line ++ take n held) ≤ first_length (lines (drop at0 t))
+first_at_least t held m at n at0 line bytes inside is clean ends part =
+    (elim ends as (λ ends. PartOf held n ends → length (line ++ take n held) ≤ first_length (lines (drop at0 t))) [
+      | true ↦ (λ p. let same = ap first_length (ended t held m at n bytes inside at0 line is clean p) in omega arith)
+      | false ↦ (λ p.
+          let on = goes_on t held m at n bytes inside at0 line is clean p in
+          let same = ap (λ s. first_length (lines s)) on.0 in
+          let most = no_feed_first (line ++ take n held) (drop (at + n) t) on.1 in
+          omega arith)
+    ]) part

@@ -1,0 +1,23 @@
+-- Parts of lines.
+use Rattle.std.specs.Prelude.{◌≡◌, ℕ, ◌+◌, List, [], ◌∷◌, ◌++◌, length, take, drop, Bool, true, false, nat_eq}
+use Rattle.std.specs.List.{AllByRecursion}
+use Rattle.cdxj_places.specs.TextLines.{lines}
+
+-- no byte is a line feed
+abbrev pub NoFeed : List ℕ → Type 0
+NoFeed = AllByRecursion (λ b. nat_eq b 10 ≡ false)
+
+-- so many bytes of the piece belong to its first line, and whether that line ends with them
+abbrev pub PartOf : List ℕ → ℕ → Bool → Type 0
+PartOf piece n true = (k : ℕ) × (n ≡ k + 1) × NoFeed (take k piece) × (take n piece ≡ take k piece ++ 10 ∷ [])
+PartOf piece n false = (n ≡ length piece) × NoFeed piece
+
+-- the line that begins at the offset begins with these bytes, and goes on
+pub record BeginsWith (text : List ℕ) (offset : ℕ) (front : List ℕ) : Type 0 where
+  pub is : drop offset text ≡ front ++ drop (offset + length front) text
+  pub goes_on : NoFeed front
+
+-- the line that begins at the offset begins with these bytes, and whether they are all of it, with its line feed
+abbrev pub ReadsOn : List ℕ → ℕ → List ℕ → Bool → Type 0
+ReadsOn text offset front true = lines (drop offset text) ≡ front ∷ lines (drop (offset + length front) text)
+ReadsOn text offset front false = BeginsWith text offset front

@@ -1,0 +1,69 @@
+//! Why lines of a source couldn't be read or found.
+use crate::source::SourceFault;
+use std::alloc::AllocError;
+use thiserror::Error;
+
+/// Why no line could be had.
+#[derive(Clone, Copy, Debug, Drop, PartialEq, Eq, Error)]
+pub enum LineReadFault {
+    #[error("out of memory")]
+    Memory,
+    #[error("the source can't be read")]
+    Read,
+    /// The line has more bytes than [`LINE_LIMIT`](cdxj_core::LINE_LIMIT), counted with its line feed, if it has one.
+    #[error("the line is too long")]
+    Long,
+}
+
+impl From<AllocError> for LineReadFault {
+    ghost use Rattle.std.specs.Prelude.{◌≡◌};
+    ghost use Rattle.source_core.specs.declared.fault.LineReadFault.TheVariants.{Memory};
+
+    ghost from_gives = { λ _ fault. fault ≡ Memory };
+
+    fn from(_error: AllocError) -> LineReadFault {
+        LineReadFault::Memory
+    }
+}
+
+impl From<SourceFault> for LineReadFault {
+    ghost use Rattle.std.specs.Prelude.{◌≡◌};
+    ghost use Rattle.source_core.specs.declared.fault.LineReadFault.TheVariants.{Read};
+
+    ghost from_gives = { λ _ fault. fault ≡ Read };
+
+    fn from(_fault: SourceFault) -> LineReadFault {
+        LineReadFault::Read
+    }
+}
+
+/// Why a search couldn't be ended.
+#[derive(Clone, Copy, Debug, Drop, PartialEq, Eq, Error)]
+pub enum SearchFault {
+    #[error("out of memory")]
+    Memory,
+    #[error("the source can't be read")]
+    Read,
+}
+
+impl From<AllocError> for SearchFault {
+    ghost use Rattle.std.specs.Prelude.{◌≡◌};
+    ghost use Rattle.source_core.specs.declared.fault.SearchFault.TheVariants.{Memory};
+
+    ghost from_gives = { λ _ fault. fault ≡ Memory };
+
+    fn from(_error: AllocError) -> SearchFault {
+        SearchFault::Memory
+    }
+}
+
+impl From<SourceFault> for SearchFault {
+    ghost use Rattle.std.specs.Prelude.{◌≡◌};
+    ghost use Rattle.source_core.specs.declared.fault.SearchFault.TheVariants.{Read};
+
+    ghost from_gives = { λ _ fault. fault ≡ Read };
+
+    fn from(_fault: SourceFault) -> SearchFault {
+        SearchFault::Read
+    }
+}
