@@ -7,7 +7,8 @@ use Rattle.std.proofs.lemmas.List.Sums.{split_at_first, passes_at_first}
 use Rattle.cdxj_places.specs.Pair.{is_space, is_key, is_stamp, key_part, stamp_part, tail_part, begins_with_space, begins_with_pair, pair_of}
 use Rattle.cdxj_places.proofs.PairLemmas.{pair_longer}
 use Rattle.cdxj_places.specs.TextLines.{lines}
-use Rattle.source_core.specs.LinePairs.{Pair, is_below, is_some_below, line_below}
+use Rattle.cdxj_places.specs.Pairs.{Pair}
+use Rattle.source_core.specs.Search.{is_below, is_some_below, line_below}
 use Rattle.source_core.specs.Halving.{stops_lines}
 use Rattle.source_core.specs.LineParts.{NoFeed, PartOf, BeginsWith, ReadsOn}
 use Rattle.source_core.proofs.Parts.{ended, goes_on, lines_last}

@@ -1,21 +1,23 @@
--- Sorted lines, cut at a start.
-use Rattle.std.proofs.Common.{◌≡◌, ℕ, suc, ◌+◌, ◌-◌, ◌*◌, ◌<◌, ◌≤◌, List, [], ◌∷◌, ◌++◌, Bool, true, false, cond, length, take, drop, flat_map, map, Option, Some, None, option_map, refl, sym, ap, ◌∙◌, arith, eqb, nat_lt, ◌&&◌, length-append, length-drop, length-take, Less, Equal, Greater, is_gt, is_lt}
+-- Indexes, cut at a pair.
+use Rattle.std.proofs.Common.{◌≡◌, ℕ, suc, ◌+◌, ◌-◌, ◌*◌, ◌<◌, ◌≤◌, List, [], ◌∷◌, ◌++◌, Bool, true, false, cond, length, take, drop, flat_map, map, Option, Some, refl, sym, ap, ◌∙◌, arith, eqb, length-append, length-drop, length-take, Less, Equal, Greater, is_gt, is_lt}
 use Rattle.std.specs.List.{onto_first, AllByRecursion}
 use Rattle.std.specs.Cmp.{IsTotalOrder}
-use Rattle.std.proofs.lemmas.Bool.{and_parts, ltb-true, true≢false}
-use Rattle.std.proofs.lemmas.Cmp.{nat_list_cmp_total, on_total, then_total}
+use Rattle.std.proofs.lemmas.Bool.{true≢false}
 use Rattle.std.proofs.lemmas.Grind.{flat_map-append}
 use Rattle.std.proofs.lemmas.List.{take_all}
 use Rattle.std.proofs.Math.Nat.{mul-le-mul_right}
-use Rattle.cdxj_core.specs.Lines.{LineValue, line_in, line_parts, has_no_feed, body_of}
-use Rattle.cdxj_places.specs.Pair.{is_space, pair_of}
-use Rattle.std.specs.List.{before_first, after_first}
-use Rattle.cdxj_core.proofs.PairLaw.{line_pair}
+use Rattle.cdxj_core.specs.Lines.{body_of}
+use Rattle.cdxj_core.specs.Members.{Member, member_pair, line_entry}
+use Rattle.cdxj_core.specs.Indexes.{IsIndex}
+use Rattle.cdxj_core.proofs.MemberLemmas.{entry_pair_is, entry_is_short}
+use Rattle.cdxj_places.specs.Pair.{pair_of}
+use Rattle.cdxj_places.specs.Pairs.{Pair, pair_cmp}
+use Rattle.cdxj_places.specs.Rising.{NeverFalls}
 use Rattle.cdxj_places.proofs.PairLemmas.{pair_cmp_total}
 use Rattle.source_core.specs.IndexLines.{lines, from_line, BeginsAfter}
-use Rattle.source_core.specs.LinePairs.{Pair, pair_cmp, is_below, is_some_below, line_below, entry_pair, PairsNeverFall, AreSorted, IsCut}
-use Rattle.source_core.specs.Halving.{stops, BelowFirst}
-use Rattle.source_core.proofs.Seeks.{from_line_rest, sought}
+use Rattle.source_core.specs.Search.{is_below, is_some_below, line_below, IsCut}
+use Rattle.source_core.specs.Halving.{stops}
+use Rattle.source_core.proofs.Seeks.{from_line_rest, sought, BelowFirst}
 
 -- ---- where lines begin
 
@@ -60,105 +62,89 @@ not_below_later start p q low up =
       | Greater ↦ (λ e. refl)
     ]) refl
 
--- ---- the pair of a line that has values
-
-if_some : {A : Type 0} (b : Bool) (x : Option A) (v : A) → cond b x None ≡ Some v → b ≡ true
-if_some true x v h = refl
-if_some false x v h = absurd (cc)
-
-line_short : (limit : ℕ) (body : List ℕ) (v : LineValue) → line_in limit body ≡ Some v → length body < limit
-unfolding line_in
-line_short limit body v h =
-    let tests = if_some (nat_lt (length body) limit && has_no_feed body)
-    (line_parts (before_first is_space body) (before_first is_space (after_first is_space body)) (after_first is_space (after_first is_space body))) v h in
-    ltb-true (length body) limit (and_parts (nat_lt (length body) limit) (has_no_feed body) tests).0
+-- ---- the pair of a line that has an entry
 
 body_length : (b : Bool) (line : List ℕ) → length line ≤ length (cond b (take (length line - 1) line) line) + 1
 body_length true line = omega (arith, length-take (length line - 1) line)
 body_length false line = omega arith
 
-pair_value : (o : Option LineValue) (p : Pair) → option_map (λ (v : LineValue). (v.key, v.stamp)) o ≡ Some p → (v : LineValue) × (o ≡ Some v) × (Some (v.key, v.stamp) ≡ Some p)
-pair_value None p h = absurd (cc)
-pair_value (Some v) p h = (v, refl, h)
-
 module _ (limit : ℕ) (start : Pair) where
-  pub entry_below : (line : List ℕ) (p : Pair) → entry_pair limit line ≡ Some p → line_below limit start line ≡ is_below start p
+  entry_below : (line : List ℕ) (m : Member) → line_entry limit line ≡ Some m → line_below limit start line ≡ is_below start (member_pair m)
   unfolding line_below
-  entry_below line p h =
-      let value = pair_value (line_in limit (body_of line)) p h in
-      let short = line_short limit (body_of line) value.0 value.1 in
+  entry_below line m h =
+      let short = entry_is_short limit line m h in
       let long : length line ≤ length (body_of line) + 1 = body_length _ line in
       ap (λ l. is_some_below start (pair_of l)) (take_all limit line (omega arith))
-      ∙ ap (is_some_below start) (line_pair line limit value.0 value.1 ∙ value.2)
+      ∙ ap (is_some_below start) (entry_pair_is limit line m h)
 
-  abbrev HasPairs : List (List ℕ) → List Pair → Type 0
-  HasPairs ls ps = map (entry_pair limit) ls ≡ map Some ps
+  abbrev HaveEntries : List (List ℕ) → List Member → Type 0
+  HaveEntries ls ms = map (line_entry limit) ls ≡ map Some ms
 
-  same_head : (l : List ℕ) (ls : List (List ℕ)) (p : Pair) (ps : List Pair) → HasPairs (l ∷ ls) (p ∷ ps) → entry_pair limit l ≡ Some p
-  same_head l ls p ps h = cc
+  same_head : (l : List ℕ) (ls : List (List ℕ)) (m : Member) (ms : List Member) → HaveEntries (l ∷ ls) (m ∷ ms) → line_entry limit l ≡ Some m
+  same_head l ls m ms h = cc
 
-  same_tail : (l : List ℕ) (ls : List (List ℕ)) (p : Pair) (ps : List Pair) → HasPairs (l ∷ ls) (p ∷ ps) → HasPairs ls ps
-  same_tail l ls p ps h = cc
+  same_tail : (l : List ℕ) (ls : List (List ℕ)) (m : Member) (ms : List Member) → HaveEntries (l ∷ ls) (m ∷ ms) → HaveEntries ls ms
+  same_tail l ls m ms h = cc
 
-  later_high : (p : Pair) (ls : List (List ℕ)) (ps : List Pair) → HasPairs ls ps → AllByRecursion (λ q. is_gt (pair_cmp p q) ≡ false) ps → is_below start p ≡ false
-      → AllByRecursion (λ k. line_below limit start k ≡ false) ls
-  later_high p [] ps h up low = tt
-  later_high p (l ∷ ls) [] h up low = absurd (cc)
-  later_high p (l ∷ ls) (q ∷ ps) h up low = (
-    entry_below l q (same_head l ls q ps h) ∙ not_below_later start p q low up.0,
-    later_high p ls ps (same_tail l ls q ps h) up.1 low,
+  later_high : (m : Member) (ls : List (List ℕ)) (ms : List Member) → HaveEntries ls ms → AllByRecursion (λ k. is_gt (pair_cmp (member_pair m) (member_pair k)) ≡ false) ms
+      → is_below start (member_pair m) ≡ false → AllByRecursion (λ k. line_below limit start k ≡ false) ls
+  later_high m [] ms h up low = tt
+  later_high m (l ∷ ls) [] h up low = absurd (cc)
+  later_high m (l ∷ ls) (k ∷ ms) h up low = (
+    entry_below l k (same_head l ls k ms h) ∙ not_below_later start (member_pair m) (member_pair k) low up.0,
+    later_high m ls ms (same_tail l ls k ms h) up.1 low,
   )
 
-  pub below_first : (ls : List (List ℕ)) (ps : List Pair) → HasPairs ls ps → PairsNeverFall ps → BelowFirst (line_below limit start) ls
-  below_first [] ps h n = tt
+  below_first : (ls : List (List ℕ)) (ms : List Member) → HaveEntries ls ms → NeverFalls member_pair pair_cmp ms → BelowFirst (line_below limit start) ls
+  below_first [] ms h n = tt
   below_first (l ∷ ls) [] h n = absurd (cc)
-  below_first (l ∷ ls) (p ∷ ps) h n = (
-    (λ e. later_high p ls ps (same_tail l ls p ps h) n.0 (sym (entry_below l p (same_head l ls p ps h)) ∙ e)),
-    below_first ls ps (same_tail l ls p ps h) n.1,
+  below_first (l ∷ ls) (m ∷ ms) h n = (
+    (λ e. later_high m ls ms (same_tail l ls m ms h) n.0 (sym (entry_below l m (same_head l ls m ms h)) ∙ e)),
+    below_first ls ms (same_tail l ls m ms h) n.1,
   )
 
-  pub record Split (before : List (List ℕ)) (pairs : List Pair) : Type 0 where
-    pub low : List Pair
-    pub high : List Pair
-    pub pairs_are : pairs ≡ low ++ high
-    pub as_many : length before ≡ length low
-    pub all_below : AllByRecursion (λ p. is_below start p ≡ true) low
-    pub none_below : AllByRecursion (λ p. is_below start p ≡ false) high
+  record Split (before : List (List ℕ)) (members : List Member) : Type 0 where
+    low : List Member
+    high : List Member
+    members_are : members ≡ low ++ high
+    as_many : length before ≡ length low
+    all_below : AllByRecursion (λ m. is_below start (member_pair m) ≡ true) low
+    none_below : AllByRecursion (λ m. is_below start (member_pair m) ≡ false) high
 
-  all_high : (ls : List (List ℕ)) (ps : List Pair) → HasPairs ls ps → AllByRecursion (λ k. line_below limit start k ≡ false) ls → AllByRecursion (λ p. is_below start p ≡ false) ps
+  all_high : (ls : List (List ℕ)) (ms : List Member) → HaveEntries ls ms → AllByRecursion (λ k. line_below limit start k ≡ false) ls
+      → AllByRecursion (λ m. is_below start (member_pair m) ≡ false) ms
   all_high ls [] h a = tt
-  all_high [] (p ∷ ps) h a = absurd (cc)
-  all_high (l ∷ ls) (p ∷ ps) h a = (sym (entry_below l p (same_head l ls p ps h)) ∙ a.0, all_high ls ps (same_tail l ls p ps h) a.1)
+  all_high [] (m ∷ ms) h a = absurd (cc)
+  all_high (l ∷ ls) (m ∷ ms) h a = (sym (entry_below l m (same_head l ls m ms h)) ∙ a.0, all_high ls ms (same_tail l ls m ms h) a.1)
 
-  split : (before rest : List (List ℕ)) (ps : List Pair) → HasPairs (before ++ rest) ps → AllByRecursion (λ k. line_below limit start k ≡ true) before
-      → AllByRecursion (λ k. line_below limit start k ≡ false) rest → Split before ps
-  split [] rest ps h low high =
-      record { low = []; high = ps; pairs_are = refl; as_many = refl; all_below = tt; none_below = all_high rest ps h high }
+  split : (before rest : List (List ℕ)) (ms : List Member) → HaveEntries (before ++ rest) ms → AllByRecursion (λ k. line_below limit start k ≡ true) before
+      → AllByRecursion (λ k. line_below limit start k ≡ false) rest → Split before ms
+  split [] rest ms h low high =
+      record { low = []; high = ms; members_are = refl; as_many = refl; all_below = tt; none_below = all_high rest ms h high }
   split (l ∷ before) rest [] h low high = absurd (cc)
-  split (l ∷ before) rest (p ∷ ps) h low high =
-      let ih = split before rest ps (same_tail l (before ++ rest) p ps h) low.1 high in
+  split (l ∷ before) rest (m ∷ ms) h low high =
+      let ih = split before rest ms (same_tail l (before ++ rest) m ms h) low.1 high in
       record {
-        low = p ∷ ih.low;
+        low = m ∷ ih.low;
         high = ih.high;
-        pairs_are = ap (λ ps. p ∷ ps) ih.pairs_are;
+        members_are = ap (λ ms. m ∷ ms) ih.members_are;
         as_many = ap suc ih.as_many;
-        all_below = (sym (entry_below l p (same_head l (before ++ rest) p ps h)) ∙ low.0, ih.all_below);
+        all_below = (sym (entry_below l m (same_head l (before ++ rest) m ms h)) ∙ low.0, ih.all_below);
         none_below = ih.none_below;
       }
 
-  pub cut_there : (t : List ℕ) (ps : List Pair) (r offset : ℕ) → AreSorted limit (lines t) ps → offset ≤ length t → drop offset t ≡ from_line r t
-      → stops (line_below limit start) r t ≡ true → ((k : ℕ) → r ≡ k + 1 → stops (line_below limit start) k t ≡ false) → IsCut start t ps offset
-  cut_there t ps r offset sorted inside from here before =
-      let s = sought (line_below limit start) t r (below_first (lines t) ps sorted.has sorted.never_fall) here before in
+  pub cut_there : (t : List ℕ) (ms : List Member) (r offset : ℕ) → IsIndex limit t ms → offset ≤ length t → drop offset t ≡ from_line r t
+      → stops (line_below limit start) r t ≡ true → ((k : ℕ) → r ≡ k + 1 → stops (line_below limit start) k t ≡ false) → IsCut start t ms offset
+  cut_there t ms r offset index inside from here before =
+      let s = sought (line_below limit start) t r (below_first (lines t) ms index.entries index.ordered) here before in
       let cut : lines t ≡ s.before ++ lines (drop offset t) = s.cut ∙ ap (λ u. s.before ++ lines u) (sym from) in
-      let parts = split s.before (lines (from_line r t)) ps (ap (map (entry_pair limit)) (sym s.cut) ∙ sorted.has) s.low s.high in
+      let parts = split s.before (lines (from_line r t)) ms (ap (map (line_entry limit)) (sym s.cut) ∙ index.entries) s.low s.high in
       record {
         before = s.before;
+        begins = (cut, begins_at t offset s.before cut inside);
         low = parts.low;
         high = parts.high;
-        lines_are = cut;
-        begins = begins_at t offset s.before cut inside;
-        pairs_are = parts.pairs_are;
+        members_are = parts.members_are;
         as_many = parts.as_many;
         all_below = parts.all_below;
         none_below = parts.none_below;

@@ -1,8 +1,8 @@
--- The lines of an index's text, cut after each LF.
+-- The lines of a text, cut after each line feed.
 use Rattle.std.specs.Prelude.{◌≡◌, ℕ, zero, suc, List, [], ◌∷◌, ◌++◌, length, flat_map, max, cond, drop, nat_eq, Bool, true, false, Option, Some, None}
 pub use Rattle.cdxj_places.specs.TextLines.{lines}
 
--- what follows the first LF
+-- what follows the first line feed
 abbrev pub after_line : List ℕ → List ℕ
 after_line [] = []
 after_line (b ∷ bs) = cond (nat_eq b 10) bs (after_line bs)
@@ -27,11 +27,11 @@ abbrev pub first_length : List (List ℕ) → ℕ
 first_length [] = 0
 first_length (l ∷ ls) = length l
 
--- the length of the longest
+-- the length of the longest line, in bytes
 abbrev pub longest : List (List ℕ) → ℕ
 longest [] = 0
 longest (l ∷ ls) = max (length l) (longest ls)
 
--- these lines stand before the offset, and a line begins there, or the text ends
+-- these lines stand before the offset; there a line begins, or the text ends
 abbrev pub BeginsAfter : List ℕ → ℕ → List (List ℕ) → Type 0
 BeginsAfter text offset front = (lines text ≡ front ++ lines (drop offset text)) × (offset ≡ length (flat_map (λ l. l) front))

@@ -1,35 +1,42 @@
 //! The search for the line from which on an index is read.
-ghost use Rattle.std.specs.Prelude.{◌≡◌, ◌+◌, ◌*◌, ◌-◌, ◌<◌, ◌≤◌, ℕ, Option, List, length, drop, false, not, option_map, IfOk, IfErr, OnOk, Some};
-ghost use Rattle.cdxj_places.specs.Pair.{pair_of};
+ghost use Rattle.std.specs.Prelude.{◌≡◌, ◌+◌, ◌*◌, ◌<◌, ◌≤◌, ℕ, Option, List, length, drop, false, option_map, is_some, IfOk, OnOk, IfSome, Some};
 ghost use Rattle.cdxj_core.specs.declared.limit.TheConstants.{LINE_LIMIT};
-ghost use Rattle.devices.specs.Device.{next_count};
+ghost use Rattle.cdxj_core.specs.Indexes.{IsIndex};
+ghost use Rattle.cdxj_core.specs.Members.{Member};
+ghost use Rattle.cdxj_places.specs.Pair.{pair_of};
 ghost use Rattle.source_core.specs.IndexLines.{lines, from_line, longest, BeginsAfter};
-ghost use Rattle.source_core.specs.LinePairs.{Pair, is_below, line_below, AreSorted, IsCut};
+ghost use Rattle.source_core.specs.Search.{is_below, line_below, IsCut, CountsSearch};
 ghost use Rattle.source_core.specs.Halving.{stops, stops_lines, digits};
 ghost use Rattle.source_core.specs.LineParts.{BeginsWith, ReadsOn};
 
 use crate::fault::SearchFault;
 use crate::line_part::line_part;
+use crate::line_start::next_line_start;
 use crate::source::Source;
-use crate::start::next_start;
 use cdxj_core::{LINE_LIMIT, split_pair};
+use devices::PIECE;
 use std::alloc::Global;
 
 /// What a search found.
 #[derive(Clone, Copy, Debug, Drop, PartialEq, Eq)]
 pub struct Found {
-    /// Where the line begins that was looked for, or the size.
+    /// Where the line begins that was looked for, in bytes from the source's start; the source's size where there is none.
     pub offset: u64,
     /// How many turns it took.
     pub probes: u64,
 }
 
-/// Whether the bytes begin with a pair below this one, where they begin with a pair.
-fn front_below(front: &[u8], key: &[u8], stamp: &[u8]) -> Option<bool>
+/// Whether the pair at the front of a line is below this one, if there is a pair.
+fn front_is_below(front: &[u8], key: &[u8], stamp: &[u8]) -> Option<bool>
     ensures { result ≡ option_map (is_below (key.now, stamp.now)) (pair_of front.now) }
 {
     match split_pair(front) {
-        Some((k, s)) => Some(k.cmp(key).then_with(|| s.cmp(stamp)).is_lt()),
+        Some((front_key, front_stamp)) => Some(
+            front_key
+                .cmp(key)
+                .then_with(|| front_stamp.cmp(stamp))
+                .is_lt(),
+        ),
         None => None,
     }
 }
@@ -52,25 +59,17 @@ fn read_on<S: Source>(
     ensures reads { (t : List ℕ) → S.text source.old ≡ Some t → BeginsWith t offset front.old.items → IfOk result (λ ends. ReadsOn t offset front.new.items ends) }
     ensures gave { S.gave source.new ≤ S.gave source.old + length piece.old }
     ensures held { IfOk result (λ ends. ends ≡ false → S.gave source.new + length front.old.items ≤ S.gave source.old + length front.new.items) }
-    ensures worked { OnOk result (S.failures source.new ≡ S.failures source.old) }
-    ensures read { IfErr result (λ e. e ≡ SearchFault.Read → S.failures source.new ≡ next_count (S.failures source.old)) }
-    ensures memory { IfErr result (λ e. e ≡ SearchFault.Memory → S.failures source.new ≡ S.failures source.old) }
+    ensures failures { CountsSearch result (S.failures source.old) (S.failures source.new) }
 {
     let _size = source.size();
-    let at = offset + front.len() as u64;
-    match source.read_at(at, piece) {
-        Ok(count) => {
-            let (n, ends) = line_part(&piece[..count]);
-            match front.extend_from_slice(&piece[..n]) {
-                Ok(()) => Ok(ends),
-                Err(_) => Err(SearchFault::Memory),
-            }
-        }
-        Err(_) => Err(SearchFault::Read),
-    }
+    let count = source.read_at(offset + front.len() as u64, piece)?;
+    let (length, ends) = line_part(&piece[..count]);
+    front.extend_from_slice(&piece[..length])?;
+    Ok(ends)
 }
 
-/// Whether no line begins at the offset, where the text ends or a line begins, or the line that does isn't below the pair.
+/// Whether the line that begins at the offset isn't below the pair, or the text ends there. Looks at its first
+/// [`LINE_LIMIT`] bytes; a line that shows no pair in them isn't below.
 fn stops_at<S: Source>(
     source: &mut S,
     piece: &mut [u8],
@@ -85,16 +84,14 @@ fn stops_at<S: Source>(
     ensures extent { S.extent source.new ≡ S.extent source.old }
     ensures stops { (t : List ℕ) → S.text source.old ≡ Some t → IfOk result (λ stop. stop ≡ stops_lines (line_below LINE_LIMIT (key.now, stamp.now)) (lines (drop offset t))) }
     ensures gave { (t : List ℕ) → S.text source.old ≡ Some t → S.gave source.new ≤ S.gave source.old + longest (lines t) + length piece.old }
-    ensures worked { OnOk result (S.failures source.new ≡ S.failures source.old) }
-    ensures read { IfErr result (λ e. e ≡ SearchFault.Read → S.failures source.new ≡ next_count (S.failures source.old)) }
-    ensures memory { IfErr result (λ e. e ≡ SearchFault.Memory → S.failures source.new ≡ S.failures source.old) }
+    ensures failures { CountsSearch result (S.failures source.old) (S.failures source.new) }
 {
     front.clear();
     let size = source.size();
     while front.len() < LINE_LIMIT && offset + (front.len() as u64) < size {
         let most = piece.len().min(LINE_LIMIT - front.len());
         let ends = read_on(source, &mut piece[..most], offset, front)?;
-        match front_below(front, key, stamp) {
+        match front_is_below(front, key, stamp) {
             Some(below) => return Ok(!below),
             None => {}
         }
@@ -105,8 +102,7 @@ fn stops_at<S: Source>(
     Ok(true)
 }
 
-/// The offset of the first line that begins at `middle` or after it, or the size; and whether no line begins there, or the one
-/// that does isn't below the pair.
+/// The offset of the first line that begins at `middle` or after it, or the source's size, unless that line is below the pair.
 fn probe<S: Source>(
     source: &mut S,
     piece: &mut [u8],
@@ -114,30 +110,30 @@ fn probe<S: Source>(
     front: &mut Vec<u8>,
     key: &[u8],
     stamp: &[u8],
-) -> Result<(u64, bool), SearchFault>
+) -> Result<Option<u64>, SearchFault>
     requires room { 0 < length piece.old }
     requires inside { middle ≤ S.extent source.old }
     ensures text { S.text source.new ≡ S.text source.old }
     ensures extent { S.extent source.new ≡ S.extent source.old }
-    ensures within { IfOk result (λ r. r.0 ≤ S.extent source.old) }
-    ensures from { (t : List ℕ) → S.text source.old ≡ Some t → IfOk result (λ r. drop r.0 t ≡ from_line middle t) }
-    ensures stops { (t : List ℕ) → S.text source.old ≡ Some t → IfOk result (λ r. r.1 ≡ stops (line_below LINE_LIMIT (key.now, stamp.now)) middle t) }
+    ensures within { IfOk result (λ found. IfSome found (λ offset. offset ≤ S.extent source.old)) }
+    ensures line { (t : List ℕ) → S.text source.old ≡ Some t → IfOk result (λ found. IfSome found (λ offset. drop offset t ≡ from_line middle t)) }
+    ensures stops { (t : List ℕ) → S.text source.old ≡ Some t → IfOk result (λ found. is_some found ≡ stops (line_below LINE_LIMIT (key.now, stamp.now)) middle t) }
     ensures gave { (t : List ℕ) → S.text source.old ≡ Some t → S.gave source.new ≤ S.gave source.old + 2 * longest (lines t) + 2 * length piece.old }
-    ensures worked { OnOk result (S.failures source.new ≡ S.failures source.old) }
-    ensures read { IfErr result (λ e. e ≡ SearchFault.Read → S.failures source.new ≡ next_count (S.failures source.old)) }
-    ensures memory { IfErr result (λ e. e ≡ SearchFault.Memory → S.failures source.new ≡ S.failures source.old) }
+    ensures failures { CountsSearch result (S.failures source.old) (S.failures source.new) }
 {
-    match next_start(source, piece, middle) {
-        Ok(offset) => match stops_at(source, piece, offset, front, key, stamp) {
-            Ok(stop) => Ok((offset, stop)),
-            Err(fault) => Err(fault),
-        },
-        Err(_) => Err(SearchFault::Read),
+    let offset = next_line_start(source, piece, middle)?;
+    if stops_at(source, piece, offset, front, key, stamp)? {
+        Ok(Some(offset))
+    } else {
+        Ok(None)
     }
 }
 
-/// The least offset from which on the lines have pairs not below this one: by halving the offsets. Of each half it reads the
-/// pair of the first line that begins in it. A line that shows none within `LINE_LIMIT` bytes counts as not below.
+/// Finds the first line of an index whose pair isn't below this one, by halving the byte offsets. A turn looks at the first
+/// line that begins in the upper half of those that are left.
+///
+/// Of a line it looks at the first [`LINE_LIMIT`] bytes; one that shows no pair in them isn't below. It reads pieces of at most
+/// [`PIECE`] bytes. Over a text that isn't an index it finds the beginning of some line, or the size.
 pub fn search<S: Source>(
     alloc: Global,
     source: &mut S,
@@ -148,33 +144,31 @@ pub fn search<S: Source>(
     ensures extent { S.extent source.new ≡ S.extent source.old }
     ensures within { IfOk result (λ found. found.offset ≤ S.extent source.old) }
     ensures begins { (t : List ℕ) → S.text source.old ≡ Some t → IfOk result (λ found. (before : List (List ℕ)) × BeginsAfter t found.offset before) }
-    ensures cut { (t : List ℕ) → (pairs : List Pair) → S.text source.old ≡ Some t → AreSorted LINE_LIMIT (lines t) pairs
-        → IfOk result (λ found. IsCut (key.now, stamp.now) t pairs found.offset) }
+    ensures cut { (t : List ℕ) → (members : List Member) → S.text source.old ≡ Some t → IsIndex LINE_LIMIT t members
+        → IfOk result (λ found. IsCut (key.now, stamp.now) t members found.offset) }
     ensures probes { IfOk result (λ found. found.probes ≤ digits (S.extent source.old)) }
     ensures gave { (t : List ℕ) → S.text source.old ≡ Some t → S.gave source.new ≤ S.gave source.old + digits (S.extent source.old) * (2 * longest (lines t) + 16384) }
-    ensures worked { OnOk result (S.failures source.new ≡ S.failures source.old) }
-    ensures read { IfErr result (λ e. e ≡ SearchFault.Read → S.failures source.new ≡ next_count (S.failures source.old)) }
-    ensures memory { IfErr result (λ e. e ≡ SearchFault.Memory → S.failures source.new ≡ S.failures source.old) }
+    ensures failures { CountsSearch result (S.failures source.old) (S.failures source.new) }
 {
-    let mut piece = Vec::new(alloc);
-    if piece.resize(8192, 0).is_err() {
-        return Err(SearchFault::Memory);
-    }
+    let mut piece = vec![in alloc; 0; PIECE]?;
     let mut front = Vec::new(alloc);
     let mut low = 0;
     let mut high = source.size();
-    let mut offset = high;
-    let mut probes = 0u64;
+    let mut found = Found {
+        offset: high,
+        probes: 0,
+    };
     while low < high {
         let middle = low + (high - low) / 2;
-        let (at, stop) = probe(source, &mut piece, middle, &mut front, key, stamp)?;
-        probes += 1;
-        if stop {
-            high = middle;
-            offset = at;
-        } else {
-            low = middle + 1;
+        let line = probe(source, &mut piece, middle, &mut front, key, stamp)?;
+        found.probes += 1;
+        match line {
+            Some(offset) => {
+                found.offset = offset;
+                high = middle;
+            }
+            None => low = middle + 1,
         }
     }
-    Ok(Found { offset, probes })
+    Ok(found)
 }

@@ -1,0 +1,39 @@
+-- What the search for the first line at or above a pair finds in an index.
+use Rattle.std.specs.Prelude.{◌≡◌, ℕ, List, ◌++◌, length, take, Bool, true, false, Option, Some, None, Result, Err}
+use Rattle.std.specs.List.{AllByRecursion}
+use Rattle.std.specs.Ordering.{is_lt}
+use Rattle.cdxj_core.specs.Members.{Member, member_pair}
+use Rattle.cdxj_places.specs.Pair.{pair_of}
+use Rattle.cdxj_places.specs.Pairs.{Pair, pair_cmp}
+use Rattle.devices.specs.Device.{next_count}
+use Rattle.source_core.specs.IndexLines.{BeginsAfter}
+use Rattle.source_core.specs.declared.fault.SearchFault.{SearchFault}
+use Rattle.source_core.specs.declared.fault.SearchFault.TheVariants as fault
+
+abbrev pub is_below : Pair → Pair → Bool
+is_below start pair = is_lt (pair_cmp pair start)
+
+-- there is a pair, and it is below the start
+abbrev pub is_some_below : Pair → Option Pair → Bool
+is_some_below start None = false
+is_some_below start (Some pair) = is_below start pair
+
+-- the line begins, within its first `limit` bytes, with a pair below the start
+unfoldable pub line_below : ℕ → Pair → List ℕ → Bool
+line_below limit start line = is_some_below start (pair_of (take limit line))
+
+-- An index is cut at the offset: the lines before it are those whose pairs are below the start
+pub record IsCut (start : Pair) (text : List ℕ) (members : List Member) (offset : ℕ) : Type 0 where
+  pub before : List (List ℕ)
+  pub begins : BeginsAfter text offset before
+  pub low : List Member
+  pub high : List Member
+  pub members_are : members ≡ low ++ high
+  pub as_many : length before ≡ length low
+  pub all_below : AllByRecursion (λ m. is_below start (member_pair m) ≡ true) low
+  pub none_below : AllByRecursion (λ m. is_below start (member_pair m) ≡ false) high
+
+-- a source's count of failures, before and after a search
+abbrev pub CountsSearch : {A : Type 0} → Result A SearchFault → ℕ → ℕ → Type 0
+CountsSearch (Err fault.Read) old new = new ≡ next_count old
+CountsSearch answer old new = new ≡ old
