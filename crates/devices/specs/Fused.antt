@@ -1,7 +1,6 @@
 -- What contracts see of a `Fuse`.
 use Rattle.std.specs.Prelude.{◌≡◌, ℕ, ◌+◌, ◌-◌, ◌^◌, ◌<◌, ◌≤◌, min, max, Result, IfOk, IsErr}
 use Rattle.devices.specs.Device.{CountsFailure}
-use Rattle.devices.specs.declared.device.DeviceFault.{DeviceFault}
 use Rattle.devices.specs.declared.fuse.Fuse.{Fuse}
 
 -- a fuse that has had no call
@@ -17,7 +16,7 @@ abbrev pub IsBlown : ℕ → ℕ → Type 0
 IsBlown call at = (call ≡ at) × (at < 2 ^ 64 - 1)
 
 -- a call of a fuse was counted; it failed without touching the device within, or moved what that device moved
-pub record IsFusedCall {D : Type 0} (failures : D → ℕ) (old new : Fuse D) (r : Result ℕ DeviceFault) : Type 0 where
+pub record IsFusedCall {D E : Type 0} (failures : D → ℕ) (old new : Fuse D) (r : Result ℕ E) : Type 0 where
   pub counted : new.calls ≡ min (old.calls + 1) (2 ^ 64 - 1)
   pub piece_is : new.piece ≡ old.piece
   pub at_is : new.at ≡ old.at
