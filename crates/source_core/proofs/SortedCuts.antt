@@ -48,7 +48,6 @@ begins_there t offset m e inside =
 
 -- ---- the order of pairs
 
-
 -- what is not below a start has nothing below it after it
 not_below_later : (start p q : Pair) → is_below start p ≡ false → is_gt (pair_cmp p q) ≡ false → is_below start q ≡ false
 not_below_later start p q low up =

@@ -1,4 +1,4 @@
-//! What an index is read from.
+//! Bytes that are read at any offset.
 ghost use Rattle.std.specs.Prelude.{◌≡◌, ◌-◌, ◌<◌, ◌≤◌, ℕ, Option, List, length, IfSome, IfOk, MatchResult};
 ghost use Rattle.devices.specs.Device.{CountsFailure};
 ghost use Rattle.source_core.specs.Device.{count_on, HoldsPart};
@@ -10,27 +10,27 @@ use thiserror::Error;
 #[error("the source can't be read")]
 pub struct SourceFault;
 
-/// Bytes of a size that never changes, read at any offset.
+/// Bytes that can be read at any offset. Their number never changes.
 pub trait Source {
-    /// All bytes, where the source tells them.
+    /// Its bytes, where they are known.
     ghost text: { Self → Option (List ℕ) };
 
-    /// The number of bytes.
+    /// How many bytes it has.
     ghost extent: { Self → ℕ };
 
-    /// How many reads have failed.
+    /// How many reads failed.
     ghost failures: { Self → ℕ };
 
-    /// How many bytes were given.
+    /// How many bytes it gave.
     ghost gave: { Self → ℕ };
 
-    /// The number of bytes, below 2^63.
+    /// How many bytes it has, below 2^63.
     fn size(&self) -> u64
         ensures extent { result ≡ extent self.now }
         ensures told { IfSome (text self.now) (λ t. length t ≡ extent self.now) };
 
-    /// Moves the bytes from the offset `at` on into the front of `piece`, and answers how many: none past the size, and below
-    /// it at least one for a piece that isn't empty.
+    /// Reads from the offset `at` on, in bytes from the start, into the front of `piece`, and answers how many bytes it gave:
+    /// at least one below the size for a piece that isn't empty, none from the size on. A failed read gives none.
     fn read_at(&mut self, at: u64, piece: &mut [u8]) -> Result<usize, SourceFault>
         ensures text { text self.new ≡ text self.old }
         ensures extent { extent self.new ≡ extent self.old }
