@@ -12,7 +12,7 @@ use std::marker::Model;
 
 /// What a filter asks of a value: to equal a text or not, to have it somewhere or not.
 #[derive(Clone, Copy, Debug, Drop, PartialEq, Eq)]
-pub enum Test {
+pub(crate) enum Test {
     Is,
     IsNot,
     Has,
@@ -21,7 +21,7 @@ pub enum Test {
 
 /// A condition on one field of a line.
 #[derive(Debug, Drop)]
-pub struct Filter {
+pub(crate) struct Filter {
     field: Field,
     test: Test,
     text: String,

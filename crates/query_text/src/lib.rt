@@ -17,7 +17,6 @@ mod stamp;
 mod target;
 
 pub use crate::fault::QueryFault;
-pub use crate::filter::{Filter, Test};
 pub use crate::laws::matching_keys_are_in_one_range;
 pub use crate::output::OutputFormat;
 pub use crate::query::{QUERY_LIMIT, Query};

@@ -20,7 +20,7 @@ use std::marker::Model;
 pub const QUERY_LIMIT: usize = 65_536;
 
 /// What is asked of the captures of indexes.
-#[derive(Drop)]
+#[derive(Debug, Drop)]
 pub struct Query {
     target: Target,
     from: Option<StampStart>,
@@ -192,20 +192,14 @@ impl Query {
         ensures value { result ≡ self.now.limit }
         ensures bounds { IfSome result (λ limit. (0 < limit) × (limit ≤ 1000000)) }
     {
-        match &self.limit {
-            Some(limit) => Some(limit.captures()),
-            None => None,
-        }
+        self.limit.as_ref().map(|limit| limit.captures())
     }
 
     /// The place after which the page begins, if one was given.
     pub fn resume(&self) -> Option<Place<'_>>
         ensures { option_map place_view result ≡ self.now.resume }
     {
-        match &self.resume {
-            Some(place) => Some(place.place()),
-            None => None,
-        }
+        self.resume.as_ref().map(|place| place.place())
     }
 
     /// Whether the page ends with the resume key of the next.

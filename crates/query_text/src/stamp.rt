@@ -48,11 +48,7 @@ impl StampStart {
 fn front(stamp: &[u8], count: usize) -> &[u8]
     ensures { result.now ≡ take count stamp.now }
 {
-    if count < stamp.len() {
-        &stamp[..count]
-    } else {
-        stamp
-    }
+    stamp.get(..count).unwrap_or(stamp)
 }
 
 /// Whether the stamp's first digits are not below these.
