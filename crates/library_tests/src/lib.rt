@@ -8,4 +8,8 @@ mod heads;
 #[cfg(test)]
 mod matching;
 #[cfg(test)]
+mod options;
+#[cfg(test)]
 mod query_texts;
+#[cfg(test)]
+mod targets;

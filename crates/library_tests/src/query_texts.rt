@@ -1,6 +1,5 @@
-//! What query texts say, and what they are refused for.
-use cdxj_core::Field;
-use query_text::{MatchKind, OutputFormat, Query, QueryFault};
+//! Which query texts are refused, and for what.
+use query_text::{Query, QueryFault};
 use std::alloc::Global;
 use std::test::Fail;
 
@@ -202,85 +201,7 @@ const PATTERNS: &[&str] = &[
     "\\", "^", "$", ".", "|", "?", "*", "%2B", "(", ")", "[", "]", "{", "}",
 ];
 
-const EXACT: &[(&str, &str)] = &[
-    ("url=example.com", "com,example)/"),
-    ("&&url=example.com&&", "com,example)/"),
-    ("u%72l=example.com", "com,example)/"),
-    ("url=HTTP://Example.com/A", "com,example)/a"),
-    (
-        "url=http%3A%2F%2FExample.com%2F%3Fa%3Db",
-        "com,example)/?a=b",
-    ),
-    ("url=example.com/?a=b=c", "com,example)/?a=b=c"),
-    ("url=example.com/a+b", "com,example)/a%20b"),
-    ("url=example.com/%FF", "com,example)/%ef%bf%bd"),
-    ("url=example.com/%2541", "com,example)/%41"),
-    ("url=example.com%20", "com,example)/"),
-    ("url=//a", "a)/"),
-    ("url=http:80", "http)/"),
-    ("url=http:8080/x", "http:8080)/x"),
-    ("url=user:pass@example.com/", "com,example)/"),
-    ("url=https://example.com:443/", "com,example)/"),
-    ("url=192.0.2.7/x", "192.0.2.7)/x"),
-    ("url=[2001:DB8::1]:81/", "[2001:db8::1]:81)/"),
-    ("url=b%C3%BCcher.example", "example,xn--bcher-kva)/"),
-    ("url=b\u{fc}cher.example", "example,xn--bcher-kva)/"),
-    ("url=1http://a/", "1http)//a/"),
-    ("url=h_t://a/", "h_t)//a/"),
-    ("url=h-t.p%2B2://A/", "h-t.p+2://a/"),
-    ("url=ftp://A/", "ftp://a/"),
-    ("url=a*b.example", "example,a*b)/"),
-    ("url=example.com/*&matchType=exact", "com,example)/*"),
-    ("url=*.example.com&matchType=exact", "com,example,*)/"),
-    ("matchType=exact&url=example.com", "com,example)/"),
-    ("key=*.a*", "*.a*"),
-    ("key=", ""),
-    ("key", ""),
-    ("key=A+b%FF", "A b\u{fffd}"),
-    ("key=dns:example.com", "dns:example.com"),
-    ("key=a=b", "a=b"),
-];
-
-const PREFIX: &[(&str, &str)] = &[
-    ("url=example.com/*", "com,example)/"),
-    ("url=example.com*", "com,example)/"),
-    ("url=example.com/a*", "com,example)/a"),
-    ("url=example.com/a?*", "com,example)/a"),
-    ("url=example.com/a?b*", "com,example)/a?b"),
-    ("url=exam*", "exam)/"),
-    ("url=**", "*)/"),
-    ("url=example.com/**", "com,example)/*"),
-    ("url=ftp://A/*", "ftp://a/"),
-    ("url=example.com/a&matchType=prefix", "com,example)/a"),
-    ("url=*.example.com&matchType=prefix", "com,example,*)/"),
-    ("key=&matchType=prefix", ""),
-    ("key=com,&matchType=prefix", "com,"),
-];
-
-const HOST: &[(&str, &str)] = &[
-    ("url=example.com&matchType=host", "com,example"),
-    (
-        "url=https://www.Example.com:8080/x&matchType=host",
-        "com,example",
-    ),
-    ("url=192.0.2.7&matchType=host", "192.0.2.7"),
-    ("url=[::1]:81&matchType=host", "[::1]"),
-    ("url=*.example.com&matchType=host", "com,example,*"),
-    ("key=com,example&matchType=host", "com,example"),
-];
-
-const DOMAIN: &[(&str, &str)] = &[
-    ("url=*.example.com", "com,example"),
-    ("url=*.www.example.com", "com,example"),
-    ("url=*.example.com:8080/a", "com,example"),
-    ("url=*.*", "*"),
-    ("url=*.com", "com"),
-    ("url=example.com:8080&matchType=domain", "com,example"),
-    ("key=com&matchType=domain", "com"),
-    ("key=&matchType=domain", ""),
-];
-
-/// More that is accepted.
+/// Accepted, though they look like others that are refused.
 const ACCEPTED: &[&str] = &[
     "filter=!statuscode:200&url=a",
     "url=a&is=offset:&is=offset:",
@@ -297,25 +218,29 @@ const ACCEPTED: &[&str] = &[
     "url=a&fl=urlkey,timestamp,original,mimetype,statuscode,digest,length,offset,filename",
 ];
 
+const REFUSED: &[&[(&str, QueryFault)]] = &[VALUES, EMPTY_VALUES, TWO_FAULTS, WITHOUT_A_TARGET];
+
 #[test]
 fn texts_are_refused_for_their_first_fault(rt: HostRuntime) -> Result<(), Fail> {
-    for table in [VALUES, EMPTY_VALUES, TWO_FAULTS, WITHOUT_A_TARGET] {
-        for (text, fault) in table {
+    for table in REFUSED {
+        for (text, fault) in *table {
             assert_eq!(rt; refusal(rt.alloc(), text)?, Some(*fault), "{text}");
         }
     }
     Ok(())
 }
 
+const REFUSED_ALIKE: &[(&[&str], QueryFault)] = &[
+    (UNKNOWN, QueryFault::Unknown),
+    (REPEATED, QueryFault::RepeatedParameter),
+    (NO_PLACES, QueryFault::BadResume),
+];
+
 #[test]
 fn parameters_are_unknown_repeated_or_no_places(rt: HostRuntime) -> Result<(), Fail> {
-    for (table, fault) in [
-        (UNKNOWN, QueryFault::Unknown),
-        (REPEATED, QueryFault::RepeatedParameter),
-        (NO_PLACES, QueryFault::BadResume),
-    ] {
-        for text in table {
-            assert_eq!(rt; refusal(rt.alloc(), text)?, Some(fault), "{text}");
+    for (table, fault) in REFUSED_ALIKE {
+        for text in *table {
+            assert_eq!(rt; refusal(rt.alloc(), text)?, Some(*fault), "{text}");
         }
     }
     Ok(())
@@ -344,23 +269,6 @@ fn patterns_are_refused_in_filter_alone(rt: HostRuntime) -> Result<(), Fail> {
 }
 
 #[test]
-fn targets_are_those_of_the_url_or_the_key(rt: HostRuntime) -> Result<(), Fail> {
-    for (table, kind) in [
-        (EXACT, MatchKind::Exact),
-        (PREFIX, MatchKind::Prefix),
-        (HOST, MatchKind::Host),
-        (DOMAIN, MatchKind::Domain),
-    ] {
-        for (text, target) in table {
-            let query = Query::read(rt.alloc(), text)?;
-            assert_eq!(rt; query.target().text(), *target, "{text}");
-            assert_eq!(rt; query.target().kind(), kind, "{text}");
-        }
-    }
-    Ok(())
-}
-
-#[test]
 fn texts_are_accepted(rt: HostRuntime) -> Result<(), Fail> {
     for text in ACCEPTED {
         assert_eq!(rt; refusal(rt.alloc(), text)?, None, "{text}");
@@ -377,102 +285,34 @@ fn lengthened(alloc: Global, text: &str, letters: usize) -> Result<String, Query
     Ok(long)
 }
 
+const LENGTHS: &[(&str, usize, Option<QueryFault>)] = &[
+    ("", 65_536, Some(QueryFault::Unknown)),
+    ("", 65_537, Some(QueryFault::QueryTooLong)),
+    ("limit=0&", 65_529, Some(QueryFault::QueryTooLong)),
+    ("key=", 65_532, None),
+    ("key=", 65_533, Some(QueryFault::QueryTooLong)),
+];
+
 #[test]
 fn texts_have_at_most_65536_bytes(rt: HostRuntime) -> Result<(), Fail> {
-    for (text, letters, wanted) in [
-        ("", 65_536, Some(QueryFault::Unknown)),
-        ("", 65_537, Some(QueryFault::QueryTooLong)),
-        ("limit=0&", 65_529, Some(QueryFault::QueryTooLong)),
-        ("key=", 65_532, None),
-        ("key=", 65_533, Some(QueryFault::QueryTooLong)),
-    ] {
-        let long = lengthened(rt.alloc(), text, letters)?;
-        assert_eq!(rt; refusal(rt.alloc(), long.as_str())?, wanted);
+    for (text, letters, wanted) in LENGTHS {
+        let long = lengthened(rt.alloc(), text, *letters)?;
+        assert_eq!(rt; refusal(rt.alloc(), long.as_str())?, *wanted);
     }
     Ok(())
 }
 
-#[test]
-fn a_query_has_its_defaults(rt: HostRuntime) -> Result<(), Fail> {
-    let query = Query::read(rt.alloc(), "key=k")?;
-    assert_eq!(rt; query.limit(), None);
-    assert!(rt; query.resume().is_none());
-    assert!(rt; !query.shows_resume_key());
-    assert!(rt; query.output() == OutputFormat::Text);
-    assert!(rt;
-        query.fields()
-            == [
-                Field::Urlkey,
-                Field::Timestamp,
-                Field::Original,
-                Field::Mimetype,
-                Field::Statuscode,
-                Field::Digest,
-                Field::Length,
-            ]
-            .as_slice()
-    );
-    Ok(())
-}
-
-#[test]
-fn a_query_has_what_its_text_says(rt: HostRuntime) -> Result<(), Fail> {
-    let query = Query::read(
-        rt.alloc(),
-        "key=k&resumeKey=k=1+20160101000000+a+b.warc+5&output=json&showResumeKey=true&limit=007&fl=offset,filename,offset",
-    )?;
-    assert_eq!(rt; query.limit(), Some(7));
-    assert!(rt; query.shows_resume_key());
-    assert!(rt; query.output() == OutputFormat::Json);
-    assert!(rt; query.fields() == [Field::Offset, Field::Filename, Field::Offset].as_slice());
-    match query.resume() {
-        Some(place) => {
-            assert_eq!(rt; place.key, "k=1");
-            assert_eq!(rt; place.filename, "a b.warc");
-            assert_eq!(rt; place.offset, 5);
-        }
-        None => assert!(rt; false),
-    }
-    Ok(())
-}
-
-#[test]
-fn numbers_flags_and_outputs_are_read(rt: HostRuntime) -> Result<(), Fail> {
-    for (text, limit) in [
-        ("key=k&limit=1", 1),
-        ("key=k&limit=0000001", 1),
-        ("key=k&limit=1000000", 1_000_000),
-    ] {
-        assert_eq!(rt; Query::read(rt.alloc(), text)?.limit(), Some(limit));
-    }
-    let cdxj = Query::read(rt.alloc(), "key=k&output=cdxj&showResumeKey=false")?;
-    assert!(rt; cdxj.output() == OutputFormat::Cdxj);
-    assert!(rt; !cdxj.shows_resume_key());
-    let text = Query::read(rt.alloc(), "key=k&output=text")?;
-    assert!(rt; text.output() == OutputFormat::Text);
-    Ok(())
-}
-
-#[test]
-fn a_field_may_stand_9000_times(rt: HostRuntime) -> Result<(), Fail> {
-    let mut text = String::from_str(rt.alloc(), "key=k&fl=offset")?;
-    for _ in 1..9_000 {
-        text.push_str(",offset")?;
-    }
-    let query = Query::read(rt.alloc(), text.as_str())?;
-    assert_eq!(rt; query.fields().len(), 9_000);
-    Ok(())
-}
+const NAMES: &[(QueryFault, &str)] = &[
+    (QueryFault::Memory, "Memory"),
+    (QueryFault::RepeatedParameter, "RepeatedParameter"),
+    (QueryFault::NotLiteral, "NotLiteral"),
+    (QueryFault::UrlAndKey, "UrlAndKey"),
+    (QueryFault::QueryTooLong, "QueryTooLong"),
+];
 
 #[test]
 fn refusals_have_names(rt: HostRuntime) {
-    for (fault, name) in [
-        (QueryFault::Memory, "Memory"),
-        (QueryFault::RepeatedParameter, "RepeatedParameter"),
-        (QueryFault::NotLiteral, "NotLiteral"),
-        (QueryFault::UrlAndKey, "UrlAndKey"),
-        (QueryFault::QueryTooLong, "QueryTooLong"),
-    ] {
-        assert_eq!(rt; fault.name(), name);
+    for (fault, name) in NAMES {
+        assert_eq!(rt; fault.name(), *name);
     }
 }
