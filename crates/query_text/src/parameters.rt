@@ -75,11 +75,11 @@ impl Parameters {
         let value = decoded(alloc, text)?;
         match parameter {
             Parameter::Url => Ok(Parameters {
-                url: Some(value),
+                url: Some(value.into_owned(alloc)?),
                 ..self
             }),
             Parameter::Key => Ok(Parameters {
-                key: Some(value),
+                key: Some(value.into_owned(alloc)?),
                 ..self
             }),
             Parameter::MatchType => Ok(Parameters {
@@ -87,11 +87,11 @@ impl Parameters {
                 ..self
             }),
             Parameter::From => Ok(Parameters {
-                from: Some(StampStart::read(value)?),
+                from: Some(StampStart::read(value.into_owned(alloc)?)?),
                 ..self
             }),
             Parameter::To => Ok(Parameters {
-                to: Some(StampStart::read(value)?),
+                to: Some(StampStart::read(value.into_owned(alloc)?)?),
                 ..self
             }),
             Parameter::Filter => self.with_filter(Filter::read_literal(alloc, value.as_str())?),

@@ -1,5 +1,6 @@
 //! The pieces of a query text.
-ghost use Rattle.std.specs.Prelude.{◌≡◌, ◌∷◌, ◌<◌, ◌==◌, IfSome, IfOk, length, string_bytes};
+ghost use Rattle.std.specs.Prelude.{◌≡◌, ◌∷◌, ◌<◌, ◌==◌, IfSome, IfOk, length};
+ghost use Rattle.std.specs.Cow.{cow_str_bytes};
 ghost use Rattle.std.specs.List.{list_all, slice_split, before_first, after_first};
 ghost use Rattle.std.specs.Char.{is_ascii_digit};
 ghost use Rattle.query_text.specs.Parts.{parts_left, is_equals, decoded};
@@ -7,6 +8,7 @@ ghost use Rattle.query_text.specs.Values.{is_number};
 
 use form_urlencoded::decode;
 use std::alloc::{AllocError, Global};
+use std::borrow::CowStr;
 
 /// The part of a text before its first `sign`, and what follows that sign, if there is one.
 pub(crate) fn cut_part(text: &str, sign: char) -> (&str, Option<&str>)
@@ -29,10 +31,10 @@ pub(crate) fn cut_pair(piece: &str) -> (&str, &str)
 }
 
 /// What a name or a value means, by the form encoding of the URL Standard.
-pub(crate) fn decoded(alloc: Global, text: &str) -> Result<String, AllocError>
-    ensures { IfOk result (λ found. string_bytes found ≡ decoded text.now) }
+pub(crate) fn decoded(alloc: Global, text: &str) -> Result<CowStr<'_>, AllocError>
+    ensures { IfOk result (λ found. cow_str_bytes found ≡ decoded text.now) }
 {
-    decode(alloc, text.as_bytes())?.into_owned(alloc)
+    decode(alloc, text.as_bytes())
 }
 
 fn are_digits(bytes: &[u8]) -> bool
