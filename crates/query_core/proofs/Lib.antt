@@ -1,0 +1,2 @@
+pub mod BadLines
+pub mod Runs

@@ -1,0 +1,2 @@
+pub mod NextLine
+pub mod Checking

@@ -1,0 +1,46 @@
+//! The checking of an index.
+ghost use Rattle.std.specs.Prelude.{◌≡◌, ⊤, ℕ, List, true, false, IfErr, MatchBool, Some};
+ghost use Rattle.cdxj_core.specs.declared.limit.TheConstants.{LINE_LIMIT};
+ghost use Rattle.query_core.specs.NextLine.{CountsSource};
+ghost use Rattle.query_core.specs.Checking.{FallsAfter, IsChecked, IsCheckFault};
+
+use crate::fault::AnswerFault;
+use crate::line_reading::{falls, next_line};
+use cdxj_core::Line;
+use source_core::{Cursor, Source};
+use std::alloc::Global;
+
+fn falls_after(previous: &Option<Line>, line: &Line) -> bool
+    ensures falls { result ≡ true → FallsAfter previous.now line.now }
+    ensures stays { result ≡ false → FallsAfter previous.now line.now → ⊥ }
+{
+    match previous {
+        Some(previous) => falls(previous, line),
+        None => false,
+    }
+}
+
+/// Checks an index, and answers how many lines it has.
+///
+/// Each line must have an entry, and its key and stamp must not be below those of the line before it. The first line at fault
+/// is answered, as one of index 0. It holds two lines at most.
+pub fn check<S: Source>(alloc: Global, source: &mut S) -> Result<u64, AnswerFault>
+    ensures text { S.text source.new ≡ S.text source.old }
+    ensures checked { (text : List ℕ) → S.text source.old ≡ Some text → IsChecked LINE_LIMIT text result }
+    ensures fault { IfErr result IsCheckFault }
+    ensures failures { CountsSource result (S.failures source.old) (S.failures source.new) }
+{
+    let mut cursor = Cursor::new(alloc, 0)?;
+    let mut bytes = Vec::new(alloc);
+    let mut previous: Option<Line> = None;
+    let mut spare: Option<Line> = None;
+    let mut offset = 0;
+    while let Some(line) = next_line(alloc, source, &mut cursor, &mut bytes, spare)? {
+        if falls_after(&previous, &line) {
+            return Err(AnswerFault::OutOfOrder(0, offset));
+        }
+        spare = previous.replace(line);
+        offset = cursor.at();
+    }
+    Ok(cursor.count())
+}
