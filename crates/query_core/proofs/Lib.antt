@@ -1,2 +1,3 @@
 pub mod BadLines
 pub mod Runs
+pub mod CheckLemmas

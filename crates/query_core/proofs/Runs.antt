@@ -1,5 +1,6 @@
 -- Runs of lines, one line more at a time.
-use Rattle.std.proofs.Common.{◌≡◌, ◌⊎◌, inl, inr, ℕ, zero, suc, ◌+◌, List, [], ◌∷◌, ◌++◌, Bool, false, length, take, drop, map, flat_map, Option, None, Some, refl, sym, ap, ap₂, ◌∙◌, subst, arith, Less, Equal, Greater, is_gt, take-append-drop, map-append}
+use Rattle.std.proofs.Common.{◌≡◌, ◌⊎◌, inl, inr, ℕ, zero, suc, ◌+◌, List, [], ◌∷◌, ◌++◌, Bool, false, length, take, drop, map, flat_map, Option, None, Some, refl, sym, ap, ap₂, ◌∙◌, subst, arith, Less, Equal, Greater, is_gt, take-append-drop}
+use Rattle.std.proofs.lemmas.List.{map-append}
 use Rattle.std.specs.List.{AllByRecursion}
 use Rattle.std.specs.Cmp.{IsTotalOrder}
 use Rattle.std.proofs.lemmas.Bool.{false_from_ne_true}

@@ -30,6 +30,7 @@ pub fn check<S: Source>(alloc: Global, source: &mut S) -> Result<u64, AnswerFaul
     ensures fault { IfErr result IsCheckFault }
     ensures failures { CountsSource result (S.failures source.old) (S.failures source.new) }
 {
+    let _size = source.size();
     let mut cursor = Cursor::new(alloc, 0)?;
     let mut bytes = Vec::new(alloc);
     let mut previous: Option<Line> = None;

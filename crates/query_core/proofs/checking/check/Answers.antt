@@ -1,0 +1,74 @@
+use Rattle.std.proofs.Common.{rules, ◌≡◌, ◌+◌, ◌≤◌, ℕ, List, length, drop, refl, sym, ap, ap₂, ◌∙◌, subst, arith, Some, None, IfSome}
+use Rattle.std.specs.Prelude.{Err, MatchOption}
+use Rattle.std.proofs.lemmas.Result.{err_from_is_err_and}
+use Rattle.cdxj_core.specs.declared.limit.TheConstants.{LINE_LIMIT}
+use Rattle.source_core.specs.IndexLines.{lines}
+use Rattle.query_core.specs.NextLine.{IsNextLine, CountsSource}
+use Rattle.query_core.specs.Checking.{EndsOutOfOrder}
+use Rattle.query_core.proofs.CheckLemmas.{CheckedTo, checked_more, checked_whole, checked_falls, checked_fault}
+use Rattle.query_core.proofs.checking.check.Goals as goal
+
+pub returns-in_err-line-clause-checked : goal.returns-in_err-line-clause-checked
+returns-in_err-line-clause-checked g c =
+    let inv = c.loop-previous.invariant in
+    let given = err_from_is_err_and c.from_residual-in_err-line.result c.from_residual-in_err-line.ensures.1 in
+    λ t e.
+    let told : g.S.Source.text c.loop-previous.source ≡ Some t = inv.text ∙ e in
+    let rest = inv.stands.rest t told ∙ ap (λ s. drop c.loop-previous.cursor.count (lines (drop s t))) inv.start in
+    let long = inv.long t e in
+    let known = c.in_err-line.ensures in
+    rw (given.1, given.2) (checked_fault LINE_LIMIT t c.loop-previous.cursor.at c.loop-previous.cursor.count c.loop-previous.previous (inv.told t e) rest
+        (omega (arith, long, inv.stands.filled.within, inv.extent)) c.in_err-line.field-0.0 known.fault (known.bad t told))
+
+pub returns-in_err-line-clause-failures : goal.returns-in_err-line-clause-failures
+returns-in_err-line-clause-failures g c =
+    let inv = c.loop-previous.invariant in
+    let given = err_from_is_err_and c.from_residual-in_err-line.result c.from_residual-in_err-line.ensures.1 in
+    let counts : CountsSource {A = ℕ} (Err c.in_err-line.field-0.0) (g.S.Source.failures c.args.source.now) (g.S.Source.failures c.next_line.new.source) =
+    subst (λ n. CountsSource {A = ℕ} (Err c.in_err-line.field-0.0) n (g.S.Source.failures c.next_line.new.source)) inv.failures c.in_err-line.ensures.failures in
+    rw (given.1, given.2) counts
+
+pub returns-then-falls_after-clause-checked : goal.returns-then-falls_after-clause-checked
+returns-then-falls_after-clause-checked g c =
+    let inv = c.loop-previous.invariant in
+    λ t e.
+    let told : g.S.Source.text c.loop-previous.source ≡ Some t = inv.text ∙ e in
+    let rest = inv.stands.rest t told ∙ ap (λ s. drop c.loop-previous.cursor.count (lines (drop s t))) inv.start in
+    let long = inv.long t e in
+    let next = subst (IsNextLine LINE_LIMIT t c.loop-previous.cursor.at c.next_line.new.cursor.at) c.in-Some.is (c.in_ok-line.ensures.line t told) in
+    subst (EndsOutOfOrder LINE_LIMIT t) (sym inv.offset)
+    (checked_falls LINE_LIMIT t c.loop-previous.cursor.at c.loop-previous.cursor.count c.loop-previous.previous (inv.told t e) rest
+        (omega (arith, long, inv.stands.filled.within, inv.extent)) c.next_line.new.cursor.at c.in-Some.line next (c.falls_after.ensures.falls c.if-falls_after.true))
+
+pub loop-previous-preserved : goal.loop-previous-preserved
+loop-previous-preserved g c =
+    let inv = c.loop-previous.invariant in
+    let ok = c.in_ok-line.ensures in
+    let counted = subst (λ o. MatchOption o (c.next_line.new.cursor.count ≡ c.loop-previous.cursor.count) (λ _. c.next_line.new.cursor.count ≡ c.loop-previous.cursor.count + 1)) c.in-Some.is ok.count in
+    record {
+      text = ok.text ∙ inv.text;
+      extent = ok.extent ∙ inv.extent;
+      failures = ok.failures ∙ inv.failures;
+      stands = ok.stands;
+      start = ok.start ∙ inv.start;
+      offset = c.at-offset.ensures;
+      long = inv.long;
+      told = λ t e.
+          let told : g.S.Source.text c.loop-previous.source ≡ Some t = inv.text ∙ e in
+          let rest = inv.stands.rest t told ∙ ap (λ s. drop c.loop-previous.cursor.count (lines (drop s t))) inv.start in
+          let next = subst (IsNextLine LINE_LIMIT t c.loop-previous.cursor.at c.next_line.new.cursor.at) c.in-Some.is (ok.line t told) in
+          let more = checked_more LINE_LIMIT t c.loop-previous.cursor.at c.loop-previous.cursor.count c.loop-previous.previous (inv.told t e) rest
+          c.next_line.new.cursor.at c.in-Some.line next (c.falls_after.ensures.stays c.if-falls_after.false) in
+          subst (λ n. CheckedTo LINE_LIMIT t n c.replace-spare.new.self) (sym counted) (subst (CheckedTo LINE_LIMIT t (c.loop-previous.cursor.count + 1)) (sym c.replace-spare.ensures.after) more);
+    }
+
+pub returns-clause-checked : goal.returns-clause-checked
+returns-clause-checked g c =
+    let inv = c.loop-previous.invariant in
+    let ok = c.in_ok-line.ensures in
+    λ t e.
+    let told : g.S.Source.text c.loop-previous.source ≡ Some t = inv.text ∙ e in
+    let rest = inv.stands.rest t told ∙ ap (λ s. drop c.loop-previous.cursor.count (lines (drop s t))) inv.start in
+    checked_whole LINE_LIMIT t c.loop-previous.cursor.at c.loop-previous.cursor.count c.loop-previous.previous (inv.told t e) rest
+    c.next_line.new.cursor.at c.count.result c.in_ok-line.field-0 (ok.line t told)
+    (subst (λ n. MatchOption c.in_ok-line.field-0 (n ≡ c.loop-previous.cursor.count) (λ _. n ≡ c.loop-previous.cursor.count + 1)) (sym c.count.ensures) ok.count) c.in_default.not-Some

@@ -1,0 +1,20 @@
+use Rattle.std.proofs.Common.{◌≡◌, ◌-◌, ℕ, List, length, Some}
+use Rattle.cdxj_core.specs.declared.limit.TheConstants.{LINE_LIMIT}
+use Rattle.source_core.specs.Cursors.{Stands}
+use Rattle.query_core.proofs.CheckLemmas.{CheckedTo}
+use Rattle.query_core.proofs.checking.check.Given as goal
+
+abbrev pub invariant-loop-previous : goal.invariant-loop-previous
+invariant-loop-previous g l = record {
+  text : g.S.Source.text l.source ≡ g.S.Source.text l.fn.source;
+  extent : g.S.Source.extent l.source ≡ g.S.Source.extent l.fn.source;
+  failures : g.S.Source.failures l.source ≡ g.S.Source.failures l.fn.source;
+  stands : Stands (g.S.Source.text l.source) (g.S.Source.extent l.source) l.cursor;
+  start : l.cursor.start ≡ 0;
+  offset : l.offset ≡ l.cursor.at;
+  long : (t : List ℕ) → g.S.Source.text l.fn.source ≡ Some t → length t ≡ g.S.Source.extent l.fn.source;
+  told : (t : List ℕ) → g.S.Source.text l.fn.source ≡ Some t → CheckedTo LINE_LIMIT t l.cursor.count l.previous;
+}
+
+abbrev pub decreases-loop-previous : goal.decreases-loop-previous
+decreases-loop-previous g l = g.S.Source.extent l.fn.source - l.cursor.at
