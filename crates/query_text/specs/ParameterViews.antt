@@ -1,6 +1,9 @@
 -- What contracts see of the parameters that were read.
-use Rattle.std.specs.Prelude.{option_map, string_bytes}
+use Rattle.std.specs.Prelude.{◌≡◌, ◌≢◌, Result, Ok, Err, MatchResult, option_map, string_bytes}
+use Rattle.query_text.specs.declared.fault.QueryFault.{QueryFault}
+use Rattle.query_text.specs.declared.fault.QueryFault.TheVariants.{Memory}
 use Rattle.query_text.specs.declared.parameters.Parameters.{Parameters}
+use Rattle.query_text.specs.Readings.{Read}
 use Rattle.query_text.specs.Parameters.{ParameterValues}
 
 abbrev pub values_of : Parameters → ParameterValues
@@ -17,3 +20,8 @@ values_of p = record {
   fields = option_map (λ fields. fields.items) p.fields;
   output = p.output;
 }
+
+-- What is read into parameters is what is expected; memory may be refused for any.
+abbrev pub IsReadingInto : {T : Type 0} → Parameters → Read ParameterValues → Result T QueryFault → Type 0
+IsReadingInto parameters expected result =
+    MatchResult result (λ _. expected ≡ Ok (values_of parameters)) (λ e. e ≢ Memory → expected ≡ Err e)

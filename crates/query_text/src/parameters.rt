@@ -1,7 +1,7 @@
 //! The parameters of a query text, read from left to right.
 ghost use Rattle.std.specs.Prelude.{◌≡◌, Ok};
 ghost use Rattle.query_text.specs.Readings.{IsReadingBy};
-ghost use Rattle.query_text.specs.ParameterViews.{values_of};
+ghost use Rattle.query_text.specs.ParameterViews.{IsReadingInto, values_of};
 ghost use Rattle.query_text.specs.Parameters.{no_values, is_given, with_filter, with_value, with_piece, with_pieces, pieces_of};
 
 use crate::fault::QueryFault;
@@ -53,80 +53,52 @@ impl Parameters {
         }
     }
 
-    fn with_filter(self, filter: Filter) -> Result<Parameters, QueryFault>
-        ensures { IsReadingBy values_of (Ok (with_filter (values_of self) filter)) result }
+    fn add_filter(&mut self, filter: Filter) -> Result<(), QueryFault>
+        ensures { IsReadingInto self.new (Ok (with_filter (values_of self.old) filter)) result }
     {
-        let mut parameters = self;
-        match parameters.filters.push(filter) {
-            Ok(()) => Ok(parameters),
+        match self.filters.push(filter) {
+            Ok(()) => Ok(()),
             Err(_) => Err(QueryFault::Memory),
         }
     }
 
-    /// The same with one more parameter, whose value stands in the text as `text`.
-    fn with_value(
-        self,
+    /// Reads the value of one more parameter, which stands in the text as `text`.
+    fn read_value(
+        &mut self,
         alloc: Global,
         parameter: Parameter,
         text: &str,
-    ) -> Result<Parameters, QueryFault>
-        ensures { IsReadingBy values_of (with_value parameter (values_of self) text.now) result }
+    ) -> Result<(), QueryFault>
+        ensures { IsReadingInto self.new (with_value parameter (values_of self.old) text.now) result }
     {
         let value = decoded(alloc, text)?;
         match parameter {
-            Parameter::Url => Ok(Parameters {
-                url: Some(value.into_owned(alloc)?),
-                ..self
-            }),
-            Parameter::Key => Ok(Parameters {
-                key: Some(value.into_owned(alloc)?),
-                ..self
-            }),
-            Parameter::MatchType => Ok(Parameters {
-                kind: Some(read_kind(value.as_str())?),
-                ..self
-            }),
-            Parameter::From => Ok(Parameters {
-                from: Some(StampStart::read(value.into_owned(alloc)?)?),
-                ..self
-            }),
-            Parameter::To => Ok(Parameters {
-                to: Some(StampStart::read(value.into_owned(alloc)?)?),
-                ..self
-            }),
-            Parameter::Filter => self.with_filter(Filter::read_literal(alloc, value.as_str())?),
-            Parameter::Condition(test) => {
-                self.with_filter(Filter::read(alloc, test, value.as_str())?)
-            }
-            Parameter::Limit => Ok(Parameters {
-                limit: Some(Limit::read(value.as_str())?),
-                ..self
-            }),
-            Parameter::ResumeKey => Ok(Parameters {
-                resume: Some(read_resume_key(alloc, text)?),
-                ..self
-            }),
-            Parameter::ShowResumeKey => Ok(Parameters {
-                show_resume_key: Some(read_flag(value.as_str())?),
-                ..self
-            }),
-            Parameter::Fl => Ok(Parameters {
-                fields: Some(read_fields(alloc, value.as_str())?),
-                ..self
-            }),
-            Parameter::Output => Ok(Parameters {
-                output: Some(read_output(value.as_str())?),
-                ..self
-            }),
+            Parameter::Url => self.url = Some(value.into_owned(alloc)?),
+            Parameter::Key => self.key = Some(value.into_owned(alloc)?),
+            Parameter::MatchType => self.kind = Some(read_kind(value.as_str())?),
+            Parameter::From => self.from = Some(StampStart::read(value.into_owned(alloc)?)?),
+            Parameter::To => self.to = Some(StampStart::read(value.into_owned(alloc)?)?),
+            Parameter::Filter => self.add_filter(Filter::read_literal(alloc, value.as_str())?)?,
+            Parameter::Condition(test) => self.add_filter(Filter::read(
+                alloc,
+                test,
+                value.as_str(),
+            )?)?,
+            Parameter::Limit => self.limit = Some(Limit::read(value.as_str())?),
+            Parameter::ResumeKey => self.resume = Some(read_resume_key(alloc, text)?),
+            Parameter::ShowResumeKey => self.show_resume_key = Some(read_flag(value.as_str())?),
+            Parameter::Fl => self.fields = Some(read_fields(alloc, value.as_str())?),
+            Parameter::Output => self.output = Some(read_output(value.as_str())?),
         }
+        Ok(())
     }
 
-    /// The same with one more piece of the text: a name, `=` and a value.
-    fn with_piece(self, alloc: Global, piece: &str) -> Result<Parameters, QueryFault>
-        ensures { IsReadingBy values_of (with_piece (values_of self) piece.now) result }
+    /// Reads one more piece of the text: a name, `=` and a value.
+    fn read_piece(&mut self, alloc: Global, piece: &str) -> Result<(), QueryFault>
+        ensures { IsReadingInto self.new (with_piece (values_of self.old) piece.now) result }
     {
         if piece.is_empty() {
-            return Ok(self);
+            return Ok(());
         }
         let (name, text) = cut_pair(piece);
         let name = decoded(alloc, name)?;
@@ -136,7 +108,7 @@ impl Parameters {
         if self.is_given(parameter) {
             return Err(QueryFault::RepeatedParameter);
         }
-        self.with_value(alloc, parameter, text)
+        self.read_value(alloc, parameter, text)
     }
 
     /// The parameters of a text, or the first refusal.
@@ -159,7 +131,7 @@ impl Parameters {
         let mut left = Some(text);
         while let Some(pieces) = left {
             let (piece, later) = cut_part(pieces, '&');
-            parameters = parameters.with_piece(alloc, piece)?;
+            parameters.read_piece(alloc, piece)?;
             left = later;
         }
         Ok(parameters)
