@@ -1,3 +1,5 @@
 pub mod BadLines
 pub mod Runs
 pub mod CheckLemmas
+pub mod WriterLemmas
+pub mod AskedLemmas

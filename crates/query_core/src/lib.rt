@@ -4,7 +4,9 @@
 mod checking;
 mod fault;
 mod line_reading;
+mod page_writer;
 
 pub use crate::checking::check;
 pub use crate::fault::AnswerFault;
+pub use crate::page_writer::{PageEnd, PageWriter};
 pub use source_core::{FileSource, SliceSource, Source, SourceFault};
