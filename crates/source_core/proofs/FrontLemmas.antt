@@ -1,10 +1,8 @@
 -- What the first bytes of a line say of its pair.
-use Rattle.std.proofs.Common.{◌≡◌, ℕ, zero, suc, ◌+◌, ◌-◌, ◌<◌, ◌≤◌, ◌&&◌, Bool, true, false, not, cond, List, [], ◌∷◌, ◌++◌, length, take, drop, Option, Some, None, option_map, get_or, refl, sym, ap, ap₂, ◌∙◌, subst, arith, append_assoc, append-nil, ⊎_elim, take-append-drop}
-use Rattle.std.specs.List.{onto_first, position_or_len, before_first, after_first}
-use Rattle.std.proofs.lemmas.Bool.{and_parts, eqb-true, cases_lt}
-use Rattle.std.proofs.lemmas.List.{length-append, take-take, take_all, drop_all}
-use Rattle.std.proofs.lemmas.List.Sums.{split_at_first, passes_at_first}
-use Rattle.cdxj_places.specs.Pair.{is_space, is_key, is_stamp, key_part, stamp_part, tail_part, begins_with_space, begins_with_pair, pair_of}
+use Rattle.std.proofs.Common.{◌≡◌, ℕ, zero, suc, ◌+◌, ◌-◌, ◌<◌, ◌≤◌, Bool, true, false, not, cond, List, [], ◌∷◌, ◌++◌, length, take, drop, Option, Some, None, option_map, refl, sym, ap, ap₂, ◌∙◌, subst, arith, append-nil}
+use Rattle.std.specs.List.{onto_first}
+use Rattle.std.proofs.lemmas.List.{take-take, take_all, drop_all}
+use Rattle.cdxj_places.specs.Pair.{pair_of}
 use Rattle.cdxj_places.proofs.PairLemmas.{pair_longer}
 use Rattle.cdxj_places.specs.TextLines.{lines}
 use Rattle.cdxj_places.specs.Pairs.{Pair}

@@ -1,5 +1,5 @@
 -- Lines that are too long.
-use Rattle.std.proofs.Common.{◌≡◌, ℕ, ◌+◌, ◌<◌, ◌≤◌, List, ◌∷◌, ◌++◌, Bool, true, false, length, take, drop, ap, arith}
+use Rattle.std.proofs.Common.{◌≡◌, ℕ, ◌+◌, ◌≤◌, List, ◌++◌, Bool, true, false, length, take, drop, ap, arith}
 use Rattle.source_core.specs.IndexLines.{lines, first_length}
 use Rattle.source_core.specs.LineParts.{NoFeed, PartOf}
 use Rattle.source_core.proofs.Parts.{ended, goes_on}

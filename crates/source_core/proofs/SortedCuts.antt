@@ -1,7 +1,6 @@
 -- Indexes, cut at a pair.
-use Rattle.std.proofs.Common.{◌≡◌, ℕ, suc, ◌+◌, ◌-◌, ◌*◌, ◌<◌, ◌≤◌, List, [], ◌∷◌, ◌++◌, Bool, true, false, cond, length, take, drop, flat_map, map, Option, Some, refl, sym, ap, ◌∙◌, arith, eqb, length-append, length-drop, length-take, Less, Equal, Greater, is_gt, is_lt}
+use Rattle.std.proofs.Common.{◌≡◌, ℕ, suc, ◌+◌, ◌-◌, ◌*◌, ◌≤◌, List, [], ◌∷◌, ◌++◌, Bool, true, false, cond, length, take, drop, flat_map, map, Some, refl, sym, ap, ◌∙◌, arith, eqb, length-append, length-drop, length-take, Less, Equal, Greater, is_gt, is_lt}
 use Rattle.std.specs.List.{onto_first, AllByRecursion}
-use Rattle.std.specs.Cmp.{IsTotalOrder}
 use Rattle.std.proofs.lemmas.Bool.{true≢false}
 use Rattle.std.proofs.lemmas.Grind.{flat_map-append}
 use Rattle.std.proofs.lemmas.List.{take_all}

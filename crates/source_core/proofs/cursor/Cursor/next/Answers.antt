@@ -1,5 +1,4 @@
-use Rattle.std.proofs.Common.{rules, arith, ◌≡◌, ◌+◌, ◌<◌, ◌≤◌, ◌++◌, ◌∷◌, length, take, drop, sym, ap, ap₂, ◌∙◌, subst, Bool, true, false, length-append, length-take, length-drop, ◌-◌}
-use Rattle.cdxj_core.specs.declared.limit.TheConstants.{LINE_LIMIT}
+use Rattle.std.proofs.Common.{rules, arith, ◌≡◌, ◌+◌, ◌<◌, ◌≤◌, ◌++◌, ◌∷◌, length, take, drop, sym, ap, ap₂, ◌∙◌, subst, true, false, length-append, length-take, length-drop, ◌-◌}
 use Rattle.cdxj_places.specs.TextLines.{lines}
 use Rattle.source_core.specs.Ahead.{StandsAt}
 use Rattle.source_core.specs.LineParts.{PartOf, NoFeed}
