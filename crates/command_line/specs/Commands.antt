@@ -16,6 +16,7 @@ pub data Meaning : Type 0 where
   ToList : List Text → Meaning
   ToVerify : List Text → Meaning
   ToIndex : List Text → Meaning
+  ToCheck : List Text → Meaning
   ToGet : ℕ → Text → Meaning
 
 -- which operands a command takes, and the task that they make: one name or more; an offset and a name
@@ -25,7 +26,7 @@ pub data Form : Type 0 where
 
 abbrev pub commands : List (Text × Form)
 commands = (codes "list", Names ToList) ∷ (codes "verify", Names ToVerify) ∷ (codes "index", Names ToIndex)
-    ∷ (codes "get", Offset ToGet) ∷ []
+    ∷ (codes "check", Names ToCheck) ∷ (codes "get", Offset ToGet) ∷ []
 
 -- ---- words with a task
 
@@ -70,6 +71,7 @@ abbrev pub view : Task → Meaning
 view (task.List names) = ToList (texts names.items)
 view (task.Verify names) = ToVerify (texts names.items)
 view (task.Index names) = ToIndex (texts names.items)
+view (task.Check names) = ToCheck (texts names.items)
 view (task.Get offset name) = ToGet offset (string_bytes name)
 
 -- nothing for want of memory

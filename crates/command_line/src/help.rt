@@ -17,13 +17,15 @@ Examples:
   warcdx list crawl.warc
   warcdx verify crawl-1.warc crawl-2.warc
   warcdx index crawl-1.warc crawl-2.warc > crawl.cdxj
+  warcdx check crawl.cdxj
   warcdx get 4096 crawl.warc
   gunzip -c crawl.warc.gz | warcdx verify -
 
 Exit status:
   0  everything was done, and no digest differs; or help was asked for
   1  an archive is damaged, a digest differs, an archive's file name can't be
-     used in an index, or no record begins at the offset
+     used in an index, an index is not in order, or no record begins at the
+     offset
   2  the words mean nothing
   3  a file can't be opened, or memory, an input or the output failed
 
@@ -150,6 +152,44 @@ Exit status:
   3  a file can't be opened, or memory, an input or the output failed",
 };
 
+pub const CHECK: Page = Page {
+    about: "Checks that indexes are sorted, and counts their lines",
+    details: "\
+Reads each index from its start, and prints a line for one that is in order:
+
+  NAME COUNT
+
+COUNT is the number of its lines. An index is in order where every line is one
+of a capture, and the key and stamp of no line are below those of the line
+before it, by bytes. 'warcdx index' writes such indexes, and so does
+LC_ALL=C sort. docs/CDXJ.md has the rules.
+
+Of another index nothing is printed, and its first line at fault is said on
+standard error, with the offset at which it begins, in bytes:
+
+  warcdx: NAME: CAUSE OFFSET
+
+CAUSE is one of these:
+
+  BadLine     the line is not one of a capture, or it is longer than 1,048,576
+              bytes, line feed included
+  OutOfOrder  the line's key and stamp are below those of the line before it
+
+The indexes after it are checked all the same. The size of an index is asked
+when it is opened; an index that ends before, or can't be read, is said as
+
+  warcdx: NAME: Read
+
+Example:
+  warcdx check crawl-1.cdxj crawl-2.cdxj
+
+Exit status:
+  0  all the indexes are in order
+  1  an index has a bad line, or one out of order
+  2  the words mean nothing
+  3  a file can't be opened or read, or memory or the output failed",
+};
+
 pub const GET: Page = Page {
     about: "Writes the record at an offset of an archive",
     details: "\
@@ -192,6 +232,11 @@ pub struct Operand<'a> {
 pub const ARCHIVE: Operand = Operand {
     name: "WARC",
     help: "A WARC file, or - for standard input",
+};
+
+pub const CDXJ: Operand = Operand {
+    name: "INDEX",
+    help: "A file with a CDXJ index",
 };
 
 pub const OFFSET: Operand = Operand {

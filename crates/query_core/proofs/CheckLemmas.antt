@@ -1,8 +1,8 @@
 -- How far a check has come.
-use Rattle.std.proofs.Common.{◌≡◌, ℕ, zero, ◌+◌, ◌≤◌, List, [], ◌∷◌, ◌++◌, length, take, drop, map, Option, None, Some, refl, sym, ap, ◌∙◌, subst, arith, take-append-drop, length-append, length-drop}
-use Rattle.std.specs.Prelude.{Result, Err, MatchOption}
+use Rattle.std.proofs.Common.{◌≡◌, ℕ, ◌+◌, ◌≤◌, List, [], ◌∷◌, ◌++◌, length, take, drop, Option, None, Some, refl, sym, ap, ◌∙◌, subst, arith, take-append-drop, length-append, length-drop}
+use Rattle.std.specs.Prelude.{Err, MatchOption}
 use Rattle.std.proofs.lemmas.List.{take_all}
-use Rattle.cdxj_core.specs.Members.{Member, line_entry}
+use Rattle.cdxj_core.specs.Members.{Member}
 use Rattle.cdxj_core.specs.Indexes.{IsRun, IsIndex}
 use Rattle.source_core.specs.IndexLines.{lines}
 use Rattle.source_core.specs.LinesAtFault.{BeginsAt}

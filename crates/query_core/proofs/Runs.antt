@@ -1,8 +1,7 @@
 -- Runs of lines, one line more at a time.
-use Rattle.std.proofs.Common.{◌≡◌, ◌⊎◌, inl, inr, ℕ, zero, suc, ◌+◌, List, [], ◌∷◌, ◌++◌, Bool, false, length, take, drop, map, flat_map, Option, None, Some, refl, sym, ap, ap₂, ◌∙◌, subst, arith, Less, Equal, Greater, is_gt, take-append-drop}
+use Rattle.std.proofs.Common.{◌≡◌, ◌⊎◌, inl, inr, ℕ, zero, suc, ◌+◌, List, [], ◌∷◌, ◌++◌, false, take, drop, Option, None, Some, refl, sym, ap, ap₂, ◌∙◌, subst, arith, Less, Equal, Greater, is_gt}
 use Rattle.std.proofs.lemmas.List.{map-append}
 use Rattle.std.specs.List.{AllByRecursion}
-use Rattle.std.specs.Cmp.{IsTotalOrder}
 use Rattle.std.proofs.lemmas.Bool.{false_from_ne_true}
 use Rattle.std.proofs.lemmas.Cmp.{alike_right, tied_itself}
 use Rattle.cdxj_places.specs.Pairs.{Pair, pair_cmp}
@@ -45,9 +44,11 @@ falls_last xs y h = each_join (λ m. Upto (member_pair m) (member_pair y)) xs (y
   where
     upto_itself : (p : Pair) → Upto p p
     upto_itself p = ap is_gt (tied_itself pair_cmp_total p)
+
     at_end : (x : Member) (us : List Member) → AllByRecursion (λ m. Upto (member_pair x) (member_pair m)) (us ++ y ∷ []) → Upto (member_pair x) (member_pair y)
     at_end x [] a = a.0
     at_end x (u ∷ us) a = at_end x us a.1
+
     earlier : (xs : List Member) → NeverFalls member_pair pair_cmp (xs ++ y ∷ []) → AllByRecursion (λ m. Upto (member_pair m) (member_pair y)) xs
     earlier [] h = tt
     earlier (x ∷ xs) h = (at_end x xs h.0, earlier xs h.1)
@@ -59,7 +60,7 @@ all_upto members (Some last) m is stays ordered =
     let step : Upto (member_pair last) (member_pair m) = false_from_ne_true (is_gt (pair_cmp (member_pair last) (member_pair m))) stays in
     subst (AllByRecursion (λ k. Upto (member_pair k) (member_pair m))) (sym is.1)
     (each_weaker (λ (k : Member) (h : Upto (member_pair k) (member_pair last)). upto_upto (member_pair k) (member_pair last) (member_pair m) h step) (is.0 ++ last ∷ [])
-        (falls_last is.0 last (subst (NeverFalls member_pair pair_cmp) is.1 ordered)))
+    (falls_last is.0 last (subst (NeverFalls member_pair pair_cmp) is.1 ordered)))
 
 -- ---- one line more
 

@@ -1,3 +1,4 @@
+pub mod Checks
 pub mod Each
 pub mod Fetching
 pub mod Indexing

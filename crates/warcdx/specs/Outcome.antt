@@ -1,5 +1,5 @@
 -- How commands end, and the status of the process.
-use Rattle.std.specs.Prelude.{ℕ, List, ⊤, Bool, true, false, nat_lt, if◌then◌else◌, Option, Some, None, Result, Ok, Err, codes}
+use Rattle.std.specs.Prelude.{◌≡◌, ℕ, List, ⊤, Bool, true, false, nat_lt, if◌then◌else◌, Option, Some, None, Result, Ok, Err, codes}
 use Rattle.warc_core.specs.declared.fault.Cause.{Cause}
 use Rattle.warc_core.specs.declared.fault.Cause.TheVariants as causes
 use Rattle.capture_core.specs.declared.fault.CaptureFault.{CaptureFault}
@@ -7,6 +7,8 @@ use Rattle.capture_core.specs.declared.fault.CaptureFault.TheVariants as capture
 use Rattle.index_core.specs.declared.fault.IndexFault.{IndexFault}
 use Rattle.index_core.specs.declared.fault.IndexFault.TheVariants as faults
 use Rattle.index_core.specs.declared.verified.Verified.{Verified}
+use Rattle.query_core.specs.declared.fault.AnswerFault.{AnswerFault}
+use Rattle.query_core.specs.declared.fault.AnswerFault.TheVariants as answers
 use Rattle.warcdx.specs.declared.outcome.Outcome.{Outcome}
 use Rattle.warcdx.specs.declared.outcome.Outcome.TheVariants as outcomes
 
@@ -28,15 +30,27 @@ index_status faults.DuplicateName = 1
 index_status faults.Write = 3
 index_status faults.NoRecord = 1
 
+-- memory, a source, the output and the input fail with 3; sizes that mean nothing are a fault of usage
+abbrev pub answer_status : AnswerFault → ℕ
+answer_status answers.Memory = 3
+answer_status (answers.Read i) = 3
+answer_status answers.Write = 3
+answer_status (answers.BadLine i offset) = 1
+answer_status (answers.OutOfOrder i offset) = 1
+answer_status answers.TooManySources = 1
+answer_status answers.BadSizes = 2
+answer_status answers.Input = 3
+
 abbrev pub status_of : Outcome → ℕ
 status_of outcomes.Done = 0
 status_of outcomes.Differs = 1
 status_of outcomes.Usage = 2
 status_of (outcomes.Index f) = index_status f
+status_of (outcomes.Answer f) = answer_status f
 status_of outcomes.CannotOpen = 3
 status_of outcomes.CannotFlush = 3
 
--- memory and writing end a command at once; after any other fault it goes on with the next archive
+-- memory and writing end a command at once; after any other fault it goes on with the next file
 abbrev pub is_memory : Cause → Bool
 is_memory causes.Memory = true
 is_memory c = false
@@ -49,6 +63,8 @@ abbrev pub ends_command : Outcome → Bool
 ends_command (outcomes.Index faults.Memory) = true
 ends_command (outcomes.Index faults.Write) = true
 ends_command (outcomes.Index (faults.Capture f)) = capture_ends f
+ends_command (outcomes.Answer answers.Memory) = true
+ends_command (outcomes.Answer answers.Write) = true
 ends_command o = false
 
 -- of two outcomes the one with the greater status, the first where it is one
@@ -75,20 +91,29 @@ abbrev pub flushed_outcome : Outcome → Bool → Outcome
 flushed_outcome outcome true = outcome
 flushed_outcome (outcomes.Index faults.Memory) false = outcomes.Index faults.Memory
 flushed_outcome (outcomes.Index faults.Write) false = outcomes.Index faults.Write
+flushed_outcome (outcomes.Answer answers.Memory) false = outcomes.Answer answers.Memory
+flushed_outcome (outcomes.Answer answers.Write) false = outcomes.Answer answers.Write
 flushed_outcome outcome false = outcomes.CannotFlush
 
 -- what is said at a command's end
 abbrev pub message_of : Outcome → Option (List ℕ)
 message_of (outcomes.Index faults.Memory) = Some (codes "Memory")
 message_of (outcomes.Index faults.Write) = Some (codes "Write")
+message_of (outcomes.Answer answers.Memory) = Some (codes "Memory")
+message_of (outcomes.Answer answers.Write) = Some (codes "Write")
 message_of outcomes.CannotFlush = Some (codes "cannot flush")
 message_of outcome = None
 
--- an archive isn't opened for want of memory, or where its file can't be
+-- a file isn't opened for want of memory, or where it can't be
 abbrev pub IsUnopened : Outcome → Type 0
 IsUnopened (outcomes.Index faults.Memory) = ⊤
 IsUnopened outcomes.CannotOpen = ⊤
 IsUnopened outcome = ⊥
+
+-- nor an index whose size can't be asked
+abbrev pub IsUnopenedIndex : Outcome → Type 0
+IsUnopenedIndex (outcomes.Answer (answers.Read i)) = i ≡ 0
+IsUnopenedIndex outcome = IsUnopened outcome
 
 -- help was printed, or couldn't be
 abbrev pub IsHelpOutcome : Outcome → Type 0

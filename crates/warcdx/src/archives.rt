@@ -1,14 +1,15 @@
-//! Archives by name.
+//! Archives and indexes by name.
 ghost use Rattle.std.specs.Prelude.{◌≡◌, map, string_bytes, IfErr};
 ghost use Rattle.warcdx.specs.Each.{GoesThrough};
 ghost use Rattle.warcdx.specs.Indexing.{file_name};
-ghost use Rattle.warcdx.specs.Outcome.{IsUnopened};
+ghost use Rattle.warcdx.specs.Outcome.{IsUnopened, IsUnopenedIndex};
 ghost use Rattle.warcdx.specs.declared.outcome.Outcome.TheVariants.{Done};
 
 use crate::outcome::Outcome;
 use crate::status::{ends_command, worse};
 use either::Either;
 use index_core::IndexFault;
+use query_core::{AnswerFault, FileSource};
 use std::fs::{File, Files};
 use std::io::{self, ErrorKind};
 use std::rt::Runtime;
@@ -24,8 +25,33 @@ pub fn open<R: Runtime + AllocGlobal>(rt: &R, name: &str) -> Result<FromRead<Arc
     if name == "-" {
         return Ok(FromRead::new(Either::Left(rt.reader())));
     }
+    Ok(FromRead::new(Either::Right(open_file(rt, name)?)))
+}
+
+/// Opens the index of this name. That its file can't be opened, or its size can't be asked, is said on standard error.
+pub fn open_index<R: Runtime + AllocGlobal>(
+    rt: &R,
+    name: &str,
+) -> Result<FileSource<<R as Files>::File>, Outcome>
+    ensures { IfErr result IsUnopenedIndex }
+{
+    match FileSource::new(open_file(rt, name)?) {
+        Ok(source) => Ok(source),
+        Err(_fault) => {
+            let _ = eprintln!(rt; "warcdx: {name}: Read");
+            Err(Outcome::Answer(AnswerFault::Read(0)))
+        }
+    }
+}
+
+fn open_file<R: Runtime + AllocGlobal>(
+    rt: &R,
+    name: &str,
+) -> Result<<R as Files>::File, Outcome>
+    ensures { IfErr result IsUnopened }
+{
     match File::open(rt, name) {
-        Ok(file) => Ok(FromRead::new(Either::Right(file))),
+        Ok(file) => Ok(file),
         Err(error) if error.kind() == ErrorKind::OutOfMemory => {
             Err(Outcome::Index(IndexFault::Memory))
         }
@@ -36,7 +62,7 @@ pub fn open<R: Runtime + AllocGlobal>(rt: &R, name: &str) -> Result<FromRead<Arc
     }
 }
 
-/// Does this with one archive after another, and goes on after an archive's fault, but not where memory or the output failed.
+/// Does this with one file after another, and goes on after a file's fault, but not where memory or the output failed.
 /// The answer is the outcome that ended it, or else the worst.
 pub fn with_each<F: FnMut(&str) -> Outcome>(names: &[String], mut act: F) -> Outcome
     requires { F.IsAlwaysCallable act }

@@ -1,9 +1,10 @@
-//! Archives' faults, and what is said of them on standard error.
+//! The faults of archives and indexes, and what is said of them on standard error.
 ghost use Rattle.std.specs.Prelude.{◌≡◌};
 ghost use Rattle.warcdx.specs.Outcome.{outcome_of};
 
 use crate::outcome::{Outcome, outcome_of};
 use index_core::IndexFault;
+use query_core::AnswerFault;
 use std::rt::Runtime;
 
 /// How a call on the archive of this name ended, whose fault is said on standard error.
@@ -27,5 +28,21 @@ fn say_fault<R: Runtime>(rt: &R, name: &str, fault: IndexFault) {
             let _ = eprintln!(rt; "warcdx: {name}: {fault:?}");
         }
         IndexFault::Memory | IndexFault::Write => {}
+    }
+}
+
+/// Says what is at fault of the index of this name. Memory and a failed output are said at the command's end.
+pub fn say_answer_fault<R: Runtime>(rt: &R, name: &str, fault: AnswerFault) {
+    match fault {
+        AnswerFault::Read(_source) => {
+            let _ = eprintln!(rt; "warcdx: {name}: Read");
+        }
+        AnswerFault::BadLine(_source, offset) => {
+            let _ = eprintln!(rt; "warcdx: {name}: BadLine {offset}");
+        }
+        AnswerFault::OutOfOrder(_source, offset) => {
+            let _ = eprintln!(rt; "warcdx: {name}: OutOfOrder {offset}");
+        }
+        _ => {}
     }
 }

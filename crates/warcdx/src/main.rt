@@ -2,6 +2,7 @@
 #![tactic(auto)]
 
 mod archives;
+mod checks;
 mod faults;
 mod fetching;
 mod indexing;

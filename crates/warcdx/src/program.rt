@@ -5,6 +5,7 @@ ghost use Rattle.command_line.specs.Words.{texts};
 ghost use Rattle.warcdx.specs.Outcome.{IsHelpOutcome};
 ghost use Rattle.warcdx.specs.Words.{EndsWords};
 
+use crate::checks::check_all;
 use crate::fetching::fetch;
 use crate::indexing::index_all;
 use crate::outcome::{Outcome, flushed_outcome, message};
@@ -84,6 +85,7 @@ pub fn perform<R: Runtime + AllocGlobal, O: Output>(rt: &R, task: &Task, out: &m
         Task::List { names } => report_on(rt, names, ArchiveReport::Listing, out),
         Task::Verify { names } => report_on(rt, names, ArchiveReport::Verdicts, out),
         Task::Index { names } => index_all(rt, names, out),
+        Task::Check { names } => check_all(rt, names, out),
         Task::Get { offset, name } => fetch(rt, *offset, name, out),
     }
 }

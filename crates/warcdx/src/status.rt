@@ -1,13 +1,14 @@
 //! The status of the process, and which outcomes end a command.
 ghost use Rattle.std.specs.Prelude.{◌≡◌};
-ghost use Rattle.warcdx.specs.Outcome.{status_of, index_status, capture_status, cause_status, is_memory, ends_command, worse_of};
+ghost use Rattle.warcdx.specs.Outcome.{status_of, index_status, answer_status, capture_status, cause_status, is_memory, ends_command, worse_of};
 
 use crate::outcome::Outcome;
 use capture_core::CaptureFault;
 use index_core::IndexFault;
+use query_core::AnswerFault;
 use warc_core::Cause;
 
-/// The status of the process: 0 where all was done; 1 for a fault in an archive, a digest that differs, a refused name, or an
+/// The status of the process: 0 where all was done; 1 for a fault in an archive or an index, a digest that differs, a refused name, or an
 /// offset where no record begins; 2 for words that mean nothing; 3 where memory, a device or a file failed.
 pub fn status(outcome: &Outcome) -> u8
     ensures { result ≡ status_of outcome.now }
@@ -17,6 +18,7 @@ pub fn status(outcome: &Outcome) -> u8
         Outcome::Differs => 1,
         Outcome::Usage => 2,
         Outcome::Index(fault) => index_status(*fault),
+        Outcome::Answer(fault) => answer_status(*fault),
         Outcome::CannotOpen => 3,
         Outcome::CannotFlush => 3,
     }
@@ -32,6 +34,21 @@ fn index_status(fault: IndexFault) -> u8
         IndexFault::DuplicateName => 1,
         IndexFault::Write => 3,
         IndexFault::NoRecord => 1,
+    }
+}
+
+fn answer_status(fault: AnswerFault) -> u8
+    ensures { result ≡ answer_status fault }
+{
+    match fault {
+        AnswerFault::Memory => 3,
+        AnswerFault::Read(_source) => 3,
+        AnswerFault::Write => 3,
+        AnswerFault::BadLine(_source, _offset) => 1,
+        AnswerFault::OutOfOrder(_source, _offset) => 1,
+        AnswerFault::TooManySources => 1,
+        AnswerFault::BadSizes => 2,
+        AnswerFault::Input => 3,
     }
 }
 
@@ -64,13 +81,15 @@ pub fn worse(first: Outcome, second: Outcome) -> Outcome
     }
 }
 
-/// Whether a command ends by this at once, in place of going on with its next archive: memory and the output fail so.
+/// Whether a command ends by this at once, in place of going on with its next file: memory and the output fail so.
 pub fn ends_command(outcome: &Outcome) -> bool
     ensures { result ≡ ends_command outcome.now }
 {
     match outcome {
         Outcome::Index(IndexFault::Memory) => true,
         Outcome::Index(IndexFault::Write) => true,
+        Outcome::Answer(AnswerFault::Memory) => true,
+        Outcome::Answer(AnswerFault::Write) => true,
         Outcome::Index(IndexFault::Capture(CaptureFault::Archive(fault))) => is_memory(fault.cause),
         _ => false,
     }

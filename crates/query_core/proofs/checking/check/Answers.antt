@@ -1,4 +1,4 @@
-use Rattle.std.proofs.Common.{rules, ◌≡◌, ◌+◌, ◌≤◌, ℕ, List, length, drop, refl, sym, ap, ap₂, ◌∙◌, subst, arith, Some, None, IfSome}
+use Rattle.std.proofs.Common.{◌≡◌, ◌+◌, ℕ, drop, sym, ap, ◌∙◌, subst, arith, Some}
 use Rattle.std.specs.Prelude.{Err, MatchOption}
 use Rattle.std.proofs.lemmas.Result.{err_from_is_err_and}
 use Rattle.cdxj_core.specs.declared.limit.TheConstants.{LINE_LIMIT}
@@ -18,7 +18,7 @@ returns-in_err-line-clause-checked g c =
     let long = inv.long t e in
     let known = c.in_err-line.ensures in
     rw (given.1, given.2) (checked_fault LINE_LIMIT t c.loop-previous.cursor.at c.loop-previous.cursor.count c.loop-previous.previous (inv.told t e) rest
-        (omega (arith, long, inv.stands.filled.within, inv.extent)) c.in_err-line.field-0.0 known.fault (known.bad t told))
+    (omega (arith, long, inv.stands.filled.within, inv.extent)) c.in_err-line.field-0.0 known.fault (known.bad t told))
 
 pub returns-in_err-line-clause-failures : goal.returns-in_err-line-clause-failures
 returns-in_err-line-clause-failures g c =
@@ -38,7 +38,7 @@ returns-then-falls_after-clause-checked g c =
     let next = subst (IsNextLine LINE_LIMIT t c.loop-previous.cursor.at c.next_line.new.cursor.at) c.in-Some.is (c.in_ok-line.ensures.line t told) in
     subst (EndsOutOfOrder LINE_LIMIT t) (sym inv.offset)
     (checked_falls LINE_LIMIT t c.loop-previous.cursor.at c.loop-previous.cursor.count c.loop-previous.previous (inv.told t e) rest
-        (omega (arith, long, inv.stands.filled.within, inv.extent)) c.next_line.new.cursor.at c.in-Some.line next (c.falls_after.ensures.falls c.if-falls_after.true))
+    (omega (arith, long, inv.stands.filled.within, inv.extent)) c.next_line.new.cursor.at c.in-Some.line next (c.falls_after.ensures.falls c.if-falls_after.true))
 
 pub loop-previous-preserved : goal.loop-previous-preserved
 loop-previous-preserved g c =

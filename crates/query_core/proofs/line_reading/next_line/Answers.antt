@@ -1,7 +1,6 @@
-use Rattle.std.proofs.Common.{◌≡◌, ◌∷◌, ℕ, List, length, drop, ap, ◌∙◌, subst, refl}
+use Rattle.std.proofs.Common.{drop}
 use Rattle.cdxj_core.specs.declared.limit.TheConstants.{LINE_LIMIT}
 use Rattle.source_core.specs.IndexLines.{lines}
-use Rattle.cdxj_core.specs.Members.{line_entry}
 use Rattle.cdxj_core.proofs.MemberLemmas.{long_line_none}
 use Rattle.query_core.proofs.BadLines.{first_none, bad_there}
 use Rattle.query_core.proofs.line_reading.next_line.Goals as goal

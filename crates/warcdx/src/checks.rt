@@ -1,0 +1,79 @@
+//! The checking of indexes.
+ghost use Rattle.std.specs.Prelude.{◌≡◌, ◌++◌, MatchResult};
+ghost use Rattle.devices.specs.Device.{CountsFailure};
+ghost use Rattle.devices.specs.Writing.{WritesText};
+ghost use Rattle.warcdx.specs.Checks.{ChecksIndex, WritesCount, checked_line, count_text};
+
+use crate::archives::{open_index, with_each};
+use crate::faults::say_answer_fault;
+use crate::outcome::Outcome;
+use arrayvec::ArrayString;
+use devices::DeviceFault;
+use itoa::Buffer;
+use query_core::{AnswerFault, Source, check};
+use std::rt::Runtime;
+use warc_core::{Output, put};
+
+/// Checks each index, and writes how many lines it has. What is at fault of an index is said on standard error.
+pub fn check_all<R: Runtime + AllocGlobal, O: Output>(
+    rt: &R,
+    names: &[String],
+    out: &mut O,
+) -> Outcome {
+    with_each(names, |name| check_opened(rt, name, open_index(rt, name), out))
+}
+
+/// Checks an index that was opened, or couldn't be.
+fn check_opened<R: Runtime + AllocGlobal, S: Source + Drop, O: Output>(
+    rt: &R,
+    name: &str,
+    opened: Result<S, Outcome>,
+    out: &mut O,
+) -> Outcome
+    ensures { MatchResult opened
+        (λ source. ChecksIndex name.now (S.text source) result (O.written out.old) (O.written out.new))
+        (λ outcome. (result ≡ outcome) × (out.new ≡ out.old)) }
+{
+    match opened {
+        Ok(mut source) => match check(rt.alloc(), &mut source) {
+            Ok(count) => write_count(name, count, out),
+            Err(fault) => {
+                say_answer_fault(rt, name, fault);
+                Outcome::Answer(fault)
+            }
+        },
+        Err(outcome) => outcome,
+    }
+}
+
+fn write_count<O: Output>(name: &str, count: u64, out: &mut O) -> Outcome
+    ensures { WritesCount name.now count result (O.written out.old) (O.written out.new) }
+{
+    match put_count(name, count, out) {
+        Ok(()) => Outcome::Done,
+        Err(_) => Outcome::Answer(AnswerFault::Write),
+    }
+}
+
+/// `NAME COUNT`
+fn put_count<O: Output>(name: &str, count: u64, out: &mut O) -> Result<(), DeviceFault>
+    ensures line { WritesText result (O.written out.old) (O.written out.new) (checked_line name.now count) }
+    ensures failures { CountsFailure result (O.failures out.old) (O.failures out.new) }
+{
+    let text = count_text(count);
+    put(out, name.as_bytes())?;
+    put(out, text.as_bytes())?;
+    Ok(())
+}
+
+/// What stands after the name.
+fn count_text(count: u64) -> ArrayString<32>
+    ensures { result.bytes ≡ count_text count }
+{
+    let mut digits = Buffer::new();
+    let mut text = ArrayString::new();
+    text.push_str(" ");
+    text.push_str(digits.format(count));
+    text.push_str("\n");
+    text
+}
