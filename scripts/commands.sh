@@ -1,5 +1,5 @@
 #!/usr/bin/env bash
-# Runs the commands of warcdx on small archives, and compares what it answers with the tables below: what it prints, what
+# Runs the commands of warcdx on small archives and indexes, and compares what it answers with the tables below: what it prints, what
 # it says on standard error, and its status.
 #
 # usage: commands.sh [PROGRAM]      default: the script warcdx at the top of the repository
@@ -37,6 +37,19 @@ make_archives() {
     cat r.warc q.warc > both.warc
     { cat both.warc; head --bytes=100 r.warc; } > torn.warc
     : > empty.warc
+    {
+        capture q 0 a.warc
+        capture r 158 a.warc
+    } > sorted.cdxj
+    head --bytes=-1 sorted.cdxj > unended.cdxj
+    {
+        capture r 158 a.warc
+        capture q 0 a.warc
+    } > falling.cdxj
+    {
+        capture q 0 a.warc
+        echo
+    } > bad.cdxj
     # The index of this one, and the record of the next, are longer than any buffer of the program.
     repeated 20000 < r.warc > captures.warc
     {
@@ -182,9 +195,29 @@ check "get: behind a fault"             ""               "$torn"           1 get
 check "get: a missing file"             ""               "$missing"        3 get 0 missing
 check "get: a folder"       "" "warcdx: folder: fault 0 Read"              3 get 0 folder
 
+first=$(head --lines=1 bad.cdxj | wc --bytes)
+falling="warcdx: falling.cdxj: OutOfOrder $(head --lines=1 falling.cdxj | wc --bytes)"
+bad="warcdx: bad.cdxj: BadLine $first"
+both_checked=$(lines "sorted.cdxj 2" "unended.cdxj 2")
+
+check "check: an index"                 "sorted.cdxj 2"  ""                0 check sorted.cdxj
+check "check: two indexes"              "$both_checked"  ""                0 check sorted.cdxj unended.cdxj
+check "check: an empty index"           "empty.warc 0"   ""                0 check empty.warc
+check "check: out of order"             ""               "$falling"        1 check falling.cdxj
+check "check: a bad line"               ""               "$bad"            1 check bad.cdxj
+check "check: an archive"  "" "warcdx: r.warc: BadLine 0"                  1 check r.warc
+check "check: a fault in the first of two"  "sorted.cdxj 2" "$falling"     1 check falling.cdxj sorted.cdxj
+check "check: two faults"  "" "$(lines "$bad" "$falling")"                 1 check bad.cdxj falling.cdxj
+check "check: a fault, then missing" "" "$(lines "$bad" "$missing")"       3 check bad.cdxj missing
+check "check: a missing file among good ones" "$both_checked" "$missing"   3 check sorted.cdxj missing unended.cdxj
+check "check: a folder"                 ""  "warcdx: folder: Read"         3 check folder
+check "check: a folder, and an index"   "sorted.cdxj 2" "warcdx: folder: Read" 3 check folder sorted.cdxj
+check "check: - is a file's name"       ""  "warcdx: -: cannot open"       3 check - < sorted.cdxj
+
 no_list=$(refusal "the following required arguments were not provided:"$'\n  <WARC>...' "list <WARC>...")
 no_verify=$(refusal "the following required arguments were not provided:"$'\n  <WARC>...' "verify <WARC>...")
 no_index=$(refusal "the following required arguments were not provided:"$'\n  <WARC>...' "index <WARC>...")
+no_check=$(refusal "the following required arguments were not provided:"$'\n  <INDEX>...' "check <INDEX>...")
 no_get=$(refusal "the following required arguments were not provided:"$'\n  <OFFSET>\n  <WARC>' "get <OFFSET> <WARC>")
 no_archive=$(refusal "the following required arguments were not provided:"$'\n  <WARC>' "get <OFFSET> <WARC>")
 one_too_many=$(refusal "unexpected argument 'q.warc' found" "get <OFFSET> <WARC>")
@@ -194,6 +227,7 @@ no_text=$(lines "error: a word isn't UTF-8" "" "For more information, try '--hel
 check "list alone"                      "" "$no_list"                      2 list
 check "verify alone"                    "" "$no_verify"                    2 verify
 check "index alone"                     "" "$no_index"                     2 index
+check "check alone"                     "" "$no_check"                     2 check
 check "get alone"                       "" "$no_get"                       2 get
 check "get without an archive"          "" "$no_archive"                   2 get 0
 check "get of two archives"             "" "$one_too_many"                 2 get 0 r.warc q.warc
@@ -226,6 +260,7 @@ of_program=$(lines "Indexes web archives; lists, checks and fetches their record
 of_list=$(lines "Lists the records of archives" "" "Usage: warcdx list <WARC>...")
 of_index=$(lines "Writes an index of the captures of archives" "" "Usage: warcdx index <WARC>...")
 of_get=$(lines "Writes the record at an offset of an archive" "" "Usage: warcdx get <OFFSET> <WARC>")
+of_check=$(lines "Checks that indexes are sorted, and counts their lines" "" "Usage: warcdx check <INDEX>...")
 of_verify=$(lines "Checks the digests of the records of archives" "" "Usage: warcdx verify <WARC>...")
 
 check_help "-h"                         "$of_program" -h
@@ -237,6 +272,7 @@ check_help "list --help NAME"           "$of_list"    list --help missing
 check_help "verify -h"                  "$of_verify"  verify -h
 check_help "verify NAME NAME --help"    "$of_verify"  verify same.warc missing --help
 check_help "index -h"                   "$of_index"   index -h
+check_help "check -h"                   "$of_check"   check -h
 check_help "get --help"                 "$of_get"     get --help
 check_help "get NAME NAME NAME -h"      "$of_get"     get r.warc q.warc missing -h
 
@@ -256,6 +292,8 @@ for way in full closed broken; do
     check_into $way "$way: index, many"    "" "$write"                       3 index captures.warc
     check_into $way "$way: index, a fault" "" "$(lines "$torn" "$flush")"    3 index torn.warc
     check_into $way "$way: index, none"    "" ""                             0 index same.warc
+    check_into $way "$way: check, one"     "" "$flush"                       3 check sorted.cdxj
+    check_into $way "$way: check, a fault" "" "$bad"                         1 check bad.cdxj
     check_into $way "$way: get, short"     "" "$flush"                       3 get 0 r.warc
     check_into $way "$way: get, long"      "" "$write"                       3 get 0 large.warc
     check_into $way "$way: get, none"      "" "$none"                        1 get 1 r.warc

@@ -12,4 +12,6 @@ mod options;
 #[cfg(test)]
 mod query_texts;
 #[cfg(test)]
+mod sources;
+#[cfg(test)]
 mod targets;

@@ -1,0 +1,174 @@
+//! The lines of sources: their checking, and the search in them.
+use cdxj_core::LINE_LIMIT;
+use devices::Fuse;
+use query_core::{AnswerFault, SliceSource, Source, check};
+use source_core::{SearchFault, search};
+use std::alloc::Global;
+use std::test::Fail;
+
+const LETTERS: &[u8] =
+    b"a)/ 20160101000000 {\"url\": \"http://x/\", \"mime\": \"text/html\", \"status\": \"200\", \"digest\": \"-\", \"length\": \"1\", \"offset\": \"0\", \"filename\": \"a.warc\"}\nb)/ 20160101000000 {\"url\": \"http://x/\", \"mime\": \"text/html\", \"status\": \"200\", \"digest\": \"-\", \"length\": \"1\", \"offset\": \"1\", \"filename\": \"a.warc\"}\nc)/ 20160101000000 {\"url\": \"http://x/\", \"mime\": \"text/html\", \"status\": \"200\", \"digest\": \"-\", \"length\": \"1\", \"offset\": \"2\", \"filename\": \"a.warc\"}";
+
+/// A growth was refused.
+#[derive(Debug, Drop)]
+enum Refused {
+    Memory,
+}
+
+/// What the check of a source answers; a refused growth is an error.
+fn checked<S: Source>(
+    alloc: Global,
+    source: &mut S,
+) -> Result<Result<u64, AnswerFault>, Refused> {
+    match check(alloc, source) {
+        Err(AnswerFault::Memory) => Err(Refused::Memory),
+        answer => Ok(answer),
+    }
+}
+
+fn check_of(alloc: Global, text: &[u8]) -> Result<Result<u64, AnswerFault>, Refused> {
+    checked(alloc, &mut SliceSource::new(text))
+}
+
+const TEXTS: &[(&[u8], Result<u64, AnswerFault>)] = &[
+    (b"", Ok(0)),
+    (LETTERS, Ok(3)),
+    (
+        b"com,example)/ 20160101000000 {\"url\": \"http://x/\", \"mime\": \"text/html\", \"status\": \"200\", \"digest\": \"-\", \"length\": \"1\", \"offset\": \"1000\", \"filename\": \"a.warc\"}\ncom,example)/ 20160101000000 {\"url\": \"http://x/\", \"mime\": \"text/html\", \"status\": \"200\", \"digest\": \"-\", \"length\": \"1\", \"offset\": \"99\", \"filename\": \"a.warc\"}\n",
+        Ok(2),
+    ),
+    (
+        b"b)/ 20160101000000 {\"url\": \"http://x/\", \"mime\": \"text/html\", \"status\": \"200\", \"digest\": \"-\", \"length\": \"1\", \"offset\": \"0\", \"filename\": \"a.warc\"}\na)/ 20160101000000 {\"url\": \"http://x/\", \"mime\": \"text/html\", \"status\": \"200\", \"digest\": \"-\", \"length\": \"1\", \"offset\": \"0\", \"filename\": \"a.warc\"}\n",
+        Err(AnswerFault::OutOfOrder(0, 145)),
+    ),
+    (b"\n", Err(AnswerFault::BadLine(0, 0))),
+    (
+        b"a)/ 20160101000000 {\"url\": \"http://x/\", \"mime\": \"text/html\", \"status\": \"200\", \"digest\": \"-\", \"length\": \"1\", \"offset\": \"0\", \"filename\": \"a.warc\"}\nb)/ 20160101000000 {\"url\": \"http://x/\", \"mime\": \"text/html\", \"status\": \"200\", \"digest\": \"-\", \"length",
+        Err(AnswerFault::BadLine(0, 145)),
+    ),
+    (
+        b"a)/ 20160101000000 {\"url\": \"http://x/\", \"mime\": \"text/html\", \"status\": \"200\", \"digest\": \"-\", \"length\": \"1\", \"offset\": \"0\", \"filename\": \"a.warc\"}\n\nb)/ 20160101000000 {\"url\": \"http://x/\", \"mime\": \"text/html\", \"status\": \"200\", \"digest\": \"-\", \"length\": \"1\", \"offset\": \"1\", \"filename\": \"a.warc\"}\n",
+        Err(AnswerFault::BadLine(0, 145)),
+    ),
+];
+
+#[test]
+fn an_index_is_counted_or_its_first_line_at_fault_is_named(rt: HostRuntime) -> Result<(), Fail> {
+    for (text, wanted) in TEXTS {
+        assert_eq!(rt; check_of(rt.alloc(), text)?, *wanted);
+    }
+    Ok(())
+}
+
+/// A line of so many bytes, without its line feed.
+fn long_line(alloc: Global, length: usize) -> Result<Vec<u8>, Fail> {
+    let start = b"a)/ 20160101000000 {\"filename\": \"a.warc\", \"offset\": 0, \"url\": \"";
+    let mut line = Vec::new(alloc);
+    line.extend_from_slice(start)?;
+    line.resize(length.saturating_sub(2), b'x')?;
+    line.extend_from_slice(b"\"}")?;
+    Ok(line)
+}
+
+#[test]
+fn a_line_has_at_most_1_048_576_bytes_with_its_line_feed(rt: HostRuntime) -> Result<(), Fail> {
+    let too_long = Err(AnswerFault::BadLine(0, 0));
+    for (length, feed, wanted) in [
+        (LINE_LIMIT - 1, true, Ok(1)),
+        (LINE_LIMIT - 1, false, Ok(1)),
+        (LINE_LIMIT, false, too_long),
+        (LINE_LIMIT, true, too_long),
+    ] {
+        let mut line = long_line(rt.alloc(), length)?;
+        if feed {
+            line.push(b'\n')?;
+        }
+        assert_eq!(rt; check_of(rt.alloc(), &line)?, wanted);
+    }
+    Ok(())
+}
+
+/// Lines of captures, the stamps of which are 20160101000000 and their number.
+fn stamped_lines(alloc: Global, numbers: &[u64]) -> Result<Vec<u8>, Fail> {
+    let mut text = Vec::new(alloc);
+    for number in numbers {
+        let line = format!(in alloc;
+            "com,example)/ 20160101{number:06} {{\"url\": \"http://x/\", \"mime\": \"text/html\", \"status\": \"200\", \"digest\": \"-\", \"length\": \"1\", \"offset\": \"{number}\", \"filename\": \"a.warc\"}}\n"
+        )?;
+        text.extend_from_slice(line.as_bytes())?;
+    }
+    Ok(text)
+}
+
+#[test]
+fn the_second_of_falling_lines_is_out_of_order(rt: HostRuntime) -> Result<(), Fail> {
+    let text = stamped_lines(rt.alloc(), &[999, 998, 997])?;
+    assert_eq!(rt; check_of(rt.alloc(), &text)?, Err(AnswerFault::OutOfOrder(0, 157)));
+    Ok(())
+}
+
+/// How often a source over these letters is read in pieces of so many bytes: the check fails at each of these calls.
+fn calls_of_check(alloc: Global, piece: usize) -> Result<u64, Refused> {
+    let mut whole = Fuse::new(SliceSource::new(LETTERS), piece, 0);
+    let _count = checked(alloc, &mut whole)?;
+    Ok(whole.calls)
+}
+
+#[test]
+fn a_source_that_fails_at_a_read_is_read(rt: HostRuntime) -> Result<(), Fail> {
+    for (piece, wanted) in [(1, 434), (2, 217), (8192, 1)] {
+        let calls = calls_of_check(rt.alloc(), piece)?;
+        assert_eq!(rt; calls, wanted);
+        for at in 1..calls + 1 {
+            let mut source = Fuse::new(SliceSource::new(LETTERS), piece, at);
+            assert_eq!(rt; checked(rt.alloc(), &mut source)?, Err(AnswerFault::Read(0)));
+            assert_eq!(rt; source.failures, 1);
+        }
+    }
+    Ok(())
+}
+
+#[test]
+fn the_search_finds_the_first_line_at_or_above_a_key(rt: HostRuntime) -> Result<(), Fail> {
+    for (key, wanted) in [
+        ("0", 0),
+        ("a)/", 0),
+        ("aa)/", 145),
+        ("b)/", 145),
+        ("c)/", 290),
+        ("z)/", 434),
+    ] {
+        let mut source = SliceSource::new(LETTERS);
+        let found = search(rt.alloc(), &mut source, key.as_bytes(), b"00000000000000")?;
+        assert_eq!(rt; found.offset, wanted, "{key}");
+        assert!(rt; found.probes <= 9, "{key}");
+    }
+    Ok(())
+}
+
+#[test]
+fn the_search_fails_where_its_source_does(rt: HostRuntime) -> Result<(), Fail> {
+    let mut source = Fuse::new(SliceSource::new(LETTERS), 2, 1);
+    let answer = search(rt.alloc(), &mut source, b"b)/", b"00000000000000");
+    if answer == Err(SearchFault::Memory) {
+        return Err(Fail::from(SearchFault::Memory));
+    }
+    assert_eq!(rt; answer, Err(SearchFault::Read));
+    Ok(())
+}
+
+#[test]
+fn the_search_for_the_last_of_100_000_lines_reads_less_than_a_hundredth(
+    rt: HostRuntime,
+) -> Result<(), Fail> {
+    let mut text = Vec::new(rt.alloc());
+    for number in 0..100_000 {
+        let line = format!(in rt.alloc(); "k{number:05} 20160101000000 {{}}\n")?;
+        text.extend_from_slice(line.as_bytes())?;
+    }
+    let mut source = SliceSource::new(&text);
+    let found = search(rt.alloc(), &mut source, b"k99999", b"20160101000000")?;
+    assert_eq!(rt; found.offset, 99_999 * 25);
+    assert!(rt; source.gave() < 25_000);
+    Ok(())
+}
