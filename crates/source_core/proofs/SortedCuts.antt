@@ -153,7 +153,7 @@ module _ (limit : ℕ) (start : Pair) where
 pub turns_most : (gave probes turns w : ℕ) → probes ≤ turns → gave + probes * w ≤ gave + turns * w
 turns_most gave probes turns w h = let e = mul-le-mul_right w h in omega arith
 
-pub turn_more : (g0 g1 g2 probes long : ℕ) → g1 ≤ g0 + probes * (2 * long + 16384) → g2 ≤ g1 + 2 * long + 2 * 8192 → g2 ≤ g0 + (probes + 1) * (2 * long + 16384)
+pub turn_more : (g0 g1 g2 probes long : ℕ) → g1 ≤ g0 + probes * (2 * long + 2048) → g2 ≤ g1 + 2 * long + 2 * 1024 → g2 ≤ g0 + (probes + 1) * (2 * long + 2048)
 turn_more g0 g1 g2 probes long h k =
-    let e : (probes + 1) * (2 * long + 16384) ≡ probes * (2 * long + 16384) + (2 * long + 16384) = omega arith in
+    let e : (probes + 1) * (2 * long + 2048) ≡ probes * (2 * long + 2048) + (2 * long + 2048) = omega arith in
     omega arith

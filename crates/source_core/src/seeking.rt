@@ -14,8 +14,10 @@ use crate::line_part::line_part;
 use crate::line_start::next_line_start;
 use crate::source::Source;
 use cdxj_core::{LINE_LIMIT, split_pair};
-use devices::PIECE;
 use std::alloc::Global;
+
+/// How many bytes the search asks for at once: more than most lines have.
+const SEARCH_PIECE: usize = 1024;
 
 /// What a search found.
 #[derive(Clone, Copy, Debug, Drop, PartialEq, Eq)]
@@ -133,7 +135,7 @@ fn probe<S: Source>(
 /// line that begins in the upper half of those that are left.
 ///
 /// Of a line it looks at the first [`LINE_LIMIT`] bytes; one that shows no pair in them isn't below. It reads pieces of at most
-/// [`PIECE`] bytes. Over a text that isn't an index it finds the beginning of some line, or the size.
+/// 1,024 bytes. Over a text that isn't an index it finds the beginning of some line, or the size.
 pub fn search<S: Source>(
     alloc: Global,
     source: &mut S,
@@ -147,10 +149,10 @@ pub fn search<S: Source>(
     ensures cut { (t : List ℕ) → (members : List Member) → S.text source.old ≡ Some t → IsIndex LINE_LIMIT t members
         → IfOk result (λ found. IsCut (key.now, stamp.now) t members found.offset) }
     ensures probes { IfOk result (λ found. found.probes ≤ digits (S.extent source.old)) }
-    ensures gave { (t : List ℕ) → S.text source.old ≡ Some t → S.gave source.new ≤ S.gave source.old + digits (S.extent source.old) * (2 * longest (lines t) + 16384) }
+    ensures gave { (t : List ℕ) → S.text source.old ≡ Some t → S.gave source.new ≤ S.gave source.old + digits (S.extent source.old) * (2 * longest (lines t) + 2048) }
     ensures failures { CountsSearch result (S.failures source.old) (S.failures source.new) }
 {
-    let mut piece = vec![in alloc; 0; PIECE]?;
+    let mut piece = vec![in alloc; 0; SEARCH_PIECE]?;
     let mut front = Vec::new(alloc);
     let mut low = 0;
     let mut high = source.size();
