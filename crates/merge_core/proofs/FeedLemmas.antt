@@ -1,0 +1,194 @@
+-- What one line more makes of a feed.
+use Rattle.std.proofs.Common.{◌≡◌, ◌≢◌, ℕ, zero, suc, ◌+◌, ◌-◌, ◌<◌, ◌≤◌, List, [], ◌∷◌, ◌++◌, length, refl, sym, ap, ap₂, ◌∙◌, subst, arith, Bool, false, Option, Some, None, MatchOption, take, drop, map, unwrap_or}
+use Rattle.std.specs.List.{AllByRecursion}
+use Rattle.cdxj_places.proofs.RisingLaws.{each_weaker}
+use Rattle.cdxj_places.specs.Pairs.{Pair, pair_cmp}
+use Rattle.cdxj_places.specs.Rising.{NeverFalls}
+use Rattle.cdxj_places.specs.TextLines.{lines}
+use Rattle.cdxj_core.specs.Indexes.{IsRun}
+use Rattle.cdxj_core.specs.Lines.{body_of}
+use Rattle.cdxj_core.specs.Members.{Member, member_pair, line_entry}
+use Rattle.cdxj_core.proofs.MemberLemmas.{entry_is_short}
+use Rattle.source_core.specs.declared.cursor.Cursor.{Cursor}
+use Rattle.source_core.specs.Cursors.{Stands}
+use Rattle.merge_core.specs.declared.feed.Progress.{Progress}
+use Rattle.merge_core.specs.declared.feed.Progress.TheVariants.{Due, Waiting, Past, Ended}
+use Rattle.merge_core.specs.declared.feed.Feed.{Feed}
+use Rattle.merge_core.specs.PairOrders.{Upto}
+use Rattle.merge_core.specs.Feeds.{AreWaits, IsNext, IsHead, FedOf, Fed, held, read_lines, member_of, no_member, given, done}
+use Rattle.merge_core.proofs.PairOrder.{upto_upto}
+
+pub no_entry : (limit : ℕ) (line : List ℕ) (o : Option Member) → o ≡ line_entry limit line → limit ≤ length (body_of line) → o ≡ None
+no_entry limit line None e h = refl
+no_entry limit line (Some m) e h = absurd (let short = entry_is_short limit line m (sym e) in omega arith)
+
+pub each_join : {X : Type 0} (A : X → Type 0) (us vs : List X) → AllByRecursion A us → AllByRecursion A vs → AllByRecursion A (us ++ vs)
+each_join A [] vs h k = k
+each_join A (u ∷ us) vs h k = (h.0, each_join A us vs h.1 k)
+
+take_suc_at : {X : Type 0} (n : ℕ) (all : List X) (x : X) (rest : List X) → drop n all ≡ x ∷ rest → take (suc n) all ≡ take n all ++ x ∷ []
+take_suc_at zero [] x rest e = cc
+take_suc_at zero (y ∷ ys) x rest e = let q : y ≡ x = cc in ap (λ y. y ∷ []) q
+take_suc_at (suc n) [] x rest e = cc
+take_suc_at (suc n) (y ∷ ys) x rest e = ap (λ u. y ∷ u) (take_suc_at n ys x rest e)
+
+pub take_next : {X : Type 0} (n : ℕ) (all : List X) (x : X) (rest : List X) → drop n all ≡ x ∷ rest → take (n + 1) all ≡ take n all ++ x ∷ []
+take_next n all x rest e = ap (λ k. take k all) (let q : n + 1 ≡ suc n = omega arith in q) ∙ take_suc_at n all x rest e
+
+pub take_map : {X Y : Type 0} (f : X → Y) (k n : ℕ) (xs : List X) → k ≤ n → take k (map f (take n xs)) ≡ map f (take k xs)
+take_map f zero n xs h = refl
+take_map f (suc k) zero xs h = absurd (omega arith)
+take_map f (suc k) (suc n) [] h = refl
+take_map f (suc k) (suc n) (x ∷ xs) h = ap (λ l. f x ∷ l) (take_map f k n xs (omega arith))
+
+pub map_push : {A B : Type 0} (f : A → B) (xs : List A) (x : A) → map f (xs ++ x ∷ []) ≡ map f xs ++ f x ∷ []
+map_push f [] x = refl
+map_push f (y ∷ ys) x = ap (λ u. f y ∷ u) (map_push f ys x)
+
+falls_push : (xs : List Member) (y : Member) → NeverFalls member_pair pair_cmp xs → AllByRecursion (λ m. Upto (member_pair m) (member_pair y)) xs → NeverFalls member_pair pair_cmp (xs ++ y ∷ [])
+falls_push [] y h k = (tt, tt)
+falls_push (x ∷ xs) y h k = (each_join (λ m. Upto (member_pair x) (member_pair m)) xs (y ∷ []) h.0 (k.0, tt), falls_push xs y h.1 k.1)
+
+next_waits : (past : List ℕ → Bool) (m : Member) (p : Progress) (ws : List Member) → IsNext past m p ws → AreWaits p ws
+next_waits past m Due ws n = absurd n
+next_waits past m Waiting ws n = (m, n.0)
+next_waits past m Past ws n = n.0
+next_waits past m Ended ws n = absurd n
+
+held_next : (past : List ℕ → Bool) (m : Member) (p : Progress) (ws : List Member) (count old : ℕ) → IsNext past m p ws → count ≡ old + 1 → count ≡ old + held p
+held_next past m Due ws count old n e = absurd n
+held_next past m Waiting ws count old n e = e
+held_next past m Past ws count old n e = e
+held_next past m Ended ws count old n e = absurd n
+
+-- a property of the next line is one of the line that waits
+pub each_next : (P : Member → Type 0) (past : List ℕ → Bool) (m : Member) (p : Progress) (ws : List Member) → IsNext past m p ws → P m → AllByRecursion P ws
+each_next P past m Due ws n h = absurd n
+each_next P past m Waiting ws n h = subst (AllByRecursion P) (sym n.0) (h, tt)
+each_next P past m Past ws n h = subst (AllByRecursion P) (sym n.0) tt
+each_next P past m Ended ws n h = absurd n
+
+-- at most one waits
+pub next_few : (past : List ℕ → Bool) (m : Member) (p : Progress) (ws : List Member) → IsNext past m p ws → length ws ≤ 1
+next_few past m Due ws n = absurd n
+next_few past m Waiting ws n = omega (arith, ap length n.0)
+next_few past m Past ws n = omega (arith, ap length n.0)
+next_few past m Ended ws n = absurd n
+
+-- the limit of a line, in bytes
+module _ (limit : ℕ) where
+  run_push : (ls : List (List ℕ)) (ms : List Member) (l : List ℕ) (m : Member) (low : Pair) → IsRun limit ls ms → line_entry limit l ≡ Some m
+      → AllByRecursion (λ k. Upto (member_pair k) low) ms → Upto low (member_pair m) → IsRun limit (ls ++ l ∷ []) (ms ++ m ∷ [])
+  run_push ls ms l m low run e upto h = record {
+    entries = map_push (line_entry limit) ls l ∙ ap₂ (λ us v. us ++ v ∷ []) run.entries e ∙ sym (map_push Some ms m);
+    ordered = falls_push ms m run.ordered (each_weaker (λ (k : Member) (q : Upto (member_pair k) low). upto_upto (member_pair k) low (member_pair m) q h) ms upto);
+  }
+
+  -- this line was read after those that were read before
+  abbrev pub ReadNext : List ℕ → Cursor → Cursor → Member → Type 0
+  ReadNext t old new m = (l : List ℕ) × (read_lines t new ≡ read_lines t old ++ l ∷ []) × (line_entry limit l ≡ Some m)
+
+  pub given_next : (t : List ℕ) (old new : Cursor) (m : Member) → ReadNext t old new m → given limit t new ≡ given limit t old ++ m ∷ []
+  given_next t old new m r =
+      ap (map (member_of limit)) r.1 ∙ map_push (member_of limit) (read_lines t old) r.0
+      ∙ ap (λ (o : Option Member). given limit t old ++ unwrap_or o no_member ∷ []) r.2
+
+  run_next : (t : List ℕ) (old new : Cursor) (m : Member) (low : Pair) → ReadNext t old new m
+      → IsRun limit (read_lines t old) (given limit t old) → AllByRecursion (λ k. Upto (member_pair k) low) (given limit t old) → Upto low (member_pair m)
+      → IsRun limit (read_lines t new) (given limit t new)
+  run_next t old new m low r run upto h =
+      subst (λ ls. IsRun limit ls (given limit t new)) (sym r.1)
+      (subst (IsRun limit (read_lines t old ++ r.0 ∷ [])) (sym (given_next t old new m r)) (run_push (read_lines t old) (given limit t old) r.0 m low run r.2 upto h))
+
+  -- what is done of a feed, beside what was read before
+  pub done_is : (t : List ℕ) (f : Feed) (old : Cursor) → f.cursor.start ≡ old.start → f.cursor.count ≡ old.count + held f.progress → done limit t f ≡ given limit t old
+  done_is t f old start count =
+      take_map (member_of limit) (f.cursor.count - held f.progress) f.cursor.count (lines (drop f.cursor.start t)) (omega arith)
+      ∙ ap₂ (λ n s. map (member_of limit) (take n (lines (drop s t)))) (let q : f.cursor.count - held f.progress ≡ old.count = omega (arith, count) in q) start
+
+  pub done_due : (t : List ℕ) (f : Feed) → f.progress ≡ Due → done limit t f ≡ given limit t f.cursor
+  done_due t f e = done_is t f f.cursor refl (let h = ap held e in omega arith)
+
+  head_next : (past : List ℕ → Bool) (before all : List Member) (rest : List (List ℕ)) (m : Member) (ws : List Member) (p : Progress) → all ≡ before ++ m ∷ [] → IsNext past m p ws → IsHead limit past before all rest ws p
+  head_next past before all rest m ws Due e n = absurd n
+  head_next past before all rest m ws Waiting e n = (e ∙ ap (λ l. before ++ l) (sym n.0), subst (AllByRecursion (λ (m : Member). past m.values.key ≡ false)) (sym n.0) (n.1, tt))
+  head_next past before all rest m ws Past e n = (m, e, n.1)
+  head_next past before all rest m ws Ended e n = absurd n
+
+  pub fresh_done : (t : List ℕ) (f : Feed) → f.cursor.count ≡ 0 → done limit t f ≡ []
+  fresh_done t f e = ap (λ n. take (n - held f.progress) (map (member_of limit) (take n (lines (drop f.cursor.start t))))) e ∙ ap (λ n. take n []) none_left
+    where
+      none_left : 0 - held f.progress ≡ 0
+      none_left = omega arith
+
+  -- the same source
+  pub fed_same : (past : List ℕ → Bool) (t t' : Option (List ℕ)) (e e' : ℕ) (f : Feed) (ws : List Member) → t' ≡ t → e' ≡ e → Fed limit past t e f ws → Fed limit past t' e' f ws
+  fed_same past t t' e e' f ws p q h = subst (λ o. Fed limit past o e' f ws) (sym p) (subst (λ n. Fed limit past t n f ws) (sym q) h)
+
+  -- what a read line says, where there was one
+  pub line_read : {L : Type 0} (t : List ℕ) (old new : Cursor) (seen : L → Member) (o : Option L) (line : L) → o ≡ Some line
+      → MatchOption o ((read_lines t new ≡ read_lines t old) × (lines (drop new.at t) ≡ [])) (λ l. ReadNext t old new (seen l)) → ReadNext t old new (seen line)
+  line_read t old new seen o line e h = subst (λ p. MatchOption p ((read_lines t new ≡ read_lines t old) × (lines (drop new.at t) ≡ [])) (λ l. ReadNext t old new (seen l))) e h
+
+  -- what is known of a feed whose next line is to be read
+  module _ (past : List ℕ → Bool) (text : Option (List ℕ)) (extent : ℕ) (old f : Feed) (is_due : old.progress ≡ Due) (was : Fed limit past text extent old [])
+      (stands : Stands text extent f.cursor) (start : f.cursor.start ≡ old.cursor.start) where
+    given_old : (t : List ℕ) → done limit t old ≡ given limit t old.cursor
+    given_old t = done_due t old is_due
+
+    -- where its next line is this one
+    module _ (m : Member) (low : Pair) (count : f.cursor.count ≡ old.cursor.count + 1) (next : (t : List ℕ) → text ≡ Some t → ReadNext t old.cursor f.cursor m)
+        (upto : (t : List ℕ) → text ≡ Some t → AllByRecursion (λ k. Upto (member_pair k) low) (done limit t old)) (up : Upto low (member_pair m)) where
+      run_more : (t : List ℕ) → text ≡ Some t → IsRun limit (read_lines t f.cursor) (given limit t f.cursor)
+      run_more t e = run_next t old.cursor f.cursor m low (next t e) (was.told t e).run (subst (AllByRecursion (λ k. Upto (member_pair k) low)) (given_old t) (upto t e)) up
+
+      pub fed_next : (ws : List Member) → IsNext past m f.progress ws → Fed limit past text extent f ws
+      fed_next ws n =
+          let many = held_next past m f.progress ws f.cursor.count old.cursor.count n count in
+          record {
+            stands = stands;
+            waits = next_waits past m f.progress ws n;
+            counted = omega (arith, many);
+            told = λ t e. record {
+              run = run_more t e;
+              head = head_next past (done limit t f) (given limit t f.cursor) (lines (drop f.cursor.at t)) m ws f.progress
+                  (given_next t old.cursor f.cursor m (next t e) ∙ ap (λ ms. ms ++ m ∷ []) (sym (done_is t f old.cursor start many))) n;
+            };
+          }
+
+      pub done_next : (ws : List Member) → IsNext past m f.progress ws → (t : List ℕ) → done limit t f ≡ done limit t old
+      done_next ws n t = done_is t f old.cursor start (held_next past m f.progress ws f.cursor.count old.cursor.count n count) ∙ sym (given_old t)
+
+      pub done_taken : f.progress ≡ Due → (t : List ℕ) → text ≡ Some t → done limit t f ≡ done limit t old ++ m ∷ []
+      done_taken d t e = done_due t f d ∙ given_next t old.cursor f.cursor m (next t e) ∙ ap (λ ms. ms ++ m ∷ []) (sym (given_old t))
+
+      pub fed_taken : f.progress ≡ Due → Fed limit past text extent f []
+      fed_taken d = record {
+        stands = stands;
+        waits = subst (λ (p : Progress). AreWaits p []) (sym d) refl;
+        counted = (let h = ap held d in omega arith);
+        told = λ t e. record {
+          run = run_more t e;
+          head = subst (λ (p : Progress). IsHead limit past (done limit t f) (given limit t f.cursor) (lines (drop f.cursor.at t)) [] p) (sym d) (sym (done_due t f d));
+        };
+      }
+
+    -- where no line is left
+    module _ (count : f.cursor.count ≡ old.cursor.count) (none : (t : List ℕ) → text ≡ Some t → (read_lines t f.cursor ≡ read_lines t old.cursor) × (lines (drop f.cursor.at t) ≡ []))
+        (ended : f.progress ≡ Ended) where
+      pub done_ended : (t : List ℕ) → done limit t f ≡ done limit t old
+      done_ended t = done_is t f old.cursor start (let h = ap held ended in omega (arith, count)) ∙ sym (given_old t)
+
+      pub fed_ended : Fed limit past text extent f []
+      fed_ended = record {
+        stands = stands;
+        waits = subst (λ (p : Progress). AreWaits p []) (sym ended) refl;
+        counted = (let h = ap held ended in omega arith);
+        told = λ t e.
+            let same : given limit t f.cursor ≡ given limit t old.cursor = ap (map (member_of limit)) (none t e).0 in
+            record {
+              run = subst (λ ls. IsRun limit ls (map (member_of limit) ls)) (sym (none t e).0) (was.told t e).run;
+              head = subst (λ (p : Progress). IsHead limit past (done limit t f) (given limit t f.cursor) (lines (drop f.cursor.at t)) [] p) (sym ended)
+                  (same ∙ sym (given_old t) ∙ sym (done_ended t), (none t e).1);
+            };
+      }

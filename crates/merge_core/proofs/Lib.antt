@@ -1,0 +1,4 @@
+pub mod PairOrder
+pub mod TurnLemmas
+pub mod FeedLemmas
+pub mod DrainLemmas

@@ -1,0 +1,29 @@
+use Rattle.std.proofs.Common.{Box, Global, option_map, refl, subst, sym}
+use Rattle.std.specs.List.{AllByRecursion}
+use Rattle.cdxj_core.specs.declared.limit.TheConstants.{LINE_LIMIT}
+use Rattle.cdxj_core.specs.declared.line.Line.{Line}
+use Rattle.cdxj_core.specs.Members.{member_pair}
+use Rattle.merge_core.specs.declared.feed.Progress.TheVariants.{Ended}
+use Rattle.merge_core.specs.PairOrders.{Upto}
+use Rattle.merge_core.specs.Feeds.{option_list}
+use Rattle.merge_core.proofs.PairOrder.{upto_itself}
+use Rattle.merge_core.proofs.FeedLemmas.{fresh_done}
+use Rattle.merge_core.proofs.DrainLemmas.{settled, at_end}
+use Rattle.merge_core.proofs.feed.Feed.begin.Goals as goal
+
+pub returns-in-Some-clause-fed : goal.returns-in-Some-clause-fed
+returns-in-Some-clause-fed g c =
+    let ok = c.in_ok-line.ensures in
+    let pair = member_pair c.in-Some.line.value in
+    settled LINE_LIMIT (g.R.Range.past c.args.range.now) (λ (b : Box Line Global). b.value) (g.S.Source.text c.args.source.now) (g.S.Source.text c.next_line.new.source)
+    (g.S.Source.extent c.args.source.now) (g.S.Source.extent c.next_line.new.source) c.args.self.now c.next_line.new.cursor c.in_ok-line.field-0 ok.text ok.extent
+    c.requires.due c.requires.fed ok.stands ok.start ok.count ok.given c.settle.new.self c.settle.ensures.cursor c.in-Some.line c.in-Some.is pair
+    (λ t e. subst (AllByRecursion (λ k. Upto (member_pair k) pair)) (sym (fresh_done LINE_LIMIT t c.args.self.now c.requires.fresh)) tt) (upto_itself pair)
+    (option_list (option_map (λ (b : Box Line Global). b.value) c.settle.result)) c.settle.ensures.next
+
+pub returns-in-None-clause-fed : goal.returns-in-None-clause-fed
+returns-in-None-clause-fed g c =
+    let ok = c.in_ok-line.ensures in
+    at_end LINE_LIMIT (g.R.Range.past c.args.range.now) (λ (b : Box Line Global). b.value) (g.S.Source.text c.args.source.now) (g.S.Source.text c.next_line.new.source)
+    (g.S.Source.extent c.args.source.now) (g.S.Source.extent c.next_line.new.source) c.args.self.now c.next_line.new.cursor c.in_ok-line.field-0 ok.text ok.extent
+    c.requires.due c.requires.fed ok.stands ok.start ok.count ok.given (record { cursor = c.next_line.new.cursor; progress = Ended }) refl c.in-None.is refl

@@ -1,0 +1,101 @@
+use Rattle.std.proofs.Common.{rules, ◌≡◌, ◌+◌, ◌<◌, ◌∷◌, ◌++◌, [], List, Box, Global, Equal, Greater, option_map, map, MatchOption, is_gt, refl, sym, ap, ◌∙◌, subst, arith}
+use Rattle.std.specs.List.{AllByRecursion}
+use Rattle.std.specs.Ordering.{ordering_reverse}
+use Rattle.cdxj_core.specs.declared.limit.TheConstants.{LINE_LIMIT}
+use Rattle.cdxj_core.specs.declared.line.Line.{Line}
+use Rattle.cdxj_core.specs.Members.{member_pair}
+use Rattle.cdxj_places.specs.Pairs.{pair_cmp}
+use Rattle.cdxj_places.proofs.PairLemmas.{pair_cmp_total}
+use Rattle.merge_core.specs.declared.feed.Progress.TheVariants.{Due, Ended}
+use Rattle.merge_core.specs.declared.feed.Feed.{Feed}
+use Rattle.merge_core.specs.PairOrders.{Alike, Below, Upto}
+use Rattle.merge_core.specs.Feeds.{option_list}
+use Rattle.merge_core.proofs.PairOrder.{below_upto, same_upto, same_from}
+use Rattle.merge_core.proofs.FeedLemmas.{each_join, each_next, map_push}
+use Rattle.merge_core.proofs.DrainLemmas.{settled, settled_done, taken, taken_done, at_end, taken_more}
+use Rattle.merge_core.proofs.feed.Feed.drain.Goals as goal
+
+pub returns-in-Greater-clause-later : goal.returns-in-Greater-clause-later
+returns-in-Greater-clause-later g c =
+    let first = member_pair c.args.first.now in
+    let m = c.in-Some.line.value in
+    let above : Below first (member_pair m) = pair_cmp_total.antisymm first (member_pair m)
+    ∙ ap (λ k. ordering_reverse (pair_cmp (member_pair k) first)) (sym c.deref.ensures) ∙ ap ordering_reverse (sym c.compare_pairs.ensures ∙ c.in-Greater.is) in
+    each_next (λ k. Below first (member_pair k)) (g.R.Range.past c.args.range.now) m c.settle.new.self.progress
+    (option_list (option_map (λ (b : Box Line Global). b.value) c.settle.result)) c.settle.ensures.next above
+
+pub returns-in-Greater-clause-fed : goal.returns-in-Greater-clause-fed
+returns-in-Greater-clause-fed g c =
+    let ok = c.in_ok-line.ensures in
+    let inv = c.loop-line.invariant in
+    let first = member_pair c.args.first.now in
+    let m = c.in-Some.line.value in
+    let above : Below first (member_pair m) = pair_cmp_total.antisymm first (member_pair m)
+    ∙ ap (λ k. ordering_reverse (pair_cmp (member_pair k) first)) (sym c.deref.ensures) ∙ ap ordering_reverse (sym c.compare_pairs.ensures ∙ c.in-Greater.is) in
+    settled LINE_LIMIT (g.R.Range.past c.args.range.now) (λ (b : Box Line Global). b.value) (g.S.Source.text c.loop-line.source) (g.S.Source.text c.next_line.new.source)
+    (g.S.Source.extent c.loop-line.source) (g.S.Source.extent c.next_line.new.source) c.loop-line.self c.next_line.new.cursor c.in_ok-line.field-0 ok.text ok.extent
+    inv.due inv.fed ok.stands ok.start ok.count ok.given c.settle.new.self c.settle.ensures.cursor c.in-Some.line c.in-Some.is first
+    (λ t e. inv.low t (sym inv.text ∙ e)) (below_upto first (member_pair m) above)
+    (option_list (option_map (λ (b : Box Line Global). b.value) c.settle.result)) c.settle.ensures.next
+
+pub returns-in-Greater-clause-taken : goal.returns-in-Greater-clause-taken
+returns-in-Greater-clause-taken g c = λ t e.
+    let ok = c.in_ok-line.ensures in
+    let inv = c.loop-line.invariant in
+    let first = member_pair c.args.first.now in
+    let m = c.in-Some.line.value in
+    let above : Below first (member_pair m) = pair_cmp_total.antisymm first (member_pair m)
+    ∙ ap (λ k. ordering_reverse (pair_cmp (member_pair k) first)) (sym c.deref.ensures) ∙ ap ordering_reverse (sym c.compare_pairs.ensures ∙ c.in-Greater.is) in
+    let h = inv.taken t e in (
+      h.0,
+      settled_done LINE_LIMIT (g.R.Range.past c.args.range.now) (λ (b : Box Line Global). b.value) (g.S.Source.text c.loop-line.source) (g.S.Source.text c.next_line.new.source)
+      (g.S.Source.extent c.loop-line.source) (g.S.Source.extent c.next_line.new.source) c.loop-line.self c.next_line.new.cursor c.in_ok-line.field-0 ok.text ok.extent
+      inv.due inv.fed ok.stands ok.start ok.count ok.given c.settle.new.self c.settle.ensures.cursor c.in-Some.line c.in-Some.is first
+      (λ t e. inv.low t (sym inv.text ∙ e)) (below_upto first (member_pair m) above)
+      (option_list (option_map (λ (b : Box Line Global). b.value) c.settle.result)) c.settle.ensures.next t ∙ h.1,
+      h.2,
+      h.3,
+    )
+
+pub loop-line-preserved : goal.loop-line-preserved
+loop-line-preserved g c =
+    let ok = c.in_ok-line.ensures in
+    let inv = c.loop-line.invariant in
+    let first = member_pair c.args.first.now in
+    let line = c.in-Some.line in
+    let m = line.value in
+    let alike : Alike (member_pair m) first = ap (λ k. pair_cmp (member_pair k) first) (sym c.deref.ensures) ∙ sym c.compare_pairs.ensures ∙ c.in-Equal.is in
+    let f : Feed = record { cursor = c.next_line.new.cursor; progress = c.loop-line.self.progress } in
+    let pushed : map (λ (b : Box Line Global). b.value) c.push.new.self.items ≡ map (λ (b : Box Line Global). b.value) c.loop-line.rest.items ++ m ∷ [] =
+    ap (map (λ (b : Box Line Global). b.value)) c.in-Ok.ensures.items ∙ map_push (λ (b : Box Line Global). b.value) c.loop-line.rest.items line in
+    let more = taken_done LINE_LIMIT (g.R.Range.past c.args.range.now) (λ (b : Box Line Global). b.value) (g.S.Source.text c.loop-line.source) (g.S.Source.text c.next_line.new.source)
+    (g.S.Source.extent c.loop-line.source) (g.S.Source.extent c.next_line.new.source) c.loop-line.self c.next_line.new.cursor c.in_ok-line.field-0 ok.text ok.extent
+    inv.due inv.fed ok.stands ok.start ok.count ok.given f refl line c.in-Some.is first
+    (λ t e. inv.low t (sym inv.text ∙ e)) (same_from (member_pair m) first alike) inv.due in
+    record {
+      text = ok.text ∙ inv.text;
+      extent = ok.extent ∙ inv.extent;
+      failures = ok.worked ∙ inv.failures;
+      gave = omega (arith, ok.gave, inv.gave);
+      start = ok.start ∙ inv.start;
+      there = (let h = subst (λ o. MatchOption o (c.next_line.new.cursor.at ≡ g.S.Source.extent c.loop-line.source) (λ _. c.loop-line.self.cursor.at < c.next_line.new.cursor.at)) c.in-Some.is ok.there in omega (arith, h, inv.there));
+      fed = taken LINE_LIMIT (g.R.Range.past c.args.range.now) (λ (b : Box Line Global). b.value) (g.S.Source.text c.loop-line.source) (g.S.Source.text c.next_line.new.source)
+          (g.S.Source.extent c.loop-line.source) (g.S.Source.extent c.next_line.new.source) c.loop-line.self c.next_line.new.cursor c.in_ok-line.field-0 ok.text ok.extent
+          inv.due inv.fed ok.stands ok.start ok.count ok.given f refl line c.in-Some.is first
+          (λ t e. inv.low t (sym inv.text ∙ e)) (same_from (member_pair m) first alike) inv.due;
+      due = inv.due;
+      low = λ t e. subst (AllByRecursion (λ k. Upto (member_pair k) first)) (sym (more t (inv.text ∙ e)))
+          (each_join (λ k. Upto (member_pair k) first) _ (m ∷ []) (inv.low t e) (same_upto (member_pair m) first alike, tt));
+      each = λ h. subst (AllByRecursion (λ k. Alike (member_pair k) first)) (sym pushed) (each_join (λ k. Alike (member_pair k) first) _ (m ∷ []) (inv.each h) (alike, tt));
+      taken = λ t e.
+          let h = inv.taken t e in
+          taken_more first _ _ _ h.0 _ _ _ m h.1 h.2 h.3 (more t (inv.text ∙ e)) pushed alike;
+    }
+
+pub returns-clause-fed : goal.returns-clause-fed
+returns-clause-fed g c =
+    let ok = c.in_ok-line.ensures in
+    let inv = c.loop-line.invariant in
+    at_end LINE_LIMIT (g.R.Range.past c.args.range.now) (λ (b : Box Line Global). b.value) (g.S.Source.text c.loop-line.source) (g.S.Source.text c.next_line.new.source)
+    (g.S.Source.extent c.loop-line.source) (g.S.Source.extent c.next_line.new.source) c.loop-line.self c.next_line.new.cursor c.in_ok-line.field-0 ok.text ok.extent
+    inv.due inv.fed ok.stands ok.start ok.count ok.given (record { cursor = c.next_line.new.cursor; progress = Ended }) refl c.in_default.is refl

@@ -1,0 +1,24 @@
+use Rattle.std.proofs.Common.{rules, true, ◌≡◌, ◌+◌, ◌∷◌, MatchOption, drop, take, sym, ap, ap₂, ◌∙◌, subst}
+use Rattle.cdxj_places.specs.TextLines.{lines}
+
+use Rattle.source_core.specs.IndexLines.{first_then, line_found}
+
+use Rattle.merge_core.proofs.FeedLemmas.{take_next}
+use Rattle.merge_core.proofs.store.Store.next_line.Goals as goal
+
+pub returns-in-Ok-clause-given : goal.returns-in-Ok-clause-given
+returns-in-Ok-clause-given g c = λ t e.
+    let ok = c.in-Ok-true.ensures in
+    let was = c.args.cursor.now in
+    let now = c.next.new.self in
+    let bytes = c.next.new.line.items in
+    let is : c.in-Ok-true.field-0 ≡ true = search rules in
+    let found : lines (drop was.at t) ≡ bytes ∷ lines (drop now.at t) =
+    subst (λ b. lines (drop was.at t) ≡ first_then (line_found b bytes) (lines (drop now.at t))) is (ok.given t e) in
+    let more : now.count ≡ was.count + 1 =
+    subst (λ b. MatchOption (line_found b bytes) (now.count ≡ was.count) (λ _. now.count ≡ was.count + 1)) is ok.count in
+    let first : drop was.count (lines (drop was.start t)) ≡ bytes ∷ lines (drop now.at t) = sym (c.requires.stands.rest t e) ∙ found in (
+      bytes,
+      ap₂ (λ n s. take n (lines (drop s t))) more ok.start ∙ take_next was.count (lines (drop was.start t)) bytes (lines (drop now.at t)) first,
+      c.in-Ok.ensures.read,
+    )

@@ -1,0 +1,4 @@
+pub mod WaitingLines
+pub mod PairOrders
+pub mod TurnOrder
+pub mod Feeds

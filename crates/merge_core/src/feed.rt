@@ -1,0 +1,133 @@
+//! A source that is read line by line.
+ghost use Rattle.std.specs.Prelude.{◌≡◌, ◌+◌, ◌-◌, ◌≤◌, ◌++◌, ℕ, List, [], length, map, option_map, Some, IfOk, IfErr, OnOk};
+ghost use Rattle.std.specs.List.{AllByRecursion};
+ghost use Rattle.cdxj_core.specs.declared.limit.TheConstants.{LINE_LIMIT};
+ghost use Rattle.cdxj_core.specs.Members.{Member, member_pair};
+ghost use Rattle.devices.specs.Device.{next_count};
+ghost use Rattle.source_core.specs.Cursors.{reach};
+ghost use Rattle.merge_core.specs.PairOrders.{Alike, Below, Upto};
+ghost use Rattle.merge_core.specs.Feeds.{IsNext, Fed, option_list, done};
+
+use crate::pair::compare_pairs;
+use crate::range::Range;
+use crate::store::{FeedFault, Store};
+use cdxj_core::Line;
+use source_core::{Cursor, Source};
+use std::cmp::Ordering;
+
+/// How far a source was read.
+#[derive(Clone, Copy, Debug, Drop, PartialEq, Eq)]
+pub enum Progress {
+    /// Its next line is to be read.
+    Due,
+    /// Its next line waits.
+    Waiting,
+    /// A line past the range was read.
+    Past,
+    /// It ended.
+    Ended,
+}
+
+/// What is kept beside a source.
+#[derive(Drop)]
+pub struct Feed {
+    pub cursor: Cursor,
+    pub progress: Progress,
+}
+
+impl Feed {
+    ghost use Rattle.merge_core.specs.declared.feed.Progress.TheVariants.{Due};
+
+    /// The line waits, unless its key lies past the range.
+    fn settle<R: Range>(
+        &mut self,
+        line: Box<Line>,
+        range: &R,
+        store: &mut Store,
+    ) -> Option<Box<Line>>
+        ensures cursor { self.new.cursor ≡ self.old.cursor }
+        ensures next { IsNext (R.past range.now) line.value self.new.progress (option_list (option_map (λ b. b.value) result)) }
+    {
+        if range.is_past(line.pair().0) {
+            self.progress = Progress::Past;
+            store.put_back(line);
+            None
+        } else {
+            self.progress = Progress::Waiting;
+            Some(line)
+        }
+    }
+
+    /// Reads the first line of the source, which is answered where it waits.
+    pub fn begin<S: Source, R: Range>(
+        &mut self,
+        source: &mut S,
+        range: &R,
+        store: &mut Store,
+    ) -> Result<Option<Box<Line>>, FeedFault>
+        requires fed { Fed LINE_LIMIT (R.past range.now) (S.text source.old) (S.extent source.old) self.old [] }
+        requires due { self.old.progress ≡ Due }
+        requires fresh { self.old.cursor.count ≡ 0 }
+        ensures text { S.text source.new ≡ S.text source.old }
+        ensures extent { S.extent source.new ≡ S.extent source.old }
+        ensures gave { S.gave source.new + reach self.old.cursor ≤ S.gave source.old + reach self.new.cursor }
+        ensures worked { OnOk result (S.failures source.new ≡ S.failures source.old) }
+        ensures failed { IfErr result (λ e. e ≡ FeedFault.Read → S.failures source.new ≡ next_count (S.failures source.old)) }
+        ensures start { self.new.cursor.start ≡ self.old.cursor.start }
+        ensures fed { IfOk result (λ o. Fed LINE_LIMIT (R.past range.now) (S.text source.new) (S.extent source.new) self.new (option_list (option_map (λ b. b.value) o))) }
+        ensures fresh { (t : List ℕ) → S.text source.old ≡ Some t → OnOk result (done LINE_LIMIT t self.new ≡ []) }
+    {
+        match store.next_line(source, &mut self.cursor)? {
+            Some(line) => Ok(self.settle(line, range, store)),
+            None => {
+                self.progress = Progress::Ended;
+                Ok(None)
+            }
+        }
+    }
+
+    /// Takes the further lines of the source that have the pair of this one, and answers the line
+    /// after them, where it waits.
+    pub fn drain<S: Source, R: Range>(
+        &mut self,
+        source: &mut S,
+        first: &Line,
+        range: &R,
+        store: &mut Store,
+        rest: &mut Vec<Box<Line>>,
+    ) -> Result<Option<Box<Line>>, FeedFault>
+        requires fed { Fed LINE_LIMIT (R.past range.now) (S.text source.old) (S.extent source.old) self.old [] }
+        requires due { self.old.progress ≡ Due }
+        requires low { (t : List ℕ) → S.text source.old ≡ Some t → AllByRecursion (λ m. Upto (member_pair m) (member_pair first.now)) (done LINE_LIMIT t self.old) }
+        ensures text { S.text source.new ≡ S.text source.old }
+        ensures extent { S.extent source.new ≡ S.extent source.old }
+        ensures gave { S.gave source.new + reach self.old.cursor ≤ S.gave source.old + reach self.new.cursor }
+        ensures worked { OnOk result (S.failures source.new ≡ S.failures source.old) }
+        ensures failed { IfErr result (λ e. e ≡ FeedFault.Read → S.failures source.new ≡ next_count (S.failures source.old)) }
+        ensures start { self.new.cursor.start ≡ self.old.cursor.start }
+        ensures fed { IfOk result (λ o. Fed LINE_LIMIT (R.past range.now) (S.text source.new) (S.extent source.new) self.new (option_list (option_map (λ b. b.value) o))) }
+        ensures later { IfOk result (λ o. AllByRecursion (λ m. Below (member_pair first.now) (member_pair m)) (option_list (option_map (λ b. b.value) o))) }
+        ensures fewer { IfOk result (λ o. (S.extent source.new - self.new.cursor.at) + length (option_list (option_map (λ b. b.value) o)) ≤ S.extent source.old - self.old.cursor.at) }
+        ensures each { AllByRecursion (λ m. Alike (member_pair m) (member_pair first.now)) (map (λ b. b.value) rest.old.items)
+            → OnOk result (AllByRecursion (λ m. Alike (member_pair m) (member_pair first.now)) (map (λ b. b.value) rest.new.items)) }
+        ensures taken { (t : List ℕ) → S.text source.old ≡ Some t → OnOk result ((taken : List Member)
+            × (done LINE_LIMIT t self.new ≡ done LINE_LIMIT t self.old ++ taken)
+            × (map (λ b. b.value) rest.new.items ≡ map (λ b. b.value) rest.old.items ++ taken)
+            × AllByRecursion (λ m. Alike (member_pair m) (member_pair first.now)) taken) }
+    {
+        let mut begin = self.cursor.at;
+        while let Some(line) = store.next_line(source, &mut self.cursor)? {
+            match compare_pairs(&line, first) {
+                Ordering::Less => return Err(FeedFault::OutOfOrder(begin)),
+                Ordering::Greater => return Ok(self.settle(line, range, store)),
+                Ordering::Equal => match rest.push(line) {
+                    Ok(()) => {}
+                    Err(_) => return Err(FeedFault::Memory),
+                },
+            }
+            begin = self.cursor.at;
+        }
+        self.progress = Progress::Ended;
+        Ok(None)
+    }
+}

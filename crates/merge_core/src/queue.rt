@@ -1,0 +1,91 @@
+//! The lines that wait for their turn.
+ghost use Rattle.std.specs.Prelude.{◌≡◌, ◌<◌, true, false, [], ◌∷◌, length, slice_index_or, MatchOption, IfSome, OnOk, OnErr};
+ghost use Rattle.std.specs.List.{AllByRecursion};
+ghost use Rattle.std.specs.List.Sorted.{IsPermutation};
+ghost use Rattle.std.specs.Ordering.{is_lt};
+ghost use Rattle.cdxj_core.specs.Members.{member_pair};
+ghost use Rattle.merge_core.specs.PairOrders.{Alike, Below, Upto};
+ghost use Rattle.merge_core.specs.WaitingLines.{WaitingLine, waiting_pair, turn_cmp};
+
+use crate::pair::compare_pairs;
+use crate::waiting::Waiting;
+use cdxj_core::Line;
+use std::alloc::{AllocError, Global};
+use std::collections::BinaryHeap;
+use std::marker::Model;
+
+/// Lines that wait, of which the first in turn can be taken out.
+#[derive(Drop)]
+pub struct Queue {
+    heap: BinaryHeap<Waiting>,
+}
+
+impl Model for Queue {
+    ghost use Rattle.std.specs.Prelude.{List};
+    ghost use Rattle.std.specs.BinaryHeap.{heap_items, IsHeap};
+    ghost use Rattle.merge_core.specs.WaitingLines.{WaitingLine, waiting_cmp};
+
+    ghost Value = { List WaitingLine };
+
+    ghost view = { λ q. heap_items q.heap };
+
+    ghost invariant = { λ q. IsHeap waiting_cmp (heap_items q.heap) };
+}
+
+impl Queue {
+    /// A queue in which no line waits.
+    pub fn new(alloc: Global) -> Queue
+        ensures { result ≡ [] }
+    {
+        Queue {
+            heap: BinaryHeap::new(alloc),
+        }
+    }
+
+    /// Lets a line wait. Without memory the line is lost.
+    pub fn push(&mut self, waiting: Waiting) -> Result<(), AllocError>
+        ensures ok { OnOk result (IsPermutation (waiting ∷ self.old) self.new) }
+        ensures err { OnErr result (self.new ≡ self.old) }
+    {
+        match self.heap.push(waiting) {
+            Ok(()) => Ok(()),
+            Err(_) => Err(AllocError),
+        }
+    }
+
+    /// Takes out the line whose turn comes first.
+    pub fn pop(&mut self) -> Option<Waiting>
+        ensures out { MatchOption result ((self.old ≡ []) × (self.new ≡ [])) (λ w. IsPermutation self.old (w ∷ self.new)) }
+        ensures first { IfSome result (λ w. AllByRecursion (λ v. is_lt (turn_cmp v w) ≡ false) self.new) }
+        ensures top { IfSome result (λ w. w ≡ slice_index_or self.old 0 w) }
+    {
+        self.heap.pop()
+    }
+
+    /// Whether the line whose turn comes first has the pair of this one.
+    fn is_next_at(&self, line: &Line) -> bool
+        ensures alike { (d : WaitingLine) → 0 < length self.now → result ≡ true → Alike (waiting_pair (slice_index_or self.now 0 d)) (member_pair line.now) }
+        ensures later { AllByRecursion (λ v. Upto (member_pair line.now) (waiting_pair v)) self.now
+            → result ≡ false → AllByRecursion (λ v. Below (member_pair line.now) (waiting_pair v)) self.now }
+    {
+        match self.heap.peek() {
+            Some(waiting) => compare_pairs(&waiting.line, line).is_eq(),
+            None => false,
+        }
+    }
+
+    /// Takes out the line whose turn comes first, where it has the pair of this one.
+    pub fn pop_at(&mut self, line: &Line) -> Option<Waiting>
+        requires { AllByRecursion (λ v. Upto (member_pair line.now) (waiting_pair v)) self.old }
+        ensures out { MatchOption result ((self.new ≡ self.old) × AllByRecursion (λ v. Below (member_pair line.now) (waiting_pair v)) self.new)
+            (λ w. IsPermutation self.old (w ∷ self.new)) }
+        ensures first { IfSome result (λ w. AllByRecursion (λ v. is_lt (turn_cmp v w) ≡ false) self.new) }
+        ensures alike { IfSome result (λ w. Alike (waiting_pair w) (member_pair line.now)) }
+    {
+        if self.is_next_at(line) {
+            self.pop()
+        } else {
+            None
+        }
+    }
+}

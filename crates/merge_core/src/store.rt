@@ -1,0 +1,109 @@
+//! The reading of lines into buffers that are used again.
+ghost use Rattle.std.specs.Prelude.{◌≡◌, ◌≢◌, ◌+◌, ◌<◌, ◌≤◌, ◌++◌, ◌∷◌, ℕ, List, [], drop, Some, None, MatchOption, MatchResult, IfOk, IfErr, OnOk};
+ghost use Rattle.cdxj_core.specs.declared.limit.TheConstants.{LINE_LIMIT};
+ghost use Rattle.cdxj_core.specs.Members.{line_entry};
+ghost use Rattle.cdxj_places.specs.TextLines.{lines};
+ghost use Rattle.devices.specs.Device.{next_count};
+ghost use Rattle.source_core.specs.Cursors.{Stands, reach};
+ghost use Rattle.merge_core.specs.Feeds.{read_lines};
+
+use cdxj_core::{Line, LineFault};
+use source_core::{Cursor, LineReadFault, Source};
+use std::alloc::Global;
+
+/// Why a source's lines couldn't be had.
+#[derive(Clone, Copy, Debug, Drop, PartialEq, Eq)]
+pub enum FeedFault {
+    Memory,
+    Read,
+    /// The line at this offset has no entry, or is too long.
+    BadLine(u64),
+    /// The pair of the line at this offset is below that of the line before it.
+    OutOfOrder(u64),
+}
+
+fn boxed(alloc: Global, line: Line) -> Result<Box<Line>, LineFault>
+    ensures { MatchResult result (λ b. b.value ≡ line) (λ fault. fault ≡ LineFault.Memory) }
+{
+    match Box::new(alloc, line) {
+        Ok(line) => Ok(line),
+        Err(_) => Err(LineFault::Memory),
+    }
+}
+
+/// The buffers of lines that were read and aren't needed any more.
+#[derive(Drop)]
+pub struct Store {
+    alloc: Global,
+    bytes: Vec<u8>,
+    spare: Vec<Box<Line>>,
+}
+
+impl Store {
+    /// A store without buffers.
+    pub fn new(alloc: Global) -> Store {
+        Store {
+            alloc,
+            bytes: Vec::new(alloc),
+            spare: Vec::new(alloc),
+        }
+    }
+
+    /// Keeps the line's buffer, where there is memory for that.
+    pub fn put_back(&mut self, line: Box<Line>) {
+        let _ = self.spare.push(line);
+    }
+
+    /// The line of the bytes that were read last.
+    #[tactic(auto, using(crate::proofs::FeedLemmas::no_entry))]
+    fn line(&mut self) -> Result<Box<Line>, LineFault>
+        ensures kept { self.new.bytes ≡ self.old.bytes }
+        ensures read { MatchResult result (λ line. line_entry LINE_LIMIT self.old.bytes.items ≡ Some line.value)
+            (λ fault. fault ≢ LineFault.Memory → line_entry LINE_LIMIT self.old.bytes.items ≡ None) }
+    {
+        match self.spare.pop() {
+            Some(mut line) => match line.refill(&self.bytes) {
+                Ok(()) => Ok(line),
+                Err(fault) => Err(fault),
+            },
+            None => match Line::read(self.alloc, &self.bytes) {
+                Ok(line) => boxed(self.alloc, line),
+                Err(fault) => Err(fault),
+            },
+        }
+    }
+
+    /// The next line of a source.
+    pub fn next_line<S: Source>(
+        &mut self,
+        source: &mut S,
+        cursor: &mut Cursor,
+    ) -> Result<Option<Box<Line>>, FeedFault>
+        requires stands { Stands (S.text source.old) (S.extent source.old) cursor.old }
+        ensures text { S.text source.new ≡ S.text source.old }
+        ensures extent { S.extent source.new ≡ S.extent source.old }
+        ensures gave { S.gave source.new + reach cursor.old ≤ S.gave source.old + reach cursor.new }
+        ensures worked { OnOk result (S.failures source.new ≡ S.failures source.old) }
+        ensures failed { IfErr result (λ e. e ≡ FeedFault.Read → S.failures source.new ≡ next_count (S.failures source.old)) }
+        ensures stands { OnOk result (Stands (S.text source.new) (S.extent source.new) cursor.new) }
+        ensures start { cursor.new.start ≡ cursor.old.start }
+        ensures count { IfOk result (λ o. MatchOption o (cursor.new.count ≡ cursor.old.count) (λ _. cursor.new.count ≡ cursor.old.count + 1)) }
+        ensures there { IfOk result (λ o. MatchOption o (cursor.new.at ≡ S.extent source.old) (λ _. cursor.old.at < cursor.new.at)) }
+        ensures given { (t : List ℕ) → S.text source.old ≡ Some t → IfOk result (λ o. MatchOption o
+            ((read_lines t cursor.new ≡ read_lines t cursor.old) × (lines (drop cursor.new.at t) ≡ []))
+            (λ line. (l : List ℕ) × (read_lines t cursor.new ≡ read_lines t cursor.old ++ l ∷ []) × (line_entry LINE_LIMIT l ≡ Some line.value))) }
+    {
+        let begin = cursor.at;
+        match cursor.next(source, &mut self.bytes) {
+            Ok(false) => Ok(None),
+            Ok(true) => match self.line() {
+                Ok(line) => Ok(Some(line)),
+                Err(LineFault::Memory) => Err(FeedFault::Memory),
+                Err(_) => Err(FeedFault::BadLine(begin)),
+            },
+            Err(LineReadFault::Memory) => Err(FeedFault::Memory),
+            Err(LineReadFault::Read) => Err(FeedFault::Read),
+            Err(LineReadFault::Long) => Err(FeedFault::BadLine(begin)),
+        }
+    }
+}

@@ -1,0 +1,67 @@
+//! A line that waits for its turn.
+ghost use Rattle.std.specs.Prelude.{◌≡◌};
+ghost use Rattle.std.specs.Cmp.{partial_order_from_agreeing_total, partial_equiv_from_equiv};
+ghost use Rattle.std.specs.Ordering.{eq_by_cmp, as_partial_cmp};
+ghost use Rattle.std.proofs.Common.{refl};
+ghost use Rattle.std.proofs.lemmas.Cmp.{eq_by_cmp_equiv};
+ghost use Rattle.merge_core.specs.WaitingLines.{WaitingLine, waiting_cmp};
+ghost use Rattle.merge_core.specs.TurnOrder.{waiting_cmp_total};
+
+use crate::pair::compare_pairs;
+use cdxj_core::Line;
+use std::cmp::Ordering;
+use std::marker::Model;
+
+/// The next line of a source. The greatest is the one whose turn comes first: by pair, then by the
+/// source's number.
+#[derive(Drop)]
+pub struct Waiting {
+    pub line: Box<Line>,
+    pub source: usize,
+}
+
+impl Model for Waiting {
+    ghost use Rattle.merge_core.specs.WaitingLines.{WaitingLine};
+
+    ghost Value = { WaitingLine };
+
+    ghost view = { λ w. record { member = w.line.value; source = w.source } };
+}
+
+impl PartialEq for Waiting {
+    ghost eq = { eq_by_cmp waiting_cmp };
+
+    ghost laws = { partial_equiv_from_equiv (eq_by_cmp_equiv waiting_cmp_total) };
+
+    fn eq(&self, other: &Waiting) -> bool {
+        self.cmp(other).is_eq()
+    }
+}
+
+impl Eq for Waiting {
+    ghost laws = { eq_by_cmp_equiv waiting_cmp_total };
+}
+
+impl PartialOrd for Waiting {
+    ghost partial_cmp = { as_partial_cmp waiting_cmp };
+
+    ghost laws = { partial_order_from_agreeing_total waiting_cmp waiting_cmp_total (λ _ _. refl) (λ _ _. refl) };
+
+    fn partial_cmp(&self, other: &Waiting) -> Option<Ordering> {
+        Some(self.cmp(other))
+    }
+}
+
+impl Ord for Waiting {
+    ghost cmp = { waiting_cmp };
+
+    ghost total = { waiting_cmp_total };
+
+    ghost matches_partial_cmp = { λ _ _. refl };
+
+    ghost matches_eq = { λ _ _. refl };
+
+    fn cmp(&self, other: &Waiting) -> Ordering {
+        compare_pairs(&other.line, &self.line).then_with(|| other.source.cmp(&self.source))
+    }
+}
