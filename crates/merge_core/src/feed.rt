@@ -8,9 +8,10 @@ ghost use Rattle.source_core.specs.Cursors.{reach};
 ghost use Rattle.merge_core.specs.PairOrders.{Alike, Below, Upto};
 ghost use Rattle.merge_core.specs.Feeds.{IsNext, Fed, option_list, done};
 
+use crate::fault::FeedFault;
 use crate::pair::compare_pairs;
 use crate::range::Range;
-use crate::store::{FeedFault, Store};
+use crate::store::Store;
 use cdxj_core::Line;
 use source_core::{Cursor, Source};
 use std::cmp::Ordering;

@@ -7,20 +7,10 @@ ghost use Rattle.devices.specs.Device.{next_count};
 ghost use Rattle.source_core.specs.Cursors.{Stands, reach};
 ghost use Rattle.merge_core.specs.Feeds.{read_lines};
 
+use crate::fault::FeedFault;
 use cdxj_core::{Line, LineFault};
 use source_core::{Cursor, LineReadFault, Source};
 use std::alloc::Global;
-
-/// Why a source's lines couldn't be had.
-#[derive(Clone, Copy, Debug, Drop, PartialEq, Eq)]
-pub enum FeedFault {
-    Memory,
-    Read,
-    /// The line at this offset has no entry, or is too long.
-    BadLine(u64),
-    /// The pair of the line at this offset is below that of the line before it.
-    OutOfOrder(u64),
-}
 
 fn boxed(alloc: Global, line: Line) -> Result<Box<Line>, LineFault>
     ensures { MatchResult result (λ b. b.value ≡ line) (λ fault. fault ≡ LineFault.Memory) }

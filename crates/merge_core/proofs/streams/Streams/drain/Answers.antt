@@ -1,0 +1,105 @@
+use Rattle.std.proofs.Common.{◌≡◌, ◌+◌, ◌-◌, ◌++◌, [], Box, Global, List, length, get_or, set, map, zip, option_map, refl, sym, ap, ◌∙◌, subst, arith}
+use Rattle.std.specs.List.{AllByRecursion}
+use Rattle.std.proofs.lemmas.List.{get_or_default}
+use Rattle.std.proofs.lemmas.Result.{err_from_is_err_and}
+use Rattle.cdxj_core.specs.declared.limit.TheConstants.{LINE_LIMIT}
+use Rattle.cdxj_core.specs.declared.line.Line.{Line}
+use Rattle.cdxj_core.specs.Members.{member_pair}
+use Rattle.merge_core.specs.declared.feed.Feed.{Feed}
+use Rattle.merge_core.specs.declared.feed.Progress.TheVariants.{Due}
+use Rattle.merge_core.specs.PairOrders.{Upto}
+use Rattle.merge_core.specs.Failures.{RaisedAt}
+use Rattle.merge_core.specs.Feeds.{Fed, Ready, done, option_list}
+use Rattle.merge_core.specs.Gathering.{AllTwo, unread}
+use Rattle.merge_core.proofs.FailLemmas.{raised, feed_is}
+use Rattle.merge_core.proofs.Many.{Move, moved_set, map_set_same, unread_set}
+use Rattle.merge_core.proofs.StreamLemmas.{due_fed, waited_ready, waited_length}
+use Rattle.merge_core.proofs.streams.Streams.drain.Goals as goal
+
+pub drain-requires-clause-fed : goal.drain-requires-clause-fed
+drain-requires-clause-fed g c =
+    let a = c.index-sources-i.result in let b = c.index_mut.result.now in
+    subst (λ (f : Feed). Fed LINE_LIMIT (g.R.Range.past c.args.range.now) (g.S.Source.text (get_or c.args.sources.now c.args.i a)) (g.S.Source.extent (get_or c.args.sources.now c.args.i a)) f []) (sym c.index_mut.ensures.value)
+    (due_fed LINE_LIMIT (g.R.Range.past c.args.range.now) g.S.Source.text g.S.Source.extent c.args.sources.now c.args.self.now.feeds.items c.args.self.now.waiting c.args.i a a b b c.requires.ready c.requires.inside (c.requires.due a b).is_due)
+
+pub drain-requires-clause-due : goal.drain-requires-clause-due
+drain-requires-clause-due g c = subst (λ (f : Feed). f.progress ≡ Due) (sym c.index_mut.ensures.value) (c.requires.due c.index-sources-i.result c.index_mut.result.now).is_due
+
+pub drain-requires-clause-low : goal.drain-requires-clause-low
+drain-requires-clause-low g c = λ t e.
+    subst (λ (f : Feed). AllByRecursion (λ m. Upto (member_pair m) (member_pair c.args.first.now)) (done LINE_LIMIT t f)) (sym c.index_mut.ensures.value)
+    ((c.requires.due c.index-sources-i.result c.index_mut.result.now).low t e)
+
+pub returns-in-Err-clause-moved : goal.returns-in-Err-clause-moved
+returns-in-Err-clause-moved g c =
+    let k = c.in-Err.ensures in
+    let ss = c.args.sources.now in let i = c.args.i in let a = c.index-sources-i.result in
+    moved_set g.S.Source.text g.S.Source.extent g.S.Source.gave ss c.args.self.now.feeds.items i a c.drain.new.source c.index_mut.result.now c.drain.new.self c.requires.ready.same c.requires.inside
+    (subst (λ (f : Feed). Move g.S.Source.text g.S.Source.extent g.S.Source.gave (get_or ss i a, f) (c.drain.new.source, c.drain.new.self)) c.index_mut.ensures.value
+    (record { text_kept = k.text; extent_kept = k.extent; spent = k.gave; start_kept = k.start }))
+
+pub returns-in-Err-clause-read : goal.returns-in-Err-clause-read
+returns-in-Err-clause-read g c = λ j e.
+    let f = g.S.Source.failures in
+    let i = c.args.i in
+    let p = feed_is i j c.in-Err.fault e in
+    subst (λ k. RaisedAt k (map f c.args.sources.now) (map f (set c.args.sources.now i c.drain.new.source))) p.0
+    (raised f c.args.sources.now c.args.sources.now i c.index-sources-i.result c.drain.new.source refl c.requires.inside (c.in-Err.ensures.failed p.1))
+
+pub returns-in_err-let_wait-clause-moved : goal.returns-in_err-let_wait-clause-moved
+returns-in_err-let_wait-clause-moved g c =
+    let k = c.in-Ok.ensures in
+    let ss = c.args.sources.now in let fs = c.args.self.now.feeds.items in let i = c.args.i in let a = c.index-sources-i.result in
+    subst (λ (us : List Feed). AllTwo (Move g.S.Source.text g.S.Source.extent g.S.Source.gave) (zip ss fs) (zip (set ss i c.drain.new.source) us)) (sym c.let_wait.ensures.feeds)
+    (moved_set g.S.Source.text g.S.Source.extent g.S.Source.gave ss fs i a c.drain.new.source c.index_mut.result.now c.drain.new.self c.requires.ready.same c.requires.inside
+    (subst (λ (f : Feed). Move g.S.Source.text g.S.Source.extent g.S.Source.gave (get_or ss i a, f) (c.drain.new.source, c.drain.new.self)) c.index_mut.ensures.value
+    (record { text_kept = k.text; extent_kept = k.extent; spent = k.gave; start_kept = k.start })))
+
+pub returns-clause-moved : goal.returns-clause-moved
+returns-clause-moved g c =
+    let k = c.in-Ok.ensures in
+    let ss = c.args.sources.now in let fs = c.args.self.now.feeds.items in let i = c.args.i in let a = c.index-sources-i.result in
+    subst (λ (us : List Feed). AllTwo (Move g.S.Source.text g.S.Source.extent g.S.Source.gave) (zip ss fs) (zip (set ss i c.drain.new.source) us)) (sym c.let_wait.ensures.feeds)
+    (moved_set g.S.Source.text g.S.Source.extent g.S.Source.gave ss fs i a c.drain.new.source c.index_mut.result.now c.drain.new.self c.requires.ready.same c.requires.inside
+    (subst (λ (f : Feed). Move g.S.Source.text g.S.Source.extent g.S.Source.gave (get_or ss i a, f) (c.drain.new.source, c.drain.new.self)) c.index_mut.ensures.value
+    (record { text_kept = k.text; extent_kept = k.extent; spent = k.gave; start_kept = k.start })))
+
+pub returns-clause-worked : goal.returns-clause-worked
+returns-clause-worked g c =
+    map_set_same g.S.Source.failures c.args.sources.now c.args.i c.index-sources-i.result c.drain.new.source c.requires.inside c.in-Ok.ensures.worked
+
+pub returns-clause-ready : goal.returns-clause-ready
+returns-clause-ready g c =
+    let a = c.index-sources-i.result in let b = c.index_mut.result.now in
+    let ss = c.args.sources.now in let fs = c.args.self.now.feeds.items in let ws = c.args.self.now.waiting in let i = c.args.i in
+    subst (λ (us : List Feed). Ready LINE_LIMIT (g.R.Range.past c.args.range.now) g.S.Source.text g.S.Source.extent (set ss i c.drain.new.source) us c.let_wait.new.self.waiting) (sym c.let_wait.ensures.feeds)
+    (waited_ready LINE_LIMIT (g.R.Range.past c.args.range.now) g.S.Source.text g.S.Source.extent ss fs ws i a c.drain.new.source b c.drain.new.self c.requires.ready c.requires.inside (c.requires.due a b).is_due
+    (λ (l : Box Line Global). l.value) c.let_wait.new.self.waiting c.in-Ok.next c.in_ok-let_wait.ensures.waiting c.in-Ok.ensures.fed)
+
+pub returns-clause-fewer : goal.returns-clause-fewer
+returns-clause-fewer g c =
+    let a = c.index-sources-i.result in let b = c.index_mut.result.now in
+    let ss = c.args.sources.now in let fs = c.args.self.now.feeds.items in let ws = c.args.self.now.waiting in let i = c.args.i in
+    let long = waited_length LINE_LIMIT (g.R.Range.past c.args.range.now) g.S.Source.text g.S.Source.extent ss fs ws i a c.drain.new.source b c.drain.new.self c.requires.ready c.requires.inside (c.requires.due a b).is_due
+    (λ (l : Box Line Global). l.value) c.let_wait.new.self.waiting c.in-Ok.next c.in_ok-let_wait.ensures.waiting in
+    let left = unread_set g.S.Source.text g.S.Source.extent g.S.Source.gave ss fs i a c.drain.new.source b c.drain.new.self c.requires.ready.same c.requires.inside in
+    let here = ap (λ (f : Feed). f.cursor.at) c.index_mut.ensures.value in
+    let now = ap (λ (us : List Feed). unread g.S.Source.extent (set ss i c.drain.new.source) us) c.let_wait.ensures.feeds in
+    let few = c.in-Ok.ensures.fewer in
+    omega (arith, long, left, here, now, few)
+
+pub returns-clause-drained : goal.returns-clause-drained
+returns-clause-drained g c =
+    let k = c.in-Ok.ensures in
+    let a = c.index-sources-i.result in let b = c.index_mut.result.now in
+    let ss = c.args.sources.now in let fs = c.args.self.now.feeds.items in let i = c.args.i in
+    (
+      c.drain.new.source,
+      c.drain.new.self,
+      refl,
+      c.let_wait.ensures.feeds,
+      λ x. k.text ∙ ap g.S.Source.text (get_or_default ss i a x c.requires.inside),
+      λ x d t e.
+          let h = k.taken t (ap g.S.Source.text (get_or_default ss i a x c.requires.inside) ∙ e) in
+          (h.0, h.1 ∙ ap (λ (f : Feed). done LINE_LIMIT t f ++ h.0) (c.index_mut.ensures.value ∙ get_or_default fs i b d (let l = c.requires.ready.same in let m = c.requires.inside in omega arith)), h.2, h.3),
+    )

@@ -1,0 +1,69 @@
+-- What was taken of several sources.
+use Rattle.std.specs.Prelude.{◌≡◌, ◌⊎◌, ℕ, ◌+◌, ◌-◌, ◌<◌, ◌≤◌, List, [], ◌∷◌, ◌++◌, flat_map, length, map, not, true, Option, None, Some}
+use Rattle.std.specs.List.{AllByRecursion, filter, sum, zip}
+use Rattle.std.specs.List.Sorted.{IsPermutation}
+use Rattle.std.specs.Option.{is_some}
+use Rattle.cdxj_places.specs.Pairs.{Pair}
+use Rattle.cdxj_core.specs.Members.{Member, member_pair}
+use Rattle.merge_core.specs.declared.feed.Progress.TheVariants.{Due}
+use Rattle.merge_core.specs.declared.feed.Feed.{Feed}
+use Rattle.merge_core.specs.PairOrders.{Alike, Below, Upto, IsAbove, is_low}
+use Rattle.merge_core.specs.WaitingLines.{WaitingLine, waiting_pair}
+use Rattle.merge_core.specs.Feeds.{done}
+
+-- a relation between the members of two lists, one by one
+abbrev pub AllTwo : {X Y : Type 0} → (X → Y → Type 0) → List X → List Y → Type 0
+AllTwo R [] [] = Unit {0}
+AllTwo R [] (y ∷ ys) = ⊥
+AllTwo R (x ∷ xs) [] = ⊥
+AllTwo R (x ∷ xs) (y ∷ ys) = R x y × AllTwo R xs ys
+
+-- the lines below the pair were done before, and the others went into the group
+pub record Gathered (pair : Pair) (old_done done old_group group : List Member) : Type 0 where
+  pub before : filter (is_low pair) done ≡ old_done
+  pub taken : group ≡ old_group ++ filter (λ m. not (is_low pair m)) done
+  pub upto : AllByRecursion (λ m. Upto (member_pair m) pair) done
+
+abbrev pub text_or : Option (List ℕ) → List ℕ
+text_or None = []
+text_or (Some t) = t
+
+-- each source tells its bytes
+abbrev pub AreTold : {S : Type 0} → (S → Option (List ℕ)) → List S → Type 0
+AreTold text = AllByRecursion (λ s. is_some (text s) ≡ true)
+
+-- the lines of all sources that are done, source by source
+abbrev pub all_done : {S : Type 0} → ℕ → (S → Option (List ℕ)) → List S → List Feed → List Member
+all_done limit text ss fs = flat_map (λ x. done limit (text_or (text x.0)) x.1) (zip ss fs)
+
+-- the bytes of all sources that weren't read
+abbrev pub unread : {S : Type 0} → (S → ℕ) → List S → List Feed → ℕ
+unread extent ss fs = sum (map (λ x. extent x.0 - x.1.cursor.at) (zip ss fs))
+
+-- the turn of this line comes at the pair and the source's number, or later
+abbrev pub IsFrom : Pair → ℕ → WaitingLine → Type 0
+IsFrom pair n w = Upto pair (waiting_pair w) × (Alike (waiting_pair w) pair → n ≤ w.source)
+
+-- a source's next line is to be read, and none of those that are done is above the pair
+pub record IsDue (limit : ℕ) (pair : Pair) (text : Option (List ℕ)) (f : Feed) : Type 0 where
+  pub is_due : f.progress ≡ Due
+  pub low : (t : List ℕ) → text ≡ Some t → AllByRecursion (λ m. Upto (member_pair m) pair) (done limit t f)
+
+-- a line of the source waits beside the others, with a pair above this one, or none does
+abbrev pub WaitsAbove : Pair → ℕ → List WaitingLine → List WaitingLine → Type 0
+WaitsAbove pair i old new =
+    (new ≡ old) ⊎ ((w : WaitingLine) × IsPermutation (w ∷ old) new × (w.source ≡ i) × Below pair (waiting_pair w))
+
+-- what a source's further lines with the pair make of what is done, and of the lines that were taken
+abbrev pub Drained : ℕ → Pair → Option (List ℕ) → Feed → Feed → List Member → List Member → Type 0
+Drained limit pair text old now old_rest rest = (t : List ℕ) → text ≡ Some t → (taken : List Member)
+    × (done limit t now ≡ done limit t old ++ taken) × (rest ≡ old_rest ++ taken) × AllByRecursion (λ m. Alike (member_pair m) pair) taken
+
+-- The lines of the least pair were taken from all sources: of those that are done now, the ones that weren't
+pub record Grouped {S : Type 0} (limit : ℕ) (text : S → Option (List ℕ)) (extent : S → ℕ) (ss0 : List S) (fs0 : List Feed) (ws0 : List WaitingLine) (ss : List S) (fs : List Feed) (ws : List WaitingLine) (pair : Pair) (group : List Member) : Type 0 where
+  pub above : (b : Option Pair) → AllByRecursion (λ w. IsAbove b (waiting_pair w)) ws0 → IsAbove b pair
+  pub later : AllByRecursion (λ w. Below pair (waiting_pair w)) ws
+  pub each : AllByRecursion (λ m. Alike (member_pair m) pair) group
+  pub fewer : unread extent ss fs + length ws < unread extent ss0 fs0 + length ws0
+  pub gathered : AreTold text ss0 → AllByRecursion (λ m. Below (member_pair m) pair) (all_done limit text ss0 fs0)
+      → Gathered pair (all_done limit text ss0 fs0) (all_done limit text ss fs) [] group

@@ -1,0 +1,21 @@
+//! Why sources couldn't be merged.
+
+/// Why a source's lines couldn't be had.
+#[derive(Clone, Copy, Debug, Drop, PartialEq, Eq)]
+pub enum FeedFault {
+    Memory,
+    Read,
+    /// The line at this offset has no entry, or is too long.
+    BadLine(u64),
+    /// The pair of the line at this offset is below that of the line before it.
+    OutOfOrder(u64),
+}
+
+/// Why sources couldn't be merged.
+#[derive(Clone, Copy, Debug, Drop, PartialEq, Eq)]
+pub enum MergeFault {
+    Memory,
+    Write,
+    /// The lines of the source of this number couldn't be had.
+    Feed(usize, FeedFault),
+}

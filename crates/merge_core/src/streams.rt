@@ -1,0 +1,129 @@
+//! Sources that are read side by side.
+ghost use Rattle.std.specs.Prelude.{◌≡◌, ◌≢◌, ◌+◌, ◌<◌, ◌≤◌, ◌∷◌, ℕ, false, [], length, map, slice_index_or, slice_set, IfOk, IfErr, OnOk, MatchOption, IfSome};
+ghost use Rattle.std.specs.List.{AllByRecursion, zip};
+ghost use Rattle.std.specs.List.Sorted.{IsPermutation};
+ghost use Rattle.std.specs.Ordering.{is_lt};
+ghost use Rattle.cdxj_core.specs.declared.limit.TheConstants.{LINE_LIMIT};
+ghost use Rattle.cdxj_core.specs.Members.{member_pair};
+ghost use Rattle.merge_core.specs.PairOrders.{Alike, Below, Upto};
+ghost use Rattle.merge_core.specs.WaitingLines.{waiting_pair, turn_cmp};
+ghost use Rattle.merge_core.specs.Failures.{RaisedAt};
+ghost use Rattle.merge_core.specs.Gathering.{AllTwo};
+
+use crate::fault::{FeedFault, MergeFault};
+use crate::feed::{Feed, Progress};
+use crate::queue::Queue;
+use crate::range::Range;
+use crate::store::Store;
+use crate::waiting::Waiting;
+use cdxj_core::Line;
+use source_core::Source;
+
+/// Sources that are read side by side: a feed for each, in their order.
+#[derive(Drop)]
+pub struct Streams {
+    pub feeds: Vec<Feed>,
+    pub waiting: Queue,
+    pub store: Store,
+}
+
+impl Streams {
+    ghost use Rattle.merge_core.specs.declared.feed.Feed.{Feed};
+    ghost use Rattle.merge_core.specs.Feeds.{Moved, Ready, due};
+    ghost use Rattle.merge_core.specs.Gathering.{IsDue, WaitsAbove, Drained, Grouped, unread};
+
+    fn mark_due(&mut self, source: usize)
+        requires { source < length self.old.feeds.items }
+        ensures feeds { (d : Feed) → self.new.feeds.items ≡ slice_set self.old.feeds.items source (due (slice_index_or self.old.feeds.items source d)) }
+        ensures waiting { self.new.waiting ≡ self.old.waiting }
+    {
+        self.feeds[source].progress = Progress::Due;
+    }
+
+    /// Takes the line whose turn comes first.
+    fn take_first(&mut self) -> Option<Waiting>
+        requires { AllByRecursion (λ w. w.source < length self.old.feeds.items) self.old.waiting }
+        ensures out { MatchOption result ((self.old.waiting ≡ []) × (self.new.waiting ≡ [])) (λ w. IsPermutation self.old.waiting (w ∷ self.new.waiting)) }
+        ensures first { IfSome result (λ w. AllByRecursion (λ v. is_lt (turn_cmp v w) ≡ false) self.new.waiting) }
+        ensures feeds { MatchOption result (self.new.feeds.items ≡ self.old.feeds.items)
+            (λ w. (d : Feed) → self.new.feeds.items ≡ slice_set self.old.feeds.items w.source (due (slice_index_or self.old.feeds.items w.source d))) }
+    {
+        match self.waiting.pop() {
+            Some(waiting) => {
+                self.mark_due(waiting.source);
+                Some(waiting)
+            }
+            None => None,
+        }
+    }
+
+    /// Takes the line whose turn comes first, where it has the pair of this one.
+    fn take_at(&mut self, line: &Line) -> Option<Waiting>
+        requires placed { AllByRecursion (λ w. w.source < length self.old.feeds.items) self.old.waiting }
+        requires from { AllByRecursion (λ w. Upto (member_pair line.now) (waiting_pair w)) self.old.waiting }
+        ensures out { MatchOption result ((self.new.waiting ≡ self.old.waiting) × AllByRecursion (λ w. Below (member_pair line.now) (waiting_pair w)) self.new.waiting)
+            (λ w. IsPermutation self.old.waiting (w ∷ self.new.waiting)) }
+        ensures first { IfSome result (λ w. AllByRecursion (λ v. is_lt (turn_cmp v w) ≡ false) self.new.waiting) }
+        ensures alike { IfSome result (λ w. Alike (waiting_pair w) (member_pair line.now)) }
+        ensures feeds { MatchOption result (self.new.feeds.items ≡ self.old.feeds.items)
+            (λ w. (d : Feed) → self.new.feeds.items ≡ slice_set self.old.feeds.items w.source (due (slice_index_or self.old.feeds.items w.source d))) }
+    {
+        match self.waiting.pop_at(line) {
+            Some(waiting) => {
+                self.mark_due(waiting.source);
+                Some(waiting)
+            }
+            None => None,
+        }
+    }
+
+    fn let_wait(&mut self, line: Option<Box<Line>>, source: usize) -> Result<(), MergeFault>
+        ensures feeds { self.new.feeds.items ≡ self.old.feeds.items }
+        ensures waiting { OnOk result (MatchOption line (self.new.waiting ≡ self.old.waiting)
+            (λ b. IsPermutation (record { member = b.value; source = source } ∷ self.old.waiting) self.new.waiting)) }
+        ensures refused { IfErr result (λ e. e ≡ MergeFault.Memory) }
+    {
+        let Some(line) = line else {
+            return Ok(());
+        };
+        match self.waiting.push(Waiting { line, source }) {
+            Ok(()) => Ok(()),
+            Err(_) => Err(MergeFault::Memory),
+        }
+    }
+
+    /// Takes the further lines of a source that have the pair of this one.
+    fn drain<S: Source, R: Range>(
+        &mut self,
+        sources: &mut [S],
+        i: usize,
+        first: &Line,
+        range: &R,
+        rest: &mut Vec<Box<Line>>,
+    ) -> Result<(), MergeFault>
+        requires ready { Ready LINE_LIMIT (R.past range.now) S.text S.extent sources.old self.old.feeds.items self.old.waiting }
+        requires inside { i < length sources.old }
+        requires due { (a : S) → (d : Feed) → IsDue LINE_LIMIT (member_pair first.now) (S.text (slice_index_or sources.old i a)) (slice_index_or self.old.feeds.items i d) }
+        ensures moved { AllTwo (λ x y. Moved (S.text x.0) (S.text y.0) (S.extent x.0) (S.extent y.0) (S.gave x.0) (S.gave y.0) x.1.cursor y.1.cursor)
+            (zip sources.old self.old.feeds.items) (zip sources.new self.new.feeds.items) }
+        ensures worked { OnOk result (map S.failures sources.new ≡ map S.failures sources.old) }
+        ensures read { IfErr result (λ e. (n : ℕ) → e ≡ MergeFault.Feed n FeedFault.Read → RaisedAt n (map S.failures sources.old) (map S.failures sources.new)) }
+        ensures unwritten { IfErr result (λ e. e ≢ MergeFault.Write) }
+        ensures ready { OnOk result (Ready LINE_LIMIT (R.past range.now) S.text S.extent sources.new self.new.feeds.items self.new.waiting) }
+        ensures waits { OnOk result (WaitsAbove (member_pair first.now) i self.old.waiting self.new.waiting) }
+        ensures fewer { OnOk result (unread S.extent sources.new self.new.feeds.items + length self.new.waiting ≤ unread S.extent sources.old self.old.feeds.items + length self.old.waiting) }
+        ensures each { AllByRecursion (λ m. Alike (member_pair m) (member_pair first.now)) (map (λ b. b.value) rest.old.items)
+            → OnOk result (AllByRecursion (λ m. Alike (member_pair m) (member_pair first.now)) (map (λ b. b.value) rest.new.items)) }
+        ensures drained { OnOk result ((s : S) × (f : Feed) × (sources.new ≡ slice_set sources.old i s) × (self.new.feeds.items ≡ slice_set self.old.feeds.items i f)
+            × ((a : S) → (S.text s ≡ S.text (slice_index_or sources.old i a)))
+            × ((a : S) → (d : Feed) → Drained LINE_LIMIT (member_pair first.now) (S.text (slice_index_or sources.old i a)) (slice_index_or self.old.feeds.items i d) f
+            (map (λ b. b.value) rest.old.items) (map (λ b. b.value) rest.new.items))) }
+    {
+        let next = match self.feeds[i].drain(&mut sources[i], first, range, &mut self.store, rest) {
+            Ok(next) => next,
+            Err(fault) => return Err(MergeFault::Feed(i, fault)),
+        };
+        self.let_wait(next, i)?;
+        Ok(())
+    }
+}
