@@ -6,3 +6,5 @@ pub mod HeapLemmas
 pub mod StreamLemmas
 pub mod Many
 pub mod FailLemmas
+pub mod GroupLemmas
+pub mod GatherSteps

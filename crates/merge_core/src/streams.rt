@@ -126,4 +126,41 @@ impl Streams {
         self.let_wait(next, i)?;
         Ok(())
     }
+
+    /// Takes the lines of the least pair from all sources: the first of them, and the others.
+    pub fn gather<S: Source, R: Range>(
+        &mut self,
+        sources: &mut [S],
+        range: &R,
+        rest: &mut Vec<Box<Line>>,
+    ) -> Result<Option<Box<Line>>, MergeFault>
+        requires ready { Ready LINE_LIMIT (R.past range.now) S.text S.extent sources.old self.old.feeds.items self.old.waiting }
+        requires empty { rest.old.items ≡ [] }
+        ensures moved { AllTwo (λ x y. Moved (S.text x.0) (S.text y.0) (S.extent x.0) (S.extent y.0) (S.gave x.0) (S.gave y.0) x.1.cursor y.1.cursor)
+            (zip sources.old self.old.feeds.items) (zip sources.new self.new.feeds.items) }
+        ensures worked { OnOk result (map S.failures sources.new ≡ map S.failures sources.old) }
+        ensures read { IfErr result (λ e. (n : ℕ) → e ≡ MergeFault.Feed n FeedFault.Read → RaisedAt n (map S.failures sources.old) (map S.failures sources.new)) }
+        ensures unwritten { IfErr result (λ e. e ≢ MergeFault.Write) }
+        ensures ready { OnOk result (Ready LINE_LIMIT (R.past range.now) S.text S.extent sources.new self.new.feeds.items self.new.waiting) }
+        ensures group { IfOk result (λ o. MatchOption o ((sources.new ≡ sources.old) × (self.new.feeds.items ≡ self.old.feeds.items) × (self.old.waiting ≡ []) × (self.new.waiting ≡ []))
+            (λ first. Grouped LINE_LIMIT S.text S.extent sources.old self.old.feeds.items self.old.waiting sources.new self.new.feeds.items self.new.waiting
+            (member_pair first.value) (first.value ∷ map (λ b. b.value) rest.new.items))) }
+    {
+        let Some(next) = self.take_first() else {
+            return Ok(None);
+        };
+        let first = next.line;
+        let mut i = next.source;
+        'sources: loop {
+            self.drain(sources, i, &first, range, rest)?;
+            let Some(next) = self.take_at(&first) else {
+                return Ok(Some(first));
+            };
+            i = next.source;
+            match rest.push(next.line) {
+                Ok(()) => {}
+                Err(_) => return Err(MergeFault::Memory),
+            }
+        }
+    }
 }
