@@ -1,5 +1,5 @@
 -- The steps of a group's gathering.
-use Rattle.std.proofs.Common.{◌≡◌, ℕ, ◌+◌, ◌-◌, ◌<◌, ◌≤◌, List, [], ◌∷◌, ◌++◌, length, get_or, set, take, drop, zip, flat_map, Bool, true, Option, None, Some, inl, inr, refl, sym, ap, ap₂, ◌∙◌, subst, arith, length-set, drop-set-lt}
+use Rattle.std.proofs.Common.{◌≡◌, ℕ, ◌+◌, ◌-◌, ◌<◌, ◌≤◌, List, [], ◌∷◌, ◌++◌, length, get_or, set, take, drop, zip, flat_map, Bool, true, false, is_lt, Option, None, Some, inl, inr, refl, sym, ap, ap₂, ◌∙◌, subst, arith, length-set, drop-set-lt}
 use Rattle.std.specs.List.{AllByRecursion}
 use Rattle.std.specs.List.Sorted.{IsPermutation}
 use Rattle.std.specs.Option.{is_some}
@@ -11,14 +11,18 @@ use Rattle.cdxj_core.specs.Members.{Member, member_pair}
 use Rattle.merge_core.specs.declared.feed.Progress.TheVariants.{Due}
 use Rattle.merge_core.specs.declared.feed.Feed.{Feed}
 use Rattle.merge_core.specs.PairOrders.{Alike, Below, Upto}
-use Rattle.merge_core.specs.WaitingLines.{WaitingLine, waiting_pair}
+use Rattle.merge_core.specs.WaitingLines.{WaitingLine, waiting_pair, turn_cmp}
 use Rattle.merge_core.specs.Feeds.{Ready, done, due}
-use Rattle.merge_core.specs.Gathering.{AllTwo, Gathered, AreTold, text_or, all_done, unread, IsDue, Drained}
+use Rattle.merge_core.specs.Gathering.{AllTwo, Gathered, AreTold, text_or, all_done, unread, IsFrom, IsDue, Drained}
 use Rattle.merge_core.proofs.PairOrder.{upto_upto, same_upto}
-use Rattle.merge_core.proofs.HeapLemmas.{each_get}
+use Rattle.merge_core.proofs.HeapLemmas.{each_get, each_permuted}
 use Rattle.merge_core.proofs.Many.{is_told, zip_set, zip_at, length_zip, Move, moved_trans, moved_still, moved_set, moved_not, told_moved, unread_set}
-use Rattle.merge_core.proofs.StreamLemmas.{inside_sources, inside_feeds, popped_ready, popped_done, popped_low}
-use Rattle.merge_core.proofs.GroupLemmas.{AreAt, AreBelow, all_sources, last_changes, next_changes, rest_changes}
+use Rattle.merge_core.proofs.StreamLemmas.{inside_sources, inside_feeds, none_left, popped_ready, popped_done, popped_low}
+use Rattle.merge_core.proofs.GroupLemmas.{from_popped, AreAt, AreBelow, all_sources, last_changes, next_changes, rest_changes}
+
+any_of : {X : Type 0} (xs : List X) (i : ℕ) → i < length xs → X
+any_of [] i l = absurd (omega arith)
+any_of (x ∷ xs) i l = x
 
 module _ (limit : ℕ) (past : List ℕ → Bool) {S : Type 0} (text : S → Option (List ℕ)) (extent gave : S → ℕ) (ss0 : List S) (fs0 : List Feed) (pair : Pair) where
   abbrev pub of : S × Feed → List Member
@@ -98,6 +102,28 @@ module _ (limit : ℕ) (past : List ℕ → Bool) {S : Type 0} (text : S → Opt
             low = λ t e. each_weaker (λ (m : Member) (u : Upto (member_pair m) (waiting_pair w)). upto_upto (member_pair m) (waiting_pair w) pair u (same_upto (waiting_pair w) pair at))
                 (done limit t f) (popped_low limit past text extent ss fs ws ws' w a b h.ready p t (ap text (get_or_default ss w.source a x inside) ∙ e));
           })
+
+    -- the next line was taken out, and its source's next line is to be read
+    pub record TakenNext (w : WaitingLine) (ws' : List WaitingLine) (fs' : List Feed) : Type 0 where
+      pub gathers : Gathers (w.source + 1) ss fs' ws' (group ++ w.member ∷ [])
+      pub inside : w.source < length ss
+      pub due : (x : S) → (d : Feed) → IsDue limit pair (text (get_or ss w.source x)) (get_or fs' w.source d)
+      pub from : AllByRecursion (IsFrom pair (w.source + 1)) ws'
+      pub fewer : unread extent ss fs' + length ws' < unread extent ss fs + length ws
+
+    pub taken_next : (w : WaitingLine) (ws' : List WaitingLine) (fs' : List Feed) → IsPermutation ws (w ∷ ws') → ((d : Feed) → fs' ≡ set fs w.source (due (get_or fs w.source d)))
+        → AllByRecursion (λ v. is_lt (turn_cmp v w) ≡ false) ws' → n ≤ w.source → Alike (waiting_pair w) pair → TakenNext w ws' fs'
+    taken_next w ws' fs' p feeds first l at =
+        let placed = (each_permuted (λ (v : WaitingLine). v.source < length fs) ws (w ∷ ws') p h.ready.placed).0 in
+        let b : Feed = any_of fs w.source placed in
+        let a : S = any_of ss w.source (let e = h.ready.same in omega arith) in
+        subst (TakenNext w ws') (sym (feeds b)) (record {
+          gathers = gathers_next w ws' a b p l at;
+          inside = inside w ws' a b p;
+          due = next_due w ws' a b p at;
+          from = from_popped pair w ws' at first (none_left limit past text extent ss fs ws ws' w a b h.ready p);
+          fewer = next_fewer w ws' a b p;
+        })
 
   -- the further lines of a source are taken
   pub gathers_drained : (i : ℕ) (ss : List S) (fs : List Feed) (ws : List WaitingLine) (first : Member) (g g' : List Member) (h : Gathers (i + 1) ss fs ws (first ∷ g)) (a : S) (b : Feed) (ss' : List S) (fs' : List Feed) (ws' : List WaitingLine) (s : S) (f : Feed)

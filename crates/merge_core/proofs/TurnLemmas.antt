@@ -9,8 +9,9 @@ use Rattle.cdxj_places.specs.Pairs.{Pair, pair_cmp}
 use Rattle.std.specs.List.Sorted.{IsPermutation}
 use Rattle.std.proofs.lemmas.List.Sorted.{length_permutation}
 use Rattle.cdxj_places.proofs.RisingLaws.{each_weaker}
-use Rattle.merge_core.specs.PairOrders.{Below, Upto, Alike}
+use Rattle.merge_core.specs.PairOrders.{Below, Upto, Alike, IsAbove}
 use Rattle.merge_core.specs.WaitingLines.{WaitingLine, waiting_pair, turn_cmp}
+use Rattle.merge_core.proofs.HeapLemmas.{each_permuted}
 use Rattle.merge_core.proofs.PairOrder.{from_not_below, not_above, below_then}
 
 then_not_lt : (a b : Ordering) → is_lt (ordering_then a b) ≡ false → is_lt a ≡ false
@@ -57,3 +58,7 @@ pub popped_alike : (p : Pair) (old new : List WaitingLine) (r : Option WaitingLi
 popped_alike p old new None out top h = tt
 popped_alike p old new (Some w) out top h =
     subst (λ (v : WaitingLine). Alike (waiting_pair v) p) (sym top) (h w (omega (arith, length_permutation old (w ∷ new) out)))
+
+-- the least of lines that all stand above a bound
+pub above_popped : (b : Option Pair) (old new : List WaitingLine) (w : WaitingLine) → IsPermutation old (w ∷ new) → AllByRecursion (λ v. IsAbove b (waiting_pair v)) old → IsAbove b (waiting_pair w)
+above_popped b old new w p h = (each_permuted (λ v. IsAbove b (waiting_pair v)) old (w ∷ new) p h).0

@@ -1,0 +1,228 @@
+use Rattle.std.proofs.Common.{◌≡◌, ◌+◌, ◌∷◌, ◌++◌, [], ℕ, Box, Global, List, length, get_or, set, map, zip, false, is_lt, refl, sym, ap, ◌∙◌, subst, arith, length-set}
+use Rattle.std.specs.List.{AllByRecursion}
+use Rattle.std.specs.List.Sorted.{IsPermutation}
+use Rattle.std.proofs.lemmas.Cmp.{tied_itself}
+use Rattle.std.proofs.lemmas.Result.{err_from_is_err_and}
+use Rattle.cdxj_places.proofs.PairLemmas.{pair_cmp_total}
+use Rattle.cdxj_places.proofs.RisingLaws.{each_weaker}
+use Rattle.cdxj_core.specs.declared.limit.TheConstants.{LINE_LIMIT}
+use Rattle.cdxj_core.specs.declared.line.Line.{Line}
+use Rattle.cdxj_core.specs.Members.{member_pair}
+use Rattle.merge_core.specs.declared.feed.Feed.{Feed}
+use Rattle.merge_core.specs.PairOrders.{Alike, Below, Upto}
+use Rattle.merge_core.specs.WaitingLines.{WaitingLine, waiting_pair, turn_cmp}
+use Rattle.merge_core.specs.Failures.{RaisedAt}
+use Rattle.merge_core.specs.Feeds.{due}
+use Rattle.merge_core.specs.Gathering.{AllTwo, Gathered, IsFrom, IsDue, WaitsAbove, Drained, all_done, unread}
+use Rattle.merge_core.proofs.FailLemmas.{if_err, raised_from}
+use Rattle.merge_core.proofs.FeedLemmas.{each_join, map_push}
+use Rattle.merge_core.proofs.GroupLemmas.{AreAt, from_waited}
+use Rattle.merge_core.proofs.GatherSteps.{Gathers, TakenNext, gathers_start, taken_next, gathers_drained, gathers_all}
+use Rattle.merge_core.proofs.HeapLemmas.{each_permuted}
+use Rattle.merge_core.proofs.Many.{Move, moved_trans, moved_still}
+use Rattle.merge_core.proofs.TurnLemmas.{above_popped}
+use Rattle.merge_core.proofs.streams.Streams.gather.Goals as goal
+
+pub returns-in_default-clause-moved : goal.returns-in_default-clause-moved
+returns-in_default-clause-moved g c =
+    subst (λ (fs : List Feed). AllTwo (Move g.S.Source.text g.S.Source.extent g.S.Source.gave) (zip c.args.sources.now c.args.self.now.feeds.items) (zip c.args.sources.now fs)) (sym c.in_default.ensures.feeds)
+    (moved_still g.S.Source.text g.S.Source.extent g.S.Source.gave (zip c.args.sources.now c.args.self.now.feeds.items))
+
+pub sources-init : goal.sources-init
+sources-init g c =
+    let past = g.R.Range.past c.args.range.now in
+    let ss = c.args.sources.now in let fs = c.args.self.now.feeds.items in let ws = c.args.self.now.waiting in
+    let w : WaitingLine = record { member = c.next.inside.line.value; source = c.next.inside.source } in
+    let is = sym c.next.view_is in
+    let pair = waiting_pair w in
+    let out = subst (λ (v : WaitingLine). IsPermutation ws (v ∷ c.take_first.new.self.waiting)) is c.in-Some.ensures.out in
+    let t = taken_next LINE_LIMIT past g.S.Source.text g.S.Source.extent g.S.Source.gave ss fs pair 0 ss fs ws [] (gathers_start LINE_LIMIT past g.S.Source.text g.S.Source.extent g.S.Source.gave ss fs pair ws c.requires.ready)
+    w c.take_first.new.self.waiting c.take_first.new.self.feeds.items out
+    (subst (λ (v : WaitingLine). (d : Feed) → c.take_first.new.self.feeds.items ≡ set fs v.source (due (get_or fs v.source d))) is c.in-Some.ensures.feeds)
+    (subst (λ (x : WaitingLine). AllByRecursion (λ v. is_lt (turn_cmp v x) ≡ false) c.take_first.new.self.waiting) is c.in-Some.ensures.first) (omega arith) (tied_itself pair_cmp_total pair) in
+    record {
+      gathers = subst (λ (l : List (Box Line Global)). Gathers LINE_LIMIT past g.S.Source.text g.S.Source.extent g.S.Source.gave ss fs pair (w.source + 1) ss c.take_first.new.self.feeds.items c.take_first.new.self.waiting (w.member ∷ map (λ (b : Box Line Global). b.value) l)) (sym c.requires.empty) t.gathers;
+      inside = t.inside;
+      due = t.due;
+      failures = refl;
+      from = t.from;
+      above = λ b h. above_popped b ws c.take_first.new.self.waiting w out h;
+      each = subst (λ (l : List (Box Line Global)). AreAt pair (map (λ (b : Box Line Global). b.value) l)) (sym c.requires.empty) tt;
+      fewer = t.fewer;
+    }
+
+pub drain-requires-clause-due : goal.drain-requires-clause-due
+drain-requires-clause-due g c = λ a d.
+    subst (λ p. IsDue LINE_LIMIT p (g.S.Source.text (get_or c.sources.sources c.sources.i a)) (get_or c.sources.self.feeds.items c.sources.i d)) (sym (ap member_pair c.deref.ensures)) (c.sources.invariant.due a d)
+
+pub returns-in_err-drain-clause-moved : goal.returns-in_err-drain-clause-moved
+returns-in_err-drain-clause-moved g c =
+    moved_trans g.S.Source.text g.S.Source.extent g.S.Source.gave (zip c.args.sources.now c.args.self.now.feeds.items) (zip c.sources.sources c.sources.self.feeds.items) (zip c.drain.new.sources c.drain.new.self.feeds.items)
+    c.sources.invariant.gathers.moved c.drain.ensures.moved
+
+pub returns-in_err-drain-clause-read : goal.returns-in_err-drain-clause-read
+returns-in_err-drain-clause-read g c =
+    let f = g.S.Source.failures in
+    let p = err_from_is_err_and c.from_residual.result c.from_residual.ensures.1 in
+    let q : p.0 ≡ c.in_err-drain.field-0.0 = p.2 in
+    if_err c.from_residual.result p.0 _ p.1 (λ i h.
+    raised_from i (map f c.args.sources.now) (map f c.sources.sources) (map f c.drain.new.sources) c.sources.invariant.failures (c.in_err-drain.ensures.read i (sym q ∙ h)))
+
+pub take_at-requires-clause-from : goal.take_at-requires-clause-from
+take_at-requires-clause-from g c =
+    let inv = c.sources.invariant in
+    let ok = c.in_ok-drain.ensures in
+    let pair = member_pair c.next.inside.line.value in
+    let waits = subst (λ p. WaitsAbove p c.sources.i c.sources.self.waiting c.drain.new.self.waiting) (ap member_pair c.deref.ensures) ok.waits in
+    subst (λ p. AllByRecursion (λ w. Upto p (waiting_pair w)) c.drain.new.self.waiting) (sym (ap member_pair c.deref-in-sources.ensures))
+    (each_weaker (λ (w : WaitingLine) (h : IsFrom pair (c.sources.i + 1) w). h.0) c.drain.new.self.waiting
+    (from_waited pair (c.sources.i + 1) c.sources.i c.sources.self.waiting c.drain.new.self.waiting waits inv.from))
+
+pub returns-in_default-take_at-clause-moved : goal.returns-in_default-take_at-clause-moved
+returns-in_default-take_at-clause-moved g c =
+    let past = g.R.Range.past c.args.range.now in
+    let text = g.S.Source.text in let extent = g.S.Source.extent in let gave = g.S.Source.gave in
+    let inv = c.sources.invariant in
+    let ok = c.in_ok-drain.ensures in
+    let first = c.next.inside.line.value in
+    let pair = member_pair first in
+    let values = map (λ (b : Box Line Global). b.value) in
+    let ss = c.sources.sources in let fs = c.sources.self.feeds.items in let i = c.sources.i in
+    let drained : Gathers LINE_LIMIT past text extent gave c.args.sources.now c.args.self.now.feeds.items pair (i + 1) c.drain.new.sources c.drain.new.self.feeds.items c.drain.new.self.waiting (first ∷ values c.drain.new.rest.items) =
+    gathers_drained LINE_LIMIT past text extent gave c.args.sources.now c.args.self.now.feeds.items pair i ss fs c.sources.self.waiting first (values c.sources.rest.items) (values c.drain.new.rest.items) inv.gathers
+    ok.drained.0 ok.drained.1 c.drain.new.sources c.drain.new.self.feeds.items c.drain.new.self.waiting ok.drained.0 ok.drained.1 inv.inside ok.ready ok.moved ok.drained.2 ok.drained.3 (ok.drained.4 ok.drained.0)
+    (subst (λ p. Drained LINE_LIMIT p (text (get_or ss i ok.drained.0)) (get_or fs i ok.drained.1) ok.drained.1 (values c.sources.rest.items) (values c.drain.new.rest.items)) (ap member_pair c.deref.ensures) (ok.drained.5 ok.drained.0 ok.drained.1)) in
+    subst (λ (us : List Feed). AllTwo (Move text extent gave) (zip c.args.sources.now c.args.self.now.feeds.items) (zip c.drain.new.sources us)) (sym c.in_default-take_at.ensures.feeds) drained.moved
+
+pub returns-in_default-take_at-clause-group : goal.returns-in_default-take_at-clause-group
+returns-in_default-take_at-clause-group g c =
+    let past = g.R.Range.past c.args.range.now in
+    let text = g.S.Source.text in let extent = g.S.Source.extent in let gave = g.S.Source.gave in
+    let inv = c.sources.invariant in
+    let ok = c.in_ok-drain.ensures in
+    let first = c.next.inside.line.value in
+    let pair = member_pair first in
+    let values = map (λ (b : Box Line Global). b.value) in
+    let ss = c.sources.sources in let fs = c.sources.self.feeds.items in let i = c.sources.i in
+    let drained : Gathers LINE_LIMIT past text extent gave c.args.sources.now c.args.self.now.feeds.items pair (i + 1) c.drain.new.sources c.drain.new.self.feeds.items c.drain.new.self.waiting (first ∷ values c.drain.new.rest.items) =
+    gathers_drained LINE_LIMIT past text extent gave c.args.sources.now c.args.self.now.feeds.items pair i ss fs c.sources.self.waiting first (values c.sources.rest.items) (values c.drain.new.rest.items) inv.gathers
+    ok.drained.0 ok.drained.1 c.drain.new.sources c.drain.new.self.feeds.items c.drain.new.self.waiting ok.drained.0 ok.drained.1 inv.inside ok.ready ok.moved ok.drained.2 ok.drained.3 (ok.drained.4 ok.drained.0)
+    (subst (λ p. Drained LINE_LIMIT p (text (get_or ss i ok.drained.0)) (get_or fs i ok.drained.1) ok.drained.1 (values c.sources.rest.items) (values c.drain.new.rest.items)) (ap member_pair c.deref.ensures) (ok.drained.5 ok.drained.0 ok.drained.1)) in
+    let feeds = c.in_default-take_at.ensures.feeds in
+    let out = c.in_default-take_at.ensures.out in
+    let alike = subst (λ p. Alike pair p) refl (tied_itself pair_cmp_total pair) in
+    let each = subst (λ p. AreAt p (values c.sources.rest.items) → AreAt p (values c.drain.new.rest.items)) (ap member_pair c.deref.ensures) ok.each in
+    let few = ok.fewer in
+    let less = inv.fewer in
+    let same = ap (λ (us : List Feed). unread extent c.drain.new.sources us) feeds in
+    let long = ap (λ (ws : List WaitingLine). length ws) out.0 in
+    record {
+      above = inv.above;
+      later = subst (λ p. AllByRecursion (λ w. Below p (waiting_pair w)) c.take_at.new.self.waiting) (ap member_pair c.deref-in-sources.ensures) out.1;
+      each = (alike, each inv.each);
+      fewer = omega (arith, few, less, same, long);
+      gathered = λ told low.
+          subst (λ (us : List Feed). Gathered pair (all_done LINE_LIMIT text c.args.sources.now c.args.self.now.feeds.items) (all_done LINE_LIMIT text c.drain.new.sources us) [] (first ∷ values c.drain.new.rest.items)) (sym feeds)
+          (gathers_all LINE_LIMIT past text extent gave c.args.sources.now c.args.self.now.feeds.items pair (i + 1) c.drain.new.sources c.drain.new.self.feeds.items c.drain.new.self.waiting (first ∷ values c.drain.new.rest.items) drained
+          c.requires.ready.same (let l = inv.inside in let e = ap length ok.drained.2 in omega (arith, l, e, length-set ss i ok.drained.0)) told low);
+    }
+
+pub returns-in-Err-clause-moved : goal.returns-in-Err-clause-moved
+returns-in-Err-clause-moved g c =
+    let past = g.R.Range.past c.args.range.now in
+    let text = g.S.Source.text in let extent = g.S.Source.extent in let gave = g.S.Source.gave in
+    let inv = c.sources.invariant in
+    let ok = c.in_ok-drain.ensures in
+    let first = c.next.inside.line.value in
+    let pair = member_pair first in
+    let values = map (λ (b : Box Line Global). b.value) in
+    let ss = c.sources.sources in let fs = c.sources.self.feeds.items in let i = c.sources.i in
+    let drained : Gathers LINE_LIMIT past text extent gave c.args.sources.now c.args.self.now.feeds.items pair (i + 1) c.drain.new.sources c.drain.new.self.feeds.items c.drain.new.self.waiting (first ∷ values c.drain.new.rest.items) =
+    gathers_drained LINE_LIMIT past text extent gave c.args.sources.now c.args.self.now.feeds.items pair i ss fs c.sources.self.waiting first (values c.sources.rest.items) (values c.drain.new.rest.items) inv.gathers
+    ok.drained.0 ok.drained.1 c.drain.new.sources c.drain.new.self.feeds.items c.drain.new.self.waiting ok.drained.0 ok.drained.1 inv.inside ok.ready ok.moved ok.drained.2 ok.drained.3 (ok.drained.4 ok.drained.0)
+    (subst (λ p. Drained LINE_LIMIT p (text (get_or ss i ok.drained.0)) (get_or fs i ok.drained.1) ok.drained.1 (values c.sources.rest.items) (values c.drain.new.rest.items)) (ap member_pair c.deref.ensures) (ok.drained.5 ok.drained.0 ok.drained.1)) in
+    let waits = subst (λ p. WaitsAbove p i c.sources.self.waiting c.drain.new.self.waiting) (ap member_pair c.deref.ensures) ok.waits in
+    let from = from_waited pair (i + 1) i c.sources.self.waiting c.drain.new.self.waiting waits inv.from in
+    let w : WaitingLine = record { member = c.next-in-sources.inside.line.value; source = c.next-in-sources.inside.source } in
+    let is = sym c.next-in-sources.view_is in
+    let took = c.in-Some-take_at.ensures in
+    let out = subst (λ (v : WaitingLine). IsPermutation c.drain.new.self.waiting (v ∷ c.take_at.new.self.waiting)) is took.out in
+    let alike = subst (λ p. Alike (waiting_pair w) p) (ap member_pair c.deref-in-sources.ensures) (subst (λ (v : WaitingLine). Alike (waiting_pair v) (member_pair c.deref-in-sources.result.now)) is took.alike) in
+    let mine = (each_permuted (IsFrom pair (i + 1)) c.drain.new.self.waiting (w ∷ c.take_at.new.self.waiting) out from).0 in
+    let t = taken_next LINE_LIMIT past text extent gave c.args.sources.now c.args.self.now.feeds.items pair (i + 1) c.drain.new.sources c.drain.new.self.feeds.items c.drain.new.self.waiting (first ∷ values c.drain.new.rest.items) drained
+    w c.take_at.new.self.waiting c.take_at.new.self.feeds.items out
+    (subst (λ (v : WaitingLine). (d : Feed) → c.take_at.new.self.feeds.items ≡ set c.drain.new.self.feeds.items v.source (due (get_or c.drain.new.self.feeds.items v.source d))) is took.feeds)
+    (subst (λ (x : WaitingLine). AllByRecursion (λ v. is_lt (turn_cmp v x) ≡ false) c.take_at.new.self.waiting) is took.first) (mine.1 alike) alike in
+    t.gathers.moved
+
+pub sources-smaller : goal.sources-smaller
+sources-smaller g c =
+    let past = g.R.Range.past c.args.range.now in
+    let text = g.S.Source.text in let extent = g.S.Source.extent in let gave = g.S.Source.gave in
+    let inv = c.sources.invariant in
+    let ok = c.in_ok-drain.ensures in
+    let first = c.next.inside.line.value in
+    let pair = member_pair first in
+    let values = map (λ (b : Box Line Global). b.value) in
+    let ss = c.sources.sources in let fs = c.sources.self.feeds.items in let i = c.sources.i in
+    let drained : Gathers LINE_LIMIT past text extent gave c.args.sources.now c.args.self.now.feeds.items pair (i + 1) c.drain.new.sources c.drain.new.self.feeds.items c.drain.new.self.waiting (first ∷ values c.drain.new.rest.items) =
+    gathers_drained LINE_LIMIT past text extent gave c.args.sources.now c.args.self.now.feeds.items pair i ss fs c.sources.self.waiting first (values c.sources.rest.items) (values c.drain.new.rest.items) inv.gathers
+    ok.drained.0 ok.drained.1 c.drain.new.sources c.drain.new.self.feeds.items c.drain.new.self.waiting ok.drained.0 ok.drained.1 inv.inside ok.ready ok.moved ok.drained.2 ok.drained.3 (ok.drained.4 ok.drained.0)
+    (subst (λ p. Drained LINE_LIMIT p (text (get_or ss i ok.drained.0)) (get_or fs i ok.drained.1) ok.drained.1 (values c.sources.rest.items) (values c.drain.new.rest.items)) (ap member_pair c.deref.ensures) (ok.drained.5 ok.drained.0 ok.drained.1)) in
+    let waits = subst (λ p. WaitsAbove p i c.sources.self.waiting c.drain.new.self.waiting) (ap member_pair c.deref.ensures) ok.waits in
+    let from = from_waited pair (i + 1) i c.sources.self.waiting c.drain.new.self.waiting waits inv.from in
+    let w : WaitingLine = record { member = c.next-in-sources.inside.line.value; source = c.next-in-sources.inside.source } in
+    let is = sym c.next-in-sources.view_is in
+    let took = c.in-Some-take_at.ensures in
+    let out = subst (λ (v : WaitingLine). IsPermutation c.drain.new.self.waiting (v ∷ c.take_at.new.self.waiting)) is took.out in
+    let alike = subst (λ p. Alike (waiting_pair w) p) (ap member_pair c.deref-in-sources.ensures) (subst (λ (v : WaitingLine). Alike (waiting_pair v) (member_pair c.deref-in-sources.result.now)) is took.alike) in
+    let mine = (each_permuted (IsFrom pair (i + 1)) c.drain.new.self.waiting (w ∷ c.take_at.new.self.waiting) out from).0 in
+    let t = taken_next LINE_LIMIT past text extent gave c.args.sources.now c.args.self.now.feeds.items pair (i + 1) c.drain.new.sources c.drain.new.self.feeds.items c.drain.new.self.waiting (first ∷ values c.drain.new.rest.items) drained
+    w c.take_at.new.self.waiting c.take_at.new.self.feeds.items out
+    (subst (λ (v : WaitingLine). (d : Feed) → c.take_at.new.self.feeds.items ≡ set c.drain.new.self.feeds.items v.source (due (get_or c.drain.new.self.feeds.items v.source d))) is took.feeds)
+    (subst (λ (x : WaitingLine). AllByRecursion (λ v. is_lt (turn_cmp v x) ≡ false) c.take_at.new.self.waiting) is took.first) (mine.1 alike) alike in
+    let fewer = t.fewer in
+    let few = ok.fewer in
+    omega (arith, fewer, few)
+
+pub sources-preserved : goal.sources-preserved
+sources-preserved g c =
+    let past = g.R.Range.past c.args.range.now in
+    let text = g.S.Source.text in let extent = g.S.Source.extent in let gave = g.S.Source.gave in
+    let inv = c.sources.invariant in
+    let ok = c.in_ok-drain.ensures in
+    let first = c.next.inside.line.value in
+    let pair = member_pair first in
+    let values = map (λ (b : Box Line Global). b.value) in
+    let ss = c.sources.sources in let fs = c.sources.self.feeds.items in let i = c.sources.i in
+    let drained : Gathers LINE_LIMIT past text extent gave c.args.sources.now c.args.self.now.feeds.items pair (i + 1) c.drain.new.sources c.drain.new.self.feeds.items c.drain.new.self.waiting (first ∷ values c.drain.new.rest.items) =
+    gathers_drained LINE_LIMIT past text extent gave c.args.sources.now c.args.self.now.feeds.items pair i ss fs c.sources.self.waiting first (values c.sources.rest.items) (values c.drain.new.rest.items) inv.gathers
+    ok.drained.0 ok.drained.1 c.drain.new.sources c.drain.new.self.feeds.items c.drain.new.self.waiting ok.drained.0 ok.drained.1 inv.inside ok.ready ok.moved ok.drained.2 ok.drained.3 (ok.drained.4 ok.drained.0)
+    (subst (λ p. Drained LINE_LIMIT p (text (get_or ss i ok.drained.0)) (get_or fs i ok.drained.1) ok.drained.1 (values c.sources.rest.items) (values c.drain.new.rest.items)) (ap member_pair c.deref.ensures) (ok.drained.5 ok.drained.0 ok.drained.1)) in
+    let waits = subst (λ p. WaitsAbove p i c.sources.self.waiting c.drain.new.self.waiting) (ap member_pair c.deref.ensures) ok.waits in
+    let from = from_waited pair (i + 1) i c.sources.self.waiting c.drain.new.self.waiting waits inv.from in
+    let w : WaitingLine = record { member = c.next-in-sources.inside.line.value; source = c.next-in-sources.inside.source } in
+    let is = sym c.next-in-sources.view_is in
+    let took = c.in-Some-take_at.ensures in
+    let out = subst (λ (v : WaitingLine). IsPermutation c.drain.new.self.waiting (v ∷ c.take_at.new.self.waiting)) is took.out in
+    let alike = subst (λ p. Alike (waiting_pair w) p) (ap member_pair c.deref-in-sources.ensures) (subst (λ (v : WaitingLine). Alike (waiting_pair v) (member_pair c.deref-in-sources.result.now)) is took.alike) in
+    let mine = (each_permuted (IsFrom pair (i + 1)) c.drain.new.self.waiting (w ∷ c.take_at.new.self.waiting) out from).0 in
+    let t = taken_next LINE_LIMIT past text extent gave c.args.sources.now c.args.self.now.feeds.items pair (i + 1) c.drain.new.sources c.drain.new.self.feeds.items c.drain.new.self.waiting (first ∷ values c.drain.new.rest.items) drained
+    w c.take_at.new.self.waiting c.take_at.new.self.feeds.items out
+    (subst (λ (v : WaitingLine). (d : Feed) → c.take_at.new.self.feeds.items ≡ set c.drain.new.self.feeds.items v.source (due (get_or c.drain.new.self.feeds.items v.source d))) is took.feeds)
+    (subst (λ (x : WaitingLine). AllByRecursion (λ v. is_lt (turn_cmp v x) ≡ false) c.take_at.new.self.waiting) is took.first) (mine.1 alike) alike in
+    let each = subst (λ p. AreAt p (values c.sources.rest.items) → AreAt p (values c.drain.new.rest.items)) (ap member_pair c.deref.ensures) ok.each in
+    let pushed : values c.push.new.self.items ≡ values c.drain.new.rest.items ++ w.member ∷ [] = ap values c.in-Ok.ensures.items ∙ map_push (λ (b : Box Line Global). b.value) c.drain.new.rest.items c.next-in-sources.inside.line in
+    let fewer = t.fewer in
+    let few = ok.fewer in
+    let less = inv.fewer in
+    record {
+      gathers = subst (λ l. Gathers LINE_LIMIT past text extent gave c.args.sources.now c.args.self.now.feeds.items pair (w.source + 1) c.drain.new.sources c.take_at.new.self.feeds.items c.take_at.new.self.waiting (first ∷ l)) (sym pushed) t.gathers;
+      inside = t.inside;
+      due = t.due;
+      failures = ok.worked ∙ inv.failures;
+      from = t.from;
+      above = inv.above;
+      each = subst (AreAt pair) (sym pushed) (each_join (λ m. Alike (member_pair m) pair) (values c.drain.new.rest.items) (w.member ∷ []) (each inv.each) (alike, tt));
+      fewer = omega (arith, fewer, few, less);
+    }

@@ -1,0 +1,28 @@
+use Rattle.std.proofs.Common.{◌≡◌, ◌+◌, ◌<◌, ◌∷◌, Option, length, map, get_or}
+use Rattle.std.specs.List.{AllByRecursion}
+use Rattle.cdxj_core.specs.declared.limit.TheConstants.{LINE_LIMIT}
+use Rattle.cdxj_core.specs.Members.{member_pair}
+use Rattle.cdxj_places.specs.Pairs.{Pair}
+use Rattle.merge_core.specs.declared.feed.Feed.{Feed}
+use Rattle.merge_core.specs.PairOrders.{IsAbove}
+use Rattle.merge_core.specs.WaitingLines.{waiting_pair}
+use Rattle.merge_core.specs.Gathering.{IsFrom, IsDue, unread}
+use Rattle.merge_core.proofs.GroupLemmas.{AreAt}
+use Rattle.merge_core.proofs.GatherSteps.{Gathers}
+use Rattle.merge_core.proofs.streams.Streams.gather.Given as goal
+
+abbrev pub invariant-sources : goal.invariant-sources
+invariant-sources g l = record {
+  gathers : Gathers LINE_LIMIT (g.R.Range.past l.range) g.S.Source.text g.S.Source.extent g.S.Source.gave l.fn.sources l.fn.self.feeds.items (member_pair l.first.value)
+      (l.i + 1) l.sources l.self.feeds.items l.self.waiting (l.first.value ∷ map (λ b. b.value) l.rest.items);
+  inside : l.i < length l.sources;
+  due : (a : g.row.S.Denot) → (d : Feed) → IsDue LINE_LIMIT (member_pair l.first.value) (g.S.Source.text (get_or l.sources l.i a)) (get_or l.self.feeds.items l.i d);
+  failures : map g.S.Source.failures l.sources ≡ map g.S.Source.failures l.fn.sources;
+  from : AllByRecursion (IsFrom (member_pair l.first.value) (l.i + 1)) l.self.waiting;
+  above : (b : Option Pair) → AllByRecursion (λ w. IsAbove b (waiting_pair w)) l.fn.self.waiting → IsAbove b (member_pair l.first.value);
+  each : AreAt (member_pair l.first.value) (map (λ b. b.value) l.rest.items);
+  fewer : unread g.S.Source.extent l.sources l.self.feeds.items + length l.self.waiting < unread g.S.Source.extent l.fn.sources l.fn.self.feeds.items + length l.fn.self.waiting;
+}
+
+abbrev pub decreases-sources : goal.decreases-sources
+decreases-sources g l = unread g.S.Source.extent l.sources l.self.feeds.items + length l.self.waiting
