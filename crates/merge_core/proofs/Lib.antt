@@ -8,3 +8,4 @@ pub mod Many
 pub mod FailLemmas
 pub mod GroupLemmas
 pub mod GatherSteps
+pub mod MergeLemmas

@@ -4,3 +4,4 @@ pub mod TurnOrder
 pub mod Feeds
 pub mod Gathering
 pub mod Failures
+pub mod Reached

@@ -19,3 +19,10 @@ pub enum MergeFault {
     /// The lines of the source of this number couldn't be had.
     Feed(usize, FeedFault),
 }
+
+/// Why lines couldn't be handed on.
+#[derive(Clone, Copy, Debug, Drop, PartialEq, Eq)]
+pub enum SinkFault {
+    Memory,
+    Write,
+}

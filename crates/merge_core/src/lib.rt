@@ -3,9 +3,11 @@
 
 mod fault;
 mod feed;
+mod merging;
 mod pair;
 mod queue;
 mod range;
+mod sink;
 mod store;
 mod streams;
 mod waiting;

@@ -163,4 +163,16 @@ impl Streams {
             }
         }
     }
+
+    /// Keeps the buffers of lines that were handed on.
+    pub fn put_back(&mut self, first: Box<Line>, rest: &mut Vec<Box<Line>>)
+        ensures feeds { self.new.feeds.items ≡ self.old.feeds.items }
+        ensures waiting { self.new.waiting ≡ self.old.waiting }
+        ensures rest { rest.new.items ≡ [] }
+    {
+        self.store.put_back(first);
+        while let Some(line) = rest.pop() {
+            self.store.put_back(line);
+        }
+    }
 }

@@ -1,0 +1,96 @@
+-- One group more of a merge.
+use Rattle.std.proofs.Common.{◌≡◌, ℕ, Result, Ok, Err, OnErr, List, [], ◌∷◌, ◌++◌, refl, sym, ap, ap₂, ◌∙◌, subst, Option, Some, None, filter, map, not, true, false, Less, Equal, Greater, Ordering, is_lt, is_gt}
+use Rattle.std.specs.List.{AllByRecursion}
+use Rattle.std.specs.Ordering.{ordering_reverse}
+use Rattle.cdxj_places.specs.Pairs.{Pair, pair_cmp}
+use Rattle.cdxj_places.specs.Places.{place_cmp}
+use Rattle.cdxj_places.specs.Rising.{IsLower, Rises, rising}
+use Rattle.cdxj_places.proofs.PairLemmas.{lower_pair}
+use Rattle.cdxj_places.proofs.PlaceOrder.{place_cmp_total}
+use Rattle.cdxj_places.proofs.RisingLaws.{each_weaker, each_rising, rises_rising, rising_split}
+use Rattle.cdxj_core.specs.Members.{Member, member_pair, member_place}
+use Rattle.merge_core.specs.declared.feed.Feed.{Feed}
+use Rattle.merge_core.specs.PairOrders.{Alike, Below, Upto, IsAbove, IsUpto, is_low}
+use Rattle.merge_core.specs.WaitingLines.{WaitingLine, waiting_pair}
+use Rattle.merge_core.specs.Gathering.{Gathered, Grouped, AreTold, all_done}
+use Rattle.merge_core.specs.Reached.{Handed}
+use Rattle.merge_core.proofs.PairOrder.{from_not_below, below_then, then_below, below_upto, same_upto, same_from}
+use Rattle.merge_core.proofs.FeedLemmas.{each_join}
+use Rattle.merge_core.proofs.GroupLemmas.{AreAt, AreBelow}
+
+-- where there is no bound, all stand above it
+pub above_none : (ws : List WaitingLine) → AllByRecursion (λ w. IsAbove None (waiting_pair w)) ws
+above_none [] = tt
+above_none (w ∷ ws) = (tt, above_none ws)
+
+-- what is done stands below what comes next
+below_next : (b : Option Pair) (pair : Pair) → IsAbove b pair → (ms : List Member) → AllByRecursion (λ m. IsUpto b (member_pair m)) ms → AreBelow pair ms
+below_next None pair up ms h = each_weaker (λ (m : Member) (q : ⊥). absurd q) ms h
+below_next (Some bound) pair up ms h = each_weaker (λ (m : Member) (q : Upto (member_pair m) bound). then_below (member_pair m) bound pair q up) ms h
+
+place_below : (x y : Member) → Below (member_pair x) (member_pair y) → place_cmp (member_place x) (member_place y) ≡ Less
+place_below x y h = lower_pair (member_place x) (member_place y) h
+
+is_less : (r : Ordering) → is_lt r ≡ true → r ≡ Less
+is_less Less e = refl
+is_less Equal e = cc
+is_less Greater e = cc
+
+lower_by_pair : (pair : Pair) → IsLower member_place place_cmp (is_low pair)
+lower_by_pair pair x y h k = place_below x y (below_then (member_pair x) pair (member_pair y) (is_less _ h) (from_not_below (member_pair y) pair k))
+
+risen_on : (pair : Pair) (old now group : List Member) → Gathered pair old now [] group
+    → rising member_place place_cmp old ++ rising member_place place_cmp group ≡ rising member_place place_cmp now
+risen_on pair old now group h =
+    sym (rising_split member_place place_cmp place_cmp_total (is_low pair) (lower_by_pair pair) now
+    ∙ ap₂ (λ u v. rising member_place place_cmp u ++ rising member_place place_cmp v) h.before (sym h.taken))
+
+-- lists that rise, the one below the other
+rises_join : (us vs : List Member) → Rises member_place place_cmp us → Rises member_place place_cmp vs
+    → AllByRecursion (λ u. AllByRecursion (λ v. is_gt (place_cmp (member_place v) (member_place u)) ≡ true) vs) us → Rises member_place place_cmp (us ++ vs)
+rises_join [] vs h k l = k
+rises_join (u ∷ us) vs h k l = (each_join (λ v. is_gt (place_cmp (member_place v) (member_place u)) ≡ true) us vs h.0 l.0, rises_join us vs h.1 k l.1)
+
+place_above : (pair : Pair) (u v : Member) → Below (member_pair u) pair → Alike (member_pair v) pair → is_gt (place_cmp (member_place v) (member_place u)) ≡ true
+place_above pair u v h k =
+    ap is_gt (place_cmp_total.antisymm (member_place v) (member_place u)
+    ∙ ap ordering_reverse (place_below u v (below_then (member_pair u) pair (member_pair v) h (same_from (member_pair v) pair k))))
+
+module _ {S : Type 0} (limit : ℕ) (text : S → Option (List ℕ)) (extent : S → ℕ) (old ss0 ss : List S) (fs0 fs : List Feed) (ws0 ws : List WaitingLine) (b : Option Pair) (pair : Pair) (taken group : List Member)
+    (was : Handed limit text old ss0 fs0 b taken) (above : AllByRecursion (λ w. IsAbove b (waiting_pair w)) ws0) (grouped : Grouped limit text extent ss0 fs0 ws0 ss fs ws pair group) (kept : AreTold text old → AreTold text ss0) where
+  up : IsAbove b pair
+  up = grouped.above b above
+
+  low : AreBelow pair taken
+  low = below_next b pair up taken was.upto
+
+  at : AreAt pair (rising member_place place_cmp group)
+  at = each_rising member_place place_cmp place_cmp_total (λ m. Alike (member_pair m) pair) group grouped.each
+
+  pub handed_next : Handed limit text old ss fs (Some pair) (taken ++ rising member_place place_cmp group)
+  handed_next = record {
+    upto = each_join (λ m. Upto (member_pair m) pair) taken (rising member_place place_cmp group)
+        (each_weaker (λ (m : Member) (h : Below (member_pair m) pair). below_upto (member_pair m) pair h) taken low)
+        (each_weaker (λ (m : Member) (h : Alike (member_pair m) pair). same_upto (member_pair m) pair h) (rising member_place place_cmp group) at);
+    rises = rises_join taken (rising member_place place_cmp group) was.rises (rises_rising member_place place_cmp place_cmp_total group)
+        (each_weaker (λ (u : Member) (h : Below (member_pair u) pair). each_weaker (λ (v : Member) (k : Alike (member_pair v) pair). place_above pair u v h k) (rising member_place place_cmp group) at) taken low);
+    told = λ t.
+        let h = was.told t in
+        let gathered = grouped.gathered (kept t) (below_next b pair up (all_done limit text ss0 fs0) h.1) in
+        (ap (λ l. l ++ rising member_place place_cmp group) h.0 ∙ risen_on pair (all_done limit text ss0 fs0) (all_done limit text ss fs) group gathered, gathered.upto);
+  }
+
+pub handed_none : {S : Type 0} (limit : ℕ) (text : S → Option (List ℕ)) (ss : List S) (fs : List Feed) → all_done limit text ss fs ≡ [] → Handed limit text ss ss fs None []
+handed_none limit text ss fs e = record {
+  upto = tt;
+  rises = tt;
+  told = λ t. (ap (rising member_place place_cmp) (sym e), subst (AllByRecursion (λ m. IsUpto None (member_pair m))) (sym e) tt);
+}
+
+pub on_err : {A E : Type 0} (r : Result A E) (e : E) (P : Type 0) → r ≡ Err e → P → OnErr r P
+on_err (Ok x) e P h p = cc
+on_err (Err x) e P h p = p
+
+pub map_seen : {A X Y : Type 0} (f : X → Y) (g : A → X) (xs : List A) → map (λ a. f (g a)) xs ≡ map f (map g xs)
+map_seen f g [] = refl
+map_seen f g (x ∷ xs) = ap (λ l. f (g x) ∷ l) (map_seen f g xs)

@@ -1,0 +1,20 @@
+use Rattle.std.proofs.Common.{◌≡◌, ◌+◌, ℕ, List, Option, [], length, map}
+use Rattle.cdxj_core.specs.declared.limit.TheConstants.{LINE_LIMIT}
+use Rattle.cdxj_core.specs.Members.{Member}
+use Rattle.cdxj_places.specs.Pairs.{Pair}
+use Rattle.merge_core.specs.Gathering.{unread}
+use Rattle.merge_core.specs.Reached.{Reached}
+use Rattle.merge_core.proofs.merging.merge.Given as goal
+
+abbrev pub invariant-loop-rest : goal.invariant-loop-rest
+invariant-loop-rest g l = record {
+  empty : l.rest.items ≡ [];
+  reads : map g.S.Source.failures l.sources ≡ map g.S.Source.failures l.fn.sources;
+  writes : g.O.Output.failures l.out ≡ g.O.Output.failures l.fn.out;
+  came : (b : Option Pair) × (taken : List Member)
+      × Reached LINE_LIMIT g.S.Source.text (g.R.Range.past l.range) g.S.Source.extent g.S.Source.gave l.fn.sources l.fn.streams.feeds.items l.sources l.streams.feeds.items l.streams.waiting b taken
+      × ((begin : g.row.K.Denot) → (start : Option (List ℕ)) → g.K.Sink.Wrote begin l.fn.sink [] start (g.O.Output.written l.fn.out) → g.K.Sink.Wrote begin l.sink taken start (g.O.Output.written l.out));
+}
+
+abbrev pub decreases-loop-rest : goal.decreases-loop-rest
+decreases-loop-rest g l = unread g.S.Source.extent l.sources l.streams.feeds.items + length l.streams.waiting

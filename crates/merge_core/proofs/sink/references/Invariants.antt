@@ -1,0 +1,5 @@
+use Rattle.std.proofs.Common.{◌≡◌, ◌∷◌, map, take}
+use Rattle.merge_core.proofs.sink.references.Given as goal
+
+abbrev pub invariant-loop-line : goal.invariant-loop-line
+invariant-loop-line l = map (λ e. e.now) l.lines.items ≡ l.first ∷ map (λ b. b.value) (take l.line-index l.rest)

@@ -1,0 +1,35 @@
+-- How far a merge of several sources has come.
+use Rattle.std.specs.Prelude.{◌≡◌, ℕ, List, Bool, Option, Result, Ok, Err}
+use Rattle.std.specs.List.{AllByRecursion, zip}
+use Rattle.cdxj_places.specs.Pairs.{Pair}
+use Rattle.cdxj_places.specs.Places.{place_cmp}
+use Rattle.cdxj_places.specs.Rising.{rising, Rises}
+use Rattle.cdxj_core.specs.Members.{Member, member_pair, member_place}
+use Rattle.devices.specs.Device.{next_count}
+use Rattle.merge_core.specs.declared.fault.SinkFault.{SinkFault}
+use Rattle.merge_core.specs.declared.fault.SinkFault.TheVariants.{Memory, Write}
+use Rattle.merge_core.specs.declared.feed.Feed.{Feed}
+use Rattle.merge_core.specs.PairOrders.{IsAbove, IsUpto}
+use Rattle.merge_core.specs.WaitingLines.{WaitingLine, waiting_pair}
+use Rattle.merge_core.specs.Feeds.{Moved, Ready}
+use Rattle.merge_core.specs.Gathering.{AllTwo, AreTold, all_done}
+
+-- a refusal of the output adds one to its count of failures, all else none
+abbrev pub CountsWrite : {A : Type 0} → Result A SinkFault → ℕ → ℕ → Type 0
+CountsWrite (Ok x) old new = new ≡ old
+CountsWrite (Err Memory) old new = new ≡ old
+CountsWrite (Err Write) old new = new ≡ next_count old
+
+module _ {S : Type 0} (limit : ℕ) (text : S → Option (List ℕ)) where
+  -- These lines were handed on: they rise, none is above the bound, and of sources that tell their bytes they are all that are done
+  pub record Handed (old ss : List S) (fs : List Feed) (bound : Option Pair) (taken : List Member) : Type 0 where
+    pub upto : AllByRecursion (λ m. IsUpto bound (member_pair m)) taken
+    pub rises : Rises member_place place_cmp taken
+    pub told : AreTold text old → (taken ≡ rising member_place place_cmp (all_done limit text ss fs)) × AllByRecursion (λ m. IsUpto bound (member_pair m)) (all_done limit text ss fs)
+
+  -- from these sources and feeds it came to those: the lines that wait stand above the bound
+  pub record Reached (past : List ℕ → Bool) (extent gave : S → ℕ) (old : List S) (old_feeds : List Feed) (ss : List S) (fs : List Feed) (ws : List WaitingLine) (bound : Option Pair) (taken : List Member) : Type 0 where
+    pub ready : Ready limit past text extent ss fs ws
+    pub moved : AllTwo (λ x y. Moved (text x.0) (text y.0) (extent x.0) (extent y.0) (gave x.0) (gave y.0) x.1.cursor y.1.cursor) (zip old old_feeds) (zip ss fs)
+    pub above : AllByRecursion (λ w. IsAbove bound (waiting_pair w)) ws
+    pub handed : Handed old ss fs bound taken

@@ -1,0 +1,59 @@
+//! The merge of several sources.
+ghost use Rattle.std.specs.Prelude.{◌≡◌, ◌⊎◌, ℕ, Option, List, [], map, false, true, IfOk, IfErr, OnOk, OnErr};
+ghost use Rattle.std.specs.List.{AllByRecursion, zip};
+ghost use Rattle.cdxj_core.specs.declared.limit.TheConstants.{LINE_LIMIT};
+ghost use Rattle.cdxj_core.specs.Members.{Member};
+ghost use Rattle.cdxj_places.specs.Pairs.{Pair};
+ghost use Rattle.devices.specs.Device.{next_count};
+ghost use Rattle.merge_core.specs.declared.feed.Feed.{Feed};
+ghost use Rattle.merge_core.specs.WaitingLines.{WaitingLine};
+ghost use Rattle.merge_core.specs.Failures.{RaisedAt};
+ghost use Rattle.merge_core.specs.Feeds.{Moved, Ready};
+ghost use Rattle.merge_core.specs.Gathering.{AllTwo, all_done};
+ghost use Rattle.merge_core.specs.Reached.{Reached};
+
+use crate::fault::{FeedFault, MergeFault};
+use crate::range::Range;
+use crate::sink::{Sink, hand_on};
+use crate::streams::Streams;
+use devices::Output;
+use source_core::Source;
+use std::alloc::Global;
+
+/// Hands on the lines of all sources, one pair after another, and says whether all were wanted.
+pub fn merge<S: Source, R: Range, K: Sink, O: Output>(
+    alloc: Global,
+    sources: &mut [S],
+    streams: &mut Streams,
+    range: &R,
+    sink: &mut K,
+    out: &mut O,
+) -> Result<bool, MergeFault>
+    requires ready { Ready LINE_LIMIT (R.past range.now) S.text S.extent sources.old streams.old.feeds.items streams.old.waiting }
+    requires fresh { all_done LINE_LIMIT S.text sources.old streams.old.feeds.items ≡ [] }
+    ensures moved { AllTwo (λ x y. Moved (S.text x.0) (S.text y.0) (S.extent x.0) (S.extent y.0) (S.gave x.0) (S.gave y.0) x.1.cursor y.1.cursor)
+        (zip sources.old streams.old.feeds.items) (zip sources.new streams.new.feeds.items) }
+    ensures worked { OnOk result (map S.failures sources.new ≡ map S.failures sources.old) }
+    ensures read { IfErr result (λ e. (n : ℕ) → e ≡ MergeFault.Feed n FeedFault.Read → RaisedAt n (map S.failures sources.old) (map S.failures sources.new)) }
+    ensures failed { IfErr result (λ e. e ≡ MergeFault.Write → O.failures out.new ≡ next_count (O.failures out.old)) }
+    ensures written { OnOk result (O.failures out.new ≡ O.failures out.old) }
+    ensures ended { IfOk result (λ all. all ≡ true → streams.new.waiting ≡ []) }
+    ensures enough { IfOk result (λ all. all ≡ false → K.Enough sink.new) }
+    ensures wrote { OnOk result ((b : Option Pair) × (taken : List Member)
+        × Reached LINE_LIMIT S.text (R.past range.now) S.extent S.gave sources.old streams.old.feeds.items sources.new streams.new.feeds.items streams.new.waiting b taken
+        × ((begin : K) → (start : Option (List ℕ)) → K.Wrote begin sink.old [] start (O.written out.old) → K.Wrote begin sink.new taken start (O.written out.new))) }
+    ensures broke { OnErr result ((ss : List S) × (fs : List Feed) × (ws : List WaitingLine) × (b : Option Pair) × (taken : List Member)
+        × Reached LINE_LIMIT S.text (R.past range.now) S.extent S.gave sources.old streams.old.feeds.items ss fs ws b taken
+        × ((begin : K) → (start : Option (List ℕ)) → K.Wrote begin sink.old [] start (O.written out.old)
+        → ((k : K) × K.Wrote begin k taken start (O.written out.new)) ⊎ K.Broke begin taken start (O.written out.new))) }
+{
+    let mut rest = Vec::new(alloc);
+    while let Some(first) = streams.gather(sources, range, &mut rest)? {
+        let more = hand_on(alloc, &first, &rest, sink, out)?;
+        streams.put_back(first, &mut rest);
+        if !more {
+            return Ok(false);
+        }
+    }
+    Ok(true)
+}

@@ -1,0 +1,113 @@
+//! What takes the lines of a merge.
+ghost use Rattle.std.specs.Prelude.{◌≡◌, ◌≢◌, ◌⊎◌, ◌++◌, ◌∷◌, ℕ, Option, List, map, false, IfOk, IfErr, OnOk, MatchResult};
+ghost use Rattle.cdxj_places.specs.Places.{place_cmp};
+ghost use Rattle.cdxj_places.specs.Rising.{rising};
+ghost use Rattle.cdxj_core.specs.Members.{Member, member_place};
+ghost use Rattle.devices.specs.Device.{next_count};
+ghost use Rattle.merge_core.specs.Reached.{CountsWrite};
+
+use crate::fault::{FeedFault, MergeFault, SinkFault};
+use cdxj_core::{Line, in_order};
+use devices::Output;
+use std::alloc::{AllocError, Global};
+
+/// What takes the lines of a merge.
+pub trait Sink {
+    ghost use Rattle.cdxj_core.specs.Members.{Member};
+
+    /// What was written of the lines that were taken: by a sink that was the first before them and is the second now, between
+    /// what the output had before them and what it has now.
+    ghost Wrote: { Self → Self → List Member → Option (List ℕ) → Option (List ℕ) → Type 0 };
+
+    /// What was written where a fault came before the last of these lines was taken.
+    ghost Broke: { Self → List Member → Option (List ℕ) → Option (List ℕ) → Type 0 };
+
+    /// No more lines are wanted.
+    ghost Enough: { Self → Type 0 };
+
+    /// Takes lines, in the order of places; false where no more are wanted.
+    fn take<O: Output>(
+        &mut self,
+        alloc: Global,
+        lines: &[&Line],
+        out: &mut O,
+    ) -> Result<bool, SinkFault>
+        ensures wrote { (first : Self) (taken : List Member) (start : Option (List ℕ)) → Wrote first self.old taken start (O.written out.old)
+            → MatchResult result (λ _. Wrote first self.new (taken ++ map (λ l. l.now) lines.now) start (O.written out.new))
+            (λ _. Broke first (taken ++ map (λ l. l.now) lines.now) start (O.written out.new)) }
+        ensures enough { IfOk result (λ all. all ≡ false → Enough self.new) }
+        ensures failures { CountsWrite result (O.failures out.old) (O.failures out.new) };
+}
+
+fn references<'a>(
+    alloc: Global,
+    first: &'a Line,
+    rest: &'a [Box<Line>],
+) -> Result<Vec<&'a Line>, AllocError>
+    ensures { IfOk result (λ v. map (λ l. l.now) v.items ≡ first.entry.now ∷ map (λ b. b.value) rest.entry.now) }
+{
+    let mut lines = Vec::with_capacity(alloc, rest.len().saturating_add(1))?;
+    lines.push(first)?;
+    for line in rest {
+        lines.push(&**line)?;
+    }
+    Ok(lines)
+}
+
+/// The lines in the order of places, the first line at each.
+fn ordered<'a>(alloc: Global, lines: &[&'a Line]) -> Result<Vec<&'a Line>, AllocError>
+    ensures { IfOk result (λ v. map (λ l. l.now) v.items ≡ rising member_place place_cmp (map (λ l. l.now) lines.now)) }
+{
+    let sorted = in_order(alloc, lines)?;
+    let mut in_place = Vec::with_capacity(alloc, sorted.len())?;
+    for line in &sorted {
+        in_place.push(**line)?;
+    }
+    Ok(in_place)
+}
+
+fn in_places<'a>(
+    alloc: Global,
+    first: &'a Line,
+    rest: &'a [Box<Line>],
+) -> Result<Vec<&'a Line>, AllocError>
+    ensures { IfOk result (λ v. map (λ l. l.now) v.items ≡ rising member_place place_cmp (first.entry.now ∷ map (λ b. b.value) rest.entry.now)) }
+{
+    let lines = references(alloc, first, rest)?;
+    Ok(ordered(alloc, &lines)?)
+}
+
+/// Hands the lines of a pair on, in the order of places and the first line at each; false where no more are wanted.
+pub fn hand_on<K: Sink, O: Output>(
+    alloc: Global,
+    first: &Line,
+    rest: &[Box<Line>],
+    sink: &mut K,
+    out: &mut O,
+) -> Result<bool, MergeFault>
+    ensures wrote { (begin : K) → (taken : List Member) → (start : Option (List ℕ)) → K.Wrote begin sink.old taken start (O.written out.old)
+        → MatchResult result (λ _. K.Wrote begin sink.new (taken ++ rising member_place place_cmp (first.now ∷ map (λ b. b.value) rest.now)) start (O.written out.new))
+        (λ _. K.Wrote begin sink.new taken start (O.written out.new)
+        ⊎ K.Broke begin (taken ++ rising member_place place_cmp (first.now ∷ map (λ b. b.value) rest.now)) start (O.written out.new)) }
+    ensures enough { IfOk result (λ all. all ≡ false → K.Enough sink.new) }
+    ensures unread { IfErr result (λ e. (i : ℕ) → e ≢ MergeFault.Feed i FeedFault.Read) }
+    ensures worked { OnOk result (O.failures out.new ≡ O.failures out.old) }
+    ensures failed { IfErr result (λ e. e ≡ MergeFault.Write → O.failures out.new ≡ next_count (O.failures out.old)) }
+{
+    if rest.is_empty() {
+        return match sink.take(alloc, &[first], out) {
+            Ok(more) => Ok(more),
+            Err(SinkFault::Memory) => Err(MergeFault::Memory),
+            Err(SinkFault::Write) => Err(MergeFault::Write),
+        };
+    }
+    let lines = match in_places(alloc, first, rest) {
+        Ok(lines) => lines,
+        Err(_) => return Err(MergeFault::Memory),
+    };
+    match sink.take(alloc, &lines, out) {
+        Ok(more) => Ok(more),
+        Err(SinkFault::Memory) => Err(MergeFault::Memory),
+        Err(SinkFault::Write) => Err(MergeFault::Write),
+    }
+}
