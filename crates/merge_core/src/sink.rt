@@ -1,5 +1,5 @@
 //! What takes the lines of a merge.
-ghost use Rattle.std.specs.Prelude.{◌≡◌, ◌≢◌, ◌⊎◌, ◌++◌, ◌∷◌, ℕ, Option, List, map, false, IfOk, IfErr, OnOk, MatchResult};
+ghost use Rattle.std.specs.Prelude.{◌≡◌, ◌≢◌, ◌⊎◌, ◌++◌, ◌∷◌, ℕ, Option, List, map, false, IfOk, IfErr, OnOk, OnErr, MatchResult};
 ghost use Rattle.cdxj_places.specs.Places.{place_cmp};
 ghost use Rattle.cdxj_places.specs.Rising.{rising};
 ghost use Rattle.cdxj_core.specs.Members.{Member, member_place};
@@ -85,10 +85,11 @@ pub fn hand_on<K: Sink, O: Output>(
     sink: &mut K,
     out: &mut O,
 ) -> Result<bool, MergeFault>
-    ensures wrote { (begin : K) → (taken : List Member) → (start : Option (List ℕ)) → K.Wrote begin sink.old taken start (O.written out.old)
-        → MatchResult result (λ _. K.Wrote begin sink.new (taken ++ rising member_place place_cmp (first.now ∷ map (λ b. b.value) rest.now)) start (O.written out.new))
-        (λ _. K.Wrote begin sink.new taken start (O.written out.new)
-        ⊎ K.Broke begin (taken ++ rising member_place place_cmp (first.now ∷ map (λ b. b.value) rest.now)) start (O.written out.new)) }
+    ensures wrote { OnOk result ((begin : K) → (taken : List Member) → (start : Option (List ℕ)) → K.Wrote begin sink.old taken start (O.written out.old)
+        → K.Wrote begin sink.new (taken ++ rising member_place place_cmp (first.now ∷ map (λ b. b.value) rest.now)) start (O.written out.new)) }
+    ensures broke { OnErr result (((sink.new ≡ sink.old) × (out.new ≡ out.old))
+        ⊎ ((begin : K) → (taken : List Member) → (start : Option (List ℕ)) → K.Wrote begin sink.old taken start (O.written out.old)
+        → K.Broke begin (taken ++ rising member_place place_cmp (first.now ∷ map (λ b. b.value) rest.now)) start (O.written out.new))) }
     ensures enough { IfOk result (λ all. all ≡ false → K.Enough sink.new) }
     ensures unread { IfErr result (λ e. (i : ℕ) → e ≢ MergeFault.Feed i FeedFault.Read) }
     ensures worked { OnOk result (O.failures out.new ≡ O.failures out.old) }

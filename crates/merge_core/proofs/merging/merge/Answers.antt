@@ -1,0 +1,180 @@
+use Rattle.std.proofs.Common.{◌≡◌, ◌∷◌, ◌++◌, [], inl, inr, Box, Global, List, Option, Some, None, MatchOption, map, zip, refl, sym, ap, ap₂, ◌∙◌, subst}
+use Rattle.std.specs.List.{AllByRecursion}
+use Rattle.std.proofs.lemmas.Result.{err_from_is_err_and}
+use Rattle.cdxj_core.specs.declared.limit.TheConstants.{LINE_LIMIT}
+use Rattle.cdxj_core.specs.declared.line.Line.{Line}
+use Rattle.cdxj_core.specs.Members.{Member, member_pair, member_place}
+use Rattle.cdxj_places.specs.Places.{place_cmp}
+use Rattle.cdxj_places.specs.Rising.{rising}
+use Rattle.merge_core.specs.declared.feed.Feed.{Feed}
+use Rattle.merge_core.specs.WaitingLines.{WaitingLine}
+use Rattle.merge_core.specs.Gathering.{AllTwo, Grouped}
+use Rattle.merge_core.specs.Reached.{Reached}
+use Rattle.merge_core.proofs.FailLemmas.{if_err, raised_from}
+use Rattle.merge_core.proofs.Many.{Move, moved_trans, moved_still, told_moved}
+use Rattle.merge_core.proofs.MergeLemmas.{above_none, handed_none, handed_next, on_err}
+use Rattle.merge_core.proofs.merging.merge.Goals as goal
+
+pub loop-rest-init : goal.loop-rest-init
+loop-rest-init g c = record {
+  empty = c.new-rest.ensures.items;
+  reads = refl;
+  writes = refl;
+  came = (
+    None,
+    [],
+    record {
+      ready = c.requires.ready;
+      moved = moved_still g.S.Source.text g.S.Source.extent g.S.Source.gave (zip c.args.sources.now c.args.streams.now.feeds.items);
+      above = above_none c.args.streams.now.waiting;
+      handed = handed_none LINE_LIMIT g.S.Source.text c.args.sources.now c.args.streams.now.feeds.items c.requires.fresh;
+    },
+    λ begin start w. w,
+  );
+}
+
+pub returns-in_err-first-clause-moved : goal.returns-in_err-first-clause-moved
+returns-in_err-first-clause-moved g c =
+    moved_trans g.S.Source.text g.S.Source.extent g.S.Source.gave (zip c.args.sources.now c.args.streams.now.feeds.items) (zip c.loop-rest.sources c.loop-rest.streams.feeds.items) (zip c.gather.new.sources c.gather.new.self.feeds.items)
+    c.loop-rest.invariant.came.2.moved c.gather.ensures.moved
+
+pub returns-in_err-first-clause-read : goal.returns-in_err-first-clause-read
+returns-in_err-first-clause-read g c =
+    let f = g.S.Source.failures in
+    let p = err_from_is_err_and c.from_residual.result c.from_residual.ensures.1 in
+    let q : p.0 ≡ c.in_err-first.field-0.0 = p.2 in
+    if_err c.from_residual.result p.0 _ p.1 (λ i h.
+    raised_from i (map f c.args.sources.now) (map f c.loop-rest.sources) (map f c.gather.new.sources) c.loop-rest.invariant.reads (c.in_err-first.ensures.read i (sym q ∙ h)))
+
+pub returns-in_err-more-clause-moved : goal.returns-in_err-more-clause-moved
+returns-in_err-more-clause-moved g c =
+    moved_trans g.S.Source.text g.S.Source.extent g.S.Source.gave (zip c.args.sources.now c.args.streams.now.feeds.items) (zip c.loop-rest.sources c.loop-rest.streams.feeds.items) (zip c.gather.new.sources c.gather.new.self.feeds.items)
+    c.loop-rest.invariant.came.2.moved c.gather.ensures.moved
+
+pub returns-then-not-more-clause-moved : goal.returns-then-not-more-clause-moved
+returns-then-not-more-clause-moved g c =
+    subst (λ (fs : List Feed). AllTwo (Move g.S.Source.text g.S.Source.extent g.S.Source.gave) (zip c.args.sources.now c.args.streams.now.feeds.items) (zip c.gather.new.sources fs)) (sym c.put_back.ensures.feeds)
+    (moved_trans g.S.Source.text g.S.Source.extent g.S.Source.gave (zip c.args.sources.now c.args.streams.now.feeds.items) (zip c.loop-rest.sources c.loop-rest.streams.feeds.items) (zip c.gather.new.sources c.gather.new.self.feeds.items)
+    c.loop-rest.invariant.came.2.moved c.gather.ensures.moved)
+
+pub returns-in_err-more-clause-broke : goal.returns-in_err-more-clause-broke
+returns-in_err-more-clause-broke g c =
+    let past = g.R.Range.past c.args.range.now in
+    let text = g.S.Source.text in let extent = g.S.Source.extent in let gave = g.S.Source.gave in
+    let old = c.args.sources.now in let old_feeds = c.args.streams.now.feeds.items in
+    let was = c.loop-rest.sources in let was_feeds = c.loop-rest.streams.feeds.items in
+    let now = c.gather.new.sources in let feeds = c.gather.new.self.feeds.items in
+    let came = c.loop-rest.invariant.came in
+    let ok = c.in_ok-first.ensures in
+    let values = map (λ (b : Box Line Global). b.value) in
+    let first = c.in-Some.first.value in
+    let pair = member_pair first in
+    let group = first ∷ values c.gather.new.rest.items in
+    let grouped = subst (λ o. MatchOption o ((now ≡ was) × (feeds ≡ was_feeds) × (c.loop-rest.streams.waiting ≡ []) × (c.gather.new.self.waiting ≡ []))
+    (λ (b : Box Line Global). Grouped LINE_LIMIT text extent was was_feeds c.loop-rest.streams.waiting now feeds c.gather.new.self.waiting (member_pair b.value) (b.value ∷ values c.gather.new.rest.items))) c.in-Some.is ok.group in
+    let order : rising member_place place_cmp (c.deref.result.now ∷ values c.deref-in-Some.result.now) ≡ rising member_place place_cmp group =
+    ap₂ (λ (m : Member) (l : List (Box Line Global)). rising member_place place_cmp (m ∷ values l)) c.deref.ensures c.deref-in-Some.ensures.value in
+    let reached : Reached LINE_LIMIT text past extent gave old old_feeds now feeds c.gather.new.self.waiting (Some pair) (came.1 ++ rising member_place place_cmp group) = record {
+      ready = ok.ready;
+      moved = moved_trans text extent gave (zip old old_feeds) (zip was was_feeds) (zip now feeds) came.2.moved ok.moved;
+      above = grouped.later;
+      handed = handed_next LINE_LIMIT text extent old was now was_feeds feeds c.loop-rest.streams.waiting c.gather.new.self.waiting came.0 pair came.1 group came.2.handed came.2.above grouped
+          (told_moved text extent gave old was old_feeds was_feeds came.2.ready.same came.2.moved);
+    } in
+    let p = err_from_is_err_and c.from_residual-in_err-more.result c.from_residual-in_err-more.ensures.1 in
+    on_err c.from_residual-in_err-more.result p.0 _ p.1 (
+    elim c.in_err-more.ensures.broke [
+      | inl k ↦ (
+        was,
+        was_feeds,
+        c.loop-rest.streams.waiting,
+        came.0,
+        came.1,
+        came.2,
+        λ begin start w. inl (c.loop-rest.sink, subst (λ o. g.K.Sink.Wrote begin c.loop-rest.sink came.1 start (g.O.Output.written o)) (sym k.1) (came.3 begin start w)),
+      )
+      | inr k ↦ (
+        now,
+        feeds,
+        c.gather.new.self.waiting,
+        Some pair,
+        came.1 ++ rising member_place place_cmp group,
+        reached,
+        λ begin start w. inr (subst (λ l. g.K.Sink.Broke begin (came.1 ++ l) start (g.O.Output.written c.hand_on.new.out)) order (k begin came.1 start (came.3 begin start w))),
+      )
+    ])
+
+pub returns-then-not-more-clause-wrote : goal.returns-then-not-more-clause-wrote
+returns-then-not-more-clause-wrote g c =
+    let past = g.R.Range.past c.args.range.now in
+    let text = g.S.Source.text in let extent = g.S.Source.extent in let gave = g.S.Source.gave in
+    let old = c.args.sources.now in let old_feeds = c.args.streams.now.feeds.items in
+    let was = c.loop-rest.sources in let was_feeds = c.loop-rest.streams.feeds.items in
+    let now = c.gather.new.sources in let feeds = c.gather.new.self.feeds.items in
+    let came = c.loop-rest.invariant.came in
+    let ok = c.in_ok-first.ensures in
+    let values = map (λ (b : Box Line Global). b.value) in
+    let first = c.in-Some.first.value in
+    let pair = member_pair first in
+    let group = first ∷ values c.gather.new.rest.items in
+    let grouped = subst (λ o. MatchOption o ((now ≡ was) × (feeds ≡ was_feeds) × (c.loop-rest.streams.waiting ≡ []) × (c.gather.new.self.waiting ≡ []))
+    (λ (b : Box Line Global). Grouped LINE_LIMIT text extent was was_feeds c.loop-rest.streams.waiting now feeds c.gather.new.self.waiting (member_pair b.value) (b.value ∷ values c.gather.new.rest.items))) c.in-Some.is ok.group in
+    let order : rising member_place place_cmp (c.deref.result.now ∷ values c.deref-in-Some.result.now) ≡ rising member_place place_cmp group =
+    ap₂ (λ (m : Member) (l : List (Box Line Global)). rising member_place place_cmp (m ∷ values l)) c.deref.ensures c.deref-in-Some.ensures.value in
+    let reached : Reached LINE_LIMIT text past extent gave old old_feeds now feeds c.gather.new.self.waiting (Some pair) (came.1 ++ rising member_place place_cmp group) = record {
+      ready = ok.ready;
+      moved = moved_trans text extent gave (zip old old_feeds) (zip was was_feeds) (zip now feeds) came.2.moved ok.moved;
+      above = grouped.later;
+      handed = handed_next LINE_LIMIT text extent old was now was_feeds feeds c.loop-rest.streams.waiting c.gather.new.self.waiting came.0 pair came.1 group came.2.handed came.2.above grouped
+          (told_moved text extent gave old was old_feeds was_feeds came.2.ready.same came.2.moved);
+    } in
+    let kept : Reached LINE_LIMIT text past extent gave old old_feeds now c.put_back.new.self.feeds.items c.put_back.new.self.waiting (Some pair) (came.1 ++ rising member_place place_cmp group) =
+    subst (λ (fs : List Feed). Reached LINE_LIMIT text past extent gave old old_feeds now fs c.put_back.new.self.waiting (Some pair) (came.1 ++ rising member_place place_cmp group)) (sym c.put_back.ensures.feeds)
+    (subst (λ (ws : List WaitingLine). Reached LINE_LIMIT text past extent gave old old_feeds now feeds ws (Some pair) (came.1 ++ rising member_place place_cmp group)) (sym c.put_back.ensures.waiting) reached) in
+    let wrote = c.in_ok-more.ensures.wrote in
+    (
+      Some pair,
+      came.1 ++ rising member_place place_cmp group,
+      kept,
+      λ begin start w. subst (λ l. g.K.Sink.Wrote begin c.hand_on.new.sink (came.1 ++ l) start (g.O.Output.written c.hand_on.new.out)) order (wrote begin came.1 start (came.3 begin start w)),
+    )
+
+pub loop-rest-preserved : goal.loop-rest-preserved
+loop-rest-preserved g c =
+    let past = g.R.Range.past c.args.range.now in
+    let text = g.S.Source.text in let extent = g.S.Source.extent in let gave = g.S.Source.gave in
+    let old = c.args.sources.now in let old_feeds = c.args.streams.now.feeds.items in
+    let was = c.loop-rest.sources in let was_feeds = c.loop-rest.streams.feeds.items in
+    let now = c.gather.new.sources in let feeds = c.gather.new.self.feeds.items in
+    let came = c.loop-rest.invariant.came in
+    let ok = c.in_ok-first.ensures in
+    let values = map (λ (b : Box Line Global). b.value) in
+    let first = c.in-Some.first.value in
+    let pair = member_pair first in
+    let group = first ∷ values c.gather.new.rest.items in
+    let grouped = subst (λ o. MatchOption o ((now ≡ was) × (feeds ≡ was_feeds) × (c.loop-rest.streams.waiting ≡ []) × (c.gather.new.self.waiting ≡ []))
+    (λ (b : Box Line Global). Grouped LINE_LIMIT text extent was was_feeds c.loop-rest.streams.waiting now feeds c.gather.new.self.waiting (member_pair b.value) (b.value ∷ values c.gather.new.rest.items))) c.in-Some.is ok.group in
+    let order : rising member_place place_cmp (c.deref.result.now ∷ values c.deref-in-Some.result.now) ≡ rising member_place place_cmp group =
+    ap₂ (λ (m : Member) (l : List (Box Line Global)). rising member_place place_cmp (m ∷ values l)) c.deref.ensures c.deref-in-Some.ensures.value in
+    let reached : Reached LINE_LIMIT text past extent gave old old_feeds now feeds c.gather.new.self.waiting (Some pair) (came.1 ++ rising member_place place_cmp group) = record {
+      ready = ok.ready;
+      moved = moved_trans text extent gave (zip old old_feeds) (zip was was_feeds) (zip now feeds) came.2.moved ok.moved;
+      above = grouped.later;
+      handed = handed_next LINE_LIMIT text extent old was now was_feeds feeds c.loop-rest.streams.waiting c.gather.new.self.waiting came.0 pair came.1 group came.2.handed came.2.above grouped
+          (told_moved text extent gave old was old_feeds was_feeds came.2.ready.same came.2.moved);
+    } in
+    let kept : Reached LINE_LIMIT text past extent gave old old_feeds now c.put_back.new.self.feeds.items c.put_back.new.self.waiting (Some pair) (came.1 ++ rising member_place place_cmp group) =
+    subst (λ (fs : List Feed). Reached LINE_LIMIT text past extent gave old old_feeds now fs c.put_back.new.self.waiting (Some pair) (came.1 ++ rising member_place place_cmp group)) (sym c.put_back.ensures.feeds)
+    (subst (λ (ws : List WaitingLine). Reached LINE_LIMIT text past extent gave old old_feeds now feeds ws (Some pair) (came.1 ++ rising member_place place_cmp group)) (sym c.put_back.ensures.waiting) reached) in
+    let wrote = c.in_ok-more.ensures.wrote in
+    record {
+      empty = c.put_back.ensures.rest;
+      reads = ok.worked ∙ c.loop-rest.invariant.reads;
+      writes = c.in_ok-more.ensures.worked ∙ c.loop-rest.invariant.writes;
+      came = (
+        Some pair,
+        came.1 ++ rising member_place place_cmp group,
+        kept,
+        λ begin start w. subst (λ l. g.K.Sink.Wrote begin c.hand_on.new.sink (came.1 ++ l) start (g.O.Output.written c.hand_on.new.out)) order (wrote begin came.1 start (came.3 begin start w)),
+      );
+    }
