@@ -4,7 +4,7 @@ use Rattle.std.specs.List.{AllByRecursion}
 use Rattle.cdxj_places.specs.Pairs.{Pair}
 use Rattle.cdxj_places.specs.TextLines.{lines}
 use Rattle.cdxj_core.specs.Members.{Member, member_pair}
-use Rattle.source_core.specs.declared.cursor.Cursor.{Cursor}
+use Rattle.source_core.specs.Cursors.{CursorState}
 use Rattle.source_core.specs.Cursors.{Stands}
 use Rattle.merge_core.specs.declared.feed.Progress.TheVariants.{Due, Ended}
 use Rattle.merge_core.specs.declared.feed.Feed.{Feed}
@@ -12,7 +12,7 @@ use Rattle.merge_core.specs.PairOrders.{Upto, Alike}
 use Rattle.merge_core.specs.Feeds.{IsNext, Fed, read_lines, done}
 use Rattle.merge_core.proofs.FeedLemmas.{each_join, map_push, ReadNext, line_read, fed_same, fed_next, done_next, fed_taken, done_taken, fed_ended, done_ended}
 
-module _ {L : Type 0} (limit : ℕ) (past : List ℕ → Bool) (seen : L → Member) (t0 t1 : Option (List ℕ)) (e0 e1 : ℕ) (old : Feed) (new : Cursor) (o : Option L) (text : t1 ≡ t0) (extent : e1 ≡ e0)
+module _ {L : Type 0} (limit : ℕ) (past : List ℕ → Bool) (seen : L → Member) (t0 t1 : Option (List ℕ)) (e0 e1 : ℕ) (old : Feed) (new : CursorState) (o : Option L) (text : t1 ≡ t0) (extent : e1 ≡ e0)
     (is_due : old.progress ≡ Due) (was : Fed limit past t0 e0 old []) (stands : Stands t1 e1 new) (start : new.start ≡ old.cursor.start)
     (count : MatchOption o (new.count ≡ old.cursor.count) (λ _. new.count ≡ old.cursor.count + 1))
     (given : (t : List ℕ) → t0 ≡ Some t → MatchOption o ((read_lines t new ≡ read_lines t old.cursor) × (lines (drop new.at t) ≡ [])) (λ l. ReadNext limit t old.cursor new (seen l)))
@@ -21,18 +21,18 @@ module _ {L : Type 0} (limit : ℕ) (past : List ℕ → Bool) (seen : L → Mem
   was_here = fed_same limit past t0 t1 e0 e1 old [] text extent was
 
   stands_here : Stands t1 e1 f.cursor
-  stands_here = subst (λ (k : Cursor). Stands t1 e1 k) (sym cursor) stands
+  stands_here = subst (λ (k : CursorState). Stands t1 e1 k) (sym cursor) stands
 
   start_here : f.cursor.start ≡ old.cursor.start
-  start_here = ap (λ (k : Cursor). k.start) cursor ∙ start
+  start_here = ap (λ (k : CursorState). k.start) cursor ∙ start
 
   -- where a line was read
   module _ (line : L) (is : o ≡ Some line) (low : Pair) (upto : (t : List ℕ) → t0 ≡ Some t → AllByRecursion (λ k. Upto (member_pair k) low) (done limit t old)) (up : Upto low (member_pair (seen line))) where
     count_here : f.cursor.count ≡ old.cursor.count + 1
-    count_here = ap (λ (k : Cursor). k.count) cursor ∙ subst (λ p. MatchOption p (new.count ≡ old.cursor.count) (λ _. new.count ≡ old.cursor.count + 1)) is count
+    count_here = ap (λ (k : CursorState). k.count) cursor ∙ subst (λ p. MatchOption p (new.count ≡ old.cursor.count) (λ _. new.count ≡ old.cursor.count + 1)) is count
 
     next_here : (t : List ℕ) → t1 ≡ Some t → ReadNext limit t old.cursor f.cursor (seen line)
-    next_here t e = subst (λ (k : Cursor). ReadNext limit t old.cursor k (seen line)) (sym cursor) (line_read limit t old.cursor new seen o line is (given t (sym text ∙ e)))
+    next_here t e = subst (λ (k : CursorState). ReadNext limit t old.cursor k (seen line)) (sym cursor) (line_read limit t old.cursor new seen o line is (given t (sym text ∙ e)))
 
     upto_here : (t : List ℕ) → t1 ≡ Some t → AllByRecursion (λ k. Upto (member_pair k) low) (done limit t old)
     upto_here t e = upto t (sym text ∙ e)
@@ -53,8 +53,8 @@ module _ {L : Type 0} (limit : ℕ) (past : List ℕ → Bool) (seen : L → Mem
   module _ (is : o ≡ None) (ended : f.progress ≡ Ended) where
     pub at_end : Fed limit past t1 e1 f []
     at_end = fed_ended limit past t1 e1 old f is_due was_here stands_here start_here
-        (ap (λ (k : Cursor). k.count) cursor ∙ subst (λ p. MatchOption p (new.count ≡ old.cursor.count) (λ _. new.count ≡ old.cursor.count + 1)) is count)
-        (λ t e. subst (λ (k : Cursor). (read_lines t k ≡ read_lines t old.cursor) × (lines (drop k.at t) ≡ [])) (sym cursor)
+        (ap (λ (k : CursorState). k.count) cursor ∙ subst (λ p. MatchOption p (new.count ≡ old.cursor.count) (λ _. new.count ≡ old.cursor.count + 1)) is count)
+        (λ t e. subst (λ (k : CursorState). (read_lines t k ≡ read_lines t old.cursor) × (lines (drop k.at t) ≡ [])) (sym cursor)
             (subst (λ p. MatchOption p ((read_lines t new ≡ read_lines t old.cursor) × (lines (drop new.at t) ≡ [])) (λ l. ReadNext limit t old.cursor new (seen l))) is (given t (sym text ∙ e))))
         ended
 

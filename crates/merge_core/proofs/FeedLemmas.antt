@@ -9,7 +9,7 @@ use Rattle.cdxj_core.specs.Indexes.{IsRun}
 use Rattle.cdxj_core.specs.Lines.{body_of}
 use Rattle.cdxj_core.specs.Members.{Member, member_pair, line_entry}
 use Rattle.cdxj_core.proofs.MemberLemmas.{entry_is_short}
-use Rattle.source_core.specs.declared.cursor.Cursor.{Cursor}
+use Rattle.source_core.specs.Cursors.{CursorState}
 use Rattle.source_core.specs.Cursors.{Stands}
 use Rattle.merge_core.specs.declared.feed.Progress.{Progress}
 use Rattle.merge_core.specs.declared.feed.Progress.TheVariants.{Due, Waiting, Past, Ended}
@@ -85,15 +85,15 @@ module _ (limit : ℕ) where
   }
 
   -- this line was read after those that were read before
-  abbrev pub ReadNext : List ℕ → Cursor → Cursor → Member → Type 0
+  abbrev pub ReadNext : List ℕ → CursorState → CursorState → Member → Type 0
   ReadNext t old new m = (l : List ℕ) × (read_lines t new ≡ read_lines t old ++ l ∷ []) × (line_entry limit l ≡ Some m)
 
-  pub given_next : (t : List ℕ) (old new : Cursor) (m : Member) → ReadNext t old new m → given limit t new ≡ given limit t old ++ m ∷ []
+  pub given_next : (t : List ℕ) (old new : CursorState) (m : Member) → ReadNext t old new m → given limit t new ≡ given limit t old ++ m ∷ []
   given_next t old new m r =
       ap (map (member_of limit)) r.1 ∙ map_push (member_of limit) (read_lines t old) r.0
       ∙ ap (λ (o : Option Member). given limit t old ++ unwrap_or o no_member ∷ []) r.2
 
-  run_next : (t : List ℕ) (old new : Cursor) (m : Member) (low : Pair) → ReadNext t old new m
+  run_next : (t : List ℕ) (old new : CursorState) (m : Member) (low : Pair) → ReadNext t old new m
       → IsRun limit (read_lines t old) (given limit t old) → AllByRecursion (λ k. Upto (member_pair k) low) (given limit t old) → Upto low (member_pair m)
       → IsRun limit (read_lines t new) (given limit t new)
   run_next t old new m low r run upto h =
@@ -101,7 +101,7 @@ module _ (limit : ℕ) where
       (subst (IsRun limit (read_lines t old ++ r.0 ∷ [])) (sym (given_next t old new m r)) (run_push (read_lines t old) (given limit t old) r.0 m low run r.2 upto h))
 
   -- what is done of a feed, beside what was read before
-  pub done_is : (t : List ℕ) (f : Feed) (old : Cursor) → f.cursor.start ≡ old.start → f.cursor.count ≡ old.count + held f.progress → done limit t f ≡ given limit t old
+  pub done_is : (t : List ℕ) (f : Feed) (old : CursorState) → f.cursor.start ≡ old.start → f.cursor.count ≡ old.count + held f.progress → done limit t f ≡ given limit t old
   done_is t f old start count =
       take_map (member_of limit) (f.cursor.count - held f.progress) f.cursor.count (lines (drop f.cursor.start t)) (omega arith)
       ∙ ap₂ (λ n s. map (member_of limit) (take n (lines (drop s t)))) (let q : f.cursor.count - held f.progress ≡ old.count = omega (arith, count) in q) start
@@ -126,7 +126,7 @@ module _ (limit : ℕ) where
   fed_same past t t' e e' f ws p q h = subst (λ o. Fed limit past o e' f ws) (sym p) (subst (λ n. Fed limit past t n f ws) (sym q) h)
 
   -- what a read line says, where there was one
-  pub line_read : {L : Type 0} (t : List ℕ) (old new : Cursor) (seen : L → Member) (o : Option L) (line : L) → o ≡ Some line
+  pub line_read : {L : Type 0} (t : List ℕ) (old new : CursorState) (seen : L → Member) (o : Option L) (line : L) → o ≡ Some line
       → MatchOption o ((read_lines t new ≡ read_lines t old) × (lines (drop new.at t) ≡ [])) (λ l. ReadNext t old new (seen l)) → ReadNext t old new (seen line)
   line_read t old new seen o line e h = subst (λ p. MatchOption p ((read_lines t new ≡ read_lines t old) × (lines (drop new.at t) ≡ [])) (λ l. ReadNext t old new (seen l))) e h
 

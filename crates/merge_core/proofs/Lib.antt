@@ -9,3 +9,5 @@ pub mod FailLemmas
 pub mod GroupLemmas
 pub mod GatherSteps
 pub mod MergeLemmas
+pub mod WrittenLemmas
+pub mod OpenLemmas

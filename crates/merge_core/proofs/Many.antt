@@ -4,7 +4,7 @@ use Rattle.std.specs.List.{AllByRecursion, sum}
 use Rattle.std.specs.Option.{is_some}
 use Rattle.std.proofs.lemmas.List.Sums.{sum_by-cons}
 use Rattle.merge_core.specs.declared.feed.Feed.{Feed}
-use Rattle.source_core.specs.declared.cursor.Cursor.{Cursor}
+use Rattle.source_core.specs.Cursors.{CursorState}
 use Rattle.merge_core.specs.Feeds.{Moved}
 use Rattle.merge_core.specs.Gathering.{AllTwo, text_or, unread}
 
@@ -52,12 +52,12 @@ two_each R P Q f [] (y ∷ ys) h p = absurd h
 two_each R P Q f (x ∷ xs) [] h p = absurd h
 two_each R P Q f (x ∷ xs) (y ∷ ys) h p = (f x y h.0 p.0, two_each R P Q f xs ys h.1 p.1)
 
-pub moved_then : (t0 t1 t2 : Option (List ℕ)) (e0 e1 e2 g0 g1 g2 : ℕ) (f0 f1 f2 : Cursor) → Moved t0 t1 e0 e1 g0 g1 f0 f1 → Moved t1 t2 e1 e2 g1 g2 f1 f2 → Moved t0 t2 e0 e2 g0 g2 f0 f2
+pub moved_then : (t0 t1 t2 : Option (List ℕ)) (e0 e1 e2 g0 g1 g2 : ℕ) (f0 f1 f2 : CursorState) → Moved t0 t1 e0 e1 g0 g1 f0 f1 → Moved t1 t2 e1 e2 g1 g2 f1 f2 → Moved t0 t2 e0 e2 g0 g2 f0 f2
 moved_then t0 t1 t2 e0 e1 e2 g0 g1 g2 f0 f1 f2 a b =
     let p = a.spent in let q = b.spent in
     record { text_kept = b.text_kept ∙ a.text_kept; extent_kept = b.extent_kept ∙ a.extent_kept; spent = omega arith; start_kept = b.start_kept ∙ a.start_kept }
 
-pub moved_not : (t : Option (List ℕ)) (e g : ℕ) (f : Cursor) → Moved t t e e g g f f
+pub moved_not : (t : Option (List ℕ)) (e g : ℕ) (f : CursorState) → Moved t t e e g g f f
 moved_not t e g f = record { text_kept = refl; extent_kept = refl; spent = omega arith; start_kept = refl }
 
 two_trans : {X : Type 0} (R : X → X → Type 0) → ((x y z : X) → R x y → R y z → R x z) → (xs ys zs : List X) → AllTwo R xs ys → AllTwo R ys zs → AllTwo R xs zs

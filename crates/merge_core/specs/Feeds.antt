@@ -4,7 +4,7 @@ use Rattle.std.specs.List.{AllByRecursion}
 use Rattle.cdxj_places.specs.TextLines.{lines}
 use Rattle.cdxj_core.specs.Members.{Member, line_entry}
 use Rattle.cdxj_core.specs.Indexes.{IsRun}
-use Rattle.source_core.specs.declared.cursor.Cursor.{Cursor}
+use Rattle.source_core.specs.Cursors.{CursorState}
 use Rattle.source_core.specs.Cursors.{Stands, reach}
 use Rattle.merge_core.specs.declared.feed.Progress.{Progress}
 use Rattle.merge_core.specs.declared.feed.Progress.TheVariants.{Due, Waiting, Past, Ended}
@@ -43,7 +43,7 @@ no_member = record {
 }
 
 -- the lines that were read, of a source with this text
-abbrev pub read_lines : List ℕ → Cursor → List (List ℕ)
+abbrev pub read_lines : List ℕ → CursorState → List (List ℕ)
 read_lines text c = take c.count (lines (drop c.start text))
 
 -- the feed whose next line is to be read
@@ -57,7 +57,7 @@ module _ (limit : ℕ) where
   member_of line = unwrap_or (line_entry limit line) no_member
 
   -- what the lines say that were read
-  abbrev pub given : List ℕ → Cursor → List Member
+  abbrev pub given : List ℕ → CursorState → List Member
   given text c = map member_of (read_lines text c)
 
   -- those of them that are done
@@ -99,7 +99,7 @@ module _ (limit : ℕ) where
         pub fed : AreFed 0 ss fs ws
 
 -- what may change of a source and its cursor in a call, whatever it answers
-pub record Moved (old_text text : Option (List ℕ)) (old_extent extent old_gave gave : ℕ) (old now : Cursor) : Type 0 where
+pub record Moved (old_text text : Option (List ℕ)) (old_extent extent old_gave gave : ℕ) (old now : CursorState) : Type 0 where
   pub text_kept : text ≡ old_text
   pub extent_kept : extent ≡ old_extent
   pub spent : gave + reach old ≤ old_gave + reach now

@@ -5,3 +5,4 @@ pub mod Feeds
 pub mod Gathering
 pub mod Failures
 pub mod Reached
+pub mod Written

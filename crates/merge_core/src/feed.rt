@@ -116,7 +116,7 @@ impl Feed {
             × (map (λ b. b.value) rest.new.items ≡ map (λ b. b.value) rest.old.items ++ taken)
             × AllByRecursion (λ m. Alike (member_pair m) (member_pair first.now)) taken) }
     {
-        let mut begin = self.cursor.at;
+        let mut begin = self.cursor.at();
         while let Some(line) = store.next_line(source, &mut self.cursor)? {
             match compare_pairs(&line, first) {
                 Ordering::Less => return Err(FeedFault::OutOfOrder(begin)),
@@ -126,7 +126,7 @@ impl Feed {
                     Err(_) => return Err(FeedFault::Memory),
                 },
             }
-            begin = self.cursor.at;
+            begin = self.cursor.at();
         }
         self.progress = Progress::Ended;
         Ok(None)

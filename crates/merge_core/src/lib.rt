@@ -3,7 +3,9 @@
 
 mod fault;
 mod feed;
+mod line_writer;
 mod merging;
+mod opening;
 mod pair;
 mod queue;
 mod range;
@@ -11,3 +13,10 @@ mod sink;
 mod store;
 mod streams;
 mod waiting;
+
+pub use crate::fault::{FeedFault, MergeFault, SinkFault};
+pub use crate::line_writer::LineWriter;
+pub use crate::merging::merge;
+pub use crate::range::{All, Range};
+pub use crate::sink::Sink;
+pub use crate::streams::Streams;

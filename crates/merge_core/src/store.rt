@@ -83,7 +83,7 @@ impl Store {
             ((read_lines t cursor.new ≡ read_lines t cursor.old) × (lines (drop cursor.new.at t) ≡ []))
             (λ line. (l : List ℕ) × (read_lines t cursor.new ≡ read_lines t cursor.old ++ l ∷ []) × (line_entry LINE_LIMIT l ≡ Some line.value))) }
     {
-        let begin = cursor.at;
+        let begin = cursor.at();
         match cursor.next(source, &mut self.bytes) {
             Ok(false) => Ok(None),
             Ok(true) => match self.line() {

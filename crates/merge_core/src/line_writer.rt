@@ -1,0 +1,87 @@
+//! The writing of lines as they stand.
+ghost use Rattle.std.specs.Prelude.{◌≡◌, ◌+◌, ◌-◌, ◌^◌, min, OnOk, OnErr};
+ghost use Rattle.std.specs.Io.KnownBytes.{Appends};
+ghost use Rattle.devices.specs.Device.{AppendsPrefix};
+ghost use Rattle.merge_core.specs.Reached.{CountsWrite};
+ghost use Rattle.merge_core.specs.Written.{line_row};
+
+use crate::fault::SinkFault;
+use crate::sink::Sink;
+use cdxj_core::Line;
+use devices::{Output, put};
+use std::alloc::{AllocError, Global};
+
+/// Writes each line that it takes, as it stands in its index.
+#[derive(Drop)]
+pub struct LineWriter {
+    /// How many lines were written. It stays at 2^64 - 1.
+    pub count: u64,
+    row: Vec<u8>,
+}
+
+fn fill_row(row: &mut Vec<u8>, line: &Line) -> Result<(), AllocError>
+    ensures { OnOk result (row.new.items ≡ line_row line.now) }
+{
+    row.clear();
+    row.extend_from_slice(line.line())?;
+    row.extend_from_slice(b"\n")?;
+    Ok(())
+}
+
+impl LineWriter {
+    /// A writer that has written nothing.
+    pub fn new(alloc: Global) -> LineWriter
+        ensures { result.count ≡ 0 }
+    {
+        LineWriter {
+            count: 0,
+            row: Vec::new(alloc),
+        }
+    }
+
+    fn put_line<O: Output>(&mut self, line: &Line, out: &mut O) -> Result<(), SinkFault>
+        ensures text { OnOk result (Appends (O.written out.old) (O.written out.new) (line_row line.now)) }
+        ensures part { OnErr result (AppendsPrefix (O.written out.old) (O.written out.new) (line_row line.now)) }
+        ensures count { OnOk result (self.new.count ≡ min (self.old.count + 1) (2 ^ 64 - 1)) }
+        ensures failures { CountsWrite result (O.failures out.old) (O.failures out.new) }
+    {
+        match fill_row(&mut self.row, line) {
+            Ok(()) => {}
+            Err(_) => return Err(SinkFault::Memory),
+        }
+        match put(out, &self.row) {
+            Ok(()) => {}
+            Err(_) => return Err(SinkFault::Write),
+        }
+        self.count = self.count.saturating_add(1);
+        Ok(())
+    }
+}
+
+impl Sink for LineWriter {
+    ghost use Rattle.std.specs.Prelude.{◌≡◌, ◌-◌, ◌^◌, length, min};
+    ghost use Rattle.std.specs.Io.KnownBytes.{Appends};
+    ghost use Rattle.devices.specs.Device.{AppendsPrefix};
+    ghost use Rattle.merge_core.specs.Written.{lines_text};
+
+    ghost Wrote = { λ _ w taken start now. Appends start now (lines_text taken) × (w.count ≡ min (length taken) (2 ^ 64 - 1)) };
+
+    ghost Broke = { λ _ taken start now. AppendsPrefix start now (lines_text taken) };
+
+    ghost Enough = { λ _. ⊥ };
+
+    fn take<O: Output>(
+        &mut self,
+        _alloc: Global,
+        lines: &[&Line],
+        out: &mut O,
+    ) -> Result<bool, SinkFault> {
+        for line in lines {
+            match self.put_line(line, out) {
+                Ok(()) => {}
+                Err(fault) => return Err(fault),
+            }
+        }
+        Ok(true)
+    }
+}

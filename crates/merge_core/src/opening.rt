@@ -1,0 +1,91 @@
+//! The opening of sources.
+ghost use Rattle.std.specs.Prelude.{◌≡◌, ◌≢◌, ◌++◌, ◌∷◌, ℕ, Option, List, [], length, map, Some, MatchOption, IfOk, IfErr, OnOk};
+ghost use Rattle.std.specs.List.{AllByRecursion};
+ghost use Rattle.std.specs.List.Sorted.{IsPermutation};
+ghost use Rattle.cdxj_core.specs.declared.limit.TheConstants.{LINE_LIMIT};
+ghost use Rattle.cdxj_core.specs.Members.{Member};
+ghost use Rattle.devices.specs.Device.{next_count};
+ghost use Rattle.source_core.specs.Cursors.{Stands};
+ghost use Rattle.merge_core.specs.Failures.{RaisedAt};
+
+use crate::fault::{FeedFault, MergeFault};
+use crate::feed::{Feed, Progress};
+use crate::queue::Queue;
+use crate::range::Range;
+use crate::store::Store;
+use crate::streams::Streams;
+use source_core::{Cursor, Source};
+use std::alloc::Global;
+
+impl Streams {
+    ghost use Rattle.merge_core.specs.declared.feed.Feed.{Feed};
+    ghost use Rattle.merge_core.specs.Feeds.{Fed, Ready, option_list, done};
+    ghost use Rattle.merge_core.specs.Gathering.{all_done};
+
+    /// Adds a source, of which the first line after the cursor is read.
+    fn add<S: Source, R: Range>(
+        &mut self,
+        source: &mut S,
+        cursor: Cursor,
+        range: &R,
+    ) -> Result<(), FeedFault>
+        requires stands { Stands (S.text source.old) (S.extent source.old) cursor }
+        requires fresh { cursor.count ≡ 0 }
+        ensures text { S.text source.new ≡ S.text source.old }
+        ensures extent { S.extent source.new ≡ S.extent source.old }
+        ensures worked { OnOk result (S.failures source.new ≡ S.failures source.old) }
+        ensures failed { IfErr result (λ e. e ≡ FeedFault.Read → S.failures source.new ≡ next_count (S.failures source.old)) }
+        ensures added { OnOk result ((f : Feed) × (o : Option Member) × (self.new.feeds.items ≡ self.old.feeds.items ++ f ∷ [])
+            × MatchOption o (self.new.waiting ≡ self.old.waiting) (λ m. IsPermutation (record { member = m; source = length self.old.feeds.items } ∷ self.old.waiting) self.new.waiting)
+            × Fed LINE_LIMIT (R.past range.now) (S.text source.new) (S.extent source.new) f (option_list o)
+            × (f.cursor.start ≡ cursor.start) × ((t : List ℕ) → S.text source.old ≡ Some t → done LINE_LIMIT t f ≡ [])) }
+    {
+        let mut feed = Feed {
+            cursor,
+            progress: Progress::Due,
+        };
+        let next = feed.begin(source, range, &mut self.store)?;
+        let number = self.feeds.len();
+        match self.feeds.push(feed) {
+            Ok(()) => {}
+            Err(_) => return Err(FeedFault::Memory),
+        }
+        match self.let_wait(next, number) {
+            Ok(()) => Ok(()),
+            Err(_) => Err(FeedFault::Memory),
+        }
+    }
+
+    /// All lines of the sources, of each of which the first is read.
+    pub fn open<S: Source, R: Range>(
+        alloc: Global,
+        sources: &mut [S],
+        range: &R,
+    ) -> Result<Streams, MergeFault>
+        ensures text { map S.text sources.new ≡ map S.text sources.old }
+        ensures extent { map S.extent sources.new ≡ map S.extent sources.old }
+        ensures worked { OnOk result (map S.failures sources.new ≡ map S.failures sources.old) }
+        ensures read { IfErr result (λ e. (n : ℕ) → e ≡ MergeFault.Feed n FeedFault.Read → RaisedAt n (map S.failures sources.old) (map S.failures sources.new)) }
+        ensures unwritten { IfErr result (λ e. e ≢ MergeFault.Write) }
+        ensures ready { IfOk result (λ s. Ready LINE_LIMIT (R.past range.now) S.text S.extent sources.new s.feeds.items s.waiting) }
+        ensures start { IfOk result (λ s. AllByRecursion (λ f. f.cursor.start ≡ 0) s.feeds.items) }
+        ensures fresh { IfOk result (λ s. all_done LINE_LIMIT S.text sources.new s.feeds.items ≡ []) }
+    {
+        let mut streams = Streams {
+            feeds: Vec::new(alloc),
+            waiting: Queue::new(alloc),
+            store: Store::new(alloc),
+        };
+        for i in 0..sources.len() {
+            let cursor = match Cursor::new(alloc, 0) {
+                Ok(cursor) => cursor,
+                Err(_) => return Err(MergeFault::Memory),
+            };
+            match streams.add(&mut sources[i], cursor, range) {
+                Ok(()) => {}
+                Err(fault) => return Err(MergeFault::Feed(i, fault)),
+            }
+        }
+        Ok(streams)
+    }
+}
