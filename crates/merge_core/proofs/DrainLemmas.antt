@@ -1,5 +1,5 @@
 -- What a call that reads the next line makes of a feed.
-use Rattle.std.proofs.Common.{◌≡◌, ℕ, ◌+◌, ◌≤◌, ◌∷◌, ◌++◌, List, [], refl, sym, ap, ◌∙◌, subst, arith, Bool, Option, Some, None, MatchOption, drop, map, length, append_assoc}
+use Rattle.std.proofs.Common.{◌≡◌, ℕ, ◌+◌, ◌∷◌, ◌++◌, List, [], sym, ap, ◌∙◌, subst, Bool, Option, Some, None, MatchOption, drop, append_assoc}
 use Rattle.std.specs.List.{AllByRecursion}
 use Rattle.cdxj_places.specs.Pairs.{Pair}
 use Rattle.cdxj_places.specs.TextLines.{lines}
@@ -10,7 +10,7 @@ use Rattle.merge_core.specs.declared.feed.Progress.TheVariants.{Due, Ended}
 use Rattle.merge_core.specs.declared.feed.Feed.{Feed}
 use Rattle.merge_core.specs.PairOrders.{Upto, Alike}
 use Rattle.merge_core.specs.Feeds.{IsNext, Fed, read_lines, done}
-use Rattle.merge_core.proofs.FeedLemmas.{each_join, map_push, ReadNext, line_read, fed_same, fed_next, done_next, fed_taken, done_taken, fed_ended, done_ended}
+use Rattle.merge_core.proofs.FeedLemmas.{each_join, ReadNext, line_read, fed_same, fed_next, done_next, fed_taken, done_taken, fed_ended}
 
 module _ {L : Type 0} (limit : ℕ) (past : List ℕ → Bool) (seen : L → Member) (t0 t1 : Option (List ℕ)) (e0 e1 : ℕ) (old : Feed) (new : CursorState) (o : Option L) (text : t1 ≡ t0) (extent : e1 ≡ e0)
     (is_due : old.progress ≡ Due) (was : Fed limit past t0 e0 old []) (stands : Stands t1 e1 new) (start : new.start ≡ old.cursor.start)
@@ -55,7 +55,7 @@ module _ {L : Type 0} (limit : ℕ) (past : List ℕ → Bool) (seen : L → Mem
     at_end = fed_ended limit past t1 e1 old f is_due was_here stands_here start_here
         (ap (λ (k : CursorState). k.count) cursor ∙ subst (λ p. MatchOption p (new.count ≡ old.cursor.count) (λ _. new.count ≡ old.cursor.count + 1)) is count)
         (λ t e. subst (λ (k : CursorState). (read_lines t k ≡ read_lines t old.cursor) × (lines (drop k.at t) ≡ [])) (sym cursor)
-            (subst (λ p. MatchOption p ((read_lines t new ≡ read_lines t old.cursor) × (lines (drop new.at t) ≡ [])) (λ l. ReadNext limit t old.cursor new (seen l))) is (given t (sym text ∙ e))))
+        (subst (λ p. MatchOption p ((read_lines t new ≡ read_lines t old.cursor) × (lines (drop new.at t) ≡ [])) (λ l. ReadNext limit t old.cursor new (seen l))) is (given t (sym text ∙ e))))
         ended
 
 -- one line more was taken

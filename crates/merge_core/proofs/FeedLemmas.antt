@@ -1,5 +1,5 @@
 -- What one line more makes of a feed.
-use Rattle.std.proofs.Common.{◌≡◌, ◌≢◌, ℕ, zero, suc, ◌+◌, ◌-◌, ◌<◌, ◌≤◌, List, [], ◌∷◌, ◌++◌, length, refl, sym, ap, ap₂, ◌∙◌, subst, arith, Bool, false, Option, Some, None, MatchOption, take, drop, map, unwrap_or}
+use Rattle.std.proofs.Common.{◌≡◌, ℕ, zero, suc, ◌+◌, ◌-◌, ◌≤◌, List, [], ◌∷◌, ◌++◌, length, refl, sym, ap, ap₂, ◌∙◌, subst, arith, Bool, false, Option, Some, None, MatchOption, take, drop, map, unwrap_or}
 use Rattle.std.specs.List.{AllByRecursion}
 use Rattle.cdxj_places.proofs.RisingLaws.{each_weaker}
 use Rattle.cdxj_places.specs.Pairs.{Pair, pair_cmp}
@@ -15,7 +15,7 @@ use Rattle.merge_core.specs.declared.feed.Progress.{Progress}
 use Rattle.merge_core.specs.declared.feed.Progress.TheVariants.{Due, Waiting, Past, Ended}
 use Rattle.merge_core.specs.declared.feed.Feed.{Feed}
 use Rattle.merge_core.specs.PairOrders.{Upto}
-use Rattle.merge_core.specs.Feeds.{AreWaits, IsNext, IsHead, FedOf, Fed, held, read_lines, member_of, no_member, given, done}
+use Rattle.merge_core.specs.Feeds.{AreWaits, IsNext, IsHead, Fed, held, read_lines, member_of, no_member, given, done}
 use Rattle.merge_core.proofs.PairOrder.{upto_upto}
 
 pub no_entry : (limit : ℕ) (line : List ℕ) (o : Option Member) → o ≡ line_entry limit line → limit ≤ length (body_of line) → o ≡ None

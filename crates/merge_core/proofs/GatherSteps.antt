@@ -1,5 +1,5 @@
 -- The steps of a group's gathering.
-use Rattle.std.proofs.Common.{◌≡◌, ℕ, ◌+◌, ◌-◌, ◌<◌, ◌≤◌, List, [], ◌∷◌, ◌++◌, length, get_or, set, take, drop, zip, flat_map, Bool, true, false, is_lt, Option, None, Some, inl, inr, refl, sym, ap, ap₂, ◌∙◌, subst, arith, length-set, drop-set-lt}
+use Rattle.std.proofs.Common.{◌≡◌, ℕ, ◌+◌, ◌<◌, ◌≤◌, List, [], ◌∷◌, ◌++◌, length, get_or, set, take, drop, zip, flat_map, Bool, true, false, is_lt, Option, refl, sym, ap, ap₂, ◌∙◌, subst, arith, length-set, drop-set-lt}
 use Rattle.std.specs.List.{AllByRecursion}
 use Rattle.std.specs.List.Sorted.{IsPermutation}
 use Rattle.std.specs.Option.{is_some}
@@ -8,9 +8,8 @@ use Rattle.std.proofs.lemmas.List.Sorted.{length_permutation}
 use Rattle.cdxj_places.specs.Pairs.{Pair}
 use Rattle.cdxj_places.proofs.RisingLaws.{each_weaker}
 use Rattle.cdxj_core.specs.Members.{Member, member_pair}
-use Rattle.merge_core.specs.declared.feed.Progress.TheVariants.{Due}
 use Rattle.merge_core.specs.declared.feed.Feed.{Feed}
-use Rattle.merge_core.specs.PairOrders.{Alike, Below, Upto}
+use Rattle.merge_core.specs.PairOrders.{Alike, Upto}
 use Rattle.merge_core.specs.WaitingLines.{WaitingLine, waiting_pair, turn_cmp}
 use Rattle.merge_core.specs.Feeds.{Ready, done, due}
 use Rattle.merge_core.specs.Gathering.{AllTwo, Gathered, AreTold, text_or, all_done, unread, IsFrom, IsDue, Drained}
@@ -18,7 +17,7 @@ use Rattle.merge_core.proofs.PairOrder.{upto_upto, same_upto}
 use Rattle.merge_core.proofs.HeapLemmas.{each_get, each_permuted}
 use Rattle.merge_core.proofs.Many.{is_told, zip_set, zip_at, length_zip, Move, moved_trans, moved_still, moved_set, moved_not, told_moved, unread_set}
 use Rattle.merge_core.proofs.StreamLemmas.{inside_sources, inside_feeds, none_left, popped_ready, popped_done, popped_low}
-use Rattle.merge_core.proofs.GroupLemmas.{from_popped, AreAt, AreBelow, all_sources, last_changes, next_changes, rest_changes}
+use Rattle.merge_core.proofs.GroupLemmas.{from_popped, AreBelow, all_sources, last_changes, next_changes, rest_changes}
 
 any_of : {X : Type 0} (xs : List X) (i : ℕ) → i < length xs → X
 any_of [] i l = absurd (omega arith)

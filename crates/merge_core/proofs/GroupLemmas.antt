@@ -1,31 +1,23 @@
 -- The lines of one pair, taken of one source after another.
-use Rattle.std.proofs.Common.{◌≡◌, ◌≢◌, ℕ, zero, suc, ◌+◌, ◌-◌, ◌<◌, ◌≤◌, List, [], ◌∷◌, ◌++◌, length, get_or, set, take, drop, map, zip, flat_map, filter, Bool, true, false, not, is_lt, Equal, Option, None, Some, inl, inr, refl, sym, ap, ap₂, ◌∙◌, subst, arith, append-nil, append_assoc, drop-drop, drop-set-lt, length-set, take-append-drop}
+use Rattle.std.proofs.Common.{◌≡◌, ◌≢◌, ℕ, ◌+◌, ◌-◌, ◌<◌, ◌≤◌, List, [], ◌∷◌, ◌++◌, length, get_or, set, take, drop, flat_map, filter, Bool, true, false, not, is_lt, Equal, inl, inr, refl, sym, ap, ap₂, ◌∙◌, subst, arith, append-nil, append_assoc, drop-drop, drop-set-lt, take-append-drop}
 use Rattle.std.specs.List.{AllByRecursion}
-use Rattle.std.specs.List.Sorted.{IsPermutation}
-use Rattle.std.specs.Option.{is_some}
 use Rattle.std.proofs.Math.Seq.{take-add}
 use Rattle.std.proofs.lemmas.Bool.{cond-false, cond-true}
 use Rattle.std.proofs.lemmas.Cmp.{tied_back}
-use Rattle.std.proofs.lemmas.List.{take_all, take_more, take_more_set, set-get_or, get_or-set_same, get_or_default}
+use Rattle.std.proofs.lemmas.List.{take_all, take_more, take_more_set}
 use Rattle.std.proofs.lemmas.List.Concat.{flat_map-append}
 use Rattle.std.proofs.lemmas.List.Elements.{filter-append}
-use Rattle.std.proofs.lemmas.List.Sorted.{length_permutation}
 use Rattle.cdxj_places.specs.Pairs.{Pair, pair_cmp}
 use Rattle.cdxj_places.proofs.PairLemmas.{pair_cmp_total}
 use Rattle.cdxj_places.proofs.RisingLaws.{each_weaker}
 use Rattle.cdxj_core.specs.Members.{Member, member_pair}
-use Rattle.merge_core.specs.declared.feed.Progress.TheVariants.{Due}
-use Rattle.merge_core.specs.declared.feed.Feed.{Feed}
 use Rattle.merge_core.specs.PairOrders.{Alike, Below, Upto, is_low}
 use Rattle.merge_core.specs.WaitingLines.{WaitingLine, waiting_pair, turn_cmp, waits_of}
-use Rattle.merge_core.specs.Feeds.{Ready, done, due}
-use Rattle.merge_core.specs.Gathering.{AllTwo, Gathered, AreTold, text_or, all_done, unread, IsFrom, IsDue, WaitsAbove, Drained, Grouped}
+use Rattle.merge_core.specs.Gathering.{Gathered, IsFrom, WaitsAbove}
 use Rattle.merge_core.proofs.PairOrder.{below_upto, same_upto, same_from, upto_upto, not_below_itself}
 use Rattle.merge_core.proofs.TurnLemmas.{not_before, source_after}
 use Rattle.merge_core.proofs.FeedLemmas.{each_join}
 use Rattle.merge_core.proofs.HeapLemmas.{each_permuted, none_waits}
-use Rattle.merge_core.proofs.Many.{is_told, zip_set, zip_at, length_zip, Move, moved_trans, moved_still, moved_set, told_moved, unread_set}
-use Rattle.merge_core.proofs.StreamLemmas.{inside_sources, inside_feeds, none_left, popped_ready, popped_done, popped_low}
 
 abbrev pub AreAt : Pair → List Member → Type 0
 AreAt pair = AllByRecursion (λ m. Alike (member_pair m) pair)

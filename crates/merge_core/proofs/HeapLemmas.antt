@@ -1,5 +1,5 @@
 -- Which lines of each source wait, as lines come and go.
-use Rattle.std.proofs.Common.{◌≡◌, ◌≢◌, ℕ, zero, suc, ◌+◌, ◌==◌, ◌<◌, ◌≤◌, List, [], ◌∷◌, ◌++◌, length, get_or, map, filter, Bool, true, false, cond, refl, sym, ap, ap₂, ◌∙◌, subst, arith, sum_by, inl, inr}
+use Rattle.std.proofs.Common.{◌≡◌, ◌≢◌, ℕ, zero, suc, ◌==◌, ◌<◌, ◌≤◌, List, [], ◌∷◌, length, get_or, map, filter, true, false, cond, refl, sym, ap, ◌∙◌, subst, arith, sum_by, inl, inr}
 use Rattle.std.specs.List.{AllByRecursion, All}
 use Rattle.std.specs.List.Sorted.{IsPermutation}
 use Rattle.std.proofs.lemmas.Bool.{cond-true, cond-false, cases_Bool}
@@ -58,7 +58,7 @@ module _ (P : Member → Type 0) (i : ℕ) where
   waits_each [] h = tt
   waits_each (w ∷ ws) h =
       (elim (is_of i w) as (λ b. AllByRecursion P (map (λ (w : WaitingLine). w.member) (cond b (w ∷ filter (is_of i) ws) (filter (is_of i) ws)))
-          → (b ≡ true → P w.member) × AllByRecursion (λ w. is_of i w ≡ true → P w.member) ws)
+      → (b ≡ true → P w.member) × AllByRecursion (λ w. is_of i w ≡ true → P w.member) ws)
       [ true ↦ (λ k. (λ e. k.0, waits_each ws k.1)) | false ↦ (λ k. (λ e. absurd (cc), waits_each ws k)) ]) h
 
 all_same : (us vs : List Member) → length us ≤ 1 → length vs ≡ length us → ((m : Member) → us ≡ m ∷ [] → AllByRecursion (λ k. k ≡ m) vs) → vs ≡ us

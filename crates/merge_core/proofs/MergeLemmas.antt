@@ -1,8 +1,8 @@
 -- One group more of a merge.
-use Rattle.std.proofs.Common.{◌≡◌, ℕ, Result, Ok, Err, OnErr, List, [], ◌∷◌, ◌++◌, refl, sym, ap, ap₂, ◌∙◌, subst, Option, Some, None, filter, map, not, true, false, Less, Equal, Greater, Ordering, is_lt, is_gt}
+use Rattle.std.proofs.Common.{◌≡◌, ℕ, Result, Ok, Err, OnErr, List, [], ◌∷◌, ◌++◌, refl, sym, ap, ap₂, ◌∙◌, subst, Option, Some, None, map, true, Less, Equal, Greater, Ordering, is_lt, is_gt}
 use Rattle.std.specs.List.{AllByRecursion}
 use Rattle.std.specs.Ordering.{ordering_reverse}
-use Rattle.cdxj_places.specs.Pairs.{Pair, pair_cmp}
+use Rattle.cdxj_places.specs.Pairs.{Pair}
 use Rattle.cdxj_places.specs.Places.{place_cmp}
 use Rattle.cdxj_places.specs.Rising.{IsLower, Rises, rising}
 use Rattle.cdxj_places.proofs.PairLemmas.{lower_pair}

@@ -1,5 +1,5 @@
 -- The opening of sources, one after another.
-use Rattle.std.proofs.Common.{◌≡◌, ◌≢◌, ℕ, zero, suc, ◌+◌, ◌-◌, ◌<◌, ◌≤◌, List, [], ◌∷◌, ◌++◌, length, set, zip, flat_map, map, take, drop, Bool, Option, Some, None, MatchOption, refl, sym, ap, ap₂, ◌∙◌, subst, arith, append-nil, length-append}
+use Rattle.std.proofs.Common.{◌≡◌, ◌≢◌, ℕ, zero, suc, ◌+◌, ◌-◌, ◌<◌, List, [], ◌∷◌, ◌++◌, length, set, zip, flat_map, map, take, drop, Bool, Option, Some, None, MatchOption, refl, sym, ap, ap₂, ◌∙◌, subst, arith, append-nil, length-append}
 use Rattle.std.specs.List.{AllByRecursion}
 use Rattle.std.specs.List.Sorted.{IsPermutation}
 use Rattle.std.proofs.lemmas.List.{take_all, drop_all}
@@ -12,9 +12,9 @@ use Rattle.source_core.specs.Cursors.{CursorState, Stands}
 use Rattle.merge_core.specs.declared.feed.Progress.TheVariants.{Due}
 use Rattle.merge_core.specs.declared.feed.Feed.{Feed}
 use Rattle.merge_core.specs.WaitingLines.{WaitingLine, waits_of}
-use Rattle.merge_core.specs.Feeds.{Fed, AreFed, option_list, read_lines, given, held, member_of, done}
+use Rattle.merge_core.specs.Feeds.{Fed, AreFed, option_list, given, held, member_of, done}
 use Rattle.merge_core.specs.Gathering.{text_or}
-use Rattle.merge_core.proofs.FeedLemmas.{each_join, done_due}
+use Rattle.merge_core.proofs.FeedLemmas.{done_due}
 use Rattle.merge_core.proofs.HeapLemmas.{each_permuted, waits_here, waits_other}
 use Rattle.merge_core.proofs.StreamLemmas.{fed_permuted}
 
@@ -48,27 +48,30 @@ module _ (limit : ℕ) (past : List ℕ → Bool) where
     fed_push n (suc i) (x ∷ ss) [] ws ws' s f e l h same k = absurd (omega arith)
     fed_push n zero (x ∷ ss) (y ∷ fs) ws ws' s f e l h same k = absurd (omega arith)
     fed_push n (suc i) (x ∷ ss) (y ∷ fs) ws ws' s f e l h same k =
-        let q : n + suc i ≡ (n + 1) + i = omega arith in
-        (subst (Fed limit past (text x) (extent x) y) (sym (same n (λ p. absurd (omega arith)))) h.0,
-        fed_push (n + 1) i ss fs ws ws' s f (omega arith) (omega arith) h.1 (λ j p. same j (subst (λ m. j ≢ m) (sym q) p)) (subst (λ m. Fed limit past (text s) (extent s) f (waits_of m ws')) q k))
+        let q : n + suc i ≡ (n + 1) + i = omega arith in (
+          subst (Fed limit past (text x) (extent x) y) (sym (same n (λ p. absurd (omega arith)))) h.0,
+          fed_push (n + 1) i ss fs ws ws' s f (omega arith) (omega arith) h.1 (λ j p. same j (subst (λ m. j ≢ m) (sym q) p)) (subst (λ m. Fed limit past (text s) (extent s) f (waits_of m ws')) q k),
+        )
 
     pub fed_added : (i : ℕ) (ss : List S) (fs : List Feed) (ws ws' : List WaitingLine) (s : S) (f : Feed) (o : Option Member) → length fs ≡ i → i < length ss → AllByRecursion (λ (w : WaitingLine). w.source < length fs) ws
         → AreFed limit past text extent 0 ss fs ws → MatchOption o (ws' ≡ ws) (λ m. IsPermutation (record { member = m; source = length fs } ∷ ws) ws') → Fed limit past (text s) (extent s) f (option_list o)
         → AllByRecursion (λ (w : WaitingLine). w.source < length (fs ++ f ∷ [])) ws' × AreFed limit past text extent 0 (set ss i s) (fs ++ f ∷ []) ws'
     fed_added i ss fs ws ws' s f None e l placed h m fed =
-        let long = length-append fs (f ∷ []) in
-        (subst (AllByRecursion (λ (w : WaitingLine). w.source < length (fs ++ f ∷ []))) (sym m) (each_weaker (λ (w : WaitingLine) (p : w.source < length fs). (let q : w.source < length (fs ++ f ∷ []) = omega arith in q)) ws placed),
-        subst (AreFed limit past text extent 0 (set ss i s) (fs ++ f ∷ [])) (sym m) (fed_push 0 i ss fs ws ws s f e l h (λ j p. refl)
-        (subst (Fed limit past (text s) (extent s) f) (sym (waits_none (length fs) ws placed) ∙ ap (λ n. waits_of n ws) (let q : length fs ≡ 0 + i = omega arith in q)) fed)))
+        let long = length-append fs (f ∷ []) in (
+          subst (AllByRecursion (λ (w : WaitingLine). w.source < length (fs ++ f ∷ []))) (sym m) (each_weaker (λ (w : WaitingLine) (p : w.source < length fs). (let q : w.source < length (fs ++ f ∷ []) = omega arith in q)) ws placed),
+          subst (AreFed limit past text extent 0 (set ss i s) (fs ++ f ∷ [])) (sym m) (fed_push 0 i ss fs ws ws s f e l h (λ j p. refl)
+              (subst (Fed limit past (text s) (extent s) f) (sym (waits_none (length fs) ws placed) ∙ ap (λ n. waits_of n ws) (let q : length fs ≡ 0 + i = omega arith in q)) fed)),
+        )
     fed_added i ss fs ws ws' s f (Some x) e l placed h m fed =
         let w : WaitingLine = record { member = x; source = length fs } in
         let long = length-append fs (f ∷ []) in
-        let here : waits_of (length fs) (w ∷ ws) ≡ x ∷ [] = waits_here (length fs) w ws refl ∙ ap (λ l. x ∷ l) (waits_none (length fs) ws placed) in
-        (each_permuted (λ (w : WaitingLine). w.source < length (fs ++ f ∷ [])) (w ∷ ws) ws' m
-        (omega arith, each_weaker (λ (w : WaitingLine) (p : w.source < length fs). (let q : w.source < length (fs ++ f ∷ []) = omega arith in q)) ws placed),
-        fed_permuted limit past text extent 0 (set ss i s) (fs ++ f ∷ []) (w ∷ ws) ws' m
-        (fed_push 0 i ss fs ws (w ∷ ws) s f e l h (λ j p. waits_other j w ws (λ q. absurd (omega arith)))
-        (subst (Fed limit past (text s) (extent s) f) (sym here ∙ ap (λ n. waits_of n (w ∷ ws)) (let q : length fs ≡ 0 + i = omega arith in q)) fed)))
+        let here : waits_of (length fs) (w ∷ ws) ≡ x ∷ [] = waits_here (length fs) w ws refl ∙ ap (λ l. x ∷ l) (waits_none (length fs) ws placed) in (
+          each_permuted (λ (w : WaitingLine). w.source < length (fs ++ f ∷ [])) (w ∷ ws) ws' m
+              (omega arith, each_weaker (λ (w : WaitingLine) (p : w.source < length fs). (let q : w.source < length (fs ++ f ∷ []) = omega arith in q)) ws placed),
+          fed_permuted limit past text extent 0 (set ss i s) (fs ++ f ∷ []) (w ∷ ws) ws' m
+              (fed_push 0 i ss fs ws (w ∷ ws) s f e l h (λ j p. waits_other j w ws (λ q. absurd (omega arith)))
+              (subst (Fed limit past (text s) (extent s) f) (sym here ∙ ap (λ n. waits_of n (w ∷ ws)) (let q : length fs ≡ 0 + i = omega arith in q)) fed)),
+        )
 
 zip_none : {A B : Type 0} (xs : List A) (ys : List B) → ys ≡ [] → zip xs ys ≡ []
 zip_none [] ys e = refl

@@ -1,12 +1,10 @@
 -- The order of pairs is total.
 use Rattle.std.proofs.Common.{◌≡◌, ◌⊎◌, inl, inr, refl, false, sym, ap, ◌∙◌, Less, Equal, Greater, is_gt, is_lt}
-use Rattle.std.specs.Cmp.{IsTotalOrder}
 use Rattle.std.specs.Ordering.{ordering_reverse}
-use Rattle.std.proofs.lemmas.Cmp.{nat_list_cmp_total, on_total, then_total, alike_right, tied_itself, tied_back}
+use Rattle.std.proofs.lemmas.Cmp.{alike_right, tied_itself, tied_back}
 use Rattle.cdxj_places.specs.Pairs.{Pair, pair_cmp}
 use Rattle.cdxj_places.proofs.PairLemmas.{pair_cmp_total}
 use Rattle.merge_core.specs.PairOrders.{Below, Upto}
-
 
 pub below_upto : (p q : Pair) → Below p q → Upto p q
 below_upto p q h = ap is_gt h

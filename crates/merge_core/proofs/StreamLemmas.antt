@@ -1,23 +1,22 @@
 -- Sources and feeds, while lines wait.
-use Rattle.std.proofs.Common.{◌≡◌, ◌≢◌, ℕ, zero, suc, ◌+◌, ◌-◌, ◌<◌, ◌≤◌, List, [], ◌∷◌, ◌++◌, length, get_or, set, take, drop, map, Bool, false, Option, None, Some, MatchOption, option_map, refl, sym, ap, ap₂, ◌∙◌, subst, arith, inl, inr, add-zero, length-set}
+use Rattle.std.proofs.Common.{◌≡◌, ◌≢◌, ℕ, zero, suc, ◌+◌, ◌<◌, ◌≤◌, List, [], ◌∷◌, ◌++◌, length, get_or, set, drop, Bool, Option, None, Some, MatchOption, option_map, refl, sym, ap, ◌∙◌, subst, arith, add-zero, length-set}
 use Rattle.std.specs.List.{AllByRecursion}
 use Rattle.std.specs.List.Sorted.{IsPermutation}
-use Rattle.std.proofs.lemmas.List.{take_all, set-get_or}
+use Rattle.std.proofs.lemmas.List.{set-get_or}
 use Rattle.std.proofs.lemmas.List.Sorted.{length_permutation}
 use Rattle.cdxj_places.specs.Pairs.{pair_cmp}
 use Rattle.cdxj_places.specs.Rising.{NeverFalls}
 use Rattle.cdxj_places.specs.TextLines.{lines}
-use Rattle.cdxj_places.proofs.RisingLaws.{each_weaker}
 use Rattle.cdxj_core.specs.Members.{Member, member_pair}
 use Rattle.merge_core.specs.declared.feed.Progress.{Progress}
 use Rattle.merge_core.specs.declared.feed.Progress.TheVariants.{Due, Waiting, Past, Ended}
 use Rattle.merge_core.specs.declared.feed.Feed.{Feed}
 use Rattle.merge_core.specs.WaitingLines.{WaitingLine, waits_of}
-use Rattle.merge_core.specs.Feeds.{AreWaits, IsHead, FedOf, Fed, AreFed, Ready, held, given, done, due, option_list}
+use Rattle.merge_core.specs.Feeds.{AreWaits, IsHead, FedOf, Fed, AreFed, Ready, given, done, due, option_list}
 use Rattle.merge_core.specs.PairOrders.{Upto}
 use Rattle.merge_core.proofs.PairOrder.{upto_itself}
 use Rattle.merge_core.proofs.FeedLemmas.{each_join, done_due}
-use Rattle.merge_core.proofs.HeapLemmas.{each_get, each_permuted, waits_here, waits_other, waits_permuted}
+use Rattle.merge_core.proofs.HeapLemmas.{each_permuted, waits_here, waits_other, waits_permuted}
 
 few_waits : (p : Progress) (ws : List Member) → AreWaits p ws → length ws ≤ 1
 few_waits Due ws h = omega (arith, ap length h)
@@ -67,9 +66,10 @@ module _ (limit : ℕ) (past : List ℕ → Bool) {S : Type 0} (text : S → Opt
   fed_set n zero (x ∷ ss) (y ∷ fs) ws ws' s f same h k =
       (subst (λ j. Fed limit past (text s) (extent s) f (waits_of j ws')) (add-zero n) k, fed_other (n + 1) n ss fs ws ws' (omega arith) (λ j q. same j (subst (λ l. j ≢ l) (sym (add-zero n)) q)) h.1)
   fed_set n (suc i) (x ∷ ss) (y ∷ fs) ws ws' s f same h k =
-      let e : n + suc i ≡ (n + 1) + i = omega arith in
-      (subst (Fed limit past (text x) (extent x) y) (sym (same n (λ q. absurd (omega arith)))) h.0,
-      fed_set (n + 1) i ss fs ws ws' s f (λ j q. same j (subst (λ l. j ≢ l) (sym e) q)) h.1 (subst (λ l. Fed limit past (text s) (extent s) f (waits_of l ws')) e k))
+      let e : n + suc i ≡ (n + 1) + i = omega arith in (
+        subst (Fed limit past (text x) (extent x) y) (sym (same n (λ q. absurd (omega arith)))) h.0,
+        fed_set (n + 1) i ss fs ws ws' s f (λ j q. same j (subst (λ l. j ≢ l) (sym e) q)) h.1 (subst (λ l. Fed limit past (text s) (extent s) f (waits_of l ws')) e k),
+      )
 
   pub fed_permuted : (n : ℕ) (ss : List S) (fs : List Feed) (ws ws' : List WaitingLine) → IsPermutation ws ws' → AreFed limit past text extent n ss fs ws → AreFed limit past text extent n ss fs ws'
   fed_permuted n [] fs ws ws' p h = tt

@@ -1,5 +1,5 @@
 -- Whose turn comes first.
-use Rattle.std.proofs.Common.{◌≡◌, ℕ, ◌<◌, ◌≤◌, List, [], ◌∷◌, length, Option, Some, None, MatchOption, IfSome, inl, inr, refl, sym, get_or, false, true, ap, ◌∙◌, subst, arith, Ordering, Less, Equal, Greater, is_lt, is_gt, is_eq}
+use Rattle.std.proofs.Common.{◌≡◌, ◌<◌, ◌≤◌, List, [], ◌∷◌, length, Option, Some, None, MatchOption, IfSome, inl, inr, refl, sym, get_or, false, true, subst, arith, Ordering, Less, Equal, Greater, is_lt, is_eq}
 use Rattle.std.proofs.lemmas.Cmp.{tied_back}
 use Rattle.cdxj_places.proofs.PairLemmas.{pair_cmp_total}
 use Rattle.std.specs.List.{AllByRecursion}

@@ -1,5 +1,4 @@
 -- The order in which lines take their turn is total.
-use Rattle.std.proofs.Common.{◌≡◌}
 use Rattle.std.specs.Cmp.{IsTotalOrder}
 use Rattle.std.proofs.lemmas.Cmp.{nat_cmp_total, on_total, then_total, back_total}
 use Rattle.cdxj_places.proofs.PairLemmas.{pair_cmp_total}

@@ -77,7 +77,11 @@ impl Streams {
         }
     }
 
-    pub(crate) fn let_wait(&mut self, line: Option<Box<Line>>, source: usize) -> Result<(), MergeFault>
+    pub(crate) fn let_wait(
+        &mut self,
+        line: Option<Box<Line>>,
+        source: usize,
+    ) -> Result<(), MergeFault>
         ensures feeds { self.new.feeds.items ≡ self.old.feeds.items }
         ensures waiting { OnOk result (MatchOption line (self.new.waiting ≡ self.old.waiting)
             (λ b. IsPermutation (record { member = b.value; source = source } ∷ self.old.waiting) self.new.waiting)) }

@@ -1,5 +1,4 @@
-use Rattle.std.proofs.Common.{◌≡◌, ◌∷◌, ◌++◌, [], inl, inr, Box, Global, List, Option, Some, None, MatchOption, map, zip, refl, sym, ap, ap₂, ◌∙◌, subst}
-use Rattle.std.specs.List.{AllByRecursion}
+use Rattle.std.proofs.Common.{◌≡◌, ◌∷◌, ◌++◌, [], inl, inr, Box, Global, List, Some, None, MatchOption, map, zip, refl, sym, ap₂, ◌∙◌, subst}
 use Rattle.std.proofs.lemmas.Result.{err_from_is_err_and}
 use Rattle.cdxj_core.specs.declared.limit.TheConstants.{LINE_LIMIT}
 use Rattle.cdxj_core.specs.declared.line.Line.{Line}
@@ -131,8 +130,7 @@ returns-then-not-more-clause-wrote g c =
     let kept : Reached LINE_LIMIT text past extent gave old old_feeds now c.put_back.new.self.feeds.items c.put_back.new.self.waiting (Some pair) (came.1 ++ rising member_place place_cmp group) =
     subst (λ (fs : List Feed). Reached LINE_LIMIT text past extent gave old old_feeds now fs c.put_back.new.self.waiting (Some pair) (came.1 ++ rising member_place place_cmp group)) (sym c.put_back.ensures.feeds)
     (subst (λ (ws : List WaitingLine). Reached LINE_LIMIT text past extent gave old old_feeds now feeds ws (Some pair) (came.1 ++ rising member_place place_cmp group)) (sym c.put_back.ensures.waiting) reached) in
-    let wrote = c.in_ok-more.ensures.wrote in
-    (
+    let wrote = c.in_ok-more.ensures.wrote in (
       Some pair,
       came.1 ++ rising member_place place_cmp group,
       kept,

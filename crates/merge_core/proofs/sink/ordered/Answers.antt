@@ -1,9 +1,9 @@
-use Rattle.std.proofs.Common.{◌≡◌, map, ap, ◌∙◌, Bor, arith}
+use Rattle.std.proofs.Common.{map, ap, ◌∙◌, Bor, arith}
 use Rattle.std.proofs.lemmas.List.{take_all}
 use Rattle.cdxj_places.specs.Places.{place_cmp}
 use Rattle.cdxj_places.proofs.RisingAlike.{rising_referred}
 use Rattle.cdxj_core.specs.declared.line.Line.{Line}
-use Rattle.cdxj_core.specs.Members.{Member, member_place}
+use Rattle.cdxj_core.specs.Members.{member_place}
 use Rattle.merge_core.proofs.MergeLemmas.{map_seen}
 use Rattle.merge_core.proofs.sink.ordered.Goals as goal
 

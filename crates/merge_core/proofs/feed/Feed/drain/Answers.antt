@@ -1,4 +1,4 @@
-use Rattle.std.proofs.Common.{rules, ◌≡◌, ◌+◌, ◌<◌, ◌∷◌, ◌++◌, [], List, Box, Global, Equal, Greater, option_map, map, MatchOption, is_gt, refl, sym, ap, ◌∙◌, subst, arith}
+use Rattle.std.proofs.Common.{◌≡◌, ◌<◌, ◌∷◌, ◌++◌, [], Box, Global, option_map, map, MatchOption, refl, sym, ap, ◌∙◌, subst, arith}
 use Rattle.std.specs.List.{AllByRecursion}
 use Rattle.std.specs.Ordering.{ordering_reverse}
 use Rattle.cdxj_core.specs.declared.limit.TheConstants.{LINE_LIMIT}
@@ -6,7 +6,7 @@ use Rattle.cdxj_core.specs.declared.line.Line.{Line}
 use Rattle.cdxj_core.specs.Members.{member_pair}
 use Rattle.cdxj_places.specs.Pairs.{pair_cmp}
 use Rattle.cdxj_places.proofs.PairLemmas.{pair_cmp_total}
-use Rattle.merge_core.specs.declared.feed.Progress.TheVariants.{Due, Ended}
+use Rattle.merge_core.specs.declared.feed.Progress.TheVariants.{Ended}
 use Rattle.merge_core.specs.declared.feed.Feed.{Feed}
 use Rattle.merge_core.specs.PairOrders.{Alike, Below, Upto}
 use Rattle.merge_core.specs.Feeds.{option_list}
@@ -49,10 +49,10 @@ returns-in-Greater-clause-taken g c = λ t e.
     let h = inv.taken t e in (
       h.0,
       settled_done LINE_LIMIT (g.R.Range.past c.args.range.now) (λ (b : Box Line Global). b.value) (g.S.Source.text c.loop-line.source) (g.S.Source.text c.next_line.new.source)
-      (g.S.Source.extent c.loop-line.source) (g.S.Source.extent c.next_line.new.source) c.loop-line.self c.next_line.new.cursor c.in_ok-line.field-0 ok.text ok.extent
-      inv.due inv.fed ok.stands ok.start ok.count ok.given c.settle.new.self c.settle.ensures.cursor c.in-Some.line c.in-Some.is first
-      (λ t e. inv.low t (sym inv.text ∙ e)) (below_upto first (member_pair m) above)
-      (option_list (option_map (λ (b : Box Line Global). b.value) c.settle.result)) c.settle.ensures.next t ∙ h.1,
+          (g.S.Source.extent c.loop-line.source) (g.S.Source.extent c.next_line.new.source) c.loop-line.self c.next_line.new.cursor c.in_ok-line.field-0 ok.text ok.extent
+          inv.due inv.fed ok.stands ok.start ok.count ok.given c.settle.new.self c.settle.ensures.cursor c.in-Some.line c.in-Some.is first
+          (λ t e. inv.low t (sym inv.text ∙ e)) (below_upto first (member_pair m) above)
+          (option_list (option_map (λ (b : Box Line Global). b.value) c.settle.result)) c.settle.ensures.next t ∙ h.1,
       h.2,
       h.3,
     )

@@ -1,10 +1,8 @@
-use Rattle.std.proofs.Common.{◌≡◌, ◌∷◌, [], List, false, is_eq, is_lt, sym, ap, ap₂, ◌∙◌, subst, get_or, inl, inr}
+use Rattle.std.proofs.Common.{◌≡◌, List, false, is_eq, is_lt, sym, ap, ◌∙◌, subst, get_or}
 use Rattle.std.specs.List.{AllByRecursion}
-use Rattle.std.specs.BinaryHeap.{heap_items}
 use Rattle.std.proofs.lemmas.List.{get_or_default}
 use Rattle.cdxj_places.specs.Pairs.{pair_cmp}
-use Rattle.cdxj_core.specs.Members.{Member, member_pair}
-use Rattle.merge_core.specs.PairOrders.{Below, Upto}
+use Rattle.cdxj_core.specs.Members.{member_pair}
 use Rattle.merge_core.specs.WaitingLines.{WaitingLine, waiting_pair, turn_cmp}
 use Rattle.merge_core.proofs.TurnLemmas.{eq_is, all_later_unless}
 use Rattle.merge_core.proofs.queue.Queue.is_next_at.Goals as goal

@@ -1,8 +1,6 @@
-use Rattle.std.proofs.Common.{rules, true, ◌≡◌, ◌+◌, ◌∷◌, MatchOption, drop, take, sym, ap, ap₂, ◌∙◌, subst}
+use Rattle.std.proofs.Common.{rules, true, ◌≡◌, ◌+◌, ◌∷◌, MatchOption, drop, take, sym, ap₂, ◌∙◌, subst}
 use Rattle.cdxj_places.specs.TextLines.{lines}
-
 use Rattle.source_core.specs.IndexLines.{first_then, line_found}
-
 use Rattle.merge_core.proofs.FeedLemmas.{take_next}
 use Rattle.merge_core.proofs.store.Store.next_line.Goals as goal
 

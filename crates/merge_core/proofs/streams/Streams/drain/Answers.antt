@@ -1,7 +1,6 @@
-use Rattle.std.proofs.Common.{◌≡◌, ◌+◌, ◌-◌, ◌++◌, [], Box, Global, List, length, get_or, set, map, zip, option_map, refl, sym, ap, ◌∙◌, subst, arith}
+use Rattle.std.proofs.Common.{◌≡◌, ◌++◌, [], Box, Global, List, get_or, set, map, zip, refl, sym, ap, ◌∙◌, subst, arith}
 use Rattle.std.specs.List.{AllByRecursion}
 use Rattle.std.proofs.lemmas.List.{get_or_default}
-use Rattle.std.proofs.lemmas.Result.{err_from_is_err_and}
 use Rattle.cdxj_core.specs.declared.limit.TheConstants.{LINE_LIMIT}
 use Rattle.cdxj_core.specs.declared.line.Line.{Line}
 use Rattle.cdxj_core.specs.Members.{member_pair}
@@ -9,7 +8,7 @@ use Rattle.merge_core.specs.declared.feed.Feed.{Feed}
 use Rattle.merge_core.specs.declared.feed.Progress.TheVariants.{Due}
 use Rattle.merge_core.specs.PairOrders.{Upto}
 use Rattle.merge_core.specs.Failures.{RaisedAt}
-use Rattle.merge_core.specs.Feeds.{Fed, Ready, done, option_list}
+use Rattle.merge_core.specs.Feeds.{Fed, Ready, done}
 use Rattle.merge_core.specs.Gathering.{AllTwo, unread}
 use Rattle.merge_core.proofs.FailLemmas.{raised, feed_is}
 use Rattle.merge_core.proofs.Many.{Move, moved_set, map_set_same, unread_set}
@@ -92,8 +91,7 @@ pub returns-clause-drained : goal.returns-clause-drained
 returns-clause-drained g c =
     let k = c.in-Ok.ensures in
     let a = c.index-sources-i.result in let b = c.index_mut.result.now in
-    let ss = c.args.sources.now in let fs = c.args.self.now.feeds.items in let i = c.args.i in
-    (
+    let ss = c.args.sources.now in let fs = c.args.self.now.feeds.items in let i = c.args.i in (
       c.drain.new.source,
       c.drain.new.self,
       refl,

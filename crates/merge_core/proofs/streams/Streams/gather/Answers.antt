@@ -1,4 +1,4 @@
-use Rattle.std.proofs.Common.{◌≡◌, ◌+◌, ◌∷◌, ◌++◌, [], ℕ, Box, Global, List, length, get_or, set, map, zip, false, is_lt, refl, sym, ap, ◌∙◌, subst, arith, length-set}
+use Rattle.std.proofs.Common.{◌≡◌, ◌+◌, ◌∷◌, ◌++◌, [], Box, Global, List, length, get_or, set, map, zip, false, is_lt, refl, sym, ap, ◌∙◌, subst, arith, length-set}
 use Rattle.std.specs.List.{AllByRecursion}
 use Rattle.std.specs.List.Sorted.{IsPermutation}
 use Rattle.std.proofs.lemmas.Cmp.{tied_itself}
@@ -11,13 +11,12 @@ use Rattle.cdxj_core.specs.Members.{member_pair}
 use Rattle.merge_core.specs.declared.feed.Feed.{Feed}
 use Rattle.merge_core.specs.PairOrders.{Alike, Below, Upto}
 use Rattle.merge_core.specs.WaitingLines.{WaitingLine, waiting_pair, turn_cmp}
-use Rattle.merge_core.specs.Failures.{RaisedAt}
 use Rattle.merge_core.specs.Feeds.{due}
 use Rattle.merge_core.specs.Gathering.{AllTwo, Gathered, IsFrom, IsDue, WaitsAbove, Drained, all_done, unread}
 use Rattle.merge_core.proofs.FailLemmas.{if_err, raised_from}
 use Rattle.merge_core.proofs.FeedLemmas.{each_join, map_push}
 use Rattle.merge_core.proofs.GroupLemmas.{AreAt, from_waited}
-use Rattle.merge_core.proofs.GatherSteps.{Gathers, TakenNext, gathers_start, taken_next, gathers_drained, gathers_all}
+use Rattle.merge_core.proofs.GatherSteps.{Gathers, gathers_start, taken_next, gathers_drained, gathers_all}
 use Rattle.merge_core.proofs.HeapLemmas.{each_permuted}
 use Rattle.merge_core.proofs.Many.{Move, moved_trans, moved_still}
 use Rattle.merge_core.proofs.TurnLemmas.{above_popped}
