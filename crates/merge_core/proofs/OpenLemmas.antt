@@ -1,8 +1,9 @@
 -- The opening of sources, one after another.
 use Rattle.std.proofs.Common.{◌≡◌, ◌≢◌, ℕ, zero, suc, ◌+◌, ◌-◌, ◌<◌, List, [], ◌∷◌, ◌++◌, length, set, zip, flat_map, map, take, drop, Bool, Option, Some, None, MatchOption, refl, sym, ap, ap₂, ◌∙◌, subst, arith, append-nil, length-append}
-use Rattle.std.specs.List.{AllByRecursion}
+use Rattle.std.specs.List.{AllByRecursion, sum}
+use Rattle.std.proofs.lemmas.List.Sums.{sum_by-cons}
 use Rattle.std.specs.List.Sorted.{IsPermutation}
-use Rattle.std.proofs.lemmas.List.{take_all, drop_all}
+use Rattle.std.proofs.lemmas.List.{take_all, take_more_set, drop_all}
 use Rattle.std.proofs.lemmas.List.Concat.{flat_map-append}
 use Rattle.cdxj_places.specs.TextLines.{lines}
 use Rattle.cdxj_places.proofs.RisingLaws.{each_weaker}
@@ -73,7 +74,7 @@ module _ (limit : ℕ) (past : List ℕ → Bool) where
               (subst (Fed limit past (text s) (extent s) f) (sym here ∙ ap (λ n. waits_of n (w ∷ ws)) (let q : length fs ≡ 0 + i = omega arith in q)) fed)),
         )
 
-zip_none : {A B : Type 0} (xs : List A) (ys : List B) → ys ≡ [] → zip xs ys ≡ []
+pub zip_none : {A B : Type 0} (xs : List A) (ys : List B) → ys ≡ [] → zip xs ys ≡ []
 zip_none [] ys e = refl
 zip_none (x ∷ xs) [] e = refl
 zip_none (x ∷ xs) (y ∷ ys) e = cc
@@ -104,3 +105,13 @@ fresh_of limit None f h =
     let lines_none : lines (drop f.cursor.start []) ≡ [] = ap lines (drop_all f.cursor.start [] (omega arith)) in
     let given_none : given limit [] f.cursor ≡ [] = ap (map (member_of limit)) (take_none f.cursor.count (lines (drop f.cursor.start [])) lines_none) in
     take_none (f.cursor.count - held f.progress) (given limit [] f.cursor) given_none
+
+-- one more of those that are summed
+pub sum_turn : {X : Type 0} (n : X → ℕ) (xs : List X) (i : ℕ) (y : X) → i < length xs → sum (map n (take (i + 1) (set xs i y))) ≡ sum (map n (take i xs)) + n y
+sum_turn n xs i y l = ap (λ us. sum (map n us)) (take_more_set xs i y l) ∙ sum_push n (take i xs) y
+  where
+    sum_push : {X : Type 0} (n : X → ℕ) (xs : List X) (x : X) → sum (map n (xs ++ x ∷ [])) ≡ sum (map n xs) + n x
+    sum_push n [] x = let p = sum_by-cons (λ (k : ℕ). k) (n x) [] in omega arith
+    sum_push n (a ∷ xs) x =
+        let p = sum_by-cons (λ (k : ℕ). k) (n a) (map n (xs ++ x ∷ [])) in let q = sum_by-cons (λ (k : ℕ). k) (n a) (map n xs) in let ih = sum_push n xs x in
+        omega arith

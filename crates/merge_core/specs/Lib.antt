@@ -6,3 +6,4 @@ pub mod Gathering
 pub mod Failures
 pub mod Reached
 pub mod Written
+pub mod Openings

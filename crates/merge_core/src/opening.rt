@@ -23,7 +23,7 @@ impl Streams {
     ghost use Rattle.merge_core.specs.Gathering.{all_done};
 
     /// Adds a source, of which the first line after the cursor is read.
-    fn add<S: Source, R: Range>(
+    pub(crate) fn add<S: Source, R: Range>(
         &mut self,
         source: &mut S,
         cursor: Cursor,

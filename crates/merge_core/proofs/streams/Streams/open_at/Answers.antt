@@ -1,0 +1,89 @@
+use Rattle.std.proofs.Common.{◌≡◌, ◌<◌, ◌≤◌, ◌+◌, ◌++◌, ◌∷◌, [], length, map, take, refl, sym, ap, ◌∙◌, subst, set, get_or, zip, flat_map, length-append, arith}
+use Rattle.std.specs.List.{AllByRecursion, sum}
+use Rattle.std.proofs.lemmas.List.{take_all}
+use Rattle.cdxj_core.specs.declared.limit.TheConstants.{LINE_LIMIT}
+use Rattle.source_core.specs.Halving.{digits}
+use Rattle.merge_core.specs.declared.feed.Feed.{Feed}
+use Rattle.merge_core.specs.WaitingLines.{WaitingLine}
+use Rattle.merge_core.specs.Feeds.{AreFed, done}
+use Rattle.merge_core.specs.Gathering.{text_or}
+use Rattle.merge_core.specs.Failures.{RaisedAt}
+use Rattle.merge_core.specs.Openings.{IsCutAt}
+use Rattle.merge_core.proofs.FailLemmas.{raised, feed_is}
+use Rattle.merge_core.proofs.FeedLemmas.{each_join}
+use Rattle.merge_core.proofs.Many.{map_set_same}
+use Rattle.merge_core.proofs.MergeLemmas.{map_seen}
+use Rattle.merge_core.proofs.OpenLemmas.{fed_added, fed_none, done_none, zip_none, zip_push, flat_push, fresh_of, sum_turn}
+use Rattle.merge_core.proofs.streams.Streams.open_at.Goals as goal
+
+pub loop-i-init : goal.loop-i-init
+loop-i-init g c =
+    let none = c.new.ensures.items in
+    let waits = c.new-2.ensures in
+    record {
+      text = refl;
+      extent = refl;
+      failures = refl;
+      count = ap length none;
+      placed = subst (AllByRecursion (λ (w : WaitingLine). w.source < length c.new.result.items)) (sym waits) tt;
+      fed = fed_none LINE_LIMIT (g.R.Range.past c.args.range.now) g.S.Source.text g.S.Source.extent c.args.sources.now c.new.result.items c.new-2.result none;
+      cut = subst (AllByRecursion (λ (x : g.row.S.Denot × Feed). IsCutAt LINE_LIMIT (c.args.key.now, c.args.stamp.now) (g.S.Source.text x.0) x.1.cursor)) (sym (zip_none c.args.sources.now c.new.result.items none)) tt;
+      fresh = done_none (λ (x : g.row.S.Denot × Feed). done LINE_LIMIT (text_or (g.S.Source.text x.0)) x.1) c.args.sources.now c.new.result.items none;
+      probes = omega arith;
+    }
+
+pub returns-in-Err-clause-text : goal.returns-in-Err-clause-text
+returns-in-Err-clause-text g c =
+    map_set_same g.S.Source.text c.loop-i.sources c.loop-i.i c.index-sources-i.result c.add_from.new.source (omega arith) c.add_from.ensures.text ∙ c.loop-i.invariant.text
+
+pub returns-in-Err-clause-extent : goal.returns-in-Err-clause-extent
+returns-in-Err-clause-extent g c =
+    map_set_same g.S.Source.extent c.loop-i.sources c.loop-i.i c.index-sources-i.result c.add_from.new.source (omega arith) c.add_from.ensures.extent ∙ c.loop-i.invariant.extent
+
+pub returns-in-Err-clause-read : goal.returns-in-Err-clause-read
+returns-in-Err-clause-read g c = λ j e.
+    let f = g.S.Source.failures in
+    let i = c.loop-i.i in
+    let p = feed_is i j c.in-Err.fault e in
+    subst (λ k. RaisedAt k (map f c.args.sources.now) (map f (set c.loop-i.sources i c.add_from.new.source))) p.0
+    (raised f c.args.sources.now c.loop-i.sources i c.index-sources-i.result c.add_from.new.source c.loop-i.invariant.failures (omega arith) (c.in-Err.ensures.failed p.1))
+
+pub loop-i-preserved : goal.loop-i-preserved
+loop-i-preserved g c =
+    let past = g.R.Range.past c.args.range.now in
+    let inv = c.loop-i.invariant in
+    let ok = c.in-Ok.ensures in
+    let added = ok.added in
+    let ss = c.loop-i.sources in let fs = c.loop-i.streams.feeds.items in let ws = c.loop-i.streams.waiting in let i = c.loop-i.i in
+    let a = c.index-sources-i.result in let s = c.add_from.new.source in let f = added.0 in
+    let ws' = c.add_from.new.self.waiting in
+    let inside : i < length ss = omega arith in
+    let of = λ (x : g.row.S.Denot × Feed). done LINE_LIMIT (text_or (g.S.Source.text x.0)) x.1 in
+    let Cut = λ (x : g.row.S.Denot × Feed). IsCutAt LINE_LIMIT (c.args.key.now, c.args.stamp.now) (g.S.Source.text x.0) x.1.cursor in
+    let both = fed_added LINE_LIMIT past g.S.Source.text g.S.Source.extent i ss fs ws ws' s f added.1 inv.count inside inv.placed inv.fed added.3 added.4 in
+    let turns = sum_turn (λ s. digits (g.S.Source.extent s)) ss i s inside in
+    let here = ap digits ok.extent in
+    let few = ok.probes in
+    let before = inv.probes in
+    let all = c.saturating_add-probes.ensures in
+    record {
+      text = map_set_same g.S.Source.text ss i a s inside ok.text ∙ inv.text;
+      extent = map_set_same g.S.Source.extent ss i a s inside ok.extent ∙ inv.extent;
+      failures = map_set_same g.S.Source.failures ss i a s inside ok.worked ∙ inv.failures;
+      count = ap length added.2 ∙ length-append fs (f ∷ []) ∙ ap (λ n. n + 1) inv.count;
+      placed = subst (λ us. AllByRecursion (λ (w : WaitingLine). w.source < length us) ws') (sym added.2) both.0;
+      fed = subst (λ us. AreFed LINE_LIMIT past g.S.Source.text g.S.Source.extent 0 (set ss i s) us ws') (sym added.2) both.1;
+      cut = subst (λ us. AllByRecursion Cut (zip (set ss i s) us)) (sym added.2) (subst (AllByRecursion Cut) (sym (zip_push ss fs i s f inv.count inside)) (each_join Cut (zip ss fs) ((s, f) ∷ []) inv.cut (added.5, tt)));
+      fresh = ap (λ us. flat_map of (zip (set ss i s) us)) added.2 ∙ ap (flat_map of) (zip_push ss fs i s f inv.count inside)
+          ∙ flat_push of (zip ss fs) (s, f) inv.fresh (fresh_of LINE_LIMIT (g.S.Source.text s) f (λ t e. added.6 t (sym ok.text ∙ e)));
+      probes = omega (arith, turns, here, few, before, all);
+    }
+
+pub returns-clause-probes : goal.returns-clause-probes
+returns-clause-probes g c =
+    let inv = c.loop-i.invariant in
+    let e = g.S.Source.extent in
+    let whole = ap (λ us. sum (map (λ s. digits (e s)) us)) (take_all c.loop-i.i c.loop-i.sources (omega (arith, ap length inv.extent, inv.count))) in
+    let same = ap sum (map_seen digits e c.loop-i.sources ∙ ap (map digits) inv.extent ∙ sym (map_seen digits e c.args.sources.now)) in
+    let few = inv.probes in
+    omega (arith, whole, same, few)

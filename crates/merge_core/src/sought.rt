@@ -1,0 +1,119 @@
+//! The opening of sources at the lines from which on they are read.
+ghost use Rattle.std.specs.Prelude.{◌≡◌, ◌≢◌, ◌≤◌, ◌++◌, ◌∷◌, ℕ, Option, List, [], length, map, Some, MatchOption, IfOk, IfErr, OnOk};
+ghost use Rattle.std.specs.List.{AllByRecursion, zip, sum};
+ghost use Rattle.std.specs.List.Sorted.{IsPermutation};
+ghost use Rattle.cdxj_core.specs.declared.limit.TheConstants.{LINE_LIMIT};
+ghost use Rattle.cdxj_core.specs.Indexes.{IsIndex};
+ghost use Rattle.cdxj_core.specs.Members.{Member};
+ghost use Rattle.devices.specs.Device.{next_count};
+ghost use Rattle.source_core.specs.Cursors.{Stands};
+ghost use Rattle.source_core.specs.Halving.{digits};
+ghost use Rattle.source_core.specs.Search.{IsCut};
+ghost use Rattle.merge_core.specs.Failures.{RaisedAt};
+
+use crate::fault::{FeedFault, MergeFault};
+use crate::queue::Queue;
+use crate::range::Range;
+use crate::store::Store;
+use crate::streams::Streams;
+use source_core::{Cursor, SearchFault, Source, search};
+use std::alloc::Global;
+
+/// Where the lines of a source begin whose pairs aren't below this one, and the turns that the search for it took.
+fn find_start<S: Source>(
+    alloc: Global,
+    source: &mut S,
+    key: &[u8],
+    stamp: &[u8],
+) -> Result<(Cursor, u64), FeedFault>
+    ensures text { S.text source.new ≡ S.text source.old }
+    ensures extent { S.extent source.new ≡ S.extent source.old }
+    ensures worked { OnOk result (S.failures source.new ≡ S.failures source.old) }
+    ensures failed { IfErr result (λ e. e ≡ FeedFault.Read → S.failures source.new ≡ next_count (S.failures source.old)) }
+    ensures stands { IfOk result (λ r. Stands (S.text source.new) (S.extent source.new) r.0) }
+    ensures fresh { IfOk result (λ r. r.0.count ≡ 0) }
+    ensures cut { (t : List ℕ) → (members : List Member) → S.text source.old ≡ Some t → IsIndex LINE_LIMIT t members
+        → IfOk result (λ r. IsCut (key.now, stamp.now) t members r.0.start) }
+    ensures probes { IfOk result (λ r. r.1 ≤ digits (S.extent source.old)) }
+{
+    match search(alloc, source, key, stamp) {
+        Ok(found) => match Cursor::new(alloc, found.offset) {
+            Ok(cursor) => Ok((cursor, found.probes)),
+            Err(_) => Err(FeedFault::Memory),
+        },
+        Err(SearchFault::Memory) => Err(FeedFault::Memory),
+        Err(SearchFault::Read) => Err(FeedFault::Read),
+    }
+}
+
+/// Sources that were opened by a search.
+#[derive(Drop)]
+pub struct Opened {
+    pub streams: Streams,
+    /// How many turns the searches took. It stays at 2^64 - 1.
+    pub probes: u64,
+}
+
+impl Streams {
+    ghost use Rattle.merge_core.specs.declared.feed.Feed.{Feed};
+    ghost use Rattle.merge_core.specs.Feeds.{Fed, Ready, option_list, done};
+    ghost use Rattle.merge_core.specs.Openings.{IsCutAt};
+    ghost use Rattle.merge_core.specs.Gathering.{all_done};
+
+    fn add_from<S: Source, R: Range>(
+        &mut self,
+        alloc: Global,
+        source: &mut S,
+        key: &[u8],
+        stamp: &[u8],
+        range: &R,
+    ) -> Result<u64, FeedFault>
+        ensures text { S.text source.new ≡ S.text source.old }
+        ensures extent { S.extent source.new ≡ S.extent source.old }
+        ensures worked { OnOk result (S.failures source.new ≡ S.failures source.old) }
+        ensures failed { IfErr result (λ e. e ≡ FeedFault.Read → S.failures source.new ≡ next_count (S.failures source.old)) }
+        ensures probes { IfOk result (λ n. n ≤ digits (S.extent source.old)) }
+        ensures added { OnOk result ((f : Feed) × (o : Option Member) × (self.new.feeds.items ≡ self.old.feeds.items ++ f ∷ [])
+            × MatchOption o (self.new.waiting ≡ self.old.waiting) (λ m. IsPermutation (record { member = m; source = length self.old.feeds.items } ∷ self.old.waiting) self.new.waiting)
+            × Fed LINE_LIMIT (R.past range.now) (S.text source.new) (S.extent source.new) f (option_list o)
+            × IsCutAt LINE_LIMIT (key.now, stamp.now) (S.text source.new) f.cursor
+            × ((t : List ℕ) → S.text source.old ≡ Some t → done LINE_LIMIT t f ≡ [])) }
+    {
+        let (cursor, probes) = find_start(alloc, source, key, stamp)?;
+        self.add(source, cursor, range)?;
+        Ok(probes)
+    }
+
+    /// The lines of the sources whose pairs aren't below this one, of each of which the first is read.
+    pub fn open_at<S: Source, R: Range>(
+        alloc: Global,
+        sources: &mut [S],
+        key: &[u8],
+        stamp: &[u8],
+        range: &R,
+    ) -> Result<Opened, MergeFault>
+        ensures text { map S.text sources.new ≡ map S.text sources.old }
+        ensures extent { map S.extent sources.new ≡ map S.extent sources.old }
+        ensures worked { OnOk result (map S.failures sources.new ≡ map S.failures sources.old) }
+        ensures read { IfErr result (λ e. (n : ℕ) → e ≡ MergeFault.Feed n FeedFault.Read → RaisedAt n (map S.failures sources.old) (map S.failures sources.new)) }
+        ensures unwritten { IfErr result (λ e. e ≢ MergeFault.Write) }
+        ensures ready { IfOk result (λ o. Ready LINE_LIMIT (R.past range.now) S.text S.extent sources.new o.streams.feeds.items o.streams.waiting) }
+        ensures cut { IfOk result (λ o. AllByRecursion (λ x. IsCutAt LINE_LIMIT (key.now, stamp.now) (S.text x.0) x.1.cursor) (zip sources.new o.streams.feeds.items)) }
+        ensures fresh { IfOk result (λ o. all_done LINE_LIMIT S.text sources.new o.streams.feeds.items ≡ []) }
+        ensures probes { IfOk result (λ o. o.probes ≤ sum (map (λ s. digits (S.extent s)) sources.old)) }
+    {
+        let mut streams = Streams {
+            feeds: Vec::new(alloc),
+            waiting: Queue::new(alloc),
+            store: Store::new(alloc),
+        };
+        let mut probes = 0u64;
+        for i in 0..sources.len() {
+            match streams.add_from(alloc, &mut sources[i], key, stamp, range) {
+                Ok(turns) => probes = probes.saturating_add(turns),
+                Err(fault) => return Err(MergeFault::Feed(i, fault)),
+            }
+        }
+        Ok(Opened { streams, probes })
+    }
+}
