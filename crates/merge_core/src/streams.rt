@@ -1,6 +1,6 @@
 //! Sources that are read side by side.
-ghost use Rattle.std.specs.Prelude.{◌≡◌, ◌≢◌, ◌+◌, ◌<◌, ◌≤◌, ◌∷◌, ℕ, false, [], length, map, slice_index_or, slice_set, IfOk, IfErr, OnOk, MatchOption, IfSome};
-ghost use Rattle.std.specs.List.{AllByRecursion, zip};
+ghost use Rattle.std.specs.Prelude.{◌≡◌, ◌≢◌, ◌+◌, ◌-◌, ◌^◌, ◌<◌, ◌≤◌, ◌∷◌, ℕ, false, [], length, map, min, slice_index_or, slice_set, IfOk, IfErr, OnOk, MatchOption, IfSome};
+ghost use Rattle.std.specs.List.{AllByRecursion, sum, zip};
 ghost use Rattle.std.specs.List.Sorted.{IsPermutation};
 ghost use Rattle.std.specs.Ordering.{is_lt};
 ghost use Rattle.cdxj_core.specs.declared.limit.TheConstants.{LINE_LIMIT};
@@ -178,5 +178,16 @@ impl Streams {
         while let Some(line) = rest.pop() {
             self.store.put_back(line);
         }
+    }
+
+    /// The number of lines that were read of all sources. It stays at 2^64 - 1.
+    pub fn lines(&self) -> u64
+        ensures { result ≡ min (sum (map (λ f. f.cursor.count) self.now.feeds.items)) (2 ^ 64 - 1) }
+    {
+        let mut lines = 0u64;
+        for feed in &self.feeds {
+            lines = lines.saturating_add(feed.cursor.count());
+        }
+        lines
     }
 }
