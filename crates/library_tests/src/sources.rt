@@ -16,10 +16,7 @@ enum Refused {
 }
 
 /// What the check of a source answers; a refused growth is an error.
-fn checked<S: Source>(
-    alloc: Global,
-    source: &mut S,
-) -> Result<Result<u64, AnswerFault>, Refused> {
+fn checked<S: Source>(alloc: Global, source: &mut S) -> Result<Result<u64, AnswerFault>, Refused> {
     match check(alloc, source) {
         Err(AnswerFault::Memory) => Err(Refused::Memory),
         answer => Ok(answer),
@@ -103,7 +100,10 @@ fn stamped_lines(alloc: Global, numbers: &[u64]) -> Result<Vec<u8>, Fail> {
 #[test]
 fn the_second_of_falling_lines_is_out_of_order(rt: HostRuntime) -> Result<(), Fail> {
     let text = stamped_lines(rt.alloc(), &[999, 998, 997])?;
-    assert_eq!(rt; check_of(rt.alloc(), &text)?, Err(AnswerFault::OutOfOrder(0, 157)));
+    assert_eq!(rt;
+        check_of(rt.alloc(), &text)?,
+        Err(AnswerFault::OutOfOrder(0, 157))
+    );
     Ok(())
 }
 
@@ -121,7 +121,10 @@ fn a_source_that_fails_at_a_read_is_read(rt: HostRuntime) -> Result<(), Fail> {
         assert_eq!(rt; calls, wanted);
         for at in 1..calls + 1 {
             let mut source = Fuse::new(SliceSource::new(LETTERS), piece, at);
-            assert_eq!(rt; checked(rt.alloc(), &mut source)?, Err(AnswerFault::Read(0)));
+            assert_eq!(rt;
+                checked(rt.alloc(), &mut source)?,
+                Err(AnswerFault::Read(0))
+            );
             assert_eq!(rt; source.failures, 1);
         }
     }
@@ -163,12 +166,20 @@ fn the_search_for_the_last_of_100_000_lines_reads_less_than_a_hundredth(
 ) -> Result<(), Fail> {
     let mut text = Vec::new(rt.alloc());
     for number in 0..100_000 {
-        let line = format!(in rt.alloc(); "k{number:05} 20160101000000 {{}}\n")?;
+        let line = format!(in rt.alloc();
+            "com,example)/{number:05} 20160101000000 {{\"url\": \"http://example.com/{number:05}\", \"mime\": \"text/html\", \"status\": \"200\", \"digest\": \"-\", \"length\": \"1\", \"offset\": \"{number:05}\", \"filename\": \"a.warc\"}}\n"
+        )?;
         text.extend_from_slice(line.as_bytes())?;
     }
+    let length = text.len() as u64 / 100_000;
     let mut source = SliceSource::new(&text);
-    let found = search(rt.alloc(), &mut source, b"k99999", b"20160101000000")?;
-    assert_eq!(rt; found.offset, 99_999 * 25);
-    assert!(rt; source.gave() < 25_000);
+    let found = search(
+        rt.alloc(),
+        &mut source,
+        b"com,example)/99999",
+        b"20160101000000",
+    )?;
+    assert_eq!(rt; found.offset, 99_999 * length);
+    assert!(rt; source.gave() < 1_000 * length);
     Ok(())
 }
