@@ -11,3 +11,4 @@ pub mod GatherSteps
 pub mod MergeLemmas
 pub mod WrittenLemmas
 pub mod OpenLemmas
+pub mod WholeLemmas

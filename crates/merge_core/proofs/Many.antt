@@ -125,3 +125,20 @@ module _ {S : Type 0} (text : S → Option (List ℕ)) (extent gave : S → ℕ)
         ap (λ z. sum (map (λ (x : S × Feed). extent x.0 - x.1.cursor.at) z) + (extent (get_or ss i a) - (get_or fs i b).cursor.at)) (zip_set ss fs i s f)
         ∙ ap (λ (x : S × Feed). sum (map (λ (x : S × Feed). extent x.0 - x.1.cursor.at) (set (zip ss fs) i (s, f))) + (extent x.0 - x.1.cursor.at)) (sym (zip_at ss fs i a b same inside))
         ∙ sum_set (λ (x : S × Feed). extent x.0 - x.1.cursor.at) (zip ss fs) i (a, b) (s, f) within
+
+-- ---- one of a list is replaced
+
+pub set_set : {X : Type 0} (xs : List X) (i : ℕ) (x y : X) → set (set xs i x) i y ≡ set xs i y
+set_set [] i x y = refl
+set_set (a ∷ xs) zero x y = refl
+set_set (a ∷ xs) (suc i) x y = ap (λ l. a ∷ l) (set_set xs i x y)
+
+pub each_replaced : {X : Type 0} (P : X → Type 0) (xs : List X) (i : ℕ) (y : X) → AllByRecursion P xs → P y → AllByRecursion P (set xs i y)
+each_replaced P [] i y h p = h
+each_replaced P (x ∷ xs) zero y h p = (p, h.1)
+each_replaced P (x ∷ xs) (suc i) y h p = (h.0, each_replaced P xs i y h.1 p)
+
+pub set_own : {X : Type 0} (xs : List X) (i : ℕ) (y : X) → get_or (set xs i y) i y ≡ y
+set_own [] i y = refl
+set_own (x ∷ xs) zero y = refl
+set_own (x ∷ xs) (suc i) y = set_own xs i y

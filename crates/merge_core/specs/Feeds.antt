@@ -50,6 +50,13 @@ read_lines text c = take c.count (lines (drop c.start text))
 abbrev pub due : Feed → Feed
 due f = record { cursor = f.cursor; progress = Due }
 
+-- its next line was read, or there is none
+abbrev pub IsSettled : Feed → Type 0
+IsSettled f = f.progress ≡ Due → ⊥
+
+abbrev pub AreSettled : List Feed → Type 0
+AreSettled = AllByRecursion IsSettled
+
 -- the limit of a line, in bytes
 module _ (limit : ℕ) where
   -- what a line says that has an entry

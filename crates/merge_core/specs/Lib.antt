@@ -7,3 +7,4 @@ pub mod Failures
 pub mod Reached
 pub mod Written
 pub mod Openings
+pub mod Collections

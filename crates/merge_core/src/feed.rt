@@ -1,12 +1,12 @@
 //! A source that is read line by line.
-ghost use Rattle.std.specs.Prelude.{◌≡◌, ◌+◌, ◌-◌, ◌≤◌, ◌++◌, ℕ, List, [], length, map, option_map, Some, IfOk, IfErr, OnOk};
+ghost use Rattle.std.specs.Prelude.{◌≡◌, ◌≢◌, ◌+◌, ◌-◌, ◌≤◌, ◌++◌, ℕ, List, [], length, map, option_map, Some, IfOk, IfErr, OnOk};
 ghost use Rattle.std.specs.List.{AllByRecursion};
 ghost use Rattle.cdxj_core.specs.declared.limit.TheConstants.{LINE_LIMIT};
 ghost use Rattle.cdxj_core.specs.Members.{Member, member_pair};
 ghost use Rattle.devices.specs.Device.{next_count};
 ghost use Rattle.source_core.specs.Cursors.{reach};
 ghost use Rattle.merge_core.specs.PairOrders.{Alike, Below, Upto};
-ghost use Rattle.merge_core.specs.Feeds.{IsNext, Fed, option_list, done};
+ghost use Rattle.merge_core.specs.Feeds.{IsNext, IsSettled, Fed, option_list, done};
 
 use crate::fault::FeedFault;
 use crate::pair::compare_pairs;
@@ -48,6 +48,7 @@ impl Feed {
     ) -> Option<Box<Line>>
         ensures cursor { self.new.cursor ≡ self.old.cursor }
         ensures next { IsNext (R.past range.now) line.value self.new.progress (option_list (option_map (λ b. b.value) result)) }
+        ensures settled { IsSettled self.new }
     {
         if range.is_past(line.pair().0) {
             self.progress = Progress::Past;
@@ -74,9 +75,11 @@ impl Feed {
         ensures gave { S.gave source.new + reach self.old.cursor ≤ S.gave source.old + reach self.new.cursor }
         ensures worked { OnOk result (S.failures source.new ≡ S.failures source.old) }
         ensures failed { IfErr result (λ e. e ≡ FeedFault.Read → S.failures source.new ≡ next_count (S.failures source.old)) }
+        ensures kept { IfErr result (λ e. e ≢ FeedFault.Read → S.failures source.new ≡ S.failures source.old) }
         ensures start { self.new.cursor.start ≡ self.old.cursor.start }
         ensures fed { IfOk result (λ o. Fed LINE_LIMIT (R.past range.now) (S.text source.new) (S.extent source.new) self.new (option_list (option_map (λ b. b.value) o))) }
         ensures fresh { (t : List ℕ) → S.text source.old ≡ Some t → OnOk result (done LINE_LIMIT t self.new ≡ []) }
+        ensures settled { OnOk result (IsSettled self.new) }
     {
         match store.next_line(source, &mut self.cursor)? {
             Some(line) => Ok(self.settle(line, range, store)),
@@ -105,6 +108,7 @@ impl Feed {
         ensures gave { S.gave source.new + reach self.old.cursor ≤ S.gave source.old + reach self.new.cursor }
         ensures worked { OnOk result (S.failures source.new ≡ S.failures source.old) }
         ensures failed { IfErr result (λ e. e ≡ FeedFault.Read → S.failures source.new ≡ next_count (S.failures source.old)) }
+        ensures kept { IfErr result (λ e. e ≢ FeedFault.Read → S.failures source.new ≡ S.failures source.old) }
         ensures start { self.new.cursor.start ≡ self.old.cursor.start }
         ensures fed { IfOk result (λ o. Fed LINE_LIMIT (R.past range.now) (S.text source.new) (S.extent source.new) self.new (option_list (option_map (λ b. b.value) o))) }
         ensures later { IfOk result (λ o. AllByRecursion (λ m. Below (member_pair first.now) (member_pair m)) (option_list (option_map (λ b. b.value) o))) }
@@ -115,6 +119,7 @@ impl Feed {
             × (done LINE_LIMIT t self.new ≡ done LINE_LIMIT t self.old ++ taken)
             × (map (λ b. b.value) rest.new.items ≡ map (λ b. b.value) rest.old.items ++ taken)
             × AllByRecursion (λ m. Alike (member_pair m) (member_pair first.now)) taken) }
+        ensures settled { OnOk result (IsSettled self.new) }
     {
         let mut begin = self.cursor.at();
         while let Some(line) = store.next_line(source, &mut self.cursor)? {

@@ -3,6 +3,7 @@
 
 mod fault;
 mod feed;
+mod indexes;
 mod line_writer;
 mod merging;
 mod opening;
@@ -16,6 +17,7 @@ mod streams;
 mod waiting;
 
 pub use crate::fault::{FeedFault, MergeFault, SinkFault};
+pub use crate::indexes::merge_indexes;
 pub use crate::line_writer::LineWriter;
 pub use crate::merging::merge;
 pub use crate::range::{All, Range};

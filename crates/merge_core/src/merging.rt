@@ -1,5 +1,5 @@
 //! The merge of several sources.
-ghost use Rattle.std.specs.Prelude.{◌≡◌, ◌⊎◌, ℕ, Option, List, [], map, false, true, IfOk, IfErr, OnOk, OnErr};
+ghost use Rattle.std.specs.Prelude.{◌≡◌, ◌≢◌, ◌⊎◌, ℕ, Option, List, [], map, false, true, IfOk, IfErr, OnOk, OnErr};
 ghost use Rattle.std.specs.List.{AllByRecursion, zip};
 ghost use Rattle.cdxj_core.specs.declared.limit.TheConstants.{LINE_LIMIT};
 ghost use Rattle.cdxj_core.specs.Members.{Member};
@@ -8,7 +8,7 @@ ghost use Rattle.devices.specs.Device.{next_count};
 ghost use Rattle.merge_core.specs.declared.feed.Feed.{Feed};
 ghost use Rattle.merge_core.specs.WaitingLines.{WaitingLine};
 ghost use Rattle.merge_core.specs.Failures.{RaisedAt};
-ghost use Rattle.merge_core.specs.Feeds.{Moved, Ready};
+ghost use Rattle.merge_core.specs.Feeds.{Moved, Ready, AreSettled};
 ghost use Rattle.merge_core.specs.Gathering.{AllTwo, all_done};
 ghost use Rattle.merge_core.specs.Reached.{Reached};
 
@@ -30,13 +30,16 @@ pub fn merge<S: Source, R: Range, K: Sink, O: Output>(
     out: &mut O,
 ) -> Result<bool, MergeFault>
     requires ready { Ready LINE_LIMIT (R.past range.now) S.text S.extent sources.old streams.old.feeds.items streams.old.waiting }
+    requires settled { AreSettled streams.old.feeds.items }
     requires fresh { all_done LINE_LIMIT S.text sources.old streams.old.feeds.items ≡ [] }
     ensures moved { AllTwo (λ x y. Moved (S.text x.0) (S.text y.0) (S.extent x.0) (S.extent y.0) (S.gave x.0) (S.gave y.0) x.1.cursor y.1.cursor)
         (zip sources.old streams.old.feeds.items) (zip sources.new streams.new.feeds.items) }
     ensures worked { OnOk result (map S.failures sources.new ≡ map S.failures sources.old) }
     ensures read { IfErr result (λ e. (n : ℕ) → e ≡ MergeFault.Feed n FeedFault.Read → RaisedAt n (map S.failures sources.old) (map S.failures sources.new)) }
+    ensures kept { IfErr result (λ e. ((n : ℕ) → e ≢ MergeFault.Feed n FeedFault.Read) → map S.failures sources.new ≡ map S.failures sources.old) }
     ensures failed { IfErr result (λ e. e ≡ MergeFault.Write → O.failures out.new ≡ next_count (O.failures out.old)) }
     ensures written { OnOk result (O.failures out.new ≡ O.failures out.old) }
+    ensures settled { OnOk result (AreSettled streams.new.feeds.items) }
     ensures ended { IfOk result (λ all. all ≡ true → streams.new.waiting ≡ []) }
     ensures enough { IfOk result (λ all. all ≡ false → K.Enough sink.new) }
     ensures wrote { OnOk result ((b : Option Pair) × (taken : List Member)

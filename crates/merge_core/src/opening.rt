@@ -19,7 +19,7 @@ use std::alloc::Global;
 
 impl Streams {
     ghost use Rattle.merge_core.specs.declared.feed.Feed.{Feed};
-    ghost use Rattle.merge_core.specs.Feeds.{Fed, Ready, option_list, done};
+    ghost use Rattle.merge_core.specs.Feeds.{Fed, Ready, AreSettled, option_list, done};
     ghost use Rattle.merge_core.specs.Gathering.{all_done};
 
     /// Adds a source, of which the first line after the cursor is read.
@@ -35,6 +35,7 @@ impl Streams {
         ensures extent { S.extent source.new ≡ S.extent source.old }
         ensures worked { OnOk result (S.failures source.new ≡ S.failures source.old) }
         ensures failed { IfErr result (λ e. e ≡ FeedFault.Read → S.failures source.new ≡ next_count (S.failures source.old)) }
+        ensures settled { AreSettled self.old.feeds.items → OnOk result (AreSettled self.new.feeds.items) }
         ensures added { OnOk result ((f : Feed) × (o : Option Member) × (self.new.feeds.items ≡ self.old.feeds.items ++ f ∷ [])
             × MatchOption o (self.new.waiting ≡ self.old.waiting) (λ m. IsPermutation (record { member = m; source = length self.old.feeds.items } ∷ self.old.waiting) self.new.waiting)
             × Fed LINE_LIMIT (R.past range.now) (S.text source.new) (S.extent source.new) f (option_list o)
@@ -70,6 +71,7 @@ impl Streams {
         ensures ready { IfOk result (λ s. Ready LINE_LIMIT (R.past range.now) S.text S.extent sources.new s.feeds.items s.waiting) }
         ensures start { IfOk result (λ s. AllByRecursion (λ f. f.cursor.start ≡ 0) s.feeds.items) }
         ensures fresh { IfOk result (λ s. all_done LINE_LIMIT S.text sources.new s.feeds.items ≡ []) }
+        ensures settled { IfOk result (λ s. AreSettled s.feeds.items) }
     {
         let mut streams = Streams {
             feeds: Vec::new(alloc),

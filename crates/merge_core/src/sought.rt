@@ -56,7 +56,7 @@ pub struct Opened {
 
 impl Streams {
     ghost use Rattle.merge_core.specs.declared.feed.Feed.{Feed};
-    ghost use Rattle.merge_core.specs.Feeds.{Fed, Ready, option_list, done};
+    ghost use Rattle.merge_core.specs.Feeds.{Fed, Ready, AreSettled, option_list, done};
     ghost use Rattle.merge_core.specs.Openings.{IsCutAt};
     ghost use Rattle.merge_core.specs.Gathering.{all_done};
 
@@ -73,6 +73,7 @@ impl Streams {
         ensures worked { OnOk result (S.failures source.new ≡ S.failures source.old) }
         ensures failed { IfErr result (λ e. e ≡ FeedFault.Read → S.failures source.new ≡ next_count (S.failures source.old)) }
         ensures probes { IfOk result (λ n. n ≤ digits (S.extent source.old)) }
+        ensures settled { AreSettled self.old.feeds.items → OnOk result (AreSettled self.new.feeds.items) }
         ensures added { OnOk result ((f : Feed) × (o : Option Member) × (self.new.feeds.items ≡ self.old.feeds.items ++ f ∷ [])
             × MatchOption o (self.new.waiting ≡ self.old.waiting) (λ m. IsPermutation (record { member = m; source = length self.old.feeds.items } ∷ self.old.waiting) self.new.waiting)
             × Fed LINE_LIMIT (R.past range.now) (S.text source.new) (S.extent source.new) f (option_list o)
@@ -100,6 +101,7 @@ impl Streams {
         ensures ready { IfOk result (λ o. Ready LINE_LIMIT (R.past range.now) S.text S.extent sources.new o.streams.feeds.items o.streams.waiting) }
         ensures cut { IfOk result (λ o. AllByRecursion (λ x. IsCutAt LINE_LIMIT (key.now, stamp.now) (S.text x.0) x.1.cursor) (zip sources.new o.streams.feeds.items)) }
         ensures fresh { IfOk result (λ o. all_done LINE_LIMIT S.text sources.new o.streams.feeds.items ≡ []) }
+        ensures settled { IfOk result (λ o. AreSettled o.streams.feeds.items) }
         ensures probes { IfOk result (λ o. o.probes ≤ sum (map (λ s. digits (S.extent s)) sources.old)) }
     {
         let mut streams = Streams {

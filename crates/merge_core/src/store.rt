@@ -75,6 +75,7 @@ impl Store {
         ensures gave { S.gave source.new + reach cursor.old ≤ S.gave source.old + reach cursor.new }
         ensures worked { OnOk result (S.failures source.new ≡ S.failures source.old) }
         ensures failed { IfErr result (λ e. e ≡ FeedFault.Read → S.failures source.new ≡ next_count (S.failures source.old)) }
+        ensures kept { IfErr result (λ e. e ≢ FeedFault.Read → S.failures source.new ≡ S.failures source.old) }
         ensures stands { OnOk result (Stands (S.text source.new) (S.extent source.new) cursor.new) }
         ensures start { cursor.new.start ≡ cursor.old.start }
         ensures count { IfOk result (λ o. MatchOption o (cursor.new.count ≡ cursor.old.count) (λ _. cursor.new.count ≡ cursor.old.count + 1)) }

@@ -29,7 +29,7 @@ pub struct Streams {
 
 impl Streams {
     ghost use Rattle.merge_core.specs.declared.feed.Feed.{Feed};
-    ghost use Rattle.merge_core.specs.Feeds.{Moved, Ready, due};
+    ghost use Rattle.merge_core.specs.Feeds.{Moved, Ready, IsSettled, AreSettled, due};
     ghost use Rattle.merge_core.specs.Gathering.{IsDue, WaitsAbove, Drained, Grouped, unread};
 
     fn mark_due(&mut self, source: usize)
@@ -113,11 +113,13 @@ impl Streams {
         ensures worked { OnOk result (map S.failures sources.new ≡ map S.failures sources.old) }
         ensures read { IfErr result (λ e. (n : ℕ) → e ≡ MergeFault.Feed n FeedFault.Read → RaisedAt n (map S.failures sources.old) (map S.failures sources.new)) }
         ensures unwritten { IfErr result (λ e. e ≢ MergeFault.Write) }
+        ensures kept { IfErr result (λ e. ((n : ℕ) → e ≢ MergeFault.Feed n FeedFault.Read) → map S.failures sources.new ≡ map S.failures sources.old) }
         ensures ready { OnOk result (Ready LINE_LIMIT (R.past range.now) S.text S.extent sources.new self.new.feeds.items self.new.waiting) }
         ensures waits { OnOk result (WaitsAbove (member_pair first.now) i self.old.waiting self.new.waiting) }
         ensures fewer { OnOk result (unread S.extent sources.new self.new.feeds.items + length self.new.waiting ≤ unread S.extent sources.old self.old.feeds.items + length self.old.waiting) }
         ensures each { AllByRecursion (λ m. Alike (member_pair m) (member_pair first.now)) (map (λ b. b.value) rest.old.items)
             → OnOk result (AllByRecursion (λ m. Alike (member_pair m) (member_pair first.now)) (map (λ b. b.value) rest.new.items)) }
+        ensures settled { OnOk result ((d : Feed) → IsSettled (slice_index_or self.new.feeds.items i d)) }
         ensures drained { OnOk result ((s : S) × (f : Feed) × (sources.new ≡ slice_set sources.old i s) × (self.new.feeds.items ≡ slice_set self.old.feeds.items i f)
             × ((a : S) → (S.text s ≡ S.text (slice_index_or sources.old i a)))
             × ((a : S) → (d : Feed) → Drained LINE_LIMIT (member_pair first.now) (S.text (slice_index_or sources.old i a)) (slice_index_or self.old.feeds.items i d) f
@@ -139,13 +141,16 @@ impl Streams {
         rest: &mut Vec<Box<Line>>,
     ) -> Result<Option<Box<Line>>, MergeFault>
         requires ready { Ready LINE_LIMIT (R.past range.now) S.text S.extent sources.old self.old.feeds.items self.old.waiting }
+        requires settled { AreSettled self.old.feeds.items }
         requires empty { rest.old.items ≡ [] }
         ensures moved { AllTwo (λ x y. Moved (S.text x.0) (S.text y.0) (S.extent x.0) (S.extent y.0) (S.gave x.0) (S.gave y.0) x.1.cursor y.1.cursor)
             (zip sources.old self.old.feeds.items) (zip sources.new self.new.feeds.items) }
         ensures worked { OnOk result (map S.failures sources.new ≡ map S.failures sources.old) }
         ensures read { IfErr result (λ e. (n : ℕ) → e ≡ MergeFault.Feed n FeedFault.Read → RaisedAt n (map S.failures sources.old) (map S.failures sources.new)) }
         ensures unwritten { IfErr result (λ e. e ≢ MergeFault.Write) }
+        ensures kept { IfErr result (λ e. ((n : ℕ) → e ≢ MergeFault.Feed n FeedFault.Read) → map S.failures sources.new ≡ map S.failures sources.old) }
         ensures ready { OnOk result (Ready LINE_LIMIT (R.past range.now) S.text S.extent sources.new self.new.feeds.items self.new.waiting) }
+        ensures settled { OnOk result (AreSettled self.new.feeds.items) }
         ensures group { IfOk result (λ o. MatchOption o ((sources.new ≡ sources.old) × (self.new.feeds.items ≡ self.old.feeds.items) × (self.old.waiting ≡ []) × (self.new.waiting ≡ []))
             (λ first. Grouped LINE_LIMIT S.text S.extent sources.old self.old.feeds.items self.old.waiting sources.new self.new.feeds.items self.new.waiting
             (member_pair first.value) (first.value ∷ map (λ b. b.value) rest.new.items))) }

@@ -12,11 +12,13 @@ use Rattle.merge_core.specs.Reached.{Reached}
 use Rattle.merge_core.proofs.FailLemmas.{if_err, raised_from}
 use Rattle.merge_core.proofs.Many.{Move, moved_trans, moved_still, told_moved}
 use Rattle.merge_core.proofs.MergeLemmas.{above_none, handed_none, handed_next, on_err}
+use Rattle.merge_core.specs.Feeds.{AreSettled}
 use Rattle.merge_core.proofs.merging.merge.Goals as goal
 
 pub loop-rest-init : goal.loop-rest-init
 loop-rest-init g c = record {
   empty = c.new-rest.ensures.items;
+  settled = c.requires.settled;
   reads = refl;
   writes = refl;
   came = (
@@ -167,6 +169,7 @@ loop-rest-preserved g c =
     let wrote = c.in_ok-more.ensures.wrote in
     record {
       empty = c.put_back.ensures.rest;
+      settled = subst AreSettled (sym c.put_back.ensures.feeds) ok.settled;
       reads = ok.worked ∙ c.loop-rest.invariant.reads;
       writes = c.in_ok-more.ensures.worked ∙ c.loop-rest.invariant.writes;
       came = (

@@ -2,6 +2,7 @@ use Rattle.std.proofs.Common.{◌≡◌, ◌+◌, ℕ, List, Option, [], length,
 use Rattle.cdxj_core.specs.declared.limit.TheConstants.{LINE_LIMIT}
 use Rattle.cdxj_core.specs.Members.{Member}
 use Rattle.cdxj_places.specs.Pairs.{Pair}
+use Rattle.merge_core.specs.Feeds.{AreSettled}
 use Rattle.merge_core.specs.Gathering.{unread}
 use Rattle.merge_core.specs.Reached.{Reached}
 use Rattle.merge_core.proofs.merging.merge.Given as goal
@@ -9,6 +10,7 @@ use Rattle.merge_core.proofs.merging.merge.Given as goal
 abbrev pub invariant-loop-rest : goal.invariant-loop-rest
 invariant-loop-rest g l = record {
   empty : l.rest.items ≡ [];
+  settled : AreSettled l.streams.feeds.items;
   reads : map g.S.Source.failures l.sources ≡ map g.S.Source.failures l.fn.sources;
   writes : g.O.Output.failures l.out ≡ g.O.Output.failures l.fn.out;
   came : (b : Option Pair) × (taken : List Member)

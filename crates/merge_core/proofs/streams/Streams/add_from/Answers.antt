@@ -6,8 +6,7 @@ pub returns-clause-added : goal.returns-clause-added
 returns-clause-added g c =
     let found = c.in_ok-cursor.ensures in
     let ok = c.in_ok-add.ensures in
-    let added = ok.added in
-    (
+    let added = ok.added in (
       added.0,
       added.1,
       added.2,

@@ -4,13 +4,15 @@ use Rattle.std.proofs.lemmas.List.{get_or_default}
 use Rattle.cdxj_core.specs.declared.limit.TheConstants.{LINE_LIMIT}
 use Rattle.cdxj_core.specs.declared.line.Line.{Line}
 use Rattle.cdxj_core.specs.Members.{member_pair}
+use Rattle.merge_core.specs.declared.fault.MergeFault.TheVariants as fault
 use Rattle.merge_core.specs.declared.feed.Feed.{Feed}
 use Rattle.merge_core.specs.declared.feed.Progress.TheVariants.{Due}
 use Rattle.merge_core.specs.PairOrders.{Upto}
 use Rattle.merge_core.specs.Failures.{RaisedAt}
 use Rattle.merge_core.specs.Feeds.{Fed, Ready, done}
 use Rattle.merge_core.specs.Gathering.{AllTwo, unread}
-use Rattle.merge_core.proofs.FailLemmas.{raised, feed_is}
+use Rattle.std.proofs.lemmas.Result.{err_from_is_err_and}
+use Rattle.merge_core.proofs.FailLemmas.{if_err, raised, feed_is}
 use Rattle.merge_core.proofs.Many.{Move, moved_set, map_set_same, unread_set}
 use Rattle.merge_core.proofs.StreamLemmas.{due_fed, waited_ready, waited_length}
 use Rattle.merge_core.proofs.streams.Streams.drain.Goals as goal
@@ -101,3 +103,13 @@ returns-clause-drained g c =
           let h = k.taken t (ap g.S.Source.text (get_or_default ss i a x c.requires.inside) ∙ e) in
           (h.0, h.1 ∙ ap (λ (f : Feed). done LINE_LIMIT t f ++ h.0) (c.index_mut.ensures.value ∙ get_or_default fs i b d (let l = c.requires.ready.same in let m = c.requires.inside in omega arith)), h.2, h.3),
     )
+
+pub returns-in-Err-clause-kept : goal.returns-in-Err-clause-kept
+returns-in-Err-clause-kept g c = λ h.
+    map_set_same g.S.Source.failures c.args.sources.now c.args.i c.index-sources-i.result c.drain.new.source c.requires.inside (c.in-Err.ensures.kept (λ e. h c.args.i (ap (fault.Feed c.args.i) e)))
+
+pub returns-in_err-let_wait-clause-kept : goal.returns-in_err-let_wait-clause-kept
+returns-in_err-let_wait-clause-kept g c =
+    let p = err_from_is_err_and c.from_residual.result c.from_residual.ensures.1 in
+    if_err c.from_residual.result p.0 _ p.1 (λ h.
+    map_set_same g.S.Source.failures c.args.sources.now c.args.i c.index-sources-i.result c.drain.new.source c.requires.inside c.in-Ok.ensures.worked)

@@ -11,14 +11,14 @@ use Rattle.cdxj_core.specs.Members.{member_pair}
 use Rattle.merge_core.specs.declared.feed.Feed.{Feed}
 use Rattle.merge_core.specs.PairOrders.{Alike, Below, Upto}
 use Rattle.merge_core.specs.WaitingLines.{WaitingLine, waiting_pair, turn_cmp}
-use Rattle.merge_core.specs.Feeds.{due}
+use Rattle.merge_core.specs.Feeds.{IsSettled, AreSettled, due}
 use Rattle.merge_core.specs.Gathering.{AllTwo, Gathered, IsFrom, IsDue, WaitsAbove, Drained, all_done, unread}
 use Rattle.merge_core.proofs.FailLemmas.{if_err, raised_from}
 use Rattle.merge_core.proofs.FeedLemmas.{each_join, map_push}
 use Rattle.merge_core.proofs.GroupLemmas.{AreAt, from_waited}
 use Rattle.merge_core.proofs.GatherSteps.{Gathers, gathers_start, taken_next, gathers_drained, gathers_all}
 use Rattle.merge_core.proofs.HeapLemmas.{each_permuted}
-use Rattle.merge_core.proofs.Many.{Move, moved_trans, moved_still}
+use Rattle.merge_core.proofs.Many.{Move, moved_trans, moved_still, set_set, set_own, each_replaced}
 use Rattle.merge_core.proofs.TurnLemmas.{above_popped}
 use Rattle.merge_core.proofs.streams.Streams.gather.Goals as goal
 
@@ -43,6 +43,9 @@ sources-init g c =
       gathers = subst (λ (l : List (Box Line Global)). Gathers LINE_LIMIT past g.S.Source.text g.S.Source.extent g.S.Source.gave ss fs pair (w.source + 1) ss c.take_first.new.self.feeds.items c.take_first.new.self.waiting (w.member ∷ map (λ (b : Box Line Global). b.value) l)) (sym c.requires.empty) t.gathers;
       inside = t.inside;
       due = t.due;
+      settled = λ f s.
+          let took = (subst (λ (v : WaitingLine). (d : Feed) → c.take_first.new.self.feeds.items ≡ set fs v.source (due (get_or fs v.source d))) is c.in-Some.ensures.feeds) f in
+          subst AreSettled (sym (ap (λ (l : List Feed). set l w.source f) took ∙ set_set fs w.source (due (get_or fs w.source f)) f)) (each_replaced IsSettled fs w.source f c.requires.settled s);
       failures = refl;
       from = t.from;
       above = λ b h. above_popped b ws c.take_first.new.self.waiting w out h;
@@ -219,9 +222,22 @@ sources-preserved g c =
       gathers = subst (λ l. Gathers LINE_LIMIT past text extent gave c.args.sources.now c.args.self.now.feeds.items pair (w.source + 1) c.drain.new.sources c.take_at.new.self.feeds.items c.take_at.new.self.waiting (first ∷ l)) (sym pushed) t.gathers;
       inside = t.inside;
       due = t.due;
+      settled = λ f s.
+          let here : IsSettled ok.drained.1 = subst IsSettled (ap (λ (l : List Feed). get_or l i ok.drained.1) ok.drained.3 ∙ set_own fs i ok.drained.1) (ok.settled ok.drained.1) in
+          let all = subst AreSettled (sym ok.drained.3) (inv.settled ok.drained.1 here) in
+          let feeds = c.drain.new.self.feeds.items in
+          let next = (subst (λ (v : WaitingLine). (d : Feed) → c.take_at.new.self.feeds.items ≡ set feeds v.source (due (get_or feeds v.source d))) is took.feeds) f in
+          subst AreSettled (sym (ap (λ (l : List Feed). set l w.source f) next ∙ set_set feeds w.source (due (get_or feeds w.source f)) f)) (each_replaced IsSettled feeds w.source f all s);
       failures = ok.worked ∙ inv.failures;
       from = t.from;
       above = inv.above;
       each = subst (AreAt pair) (sym pushed) (each_join (λ m. Alike (member_pair m) pair) (values c.drain.new.rest.items) (w.member ∷ []) (each inv.each) (alike, tt));
       fewer = omega (arith, fewer, few, less);
     }
+
+pub returns-in_default-take_at-clause-settled : goal.returns-in_default-take_at-clause-settled
+returns-in_default-take_at-clause-settled g c =
+    let inv = c.sources.invariant in
+    let ok = c.in_ok-drain.ensures in
+    let here : IsSettled ok.drained.1 = subst IsSettled (ap (λ (l : List Feed). get_or l c.sources.i ok.drained.1) ok.drained.3 ∙ set_own c.sources.self.feeds.items c.sources.i ok.drained.1) (ok.settled ok.drained.1) in
+    subst AreSettled (sym (c.in_default-take_at.ensures.feeds ∙ ok.drained.3)) (inv.settled ok.drained.1 here)

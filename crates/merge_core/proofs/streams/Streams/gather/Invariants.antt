@@ -1,4 +1,4 @@
-use Rattle.std.proofs.Common.{◌≡◌, ◌+◌, ◌<◌, ◌∷◌, Option, length, map, get_or}
+use Rattle.std.proofs.Common.{◌≡◌, ◌+◌, ◌<◌, ◌∷◌, Option, length, map, get_or, set}
 use Rattle.std.specs.List.{AllByRecursion}
 use Rattle.cdxj_core.specs.declared.limit.TheConstants.{LINE_LIMIT}
 use Rattle.cdxj_core.specs.Members.{member_pair}
@@ -6,6 +6,7 @@ use Rattle.cdxj_places.specs.Pairs.{Pair}
 use Rattle.merge_core.specs.declared.feed.Feed.{Feed}
 use Rattle.merge_core.specs.PairOrders.{IsAbove}
 use Rattle.merge_core.specs.WaitingLines.{waiting_pair}
+use Rattle.merge_core.specs.Feeds.{IsSettled, AreSettled}
 use Rattle.merge_core.specs.Gathering.{IsFrom, IsDue, unread}
 use Rattle.merge_core.proofs.GroupLemmas.{AreAt}
 use Rattle.merge_core.proofs.GatherSteps.{Gathers}
@@ -17,6 +18,7 @@ invariant-sources g l = record {
       (l.i + 1) l.sources l.self.feeds.items l.self.waiting (l.first.value ∷ map (λ b. b.value) l.rest.items);
   inside : l.i < length l.sources;
   due : (a : g.row.S.Denot) → (d : Feed) → IsDue LINE_LIMIT (member_pair l.first.value) (g.S.Source.text (get_or l.sources l.i a)) (get_or l.self.feeds.items l.i d);
+  settled : (f : Feed) → IsSettled f → AreSettled (set l.self.feeds.items l.i f);
   failures : map g.S.Source.failures l.sources ≡ map g.S.Source.failures l.fn.sources;
   from : AllByRecursion (IsFrom (member_pair l.first.value) (l.i + 1)) l.self.waiting;
   above : (b : Option Pair) → AllByRecursion (λ w. IsAbove b (waiting_pair w)) l.fn.self.waiting → IsAbove b (member_pair l.first.value);

@@ -3,7 +3,7 @@ use Rattle.std.specs.List.{AllByRecursion}
 use Rattle.cdxj_core.specs.declared.limit.TheConstants.{LINE_LIMIT}
 use Rattle.merge_core.specs.declared.feed.Feed.{Feed}
 use Rattle.merge_core.specs.WaitingLines.{WaitingLine}
-use Rattle.merge_core.specs.Feeds.{AreFed, done}
+use Rattle.merge_core.specs.Feeds.{AreSettled, AreFed, done}
 use Rattle.merge_core.specs.Gathering.{text_or}
 use Rattle.merge_core.specs.Failures.{RaisedAt}
 use Rattle.merge_core.proofs.FailLemmas.{raised, feed_is}
@@ -24,6 +24,7 @@ loop-i-init g c =
       placed = subst (AllByRecursion (λ (w : WaitingLine). w.source < length c.new.result.items)) (sym waits) tt;
       fed = fed_none LINE_LIMIT (g.R.Range.past c.args.range.now) g.S.Source.text g.S.Source.extent c.args.sources.now c.new.result.items c.new-2.result none;
       start = subst (AllByRecursion (λ (f : Feed). f.cursor.start ≡ 0)) (sym none) tt;
+      settled = subst AreSettled (sym none) tt;
       fresh = done_none (λ (x : g.row.S.Denot × Feed). done LINE_LIMIT (text_or (g.S.Source.text x.0)) x.1) c.args.sources.now c.new.result.items none;
     }
 
@@ -63,6 +64,7 @@ loop-i-preserved g c =
       placed = subst (λ us. AllByRecursion (λ (w : WaitingLine). w.source < length us) ws') (sym added.2) both.0;
       fed = subst (λ us. AreFed LINE_LIMIT past g.S.Source.text g.S.Source.extent 0 (set ss i s) us ws') (sym added.2) both.1;
       start = subst (AllByRecursion (λ (f : Feed). f.cursor.start ≡ 0)) (sym added.2) (each_join (λ (f : Feed). f.cursor.start ≡ 0) fs (f ∷ []) inv.start (added.5 ∙ c.in-Ok.ensures.start.0, tt));
+      settled = ok.settled inv.settled;
       fresh = ap (λ us. flat_map of (zip (set ss i s) us)) added.2 ∙ ap (flat_map of) (zip_push ss fs i s f inv.count inside)
           ∙ flat_push of (zip ss fs) (s, f) inv.fresh (fresh_of LINE_LIMIT (g.S.Source.text s) f (λ t e. added.6 t (sym ok.text ∙ e)));
     }

@@ -5,7 +5,7 @@ use Rattle.cdxj_core.specs.declared.limit.TheConstants.{LINE_LIMIT}
 use Rattle.source_core.specs.Halving.{digits}
 use Rattle.merge_core.specs.declared.feed.Feed.{Feed}
 use Rattle.merge_core.specs.WaitingLines.{WaitingLine}
-use Rattle.merge_core.specs.Feeds.{AreFed, done}
+use Rattle.merge_core.specs.Feeds.{AreSettled, AreFed, done}
 use Rattle.merge_core.specs.Gathering.{text_or}
 use Rattle.merge_core.specs.Failures.{RaisedAt}
 use Rattle.merge_core.specs.Openings.{IsCutAt}
@@ -28,6 +28,7 @@ loop-i-init g c =
       placed = subst (AllByRecursion (λ (w : WaitingLine). w.source < length c.new.result.items)) (sym waits) tt;
       fed = fed_none LINE_LIMIT (g.R.Range.past c.args.range.now) g.S.Source.text g.S.Source.extent c.args.sources.now c.new.result.items c.new-2.result none;
       cut = subst (AllByRecursion (λ (x : g.row.S.Denot × Feed). IsCutAt LINE_LIMIT (c.args.key.now, c.args.stamp.now) (g.S.Source.text x.0) x.1.cursor)) (sym (zip_none c.args.sources.now c.new.result.items none)) tt;
+      settled = subst AreSettled (sym none) tt;
       fresh = done_none (λ (x : g.row.S.Denot × Feed). done LINE_LIMIT (text_or (g.S.Source.text x.0)) x.1) c.args.sources.now c.new.result.items none;
       probes = omega arith;
     }
@@ -74,6 +75,7 @@ loop-i-preserved g c =
       placed = subst (λ us. AllByRecursion (λ (w : WaitingLine). w.source < length us) ws') (sym added.2) both.0;
       fed = subst (λ us. AreFed LINE_LIMIT past g.S.Source.text g.S.Source.extent 0 (set ss i s) us ws') (sym added.2) both.1;
       cut = subst (λ us. AllByRecursion Cut (zip (set ss i s) us)) (sym added.2) (subst (AllByRecursion Cut) (sym (zip_push ss fs i s f inv.count inside)) (each_join Cut (zip ss fs) ((s, f) ∷ []) inv.cut (added.5, tt)));
+      settled = ok.settled inv.settled;
       fresh = ap (λ us. flat_map of (zip (set ss i s) us)) added.2 ∙ ap (flat_map of) (zip_push ss fs i s f inv.count inside)
           ∙ flat_push of (zip ss fs) (s, f) inv.fresh (fresh_of LINE_LIMIT (g.S.Source.text s) f (λ t e. added.6 t (sym ok.text ∙ e)));
       probes = omega (arith, turns, here, few, before, all);

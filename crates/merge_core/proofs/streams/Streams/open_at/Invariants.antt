@@ -4,7 +4,7 @@ use Rattle.cdxj_core.specs.declared.limit.TheConstants.{LINE_LIMIT}
 use Rattle.source_core.specs.Halving.{digits}
 use Rattle.merge_core.specs.declared.feed.Feed.{Feed}
 use Rattle.merge_core.specs.WaitingLines.{WaitingLine}
-use Rattle.merge_core.specs.Feeds.{AreFed}
+use Rattle.merge_core.specs.Feeds.{AreFed, AreSettled}
 use Rattle.merge_core.specs.Gathering.{all_done}
 use Rattle.merge_core.specs.Openings.{IsCutAt}
 use Rattle.merge_core.proofs.streams.Streams.open_at.Given as goal
@@ -18,6 +18,7 @@ invariant-loop-i g l = record {
   placed : AllByRecursion (λ (w : WaitingLine). w.source < length l.streams.feeds.items) l.streams.waiting;
   fed : AreFed LINE_LIMIT (g.R.Range.past l.range) g.S.Source.text g.S.Source.extent 0 l.sources l.streams.feeds.items l.streams.waiting;
   cut : AllByRecursion (λ (x : g.row.S.Denot × Feed). IsCutAt LINE_LIMIT (l.key, l.stamp) (g.S.Source.text x.0) x.1.cursor) (zip l.sources l.streams.feeds.items);
+  settled : AreSettled l.streams.feeds.items;
   fresh : all_done LINE_LIMIT g.S.Source.text l.sources l.streams.feeds.items ≡ [];
   probes : l.probes ≤ sum (map (λ s. digits (g.S.Source.extent s)) (take l.i l.sources));
 }

@@ -1,0 +1,85 @@
+-- Sources of which all lines were read: each that tells its bytes is an index, and all its lines are done.
+use Rattle.std.proofs.Common.{◌≡◌, ℕ, suc, ◌+◌, ◌≤◌, List, [], ◌∷◌, length, take, drop, map, Bool, false, true, Option, Some, None, ◌++◌, flat_map, zip, refl, sym, ap, ap₂, ◌∙◌, subst, arith, length-drop}
+use Rattle.std.specs.List.{AllByRecursion}
+use Rattle.std.specs.Option.{is_some}
+use Rattle.std.proofs.lemmas.Bool.{true≢false}
+use Rattle.std.proofs.lemmas.List.{take_all}
+use Rattle.cdxj_places.specs.TextLines.{lines}
+use Rattle.cdxj_core.specs.Members.{Member}
+use Rattle.cdxj_core.specs.Indexes.{IsRun, IsIndex}
+use Rattle.source_core.specs.Cursors.{CursorState, Stands}
+use Rattle.merge_core.specs.declared.feed.Progress.{Progress}
+use Rattle.merge_core.specs.declared.feed.Progress.TheVariants.{Due, Waiting, Past, Ended}
+use Rattle.merge_core.specs.declared.feed.Feed.{Feed}
+use Rattle.merge_core.specs.Feeds.{AreWaits, IsHead, IsSettled, AreSettled, Fed, FedOf, AreFed, read_lines, given, done}
+use Rattle.merge_core.specs.Gathering.{AllTwo, text_or, all_done}
+use Rattle.merge_core.proofs.Many.{Move}
+
+none_left : (xs : List (List ℕ)) (n : ℕ) → drop n xs ≡ [] → length xs ≤ n
+none_left xs n e = omega (arith, length-drop n xs, ap length e)
+
+module _ (limit : ℕ) (past : List ℕ → Bool) (never : (key : List ℕ) → past key ≡ false) where
+  -- a feed of which no line waits, and which isn't due, has ended
+  ended : (p : Progress) (before all : List Member) (rest : List (List ℕ)) → (p ≡ Due → ⊥) → AreWaits p [] → IsHead limit past before all rest [] p → (all ≡ before) × (rest ≡ [])
+  ended Due before all rest s w h = absurd (s refl)
+  ended Waiting before all rest s w h = cc
+  ended Past before all rest s w h = absurd (true≢false (sym h.2 ∙ never h.0.values.key))
+  ended Ended before all rest s w h = h
+
+  -- then its source is an index
+  index_read : (t : List ℕ) (extent : ℕ) (f : Feed) → f.cursor.start ≡ 0 → IsSettled f → Fed limit past (Some t) extent f [] → IsIndex limit t (done limit t f)
+  index_read t extent f zero_start s fed =
+      let told = fed.told t refl in
+      let end = ended f.progress (done limit t f) (given limit t f.cursor) (lines (drop f.cursor.at t)) s fed.waits told.head in
+      let from : lines (drop f.cursor.start t) ≡ lines t = ap (λ n. lines (drop n t)) zero_start in
+      let rest : drop f.cursor.count (lines t) ≡ [] = ap (drop f.cursor.count) (sym from) ∙ sym (fed.stands.rest t refl) ∙ end.1 in
+      let whole : read_lines t f.cursor ≡ lines t = ap (take f.cursor.count) from ∙ take_all f.cursor.count (lines t) (none_left (lines t) f.cursor.count rest) in
+      subst (λ ls. IsRun limit ls (done limit t f)) whole (subst (IsRun limit (read_lines t f.cursor)) end.0 told.run)
+
+  module _ {S : Type 0} (text : S → Option (List ℕ)) (extent : S → ℕ) where
+    -- the lines of each
+    abbrev pub its_lines : List S → List Feed → List (List Member)
+    its_lines ss fs = map (λ x. done limit (text_or (text x.0)) x.1) (zip ss fs)
+
+    pub are_read : (n : ℕ) (ss : List S) (fs : List Feed) (texts : List (List ℕ)) → length ss ≡ length fs → AllTwo (λ told t. told ≡ Some t) (map text ss) texts
+        → AllByRecursion (λ (f : Feed). f.cursor.start ≡ 0) fs → AreSettled fs → AreFed limit past text extent n ss fs [] → AllTwo (IsIndex limit) texts (its_lines ss fs)
+    are_read n [] [] [] same known start settled fed = tt
+    are_read n [] [] (t ∷ texts) same known start settled fed = absurd known
+    are_read n [] (f ∷ fs) texts same known start settled fed = absurd (omega arith)
+    are_read n (s ∷ ss) [] texts same known start settled fed = absurd (omega arith)
+    are_read n (s ∷ ss) (f ∷ fs) [] same known start settled fed = absurd known
+    are_read n (s ∷ ss) (f ∷ fs) (t ∷ texts) same known start settled fed = (
+      subst (λ o. IsIndex limit t (done limit (text_or o) f)) (sym known.0)
+      (index_read t (extent s) f start.0 settled.0 (subst (λ o. Fed limit past o (extent s) f []) known.0 fed.0)),
+      are_read (n + 1) ss fs texts (omega arith) known.1 start.1 settled.1 fed.1,
+    )
+
+    pub all_lines_are : (ss : List S) (fs : List Feed) → all_done limit text ss fs ≡ flat_map (λ (members : List Member). members) (its_lines ss fs)
+    all_lines_are [] fs = refl
+    all_lines_are (s ∷ ss) [] = refl
+    all_lines_are (s ∷ ss) (f ∷ fs) = ap (λ l. done limit (text_or (text s)) f ++ l) (all_lines_are ss fs)
+
+-- ---- what a merge keeps of sources and feeds
+
+pub told_known : {S : Type 0} (text : S → Option (List ℕ)) (ss : List S) (texts : List (List ℕ)) → AllTwo (λ told t. told ≡ Some t) (map text ss) texts → AllByRecursion (λ s. is_some (text s) ≡ true) ss
+told_known text [] texts h = tt
+told_known text (s ∷ ss) [] h = absurd h
+told_known text (s ∷ ss) (t ∷ texts) h = (ap is_some h.0, told_known text ss texts h.1)
+
+module _ {S : Type 0} (text : S → Option (List ℕ)) (extent gave : S → ℕ) where
+  pub texts_kept : (ss ss' : List S) (fs fs' : List Feed) → length ss ≡ length fs → length ss' ≡ length ss → AllTwo (Move text extent gave) (zip ss fs) (zip ss' fs') → map text ss' ≡ map text ss
+  texts_kept [] [] fs fs' e e' h = refl
+  texts_kept [] (s' ∷ ss') fs fs' e e' h = absurd (omega arith)
+  texts_kept (s ∷ ss) [] fs fs' e e' h = absurd (omega arith)
+  texts_kept (s ∷ ss) (s' ∷ ss') [] fs' e e' h = absurd (omega arith)
+  texts_kept (s ∷ ss) (s' ∷ ss') (f ∷ fs) [] e e' h = absurd h
+  texts_kept (s ∷ ss) (s' ∷ ss') (f ∷ fs) (f' ∷ fs') e e' h = ap₂ (λ t ts. t ∷ ts) h.0.text_kept (texts_kept ss ss' fs fs' (omega arith) (omega arith) h.1)
+
+  pub starts_kept : (ss ss' : List S) (fs fs' : List Feed) → length ss ≡ length fs → length ss' ≡ length fs' → AllTwo (Move text extent gave) (zip ss fs) (zip ss' fs')
+      → AllByRecursion (λ (f : Feed). f.cursor.start ≡ 0) fs → AllByRecursion (λ (f : Feed). f.cursor.start ≡ 0) fs'
+  starts_kept ss [] fs [] e e' h z = tt
+  starts_kept ss [] fs (f' ∷ fs') e e' h z = absurd (omega arith)
+  starts_kept ss (s' ∷ ss') fs [] e e' h z = absurd (omega arith)
+  starts_kept [] (s' ∷ ss') fs (f' ∷ fs') e e' h z = absurd h
+  starts_kept (s ∷ ss) (s' ∷ ss') [] (f' ∷ fs') e e' h z = absurd (omega arith)
+  starts_kept (s ∷ ss) (s' ∷ ss') (f ∷ fs) (f' ∷ fs') e e' h z = (h.0.start_kept ∙ z.0, starts_kept ss ss' fs fs' (omega arith) (omega arith) h.1 z.1)

@@ -1,0 +1,98 @@
+use Rattle.std.proofs.Common.{◌≡◌, ◌-◌, ◌^◌, ℕ, List, Option, [], length, map, flat_map, min, Bool, true, false, Some, refl, sym, ap, ◌∙◌, subst, arith, append-nil, inl, inr}
+use Rattle.std.specs.List.{AllByRecursion}
+use Rattle.std.specs.Io.KnownBytes.{Appends}
+use Rattle.std.proofs.lemmas.Result.{err_from_is_err_and}
+use Rattle.cdxj_core.specs.declared.limit.TheConstants.{LINE_LIMIT}
+use Rattle.cdxj_core.specs.Members.{Member, member_place}
+use Rattle.cdxj_places.specs.Places.{place_cmp}
+use Rattle.cdxj_places.specs.Rising.{rising}
+use Rattle.devices.specs.Device.{AppendsPrefix}
+use Rattle.devices.proofs.DeviceLemmas.{Appends-none}
+use Rattle.devices.proofs.WritingLemmas.{prefix_whole}
+use Rattle.merge_core.specs.WaitingLines.{WaitingLine}
+use Rattle.merge_core.specs.Collections.{collection}
+use Rattle.merge_core.specs.Feeds.{AreFed}
+use Rattle.merge_core.specs.Gathering.{AllTwo, all_done}
+use Rattle.merge_core.specs.Written.{lines_text}
+use Rattle.merge_core.proofs.FailLemmas.{if_err, raised_from}
+use Rattle.merge_core.proofs.WholeLemmas.{are_read, all_lines_are, its_lines, told_known, texts_kept, starts_kept}
+use Rattle.merge_core.proofs.indexes.merge_indexes.Goals as goal
+
+whole : (old new : Option (List ℕ)) (text : List ℕ) → Appends old new text → AppendsPrefix old new text
+whole old new text a = subst (AppendsPrefix old new) (append-nil text) (prefix_whole old new text [] a)
+
+abbrev never : List ℕ → Bool
+never key = false
+
+pub returns-in_err-merge-clause-texts : goal.returns-in_err-merge-clause-texts
+returns-in_err-merge-clause-texts g c =
+    texts_kept g.S.Source.text g.S.Source.extent g.S.Source.gave c.open.new.sources c.merge.new.sources c.in_ok-streams.streams.feeds.items c.merge.new.streams.feeds.items
+    c.in_ok-streams.ensures.ready.same (omega arith) c.merge.ensures.moved ∙ c.in_ok-streams.ensures.text
+
+pub returns-clause-texts : goal.returns-clause-texts
+returns-clause-texts g c =
+    texts_kept g.S.Source.text g.S.Source.extent g.S.Source.gave c.open.new.sources c.merge.new.sources c.in_ok-streams.streams.feeds.items c.merge.new.streams.feeds.items
+    c.in_ok-streams.ensures.ready.same (omega arith) c.merge.ensures.moved ∙ c.in_ok-streams.ensures.text
+
+pub returns-in_err-merge-clause-read : goal.returns-in_err-merge-clause-read
+returns-in_err-merge-clause-read g c =
+    let f = g.S.Source.failures in
+    let p = err_from_is_err_and c.from_residual-in_err-merge.result c.from_residual-in_err-merge.ensures.1 in
+    let q : p.0 ≡ c.in_err-merge.field-0.0 = p.2 in
+    if_err c.from_residual-in_err-merge.result p.0 _ p.1 (λ i h.
+    raised_from i (map f c.args.sources.now) (map f c.open.new.sources) (map f c.merge.new.sources) c.in_ok-streams.ensures.worked (c.in_err-merge.ensures.read i (sym q ∙ h)))
+
+pub returns-in_err-merge-clause-rising : goal.returns-in_err-merge-clause-rising
+returns-in_err-merge-clause-rising g c =
+    let out = g.O.Output.written c.args.out.now in
+    let new = g.O.Output.written c.merge.new.out in
+    let broke = c.in_err-merge.ensures.broke in
+    let taken = broke.4 in (
+      taken,
+      broke.5.handed.rises,
+      elim (broke.6 c.new-writer.result out (Appends-none out, c.new-writer.ensures)) [
+        | inl k ↦ whole out new (lines_text taken) k.1.0
+        | inr p ↦ p
+      ],
+    )
+
+pub returns-clause-rising : goal.returns-clause-rising
+returns-clause-rising g c =
+    let out = g.O.Output.written c.args.out.now in
+    let new = g.O.Output.written c.merge.new.out in
+    let wrote = c.in_ok-merge.ensures.wrote in
+    let taken = wrote.1 in
+    (taken, wrote.2.handed.rises, whole out new (lines_text taken) (wrote.3 c.new-writer.result out (Appends-none out, c.new-writer.ensures)).0)
+
+pub returns-clause-merged : goal.returns-clause-merged
+returns-clause-merged g c = λ texts known.
+    let text = g.S.Source.text in let extent = g.S.Source.extent in let gave = g.S.Source.gave in
+    let ss1 = c.open.new.sources in let fs1 = c.in_ok-streams.streams.feeds.items in
+    let ss2 = c.merge.new.sources in let fs2 = c.merge.new.streams.feeds.items in
+    let opened = c.in_ok-streams.ensures in
+    let ok = c.in_ok-merge.ensures in
+    let out = g.O.Output.written c.args.out.now in
+    let new = g.O.Output.written c.merge.new.out in
+    let taken = ok.wrote.1 in
+    let reached = ok.wrote.2 in
+    let empty : c.merge.new.streams.waiting ≡ [] =
+    (elim c.in_ok-merge.field-0 as (λ b. (b ≡ true → c.merge.new.streams.waiting ≡ []) → (b ≡ false → ⊥) → c.merge.new.streams.waiting ≡ []) [
+      | true ↦ (λ f h. f refl)
+      | false ↦ (λ f h. absurd (h refl))
+    ]) ok.ended ok.enough in
+    let kept1 = opened.text in
+    let known1 = subst (λ l. AllTwo (λ (told : Option (List ℕ)) (t : List ℕ). told ≡ Some t) l texts) (sym kept1) known in
+    let kept2 = texts_kept text extent gave ss1 ss2 fs1 fs2 opened.ready.same (omega arith) c.merge.ensures.moved in
+    let known2 = subst (λ l. AllTwo (λ (told : Option (List ℕ)) (t : List ℕ). told ≡ Some t) l texts) (sym kept2) known1 in
+    let fed = subst (λ (ws : List WaitingLine). AreFed LINE_LIMIT never text extent 0 ss2 fs2 ws) empty reached.ready.fed in
+    let starts = starts_kept text extent gave ss1 ss2 fs1 fs2 opened.ready.same reached.ready.same c.merge.ensures.moved opened.start in
+    let indexes = its_lines LINE_LIMIT never (λ key. refl) text extent ss2 fs2 in
+    let all : taken ≡ collection indexes =
+    (reached.handed.told (told_known text ss1 texts known1)).0 ∙ ap (rising member_place place_cmp) (all_lines_are LINE_LIMIT never (λ key. refl) text extent ss2 fs2) in
+    let w = ok.wrote.3 c.new-writer.result out (Appends-none out, c.new-writer.ensures) in
+    record {
+      indexes = indexes;
+      are = are_read LINE_LIMIT never (λ key. refl) text extent 0 ss2 fs2 texts reached.ready.same known2 starts ok.settled fed;
+      text = subst (λ (l : List Member). Appends out new (lines_text l)) all w.0;
+      count = w.1 ∙ ap (λ (l : List Member). min (length l) (2 ^ 64 - 1)) all;
+    }

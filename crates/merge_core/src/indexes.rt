@@ -1,0 +1,45 @@
+//! The merge of whole indexes.
+ghost use Rattle.std.specs.Prelude.{◌≡◌, ℕ, Option, List, map, Some, IfOk, IfErr, OnOk, OnErr};
+ghost use Rattle.cdxj_core.specs.declared.limit.TheConstants.{LINE_LIMIT};
+ghost use Rattle.cdxj_core.specs.Members.{Member, member_place};
+ghost use Rattle.cdxj_places.specs.Places.{place_cmp};
+ghost use Rattle.cdxj_places.specs.Rising.{Rises};
+ghost use Rattle.devices.specs.Device.{next_count, AppendsPrefix};
+ghost use Rattle.merge_core.specs.Collections.{Merged};
+ghost use Rattle.merge_core.specs.Failures.{RaisedAt};
+ghost use Rattle.merge_core.specs.Gathering.{AllTwo};
+ghost use Rattle.merge_core.specs.Written.{lines_text};
+
+use crate::fault::{FeedFault, MergeFault};
+use crate::line_writer::LineWriter;
+use crate::merging::merge;
+use crate::range::All;
+use crate::streams::Streams;
+use devices::Output;
+use source_core::Source;
+use std::alloc::Global;
+
+/// Writes the collection of indexes: their lines in the order of places, the first line at each place. Answers how many lines
+/// were written.
+///
+/// It holds one line of each source, and the lines of one key and stamp. After a fault, lines that rise by place were written,
+/// the last of them whole or in part.
+pub fn merge_indexes<S: Source, O: Output>(
+    alloc: Global,
+    sources: &mut [S],
+    out: &mut O,
+) -> Result<u64, MergeFault>
+    ensures texts { map S.text sources.new ≡ map S.text sources.old }
+    ensures worked { OnOk result (map S.failures sources.new ≡ map S.failures sources.old) }
+    ensures read { IfErr result (λ e. (n : ℕ) → e ≡ MergeFault.Feed n FeedFault.Read → RaisedAt n (map S.failures sources.old) (map S.failures sources.new)) }
+    ensures failed { IfErr result (λ e. e ≡ MergeFault.Write → O.failures out.new ≡ next_count (O.failures out.old)) }
+    ensures written { OnOk result (O.failures out.new ≡ O.failures out.old) }
+    ensures merged { (texts : List (List ℕ)) → AllTwo (λ told text. told ≡ Some text) (map S.text sources.old) texts
+        → IfOk result (Merged LINE_LIMIT texts (O.written out.old) (O.written out.new)) }
+    ensures rising { (lines : List Member) × Rises member_place place_cmp lines × AppendsPrefix (O.written out.old) (O.written out.new) (lines_text lines) }
+{
+    let mut streams = Streams::open(alloc, sources, &All)?;
+    let mut writer = LineWriter::new(alloc);
+    merge(alloc, sources, &mut streams, &All, &mut writer, out)?;
+    Ok(writer.count)
+}
