@@ -1,9 +1,10 @@
 //! The lines of sources: their checking, and the search in them.
 use cdxj_core::LINE_LIMIT;
 use devices::Fuse;
-use query_core::{AnswerFault, SliceSource, Source, check};
+use query_core::{AnswerFault, FileSource, SliceSource, Source, check};
 use source_core::{SearchFault, search};
 use std::alloc::Global;
+use std::fs::{self, File};
 use std::test::Fail;
 
 const LETTERS: &[u8] =
@@ -128,6 +129,17 @@ fn a_source_that_fails_at_a_read_is_read(rt: HostRuntime) -> Result<(), Fail> {
             assert_eq!(rt; source.failures, 1);
         }
     }
+    Ok(())
+}
+
+#[test]
+fn a_file_that_was_cut_after_it_was_opened_fails(rt: HostRuntime) -> Result<(), Fail> {
+    fs::write(&rt, "letters.cdxj", LETTERS)?;
+    let mut whole = FileSource::new(File::open(&rt, "letters.cdxj")?)?;
+    assert_eq!(rt; checked(rt.alloc(), &mut whole)?, Ok(3));
+    let mut cut = FileSource::new(File::open(&rt, "letters.cdxj")?)?;
+    fs::write(&rt, "letters.cdxj", LETTERS.get(..290).unwrap_or(LETTERS))?;
+    assert_eq!(rt; checked(rt.alloc(), &mut cut)?, Err(AnswerFault::Read(0)));
     Ok(())
 }
 
