@@ -2,6 +2,7 @@ use crate::outcome::Outcome;
 use crate::status::{ends_command, status, worse};
 use capture_core::CaptureFault;
 use index_core::IndexFault;
+use query_core::AnswerFault;
 use warc_core::{Cause, Fault};
 
 fn archive(cause: Cause) -> Outcome {
@@ -28,6 +29,14 @@ const OUTCOMES: &[(Outcome, u8, bool)] = &[
         1,
         false,
     ),
+    (Outcome::Answer(AnswerFault::Memory), 3, true),
+    (Outcome::Answer(AnswerFault::Read(0)), 3, false),
+    (Outcome::Answer(AnswerFault::Write), 3, true),
+    (Outcome::Answer(AnswerFault::BadLine(0, 7)), 1, false),
+    (Outcome::Answer(AnswerFault::OutOfOrder(0, 7)), 1, false),
+    (Outcome::Answer(AnswerFault::TooManySources), 1, false),
+    (Outcome::Answer(AnswerFault::BadSizes), 2, false),
+    (Outcome::Answer(AnswerFault::Input), 3, false),
     (Outcome::CannotOpen, 3, false),
     (Outcome::CannotFlush, 3, false),
 ];

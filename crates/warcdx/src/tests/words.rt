@@ -8,6 +8,7 @@ enum Wanted {
     List(&'static [&'static str]),
     Verify(&'static [&'static str]),
     Index(&'static [&'static str]),
+    Check(&'static [&'static str]),
     Get(u64, &'static str),
     Help(&'static str),
     Usage(&'static str),
@@ -44,6 +45,7 @@ const ROWS: &[(&[&str], Wanted)] = &[
     (&["list", "list", "", "a"], Wanted::List(&["list", "", "a"])),
     (&["verify", "-", "./-x"], Wanted::Verify(&["-", "./-x"])),
     (&["index", "a", "b"], Wanted::Index(&["a", "b"])),
+    (&["check", "a", "-"], Wanted::Check(&["a", "-"])),
     (&["get", "264", "a.warc"], Wanted::Get(264, "a.warc")),
     (&["get", "007", "-"], Wanted::Get(7, "-")),
     (&["get", LARGEST, "a"], Wanted::Get((1 << 63) - 1, "a")),
@@ -132,6 +134,7 @@ fn is_task(task: &Task, wanted: &Wanted) -> bool {
         (Task::List { names }, Wanted::List(wanted)) => are(names.as_slice(), wanted),
         (Task::Verify { names }, Wanted::Verify(wanted)) => are(names.as_slice(), wanted),
         (Task::Index { names }, Wanted::Index(wanted)) => are(names.as_slice(), wanted),
+        (Task::Check { names }, Wanted::Check(wanted)) => are(names.as_slice(), wanted),
         (Task::Get { offset, name }, Wanted::Get(at, wanted)) => {
             offset == at && name.as_str() == *wanted
         }
