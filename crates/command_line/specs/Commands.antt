@@ -16,6 +16,7 @@ pub data Meaning : Type 0 where
   ToList : List Text → Meaning
   ToVerify : List Text → Meaning
   ToIndex : List Text → Meaning
+  ToMerge : List Text → Meaning
   ToCheck : List Text → Meaning
   ToGet : ℕ → Text → Meaning
 
@@ -26,7 +27,7 @@ pub data Form : Type 0 where
 
 abbrev pub commands : List (Text × Form)
 commands = (codes "list", Names ToList) ∷ (codes "verify", Names ToVerify) ∷ (codes "index", Names ToIndex)
-    ∷ (codes "check", Names ToCheck) ∷ (codes "get", Offset ToGet) ∷ []
+    ∷ (codes "merge", Names ToMerge) ∷ (codes "check", Names ToCheck) ∷ (codes "get", Offset ToGet) ∷ []
 
 -- ---- words with a task
 
@@ -71,6 +72,7 @@ abbrev pub view : Task → Meaning
 view (task.List names) = ToList (texts names.items)
 view (task.Verify names) = ToVerify (texts names.items)
 view (task.Index names) = ToIndex (texts names.items)
+view (task.Merge names) = ToMerge (texts names.items)
 view (task.Check names) = ToCheck (texts names.items)
 view (task.Get offset name) = ToGet offset (string_bytes name)
 

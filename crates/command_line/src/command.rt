@@ -3,7 +3,7 @@ ghost use Rattle.std.specs.Prelude.{◌≡◌, IfOk, false, [], ◌∷◌, codes
 ghost use Rattle.clap.specs.Words.{app_of, rule_of, with_subcommand};
 ghost use Rattle.command_line.specs.Clap.{word_rule, names_rule, command_with, warcdx};
 
-use crate::help::{ARCHIVE, CDXJ, CHECK, GET, INDEX, LIST, OFFSET, Operand, PROGRAM, Page, VERIFY};
+use crate::help::{ARCHIVE, CDXJ, CHECK, GET, INDEX, LIST, MERGE, OFFSET, Operand, PROGRAM, Page, VERIFY};
 use clap::{Arg, Command};
 use std::alloc::{AllocError, Global};
 
@@ -20,7 +20,8 @@ pub fn command_line<'a>(alloc: Global) -> Result<Command<'a>, AllocError>
     let list = with_names(program, alloc, "list", LIST, ARCHIVE)?;
     let verify = with_names(list, alloc, "verify", VERIFY, ARCHIVE)?;
     let index = with_names(verify, alloc, "index", INDEX, ARCHIVE)?;
-    let check = with_names(index, alloc, "check", CHECK, CDXJ)?;
+    let merge = with_names(index, alloc, "merge", MERGE, CDXJ)?;
+    let check = with_names(merge, alloc, "check", CHECK, CDXJ)?;
     with_offset(check, alloc, "get", GET, ARCHIVE)
 }
 

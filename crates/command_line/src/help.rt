@@ -17,6 +17,7 @@ Examples:
   warcdx list crawl.warc
   warcdx verify crawl-1.warc crawl-2.warc
   warcdx index crawl-1.warc crawl-2.warc > crawl.cdxj
+  warcdx merge crawl-1.cdxj crawl-2.cdxj > crawls.cdxj
   warcdx check crawl.cdxj
   warcdx get 4096 crawl.warc
   gunzip -c crawl.warc.gz | warcdx verify -
@@ -150,6 +151,41 @@ Exit status:
   1  an archive is damaged, or its file name or a record can't be indexed
   2  the words mean nothing
   3  a file can't be opened, or memory, an input or the output failed",
+};
+
+pub const MERGE: Page = Page {
+    about: "Merges indexes into one",
+    details: "\
+Writes the lines of all indexes to standard output, in the order of key, stamp,
+file name and offset. Each line is written as it stands in its index. Where
+several lines have all four in common, the first of them is written: that of
+the index that is named first.
+
+The indexes must be sorted, as 'warcdx check' says. They are read line by line:
+one line of each index is held, and the lines of one key and stamp. At most
+1,024 indexes are merged.
+
+All indexes are opened before the first is read. The first fault ends the
+command, and is reported on standard error; what was written before it stands:
+
+  warcdx: NAME: cannot open
+  warcdx: NAME: Read
+  warcdx: NAME: BadLine OFFSET
+  warcdx: NAME: OutOfOrder OFFSET
+  warcdx: TooManySources
+
+OFFSET is where the line at fault begins, in bytes. 'warcdx check --help' says
+what the causes mean.
+
+Examples:
+  warcdx merge crawl-1.cdxj crawl-2.cdxj > crawls.cdxj
+  warcdx merge *.cdxj > all
+
+Exit status:
+  0  the indexes were merged
+  1  an index has a bad line, or one out of order, or there are too many
+  2  the words mean nothing
+  3  a file can't be opened or read, or memory or the output failed",
 };
 
 pub const CHECK: Page = Page {

@@ -38,6 +38,7 @@ fn command_task(
         "list" => Ok(names_of(alloc, values)?.map(|names| Task::List { names })),
         "verify" => Ok(names_of(alloc, values)?.map(|names| Task::Verify { names })),
         "index" => Ok(names_of(alloc, values)?.map(|names| Task::Index { names })),
+        "merge" => Ok(names_of(alloc, values)?.map(|names| Task::Merge { names })),
         "check" => Ok(names_of(alloc, values)?.map(|names| Task::Check { names })),
         "get" => get_task(alloc, values),
         _ => Ok(None),

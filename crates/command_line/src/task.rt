@@ -9,6 +9,8 @@ pub enum Task {
     Verify { names: Vec<String> },
     /// Index the captures of the archives.
     Index { names: Vec<String> },
+    /// Merge the indexes into one.
+    Merge { names: Vec<String> },
     /// Check the lines of each index, and count them.
     Check { names: Vec<String> },
     /// Write the record that begins at the offset, in bytes from the archive's start.

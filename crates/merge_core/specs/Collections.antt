@@ -1,12 +1,17 @@
 -- The collection of several indexes.
-use Rattle.std.specs.Prelude.{◌≡◌, ℕ, ◌-◌, ◌^◌, List, length, flat_map, min, Option}
+use Rattle.std.specs.Prelude.{◌≡◌, ℕ, ◌-◌, ◌^◌, List, length, flat_map, min, Option, Some}
 use Rattle.std.specs.Io.KnownBytes.{Appends}
 use Rattle.cdxj_places.specs.Places.{place_cmp}
-use Rattle.cdxj_places.specs.Rising.{rising}
+use Rattle.cdxj_places.specs.Rising.{rising, Rises}
+use Rattle.devices.specs.Device.{AppendsPrefix}
 use Rattle.cdxj_core.specs.Indexes.{IsIndex}
 use Rattle.cdxj_core.specs.Members.{Member, member_place}
 use Rattle.merge_core.specs.Gathering.{AllTwo}
 use Rattle.merge_core.specs.Written.{lines_text}
+
+-- each text is told, and is this one
+abbrev pub Known : List (Option (List ℕ)) → List (List ℕ) → Type 0
+Known = AllTwo (λ told text. told ≡ Some text)
 
 -- all lines, in the order of indexes and then of lines
 abbrev pub all_lines : List (List Member) → List Member
@@ -22,3 +27,7 @@ pub record Merged (limit : ℕ) (texts : List (List ℕ)) (old new : Option (Lis
   pub are : AllTwo (IsIndex limit) texts indexes
   pub text : Appends old new (lines_text (collection indexes))
   pub count : number ≡ min (length (collection indexes)) (2 ^ 64 - 1)
+
+-- lines that rise by place were written, the last of them whole or in part
+abbrev pub WroteRising : Option (List ℕ) → Option (List ℕ) → Type 0
+WroteRising old new = (members : List Member) × Rises member_place place_cmp members × AppendsPrefix old new (lines_text members)

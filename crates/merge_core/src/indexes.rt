@@ -1,14 +1,9 @@
 //! The merge of whole indexes.
 ghost use Rattle.std.specs.Prelude.{◌≡◌, ℕ, Option, List, map, Some, IfOk, IfErr, OnOk, OnErr};
 ghost use Rattle.cdxj_core.specs.declared.limit.TheConstants.{LINE_LIMIT};
-ghost use Rattle.cdxj_core.specs.Members.{Member, member_place};
-ghost use Rattle.cdxj_places.specs.Places.{place_cmp};
-ghost use Rattle.cdxj_places.specs.Rising.{Rises};
-ghost use Rattle.devices.specs.Device.{next_count, AppendsPrefix};
-ghost use Rattle.merge_core.specs.Collections.{Merged};
+ghost use Rattle.devices.specs.Device.{next_count};
+ghost use Rattle.merge_core.specs.Collections.{Known, Merged, WroteRising};
 ghost use Rattle.merge_core.specs.Failures.{RaisedAt};
-ghost use Rattle.merge_core.specs.Gathering.{AllTwo};
-ghost use Rattle.merge_core.specs.Written.{lines_text};
 
 use crate::fault::{FeedFault, MergeFault};
 use crate::line_writer::LineWriter;
@@ -34,9 +29,9 @@ pub fn merge_indexes<S: Source, O: Output>(
     ensures read { IfErr result (λ e. (n : ℕ) → e ≡ MergeFault.Feed n FeedFault.Read → RaisedAt n (map S.failures sources.old) (map S.failures sources.new)) }
     ensures failed { IfErr result (λ e. e ≡ MergeFault.Write → O.failures out.new ≡ next_count (O.failures out.old)) }
     ensures written { OnOk result (O.failures out.new ≡ O.failures out.old) }
-    ensures merged { (texts : List (List ℕ)) → AllTwo (λ told text. told ≡ Some text) (map S.text sources.old) texts
+    ensures merged { (texts : List (List ℕ)) → Known (map S.text sources.old) texts
         → IfOk result (Merged LINE_LIMIT texts (O.written out.old) (O.written out.new)) }
-    ensures rising { (lines : List Member) × Rises member_place place_cmp lines × AppendsPrefix (O.written out.old) (O.written out.new) (lines_text lines) }
+    ensures rising { WroteRising (O.written out.old) (O.written out.new) }
 {
     let mut streams = Streams::open(alloc, sources, &All)?;
     let mut writer = LineWriter::new(alloc);

@@ -1,19 +1,10 @@
--- The collection of several indexes, and what a query selects of it.
-use Rattle.std.specs.Prelude.{List, flat_map}
+-- What a query selects of the collection of several indexes.
+use Rattle.std.specs.Prelude.{List}
 use Rattle.std.specs.List.{filter}
-use Rattle.cdxj_places.specs.Places.{place_cmp}
-use Rattle.cdxj_places.specs.Rising.{rising}
+use Rattle.cdxj_core.specs.Members.{Member}
 use Rattle.query_text.specs.Queries.{QueryValue}
 use Rattle.query_text.specs.Matching.{matches}
-use Rattle.cdxj_core.specs.Members.{Member, member_place}
-
--- all lines, in the order of indexes and then of lines
-abbrev pub all_lines : List (List Member) → List Member
-all_lines indexes = flat_map (λ members. members) indexes
-
--- in the order of places, each with the first line that has it
-abbrev pub collection : List (List Member) → List Member
-collection indexes = rising member_place place_cmp (all_lines indexes)
+pub use Rattle.merge_core.specs.Collections.{all_lines, collection}
 
 -- the lines of the collection that match the query
 abbrev pub selected : QueryValue → List (List Member) → List Member

@@ -5,3 +5,4 @@ pub mod QueryPages
 pub mod PageWriting
 pub mod WriterView
 pub mod PageAsked
+pub mod Merging

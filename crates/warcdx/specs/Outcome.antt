@@ -101,6 +101,7 @@ message_of (outcomes.Index faults.Memory) = Some (codes "Memory")
 message_of (outcomes.Index faults.Write) = Some (codes "Write")
 message_of (outcomes.Answer answers.Memory) = Some (codes "Memory")
 message_of (outcomes.Answer answers.Write) = Some (codes "Write")
+message_of (outcomes.Answer answers.TooManySources) = Some (codes "TooManySources")
 message_of outcomes.CannotFlush = Some (codes "cannot flush")
 message_of outcome = None
 

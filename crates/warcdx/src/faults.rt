@@ -31,6 +31,19 @@ fn say_fault<R: Runtime>(rt: &R, name: &str, fault: IndexFault) {
     }
 }
 
+/// Reports a fault of several indexes under the name of the one that it names, if it names one.
+pub fn say_source_fault<R: Runtime>(rt: &R, names: &[String], fault: AnswerFault) {
+    let source = match fault {
+        AnswerFault::Read(source) => source,
+        AnswerFault::BadLine(source, _offset) => source,
+        AnswerFault::OutOfOrder(source, _offset) => source,
+        _ => return,
+    };
+    if let Some(name) = names.get(source) {
+        say_answer_fault(rt, name, fault);
+    }
+}
+
 /// Says what is at fault of the index of this name. Memory and a failed output are said at the command's end.
 pub fn say_answer_fault<R: Runtime>(rt: &R, name: &str, fault: AnswerFault) {
     match fault {

@@ -6,6 +6,7 @@ mod checks;
 mod faults;
 mod fetching;
 mod indexing;
+mod merging;
 mod outcome;
 mod program;
 mod reports;

@@ -70,6 +70,7 @@ pub fn message(outcome: Outcome) -> Option<&'static str>
         Outcome::Index(IndexFault::Write) => Some("Write"),
         Outcome::Answer(AnswerFault::Memory) => Some("Memory"),
         Outcome::Answer(AnswerFault::Write) => Some("Write"),
+        Outcome::Answer(AnswerFault::TooManySources) => Some("TooManySources"),
         Outcome::CannotFlush => Some("cannot flush"),
         _ => None,
     }

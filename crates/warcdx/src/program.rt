@@ -8,6 +8,7 @@ ghost use Rattle.warcdx.specs.Words.{EndsWords};
 use crate::checks::check_all;
 use crate::fetching::fetch;
 use crate::indexing::index_all;
+use crate::merging::merge_all;
 use crate::outcome::{Outcome, flushed_outcome, message};
 use crate::reports::{ArchiveReport, report_on};
 use command_line::{Task, WordsFault, read_words};
@@ -18,6 +19,9 @@ use std::rt::Runtime;
 use warc_core::{FromWrite, Output};
 
 const MEMORY: Outcome = Outcome::Index(IndexFault::Memory);
+
+// The bytes of output that are written at once.
+const OUTPUT_ROOM: usize = 65_536;
 
 /// Runs the program.
 pub fn run<R: Runtime + AllocGlobal>(rt: &R) -> Outcome {
@@ -71,7 +75,7 @@ fn help<R: Runtime>(rt: &R, text: &str) -> Outcome
 
 /// Does the task, with what it writes on standard output.
 fn run_task<R: Runtime + AllocGlobal>(rt: &R, task: &Task) -> Outcome {
-    let Ok(mut writer) = BufWriter::new(rt.alloc(), io::writer(rt)) else {
+    let Ok(mut writer) = BufWriter::with_capacity(rt.alloc(), OUTPUT_ROOM, io::writer(rt)) else {
         return say_outcome(rt, MEMORY);
     };
     let outcome = perform(rt, task, &mut FromWrite::new(&mut writer));
@@ -85,6 +89,7 @@ pub fn perform<R: Runtime + AllocGlobal, O: Output>(rt: &R, task: &Task, out: &m
         Task::List { names } => report_on(rt, names, ArchiveReport::Listing, out),
         Task::Verify { names } => report_on(rt, names, ArchiveReport::Verdicts, out),
         Task::Index { names } => index_all(rt, names, out),
+        Task::Merge { names } => merge_all(rt, names, out),
         Task::Check { names } => check_all(rt, names, out),
         Task::Get { offset, name } => fetch(rt, *offset, name, out),
     }

@@ -1,0 +1,75 @@
+//! The merge of indexes.
+ghost use Rattle.std.specs.Prelude.{◌≡◌, ◌≢◌, ◌<◌, ◌≤◌, ℕ, List, length, map, Err, IfOk, IfErr, OnOk};
+ghost use Rattle.cdxj_core.specs.declared.limit.TheConstants.{LINE_LIMIT};
+ghost use Rattle.devices.specs.Device.{next_count};
+ghost use Rattle.merge_core.specs.Collections.{Merged, WroteRising};
+ghost use Rattle.merge_core.specs.Failures.{RaisedAt};
+ghost use Rattle.merge_core.specs.Collections.{Known};
+ghost use Rattle.query_core.specs.declared.merging.TheConstants.{SOURCES_LIMIT};
+ghost use Rattle.query_core.specs.Merging.{IsMergeFault};
+
+use crate::fault::AnswerFault;
+use devices::Output;
+use merge_core::{FeedFault, MergeFault, merge_indexes};
+use source_core::Source;
+use std::alloc::Global;
+
+/// The most indexes that a call takes.
+pub const SOURCES_LIMIT: usize = 1_024;
+
+fn index_fault(index: usize, fault: FeedFault) -> AnswerFault
+    ensures read { (i : ℕ) → result ≡ AnswerFault.Read i → (index ≡ i) × (fault ≡ FeedFault.Read) }
+    ensures write { result ≢ AnswerFault.Write }
+    ensures kind { (result ≢ AnswerFault.TooManySources) × IsMergeFault result }
+{
+    match fault {
+        FeedFault::Memory => AnswerFault::Memory,
+        FeedFault::Read => AnswerFault::Read(index),
+        FeedFault::BadLine(offset) => AnswerFault::BadLine(index, offset),
+        FeedFault::OutOfOrder(offset) => AnswerFault::OutOfOrder(index, offset),
+    }
+}
+
+fn merge_fault(fault: MergeFault) -> AnswerFault
+    ensures read { (i : ℕ) → result ≡ AnswerFault.Read i → fault ≡ MergeFault.Feed i FeedFault.Read }
+    ensures write { result ≡ AnswerFault.Write → fault ≡ MergeFault.Write }
+    ensures kind { (result ≢ AnswerFault.TooManySources) × IsMergeFault result }
+{
+    match fault {
+        MergeFault::Memory => AnswerFault::Memory,
+        MergeFault::Write => AnswerFault::Write,
+        MergeFault::Feed(index, fault) => index_fault(index, fault),
+    }
+}
+
+/// Merges indexes: writes their lines in the order of places, each as it stands in its index, and the first line at each
+/// place. Answers how many lines were written.
+///
+/// `TooManySources` over `SOURCES_LIMIT` indexes comes before anything is read. `BadLine` and `OutOfOrder` name a line by which
+/// an index is none; which of several is met first is not said. After a fault, lines that rise by place were written, the last
+/// of them whole or in part. It holds one line of each index, and the lines of one key and stamp.
+pub fn merge<S: Source, O: Output>(
+    alloc: Global,
+    sources: &mut [S],
+    out: &mut O,
+) -> Result<u64, AnswerFault>
+    ensures many { SOURCES_LIMIT < length sources.old → result ≡ Err AnswerFault.TooManySources }
+    ensures few { length sources.old ≤ SOURCES_LIMIT → IfErr result (λ e. e ≢ AnswerFault.TooManySources) }
+    ensures unread { IfErr result (λ e. e ≡ AnswerFault.TooManySources → (sources.new ≡ sources.old) × (out.new ≡ out.old)) }
+    ensures refusals { IfErr result IsMergeFault }
+    ensures texts { map S.text sources.new ≡ map S.text sources.old }
+    ensures worked { OnOk result ((map S.failures sources.new ≡ map S.failures sources.old) × (O.failures out.new ≡ O.failures out.old)) }
+    ensures read { IfErr result (λ e. (i : ℕ) → e ≡ AnswerFault.Read i → RaisedAt i (map S.failures sources.old) (map S.failures sources.new)) }
+    ensures failed { IfErr result (λ e. e ≡ AnswerFault.Write → O.failures out.new ≡ next_count (O.failures out.old)) }
+    ensures merged { (texts : List (List ℕ)) → Known (map S.text sources.old) texts
+        → IfOk result (Merged LINE_LIMIT texts (O.written out.old) (O.written out.new)) }
+    ensures rising { WroteRising (O.written out.old) (O.written out.new) }
+{
+    if sources.len() > SOURCES_LIMIT {
+        return Err(AnswerFault::TooManySources);
+    }
+    match merge_indexes(alloc, sources, out) {
+        Ok(count) => Ok(count),
+        Err(fault) => Err(merge_fault(fault)),
+    }
+}

@@ -1,0 +1,59 @@
+//! The merging of indexes.
+ghost use Rattle.std.specs.Prelude.{◌≡◌, ℕ, List, map};
+ghost use Rattle.cdxj_core.specs.declared.limit.TheConstants.{LINE_LIMIT};
+ghost use Rattle.merge_core.specs.Collections.{Known, Merged, WroteRising};
+
+use crate::archives::open_index;
+use crate::faults::say_source_fault;
+use crate::outcome::Outcome;
+use query_core::{AnswerFault, FileSource, Source, merge};
+use std::fs::Files;
+use std::rt::Runtime;
+use warc_core::Output;
+
+/// Merges the indexes, which are all opened before the first is read. What is at fault of an index is reported on standard
+/// error.
+pub fn merge_all<R: Runtime + AllocGlobal, O: Output>(
+    rt: &R,
+    names: &[String],
+    out: &mut O,
+) -> Outcome {
+    match open_indexes(rt, names) {
+        Ok(mut sources) => merge_opened(rt, names, &mut sources, out),
+        Err(outcome) => outcome,
+    }
+}
+
+/// The indexes of these names, in their order, or how the first ended that can't be opened.
+fn open_indexes<R: Runtime + AllocGlobal>(
+    rt: &R,
+    names: &[String],
+) -> Result<Vec<FileSource<<R as Files>::File>>, Outcome> {
+    let mut sources = Vec::new(rt.alloc());
+    for name in names {
+        if sources.push(open_index(rt, name)?).is_err() {
+            return Err(Outcome::Answer(AnswerFault::Memory));
+        }
+    }
+    Ok(sources)
+}
+
+/// Merges sources of these names.
+fn merge_opened<R: Runtime + AllocGlobal, S: Source, O: Output>(
+    rt: &R,
+    names: &[String],
+    sources: &mut [S],
+    out: &mut O,
+) -> Outcome
+    ensures merged { result ≡ Outcome.Done → (texts : List (List ℕ)) → Known (map S.text sources.old) texts
+        → (number : ℕ) × Merged LINE_LIMIT texts (O.written out.old) (O.written out.new) number }
+    ensures rising { WroteRising (O.written out.old) (O.written out.new) }
+{
+    match merge(rt.alloc(), sources, out) {
+        Ok(_count) => Outcome::Done,
+        Err(fault) => {
+            say_source_fault(rt, names, fault);
+            Outcome::Answer(fault)
+        }
+    }
+}
