@@ -1,10 +1,11 @@
 //! Keys in the manner of SURT: URLs with the host's labels reversed, so that a host's pages stand
 //! together in an index.
-ghost use Rattle.std.specs.Prelude.{◌≡◌, ◌<◌, ◌++◌, length, option_copied, option_map, true, IfOk, string_bytes};
+ghost use Rattle.std.specs.Prelude.{◌≡◌, ◌<◌, ◌++◌, length, option_copied, option_map, true, IfOk, None, Ok, string_bytes};
 ghost use Rattle.std.specs.Char.{digit_char};
 ghost use Rattle.std.specs.List.{list_all};
+ghost use Rattle.url.specs.Parser.{parse_url};
 ghost use Rattle.cdxj_places.specs.Pair.{is_key};
-ghost use Rattle.cdxj_keys.specs.Key.{port_text, query_text, is_web, web_text, is_graphic, key_byte, folded, key_of, host_key_of};
+ghost use Rattle.cdxj_keys.specs.Key.{port_text, query_text, is_web, web_text, key_text, is_graphic, key_byte, folded, key_of, host_key_of};
 
 use crate::fault::KeyFault;
 use crate::host::host_text;
@@ -112,24 +113,32 @@ fn web_text(alloc: Global, url: &Url) -> Result<Vec<u8>, AllocError>
     Ok(text)
 }
 
+/// The key of a target that the URL parser took as this URL, as `url_key` gives it.
+#[tactic(auto, using(crate::proofs::FoldedKey::web_text_is_filled), unfolding(crate::specs::Key::key_of))]
+pub fn parsed_url_key(alloc: Global, url: &Url, target: &str) -> Result<String, AllocError>
+    ensures value { IfOk result (λ key. string_bytes key ≡ folded (key_text (Ok url.now) target.now)) }
+    ensures parsed { parse_url None target.now ≡ Ok url.now
+        → IfOk result (λ key. string_bytes key ≡ key_of target.now) }
+    ensures key { IfOk result (λ key. 0 < length target.now → is_key (string_bytes key) ≡ true) }
+{
+    if is_web(url) {
+        key_from(alloc, &web_text(alloc, url)?)
+    } else {
+        key_from(alloc, target.as_bytes())
+    }
+}
+
 /// The key of a target. Of a web URL, as the URL Standard parses it, it is the host text, `:` and
 /// the port unless it is the scheme's own, `)`, the path, and `?` and the query unless it is empty;
 /// of any other target it is the target. ASCII letters are lowered, and bytes outside 0x21 to 0x7E
 /// written as `%` and two digits; of a target that isn't empty it is a line's key. `TooLong` only where the URL parser has no room for the URL.
-#[tactic(auto, using(crate::proofs::FoldedKey::web_text_is_filled), unfolding(crate::specs::Key::key_of))]
+#[tactic(auto, unfolding(crate::specs::Key::key_of))]
 pub fn url_key(alloc: Global, target: &str) -> Result<String, KeyFault>
     ensures value { IfOk result (λ key. string_bytes key ≡ key_of target.now) }
     ensures key { IfOk result (λ key. 0 < length target.now → is_key (string_bytes key) ≡ true) }
 {
     match Url::parse(alloc, target) {
-        Ok(url) => {
-            if is_web(&url) {
-                let text = web_text(alloc, &url)?;
-                Ok(key_from(alloc, &text)?)
-            } else {
-                Ok(key_from(alloc, target.as_bytes())?)
-            }
-        }
+        Ok(url) => Ok(parsed_url_key(alloc, &url, target)?),
         Err(ParseError::OutOfMemory) => Err(KeyFault::Memory),
         Err(ParseError::Overflow) => Err(KeyFault::TooLong),
         Err(_) => Ok(key_from(alloc, target.as_bytes())?),

@@ -7,5 +7,5 @@ mod key;
 mod laws;
 
 pub use crate::fault::KeyFault;
-pub use crate::key::{host_key, url_key};
+pub use crate::key::{host_key, parsed_url_key, url_key};
 pub use crate::laws::host_key_begins_key;

@@ -5,7 +5,7 @@ ghost use Rattle.query_text.specs.Readings.{IsReadingBy};
 ghost use Rattle.query_text.specs.Targets.{is_scheme_byte, has_scheme, web_address, address_key, address_host};
 
 use crate::fault::QueryFault;
-use cdxj_core::{host_key, url_key};
+use cdxj_core::{host_key, parsed_url_key};
 use std::alloc::{AllocError, Global};
 use url::{ParseError, Url};
 
@@ -44,7 +44,7 @@ pub(crate) fn address_key(alloc: Global, address: &str) -> Result<String, QueryF
     ensures { IsReadingBy string_bytes (address_key address.now) result }
 {
     match Url::parse(alloc, address) {
-        Ok(_) => Ok(url_key(alloc, address)?),
+        Ok(url) => Ok(parsed_url_key(alloc, &url, address)?),
         Err(ParseError::OutOfMemory | ParseError::Overflow) => Err(QueryFault::Memory),
         Err(_) => Err(QueryFault::BadUrl),
     }
