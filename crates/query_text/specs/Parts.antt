@@ -1,5 +1,5 @@
 -- A query text, cut into its parameters.
-use Rattle.std.specs.Prelude.{ℕ, ◌==◌, Bool, List, [], Option, Some, None}
+use Rattle.std.specs.Prelude.{ℕ, ◌==◌, ◌||◌, Bool, not, List, [], Option, Some, None}
 use Rattle.std.specs.Borrow.{Bor}
 use Rattle.std.specs.List.{slice_split}
 use Rattle.std.specs.Str.Lossy.{utf8_lossy}
@@ -14,6 +14,10 @@ parts_left sign (Some text) = slice_split (λ b. b == sign) text.now
 -- `b'='`
 abbrev pub is_equals : ℕ → Bool
 is_equals b = b == 61
+
+-- neither `b'+'` nor `b'%'`, and so no sign of the form encoding
+abbrev pub is_plain : ℕ → Bool
+is_plain b = not (b == 43 || b == 37)
 
 -- the text that a name or a value of a form stands for
 abbrev pub decoded : Text → Text

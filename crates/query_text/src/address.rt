@@ -1,5 +1,6 @@
 //! Addresses of web pages, as a query's `url` writes them.
 ghost use Rattle.std.specs.Prelude.{◌≡◌, IfOk, string_bytes};
+ghost use Rattle.std.specs.Cow.{cow_str_bytes};
 ghost use Rattle.std.specs.List.{list_all};
 ghost use Rattle.query_text.specs.Readings.{IsReadingBy};
 ghost use Rattle.query_text.specs.Targets.{is_scheme_byte, has_scheme, web_address, address_key, address_host};
@@ -7,6 +8,7 @@ ghost use Rattle.query_text.specs.Targets.{is_scheme_byte, has_scheme, web_addre
 use crate::fault::QueryFault;
 use cdxj_core::{host_key, parsed_url_key};
 use std::alloc::{AllocError, Global};
+use std::borrow::CowStr;
 use url::{ParseError, Url};
 
 fn are_scheme_bytes(bytes: &[u8]) -> bool
@@ -28,15 +30,16 @@ fn has_scheme(text: &str) -> bool
 }
 
 /// The text as an address, with `http://` before it where it has no scheme.
-pub(crate) fn web_address(alloc: Global, text: &str) -> Result<String, AllocError>
-    ensures { IfOk result (λ address. string_bytes address ≡ web_address text.now) }
+pub(crate) fn web_address(alloc: Global, text: &str) -> Result<CowStr<'_>, AllocError>
+    ensures { IfOk result (λ address. cow_str_bytes address ≡ web_address text.now) }
 {
-    let mut address = String::new(alloc);
-    if !has_scheme(text) {
-        address.push_str("http://")?;
+    if has_scheme(text) {
+        return Ok(CowStr::Borrowed(text));
     }
+    let mut address = String::new(alloc);
+    address.push_str("http://")?;
     address.push_str(text)?;
-    Ok(address)
+    Ok(CowStr::Owned(address))
 }
 
 /// The key of an address. `BadUrl` where the URL parser refuses it.

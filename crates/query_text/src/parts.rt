@@ -3,7 +3,7 @@ ghost use Rattle.std.specs.Prelude.{◌≡◌, ◌∷◌, ◌<◌, ◌==◌, IfS
 ghost use Rattle.std.specs.Cow.{cow_str_bytes};
 ghost use Rattle.std.specs.List.{list_all, slice_split, before_first, after_first};
 ghost use Rattle.std.specs.Char.{is_ascii_digit};
-ghost use Rattle.query_text.specs.Parts.{parts_left, is_equals, decoded};
+ghost use Rattle.query_text.specs.Parts.{parts_left, is_equals, is_plain, decoded};
 ghost use Rattle.query_text.specs.Values.{is_number};
 
 use form_urlencoded::decode;
@@ -30,10 +30,20 @@ pub(crate) fn cut_pair(piece: &str) -> (&str, &str)
     piece.split_once('=').unwrap_or((piece, ""))
 }
 
+fn is_plain(bytes: &[u8]) -> bool
+    ensures { result ≡ list_all is_plain bytes.now }
+{
+    bytes.iter().all(|byte| !matches!(byte, b'+' | b'%'))
+}
+
 /// What a name or a value means, by the form encoding of the URL Standard.
+#[tactic(auto, using(crate::proofs::PlainTexts::plain_text_stands))]
 pub(crate) fn decoded(alloc: Global, text: &str) -> Result<CowStr<'_>, AllocError>
     ensures { IfOk result (λ found. cow_str_bytes found ≡ decoded text.now) }
 {
+    if is_plain(text.as_bytes()) {
+        return Ok(CowStr::Borrowed(text));
+    }
     decode(alloc, text.as_bytes())
 }
 
