@@ -76,8 +76,8 @@ impl Parameters {
             Parameter::Url => self.url = Some(value.into_owned(alloc)?),
             Parameter::Key => self.key = Some(value.into_owned(alloc)?),
             Parameter::MatchType => self.kind = Some(read_kind(value.as_str())?),
-            Parameter::From => self.from = Some(StampStart::read(value.into_owned(alloc)?)?),
-            Parameter::To => self.to = Some(StampStart::read(value.into_owned(alloc)?)?),
+            Parameter::From => self.from = Some(StampStart::read(value.as_str())?),
+            Parameter::To => self.to = Some(StampStart::read(value.as_str())?),
             Parameter::Filter => self.add_filter(Filter::read_literal(alloc, value.as_str())?)?,
             Parameter::Condition(test) => self.add_filter(Filter::read(
                 alloc,

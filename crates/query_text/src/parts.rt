@@ -7,6 +7,7 @@ ghost use Rattle.query_text.specs.Parts.{parts_left, is_equals, is_plain, decode
 ghost use Rattle.query_text.specs.Values.{is_number};
 
 use form_urlencoded::decode;
+use memchr::memchr2;
 use std::alloc::{AllocError, Global};
 use std::borrow::CowStr;
 
@@ -30,10 +31,11 @@ pub(crate) fn cut_pair(piece: &str) -> (&str, &str)
     piece.split_once('=').unwrap_or((piece, ""))
 }
 
+#[tactic(auto, using(cdxj_places::proofs::Found::IsFirstByte_absent))]
 fn is_plain(bytes: &[u8]) -> bool
     ensures { result ≡ list_all is_plain bytes.now }
 {
-    bytes.iter().all(|byte| !matches!(byte, b'+' | b'%'))
+    memchr2(b'+', b'%', bytes).is_none()
 }
 
 /// What a name or a value means, by the form encoding of the URL Standard.

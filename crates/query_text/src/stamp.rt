@@ -1,46 +1,46 @@
 //! The stamps between which a query selects.
-ghost use Rattle.std.specs.Prelude.{◌≡◌, take, string_bytes};
+ghost use Rattle.std.specs.Prelude.{◌≡◌, take};
 ghost use Rattle.query_text.specs.Readings.{IsReading};
 ghost use Rattle.query_text.specs.Values.{stamp_start_of};
 ghost use Rattle.query_text.specs.Matching.{not_before, not_after};
 
 use crate::fault::QueryFault;
 use crate::parts::is_number;
+use arrayvec::ArrayString;
 use std::marker::Model;
 
 /// The digits with which a stamp may begin, 1 to 14 of them.
 #[derive(Debug, Drop)]
 pub(crate) struct StampStart {
-    digits: String,
+    digits: ArrayString<14>,
 }
 
 impl Model for StampStart {
-    ghost use Rattle.std.specs.Prelude.{◌≡◌, ℕ, List, true, string_bytes};
+    ghost use Rattle.std.specs.Prelude.{◌≡◌, ℕ, List, true};
     ghost use Rattle.query_text.specs.Values.{is_number};
 
     ghost Value = { List ℕ };
 
-    ghost view = { λ s. string_bytes s.digits };
+    ghost view = { λ s. s.digits.bytes };
 
-    ghost invariant = { λ s. is_number 14 (string_bytes s.digits) ≡ true };
+    ghost invariant = { λ s. is_number 14 s.digits.bytes ≡ true };
 }
 
 impl StampStart {
     /// `BadStamp` where the text is anything but 1 to 14 digits.
-    pub(crate) fn read(text: String) -> Result<StampStart, QueryFault>
-        ensures { IsReading (stamp_start_of (string_bytes text)) result }
+    pub(crate) fn read(text: &str) -> Result<StampStart, QueryFault>
+        ensures { IsReading (stamp_start_of text.now) result }
     {
-        if is_number(text.as_str(), 14) {
-            Ok(StampStart { digits: text })
-        } else {
-            Err(QueryFault::BadStamp)
+        match ArrayString::from(text) {
+            Ok(digits) if is_number(text, 14) => Ok(StampStart { digits }),
+            _ => Err(QueryFault::BadStamp),
         }
     }
 
     fn as_bytes(&self) -> &[u8]
         ensures { result.now ≡ self.now }
     {
-        self.digits.as_bytes()
+        self.digits.as_str().as_bytes()
     }
 }
 
