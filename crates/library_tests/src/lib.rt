@@ -8,6 +8,8 @@ mod heads;
 #[cfg(test)]
 mod matching;
 #[cfg(test)]
+mod merges;
+#[cfg(test)]
 mod options;
 #[cfg(test)]
 mod query_texts;

@@ -1,0 +1,130 @@
+//! The merge of sources.
+use devices::{Fuse, Gather};
+use query_core::{AnswerFault, SliceSource, merge};
+use std::alloc::{AllocFailed, Global};
+use std::test::Fail;
+
+/// A growth was refused.
+#[derive(Debug, Drop)]
+enum Refused {
+    Memory,
+}
+
+impl<T: Drop> From<AllocFailed<T>> for Refused {
+    fn from(_refused: AllocFailed<T>) -> Refused {
+        Refused::Memory
+    }
+}
+
+const OFFSET_10: &[u8] =
+    b"com,example)/ 20160101000000 {\"url\": \"http://x/\", \"mime\": \"text/html\", \"status\": \"200\", \"digest\": \"-\", \"length\": \"1\", \"offset\": \"10\", \"filename\": \"b.warc\"}\n";
+
+const OFFSET_20: &[u8] =
+    b"com,example)/ 20160101000000 {\"url\": \"http://x/\", \"mime\": \"text/html\", \"status\": \"200\", \"digest\": \"-\", \"length\": \"1\", \"offset\": \"20\", \"filename\": \"a.warc\"}\n";
+
+const OFFSET_5: &[u8] =
+    b"com,example)/ 20160101000000 {\"url\": \"http://x/\", \"mime\": \"text/html\", \"status\": \"200\", \"digest\": \"-\", \"length\": \"1\", \"offset\": \"5\", \"filename\": \"a.warc\"}\n";
+
+const RISEN: &[u8] =
+    b"com,example)/ 20160101000000 {\"url\": \"http://x/\", \"mime\": \"text/html\", \"status\": \"200\", \"digest\": \"-\", \"length\": \"1\", \"offset\": \"5\", \"filename\": \"a.warc\"}\ncom,example)/ 20160101000000 {\"url\": \"http://x/\", \"mime\": \"text/html\", \"status\": \"200\", \"digest\": \"-\", \"length\": \"1\", \"offset\": \"20\", \"filename\": \"a.warc\"}\ncom,example)/ 20160101000000 {\"url\": \"http://x/\", \"mime\": \"text/html\", \"status\": \"200\", \"digest\": \"-\", \"length\": \"1\", \"offset\": \"10\", \"filename\": \"b.warc\"}\n";
+
+const LETTERS: &[u8] =
+    b"a)/ 20160101000000 {\"url\": \"http://x/\", \"mime\": \"text/html\", \"status\": \"200\", \"digest\": \"-\", \"length\": \"1\", \"offset\": \"0\", \"filename\": \"a.warc\"}\nb)/ 20160101000000 {\"url\": \"http://x/\", \"mime\": \"text/html\", \"status\": \"200\", \"digest\": \"-\", \"length\": \"1\", \"offset\": \"1\", \"filename\": \"a.warc\"}\nc)/ 20160101000000 {\"url\": \"http://x/\", \"mime\": \"text/html\", \"status\": \"200\", \"digest\": \"-\", \"length\": \"1\", \"offset\": \"2\", \"filename\": \"a.warc\"}";
+
+const WHOLE_LETTERS: &[u8] =
+    b"a)/ 20160101000000 {\"url\": \"http://x/\", \"mime\": \"text/html\", \"status\": \"200\", \"digest\": \"-\", \"length\": \"1\", \"offset\": \"0\", \"filename\": \"a.warc\"}\nb)/ 20160101000000 {\"url\": \"http://x/\", \"mime\": \"text/html\", \"status\": \"200\", \"digest\": \"-\", \"length\": \"1\", \"offset\": \"1\", \"filename\": \"a.warc\"}\nc)/ 20160101000000 {\"url\": \"http://x/\", \"mime\": \"text/html\", \"status\": \"200\", \"digest\": \"-\", \"length\": \"1\", \"offset\": \"2\", \"filename\": \"a.warc\"}\n";
+
+const PAGE: &[u8] =
+    b"com,example)/ 20160101000000 {\"url\": \"http://x/\", \"mime\": \"text/html\", \"status\": \"200\", \"digest\": \"-\", \"length\": \"1\", \"offset\": \"0\", \"filename\": \"a.warc\"}\n";
+
+const IMAGE: &[u8] =
+    b"com,example)/ 20160101000000 {\"url\": \"http://x/\", \"mime\": \"image/png\", \"status\": \"200\", \"digest\": \"-\", \"length\": \"1\", \"offset\": \"0\", \"filename\": \"a.warc\"}\n";
+
+const FALLING: &[u8] =
+    b"b)/ 20160101000000 {\"url\": \"http://x/\", \"mime\": \"text/html\", \"status\": \"200\", \"digest\": \"-\", \"length\": \"1\", \"offset\": \"0\", \"filename\": \"a.warc\"}\na)/ 20160101000000 {\"url\": \"http://x/\", \"mime\": \"text/html\", \"status\": \"200\", \"digest\": \"-\", \"length\": \"1\", \"offset\": \"0\", \"filename\": \"a.warc\"}\n";
+
+const TORN: &[u8] =
+    b"a)/ 20160101000000 {\"url\": \"http://x/\", \"mime\": \"text/html\", \"status\": \"200\", \"digest\": \"-\", \"length\": \"1\", \"offset\": \"0\", \"filename\": \"a.warc\"}\nb)/ 20160101000000 {\"url\": \"http://x/\", \"mime\": \"text/html\", \"status\": \"200\", \"digest\"";
+
+/// What the merge of these texts answers, and whether it writes this one; a refused growth is an error.
+fn merged(
+    alloc: Global,
+    texts: &[&[u8]],
+    wanted: &[u8],
+) -> Result<(Result<u64, AnswerFault>, bool), Refused> {
+    let mut sources = Vec::new(alloc);
+    for text in texts {
+        sources.push(SliceSource::new(text))?;
+    }
+    let mut out = Gather::new(alloc);
+    match merge(alloc, &mut sources, &mut out) {
+        Err(AnswerFault::Memory | AnswerFault::Write) => Err(Refused::Memory),
+        answer => Ok((answer, out.bytes() == wanted)),
+    }
+}
+
+#[test]
+fn lines_are_written_in_the_order_of_places_each_place_once(
+    rt: HostRuntime,
+) -> Result<(), Fail> {
+    let alloc = rt.alloc();
+    for (texts, count, wanted) in [
+        ([OFFSET_10, OFFSET_20, OFFSET_5].as_slice(), 3, RISEN),
+        ([LETTERS, b"".as_slice()].as_slice(), 3, WHOLE_LETTERS),
+        ([LETTERS, WHOLE_LETTERS].as_slice(), 3, WHOLE_LETTERS),
+        ([PAGE, IMAGE].as_slice(), 1, PAGE),
+        ([IMAGE, PAGE].as_slice(), 1, IMAGE),
+        ([].as_slice(), 0, b"".as_slice()),
+    ] {
+        assert_eq!(rt; merged(alloc, texts, wanted)?, (Ok(count), true));
+    }
+    Ok(())
+}
+
+#[test]
+fn a_line_at_fault_ends_the_merge(rt: HostRuntime) -> Result<(), Fail> {
+    let alloc = rt.alloc();
+    for (texts, fault, wanted) in [
+        ([FALLING].as_slice(), AnswerFault::OutOfOrder(0, 145), b"".as_slice()),
+        ([b"\n".as_slice()].as_slice(), AnswerFault::BadLine(0, 0), b"".as_slice()),
+        ([PAGE, b"\n".as_slice()].as_slice(), AnswerFault::BadLine(1, 0), b"".as_slice()),
+        ([TORN].as_slice(), AnswerFault::BadLine(0, 145), b"".as_slice()),
+    ] {
+        assert_eq!(rt; merged(alloc, texts, wanted)?, (Err(fault), true));
+    }
+    Ok(())
+}
+
+/// Whether the merge of a source that fails at this call answers so, after a part of the whole text.
+fn fails_in_part(alloc: Global, piece: usize, at: u64) -> Result<bool, Refused> {
+    let mut sources = [Fuse::new(SliceSource::new(LETTERS), piece, at)];
+    let mut out = Gather::new(alloc);
+    match merge(alloc, &mut sources, &mut out) {
+        Err(AnswerFault::Memory | AnswerFault::Write) => Err(Refused::Memory),
+        Err(fault) => Ok(fault == AnswerFault::Read(0) && WHOLE_LETTERS.starts_with(out.bytes())),
+        Ok(count) => Ok(count == 3 && out.bytes() == WHOLE_LETTERS),
+    }
+}
+
+#[test]
+fn a_source_that_fails_ends_the_merge(rt: HostRuntime) -> Result<(), Fail> {
+    for piece in [1, 2, 8192] {
+        for at in 0..440 {
+            assert!(rt; fails_in_part(rt.alloc(), piece, at)?, "piece {piece}, call {at}");
+        }
+    }
+    Ok(())
+}
+
+#[test]
+fn at_most_1024_sources_are_merged(rt: HostRuntime) -> Result<(), Fail> {
+    let alloc = rt.alloc();
+    let mut texts = Vec::new(alloc);
+    for _ in 0..1024 {
+        texts.push(b"".as_slice())?;
+    }
+    assert_eq!(rt; merged(alloc, &texts, b"")?, (Ok(0), true));
+    texts.push(b"".as_slice())?;
+    assert_eq!(rt; merged(alloc, &texts, b"")?, (Err(AnswerFault::TooManySources), true));
+    Ok(())
+}
