@@ -30,12 +30,34 @@ def lines(count):
     return [line for _, line in made]
 
 
+def deal(ordered, count, folder, name):
+    """Writes the lines into so many files, each of them sorted; one line in ten stands in two of them. Answers the files."""
+    choice = random.Random(count)
+    dealt = [[] for _ in range(count)]
+    for line in ordered:
+        first = choice.randrange(count)
+        dealt[first].append(line)
+        if count > 1 and choice.random() < 0.1:
+            dealt[(first + choice.randrange(1, count)) % count].append(line)
+    files = [folder / f"{name}-{number:04}.cdxj" for number in range(count)]
+    for path, its in zip(files, dealt):
+        path.write_bytes(b"".join(its))
+    return files
+
+
 def main():
-    """Writes so many lines into a file; in a process of its own, so that the measuring one stays small."""
+    """Writes the indexes that bench/merge measures into a folder; in a process of its own, as its memory counts there."""
     import pathlib
     import sys
 
-    pathlib.Path(sys.argv[1]).write_bytes(b"".join(lines(int(sys.argv[2]))))
+    folder = pathlib.Path(sys.argv[1])
+    half = lines(int(sys.argv[2]) // 2)
+    (folder / "half").write_bytes(b"".join(half))
+    deal(half, 4, folder, "half-4")
+    whole = lines(int(sys.argv[2]))
+    (folder / "whole").write_bytes(b"".join(whole))
+    for count in (1, 4, 64, 1024):
+        deal(whole, count, folder, f"whole-{count}")
 
 
 if __name__ == "__main__":

@@ -200,6 +200,15 @@ falling="warcdx: falling.cdxj: OutOfOrder $(head --lines=1 falling.cdxj | wc --b
 bad="warcdx: bad.cdxj: BadLine $first"
 both_checked=$(lines "sorted.cdxj 2" "unended.cdxj 2")
 
+sorted=$(< sorted.cdxj)
+check "merge: an index"                 "$sorted"        ""                0 merge sorted.cdxj
+check "merge: an index twice"           "$sorted"        ""                0 merge sorted.cdxj unended.cdxj
+check "merge: empty indexes"            ""               ""                0 merge empty.warc empty.warc
+check "merge: out of order"             ""               "$falling"        1 merge falling.cdxj
+check "merge: a missing file"           ""               "$missing"        3 merge sorted.cdxj missing falling.cdxj
+check "merge: a folder"                 "" "warcdx: folder: Read"          3 merge sorted.cdxj folder
+check "merge: - is a file's name"       ""  "warcdx: -: cannot open"       3 merge - < sorted.cdxj
+
 check "check: an index"                 "sorted.cdxj 2"  ""                0 check sorted.cdxj
 check "check: two indexes"              "$both_checked"  ""                0 check sorted.cdxj unended.cdxj
 check "check: an empty index"           "empty.warc 0"   ""                0 check empty.warc
@@ -292,6 +301,7 @@ for way in full closed broken; do
     check_into $way "$way: index, many"    "" "$write"                       3 index captures.warc
     check_into $way "$way: index, a fault" "" "$(lines "$torn" "$flush")"    3 index torn.warc
     check_into $way "$way: index, none"    "" ""                             0 index same.warc
+    check_into $way "$way: merge"          "" "$flush"                       3 merge sorted.cdxj
     check_into $way "$way: check, one"     "" "$flush"                       3 check sorted.cdxj
     check_into $way "$way: check, a fault" "" "$bad"                         1 check bad.cdxj
     check_into $way "$way: get, short"     "" "$flush"                       3 get 0 r.warc

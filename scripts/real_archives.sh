@@ -6,7 +6,7 @@
 # For each NAME.cdx of the folder the archives are NAME.warc, or those that wget cut it into: NAME-00000.warc and so on, and
 # NAME-meta.warc. README.md has a call of wget that makes such files. Each crawl is indexed twice: as it is, and, in a
 # temporary folder, with each WARC-Payload-Digest under a name of the same length that says nothing, so that the digests of
-# its index are those that warcdx has made.
+# its index are those that warcdx has made. The archives of a crawl are also indexed one by one, and the indexes merged.
 #
 # Prints a line for each check. The status is 1 where one fails.
 set -euo pipefail
@@ -49,12 +49,28 @@ is_checked() {
     [ "$("$program" check "$work/index")" = "$work/index $(wc -l < "$work/index")" ]
 }
 
+index_each() { # ARCHIVE..: an index of each
+    local archive
+    rm -rf "$work/parts"
+    mkdir "$work/parts"
+    for archive in "$@"; do
+        "$program" index "$archive" > "$work/parts/${archive##*/}.cdxj" || return
+    done
+    echo "$# indexes"
+}
+
+is_merged() { # the merge of those indexes is the one of all archives
+    "$program" merge "$work"/parts/*.cdxj | cmp - "$work/index"
+}
+
 check_crawl() { # CASE FOLDER NAME
     local archives
     mapfile -t archives < <(archives_of "$2" "$3")
     check "$1, index" index "${archives[@]}"
     check "$1, order" is_in_order
     check "$1, check" is_checked
+    check "$1, index of each archive" index_each "${archives[@]}"
+    check "$1, merge" is_merged
     check "$1, against wget's CDX" "$scripts/against_wget_cdx.py" "$work/index" "$folder/$3.cdx" "$2"
     check "$1, get" "$scripts/check_get.py" "$work/index" "$2" "$program"
 }
