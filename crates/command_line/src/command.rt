@@ -3,7 +3,9 @@ ghost use Rattle.std.specs.Prelude.{◌≡◌, IfOk, false, [], ◌∷◌, codes
 ghost use Rattle.clap.specs.Words.{app_of, rule_of, with_subcommand};
 ghost use Rattle.command_line.specs.Clap.{word_rule, names_rule, command_with, warcdx};
 
-use crate::help::{ARCHIVE, CDXJ, CHECK, GET, INDEX, LIST, MERGE, OFFSET, Operand, PROGRAM, Page, VERIFY};
+use crate::help::{
+    ARCHIVE, CDXJ, CHECK, GET, INDEX, LIST, MERGE, OFFSET, Operand, PROGRAM, Page, VERIFY,
+};
 use clap::{Arg, Command};
 use std::alloc::{AllocError, Global};
 

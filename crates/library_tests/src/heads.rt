@@ -1,7 +1,7 @@
 mod dates;
 
-use warc_head::{HeadFault, Kind, Parts, read_parts};
 use std::alloc::Global;
+use warc_head::{HeadFault, Kind, Parts, read_parts};
 
 /// The head of these lines.
 fn read(alloc: Global, lines: &[&str]) -> Result<Parts, HeadFault> {

@@ -64,9 +64,7 @@ fn merged(
 }
 
 #[test]
-fn lines_are_written_in_the_order_of_places_each_place_once(
-    rt: HostRuntime,
-) -> Result<(), Fail> {
+fn lines_are_written_in_the_order_of_places_each_place_once(rt: HostRuntime) -> Result<(), Fail> {
     let alloc = rt.alloc();
     for (texts, count, wanted) in [
         ([OFFSET_10, OFFSET_20, OFFSET_5].as_slice(), 3, RISEN),
@@ -85,10 +83,26 @@ fn lines_are_written_in_the_order_of_places_each_place_once(
 fn a_line_at_fault_ends_the_merge(rt: HostRuntime) -> Result<(), Fail> {
     let alloc = rt.alloc();
     for (texts, fault, wanted) in [
-        ([FALLING].as_slice(), AnswerFault::OutOfOrder(0, 145), b"".as_slice()),
-        ([b"\n".as_slice()].as_slice(), AnswerFault::BadLine(0, 0), b"".as_slice()),
-        ([PAGE, b"\n".as_slice()].as_slice(), AnswerFault::BadLine(1, 0), b"".as_slice()),
-        ([TORN].as_slice(), AnswerFault::BadLine(0, 145), b"".as_slice()),
+        (
+            [FALLING].as_slice(),
+            AnswerFault::OutOfOrder(0, 145),
+            b"".as_slice(),
+        ),
+        (
+            [b"\n".as_slice()].as_slice(),
+            AnswerFault::BadLine(0, 0),
+            b"".as_slice(),
+        ),
+        (
+            [PAGE, b"\n".as_slice()].as_slice(),
+            AnswerFault::BadLine(1, 0),
+            b"".as_slice(),
+        ),
+        (
+            [TORN].as_slice(),
+            AnswerFault::BadLine(0, 145),
+            b"".as_slice(),
+        ),
     ] {
         assert_eq!(rt; merged(alloc, texts, wanted)?, (Err(fault), true));
     }
@@ -110,7 +124,10 @@ fn fails_in_part(alloc: Global, piece: usize, at: u64) -> Result<bool, Refused> 
 fn a_source_that_fails_ends_the_merge(rt: HostRuntime) -> Result<(), Fail> {
     for piece in [1, 2, 8192] {
         for at in 0..440 {
-            assert!(rt; fails_in_part(rt.alloc(), piece, at)?, "piece {piece}, call {at}");
+            assert!(rt;
+                fails_in_part(rt.alloc(), piece, at)?,
+                "piece {piece}, call {at}"
+            );
         }
     }
     Ok(())
@@ -125,6 +142,9 @@ fn at_most_1024_sources_are_merged(rt: HostRuntime) -> Result<(), Fail> {
     }
     assert_eq!(rt; merged(alloc, &texts, b"")?, (Ok(0), true));
     texts.push(b"".as_slice())?;
-    assert_eq!(rt; merged(alloc, &texts, b"")?, (Err(AnswerFault::TooManySources), true));
+    assert_eq!(rt;
+        merged(alloc, &texts, b"")?,
+        (Err(AnswerFault::TooManySources), true)
+    );
     Ok(())
 }

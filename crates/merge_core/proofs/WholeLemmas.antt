@@ -1,5 +1,5 @@
 -- Sources of which all lines were read: each that tells its bytes is an index, and all its lines are done.
-use Rattle.std.proofs.Common.{◌≡◌, ℕ, suc, ◌+◌, ◌≤◌, List, [], ◌∷◌, length, take, drop, map, Bool, false, true, Option, Some, None, ◌++◌, flat_map, zip, refl, sym, ap, ap₂, ◌∙◌, subst, arith, length-drop}
+use Rattle.std.proofs.Common.{◌≡◌, ℕ, ◌+◌, ◌≤◌, List, [], ◌∷◌, length, take, drop, map, Bool, false, true, Option, Some, ◌++◌, flat_map, zip, refl, sym, ap, ap₂, ◌∙◌, subst, arith, length-drop}
 use Rattle.std.specs.List.{AllByRecursion}
 use Rattle.std.specs.Option.{is_some}
 use Rattle.std.proofs.lemmas.Bool.{true≢false}
@@ -7,11 +7,10 @@ use Rattle.std.proofs.lemmas.List.{take_all}
 use Rattle.cdxj_places.specs.TextLines.{lines}
 use Rattle.cdxj_core.specs.Members.{Member}
 use Rattle.cdxj_core.specs.Indexes.{IsRun, IsIndex}
-use Rattle.source_core.specs.Cursors.{CursorState, Stands}
 use Rattle.merge_core.specs.declared.feed.Progress.{Progress}
 use Rattle.merge_core.specs.declared.feed.Progress.TheVariants.{Due, Waiting, Past, Ended}
 use Rattle.merge_core.specs.declared.feed.Feed.{Feed}
-use Rattle.merge_core.specs.Feeds.{AreWaits, IsHead, IsSettled, AreSettled, Fed, FedOf, AreFed, read_lines, given, done}
+use Rattle.merge_core.specs.Feeds.{AreWaits, IsHead, IsSettled, AreSettled, Fed, AreFed, read_lines, given, done}
 use Rattle.merge_core.specs.Gathering.{AllTwo, text_or, all_done}
 use Rattle.merge_core.proofs.Many.{Move}
 
@@ -50,7 +49,7 @@ module _ (limit : ℕ) (past : List ℕ → Bool) (never : (key : List ℕ) → 
     are_read n (s ∷ ss) (f ∷ fs) [] same known start settled fed = absurd known
     are_read n (s ∷ ss) (f ∷ fs) (t ∷ texts) same known start settled fed = (
       subst (λ o. IsIndex limit t (done limit (text_or o) f)) (sym known.0)
-      (index_read t (extent s) f start.0 settled.0 (subst (λ o. Fed limit past o (extent s) f []) known.0 fed.0)),
+          (index_read t (extent s) f start.0 settled.0 (subst (λ o. Fed limit past o (extent s) f []) known.0 fed.0)),
       are_read (n + 1) ss fs texts (omega arith) known.1 start.1 settled.1 fed.1,
     )
 

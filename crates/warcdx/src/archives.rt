@@ -44,10 +44,7 @@ pub fn open_index<R: Runtime + AllocGlobal>(
     }
 }
 
-fn open_file<R: Runtime + AllocGlobal>(
-    rt: &R,
-    name: &str,
-) -> Result<<R as Files>::File, Outcome>
+fn open_file<R: Runtime + AllocGlobal>(rt: &R, name: &str) -> Result<<R as Files>::File, Outcome>
     ensures { IfErr result IsUnopened }
 {
     match File::open(rt, name) {

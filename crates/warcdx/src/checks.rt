@@ -20,7 +20,10 @@ pub fn check_all<R: Runtime + AllocGlobal, O: Output>(
     names: &[String],
     out: &mut O,
 ) -> Outcome {
-    with_each(names, |name| check_opened(rt, name, open_index(rt, name), out))
+    with_each(
+        names,
+        |name| check_opened(rt, name, open_index(rt, name), out),
+    )
 }
 
 /// Checks an index that was opened, or couldn't be.

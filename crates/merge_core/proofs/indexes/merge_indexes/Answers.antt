@@ -1,5 +1,4 @@
-use Rattle.std.proofs.Common.{◌≡◌, ◌-◌, ◌^◌, ℕ, List, Option, [], length, map, flat_map, min, Bool, true, false, Some, refl, sym, ap, ◌∙◌, subst, arith, append-nil, inl, inr}
-use Rattle.std.specs.List.{AllByRecursion}
+use Rattle.std.proofs.Common.{◌≡◌, ◌-◌, ◌^◌, ℕ, List, Option, [], length, map, min, Bool, true, false, Some, refl, sym, ap, ◌∙◌, subst, arith, append-nil, inl, inr}
 use Rattle.std.specs.Io.KnownBytes.{Appends}
 use Rattle.std.proofs.lemmas.Result.{err_from_is_err_and}
 use Rattle.cdxj_core.specs.declared.limit.TheConstants.{LINE_LIMIT}
@@ -12,7 +11,7 @@ use Rattle.devices.proofs.WritingLemmas.{prefix_whole}
 use Rattle.merge_core.specs.WaitingLines.{WaitingLine}
 use Rattle.merge_core.specs.Collections.{collection}
 use Rattle.merge_core.specs.Feeds.{AreFed}
-use Rattle.merge_core.specs.Gathering.{AllTwo, all_done}
+use Rattle.merge_core.specs.Gathering.{AllTwo}
 use Rattle.merge_core.specs.Written.{lines_text}
 use Rattle.merge_core.proofs.FailLemmas.{if_err, raised_from}
 use Rattle.merge_core.proofs.WholeLemmas.{are_read, all_lines_are, its_lines, told_known, texts_kept, starts_kept}

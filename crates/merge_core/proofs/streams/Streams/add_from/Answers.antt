@@ -1,4 +1,4 @@
-use Rattle.std.proofs.Common.{◌≡◌, sym, ◌∙◌, subst}
+use Rattle.std.proofs.Common.{sym, ◌∙◌, subst}
 use Rattle.source_core.specs.Search.{IsCut}
 use Rattle.merge_core.proofs.streams.Streams.add_from.Goals as goal
 
