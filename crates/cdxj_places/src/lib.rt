@@ -1,7 +1,7 @@
 //! The places of captures in an index: their order, their resume keys, and the pair that a line begins with.
 #![tactic(auto)]
 
-mod abbreviated;
+mod abbreviation;
 mod cuts;
 mod fault;
 mod key_and_stamp;
@@ -13,6 +13,7 @@ mod pair;
 mod place;
 mod resume;
 
+pub use crate::abbreviation::abbreviated;
 pub use crate::cuts::{cut_first, cut_last};
 pub use crate::fault::PlaceFault;
 pub use crate::key_and_stamp::{has_digits, is_key, is_stamp};

@@ -12,3 +12,4 @@ pub mod MergeLemmas
 pub mod WrittenLemmas
 pub mod OpenLemmas
 pub mod WholeLemmas
+pub mod KeyStarts

@@ -90,7 +90,7 @@ impl Streams {
         let Some(line) = line else {
             return Ok(());
         };
-        match self.waiting.push(Waiting { line, source }) {
+        match self.waiting.push(Waiting::new(line, source)) {
             Ok(()) => Ok(()),
             Err(_) => Err(MergeFault::Memory),
         }

@@ -1,31 +1,64 @@
 //! A line that waits for its turn.
 ghost use Rattle.std.specs.Prelude.{◌≡◌};
+ghost use Rattle.cdxj_places.specs.Pairs.{pair_cmp};
 ghost use Rattle.std.specs.Cmp.{partial_order_from_agreeing_total, partial_equiv_from_equiv};
 ghost use Rattle.std.specs.Ordering.{eq_by_cmp, as_partial_cmp};
 ghost use Rattle.std.proofs.Common.{refl};
 ghost use Rattle.std.proofs.lemmas.Cmp.{eq_by_cmp_equiv};
-ghost use Rattle.merge_core.specs.WaitingLines.{WaitingLine, waiting_cmp};
+ghost use Rattle.merge_core.specs.WaitingLines.{WaitingLine, waiting_pair, waiting_cmp};
 ghost use Rattle.merge_core.specs.TurnOrder.{waiting_cmp_total};
 
 use crate::pair::compare_pairs;
 use cdxj_core::Line;
+use cdxj_places::abbreviated;
 use std::cmp::Ordering;
 use std::marker::Model;
+
+/// Bytes of a key that decide most comparisons without a look at the line.
+const KEY_START: usize = 32;
 
 /// The next line of a source. The greatest is the one whose turn comes first: by pair, then by the
 /// source's number.
 #[derive(Drop)]
 pub struct Waiting {
+    key_start: [u8; KEY_START],
     pub line: Box<Line>,
     pub source: usize,
 }
 
 impl Model for Waiting {
+    ghost use Rattle.std.specs.Prelude.{◌≡◌};
+    ghost use Rattle.cdxj_places.specs.Abbreviated.{padded};
+    ghost use Rattle.merge_core.specs.declared.waiting.TheConstants.{KEY_START};
     ghost use Rattle.merge_core.specs.WaitingLines.{WaitingLine};
 
     ghost Value = { WaitingLine };
 
     ghost view = { λ w. record { member = w.line.value; source = w.source } };
+
+    ghost invariant = { λ w. w.key_start ≡ padded KEY_START w.line.value.values.key };
+}
+
+impl Waiting {
+    /// A line of the source with this number.
+    pub fn new(line: Box<Line>, source: usize) -> Waiting
+        ensures { result ≡ record { member = line.value; source = source } }
+    {
+        Waiting {
+            key_start: abbreviated(line.pair().0.as_bytes()),
+            line,
+            source,
+        }
+    }
+
+    fn compare_pair(&self, other: &Waiting) -> Ordering
+        ensures { result ≡ pair_cmp (waiting_pair self.now) (waiting_pair other.now) }
+    {
+        match self.key_start.cmp(&other.key_start) {
+            Ordering::Equal => compare_pairs(&self.line, &other.line),
+            decided => decided,
+        }
+    }
 }
 
 impl PartialEq for Waiting {
@@ -62,6 +95,8 @@ impl Ord for Waiting {
     ghost matches_eq = { λ _ _. refl };
 
     fn cmp(&self, other: &Waiting) -> Ordering {
-        compare_pairs(&other.line, &self.line).then_with(|| other.source.cmp(&self.source))
+        other
+            .compare_pair(self)
+            .then_with(|| other.source.cmp(&self.source))
     }
 }

@@ -1,5 +1,5 @@
 //! The checking of an index.
-ghost use Rattle.std.specs.Prelude.{◌≡◌, ⊤, ℕ, List, true, false, IfErr, MatchBool, Some};
+ghost use Rattle.std.specs.Prelude.{◌≡◌, ⊤, ℕ, List, true, false, option_map, IfErr, MatchBool, Some};
 ghost use Rattle.cdxj_core.specs.declared.limit.TheConstants.{LINE_LIMIT};
 ghost use Rattle.query_core.specs.NextLine.{CountsSource};
 ghost use Rattle.query_core.specs.Checking.{FallsAfter, IsChecked, IsCheckFault};
@@ -10,9 +10,9 @@ use cdxj_core::Line;
 use source_core::{Cursor, Source};
 use std::alloc::Global;
 
-fn falls_after(previous: &Option<Line>, line: &Line) -> bool
-    ensures falls { result ≡ true → FallsAfter previous.now line.now }
-    ensures stays { result ≡ false → FallsAfter previous.now line.now → ⊥ }
+fn falls_after(previous: &Option<Box<Line>>, line: &Line) -> bool
+    ensures falls { result ≡ true → FallsAfter (option_map (λ b. b.value) previous.now) line.now }
+    ensures stays { result ≡ false → FallsAfter (option_map (λ b. b.value) previous.now) line.now → ⊥ }
 {
     match previous {
         Some(previous) => falls(previous, line),
@@ -33,8 +33,8 @@ pub fn check<S: Source>(alloc: Global, source: &mut S) -> Result<u64, AnswerFaul
     let _size = source.size();
     let mut cursor = Cursor::new(alloc, 0)?;
     let mut bytes = Vec::new(alloc);
-    let mut previous: Option<Line> = None;
-    let mut spare: Option<Line> = None;
+    let mut previous: Option<Box<Line>> = None;
+    let mut spare: Option<Box<Line>> = None;
     let mut offset = 0;
     while let Some(line) = next_line(alloc, source, &mut cursor, &mut bytes, spare)? {
         if falls_after(&previous, &line) {

@@ -1,12 +1,17 @@
-use Rattle.std.proofs.Common.{◌≡◌, ◌+◌, ℕ, drop, sym, ap, ◌∙◌, subst, arith, Some}
+use Rattle.std.proofs.Common.{◌≡◌, ◌+◌, ℕ, Box, Global, Option, None, Some, drop, option_map, refl, sym, ap, ◌∙◌, subst, arith}
 use Rattle.std.specs.Prelude.{Err, MatchOption}
 use Rattle.std.proofs.lemmas.Result.{err_from_is_err_and}
 use Rattle.cdxj_core.specs.declared.limit.TheConstants.{LINE_LIMIT}
+use Rattle.cdxj_core.specs.declared.line.Line.{Line}
+use Rattle.cdxj_core.specs.Members.{Member}
 use Rattle.source_core.specs.IndexLines.{lines}
 use Rattle.query_core.specs.NextLine.{IsNextLine, CountsSource}
-use Rattle.query_core.specs.Checking.{EndsOutOfOrder}
+use Rattle.query_core.specs.Checking.{FallsAfter, EndsOutOfOrder}
 use Rattle.query_core.proofs.CheckLemmas.{CheckedTo, checked_more, checked_whole, checked_falls, checked_fault}
 use Rattle.query_core.proofs.checking.check.Goals as goal
+
+abbrev value : Option (Box Line Global) → Option Member
+value = option_map (λ (b : Box Line Global). b.value)
 
 pub returns-in_err-line-clause-checked : goal.returns-in_err-line-clause-checked
 returns-in_err-line-clause-checked g c =
@@ -17,7 +22,7 @@ returns-in_err-line-clause-checked g c =
     let rest = inv.stands.rest t told ∙ ap (λ s. drop c.loop-previous.cursor.count (lines (drop s t))) inv.start in
     let long = inv.long t e in
     let known = c.in_err-line.ensures in
-    rw (given.1, given.2) (checked_fault LINE_LIMIT t c.loop-previous.cursor.at c.loop-previous.cursor.count c.loop-previous.previous (inv.told t e) rest
+    rw (given.1, given.2) (checked_fault LINE_LIMIT t c.loop-previous.cursor.at c.loop-previous.cursor.count (value c.loop-previous.previous) (inv.told t e) rest
     (omega (arith, long, inv.stands.filled.within, inv.extent)) c.in_err-line.field-0.0 known.fault (known.bad t told))
 
 pub returns-in_err-line-clause-failures : goal.returns-in_err-line-clause-failures
@@ -35,10 +40,10 @@ returns-then-falls_after-clause-checked g c =
     let told : g.S.Source.text c.loop-previous.source ≡ Some t = inv.text ∙ e in
     let rest = inv.stands.rest t told ∙ ap (λ s. drop c.loop-previous.cursor.count (lines (drop s t))) inv.start in
     let long = inv.long t e in
-    let next = subst (IsNextLine LINE_LIMIT t c.loop-previous.cursor.at c.next_line.new.cursor.at) c.in-Some.is (c.in_ok-line.ensures.line t told) in
+    let next = subst (λ o. IsNextLine LINE_LIMIT t c.loop-previous.cursor.at c.next_line.new.cursor.at (value o)) c.in-Some.is (c.in_ok-line.ensures.line t told) in
     subst (EndsOutOfOrder LINE_LIMIT t) (sym inv.offset)
-    (checked_falls LINE_LIMIT t c.loop-previous.cursor.at c.loop-previous.cursor.count c.loop-previous.previous (inv.told t e) rest
-    (omega (arith, long, inv.stands.filled.within, inv.extent)) c.next_line.new.cursor.at c.in-Some.line next (c.falls_after.ensures.falls c.if-falls_after.true))
+    (checked_falls LINE_LIMIT t c.loop-previous.cursor.at c.loop-previous.cursor.count (value c.loop-previous.previous) (inv.told t e) rest
+    (omega (arith, long, inv.stands.filled.within, inv.extent)) c.next_line.new.cursor.at c.in-Some.line.value next (subst (FallsAfter (value c.loop-previous.previous)) c.deref.ensures (c.falls_after.ensures.falls c.if-falls_after.true)))
 
 pub loop-previous-preserved : goal.loop-previous-preserved
 loop-previous-preserved g c =
@@ -56,11 +61,19 @@ loop-previous-preserved g c =
       told = λ t e.
           let told : g.S.Source.text c.loop-previous.source ≡ Some t = inv.text ∙ e in
           let rest = inv.stands.rest t told ∙ ap (λ s. drop c.loop-previous.cursor.count (lines (drop s t))) inv.start in
-          let next = subst (IsNextLine LINE_LIMIT t c.loop-previous.cursor.at c.next_line.new.cursor.at) c.in-Some.is (ok.line t told) in
-          let more = checked_more LINE_LIMIT t c.loop-previous.cursor.at c.loop-previous.cursor.count c.loop-previous.previous (inv.told t e) rest
-          c.next_line.new.cursor.at c.in-Some.line next (c.falls_after.ensures.stays c.if-falls_after.false) in
-          subst (λ n. CheckedTo LINE_LIMIT t n c.replace-spare.new.self) (sym counted) (subst (CheckedTo LINE_LIMIT t (c.loop-previous.cursor.count + 1)) (sym c.replace-spare.ensures.after) more);
+          let next = subst (λ o. IsNextLine LINE_LIMIT t c.loop-previous.cursor.at c.next_line.new.cursor.at (value o)) c.in-Some.is (ok.line t told) in
+          let more = checked_more LINE_LIMIT t c.loop-previous.cursor.at c.loop-previous.cursor.count (value c.loop-previous.previous) (inv.told t e) rest
+          c.next_line.new.cursor.at c.in-Some.line.value next (subst (λ m. FallsAfter (value c.loop-previous.previous) m → ⊥) c.deref.ensures (c.falls_after.ensures.stays c.if-falls_after.false)) in
+          subst (λ n. CheckedTo LINE_LIMIT t n (value c.replace-spare.new.self)) (sym counted) (subst (λ o. CheckedTo LINE_LIMIT t (c.loop-previous.cursor.count + 1) (value o)) (sym c.replace-spare.ensures.after) more);
     }
+
+counted : (found : Option (Box Line Global)) (n count : ℕ) → MatchOption found (n ≡ count) (λ _. n ≡ count + 1) → MatchOption (value found) (n ≡ count) (λ _. n ≡ count + 1)
+counted None n count h = h
+counted (Some b) n count h = h
+
+not_some : (found : Option (Box Line Global)) → ((b : Box Line Global) → found ≡ Some b → ⊥) → (m : Member) → value found ≡ Some m → ⊥
+not_some None h m e = cc
+not_some (Some b) h m e = h b refl
 
 pub returns-clause-checked : goal.returns-clause-checked
 returns-clause-checked g c =
@@ -69,6 +82,8 @@ returns-clause-checked g c =
     λ t e.
     let told : g.S.Source.text c.loop-previous.source ≡ Some t = inv.text ∙ e in
     let rest = inv.stands.rest t told ∙ ap (λ s. drop c.loop-previous.cursor.count (lines (drop s t))) inv.start in
-    checked_whole LINE_LIMIT t c.loop-previous.cursor.at c.loop-previous.cursor.count c.loop-previous.previous (inv.told t e) rest
-    c.next_line.new.cursor.at c.count.result c.in_ok-line.field-0 (ok.line t told)
-    (subst (λ n. MatchOption c.in_ok-line.field-0 (n ≡ c.loop-previous.cursor.count) (λ _. n ≡ c.loop-previous.cursor.count + 1)) (sym c.count.ensures) ok.count) c.in_default.not-Some
+    checked_whole LINE_LIMIT t c.loop-previous.cursor.at c.loop-previous.cursor.count (value c.loop-previous.previous) (inv.told t e) rest
+    c.next_line.new.cursor.at c.count.result (value c.in_ok-line.field-0) (ok.line t told)
+    (counted c.in_ok-line.field-0 c.count.result c.loop-previous.cursor.count
+    (subst (λ n. MatchOption c.in_ok-line.field-0 (n ≡ c.loop-previous.cursor.count) (λ _. n ≡ c.loop-previous.cursor.count + 1)) (sym c.count.ensures) ok.count))
+    (not_some c.in_ok-line.field-0 c.in_default.not-Some)

@@ -1,4 +1,4 @@
-use Rattle.std.proofs.Common.{◌≡◌, ◌-◌, ℕ, List, length, Some}
+use Rattle.std.proofs.Common.{◌≡◌, ◌-◌, ℕ, List, length, Some, option_map}
 use Rattle.cdxj_core.specs.declared.limit.TheConstants.{LINE_LIMIT}
 use Rattle.source_core.specs.Cursors.{Stands}
 use Rattle.query_core.proofs.CheckLemmas.{CheckedTo}
@@ -13,7 +13,7 @@ invariant-loop-previous g l = record {
   start : l.cursor.start ≡ 0;
   offset : l.offset ≡ l.cursor.at;
   long : (t : List ℕ) → g.S.Source.text l.fn.source ≡ Some t → length t ≡ g.S.Source.extent l.fn.source;
-  told : (t : List ℕ) → g.S.Source.text l.fn.source ≡ Some t → CheckedTo LINE_LIMIT t l.cursor.count l.previous;
+  told : (t : List ℕ) → g.S.Source.text l.fn.source ≡ Some t → CheckedTo LINE_LIMIT t l.cursor.count (option_map (λ b. b.value) l.previous);
 }
 
 abbrev pub decreases-loop-previous : goal.decreases-loop-previous

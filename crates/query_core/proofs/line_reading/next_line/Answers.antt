@@ -12,12 +12,12 @@ returns-clause-bad g c = λ t e.
 
 pub returns-in-Err-LineTooLong-clause-bad : goal.returns-in-Err-LineTooLong-clause-bad
 returns-in-Err-LineTooLong-clause-bad g c = λ t e.
-    let long = rw c.in-Err-LineTooLong.field-0-is at c.in-Err-LineTooLong.ensures in
+    let long = rw c.in-Err-LineTooLong.field-0-is at c.in-Err-LineTooLong.ensures.bad (λ e. cc) in
     bad_there LINE_LIMIT t c.args.cursor.now.at c.next.new.self.at c.in-Ok-true.field-0 c.next.new.line.items c.deref.result.now (c.in-Ok-true.ensures.given t e)
     c.in-Ok-true.field-0-test c.deref.ensures.value (long_line_none LINE_LIMIT c.deref.result.now long)
 
 pub returns-in-Ok-true-clause-bad : goal.returns-in-Ok-true-clause-bad
 returns-in-Ok-true-clause-bad g c = λ t e.
-    let bad = rw c.in-Err-BadLine.field-0-is at c.in-Err-BadLine.ensures in
+    let bad = rw c.in-Err-BadLine.field-0-is at c.in-Err-BadLine.ensures.bad (λ e. cc) in
     bad_there LINE_LIMIT t c.args.cursor.now.at c.next.new.self.at c.in-Ok-true.field-0 c.next.new.line.items c.deref.result.now (c.in-Ok-true.ensures.given t e)
     c.in-Ok-true.field-0-test c.deref.ensures.value bad.1

@@ -1,19 +1,15 @@
 //! Abbreviated keys, which decide most comparisons without a look at the keys.
 ghost use Rattle.std.specs.Prelude.{◌≡◌, ◌≤◌, length, take, All};
-ghost use Rattle.cdxj_places.specs.declared.abbreviated.TheConstants.{ABBREVIATION};
 ghost use Rattle.cdxj_places.specs.Abbreviated.{StartsWith, padded};
 
 use crate::order::HasPlace;
 
-/// Bytes of an abbreviation.
-pub(crate) const ABBREVIATION: usize = 16;
-
-/// The first bytes, followed by zeros where they are too few.
-pub(crate) fn abbreviated(bytes: &[u8]) -> [u8; ABBREVIATION]
-    ensures { result ≡ padded ABBREVIATION bytes.now }
+/// The first `N` bytes, followed by zeros where they are too few.
+pub fn abbreviated<const N: usize>(bytes: &[u8]) -> [u8; N]
+    ensures { result ≡ padded N bytes.now }
 {
-    let length = bytes.len().min(ABBREVIATION);
-    let mut abbreviation = [0; ABBREVIATION];
+    let length = bytes.len().min(N);
+    let mut abbreviation = [0; N];
     abbreviation[..length].copy_from_slice(&bytes[..length]);
     abbreviation
 }

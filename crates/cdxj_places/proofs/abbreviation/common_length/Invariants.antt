@@ -1,5 +1,5 @@
 use Rattle.std.proofs.Common.{◌≡◌, ◌≤◌, ◌-◌, length, take}
-use Rattle.cdxj_places.proofs.abbreviated.common_length.Given as goal
+use Rattle.cdxj_places.proofs.abbreviation.common_length.Given as goal
 
 abbrev pub invariant-loop-length : goal.invariant-loop-length
 invariant-loop-length l = (l.length ≤ length l.a) × (take l.length l.a ≡ take l.length l.b)

@@ -3,7 +3,7 @@ use Rattle.std.proofs.lemmas.List.Elements.{AllWithin-more}
 use Rattle.std.proofs.lemmas.List.{get_or_default}
 use Rattle.cdxj_places.specs.Abbreviated.{StartsWith}
 use Rattle.cdxj_places.proofs.Abbreviations.{starts_through}
-use Rattle.cdxj_places.proofs.abbreviated.shared_start.Goals as goal
+use Rattle.cdxj_places.proofs.abbreviation.shared_start.Goals as goal
 
 pub loop-thing-preserved : goal.loop-thing-preserved
 loop-thing-preserved g c =

@@ -1,0 +1,17 @@
+use Rattle.std.proofs.Common.{◌≡◌, sym, subst}
+use Rattle.std.specs.Ordering.{ordering_then}
+use Rattle.cdxj_places.specs.Abbreviated.{padded}
+use Rattle.cdxj_places.specs.Pairs.{pair_cmp}
+use Rattle.merge_core.specs.WaitingLines.{waiting_pair}
+use Rattle.merge_core.specs.declared.waiting.TheConstants.{KEY_START}
+use Rattle.merge_core.proofs.KeyStarts.{starts_decide, decided}
+use Rattle.merge_core.proofs.waiting.Waiting.compare_pair.Goals as goal
+
+pub returns-in_default : goal.returns-in_default
+returns-in_default c =
+    let pair = waiting_pair c.args.self.now in
+    let other = waiting_pair c.args.other.now in
+    let by = starts_decide KEY_START pair other c.self.inside.key_start c.other.inside.key_start
+    (subst (λ w. c.self.inside.key_start ≡ padded KEY_START (waiting_pair w).0) c.self.view_is c.self.invariant)
+    (subst (λ w. c.other.inside.key_start ≡ padded KEY_START (waiting_pair w).0) c.other.view_is c.other.invariant) in
+    decided c.cmp.result (pair_cmp pair other) c.in_default.not-Equal (subst (λ o. ordering_then o (pair_cmp pair other) ≡ pair_cmp pair other) (sym c.cmp.ensures) by)
