@@ -13,3 +13,6 @@ pub mod WrittenLemmas
 pub mod OpenLemmas
 pub mod WholeLemmas
 pub mod KeyStarts
+pub mod ReadLines
+pub mod StartLemmas
+pub mod ReadLemmas

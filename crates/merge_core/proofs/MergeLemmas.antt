@@ -28,7 +28,7 @@ below_next : (b : Option Pair) (pair : Pair) → IsAbove b pair → (ms : List M
 below_next None pair up ms h = each_weaker (λ (m : Member) (q : ⊥). absurd q) ms h
 below_next (Some bound) pair up ms h = each_weaker (λ (m : Member) (q : Upto (member_pair m) bound). then_below (member_pair m) bound pair q up) ms h
 
-place_below : (x y : Member) → Below (member_pair x) (member_pair y) → place_cmp (member_place x) (member_place y) ≡ Less
+pub place_below : (x y : Member) → Below (member_pair x) (member_pair y) → place_cmp (member_place x) (member_place y) ≡ Less
 place_below x y h = lower_pair (member_place x) (member_place y) h
 
 is_less : (r : Ordering) → is_lt r ≡ true → r ≡ Less
@@ -36,7 +36,7 @@ is_less Less e = refl
 is_less Equal e = cc
 is_less Greater e = cc
 
-lower_by_pair : (pair : Pair) → IsLower member_place place_cmp (is_low pair)
+pub lower_by_pair : (pair : Pair) → IsLower member_place place_cmp (is_low pair)
 lower_by_pair pair x y h k = place_below x y (below_then (member_pair x) pair (member_pair y) (is_less _ h) (from_not_below (member_pair y) pair k))
 
 risen_on : (pair : Pair) (old now group : List Member) → Gathered pair old now [] group

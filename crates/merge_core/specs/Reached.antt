@@ -11,7 +11,7 @@ use Rattle.merge_core.specs.declared.fault.SinkFault.TheVariants.{Memory, Write}
 use Rattle.merge_core.specs.declared.feed.Feed.{Feed}
 use Rattle.merge_core.specs.PairOrders.{IsAbove, IsUpto}
 use Rattle.merge_core.specs.WaitingLines.{WaitingLine, waiting_pair}
-use Rattle.merge_core.specs.Feeds.{Moved, Ready}
+use Rattle.merge_core.specs.Feeds.{Moved, Ready, AreSettled}
 use Rattle.merge_core.specs.Gathering.{AllTwo, AreTold, all_done}
 
 -- a refusal of the output adds one to its count of failures, all else none
@@ -30,6 +30,7 @@ module _ {S : Type 0} (limit : ℕ) (text : S → Option (List ℕ)) where
   -- from these sources and feeds it came to those: the lines that wait stand above the bound
   pub record Reached (past : List ℕ → Bool) (extent gave : S → ℕ) (old : List S) (old_feeds : List Feed) (ss : List S) (fs : List Feed) (ws : List WaitingLine) (bound : Option Pair) (taken : List Member) : Type 0 where
     pub ready : Ready limit past text extent ss fs ws
+    pub settled : AreSettled fs
     pub moved : AllTwo (λ x y. Moved (text x.0) (text y.0) (extent x.0) (extent y.0) (gave x.0) (gave y.0) x.1.cursor y.1.cursor) (zip old old_feeds) (zip ss fs)
     pub above : AllByRecursion (λ w. IsAbove bound (waiting_pair w)) ws
     pub handed : Handed old ss fs bound taken

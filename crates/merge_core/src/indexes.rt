@@ -1,9 +1,13 @@
 //! The merge of whole indexes.
 ghost use Rattle.std.specs.Prelude.{◌≡◌, ℕ, Option, List, map, Some, IfOk, IfErr, OnOk, OnErr};
 ghost use Rattle.cdxj_core.specs.declared.limit.TheConstants.{LINE_LIMIT};
-ghost use Rattle.devices.specs.Device.{next_count};
-ghost use Rattle.merge_core.specs.Collections.{Known, Merged, WroteRising};
+ghost use Rattle.cdxj_core.specs.Indexes.{IsIndex};
+ghost use Rattle.cdxj_core.specs.Members.{Member};
+ghost use Rattle.devices.specs.Device.{AppendsPrefix, next_count};
+ghost use Rattle.merge_core.specs.Collections.{Known, collection, Merged, WroteRising};
 ghost use Rattle.merge_core.specs.Failures.{RaisedAt};
+ghost use Rattle.merge_core.specs.Gathering.{AllTwo};
+ghost use Rattle.merge_core.specs.Written.{lines_text};
 
 use crate::fault::{FeedFault, MergeFault};
 use crate::line_writer::LineWriter;
@@ -18,7 +22,7 @@ use std::alloc::Global;
 /// were written.
 ///
 /// It holds one line of each source, and the lines of one key and stamp. After a fault, lines that rise by place were written,
-/// the last of them whole or in part.
+/// the last of them whole or in part; over indexes, they are the first lines of the collection.
 pub fn merge_indexes<S: Source, O: Output>(
     alloc: Global,
     sources: &mut [S],
@@ -31,6 +35,8 @@ pub fn merge_indexes<S: Source, O: Output>(
     ensures written { OnOk result (O.failures out.new ≡ O.failures out.old) }
     ensures merged { (texts : List (List ℕ)) → Known (map S.text sources.old) texts
         → IfOk result (Merged LINE_LIMIT texts (O.written out.old) (O.written out.new)) }
+    ensures part { (texts : List (List ℕ)) → (indexes : List (List Member)) → Known (map S.text sources.old) texts → AllTwo (IsIndex LINE_LIMIT) texts indexes
+        → AppendsPrefix (O.written out.old) (O.written out.new) (lines_text (collection indexes)) }
     ensures rising { WroteRising (O.written out.old) (O.written out.new) }
 {
     let mut streams = Streams::open(alloc, sources, &All)?;

@@ -1,19 +1,27 @@
-use Rattle.std.proofs.Common.{◌≡◌, ◌-◌, ◌^◌, ℕ, List, Option, [], length, map, min, Bool, true, false, Some, refl, sym, ap, ◌∙◌, subst, arith, append-nil, inl, inr}
+use Rattle.std.proofs.Common.{◌≡◌, ◌-◌, ◌^◌, ℕ, List, Option, [], ◌∷◌, ◌++◌, filter, length, map, min, Bool, true, false, Some, refl, sym, ap, ◌∙◌, subst, arith, append-nil, inl, inr}
+use Rattle.std.specs.List.{AllByRecursion}
 use Rattle.std.specs.Io.KnownBytes.{Appends}
+use Rattle.std.proofs.lemmas.Bool.{true≢false}
+use Rattle.std.proofs.lemmas.List.Concat.{flat_map-append}
 use Rattle.std.proofs.lemmas.Result.{err_from_is_err_and}
 use Rattle.cdxj_core.specs.declared.limit.TheConstants.{LINE_LIMIT}
+use Rattle.cdxj_core.specs.Indexes.{IsIndex}
 use Rattle.cdxj_core.specs.Members.{Member, member_place}
+use Rattle.cdxj_places.specs.Pairs.{Pair}
 use Rattle.cdxj_places.specs.Places.{place_cmp}
 use Rattle.cdxj_places.specs.Rising.{rising}
 use Rattle.devices.specs.Device.{AppendsPrefix}
 use Rattle.devices.proofs.DeviceLemmas.{Appends-none}
-use Rattle.devices.proofs.WritingLemmas.{prefix_whole}
+use Rattle.devices.proofs.WritingLemmas.{prefix_whole, prefix_longer, wrote_nothing}
+use Rattle.merge_core.specs.declared.feed.Feed.{Feed}
 use Rattle.merge_core.specs.WaitingLines.{WaitingLine}
-use Rattle.merge_core.specs.Collections.{collection}
+use Rattle.merge_core.specs.Collections.{Known, collection}
 use Rattle.merge_core.specs.Feeds.{AreFed}
 use Rattle.merge_core.specs.Gathering.{AllTwo}
-use Rattle.merge_core.specs.Written.{lines_text}
+use Rattle.merge_core.specs.Reached.{Reached}
+use Rattle.merge_core.specs.Written.{line_row, lines_text}
 use Rattle.merge_core.proofs.FailLemmas.{if_err, raised_from}
+use Rattle.merge_core.proofs.ReadLemmas.{read_first}
 use Rattle.merge_core.proofs.WholeLemmas.{are_read, all_lines_are, its_lines, told_known, texts_kept, starts_kept}
 use Rattle.merge_core.proofs.indexes.merge_indexes.Goals as goal
 
@@ -22,6 +30,49 @@ whole old new text a = subst (AppendsPrefix old new) (append-nil text) (prefix_w
 
 abbrev never : List ℕ → Bool
 never key = false
+
+-- Of sources that are indexes, what was taken is a front of their collection
+taken_front : {S : Type 0} (text : S → Option (List ℕ)) (extent gave : S → ℕ) (ss0 : List S) (fs0 : List Feed) (ss : List S) (fs : List Feed) (ws : List WaitingLine) (b : Option Pair) (taken : List Member)
+    → length ss0 ≡ length fs0 → AllByRecursion (λ (f : Feed). f.cursor.start ≡ 0) fs0 → Reached LINE_LIMIT text never extent gave ss0 fs0 ss fs ws b taken
+    → (texts : List (List ℕ)) → (indexes : List (List Member)) → Known (map text ss0) texts → AllTwo (IsIndex LINE_LIMIT) texts indexes
+    → (old new : Option (List ℕ)) → AppendsPrefix old new (lines_text taken) → AppendsPrefix old new (lines_text (collection indexes))
+taken_front text extent gave ss0 fs0 ss fs ws b taken same begun reached texts indexes known are old new p =
+    let first = read_first text extent gave LINE_LIMIT never (λ key later e h. absurd (true≢false (sym e))) ss0 fs0 ss fs ws b taken same reached texts indexes known are (λ m. true) (λ m e. refl) begun in
+    let whole : collection indexes ≡ taken ++ first.0 = sym (filter_every (collection indexes)) ∙ first.1 ∙ ap (λ l. l ++ first.0) (filter_every taken) in
+    subst (AppendsPrefix old new) (sym (ap lines_text whole ∙ flat_map-append line_row taken first.0)) (prefix_longer old new (lines_text taken) (lines_text first.0) p)
+  where
+    filter_every : (xs : List Member) → filter (λ m. true) xs ≡ xs
+    filter_every [] = refl
+    filter_every (x ∷ xs) = ap (λ l. x ∷ l) (filter_every xs)
+
+pub returns-in_err-streams-clause-part : goal.returns-in_err-streams-clause-part
+returns-in_err-streams-clause-part g c = λ texts indexes known are. wrote_nothing (g.O.Output.written c.args.out.now) (lines_text (collection indexes))
+
+pub returns-in_err-merge-clause-part : goal.returns-in_err-merge-clause-part
+returns-in_err-merge-clause-part g c = λ texts indexes known are.
+    let text = g.S.Source.text in
+    let out = g.O.Output.written c.args.out.now in
+    let new = g.O.Output.written c.merge.new.out in
+    let opened = c.in_ok-streams.ensures in
+    let broke = c.in_err-merge.ensures.broke in
+    taken_front text g.S.Source.extent g.S.Source.gave c.open.new.sources c.in_ok-streams.streams.feeds.items broke.0 broke.1 broke.2 broke.3 broke.4 opened.ready.same opened.start broke.5
+    texts indexes (subst (λ l. Known l texts) (sym opened.text) known) are out new
+    (elim (broke.6 c.new-writer.result out (Appends-none out, c.new-writer.ensures)) [
+      | inl k ↦ whole out new (lines_text broke.4) k.1.0
+      | inr p ↦ p
+    ])
+
+pub returns-clause-part : goal.returns-clause-part
+returns-clause-part g c = λ texts indexes known are.
+    let text = g.S.Source.text in
+    let out = g.O.Output.written c.args.out.now in
+    let new = g.O.Output.written c.merge.new.out in
+    let opened = c.in_ok-streams.ensures in
+    let wrote = c.in_ok-merge.ensures.wrote in
+    taken_front text g.S.Source.extent g.S.Source.gave c.open.new.sources c.in_ok-streams.streams.feeds.items c.merge.new.sources c.merge.new.streams.feeds.items c.merge.new.streams.waiting wrote.0 wrote.1
+    opened.ready.same opened.start wrote.2
+    texts indexes (subst (λ l. Known l texts) (sym opened.text) known) are out new
+    (whole out new (lines_text wrote.1) (wrote.3 c.new-writer.result out (Appends-none out, c.new-writer.ensures)).0)
 
 pub returns-in_err-merge-clause-texts : goal.returns-in_err-merge-clause-texts
 returns-in_err-merge-clause-texts g c =

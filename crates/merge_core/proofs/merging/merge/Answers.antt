@@ -26,6 +26,7 @@ loop-rest-init g c = record {
     [],
     record {
       ready = c.requires.ready;
+      settled = c.requires.settled;
       moved = moved_still g.S.Source.text g.S.Source.extent g.S.Source.gave (zip c.args.sources.now c.args.streams.now.feeds.items);
       above = above_none c.args.streams.now.waiting;
       handed = handed_none LINE_LIMIT g.S.Source.text c.args.sources.now c.args.streams.now.feeds.items c.requires.fresh;
@@ -77,6 +78,7 @@ returns-in_err-more-clause-broke g c =
     ap₂ (λ (m : Member) (l : List (Box Line Global)). rising member_place place_cmp (m ∷ values l)) c.deref.ensures c.deref-in-Some.ensures.value in
     let reached : Reached LINE_LIMIT text past extent gave old old_feeds now feeds c.gather.new.self.waiting (Some pair) (came.1 ++ rising member_place place_cmp group) = record {
       ready = ok.ready;
+      settled = ok.settled;
       moved = moved_trans text extent gave (zip old old_feeds) (zip was was_feeds) (zip now feeds) came.2.moved ok.moved;
       above = grouped.later;
       handed = handed_next LINE_LIMIT text extent old was now was_feeds feeds c.loop-rest.streams.waiting c.gather.new.self.waiting came.0 pair came.1 group came.2.handed came.2.above grouped
@@ -124,6 +126,7 @@ returns-then-not-more-clause-wrote g c =
     ap₂ (λ (m : Member) (l : List (Box Line Global)). rising member_place place_cmp (m ∷ values l)) c.deref.ensures c.deref-in-Some.ensures.value in
     let reached : Reached LINE_LIMIT text past extent gave old old_feeds now feeds c.gather.new.self.waiting (Some pair) (came.1 ++ rising member_place place_cmp group) = record {
       ready = ok.ready;
+      settled = ok.settled;
       moved = moved_trans text extent gave (zip old old_feeds) (zip was was_feeds) (zip now feeds) came.2.moved ok.moved;
       above = grouped.later;
       handed = handed_next LINE_LIMIT text extent old was now was_feeds feeds c.loop-rest.streams.waiting c.gather.new.self.waiting came.0 pair came.1 group came.2.handed came.2.above grouped
@@ -158,6 +161,7 @@ loop-rest-preserved g c =
     ap₂ (λ (m : Member) (l : List (Box Line Global)). rising member_place place_cmp (m ∷ values l)) c.deref.ensures c.deref-in-Some.ensures.value in
     let reached : Reached LINE_LIMIT text past extent gave old old_feeds now feeds c.gather.new.self.waiting (Some pair) (came.1 ++ rising member_place place_cmp group) = record {
       ready = ok.ready;
+      settled = ok.settled;
       moved = moved_trans text extent gave (zip old old_feeds) (zip was was_feeds) (zip now feeds) came.2.moved ok.moved;
       above = grouped.later;
       handed = handed_next LINE_LIMIT text extent old was now was_feeds feeds c.loop-rest.streams.waiting c.gather.new.self.waiting came.0 pair came.1 group came.2.handed came.2.above grouped

@@ -1,0 +1,206 @@
+-- The lines of one source that were come to, among all that it has from its start on.
+use Rattle.std.proofs.Common.{◌≡◌, ◌⊎◌, inl, inr, ℕ, zero, suc, List, [], ◌∷◌, ◌++◌, refl, sym, ap, ap₂, ◌∙◌, subst, Bool, true, false, not, ◌&&◌, Some, unwrap_or, take, drop, map, filter, cond, append-nil, append_assoc, take-append-drop, Less, Equal, Greater, Ordering, is_gt}
+use Rattle.std.specs.List.{AllByRecursion}
+use Rattle.std.specs.Ordering.{ordering_then, ordering_reverse, nat_cmp}
+use Rattle.std.specs.Cmp.Lexicographic.{slice_cmp}
+use Rattle.std.proofs.lemmas.Bool.{true≢false, cases_Bool}
+use Rattle.std.proofs.lemmas.Cmp.{nat_list_cmp_total}
+use Rattle.std.proofs.lemmas.List.{drop-map}
+use Rattle.std.proofs.lemmas.List.Elements.{filter-append}
+use Rattle.cdxj_places.specs.Pairs.{pair_cmp}
+use Rattle.cdxj_places.specs.Places.{place_cmp}
+use Rattle.cdxj_places.specs.Rising.{IsLower, NeverFalls, rising}
+use Rattle.cdxj_places.specs.TextLines.{lines}
+use Rattle.cdxj_places.proofs.PlaceOrder.{place_cmp_total}
+use Rattle.cdxj_places.proofs.RisingLaws.{each_weaker, each_rising, rising_split}
+use Rattle.cdxj_core.specs.Indexes.{IsRun}
+use Rattle.cdxj_core.specs.Members.{Member, member_pair, member_place, line_entry}
+use Rattle.merge_core.specs.declared.feed.Progress.{Progress}
+use Rattle.merge_core.specs.declared.feed.Progress.TheVariants.{Due, Waiting, Past, Ended}
+use Rattle.merge_core.specs.declared.feed.Feed.{Feed}
+use Rattle.merge_core.specs.PairOrders.{Upto}
+use Rattle.merge_core.specs.Feeds.{AreWaits, IsHead, IsSettled, Fed, done, given, member_of, no_member}
+use Rattle.merge_core.proofs.PairOrder.{upto_itself}
+use Rattle.merge_core.proofs.GroupLemmas.{filter_none}
+use Rattle.merge_core.proofs.MergeLemmas.{place_below}
+
+-- ---- lists
+
+filter_same : {X : Type 0} (f g : X → Bool) (xs : List X) → AllByRecursion (λ x. f x ≡ g x) xs → filter f xs ≡ filter g xs
+filter_same f g [] h = refl
+filter_same f g (x ∷ xs) h = ap₂ (λ b l. cond b (x ∷ l) l) h.0 (filter_same f g xs h.1)
+
+-- what a filter leaves out
+pub filter_out : {X : Type 0} (f : X → Bool) (xs : List X) → AllByRecursion (λ x. f x ≡ false) (filter (λ x. not (f x)) xs)
+filter_out f [] = tt
+filter_out f (x ∷ xs) = (elim (f x) as (λ b. f x ≡ b → AllByRecursion (λ y. f y ≡ false) (cond (not b) (x ∷ filter (λ y. not (f y)) xs) (filter (λ y. not (f y)) xs)))
+    [ true ↦ (λ e. filter_out f xs) | false ↦ (λ e. (e, filter_out f xs)) ]) refl
+
+take_of_map : {X Y : Type 0} (f : X → Y) (n : ℕ) (xs : List X) → take n (map f xs) ≡ map f (take n xs)
+take_of_map f zero xs = refl
+take_of_map f (suc n) [] = refl
+take_of_map f (suc n) (x ∷ xs) = ap (λ l. f x ∷ l) (take_of_map f n xs)
+
+falls_after : (us : List Member) (y : Member) (vs : List Member) → NeverFalls member_pair pair_cmp (us ++ y ∷ vs) → AllByRecursion (λ k. Upto (member_pair y) (member_pair k)) vs
+falls_after [] y vs h = h.0
+falls_after (u ∷ us) y vs h = falls_after us y vs h.1
+
+-- ---- Bools
+
+pub and_left : (a b : Bool) → (a && b) ≡ true → a ≡ true
+and_left true b h = refl
+and_left false b h = absurd (true≢false (sym h))
+
+pub and_right : (a b : Bool) → (a && b) ≡ true → b ≡ true
+and_right true b h = h
+and_right false b h = absurd (true≢false (sym h))
+
+pub and_false : (a b : Bool) → (a && b) ≡ false → (a ≡ false) ⊎ (b ≡ false)
+and_false true b h = inr h
+and_false false b h = inl refl
+
+false_right : (a b : Bool) → b ≡ false → (a && b) ≡ false
+false_right true b h = h
+false_right false b h = refl
+
+pub not_true : (b : Bool) → not b ≡ true → b ≡ false
+not_true true h = absurd (true≢false (sym h))
+not_true false h = refl
+
+pub not_false : (b : Bool) → not b ≡ false → b ≡ true
+not_false true h = refl
+not_false false h = absurd (true≢false h)
+
+pub not_wanted : {X : Type 0} (f g : X → Bool) → ((x : X) → f x ≡ true → g x ≡ true) → (x : X) → g x ≡ false → f x ≡ false
+not_wanted f g h x e = (elim (f x) as (λ b. f x ≡ b → b ≡ false) [ true ↦ (λ k. absurd (true≢false (sym (h x k) ∙ e))) | false ↦ (λ k. refl) ]) refl
+
+-- ---- keys
+
+pub gt_is : (r : Ordering) → is_gt r ≡ true → r ≡ Greater
+gt_is Less h = cc
+gt_is Equal h = cc
+gt_is Greater h = refl
+
+then_gt : (a b : Ordering) → is_gt (ordering_then a b) ≡ false → is_gt a ≡ false
+then_gt Less b h = refl
+then_gt Equal b h = refl
+then_gt Greater b h = h
+
+-- a key above one past the range is past it
+abbrev pub IsUpward : (List ℕ → Bool) → Type 0
+IsUpward past = (key later : List ℕ) → past key ≡ true → is_gt (slice_cmp nat_cmp key later) ≡ false → past later ≡ true
+
+-- ---- filters of what rises
+
+-- Of lines that rise, what is wanted stands among those that pass a test which what is wanted passes
+module _ (wanted test : Member → Bool) (passes : (m : Member) → wanted m ≡ true → test m ≡ true) where
+  pub none_wanted : (xs : List Member) → AllByRecursion (λ m. test m ≡ false) xs → filter wanted (rising member_place place_cmp xs) ≡ []
+  none_wanted xs h = filter_none wanted (rising member_place place_cmp xs)
+      (each_weaker (not_wanted wanted test passes) (rising member_place place_cmp xs) (each_rising member_place place_cmp place_cmp_total (λ m. test m ≡ false) xs h))
+
+-- the first lines
+pub wanted_low : (wanted low : Member → Bool) → IsLower member_place place_cmp low → ((m : Member) → wanted m ≡ true → low m ≡ true)
+    → (xs : List Member) → filter wanted (rising member_place place_cmp xs) ≡ filter wanted (rising member_place place_cmp (filter low xs))
+wanted_low wanted low lower passes xs =
+    ap (filter wanted) (rising_split member_place place_cmp place_cmp_total low lower xs)
+    ∙ filter-append wanted (rising member_place place_cmp (filter low xs)) (rising member_place place_cmp (filter (λ m. not (low m)) xs))
+    ∙ ap (λ l. filter wanted (rising member_place place_cmp (filter low xs)) ++ l) (none_wanted wanted low passes (filter (λ m. not (low m)) xs) (filter_out low xs))
+    ∙ append-nil (filter wanted (rising member_place place_cmp (filter low xs)))
+
+-- the last lines
+pub wanted_high : (wanted low : Member → Bool) → IsLower member_place place_cmp low → ((m : Member) → wanted m ≡ true → low m ≡ false)
+    → (xs : List Member) → filter wanted (rising member_place place_cmp xs) ≡ filter wanted (rising member_place place_cmp (filter (λ m. not (low m)) xs))
+wanted_high wanted low lower passes xs =
+    ap (filter wanted) (rising_split member_place place_cmp place_cmp_total low lower xs)
+    ∙ filter-append wanted (rising member_place place_cmp (filter low xs)) (rising member_place place_cmp (filter (λ m. not (low m)) xs))
+    ∙ ap (λ l. l ++ filter wanted (rising member_place place_cmp (filter (λ m. not (low m)) xs)))
+    (none_wanted wanted (λ m. not (low m)) (λ m h. ap not (passes m h)) (filter low xs) (each_weaker (λ (m : Member) (e : low m ≡ true). ap not e) (filter low xs) (filter_in xs)))
+  where
+    filter_in : (us : List Member) → AllByRecursion (λ m. low m ≡ true) (filter low us)
+    filter_in [] = tt
+    filter_in (u ∷ us) = (elim (low u) as (λ b. low u ≡ b → AllByRecursion (λ y. low y ≡ true) (cond b (u ∷ filter low us) (filter low us)))
+        [ true ↦ (λ e. (e, filter_in us)) | false ↦ (λ e. filter_in us) ]) refl
+
+-- ---- one source
+
+pub members_are : (limit : ℕ) (ls : List (List ℕ)) (ms : List Member) → map (line_entry limit) ls ≡ map Some ms → map (member_of limit) ls ≡ ms
+members_are limit [] [] e = refl
+members_are limit [] (m ∷ ms) e = cc
+members_are limit (l ∷ ls) [] e = cc
+members_are limit (l ∷ ls) (m ∷ ms) e =
+    let here : line_entry limit l ≡ Some m = cc in
+    let rest : map (line_entry limit) ls ≡ map Some ms = cc in
+    ap₂ (λ u v. u ∷ v) (ap (λ o. unwrap_or o no_member) here) (members_are limit ls ms rest)
+
+module _ (limit : ℕ) (past : List ℕ → Bool) (upward : IsUpward past) where
+  -- the key doesn't lie past the range
+  abbrev pub stays : Member → Bool
+  stays m = not (past m.values.key)
+
+  later_past : (m k : Member) → past m.values.key ≡ true → Upto (member_pair m) (member_pair k) → stays k ≡ false
+  later_past m k h u = ap not (upward m.values.key k.values.key h (then_gt _ (slice_cmp nat_cmp m.values.stamp k.values.stamp) u))
+
+  pub stays_lower : IsLower member_place place_cmp stays
+  stays_lower x y h k = place_below x y (key_below (slice_cmp nat_cmp x.values.key y.values.key) (slice_cmp nat_cmp x.values.stamp y.values.stamp) less)
+    where
+      key_below : (a b : Ordering) → a ≡ Less → ordering_then a b ≡ Less
+      key_below Less b e = refl
+      key_below Equal b e = cc
+      key_below Greater b e = cc
+
+      less : slice_cmp nat_cmp x.values.key y.values.key ≡ Less
+      less = elim (cases_Bool (is_gt (slice_cmp nat_cmp y.values.key x.values.key))) [
+        | inl g ↦ nat_list_cmp_total.antisymm x.values.key y.values.key ∙ ap ordering_reverse (gt_is _ g)
+        | inr g ↦ absurd (true≢false (sym (upward y.values.key x.values.key (not_false _ k) g) ∙ not_true _ h))
+      ]
+
+  -- which lines were come to
+  module _ (upto : Member → Bool) where
+    abbrev pub is_read : Member → Bool
+    is_read m = upto m && stays m
+
+    -- neither this line nor one that may follow it was come to
+    abbrev pub IsLate : Member → Type 0
+    IsLate m = (k : Member) → Upto (member_pair m) (member_pair k) → upto k ≡ false
+
+    read_is : (before tail ms : List Member) → ms ≡ before ++ tail → AllByRecursion (λ m. upto m ≡ true) before → AllByRecursion (λ m. is_read m ≡ false) tail
+        → filter is_read ms ≡ filter stays before
+    read_is before tail ms e h k =
+        ap (filter is_read) e ∙ filter-append is_read before tail
+        ∙ ap₂ (λ u v. u ++ v) (filter_same is_read stays before (each_weaker (λ (m : Member) (q : upto m ≡ true). ap (λ b. b && stays m) q) before h)) (filter_none is_read tail k)
+        ∙ append-nil (filter stays before)
+
+    -- the first line of the rest isn't read, and so none
+    rest_unread : (before : List Member) (m : Member) (rest ms : List Member) → ms ≡ before ++ m ∷ rest → NeverFalls member_pair pair_cmp ms
+        → ((k : Member) → Upto (member_pair m) (member_pair k) → is_read k ≡ false) → AllByRecursion (λ m. is_read m ≡ false) (m ∷ rest)
+    rest_unread before m rest ms e falls f =
+        (f m (upto_itself (member_pair m)), each_weaker (λ (k : Member) (u : Upto (member_pair m) (member_pair k)). f k u) rest (falls_after before m rest (subst (NeverFalls member_pair pair_cmp) e falls)))
+
+    head_read : (before all ms rest : List Member) (left : List (List ℕ)) (ws : List Member) (progress : Progress) → (progress ≡ Due → ⊥) → AreWaits progress ws → IsHead limit past before all left ws progress
+        → ms ≡ all ++ rest → NeverFalls member_pair pair_cmp ms → (left ≡ [] → rest ≡ []) → AllByRecursion IsLate ws → AllByRecursion (λ m. upto m ≡ true) before → filter is_read ms ≡ filter stays before
+    head_read before all ms rest left ws Due settled waits h e falls end late each = absurd (settled refl)
+    head_read before all ms rest left ws Waiting settled waits h e falls end late each =
+        let m = waits.0 in
+        let first : IsLate m = (subst (AllByRecursion IsLate) waits.1 late).0 in
+        let cut : ms ≡ before ++ m ∷ rest = e ∙ ap (λ l. l ++ rest) (h.0 ∙ ap (λ l. before ++ l) waits.1) ∙ append_assoc before (m ∷ []) rest in
+        read_is before (m ∷ rest) ms cut each (rest_unread before m rest ms cut falls (λ k u. ap (λ b. b && stays k) (first k u)))
+    head_read before all ms rest left ws Past settled waits h e falls end late each =
+        let m = h.0 in
+        let cut : ms ≡ before ++ m ∷ rest = e ∙ ap (λ l. l ++ rest) h.1 ∙ append_assoc before (m ∷ []) rest in
+        read_is before (m ∷ rest) ms cut each (rest_unread before m rest ms cut falls (λ k u. false_right (upto k) (stays k) (later_past m k h.2 u)))
+    head_read before all ms rest left ws Ended settled waits h e falls end late each =
+        read_is before [] ms (e ∙ ap₂ (λ u v. u ++ v) h.0 (end h.1)) each tt
+
+    -- Of the lines from the start on, those that were come to are those that are done
+    pub fed_read : (t : List ℕ) (extent : ℕ) (f : Feed) (ws ms : List Member) → Fed limit past (Some t) extent f ws → IsSettled f → IsRun limit (lines (drop f.cursor.start t)) ms
+        → AllByRecursion IsLate ws → AllByRecursion (λ m. upto m ≡ true) (done limit t f) → filter is_read ms ≡ filter stays (done limit t f)
+    fed_read t extent f ws ms fed settled run late each =
+        let told = fed.told t refl in
+        let from = lines (drop f.cursor.start t) in
+        let whole : map (member_of limit) from ≡ ms = members_are limit from ms run.entries in
+        let read : given limit t f.cursor ≡ take f.cursor.count ms = sym (take_of_map (member_of limit) f.cursor.count from) ∙ ap (take f.cursor.count) whole in
+        let rest : drop f.cursor.count ms ≡ map (member_of limit) (lines (drop f.cursor.at t)) =
+        ap (drop f.cursor.count) (sym whole) ∙ drop-map (member_of limit) f.cursor.count from ∙ ap (map (member_of limit)) (sym (fed.stands.rest t refl)) in
+        head_read (done limit t f) (given limit t f.cursor) ms (drop f.cursor.count ms) (lines (drop f.cursor.at t)) ws f.progress settled fed.waits told.head
+        (sym (take-append-drop f.cursor.count ms) ∙ ap (λ l. l ++ drop f.cursor.count ms) (sym read)) run.ordered
+        (λ e. rest ∙ ap (map (member_of limit)) e) late each

@@ -1,0 +1,107 @@
+-- The lines that the sources have from where they are read on.
+use Rattle.std.proofs.Common.{◌≡◌, ℕ, List, [], ◌∷◌, ◌++◌, length, map, drop, filter, zip, true, false, not, Option, Some, refl, sym, ap, ap₂, ◌∙◌, subst, arith}
+use Rattle.std.specs.List.{AllByRecursion}
+use Rattle.std.proofs.lemmas.List.Elements.{filter-append}
+use Rattle.cdxj_places.specs.Pairs.{Pair, pair_cmp}
+use Rattle.cdxj_places.specs.Rising.{NeverFalls}
+use Rattle.cdxj_places.specs.TextLines.{lines}
+use Rattle.cdxj_places.proofs.RisingLaws.{each_weaker}
+use Rattle.cdxj_core.specs.Indexes.{IsRun, IsIndex}
+use Rattle.cdxj_core.specs.Members.{Member, member_pair, line_entry}
+use Rattle.source_core.specs.Search.{IsCut}
+use Rattle.merge_core.specs.declared.feed.Feed.{Feed}
+use Rattle.merge_core.specs.PairOrders.{is_low}
+use Rattle.merge_core.specs.Collections.{Known, all_lines}
+use Rattle.merge_core.specs.Gathering.{AllTwo}
+use Rattle.merge_core.specs.Openings.{IsCutAt}
+use Rattle.merge_core.proofs.GroupLemmas.{filter_none, filter_all}
+use Rattle.merge_core.proofs.Many.{Move}
+
+map_append : {X Y : Type 0} (f : X → Y) (us vs : List X) → map f (us ++ vs) ≡ map f us ++ map f vs
+map_append f [] vs = refl
+map_append f (u ∷ us) vs = ap (λ l. f u ∷ l) (map_append f us vs)
+
+-- of equal lists, with fronts of one length
+after_front : {X : Type 0} (us vs xs ys : List X) → length us ≡ length xs → us ++ vs ≡ xs ++ ys → vs ≡ ys
+after_front [] vs [] ys n e = e
+after_front [] vs (x ∷ xs) ys n e = absurd (omega arith)
+after_front (u ∷ us) vs [] ys n e = absurd (omega arith)
+after_front (u ∷ us) vs (x ∷ xs) ys n e = after_front us vs xs ys (omega arith) (let q : us ++ vs ≡ xs ++ ys = cc in q)
+
+falls_back : (us vs : List Member) → NeverFalls member_pair pair_cmp (us ++ vs) → NeverFalls member_pair pair_cmp vs
+falls_back [] vs h = h
+falls_back (u ∷ us) vs h = falls_back us vs h.1
+
+length_map : {X Y : Type 0} (f : X → Y) (xs : List X) → length (map f xs) ≡ length xs
+length_map f [] = refl
+length_map f (x ∷ xs) = let h = length_map f xs in omega arith
+
+-- an index that was cut: its last lines are a run, and they are those that aren't below
+run_after : (limit : ℕ) (start : Pair) (t : List ℕ) (ms : List Member) (offset : ℕ) → IsIndex limit t ms → (cut : IsCut start t ms offset)
+    → IsRun limit (lines (drop offset t)) cut.high × (filter (λ m. not (is_low start m)) ms ≡ cut.high)
+run_after limit start t ms offset index cut =
+    let entries : map (line_entry limit) cut.before ++ map (line_entry limit) (lines (drop offset t)) ≡ map Some cut.low ++ map Some cut.high =
+    sym (map_append (line_entry limit) cut.before (lines (drop offset t))) ∙ ap (map (line_entry limit)) (sym cut.begins.0) ∙ index.entries
+    ∙ ap (map Some) cut.members_are ∙ map_append Some cut.low cut.high in
+    (
+      record {
+        entries = after_front (map (line_entry limit) cut.before) (map (line_entry limit) (lines (drop offset t))) (map Some cut.low) (map Some cut.high)
+            (length_map (line_entry limit) cut.before ∙ cut.as_many ∙ sym (length_map Some cut.low)) entries;
+        ordered = falls_back cut.low cut.high (subst (NeverFalls member_pair pair_cmp) cut.members_are index.ordered);
+      },
+      ap (filter (λ m. not (is_low start m))) cut.members_are ∙ filter-append (λ m. not (is_low start m)) cut.low cut.high
+          ∙ ap₂ (λ u v. u ++ v) (filter_none (λ m. not (is_low start m)) cut.low (each_weaker (λ (m : Member) (e : is_low start m ≡ true). ap not e) cut.low cut.all_below))
+          (filter_all (λ m. not (is_low start m)) cut.high (each_weaker (λ (m : Member) (e : is_low start m ≡ false). ap not e) cut.high cut.none_below)),
+    )
+
+module _ {S : Type 0} (limit : ℕ) (text : S → Option (List ℕ)) where
+  -- the lines from where the feed's source is read on are these members
+  abbrev pub RunsFrom : S × Feed → List Member → Type 0
+  RunsFrom x ms = (t : List ℕ) → text x.0 ≡ Some t → IsRun limit (lines (drop x.1.cursor.start t)) ms
+
+  told_once : (t u : List ℕ) (o : Option (List ℕ)) → o ≡ Some t → o ≡ Some u → t ≡ u
+  told_once t u o e f = let both : Some t ≡ Some u = sym e ∙ f in let q : t ≡ u = cc in q
+
+  -- of sources that are read from their beginning, all lines
+  pub runs_whole : (ss : List S) (fs : List Feed) (texts : List (List ℕ)) (indexes : List (List Member)) → length ss ≡ length fs → Known (map text ss) texts → AllTwo (IsIndex limit) texts indexes
+      → AllByRecursion (λ (f : Feed). f.cursor.start ≡ 0) fs → AllTwo RunsFrom (zip ss fs) indexes
+  runs_whole [] fs [] [] same known are start = tt
+  runs_whole [] fs [] (i ∷ is) same known are start = absurd are
+  runs_whole [] fs (t ∷ ts) is same known are start = absurd known
+  runs_whole (s ∷ ss) [] texts is same known are start = absurd (omega arith)
+  runs_whole (s ∷ ss) (f ∷ fs) [] is same known are start = absurd known
+  runs_whole (s ∷ ss) (f ∷ fs) (t ∷ ts) [] same known are start = absurd are
+  runs_whole (s ∷ ss) (f ∷ fs) (t ∷ ts) (i ∷ is) same known are start = (
+    λ u e. subst (λ n. IsRun limit (lines (drop n u)) i) (sym start.0) (subst (λ v. IsRun limit (lines v) i) (told_once t u (text s) known.0 e) are.0),
+    runs_whole ss fs ts is (omega arith) known.1 are.1 start.1,
+  )
+
+  -- of sources that are read from where a search ended, those that aren't below the start
+  pub runs_sought : (start : Pair) (ss : List S) (fs : List Feed) (texts : List (List ℕ)) (indexes : List (List Member)) → length ss ≡ length fs → Known (map text ss) texts → AllTwo (IsIndex limit) texts indexes
+      → AllByRecursion (λ x. IsCutAt limit start (text x.0) x.1.cursor) (zip ss fs)
+      → (highs : List (List Member)) × AllTwo RunsFrom (zip ss fs) highs × (filter (λ m. not (is_low start m)) (all_lines indexes) ≡ all_lines highs)
+  runs_sought start [] fs [] [] same known are cut = ([], tt, refl)
+  runs_sought start [] fs [] (i ∷ is) same known are cut = absurd are
+  runs_sought start [] fs (t ∷ ts) is same known are cut = absurd known
+  runs_sought start (s ∷ ss) [] texts is same known are cut = absurd (omega arith)
+  runs_sought start (s ∷ ss) (f ∷ fs) [] is same known are cut = absurd known
+  runs_sought start (s ∷ ss) (f ∷ fs) (t ∷ ts) [] same known are cut = absurd are
+  runs_sought start (s ∷ ss) (f ∷ fs) (t ∷ ts) (i ∷ is) same known are cut =
+      let here = cut.0 t i known.0 are.0 in
+      let run = run_after limit start t i f.cursor.start are.0 here in
+      let others = runs_sought start ss fs ts is (omega arith) known.1 are.1 cut.1 in (
+        here.high ∷ others.0,
+        (λ u e. subst (λ v. IsRun limit (lines (drop f.cursor.start v)) here.high) (told_once t u (text s) known.0 e) run.0, others.1),
+        filter-append (λ m. not (is_low start m)) i (all_lines is) ∙ ap₂ (λ u v. u ++ v) run.1 others.2,
+      )
+
+  -- the same after more was read
+  pub runs_kept : (extent gave : S → ℕ) (xs ys : List (S × Feed)) (highs : List (List Member)) → AllTwo (Move text extent gave) xs ys → AllTwo RunsFrom xs highs → AllTwo RunsFrom ys highs
+  runs_kept extent gave [] [] highs m h = h
+  runs_kept extent gave [] (y ∷ ys) highs m h = absurd m
+  runs_kept extent gave (x ∷ xs) [] highs m h = absurd m
+  runs_kept extent gave (x ∷ xs) (y ∷ ys) [] m h = absurd h
+  runs_kept extent gave (x ∷ xs) (y ∷ ys) (i ∷ is) m h = (
+    λ t e. subst (λ n. IsRun limit (lines (drop n t)) i) (sym m.0.start_kept) (h.0 t (sym m.0.text_kept ∙ e)),
+    runs_kept extent gave xs ys is m.1 h.1,
+  )
