@@ -9,8 +9,8 @@ use Rattle.cdxj_core.specs.Indexes.{IsRun}
 use Rattle.cdxj_core.specs.Lines.{body_of}
 use Rattle.cdxj_core.specs.Members.{Member, member_pair, line_entry}
 use Rattle.cdxj_core.proofs.MemberLemmas.{entry_is_short}
-use Rattle.source_core.specs.Cursors.{CursorState}
-use Rattle.source_core.specs.Cursors.{Stands}
+use Rattle.source_core.specs.Cursors.{CursorState, Stands}
+use Rattle.source_core.specs.IndexLines.{BeginsAfter}
 use Rattle.merge_core.specs.declared.feed.Progress.{Progress}
 use Rattle.merge_core.specs.declared.feed.Progress.TheVariants.{Due, Waiting, Past, Ended}
 use Rattle.merge_core.specs.declared.feed.Feed.{Feed}
@@ -136,6 +136,9 @@ module _ (limit : ℕ) where
     given_old : (t : List ℕ) → done limit t old ≡ given limit t old.cursor
     given_old t = done_due t old is_due
 
+    begins_still : (t : List ℕ) → text ≡ Some t → (before : List (List ℕ)) × BeginsAfter t f.cursor.start before
+    begins_still t e = subst (λ n. (before : List (List ℕ)) × BeginsAfter t n before) (sym start) (was.told t e).begins
+
     -- where its next line is this one
     module _ (m : Member) (low : Pair) (count : f.cursor.count ≡ old.cursor.count + 1) (next : (t : List ℕ) → text ≡ Some t → ReadNext t old.cursor f.cursor m)
         (upto : (t : List ℕ) → text ≡ Some t → AllByRecursion (λ k. Upto (member_pair k) low) (done limit t old)) (up : Upto low (member_pair m)) where
@@ -150,6 +153,7 @@ module _ (limit : ℕ) where
             waits = next_waits past m f.progress ws n;
             counted = omega (arith, many);
             told = λ t e. record {
+              begins = begins_still t e;
               run = run_more t e;
               head = head_next past (done limit t f) (given limit t f.cursor) (lines (drop f.cursor.at t)) m ws f.progress
                   (given_next t old.cursor f.cursor m (next t e) ∙ ap (λ ms. ms ++ m ∷ []) (sym (done_is t f old.cursor start many))) n;
@@ -168,6 +172,7 @@ module _ (limit : ℕ) where
         waits = subst (λ (p : Progress). AreWaits p []) (sym d) refl;
         counted = (let h = ap held d in omega arith);
         told = λ t e. record {
+          begins = begins_still t e;
           run = run_more t e;
           head = subst (λ (p : Progress). IsHead limit past (done limit t f) (given limit t f.cursor) (lines (drop f.cursor.at t)) [] p) (sym d) (sym (done_due t f d));
         };
@@ -187,6 +192,7 @@ module _ (limit : ℕ) where
         told = λ t e.
             let same : given limit t f.cursor ≡ given limit t old.cursor = ap (map (member_of limit)) (none t e).0 in
             record {
+              begins = begins_still t e;
               run = subst (λ ls. IsRun limit ls (map (member_of limit) ls)) (sym (none t e).0) (was.told t e).run;
               head = subst (λ (p : Progress). IsHead limit past (done limit t f) (given limit t f.cursor) (lines (drop f.cursor.at t)) [] p) (sym ended)
                   (same ∙ sym (given_old t) ∙ sym (done_ended t), (none t e).1);

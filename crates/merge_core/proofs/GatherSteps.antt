@@ -13,10 +13,10 @@ use Rattle.merge_core.specs.PairOrders.{Alike, Upto}
 use Rattle.merge_core.specs.WaitingLines.{WaitingLine, waiting_pair, turn_cmp}
 use Rattle.merge_core.specs.Feeds.{Ready, done, due}
 use Rattle.merge_core.specs.Gathering.{AllTwo, Gathered, AreTold, text_or, all_done, unread, IsFrom, IsDue, Drained}
-use Rattle.merge_core.proofs.PairOrder.{upto_upto, same_upto}
+use Rattle.merge_core.proofs.PairOrder.{upto_upto, same_upto, same_from}
 use Rattle.merge_core.proofs.HeapLemmas.{each_get, each_permuted}
 use Rattle.merge_core.proofs.Many.{is_told, zip_set, zip_at, length_zip, Move, moved_trans, moved_still, moved_set, moved_not, told_moved, unread_set}
-use Rattle.merge_core.proofs.StreamLemmas.{inside_sources, inside_feeds, none_left, popped_ready, popped_done, popped_low}
+use Rattle.merge_core.proofs.StreamLemmas.{inside_sources, inside_feeds, none_left, popped_ready, popped_done, popped_last, popped_low}
 use Rattle.merge_core.proofs.GroupLemmas.{from_popped, AreBelow, all_sources, last_changes, next_changes, rest_changes}
 
 any_of : {X : Type 0} (xs : List X) (i : ℕ) → i < length xs → X
@@ -100,6 +100,9 @@ module _ (limit : ℕ) (past : List ℕ → Bool) {S : Type 0} (text : S → Opt
             is_due = refl;
             low = λ t e. each_weaker (λ (m : Member) (u : Upto (member_pair m) (waiting_pair w)). upto_upto (member_pair m) (waiting_pair w) pair u (same_upto (waiting_pair w) pair at))
                 (done limit t f) (popped_low limit past text extent ss fs ws ws' w a b h.ready p t (ap text (get_or_default ss w.source a x inside) ∙ e));
+            last = λ t e.
+                let end = popped_last limit past text extent ss fs ws ws' w a b h.ready p t (ap text (get_or_default ss w.source a x inside) ∙ e) in
+                (end.0, end.1, end.2, upto_upto pair (waiting_pair w) (member_pair end.1) (same_from (waiting_pair w) pair at) end.3);
           })
 
     -- the next line was taken out, and its source's next line is to be read

@@ -2,6 +2,7 @@ pub mod PairOrder
 pub mod TurnLemmas
 pub mod FeedLemmas
 pub mod DrainLemmas
+pub mod BadLines
 pub mod HeapLemmas
 pub mod StreamLemmas
 pub mod Many

@@ -10,6 +10,7 @@ use Rattle.cdxj_places.proofs.RisingLaws.{each_weaker}
 use Rattle.cdxj_core.specs.Indexes.{IsRun}
 use Rattle.cdxj_core.specs.Members.{Member}
 use Rattle.source_core.specs.Cursors.{CursorState, Stands}
+use Rattle.source_core.specs.IndexLines.{BeginsAfter}
 use Rattle.merge_core.specs.declared.feed.Progress.TheVariants.{Due}
 use Rattle.merge_core.specs.declared.feed.Feed.{Feed}
 use Rattle.merge_core.specs.WaitingLines.{WaitingLine, waits_of}
@@ -25,13 +26,15 @@ waits_none n [] h = refl
 waits_none n (w ∷ ws) h = (let l = h.0 in waits_other n w ws (λ e. absurd (omega arith))) ∙ waits_none n ws h.1
 
 module _ (limit : ℕ) (past : List ℕ → Bool) where
-  pub fed_fresh : (text : Option (List ℕ)) (extent : ℕ) (c : CursorState) → Stands text extent c → c.count ≡ 0 → Fed limit past text extent (record { cursor = c; progress = Due }) []
-  fed_fresh text extent c stands e =
+  pub fed_fresh : (text : Option (List ℕ)) (extent : ℕ) (c : CursorState) → Stands text extent c → c.count ≡ 0 → ((t : List ℕ) → text ≡ Some t → (before : List (List ℕ)) × BeginsAfter t c.start before)
+      → Fed limit past text extent (record { cursor = c; progress = Due }) []
+  fed_fresh text extent c stands e begins =
       let f : Feed = record { cursor = c; progress = Due } in record {
         stands = stands;
         waits = refl;
         counted = omega arith;
         told = λ t q. record {
+          begins = begins t q;
           run = subst (λ n. IsRun limit (take n (lines (drop c.start t))) (map (member_of limit) (take n (lines (drop c.start t))))) (sym e) (record { entries = refl; ordered = tt });
           head = sym (done_due limit t f refl);
         };

@@ -13,6 +13,7 @@ use Rattle.merge_core.specs.declared.feed.Progress.TheVariants.{Due, Waiting, Pa
 use Rattle.merge_core.specs.declared.feed.Feed.{Feed}
 use Rattle.merge_core.specs.WaitingLines.{WaitingLine, waits_of}
 use Rattle.merge_core.specs.Feeds.{AreWaits, IsHead, FedOf, Fed, AreFed, Ready, given, done, due, option_list}
+use Rattle.merge_core.specs.Gathering.{EndsAt}
 use Rattle.merge_core.specs.PairOrders.{Upto}
 use Rattle.merge_core.proofs.PairOrder.{upto_itself}
 use Rattle.merge_core.proofs.FeedLemmas.{each_join, done_due}
@@ -90,7 +91,7 @@ module _ (limit : ℕ) (past : List ℕ → Bool) {S : Type 0} (text : S → Opt
     stands = h.stands;
     waits = (only_waits f.progress m ws h.waits).1;
     counted = omega arith;
-    told = λ t e. record { run = (h.told t e).run; head = sym (done_due limit t (due f) refl) };
+    told = λ t e. record { begins = (h.told t e).begins; run = (h.told t e).run; head = sym (done_due limit t (due f) refl) };
   }
 
   -- the first in turn is taken out
@@ -130,6 +131,9 @@ module _ (limit : ℕ) (past : List ℕ → Bool) {S : Type 0} (text : S → Opt
 
     pub popped_done : (t : List ℕ) → text (get_or ss w.source a) ≡ Some t → done limit t (due (get_or fs w.source b)) ≡ done limit t (get_or fs w.source b) ++ w.member ∷ []
     popped_done t e = (due_of t (get_or fs w.source b) w.member (waits_of w.source ws) fed_here.waits (fed_here.told t e)).1
+
+    pub popped_last : (t : List ℕ) → text (get_or ss w.source a) ≡ Some t → EndsAt (member_pair w.member) (done limit t (due (get_or fs w.source b)))
+    popped_last t e = (done limit t (get_or fs w.source b), w.member, popped_done t e, upto_itself (member_pair w.member))
 
     pub popped_low : (t : List ℕ) → text (get_or ss w.source a) ≡ Some t → AllByRecursion (λ m. Upto (member_pair m) (member_pair w.member)) (done limit t (due (get_or fs w.source b)))
     popped_low t e =

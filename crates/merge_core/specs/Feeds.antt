@@ -4,8 +4,8 @@ use Rattle.std.specs.List.{AllByRecursion}
 use Rattle.cdxj_places.specs.TextLines.{lines}
 use Rattle.cdxj_core.specs.Members.{Member, line_entry}
 use Rattle.cdxj_core.specs.Indexes.{IsRun}
-use Rattle.source_core.specs.Cursors.{CursorState}
-use Rattle.source_core.specs.Cursors.{Stands, reach}
+use Rattle.source_core.specs.Cursors.{CursorState, Stands, reach}
+use Rattle.source_core.specs.IndexLines.{BeginsAfter}
 use Rattle.merge_core.specs.declared.feed.Progress.{Progress}
 use Rattle.merge_core.specs.declared.feed.Progress.TheVariants.{Due, Waiting, Past, Ended}
 use Rattle.merge_core.specs.declared.feed.Feed.{Feed}
@@ -82,6 +82,7 @@ module _ (limit : ℕ) where
 
     -- what is known of a source with this text, of whose lines these wait
     pub record FedOf (text : List ℕ) (f : Feed) (ws : List Member) : Type 0 where
+      pub begins : (before : List (List ℕ)) × BeginsAfter text f.cursor.start before
       pub run : IsRun limit (read_lines text f.cursor) (given text f.cursor)
       pub head : IsHead (done text f) (given text f.cursor) (lines (drop f.cursor.at text)) ws f.progress
 

@@ -44,10 +44,15 @@ unread extent ss fs = sum (map (λ x. extent x.0 - x.1.cursor.at) (zip ss fs))
 abbrev pub IsFrom : Pair → ℕ → WaitingLine → Type 0
 IsFrom pair n w = Upto pair (waiting_pair w) × (Alike (waiting_pair w) pair → n ≤ w.source)
 
--- a source's next line is to be read, and none of those that are done is above the pair
+-- the last of these lines isn't below the pair
+abbrev pub EndsAt : Pair → List Member → Type 0
+EndsAt pair ms = (before : List Member) × (last : Member) × (ms ≡ before ++ last ∷ []) × Upto pair (member_pair last)
+
+-- a source's next line is to be read; of those that are done, the last has the pair, and none is above it
 pub record IsDue (limit : ℕ) (pair : Pair) (text : Option (List ℕ)) (f : Feed) : Type 0 where
   pub is_due : f.progress ≡ Due
   pub low : (t : List ℕ) → text ≡ Some t → AllByRecursion (λ m. Upto (member_pair m) pair) (done limit t f)
+  pub last : (t : List ℕ) → text ≡ Some t → EndsAt pair (done limit t f)
 
 -- a line of the source waits beside the others, with a pair above this one, or none does
 abbrev pub WaitsAbove : Pair → ℕ → List WaitingLine → List WaitingLine → Type 0

@@ -4,6 +4,7 @@ pub mod TurnOrder
 pub mod Feeds
 pub mod Gathering
 pub mod Failures
+pub mod LineFaults
 pub mod Reached
 pub mod Written
 pub mod Openings

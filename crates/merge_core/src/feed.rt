@@ -7,6 +7,8 @@ ghost use Rattle.devices.specs.Device.{next_count};
 ghost use Rattle.source_core.specs.Cursors.{reach};
 ghost use Rattle.merge_core.specs.PairOrders.{Alike, Below, Upto};
 ghost use Rattle.merge_core.specs.Feeds.{IsNext, IsSettled, Fed, option_list, done};
+ghost use Rattle.merge_core.specs.Gathering.{EndsAt};
+ghost use Rattle.merge_core.specs.LineFaults.{NamesLine};
 
 use crate::fault::FeedFault;
 use crate::pair::compare_pairs;
@@ -79,6 +81,7 @@ impl Feed {
         ensures start { self.new.cursor.start ≡ self.old.cursor.start }
         ensures fed { IfOk result (λ o. Fed LINE_LIMIT (R.past range.now) (S.text source.new) (S.extent source.new) self.new (option_list (option_map (λ b. b.value) o))) }
         ensures fresh { (t : List ℕ) → S.text source.old ≡ Some t → OnOk result (done LINE_LIMIT t self.new ≡ []) }
+        ensures fault { (t : List ℕ) → S.text source.old ≡ Some t → IfErr result (NamesLine LINE_LIMIT t) }
         ensures settled { OnOk result (IsSettled self.new) }
     {
         match store.next_line(source, &mut self.cursor)? {
@@ -103,6 +106,7 @@ impl Feed {
         requires fed { Fed LINE_LIMIT (R.past range.now) (S.text source.old) (S.extent source.old) self.old [] }
         requires due { self.old.progress ≡ Due }
         requires low { (t : List ℕ) → S.text source.old ≡ Some t → AllByRecursion (λ m. Upto (member_pair m) (member_pair first.now)) (done LINE_LIMIT t self.old) }
+        requires last { (t : List ℕ) → S.text source.old ≡ Some t → EndsAt (member_pair first.now) (done LINE_LIMIT t self.old) }
         ensures text { S.text source.new ≡ S.text source.old }
         ensures extent { S.extent source.new ≡ S.extent source.old }
         ensures gave { S.gave source.new + reach self.old.cursor ≤ S.gave source.old + reach self.new.cursor }
@@ -119,6 +123,7 @@ impl Feed {
             × (done LINE_LIMIT t self.new ≡ done LINE_LIMIT t self.old ++ taken)
             × (map (λ b. b.value) rest.new.items ≡ map (λ b. b.value) rest.old.items ++ taken)
             × AllByRecursion (λ m. Alike (member_pair m) (member_pair first.now)) taken) }
+        ensures fault { (t : List ℕ) → S.text source.old ≡ Some t → IfErr result (NamesLine LINE_LIMIT t) }
         ensures settled { OnOk result (IsSettled self.new) }
     {
         let mut begin = self.cursor.at();

@@ -7,6 +7,7 @@ ghost use Rattle.devices.specs.Device.{AppendsPrefix, next_count};
 ghost use Rattle.merge_core.specs.Collections.{Known, collection, Merged, WroteRising};
 ghost use Rattle.merge_core.specs.Failures.{RaisedAt};
 ghost use Rattle.merge_core.specs.Gathering.{AllTwo};
+ghost use Rattle.merge_core.specs.LineFaults.{IsFaultOf};
 ghost use Rattle.merge_core.specs.Written.{lines_text};
 
 use crate::fault::{FeedFault, MergeFault};
@@ -33,6 +34,7 @@ pub fn merge_indexes<S: Source, O: Output>(
     ensures read { IfErr result (λ e. (n : ℕ) → e ≡ MergeFault.Feed n FeedFault.Read → RaisedAt n (map S.failures sources.old) (map S.failures sources.new)) }
     ensures failed { IfErr result (λ e. e ≡ MergeFault.Write → O.failures out.new ≡ next_count (O.failures out.old)) }
     ensures written { OnOk result (O.failures out.new ≡ O.failures out.old) }
+    ensures fault { IfErr result (IsFaultOf LINE_LIMIT (map S.text sources.old)) }
     ensures merged { (texts : List (List ℕ)) → Known (map S.text sources.old) texts
         → IfOk result (Merged LINE_LIMIT texts (O.written out.old) (O.written out.new)) }
     ensures part { (texts : List (List ℕ)) → (indexes : List (List Member)) → Known (map S.text sources.old) texts → AllTwo (IsIndex LINE_LIMIT) texts indexes

@@ -8,6 +8,7 @@ ghost use Rattle.devices.specs.Device.{next_count};
 ghost use Rattle.merge_core.specs.declared.feed.Feed.{Feed};
 ghost use Rattle.merge_core.specs.WaitingLines.{WaitingLine};
 ghost use Rattle.merge_core.specs.Failures.{RaisedAt};
+ghost use Rattle.merge_core.specs.LineFaults.{IsFaultOf};
 ghost use Rattle.merge_core.specs.Feeds.{Moved, Ready, AreSettled};
 ghost use Rattle.merge_core.specs.Gathering.{AllTwo, all_done};
 ghost use Rattle.merge_core.specs.Reached.{Reached};
@@ -39,6 +40,7 @@ pub fn merge<S: Source, R: Range, K: Sink, O: Output>(
     ensures kept { IfErr result (λ e. ((n : ℕ) → e ≢ MergeFault.Feed n FeedFault.Read) → map S.failures sources.new ≡ map S.failures sources.old) }
     ensures failed { IfErr result (λ e. e ≡ MergeFault.Write → O.failures out.new ≡ next_count (O.failures out.old)) }
     ensures written { OnOk result (O.failures out.new ≡ O.failures out.old) }
+    ensures fault { IfErr result (IsFaultOf LINE_LIMIT (map S.text sources.old)) }
     ensures settled { OnOk result (AreSettled streams.new.feeds.items) }
     ensures ended { IfOk result (λ all. all ≡ true → streams.new.waiting ≡ []) }
     ensures enough { IfOk result (λ all. all ≡ false → K.Enough sink.new) }

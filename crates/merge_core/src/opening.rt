@@ -6,7 +6,9 @@ ghost use Rattle.cdxj_core.specs.declared.limit.TheConstants.{LINE_LIMIT};
 ghost use Rattle.cdxj_core.specs.Members.{Member};
 ghost use Rattle.devices.specs.Device.{next_count};
 ghost use Rattle.source_core.specs.Cursors.{Stands};
+ghost use Rattle.source_core.specs.IndexLines.{BeginsAfter};
 ghost use Rattle.merge_core.specs.Failures.{RaisedAt};
+ghost use Rattle.merge_core.specs.LineFaults.{NamesLine, IsFaultOf};
 
 use crate::fault::{FeedFault, MergeFault};
 use crate::feed::{Feed, Progress};
@@ -31,10 +33,12 @@ impl Streams {
     ) -> Result<(), FeedFault>
         requires stands { Stands (S.text source.old) (S.extent source.old) cursor }
         requires fresh { cursor.count ≡ 0 }
+        requires begins { (t : List ℕ) → S.text source.old ≡ Some t → (before : List (List ℕ)) × BeginsAfter t cursor.start before }
         ensures text { S.text source.new ≡ S.text source.old }
         ensures extent { S.extent source.new ≡ S.extent source.old }
         ensures worked { OnOk result (S.failures source.new ≡ S.failures source.old) }
         ensures failed { IfErr result (λ e. e ≡ FeedFault.Read → S.failures source.new ≡ next_count (S.failures source.old)) }
+        ensures fault { (t : List ℕ) → S.text source.old ≡ Some t → IfErr result (NamesLine LINE_LIMIT t) }
         ensures settled { AreSettled self.old.feeds.items → OnOk result (AreSettled self.new.feeds.items) }
         ensures added { OnOk result ((f : Feed) × (o : Option Member) × (self.new.feeds.items ≡ self.old.feeds.items ++ f ∷ [])
             × MatchOption o (self.new.waiting ≡ self.old.waiting) (λ m. IsPermutation (record { member = m; source = length self.old.feeds.items } ∷ self.old.waiting) self.new.waiting)
@@ -68,6 +72,7 @@ impl Streams {
         ensures worked { OnOk result (map S.failures sources.new ≡ map S.failures sources.old) }
         ensures read { IfErr result (λ e. (n : ℕ) → e ≡ MergeFault.Feed n FeedFault.Read → RaisedAt n (map S.failures sources.old) (map S.failures sources.new)) }
         ensures unwritten { IfErr result (λ e. e ≢ MergeFault.Write) }
+        ensures fault { IfErr result (IsFaultOf LINE_LIMIT (map S.text sources.old)) }
         ensures ready { IfOk result (λ s. Ready LINE_LIMIT (R.past range.now) S.text S.extent sources.new s.feeds.items s.waiting) }
         ensures start { IfOk result (λ s. AllByRecursion (λ f. f.cursor.start ≡ 0) s.feeds.items) }
         ensures fresh { IfOk result (λ s. all_done LINE_LIMIT S.text sources.new s.feeds.items ≡ []) }

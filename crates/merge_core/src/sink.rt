@@ -91,7 +91,7 @@ pub fn hand_on<K: Sink, O: Output>(
         ⊎ ((begin : K) → (taken : List Member) → (start : Option (List ℕ)) → K.Wrote begin sink.old taken start (O.written out.old)
         → K.Broke begin (taken ++ rising member_place place_cmp (first.now ∷ map (λ b. b.value) rest.now)) start (O.written out.new))) }
     ensures enough { IfOk result (λ all. all ≡ false → K.Enough sink.new) }
-    ensures unread { IfErr result (λ e. (i : ℕ) → e ≢ MergeFault.Feed i FeedFault.Read) }
+    ensures unread { IfErr result (λ e. (i : ℕ) → (f : FeedFault) → e ≢ MergeFault.Feed i f) }
     ensures worked { OnOk result (O.failures out.new ≡ O.failures out.old) }
     ensures failed { IfErr result (λ e. e ≡ MergeFault.Write → O.failures out.new ≡ next_count (O.failures out.old)) }
 {

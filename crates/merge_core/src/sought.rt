@@ -1,5 +1,5 @@
 //! The opening of sources at the lines from which on they are read.
-ghost use Rattle.std.specs.Prelude.{◌≡◌, ◌≢◌, ◌≤◌, ◌++◌, ◌∷◌, ℕ, Option, List, [], length, map, Some, MatchOption, IfOk, IfErr, OnOk};
+ghost use Rattle.std.specs.Prelude.{◌≡◌, ◌≢◌, ◌⊎◌, ◌≤◌, ◌++◌, ◌∷◌, ℕ, Option, List, [], length, map, Some, MatchOption, IfOk, IfErr, OnOk};
 ghost use Rattle.std.specs.List.{AllByRecursion, zip, sum};
 ghost use Rattle.std.specs.List.Sorted.{IsPermutation};
 ghost use Rattle.cdxj_core.specs.declared.limit.TheConstants.{LINE_LIMIT};
@@ -8,8 +8,10 @@ ghost use Rattle.cdxj_core.specs.Members.{Member};
 ghost use Rattle.devices.specs.Device.{next_count};
 ghost use Rattle.source_core.specs.Cursors.{Stands};
 ghost use Rattle.source_core.specs.Halving.{digits};
+ghost use Rattle.source_core.specs.IndexLines.{BeginsAfter};
 ghost use Rattle.source_core.specs.Search.{IsCut};
 ghost use Rattle.merge_core.specs.Failures.{RaisedAt};
+ghost use Rattle.merge_core.specs.LineFaults.{NamesLine, IsFaultOf};
 
 use crate::fault::{FeedFault, MergeFault};
 use crate::queue::Queue;
@@ -32,6 +34,8 @@ fn find_start<S: Source>(
     ensures failed { IfErr result (λ e. e ≡ FeedFault.Read → S.failures source.new ≡ next_count (S.failures source.old)) }
     ensures stands { IfOk result (λ r. Stands (S.text source.new) (S.extent source.new) r.0) }
     ensures fresh { IfOk result (λ r. r.0.count ≡ 0) }
+    ensures begins { (t : List ℕ) → S.text source.old ≡ Some t → IfOk result (λ r. (before : List (List ℕ)) × BeginsAfter t r.0.start before) }
+    ensures refused { IfErr result (λ e. (e ≡ FeedFault.Memory) ⊎ (e ≡ FeedFault.Read)) }
     ensures cut { (t : List ℕ) → (members : List Member) → S.text source.old ≡ Some t → IsIndex LINE_LIMIT t members
         → IfOk result (λ r. IsCut (key.now, stamp.now) t members r.0.start) }
     ensures probes { IfOk result (λ r. r.1 ≤ digits (S.extent source.old)) }
@@ -73,6 +77,7 @@ impl Streams {
         ensures worked { OnOk result (S.failures source.new ≡ S.failures source.old) }
         ensures failed { IfErr result (λ e. e ≡ FeedFault.Read → S.failures source.new ≡ next_count (S.failures source.old)) }
         ensures probes { IfOk result (λ n. n ≤ digits (S.extent source.old)) }
+        ensures fault { (t : List ℕ) → S.text source.old ≡ Some t → IfErr result (NamesLine LINE_LIMIT t) }
         ensures settled { AreSettled self.old.feeds.items → OnOk result (AreSettled self.new.feeds.items) }
         ensures added { OnOk result ((f : Feed) × (o : Option Member) × (self.new.feeds.items ≡ self.old.feeds.items ++ f ∷ [])
             × MatchOption o (self.new.waiting ≡ self.old.waiting) (λ m. IsPermutation (record { member = m; source = length self.old.feeds.items } ∷ self.old.waiting) self.new.waiting)
@@ -98,6 +103,7 @@ impl Streams {
         ensures worked { OnOk result (map S.failures sources.new ≡ map S.failures sources.old) }
         ensures read { IfErr result (λ e. (n : ℕ) → e ≡ MergeFault.Feed n FeedFault.Read → RaisedAt n (map S.failures sources.old) (map S.failures sources.new)) }
         ensures unwritten { IfErr result (λ e. e ≢ MergeFault.Write) }
+        ensures fault { IfErr result (IsFaultOf LINE_LIMIT (map S.text sources.old)) }
         ensures ready { IfOk result (λ o. Ready LINE_LIMIT (R.past range.now) S.text S.extent sources.new o.streams.feeds.items o.streams.waiting) }
         ensures cut { IfOk result (λ o. AllByRecursion (λ x. IsCutAt LINE_LIMIT (key.now, stamp.now) (S.text x.0) x.1.cursor) (zip sources.new o.streams.feeds.items)) }
         ensures fresh { IfOk result (λ o. all_done LINE_LIMIT S.text sources.new o.streams.feeds.items ≡ []) }

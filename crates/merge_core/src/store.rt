@@ -6,6 +6,7 @@ ghost use Rattle.cdxj_places.specs.TextLines.{lines};
 ghost use Rattle.devices.specs.Device.{next_count};
 ghost use Rattle.source_core.specs.Cursors.{Stands, reach};
 ghost use Rattle.merge_core.specs.Feeds.{read_lines};
+ghost use Rattle.merge_core.specs.LineFaults.{IsFaultAt};
 
 use crate::fault::FeedFault;
 use cdxj_core::{Line, LineFault};
@@ -83,6 +84,7 @@ impl Store {
         ensures given { (t : List ℕ) → S.text source.old ≡ Some t → IfOk result (λ o. MatchOption o
             ((read_lines t cursor.new ≡ read_lines t cursor.old) × (lines (drop cursor.new.at t) ≡ []))
             (λ line. (l : List ℕ) × (read_lines t cursor.new ≡ read_lines t cursor.old ++ l ∷ []) × (line_entry LINE_LIMIT l ≡ Some line.value))) }
+        ensures fault { (t : List ℕ) → S.text source.old ≡ Some t → IfErr result (IsFaultAt LINE_LIMIT (lines (drop cursor.old.at t)) cursor.old.at) }
     {
         let begin = cursor.at();
         match cursor.next(source, &mut self.bytes) {
@@ -90,7 +92,8 @@ impl Store {
             Ok(true) => match self.line() {
                 Ok(line) => Ok(Some(line)),
                 Err(LineFault::Memory) => Err(FeedFault::Memory),
-                Err(_) => Err(FeedFault::BadLine(begin)),
+                Err(LineFault::LineTooLong) => Err(FeedFault::BadLine(begin)),
+                Err(LineFault::BadLine) => Err(FeedFault::BadLine(begin)),
             },
             Err(LineReadFault::Memory) => Err(FeedFault::Memory),
             Err(LineReadFault::Read) => Err(FeedFault::Read),

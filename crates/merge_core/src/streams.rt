@@ -8,6 +8,7 @@ ghost use Rattle.cdxj_core.specs.Members.{member_pair};
 ghost use Rattle.merge_core.specs.PairOrders.{Alike, Below, Upto};
 ghost use Rattle.merge_core.specs.WaitingLines.{waiting_pair, turn_cmp};
 ghost use Rattle.merge_core.specs.Failures.{RaisedAt};
+ghost use Rattle.merge_core.specs.LineFaults.{IsFaultOf};
 ghost use Rattle.merge_core.specs.Gathering.{AllTwo};
 
 use crate::fault::{FeedFault, MergeFault};
@@ -113,6 +114,7 @@ impl Streams {
         ensures worked { OnOk result (map S.failures sources.new ≡ map S.failures sources.old) }
         ensures read { IfErr result (λ e. (n : ℕ) → e ≡ MergeFault.Feed n FeedFault.Read → RaisedAt n (map S.failures sources.old) (map S.failures sources.new)) }
         ensures unwritten { IfErr result (λ e. e ≢ MergeFault.Write) }
+        ensures fault { IfErr result (IsFaultOf LINE_LIMIT (map S.text sources.old)) }
         ensures kept { IfErr result (λ e. ((n : ℕ) → e ≢ MergeFault.Feed n FeedFault.Read) → map S.failures sources.new ≡ map S.failures sources.old) }
         ensures ready { OnOk result (Ready LINE_LIMIT (R.past range.now) S.text S.extent sources.new self.new.feeds.items self.new.waiting) }
         ensures waits { OnOk result (WaitsAbove (member_pair first.now) i self.old.waiting self.new.waiting) }
@@ -148,6 +150,7 @@ impl Streams {
         ensures worked { OnOk result (map S.failures sources.new ≡ map S.failures sources.old) }
         ensures read { IfErr result (λ e. (n : ℕ) → e ≡ MergeFault.Feed n FeedFault.Read → RaisedAt n (map S.failures sources.old) (map S.failures sources.new)) }
         ensures unwritten { IfErr result (λ e. e ≢ MergeFault.Write) }
+        ensures fault { IfErr result (IsFaultOf LINE_LIMIT (map S.text sources.old)) }
         ensures kept { IfErr result (λ e. ((n : ℕ) → e ≢ MergeFault.Feed n FeedFault.Read) → map S.failures sources.new ≡ map S.failures sources.old) }
         ensures ready { OnOk result (Ready LINE_LIMIT (R.past range.now) S.text S.extent sources.new self.new.feeds.items self.new.waiting) }
         ensures settled { OnOk result (AreSettled self.new.feeds.items) }

@@ -1,4 +1,4 @@
-use Rattle.std.proofs.Common.{◌≡◌, ◌∷◌, ◌++◌, [], inl, inr, Box, Global, List, Some, None, MatchOption, map, zip, refl, sym, ap₂, ◌∙◌, subst}
+use Rattle.std.proofs.Common.{arith, ◌≡◌, ◌∷◌, ◌++◌, [], inl, inr, Box, Global, List, Some, None, MatchOption, map, zip, refl, sym, ap₂, ◌∙◌, subst}
 use Rattle.std.proofs.lemmas.Result.{err_from_is_err_and}
 use Rattle.cdxj_core.specs.declared.limit.TheConstants.{LINE_LIMIT}
 use Rattle.cdxj_core.specs.declared.line.Line.{Line}
@@ -9,6 +9,8 @@ use Rattle.merge_core.specs.declared.feed.Feed.{Feed}
 use Rattle.merge_core.specs.WaitingLines.{WaitingLine}
 use Rattle.merge_core.specs.Gathering.{AllTwo, Grouped}
 use Rattle.merge_core.specs.Reached.{Reached}
+use Rattle.merge_core.specs.LineFaults.{IsFaultOf}
+use Rattle.merge_core.proofs.WholeLemmas.{texts_kept}
 use Rattle.merge_core.proofs.FailLemmas.{if_err, raised_from}
 use Rattle.merge_core.proofs.Many.{Move, moved_trans, moved_still, told_moved}
 use Rattle.merge_core.proofs.MergeLemmas.{above_none, handed_none, handed_next, on_err}
@@ -183,3 +185,13 @@ loop-rest-preserved g c =
         λ begin start w. subst (λ l. g.K.Sink.Wrote begin c.hand_on.new.sink (came.1 ++ l) start (g.O.Output.written c.hand_on.new.out)) order (wrote begin came.1 start (came.3 begin start w)),
       );
     }
+
+pub returns-in_err-first-clause-fault : goal.returns-in_err-first-clause-fault
+returns-in_err-first-clause-fault g c =
+    let text = g.S.Source.text in let extent = g.S.Source.extent in let gave = g.S.Source.gave in
+    let texts = map text c.args.sources.now in
+    let kept = texts_kept text extent gave c.args.sources.now c.loop-rest.sources c.args.streams.now.feeds.items c.loop-rest.streams.feeds.items c.requires.ready.same (omega arith) c.loop-rest.invariant.came.2.moved in
+    let p = err_from_is_err_and c.from_residual.result c.from_residual.ensures.1 in
+    let q : p.0 ≡ c.in_err-first.field-0.0 = p.2 in
+    if_err c.from_residual.result p.0 (IsFaultOf LINE_LIMIT texts) p.1
+    (subst (IsFaultOf LINE_LIMIT texts) (sym q) (subst (λ ts. IsFaultOf LINE_LIMIT ts c.in_err-first.field-0.0) kept c.in_err-first.ensures.fault))

@@ -1,11 +1,15 @@
-use Rattle.std.proofs.Common.{Box, Global, option_map, refl, subst, sym}
+use Rattle.std.proofs.Common.{◌≡◌, [], Box, Global, option_map, refl, subst, sym}
 use Rattle.std.specs.List.{AllByRecursion}
+use Rattle.std.proofs.lemmas.Result.{err_from_is_err_and}
 use Rattle.cdxj_core.specs.declared.limit.TheConstants.{LINE_LIMIT}
 use Rattle.cdxj_core.specs.declared.line.Line.{Line}
 use Rattle.cdxj_core.specs.Members.{member_pair}
 use Rattle.merge_core.specs.declared.feed.Progress.TheVariants.{Ended}
 use Rattle.merge_core.specs.PairOrders.{Upto}
-use Rattle.merge_core.specs.Feeds.{option_list}
+use Rattle.merge_core.specs.Feeds.{Fed, option_list}
+use Rattle.merge_core.specs.LineFaults.{NamesLine}
+use Rattle.merge_core.proofs.BadLines.{bad_named}
+use Rattle.merge_core.proofs.FailLemmas.{if_err}
 use Rattle.merge_core.proofs.PairOrder.{upto_itself}
 use Rattle.merge_core.proofs.FeedLemmas.{fresh_done}
 use Rattle.merge_core.proofs.DrainLemmas.{settled, at_end}
@@ -27,3 +31,13 @@ returns-in-None-clause-fed g c =
     at_end LINE_LIMIT (g.R.Range.past c.args.range.now) (λ (b : Box Line Global). b.value) (g.S.Source.text c.args.source.now) (g.S.Source.text c.next_line.new.source)
     (g.S.Source.extent c.args.source.now) (g.S.Source.extent c.next_line.new.source) c.args.self.now c.next_line.new.cursor c.in_ok-line.field-0 ok.text ok.extent
     c.requires.due c.requires.fed ok.stands ok.start ok.count ok.given (record { cursor = c.next_line.new.cursor; progress = Ended }) refl c.in-None.is refl
+
+pub returns-in_err-line-clause-fault : goal.returns-in_err-line-clause-fault
+returns-in_err-line-clause-fault g c = λ t e.
+    let past = g.R.Range.past c.args.range.now in
+    let extent = g.S.Source.extent c.args.source.now in
+    let p = err_from_is_err_and c.from_residual.result c.from_residual.ensures.1 in
+    let q : p.0 ≡ c.in_err-line.field-0.0 = p.2 in
+    if_err c.from_residual.result p.0 (NamesLine LINE_LIMIT t) p.1
+    (subst (NamesLine LINE_LIMIT t) (sym q)
+    (bad_named LINE_LIMIT past t extent c.args.self.now (subst (λ o. Fed LINE_LIMIT past o extent c.args.self.now []) e c.requires.fed) c.in_err-line.field-0.0 (c.in_err-line.ensures.fault t e)))

@@ -1,6 +1,7 @@
-use Rattle.std.proofs.Common.{◌≡◌, ◌<◌, ◌∷◌, ◌++◌, [], Box, Global, option_map, map, MatchOption, refl, sym, ap, ◌∙◌, subst, arith}
+use Rattle.std.proofs.Common.{◌≡◌, ◌+◌, ◌<◌, ◌∷◌, ◌++◌, [], Box, Global, option_map, map, MatchOption, refl, sym, ap, ◌∙◌, subst, arith}
 use Rattle.std.specs.List.{AllByRecursion}
 use Rattle.std.specs.Ordering.{ordering_reverse}
+use Rattle.std.proofs.lemmas.Result.{err_from_is_err_and}
 use Rattle.cdxj_core.specs.declared.limit.TheConstants.{LINE_LIMIT}
 use Rattle.cdxj_core.specs.declared.line.Line.{Line}
 use Rattle.cdxj_core.specs.Members.{member_pair}
@@ -9,9 +10,13 @@ use Rattle.cdxj_places.proofs.PairLemmas.{pair_cmp_total}
 use Rattle.merge_core.specs.declared.feed.Progress.TheVariants.{Ended}
 use Rattle.merge_core.specs.declared.feed.Feed.{Feed}
 use Rattle.merge_core.specs.PairOrders.{Alike, Below, Upto}
-use Rattle.merge_core.specs.Feeds.{option_list}
+use Rattle.source_core.specs.LinesAtFault.{IsOutOfOrder}
+use Rattle.merge_core.specs.Feeds.{Fed, done, option_list}
+use Rattle.merge_core.specs.LineFaults.{NamesLine}
+use Rattle.merge_core.proofs.BadLines.{bad_named, order_named}
+use Rattle.merge_core.proofs.FailLemmas.{if_err}
 use Rattle.merge_core.proofs.PairOrder.{below_upto, same_upto, same_from}
-use Rattle.merge_core.proofs.FeedLemmas.{each_join, each_next, map_push}
+use Rattle.merge_core.proofs.FeedLemmas.{each_join, each_next, map_push, line_read}
 use Rattle.merge_core.proofs.DrainLemmas.{settled, settled_done, taken, taken_done, at_end, taken_more}
 use Rattle.merge_core.proofs.feed.Feed.drain.Goals as goal
 
@@ -84,6 +89,8 @@ loop-line-preserved g c =
           inv.due inv.fed ok.stands ok.start ok.count ok.given f refl line c.in-Some.is first
           (λ t e. inv.low t (sym inv.text ∙ e)) (same_from (member_pair m) first alike) inv.due;
       due = inv.due;
+      begin = c.at-begin-in-Some.ensures;
+      last = λ t e. (done LINE_LIMIT t c.loop-line.self, m, more t (inv.text ∙ e), same_from (member_pair m) first alike);
       low = λ t e. subst (AllByRecursion (λ k. Upto (member_pair k) first)) (sym (more t (inv.text ∙ e)))
           (each_join (λ k. Upto (member_pair k) first) _ (m ∷ []) (inv.low t e) (same_upto (member_pair m) first alike, tt));
       each = λ h. subst (AllByRecursion (λ k. Alike (member_pair k) first)) (sym pushed) (each_join (λ k. Alike (member_pair k) first) _ (m ∷ []) (inv.each h) (alike, tt));
@@ -99,3 +106,30 @@ returns-clause-fed g c =
     at_end LINE_LIMIT (g.R.Range.past c.args.range.now) (λ (b : Box Line Global). b.value) (g.S.Source.text c.loop-line.source) (g.S.Source.text c.next_line.new.source)
     (g.S.Source.extent c.loop-line.source) (g.S.Source.extent c.next_line.new.source) c.loop-line.self c.next_line.new.cursor c.in_ok-line.field-0 ok.text ok.extent
     inv.due inv.fed ok.stands ok.start ok.count ok.given (record { cursor = c.next_line.new.cursor; progress = Ended }) refl c.in_default.is refl
+
+pub returns-in_err-line-clause-fault : goal.returns-in_err-line-clause-fault
+returns-in_err-line-clause-fault g c = λ t e.
+    let past = g.R.Range.past c.args.range.now in
+    let inv = c.loop-line.invariant in
+    let extent = g.S.Source.extent c.loop-line.source in
+    let told = inv.text ∙ e in
+    let p = err_from_is_err_and c.from_residual.result c.from_residual.ensures.1 in
+    let q : p.0 ≡ c.in_err-line.field-0.0 = p.2 in
+    if_err c.from_residual.result p.0 (NamesLine LINE_LIMIT t) p.1
+    (subst (NamesLine LINE_LIMIT t) (sym q)
+    (bad_named LINE_LIMIT past t extent c.loop-line.self (subst (λ o. Fed LINE_LIMIT past o extent c.loop-line.self []) told inv.fed) c.in_err-line.field-0.0 (c.in_err-line.ensures.fault t told)))
+
+pub returns-in-Less-clause-fault : goal.returns-in-Less-clause-fault
+returns-in-Less-clause-fault g c = λ t e.
+    let past = g.R.Range.past c.args.range.now in
+    let inv = c.loop-line.invariant in
+    let ok = c.in_ok-line.ensures in
+    let extent = g.S.Source.extent c.loop-line.source in
+    let told = inv.text ∙ e in
+    let first = member_pair c.args.first.now in
+    let m = c.in-Some.line.value in
+    let below : Below (member_pair m) first = ap (λ k. pair_cmp (member_pair k) first) (sym c.deref.ensures) ∙ sym c.compare_pairs.ensures ∙ c.in-Less.is in
+    let more = subst (λ o. MatchOption o (c.next_line.new.cursor.count ≡ c.loop-line.self.cursor.count) (λ _. c.next_line.new.cursor.count ≡ c.loop-line.self.cursor.count + 1)) c.in-Some.is ok.count in
+    subst (IsOutOfOrder LINE_LIMIT t) (sym inv.begin)
+    (order_named LINE_LIMIT past t extent c.loop-line.self (subst (λ o. Fed LINE_LIMIT past o extent c.loop-line.self []) told inv.fed) first c.next_line.new.cursor m inv.due (inv.last t e) ok.start more
+    (line_read LINE_LIMIT t c.loop-line.self.cursor c.next_line.new.cursor (λ (b : Box Line Global). b.value) c.in_ok-line.field-0 c.in-Some.line c.in-Some.is (ok.given t told)) below)

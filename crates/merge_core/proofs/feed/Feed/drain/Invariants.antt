@@ -5,6 +5,7 @@ use Rattle.cdxj_core.specs.Members.{Member, member_pair}
 use Rattle.source_core.specs.Cursors.{reach}
 use Rattle.merge_core.specs.PairOrders.{Alike, Upto}
 use Rattle.merge_core.specs.Feeds.{Fed, done}
+use Rattle.merge_core.specs.Gathering.{EndsAt}
 use Rattle.merge_core.specs.declared.feed.Progress.TheVariants.{Due}
 use Rattle.merge_core.proofs.feed.Feed.drain.Given as goal
 
@@ -18,6 +19,8 @@ invariant-loop-line g l = record {
   there : l.fn.self.cursor.at ≤ l.self.cursor.at;
   fed : Fed LINE_LIMIT (g.R.Range.past l.range) (g.S.Source.text l.source) (g.S.Source.extent l.source) l.self [];
   due : l.self.progress ≡ Due;
+  begin : l.begin ≡ l.self.cursor.at;
+  last : (t : List ℕ) → g.S.Source.text l.fn.source ≡ Some t → EndsAt (member_pair l.first) (done LINE_LIMIT t l.self);
   low : (t : List ℕ) → g.S.Source.text l.fn.source ≡ Some t → AllByRecursion (λ m. Upto (member_pair m) (member_pair l.first)) (done LINE_LIMIT t l.self);
   each : AllByRecursion (λ m. Alike (member_pair m) (member_pair l.first)) (map (λ b. b.value) l.fn.rest.items)
       → AllByRecursion (λ m. Alike (member_pair m) (member_pair l.first)) (map (λ b. b.value) l.rest.items);

@@ -1,8 +1,28 @@
 use Rattle.std.proofs.Common.{rules, true, ◌≡◌, ◌+◌, ◌∷◌, MatchOption, drop, take, sym, ap₂, ◌∙◌, subst}
 use Rattle.cdxj_places.specs.TextLines.{lines}
 use Rattle.source_core.specs.IndexLines.{first_then, line_found}
+use Rattle.cdxj_core.specs.declared.limit.TheConstants.{LINE_LIMIT}
+use Rattle.merge_core.proofs.BadLines.{first_long, first_bad}
 use Rattle.merge_core.proofs.FeedLemmas.{take_next}
 use Rattle.merge_core.proofs.store.Store.next_line.Goals as goal
+
+pub returns-in-Err-Long-clause-fault : goal.returns-in-Err-Long-clause-fault
+returns-in-Err-Long-clause-fault g c = λ t e.
+    (c.at-begin.ensures, first_long LINE_LIMIT (lines (drop c.args.cursor.now.at t)) (c.in-Err-Long.ensures.long t e c.in-Err-Long.field-0-is))
+
+pub returns-in-Err-LineTooLong-clause-fault : goal.returns-in-Err-LineTooLong-clause-fault
+returns-in-Err-LineTooLong-clause-fault g c = λ t e. (
+  c.at-begin.ensures,
+  first_bad LINE_LIMIT (lines (drop c.args.cursor.now.at t)) (lines (drop c.next.new.self.at t)) c.in-Ok-true.field-0 c.next.new.line.items (c.in-Ok-true.ensures.given t e) c.in-Ok-true.field-0-test
+      (c.in-Err-LineTooLong.ensures.read (λ q. absurd (let k = c.in-Err-LineTooLong.field-0-is in cc))),
+)
+
+pub returns-in-Err-BadLine-clause-fault : goal.returns-in-Err-BadLine-clause-fault
+returns-in-Err-BadLine-clause-fault g c = λ t e. (
+  c.at-begin.ensures,
+  first_bad LINE_LIMIT (lines (drop c.args.cursor.now.at t)) (lines (drop c.next.new.self.at t)) c.in-Ok-true.field-0 c.next.new.line.items (c.in-Ok-true.ensures.given t e) c.in-Ok-true.field-0-test
+      (c.in-Err-BadLine.ensures.read (λ q. absurd (let k = c.in-Err-BadLine.field-0-is in cc))),
+)
 
 pub returns-in-Ok-clause-given : goal.returns-in-Ok-clause-given
 returns-in-Ok-clause-given g c = λ t e.

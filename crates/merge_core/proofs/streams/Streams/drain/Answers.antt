@@ -10,7 +10,7 @@ use Rattle.merge_core.specs.declared.feed.Progress.TheVariants.{Due}
 use Rattle.merge_core.specs.PairOrders.{Upto}
 use Rattle.merge_core.specs.Failures.{RaisedAt}
 use Rattle.merge_core.specs.Feeds.{Fed, Ready, done}
-use Rattle.merge_core.specs.Gathering.{AllTwo, unread}
+use Rattle.merge_core.specs.Gathering.{AllTwo, EndsAt, unread}
 use Rattle.std.proofs.lemmas.Result.{err_from_is_err_and}
 use Rattle.merge_core.proofs.FailLemmas.{if_err, raised, feed_is}
 use Rattle.merge_core.proofs.Many.{Move, moved_set, map_set_same, unread_set}
@@ -30,6 +30,11 @@ pub drain-requires-clause-low : goal.drain-requires-clause-low
 drain-requires-clause-low g c = λ t e.
     subst (λ (f : Feed). AllByRecursion (λ m. Upto (member_pair m) (member_pair c.args.first.now)) (done LINE_LIMIT t f)) (sym c.index_mut.ensures.value)
     ((c.requires.due c.index-sources-i.result c.index_mut.result.now).low t e)
+
+pub drain-requires-clause-last : goal.drain-requires-clause-last
+drain-requires-clause-last g c = λ t e.
+    subst (λ (f : Feed). EndsAt (member_pair c.args.first.now) (done LINE_LIMIT t f)) (sym c.index_mut.ensures.value)
+    ((c.requires.due c.index-sources-i.result c.index_mut.result.now).last t e)
 
 pub returns-in-Err-clause-moved : goal.returns-in-Err-clause-moved
 returns-in-Err-clause-moved g c =

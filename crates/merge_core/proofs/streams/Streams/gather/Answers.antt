@@ -13,6 +13,8 @@ use Rattle.merge_core.specs.PairOrders.{Alike, Below, Upto}
 use Rattle.merge_core.specs.WaitingLines.{WaitingLine, waiting_pair, turn_cmp}
 use Rattle.merge_core.specs.Feeds.{IsSettled, AreSettled, due}
 use Rattle.merge_core.specs.Gathering.{AllTwo, Gathered, IsFrom, IsDue, WaitsAbove, Drained, all_done, unread}
+use Rattle.merge_core.specs.LineFaults.{IsFaultOf}
+use Rattle.merge_core.proofs.WholeLemmas.{texts_kept}
 use Rattle.merge_core.proofs.FailLemmas.{if_err, raised_from}
 use Rattle.merge_core.proofs.FeedLemmas.{each_join, map_push}
 use Rattle.merge_core.proofs.GroupLemmas.{AreAt, from_waited}
@@ -241,3 +243,14 @@ returns-in_default-take_at-clause-settled g c =
     let ok = c.in_ok-drain.ensures in
     let here : IsSettled ok.drained.1 = subst IsSettled (ap (λ (l : List Feed). get_or l c.sources.i ok.drained.1) ok.drained.3 ∙ set_own c.sources.self.feeds.items c.sources.i ok.drained.1) (ok.settled ok.drained.1) in
     subst AreSettled (sym (c.in_default-take_at.ensures.feeds ∙ ok.drained.3)) (inv.settled ok.drained.1 here)
+
+pub returns-in_err-drain-clause-fault : goal.returns-in_err-drain-clause-fault
+returns-in_err-drain-clause-fault g c =
+    let text = g.S.Source.text in let extent = g.S.Source.extent in let gave = g.S.Source.gave in
+    let inv = c.sources.invariant in
+    let texts = map text c.args.sources.now in
+    let kept = texts_kept text extent gave c.args.sources.now c.sources.sources c.args.self.now.feeds.items c.sources.self.feeds.items c.requires.ready.same inv.gathers.as_many inv.gathers.moved in
+    let p = err_from_is_err_and c.from_residual.result c.from_residual.ensures.1 in
+    let q : p.0 ≡ c.in_err-drain.field-0.0 = p.2 in
+    if_err c.from_residual.result p.0 (IsFaultOf LINE_LIMIT texts) p.1
+    (subst (IsFaultOf LINE_LIMIT texts) (sym q) (subst (λ ts. IsFaultOf LINE_LIMIT ts c.in_err-drain.field-0.0) kept c.in_err-drain.ensures.fault))

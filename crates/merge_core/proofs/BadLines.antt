@@ -1,0 +1,119 @@
+-- Lines at fault, by where the cursor stands.
+use Rattle.std.proofs.Common.{◌≡◌, ℕ, zero, suc, ◌+◌, ◌-◌, ◌<◌, ◌≤◌, List, [], ◌∷◌, ◌++◌, Bool, true, false, cond, length, take, drop, map, None, Some, inl, inr, refl, sym, ap, ap₂, ◌∙◌, subst, arith, length-take, append_assoc, take-append-drop, is_gt}
+use Rattle.std.specs.Ordering.{ordering_reverse}
+use Rattle.std.proofs.lemmas.Bool.{cases_lt}
+use Rattle.std.proofs.lemmas.List.{drop_all}
+use Rattle.cdxj_places.specs.Pairs.{Pair}
+use Rattle.cdxj_places.specs.TextLines.{lines}
+use Rattle.cdxj_places.proofs.PairLemmas.{pair_cmp_total}
+use Rattle.cdxj_core.specs.Lines.{body_of}
+use Rattle.cdxj_core.specs.Members.{Member, member_pair, line_entry}
+use Rattle.cdxj_core.proofs.MemberLemmas.{long_line_none}
+use Rattle.source_core.specs.Cursors.{CursorState}
+use Rattle.source_core.specs.IndexLines.{first_length, first_then, line_found}
+use Rattle.source_core.specs.LinesAtFault.{BeginsAt, IsOutOfOrder}
+use Rattle.source_core.proofs.SortedCuts.{begins_at}
+use Rattle.merge_core.specs.declared.fault.FeedFault.{FeedFault}
+use Rattle.merge_core.specs.declared.fault.FeedFault.TheVariants as fault
+use Rattle.merge_core.specs.declared.feed.Progress.TheVariants.{Due}
+use Rattle.merge_core.specs.declared.feed.Feed.{Feed}
+use Rattle.merge_core.specs.PairOrders.{Below}
+use Rattle.merge_core.specs.Feeds.{Fed, read_lines, done}
+use Rattle.merge_core.specs.Gathering.{EndsAt}
+use Rattle.merge_core.specs.LineFaults.{IsBadFirst, IsFaultAt, NamesLine}
+use Rattle.merge_core.proofs.PairOrder.{below_then}
+use Rattle.merge_core.proofs.FeedLemmas.{ReadNext, done_due}
+
+body_length : (b : Bool) (line : List ℕ) → length line ≤ length (cond b (take (length line - 1) line) line) + 1
+body_length true line = omega (arith, length-take (length line - 1) line)
+body_length false line = omega arith
+
+-- a line that is too long, with its line feed, if it has one
+long_none : (limit : ℕ) (line : List ℕ) → limit < length line → line_entry limit line ≡ None
+long_none limit line long =
+    let most : length line ≤ length (body_of line) + 1 = body_length _ line in
+    long_line_none limit line (omega arith)
+
+pub first_long : (limit : ℕ) (ls : List (List ℕ)) → limit < first_length ls → IsBadFirst limit ls
+first_long limit [] long = absurd (omega arith)
+first_long limit (l ∷ ls) long = (l, ls, refl, long_none limit l long)
+
+pub first_bad : (limit : ℕ) (ls rest : List (List ℕ)) (found : Bool) (line : List ℕ) → ls ≡ first_then (line_found found line) rest → found ≡ true → line_entry limit line ≡ None → IsBadFirst limit ls
+first_bad limit ls rest true line given is bad = (line, rest, given, bad)
+first_bad limit ls rest false line given is bad = absurd (cc)
+
+-- where lines are left, the offset lies within the text
+inside : (t : List ℕ) (at : ℕ) (line : List ℕ) (after : List (List ℕ)) → lines (drop at t) ≡ line ∷ after → at ≤ length t
+inside t at line after e = elim (cases_lt at (length t)) [
+  | inl l ↦ omega arith
+  | inr l ↦ absurd (let none : lines (drop at t) ≡ [] = ap lines (drop_all at t l) in cc)
+]
+
+after_taken : {X : Type 0} (n : ℕ) (xs : List X) (x : X) → take (n + 1) xs ≡ take n xs ++ x ∷ [] → (after : List X) × (drop n xs ≡ x ∷ after)
+after_taken {X = X} n xs x e = suc_taken n xs (ap (λ k. take k xs) (let q : suc n ≡ n + 1 = omega arith in q) ∙ e)
+  where
+    suc_taken : (k : ℕ) (us : List X) → take (suc k) us ≡ take k us ++ x ∷ [] → (after : List X) × (drop k us ≡ x ∷ after)
+    suc_taken zero [] e = absurd (cc)
+    suc_taken zero (u ∷ us) e = (us, let q : u ≡ x = cc in ap (λ y. y ∷ us) q)
+    suc_taken (suc k) [] e = absurd (cc)
+    suc_taken (suc k) (u ∷ us) e = suc_taken k us (let q : take (suc k) us ≡ take k us ++ x ∷ [] = cc in q)
+
+-- the last of these lines has the last of these entries
+last_line : (limit : ℕ) (ls : List (List ℕ)) (before : List Member) (last : Member) → map (line_entry limit) ls ≡ map Some (before ++ last ∷ [])
+    → (us : List (List ℕ)) × (line : List ℕ) × (ls ≡ us ++ line ∷ []) × (line_entry limit line ≡ Some last)
+last_line limit [] [] last e = absurd (cc)
+last_line limit [] (m ∷ before) last e = absurd (cc)
+last_line limit (l ∷ []) [] last e = ([], l, refl, let q : line_entry limit l ≡ Some last = cc in q)
+last_line limit (l ∷ k ∷ ls) [] last e = absurd (cc)
+last_line limit (l ∷ ls) (m ∷ before) last e =
+    let rest = last_line limit ls before last (let q : map (line_entry limit) ls ≡ map Some (before ++ last ∷ []) = cc in q) in
+    (l ∷ rest.0, rest.1, ap (λ us. l ∷ us) rest.2, rest.3)
+
+module _ (limit : ℕ) (past : List ℕ → Bool) (t : List ℕ) (extent : ℕ) (f : Feed) (fed : Fed limit past (Some t) extent f []) where
+  -- the line at which the cursor stands, after those before it
+  begins_here : (line : List ℕ) (after : List (List ℕ)) → lines (drop f.cursor.at t) ≡ line ∷ after → BeginsAt t f.cursor.at ((fed.told t refl).begins.0 ++ read_lines t f.cursor) line
+  begins_here line after e =
+      let told = fed.told t refl in
+      let from = lines (drop f.cursor.start t) in
+      let cut : lines t ≡ (told.begins.0 ++ read_lines t f.cursor) ++ lines (drop f.cursor.at t) =
+      told.begins.1.0 ∙ ap (λ ls. told.begins.0 ++ ls) (sym (take-append-drop f.cursor.count from) ∙ ap (λ ls. take f.cursor.count from ++ ls) (sym (fed.stands.rest t refl)))
+      ∙ sym (append_assoc told.begins.0 (read_lines t f.cursor) (lines (drop f.cursor.at t))) in
+      record {
+        after = after;
+        lines_are = cut ∙ ap (λ ls. (told.begins.0 ++ read_lines t f.cursor) ++ ls) e;
+        offset_is = begins_at t f.cursor.at (told.begins.0 ++ read_lines t f.cursor) cut (inside t f.cursor.at line after e);
+      }
+
+  pub bad_named : (e : FeedFault) → IsFaultAt limit (lines (drop f.cursor.at t)) f.cursor.at e → NamesLine limit t e
+  bad_named fault.Memory h = tt
+  bad_named fault.Read h = tt
+  bad_named (fault.BadLine offset) h =
+      subst (λ n. NamesLine limit t (fault.BadLine n)) (sym h.0) (record {
+        before = (fed.told t refl).begins.0 ++ read_lines t f.cursor;
+        line = h.1.0;
+        begins = begins_here h.1.0 h.1.1 h.1.2;
+        bad = h.1.3;
+      })
+  bad_named (fault.OutOfOrder offset) h = absurd h
+
+  -- the next line has a pair below that of the last line before it
+  pub order_named : (pair : Pair) (new : CursorState) (m : Member) → f.progress ≡ Due → EndsAt pair (done limit t f) → new.start ≡ f.cursor.start → new.count ≡ f.cursor.count + 1
+      → ReadNext limit t f.cursor new m → Below (member_pair m) pair → IsOutOfOrder limit t f.cursor.at
+  order_named pair new m due end start count next below =
+      let told = fed.told t refl in
+      let from = lines (drop f.cursor.start t) in
+      let last = last_line limit (read_lines t f.cursor) end.0 end.1 (told.run.entries ∙ ap (map Some) (sym (done_due limit t f due) ∙ end.2)) in
+      let after = after_taken f.cursor.count from next.0 (ap₂ (λ n s. take n (lines (drop s t))) (sym count) (sym start) ∙ next.1) in
+      let here = begins_here next.0 after.0 (fed.stands.rest t refl ∙ after.1) in
+      let front : told.begins.0 ++ read_lines t f.cursor ≡ (told.begins.0 ++ last.0) ++ last.1 ∷ [] = ap (λ ls. told.begins.0 ++ ls) last.2 ∙ sym (append_assoc told.begins.0 last.0 (last.1 ∷ [])) in
+      record {
+        before = told.begins.0 ++ last.0;
+        previous = last.1;
+        line = next.0;
+        begins = subst (λ ls. BeginsAt t f.cursor.at ls next.0) front here;
+        earlier = end.1;
+        later = m;
+        earlier_is = last.3;
+        later_is = next.2;
+        falls = ap is_gt (pair_cmp_total.antisymm (member_pair end.1) (member_pair m) ∙ ap ordering_reverse (below_then (member_pair m) pair (member_pair end.1) below end.3));
+      }
