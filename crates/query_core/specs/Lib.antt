@@ -6,3 +6,7 @@ pub mod PageWriting
 pub mod WriterView
 pub mod PageAsked
 pub mod Merging
+pub mod Starts
+pub mod StartViews
+pub mod Paging
+pub mod PlaceBounds

@@ -1,5 +1,6 @@
 -- One page of a query, after a place and with a limit of its own.
-use Rattle.std.specs.Prelude.{◌≡◌, ℕ, ◌-◌, ◌^◌, List, length, min, Bool, Option}
+use Rattle.std.specs.Prelude.{◌≡◌, ℕ, ⊤, ◌-◌, ◌^◌, List, length, min, Bool, true, Option, None, Some}
+use Rattle.std.specs.Ordering.{is_gt}
 use Rattle.std.specs.Io.KnownBytes.{Appends}
 use Rattle.cdxj_places.specs.Places.{PlaceValue, place_cmp}
 use Rattle.query_text.specs.Queries.{QueryValue}
@@ -22,3 +23,8 @@ pub record WrotePage (q : QueryValue) (from : Option PlaceValue) (limit : Option
   pub text : Appends old new (asked_text q from limit shows indexes)
   pub given : end.given ≡ min (length (asked_page q from limit indexes).members) (2 ^ 64 - 1)
   pub next : end.next ≡ (asked_page q from limit indexes).next
+
+-- the place stands above the one after which a page begins, if it doesn't begin at the first capture
+abbrev pub StandsAfter : Option PlaceValue → PlaceValue → Type 0
+StandsAfter None next = ⊤
+StandsAfter (Some from) next = is_gt (place_cmp next from) ≡ true

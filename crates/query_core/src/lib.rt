@@ -1,14 +1,24 @@
 //! Calls on indexes.
 #![tactic(auto)]
 
+mod answering;
 mod checking;
 mod fault;
 mod line_reading;
 mod merging;
+mod one_page;
 mod page_writer;
+mod paging;
+mod report;
+mod start;
+mod target_range;
 
+pub use crate::answering::answer;
 pub use crate::checking::check;
 pub use crate::fault::AnswerFault;
 pub use crate::merging::{SOURCES_LIMIT, merge};
 pub use crate::page_writer::{PageEnd, PageWriter};
+pub use crate::paging::pages;
+pub use crate::report::Report;
+pub use query_text::{Query, QueryFault};
 pub use source_core::{FileSource, SliceSource, Source, SourceFault};

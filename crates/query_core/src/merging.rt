@@ -30,7 +30,7 @@ fn index_fault(index: usize, fault: FeedFault) -> AnswerFault
     }
 }
 
-fn merge_fault(fault: MergeFault) -> AnswerFault
+pub(crate) fn merge_fault(fault: MergeFault) -> AnswerFault
     ensures read { (i : ℕ) → result ≡ AnswerFault.Read i → fault ≡ MergeFault.Feed i FeedFault.Read }
     ensures write { result ≡ AnswerFault.Write → fault ≡ MergeFault.Write }
     ensures kind { (result ≢ AnswerFault.TooManySources) × IsMergeFault result }

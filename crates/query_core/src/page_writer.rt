@@ -11,6 +11,7 @@ ghost use Rattle.query_core.specs.PageWriting.{is_wanted};
 
 use cdxj_core::{HasPlace, Line, OwnedPlace, Place, resume_text};
 use devices::Output;
+use merge_core::{Sink, SinkFault};
 use page_core::{PageForm, PageOutput, TextFault};
 use query_text::{OutputFormat, Query};
 use std::alloc::Global;
@@ -45,6 +46,16 @@ fn key_text(
     match resume_text(alloc, place.place()) {
         Ok(text) => Ok(Some(text)),
         Err(_) => Err(TextFault::Memory),
+    }
+}
+
+fn sink_fault(fault: TextFault) -> SinkFault
+    ensures memory { fault ≡ TextFault.Memory → result ≡ SinkFault.Memory }
+    ensures write { fault ≡ TextFault.Write → result ≡ SinkFault.Write }
+{
+    match fault {
+        TextFault::Memory => SinkFault::Memory,
+        TextFault::Write => SinkFault::Write,
     }
 }
 
@@ -210,5 +221,31 @@ impl<'q> PageWriter<'q> {
         ensures kept { (self.new.query ≡ self.old.query) × (self.new.given ≡ self.old.given) }
     {
         if self.more { self.last.take() } else { None }
+    }
+}
+
+impl Sink for PageWriter<'_> {
+    ghost use Rattle.std.specs.Prelude.{◌≡◌, true};
+    ghost use Rattle.query_core.specs.WriterView.{Wrote, Broke};
+
+    ghost Wrote = { Wrote };
+
+    ghost Broke = { Broke };
+
+    ghost Enough = { λ writer. writer.more ≡ true };
+
+    fn take<O: Output>(
+        &mut self,
+        alloc: Global,
+        lines: &[&Line],
+        out: &mut O,
+    ) -> Result<bool, SinkFault> {
+        for line in lines {
+            match self.take_line(alloc, line, out) {
+                Ok(()) => {}
+                Err(fault) => return Err(sink_fault(fault)),
+            }
+        }
+        Ok(!self.more)
     }
 }

@@ -1,0 +1,54 @@
+use Rattle.std.proofs.Common.{◌≡◌, ◌++◌, ◌∷◌, [], take, map, sym, ap, ◌∙◌, subst, arith, Bor}
+use Rattle.std.proofs.lemmas.List.{take_all}
+use Rattle.cdxj_core.specs.declared.line.Line.{Line}
+use Rattle.devices.specs.Device.{AppendsPrefix}
+use Rattle.page_core.specs.PageText.{begun}
+use Rattle.query_core.specs.QueryPages.{form_of}
+use Rattle.query_core.specs.PageWriting.{page_over}
+use Rattle.query_core.specs.WriterView.{stands, from_view}
+use Rattle.query_core.proofs.TakenLines.{one_more, rest_after, parted}
+use Rattle.query_core.proofs.WriterLemmas.{broke_as, broke_longer}
+use Rattle.query_core.proofs.page_writer.PageWriterSink.take.Goals as goal
+
+pub loop-line-preserved : goal.loop-line-preserved
+loop-line-preserved g c =
+    let inv = c.loop-line.invariant in
+    let k = c.loop-line.line-index in
+    let ls = c.args.lines.now in
+    let seen = λ (l : Bor Line). l.now in
+    record {
+      stands = λ taken start s.
+          subst (λ l. stands c.take_line.new.self l start (g.O.Output.written c.take_line.new.out))
+          (one_more seen taken ls k c.line-item.result c.loop-line-test.true c.line-item.is)
+          (c.in-Ok.ensures.stands (taken ++ map seen (take k ls)) start (inv.stands taken start s));
+      kept = (let n = c.take_line.ensures.kept in (n.0 ∙ inv.kept.0, n.1 ∙ inv.kept.1, n.2 ∙ inv.kept.2));
+      failures = c.in-Ok.ensures.failures ∙ inv.failures;
+    }
+
+pub returns-clause-wrote : goal.returns-clause-wrote
+returns-clause-wrote g c = λ first taken start s.
+    let all : take c.loop-line.line-index c.args.lines.now ≡ c.args.lines.now = take_all c.loop-line.line-index c.args.lines.now (omega (arith, c.loop-line-test.false)) in
+    let kept = c.loop-line.invariant.kept in (
+      (kept.0 ∙ s.0.0, kept.1 ∙ s.0.1, kept.2 ∙ s.0.2),
+      subst (λ l. stands c.loop-line.self (taken ++ map (λ (l : Bor Line). l.now) l) start (g.O.Output.written c.loop-line.out)) all (c.loop-line.invariant.stands taken start s.1),
+    )
+
+pub returns-in-Err-clause-wrote : goal.returns-in-Err-clause-wrote
+returns-in-Err-clause-wrote g c = λ first taken start s.
+    let inv = c.loop-line.invariant in
+    let k = c.loop-line.line-index in
+    let ls = c.args.lines.now in
+    let seen = λ (l : Bor Line). l.now in
+    let w = c.loop-line.self in
+    let q = first.query.now in
+    let item = c.line-item.result in
+    let before = taken ++ map seen (take k ls) in
+    let rest = rest_after seen taken ls k item c.loop-line-test.true c.line-item.is in
+    let now = g.O.Output.written c.take_line.new.out in
+    let broke : AppendsPrefix start now (begun (form_of q) (page_over q (from_view first.from) first.limit (before ++ item.now ∷ [])).members) =
+    broke_as w.query.now q (from_view w.from) (from_view first.from) w.limit first.limit (before ++ item.now ∷ []) start now
+    (ap (λ r. r.now) (inv.kept.0 ∙ s.0.0)) (ap from_view (inv.kept.1 ∙ s.0.1)) (inv.kept.2 ∙ s.0.2)
+    (c.in-Err.ensures.broke before start (inv.stands taken start s.1)) in
+    subst (λ l. AppendsPrefix start now (begun (form_of q) (page_over q (from_view first.from) first.limit l).members))
+    (sym (parted seen taken ls k item c.loop-line-test.true c.line-item.is))
+    (broke_longer q (from_view first.from) first.limit (before ++ item.now ∷ []) rest start now broke)

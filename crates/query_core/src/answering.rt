@@ -1,0 +1,60 @@
+//! The answer to a query over indexes.
+ghost use Rattle.std.specs.Prelude.{◌≡◌, ◌≢◌, ◌<◌, ◌≤◌, ℕ, List, length, map, Err, IfOk, IfErr, OnOk};
+ghost use Rattle.std.specs.List.{sum};
+ghost use Rattle.devices.specs.Device.{next_count};
+ghost use Rattle.source_core.specs.Halving.{digits};
+ghost use Rattle.merge_core.specs.Failures.{RaisedAt};
+ghost use Rattle.query_core.specs.declared.merging.TheConstants.{SOURCES_LIMIT};
+ghost use Rattle.query_core.specs.Merging.{IsMergeFault};
+
+use crate::fault::AnswerFault;
+use crate::merging::SOURCES_LIMIT;
+use crate::one_page::write_page;
+use crate::report::Report;
+use devices::Output;
+use query_text::Query;
+use source_core::Source;
+use std::alloc::Global;
+
+/// Writes the page that the query asks for: the captures that it selects of the collection of the indexes, in the order of
+/// places, after its resume key and up to its limit. The resume key of the next page stands at its end where the query shows it
+/// and a further capture follows.
+///
+/// `TooManySources` over `SOURCES_LIMIT` indexes comes before anything is read or written. `BadLine` and `OutOfOrder` name a line by which
+/// an index is none; only lines that are read are looked at. After a fault a front of the page was written, without its end.
+pub fn answer<S: Source, O: Output>(
+    alloc: Global,
+    sources: &mut [S],
+    query: &Query,
+    out: &mut O,
+) -> Result<Report, AnswerFault>
+    ensures many { SOURCES_LIMIT < length sources.old → result ≡ Err AnswerFault.TooManySources }
+    ensures few { length sources.old ≤ SOURCES_LIMIT → IfErr result (λ e. e ≢ AnswerFault.TooManySources) }
+    ensures unread { IfErr result (λ e. e ≡ AnswerFault.TooManySources → (sources.new ≡ sources.old) × (out.new ≡ out.old)) }
+    ensures refusals { IfErr result IsMergeFault }
+    ensures texts { map S.text sources.new ≡ map S.text sources.old }
+    ensures worked { OnOk result ((map S.failures sources.new ≡ map S.failures sources.old) × (O.failures out.new ≡ O.failures out.old)) }
+    ensures read { IfErr result (λ e. (i : ℕ) → e ≡ AnswerFault.Read i → RaisedAt i (map S.failures sources.old) (map S.failures sources.new)) }
+    ensures failed { IfErr result (λ e. e ≡ AnswerFault.Write → O.failures out.new ≡ next_count (O.failures out.old)) }
+    ensures probes { IfOk result (λ report. report.probes ≤ sum (map (λ s. digits (S.extent s)) sources.old)) }
+{
+    if sources.len() > SOURCES_LIMIT {
+        return Err(AnswerFault::TooManySources);
+    }
+    let page = write_page(
+        alloc,
+        sources,
+        query,
+        query.resume(),
+        query.limit(),
+        query.shows_resume_key(),
+        out,
+    )?;
+    Ok(Report {
+        given: page.end.given,
+        more: page.end.next.is_some(),
+        probes: page.probes,
+        lines: page.lines,
+        held: page.held,
+    })
+}

@@ -1,0 +1,105 @@
+//! One page over indexes.
+ghost use Rattle.std.specs.Prelude.{◌≡◌, ◌≢◌, ◌≤◌, ℕ, List, map, IfOk, IfErr, IfSome, OnOk, true};
+ghost use Rattle.std.specs.List.{sum};
+ghost use Rattle.devices.specs.Device.{next_count};
+ghost use Rattle.source_core.specs.Halving.{digits};
+ghost use Rattle.merge_core.specs.Failures.{RaisedAt};
+ghost use Rattle.query_core.specs.Merging.{IsMergeFault};
+ghost use Rattle.query_core.specs.PageAsked.{StandsAfter};
+ghost use Rattle.query_core.specs.WriterView.{from_view};
+
+use crate::fault::AnswerFault;
+use crate::merging::merge_fault;
+use crate::page_writer::{PageEnd, PageWriter};
+use crate::start::start_pair;
+use crate::target_range::TargetRange;
+use cdxj_core::Place;
+use devices::Output;
+use merge_core::{Streams, merge};
+use page_core::TextFault;
+use query_text::Query;
+use source_core::Source;
+use std::alloc::Global;
+
+/// A page that was written, and what it took. Each count stays at 2^64 - 1.
+#[derive(Debug, Drop)]
+pub struct WrittenPage {
+    pub end: PageEnd,
+    /// How many turns the searches for the first line took.
+    pub probes: u64,
+    /// How many lines were read after the searches.
+    pub lines: u64,
+    /// The most lines that were held at once.
+    pub held: u64,
+}
+
+fn text_fault(fault: TextFault) -> AnswerFault
+    ensures read { (i : ℕ) → result ≡ AnswerFault.Read i → ⊥ }
+    ensures write { result ≡ AnswerFault.Write → fault ≡ TextFault.Write }
+    ensures kind { (result ≢ AnswerFault.TooManySources) × IsMergeFault result }
+{
+    match fault {
+        TextFault::Memory => AnswerFault::Memory,
+        TextFault::Write => AnswerFault::Write,
+    }
+}
+
+/// Writes the page of the query after a place, with this limit, and with its resume key where that is to be shown and a further
+/// capture follows. The page's start is written before an index is read.
+pub fn write_page<S: Source, O: Output>(
+    alloc: Global,
+    sources: &mut [S],
+    query: &Query,
+    from: Option<Place<'_>>,
+    limit: Option<u64>,
+    shows: bool,
+    out: &mut O,
+) -> Result<WrittenPage, AnswerFault>
+    ensures texts { map S.text sources.new ≡ map S.text sources.old }
+    ensures refusals { IfErr result (λ e. (e ≢ AnswerFault.TooManySources) × IsMergeFault e) }
+    ensures worked { OnOk result ((map S.failures sources.new ≡ map S.failures sources.old) × (O.failures out.new ≡ O.failures out.old)) }
+    ensures read { IfErr result (λ e. (i : ℕ) → e ≡ AnswerFault.Read i → RaisedAt i (map S.failures sources.old) (map S.failures sources.new)) }
+    ensures failed { IfErr result (λ e. e ≡ AnswerFault.Write → O.failures out.new ≡ next_count (O.failures out.old)) }
+    ensures probes { IfOk result (λ page. page.probes ≤ sum (map (λ s. digits (S.extent s)) sources.old)) }
+    ensures above { IfOk result (λ page. IfSome page.end.next (λ next. StandsAfter (from_view from.entry) next)) }
+{
+    let mut writer = match PageWriter::begin(alloc, query, from, limit, out) {
+        Ok(writer) => writer,
+        Err(fault) => return Err(text_fault(fault)),
+    };
+    let range = TargetRange {
+        target: query.target(),
+    };
+    let start = start_pair(query, from);
+    let mut opened = match Streams::open_at(
+        alloc,
+        sources,
+        start.key.as_bytes(),
+        &start.stamp,
+        &range,
+    ) {
+        Ok(opened) => opened,
+        Err(fault) => return Err(merge_fault(fault)),
+    };
+    let _all = match merge(
+        alloc,
+        sources,
+        &mut opened.streams,
+        &range,
+        &mut writer,
+        out,
+    ) {
+        Ok(all) => all,
+        Err(fault) => return Err(merge_fault(fault)),
+    };
+    let end = match writer.end(alloc, shows, out) {
+        Ok(end) => end,
+        Err(fault) => return Err(text_fault(fault)),
+    };
+    Ok(WrittenPage {
+        end,
+        probes: opened.probes,
+        lines: opened.streams.lines(),
+        held: 0,
+    })
+}

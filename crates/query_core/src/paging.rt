@@ -1,0 +1,147 @@
+//! The pages of a query over indexes.
+ghost use Rattle.std.specs.Prelude.{◌≡◌, ◌≢◌, ◌<◌, ◌≤◌, ⊤, ℕ, List, length, map, true, false, nat_lt, Err, IfOk, IfErr, OnOk, MatchOption};
+ghost use Rattle.std.specs.List.{list_all};
+ghost use Rattle.devices.specs.Device.{next_count};
+ghost use Rattle.cdxj_places.specs.PlaceViews.{place_view};
+ghost use Rattle.merge_core.specs.Failures.{RaisedAt};
+ghost use Rattle.page_core.specs.Pages.{first_size, later_sizes};
+ghost use Rattle.query_core.specs.declared.merging.TheConstants.{SOURCES_LIMIT};
+ghost use Rattle.query_core.specs.Paging.{are_sizes, IsEarly};
+ghost use Rattle.query_core.specs.PlaceBounds.{IsBounded};
+ghost use Rattle.query_core.specs.WriterView.{from_view};
+
+use crate::fault::AnswerFault;
+use crate::merging::SOURCES_LIMIT;
+use crate::one_page::write_page;
+use cdxj_core::{OwnedPlace, Place, place_is_good, resume_text};
+use devices::Output;
+use query_text::Query;
+use source_core::Source;
+use std::alloc::Global;
+
+fn are_positive(sizes: &[u64]) -> bool
+    ensures { result ≡ list_all (λ size. nat_lt 0 size) sizes.now }
+{
+    sizes.iter().all(|&size| size > 0)
+}
+
+/// Whether there are sizes, and none of them is 0.
+fn are_sizes(sizes: &[u64]) -> bool
+    ensures { result ≡ are_sizes sizes.now }
+{
+    !sizes.is_empty() && are_positive(sizes)
+}
+
+fn first_size(sizes: &[u64]) -> u64
+    ensures { result ≡ first_size sizes.now }
+{
+    match sizes {
+        [first, ..] => *first,
+        [] => 0,
+    }
+}
+
+/// All but the first; the last one is repeated.
+fn later_sizes(sizes: &[u64]) -> &[u64]
+    ensures { result.now ≡ later_sizes sizes.now }
+{
+    match sizes {
+        [_, later @ ..] if !later.is_empty() => later,
+        _ => sizes,
+    }
+}
+
+fn see_bounds(place: Place<'_>)
+    ensures { IsBounded (place_view place.entry) }
+{
+    place_is_good(place);
+    let _key = place.key.len();
+    let _filename = place.filename.len();
+}
+
+/// The place after which the query's first page begins, if not at the first capture.
+fn first_place(alloc: Global, query: &Query) -> Result<Option<OwnedPlace>, AnswerFault>
+    ensures place { IfOk result (λ from. from ≡ query.now.resume) }
+    ensures bounded { IfOk result (λ from. MatchOption from ⊤ IsBounded) }
+    ensures memory { IfErr result (λ e. e ≡ AnswerFault.Memory) }
+{
+    let Some(place) = query.resume() else {
+        return Ok(None);
+    };
+    see_bounds(place);
+    match OwnedPlace::new(alloc, place) {
+        Ok(place) => Ok(Some(place)),
+        Err(_) => Err(AnswerFault::Memory),
+    }
+}
+
+/// The place that is read of a place's resume key, which is that place.
+fn read_key(alloc: Global, place: Place<'_>) -> Result<OwnedPlace, AnswerFault>
+    ensures place { IfOk result (λ read. read ≡ place_view place.entry) }
+    ensures bounded { IfOk result IsBounded }
+    ensures memory { IfErr result (λ e. e ≡ AnswerFault.Memory) }
+{
+    see_bounds(place);
+    let key = match resume_text(alloc, place) {
+        Ok(key) => key,
+        Err(_) => return Err(AnswerFault::Memory),
+    };
+    match OwnedPlace::read(alloc, key.as_str()) {
+        Ok(place) => Ok(place),
+        Err(_) => Err(AnswerFault::Memory),
+    }
+}
+
+fn borrowed(place: &Option<OwnedPlace>) -> Option<Place<'_>>
+    ensures { from_view result ≡ place.now }
+{
+    match place {
+        Some(place) => Some(place.place()),
+        None => None,
+    }
+}
+
+/// Writes the pages of a query, each of its size, until one has no successor, and answers how many they are. The last size is repeated.
+/// Each page begins after the place that is read of the resume key before it, the first after the query's own resume key,
+/// if it has one. Each page but the last ends with its resume key. The query's limit isn't used, nor whether it shows a key.
+///
+/// `BadSizes` where there are no sizes, or one of them is 0; then `TooManySources` over `SOURCES_LIMIT` indexes. Both come before
+/// anything is read or written. The other faults are those of `answer`.
+pub fn pages<S: Source, O: Output>(
+    alloc: Global,
+    sources: &mut [S],
+    query: &Query,
+    sizes: &[u64],
+    out: &mut O,
+) -> Result<u64, AnswerFault>
+    ensures sizes { are_sizes sizes.now ≡ false → result ≡ Err AnswerFault.BadSizes }
+    ensures sized { are_sizes sizes.now ≡ true → IfErr result (λ e. e ≢ AnswerFault.BadSizes) }
+    ensures many { are_sizes sizes.now ≡ true → SOURCES_LIMIT < length sources.old → result ≡ Err AnswerFault.TooManySources }
+    ensures few { length sources.old ≤ SOURCES_LIMIT → IfErr result (λ e. e ≢ AnswerFault.TooManySources) }
+    ensures unread { IfErr result (λ e. IsEarly e → (sources.new ≡ sources.old) × (out.new ≡ out.old)) }
+    ensures refusals { IfErr result (λ e. e ≢ AnswerFault.Input) }
+    ensures texts { map S.text sources.new ≡ map S.text sources.old }
+    ensures worked { OnOk result ((map S.failures sources.new ≡ map S.failures sources.old) × (O.failures out.new ≡ O.failures out.old)) }
+    ensures read { IfErr result (λ e. (i : ℕ) → e ≡ AnswerFault.Read i → RaisedAt i (map S.failures sources.old) (map S.failures sources.new)) }
+    ensures failed { IfErr result (λ e. e ≡ AnswerFault.Write → O.failures out.new ≡ next_count (O.failures out.old)) }
+{
+    if !are_sizes(sizes) {
+        return Err(AnswerFault::BadSizes);
+    }
+    if sources.len() > SOURCES_LIMIT {
+        return Err(AnswerFault::TooManySources);
+    }
+    let mut from = first_place(alloc, query)?;
+    let mut left = sizes;
+    let mut count = 0u64;
+    'pages: loop {
+        let size = Some(first_size(left));
+        let page = write_page(alloc, sources, query, borrowed(&from), size, true, out)?;
+        count = count.saturating_add(1);
+        let Some(next) = page.end.next else {
+            return Ok(count);
+        };
+        from = Some(read_key(alloc, next.place())?);
+        left = later_sizes(left);
+    }
+}

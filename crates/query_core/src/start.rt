@@ -1,0 +1,51 @@
+//! Where the reading of indexes for a page begins.
+ghost use Rattle.std.specs.Prelude.{◌≡◌, Some};
+ghost use Rattle.query_core.specs.Starts.{first_stamp, later_pair, start_pair};
+ghost use Rattle.cdxj_places.specs.PlaceViews.{place_view};
+ghost use Rattle.query_core.specs.StartViews.{start_view};
+ghost use Rattle.query_core.specs.WriterView.{from_view};
+
+use cdxj_core::Place;
+use query_text::Query;
+
+/// No stamp is below it.
+const FIRST_STAMP: [u8; 14] = *b"00000000000000";
+
+/// A key and a stamp.
+#[derive(Clone, Copy)]
+pub(crate) struct StartPair<'q> {
+    pub key: &'q str,
+    pub stamp: [u8; 14],
+}
+
+/// The pair of the place, where it is above this one.
+fn later_pair<'q>(start: StartPair<'q>, place: Place<'q>) -> StartPair<'q>
+    ensures { start_view result ≡ later_pair (start_view start.entry) (Some (place_view place.entry)) }
+{
+    let order = place
+        .key
+        .cmp(start.key)
+        .then_with(|| place.stamp.cmp(&start.stamp));
+    if order.is_gt() {
+        StartPair {
+            key: place.key,
+            stamp: place.stamp,
+        }
+    } else {
+        start
+    }
+}
+
+/// The pair below which no line is of the page after this place.
+pub(crate) fn start_pair<'q>(query: &'q Query, from: Option<Place<'q>>) -> StartPair<'q>
+    ensures { start_view result ≡ start_pair query.now (from_view from.entry) }
+{
+    let start = StartPair {
+        key: query.target().text(),
+        stamp: FIRST_STAMP,
+    };
+    match from {
+        Some(place) => later_pair(start, place),
+        None => start,
+    }
+}
