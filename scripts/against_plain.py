@@ -1,0 +1,285 @@
+#!/usr/bin/env python3
+"""Compares the pages of warcdx with those of plain_queries.py, on small indexes and queries made by chance.
+
+usage: against_plain.py [PROGRAM [CASES [SEED]]]      default: the script warcdx at the top of the repository, 5000, 1
+
+A case is one to four indexes, a query and sizes of pages. The indexes share places, have lines of equal keys and stamps in any
+order, and lines in other spellings than warcdx writes. One query in twelve or so is refused. `query` and `pages` have to write
+the same bytes as the plain program, say the same refusal, and end with its status; what `query` writes page by page, with the
+resume keys as they were printed, has to be what `pages` writes.
+
+Prints what was tried, and the first case that differs. The status is 1 where there is one.
+"""
+import collections
+import json
+import pathlib
+import random
+import subprocess
+import sys
+import tempfile
+from urllib.parse import quote_plus
+
+import plain_queries as plain
+
+KEYS = (
+    "com,example)/",
+    "com,example)/a",
+    "com,example)/ab",
+    "com,example)/a?b=c",
+    "com,example:8080)/",
+    "com,example,a)/",
+    "com,example,a:81)/x",
+    "com,example-shop)/",
+    "com,examples)/",
+    "org,example)/",
+    "!key",
+    "a",
+    "dns:example.com",
+    "k~*(%20\xe9)/",
+)
+STAMPS = ("20151231235959", "20160101000000", "20160229120000", "20161231235959", "20170101000000", "99999999999999")
+FILES = ("a.warc", "a b.warc", "b.warc", "B.warc", "\xe9~*.warc", "a+b&c=%41.warc")
+OFFSETS = (0, 5, 10, 20, 99, 100, 1000, (1 << 63) - 1)
+TEXTS = ("text/html", "image/svg+xml", "", "-", "200", "a b\t\x7f", 'say "\\"', "\x01\n\r\b\f", "\xe9\u20ac\U0001f600", "%41")
+OTHERS = (200, 0, -1, 1 << 64, 1.5, True, None, [1], {"a": 1})
+ADDRESSES = (
+    "example.com",
+    "www.example.com/a",
+    "http://EXAMPLE.com:80/a",
+    "https://example.com/a?b=c#d",
+    "example.com:8080",
+    "a.example.com",
+    "*.example.com",
+    "*.com",
+    "example.com/*",
+    "example.com/a*",
+    "example.com/a?*",
+    "a.example.com:81/x",
+    "",
+    "*",
+)
+FAULTS = (
+    "limit=0",
+    "limit=1000001",
+    "limit=-5",
+    "from=2016-",
+    "to=",
+    "filter=mimetype",
+    "filter=mimetype:text/.*",
+    "is=colour:red",
+    "matchType=near",
+    "showResumeKey=1",
+    "output=xml",
+    "fl=urlkey,",
+    "resumeKey=x",
+    "resumeKey=a+20160101000000+a.warc+-1",
+    "page=0",
+    "URL=a",
+    "collapse=urlkey",
+    "output=json&output=json",
+    "key=a&url=a",
+)
+
+
+class Case:
+    """Indexes, a query and sizes, made by chance."""
+
+    def __init__(self, choice):
+        self.choice = choice
+        self.keys = choice.sample(KEYS, choice.randint(1, 6))
+        lines = [self.line() for _ in range(choice.randrange(40))]
+        self.texts = self.dealt(lines, choice.randint(1, 4))
+        self.places = [plain.Line(line).place for line in lines]
+        self.query = self.query_text()
+        self.sizes = [choice.randint(1, 6) for _ in range(choice.randint(1, 4))]
+
+    def line(self):
+        choice = self.choice
+        offset = choice.choice(OFFSETS)
+        members = {name: self.member() for name in ("url", "mime", "status", "digest", "length") if choice.random() < 0.9}
+        members["offset"] = choice.choice((str(offset), offset, f"{offset:019}"))
+        members["filename"] = choice.choice(FILES)
+        if choice.random() < 0.2:
+            members["more"] = choice.choice(OTHERS)
+        if choice.random() < 0.3:
+            members = dict(choice.sample(list(members.items()), len(members)))
+        said = json.dumps(members, ensure_ascii=choice.random() < 0.3)
+        white = choice.choice(("", "", "", " ", "\t", "\r")) if choice.random() < 0.2 else ""
+        return f"{choice.choice(self.keys)} {choice.choice(STAMPS)} {said}{white}".encode()
+
+    def member(self):
+        return self.choice.choice(TEXTS if self.choice.random() < 0.8 else OTHERS)
+
+    def dealt(self, lines, count):
+        """The lines in so many indexes, some of them in several, some with another line of the same place before or after."""
+        choice = self.choice
+        indexes = [[] for _ in range(count)]
+        for line in lines:
+            for _ in range(choice.choice((1, 1, 1, 2, 3))):
+                choice.choice(indexes).append(line if choice.random() < 0.7 else line.replace(b"text/html", b"image/gif"))
+        return [self.ordered(index) for index in indexes]
+
+    def ordered(self, lines):
+        """An index, whose last line may lack its line feed."""
+        self.choice.shuffle(lines)
+        text = b"".join(line + b"\n" for line in sorted(lines, key=lambda line: line.split(b" ", 2)[:2]))
+        return text if self.choice.random() < 0.8 else text.removesuffix(b"\n")
+
+    def query_text(self):
+        choice = self.choice
+        pieces = [self.target()]
+        options = {
+            "from": (0.2, lambda: self.start_of(STAMPS)),
+            "to": (0.2, lambda: self.start_of(STAMPS)),
+            "limit": (0.5, lambda: choice.choice((str(choice.randint(1, 8)), "007", "1000000"))),
+            "showResumeKey": (0.6, lambda: choice.choice(("true", "true", "false"))),
+            "fl": (0.5, lambda: ",".join(choice.choices(plain.FIELDS, k=choice.randint(1, 5)))),
+            "output": (0.7, lambda: choice.choice(plain.OUTPUTS)),
+        }
+        for name, (share, value) in options.items():
+            if choice.random() < share:
+                pieces.append(f"{name}={self.encoded(value())}")
+        for _ in range(choice.choice((0, 0, 0, 0, 1, 1, 2))):
+            pieces.append(self.condition())
+        if choice.random() < 0.3:
+            pieces.append(f"resumeKey={self.resume_key()}")
+        if choice.random() < 0.08:
+            pieces.append(choice.choice(FAULTS))
+        choice.shuffle(pieces)
+        return choice.choice(("&", "&", "&&")).join(pieces)
+
+    def target(self):
+        choice = self.choice
+        match = choice.choice(("", "&matchType=" + choice.choice(plain.MATCHES)))
+        way = choice.random()
+        if way < 0.3:
+            return "key=&matchType=prefix"
+        if way < 0.6:
+            return f"url={self.encoded(choice.choice(ADDRESSES))}{match}"
+        if way < 0.8:
+            return f"key={self.encoded(self.start_of(self.keys))}&matchType=prefix"
+        return f"key={self.encoded(choice.choice((*self.keys, *self.keys, *KEYS)))}{match}"
+
+    def start_of(self, texts):
+        text = self.choice.choice(texts)
+        return text[: self.choice.randint(1, len(text))]
+
+    def condition(self):
+        choice = self.choice
+        name, field = choice.choice(list(plain.CONDITIONS)), choice.choice(plain.FIELDS)
+        value = choice.choice([line.values[field] for line in plain.read_lines(self.texts)] or ["-"])
+        value = choice.choice((value, value[:2], value[1:], ""))
+        negated = choice.choice(("", "!")) if name == "filter" else ""
+        return f"{name}={self.encoded(f'{negated}{field}:{value}')}"
+
+    def resume_key(self):
+        """The key of a place of the indexes, or near one of them, or of none."""
+        choice = self.choice
+        if self.places and choice.random() < 0.6:
+            place = choice.choice(self.places)
+        else:
+            place = plain.Place(*(choice.choice(texts).encode() for texts in (KEYS, STAMPS, FILES)), choice.choice(OFFSETS))
+        return plain.key_text(place._replace(offset=max(0, place.offset - choice.randrange(2))))
+
+    def encoded(self, text):
+        return quote_plus(text) if self.choice.random() < 0.7 else quote_plus(text, safe="!*'():,;/?@$=~ ")
+
+
+class Differs(Exception):
+    """What differs, with what was wanted and what was found."""
+
+
+def run(program, *words):
+    done = subprocess.run((program, *words), stdin=subprocess.DEVNULL, stdout=subprocess.PIPE, stderr=subprocess.PIPE)
+    return done.returncode, done.stdout, done.stderr
+
+
+def expect(program, wanted, *words):
+    found = run(program, *words)
+    if found != wanted:
+        raise Differs(f"{' '.join(words[:2])}\nwanted {wanted}\nfound  {found}")
+
+
+def compare(program, case, names, tried):
+    sizes = ",".join(map(str, case.sizes))
+    try:
+        query = plain.read_query(case.query)
+    except plain.Refused as refusal:
+        tried["refused queries"] += 1
+        tried[f"refused as {refusal}"] += 1
+        for words in (("query",), ("pages", sizes)):
+            expect(program, (1, b"", f"warcdx: query: {refusal}\n".encode()), *words, case.query, *names)
+        return
+    lines = plain.read_lines(case.texts)
+    given = plain.answer(query, lines)
+    expect(program, (0, given, b""), "query", case.query, *names)
+    expect(program, (0, plain.pages(query, case.sizes, lines), b""), "pages", sizes, case.query, *names)
+    chain = list(plain.chain(plain.select(query, lines), query.resume, case.sizes))
+    tried["queries"] += 1
+    tried["pages"] += len(chain)
+    tried["captures"] += sum(len(page) for page, _ in chain)
+    tried[f"match {query.match}"] += 1
+    tried[f"output {query.output}"] += 1
+
+
+def walk(program, case, names, tried):
+    """Page by page, with the resume keys as they are printed."""
+    query = plain.read_query(case.query)
+    kept = [piece for piece in case.query.split("&") if piece.partition("=")[0] not in ("limit", "resumeKey", "showResumeKey")]
+    start = [piece for piece in case.query.split("&") if piece.startswith("resumeKey=")]
+    text = b""
+    wanted = plain.pages(query, case.sizes[-1:], plain.read_lines(case.texts))
+    while True:
+        _, page, _ = run(program, "query", "&".join([*kept, *start, f"limit={case.sizes[-1]}", "showResumeKey=true"]), *names)
+        text += page
+        tried["steps of a walk"] += 1
+        if not page or len(text) >= len(wanted) or not wanted.startswith(text):
+            break
+        key = page.splitlines()[-1].decode().strip('[]"')
+        start = [f"resumeKey={key}"]
+    if text != wanted:
+        raise Differs(f"the walk in steps of {case.sizes[-1]}\nwanted {wanted}\nfound  {text}")
+
+
+def try_case(program, case, folder, tried):
+    names = [folder / f"{number}.cdxj" for number in range(len(case.texts))]
+    for name, text in zip(names, case.texts):
+        name.write_bytes(text)
+    names = [str(name) for name in names]
+    tried["indexes"] += len(names)
+    tried["lines"] += len(plain.read_lines(case.texts))
+    compare(program, case, names, tried)
+    if case.choice.random() < 0.1 and not is_refused(case.query):
+        walk(program, case, names, tried)
+
+
+def is_refused(text):
+    try:
+        plain.read_query(text)
+    except plain.Refused:
+        return True
+    return False
+
+
+def main(program=None, cases="5000", seed="1"):
+    root = pathlib.Path(__file__).resolve().parent.parent
+    program = str(pathlib.Path(program or root / "warcdx").resolve())
+    subprocess.run((program, "--help"), stdout=subprocess.DEVNULL, check=True)  # builds it, where it has to be
+    tried = collections.Counter()
+    with tempfile.TemporaryDirectory() as folder:
+        for number in range(int(cases)):
+            case = Case(random.Random(f"{seed} {number}"))
+            try:
+                try_case(program, case, pathlib.Path(folder), tried)
+            except Differs as difference:
+                texts = "\n".join(f"index {text!r}" for text in case.texts)
+                print(f"case {number} of seed {seed} differs: {case.query}\n{texts}\n{difference}")
+                return 1
+    print(f"{cases} cases of seed {seed}, all alike:")
+    for name, count in sorted(tried.items()):
+        print(f"{count:9} {name}")
+    return 0
+
+
+if __name__ == "__main__":
+    sys.exit(main(*sys.argv[1:]))
