@@ -1,4 +1,5 @@
 pub mod Finding
+pub mod SizeDigits
 pub mod PlainWords
 pub mod Operands
 pub mod CommandName

@@ -13,7 +13,7 @@ use Rattle.clap.specs.Lexer.{usize_max}
 use Rattle.clap.specs.declared.error.kind.ErrorKind.TheVariants as kind
 use Rattle.clap.specs.declared.parser.matches.ValueSource.TheVariants.{CommandLine}
 use Rattle.command_line.specs.Words.{Text, asks_for_help}
-use Rattle.command_line.specs.Commands.{Meaning, Form, Names as OfNames, Offset as OfOffset, Refusal, Usage, operands_task}
+use Rattle.command_line.specs.Commands.{Meaning, Form, Names as OfNames, Query as OfQuery, Sizes as OfSizes, Offset as OfOffset, Refusal, Usage, operands_task}
 use Rattle.command_line.specs.Clap.{names_rule, program, command_for, values_task, refusal_for}
 use Rattle.command_line.proofs.PlainWords.{IsPlain, AllPlain, help_word}
 
@@ -26,6 +26,8 @@ rules_of form = (shaped ([], form)).rules
 
 abbrev pub fits : Form → List Text → Bool
 fits (OfNames make) (a ∷ more) = true
+fits (OfQuery make) (a ∷ b ∷ more) = true
+fits (OfSizes make) (a ∷ b ∷ c ∷ more) = true
 fits (OfOffset make) (a ∷ b ∷ []) = true
 fits _ _ = false
 
@@ -40,28 +42,48 @@ row id values = record {
 
 -- ---- the walk over plain words
 
--- after some of the names
-abbrev after : (List Text → Meaning) → List Text → Walk
-after make words = record {
-  held = record { rows = []; pending = Some (codes "names", words); skip = 0 };
+abbrev takes_names : Form → Bool
+takes_names (OfOffset make) = false
+takes_names _ = true
+
+-- the place of the names, counted from 1
+abbrev names_at : Form → ℕ
+names_at (OfNames make) = 1
+names_at (OfQuery make) = 2
+names_at _ = 3
+
+-- after some of the names, with the rows of what stands before them
+abbrev after : Form → List Row → List Text → Walk
+after form rows words = record {
+  held = record { rows = rows; pending = Some (codes "names", words); skip = 0 };
   waiting = positional;
-  position = 1;
+  position = names_at form;
   is_trailing = false;
   stopped = None;
 }
 
-next : (make : List Text → Meaning) (before : List Text) (word : Text) → IsPlain word
-    → walked (rules_of (OfNames make)) [] (after make before) word ≡ after make (before ++ word ∷ [])
+next : (form : Form) (rows : List Row) (before : List Text) (word : Text) → takes_names form ≡ true → IsPlain word
+    → walked (rules_of form) [] (after form rows before) word ≡ after form rows (before ++ word ∷ [])
 unfolding walked
-next make before word p = rw (p.dashes, p.long, p.short) refl
+next (OfNames make) rows before word t p = rw (p.dashes, p.long, p.short) refl
+next (OfQuery make) rows before word t p = rw (p.dashes, p.long, p.short) refl
+next (OfSizes make) rows before word t p = rw (p.dashes, p.long, p.short) refl
+next (OfOffset make) rows before word t p = cc
 
-walk_on : (make : List Text → Meaning) (before words : List Text) → AllPlain words
-    → fold (walked (rules_of (OfNames make)) []) (after make before) words ≡ after make (before ++ words)
-walk_on make before [] p = search rules
-walk_on make before (word ∷ words) p =
-    ap (λ w. fold (walked (rules_of (OfNames make)) []) w words) (next make before word p.0)
-    ∙ walk_on make (before ++ word ∷ []) words p.1
-    ∙ ap (after make) (append_assoc before (word ∷ []) words)
+walk_on : (form : Form) (rows : List Row) (before words : List Text) → takes_names form ≡ true → AllPlain words
+    → fold (walked (rules_of form) []) (after form rows before) words ≡ after form rows (before ++ words)
+walk_on form rows before [] t p = search rules
+walk_on form rows before (word ∷ words) t p =
+    ap (λ w. fold (walked (rules_of form) []) w words) (next form rows before word t p.0)
+    ∙ walk_on form rows (before ++ word ∷ []) words t p.1
+    ∙ ap (after form rows) (append_assoc before (word ∷ []) words)
+
+-- the row of a query, and the rows of sizes and a query
+abbrev query_row : Text → List Row
+query_row query = row (codes "query") (query ∷ []) ∷ []
+
+abbrev sizes_rows : Text → Text → List Row
+sizes_rows sizes query = row (codes "sizes") (sizes ∷ []) ∷ query_row query
 
 -- after an offset and a name
 abbrev after_offset : Text → Text → Walk
@@ -74,14 +96,26 @@ after_offset offset name = record {
 }
 
 abbrev end_of : Form → List Text → Walk
-end_of (OfNames make) words = after make words
+end_of (OfNames make) words = after (OfNames make) [] words
+end_of (OfQuery make) (a ∷ more) = after (OfQuery make) (query_row a) more
+end_of (OfSizes make) (a ∷ b ∷ more) = after (OfSizes make) (sizes_rows a b) more
 end_of (OfOffset make) (a ∷ b ∷ more) = after_offset a b
 end_of _ _ = walk_from nothing_held
 
 first_in : (make : List Text → Meaning) (a : Text) → IsPlain a
-    → walked (rules_of (OfNames make)) [] (walk_from nothing_held) a ≡ after make (a ∷ [])
+    → walked (rules_of (OfNames make)) [] (walk_from nothing_held) a ≡ after (OfNames make) [] (a ∷ [])
 unfolding walked
 first_in make a p = rw (p.dashes, p.long, p.short) refl
+
+two_in : (make : Text → List Text → Meaning) (a b : Text) → IsPlain a → IsPlain b
+    → walk (rules_of (OfQuery make)) [] nothing_held (a ∷ b ∷ []) ≡ after (OfQuery make) (query_row a) (b ∷ [])
+unfolding walked
+two_in make a b p q = rw (p.dashes, p.long, p.short, q.dashes, q.long, q.short) refl
+
+three_in : (make : List ℕ → Text → List Text → Meaning) (a b c : Text) → IsPlain a → IsPlain b → IsPlain c
+    → walk (rules_of (OfSizes make)) [] nothing_held (a ∷ b ∷ c ∷ []) ≡ after (OfSizes make) (sizes_rows a b) (c ∷ [])
+unfolding walked
+three_in make a b c p q r = rw (p.dashes, p.long, p.short, q.dashes, q.long, q.short, r.dashes, r.long, r.short) refl
 
 both_in : (make : ℕ → Text → Meaning) (a b : Text) → IsPlain a → IsPlain b
     → walk (rules_of (OfOffset make)) [] nothing_held (a ∷ b ∷ []) ≡ after_offset a b
@@ -91,31 +125,53 @@ both_in make a b p q = rw (p.dashes, p.long, p.short, q.dashes, q.long, q.short)
 ends : (form : Form) (words : List Text) → fits form words ≡ true → AllPlain words
     → walk (rules_of form) [] nothing_held words ≡ end_of form words
 ends (OfNames make) (a ∷ more) f p =
-    ap (λ w. fold (walked (rules_of (OfNames make)) []) w more) (first_in make a p.0) ∙ walk_on make (a ∷ []) more p.1
+    ap (λ w. fold (walked (rules_of (OfNames make)) []) w more) (first_in make a p.0) ∙ walk_on (OfNames make) [] (a ∷ []) more refl p.1
+ends (OfQuery make) (a ∷ b ∷ more) f p =
+    ap (λ w. fold (walked (rules_of (OfQuery make)) []) w more) (two_in make a b p.0 p.1.0)
+    ∙ walk_on (OfQuery make) (query_row a) (b ∷ []) more refl p.1.1
+ends (OfSizes make) (a ∷ b ∷ c ∷ more) f p =
+    ap (λ w. fold (walked (rules_of (OfSizes make)) []) w more) (three_in make a b c p.0 p.1.0 p.1.1.0)
+    ∙ walk_on (OfSizes make) (sizes_rows a b) (c ∷ []) more refl p.1.1.1
 ends (OfOffset make) (a ∷ b ∷ []) f p = both_in make a b p.0 p.1.0
 ends _ _ f p = cc
 
 -- ---- no fault in plain words
 
-next_clear : (name : Text) (make : List Text → Meaning) (before : List Text) (word : Text) (words : List Text) → IsPlain word
-    → walk_fault (shaped (name, OfNames make)) [] (after make before) (word ∷ words)
-    ≡ walk_fault (shaped (name, OfNames make)) [] (walked (rules_of (OfNames make)) [] (after make before) word) words
+next_clear : (name : Text) (form : Form) (rows : List Row) (before : List Text) (word : Text) (words : List Text)
+    → takes_names form ≡ true → IsPlain word
+    → walk_fault (shaped (name, form)) [] (after form rows before) (word ∷ words)
+    ≡ walk_fault (shaped (name, form)) [] (walked (rules_of form) [] (after form rows before) word) words
 unfolding walk_fault
-next_clear name make before word words p = rw (p.dashes, p.long, p.short) refl
+next_clear name (OfNames make) rows before word words t p = rw (p.dashes, p.long, p.short) refl
+next_clear name (OfQuery make) rows before word words t p = rw (p.dashes, p.long, p.short) refl
+next_clear name (OfSizes make) rows before word words t p = rw (p.dashes, p.long, p.short) refl
+next_clear name (OfOffset make) rows before word words t p = cc
 
-walk_clear : (name : Text) (make : List Text → Meaning) (before words : List Text) → AllPlain words
-    → walk_fault (shaped (name, OfNames make)) [] (after make before) words ≡ []
-walk_clear name make before [] p = unfold walk_fault in refl
-walk_clear name make before (word ∷ words) p =
-    next_clear name make before word words p.0
-    ∙ ap (λ w. walk_fault (shaped (name, OfNames make)) [] w words) (next make before word p.0)
-    ∙ walk_clear name make (before ++ word ∷ []) words p.1
+walk_clear : (name : Text) (form : Form) (rows : List Row) (before words : List Text) → takes_names form ≡ true → AllPlain words
+    → walk_fault (shaped (name, form)) [] (after form rows before) words ≡ []
+walk_clear name form rows before [] t p = unfold walk_fault in refl
+walk_clear name form rows before (word ∷ words) t p =
+    next_clear name form rows before word words t p.0
+    ∙ ap (λ w. walk_fault (shaped (name, form)) [] w words) (next form rows before word t p.0)
+    ∙ walk_clear name form rows (before ++ word ∷ []) words t p.1
 
 first_clear : (name : Text) (make : List Text → Meaning) (a : Text) (more : List Text) → IsPlain a
     → walk_fault (shaped (name, OfNames make)) [] (walk_from nothing_held) (a ∷ more)
-    ≡ walk_fault (shaped (name, OfNames make)) [] (after make (a ∷ [])) more
+    ≡ walk_fault (shaped (name, OfNames make)) [] (after (OfNames make) [] (a ∷ [])) more
 unfolding walk_fault walked
 first_clear name make a more p = rw (p.dashes, p.long, p.short) refl
+
+two_clear : (name : Text) (make : Text → List Text → Meaning) (a b : Text) (more : List Text) → IsPlain a → IsPlain b
+    → walk_fault (shaped (name, OfQuery make)) [] (walk_from nothing_held) (a ∷ b ∷ more)
+    ≡ walk_fault (shaped (name, OfQuery make)) [] (after (OfQuery make) (query_row a) (b ∷ [])) more
+unfolding walk_fault walked
+two_clear name make a b more p q = rw (p.dashes, p.long, p.short, q.dashes, q.long, q.short) refl
+
+three_clear : (name : Text) (make : List ℕ → Text → List Text → Meaning) (a b c : Text) (more : List Text) → IsPlain a → IsPlain b → IsPlain c
+    → walk_fault (shaped (name, OfSizes make)) [] (walk_from nothing_held) (a ∷ b ∷ c ∷ more)
+    ≡ walk_fault (shaped (name, OfSizes make)) [] (after (OfSizes make) (sizes_rows a b) (c ∷ [])) more
+unfolding walk_fault walked
+three_clear name make a b c more p q r = rw (p.dashes, p.long, p.short, q.dashes, q.long, q.short, r.dashes, r.long, r.short) refl
 
 both_clear : (name : Text) (make : ℕ → Text → Meaning) (a b : Text) → IsPlain a → IsPlain b
     → walk_fault (shaped (name, OfOffset make)) [] (walk_from nothing_held) (a ∷ b ∷ []) ≡ []
@@ -124,7 +180,11 @@ both_clear name make a b p q = rw (p.dashes, p.long, p.short, q.dashes, q.long, 
 
 clear : (name : Text) (form : Form) (words : List Text) → fits form words ≡ true → AllPlain words
     → walk_fault (shaped (name, form)) [] (walk_from nothing_held) words ≡ []
-clear name (OfNames make) (a ∷ more) f p = first_clear name make a more p.0 ∙ walk_clear name make (a ∷ []) more p.1
+clear name (OfNames make) (a ∷ more) f p = first_clear name make a more p.0 ∙ walk_clear name (OfNames make) [] (a ∷ []) more refl p.1
+clear name (OfQuery make) (a ∷ b ∷ more) f p =
+    two_clear name make a b more p.0 p.1.0 ∙ walk_clear name (OfQuery make) (query_row a) (b ∷ []) more refl p.1.1
+clear name (OfSizes make) (a ∷ b ∷ c ∷ more) f p =
+    three_clear name make a b c more p.0 p.1.0 p.1.1.0 ∙ walk_clear name (OfSizes make) (sizes_rows a b) (c ∷ []) more refl p.1.1.1
 clear name (OfOffset make) (a ∷ b ∷ []) f p = both_clear name make a b p.0 p.1.0
 clear _ _ _ f p = cc
 
@@ -148,6 +208,10 @@ pub level_fits : (name : Text) (form : Form) (words : List Text) → fits form w
 unfolding defaults_fault
 level_fits name (OfNames make) (a ∷ more) f p short =
     rw (ends (OfNames make) (a ∷ more) f p, clear name (OfNames make) (a ∷ more) f p, in_range (a ∷ more) (omega arith) short, any_text more) refl
+level_fits name (OfQuery make) (a ∷ b ∷ more) f p short =
+    rw (ends (OfQuery make) (a ∷ b ∷ more) f p, clear name (OfQuery make) (a ∷ b ∷ more) f p, in_range (b ∷ more) (omega arith) (omega (arith, short)), any_text more) refl
+level_fits name (OfSizes make) (a ∷ b ∷ c ∷ more) f p short =
+    rw (ends (OfSizes make) (a ∷ b ∷ c ∷ more) f p, clear name (OfSizes make) (a ∷ b ∷ c ∷ more) f p, in_range (c ∷ more) (omega arith) (omega (arith, short)), any_text more) refl
 level_fits name (OfOffset make) (a ∷ b ∷ []) f p short =
     rw (ends (OfOffset make) (a ∷ b ∷ []) f p, clear name (OfOffset make) (a ∷ b ∷ []) f p) refl
 level_fits _ _ _ f p short = cc
@@ -165,6 +229,12 @@ pub level_unfit : (name : Text) (form : Form) (words : List Text) → fits form 
     → are_usage (level_fault (shaped (name, form)) [] nothing_held words false []) ≡ true
 unfolding walk_fault walked defaults_fault
 level_unfit name (OfNames make) [] f p = refl
+level_unfit name (OfQuery make) [] f p = refl
+level_unfit name (OfQuery make) (a ∷ []) f p = rw (p.0.dashes, p.0.long, p.0.short) refl
+level_unfit name (OfSizes make) [] f p = refl
+level_unfit name (OfSizes make) (a ∷ []) f p = rw (p.0.dashes, p.0.long, p.0.short) refl
+level_unfit name (OfSizes make) (a ∷ b ∷ []) f p =
+    rw (p.0.dashes, p.0.long, p.0.short, p.1.0.dashes, p.1.0.long, p.1.0.short) refl
 level_unfit name (OfOffset make) [] f p = refl
 level_unfit name (OfOffset make) (a ∷ []) f p = rw (p.0.dashes, p.0.long, p.0.short) refl
 level_unfit name (OfOffset make) (a ∷ b ∷ c ∷ more) f p =
@@ -179,6 +249,14 @@ level_help name (OfNames make) help h = elim (help_word help h) [
   | inl e ↦ rw e refl
   | inr e ↦ rw e refl
 ]
+level_help name (OfQuery make) help h = elim (help_word help h) [
+  | inl e ↦ rw e refl
+  | inr e ↦ rw e refl
+]
+level_help name (OfSizes make) help h = elim (help_word help h) [
+  | inl e ↦ rw e refl
+  | inr e ↦ rw e refl
+]
 level_help name (OfOffset make) help h = elim (help_word help h) [
   | inl e ↦ rw e refl
   | inr e ↦ rw e refl
@@ -188,22 +266,33 @@ level_help name (OfOffset make) help h = elim (help_word help h) [
 
 abbrev pub rows_of : Form → List Text → List Row
 rows_of (OfNames make) words = row (codes "names") words ∷ []
+rows_of (OfQuery make) (a ∷ more) = query_row a ++ row (codes "names") more ∷ []
+rows_of (OfSizes make) (a ∷ b ∷ more) = sizes_rows a b ++ row (codes "names") more ∷ []
 rows_of (OfOffset make) (a ∷ more) = row (codes "offset") (a ∷ []) ∷ row (codes "name") more ∷ []
 rows_of _ _ = []
 
 pub values : (form : Form) (words : List Text) → fits form words ≡ true → AllPlain words
     → finished (rules_of form) (walk (rules_of form) [] nothing_held words).held ≡ rows_of form words
 values (OfNames make) (a ∷ more) f p = rw (ends (OfNames make) (a ∷ more) f p) refl
+values (OfQuery make) (a ∷ b ∷ more) f p = rw (ends (OfQuery make) (a ∷ b ∷ more) f p) refl
+values (OfSizes make) (a ∷ b ∷ c ∷ more) f p = rw (ends (OfSizes make) (a ∷ b ∷ c ∷ more) f p) refl
 values (OfOffset make) (a ∷ b ∷ []) f p = rw (ends (OfOffset make) (a ∷ b ∷ []) f p) refl
 values _ _ f p = cc
 
 pub reads : (form : Form) (words : List Text) → fits form words ≡ true → values_task form (rows_of form words) ≡ operands_task form words
 reads (OfNames make) (a ∷ more) f = refl
+reads (OfQuery make) (a ∷ b ∷ more) f = refl
+reads (OfSizes make) (a ∷ b ∷ c ∷ more) f = refl
 reads (OfOffset make) (a ∷ b ∷ []) f = refl
 reads _ _ f = cc
 
 pub unfit_task : (form : Form) (words : List Text) → fits form words ≡ false → operands_task form words ≡ None
 unfit_task (OfNames make) [] f = refl
+unfit_task (OfQuery make) [] f = refl
+unfit_task (OfQuery make) (a ∷ []) f = refl
+unfit_task (OfSizes make) [] f = refl
+unfit_task (OfSizes make) (a ∷ []) f = refl
+unfit_task (OfSizes make) (a ∷ b ∷ []) f = refl
 unfit_task (OfOffset make) [] f = refl
 unfit_task (OfOffset make) (a ∷ []) f = refl
 unfit_task (OfOffset make) (a ∷ b ∷ c ∷ more) f = refl

@@ -7,7 +7,8 @@ use Rattle.clap.specs.declared.error.kind.ErrorKind.{ErrorKind}
 use Rattle.clap.specs.declared.error.kind.ErrorKind.TheVariants as kind
 use Rattle.cdxj_places.specs.Places.{offset_of}
 use Rattle.command_line.specs.Words.{Text}
-use Rattle.command_line.specs.Commands.{Meaning, Form, Names, Offset, Refusal, Help, Usage, commands, command_of, list_input}
+use Rattle.command_line.specs.Sizes.{sizes_of}
+use Rattle.command_line.specs.Commands.{Meaning, Form, Names, Query, Sizes, Offset, Refusal, Help, Usage, commands, command_of, list_input}
 
 -- ---- the command
 
@@ -26,6 +27,8 @@ names_rule = record (word_rule (codes "names")) {
 
 abbrev pub rules_for : Form → List Rule
 rules_for (Names make) = names_rule ∷ []
+rules_for (Query make) = word_rule (codes "query") ∷ names_rule ∷ []
+rules_for (Sizes make) = word_rule (codes "sizes") ∷ word_rule (codes "query") ∷ names_rule ∷ []
 rules_for (Offset make) = word_rule (codes "offset") ∷ word_rule (codes "name") ∷ []
 
 abbrev pub command_with : Text → List Rule → Shape
@@ -49,6 +52,11 @@ warcdx = record { top = program; subs = map command_for commands }
 -- the task that the values of a command make
 abbrev pub values_task : Form → List Row → Option Meaning
 values_task (Names make) rows = option_map make (all_of (codes "names") rows)
+values_task (Query make) rows = option_and_then
+    (λ query. option_map (make query) (all_of (codes "names") rows)) (first_of (codes "query") rows)
+values_task (Sizes make) rows = option_and_then (λ sizes. option_and_then
+    (λ query. option_and_then (λ names. option_map (λ s. make s query names) (sizes_of sizes)) (all_of (codes "names") rows))
+    (first_of (codes "query") rows)) (first_of (codes "sizes") rows)
 values_task (Offset make) rows = option_and_then
     (λ offset. option_and_then (λ name. option_map (λ n. make n name) (offset_of offset)) (first_of (codes "name") rows))
     (first_of (codes "offset") rows)

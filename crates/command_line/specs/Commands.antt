@@ -8,6 +8,7 @@ use Rattle.command_line.specs.declared.fault.WordsFault.TheVariants as fault
 use Rattle.command_line.specs.declared.task.Task.{Task}
 use Rattle.command_line.specs.declared.task.Task.TheVariants as task
 use Rattle.command_line.specs.Words.{Text, texts, asks_for_help, is_unknown_option}
+use Rattle.command_line.specs.Sizes.{sizes_of}
 
 -- ---- the table of commands
 
@@ -18,22 +19,30 @@ pub data Meaning : Type 0 where
   ToIndex : List Text → Meaning
   ToMerge : List Text → Meaning
   ToCheck : List Text → Meaning
+  ToQuery : Text → List Text → Meaning
+  ToPages : List ℕ → Text → List Text → Meaning
   ToGet : ℕ → Text → Meaning
 
--- which operands a command takes, and the task that they make: one name or more; an offset and a name
+-- which operands a command takes, and the task that they make: one name or more; those after a query, or after sizes and a query; an
+-- offset and a name
 pub data Form : Type 0 where
   Names : (List Text → Meaning) → Form
+  Query : (Text → List Text → Meaning) → Form
+  Sizes : (List ℕ → Text → List Text → Meaning) → Form
   Offset : (ℕ → Text → Meaning) → Form
 
 abbrev pub commands : List (Text × Form)
 commands = (codes "list", Names ToList) ∷ (codes "verify", Names ToVerify) ∷ (codes "index", Names ToIndex)
-    ∷ (codes "merge", Names ToMerge) ∷ (codes "check", Names ToCheck) ∷ (codes "get", Offset ToGet) ∷ []
+    ∷ (codes "merge", Names ToMerge) ∷ (codes "check", Names ToCheck) ∷ (codes "query", Query ToQuery)
+    ∷ (codes "pages", Sizes ToPages) ∷ (codes "get", Offset ToGet) ∷ []
 
 -- ---- words with a task
 
 -- the task of a command's operands
 abbrev pub operands_task : Form → List Text → Option Meaning
 operands_task (Names make) (name ∷ names) = Some (make (name ∷ names))
+operands_task (Query make) (query ∷ name ∷ names) = Some (make query (name ∷ names))
+operands_task (Sizes make) (sizes ∷ query ∷ name ∷ names) = option_map (λ s. make s query (name ∷ names)) (sizes_of sizes)
 operands_task (Offset make) (offset ∷ name ∷ []) = option_map (λ n. make n name) (offset_of offset)
 operands_task _ _ = None
 
@@ -74,6 +83,8 @@ view (task.Verify names) = ToVerify (texts names.items)
 view (task.Index names) = ToIndex (texts names.items)
 view (task.Merge names) = ToMerge (texts names.items)
 view (task.Check names) = ToCheck (texts names.items)
+view (task.Query query names) = ToQuery (string_bytes query) (texts names.items)
+view (task.Pages sizes query names) = ToPages sizes.items (string_bytes query) (texts names.items)
 view (task.Get offset name) = ToGet offset (string_bytes name)
 
 -- nothing for want of memory

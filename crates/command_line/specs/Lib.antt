@@ -1,3 +1,4 @@
 pub mod Words
+pub mod Sizes
 pub mod Commands
 pub mod Clap

@@ -4,7 +4,8 @@ ghost use Rattle.clap.specs.Words.{app_of, rule_of, with_subcommand};
 ghost use Rattle.command_line.specs.Clap.{word_rule, names_rule, command_with, warcdx};
 
 use crate::help::{
-    ARCHIVE, CDXJ, CHECK, GET, INDEX, LIST, MERGE, OFFSET, Operand, PROGRAM, Page, VERIFY,
+    ARCHIVE, CDXJ, CHECK, GET, INDEX, LIST, MERGE, OFFSET, Operand, PAGES, PROGRAM, Page, QUERY,
+    QUERY_TEXT, SIZES, VERIFY,
 };
 use clap::{Arg, Command};
 use std::alloc::{AllocError, Global};
@@ -24,7 +25,9 @@ pub fn command_line<'a>(alloc: Global) -> Result<Command<'a>, AllocError>
     let index = with_names(verify, alloc, "index", INDEX, ARCHIVE)?;
     let merge = with_names(index, alloc, "merge", MERGE, CDXJ)?;
     let check = with_names(merge, alloc, "check", CHECK, CDXJ)?;
-    with_offset(check, alloc, "get", GET, ARCHIVE)
+    let query = with_query(check, alloc, "query", QUERY, CDXJ)?;
+    let pages = with_sizes(query, alloc, "pages", PAGES, CDXJ)?;
+    with_offset(pages, alloc, "get", GET, ARCHIVE)
 }
 
 /// The command with one more, which takes one operand or more.
@@ -38,12 +41,52 @@ fn with_names<'a>(
     ensures { IfOk result (λ more. app_of more
         ≡ with_subcommand (app_of command.entry) (command_with name.entry.now (names_rule ∷ []))) }
 {
-    let names = word(alloc, "names", operand).num_args(1..);
     command.subcommand(
         Command::new(alloc, name)
             .about(page.about)
             .after_help(page.details)
-            .arg(names)?,
+            .arg(names(alloc, operand))?,
+    )
+}
+
+/// The command with one more, which takes a query and one other operand or more.
+fn with_query<'a>(
+    command: Command<'a>,
+    alloc: Global,
+    name: &'a str,
+    page: Page<'a>,
+    operand: Operand<'a>,
+) -> Result<Command<'a>, AllocError>
+    ensures { IfOk result (λ more. app_of more ≡ with_subcommand (app_of command.entry)
+        (command_with name.entry.now (word_rule (codes "query") ∷ names_rule ∷ []))) }
+{
+    command.subcommand(
+        Command::new(alloc, name)
+            .about(page.about)
+            .after_help(page.details)
+            .arg(word(alloc, "query", QUERY_TEXT))?
+            .arg(names(alloc, operand))?,
+    )
+}
+
+/// The command with one more, which takes sizes, a query, and one other operand or more.
+fn with_sizes<'a>(
+    command: Command<'a>,
+    alloc: Global,
+    name: &'a str,
+    page: Page<'a>,
+    operand: Operand<'a>,
+) -> Result<Command<'a>, AllocError>
+    ensures { IfOk result (λ more. app_of more ≡ with_subcommand (app_of command.entry)
+        (command_with name.entry.now (word_rule (codes "sizes") ∷ word_rule (codes "query") ∷ names_rule ∷ []))) }
+{
+    command.subcommand(
+        Command::new(alloc, name)
+            .about(page.about)
+            .after_help(page.details)
+            .arg(word(alloc, "sizes", SIZES))?
+            .arg(word(alloc, "query", QUERY_TEXT))?
+            .arg(names(alloc, operand))?,
     )
 }
 
@@ -65,6 +108,14 @@ fn with_offset<'a>(
             .arg(word(alloc, "offset", OFFSET))?
             .arg(word(alloc, "name", operand))?,
     )
+}
+
+/// One operand or more.
+fn names<'a>(alloc: Global, operand: Operand<'a>) -> Arg<'a>
+    ensures rule { rule_of result ≡ names_rule }
+    ensures local { result.global ≡ false }
+{
+    word(alloc, "names", operand).num_args(1..)
 }
 
 /// One operand.

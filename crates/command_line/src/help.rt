@@ -8,7 +8,7 @@ pub struct Page<'a> {
 }
 
 pub const PROGRAM: Page = Page {
-    about: "Indexes web archives; lists, checks and fetches their records",
+    about: "Indexes web archives, answers queries, and fetches records",
     details: "\
 An archive is an uncompressed WARC file, version 1.0 or 1.1. The name - is
 standard input. Without a command, warcdx lists the archive on standard input.
@@ -19,14 +19,16 @@ Examples:
   warcdx index crawl-1.warc crawl-2.warc > crawl.cdxj
   warcdx merge crawl-1.cdxj crawl-2.cdxj > crawls.cdxj
   warcdx check crawl.cdxj
+  warcdx query 'url=*.example.com&from=2016&limit=100' crawl.cdxj
+  warcdx pages 100 'url=example.com/*' crawl-1.cdxj crawl-2.cdxj
   warcdx get 4096 crawl.warc
   gunzip -c crawl.warc.gz | warcdx verify -
 
 Exit status:
   0  everything was done, and no digest differs; or help was asked for
   1  an archive is damaged, a digest differs, an archive's file name can't be
-     used in an index, an index is not in order, or no record begins at the
-     offset
+     used in an index, an index is not in order, a query is refused, or no
+     record begins at the offset
   2  the words mean nothing
   3  a file can't be opened, or memory, an input or the output failed
 
@@ -226,6 +228,81 @@ Exit status:
   3  a file can't be opened or read, or memory or the output failed",
 };
 
+pub const QUERY: Page = Page {
+    about: "Writes the captures that a query asks for",
+    details: "\
+Writes the captures of the indexes that the query selects, in the order of key,
+stamp, file name and offset. Where lines of several indexes have all four in
+common, the first of them counts: that of the index that is named first.
+
+QUERY has parameters with & between; most shells want it in quotes:
+
+  url=ADDRESS        *.example.com also asks for its subdomains, and
+                     example.com/a* for all that begins so
+  key=KEY            in place of url: a key, as it stands in an index
+  matchType=         exact, prefix, host or domain
+  from=, to=         the first digits of a time: 2016, 201609, ...
+  filter=FIELD:TEXT  the field is TEXT, or isn't, with ! before FIELD
+  is=, isnot=        the same, for any TEXT
+  has=, hasnot=      the field has TEXT somewhere, or nowhere
+  fl=FIELD,FIELD     urlkey, timestamp, original, mimetype, statuscode, digest,
+                     length, offset, filename
+  output=            text, json, or cdxj: the lines of the indexes
+  limit=NUMBER       no more captures than this
+  showResumeKey=true where more follow, says from where they go on ...
+  resumeKey=KEY      ... and goes on from there
+
+docs/QUERY.md has the rules. The indexes must be sorted, as 'warcdx check' says;
+of each only what is needed is read, and lines that aren't read aren't checked.
+
+The query is read first. Then all indexes are opened; at most 1,024 are taken.
+The first fault ends the command, and is reported on standard error; what was
+written before it stands:
+
+  warcdx: query: CAUSE
+  warcdx: NAME: cannot open
+  warcdx: NAME: Read
+  warcdx: NAME: BadLine OFFSET
+  warcdx: NAME: OutOfOrder OFFSET
+  warcdx: TooManySources
+
+Examples:
+  warcdx query 'url=example.com' crawl.cdxj
+  warcdx query 'url=*.example.com&filter=statuscode:200&output=json' *.cdxj
+  warcdx query 'key=com,example)/a&fl=offset,filename' crawl.cdxj
+
+Exit status:
+  0  the captures were written
+  1  the query is refused, an index has a bad line or one out of order, or
+     there are too many
+  2  the words mean nothing
+  3  a file can't be opened or read, or memory or the output failed",
+};
+
+pub const PAGES: Page = Page {
+    about: "Writes the captures that a query asks for, page by page",
+    details: "\
+Writes all captures that the query selects, as 'warcdx query' does, in pages of
+so many captures. SIZES are 1 to 1,000 numbers from 1 to 1,000,000 with commas
+between: of the first page, the second and so on; the last of them counts for
+all pages after it. Each page but the last ends with the resume key of the next.
+The query's limit and showResumeKey aren't used; its resumeKey is where the
+first page begins.
+
+'warcdx query --help' says what a query has, and what is reported.
+
+Examples:
+  warcdx pages 100 'url=example.com/*' crawl.cdxj
+  warcdx pages 10,100,1000 'url=*.example.com&output=json' *.cdxj
+
+Exit status:
+  0  the captures were written
+  1  the query is refused, an index has a bad line or one out of order, or
+     there are too many
+  2  the words mean nothing
+  3  a file can't be opened or read, or memory or the output failed",
+};
+
 pub const GET: Page = Page {
     about: "Writes the record at an offset of an archive",
     details: "\
@@ -273,6 +350,16 @@ pub const ARCHIVE: Operand = Operand {
 pub const CDXJ: Operand = Operand {
     name: "INDEX",
     help: "A file with a CDXJ index",
+};
+
+pub const QUERY_TEXT: Operand = Operand {
+    name: "QUERY",
+    help: "What is asked for, such as 'url=example.com&limit=5'",
+};
+
+pub const SIZES: Operand = Operand {
+    name: "SIZES",
+    help: "How many captures the pages have, such as 100 or 10,100,1000",
 };
 
 pub const OFFSET: Operand = Operand {

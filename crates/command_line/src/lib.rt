@@ -6,6 +6,7 @@ mod fault;
 mod help;
 mod matches;
 mod options;
+mod sizes;
 mod task;
 mod words;
 

@@ -2,9 +2,10 @@
 ghost use Rattle.std.specs.Prelude.{◌≡◌, IfOk, Some, option_map, codes, map, string_bytes};
 ghost use Rattle.clap.specs.Words.{all_of, first_of, found_of, rows_of, subcommand_rows_of};
 ghost use Rattle.command_line.specs.Words.{texts};
-ghost use Rattle.command_line.specs.Commands.{Offset, ToGet, list_input, view};
+ghost use Rattle.command_line.specs.Commands.{Offset, Query, Sizes, ToGet, ToPages, ToQuery, list_input, view};
 ghost use Rattle.command_line.specs.Clap.{matches_task, values_task};
 
+use crate::sizes::read_sizes;
 use crate::task::Task;
 use cdxj_places::read_offset;
 use clap::ArgMatches;
@@ -20,10 +21,10 @@ pub fn task_of(alloc: Global, matches: &ArgMatches) -> Result<Option<Task>, Allo
     }
 }
 
-/// The word for an offset, as it was given.
-pub fn offset_word<'a>(matches: &ArgMatches<'a>) -> Option<&'a str> {
+/// The word for an offset, or for sizes, as it was given.
+pub fn operand_word<'a>(matches: &ArgMatches<'a>, id: &str) -> Option<&'a str> {
     let (_command, values) = matches.subcommand()?;
-    values.get_str("offset")
+    values.get_str(id)
 }
 
 fn command_task(
@@ -40,6 +41,8 @@ fn command_task(
         "index" => Ok(names_of(alloc, values)?.map(|names| Task::Index { names })),
         "merge" => Ok(names_of(alloc, values)?.map(|names| Task::Merge { names })),
         "check" => Ok(names_of(alloc, values)?.map(|names| Task::Check { names })),
+        "query" => query_task(alloc, values),
+        "pages" => pages_task(alloc, values),
         "get" => get_task(alloc, values),
         _ => Ok(None),
     }
@@ -53,6 +56,42 @@ fn list_input(alloc: Global) -> Result<Task, AllocError>
     Ok(Task::List { names })
 }
 
+fn query_task(alloc: Global, values: &ArgMatches) -> Result<Option<Task>, AllocError>
+    ensures { IfOk result (λ task. option_map view task
+        ≡ values_task (Query ToQuery) (rows_of (found_of values.now))) }
+{
+    let Some(query) = text_of(alloc, values, "query")? else {
+        return Ok(None);
+    };
+    match names_of(alloc, values)? {
+        Some(names) => Ok(Some(Task::Query { query, names })),
+        None => Ok(None),
+    }
+}
+
+fn pages_task(alloc: Global, values: &ArgMatches) -> Result<Option<Task>, AllocError>
+    ensures { IfOk result (λ task. option_map view task
+        ≡ values_task (Sizes ToPages) (rows_of (found_of values.now))) }
+{
+    let Some(sizes) = value_of(values, "sizes") else {
+        return Ok(None);
+    };
+    let Some(query) = text_of(alloc, values, "query")? else {
+        return Ok(None);
+    };
+    let Some(names) = names_of(alloc, values)? else {
+        return Ok(None);
+    };
+    match read_sizes(alloc, sizes)? {
+        Some(sizes) => Ok(Some(Task::Pages {
+            sizes,
+            query,
+            names,
+        })),
+        None => Ok(None),
+    }
+}
+
 fn get_task(alloc: Global, values: &ArgMatches) -> Result<Option<Task>, AllocError>
     ensures { IfOk result (λ task. option_map view task
         ≡ values_task (Offset ToGet) (rows_of (found_of values.now))) }
@@ -63,17 +102,17 @@ fn get_task(alloc: Global, values: &ArgMatches) -> Result<Option<Task>, AllocErr
     let Some(offset) = read_offset(offset) else {
         return Ok(None);
     };
-    match name_of(alloc, values)? {
+    match text_of(alloc, values, "name")? {
         Some(name) => Ok(Some(Task::Get { offset, name })),
         None => Ok(None),
     }
 }
 
-fn name_of(alloc: Global, values: &ArgMatches) -> Result<Option<String>, AllocError>
-    ensures { IfOk result (λ name. option_map string_bytes name
-        ≡ first_of (codes "name") (rows_of (found_of values.now))) }
+fn text_of(alloc: Global, values: &ArgMatches, id: &str) -> Result<Option<String>, AllocError>
+    ensures { IfOk result (λ text. option_map string_bytes text
+        ≡ first_of id.now (rows_of (found_of values.now))) }
 {
-    match value_of(values, "name") {
+    match value_of(values, id) {
         Some(word) => Ok(Some(String::from_str(alloc, word)?)),
         None => Ok(None),
     }

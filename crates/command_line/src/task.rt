@@ -4,15 +4,39 @@
 #[derive(Debug, Drop, PartialEq, Eq)]
 pub enum Task {
     /// List the records of each archive.
-    List { names: Vec<String> },
+    List {
+        names: Vec<String>,
+    },
     /// Check the digests of each archive's records.
-    Verify { names: Vec<String> },
+    Verify {
+        names: Vec<String>,
+    },
     /// Index the captures of the archives.
-    Index { names: Vec<String> },
+    Index {
+        names: Vec<String>,
+    },
     /// Merge the indexes into one.
-    Merge { names: Vec<String> },
+    Merge {
+        names: Vec<String>,
+    },
     /// Check the lines of each index, and count them.
-    Check { names: Vec<String> },
+    Check {
+        names: Vec<String>,
+    },
+    /// Answer the query over the indexes.
+    Query {
+        query: String,
+        names: Vec<String>,
+    },
+    /// Answer the query over the indexes page by page: so many captures on each page, the last of the sizes repeated.
+    Pages {
+        sizes: Vec<u64>,
+        query: String,
+        names: Vec<String>,
+    },
     /// Write the record that begins at the offset, in bytes from the archive's start.
-    Get { offset: u64, name: String },
+    Get {
+        offset: u64,
+        name: String,
+    },
 }

@@ -9,7 +9,7 @@ ghost use Rattle.command_line.specs.Clap.{matches_task, refusal_for};
 
 use crate::command::command_line;
 use crate::fault::WordsFault;
-use crate::matches::{offset_word, task_of};
+use crate::matches::{operand_word, task_of};
 use crate::options::{help_option, unknown_option};
 use crate::task::Task;
 use clap::error::ErrorKind;
@@ -25,7 +25,8 @@ use std::alloc::{AllocError, Global};
 ///
 /// - `Help` where help is asked for.
 /// - `Usage` for another word that begins with `-` and goes on, wherever it stands; else for a first word that is no
-///   command, for a wrong number of words, and for an offset that isn't 1 to 19 digits below 2^63.
+///   command, for a wrong number of words, for an offset that isn't 1 to 19 digits below 2^63, and for sizes that aren't 1 to
+///   1,000 numbers from 1 to 1,000,000, each in at most 7 digits, with commas between.
 /// - `Memory` where a growth was refused.
 pub fn read_words(alloc: Global, words: &[String]) -> Result<Task, WordsFault>
     ensures { Answers (asked (texts words.now)) result }
@@ -39,7 +40,7 @@ pub fn read_words(alloc: Global, words: &[String]) -> Result<Task, WordsFault>
     match matches_of(alloc, words) {
         Ok(matches) => match task_of(alloc, &matches)? {
             Some(task) => Ok(task),
-            None => Err(no_offset(alloc, offset_word(&matches).unwrap_or(""))),
+            None => Err(no_numbers(alloc, &matches)),
         },
         Err(error) => Err(fault_of(alloc, &error)),
     }
@@ -108,7 +109,25 @@ fn unexpected(alloc: Global, option: &str) -> WordsFault
     ))
 }
 
-/// clap takes any word for an offset; the text is in its style.
+/// clap takes any word for an offset and for sizes; the texts are in its style.
+fn no_numbers(alloc: Global, matches: &ArgMatches) -> WordsFault
+    ensures { IsUsage result }
+{
+    match operand_word(matches, "sizes") {
+        Some(word) => no_sizes(alloc, word),
+        None => no_offset(alloc, operand_word(matches, "offset").unwrap_or("")),
+    }
+}
+
+fn no_sizes(alloc: Global, word: &str) -> WordsFault
+    ensures { IsUsage result }
+{
+    usage(format!(in alloc;
+        "error: invalid value '{word}' for '<SIZES>': sizes are 1 to 1,000 numbers from 1 to 1,000,000, with ',' between\n\n\
+         For more information, try '--help'.\n"
+    ))
+}
+
 fn no_offset(alloc: Global, word: &str) -> WordsFault
     ensures { IsUsage result }
 {

@@ -1,0 +1,15 @@
+use Rattle.std.proofs.Common.{◌≡◌, Bool, true, false, List, ℕ, bytes_eq, refl, sym}
+use Rattle.std.proofs.lemmas.Slice.Eq.{bytes_eq-Decides}
+use Rattle.command_line.proofs.matches.command_task.Goals as goal
+
+other : (name word : List ℕ) → (name ≡ word → ⊥) → bytes_eq word name ≡ false
+other name word differ = go (bytes_eq word name) refl
+  where
+    go : (b : Bool) → bytes_eq word name ≡ b → b ≡ false
+    go false e = refl
+    go true e = absurd (differ (sym ((bytes_eq-Decides word name).0 e)))
+
+pub returns-in_default : goal.returns-in_default
+returns-in_default c =
+    let d = c.in_default in
+    rw (other _ _ d.not-list, other _ _ d.not-verify, other _ _ d.not-index, other _ _ d.not-merge, other _ _ d.not-check, other _ _ d.not-query, other _ _ d.not-pages, other _ _ d.not-get) refl
