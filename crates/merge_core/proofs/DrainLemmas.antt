@@ -1,5 +1,5 @@
 -- What a call that reads the next line makes of a feed.
-use Rattle.std.proofs.Common.{◌≡◌, ℕ, ◌+◌, ◌∷◌, ◌++◌, List, [], sym, ap, ◌∙◌, subst, Bool, Option, Some, None, MatchOption, drop, append_assoc}
+use Rattle.std.proofs.Common.{◌≡◌, false, ℕ, ◌+◌, ◌∷◌, ◌++◌, List, [], sym, ap, ◌∙◌, subst, Bool, Option, Some, None, MatchOption, drop, append_assoc}
 use Rattle.std.specs.List.{AllByRecursion}
 use Rattle.cdxj_places.specs.Pairs.{Pair}
 use Rattle.cdxj_places.specs.TextLines.{lines}
@@ -43,8 +43,8 @@ module _ {L : Type 0} (limit : ℕ) (past : List ℕ → Bool) (seen : L → Mem
     pub settled_done : (ws : List Member) → IsNext past (seen line) f.progress ws → (t : List ℕ) → done limit t f ≡ done limit t old
     settled_done = done_next limit past t1 e1 old f is_due was_here stands_here start_here (seen line) low count_here next_here upto_here up
 
-    pub taken : f.progress ≡ Due → Fed limit past t1 e1 f []
-    taken = fed_taken limit past t1 e1 old f is_due was_here stands_here start_here (seen line) low count_here next_here upto_here up
+    pub taken : f.progress ≡ Due → ((t : List ℕ) → t0 ≡ Some t → past (seen line).values.key ≡ false) → Fed limit past t1 e1 f []
+    taken d stays = fed_taken limit past t1 e1 old f is_due was_here stands_here start_here (seen line) low count_here next_here upto_here up d (λ t e. stays t (sym text ∙ e))
 
     pub taken_done : f.progress ≡ Due → (t : List ℕ) → t0 ≡ Some t → done limit t f ≡ done limit t old ++ seen line ∷ []
     taken_done d t e = done_taken limit past t1 e1 old f is_due was_here stands_here start_here (seen line) low count_here next_here upto_here up d t (text ∙ e)

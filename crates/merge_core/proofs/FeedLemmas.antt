@@ -1,6 +1,11 @@
 -- What one line more makes of a feed.
-use Rattle.std.proofs.Common.{◌≡◌, ℕ, zero, suc, ◌+◌, ◌-◌, ◌≤◌, List, [], ◌∷◌, ◌++◌, length, refl, sym, ap, ap₂, ◌∙◌, subst, arith, Bool, false, Option, Some, None, MatchOption, take, drop, map, unwrap_or}
+use Rattle.std.proofs.Common.{◌≡◌, Ordering, Less, Equal, Greater, ℕ, zero, suc, ◌+◌, ◌-◌, ◌≤◌, List, [], ◌∷◌, ◌++◌, length, refl, sym, ap, ap₂, ◌∙◌, subst, arith, Bool, false, Option, Some, None, MatchOption, take, drop, map, unwrap_or, length-append}
 use Rattle.std.specs.List.{AllByRecursion}
+use Rattle.std.specs.Ordering.{nat_cmp, ordering_then}
+use Rattle.std.specs.Cmp.Lexicographic.{slice_cmp}
+use Rattle.std.specs.FinMap.{nat_cmp-IsAntisymmetric, slice_cmp-IsAntisymmetric}
+use Rattle.std.proofs.lemmas.Cmp.{tied_back}
+use Rattle.cdxj_places.proofs.PairLemmas.{pair_cmp_total}
 use Rattle.cdxj_places.proofs.RisingLaws.{each_weaker}
 use Rattle.cdxj_places.specs.Pairs.{Pair, pair_cmp}
 use Rattle.cdxj_places.specs.Rising.{NeverFalls}
@@ -14,9 +19,10 @@ use Rattle.source_core.specs.IndexLines.{BeginsAfter}
 use Rattle.merge_core.specs.declared.feed.Progress.{Progress}
 use Rattle.merge_core.specs.declared.feed.Progress.TheVariants.{Due, Waiting, Past, Ended}
 use Rattle.merge_core.specs.declared.feed.Feed.{Feed}
-use Rattle.merge_core.specs.PairOrders.{Upto}
+use Rattle.merge_core.specs.PairOrders.{Alike, Upto}
+use Rattle.merge_core.specs.Gathering.{EndsAt}
 use Rattle.merge_core.specs.Feeds.{AreWaits, IsNext, IsHead, Fed, held, read_lines, member_of, no_member, given, done}
-use Rattle.merge_core.proofs.PairOrder.{upto_upto}
+use Rattle.merge_core.proofs.PairOrder.{upto_upto, upto_both}
 
 pub no_entry : (limit : ℕ) (line : List ℕ) (o : Option Member) → o ≡ line_entry limit line → limit ≤ length (body_of line) → o ≡ None
 no_entry limit line None e h = refl
@@ -67,6 +73,27 @@ each_next P past m Due ws n h = absurd n
 each_next P past m Waiting ws n h = subst (AllByRecursion P) (sym n.0) (h, tt)
 each_next P past m Past ws n h = subst (AllByRecursion P) (sym n.0) tt
 each_next P past m Ended ws n h = absurd n
+
+-- a line that has the pair of the last one, which lies within the range, lies within it
+pub same_stays : (past : List ℕ → Bool) (pair : Pair) (m : Member) (ms : List Member) → AllByRecursion (λ (k : Member). past k.values.key ≡ false) ms → AllByRecursion (λ k. Upto (member_pair k) pair) ms
+    → EndsAt pair ms → Alike (member_pair m) pair → past m.values.key ≡ false
+same_stays past pair m ms within low end alike =
+    let last = end.1 in
+    let stays = (each_last (λ (k : Member). past k.values.key ≡ false) end.0 (subst (AllByRecursion (λ (k : Member). past k.values.key ≡ false)) end.2 within)) in
+    let at : Alike (member_pair last) pair = upto_both (member_pair last) pair (each_last (λ k. Upto (member_pair k) pair) end.0 (subst (AllByRecursion (λ k. Upto (member_pair k) pair)) end.2 low)) end.3 in
+    let keys : m.values.key ≡ last.values.key =
+    slice_cmp-IsAntisymmetric nat_cmp-IsAntisymmetric m.values.key last.values.key (then_equal _ (slice_cmp nat_cmp m.values.stamp last.values.stamp)
+    (pair_cmp_total.congr (member_pair m) pair (member_pair last) alike ∙ tied_back pair_cmp_total (member_pair last) pair at)) in
+    ap past keys ∙ stays
+  where
+    each_last : (P : Member → Type 0) (us : List Member) → AllByRecursion P (us ++ end.1 ∷ []) → P end.1
+    each_last P [] h = h.0
+    each_last P (u ∷ us) h = each_last P us h.1
+
+    then_equal : (a b : Ordering) → ordering_then a b ≡ Equal → a ≡ Equal
+    then_equal Less b e = cc
+    then_equal Equal b e = refl
+    then_equal Greater b e = cc
 
 -- at most one waits
 pub next_few : (past : List ℕ → Bool) (m : Member) (p : Progress) (ws : List Member) → IsNext past m p ws → length ws ≤ 1
@@ -145,6 +172,11 @@ module _ (limit : ℕ) where
       run_more : (t : List ℕ) → text ≡ Some t → IsRun limit (read_lines t f.cursor) (given limit t f.cursor)
       run_more t e = run_next t old.cursor f.cursor m low (next t e) (was.told t e).run (subst (AllByRecursion (λ k. Upto (member_pair k) low)) (given_old t) (upto t e)) up
 
+      many_more : (t : List ℕ) → text ≡ Some t → length (read_lines t f.cursor) ≡ f.cursor.count
+      many_more t e =
+          let n = next t e in let was_many = (was.told t e).as_many in
+          omega (arith, ap length n.1, length-append (read_lines t old.cursor) (n.0 ∷ []), was_many, count)
+
       pub fed_next : (ws : List Member) → IsNext past m f.progress ws → Fed limit past text extent f ws
       fed_next ws n =
           let many = held_next past m f.progress ws f.cursor.count old.cursor.count n count in
@@ -154,6 +186,8 @@ module _ (limit : ℕ) where
             counted = omega (arith, many);
             told = λ t e. record {
               begins = begins_still t e;
+              as_many = many_more t e;
+              within = subst (AllByRecursion (λ (m : Member). past m.values.key ≡ false)) (sym (done_is t f old.cursor start many ∙ sym (given_old t))) (was.told t e).within;
               run = run_more t e;
               head = head_next past (done limit t f) (given limit t f.cursor) (lines (drop f.cursor.at t)) m ws f.progress
                   (given_next t old.cursor f.cursor m (next t e) ∙ ap (λ ms. ms ++ m ∷ []) (sym (done_is t f old.cursor start many))) n;
@@ -166,13 +200,15 @@ module _ (limit : ℕ) where
       pub done_taken : f.progress ≡ Due → (t : List ℕ) → text ≡ Some t → done limit t f ≡ done limit t old ++ m ∷ []
       done_taken d t e = done_due t f d ∙ given_next t old.cursor f.cursor m (next t e) ∙ ap (λ ms. ms ++ m ∷ []) (sym (given_old t))
 
-      pub fed_taken : f.progress ≡ Due → Fed limit past text extent f []
-      fed_taken d = record {
+      pub fed_taken : f.progress ≡ Due → ((t : List ℕ) → text ≡ Some t → past m.values.key ≡ false) → Fed limit past text extent f []
+      fed_taken d stays = record {
         stands = stands;
         waits = subst (λ (p : Progress). AreWaits p []) (sym d) refl;
         counted = (let h = ap held d in omega arith);
         told = λ t e. record {
           begins = begins_still t e;
+          as_many = many_more t e;
+          within = subst (AllByRecursion (λ (m : Member). past m.values.key ≡ false)) (sym (done_taken d t e)) (each_join (λ (m : Member). past m.values.key ≡ false) (done limit t old) (m ∷ []) (was.told t e).within (stays t e, tt));
           run = run_more t e;
           head = subst (λ (p : Progress). IsHead limit past (done limit t f) (given limit t f.cursor) (lines (drop f.cursor.at t)) [] p) (sym d) (sym (done_due t f d));
         };
@@ -193,6 +229,8 @@ module _ (limit : ℕ) where
             let same : given limit t f.cursor ≡ given limit t old.cursor = ap (map (member_of limit)) (none t e).0 in
             record {
               begins = begins_still t e;
+              as_many = ap length (none t e).0 ∙ (was.told t e).as_many ∙ sym count;
+              within = subst (AllByRecursion (λ (m : Member). past m.values.key ≡ false)) (sym (done_ended t)) (was.told t e).within;
               run = subst (λ ls. IsRun limit ls (map (member_of limit) ls)) (sym (none t e).0) (was.told t e).run;
               head = subst (λ (p : Progress). IsHead limit past (done limit t f) (given limit t f.cursor) (lines (drop f.cursor.at t)) [] p) (sym ended)
                   (same ∙ sym (given_old t) ∙ sym (done_ended t), (none t e).1);

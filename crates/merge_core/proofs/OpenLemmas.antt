@@ -1,5 +1,5 @@
 -- The opening of sources, one after another.
-use Rattle.std.proofs.Common.{◌≡◌, ◌≢◌, ℕ, zero, suc, ◌+◌, ◌-◌, ◌<◌, List, [], ◌∷◌, ◌++◌, length, set, zip, flat_map, map, take, drop, Bool, Option, Some, None, MatchOption, refl, sym, ap, ap₂, ◌∙◌, subst, arith, append-nil, length-append}
+use Rattle.std.proofs.Common.{◌≡◌, ◌≢◌, ℕ, zero, suc, ◌+◌, ◌-◌, ◌<◌, List, [], ◌∷◌, ◌++◌, length, set, zip, flat_map, map, take, drop, Bool, false, Option, Some, None, MatchOption, refl, sym, ap, ap₂, ◌∙◌, subst, arith, append-nil, length-append}
 use Rattle.std.specs.List.{AllByRecursion, sum}
 use Rattle.std.proofs.lemmas.List.Sums.{sum_by-cons}
 use Rattle.std.specs.List.Sorted.{IsPermutation}
@@ -16,7 +16,7 @@ use Rattle.merge_core.specs.declared.feed.Feed.{Feed}
 use Rattle.merge_core.specs.WaitingLines.{WaitingLine, waits_of}
 use Rattle.merge_core.specs.Feeds.{Fed, AreFed, option_list, given, held, member_of, done}
 use Rattle.merge_core.specs.Gathering.{text_or}
-use Rattle.merge_core.proofs.FeedLemmas.{done_due}
+use Rattle.merge_core.proofs.FeedLemmas.{done_due, fresh_done}
 use Rattle.merge_core.proofs.HeapLemmas.{each_permuted, waits_here, waits_other}
 use Rattle.merge_core.proofs.StreamLemmas.{fed_permuted}
 
@@ -35,6 +35,8 @@ module _ (limit : ℕ) (past : List ℕ → Bool) where
         counted = omega arith;
         told = λ t q. record {
           begins = begins t q;
+          as_many = subst (λ n. length (take n (lines (drop c.start t))) ≡ n) (sym e) refl;
+          within = subst (AllByRecursion (λ (m : Member). past m.values.key ≡ false)) (sym (fresh_done limit t f e)) tt;
           run = subst (λ n. IsRun limit (take n (lines (drop c.start t))) (map (member_of limit) (take n (lines (drop c.start t))))) (sym e) (record { entries = refl; ordered = tt });
           head = sym (done_due limit t f refl);
         };

@@ -55,3 +55,7 @@ not_below_itself p q h k = elim (not_above q p k) [
   | inl e ↦ cc (sym (tied_itself pair_cmp_total p) ∙ pair_cmp_total.trans p q p h e)
   | inr e ↦ cc (sym h ∙ tied_back pair_cmp_total q p e)
 ]
+
+-- not above, and not below
+pub upto_both : (p q : Pair) → Upto p q → Upto q p → pair_cmp p q ≡ Equal
+upto_both p q h k = elim (not_above p q h) [ inl e ↦ absurd (not_below_itself p q e k) | inr e ↦ e ]

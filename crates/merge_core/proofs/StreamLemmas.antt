@@ -1,5 +1,5 @@
 -- Sources and feeds, while lines wait.
-use Rattle.std.proofs.Common.{◌≡◌, ◌≢◌, ℕ, zero, suc, ◌+◌, ◌<◌, ◌≤◌, List, [], ◌∷◌, ◌++◌, length, get_or, set, drop, Bool, Option, None, Some, MatchOption, option_map, refl, sym, ap, ◌∙◌, subst, arith, add-zero, length-set}
+use Rattle.std.proofs.Common.{◌≡◌, ◌≢◌, ℕ, zero, suc, ◌+◌, ◌<◌, ◌≤◌, List, [], ◌∷◌, ◌++◌, false, length, get_or, set, drop, Bool, Option, None, Some, MatchOption, option_map, refl, sym, ap, ◌∙◌, subst, arith, add-zero, length-set}
 use Rattle.std.specs.List.{AllByRecursion}
 use Rattle.std.specs.List.Sorted.{IsPermutation}
 use Rattle.std.proofs.lemmas.List.{set-get_or}
@@ -79,19 +79,28 @@ module _ (limit : ℕ) (past : List ℕ → Bool) {S : Type 0} (text : S → Opt
       (subst (Fed limit past (text s) (extent s) f) (sym (waits_permuted n ws ws' p (few_waits f.progress (waits_of n ws) h.0.waits))) h.0, fed_permuted (n + 1) ss fs ws ws' p h.1)
 
   -- the line of a source that waits is taken
-  due_of : (t : List ℕ) (f : Feed) (m : Member) (ws : List Member) → AreWaits f.progress (m ∷ ws) → FedOf limit past t f (m ∷ ws) → (given limit t f.cursor ≡ done limit t f ++ m ∷ []) × (done limit t (due f) ≡ done limit t f ++ m ∷ [])
+  due_of : (t : List ℕ) (f : Feed) (m : Member) (ws : List Member) → AreWaits f.progress (m ∷ ws) → FedOf limit past t f (m ∷ ws) → (given limit t f.cursor ≡ done limit t f ++ m ∷ []) × (done limit t (due f) ≡ done limit t f ++ m ∷ []) × (past m.values.key ≡ false)
   due_of t f m ws waits h =
       let only = only_waits f.progress m ws waits in
       let head = subst (λ (p : Progress). IsHead limit past (done limit t f) (given limit t f.cursor) (lines (drop f.cursor.at t)) (m ∷ ws) p) only.0 h.head in
       let all : given limit t f.cursor ≡ done limit t f ++ m ∷ [] = head.0 ∙ ap (λ l. done limit t f ++ m ∷ l) only.1 in
-      (all, done_due limit t (due f) refl ∙ all)
+      (all, done_due limit t (due f) refl ∙ all, head.1.0)
 
   pub fed_due : (text : Option (List ℕ)) (extent : ℕ) (f : Feed) (m : Member) (ws : List Member) → Fed limit past text extent f (m ∷ ws) → Fed limit past text extent (due f) ws
   fed_due text extent f m ws h = record {
     stands = h.stands;
     waits = (only_waits f.progress m ws h.waits).1;
     counted = omega arith;
-    told = λ t e. record { begins = (h.told t e).begins; run = (h.told t e).run; head = sym (done_due limit t (due f) refl) };
+    told = λ t e.
+        let was = h.told t e in
+        let both = due_of t f m ws h.waits was in
+        record {
+          begins = was.begins;
+          as_many = was.as_many;
+          within = subst (AllByRecursion (λ (k : Member). past k.values.key ≡ false)) (sym both.1) (each_join (λ (k : Member). past k.values.key ≡ false) (done limit t f) (m ∷ []) was.within (both.2, tt));
+          run = was.run;
+          head = sym (done_due limit t (due f) refl);
+        };
   }
 
   -- the first in turn is taken out

@@ -83,6 +83,8 @@ module _ (limit : ℕ) where
     -- what is known of a source with this text, of whose lines these wait
     pub record FedOf (text : List ℕ) (f : Feed) (ws : List Member) : Type 0 where
       pub begins : (before : List (List ℕ)) × BeginsAfter text f.cursor.start before
+      pub as_many : length (read_lines text f.cursor) ≡ f.cursor.count
+      pub within : AllByRecursion (λ (m : Member). past m.values.key ≡ false) (done text f)
       pub run : IsRun limit (read_lines text f.cursor) (given text f.cursor)
       pub head : IsHead (done text f) (given text f.cursor) (lines (drop f.cursor.at text)) ws f.progress
 

@@ -40,6 +40,7 @@ impl Streams {
         ensures failed { IfErr result (λ e. e ≡ FeedFault.Read → S.failures source.new ≡ next_count (S.failures source.old)) }
         ensures fault { (t : List ℕ) → S.text source.old ≡ Some t → IfErr result (NamesLine LINE_LIMIT t) }
         ensures settled { AreSettled self.old.feeds.items → OnOk result (AreSettled self.new.feeds.items) }
+        ensures held { self.new.held ≡ self.old.held }
         ensures added { OnOk result ((f : Feed) × (o : Option Member) × (self.new.feeds.items ≡ self.old.feeds.items ++ f ∷ [])
             × MatchOption o (self.new.waiting ≡ self.old.waiting) (λ m. IsPermutation (record { member = m; source = length self.old.feeds.items } ∷ self.old.waiting) self.new.waiting)
             × Fed LINE_LIMIT (R.past range.now) (S.text source.new) (S.extent source.new) f (option_list o)
@@ -77,11 +78,13 @@ impl Streams {
         ensures start { IfOk result (λ s. AllByRecursion (λ f. f.cursor.start ≡ 0) s.feeds.items) }
         ensures fresh { IfOk result (λ s. all_done LINE_LIMIT S.text sources.new s.feeds.items ≡ []) }
         ensures settled { IfOk result (λ s. AreSettled s.feeds.items) }
+        ensures held { IfOk result (λ s. s.held ≡ 0) }
     {
         let mut streams = Streams {
             feeds: Vec::new(alloc),
             waiting: Queue::new(alloc),
             store: Store::new(alloc),
+            held: 0,
         };
         for i in 0..sources.len() {
             let cursor = match Cursor::new(alloc, 0) {

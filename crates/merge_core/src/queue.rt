@@ -42,6 +42,13 @@ impl Queue {
         }
     }
 
+    /// How many lines wait.
+    pub fn len(&self) -> usize
+        ensures { result ≡ length self.now }
+    {
+        self.heap.len()
+    }
+
     /// Lets a line wait. Without memory the line is lost.
     pub fn push(&mut self, waiting: Waiting) -> Result<(), AllocError>
         ensures ok { OnOk result (IsPermutation (waiting ∷ self.old) self.new) }

@@ -79,6 +79,7 @@ impl Streams {
         ensures probes { IfOk result (λ n. n ≤ digits (S.extent source.old)) }
         ensures fault { (t : List ℕ) → S.text source.old ≡ Some t → IfErr result (NamesLine LINE_LIMIT t) }
         ensures settled { AreSettled self.old.feeds.items → OnOk result (AreSettled self.new.feeds.items) }
+        ensures held { self.new.held ≡ self.old.held }
         ensures added { OnOk result ((f : Feed) × (o : Option Member) × (self.new.feeds.items ≡ self.old.feeds.items ++ f ∷ [])
             × MatchOption o (self.new.waiting ≡ self.old.waiting) (λ m. IsPermutation (record { member = m; source = length self.old.feeds.items } ∷ self.old.waiting) self.new.waiting)
             × Fed LINE_LIMIT (R.past range.now) (S.text source.new) (S.extent source.new) f (option_list o)
@@ -108,12 +109,14 @@ impl Streams {
         ensures cut { IfOk result (λ o. AllByRecursion (λ x. IsCutAt LINE_LIMIT (key.now, stamp.now) (S.text x.0) x.1.cursor) (zip sources.new o.streams.feeds.items)) }
         ensures fresh { IfOk result (λ o. all_done LINE_LIMIT S.text sources.new o.streams.feeds.items ≡ []) }
         ensures settled { IfOk result (λ o. AreSettled o.streams.feeds.items) }
+        ensures held { IfOk result (λ o. o.streams.held ≡ 0) }
         ensures probes { IfOk result (λ o. o.probes ≤ sum (map (λ s. digits (S.extent s)) sources.old)) }
     {
         let mut streams = Streams {
             feeds: Vec::new(alloc),
             waiting: Queue::new(alloc),
             store: Store::new(alloc),
+            held: 0,
         };
         let mut probes = 0u64;
         for i in 0..sources.len() {

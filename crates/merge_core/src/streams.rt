@@ -1,5 +1,5 @@
 //! Sources that are read side by side.
-ghost use Rattle.std.specs.Prelude.{◌≡◌, ◌≢◌, ◌+◌, ◌-◌, ◌^◌, ◌<◌, ◌≤◌, ◌∷◌, ℕ, false, [], length, map, min, slice_index_or, slice_set, IfOk, IfErr, OnOk, MatchOption, IfSome};
+ghost use Rattle.std.specs.Prelude.{◌≡◌, ◌≢◌, ◌+◌, ◌-◌, ◌^◌, ◌<◌, ◌≤◌, ◌∷◌, ℕ, false, [], length, map, max, min, slice_index_or, slice_set, IfOk, IfErr, OnOk, MatchOption, IfSome};
 ghost use Rattle.std.specs.List.{AllByRecursion, sum, zip};
 ghost use Rattle.std.specs.List.Sorted.{IsPermutation};
 ghost use Rattle.std.specs.Ordering.{is_lt};
@@ -26,6 +26,8 @@ pub struct Streams {
     pub feeds: Vec<Feed>,
     pub waiting: Queue,
     pub store: Store,
+    /// The most lines that were held at once: those that wait, and those of a group. It stays at 2^64 - 1.
+    pub held: u64,
 }
 
 impl Streams {
@@ -37,6 +39,7 @@ impl Streams {
         requires { source < length self.old.feeds.items }
         ensures feeds { (d : Feed) → self.new.feeds.items ≡ slice_set self.old.feeds.items source (due (slice_index_or self.old.feeds.items source d)) }
         ensures waiting { self.new.waiting ≡ self.old.waiting }
+        ensures held { self.new.held ≡ self.old.held }
     {
         self.feeds[source].progress = Progress::Due;
     }
@@ -48,6 +51,7 @@ impl Streams {
         ensures first { IfSome result (λ w. AllByRecursion (λ v. is_lt (turn_cmp v w) ≡ false) self.new.waiting) }
         ensures feeds { MatchOption result (self.new.feeds.items ≡ self.old.feeds.items)
             (λ w. (d : Feed) → self.new.feeds.items ≡ slice_set self.old.feeds.items w.source (due (slice_index_or self.old.feeds.items w.source d))) }
+        ensures held { self.new.held ≡ self.old.held }
     {
         match self.waiting.pop() {
             Some(waiting) => {
@@ -68,6 +72,7 @@ impl Streams {
         ensures alike { IfSome result (λ w. Alike (waiting_pair w) (member_pair line.now)) }
         ensures feeds { MatchOption result (self.new.feeds.items ≡ self.old.feeds.items)
             (λ w. (d : Feed) → self.new.feeds.items ≡ slice_set self.old.feeds.items w.source (due (slice_index_or self.old.feeds.items w.source d))) }
+        ensures held { self.new.held ≡ self.old.held }
     {
         match self.waiting.pop_at(line) {
             Some(waiting) => {
@@ -87,6 +92,7 @@ impl Streams {
         ensures waiting { OnOk result (MatchOption line (self.new.waiting ≡ self.old.waiting)
             (λ b. IsPermutation (record { member = b.value; source = source } ∷ self.old.waiting) self.new.waiting)) }
         ensures refused { IfErr result (λ e. e ≡ MergeFault.Memory) }
+        ensures held { self.new.held ≡ self.old.held }
     {
         let Some(line) = line else {
             return Ok(());
@@ -126,6 +132,7 @@ impl Streams {
             × ((a : S) → (S.text s ≡ S.text (slice_index_or sources.old i a)))
             × ((a : S) → (d : Feed) → Drained LINE_LIMIT (member_pair first.now) (S.text (slice_index_or sources.old i a)) (slice_index_or self.old.feeds.items i d) f
             (map (λ b. b.value) rest.old.items) (map (λ b. b.value) rest.new.items))) }
+        ensures held { self.new.held ≡ self.old.held }
     {
         let next = match self.feeds[i].drain(&mut sources[i], first, range, &mut self.store, rest) {
             Ok(next) => next,
@@ -157,6 +164,7 @@ impl Streams {
         ensures group { IfOk result (λ o. MatchOption o ((sources.new ≡ sources.old) × (self.new.feeds.items ≡ self.old.feeds.items) × (self.old.waiting ≡ []) × (self.new.waiting ≡ []))
             (λ first. Grouped LINE_LIMIT S.text S.extent sources.old self.old.feeds.items self.old.waiting sources.new self.new.feeds.items self.new.waiting
             (member_pair first.value) (first.value ∷ map (λ b. b.value) rest.new.items))) }
+        ensures held { self.new.held ≡ self.old.held }
     {
         let Some(next) = self.take_first() else {
             return Ok(None);
@@ -176,12 +184,15 @@ impl Streams {
         }
     }
 
-    /// Keeps the buffers of lines that were handed on.
+    /// Counts the lines that are held, and keeps the buffers of those that were handed on.
     pub fn put_back(&mut self, first: Box<Line>, rest: &mut Vec<Box<Line>>)
         ensures feeds { self.new.feeds.items ≡ self.old.feeds.items }
         ensures waiting { self.new.waiting ≡ self.old.waiting }
         ensures rest { rest.new.items ≡ [] }
+        ensures held { self.new.held ≡ max self.old.held (min (length self.old.waiting + 1 + length rest.old.items) (2 ^ 64 - 1)) }
     {
+        let held = self.waiting.len().saturating_add(1).saturating_add(rest.len());
+        self.held = self.held.max(held as u64);
         self.store.put_back(first);
         while let Some(line) = rest.pop() {
             self.store.put_back(line);

@@ -16,7 +16,7 @@ use Rattle.merge_core.specs.LineFaults.{NamesLine}
 use Rattle.merge_core.proofs.BadLines.{bad_named, order_named}
 use Rattle.merge_core.proofs.FailLemmas.{if_err}
 use Rattle.merge_core.proofs.PairOrder.{below_upto, same_upto, same_from}
-use Rattle.merge_core.proofs.FeedLemmas.{each_join, each_next, map_push, line_read}
+use Rattle.merge_core.proofs.FeedLemmas.{each_join, each_next, map_push, line_read, same_stays}
 use Rattle.merge_core.proofs.DrainLemmas.{settled, settled_done, taken, taken_done, at_end, taken_more}
 use Rattle.merge_core.proofs.feed.Feed.drain.Goals as goal
 
@@ -87,7 +87,8 @@ loop-line-preserved g c =
       fed = taken LINE_LIMIT (g.R.Range.past c.args.range.now) (λ (b : Box Line Global). b.value) (g.S.Source.text c.loop-line.source) (g.S.Source.text c.next_line.new.source)
           (g.S.Source.extent c.loop-line.source) (g.S.Source.extent c.next_line.new.source) c.loop-line.self c.next_line.new.cursor c.in_ok-line.field-0 ok.text ok.extent
           inv.due inv.fed ok.stands ok.start ok.count ok.given f refl line c.in-Some.is first
-          (λ t e. inv.low t (sym inv.text ∙ e)) (same_from (member_pair m) first alike) inv.due;
+          (λ t e. inv.low t (sym inv.text ∙ e)) (same_from (member_pair m) first alike) inv.due
+          (λ t e. same_stays (g.R.Range.past c.args.range.now) first m (done LINE_LIMIT t c.loop-line.self) (inv.fed.told t e).within (inv.low t (sym inv.text ∙ e)) (inv.last t (sym inv.text ∙ e)) alike);
       due = inv.due;
       begin = c.at-begin-in-Some.ensures;
       last = λ t e. (done LINE_LIMIT t c.loop-line.self, m, more t (inv.text ∙ e), same_from (member_pair m) first alike);

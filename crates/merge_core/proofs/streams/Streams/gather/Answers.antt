@@ -43,6 +43,7 @@ sources-init g c =
     (subst (λ (x : WaitingLine). AllByRecursion (λ v. is_lt (turn_cmp v x) ≡ false) c.take_first.new.self.waiting) is c.in-Some.ensures.first) (omega arith) (tied_itself pair_cmp_total pair) in
     record {
       gathers = subst (λ (l : List (Box Line Global)). Gathers LINE_LIMIT past g.S.Source.text g.S.Source.extent g.S.Source.gave ss fs pair (w.source + 1) ss c.take_first.new.self.feeds.items c.take_first.new.self.waiting (w.member ∷ map (λ (b : Box Line Global). b.value) l)) (sym c.requires.empty) t.gathers;
+      held = c.take_first.ensures.held;
       inside = t.inside;
       due = t.due;
       settled = λ f s.
@@ -222,6 +223,7 @@ sources-preserved g c =
     let less = inv.fewer in
     record {
       gathers = subst (λ l. Gathers LINE_LIMIT past text extent gave c.args.sources.now c.args.self.now.feeds.items pair (w.source + 1) c.drain.new.sources c.take_at.new.self.feeds.items c.take_at.new.self.waiting (first ∷ l)) (sym pushed) t.gathers;
+      held = c.take_at.ensures.held ∙ ok.held ∙ inv.held;
       inside = t.inside;
       due = t.due;
       settled = λ f s.

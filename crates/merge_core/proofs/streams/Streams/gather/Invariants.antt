@@ -16,6 +16,7 @@ abbrev pub invariant-sources : goal.invariant-sources
 invariant-sources g l = record {
   gathers : Gathers LINE_LIMIT (g.R.Range.past l.range) g.S.Source.text g.S.Source.extent g.S.Source.gave l.fn.sources l.fn.self.feeds.items (member_pair l.first.value)
       (l.i + 1) l.sources l.self.feeds.items l.self.waiting (l.first.value ∷ map (λ b. b.value) l.rest.items);
+  held : l.self.held ≡ l.fn.self.held;
   inside : l.i < length l.sources;
   due : (a : g.row.S.Denot) → (d : Feed) → IsDue LINE_LIMIT (member_pair l.first.value) (g.S.Source.text (get_or l.sources l.i a)) (get_or l.self.feeds.items l.i d);
   settled : (f : Feed) → IsSettled f → AreSettled (set l.self.feeds.items l.i f);

@@ -12,6 +12,7 @@ invariant-loop-i g l = record {
   text : map g.S.Source.text l.sources ≡ map g.S.Source.text l.fn.sources;
   extent : map g.S.Source.extent l.sources ≡ map g.S.Source.extent l.fn.sources;
   failures : map g.S.Source.failures l.sources ≡ map g.S.Source.failures l.fn.sources;
+  held : l.streams.held ≡ 0;
   count : length l.streams.feeds.items ≡ l.i;
   placed : AllByRecursion (λ (w : WaitingLine). w.source < length l.streams.feeds.items) l.streams.waiting;
   fed : AreFed LINE_LIMIT (g.R.Range.past l.range) g.S.Source.text g.S.Source.extent 0 l.sources l.streams.feeds.items l.streams.waiting;
