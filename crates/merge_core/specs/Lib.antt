@@ -9,3 +9,4 @@ pub mod Reached
 pub mod Written
 pub mod Openings
 pub mod Collections
+pub mod NextLine

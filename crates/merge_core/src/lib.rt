@@ -23,4 +23,5 @@ pub use crate::merging::merge;
 pub use crate::range::{All, Range};
 pub use crate::sink::Sink;
 pub use crate::sought::Opened;
+pub use crate::store::Store;
 pub use crate::streams::Streams;

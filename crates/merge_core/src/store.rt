@@ -1,5 +1,5 @@
 //! The reading of lines into buffers that are used again.
-ghost use Rattle.std.specs.Prelude.{◌≡◌, ◌≢◌, ◌+◌, ◌<◌, ◌≤◌, ◌++◌, ◌∷◌, ℕ, List, [], drop, Some, None, MatchOption, MatchResult, IfOk, IfErr, OnOk};
+ghost use Rattle.std.specs.Prelude.{◌≡◌, ◌≢◌, ◌+◌, ◌<◌, ◌≤◌, ◌++◌, ◌∷◌, ℕ, List, [], drop, option_map, Some, None, MatchOption, MatchResult, IfOk, IfErr, OnOk};
 ghost use Rattle.cdxj_core.specs.declared.limit.TheConstants.{LINE_LIMIT};
 ghost use Rattle.cdxj_core.specs.Members.{line_entry};
 ghost use Rattle.cdxj_places.specs.TextLines.{lines};
@@ -7,6 +7,7 @@ ghost use Rattle.devices.specs.Device.{next_count};
 ghost use Rattle.source_core.specs.Cursors.{Stands, reach};
 ghost use Rattle.merge_core.specs.Feeds.{read_lines};
 ghost use Rattle.merge_core.specs.LineFaults.{IsFaultAt};
+ghost use Rattle.merge_core.specs.NextLine.{IsNextLine};
 
 use crate::fault::FeedFault;
 use cdxj_core::{Line, LineFault};
@@ -22,7 +23,7 @@ fn boxed(alloc: Global, line: Line) -> Result<Box<Line>, LineFault>
     }
 }
 
-/// The buffers of lines that were read and aren't needed any more.
+/// Reads lines, into the buffers of those that were read and aren't needed any more.
 #[derive(Drop)]
 pub struct Store {
     alloc: Global,
@@ -84,6 +85,7 @@ impl Store {
         ensures given { (t : List ℕ) → S.text source.old ≡ Some t → IfOk result (λ o. MatchOption o
             ((read_lines t cursor.new ≡ read_lines t cursor.old) × (lines (drop cursor.new.at t) ≡ []))
             (λ line. (l : List ℕ) × (read_lines t cursor.new ≡ read_lines t cursor.old ++ l ∷ []) × (line_entry LINE_LIMIT l ≡ Some line.value))) }
+        ensures next { (t : List ℕ) → S.text source.old ≡ Some t → IfOk result (λ o. IsNextLine LINE_LIMIT t cursor.old.at cursor.new.at (option_map (λ b. b.value) o)) }
         ensures fault { (t : List ℕ) → S.text source.old ≡ Some t → IfErr result (IsFaultAt LINE_LIMIT (lines (drop cursor.old.at t)) cursor.old.at) }
     {
         let begin = cursor.at();

@@ -9,7 +9,8 @@ use Rattle.source_core.specs.LinesAtFault.{BeginsAt}
 use Rattle.source_core.proofs.SortedCuts.{begins_at}
 use Rattle.query_core.specs.declared.fault.AnswerFault.{AnswerFault}
 use Rattle.query_core.specs.declared.fault.AnswerFault.TheVariants as fault
-use Rattle.query_core.specs.NextLine.{IsNextLine, IsLineFault, IsBadThere}
+use Rattle.merge_core.specs.NextLine.{IsNextLine}
+use Rattle.query_core.specs.NextLine.{IsLineFault}
 use Rattle.query_core.specs.Checking.{IsLastOf, FallsAfter, EndsInBadLine, EndsOutOfOrder, IsChecked}
 use Rattle.query_core.proofs.Runs.{run_push, take_next}
 
@@ -69,11 +70,11 @@ module _ (limit : ℕ) (t : List ℕ) where
         falls = falls;
       }
 
-      pub checked_fault : (f : AnswerFault) → IsLineFault at f → IsBadThere limit t at f → IsChecked limit t (Err f)
-      checked_fault fault.Memory known bad = tt
-      checked_fault (fault.Read i) known bad = tt
-      checked_fault fault.Write known bad = absurd known
-      checked_fault (fault.BadLine i offset) known bad = subst (EndsInBadLine limit t) (sym known.1) (record {
+      pub checked_fault : (f : AnswerFault) → IsLineFault limit t at f → IsChecked limit t (Err f)
+      checked_fault fault.Memory known = tt
+      checked_fault (fault.Read i) known = tt
+      checked_fault fault.Write known = absurd known
+      checked_fault (fault.BadLine i offset) known = let bad = known.2 in subst (EndsInBadLine limit t) (sym known.1) (record {
         before = take count (lines t);
         line = bad.0;
         begins = begins bad.0 bad.1 bad.2;
@@ -81,7 +82,7 @@ module _ (limit : ℕ) (t : List ℕ) where
         run = checked.run;
         bad = bad.3;
       })
-      checked_fault (fault.OutOfOrder i offset) known bad = absurd known
-      checked_fault fault.TooManySources known bad = absurd known
-      checked_fault fault.BadSizes known bad = absurd known
-      checked_fault fault.Input known bad = absurd known
+      checked_fault (fault.OutOfOrder i offset) known = absurd known
+      checked_fault fault.TooManySources known = absurd known
+      checked_fault fault.BadSizes known = absurd known
+      checked_fault fault.Input known = absurd known

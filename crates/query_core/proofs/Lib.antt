@@ -1,4 +1,3 @@
-pub mod BadLines
 pub mod Runs
 pub mod CheckLemmas
 pub mod TakenLines

@@ -7,6 +7,7 @@ ghost use Rattle.query_core.specs.Checking.{FallsAfter, IsChecked, IsCheckFault}
 use crate::fault::AnswerFault;
 use crate::line_reading::{falls, next_line};
 use cdxj_core::Line;
+use merge_core::Store;
 use source_core::{Cursor, Source};
 use std::alloc::Global;
 
@@ -32,15 +33,16 @@ pub fn check<S: Source>(alloc: Global, source: &mut S) -> Result<u64, AnswerFaul
 {
     let _size = source.size();
     let mut cursor = Cursor::new(alloc, 0)?;
-    let mut bytes = Vec::new(alloc);
+    let mut store = Store::new(alloc);
     let mut previous: Option<Box<Line>> = None;
-    let mut spare: Option<Box<Line>> = None;
     let mut offset = 0;
-    while let Some(line) = next_line(alloc, source, &mut cursor, &mut bytes, spare)? {
+    while let Some(line) = next_line(&mut store, source, &mut cursor)? {
         if falls_after(&previous, &line) {
             return Err(AnswerFault::OutOfOrder(0, offset));
         }
-        spare = previous.replace(line);
+        if let Some(compared) = previous.replace(line) {
+            store.put_back(compared);
+        }
         offset = cursor.at();
     }
     Ok(cursor.count())

@@ -5,7 +5,8 @@ use Rattle.cdxj_core.specs.declared.limit.TheConstants.{LINE_LIMIT}
 use Rattle.cdxj_core.specs.declared.line.Line.{Line}
 use Rattle.cdxj_core.specs.Members.{Member}
 use Rattle.source_core.specs.IndexLines.{lines}
-use Rattle.query_core.specs.NextLine.{IsNextLine, CountsSource}
+use Rattle.merge_core.specs.NextLine.{IsNextLine}
+use Rattle.query_core.specs.NextLine.{CountsSource}
 use Rattle.query_core.specs.Checking.{FallsAfter, EndsOutOfOrder}
 use Rattle.query_core.proofs.CheckLemmas.{CheckedTo, checked_more, checked_whole, checked_falls, checked_fault}
 use Rattle.query_core.proofs.checking.check.Goals as goal
@@ -23,7 +24,7 @@ returns-in_err-line-clause-checked g c =
     let long = inv.long t e in
     let known = c.in_err-line.ensures in
     rw (given.1, given.2) (checked_fault LINE_LIMIT t c.loop-previous.cursor.at c.loop-previous.cursor.count (value c.loop-previous.previous) (inv.told t e) rest
-    (omega (arith, long, inv.stands.filled.within, inv.extent)) c.in_err-line.field-0.0 known.fault (known.bad t told))
+    (omega (arith, long, inv.stands.filled.within, inv.extent)) c.in_err-line.field-0.0 (known.fault t told))
 
 pub returns-in_err-line-clause-failures : goal.returns-in_err-line-clause-failures
 returns-in_err-line-clause-failures g c =
@@ -64,7 +65,7 @@ loop-previous-preserved g c =
           let next = subst (λ o. IsNextLine LINE_LIMIT t c.loop-previous.cursor.at c.next_line.new.cursor.at (value o)) c.in-Some.is (ok.line t told) in
           let more = checked_more LINE_LIMIT t c.loop-previous.cursor.at c.loop-previous.cursor.count (value c.loop-previous.previous) (inv.told t e) rest
           c.next_line.new.cursor.at c.in-Some.line.value next (subst (λ m. FallsAfter (value c.loop-previous.previous) m → ⊥) c.deref.ensures (c.falls_after.ensures.stays c.if-falls_after.false)) in
-          subst (λ n. CheckedTo LINE_LIMIT t n (value c.replace-spare.new.self)) (sym counted) (subst (λ o. CheckedTo LINE_LIMIT t (c.loop-previous.cursor.count + 1) (value o)) (sym c.replace-spare.ensures.after) more);
+          subst (λ n. CheckedTo LINE_LIMIT t n (value c.replace.new.self)) (sym counted) (subst (λ o. CheckedTo LINE_LIMIT t (c.loop-previous.cursor.count + 1) (value o)) (sym c.replace.ensures.after) more);
     }
 
 counted : (found : Option (Box Line Global)) (n count : ℕ) → MatchOption found (n ≡ count) (λ _. n ≡ count + 1) → MatchOption (value found) (n ≡ count) (λ _. n ≡ count + 1)

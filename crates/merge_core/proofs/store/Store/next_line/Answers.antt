@@ -40,3 +40,13 @@ returns-in-Ok-clause-given g c = λ t e.
       ap₂ (λ n s. take n (lines (drop s t))) more ok.start ∙ take_next was.count (lines (drop was.start t)) bytes (lines (drop now.at t)) first,
       c.in-Ok.ensures.read,
     )
+
+pub returns-in-Ok-clause-next : goal.returns-in-Ok-clause-next
+returns-in-Ok-clause-next g c = λ t e.
+    let bytes = c.next.new.line.items in
+    let rest = lines (drop c.next.new.self.at t) in
+    let is : c.in-Ok-true.field-0 ≡ true = search rules in (
+      bytes,
+      subst (λ b. lines (drop c.args.cursor.now.at t) ≡ first_then (line_found b bytes) rest) is (c.in-Ok-true.ensures.given t e),
+      c.in-Ok.ensures.read,
+    )
