@@ -17,3 +17,4 @@ pub mod KeyStarts
 pub mod ReadLines
 pub mod StartLemmas
 pub mod ReadLemmas
+pub mod HeldLemmas

@@ -24,7 +24,7 @@ above_none [] = tt
 above_none (w ∷ ws) = (tt, above_none ws)
 
 -- what is done stands below what comes next
-below_next : (b : Option Pair) (pair : Pair) → IsAbove b pair → (ms : List Member) → AllByRecursion (λ m. IsUpto b (member_pair m)) ms → AreBelow pair ms
+pub below_next : (b : Option Pair) (pair : Pair) → IsAbove b pair → (ms : List Member) → AllByRecursion (λ m. IsUpto b (member_pair m)) ms → AreBelow pair ms
 below_next None pair up ms h = each_weaker (λ (m : Member) (q : ⊥). absurd q) ms h
 below_next (Some bound) pair up ms h = each_weaker (λ (m : Member) (q : Upto (member_pair m) bound). then_below (member_pair m) bound pair q up) ms h
 

@@ -1,5 +1,5 @@
 -- What was taken of sources that are indexes, beside all of their collection.
-use Rattle.std.proofs.Common.{◌≡◌, inl, inr, ℕ, ◌+◌, List, [], ◌∷◌, ◌++◌, length, map, filter, zip, Bool, true, false, not, ◌&&◌, Option, None, Some, refl, sym, ap, ap₂, ◌∙◌, subst, arith, append-nil, cond, is_gt}
+use Rattle.std.proofs.Common.{◌≡◌, inl, inr, ℕ, ◌+◌, List, [], ◌∷◌, ◌++◌, length, map, filter, zip, Bool, true, false, not, ◌&&◌, Option, None, Some, refl, sym, ap, ap₂, ◌∙◌, subst, arith, append-nil, is_gt}
 use Rattle.std.specs.List.{AllByRecursion}
 use Rattle.std.specs.Ordering.{ordering_reverse}
 use Rattle.std.proofs.lemmas.Bool.{true≢false}
@@ -26,7 +26,7 @@ use Rattle.merge_core.proofs.HeapLemmas.{each_waits}
 use Rattle.merge_core.proofs.Many.{is_told, told_moved}
 use Rattle.merge_core.proofs.MergeLemmas.{place_below, lower_by_pair}
 use Rattle.merge_core.proofs.WholeLemmas.{told_known}
-use Rattle.merge_core.proofs.ReadLines.{IsUpward, stays, is_read, IsLate, stays_lower, fed_read, gt_is, and_left, and_right, and_false, not_true, not_false, filter_out, none_wanted, wanted_low, wanted_high}
+use Rattle.merge_core.proofs.ReadLines.{IsUpward, stays, is_read, IsLate, stays_lower, fed_read, gt_is, and_left, and_right, and_false, not_true, not_false, filter_out, each_filter, none_wanted, wanted_low, wanted_high}
 use Rattle.merge_core.proofs.StartLemmas.{RunsFrom, runs_whole, runs_sought, runs_kept}
 
 -- ---- what stands above a bound
@@ -53,12 +53,6 @@ bound_above (Some p) m h = gt_back (member_pair m) p (not_false _ h)
 bound_lower : (b : Option Pair) (x y : Member) → upto_bound b x ≡ true → upto_bound b y ≡ false → Below (member_pair x) (member_pair y)
 bound_lower None x y h k = absurd (true≢false (sym h))
 bound_lower (Some p) x y h k = then_below (member_pair x) p (member_pair y) (not_true _ h) (gt_back (member_pair y) p (not_false _ k))
-
--- what a filter lets through, of things that have a property
-each_filter : {X : Type 0} (A : X → Type 0) (f : X → Bool) (xs : List X) → AllByRecursion A xs → AllByRecursion (λ x. A x × (f x ≡ true)) (filter f xs)
-each_filter A f [] h = tt
-each_filter A f (x ∷ xs) h = (elim (f x) as (λ b. f x ≡ b → AllByRecursion (λ x. A x × (f x ≡ true)) (cond b (x ∷ filter f xs) (filter f xs)))
-    [ true ↦ (λ e. ((h.0, e), each_filter A f xs h.1)) | false ↦ (λ e. each_filter A f xs h.1) ]) refl
 
 -- ---- all sources
 

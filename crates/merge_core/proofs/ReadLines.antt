@@ -30,13 +30,19 @@ filter_same : {X : Type 0} (f g : X → Bool) (xs : List X) → AllByRecursion (
 filter_same f g [] h = refl
 filter_same f g (x ∷ xs) h = ap₂ (λ b l. cond b (x ∷ l) l) h.0 (filter_same f g xs h.1)
 
+-- what a filter lets through, of things that have a property
+pub each_filter : {X : Type 0} (A : X → Type 0) (f : X → Bool) (xs : List X) → AllByRecursion A xs → AllByRecursion (λ x. A x × (f x ≡ true)) (filter f xs)
+each_filter A f [] h = tt
+each_filter A f (x ∷ xs) h = (elim (f x) as (λ b. f x ≡ b → AllByRecursion (λ x. A x × (f x ≡ true)) (cond b (x ∷ filter f xs) (filter f xs)))
+    [ true ↦ (λ e. ((h.0, e), each_filter A f xs h.1)) | false ↦ (λ e. each_filter A f xs h.1) ]) refl
+
 -- what a filter leaves out
 pub filter_out : {X : Type 0} (f : X → Bool) (xs : List X) → AllByRecursion (λ x. f x ≡ false) (filter (λ x. not (f x)) xs)
 filter_out f [] = tt
 filter_out f (x ∷ xs) = (elim (f x) as (λ b. f x ≡ b → AllByRecursion (λ y. f y ≡ false) (cond (not b) (x ∷ filter (λ y. not (f y)) xs) (filter (λ y. not (f y)) xs)))
     [ true ↦ (λ e. filter_out f xs) | false ↦ (λ e. (e, filter_out f xs)) ]) refl
 
-take_of_map : {X Y : Type 0} (f : X → Y) (n : ℕ) (xs : List X) → take n (map f xs) ≡ map f (take n xs)
+pub take_of_map : {X Y : Type 0} (f : X → Y) (n : ℕ) (xs : List X) → take n (map f xs) ≡ map f (take n xs)
 take_of_map f zero xs = refl
 take_of_map f (suc n) [] = refl
 take_of_map f (suc n) (x ∷ xs) = ap (λ l. f x ∷ l) (take_of_map f n xs)

@@ -19,7 +19,7 @@ use Rattle.merge_core.proofs.PairOrder.{upto_itself}
 use Rattle.merge_core.proofs.FeedLemmas.{each_join, done_due}
 use Rattle.merge_core.proofs.HeapLemmas.{each_permuted, waits_here, waits_other, waits_permuted}
 
-few_waits : (p : Progress) (ws : List Member) → AreWaits p ws → length ws ≤ 1
+pub few_waits : (p : Progress) (ws : List Member) → AreWaits p ws → length ws ≤ 1
 few_waits Due ws h = omega (arith, ap length h)
 few_waits Waiting ws h = omega (arith, ap length h.1)
 few_waits Past ws h = omega (arith, ap length h)

@@ -10,3 +10,4 @@ pub mod Written
 pub mod Openings
 pub mod Collections
 pub mod NextLine
+pub mod Counts

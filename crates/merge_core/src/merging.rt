@@ -1,12 +1,15 @@
 //! The merge of several sources.
-ghost use Rattle.std.specs.Prelude.{◌≡◌, ◌≢◌, ◌⊎◌, ℕ, Option, List, [], map, false, true, IfOk, IfErr, OnOk, OnErr};
+ghost use Rattle.std.specs.Prelude.{◌≡◌, ◌≢◌, ◌⊎◌, ◌+◌, ◌≤◌, ℕ, Option, List, [], length, map, false, true, IfOk, IfErr, OnOk, OnErr};
 ghost use Rattle.std.specs.List.{AllByRecursion, zip};
 ghost use Rattle.cdxj_core.specs.declared.limit.TheConstants.{LINE_LIMIT};
+ghost use Rattle.cdxj_core.specs.Indexes.{IsIndex};
 ghost use Rattle.cdxj_core.specs.Members.{Member};
 ghost use Rattle.cdxj_places.specs.Pairs.{Pair};
 ghost use Rattle.devices.specs.Device.{next_count};
 ghost use Rattle.merge_core.specs.declared.feed.Feed.{Feed};
 ghost use Rattle.merge_core.specs.WaitingLines.{WaitingLine};
+ghost use Rattle.merge_core.specs.Collections.{Known, all_lines};
+ghost use Rattle.merge_core.specs.Counts.{ShareAtMost};
 ghost use Rattle.merge_core.specs.Failures.{RaisedAt};
 ghost use Rattle.merge_core.specs.LineFaults.{IsFaultOf};
 ghost use Rattle.merge_core.specs.Feeds.{Moved, Ready, AreSettled};
@@ -42,6 +45,8 @@ pub fn merge<S: Source, R: Range, K: Sink, O: Output>(
     ensures written { OnOk result (O.failures out.new ≡ O.failures out.old) }
     ensures fault { IfErr result (IsFaultOf LINE_LIMIT (map S.text sources.old)) }
     ensures settled { OnOk result (AreSettled streams.new.feeds.items) }
+    ensures held { (texts : List (List ℕ)) → (indexes : List (List Member)) → (most : ℕ) → Known (map S.text sources.old) texts → AllTwo (IsIndex LINE_LIMIT) texts indexes → ShareAtMost most (all_lines indexes)
+        → streams.old.held ≤ length sources.old + most → streams.new.held ≤ length sources.old + most }
     ensures ended { IfOk result (λ all. all ≡ true → streams.new.waiting ≡ []) }
     ensures enough { IfOk result (λ all. all ≡ false → K.Enough sink.new) }
     ensures wrote { OnOk result ((b : Option Pair) × (taken : List Member)

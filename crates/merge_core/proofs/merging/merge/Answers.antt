@@ -1,4 +1,4 @@
-use Rattle.std.proofs.Common.{arith, ◌≡◌, ◌∷◌, ◌++◌, [], inl, inr, Box, Global, List, Some, None, MatchOption, map, zip, refl, sym, ap₂, ◌∙◌, subst}
+use Rattle.std.proofs.Common.{arith, ◌≡◌, ◌+◌, ◌≤◌, length, ◌∷◌, ◌++◌, [], inl, inr, Box, Global, List, Some, None, MatchOption, map, zip, refl, sym, ap₂, ◌∙◌, subst}
 use Rattle.std.proofs.lemmas.Result.{err_from_is_err_and}
 use Rattle.cdxj_core.specs.declared.limit.TheConstants.{LINE_LIMIT}
 use Rattle.cdxj_core.specs.declared.line.Line.{Line}
@@ -7,12 +7,14 @@ use Rattle.cdxj_places.specs.Places.{place_cmp}
 use Rattle.cdxj_places.specs.Rising.{rising}
 use Rattle.merge_core.specs.declared.feed.Feed.{Feed}
 use Rattle.merge_core.specs.WaitingLines.{WaitingLine}
+use Rattle.merge_core.specs.Collections.{Known}
 use Rattle.merge_core.specs.Gathering.{AllTwo, Grouped}
 use Rattle.merge_core.specs.Reached.{Reached}
 use Rattle.merge_core.specs.LineFaults.{IsFaultOf}
 use Rattle.merge_core.proofs.WholeLemmas.{texts_kept}
 use Rattle.merge_core.proofs.FailLemmas.{if_err, raised_from}
 use Rattle.merge_core.proofs.Many.{Move, moved_trans, moved_still, told_moved}
+use Rattle.merge_core.proofs.HeldLemmas.{held_most, held_after}
 use Rattle.merge_core.proofs.MergeLemmas.{above_none, handed_none, handed_next, on_err}
 use Rattle.merge_core.specs.Feeds.{AreSettled}
 use Rattle.merge_core.proofs.merging.merge.Goals as goal
@@ -23,6 +25,7 @@ loop-rest-init g c = record {
   settled = c.requires.settled;
   reads = refl;
   writes = refl;
+  held = λ texts indexes most known are share h. h;
   came = (
     None,
     [],
@@ -178,6 +181,15 @@ loop-rest-preserved g c =
       settled = subst AreSettled (sym c.put_back.ensures.feeds) ok.settled;
       reads = ok.worked ∙ c.loop-rest.invariant.reads;
       writes = c.in_ok-more.ensures.worked ∙ c.loop-rest.invariant.writes;
+      held = λ texts indexes most known are share h.
+          let kept_old = texts_kept text extent gave old was old_feeds was_feeds c.requires.ready.same (omega arith) came.2.moved in
+          let kept_new = texts_kept text extent gave was now was_feeds feeds came.2.ready.same (omega arith) ok.moved in
+          let most_here = held_most LINE_LIMIT past text extent gave old was now was_feeds feeds c.loop-rest.streams.waiting c.gather.new.self.waiting came.0 pair came.1 group came.2.handed came.2.above grouped ok.ready
+          texts indexes most known (subst (λ l. Known l texts) (sym (kept_new ∙ kept_old)) known) (told_moved text extent gave old was old_feeds was_feeds came.2.ready.same came.2.moved) are share in
+          let before = c.loop-rest.invariant.held texts indexes most known are share h in
+          let same = ok.held in
+          held_after (λ (b : Box Line Global). b.value) c.gather.new.self.waiting first c.gather.new.rest.items c.gather.new.self.held c.put_back.new.self.held (length old + most) c.put_back.ensures.held
+          (omega (arith, before, same)) (let e : length now ≡ length old = omega arith in subst (λ n. length c.gather.new.self.waiting + length group ≤ n + most) e most_here);
       came = (
         Some pair,
         came.1 ++ rising member_place place_cmp group,
@@ -195,3 +207,46 @@ returns-in_err-first-clause-fault g c =
     let q : p.0 ≡ c.in_err-first.field-0.0 = p.2 in
     if_err c.from_residual.result p.0 (IsFaultOf LINE_LIMIT texts) p.1
     (subst (IsFaultOf LINE_LIMIT texts) (sym q) (subst (λ ts. IsFaultOf LINE_LIMIT ts c.in_err-first.field-0.0) kept c.in_err-first.ensures.fault))
+
+pub returns-then-not-more-clause-held : goal.returns-then-not-more-clause-held
+returns-then-not-more-clause-held g c =
+    let past = g.R.Range.past c.args.range.now in
+    let text = g.S.Source.text in let extent = g.S.Source.extent in let gave = g.S.Source.gave in
+    let old = c.args.sources.now in let old_feeds = c.args.streams.now.feeds.items in
+    let was = c.loop-rest.sources in let was_feeds = c.loop-rest.streams.feeds.items in
+    let now = c.gather.new.sources in let feeds = c.gather.new.self.feeds.items in
+    let came = c.loop-rest.invariant.came in
+    let ok = c.in_ok-first.ensures in
+    let values = map (λ (b : Box Line Global). b.value) in
+    let first = c.in-Some.first.value in
+    let pair = member_pair first in
+    let group = first ∷ values c.gather.new.rest.items in
+    let grouped = subst (λ o. MatchOption o ((now ≡ was) × (feeds ≡ was_feeds) × (c.loop-rest.streams.waiting ≡ []) × (c.gather.new.self.waiting ≡ []))
+    (λ (b : Box Line Global). Grouped LINE_LIMIT text extent was was_feeds c.loop-rest.streams.waiting now feeds c.gather.new.self.waiting (member_pair b.value) (b.value ∷ values c.gather.new.rest.items))) c.in-Some.is ok.group in
+    λ texts indexes most known are share h.
+    let kept_old = texts_kept text extent gave old was old_feeds was_feeds c.requires.ready.same (omega arith) came.2.moved in
+    let kept_new = texts_kept text extent gave was now was_feeds feeds came.2.ready.same (omega arith) ok.moved in
+    let most_here = held_most LINE_LIMIT past text extent gave old was now was_feeds feeds c.loop-rest.streams.waiting c.gather.new.self.waiting came.0 pair came.1 group came.2.handed came.2.above grouped ok.ready
+    texts indexes most known (subst (λ l. Known l texts) (sym (kept_new ∙ kept_old)) known) (told_moved text extent gave old was old_feeds was_feeds came.2.ready.same came.2.moved) are share in
+    let before = c.loop-rest.invariant.held texts indexes most known are share h in
+    let same = ok.held in
+    held_after (λ (b : Box Line Global). b.value) c.gather.new.self.waiting first c.gather.new.rest.items c.gather.new.self.held c.put_back.new.self.held (length old + most) c.put_back.ensures.held
+    (omega (arith, before, same)) (let e : length now ≡ length old = omega arith in subst (λ n. length c.gather.new.self.waiting + length group ≤ n + most) e most_here)
+
+pub returns-in_err-first-clause-held : goal.returns-in_err-first-clause-held
+returns-in_err-first-clause-held g c = λ texts indexes most known are share h.
+    let before = c.loop-rest.invariant.held texts indexes most known are share h in
+    let same = c.gather.ensures.held in
+    omega (arith, before, same)
+
+pub returns-in_err-more-clause-held : goal.returns-in_err-more-clause-held
+returns-in_err-more-clause-held g c = λ texts indexes most known are share h.
+    let before = c.loop-rest.invariant.held texts indexes most known are share h in
+    let same = c.gather.ensures.held in
+    omega (arith, before, same)
+
+pub returns-clause-held : goal.returns-clause-held
+returns-clause-held g c = λ texts indexes most known are share h.
+    let before = c.loop-rest.invariant.held texts indexes most known are share h in
+    let same = c.gather.ensures.held in
+    omega (arith, before, same)

@@ -1,0 +1,164 @@
+-- How many lines are held at once.
+use Rattle.std.proofs.Common.{◌≡◌, ◌≢◌, ◌^◌, max, min, ℕ, zero, suc, ◌+◌, ◌-◌, ◌==◌, ◌<◌, ◌≤◌, List, [], ◌∷◌, ◌++◌, length, take, drop, map, filter, Bool, true, false, not, cond, Option, Some, inl, inr, refl, sym, ap, ◌∙◌, subst, arith, length-append, take-append-drop, Ordering, Less, Equal, Greater, is_gt, is_lt, is_eq}
+use Rattle.std.specs.List.{AllByRecursion}
+use Rattle.std.proofs.lemmas.Bool.{cases_Bool, cond-true}
+use Rattle.std.proofs.lemmas.Bool.Decides.{nat_tests}
+use Rattle.std.proofs.lemmas.List.Elements.{filter-append}
+use Rattle.cdxj_places.specs.Pairs.{Pair, pair_cmp}
+use Rattle.cdxj_places.specs.TextLines.{lines}
+use Rattle.cdxj_places.proofs.RisingLaws.{each_weaker}
+use Rattle.cdxj_core.specs.Indexes.{IsIndex}
+use Rattle.cdxj_core.specs.Members.{Member, member_pair}
+use Rattle.merge_core.specs.declared.feed.Feed.{Feed}
+use Rattle.merge_core.specs.PairOrders.{Upto, IsAbove, is_low}
+use Rattle.merge_core.specs.WaitingLines.{WaitingLine, waiting_pair, is_of, waits_of}
+use Rattle.merge_core.specs.Collections.{Known, all_lines}
+use Rattle.merge_core.specs.Counts.{is_at, ShareAtMost}
+use Rattle.merge_core.specs.Feeds.{Fed, AreFed, Ready, member_of, given, held, done}
+use Rattle.merge_core.specs.Gathering.{AllTwo, AreTold, Grouped, text_or, all_done}
+use Rattle.merge_core.specs.Reached.{Handed}
+use Rattle.merge_core.proofs.MergeLemmas.{below_next}
+use Rattle.merge_core.proofs.ReadLines.{take_of_map, members_are, each_filter}
+use Rattle.merge_core.proofs.StreamLemmas.{few_waits}
+use Rattle.merge_core.proofs.WholeLemmas.{told_known}
+
+-- ---- how many a filter lets through
+
+filter_split : {X : Type 0} (f : X → Bool) (xs : List X) → length xs ≡ length (filter f xs) + length (filter (λ x. not (f x)) xs)
+filter_split f [] = refl
+filter_split f (x ∷ xs) =
+    let h = filter_split f xs in
+    elim (f x) as (λ b. length (x ∷ xs) ≡ length (cond b (x ∷ filter f xs) (filter f xs)) + length (cond (not b) (x ∷ filter (λ y. not (f y)) xs) (filter (λ y. not (f y)) xs)))
+    [ true ↦ omega arith | false ↦ omega arith ]
+
+filter_fewer : {X : Type 0} (f g : X → Bool) (xs : List X) → length (filter g (filter f xs)) ≤ length (filter g xs)
+filter_fewer f g [] = omega arith
+filter_fewer f g (x ∷ xs) =
+    let h = filter_fewer f g xs in
+    elim (f x) as (λ b. length (filter g (cond b (x ∷ filter f xs) (filter f xs))) ≤ length (cond (g x) (x ∷ filter g xs) (filter g xs))) [
+      | true ↦ (elim (g x) as (λ b. length (cond b (x ∷ filter g (filter f xs)) (filter g (filter f xs))) ≤ length (cond b (x ∷ filter g xs) (filter g xs))) [ true ↦ omega arith | false ↦ h ])
+      | false ↦ (elim (g x) as (λ b. length (filter g (filter f xs)) ≤ length (cond b (x ∷ filter g xs) (filter g xs))) [ true ↦ omega arith | false ↦ h ])
+    ]
+
+filter_weaker : {X : Type 0} (f g : X → Bool) (xs : List X) → AllByRecursion (λ x. f x ≡ true → g x ≡ true) xs → length (filter f xs) ≤ length (filter g xs)
+filter_weaker f g [] h = omega arith
+filter_weaker f g (x ∷ xs) h =
+    let ih = filter_weaker f g xs h.1 in
+    (elim (f x) as (λ b. (b ≡ true → g x ≡ true) → length (cond b (x ∷ filter f xs) (filter f xs)) ≤ length (cond (g x) (x ∷ filter g xs) (filter g xs))) [
+      | true ↦ (λ k. let e = cond-true (g x) (x ∷ filter g xs) (filter g xs) (k refl) in omega (arith, ap length e))
+      | false ↦ (λ k. elim (g x) as (λ b. length (filter f xs) ≤ length (cond b (x ∷ filter g xs) (filter g xs))) [ true ↦ omega arith | false ↦ ih ])
+    ]) h.0
+
+pub filter_front : {X : Type 0} (f : X → Bool) (n : ℕ) (xs : List X) → length (filter f (take n xs)) ≤ length (filter f xs)
+filter_front f n xs =
+    omega (arith, ap (λ l. length (filter f l)) (take-append-drop n xs), ap length (filter-append f (take n xs) (drop n xs)), length-append (filter f (take n xs)) (filter f (drop n xs)))
+
+pub filter_back : {X : Type 0} (f : X → Bool) (us vs : List X) → length (filter f vs) ≤ length (filter f (us ++ vs))
+filter_back f us vs = omega (arith, ap length (filter-append f us vs), length-append (filter f us) (filter f vs))
+
+length_map : {X Y : Type 0} (f : X → Y) (xs : List X) → length (map f xs) ≡ length xs
+length_map f [] = refl
+length_map f (x ∷ xs) = let h = length_map f xs in omega arith
+
+map_append : {X Y : Type 0} (f : X → Y) (us vs : List X) → map f (us ++ vs) ≡ map f us ++ map f vs
+map_append f [] vs = refl
+map_append f (u ∷ us) vs = ap (λ l. f u ∷ l) (map_append f us vs)
+
+-- ---- the lines that wait: one of each source at most
+
+few_of : (n : ℕ) (ws : List WaitingLine) → AllByRecursion (λ (w : WaitingLine). w.source < n) ws → ((i : ℕ) → i < n → length (waits_of i ws) ≤ 1) → length ws ≤ n
+few_of zero [] placed few = omega arith
+few_of zero (w ∷ ws) placed few = absurd (let h = placed.0 in omega arith)
+few_of (suc n) ws placed few =
+    let others = filter (λ w. not (is_of n w)) ws in
+    let split = filter_split (is_of n) ws in
+    let one = few n (omega arith) in
+    let same = length_map (λ (w : WaitingLine). w.member) (filter (is_of n) ws) in
+    let fewer = few_of n others
+    (each_weaker (λ (w : WaitingLine) (h : (w.source < suc n) × (not (is_of n w) ≡ true)). before w h) others (each_filter (λ (w : WaitingLine). w.source < suc n) (λ w. not (is_of n w)) ws placed))
+    (λ i l. let k = few i (omega arith) in
+    let p = length_map (λ (w : WaitingLine). w.member) (filter (is_of i) ws) in
+    let q = length_map (λ (w : WaitingLine). w.member) (filter (is_of i) others) in
+    let r = filter_fewer (λ w. not (is_of n w)) (is_of i) ws in omega arith) in
+    omega arith
+  where
+    before : (w : WaitingLine) → (w.source < suc n) × (not (is_of n w) ≡ true) → w.source < n
+    before w h = elim (cases_Bool (w.source == n)) [
+      | inl e ↦ absurd (let k = h.1 in cc)
+      | inr e ↦ (let l = h.0 in let k : w.source ≢ n = grind (arith, nat_tests, e) in omega arith)
+    ]
+
+module _ (limit : ℕ) (past : List ℕ → Bool) {S : Type 0} (text : S → Option (List ℕ)) (extent : S → ℕ) where
+  few_at : (n i : ℕ) (ss : List S) (fs : List Feed) (ws : List WaitingLine) → length ss ≡ length fs → i < length ss → AreFed limit past text extent n ss fs ws → length (waits_of (n + i) ws) ≤ 1
+  few_at n i [] fs ws e l h = absurd (omega arith)
+  few_at n i (s ∷ ss) [] ws e l h = absurd (omega arith)
+  few_at n zero (s ∷ ss) (f ∷ fs) ws e l h =
+      subst (λ k. length (waits_of k ws) ≤ 1) (let q : n ≡ n + 0 = omega arith in q) (few_waits f.progress (waits_of n ws) h.0.waits)
+  few_at n (suc i) (s ∷ ss) (f ∷ fs) ws e l h =
+      subst (λ k. length (waits_of k ws) ≤ 1) (let q : (n + 1) + i ≡ n + suc i = omega arith in q) (few_at (n + 1) i ss fs ws (omega arith) (omega arith) h.1)
+
+  pub few_wait : (ss : List S) (fs : List Feed) (ws : List WaitingLine) → Ready limit past text extent ss fs ws → length ws ≤ length fs
+  few_wait ss fs ws ready =
+      few_of (length fs) ws ready.placed (λ i l.
+      subst (λ k. length (waits_of k ws) ≤ 1) (let q : 0 + i ≡ i = omega arith in q) (few_at 0 i ss fs ws ready.same (let e = ready.same in omega arith) ready.fed))
+
+  -- ---- the lines of a group
+
+  -- what is done of an index is among its lines
+  done_fewer : (t : List ℕ) (e : ℕ) (f : Feed) (ws ms : List Member) (test : Member → Bool) → Fed limit past (Some t) e f ws → IsIndex limit t ms → length (filter test (done limit t f)) ≤ length (filter test ms)
+  done_fewer t e f ws ms test fed index =
+      let told = fed.told t refl in
+      let from = lines (drop f.cursor.start t) in
+      let whole : ms ≡ map (member_of limit) told.begins.0 ++ map (member_of limit) from =
+      sym (members_are limit (lines t) ms index.entries) ∙ ap (map (member_of limit)) told.begins.1.0 ∙ map_append (member_of limit) told.begins.0 from in
+      let read : given limit t f.cursor ≡ take f.cursor.count (map (member_of limit) from) = sym (take_of_map (member_of limit) f.cursor.count from) in
+      let a = filter_front test (f.cursor.count - held f.progress) (given limit t f.cursor) in
+      let b = filter_front test f.cursor.count (map (member_of limit) from) in
+      let c = filter_back test (map (member_of limit) told.begins.0) (map (member_of limit) from) in
+      omega (arith, ap (λ l. length (filter test l)) read, ap (λ l. length (filter test l)) whole)
+
+  all_fewer : (n : ℕ) (ss : List S) (fs : List Feed) (ws : List WaitingLine) (texts : List (List ℕ)) (indexes : List (List Member)) (test : Member → Bool) → length ss ≡ length fs → Known (map text ss) texts → AllTwo (IsIndex limit) texts indexes
+      → AreFed limit past text extent n ss fs ws → length (filter test (all_done limit text ss fs)) ≤ length (filter test (all_lines indexes))
+  all_fewer n [] fs ws texts indexes test e known are fed = omega arith
+  all_fewer n (s ∷ ss) [] ws texts indexes test e known are fed = absurd (omega arith)
+  all_fewer n (s ∷ ss) (f ∷ fs) ws [] indexes test e known are fed = absurd known
+  all_fewer n (s ∷ ss) (f ∷ fs) ws (t ∷ ts) [] test e known are fed = absurd are
+  all_fewer n (s ∷ ss) (f ∷ fs) ws (t ∷ ts) (i ∷ is) test e known are fed =
+      let first = done limit (text_or (text s)) f in
+      let others = all_done limit text ss fs in
+      let is_done : first ≡ done limit t f = ap (λ o. done limit (text_or o) f) known.0 in
+      let here = done_fewer t (extent s) f (waits_of n ws) i test (subst (λ o. Fed limit past o (extent s) f (waits_of n ws)) known.0 fed.0) are.0 in
+      let rest = all_fewer (n + 1) ss fs ws ts is test (omega arith) known.1 are.1 fed.1 in
+      omega (arith, ap (λ l. length (filter test l)) is_done, ap length (filter-append test first others), length-append (filter test first) (filter test others),
+      ap length (filter-append test i (all_lines is)), length-append (filter test i) (filter test (all_lines is)))
+
+pub held_after : {B : Type 0} (value : B → Member) (ws : List WaitingLine) (first : Member) (rest : List B) (old new bound : ℕ) → new ≡ max old (min (length ws + 1 + length rest) (2 ^ 64 - 1))
+    → old ≤ bound → length ws + length (first ∷ map value rest) ≤ bound → new ≤ bound
+held_after value ws first rest old new bound e h k = let l = length_map value rest in omega arith
+
+at_pair : (pair : Pair) (m : Member) → Upto (member_pair m) pair → not (is_low pair m) ≡ true → is_at pair m ≡ true
+at_pair pair m u = at_order (pair_cmp (member_pair m) pair) u
+  where
+    at_order : (r : Ordering) → is_gt r ≡ false → not (is_lt r) ≡ true → is_eq r ≡ true
+    at_order Less g h = cc
+    at_order Equal g h = refl
+    at_order Greater g h = cc
+
+module _ (limit : ℕ) (past : List ℕ → Bool) {S : Type 0} (text : S → Option (List ℕ)) (extent gave : S → ℕ) (old ss0 ss : List S) (fs0 fs : List Feed) (ws0 ws : List WaitingLine) (b : Option Pair) (pair : Pair) (taken group : List Member)
+    (was : Handed limit text old ss0 fs0 b taken) (above : AllByRecursion (λ w. IsAbove b (waiting_pair w)) ws0) (grouped : Grouped limit text extent ss0 fs0 ws0 ss fs ws pair group) (ready : Ready limit past text extent ss fs ws)
+    (texts : List (List ℕ)) (indexes : List (List Member)) (most : ℕ) (known_old : Known (map text old) texts) (known : Known (map text ss) texts) (kept : AreTold text old → AreTold text ss0) (are : AllTwo (IsIndex limit) texts indexes)
+    (share : ShareAtMost most (all_lines indexes)) where
+  group_most : length group ≤ most
+  group_most =
+      let told = told_known text old texts known_old in
+      let low = below_next b pair (grouped.above b above) (all_done limit text ss0 fs0) (was.told told).1 in
+      let gathered = grouped.gathered (kept told) low in
+      let all = all_done limit text ss fs in
+      let here = filter_weaker (λ m. not (is_low pair m)) (is_at pair) all (each_weaker (λ (m : Member) (u : Upto (member_pair m) pair). at_pair pair m u) all gathered.upto) in
+      let there = all_fewer limit past text extent 0 ss fs ws texts indexes (is_at pair) ready.same known are ready.fed in
+      let few = share pair in
+      omega (arith, ap length gathered.taken)
+
+  -- with the lines that wait
+  pub held_most : length ws + length group ≤ length ss + most
+  held_most = let g = group_most in let w = few_wait limit past text extent ss fs ws ready in let e = ready.same in omega arith
