@@ -105,7 +105,7 @@ module _ (limit : ℕ) (past : List ℕ → Bool) {S : Type 0} (text : S → Opt
   -- ---- the lines of a group
 
   -- what is done of an index is among its lines
-  done_fewer : (t : List ℕ) (e : ℕ) (f : Feed) (ws ms : List Member) (test : Member → Bool) → Fed limit past (Some t) e f ws → IsIndex limit t ms → length (filter test (done limit t f)) ≤ length (filter test ms)
+  pub done_fewer : (t : List ℕ) (e : ℕ) (f : Feed) (ws ms : List Member) (test : Member → Bool) → Fed limit past (Some t) e f ws → IsIndex limit t ms → length (filter test (done limit t f)) ≤ length (filter test ms)
   done_fewer t e f ws ms test fed index =
       let told = fed.told t refl in
       let from = lines (drop f.cursor.start t) in

@@ -16,5 +16,8 @@ pub mod WholeLemmas
 pub mod KeyStarts
 pub mod ReadLines
 pub mod StartLemmas
+pub mod TakenLemmas
 pub mod ReadLemmas
+pub mod RunLemmas
+pub mod CountLemmas
 pub mod HeldLemmas

@@ -210,3 +210,11 @@ module _ (limit : ℕ) (past : List ℕ → Bool) (upward : IsUpward past) where
         head_read (done limit t f) (given limit t f.cursor) ms (drop f.cursor.count ms) (lines (drop f.cursor.at t)) ws f.progress settled fed.waits told.head
         (sym (take-append-drop f.cursor.count ms) ∙ ap (λ l. l ++ drop f.cursor.count ms) (sym read)) run.ordered
         (λ e. rest ∙ ap (map (member_of limit)) e) late each
+
+    -- the same of the lines that were read
+    pub given_read : (t : List ℕ) (extent : ℕ) (f : Feed) (ws : List Member) → Fed limit past (Some t) extent f ws → IsSettled f
+        → AllByRecursion IsLate ws → AllByRecursion (λ m. upto m ≡ true) (done limit t f) → filter is_read (given limit t f.cursor) ≡ filter stays (done limit t f)
+    given_read t extent f ws fed settled late each =
+        let told = fed.told t refl in
+        head_read (done limit t f) (given limit t f.cursor) (given limit t f.cursor) [] (lines (drop f.cursor.at t)) ws f.progress settled fed.waits told.head
+        (sym (append-nil (given limit t f.cursor))) told.run.ordered (λ e. refl) late each

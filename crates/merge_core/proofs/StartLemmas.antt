@@ -37,7 +37,7 @@ length_map f [] = refl
 length_map f (x ∷ xs) = let h = length_map f xs in omega arith
 
 -- an index that was cut: its last lines are a run, and they are those that aren't below
-run_after : (limit : ℕ) (start : Pair) (t : List ℕ) (ms : List Member) (offset : ℕ) → IsIndex limit t ms → (cut : IsCut start t ms offset)
+pub run_after : (limit : ℕ) (start : Pair) (t : List ℕ) (ms : List Member) (offset : ℕ) → IsIndex limit t ms → (cut : IsCut start t ms offset)
     → IsRun limit (lines (drop offset t)) cut.high × (filter (λ m. not (is_low start m)) ms ≡ cut.high)
 run_after limit start t ms offset index cut =
     let entries : map (line_entry limit) cut.before ++ map (line_entry limit) (lines (drop offset t)) ≡ map Some cut.low ++ map Some cut.high =

@@ -11,3 +11,4 @@ pub mod Openings
 pub mod Collections
 pub mod NextLine
 pub mod Counts
+pub mod Runs

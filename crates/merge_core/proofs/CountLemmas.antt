@@ -1,0 +1,84 @@
+-- How many lines were read of indexes.
+use Rattle.std.proofs.Common.{◌≡◌, ℕ, zero, suc, ◌+◌, ◌-◌, ◌≤◌, List, [], ◌∷◌, length, take, drop, map, filter, zip, Bool, true, false, Option, Some, refl, sym, ap, subst, arith, length-append, length-take}
+use Rattle.std.specs.List.{AllByRecursion, sum}
+use Rattle.std.proofs.lemmas.List.Elements.{filter-append}
+use Rattle.std.proofs.lemmas.List.Sums.{sum_by-cons}
+use Rattle.cdxj_places.specs.Pairs.{Pair}
+use Rattle.cdxj_places.specs.TextLines.{lines}
+use Rattle.cdxj_places.proofs.RisingLaws.{each_weaker}
+use Rattle.cdxj_core.specs.Indexes.{IsIndex}
+use Rattle.cdxj_core.specs.Members.{Member, member_pair}
+use Rattle.source_core.specs.Search.{IsCut}
+use Rattle.merge_core.specs.declared.feed.Progress.{Progress}
+use Rattle.merge_core.specs.declared.feed.Progress.TheVariants.{Due, Waiting, Past, Ended}
+use Rattle.merge_core.specs.declared.feed.Feed.{Feed}
+use Rattle.merge_core.specs.PairOrders.{IsUpto, is_low}
+use Rattle.merge_core.specs.WaitingLines.{WaitingLine, waits_of}
+use Rattle.merge_core.specs.Collections.{Known, all_lines}
+use Rattle.merge_core.specs.Feeds.{AreFed, Fed, done, given, held, member_of, read_lines}
+use Rattle.merge_core.specs.Gathering.{AllTwo, text_or, all_done}
+use Rattle.merge_core.specs.Openings.{IsCutAt}
+use Rattle.merge_core.proofs.GroupLemmas.{each_cut, filter_all}
+use Rattle.merge_core.proofs.HeldLemmas.{done_fewer}
+use Rattle.merge_core.proofs.ReadLines.{members_are, take_of_map}
+use Rattle.merge_core.proofs.StartLemmas.{run_after}
+
+each_take : {X : Type 0} (A : X → Type 0) (n : ℕ) (xs : List X) → AllByRecursion A xs → AllByRecursion A (take n xs)
+each_take A zero xs h = tt
+each_take A (suc n) [] h = tt
+each_take A (suc n) (x ∷ xs) h = (h.0, each_take A n xs h.1)
+
+each_both : {X : Type 0} (A B : X → Type 0) (xs : List X) → AllByRecursion A xs → AllByRecursion B xs → AllByRecursion (λ x. A x × B x) xs
+each_both A B [] h k = tt
+each_both A B (x ∷ xs) h k = ((h.0, k.0), each_both A B xs h.1 k.1)
+
+length_map : {X Y : Type 0} (f : X → Y) (xs : List X) → length (map f xs) ≡ length xs
+length_map f [] = refl
+length_map f (x ∷ xs) = let h = length_map f xs in omega arith
+
+one_held : (p : Progress) → held p ≤ 1
+one_held Due = omega arith
+one_held Waiting = omega arith
+one_held Past = omega arith
+one_held Ended = omega arith
+
+-- Lines were read of sources that are indexes, from where the search for a pair ended; this test holds of all lines that lie
+-- within the range, aren't below the pair and don't stand above the bound
+module _ (limit : ℕ) (past : List ℕ → Bool) (start : Pair) (b : Option Pair) (test : Member → Bool)
+    (passes : (m : Member) → past m.values.key ≡ false → is_low start m ≡ false → IsUpto b (member_pair m) → test m ≡ true) where
+  source_most : (t : List ℕ) (extent : ℕ) (f : Feed) (ws ms : List Member) → Fed limit past (Some t) extent f ws → IsIndex limit t ms → IsCut start t ms f.cursor.start
+      → AllByRecursion (λ m. IsUpto b (member_pair m)) (done limit t f) → f.cursor.count ≤ length (filter test ms) + 1
+  source_most t extent f ws ms fed index cut upto =
+      let told = fed.told t refl in
+      let from = lines (drop f.cursor.start t) in
+      let run = run_after limit start t ms f.cursor.start index cut in
+      let high : map (member_of limit) from ≡ cut.high = members_are limit from cut.high run.0.entries in
+      let not_low = each_take (λ m. is_low start m ≡ false) (f.cursor.count - held f.progress) (given limit t f.cursor)
+      (subst (AllByRecursion (λ m. is_low start m ≡ false)) (take_of_map (member_of limit) f.cursor.count from)
+      (each_take (λ m. is_low start m ≡ false) f.cursor.count (map (member_of limit) from) (subst (AllByRecursion (λ m. is_low start m ≡ false)) (sym high) cut.none_below))) in
+      let all_pass : AllByRecursion (λ m. test m ≡ true) (done limit t f) =
+      each_weaker (λ (m : Member) (h : ((past m.values.key ≡ false) × (is_low start m ≡ false)) × IsUpto b (member_pair m)). passes m h.0.0 h.0.1 h.1) (done limit t f)
+      (each_both (λ m. (past m.values.key ≡ false) × (is_low start m ≡ false)) (λ m. IsUpto b (member_pair m)) (done limit t f)
+      (each_both (λ (m : Member). past m.values.key ≡ false) (λ m. is_low start m ≡ false) (done limit t f) told.within not_low) upto) in
+      let fewer = done_fewer limit past (λ (u : Unit {0}). Some t) (λ u. extent) t extent f ws ms test fed index in
+      let one = one_held f.progress in
+      let many = told.as_many in
+      let as_read = length_map (member_of limit) (read_lines t f.cursor) in
+      omega (arith, ap length (filter_all test (done limit t f) all_pass), length-take (f.cursor.count - held f.progress) (given limit t f.cursor))
+
+  module _ {S : Type 0} (text : S → Option (List ℕ)) (extent : S → ℕ) (ws : List WaitingLine) where
+    -- No more lines were read than those that pass, and one of each source
+    pub lines_most : (n : ℕ) (ss : List S) (fs : List Feed) (texts : List (List ℕ)) (indexes : List (List Member)) → length ss ≡ length fs → Known (map text ss) texts → AllTwo (IsIndex limit) texts indexes
+        → AllByRecursion (λ x. IsCutAt limit start (text x.0) x.1.cursor) (zip ss fs) → AreFed limit past text extent n ss fs ws → AllByRecursion (λ m. IsUpto b (member_pair m)) (all_done limit text ss fs)
+        → sum (map (λ (f : Feed). f.cursor.count) fs) ≤ length (filter test (all_lines indexes)) + length indexes
+    lines_most n [] [] texts indexes same known are cut fed upto = omega arith
+    lines_most n [] (f ∷ fs) texts indexes same known are cut fed upto = absurd (omega arith)
+    lines_most n (s ∷ ss) [] texts indexes same known are cut fed upto = absurd (omega arith)
+    lines_most n (s ∷ ss) (f ∷ fs) [] indexes same known are cut fed upto = absurd known
+    lines_most n (s ∷ ss) (f ∷ fs) (t ∷ ts) [] same known are cut fed upto = absurd are
+    lines_most n (s ∷ ss) (f ∷ fs) (t ∷ ts) (i ∷ is) same known are cut fed upto =
+        let parts = each_cut (λ m. IsUpto b (member_pair m)) (done limit (text_or (text s)) f) (all_done limit text ss fs) upto in
+        let here = source_most t (extent s) f (waits_of n ws) i (subst (λ o. Fed limit past o (extent s) f (waits_of n ws)) known.0 fed.0) are.0 (cut.0 t i known.0 are.0)
+        (subst (λ o. AllByRecursion (λ m. IsUpto b (member_pair m)) (done limit (text_or o) f)) known.0 parts.0) in
+        let rest = lines_most (n + 1) ss fs ts is (omega arith) known.1 are.1 cut.1 fed.1 parts.1 in
+        omega (arith, sum_by-cons (λ (k : ℕ). k) f.cursor.count (map (λ (f : Feed). f.cursor.count) fs), ap length (filter-append test i (all_lines is)), length-append (filter test i) (filter test (all_lines is)))
