@@ -9,6 +9,8 @@ use Rattle.index_core.specs.declared.fault.IndexFault.TheVariants as faults
 use Rattle.index_core.specs.declared.verified.Verified.{Verified}
 use Rattle.query_core.specs.declared.fault.AnswerFault.{AnswerFault}
 use Rattle.query_core.specs.declared.fault.AnswerFault.TheVariants as answers
+use Rattle.query_text.specs.declared.fault.QueryFault.{QueryFault}
+use Rattle.query_text.specs.declared.fault.QueryFault.TheVariants as queries
 use Rattle.warcdx.specs.declared.outcome.Outcome.{Outcome}
 use Rattle.warcdx.specs.declared.outcome.Outcome.TheVariants as outcomes
 
@@ -30,6 +32,11 @@ index_status faults.DuplicateName = 1
 index_status faults.Write = 3
 index_status faults.NoRecord = 1
 
+-- a text that means nothing
+abbrev pub query_status : QueryFault → ℕ
+query_status queries.Memory = 3
+query_status f = 1
+
 -- memory, a source, the output and the input fail with 3; sizes that mean nothing are a fault of usage
 abbrev pub answer_status : AnswerFault → ℕ
 answer_status answers.Memory = 3
@@ -46,6 +53,7 @@ status_of outcomes.Done = 0
 status_of outcomes.Differs = 1
 status_of outcomes.Usage = 2
 status_of (outcomes.Index f) = index_status f
+status_of (outcomes.Query f) = query_status f
 status_of (outcomes.Answer f) = answer_status f
 status_of outcomes.CannotOpen = 3
 status_of outcomes.CannotFlush = 3
@@ -63,6 +71,7 @@ abbrev pub ends_command : Outcome → Bool
 ends_command (outcomes.Index faults.Memory) = true
 ends_command (outcomes.Index faults.Write) = true
 ends_command (outcomes.Index (faults.Capture f)) = capture_ends f
+ends_command (outcomes.Query queries.Memory) = true
 ends_command (outcomes.Answer answers.Memory) = true
 ends_command (outcomes.Answer answers.Write) = true
 ends_command o = false
@@ -91,6 +100,7 @@ abbrev pub flushed_outcome : Outcome → Bool → Outcome
 flushed_outcome outcome true = outcome
 flushed_outcome (outcomes.Index faults.Memory) false = outcomes.Index faults.Memory
 flushed_outcome (outcomes.Index faults.Write) false = outcomes.Index faults.Write
+flushed_outcome (outcomes.Query queries.Memory) false = outcomes.Query queries.Memory
 flushed_outcome (outcomes.Answer answers.Memory) false = outcomes.Answer answers.Memory
 flushed_outcome (outcomes.Answer answers.Write) false = outcomes.Answer answers.Write
 flushed_outcome outcome false = outcomes.CannotFlush
@@ -99,6 +109,7 @@ flushed_outcome outcome false = outcomes.CannotFlush
 abbrev pub message_of : Outcome → Option (List ℕ)
 message_of (outcomes.Index faults.Memory) = Some (codes "Memory")
 message_of (outcomes.Index faults.Write) = Some (codes "Write")
+message_of (outcomes.Query queries.Memory) = Some (codes "Memory")
 message_of (outcomes.Answer answers.Memory) = Some (codes "Memory")
 message_of (outcomes.Answer answers.Write) = Some (codes "Write")
 message_of (outcomes.Answer answers.TooManySources) = Some (codes "TooManySources")

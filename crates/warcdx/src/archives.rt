@@ -44,6 +44,20 @@ pub fn open_index<R: Runtime + AllocGlobal>(
     }
 }
 
+/// The indexes of these names, in their order, or how the first ended that can't be opened.
+pub fn open_indexes<R: Runtime + AllocGlobal>(
+    rt: &R,
+    names: &[String],
+) -> Result<Vec<FileSource<<R as Files>::File>>, Outcome> {
+    let mut sources = Vec::new(rt.alloc());
+    for name in names {
+        if sources.push(open_index(rt, name)?).is_err() {
+            return Err(Outcome::Answer(AnswerFault::Memory));
+        }
+    }
+    Ok(sources)
+}
+
 fn open_file<R: Runtime + AllocGlobal>(rt: &R, name: &str) -> Result<<R as Files>::File, Outcome>
     ensures { IfErr result IsUnopened }
 {

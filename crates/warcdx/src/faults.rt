@@ -4,7 +4,7 @@ ghost use Rattle.warcdx.specs.Outcome.{outcome_of};
 
 use crate::outcome::{Outcome, outcome_of};
 use index_core::IndexFault;
-use query_core::AnswerFault;
+use query_core::{AnswerFault, QueryFault};
 use std::rt::Runtime;
 
 /// How a call on the archive of this name ended, whose fault is said on standard error.
@@ -28,6 +28,14 @@ fn say_fault<R: Runtime>(rt: &R, name: &str, fault: IndexFault) {
             let _ = eprintln!(rt; "warcdx: {name}: {fault:?}");
         }
         IndexFault::Memory | IndexFault::Write => {}
+    }
+}
+
+/// Reports why a query is refused. Memory is said at the command's end.
+pub fn say_query_fault<R: Runtime>(rt: &R, fault: QueryFault) {
+    if fault != QueryFault::Memory {
+        let cause = fault.name();
+        let _ = eprintln!(rt; "warcdx: query: {cause}");
     }
 }
 

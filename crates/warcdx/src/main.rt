@@ -1,4 +1,4 @@
-//! `warcdx`: indexes web archives; lists, checks and fetches their records.
+//! `warcdx`: indexes web archives, answers queries, and fetches records.
 #![tactic(auto)]
 
 mod archives;
@@ -9,6 +9,7 @@ mod indexing;
 mod merging;
 mod outcome;
 mod program;
+mod queries;
 mod reports;
 mod status;
 #[cfg(test)]

@@ -3,11 +3,10 @@ ghost use Rattle.std.specs.Prelude.{◌≡◌, ℕ, List, map};
 ghost use Rattle.cdxj_core.specs.declared.limit.TheConstants.{LINE_LIMIT};
 ghost use Rattle.merge_core.specs.Collections.{Known, Merged, WroteRising};
 
-use crate::archives::open_index;
+use crate::archives::open_indexes;
 use crate::faults::say_source_fault;
 use crate::outcome::Outcome;
-use query_core::{AnswerFault, FileSource, Source, merge};
-use std::fs::Files;
+use query_core::{Source, merge};
 use std::rt::Runtime;
 use warc_core::Output;
 
@@ -22,20 +21,6 @@ pub fn merge_all<R: Runtime + AllocGlobal, O: Output>(
         Ok(mut sources) => merge_opened(rt, names, &mut sources, out),
         Err(outcome) => outcome,
     }
-}
-
-/// The indexes of these names, in their order, or how the first ended that can't be opened.
-fn open_indexes<R: Runtime + AllocGlobal>(
-    rt: &R,
-    names: &[String],
-) -> Result<Vec<FileSource<<R as Files>::File>>, Outcome> {
-    let mut sources = Vec::new(rt.alloc());
-    for name in names {
-        if sources.push(open_index(rt, name)?).is_err() {
-            return Err(Outcome::Answer(AnswerFault::Memory));
-        }
-    }
-    Ok(sources)
 }
 
 /// Merges sources of these names.

@@ -3,7 +3,7 @@ ghost use Rattle.std.specs.Prelude.{◌≡◌, option_map};
 ghost use Rattle.warcdx.specs.Outcome.{outcome_of, verification_outcome, flushed_outcome, message_of};
 
 use index_core::{IndexFault, Verified};
-use query_core::AnswerFault;
+use query_core::{AnswerFault, QueryFault};
 
 /// How a command ended.
 #[derive(Clone, Copy, Debug, PartialEq, Eq)]
@@ -16,6 +16,8 @@ pub enum Outcome {
     Usage,
     /// A call on an archive failed.
     Index(IndexFault),
+    /// A query text is refused.
+    Query(QueryFault),
     /// A call on indexes failed.
     Answer(AnswerFault),
     /// A file can't be opened.
@@ -55,6 +57,7 @@ pub fn flushed_outcome(outcome: Outcome, is_flushed: bool) -> Outcome
     match outcome {
         Outcome::Index(IndexFault::Memory) => outcome,
         Outcome::Index(IndexFault::Write) => outcome,
+        Outcome::Query(QueryFault::Memory) => outcome,
         Outcome::Answer(AnswerFault::Memory) => outcome,
         Outcome::Answer(AnswerFault::Write) => outcome,
         _ => Outcome::CannotFlush,
@@ -68,6 +71,7 @@ pub fn message(outcome: Outcome) -> Option<&'static str>
     match outcome {
         Outcome::Index(IndexFault::Memory) => Some("Memory"),
         Outcome::Index(IndexFault::Write) => Some("Write"),
+        Outcome::Query(QueryFault::Memory) => Some("Memory"),
         Outcome::Answer(AnswerFault::Memory) => Some("Memory"),
         Outcome::Answer(AnswerFault::Write) => Some("Write"),
         Outcome::Answer(AnswerFault::TooManySources) => Some("TooManySources"),

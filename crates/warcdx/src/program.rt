@@ -10,6 +10,7 @@ use crate::fetching::fetch;
 use crate::indexing::index_all;
 use crate::merging::merge_all;
 use crate::outcome::{Outcome, flushed_outcome, message};
+use crate::queries::{answer_query, write_pages};
 use crate::reports::{ArchiveReport, report_on};
 use command_line::{Task, WordsFault, read_words};
 use index_core::IndexFault;
@@ -91,6 +92,12 @@ pub fn perform<R: Runtime + AllocGlobal, O: Output>(rt: &R, task: &Task, out: &m
         Task::Index { names } => index_all(rt, names, out),
         Task::Merge { names } => merge_all(rt, names, out),
         Task::Check { names } => check_all(rt, names, out),
+        Task::Query { query, names } => answer_query(rt, query, names, out),
+        Task::Pages {
+            sizes,
+            query,
+            names,
+        } => write_pages(rt, sizes, query, names, out),
         Task::Get { offset, name } => fetch(rt, *offset, name, out),
     }
 }

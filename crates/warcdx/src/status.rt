@@ -1,15 +1,15 @@
 //! The status of the process, and which outcomes end a command.
 ghost use Rattle.std.specs.Prelude.{◌≡◌};
-ghost use Rattle.warcdx.specs.Outcome.{status_of, index_status, answer_status, capture_status, cause_status, is_memory, ends_command, worse_of};
+ghost use Rattle.warcdx.specs.Outcome.{status_of, index_status, query_status, answer_status, capture_status, cause_status, is_memory, ends_command, worse_of};
 
 use crate::outcome::Outcome;
 use capture_core::CaptureFault;
 use index_core::IndexFault;
-use query_core::AnswerFault;
+use query_core::{AnswerFault, QueryFault};
 use warc_core::Cause;
 
-/// The status of the process: 0 where all was done; 1 for a fault in an archive or an index, a digest that differs, a refused name, or an
-/// offset where no record begins; 2 for words that mean nothing; 3 where memory, a device or a file failed.
+/// The status of the process: 0 where all was done; 1 for a fault in an archive or an index, a refused query or name, a digest that differs,
+/// or an offset where no record begins; 2 for words that mean nothing; 3 where memory, a device or a file failed.
 pub fn status(outcome: &Outcome) -> u8
     ensures { result ≡ status_of outcome.now }
 {
@@ -18,6 +18,7 @@ pub fn status(outcome: &Outcome) -> u8
         Outcome::Differs => 1,
         Outcome::Usage => 2,
         Outcome::Index(fault) => index_status(*fault),
+        Outcome::Query(fault) => query_status(*fault),
         Outcome::Answer(fault) => answer_status(*fault),
         Outcome::CannotOpen => 3,
         Outcome::CannotFlush => 3,
@@ -34,6 +35,15 @@ fn index_status(fault: IndexFault) -> u8
         IndexFault::DuplicateName => 1,
         IndexFault::Write => 3,
         IndexFault::NoRecord => 1,
+    }
+}
+
+fn query_status(fault: QueryFault) -> u8
+    ensures { result ≡ query_status fault }
+{
+    match fault {
+        QueryFault::Memory => 3,
+        _ => 1,
     }
 }
 
@@ -88,6 +98,7 @@ pub fn ends_command(outcome: &Outcome) -> bool
     match outcome {
         Outcome::Index(IndexFault::Memory) => true,
         Outcome::Index(IndexFault::Write) => true,
+        Outcome::Query(QueryFault::Memory) => true,
         Outcome::Answer(AnswerFault::Memory) => true,
         Outcome::Answer(AnswerFault::Write) => true,
         Outcome::Index(IndexFault::Capture(CaptureFault::Archive(fault))) => is_memory(fault.cause),

@@ -2,7 +2,7 @@ use crate::outcome::Outcome;
 use crate::status::{ends_command, status, worse};
 use capture_core::CaptureFault;
 use index_core::IndexFault;
-use query_core::AnswerFault;
+use query_core::{AnswerFault, QueryFault};
 use warc_core::{Cause, Fault};
 
 fn archive(cause: Cause) -> Outcome {
@@ -29,6 +29,9 @@ const OUTCOMES: &[(Outcome, u8, bool)] = &[
         1,
         false,
     ),
+    (Outcome::Query(QueryFault::Memory), 3, true),
+    (Outcome::Query(QueryFault::Unknown), 1, false),
+    (Outcome::Query(QueryFault::QueryTooLong), 1, false),
     (Outcome::Answer(AnswerFault::Memory), 3, true),
     (Outcome::Answer(AnswerFault::Read(0)), 3, false),
     (Outcome::Answer(AnswerFault::Write), 3, true),
