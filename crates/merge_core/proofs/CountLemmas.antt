@@ -23,7 +23,7 @@ use Rattle.merge_core.proofs.HeldLemmas.{done_fewer}
 use Rattle.merge_core.proofs.ReadLines.{members_are, take_of_map}
 use Rattle.merge_core.proofs.StartLemmas.{run_after}
 
-each_take : {X : Type 0} (A : X → Type 0) (n : ℕ) (xs : List X) → AllByRecursion A xs → AllByRecursion A (take n xs)
+pub each_take : {X : Type 0} (A : X → Type 0) (n : ℕ) (xs : List X) → AllByRecursion A xs → AllByRecursion A (take n xs)
 each_take A zero xs h = tt
 each_take A (suc n) [] h = tt
 each_take A (suc n) (x ∷ xs) h = (h.0, each_take A n xs h.1)

@@ -20,4 +20,5 @@ pub mod TakenLemmas
 pub mod ReadLemmas
 pub mod RunLemmas
 pub mod CountLemmas
+pub mod SourceLemmas
 pub mod HeldLemmas

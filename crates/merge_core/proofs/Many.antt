@@ -46,6 +46,12 @@ pub two_same : {X : Type 0} (R : X → X → Type 0) → ((x : X) → R x x) →
 two_same R same [] = tt
 two_same R same (x ∷ xs) = (same x, two_same R same xs)
 
+pub two_long : {X : Type 0} (R : X → X → Type 0) (xs ys : List X) → AllTwo R xs ys → length ys ≡ length xs
+two_long R [] [] h = refl
+two_long R [] (y ∷ ys) h = absurd h
+two_long R (x ∷ xs) [] h = absurd h
+two_long R (x ∷ xs) (y ∷ ys) h = let e = two_long R xs ys h.1 in omega arith
+
 pub two_each : {X : Type 0} (R : X → X → Type 0) (P Q : X → Type 0) → ((x y : X) → R x y → P x → Q y) → (xs ys : List X) → AllTwo R xs ys → AllByRecursion P xs → AllByRecursion Q ys
 two_each R P Q f [] [] h p = tt
 two_each R P Q f [] (y ∷ ys) h p = absurd h

@@ -12,3 +12,4 @@ pub mod Collections
 pub mod NextLine
 pub mod Counts
 pub mod Runs
+pub mod SourceLines

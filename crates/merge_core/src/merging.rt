@@ -42,6 +42,7 @@ pub fn merge<S: Source, R: Range, K: Sink, O: Output>(
     ensures read { IfErr result (λ e. (n : ℕ) → e ≡ MergeFault.Feed n FeedFault.Read → RaisedAt n (map S.failures sources.old) (map S.failures sources.new)) }
     ensures kept { IfErr result (λ e. ((n : ℕ) → e ≢ MergeFault.Feed n FeedFault.Read) → map S.failures sources.new ≡ map S.failures sources.old) }
     ensures failed { IfErr result (λ e. e ≡ MergeFault.Write → O.failures out.new ≡ next_count (O.failures out.old)) }
+    ensures unwritten { IfErr result (λ e. e ≢ MergeFault.Write → O.failures out.new ≡ O.failures out.old) }
     ensures written { OnOk result (O.failures out.new ≡ O.failures out.old) }
     ensures fault { IfErr result (IsFaultOf LINE_LIMIT (map S.text sources.old)) }
     ensures settled { OnOk result (AreSettled streams.new.feeds.items) }

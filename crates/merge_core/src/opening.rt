@@ -38,6 +38,7 @@ impl Streams {
         ensures extent { S.extent source.new ≡ S.extent source.old }
         ensures worked { OnOk result (S.failures source.new ≡ S.failures source.old) }
         ensures failed { IfErr result (λ e. e ≡ FeedFault.Read → S.failures source.new ≡ next_count (S.failures source.old)) }
+        ensures kept { IfErr result (λ e. e ≢ FeedFault.Read → S.failures source.new ≡ S.failures source.old) }
         ensures fault { (t : List ℕ) → S.text source.old ≡ Some t → IfErr result (NamesLine LINE_LIMIT t) }
         ensures settled { AreSettled self.old.feeds.items → OnOk result (AreSettled self.new.feeds.items) }
         ensures held { self.new.held ≡ self.old.held }
@@ -72,6 +73,7 @@ impl Streams {
         ensures extent { map S.extent sources.new ≡ map S.extent sources.old }
         ensures worked { OnOk result (map S.failures sources.new ≡ map S.failures sources.old) }
         ensures read { IfErr result (λ e. (n : ℕ) → e ≡ MergeFault.Feed n FeedFault.Read → RaisedAt n (map S.failures sources.old) (map S.failures sources.new)) }
+        ensures kept { IfErr result (λ e. ((n : ℕ) → e ≢ MergeFault.Feed n FeedFault.Read) → map S.failures sources.new ≡ map S.failures sources.old) }
         ensures unwritten { IfErr result (λ e. e ≢ MergeFault.Write) }
         ensures fault { IfErr result (IsFaultOf LINE_LIMIT (map S.text sources.old)) }
         ensures ready { IfOk result (λ s. Ready LINE_LIMIT (R.past range.now) S.text S.extent sources.new s.feeds.items s.waiting) }

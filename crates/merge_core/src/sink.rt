@@ -93,6 +93,7 @@ pub fn hand_on<K: Sink, O: Output>(
     ensures enough { IfOk result (λ all. all ≡ false → K.Enough sink.new) }
     ensures unread { IfErr result (λ e. (i : ℕ) → (f : FeedFault) → e ≢ MergeFault.Feed i f) }
     ensures worked { OnOk result (O.failures out.new ≡ O.failures out.old) }
+    ensures kept { IfErr result (λ e. e ≢ MergeFault.Write → O.failures out.new ≡ O.failures out.old) }
     ensures failed { IfErr result (λ e. e ≡ MergeFault.Write → O.failures out.new ≡ next_count (O.failures out.old)) }
 {
     if rest.is_empty() {

@@ -35,6 +35,7 @@ fn find_start<S: Source>(
     ensures stands { IfOk result (λ r. Stands (S.text source.new) (S.extent source.new) r.0) }
     ensures fresh { IfOk result (λ r. r.0.count ≡ 0) }
     ensures begins { (t : List ℕ) → S.text source.old ≡ Some t → IfOk result (λ r. (before : List (List ℕ)) × BeginsAfter t r.0.start before) }
+    ensures kept { IfErr result (λ e. e ≢ FeedFault.Read → S.failures source.new ≡ S.failures source.old) }
     ensures refused { IfErr result (λ e. (e ≡ FeedFault.Memory) ⊎ (e ≡ FeedFault.Read)) }
     ensures cut { (t : List ℕ) → (members : List Member) → S.text source.old ≡ Some t → IsIndex LINE_LIMIT t members
         → IfOk result (λ r. IsCut (key.now, stamp.now) t members r.0.start) }
@@ -77,6 +78,7 @@ impl Streams {
         ensures worked { OnOk result (S.failures source.new ≡ S.failures source.old) }
         ensures failed { IfErr result (λ e. e ≡ FeedFault.Read → S.failures source.new ≡ next_count (S.failures source.old)) }
         ensures probes { IfOk result (λ n. n ≤ digits (S.extent source.old)) }
+        ensures kept { IfErr result (λ e. e ≢ FeedFault.Read → S.failures source.new ≡ S.failures source.old) }
         ensures fault { (t : List ℕ) → S.text source.old ≡ Some t → IfErr result (NamesLine LINE_LIMIT t) }
         ensures settled { AreSettled self.old.feeds.items → OnOk result (AreSettled self.new.feeds.items) }
         ensures held { self.new.held ≡ self.old.held }
@@ -103,6 +105,7 @@ impl Streams {
         ensures extent { map S.extent sources.new ≡ map S.extent sources.old }
         ensures worked { OnOk result (map S.failures sources.new ≡ map S.failures sources.old) }
         ensures read { IfErr result (λ e. (n : ℕ) → e ≡ MergeFault.Feed n FeedFault.Read → RaisedAt n (map S.failures sources.old) (map S.failures sources.new)) }
+        ensures kept { IfErr result (λ e. ((n : ℕ) → e ≢ MergeFault.Feed n FeedFault.Read) → map S.failures sources.new ≡ map S.failures sources.old) }
         ensures unwritten { IfErr result (λ e. e ≢ MergeFault.Write) }
         ensures fault { IfErr result (IsFaultOf LINE_LIMIT (map S.text sources.old)) }
         ensures ready { IfOk result (λ o. Ready LINE_LIMIT (R.past range.now) S.text S.extent sources.new o.streams.feeds.items o.streams.waiting) }

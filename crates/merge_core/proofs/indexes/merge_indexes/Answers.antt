@@ -22,6 +22,8 @@ use Rattle.merge_core.specs.Reached.{Reached}
 use Rattle.merge_core.specs.Written.{line_row, lines_text}
 use Rattle.merge_core.proofs.FailLemmas.{if_err, raised_from}
 use Rattle.merge_core.proofs.ReadLemmas.{read_first}
+use Rattle.merge_core.specs.SourceLines.{AreLinesOf}
+use Rattle.merge_core.proofs.SourceLemmas.{taken_lines}
 use Rattle.merge_core.proofs.WholeLemmas.{are_read, all_lines_are, its_lines, told_known, texts_kept, starts_kept}
 use Rattle.merge_core.proofs.indexes.merge_indexes.Goals as goal
 
@@ -146,3 +148,36 @@ returns-clause-merged g c = λ texts known.
       text = subst (λ (l : List Member). Appends out new (lines_text l)) all w.0;
       count = w.1 ∙ ap (λ (l : List Member). min (length l) (2 ^ 64 - 1)) all;
     }
+
+pub returns-in_err-streams-clause-lines : goal.returns-in_err-streams-clause-lines
+returns-in_err-streams-clause-lines g c = ([], record { rise = tt; each = tt }, wrote_nothing (g.O.Output.written c.args.out.now) (lines_text []))
+
+pub returns-in_err-merge-clause-lines : goal.returns-in_err-merge-clause-lines
+returns-in_err-merge-clause-lines g c =
+    let text = g.S.Source.text in
+    let out = g.O.Output.written c.args.out.now in
+    let new = g.O.Output.written c.merge.new.out in
+    let opened = c.in_ok-streams.ensures in
+    let broke = c.in_err-merge.ensures.broke in (
+      broke.4,
+      subst (λ ts. AreLinesOf LINE_LIMIT ts broke.4) opened.text
+          (taken_lines LINE_LIMIT text g.S.Source.extent never g.S.Source.gave c.open.new.sources c.in_ok-streams.streams.feeds.items broke.0 broke.1 broke.2 broke.3 broke.4 opened.ready.same broke.5),
+      elim (broke.6 c.new-writer.result out (Appends-none out, c.new-writer.ensures)) [
+        | inl k ↦ whole out new (lines_text broke.4) k.1.0
+        | inr p ↦ p
+      ],
+    )
+
+pub returns-clause-lines : goal.returns-clause-lines
+returns-clause-lines g c =
+    let text = g.S.Source.text in
+    let out = g.O.Output.written c.args.out.now in
+    let new = g.O.Output.written c.merge.new.out in
+    let opened = c.in_ok-streams.ensures in
+    let wrote = c.in_ok-merge.ensures.wrote in (
+      wrote.1,
+      subst (λ ts. AreLinesOf LINE_LIMIT ts wrote.1) opened.text
+          (taken_lines LINE_LIMIT text g.S.Source.extent never g.S.Source.gave c.open.new.sources c.in_ok-streams.streams.feeds.items c.merge.new.sources c.merge.new.streams.feeds.items c.merge.new.streams.waiting wrote.0 wrote.1
+          opened.ready.same wrote.2),
+      whole out new (lines_text wrote.1) (wrote.3 c.new-writer.result out (Appends-none out, c.new-writer.ensures)).0,
+    )

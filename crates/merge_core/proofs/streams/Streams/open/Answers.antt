@@ -1,6 +1,7 @@
 use Rattle.std.proofs.Common.{◌≡◌, ◌<◌, ◌+◌, ◌∷◌, [], length, map, refl, sym, ap, ◌∙◌, subst, set, zip, flat_map, length-append, arith}
 use Rattle.std.specs.List.{AllByRecursion}
 use Rattle.cdxj_core.specs.declared.limit.TheConstants.{LINE_LIMIT}
+use Rattle.merge_core.specs.declared.fault.MergeFault.TheVariants as fault
 use Rattle.merge_core.specs.declared.feed.Feed.{Feed}
 use Rattle.merge_core.specs.WaitingLines.{WaitingLine}
 use Rattle.merge_core.specs.Feeds.{AreSettled, AreFed, done}
@@ -70,3 +71,7 @@ loop-i-preserved g c =
       fresh = ap (λ us. flat_map of (zip (set ss i s) us)) added.2 ∙ ap (flat_map of) (zip_push ss fs i s f inv.count inside)
           ∙ flat_push of (zip ss fs) (s, f) inv.fresh (fresh_of LINE_LIMIT (g.S.Source.text s) f (λ t e. added.6 t (sym ok.text ∙ e)));
     }
+
+pub returns-in-Err-add-clause-kept : goal.returns-in-Err-add-clause-kept
+returns-in-Err-add-clause-kept g c = λ h.
+    map_set_same g.S.Source.failures c.loop-i.sources c.loop-i.i c.index-sources-i.result c.add.new.source (omega arith) (c.in-Err-add.ensures.kept (λ e. h c.loop-i.i (ap (fault.Feed c.loop-i.i) e))) ∙ c.loop-i.invariant.failures

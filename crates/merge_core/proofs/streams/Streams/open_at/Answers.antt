@@ -3,6 +3,7 @@ use Rattle.std.specs.List.{AllByRecursion, sum}
 use Rattle.std.proofs.lemmas.List.{take_all}
 use Rattle.cdxj_core.specs.declared.limit.TheConstants.{LINE_LIMIT}
 use Rattle.source_core.specs.Halving.{digits}
+use Rattle.merge_core.specs.declared.fault.MergeFault.TheVariants as fault
 use Rattle.merge_core.specs.declared.feed.Feed.{Feed}
 use Rattle.merge_core.specs.WaitingLines.{WaitingLine}
 use Rattle.merge_core.specs.Feeds.{AreSettled, AreFed, done}
@@ -91,3 +92,7 @@ returns-clause-probes g c =
     let same = ap sum (map_seen digits e c.loop-i.sources ∙ ap (map digits) inv.extent ∙ sym (map_seen digits e c.args.sources.now)) in
     let few = inv.probes in
     omega (arith, whole, same, few)
+
+pub returns-in-Err-clause-kept : goal.returns-in-Err-clause-kept
+returns-in-Err-clause-kept g c = λ h.
+    map_set_same g.S.Source.failures c.loop-i.sources c.loop-i.i c.index-sources-i.result c.add_from.new.source (omega arith) (c.in-Err.ensures.kept (λ e. h c.loop-i.i (ap (fault.Feed c.loop-i.i) e))) ∙ c.loop-i.invariant.failures
