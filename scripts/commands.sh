@@ -50,6 +50,12 @@ make_archives() {
         capture q 0 a.warc
         echo
     } > bad.cdxj
+    # Three captures of one key and stamp in an index each.
+    capture p 10 b.warc > 10.cdxj
+    capture p 20 a.warc > 20.cdxj
+    capture p 5 a.warc > 5.cdxj
+    # The answer from this one is longer than any buffer of the program.
+    for number in {10000..12999}; do capture "$number" 0 a.warc; done > many.cdxj
     # The index of this one, and the record of the next, are longer than any buffer of the program.
     repeated 20000 < r.warc > captures.warc
     {
@@ -84,6 +90,11 @@ unknown() { # WORD
 
 no_offset() { # WORD
     lines "error: invalid value '$1' for '<OFFSET>': an offset is 1 to 19 digits, below 2^63" "" \
+        "For more information, try '--help'."
+}
+
+no_sizes() { # WORD
+    lines "error: invalid value '$1' for '<SIZES>': sizes are 1 to 1,000 numbers from 1 to 1,000,000, with ',' between" "" \
         "For more information, try '--help'."
 }
 
@@ -223,10 +234,69 @@ check "check: a folder"                 ""  "warcdx: folder: Read"         3 che
 check "check: a folder, and an index"   "sorted.cdxj 2" "warcdx: folder: Read" 3 check folder sorted.cdxj
 check "check: - is a file's name"       ""  "warcdx: -: cannot open"       3 check - < sorted.cdxj
 
+apart="10.cdxj 20.cdxj 5.cdxj" # words
+of_p="url=example.com/p&fl=filename,offset"
+each_p=$(lines "a.warc 5" "a.warc 20" "b.warc 10")
+key_5="com%2Cexample%29%2Fp+20160919172024+a.warc+5"
+key_20="com%2Cexample%29%2Fp+20160919172024+a.warc+20"
+first_p=$(lines "a.warc 5" "" "$key_5")
+json_p=$(lines '[["filename","offset"],' '["a.warc","5"],' '[],' "[\"$key_5\"]]")
+no_rows='[["urlkey","timestamp","original","mimetype","statuscode","digest","length"]]'
+usual="com,example)/q 20160919172024 http://example.com/q - - $abc 158"
+too_many=$(repeated 1025 <<< empty.warc)
+at_limit=$(repeated 1024 <<< empty.warc)
+
+check "query: a key"                    "$usual"         ""                0 query url=example.com/q sorted.cdxj
+check "query: a prefix"                 "$sorted"        ""                0 query "url=example.com/*&output=cdxj" sorted.cdxj
+check "query: three indexes"            "$each_p"        ""                0 query "$of_p" $apart
+check "query: a limit"                  "a.warc 5"       ""                0 query "$of_p&limit=1" $apart
+check "query: a resume key"             "$first_p"       ""                0 query "$of_p&limit=1&showResumeKey=true" $apart
+check "query: from a resume key"        "$(lines "a.warc 20" "b.warc 10")" "" 0 query "$of_p&resumeKey=$key_5" $apart
+check "query: json"                     "$json_p"        ""                0 query "$of_p&output=json&limit=1&showResumeKey=true" $apart
+check "query: nothing"                  ""               ""                0 query url=example.org sorted.cdxj
+check "query: nothing, json"            "$no_rows"       ""                0 query "url=example.org&output=json" sorted.cdxj
+check "query: an index twice"           "$usual"         ""                0 query url=example.com/q sorted.cdxj unended.cdxj
+check "query: an empty index"           ""               ""                0 query url=example.com/q empty.warc
+check "query: 1,024 indexes"            ""               ""                0 query url=example.com/q $at_limit
+check "query: 1,025 indexes"      "" "warcdx: TooManySources"              1 query url=example.com/q $too_many
+check "query: a refused query"    "" "warcdx: query: BadLimit"             1 query "url=a&limit=0" sorted.cdxj
+check "query: an empty query"     "" "warcdx: query: NoUrl"                1 query "" sorted.cdxj
+check "query: refused, and missing" "" "warcdx: query: Unknown"            1 query page=0 missing
+check "query: out of order"             ""               "$falling"        1 query "key=&matchType=prefix" falling.cdxj
+check "query: a bad line"               ""               "$bad"            1 query "key=&matchType=prefix" bad.cdxj
+check "query: a fault in the second"    ""               "$bad"            1 query "url=example.com/*" sorted.cdxj bad.cdxj
+check "query: an archive"  "" "warcdx: r.warc: BadLine 0"                  1 query "key=&matchType=prefix" r.warc
+check "query: a missing file"           ""               "$missing"        3 query "url=example.com/q" sorted.cdxj missing falling.cdxj
+check "query: missing, before too many" ""               "$missing"        3 query url=example.com/q missing $at_limit
+check "query: a folder"    "" "warcdx: folder: Read"                       3 query url=example.com/q sorted.cdxj folder
+check "query: - is a file's name"  "" "warcdx: -: cannot open"             3 query url=example.com/q - < sorted.cdxj
+
+two_pages=$(lines "a.warc 5" "" "$key_5" "a.warc 20" "b.warc 10")
+of_two_and_one=$(lines "a.warc 5" "a.warc 20" "" "$key_20" "b.warc 10")
+json_pages=$(lines '[["offset"],' '["5"],' '["20"],' '[],' "[\"$key_20\"]]" '[["offset"],' '["10"]]')
+
+check "pages: of one and two"           "$two_pages"     ""                0 pages 1,2 "$of_p" $apart
+check "pages: of two"                   "$of_two_and_one" ""               0 pages 2 "$of_p" $apart
+check "pages: one"                      "$each_p"        ""                0 pages 1000000 "$of_p" $apart
+check "pages: a limit isn't used"       "$each_p"        ""                0 pages 0000003 "$of_p&limit=1&showResumeKey=true" $apart
+check "pages: from a resume key"        "b.warc 10"      ""                0 pages 2 "$of_p&resumeKey=$key_20" $apart
+check "pages: json"                     "$json_pages"    ""                0 pages 2 "url=example.com/p&output=json&fl=offset" $apart
+check "pages: nothing"                  ""               ""                0 pages 1 url=example.org sorted.cdxj
+check "pages: nothing, json"            "$no_rows"       ""                0 pages 1 "url=example.org&output=json" sorted.cdxj
+check "pages: 1,025 indexes"      "" "warcdx: TooManySources"              1 pages 1 url=example.com/q $too_many
+check "pages: a refused query"    "" "warcdx: query: BadUrl"               1 pages 1 "url=" missing
+check "pages: out of order"             ""               "$falling"        1 pages 1 "key=&matchType=prefix" falling.cdxj
+check "pages: a missing file"           ""               "$missing"        3 pages 1 "url=example.com/q" missing sorted.cdxj
+check "pages: a folder"    "" "warcdx: folder: Read"                       3 pages 1 url=example.com/q folder
+
 no_list=$(refusal "the following required arguments were not provided:"$'\n  <WARC>...' "list <WARC>...")
 no_verify=$(refusal "the following required arguments were not provided:"$'\n  <WARC>...' "verify <WARC>...")
 no_index=$(refusal "the following required arguments were not provided:"$'\n  <WARC>...' "index <WARC>...")
 no_check=$(refusal "the following required arguments were not provided:"$'\n  <INDEX>...' "check <INDEX>...")
+no_query=$(refusal "the following required arguments were not provided:"$'\n  <QUERY>\n  <INDEX>...' "query <QUERY> <INDEX>...")
+no_index_asked=$(refusal "the following required arguments were not provided:"$'\n  <INDEX>...' "query <QUERY> <INDEX>...")
+no_pages=$(refusal "the following required arguments were not provided:"$'\n  <SIZES>\n  <QUERY>\n  <INDEX>...' "pages <SIZES> <QUERY> <INDEX>...")
+no_query_of_pages=$(refusal "the following required arguments were not provided:"$'\n  <QUERY>\n  <INDEX>...' "pages <SIZES> <QUERY> <INDEX>...")
 no_get=$(refusal "the following required arguments were not provided:"$'\n  <OFFSET>\n  <WARC>' "get <OFFSET> <WARC>")
 no_archive=$(refusal "the following required arguments were not provided:"$'\n  <WARC>' "get <OFFSET> <WARC>")
 one_too_many=$(refusal "unexpected argument 'q.warc' found" "get <OFFSET> <WARC>")
@@ -237,6 +307,15 @@ check "list alone"                      "" "$no_list"                      2 lis
 check "verify alone"                    "" "$no_verify"                    2 verify
 check "index alone"                     "" "$no_index"                     2 index
 check "check alone"                     "" "$no_check"                     2 check
+check "query alone"                     "" "$no_query"                     2 query
+check "query without an index"          "" "$no_index_asked"               2 query url=a
+check "query -x"                        "" "$(unexpected -x)"              2 query -x sorted.cdxj
+check "pages alone"                     "" "$no_pages"                     2 pages
+check "pages without a query"           "" "$no_query_of_pages"            2 pages 1
+for sizes in "" 0 1,0 1, ,1 1,,2 +1 1.5 x 1000001 00000001 "1 2" "1;2" "$(printf '1,%.0s' {1..1000})1"; do
+    check "pages $(head --bytes=20 <<< "$sizes")"  "" "$(no_sizes "$sizes")"   2 pages "$sizes" url=a missing
+done
+check "pages of 1,000 sizes"      "$each_p" "" 0 pages "$(printf '9,%.0s' {1..999})9" "$of_p" $apart
 check "get alone"                       "" "$no_get"                       2 get
 check "get without an archive"          "" "$no_archive"                   2 get 0
 check "get of two archives"             "" "$one_too_many"                 2 get 0 r.warc q.warc
@@ -265,11 +344,13 @@ check "an option beside -h"             "" "$(unexpected -x)"              2 lis
 check "a word that isn't UTF-8"         "" "$no_text"                      2 $'\xff'
 check "a name that isn't UTF-8"         "" "$no_text"                      2 list same.warc $'\xff'
 
-of_program=$(lines "Indexes web archives; lists, checks and fetches their records" "" "Usage: warcdx [COMMAND]")
+of_program=$(lines "Indexes web archives, answers queries, and fetches records" "" "Usage: warcdx [COMMAND]")
 of_list=$(lines "Lists the records of archives" "" "Usage: warcdx list <WARC>...")
 of_index=$(lines "Writes an index of the captures of archives" "" "Usage: warcdx index <WARC>...")
 of_get=$(lines "Writes the record at an offset of an archive" "" "Usage: warcdx get <OFFSET> <WARC>")
 of_check=$(lines "Checks that indexes are sorted, and counts their lines" "" "Usage: warcdx check <INDEX>...")
+of_query=$(lines "Writes the captures that a query asks for" "" "Usage: warcdx query <QUERY> <INDEX>...")
+of_pages=$(lines "Writes the captures that a query asks for, page by page" "" "Usage: warcdx pages <SIZES> <QUERY> <INDEX>...")
 of_verify=$(lines "Checks the digests of the records of archives" "" "Usage: warcdx verify <WARC>...")
 
 check_help "-h"                         "$of_program" -h
@@ -282,6 +363,9 @@ check_help "verify -h"                  "$of_verify"  verify -h
 check_help "verify NAME NAME --help"    "$of_verify"  verify same.warc missing --help
 check_help "index -h"                   "$of_index"   index -h
 check_help "check -h"                   "$of_check"   check -h
+check_help "query --help"               "$of_query"   query --help
+check_help "query NAME -h"              "$of_query"   query missing -h
+check_help "pages -h"                   "$of_pages"   pages 0 -h
 check_help "get --help"                 "$of_get"     get --help
 check_help "get NAME NAME NAME -h"      "$of_get"     get r.warc q.warc missing -h
 
@@ -304,6 +388,12 @@ for way in full closed broken; do
     check_into $way "$way: merge"          "" "$flush"                       3 merge sorted.cdxj
     check_into $way "$way: check, one"     "" "$flush"                       3 check sorted.cdxj
     check_into $way "$way: check, a fault" "" "$bad"                         1 check bad.cdxj
+    check_into $way "$way: query, short"   "" "$flush"                       3 query "$of_p" $apart
+    check_into $way "$way: query, many"    "" "$write"                       3 query "url=example.com/*" many.cdxj
+    check_into $way "$way: query, refused" "" "warcdx: query: BadUrl"        1 query url= missing
+    check_into $way "$way: query, a fault" "" "$bad"                         1 query "key=&matchType=prefix" bad.cdxj
+    check_into $way "$way: pages, short"   "" "$flush"                       3 pages 1 "$of_p" $apart
+    check_into $way "$way: pages, many"    "" "$write"                       3 pages 10 "url=example.com/*" many.cdxj
     check_into $way "$way: get, short"     "" "$flush"                       3 get 0 r.warc
     check_into $way "$way: get, long"      "" "$write"                       3 get 0 large.warc
     check_into $way "$way: get, none"      "" "$none"                        1 get 1 r.warc
