@@ -3,3 +3,5 @@ pub mod Writing
 pub mod Gathered
 pub mod FromStd
 pub mod Fused
+pub mod LineCuts
+pub mod LineReading

@@ -7,11 +7,14 @@
 mod buffer;
 mod device;
 mod fuse;
+mod input_lines;
+mod line_cuts;
 mod memory;
 mod standard;
 
 pub use crate::buffer::{Buffer, PIECE};
 pub use crate::device::{DeviceFault, Input, Output, put};
 pub use crate::fuse::Fuse;
+pub use crate::input_lines::{INPUT_LIMIT, InputLineFault, InputLines};
 pub use crate::memory::{Gather, Slice};
 pub use crate::standard::{FromRead, FromWrite};

@@ -1,0 +1,178 @@
+//! The lines of an input, read piece by piece.
+ghost use Rattle.std.specs.Prelude.{drop, true, ◌≡◌, ◌≢◌, Option, Some, ℕ, ◌+◌, ◌-◌, ◌^◌, ◌<◌, ◌≤◌, List, [], length, IfOk, IfErr, OnOk, MatchResult, ◌⊎◌};
+ghost use Rattle.std.specs.Io.KnownBytes.{Keeps, IsAtEnd, prepend_known};
+ghost use Rattle.devices.specs.Device.{next_count};
+ghost use Rattle.devices.specs.LineCuts.{without_carriage_return};
+ghost use Rattle.devices.specs.LineReading.{TakesPart, TakesLine, CountsTaken, CountsLineRead};
+
+use crate::buffer::Buffer;
+use crate::device::{DeviceFault, Input};
+use crate::line_cuts::{find_line_feed, hold, without_carriage_return};
+use std::alloc::{AllocError, Global};
+use thiserror::Error;
+
+/// An input of this many bytes, or of more, is too long to be read by its lines.
+pub const INPUT_LIMIT: u64 = 9_223_372_036_854_775_807;
+
+/// Why a line of an input wasn't read.
+#[derive(Clone, Copy, Debug, Drop, PartialEq, Eq, Error)]
+pub enum InputLineFault {
+    /// A growth was refused.
+    #[error("out of memory")]
+    Memory,
+    /// The input failed.
+    #[error("the input can't be read")]
+    Read,
+    /// The input has [`INPUT_LIMIT`] bytes or more.
+    #[error("the input is too long")]
+    TooLong,
+}
+
+impl From<DeviceFault> for InputLineFault {
+    ghost use Rattle.std.specs.Prelude.{◌≡◌};
+    ghost use Rattle.devices.specs.declared.input_lines.InputLineFault.TheVariants.{Read};
+
+    ghost from_gives = { λ _ fault. fault ≡ Read };
+
+    fn from(_fault: DeviceFault) -> InputLineFault {
+        InputLineFault::Read
+    }
+}
+
+impl From<AllocError> for InputLineFault {
+    ghost use Rattle.std.specs.Prelude.{◌≡◌};
+    ghost use Rattle.devices.specs.declared.input_lines.InputLineFault.TheVariants.{Memory};
+
+    ghost from_gives = { λ _ fault. fault ≡ Memory };
+
+    fn from(_error: AllocError) -> InputLineFault {
+        InputLineFault::Memory
+    }
+}
+
+/// What a piece of the input is to a line.
+#[derive(Clone, Copy, Debug, Drop, PartialEq, Eq)]
+enum Part {
+    /// The piece ends within the line.
+    Within,
+    /// The line ends in the piece.
+    Ended,
+    /// The input has ended.
+    AtEnd,
+}
+
+/// Gives the lines of an input, one after another. It is handed its input at each call that reads.
+///
+/// A line ends with a line feed; the last line may lack it. Of a line at most the first `most` bytes are held.
+#[derive(Drop)]
+pub struct InputLines {
+    buffer: Buffer,
+    line: Vec<u8>,
+    most: usize,
+    taken: u64,
+    pub ghost some_rule: { 0 < most },
+    pub ghost held_rule: { length line.items ≤ most },
+    pub ghost taken_rule: { taken < 2 ^ 63 - 1 },
+}
+
+impl InputLines {
+    ghost use Rattle.devices.specs.declared.input_lines.Part.TheVariants.{AtEnd};
+    ghost use Rattle.devices.specs.declared.input_lines.InputLineFault.TheVariants.{Memory, TooLong};
+
+    /// Nothing read yet. Of each line the first `most` bytes will be held.
+    pub fn new(alloc: Global, most: usize) -> Result<InputLines, AllocError>
+        requires { 0 < most }
+        ensures { IfOk result (λ lines. (lines.buffer ≡ []) × (lines.taken ≡ 0) × (lines.most ≡ most)) }
+    {
+        let buffer = Buffer::new(alloc)?;
+        Ok(InputLines {
+            buffer,
+            line: Vec::new(alloc),
+            most,
+            taken: 0,
+        })
+    }
+
+    /// The bytes that are held of the line that was read last, without one carriage return at their end.
+    pub fn line(&self) -> &[u8]
+        ensures { result.now ≡ without_carriage_return self.now.line.items }
+    {
+        without_carriage_return(self.line.as_slice())
+    }
+
+    /// Passes over bytes that are held of the input.
+    fn pass(&mut self, count: usize) -> Result<(), InputLineFault>
+        requires { count ≤ length self.old.buffer }
+        ensures line { (self.new.line ≡ self.old.line) × (self.new.most ≡ self.old.most) }
+        ensures rest { OnOk result (self.new.buffer ≡ drop count self.old.buffer) }
+        ensures taken { OnOk result (self.new.taken ≡ self.old.taken + count) }
+        ensures full { IfErr result (λ fault. (fault ≡ TooLong) × (2 ^ 63 - 1 ≤ self.old.taken + count)) }
+    {
+        let taken = self.taken.saturating_add(count as u64);
+        if taken >= INPUT_LIMIT {
+            return Err(InputLineFault::TooLong);
+        }
+        self.taken = taken;
+        self.buffer.consume(count);
+        Ok(())
+    }
+
+    /// Takes what is held of the input, up to and with the first line feed.
+    fn take_held(&mut self) -> Result<Part, InputLineFault>
+        ensures most { self.new.most ≡ self.old.most }
+        ensures part { IfOk result (λ part. TakesPart self.old.most part (Some self.old.buffer) (Some self.new.buffer) self.old.line.items self.new.line.items) }
+        ensures count { OnOk result (self.old.taken + length self.old.buffer ≡ self.new.taken + length self.new.buffer) }
+        ensures some { IfOk result (λ part. part ≢ AtEnd → self.old.taken < self.new.taken) }
+        ensures end { IfOk result (λ part. part ≡ AtEnd → (self.new.line.items ≡ self.old.line.items) × (self.new.taken ≡ self.old.taken)) }
+        ensures full { IfErr result (λ fault. (fault ≡ Memory) ⊎ ((fault ≡ TooLong) × (2 ^ 63 - 1 ≤ self.old.taken + length self.old.buffer))) }
+    {
+        let piece = self.buffer.as_slice();
+        if piece.is_empty() {
+            return Ok(Part::AtEnd);
+        }
+        match find_line_feed(piece) {
+            Some(at) => {
+                hold(&mut self.line, self.most, &piece[..at])?;
+                self.pass(at + 1)?;
+                Ok(Part::Ended)
+            }
+            None => {
+                let count = piece.len();
+                hold(&mut self.line, self.most, piece)?;
+                self.pass(count)?;
+                Ok(Part::Within)
+            }
+        }
+    }
+
+    /// Takes a piece of the input, up to and with the first line feed.
+    fn take_part<I: Input>(&mut self, input: &mut I) -> Result<Part, InputLineFault>
+        ensures most { self.new.most ≡ self.old.most }
+        ensures part { IfOk result (λ part. TakesPart self.old.most part (prepend_known self.old.buffer (I.remaining input.old)) (prepend_known self.new.buffer (I.remaining input.new)) self.old.line.items self.new.line.items) }
+        ensures count { OnOk result (CountsTaken (prepend_known self.old.buffer (I.remaining input.old)) (prepend_known self.new.buffer (I.remaining input.new)) self.old.taken self.new.taken) }
+        ensures some { IfOk result (λ part. part ≢ AtEnd → self.old.taken < self.new.taken) }
+        ensures end { IfOk result (λ part. part ≡ AtEnd → (self.new.line.items ≡ self.old.line.items) × (self.new.taken ≡ self.old.taken)) }
+        ensures failures { CountsLineRead result (I.failures input.old) (I.failures input.new) (prepend_known self.old.buffer (I.remaining input.old)) self.old.taken }
+    {
+        self.buffer.fill(input)?;
+        self.take_held()
+    }
+
+    /// Reads the next line, and answers whether there was one. A line that is longer than what is held is read to its end.
+    pub fn next<I: Input>(&mut self, input: &mut I) -> Result<bool, InputLineFault>
+        ensures most { self.new.most ≡ self.old.most }
+        ensures line { IfOk result (λ found. TakesLine self.old.most found (prepend_known self.old.buffer (I.remaining input.old)) (prepend_known self.new.buffer (I.remaining input.new)) self.new.line.items) }
+        ensures count { OnOk result (CountsTaken (prepend_known self.old.buffer (I.remaining input.old)) (prepend_known self.new.buffer (I.remaining input.new)) self.old.taken self.new.taken) }
+        ensures some { IfOk result (λ found. found ≡ true → self.old.taken < self.new.taken) }
+        ensures failures { CountsLineRead result (I.failures input.old) (I.failures input.new) (prepend_known self.old.buffer (I.remaining input.old)) self.old.taken }
+    {
+        self.line.clear();
+        loop {
+            match self.take_part(input)? {
+                Part::Within => {}
+                Part::Ended => return Ok(true),
+                Part::AtEnd => return Ok(!self.line.is_empty()),
+            }
+        }
+    }
+}

@@ -1,0 +1,36 @@
+//! Where the lines of an input are cut.
+ghost use Rattle.std.specs.Prelude.{◌≡◌, ◌++◌, ◌≤◌, ◌<◌, ◌+◌, length, take, drop, IfOk, MatchOption, ◌∷◌};
+ghost use Rattle.devices.specs.LineCuts.{without_carriage_return, HasNoLineFeed};
+
+use memchr::memchr;
+use std::alloc::AllocError;
+
+/// Where the first line feed stands.
+pub(crate) fn find_line_feed(piece: &[u8]) -> Option<usize>
+    ensures { MatchOption result (HasNoLineFeed piece.now)
+        (λ at. (at < length piece.now) × HasNoLineFeed (take at piece.now) × (piece.now ≡ take at piece.now ++ 10 ∷ drop (at + 1) piece.now)) }
+{
+    memchr(b'\n', piece)
+}
+
+/// The line without one carriage return at its end.
+pub(crate) fn without_carriage_return(line: &[u8]) -> &[u8]
+    ensures { result.now ≡ without_carriage_return line.now }
+{
+    match line {
+        [body @ .., b'\r'] => body,
+        _ => line,
+    }
+}
+
+/// Adds bytes to a line of which at most the first `most` are held.
+pub(crate) fn hold(line: &mut Vec<u8>, most: usize, bytes: &[u8]) -> Result<(), AllocError>
+    requires { length line.old.items ≤ most }
+    ensures bytes { IfOk result (λ _. line.new.items ≡ take most (line.old.items ++ bytes.now)) }
+    ensures bound { length line.new.items ≤ most }
+{
+    let room = most - line.len();
+    let kept = room.min(bytes.len());
+    line.extend_from_slice(&bytes[..kept])?;
+    Ok(())
+}
