@@ -80,6 +80,7 @@ impl Cursor {
         ensures some { IfOk result (λ found. IfSome (line_found found line.new.items) (λ l. 0 < length l)) }
         ensures given { (t : List ℕ) → S.text source.old ≡ Some t → IfOk result (λ found. lines (drop self.old.at t) ≡ first_then (line_found found line.new.items) (lines (drop self.new.at t))) }
         ensures long { (t : List ℕ) → S.text source.old ≡ Some t → IfErr result (λ e. e ≡ LineReadFault.Long → LINE_LIMIT < first_length (lines (drop self.old.at t))) }
+        ensures most { (t : List ℕ) → S.text source.old ≡ Some t → self.new.at ≤ self.old.at + first_length (lines (drop self.old.at t)) }
         ensures gave { S.gave source.new + reach self.old ≤ S.gave source.old + reach self.new }
         ensures failures { CountsLineRead result (S.failures source.old) (S.failures source.new) }
     {

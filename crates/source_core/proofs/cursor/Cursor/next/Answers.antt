@@ -1,9 +1,10 @@
 use Rattle.std.proofs.Common.{rules, arith, ◌≡◌, ◌+◌, ◌<◌, ◌≤◌, ◌++◌, ◌∷◌, length, take, drop, sym, ap, ap₂, ◌∙◌, subst, true, false, length-append, length-take, length-drop, ◌-◌}
 use Rattle.cdxj_places.specs.TextLines.{lines}
 use Rattle.source_core.specs.Ahead.{StandsAt}
+use Rattle.source_core.specs.IndexLines.{first_length}
 use Rattle.source_core.specs.LineParts.{PartOf, NoFeed}
 use Rattle.source_core.proofs.Parts.{ended, goes_on, cut_short, given_more, given_out}
-use Rattle.source_core.proofs.LongLines.{first_at_least}
+use Rattle.source_core.proofs.LongLines.{first_at_least, part_of_first}
 use Rattle.source_core.proofs.cursor.Cursor.next.Goals as goal
 
 pub returns-then-length-len-clause-long : goal.returns-then-length-len-clause-long
@@ -107,3 +108,37 @@ returns-clause-stands g c =
           given_more (lines (drop c.loop-self.self-inside.start t)) _ _ c.loop-self.line.items c.loop-self.self-inside.count
           ((c.requires.stands.rest t (sym inv.text ∙ e)) ∙ ap₂ (λ k s. drop k (lines (drop s t))) (sym inv.count) (sym inv.start)) (returns-clause-given g c t (sym inv.text ∙ e));
     }
+
+pub returns-in_err-fill-clause-most : goal.returns-in_err-fill-clause-most
+returns-in_err-fill-clause-most g c = λ t e.
+    let inv = c.loop-self.invariant in
+    let told = inv.told t e in
+    part_of_first t c.args.self.now.at c.loop-self.self-inside.at c.loop-self.line.items told.1 told.2 inv.at
+
+pub returns-then-length-len-clause-most : goal.returns-then-length-len-clause-most
+returns-then-length-len-clause-most g c = λ t e.
+    let inv = c.loop-self.invariant in
+    let told = inv.told t e in
+    part_of_first t c.args.self.now.at c.loop-self.self-inside.at c.loop-self.line.items told.1 told.2 inv.at
+
+pub returns-in_err-extend_from_slice-clause-most : goal.returns-in_err-extend_from_slice-clause-most
+returns-in_err-extend_from_slice-clause-most g c = λ t e.
+    let inv = c.loop-self.invariant in
+    let told = inv.told t e in
+    part_of_first t c.args.self.now.at c.loop-self.self-inside.at c.loop-self.line.items told.1 told.2 inv.at
+
+pub returns-clause-most : goal.returns-clause-most
+returns-clause-most g c = λ t e.
+    let inv = c.loop-self.invariant in
+    let told = inv.told t e in
+    part_of_first t c.args.self.now.at c.loop-self.self-inside.at c.loop-self.line.items told.1 told.2 inv.at
+
+pub returns-then-ends-clause-most : goal.returns-then-ends-clause-most
+returns-then-ends-clause-most g c = λ t e.
+    let inv = c.loop-self.invariant in
+    let held = c.fill.new.self in
+    let n = c.line_part-length.result.0 in
+    let inside : n ≤ length held = omega (arith, c.line_part-length.ensures.within, ap length c.as_slice.ensures) in
+    let grown : c.extend_from_slice.new.self.items ≡ c.loop-self.line.items ++ take n held = search rules in
+    let first : first_length (lines (drop c.args.self.now.at t)) ≡ length c.extend_from_slice.new.self.items = ap first_length (returns-then-ends-clause-given g c t e) in
+    omega (arith, inv.at, first, ap length grown, length-append c.loop-self.line.items (take n held), length-take n held, inside)
