@@ -1,10 +1,9 @@
 -- One page of a query, by what was taken of its sources.
-use Rattle.std.proofs.Common.{◌≡◌, Err, ℕ, List, [], ◌∷◌, ◌++◌, refl, sym, ap, ◌∙◌, subst, Bool, true, false, not, ◌&&◌, cond, Option, Some, None, filter, min, length, ◌-◌, ◌^◌}
+use Rattle.std.proofs.Common.{◌≡◌, Err, ℕ, List, [], ◌∷◌, ◌++◌, refl, sym, ap, ap₂, ◌∙◌, subst, Bool, true, false, not, ◌&&◌, cond, Option, Some, None, filter, min, length, ◌-◌, ◌^◌}
 use Rattle.std.specs.Option.{is_some}
 use Rattle.std.specs.Io.KnownBytes.{Appends}
 use Rattle.std.proofs.lemmas.Bool.{true≢false}
 use Rattle.cdxj_places.specs.Places.{PlaceValue, place_cmp}
-use Rattle.cdxj_places.specs.Rising.{rising}
 use Rattle.devices.specs.Device.{AppendsPrefix}
 use Rattle.query_text.specs.Queries.{QueryValue}
 use Rattle.query_text.specs.Matching.{matches, key_matches, not_before, not_after, is_past}
@@ -21,8 +20,9 @@ use Rattle.page_core.specs.PageText.{page_text, page_end, begun}
 use Rattle.page_core.proofs.PageLemmas.{begun_is_front, written-whole, front-end}
 use Rattle.devices.proofs.WritingLemmas.{prefix_longer}
 use Rattle.query_core.specs.declared.page_writer.PageEnd.{PageEnd}
-use Rattle.query_core.specs.Collections.{all_lines, collection}
-use Rattle.query_core.specs.QueryPages.{never, form_of, shown_key}
+use Rattle.query_core.specs.declared.report.Report.{Report}
+use Rattle.query_core.specs.Answering.{Answered}
+use Rattle.query_core.specs.QueryPages.{never, form_of, shown_key, query_page}
 use Rattle.query_core.specs.PageWriting.{is_wanted, page_over, next_of, PageStands}
 use Rattle.query_core.specs.PageAsked.{asked_page, asked_text, WrotePage}
 use Rattle.query_core.proofs.WriterLemmas.{page, decided, next_is, page_front}
@@ -56,58 +56,68 @@ wanted_within q from m h =
     ap not (match_not_past q.target m.values.key
     (and_left a b (and_left (a && b) c (and_left (a && b && c) d (and_left (matches q m.values) (is_above member_place place_cmp never from m) h)))))
 
--- the page that is asked for is that of the collection's lines
-pub asked_is : (q : QueryValue) (from : Option PlaceValue) (limit : Option ℕ) (indexes : List (List Member)) → asked_page q from limit indexes ≡ page_over q from limit (collection indexes)
-asked_is q from limit indexes =
-    ap (page limit) (kept_never from (filter (is_above member_place place_cmp never from) (filter (λ m. matches q m.values) (collection indexes)))
-    ∙ filter_and (λ m. matches q m.values) (is_above member_place place_cmp never from) (collection indexes))
+-- the page that is asked for is that of the lines that are wanted
+pub asked_is : (q : QueryValue) (from : Option PlaceValue) (limit : Option ℕ) (lines : List Member) → asked_page q from limit lines ≡ page_over q from limit lines
+asked_is q from limit lines =
+    ap (page limit) (kept_never from (filter (is_above member_place place_cmp never from) (filter (λ m. matches q m.values) lines))
+    ∙ filter_and (λ m. matches q m.values) (is_above member_place place_cmp never from) lines)
 
-module _ (q : QueryValue) (from : Option PlaceValue) (limit : Option ℕ) (shows : Bool) (indexes : List (List Member)) (done : List Member) where
-  abbrev pub seen : List Member → List Member
-  seen xs = filter (is_wanted q from) (rising member_place place_cmp xs)
+-- of all lines these were taken
+module _ (q : QueryValue) (from : Option PlaceValue) (limit : Option ℕ) (shows : Bool) (all taken : List Member) where
+  abbrev pub wanted : List Member → List Member
+  wanted lines = filter (is_wanted q from) lines
 
-  abbrev pub taken : List Member
-  taken = rising member_place place_cmp done
+  -- they settle the page
+  pub page_settled : (whole more : Bool) (rest : List Member) → wanted all ≡ wanted taken ++ rest → (whole ≡ true → wanted all ≡ wanted taken) → (whole ≡ false → more ≡ true)
+      → more ≡ is_some (page_over q from limit taken).next → asked_page q from limit all ≡ page_over q from limit taken
+  page_settled true more rest first ended enough is = asked_is q from limit all ∙ ap (page limit) (ended refl)
+  page_settled false more rest first ended enough is =
+      asked_is q from limit all ∙ ap (page limit) first ∙ decided limit (wanted taken) rest (sym is ∙ enough refl)
 
-  -- what was taken settles the page
-  pub page_settled : (all more : Bool) (rest : List Member) → seen (all_lines indexes) ≡ seen done ++ rest → (all ≡ true → seen (all_lines indexes) ≡ seen done) → (all ≡ false → more ≡ true)
-      → more ≡ is_some (page_over q from limit taken).next → asked_page q from limit indexes ≡ page_over q from limit taken
-  page_settled true more rest first whole enough is = asked_is q from limit indexes ∙ ap (page limit) (whole refl)
-  page_settled false more rest first whole enough is =
-      asked_is q from limit indexes ∙ ap (page limit) first ∙ decided limit (seen done) rest (sym is ∙ enough refl)
+  module _ (start mid new : Option (List ℕ)) (given : ℕ) (more : Bool) (last : Option PlaceValue) (s : PageStands q from limit taken start mid given more last) (same : asked_page q from limit all ≡ page_over q from limit taken) where
+    next_same : next_of more last ≡ (asked_page q from limit all).next
+    next_same = next_is limit (wanted taken) more last s.more_is s.last_is ∙ ap (λ (p : Page Member PlaceValue). p.next) (sym same)
 
-  module _ (start mid new : Option (List ℕ)) (given : ℕ) (more : Bool) (last : Option PlaceValue) (s : PageStands q from limit taken start mid given more last) (same : asked_page q from limit indexes ≡ page_over q from limit taken) where
-    next_same : next_of more last ≡ (asked_page q from limit indexes).next
-    next_same = next_is limit (seen done) more last s.more_is s.last_is ∙ ap (λ (p : Page Member PlaceValue). p.next) (sym same)
-
-    text_same : page_text (form_of q) (page_over q from limit taken).members (shown_key shows (next_of more last)) ≡ asked_text q from limit shows indexes
+    text_same : page_text (form_of q) (page_over q from limit taken).members (shown_key shows (next_of more last)) ≡ asked_text q from limit shows all
     text_same =
         ap (λ (p : Page Member PlaceValue). page_text (form_of q) p.members (shown_key shows (next_of more last))) (sym same)
-        ∙ ap (λ n. page_text (form_of q) (asked_page q from limit indexes).members (shown_key shows n)) next_same
+        ∙ ap (λ n. page_text (form_of q) (asked_page q from limit all).members (shown_key shows n)) next_same
 
     -- with its end it is written
     pub page_wrote : (end : PageEnd) → Appends mid new (page_end (form_of q) (shown_key shows (next_of more last))) → end.given ≡ given → end.next ≡ next_of more last
-        → WrotePage q from limit shows indexes start new end
+        → WrotePage q from limit shows all start new end
     page_wrote end a g n = record {
       text = subst (Appends start new) text_same (written-whole start mid new (form_of q) (page_over q from limit taken).members (shown_key shows (next_of more last)) s.text a);
       given = g ∙ s.given_is ∙ ap (λ (p : Page Member PlaceValue). min (length p.members) (2 ^ 64 - 1)) (sym same);
       next = n ∙ next_same;
     }
 
-    pub page_cut : AppendsPrefix mid new (page_end (form_of q) (shown_key shows (next_of more last))) → AppendsPrefix start new (asked_text q from limit shows indexes)
+    pub page_cut : AppendsPrefix mid new (page_end (form_of q) (shown_key shows (next_of more last))) → AppendsPrefix start new (asked_text q from limit shows all)
     page_cut p = subst (AppendsPrefix start new) text_same (front-end start mid new (form_of q) (page_over q from limit taken).members (shown_key shows (next_of more last)) s.text p)
 
   -- a front of what was taken is a front of the page
-  pub page_broke : (start now : Option (List ℕ)) (rest : List Member) → seen (all_lines indexes) ≡ seen done ++ rest
-      → AppendsPrefix start now (begun (form_of q) (page_over q from limit taken).members) → AppendsPrefix start now (asked_text q from limit shows indexes)
+  pub page_broke : (start now : Option (List ℕ)) (rest : List Member) → wanted all ≡ wanted taken ++ rest
+      → AppendsPrefix start now (begun (form_of q) (page_over q from limit taken).members) → AppendsPrefix start now (asked_text q from limit shows all)
   page_broke start now rest first p =
-      let r = page_front limit (seen done) rest in
-      let key = shown_key shows (asked_page q from limit indexes).next in
-      let members : (asked_page q from limit indexes).members ≡ (page_over q from limit taken).members ++ r.0 =
-      ap (λ (p : Page Member PlaceValue). p.members) (asked_is q from limit indexes ∙ ap (page limit) first) ∙ r.1 in
+      let r = page_front limit (wanted taken) rest in
+      let key = shown_key shows (asked_page q from limit all).next in
+      let members : (asked_page q from limit all).members ≡ (page_over q from limit taken).members ++ r.0 =
+      ap (λ (p : Page Member PlaceValue). p.members) (asked_is q from limit all ∙ ap (page limit) first) ∙ r.1 in
       let f = begun_is_front (form_of q) (page_over q from limit taken).members r.0 key in
       subst (AppendsPrefix start now) (sym (ap (λ ms. page_text (form_of q) ms key) members ∙ f.1))
       (prefix_longer start now (begun (form_of q) (page_over q from limit taken).members) f.0 p)
+
+-- the page that a query asks for
+pub answered : (q : QueryValue) (from : Option PlaceValue) (limit : Option ℕ) (shows : Bool) (lines : List Member) (old new : Option (List ℕ)) (end : PageEnd) (report : Report)
+    → from ≡ q.resume → limit ≡ q.limit → shows ≡ q.show_resume_key → report.given ≡ end.given → report.more ≡ is_some end.next
+    → WrotePage q from limit shows lines old new end → Answered q lines old new report
+answered q from limit shows lines old new end report a b d given more wrote =
+    let page : asked_page q from limit lines ≡ query_page q lines = ap₂ (λ f n. asked_page q f n lines) a b in
+    record {
+      text = subst (Appends old new) (ap₂ (λ (p : Page Member PlaceValue) s. page_text (form_of q) p.members (shown_key s p.next)) page d) wrote.text;
+      given = given ∙ wrote.given ∙ ap (λ (p : Page Member PlaceValue). min (length p.members) (2 ^ 64 - 1)) page;
+      more = more ∙ ap is_some (wrote.next ∙ ap (λ (p : Page Member PlaceValue). p.next) page);
+    }
 
 -- a failure of the output is counted
 pub write_counted : (f : TextFault) (old new : ℕ) → f ≡ Write → CountsWrite {A = Unit {0}} (Err f) old new → new ≡ next_count old

@@ -2,7 +2,11 @@ pub mod Runs
 pub mod CheckLemmas
 pub mod TakenLines
 pub mod WriterLemmas
+pub mod StartLemmas
+pub mod SourceLines
 pub mod AskedLemmas
+pub mod PageOfIndexes
+pub mod PageExits
 pub mod NextPlaces
 pub mod Ranks
 pub mod PlaceReading

@@ -4,8 +4,8 @@ use Rattle.std.specs.List.{filter}
 use Rattle.cdxj_core.specs.Members.{Member}
 use Rattle.query_text.specs.Queries.{QueryValue}
 use Rattle.query_text.specs.Matching.{matches}
-pub use Rattle.merge_core.specs.Collections.{all_lines, collection}
+pub use Rattle.merge_core.specs.Collections.{Known, all_lines, collection}
 
--- the lines of the collection that match the query
-abbrev pub selected : QueryValue → List (List Member) → List Member
-selected q indexes = filter (λ m. matches q m.values) (collection indexes)
+-- those of these lines that match the query
+abbrev pub selected : QueryValue → List Member → List Member
+selected q lines = filter (λ m. matches q m.values) lines

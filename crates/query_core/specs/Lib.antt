@@ -4,7 +4,10 @@ pub mod Collections
 pub mod QueryPages
 pub mod PageWriting
 pub mod WriterView
+pub mod SourceLines
 pub mod PageAsked
+pub mod Answering
+pub mod LineFaults
 pub mod Merging
 pub mod Starts
 pub mod StartViews

@@ -15,13 +15,13 @@ use Rattle.query_core.specs.Collections.{selected}
 abbrev pub never : PlaceValue → PlaceValue → Bool
 never p q = false
 
--- the page of a query over indexes
-abbrev pub query_page : QueryValue → List (List Member) → Page Member PlaceValue
-query_page q indexes = page_of member_place place_cmp never (selected q indexes) q.resume q.limit
+-- the page that a query asks for, of lines that rise by place
+abbrev pub query_page : QueryValue → List Member → Page Member PlaceValue
+query_page q lines = page_of member_place place_cmp never (selected q lines) q.resume q.limit
 
--- the pages of these sizes
-abbrev pub IsQueryChain : QueryValue → List (List Member) → List ℕ → List (Page Member PlaceValue) → Type 0
-IsQueryChain q indexes sizes pages = IsChain member_place place_cmp never (selected q indexes) q.resume sizes pages
+-- the pages of these sizes, of such lines
+abbrev pub IsQueryChain : QueryValue → List Member → List ℕ → List (Page Member PlaceValue) → Type 0
+IsQueryChain q lines sizes pages = IsChain member_place place_cmp never (selected q lines) q.resume sizes pages
 
 abbrev pub output_form : OutputFormat → List Field → Form
 output_form output.Text fields = Text fields

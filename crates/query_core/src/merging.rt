@@ -1,11 +1,16 @@
 //! The merge of indexes.
-ghost use Rattle.std.specs.Prelude.{◌≡◌, ◌≢◌, ◌<◌, ◌≤◌, ℕ, List, length, map, Err, IfOk, IfErr, OnOk};
+ghost use Rattle.std.specs.Prelude.{◌≡◌, ◌≢◌, ◌<◌, ◌≤◌, ℕ, List, Option, length, map, Err, IfOk, IfErr, OnOk};
 ghost use Rattle.cdxj_core.specs.declared.limit.TheConstants.{LINE_LIMIT};
-ghost use Rattle.devices.specs.Device.{next_count};
-ghost use Rattle.merge_core.specs.Collections.{Merged, WroteRising};
+ghost use Rattle.devices.specs.Device.{AppendsPrefix, next_count};
+ghost use Rattle.cdxj_core.specs.Indexes.{IsIndex};
+ghost use Rattle.cdxj_core.specs.Members.{Member};
+ghost use Rattle.merge_core.specs.Collections.{Known, collection, Merged, WroteRising};
 ghost use Rattle.merge_core.specs.Failures.{RaisedAt};
-ghost use Rattle.merge_core.specs.Collections.{Known};
+ghost use Rattle.merge_core.specs.Gathering.{AllTwo};
+ghost use Rattle.merge_core.specs.Written.{lines_text};
 ghost use Rattle.query_core.specs.declared.merging.TheConstants.{SOURCES_LIMIT};
+ghost use Rattle.merge_core.specs.LineFaults as feed;
+ghost use Rattle.query_core.specs.LineFaults.{IsFaultOf};
 ghost use Rattle.query_core.specs.Merging.{IsMergeFault};
 
 use crate::fault::AnswerFault;
@@ -21,6 +26,7 @@ fn index_fault(index: usize, fault: FeedFault) -> AnswerFault
     ensures read { (i : ℕ) → result ≡ AnswerFault.Read i → (index ≡ i) × (fault ≡ FeedFault.Read) }
     ensures write { result ≢ AnswerFault.Write }
     ensures kind { (result ≢ AnswerFault.TooManySources) × IsMergeFault result }
+    ensures line { (texts : List (Option (List ℕ))) → feed.IsFaultOf LINE_LIMIT texts (MergeFault.Feed index fault) → IsFaultOf LINE_LIMIT texts result }
 {
     match fault {
         FeedFault::Memory => AnswerFault::Memory,
@@ -34,6 +40,7 @@ pub(crate) fn merge_fault(fault: MergeFault) -> AnswerFault
     ensures read { (i : ℕ) → result ≡ AnswerFault.Read i → fault ≡ MergeFault.Feed i FeedFault.Read }
     ensures write { result ≡ AnswerFault.Write → fault ≡ MergeFault.Write }
     ensures kind { (result ≢ AnswerFault.TooManySources) × IsMergeFault result }
+    ensures line { (texts : List (Option (List ℕ))) → feed.IsFaultOf LINE_LIMIT texts fault → IsFaultOf LINE_LIMIT texts result }
 {
     match fault {
         MergeFault::Memory => AnswerFault::Memory,
@@ -61,8 +68,11 @@ pub fn merge<S: Source, O: Output>(
     ensures worked { OnOk result ((map S.failures sources.new ≡ map S.failures sources.old) × (O.failures out.new ≡ O.failures out.old)) }
     ensures read { IfErr result (λ e. (i : ℕ) → e ≡ AnswerFault.Read i → RaisedAt i (map S.failures sources.old) (map S.failures sources.new)) }
     ensures failed { IfErr result (λ e. e ≡ AnswerFault.Write → O.failures out.new ≡ next_count (O.failures out.old)) }
+    ensures fault { IfErr result (IsFaultOf LINE_LIMIT (map S.text sources.old)) }
     ensures merged { (texts : List (List ℕ)) → Known (map S.text sources.old) texts
         → IfOk result (Merged LINE_LIMIT texts (O.written out.old) (O.written out.new)) }
+    ensures part { (texts : List (List ℕ)) → (indexes : List (List Member)) → Known (map S.text sources.old) texts → AllTwo (IsIndex LINE_LIMIT) texts indexes
+        → AppendsPrefix (O.written out.old) (O.written out.new) (lines_text (collection indexes)) }
     ensures rising { WroteRising (O.written out.old) (O.written out.new) }
 {
     if sources.len() > SOURCES_LIMIT {

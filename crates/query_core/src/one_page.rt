@@ -1,11 +1,18 @@
 //! One page over indexes.
-ghost use Rattle.std.specs.Prelude.{◌≡◌, ◌≢◌, ◌≤◌, ℕ, List, map, IfOk, IfErr, IfSome, OnOk, true};
+ghost use Rattle.std.specs.Prelude.{◌≡◌, ◌≢◌, ◌≤◌, ℕ, List, Option, map, IfOk, IfErr, IfSome, OnOk, true};
 ghost use Rattle.std.specs.List.{sum};
-ghost use Rattle.devices.specs.Device.{next_count};
+ghost use Rattle.cdxj_core.specs.declared.limit.TheConstants.{LINE_LIMIT};
+ghost use Rattle.cdxj_core.specs.Indexes.{IsIndex};
+ghost use Rattle.cdxj_core.specs.Members.{Member};
+ghost use Rattle.devices.specs.Device.{AppendsPrefix, next_count};
 ghost use Rattle.source_core.specs.Halving.{digits};
+ghost use Rattle.merge_core.specs.Collections.{Known, collection};
+ghost use Rattle.merge_core.specs.Gathering.{AllTwo};
 ghost use Rattle.merge_core.specs.Failures.{RaisedAt};
+ghost use Rattle.query_core.specs.LineFaults.{IsFaultOf};
 ghost use Rattle.query_core.specs.Merging.{IsMergeFault};
-ghost use Rattle.query_core.specs.PageAsked.{StandsAfter};
+ghost use Rattle.query_core.specs.PageAsked.{asked_text, WrotePage, StandsAfter};
+ghost use Rattle.query_core.specs.SourceLines.{AreLinesOf};
 ghost use Rattle.query_core.specs.WriterView.{from_view};
 
 use crate::fault::AnswerFault;
@@ -37,6 +44,7 @@ fn text_fault(fault: TextFault) -> AnswerFault
     ensures read { (i : ℕ) → result ≡ AnswerFault.Read i → ⊥ }
     ensures write { result ≡ AnswerFault.Write → fault ≡ TextFault.Write }
     ensures kind { (result ≢ AnswerFault.TooManySources) × IsMergeFault result }
+    ensures line { (texts : List (Option (List ℕ))) → IsFaultOf LINE_LIMIT texts result }
 {
     match fault {
         TextFault::Memory => AnswerFault::Memory,
@@ -60,7 +68,16 @@ pub fn write_page<S: Source, O: Output>(
     ensures worked { OnOk result ((map S.failures sources.new ≡ map S.failures sources.old) × (O.failures out.new ≡ O.failures out.old)) }
     ensures read { IfErr result (λ e. (i : ℕ) → e ≡ AnswerFault.Read i → RaisedAt i (map S.failures sources.old) (map S.failures sources.new)) }
     ensures failed { IfErr result (λ e. e ≡ AnswerFault.Write → O.failures out.new ≡ next_count (O.failures out.old)) }
+    ensures fault { IfErr result (IsFaultOf LINE_LIMIT (map S.text sources.old)) }
     ensures probes { IfOk result (λ page. page.probes ≤ sum (map (λ s. digits (S.extent s)) sources.old)) }
+    ensures rising { (lines : List Member) × AreLinesOf LINE_LIMIT (map S.text sources.old) lines
+        × AppendsPrefix (O.written out.old) (O.written out.new) (asked_text query.now (from_view from.entry) limit shows lines) }
+    ensures written { IfOk result (λ page. (lines : List Member) × AreLinesOf LINE_LIMIT (map S.text sources.old) lines
+        × WrotePage query.now (from_view from.entry) limit shows lines (O.written out.old) (O.written out.new) page.end) }
+    ensures page { (texts : List (List ℕ)) → (indexes : List (List Member)) → Known (map S.text sources.old) texts → AllTwo (IsIndex LINE_LIMIT) texts indexes
+        → IfOk result (λ page. WrotePage query.now (from_view from.entry) limit shows (collection indexes) (O.written out.old) (O.written out.new) page.end) }
+    ensures part { (texts : List (List ℕ)) → (indexes : List (List Member)) → Known (map S.text sources.old) texts → AllTwo (IsIndex LINE_LIMIT) texts indexes
+        → AppendsPrefix (O.written out.old) (O.written out.new) (asked_text query.now (from_view from.entry) limit shows (collection indexes)) }
     ensures above { IfOk result (λ page. IfSome page.end.next (λ next. StandsAfter (from_view from.entry) next)) }
 {
     let mut writer = match PageWriter::begin(alloc, query, from, limit, out) {
@@ -100,6 +117,6 @@ pub fn write_page<S: Source, O: Output>(
         end,
         probes: opened.probes,
         lines: opened.streams.lines(),
-        held: 0,
+        held: opened.streams.held,
     })
 }

@@ -1,4 +1,12 @@
+use Rattle.std.proofs.Common.{map}
+use Rattle.devices.proofs.WritingLemmas.{wrote_nothing}
 use Rattle.query_core.proofs.merging.merge.Goals as goal
 
 pub returns-in-Err-clause-read : goal.returns-in-Err-clause-read
 returns-in-Err-clause-read g c = λ i e. c.in-Err.ensures.read i (c.merge_fault.ensures.read i e)
+
+pub returns-in-Err-clause-fault : goal.returns-in-Err-clause-fault
+returns-in-Err-clause-fault g c = c.merge_fault.ensures.line (map g.S.Source.text c.args.sources.now) c.in-Err.ensures.fault
+
+pub returns-then-sources-gt-SOURCES_LIMIT-clause-part : goal.returns-then-sources-gt-SOURCES_LIMIT-clause-part
+returns-then-sources-gt-SOURCES_LIMIT-clause-part g c = λ texts indexes known are. wrote_nothing _ _

@@ -1,6 +1,21 @@
-use Rattle.std.proofs.Common.{refl, ◌∙◌, map, arith}
+use Rattle.std.proofs.Common.{refl, sym, ◌∙◌, map, arith, subst, ℕ, List, [], zip, ap, Option, append-nil}
+use Rattle.std.specs.List.{AllByRecursion}
+use Rattle.cdxj_core.specs.declared.limit.TheConstants.{LINE_LIMIT}
+use Rattle.query_text.specs.Matching.{is_past}
+use Rattle.merge_core.specs.Collections.{Known, collection}
+use Rattle.merge_core.specs.Openings.{IsCutAt}
+use Rattle.merge_core.specs.Reached.{Reached}
 use Rattle.merge_core.proofs.FailLemmas.{raised_from}
 use Rattle.merge_core.proofs.WholeLemmas.{texts_kept}
+use Rattle.query_core.specs.LineFaults.{IsFaultOf}
+use Rattle.query_core.specs.PageAsked.{asked_text}
+use Rattle.query_core.specs.SourceLines.{AreLinesOf}
+use Rattle.query_core.specs.WriterView.{from_view}
+use Rattle.query_core.proofs.WriterLemmas.{whole_prefix}
+use Rattle.query_core.proofs.AskedLemmas.{asked_is, page_settled, page_broke}
+use Rattle.query_core.proofs.SourceLines.{taken_lines}
+use Rattle.query_core.proofs.PageOfIndexes.{wanted_first, wanted_whole}
+use Rattle.query_core.proofs.PageExits.{start_front, stood, rows_front, begun_front, page_ended, end_front}
 use Rattle.query_core.proofs.NextPlaces.{written_next_above}
 use Rattle.query_core.proofs.one_page.write_page.Goals as goal
 
@@ -14,6 +29,20 @@ returns-in-Err-merge-clause-read g c = λ i e.
     let f = g.S.Source.failures in
     raised_from i (map f c.args.sources.now) (map f c.open_at.new.sources) (map f c.merge.new.sources) c.in-Ok-open_at.ensures.worked
     (c.in-Err-merge.ensures.read i (c.merge_fault-in-Err-merge.ensures.read i e))
+
+pub returns-in-Err-clause-fault : goal.returns-in-Err-clause-fault
+returns-in-Err-clause-fault g c = c.text_fault.ensures.line (map g.S.Source.text c.args.sources.now)
+
+pub returns-in-Err-open_at-clause-fault : goal.returns-in-Err-open_at-clause-fault
+returns-in-Err-open_at-clause-fault g c = c.merge_fault.ensures.line (map g.S.Source.text c.args.sources.now) c.in-Err-open_at.ensures.fault
+
+pub returns-in-Err-merge-clause-fault : goal.returns-in-Err-merge-clause-fault
+returns-in-Err-merge-clause-fault g c =
+    subst (λ texts. IsFaultOf LINE_LIMIT texts c.merge_fault-in-Err-merge.result) c.open_at.ensures.text
+    (c.merge_fault-in-Err-merge.ensures.line (map g.S.Source.text c.open_at.new.sources) c.in-Err-merge.ensures.fault)
+
+pub returns-in-Err-end-clause-fault : goal.returns-in-Err-end-clause-fault
+returns-in-Err-end-clause-fault g c = c.text_fault-in-Err-end.ensures.line (map g.S.Source.text c.args.sources.now)
 
 -- ---- the sources' texts
 
@@ -42,3 +71,171 @@ returns-clause-above g c =
     let stood = wrote.3 writer start ((refl, refl, refl), c.in-Ok.ensures.stands) in
     written_next_above writer c.merge.new.sink wrote.1 start (g.O.Output.written c.merge.new.out) c.args.from c.in-Ok.ensures.query.1 stood
     c.in-Ok-end.end.next c.in-Ok-end.ensures.end.1
+
+-- ---- a page of lines of the sources
+
+no_lines : (texts : List (Option (List ℕ))) → AreLinesOf LINE_LIMIT texts []
+no_lines texts = record { rise = tt; each = tt }
+
+pub returns-in-Err-clause-rising : goal.returns-in-Err-clause-rising
+returns-in-Err-clause-rising g c = (
+  [],
+  no_lines (map g.S.Source.text c.args.sources.now),
+  start_front c.args.query.now c.args.from c.args.limit c.args.shows [] (g.O.Output.written c.args.out.now) (g.O.Output.written c.begin.new.out) c.in-Err.ensures.front,
+)
+
+pub returns-in-Err-open_at-clause-rising : goal.returns-in-Err-open_at-clause-rising
+returns-in-Err-open_at-clause-rising g c =
+    let writer = c.in-Ok.writer in
+    let is = c.in-Ok.ensures.query in (
+      [],
+      no_lines (map g.S.Source.text c.args.sources.now),
+      begun_front writer c.args.query.now c.args.from c.args.limit c.args.shows is.0 is.1 is.2 [] writer (g.O.Output.written c.args.out.now) (g.O.Output.written c.begin.new.out)
+          ((refl, refl, refl), c.in-Ok.ensures.stands),
+    )
+
+pub returns-in-Err-merge-clause-rising : goal.returns-in-Err-merge-clause-rising
+returns-in-Err-merge-clause-rising g c =
+    let text = g.S.Source.text in
+    let writer = c.in-Ok.writer in
+    let is = c.in-Ok.ensures.query in
+    let q = c.args.query.now in
+    let start = g.O.Output.written c.args.out.now in
+    let now = g.O.Output.written c.merge.new.out in
+    let broke = c.in-Err-merge.ensures.broke in
+    let taken = broke.4 in
+    let front = rows_front writer q c.args.from c.args.limit c.args.shows is.0 is.1 is.2 taken start now (broke.6 writer start ((refl, refl, refl), c.in-Ok.ensures.stands)) in (
+      taken,
+      subst (λ texts. AreLinesOf LINE_LIMIT texts taken) c.open_at.ensures.text
+          (taken_lines LINE_LIMIT (is_past c.target.result.now) text g.S.Source.extent g.S.Source.gave c.open_at.new.sources c.in-Ok-open_at.opened.streams.feeds.items broke.0 broke.1 broke.2 broke.3 taken
+          c.in-Ok-open_at.ensures.ready.same broke.5),
+      page_broke q (from_view c.args.from) c.args.limit c.args.shows taken taken start now [] (sym (append-nil _)) front,
+    )
+
+pub returns-in-Err-end-clause-rising : goal.returns-in-Err-end-clause-rising
+returns-in-Err-end-clause-rising g c =
+    let writer = c.in-Ok.writer in
+    let is = c.in-Ok.ensures.query in
+    let q = c.args.query.now in
+    let start = g.O.Output.written c.args.out.now in
+    let wrote = c.in-Ok-merge.ensures.wrote in
+    let taken = wrote.1 in (
+      taken,
+      subst (λ texts. AreLinesOf LINE_LIMIT texts taken) c.open_at.ensures.text
+          (taken_lines LINE_LIMIT (is_past c.target.result.now) g.S.Source.text g.S.Source.extent g.S.Source.gave c.open_at.new.sources c.in-Ok-open_at.opened.streams.feeds.items
+          c.merge.new.sources c.merge.new.streams.feeds.items c.merge.new.streams.waiting wrote.0 taken c.in-Ok-open_at.ensures.ready.same wrote.2),
+      end_front writer q c.args.from c.args.limit c.args.shows is.0 is.1 is.2 c.merge.new.sink taken taken start (g.O.Output.written c.merge.new.out) (g.O.Output.written c.end.new.out)
+          (wrote.3 writer start ((refl, refl, refl), c.in-Ok.ensures.stands)) (asked_is q (from_view c.args.from) c.args.limit taken) c.in-Err-end.ensures.text,
+    )
+
+pub returns-clause-written : goal.returns-clause-written
+returns-clause-written g c =
+    let writer = c.in-Ok.writer in
+    let is = c.in-Ok.ensures.query in
+    let q = c.args.query.now in
+    let start = g.O.Output.written c.args.out.now in
+    let wrote = c.in-Ok-merge.ensures.wrote in
+    let taken = wrote.1 in
+    let end = c.in-Ok-end.ensures in (
+      taken,
+      subst (λ texts. AreLinesOf LINE_LIMIT texts taken) c.open_at.ensures.text
+          (taken_lines LINE_LIMIT (is_past c.target.result.now) g.S.Source.text g.S.Source.extent g.S.Source.gave c.open_at.new.sources c.in-Ok-open_at.opened.streams.feeds.items
+          c.merge.new.sources c.merge.new.streams.feeds.items c.merge.new.streams.waiting wrote.0 taken c.in-Ok-open_at.ensures.ready.same wrote.2),
+      page_ended writer q c.args.from c.args.limit c.args.shows is.0 is.1 is.2 c.merge.new.sink taken taken start (g.O.Output.written c.merge.new.out) (g.O.Output.written c.end.new.out)
+          (wrote.3 writer start ((refl, refl, refl), c.in-Ok.ensures.stands)) (asked_is q (from_view c.args.from) c.args.limit taken) c.in-Ok-end.end end.text end.end.0 end.end.1,
+    )
+
+pub returns-clause-rising : goal.returns-clause-rising
+returns-clause-rising g c =
+    let w = returns-clause-written g c in
+    (w.0, w.1, whole_prefix _ _ (asked_text c.args.query.now (from_view c.args.from) c.args.limit c.args.shows w.0) w.2.text)
+
+-- ---- the page of the indexes' collection
+
+pub returns-in-Err-clause-part : goal.returns-in-Err-clause-part
+returns-in-Err-clause-part g c = λ texts indexes known are.
+    start_front c.args.query.now c.args.from c.args.limit c.args.shows (collection indexes) (g.O.Output.written c.args.out.now) (g.O.Output.written c.begin.new.out) c.in-Err.ensures.front
+
+pub returns-in-Err-open_at-clause-part : goal.returns-in-Err-open_at-clause-part
+returns-in-Err-open_at-clause-part g c = λ texts indexes known are.
+    let writer = c.in-Ok.writer in
+    let is = c.in-Ok.ensures.query in
+    begun_front writer c.args.query.now c.args.from c.args.limit c.args.shows is.0 is.1 is.2 (collection indexes) writer (g.O.Output.written c.args.out.now) (g.O.Output.written c.begin.new.out)
+    ((refl, refl, refl), c.in-Ok.ensures.stands)
+
+pub returns-in-Err-merge-clause-part : goal.returns-in-Err-merge-clause-part
+returns-in-Err-merge-clause-part g c = λ texts indexes known are.
+    let text = g.S.Source.text in let extent = g.S.Source.extent in let gave = g.S.Source.gave in
+    let writer = c.in-Ok.writer in
+    let is = c.in-Ok.ensures.query in
+    let q = c.args.query.now in
+    let from = from_view c.args.from in
+    let ss1 = c.open_at.new.sources in let fs1 = c.in-Ok-open_at.opened.streams.feeds.items in
+    let start = g.O.Output.written c.args.out.now in
+    let now = g.O.Output.written c.merge.new.out in
+    let broke = c.in-Err-merge.ensures.broke in
+    let taken = broke.4 in
+    let reached = subst (λ target. Reached LINE_LIMIT text (is_past target) extent gave ss1 fs1 broke.0 broke.1 broke.2 broke.3 taken) c.target.ensures broke.5 in
+    let cut = subst (λ pair. AllByRecursion (λ x. IsCutAt LINE_LIMIT pair (text x.0) x.1.cursor) (zip ss1 fs1)) (ap (λ key. (key, c.start_pair-start.result.stamp)) c.as_bytes.ensures.value ∙ c.start_pair-start.ensures)
+    c.in-Ok-open_at.ensures.cut in
+    let first = wanted_first text extent gave q from ss1 fs1 broke.0 broke.1 broke.2 broke.3 taken c.in-Ok-open_at.ensures.ready.same reached cut texts indexes
+    (subst (λ l. Known l texts) (sym c.open_at.ensures.text) known) are in
+    page_broke q from c.args.limit c.args.shows (collection indexes) taken start now first.0 first.1
+    (rows_front writer q c.args.from c.args.limit c.args.shows is.0 is.1 is.2 taken start now (broke.6 writer start ((refl, refl, refl), c.in-Ok.ensures.stands)))
+
+pub returns-in-Err-end-clause-part : goal.returns-in-Err-end-clause-part
+returns-in-Err-end-clause-part g c = λ texts indexes known are.
+    let text = g.S.Source.text in let extent = g.S.Source.extent in let gave = g.S.Source.gave in
+    let writer = c.in-Ok.writer in
+    let is = c.in-Ok.ensures.query in
+    let q = c.args.query.now in
+    let from = from_view c.args.from in
+    let ss1 = c.open_at.new.sources in let fs1 = c.in-Ok-open_at.opened.streams.feeds.items in
+    let ss2 = c.merge.new.sources in let fs2 = c.merge.new.streams.feeds.items in let ws = c.merge.new.streams.waiting in
+    let start = g.O.Output.written c.args.out.now in
+    let mid = g.O.Output.written c.merge.new.out in
+    let ok = c.in-Ok-merge.ensures in
+    let b = ok.wrote.0 in
+    let taken = ok.wrote.1 in
+    let stood_now = ok.wrote.3 writer start ((refl, refl, refl), c.in-Ok.ensures.stands) in
+    let reached = subst (λ target. Reached LINE_LIMIT text (is_past target) extent gave ss1 fs1 ss2 fs2 ws b taken) c.target.ensures ok.wrote.2 in
+    let cut = subst (λ pair. AllByRecursion (λ x. IsCutAt LINE_LIMIT pair (text x.0) x.1.cursor) (zip ss1 fs1)) (ap (λ key. (key, c.start_pair-start.result.stamp)) c.as_bytes.ensures.value ∙ c.start_pair-start.ensures)
+    c.in-Ok-open_at.ensures.cut in
+    let known1 = subst (λ l. Known l texts) (sym c.open_at.ensures.text) known in
+    let same = c.in-Ok-open_at.ensures.ready.same in
+    let first = wanted_first text extent gave q from ss1 fs1 ss2 fs2 ws b taken same reached cut texts indexes known1 are in
+    let more_is = (stood writer q c.args.from c.args.limit c.args.shows is.0 is.1 is.2 c.merge.new.sink taken start mid stood_now).more_is in
+    let settled = page_settled q from c.args.limit c.args.shows (collection indexes) taken c.in-Ok-merge.all c.merge.new.sink.more first.0 first.1
+    (λ e. wanted_whole text extent gave q from ss1 fs1 ss2 fs2 ws b taken same reached cut texts indexes known1 are (ok.ended e)) (λ e. ok.enough e) more_is in
+    end_front writer q c.args.from c.args.limit c.args.shows is.0 is.1 is.2 c.merge.new.sink (collection indexes) taken start mid (g.O.Output.written c.end.new.out) stood_now settled c.in-Err-end.ensures.text
+
+pub returns-clause-page : goal.returns-clause-page
+returns-clause-page g c = λ texts indexes known are.
+    let text = g.S.Source.text in let extent = g.S.Source.extent in let gave = g.S.Source.gave in
+    let writer = c.in-Ok.writer in
+    let is = c.in-Ok.ensures.query in
+    let q = c.args.query.now in
+    let from = from_view c.args.from in
+    let ss1 = c.open_at.new.sources in let fs1 = c.in-Ok-open_at.opened.streams.feeds.items in
+    let ss2 = c.merge.new.sources in let fs2 = c.merge.new.streams.feeds.items in let ws = c.merge.new.streams.waiting in
+    let start = g.O.Output.written c.args.out.now in
+    let mid = g.O.Output.written c.merge.new.out in
+    let ok = c.in-Ok-merge.ensures in
+    let b = ok.wrote.0 in
+    let taken = ok.wrote.1 in
+    let stood_now = ok.wrote.3 writer start ((refl, refl, refl), c.in-Ok.ensures.stands) in
+    let reached = subst (λ target. Reached LINE_LIMIT text (is_past target) extent gave ss1 fs1 ss2 fs2 ws b taken) c.target.ensures ok.wrote.2 in
+    let cut = subst (λ pair. AllByRecursion (λ x. IsCutAt LINE_LIMIT pair (text x.0) x.1.cursor) (zip ss1 fs1)) (ap (λ key. (key, c.start_pair-start.result.stamp)) c.as_bytes.ensures.value ∙ c.start_pair-start.ensures)
+    c.in-Ok-open_at.ensures.cut in
+    let known1 = subst (λ l. Known l texts) (sym c.open_at.ensures.text) known in
+    let same = c.in-Ok-open_at.ensures.ready.same in
+    let first = wanted_first text extent gave q from ss1 fs1 ss2 fs2 ws b taken same reached cut texts indexes known1 are in
+    let more_is = (stood writer q c.args.from c.args.limit c.args.shows is.0 is.1 is.2 c.merge.new.sink taken start mid stood_now).more_is in
+    let settled = page_settled q from c.args.limit c.args.shows (collection indexes) taken c.in-Ok-merge.all c.merge.new.sink.more first.0 first.1
+    (λ e. wanted_whole text extent gave q from ss1 fs1 ss2 fs2 ws b taken same reached cut texts indexes known1 are (ok.ended e)) (λ e. ok.enough e) more_is in
+    let end = c.in-Ok-end.ensures in
+    page_ended writer q c.args.from c.args.limit c.args.shows is.0 is.1 is.2 c.merge.new.sink (collection indexes) taken start mid (g.O.Output.written c.end.new.out) stood_now settled c.in-Ok-end.end end.text end.end.0 end.end.1
+
+pub returns-clause-part : goal.returns-clause-part
+returns-clause-part g c = λ texts indexes known are.
+    whole_prefix _ _ (asked_text c.args.query.now (from_view c.args.from) c.args.limit c.args.shows (collection indexes)) (returns-clause-page g c texts indexes known are).text

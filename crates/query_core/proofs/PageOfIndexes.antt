@@ -1,0 +1,90 @@
+-- What was taken of indexes, beside all that is wanted of their collection.
+use Rattle.std.proofs.Common.{◌≡◌, inl, inr, ℕ, List, [], ◌∷◌, ◌++◌, length, map, filter, zip, Bool, true, false, not, ◌&&◌, cond, Option, refl, sym, ap, ap₂, ◌∙◌, subst}
+use Rattle.std.specs.List.{AllByRecursion}
+use Rattle.cdxj_places.specs.Pair.{is_stamp}
+use Rattle.cdxj_places.specs.Pairs.{Pair}
+use Rattle.cdxj_places.specs.Places.{PlaceValue, place_cmp}
+use Rattle.cdxj_places.proofs.PlaceOrder.{place_cmp_total}
+use Rattle.cdxj_places.proofs.RisingLaws.{each_weaker, each_rising}
+use Rattle.cdxj_core.specs.declared.limit.TheConstants.{LINE_LIMIT}
+use Rattle.cdxj_core.specs.Indexes.{IsIndex}
+use Rattle.cdxj_core.specs.Members.{Member, member_place}
+use Rattle.query_text.specs.Queries.{QueryValue}
+use Rattle.query_text.specs.Matching.{is_past}
+use Rattle.query_text.proofs.RangeLaw.{past_upward}
+use Rattle.merge_core.specs.declared.feed.Feed.{Feed}
+use Rattle.merge_core.specs.WaitingLines.{WaitingLine}
+use Rattle.merge_core.specs.Collections.{Known, all_lines, collection}
+use Rattle.merge_core.specs.Gathering.{AllTwo}
+use Rattle.merge_core.specs.PairOrders.{is_low}
+use Rattle.merge_core.specs.Openings.{IsCutAt}
+use Rattle.merge_core.specs.Reached.{Reached}
+use Rattle.merge_core.proofs.FeedLemmas.{each_join}
+use Rattle.merge_core.proofs.ReadLemmas.{sought_first, sought_whole}
+use Rattle.query_core.specs.PageWriting.{is_wanted}
+use Rattle.query_core.specs.SourceLines.{IsLineIn, IsLineOf}
+use Rattle.query_core.specs.Starts.{start_pair}
+use Rattle.query_core.proofs.AskedLemmas.{wanted_within}
+use Rattle.query_core.proofs.SourceLines.{index_lines, line_stamp, each_taken}
+use Rattle.query_core.proofs.StartLemmas.{start_not_above, and_left, and_right}
+
+and_true : (a b : Bool) → b ≡ true → (a && b) ≡ a
+and_true true b h = h
+and_true false b h = refl
+
+-- every line has a stamp
+stamped : (f : Member → Bool) (xs : List Member) → AllByRecursion (λ m. is_stamp m.values.stamp ≡ true) xs → filter (λ m. f m && is_stamp m.values.stamp) xs ≡ filter f xs
+stamped f [] h = refl
+stamped f (x ∷ xs) h = ap₂ (λ b l. cond b (x ∷ l) l) (and_true (f x) (is_stamp x.values.stamp) h.0) (stamped f xs h.1)
+
+index_stamps : (texts : List (List ℕ)) (indexes : List (List Member)) → AllTwo (IsIndex LINE_LIMIT) texts indexes → AllByRecursion (λ m. is_stamp m.values.stamp ≡ true) (all_lines indexes)
+index_stamps [] [] are = tt
+index_stamps [] (i ∷ is) are = absurd are
+index_stamps (t ∷ ts) [] are = absurd are
+index_stamps (t ∷ ts) (i ∷ is) are =
+    each_join (λ m. is_stamp m.values.stamp ≡ true) i (all_lines is) (each_weaker (λ (m : Member) (h : IsLineIn LINE_LIMIT t m). line_stamp LINE_LIMIT t m h) i (index_lines LINE_LIMIT (λ key. false) t i are.0)) (index_stamps ts is are.1)
+
+-- a line of sources that tell their bytes has one
+known_stamp : (told : List (Option (List ℕ))) (texts : List (List ℕ)) (m : Member) → Known told texts → IsLineOf LINE_LIMIT told m → is_stamp m.values.stamp ≡ true
+known_stamp [] [] m k h = absurd h
+known_stamp [] (t ∷ ts) m k h = absurd k
+known_stamp (o ∷ os) [] m k h = absurd k
+known_stamp (o ∷ os) (t ∷ ts) m k h = elim (subst (λ o. IsLineOf LINE_LIMIT (o ∷ os) m) k.0 h) [
+  | inl here ↦ line_stamp LINE_LIMIT t m here
+  | inr later ↦ known_stamp os ts m k.1 later
+]
+
+module _ {S : Type 0} (text : S → Option (List ℕ)) (extent gave : S → ℕ) (q : QueryValue) (from : Option PlaceValue) (ss0 : List S) (fs0 : List Feed) (ss : List S) (fs : List Feed) (ws : List WaitingLine) (b : Option Pair)
+    (taken : List Member) (same : length ss0 ≡ length fs0) (reached : Reached LINE_LIMIT text (is_past q.target) extent gave ss0 fs0 ss fs ws b taken)
+    (cut : AllByRecursion (λ x. IsCutAt LINE_LIMIT (start_pair q from) (text x.0) x.1.cursor) (zip ss0 fs0))
+    (texts : List (List ℕ)) (indexes : List (List Member)) (known : Known (map text ss0) texts) (are : AllTwo (IsIndex LINE_LIMIT) texts indexes) where
+  abbrev sought : Member → Bool
+  sought m = is_wanted q from m && is_stamp m.values.stamp
+
+  within : (m : Member) → sought m ≡ true → not (is_past q.target m.values.key) ≡ true
+  within m h = wanted_within q from m (and_left (is_wanted q from m) (is_stamp m.values.stamp) h)
+
+  beyond : (m : Member) → sought m ≡ true → is_low (start_pair q from) m ≡ false
+  beyond m h = start_not_above q from m (and_right (is_wanted q from m) (is_stamp m.values.stamp) h) (and_left (is_wanted q from m) (is_stamp m.values.stamp) h)
+
+  of_all : filter sought (collection indexes) ≡ filter (is_wanted q from) (collection indexes)
+  of_all = stamped (is_wanted q from) (collection indexes)
+      (each_rising member_place place_cmp place_cmp_total (λ m. is_stamp m.values.stamp ≡ true) (all_lines indexes) (index_stamps texts indexes are))
+
+  of_taken : filter sought taken ≡ filter (is_wanted q from) taken
+  of_taken = stamped (is_wanted q from) taken
+      (each_weaker (λ (m : Member) (h : IsLineOf LINE_LIMIT (map text ss0) m). known_stamp (map text ss0) texts m known h) taken
+      (each_taken LINE_LIMIT (is_past q.target) text extent gave ss0 fs0 ss fs ws b taken same reached))
+
+  -- what was taken is a front of what is wanted
+  pub wanted_first : (rest : List Member) × (filter (is_wanted q from) (collection indexes) ≡ filter (is_wanted q from) taken ++ rest)
+  wanted_first =
+      let f = sought_first text extent gave LINE_LIMIT (is_past q.target) (past_upward q.target) ss0 fs0 ss fs ws b taken same reached texts indexes known are sought within (start_pair q from) cut beyond in
+      (f.0, sym of_all ∙ f.1 ∙ ap (λ l. l ++ f.0) of_taken)
+
+  -- where no line waits, it is all
+  pub wanted_whole : ws ≡ [] → filter (is_wanted q from) (collection indexes) ≡ filter (is_wanted q from) taken
+  wanted_whole none =
+      sym of_all
+      ∙ sought_whole text extent gave LINE_LIMIT (is_past q.target) (past_upward q.target) ss0 fs0 ss fs ws b taken same reached texts indexes known are sought within (start_pair q from) cut beyond none
+      ∙ of_taken

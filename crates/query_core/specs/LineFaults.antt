@@ -1,0 +1,15 @@
+-- Faults that name lines.
+use Rattle.std.specs.Prelude.{◌≡◌, ℕ, ◌<◌, ⊤, List, length, get_or, Option, None, Some}
+use Rattle.source_core.specs.LinesAtFault.{IsBadLine, IsOutOfOrder}
+use Rattle.query_core.specs.declared.fault.AnswerFault.{AnswerFault}
+use Rattle.query_core.specs.declared.fault.AnswerFault.TheVariants as fault
+
+-- what the text of this source is, where it is told
+abbrev pub IfTold : List (Option (List ℕ)) → ℕ → (List ℕ → Type 0) → Type 0
+IfTold texts i P = (i < length texts) × ((text : List ℕ) → get_or texts i None ≡ Some text → P text)
+
+-- a line that the fault names is such a line of the source that it names, where that source tells its bytes
+abbrev pub IsFaultOf : ℕ → List (Option (List ℕ)) → AnswerFault → Type 0
+IsFaultOf limit texts (fault.BadLine i offset) = IfTold texts i (λ text. IsBadLine limit text offset)
+IsFaultOf limit texts (fault.OutOfOrder i offset) = IfTold texts i (λ text. IsOutOfOrder limit text offset)
+IsFaultOf limit texts other = ⊤
