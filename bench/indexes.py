@@ -1,4 +1,4 @@
-"""Index lines made by chance, but the same each time: lines as the indexer writes them, of a thousand hosts."""
+"""Index lines made by chance, but the same each time: lines as the indexer writes them, of a thousand hosts or so many."""
 import random
 
 HOSTS = 1000
@@ -11,10 +11,10 @@ LINE = (
 )
 
 
-def lines(count):
+def lines(count, host_count=HOSTS):
     """So many lines of different captures, in the order of places."""
     choice = random.Random(count)
-    hosts = ["".join(choice.choices(LETTERS, k=choice.randint(4, 12))) for _ in range(HOSTS)]
+    hosts = ["".join(choice.choices(LETTERS, k=choice.randint(4, 12))) for _ in range(host_count)]
     made = []
     for number in range(count):
         host = choice.choice(hosts)
@@ -45,19 +45,36 @@ def deal(ordered, count, folder, name):
     return files
 
 
+def write_whole(ordered, folder, name="whole"):
+    (folder / name).write_bytes(b"".join(ordered))
+
+
+def for_merge(folder, count):
+    half = lines(count // 2)
+    write_whole(half, folder, "half")
+    deal(half, 4, folder, "half-4")
+    whole = lines(count)
+    write_whole(whole, folder)
+    for files in (1, 4, 64, 1024):
+        deal(whole, files, folder, f"whole-{files}")
+
+
+def for_query(folder, count):
+    write_whole(lines(count // 10), folder, "tenth")
+    write_whole(lines(count, HOSTS // 10), folder, "hosts")
+    whole = lines(count)
+    write_whole(whole, folder)
+    for files in (4, 64, 1024):
+        deal(whole, files, folder, f"whole-{files}")
+
+
 def main():
-    """Writes the indexes that bench/merge measures into a folder; in a process of its own, as its memory counts there."""
+    """Writes the indexes that bench/merge or bench/query measures into a folder; in a process of its own, as its memory counts there."""
     import pathlib
     import sys
 
-    folder = pathlib.Path(sys.argv[1])
-    half = lines(int(sys.argv[2]) // 2)
-    (folder / "half").write_bytes(b"".join(half))
-    deal(half, 4, folder, "half-4")
-    whole = lines(int(sys.argv[2]))
-    (folder / "whole").write_bytes(b"".join(whole))
-    for count in (1, 4, 64, 1024):
-        deal(whole, count, folder, f"whole-{count}")
+    makers = {"merge": for_merge, "query": for_query}
+    makers[sys.argv[1]](pathlib.Path(sys.argv[2]), int(sys.argv[3]))
 
 
 if __name__ == "__main__":

@@ -15,6 +15,7 @@ from typing import NamedTuple
 ROOT = pathlib.Path(__file__).resolve().parent.parent
 ROUNDS = 15
 PIECE = 1 << 20  # bytes handed to a pipe at once
+NOWHERE = {"stdin": subprocess.DEVNULL, "stdout": subprocess.DEVNULL}
 
 
 class Figure(NamedTuple):
@@ -122,6 +123,25 @@ def used_by(process, command):
 
 def seconds(used):
     return used.ru_utime + used.ru_stime
+
+
+def run_time(command):
+    """The user and system time, in seconds, of one run that reads no standard input."""
+    return seconds(used_by(subprocess.Popen(command, **NOWHERE), command))
+
+
+def peak(command):
+    """The most memory, in bytes, that such a run has held, by its own account; it is looked at every millisecond."""
+    most = 0
+    with subprocess.Popen(command, **NOWHERE) as process:
+        while process.poll() is None:
+            for line in account(process, "status").splitlines():
+                if line.startswith("VmHWM:"):
+                    most = max(most, int(line.split()[1]) * 1024)
+            time.sleep(0.001)
+    if process.returncode:
+        sys.exit(f"{command[:3]} failed")
+    return most
 
 
 def peak_of_run(command, path):

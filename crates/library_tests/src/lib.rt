@@ -2,9 +2,15 @@
 #![tactic(auto)]
 
 #[cfg(test)]
+mod answer_faults;
+#[cfg(test)]
+mod answers;
+#[cfg(test)]
 mod device_calls;
 #[cfg(test)]
 mod heads;
+#[cfg(test)]
+mod large_indexes;
 #[cfg(test)]
 mod matching;
 #[cfg(test)]
@@ -12,7 +18,13 @@ mod merges;
 #[cfg(test)]
 mod options;
 #[cfg(test)]
+mod page_chains;
+#[cfg(test)]
+mod page_parts;
+#[cfg(test)]
 mod query_texts;
+#[cfg(test)]
+mod small_indexes;
 #[cfg(test)]
 mod sources;
 #[cfg(test)]

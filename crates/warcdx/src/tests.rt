@@ -10,6 +10,7 @@ mod listings;
 mod named;
 mod outcomes;
 mod prefixes;
+mod queries;
 mod reader;
 mod verdicts;
 mod words;

@@ -9,6 +9,8 @@ enum Wanted {
     Verify(&'static [&'static str]),
     Index(&'static [&'static str]),
     Check(&'static [&'static str]),
+    Query(&'static str, &'static [&'static str]),
+    Pages(&'static [u64], &'static str, &'static [&'static str]),
     Get(u64, &'static str),
     Help(&'static str),
     Usage(&'static str),
@@ -21,6 +23,10 @@ const LIST: Wanted = Wanted::Help("Usage: warcdx list <WARC>...\n");
 const VERIFY: Wanted = Wanted::Help("Usage: warcdx verify <WARC>...\n");
 
 const INDEX: Wanted = Wanted::Help("Usage: warcdx index <WARC>...\n");
+
+const QUERY: Wanted = Wanted::Help("Usage: warcdx query <QUERY> <INDEX>...\n");
+
+const PAGES: Wanted = Wanted::Help("Usage: warcdx pages <SIZES> <QUERY> <INDEX>...\n");
 
 const GET: Wanted = Wanted::Help("Usage: warcdx get <OFFSET> <WARC>\n");
 
@@ -46,6 +52,15 @@ const ROWS: &[(&[&str], Wanted)] = &[
     (&["verify", "-", "./-x"], Wanted::Verify(&["-", "./-x"])),
     (&["index", "a", "b"], Wanted::Index(&["a", "b"])),
     (&["check", "a", "-"], Wanted::Check(&["a", "-"])),
+    (
+        &["query", "url=a&fl=offset", "i", "-"],
+        Wanted::Query("url=a&fl=offset", &["i", "-"]),
+    ),
+    (&["query", "", "i"], Wanted::Query("", &["i"])),
+    (
+        &["pages", "1,0000002,1000000", "url=a", "i", "j"],
+        Wanted::Pages(&[1, 2, 1_000_000], "url=a", &["i", "j"]),
+    ),
     (&["get", "264", "a.warc"], Wanted::Get(264, "a.warc")),
     (&["get", "007", "-"], Wanted::Get(7, "-")),
     (&["get", LARGEST, "a"], Wanted::Get((1 << 63) - 1, "a")),
@@ -55,6 +70,34 @@ const ROWS: &[(&[&str], Wanted)] = &[
     (
         &["get"],
         Wanted::Usage("not provided:\n  <OFFSET>\n  <WARC>\n"),
+    ),
+    (
+        &["query"],
+        Wanted::Usage("not provided:\n  <QUERY>\n  <INDEX>...\n"),
+    ),
+    (
+        &["query", "url=a"],
+        Wanted::Usage("not provided:\n  <INDEX>...\n"),
+    ),
+    (
+        &["pages", "1", "url=a"],
+        Wanted::Usage("not provided:\n  <INDEX>...\n"),
+    ),
+    (
+        &["pages", "0", "url=a", "i"],
+        Wanted::Usage("invalid value '0' for '<SIZES>': "),
+    ),
+    (
+        &["pages", "1,", "url=a", "i"],
+        Wanted::Usage("invalid value '1,' for '<SIZES>': "),
+    ),
+    (
+        &["pages", "1000001", "url=a", "i"],
+        Wanted::Usage("invalid value '1000001' for '<SIZES>': "),
+    ),
+    (
+        &["pages", "00000001", "url=a", "i"],
+        Wanted::Usage("invalid value '00000001' for '<SIZES>': "),
     ),
     (&["get", "0"], Wanted::Usage("not provided:\n  <WARC>\n")),
     (
@@ -99,6 +142,8 @@ const ROWS: &[(&[&str], Wanted)] = &[
     (&["list", "a", "--help", "b"], LIST),
     (&["verify", "--help"], VERIFY),
     (&["index", "-h"], INDEX),
+    (&["query", "--help"], QUERY),
+    (&["pages", "0", "-h"], PAGES),
     (&["get", "--help"], GET),
     (&["get", "x", "-h"], GET),
     (&["get", "0", "a", "b", "-h"], GET),
@@ -135,8 +180,27 @@ fn is_task(task: &Task, wanted: &Wanted) -> bool {
         (Task::Verify { names }, Wanted::Verify(wanted)) => are(names.as_slice(), wanted),
         (Task::Index { names }, Wanted::Index(wanted)) => are(names.as_slice(), wanted),
         (Task::Check { names }, Wanted::Check(wanted)) => are(names.as_slice(), wanted),
+        (Task::Query { query, names }, Wanted::Query(text, wanted)) => {
+            query.as_str() == *text && are(names.as_slice(), wanted)
+        }
+        (task, Wanted::Pages(sizes, text, wanted)) => are_pages(task, sizes, text, wanted),
         (Task::Get { offset, name }, Wanted::Get(at, wanted)) => {
             offset == at && name.as_str() == *wanted
+        }
+        _ => false,
+    }
+}
+
+fn are_pages(task: &Task, wanted: &[u64], text: &str, indexes: &[&str]) -> bool {
+    match task {
+        Task::Pages {
+            sizes,
+            query,
+            names,
+        } => {
+            sizes.as_slice() == wanted
+                && query.as_str() == text
+                && are(names.as_slice(), indexes)
         }
         _ => false,
     }

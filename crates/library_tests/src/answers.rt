@@ -1,0 +1,309 @@
+//! Answers to queries over indexes.
+use crate::small_indexes::{APART, FIRST_OF_2016, HOSTS, LETTERS, Rows, files, index_texts, slices};
+use devices::Gather;
+use query_core::{AnswerFault, Query, Report, SliceSource, Source, answer};
+use std::alloc::Global;
+use std::test::Fail;
+
+/// A query over indexes, the page that answers it, how many captures that has, and whether more follow.
+struct Case {
+    indexes: &'static [Rows],
+    query: &'static str,
+    page: &'static str,
+    given: u64,
+    more: bool,
+}
+
+const YEARS: Rows = &[
+    ("com,example)/", "20161231235959", "a.warc", 0),
+    ("com,example)/", "20170101000000", "a.warc", 1),
+];
+
+const FOUR_DIGITS_FIRST: Rows = &[
+    ("com,example)/", FIRST_OF_2016, "a.warc", 1000),
+    ("com,example)/", FIRST_OF_2016, "a.warc", 99),
+];
+
+const TWO_KEYS: Rows = &[
+    ("com,example)/", FIRST_OF_2016, "a.warc", 1),
+    ("com,example)/", FIRST_OF_2016, "a.warc", 2),
+    ("com,example)/", FIRST_OF_2016, "a.warc", 3),
+    ("org,example)/", FIRST_OF_2016, "a.warc", 4),
+];
+
+const CASES: &[Case] = &[
+    Case {
+        indexes: &[HOSTS],
+        query: "url=*.example.com&fl=offset",
+        page: "0\n1\n3\n",
+        given: 3,
+        more: false,
+    },
+    Case {
+        indexes: &[HOSTS],
+        query: "url=example.com&matchType=host&fl=offset",
+        page: "0\n3\n",
+        given: 2,
+        more: false,
+    },
+    Case {
+        indexes: &[HOSTS],
+        query: "url=example.com&fl=offset",
+        page: "0\n",
+        given: 1,
+        more: false,
+    },
+    Case {
+        indexes: &[YEARS],
+        query: "url=example.com&from=2016&to=20161&fl=timestamp",
+        page: "20161231235959\n",
+        given: 1,
+        more: false,
+    },
+    Case {
+        indexes: APART,
+        query: "url=example.com&fl=filename,offset&output=json&limit=1&showResumeKey=true",
+        page: "[[\"filename\",\"offset\"],\n[\"a.warc\",\"5\"],\n[],\n[\"com%2Cexample%29%2F+20160101000000+a.warc+5\"]]\n",
+        given: 1,
+        more: true,
+    },
+    Case {
+        indexes: APART,
+        query: "url=example.com&fl=offset&resumeKey=com%2Cexample%29%2F+20160101000000+a.warc+5",
+        page: "20\n10\n",
+        given: 2,
+        more: false,
+    },
+    Case {
+        indexes: APART,
+        query: "url=example.com&fl=offset&resumeKey=com%2Cexample%29%2F+20160101000000+a.warc+19&limit=1",
+        page: "20\n",
+        given: 1,
+        more: true,
+    },
+    Case {
+        indexes: &[FOUR_DIGITS_FIRST],
+        query: "url=example.com&fl=offset",
+        page: "99\n1000\n",
+        given: 2,
+        more: false,
+    },
+    Case {
+        indexes: &[TWO_KEYS],
+        query: "url=example.com&limit=3&showResumeKey=true&fl=offset",
+        page: "1\n2\n3\n",
+        given: 3,
+        more: false,
+    },
+    Case {
+        indexes: &[TWO_KEYS],
+        query: "url=example.com&limit=2&showResumeKey=true&fl=offset",
+        page: "1\n2\n\ncom%2Cexample%29%2F+20160101000000+a.warc+2\n",
+        given: 2,
+        more: true,
+    },
+    Case {
+        indexes: &[TWO_KEYS],
+        query: "url=example.com&limit=2&fl=offset",
+        page: "1\n2\n",
+        given: 2,
+        more: true,
+    },
+    Case {
+        indexes: &[LETTERS],
+        query: "key=a)/&fl=offset",
+        page: "0\n",
+        given: 1,
+        more: false,
+    },
+    Case {
+        indexes: &[LETTERS],
+        query: "key=c)/&fl=offset,offset",
+        page: "2 2\n",
+        given: 1,
+        more: false,
+    },
+    Case {
+        indexes: &[LETTERS, LETTERS],
+        query: "key=&matchType=prefix&output=json&fl=urlkey,mimetype",
+        page: "[[\"urlkey\",\"mimetype\"],\n[\"a)/\",\"text/html\"],\n[\"b)/\",\"text/html\"],\n[\"c)/\",\"text/html\"]]\n",
+        given: 3,
+        more: false,
+    },
+    Case {
+        indexes: &[LETTERS],
+        query: "key=0",
+        page: "",
+        given: 0,
+        more: false,
+    },
+    Case {
+        indexes: &[LETTERS],
+        query: "key=z)/",
+        page: "",
+        given: 0,
+        more: false,
+    },
+    Case {
+        indexes: &[&[], LETTERS],
+        query: "key=bb)/&output=json&showResumeKey=true",
+        page: "[[\"urlkey\",\"timestamp\",\"original\",\"mimetype\",\"statuscode\",\"digest\",\"length\"]]\n",
+        given: 0,
+        more: false,
+    },
+    Case {
+        indexes: &[],
+        query: "url=example.com",
+        page: "",
+        given: 0,
+        more: false,
+    },
+];
+
+/// Whether the sources answer so.
+fn answers<S: Source>(alloc: Global, sources: &mut [S], case: &Case) -> Result<bool, Fail> {
+    let query = Query::read(alloc, case.query)?;
+    let mut out = Gather::new(alloc);
+    let report = answer(alloc, sources, &query, &mut out)?;
+    let counts = (report.given, report.more) == (case.given, case.more);
+    Ok(counts && out.bytes() == case.page.as_bytes())
+}
+
+#[test]
+fn a_query_is_answered_by_its_page(rt: HostRuntime) -> Result<(), Fail> {
+    for case in CASES {
+        let texts = index_texts(rt.alloc(), case.indexes)?;
+        let mut sources = slices(rt.alloc(), &texts)?;
+        assert!(rt; answers(rt.alloc(), &mut sources, case)?, "{}", case.query);
+        let mut files = files(&rt, &texts)?;
+        assert!(rt; answers(rt.alloc(), &mut files, case)?, "{} of files", case.query);
+    }
+    Ok(())
+}
+
+const PAGE: &[u8] =
+    b"com,example)/ 20160101000000 {\"url\": \"http://x/\", \"mime\": \"text/html\", \"status\": \"200\", \"digest\": \"-\", \"length\": \"1\", \"offset\": \"0\", \"filename\": \"a.warc\"}\n";
+
+const IMAGE: &[u8] =
+    b"com,example)/ 20160101000000 {\"url\": \"http://x/\", \"mime\": \"image/png\", \"status\": \"200\", \"digest\": \"-\", \"length\": \"1\", \"offset\": \"0\", \"filename\": \"a.warc\"}\n";
+
+/// Of another tool: with a number for its status, and a member more. Its file name has a space, and it has no line feed.
+const FOREIGN: &[u8] =
+    b"com,example)/ 20140103030321 {\"url\": \"http://example.com/\", \"mime\": \"text/html\", \"status\": 200, \"digest\": \"B2LTWWPUOYAH7UIPQ7ZUPQ4VMBSVC36A\", \"length\": \"1043\", \"offset\": \"333\", \"filename\": \"example b.warc\", \"source\": \"x\"}";
+
+const FOREIGN_LINE: &[u8] =
+    b"com,example)/ 20140103030321 {\"url\": \"http://example.com/\", \"mime\": \"text/html\", \"status\": 200, \"digest\": \"B2LTWWPUOYAH7UIPQ7ZUPQ4VMBSVC36A\", \"length\": \"1043\", \"offset\": \"333\", \"filename\": \"example b.warc\", \"source\": \"x\"}\n";
+
+/// The texts of two indexes, a query over them, and the page that answers it.
+const TEXTS: &[(&[u8], &[u8], &str, &[u8])] = &[
+    (PAGE, IMAGE, "url=example.com&is=mimetype:image/png", b""),
+    (PAGE, IMAGE, "url=example.com&fl=mimetype", b"text/html\n"),
+    (IMAGE, PAGE, "url=example.com&fl=mimetype", b"image/png\n"),
+    (FOREIGN, PAGE, "url=example.com&fl=statuscode,filename&to=2015", b"200 example%20b.warc\n"),
+    (FOREIGN, b"", "url=example.com&output=cdxj", FOREIGN_LINE),
+    (b"", FOREIGN, "url=example.com&output=cdxj&fl=offset", FOREIGN_LINE),
+];
+
+/// The page of a query over these texts.
+fn page(alloc: Global, texts: [&[u8]; 2], text: &str) -> Result<Gather, Fail> {
+    let query = Query::read(alloc, text)?;
+    let mut sources = [SliceSource::new(texts[0]), SliceSource::new(texts[1])];
+    let mut out = Gather::new(alloc);
+    let _report = answer(alloc, &mut sources, &query, &mut out)?;
+    Ok(out)
+}
+
+#[test]
+fn the_first_line_of_a_place_counts_before_filters_do(rt: HostRuntime) -> Result<(), Fail> {
+    for (first, second, query, wanted) in TEXTS {
+        assert_eq!(rt;
+            page(rt.alloc(), [first, second], query)?.bytes(),
+            *wanted,
+            "{query}"
+        );
+    }
+    Ok(())
+}
+
+/// What is reported of a query over these texts.
+fn report(alloc: Global, texts: &[Vec<u8>], text: &str) -> Result<Report, Fail> {
+    let query = Query::read(alloc, text)?;
+    let mut sources = slices(alloc, texts)?;
+    Ok(answer(alloc, &mut sources, &query, &mut Gather::new(alloc))?)
+}
+
+/// Queries over the letters, and how many lines are given, and at most read.
+const READ_OF_LETTERS: &[(&str, u64, u64)] = &[
+    ("key=a)/&fl=offset", 1, 2),
+    ("key=c)/&fl=offset", 1, 2),
+    ("key=0", 0, 1),
+    ("key=z)/", 0, 1),
+];
+
+#[test]
+fn little_is_read_of_an_index(rt: HostRuntime) -> Result<(), Fail> {
+    let texts = index_texts(rt.alloc(), &[LETTERS])?;
+    for (query, given, lines) in READ_OF_LETTERS {
+        let report = report(rt.alloc(), &texts, query)?;
+        assert_eq!(rt; report.given, *given, "{query}");
+        assert!(rt; report.lines <= *lines && report.probes <= 10, "{query}");
+    }
+    Ok(())
+}
+
+#[test]
+fn one_line_of_each_index_is_held_and_those_of_one_pair(rt: HostRuntime) -> Result<(), Fail> {
+    let texts = index_texts(rt.alloc(), APART)?;
+    let report = report(rt.alloc(), &texts, "url=example.com&fl=offset&limit=1")?;
+    assert_eq!(rt; (report.given, report.more), (1, true));
+    assert_eq!(rt; (report.lines, report.held), (3, 3));
+    Ok(())
+}
+
+/// A thousand lines, one each second from the first of 2016 by number.
+fn thousand_lines(alloc: Global) -> Result<Vec<u8>, Fail> {
+    let mut text = Vec::new(alloc);
+    for number in 0..1_000 {
+        let line = format!(in alloc;
+            "com,example)/ 20160101{number:06} {{\"url\": \"http://x/\", \"mime\": \"text/html\", \"status\": \"200\", \"digest\": \"-\", \"length\": \"1\", \"offset\": \"{number}\", \"filename\": \"a.warc\"}}\n"
+        )?;
+        text.extend_from_slice(line.as_bytes())?;
+    }
+    Ok(text)
+}
+
+const AFTER_499: &str = "url=example.com&fl=offset&limit=10&showResumeKey=true&resumeKey=com%2Cexample%29%2F+20160101000499+a.warc+499";
+
+const FROM_500: &str = "500\n501\n502\n503\n504\n505\n506\n507\n508\n509\n\ncom%2Cexample%29%2F+20160101000509+a.warc+509\n";
+
+#[test]
+fn a_page_begins_where_its_resume_key_says(rt: HostRuntime) -> Result<(), Fail> {
+    let text = thousand_lines(rt.alloc())?;
+    let query = Query::read(rt.alloc(), AFTER_499)?;
+    let mut sources = [SliceSource::new(&text)];
+    let mut out = Gather::new(rt.alloc());
+    let report = answer(rt.alloc(), &mut sources, &query, &mut out)?;
+    assert_eq!(rt; out.bytes(), FROM_500.as_bytes());
+    assert!(rt; report.lines >= 10 && report.lines <= 13, "{report:?}");
+    assert!(rt; report.held <= 2, "{report:?}");
+    Ok(())
+}
+
+#[test]
+fn at_most_1024_indexes_are_asked(rt: HostRuntime) -> Result<(), Fail> {
+    let alloc = rt.alloc();
+    let query = Query::read(alloc, "url=example.com&output=json")?;
+    let mut sources = Vec::new(alloc);
+    for _ in 0..1_025 {
+        sources.push(SliceSource::new(b""))?;
+    }
+    let mut out = Gather::new(alloc);
+    assert_eq!(rt;
+        answer(alloc, &mut sources, &query, &mut out),
+        Err(AnswerFault::TooManySources)
+    );
+    assert_eq!(rt; out.bytes(), b"".as_slice());
+    let _source = sources.pop();
+    assert_eq!(rt; answer(alloc, &mut sources, &query, &mut out)?.given, 0);
+    Ok(())
+}

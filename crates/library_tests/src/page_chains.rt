@@ -1,0 +1,180 @@
+//! The pages of queries, one after another.
+use crate::small_indexes::{APART, HOSTS, LETTERS, Rows, files, index_texts, slices};
+use devices::Gather;
+use query_core::{AnswerFault, Query, SliceSource, Source, answer, pages};
+use std::alloc::Global;
+use std::test::Fail;
+
+/// A query over indexes and sizes, the pages that answer it, and their number.
+struct Case {
+    indexes: &'static [Rows],
+    query: &'static str,
+    sizes: &'static [u64],
+    pages: &'static str,
+    count: u64,
+}
+
+const CASES: &[Case] = &[
+    Case {
+        indexes: APART,
+        query: "url=example.com&fl=filename,offset",
+        sizes: &[1, 2],
+        pages: "a.warc 5\n\ncom%2Cexample%29%2F+20160101000000+a.warc+5\na.warc 20\nb.warc 10\n",
+        count: 2,
+    },
+    Case {
+        indexes: APART,
+        query: "url=example.com&fl=filename,offset&limit=1&showResumeKey=false",
+        sizes: &[2],
+        pages: "a.warc 5\na.warc 20\n\ncom%2Cexample%29%2F+20160101000000+a.warc+20\nb.warc 10\n",
+        count: 2,
+    },
+    Case {
+        indexes: APART,
+        query: "url=example.com&fl=offset",
+        sizes: &[1],
+        pages: "5\n\ncom%2Cexample%29%2F+20160101000000+a.warc+5\n20\n\ncom%2Cexample%29%2F+20160101000000+a.warc+20\n10\n",
+        count: 3,
+    },
+    Case {
+        indexes: APART,
+        query: "url=example.com&fl=offset&resumeKey=com%2Cexample%29%2F+20160101000000+a.warc+5",
+        sizes: &[2],
+        pages: "20\n10\n",
+        count: 1,
+    },
+    Case {
+        indexes: APART,
+        query: "url=example.com&fl=offset&output=json",
+        sizes: &[2],
+        pages: "[[\"offset\"],\n[\"5\"],\n[\"20\"],\n[],\n[\"com%2Cexample%29%2F+20160101000000+a.warc+20\"]]\n[[\"offset\"],\n[\"10\"]]\n",
+        count: 2,
+    },
+    Case {
+        indexes: &[LETTERS],
+        query: "key=z)/&output=json&fl=offset",
+        sizes: &[1_000_000],
+        pages: "[[\"offset\"]]\n",
+        count: 1,
+    },
+    Case {
+        indexes: &[LETTERS, HOSTS],
+        query: "key=z)/",
+        sizes: &[1],
+        pages: "",
+        count: 1,
+    },
+];
+
+/// Whether the sources answer so.
+fn answers<S: Source>(alloc: Global, sources: &mut [S], case: &Case) -> Result<bool, Fail> {
+    let query = Query::read(alloc, case.query)?;
+    let mut out = Gather::new(alloc);
+    let count = pages(alloc, sources, &query, case.sizes, &mut out)?;
+    Ok(count == case.count && out.bytes() == case.pages.as_bytes())
+}
+
+#[test]
+fn pages_follow_one_another(rt: HostRuntime) -> Result<(), Fail> {
+    for case in CASES {
+        let texts = index_texts(rt.alloc(), case.indexes)?;
+        let mut sources = slices(rt.alloc(), &texts)?;
+        assert!(rt; answers(rt.alloc(), &mut sources, case)?, "{}", case.query);
+        let mut files = files(&rt, &texts)?;
+        assert!(rt; answers(rt.alloc(), &mut files, case)?, "{} of files", case.query);
+    }
+    Ok(())
+}
+
+/// What follows the rows of a page, and the rows.
+fn cut_key(page: &str) -> (&str, Option<&str>) {
+    match page.split_once("\n\n") {
+        Some((rows, key)) => (rows, Some(key.trim_ascii_end())),
+        None => (page.trim_ascii_end(), None),
+    }
+}
+
+/// Adds the rows of the page after a resume key to those before it, and answers the next key.
+fn step(
+    alloc: Global,
+    sources: &mut [SliceSource<'_>],
+    limit: u64,
+    key: &str,
+    rows: &mut String,
+) -> Result<Option<String>, Fail> {
+    let text = format!(in alloc;
+        "url=*.example.com&fl=filename,offset&showResumeKey=true&limit={limit}{key}"
+    )?;
+    let query = Query::read(alloc, text.as_str())?;
+    let mut out = Gather::new(alloc);
+    let _report = answer(alloc, sources, &query, &mut out)?;
+    let (page, next) = cut_key(str::from_utf8(out.bytes())?);
+    rows.push_str(page)?;
+    rows.push_str("\n")?;
+    match next {
+        Some(next) => Ok(Some(format!(in alloc; "&resumeKey={next}")?)),
+        None => Ok(None),
+    }
+}
+
+const ALL_ROWS: &str = "a.warc 0\na.warc 5\na.warc 20\nb.warc 10\na.warc 1\na.warc 3\n";
+
+/// The rows of all pages of so many captures, each of which begins at the key that was printed before it.
+fn walked(alloc: Global, limit: u64) -> Result<String, Fail> {
+    let texts = index_texts(alloc, &[APART[0], APART[1], APART[2], HOSTS])?;
+    let mut sources = slices(alloc, &texts)?;
+    let mut rows = String::new(alloc);
+    let mut key = String::new(alloc);
+    for _ in 0..10 {
+        match step(alloc, &mut sources, limit, key.as_str(), &mut rows)? {
+            Some(next) => key = next,
+            None => return Ok(rows),
+        }
+    }
+    Ok(rows)
+}
+
+#[test]
+fn resume_keys_lead_through_all_captures(rt: HostRuntime) -> Result<(), Fail> {
+    for limit in 1..8 {
+        assert_eq!(rt; walked(rt.alloc(), limit)?.as_str(), ALL_ROWS, "{limit}");
+    }
+    Ok(())
+}
+
+#[test]
+fn sizes_are_given_and_positive(rt: HostRuntime) -> Result<(), Fail> {
+    let alloc = rt.alloc();
+    let query = Query::read(alloc, "url=example.com&output=json")?;
+    let mut sources = [SliceSource::new(b"")];
+    let mut out = Gather::new(alloc);
+    for sizes in [[].as_slice(), [0].as_slice(), [1, 0].as_slice()] {
+        assert_eq!(rt;
+            pages(alloc, &mut sources, &query, sizes, &mut out),
+            Err(AnswerFault::BadSizes)
+        );
+    }
+    assert_eq!(rt; out.bytes(), b"".as_slice());
+    Ok(())
+}
+
+#[test]
+fn sizes_are_looked_at_before_the_number_of_indexes(rt: HostRuntime) -> Result<(), Fail> {
+    let alloc = rt.alloc();
+    let query = Query::read(alloc, "url=example.com")?;
+    let mut sources = Vec::new(alloc);
+    for _ in 0..1_025 {
+        sources.push(SliceSource::new(b""))?;
+    }
+    let mut out = Gather::new(alloc);
+    for (sizes, fault) in [
+        ([].as_slice(), AnswerFault::BadSizes),
+        ([1].as_slice(), AnswerFault::TooManySources),
+    ] {
+        assert_eq!(rt;
+            pages(alloc, &mut sources, &query, sizes, &mut out),
+            Err(fault)
+        );
+    }
+    Ok(())
+}

@@ -1,0 +1,122 @@
+//! The parts of pages, and the opening of sources at a pair.
+use crate::small_indexes::{LETTERS, index_text};
+use cdxj_core::{Field, Line};
+use devices::Gather;
+use merge_core::{All, LineWriter, Sink, Streams, merge};
+use page_core::{PageForm, PageOutput, field_name};
+use query_core::{PageWriter, Query, SliceSource};
+use std::alloc::Global;
+use std::test::Fail;
+
+const LINE: &[u8] =
+    b"com,example)/ 20160101000000 {\"url\": \"http://x/ \\\"\\u00e9\\t\", \"status\": 200, \"offset\": \"007\", \"filename\": \"a b.warc\"}";
+
+const FIELDS: &[Field] = &[Field::Original, Field::Mimetype, Field::Statuscode, Field::Offset];
+
+/// Forms of a page, and the page of that line with a resume key.
+const FORMS: &[(PageForm, &str)] = &[
+    (
+        PageForm::Text(FIELDS),
+        "http://x/%20\"é%09 - 200 7\n\nk+1\n",
+    ),
+    (
+        PageForm::Json(FIELDS),
+        "[[\"original\",\"mimetype\",\"statuscode\",\"offset\"],\n[\"http://x/ \\\"é\\t\",\"-\",\"200\",\"7\"],\n[],\n[\"k+1\"]]\n",
+    ),
+    (
+        PageForm::Cdxj,
+        "com,example)/ 20160101000000 {\"url\": \"http://x/ \\\"\\u00e9\\t\", \"status\": 200, \"offset\": \"007\", \"filename\": \"a b.warc\"}\n\nk+1\n",
+    ),
+];
+
+#[test]
+fn a_page_is_written_in_its_form(rt: HostRuntime) -> Result<(), Fail> {
+    let line = Line::read(rt.alloc(), LINE)?;
+    for (form, wanted) in FORMS {
+        let mut out = Gather::new(rt.alloc());
+        let mut page = PageOutput::new(rt.alloc(), *form);
+        page.put_start(&mut out)?;
+        page.put_row(&line, &mut out)?;
+        page.put_end(Some("k+1"), &mut out)?;
+        assert_eq!(rt; out.bytes(), wanted.as_bytes());
+    }
+    Ok(())
+}
+
+const NAMES: &[(Field, &str)] = &[
+    (Field::Urlkey, "urlkey"),
+    (Field::Timestamp, "timestamp"),
+    (Field::Original, "original"),
+    (Field::Mimetype, "mimetype"),
+    (Field::Statuscode, "statuscode"),
+    (Field::Digest, "digest"),
+    (Field::Length, "length"),
+    (Field::Offset, "offset"),
+    (Field::Filename, "filename"),
+];
+
+#[test]
+fn fields_have_names(rt: HostRuntime) {
+    for (field, name) in NAMES {
+        assert_eq!(rt; field_name(*field), *name);
+    }
+}
+
+/// The lines of the letters.
+fn letters(alloc: Global) -> Result<Vec<u8>, Fail> {
+    Ok(index_text(alloc, LETTERS)?)
+}
+
+#[test]
+fn a_page_is_full_at_its_limit(rt: HostRuntime) -> Result<(), Fail> {
+    let text = letters(rt.alloc())?;
+    let query = Query::read(rt.alloc(), "key=&matchType=prefix&fl=offset")?;
+    let mut out = Gather::new(rt.alloc());
+    let mut writer = PageWriter::begin(rt.alloc(), &query, None, Some(2), &mut out)?;
+    for (at, wanted) in [(0, true), (145, true), (290, false)] {
+        let line = Line::read(rt.alloc(), text.get(at..at + 144).unwrap_or(b""))?;
+        assert_eq!(rt; writer.take(rt.alloc(), &[&line], &mut out)?, wanted, "{at}");
+    }
+    let end = writer.end(rt.alloc(), true, &mut out)?;
+    assert_eq!(rt; (end.given, end.next.is_some()), (2, true));
+    assert_eq!(rt; out.bytes(), b"0\n1\n\nb%29%2F+20160101000000+a.warc+1\n".as_slice());
+    Ok(())
+}
+
+/// Starts at which two sources are opened, and how many bytes of the letters lie before them.
+const STARTS: &[(&str, &str, usize)] = &[
+    ("", "00000000000000", 0),
+    ("a)/", "20160101000000", 0),
+    ("a)/", "20160101000001", 145),
+    ("b)/", "00000000000000", 145),
+    ("bb)/", "00000000000000", 290),
+    ("z)/", "00000000000000", 435),
+];
+
+#[test]
+fn sources_are_opened_at_a_pair(rt: HostRuntime) -> Result<(), Fail> {
+    let text = letters(rt.alloc())?;
+    for (key, stamp, before) in STARTS {
+        let mut sources = [SliceSource::new(&text), SliceSource::new(b"")];
+        let mut opened = Streams::open_at(
+            rt.alloc(),
+            &mut sources,
+            key.as_bytes(),
+            stamp.as_bytes(),
+            &All,
+        )?;
+        let mut writer = LineWriter::new(rt.alloc());
+        let mut out = Gather::new(rt.alloc());
+        let _all = merge(
+            rt.alloc(),
+            &mut sources,
+            &mut opened.streams,
+            &All,
+            &mut writer,
+            &mut out,
+        )?;
+        assert_eq!(rt; out.bytes(), text.get(*before..).unwrap_or(b""), "{key} {stamp}");
+        assert!(rt; opened.probes <= 9, "{key} {stamp}");
+    }
+    Ok(())
+}

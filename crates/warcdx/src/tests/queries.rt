@@ -1,0 +1,134 @@
+//! Queries over indexes by name.
+use super::{Refused, owned, performed};
+use crate::outcome::Outcome;
+use command_line::Task;
+use query_core::{AnswerFault, QueryFault};
+use std::alloc::{AllocError, Global};
+use std::rt::Runtime;
+use std::test::Fail;
+use std::{fs, io};
+
+const OFFSET_10: &[u8] =
+    b"com,example)/ 20160101000000 {\"url\": \"http://x/\", \"mime\": \"text/html\", \"status\": \"200\", \"digest\": \"-\", \"length\": \"1\", \"offset\": \"10\", \"filename\": \"b.warc\"}\n";
+
+const OFFSET_20: &[u8] =
+    b"com,example)/ 20160101000000 {\"url\": \"http://x/\", \"mime\": \"text/html\", \"status\": \"200\", \"digest\": \"-\", \"length\": \"1\", \"offset\": \"20\", \"filename\": \"a.warc\"}\n";
+
+const OFFSET_5: &[u8] =
+    b"com,example)/ 20160101000000 {\"url\": \"http://x/\", \"mime\": \"text/html\", \"status\": \"200\", \"digest\": \"-\", \"length\": \"1\", \"offset\": \"5\", \"filename\": \"a.warc\"}\n";
+
+/// The indexes of one line each, in the order in which they are named.
+const APART: &[&str] = &["10.cdxj", "20.cdxj", "5.cdxj"];
+
+/// Queries over indexes by name, the page that is written, and how that ends. There is no `none`, and `.` is a folder.
+const ANSWERS: &[(&str, &[&str], &[u8], Outcome)] = &[
+    (
+        "url=example.com&fl=filename,offset",
+        APART,
+        b"a.warc 5\na.warc 20\nb.warc 10\n",
+        Outcome::Done,
+    ),
+    (
+        "url=example.com&fl=offset&limit=1&showResumeKey=true",
+        APART,
+        b"5\n\ncom%2Cexample%29%2F+20160101000000+a.warc+5\n",
+        Outcome::Done,
+    ),
+    ("key=z", &["5.cdxj", "5.cdxj"], b"", Outcome::Done),
+    ("key=k", &["5.cdxj", "none"], b"", Outcome::CannotOpen),
+    (
+        "key=k",
+        &[".", "5.cdxj"],
+        b"",
+        Outcome::Answer(AnswerFault::Read(0)),
+    ),
+    (
+        "key=k&limit=0",
+        &["none"],
+        b"",
+        Outcome::Query(QueryFault::BadLimit),
+    ),
+    (
+        "key=&matchType=prefix",
+        &["5.cdxj", "bad.cdxj"],
+        b"",
+        Outcome::Answer(AnswerFault::BadLine(1, 0)),
+    ),
+];
+
+/// Sizes and queries over these indexes, the pages that are written, and how that ends.
+const PAGES: &[(&[u64], &str, &[u8], Outcome)] = &[
+    (
+        &[1, 2],
+        "url=example.com&fl=filename,offset",
+        b"a.warc 5\n\ncom%2Cexample%29%2F+20160101000000+a.warc+5\na.warc 20\nb.warc 10\n",
+        Outcome::Done,
+    ),
+    (
+        &[2],
+        "url=example.com&fl=filename,offset",
+        b"a.warc 5\na.warc 20\n\ncom%2Cexample%29%2F+20160101000000+a.warc+20\nb.warc 10\n",
+        Outcome::Done,
+    ),
+    (&[1], "url=", b"", Outcome::Query(QueryFault::BadUrl)),
+];
+
+fn query(alloc: Global, text: &str, names: &[&str]) -> Result<Task, AllocError> {
+    let query = String::from_str(alloc, text)?;
+    let names = owned(alloc, names)?;
+    Ok(Task::Query { query, names })
+}
+
+fn pages(alloc: Global, sizes: &[u64], text: &str) -> Result<Task, AllocError> {
+    let sizes = Vec::from_slice(alloc, sizes)?;
+    let query = String::from_str(alloc, text)?;
+    let names = owned(alloc, APART)?;
+    Ok(Task::Pages {
+        sizes,
+        query,
+        names,
+    })
+}
+
+/// Whether the task writes this, and ends so.
+fn writes<R: Runtime + AllocGlobal>(
+    rt: &R,
+    task: Result<Task, AllocError>,
+    text: &[u8],
+    wanted: Outcome,
+) -> Result<bool, Refused> {
+    let (outcome, out) = performed(rt, task, 0)?;
+    Ok(out.device.bytes() == text && outcome == wanted)
+}
+
+fn write_indexes<R: Runtime>(rt: &R) -> io::Result<()> {
+    fs::write(rt, "10.cdxj", OFFSET_10)?;
+    fs::write(rt, "20.cdxj", OFFSET_20)?;
+    fs::write(rt, "5.cdxj", OFFSET_5)?;
+    fs::write(rt, "bad.cdxj", b"\n")
+}
+
+fn remove_indexes<R: Runtime>(rt: &R) -> io::Result<()> {
+    fs::remove_file(rt, "10.cdxj")?;
+    fs::remove_file(rt, "20.cdxj")?;
+    fs::remove_file(rt, "5.cdxj")?;
+    fs::remove_file(rt, "bad.cdxj")
+}
+
+#[test]
+fn indexes_are_asked_by_name(rt: HostRuntime) -> Result<(), Fail> {
+    write_indexes(&rt)?;
+    for (text, names, page, wanted) in ANSWERS {
+        assert!(rt;
+            writes(&rt, query(rt.alloc(), text, names), page, *wanted)?,
+            "{text}"
+        );
+    }
+    for (sizes, text, written, wanted) in PAGES {
+        assert!(rt;
+            writes(&rt, pages(rt.alloc(), sizes, text), written, *wanted)?,
+            "{text}"
+        );
+    }
+    Ok(remove_indexes(&rt)?)
+}
