@@ -22,7 +22,7 @@ use Rattle.merge_core.specs.Feeds.{Fed, read_lines, done}
 use Rattle.merge_core.specs.Gathering.{EndsAt}
 use Rattle.merge_core.specs.LineFaults.{IsBadFirst, IsFaultAt, NamesLine}
 use Rattle.merge_core.proofs.PairOrder.{below_then}
-use Rattle.merge_core.proofs.FeedLemmas.{ReadNext, done_due}
+use Rattle.merge_core.proofs.FeedLemmas.{ReadNext, done_due, after_taken}
 
 body_length : (b : Bool) (line : List ℕ) → length line ≤ length (cond b (take (length line - 1) line) line) + 1
 body_length true line = omega (arith, length-take (length line - 1) line)
@@ -48,15 +48,6 @@ inside t at line after e = elim (cases_lt at (length t)) [
   | inl l ↦ omega arith
   | inr l ↦ absurd (let none : lines (drop at t) ≡ [] = ap lines (drop_all at t l) in cc)
 ]
-
-after_taken : {X : Type 0} (n : ℕ) (xs : List X) (x : X) → take (n + 1) xs ≡ take n xs ++ x ∷ [] → (after : List X) × (drop n xs ≡ x ∷ after)
-after_taken {X = X} n xs x e = suc_taken n xs (ap (λ k. take k xs) (let q : suc n ≡ n + 1 = omega arith in q) ∙ e)
-  where
-    suc_taken : (k : ℕ) (us : List X) → take (suc k) us ≡ take k us ++ x ∷ [] → (after : List X) × (drop k us ≡ x ∷ after)
-    suc_taken zero [] e = absurd (cc)
-    suc_taken zero (u ∷ us) e = (us, let q : u ≡ x = cc in ap (λ y. y ∷ us) q)
-    suc_taken (suc k) [] e = absurd (cc)
-    suc_taken (suc k) (u ∷ us) e = suc_taken k us (let q : take (suc k) us ≡ take k us ++ x ∷ [] = cc in q)
 
 -- the last of these lines has the last of these entries
 last_line : (limit : ℕ) (ls : List (List ℕ)) (before : List Member) (last : Member) → map (line_entry limit) ls ≡ map Some (before ++ last ∷ [])

@@ -28,7 +28,7 @@ each_take A zero xs h = tt
 each_take A (suc n) [] h = tt
 each_take A (suc n) (x ∷ xs) h = (h.0, each_take A n xs h.1)
 
-each_both : {X : Type 0} (A B : X → Type 0) (xs : List X) → AllByRecursion A xs → AllByRecursion B xs → AllByRecursion (λ x. A x × B x) xs
+pub each_both : {X : Type 0} (A B : X → Type 0) (xs : List X) → AllByRecursion A xs → AllByRecursion B xs → AllByRecursion (λ x. A x × B x) xs
 each_both A B [] h k = tt
 each_both A B (x ∷ xs) h k = ((h.0, k.0), each_both A B xs h.1 k.1)
 
@@ -36,7 +36,7 @@ length_map : {X Y : Type 0} (f : X → Y) (xs : List X) → length (map f xs) �
 length_map f [] = refl
 length_map f (x ∷ xs) = let h = length_map f xs in omega arith
 
-one_held : (p : Progress) → held p ≤ 1
+pub one_held : (p : Progress) → held p ≤ 1
 one_held Due = omega arith
 one_held Waiting = omega arith
 one_held Past = omega arith

@@ -1,11 +1,12 @@
 -- What a call that reads the next line makes of a feed.
-use Rattle.std.proofs.Common.{◌≡◌, false, ℕ, ◌+◌, ◌∷◌, ◌++◌, List, [], sym, ap, ◌∙◌, subst, Bool, Option, Some, None, MatchOption, drop, append_assoc}
+use Rattle.std.proofs.Common.{◌≡◌, ◌≤◌, false, ℕ, ◌+◌, ◌∷◌, ◌++◌, List, [], sym, ap, ◌∙◌, subst, Bool, Option, Some, None, MatchOption, drop, append_assoc}
 use Rattle.std.specs.List.{AllByRecursion}
 use Rattle.cdxj_places.specs.Pairs.{Pair}
 use Rattle.cdxj_places.specs.TextLines.{lines}
 use Rattle.cdxj_core.specs.Members.{Member, member_pair}
 use Rattle.source_core.specs.Cursors.{CursorState}
 use Rattle.source_core.specs.Cursors.{Stands}
+use Rattle.source_core.specs.IndexLines.{first_length}
 use Rattle.merge_core.specs.declared.feed.Progress.TheVariants.{Due, Ended}
 use Rattle.merge_core.specs.declared.feed.Feed.{Feed}
 use Rattle.merge_core.specs.PairOrders.{Upto, Alike}
@@ -16,6 +17,7 @@ module _ {L : Type 0} (limit : ℕ) (past : List ℕ → Bool) (seen : L → Mem
     (is_due : old.progress ≡ Due) (was : Fed limit past t0 e0 old []) (stands : Stands t1 e1 new) (start : new.start ≡ old.cursor.start)
     (count : MatchOption o (new.count ≡ old.cursor.count) (λ _. new.count ≡ old.cursor.count + 1))
     (given : (t : List ℕ) → t0 ≡ Some t → MatchOption o ((read_lines t new ≡ read_lines t old.cursor) × (lines (drop new.at t) ≡ [])) (λ l. ReadNext limit t old.cursor new (seen l)))
+    (near : (t : List ℕ) → t0 ≡ Some t → new.at ≤ old.cursor.at + first_length (lines (drop old.cursor.at t)))
     (f : Feed) (cursor : f.cursor ≡ new) where
   was_here : Fed limit past t1 e1 old []
   was_here = fed_same limit past t0 t1 e0 e1 old [] text extent was
@@ -25,6 +27,9 @@ module _ {L : Type 0} (limit : ℕ) (past : List ℕ → Bool) (seen : L → Mem
 
   start_here : f.cursor.start ≡ old.cursor.start
   start_here = ap (λ (k : CursorState). k.start) cursor ∙ start
+
+  near_here : (t : List ℕ) → t1 ≡ Some t → f.cursor.at ≤ old.cursor.at + first_length (lines (drop old.cursor.at t))
+  near_here t e = subst (λ (k : CursorState). k.at ≤ old.cursor.at + first_length (lines (drop old.cursor.at t))) (sym cursor) (near t (sym text ∙ e))
 
   -- where a line was read
   module _ (line : L) (is : o ≡ Some line) (low : Pair) (upto : (t : List ℕ) → t0 ≡ Some t → AllByRecursion (λ k. Upto (member_pair k) low) (done limit t old)) (up : Upto low (member_pair (seen line))) where
@@ -38,21 +43,21 @@ module _ {L : Type 0} (limit : ℕ) (past : List ℕ → Bool) (seen : L → Mem
     upto_here t e = upto t (sym text ∙ e)
 
     pub settled : (ws : List Member) → IsNext past (seen line) f.progress ws → Fed limit past t1 e1 f ws
-    settled = fed_next limit past t1 e1 old f is_due was_here stands_here start_here (seen line) low count_here next_here upto_here up
+    settled = fed_next limit past t1 e1 old f is_due was_here stands_here start_here near_here (seen line) low count_here next_here upto_here up
 
     pub settled_done : (ws : List Member) → IsNext past (seen line) f.progress ws → (t : List ℕ) → done limit t f ≡ done limit t old
-    settled_done = done_next limit past t1 e1 old f is_due was_here stands_here start_here (seen line) low count_here next_here upto_here up
+    settled_done = done_next limit past t1 e1 old f is_due was_here stands_here start_here near_here (seen line) low count_here next_here upto_here up
 
     pub taken : f.progress ≡ Due → ((t : List ℕ) → t0 ≡ Some t → past (seen line).values.key ≡ false) → Fed limit past t1 e1 f []
-    taken d stays = fed_taken limit past t1 e1 old f is_due was_here stands_here start_here (seen line) low count_here next_here upto_here up d (λ t e. stays t (sym text ∙ e))
+    taken d stays = fed_taken limit past t1 e1 old f is_due was_here stands_here start_here near_here (seen line) low count_here next_here upto_here up d (λ t e. stays t (sym text ∙ e))
 
     pub taken_done : f.progress ≡ Due → (t : List ℕ) → t0 ≡ Some t → done limit t f ≡ done limit t old ++ seen line ∷ []
-    taken_done d t e = done_taken limit past t1 e1 old f is_due was_here stands_here start_here (seen line) low count_here next_here upto_here up d t (text ∙ e)
+    taken_done d t e = done_taken limit past t1 e1 old f is_due was_here stands_here start_here near_here (seen line) low count_here next_here upto_here up d t (text ∙ e)
 
   -- where none was left
   module _ (is : o ≡ None) (ended : f.progress ≡ Ended) where
     pub at_end : Fed limit past t1 e1 f []
-    at_end = fed_ended limit past t1 e1 old f is_due was_here stands_here start_here
+    at_end = fed_ended limit past t1 e1 old f is_due was_here stands_here start_here near_here
         (ap (λ (k : CursorState). k.count) cursor ∙ subst (λ p. MatchOption p (new.count ≡ old.cursor.count) (λ _. new.count ≡ old.cursor.count + 1)) is count)
         (λ t e. subst (λ (k : CursorState). (read_lines t k ≡ read_lines t old.cursor) × (lines (drop k.at t) ≡ [])) (sym cursor)
         (subst (λ p. MatchOption p ((read_lines t new ≡ read_lines t old.cursor) × (lines (drop new.at t) ≡ [])) (λ l. ReadNext limit t old.cursor new (seen l))) is (given t (sym text ∙ e))))

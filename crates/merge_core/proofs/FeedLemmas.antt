@@ -1,10 +1,11 @@
 -- What one line more makes of a feed.
-use Rattle.std.proofs.Common.{◌≡◌, Ordering, Less, Equal, Greater, ℕ, zero, suc, ◌+◌, ◌-◌, ◌≤◌, List, [], ◌∷◌, ◌++◌, length, refl, sym, ap, ap₂, ◌∙◌, subst, arith, Bool, false, Option, Some, None, MatchOption, take, drop, map, unwrap_or, length-append}
+use Rattle.std.proofs.Common.{◌≡◌, Ordering, Less, Equal, Greater, ℕ, zero, suc, ◌+◌, ◌-◌, ◌≤◌, List, [], ◌∷◌, ◌++◌, length, refl, sym, ap, ap₂, ◌∙◌, subst, arith, Bool, false, Option, Some, None, MatchOption, take, drop, map, unwrap_or, flat_map, append-nil, length-append}
 use Rattle.std.specs.List.{AllByRecursion}
 use Rattle.std.specs.Ordering.{nat_cmp, ordering_then}
 use Rattle.std.specs.Cmp.Lexicographic.{slice_cmp}
 use Rattle.std.specs.FinMap.{nat_cmp-IsAntisymmetric, slice_cmp-IsAntisymmetric}
 use Rattle.std.proofs.lemmas.Cmp.{tied_back}
+use Rattle.std.proofs.lemmas.List.Concat.{flat_map-append}
 use Rattle.cdxj_places.proofs.PairLemmas.{pair_cmp_total}
 use Rattle.cdxj_places.proofs.RisingLaws.{each_weaker}
 use Rattle.cdxj_places.specs.Pairs.{Pair, pair_cmp}
@@ -15,13 +16,13 @@ use Rattle.cdxj_core.specs.Lines.{body_of}
 use Rattle.cdxj_core.specs.Members.{Member, member_pair, line_entry}
 use Rattle.cdxj_core.proofs.MemberLemmas.{entry_is_short}
 use Rattle.source_core.specs.Cursors.{CursorState, Stands}
-use Rattle.source_core.specs.IndexLines.{BeginsAfter}
+use Rattle.source_core.specs.IndexLines.{BeginsAfter, first_length}
 use Rattle.merge_core.specs.declared.feed.Progress.{Progress}
 use Rattle.merge_core.specs.declared.feed.Progress.TheVariants.{Due, Waiting, Past, Ended}
 use Rattle.merge_core.specs.declared.feed.Feed.{Feed}
 use Rattle.merge_core.specs.PairOrders.{Alike, Upto}
 use Rattle.merge_core.specs.Gathering.{EndsAt}
-use Rattle.merge_core.specs.Feeds.{AreWaits, IsNext, IsHead, Fed, held, read_lines, member_of, no_member, given, done}
+use Rattle.merge_core.specs.Feeds.{AreWaits, IsNext, IsHead, Fed, held, bytes_of, read_lines, member_of, no_member, given, done}
 use Rattle.merge_core.proofs.PairOrder.{upto_upto, upto_both}
 
 pub no_entry : (limit : ℕ) (line : List ℕ) (o : Option Member) → o ≡ line_entry limit line → limit ≤ length (body_of line) → o ≡ None
@@ -40,6 +41,19 @@ take_suc_at (suc n) (y ∷ ys) x rest e = ap (λ u. y ∷ u) (take_suc_at n ys x
 
 pub take_next : {X : Type 0} (n : ℕ) (all : List X) (x : X) (rest : List X) → drop n all ≡ x ∷ rest → take (n + 1) all ≡ take n all ++ x ∷ []
 take_next n all x rest e = ap (λ k. take k all) (let q : n + 1 ≡ suc n = omega arith in q) ∙ take_suc_at n all x rest e
+
+-- the line that was taken is the first of the others
+pub after_taken : {X : Type 0} (n : ℕ) (xs : List X) (x : X) → take (n + 1) xs ≡ take n xs ++ x ∷ [] → (after : List X) × (drop n xs ≡ x ∷ after)
+after_taken {X = X} n xs x e = suc_taken n xs (ap (λ k. take k xs) (let q : suc n ≡ n + 1 = omega arith in q) ∙ e)
+  where
+    suc_taken : (k : ℕ) (us : List X) → take (suc k) us ≡ take k us ++ x ∷ [] → (after : List X) × (drop k us ≡ x ∷ after)
+    suc_taken zero [] e = absurd (cc)
+    suc_taken zero (u ∷ us) e = (us, let q : u ≡ x = cc in ap (λ y. y ∷ us) q)
+    suc_taken (suc k) [] e = absurd (cc)
+    suc_taken (suc k) (u ∷ us) e = suc_taken k us (let q : take (suc k) us ≡ take k us ++ x ∷ [] = cc in q)
+
+pub bytes_push : (ls : List (List ℕ)) (l : List ℕ) → bytes_of (ls ++ l ∷ []) ≡ bytes_of ls + length l
+bytes_push ls l = ap length (flat_map-append (λ (l : List ℕ). l) ls (l ∷ [])) ∙ length-append (flat_map (λ (l : List ℕ). l) ls) (l ++ []) ∙ ap (λ u. bytes_of ls + length u) (append-nil l)
 
 pub take_map : {X Y : Type 0} (f : X → Y) (k n : ℕ) (xs : List X) → k ≤ n → take k (map f (take n xs)) ≡ map f (take k xs)
 take_map f zero n xs h = refl
@@ -159,7 +173,7 @@ module _ (limit : ℕ) where
 
   -- what is known of a feed whose next line is to be read
   module _ (past : List ℕ → Bool) (text : Option (List ℕ)) (extent : ℕ) (old f : Feed) (is_due : old.progress ≡ Due) (was : Fed limit past text extent old [])
-      (stands : Stands text extent f.cursor) (start : f.cursor.start ≡ old.cursor.start) where
+      (stands : Stands text extent f.cursor) (start : f.cursor.start ≡ old.cursor.start) (near : (t : List ℕ) → text ≡ Some t → f.cursor.at ≤ old.cursor.at + first_length (lines (drop old.cursor.at t))) where
     given_old : (t : List ℕ) → done limit t old ≡ given limit t old.cursor
     given_old t = done_due t old is_due
 
@@ -171,6 +185,16 @@ module _ (limit : ℕ) where
         (upto : (t : List ℕ) → text ≡ Some t → AllByRecursion (λ k. Upto (member_pair k) low) (done limit t old)) (up : Upto low (member_pair m)) where
       run_more : (t : List ℕ) → text ≡ Some t → IsRun limit (read_lines t f.cursor) (given limit t f.cursor)
       run_more t e = run_next t old.cursor f.cursor m low (next t e) (was.told t e).run (subst (AllByRecursion (λ k. Upto (member_pair k) low)) (given_old t) (upto t e)) up
+
+      stood_more : (t : List ℕ) → text ≡ Some t → f.cursor.at ≤ f.cursor.start + bytes_of (read_lines t f.cursor)
+      stood_more t e =
+          let n = next t e in
+          let from = lines (drop old.cursor.start t) in
+          let after = after_taken old.cursor.count from n.0 (ap₂ (λ k s. take k (lines (drop s t))) (sym count) (sym start) ∙ n.1) in
+          let first : first_length (lines (drop old.cursor.at t)) ≡ length n.0 = ap first_length (was.stands.rest t e ∙ after.1) in
+          let stood = (was.told t e).stood in
+          let step = near t e in
+          omega (arith, ap bytes_of n.1, bytes_push (read_lines t old.cursor) n.0, start)
 
       many_more : (t : List ℕ) → text ≡ Some t → length (read_lines t f.cursor) ≡ f.cursor.count
       many_more t e =
@@ -186,6 +210,7 @@ module _ (limit : ℕ) where
             counted = omega (arith, many);
             told = λ t e. record {
               begins = begins_still t e;
+              stood = stood_more t e;
               as_many = many_more t e;
               within = subst (AllByRecursion (λ (m : Member). past m.values.key ≡ false)) (sym (done_is t f old.cursor start many ∙ sym (given_old t))) (was.told t e).within;
               run = run_more t e;
@@ -207,6 +232,7 @@ module _ (limit : ℕ) where
         counted = (let h = ap held d in omega arith);
         told = λ t e. record {
           begins = begins_still t e;
+          stood = stood_more t e;
           as_many = many_more t e;
           within = subst (AllByRecursion (λ (m : Member). past m.values.key ≡ false)) (sym (done_taken d t e)) (each_join (λ (m : Member). past m.values.key ≡ false) (done limit t old) (m ∷ []) (was.told t e).within (stays t e, tt));
           run = run_more t e;
@@ -220,6 +246,15 @@ module _ (limit : ℕ) where
       pub done_ended : (t : List ℕ) → done limit t f ≡ done limit t old
       done_ended t = done_is t f old.cursor start (let h = ap held ended in omega (arith, count)) ∙ sym (given_old t)
 
+      stood_still : (t : List ℕ) → text ≡ Some t → f.cursor.at ≤ f.cursor.start + bytes_of (read_lines t f.cursor)
+      stood_still t e =
+          let gone : lines (drop old.cursor.at t) ≡ [] =
+          was.stands.rest t e ∙ ap₂ (λ k s. drop k (lines (drop s t))) (sym count) (sym start) ∙ sym (stands.rest t e) ∙ (none t e).1 in
+          let first : first_length (lines (drop old.cursor.at t)) ≡ 0 = ap first_length gone in
+          let stood = (was.told t e).stood in
+          let step = near t e in
+          omega (arith, ap bytes_of (none t e).0, start)
+
       pub fed_ended : Fed limit past text extent f []
       fed_ended = record {
         stands = stands;
@@ -229,6 +264,7 @@ module _ (limit : ℕ) where
             let same : given limit t f.cursor ≡ given limit t old.cursor = ap (map (member_of limit)) (none t e).0 in
             record {
               begins = begins_still t e;
+              stood = stood_still t e;
               as_many = ap length (none t e).0 ∙ (was.told t e).as_many ∙ sym count;
               within = subst (AllByRecursion (λ (m : Member). past m.values.key ≡ false)) (sym (done_ended t)) (was.told t e).within;
               run = subst (λ ls. IsRun limit ls (map (member_of limit) ls)) (sym (none t e).0) (was.told t e).run;

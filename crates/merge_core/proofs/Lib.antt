@@ -21,4 +21,5 @@ pub mod ReadLemmas
 pub mod RunLemmas
 pub mod CountLemmas
 pub mod SourceLemmas
+pub mod SpendLemmas
 pub mod HeldLemmas

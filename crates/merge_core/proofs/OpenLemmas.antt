@@ -26,15 +26,16 @@ waits_none n [] h = refl
 waits_none n (w ∷ ws) h = (let l = h.0 in waits_other n w ws (λ e. absurd (omega arith))) ∙ waits_none n ws h.1
 
 module _ (limit : ℕ) (past : List ℕ → Bool) where
-  pub fed_fresh : (text : Option (List ℕ)) (extent : ℕ) (c : CursorState) → Stands text extent c → c.count ≡ 0 → ((t : List ℕ) → text ≡ Some t → (before : List (List ℕ)) × BeginsAfter t c.start before)
+  pub fed_fresh : (text : Option (List ℕ)) (extent : ℕ) (c : CursorState) → Stands text extent c → c.count ≡ 0 → c.at ≡ c.start → ((t : List ℕ) → text ≡ Some t → (before : List (List ℕ)) × BeginsAfter t c.start before)
       → Fed limit past text extent (record { cursor = c; progress = Due }) []
-  fed_fresh text extent c stands e begins =
+  fed_fresh text extent c stands e first begins =
       let f : Feed = record { cursor = c; progress = Due } in record {
         stands = stands;
         waits = refl;
         counted = omega arith;
         told = λ t q. record {
           begins = begins t q;
+          stood = omega arith;
           as_many = subst (λ n. length (take n (lines (drop c.start t))) ≡ n) (sym e) refl;
           within = subst (AllByRecursion (λ (m : Member). past m.values.key ≡ false)) (sym (fresh_done limit t f e)) tt;
           run = subst (λ n. IsRun limit (take n (lines (drop c.start t))) (map (member_of limit) (take n (lines (drop c.start t))))) (sym e) (record { entries = refl; ordered = tt });

@@ -96,6 +96,7 @@ module _ (limit : ℕ) (past : List ℕ → Bool) {S : Type 0} (text : S → Opt
         let both = due_of t f m ws h.waits was in
         record {
           begins = was.begins;
+          stood = was.stood;
           as_many = was.as_many;
           within = subst (AllByRecursion (λ (k : Member). past k.values.key ≡ false)) (sym both.1) (each_join (λ (k : Member). past k.values.key ≡ false) (done limit t f) (m ∷ []) was.within (both.2, tt));
           run = was.run;

@@ -1,5 +1,5 @@
 -- What was read of a source.
-use Rattle.std.specs.Prelude.{◌≡◌, ℕ, ◌+◌, ◌-◌, ◌≤◌, ◌<◌, List, [], ◌∷◌, ◌++◌, length, take, drop, map, Bool, true, false, Option, Some, None, unwrap_or}
+use Rattle.std.specs.Prelude.{◌≡◌, ℕ, ◌+◌, ◌-◌, ◌≤◌, ◌<◌, List, [], ◌∷◌, ◌++◌, flat_map, length, take, drop, map, Bool, true, false, Option, Some, None, unwrap_or}
 use Rattle.std.specs.List.{AllByRecursion}
 use Rattle.cdxj_places.specs.TextLines.{lines}
 use Rattle.cdxj_core.specs.Members.{Member, line_entry}
@@ -46,6 +46,10 @@ no_member = record {
 abbrev pub read_lines : List ℕ → CursorState → List (List ℕ)
 read_lines text c = take c.count (lines (drop c.start text))
 
+-- how many bytes the lines have
+abbrev pub bytes_of : List (List ℕ) → ℕ
+bytes_of ls = length (flat_map (λ l. l) ls)
+
 -- the feed whose next line is to be read
 abbrev pub due : Feed → Feed
 due f = record { cursor = f.cursor; progress = Due }
@@ -83,6 +87,7 @@ module _ (limit : ℕ) where
     -- what is known of a source with this text, of whose lines these wait
     pub record FedOf (text : List ℕ) (f : Feed) (ws : List Member) : Type 0 where
       pub begins : (before : List (List ℕ)) × BeginsAfter text f.cursor.start before
+      pub stood : f.cursor.at ≤ f.cursor.start + bytes_of (read_lines text f.cursor)
       pub as_many : length (read_lines text f.cursor) ≡ f.cursor.count
       pub within : AllByRecursion (λ (m : Member). past m.values.key ≡ false) (done text f)
       pub run : IsRun limit (read_lines text f.cursor) (given text f.cursor)

@@ -67,6 +67,7 @@ Drained limit pair text old now old_rest rest = (t : List ℕ) → text ≡ Some
 -- The lines of the least pair were taken from all sources: of those that are done now, the ones that weren't
 pub record Grouped {S : Type 0} (limit : ℕ) (text : S → Option (List ℕ)) (extent : S → ℕ) (ss0 : List S) (fs0 : List Feed) (ws0 : List WaitingLine) (ss : List S) (fs : List Feed) (ws : List WaitingLine) (pair : Pair) (group : List Member) : Type 0 where
   pub above : (b : Option Pair) → AllByRecursion (λ w. IsAbove b (waiting_pair w)) ws0 → IsAbove b pair
+  pub least : AllByRecursion (λ w. Upto pair (waiting_pair w)) ws0
   pub later : AllByRecursion (λ w. Below pair (waiting_pair w)) ws
   pub each : AllByRecursion (λ m. Alike (member_pair m) pair) group
   pub fewer : unread extent ss fs + length ws < unread extent ss0 fs0 + length ws0

@@ -1,5 +1,5 @@
 //! A source that is read line by line.
-ghost use Rattle.std.specs.Prelude.{◌≡◌, ◌≢◌, ◌+◌, ◌-◌, ◌≤◌, ◌++◌, ℕ, List, [], length, map, option_map, Some, IfOk, IfErr, OnOk};
+ghost use Rattle.std.specs.Prelude.{◌≡◌, ◌≢◌, ◌+◌, ◌-◌, ◌≤◌, ◌++◌, ℕ, List, [], length, map, option_map, None, Some, IfOk, IfErr, OnOk};
 ghost use Rattle.std.specs.List.{AllByRecursion};
 ghost use Rattle.cdxj_core.specs.declared.limit.TheConstants.{LINE_LIMIT};
 ghost use Rattle.cdxj_core.specs.Members.{Member, member_pair};
@@ -9,6 +9,7 @@ ghost use Rattle.merge_core.specs.PairOrders.{Alike, Below, Upto};
 ghost use Rattle.merge_core.specs.Feeds.{IsNext, IsSettled, Fed, option_list, done};
 ghost use Rattle.merge_core.specs.Gathering.{EndsAt};
 ghost use Rattle.merge_core.specs.LineFaults.{NamesLine};
+ghost use Rattle.merge_core.specs.Spending.{ReadTo};
 
 use crate::fault::FeedFault;
 use crate::pair::compare_pairs;
@@ -80,6 +81,7 @@ impl Feed {
         ensures kept { IfErr result (λ e. e ≢ FeedFault.Read → S.failures source.new ≡ S.failures source.old) }
         ensures start { self.new.cursor.start ≡ self.old.cursor.start }
         ensures fed { IfOk result (λ o. Fed LINE_LIMIT (R.past range.now) (S.text source.new) (S.extent source.new) self.new (option_list (option_map (λ b. b.value) o))) }
+        ensures reads { (t : List ℕ) → S.text source.old ≡ Some t → ReadTo LINE_LIMIT (R.past range.now) None t self.new.cursor }
         ensures fresh { (t : List ℕ) → S.text source.old ≡ Some t → OnOk result (done LINE_LIMIT t self.new ≡ []) }
         ensures fault { (t : List ℕ) → S.text source.old ≡ Some t → IfErr result (NamesLine LINE_LIMIT t) }
         ensures settled { OnOk result (IsSettled self.new) }
@@ -119,6 +121,7 @@ impl Feed {
         ensures fewer { IfOk result (λ o. (S.extent source.new - self.new.cursor.at) + length (option_list (option_map (λ b. b.value) o)) ≤ S.extent source.old - self.old.cursor.at) }
         ensures each { AllByRecursion (λ m. Alike (member_pair m) (member_pair first.now)) (map (λ b. b.value) rest.old.items)
             → OnOk result (AllByRecursion (λ m. Alike (member_pair m) (member_pair first.now)) (map (λ b. b.value) rest.new.items)) }
+        ensures reads { (t : List ℕ) → S.text source.old ≡ Some t → ReadTo LINE_LIMIT (R.past range.now) (Some (member_pair first.now)) t self.new.cursor }
         ensures taken { (t : List ℕ) → S.text source.old ≡ Some t → OnOk result ((taken : List Member)
             × (done LINE_LIMIT t self.new ≡ done LINE_LIMIT t self.old ++ taken)
             × (map (λ b. b.value) rest.new.items ≡ map (λ b. b.value) rest.old.items ++ taken)

@@ -1,5 +1,5 @@
 //! The merge of several sources.
-ghost use Rattle.std.specs.Prelude.{◌≡◌, ◌≢◌, ◌⊎◌, ◌+◌, ◌≤◌, ℕ, Option, List, [], length, map, false, true, IfOk, IfErr, OnOk, OnErr};
+ghost use Rattle.std.specs.Prelude.{◌≡◌, ◌≢◌, ◌⊎◌, ◌+◌, ◌≤◌, ℕ, Option, List, [], length, map, false, true, Some, IfOk, IfErr, OnOk, OnErr};
 ghost use Rattle.std.specs.List.{AllByRecursion, zip};
 ghost use Rattle.cdxj_core.specs.declared.limit.TheConstants.{LINE_LIMIT};
 ghost use Rattle.cdxj_core.specs.Indexes.{IsIndex};
@@ -7,14 +7,16 @@ ghost use Rattle.cdxj_core.specs.Members.{Member};
 ghost use Rattle.cdxj_places.specs.Pairs.{Pair};
 ghost use Rattle.devices.specs.Device.{next_count};
 ghost use Rattle.merge_core.specs.declared.feed.Feed.{Feed};
-ghost use Rattle.merge_core.specs.WaitingLines.{WaitingLine};
+ghost use Rattle.merge_core.specs.PairOrders.{Upto};
+ghost use Rattle.merge_core.specs.WaitingLines.{WaitingLine, waiting_pair};
 ghost use Rattle.merge_core.specs.Collections.{Known, all_lines};
 ghost use Rattle.merge_core.specs.Counts.{ShareAtMost};
 ghost use Rattle.merge_core.specs.Failures.{RaisedAt};
 ghost use Rattle.merge_core.specs.LineFaults.{IsFaultOf};
 ghost use Rattle.merge_core.specs.Feeds.{Moved, Ready, AreSettled};
-ghost use Rattle.merge_core.specs.Gathering.{AllTwo, all_done};
+ghost use Rattle.merge_core.specs.Gathering.{AllTwo, AreTold, all_done};
 ghost use Rattle.merge_core.specs.Reached.{Reached};
+ghost use Rattle.merge_core.specs.Spending.{AreReadTo};
 
 use crate::fault::{FeedFault, MergeFault};
 use crate::range::Range;
@@ -56,7 +58,9 @@ pub fn merge<S: Source, R: Range, K: Sink, O: Output>(
     ensures broke { OnErr result ((ss : List S) × (fs : List Feed) × (ws : List WaitingLine) × (b : Option Pair) × (taken : List Member)
         × Reached LINE_LIMIT S.text (R.past range.now) S.extent S.gave sources.old streams.old.feeds.items ss fs ws b taken
         × ((begin : K) → (start : Option (List ℕ)) → K.Wrote begin sink.old [] start (O.written out.old)
-        → ((k : K) × K.Wrote begin k taken start (O.written out.new)) ⊎ K.Broke begin taken start (O.written out.new))) }
+        → ((k : K) × K.Wrote begin k taken start (O.written out.new)) ⊎ K.Broke begin taken start (O.written out.new))
+        × ((next : Pair) × AllByRecursion (λ w. Upto next (waiting_pair w)) ws
+        × (AreTold S.text sources.old → AreReadTo LINE_LIMIT (R.past range.now) S.text (Some next) sources.new streams.new.feeds.items))) }
 {
     let mut rest = Vec::new(alloc);
     while let Some(first) = streams.gather(sources, range, &mut rest)? {

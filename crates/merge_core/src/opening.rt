@@ -33,6 +33,7 @@ impl Streams {
     ) -> Result<(), FeedFault>
         requires stands { Stands (S.text source.old) (S.extent source.old) cursor }
         requires fresh { cursor.count ≡ 0 }
+        requires first { cursor.at ≡ cursor.start }
         requires begins { (t : List ℕ) → S.text source.old ≡ Some t → (before : List (List ℕ)) × BeginsAfter t cursor.start before }
         ensures text { S.text source.new ≡ S.text source.old }
         ensures extent { S.extent source.new ≡ S.extent source.old }

@@ -34,6 +34,7 @@ fn find_start<S: Source>(
     ensures failed { IfErr result (λ e. e ≡ FeedFault.Read → S.failures source.new ≡ next_count (S.failures source.old)) }
     ensures stands { IfOk result (λ r. Stands (S.text source.new) (S.extent source.new) r.0) }
     ensures fresh { IfOk result (λ r. r.0.count ≡ 0) }
+    ensures first { IfOk result (λ r. r.0.at ≡ r.0.start) }
     ensures begins { (t : List ℕ) → S.text source.old ≡ Some t → IfOk result (λ r. (before : List (List ℕ)) × BeginsAfter t r.0.start before) }
     ensures kept { IfErr result (λ e. e ≢ FeedFault.Read → S.failures source.new ≡ S.failures source.old) }
     ensures refused { IfErr result (λ e. (e ≡ FeedFault.Memory) ⊎ (e ≡ FeedFault.Read)) }

@@ -1,10 +1,11 @@
 //! The reading of lines into buffers that are used again.
-ghost use Rattle.std.specs.Prelude.{◌≡◌, ◌≢◌, ◌+◌, ◌<◌, ◌≤◌, ◌++◌, ◌∷◌, ℕ, List, [], drop, option_map, Some, None, MatchOption, MatchResult, IfOk, IfErr, OnOk};
+ghost use Rattle.std.specs.Prelude.{◌≡◌, ◌≢◌, ◌+◌, ◌<◌, ◌≤◌, ◌++◌, ◌∷◌, ℕ, List, [], length, drop, option_map, Some, None, MatchOption, MatchResult, IfOk, IfErr, OnOk};
 ghost use Rattle.cdxj_core.specs.declared.limit.TheConstants.{LINE_LIMIT};
 ghost use Rattle.cdxj_core.specs.Members.{line_entry};
 ghost use Rattle.cdxj_places.specs.TextLines.{lines};
 ghost use Rattle.devices.specs.Device.{next_count};
 ghost use Rattle.source_core.specs.Cursors.{Stands, reach};
+ghost use Rattle.source_core.specs.IndexLines.{first_length};
 ghost use Rattle.merge_core.specs.Feeds.{read_lines};
 ghost use Rattle.merge_core.specs.LineFaults.{IsFaultAt};
 ghost use Rattle.merge_core.specs.NextLine.{IsNextLine};
@@ -86,6 +87,8 @@ impl Store {
             ((read_lines t cursor.new ≡ read_lines t cursor.old) × (lines (drop cursor.new.at t) ≡ []))
             (λ line. (l : List ℕ) × (read_lines t cursor.new ≡ read_lines t cursor.old ++ l ∷ []) × (line_entry LINE_LIMIT l ≡ Some line.value))) }
         ensures next { (t : List ℕ) → S.text source.old ≡ Some t → IfOk result (λ o. IsNextLine LINE_LIMIT t cursor.old.at cursor.new.at (option_map (λ b. b.value) o)) }
+        ensures most { (t : List ℕ) → S.text source.old ≡ Some t → cursor.new.at ≤ cursor.old.at + first_length (lines (drop cursor.old.at t)) }
+        ensures ahead { length cursor.new.ahead ≤ 8192 }
         ensures fault { (t : List ℕ) → S.text source.old ≡ Some t → IfErr result (IsFaultAt LINE_LIMIT (lines (drop cursor.old.at t)) cursor.old.at) }
     {
         let begin = cursor.at();

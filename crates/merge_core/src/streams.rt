@@ -1,14 +1,16 @@
 //! Sources that are read side by side.
-ghost use Rattle.std.specs.Prelude.{◌≡◌, ◌≢◌, ◌+◌, ◌-◌, ◌^◌, ◌<◌, ◌≤◌, ◌∷◌, ℕ, false, [], length, map, max, min, slice_index_or, slice_set, IfOk, IfErr, OnOk, MatchOption, IfSome};
+ghost use Rattle.std.specs.Prelude.{◌≡◌, ◌≢◌, ◌+◌, ◌-◌, ◌^◌, ◌<◌, ◌≤◌, ◌∷◌, ℕ, false, [], length, map, max, min, slice_index_or, slice_set, Option, Some, IfOk, IfErr, OnOk, OnErr, MatchOption, IfSome};
 ghost use Rattle.std.specs.List.{AllByRecursion, sum, zip};
 ghost use Rattle.std.specs.List.Sorted.{IsPermutation};
 ghost use Rattle.std.specs.Ordering.{is_lt};
 ghost use Rattle.cdxj_core.specs.declared.limit.TheConstants.{LINE_LIMIT};
 ghost use Rattle.cdxj_core.specs.Members.{member_pair};
-ghost use Rattle.merge_core.specs.PairOrders.{Alike, Below, Upto};
+ghost use Rattle.cdxj_places.specs.Pairs.{Pair};
+ghost use Rattle.merge_core.specs.PairOrders.{Alike, Below, IsAbove, Upto};
 ghost use Rattle.merge_core.specs.WaitingLines.{waiting_pair, turn_cmp};
 ghost use Rattle.merge_core.specs.Failures.{RaisedAt};
 ghost use Rattle.merge_core.specs.LineFaults.{IsFaultOf};
+ghost use Rattle.merge_core.specs.Spending.{AreReadTo};
 ghost use Rattle.merge_core.specs.Gathering.{AllTwo};
 
 use crate::fault::{FeedFault, MergeFault};
@@ -33,7 +35,7 @@ pub struct Streams {
 impl Streams {
     ghost use Rattle.merge_core.specs.declared.feed.Feed.{Feed};
     ghost use Rattle.merge_core.specs.Feeds.{Moved, Ready, IsSettled, AreSettled, due};
-    ghost use Rattle.merge_core.specs.Gathering.{IsDue, WaitsAbove, Drained, Grouped, unread};
+    ghost use Rattle.merge_core.specs.Gathering.{AreTold, IsDue, WaitsAbove, Drained, Grouped, all_done, unread};
 
     fn mark_due(&mut self, source: usize)
         requires { source < length self.old.feeds.items }
@@ -132,6 +134,8 @@ impl Streams {
             × ((a : S) → (S.text s ≡ S.text (slice_index_or sources.old i a)))
             × ((a : S) → (d : Feed) → Drained LINE_LIMIT (member_pair first.now) (S.text (slice_index_or sources.old i a)) (slice_index_or self.old.feeds.items i d) f
             (map (λ b. b.value) rest.old.items) (map (λ b. b.value) rest.new.items))) }
+        ensures reads { AllByRecursion (λ m. Upto (member_pair m) (member_pair first.now)) (all_done LINE_LIMIT S.text sources.old self.old.feeds.items)
+            → AreReadTo LINE_LIMIT (R.past range.now) S.text (Some (member_pair first.now)) sources.new self.new.feeds.items }
         ensures held { self.new.held ≡ self.old.held }
     {
         let next = match self.feeds[i].drain(&mut sources[i], first, range, &mut self.store, rest) {
@@ -164,6 +168,10 @@ impl Streams {
         ensures group { IfOk result (λ o. MatchOption o ((sources.new ≡ sources.old) × (self.new.feeds.items ≡ self.old.feeds.items) × (self.old.waiting ≡ []) × (self.new.waiting ≡ []))
             (λ first. Grouped LINE_LIMIT S.text S.extent sources.old self.old.feeds.items self.old.waiting sources.new self.new.feeds.items self.new.waiting
             (member_pair first.value) (first.value ∷ map (λ b. b.value) rest.new.items))) }
+        ensures reads { OnErr result ((pair : Pair) × ((b : Option Pair) → AllByRecursion (λ w. IsAbove b (waiting_pair w)) self.old.waiting → IsAbove b pair)
+            × AllByRecursion (λ w. Upto pair (waiting_pair w)) self.old.waiting
+            × (AreTold S.text sources.old → AllByRecursion (λ m. Below (member_pair m) pair) (all_done LINE_LIMIT S.text sources.old self.old.feeds.items)
+            → AreReadTo LINE_LIMIT (R.past range.now) S.text (Some pair) sources.new self.new.feeds.items)) }
         ensures held { self.new.held ≡ self.old.held }
     {
         let Some(next) = self.take_first() else {

@@ -6,16 +6,20 @@ use Rattle.cdxj_core.specs.Members.{Member, member_pair, member_place}
 use Rattle.cdxj_places.specs.Places.{place_cmp}
 use Rattle.cdxj_places.specs.Rising.{rising}
 use Rattle.merge_core.specs.declared.feed.Feed.{Feed}
-use Rattle.merge_core.specs.WaitingLines.{WaitingLine}
+use Rattle.merge_core.specs.PairOrders.{Below}
+use Rattle.merge_core.specs.WaitingLines.{WaitingLine, waiting_pair}
+use Rattle.cdxj_places.proofs.RisingLaws.{each_weaker}
+use Rattle.merge_core.proofs.PairOrder.{below_upto}
+use Rattle.merge_core.proofs.SpendLemmas.{are_read_to}
 use Rattle.merge_core.specs.Collections.{Known}
-use Rattle.merge_core.specs.Gathering.{AllTwo, Grouped}
+use Rattle.merge_core.specs.Gathering.{AllTwo, Grouped, all_done}
 use Rattle.merge_core.specs.Reached.{Reached}
 use Rattle.merge_core.specs.LineFaults.{IsFaultOf}
 use Rattle.merge_core.proofs.WholeLemmas.{texts_kept}
 use Rattle.merge_core.proofs.FailLemmas.{if_err, raised_from}
 use Rattle.merge_core.proofs.Many.{Move, moved_trans, moved_still, told_moved}
 use Rattle.merge_core.proofs.HeldLemmas.{held_most, held_after}
-use Rattle.merge_core.proofs.MergeLemmas.{above_none, handed_none, handed_next, on_err}
+use Rattle.merge_core.proofs.MergeLemmas.{above_none, below_next, handed_none, handed_next, on_err}
 use Rattle.merge_core.specs.Feeds.{AreSettled}
 use Rattle.merge_core.proofs.merging.merge.Goals as goal
 
@@ -100,6 +104,7 @@ returns-in_err-more-clause-broke g c =
         came.1,
         came.2,
         λ begin start w. inl (c.loop-rest.sink, subst (λ o. g.K.Sink.Wrote begin c.loop-rest.sink came.1 start (g.O.Output.written o)) (sym k.1) (came.3 begin start w)),
+        (pair, grouped.least, λ told. are_read_to LINE_LIMIT past text extent (Some pair) 0 now feeds c.gather.new.self.waiting ok.ready.fed (reached.handed.told told).1),
       )
       | inr k ↦ (
         now,
@@ -109,6 +114,11 @@ returns-in_err-more-clause-broke g c =
         came.1 ++ rising member_place place_cmp group,
         reached,
         λ begin start w. inr (subst (λ l. g.K.Sink.Broke begin (came.1 ++ l) start (g.O.Output.written c.hand_on.new.out)) order (k begin came.1 start (came.3 begin start w))),
+        (
+          pair,
+          each_weaker (λ (w : WaitingLine) (h : Below pair (waiting_pair w)). below_upto pair (waiting_pair w) h) c.gather.new.self.waiting grouped.later,
+          λ told. are_read_to LINE_LIMIT past text extent (Some pair) 0 now feeds c.gather.new.self.waiting ok.ready.fed (reached.handed.told told).1,
+        ),
       )
     ])
 
@@ -250,3 +260,28 @@ returns-clause-held g c = λ texts indexes most known are share h.
     let before = c.loop-rest.invariant.held texts indexes most known are share h in
     let same = c.gather.ensures.held in
     omega (arith, before, same)
+
+pub returns-in_err-first-clause-broke : goal.returns-in_err-first-clause-broke
+returns-in_err-first-clause-broke g c =
+    let text = g.S.Source.text in let extent = g.S.Source.extent in let gave = g.S.Source.gave in
+    let old = c.args.sources.now in let old_feeds = c.args.streams.now.feeds.items in
+    let was = c.loop-rest.sources in let was_feeds = c.loop-rest.streams.feeds.items in
+    let came = c.loop-rest.invariant.came in
+    let reads = c.in_err-first.ensures.reads in
+    let p = err_from_is_err_and c.from_residual.result c.from_residual.ensures.1 in
+    on_err c.from_residual.result p.0 _ p.1 (
+      was,
+      was_feeds,
+      c.loop-rest.streams.waiting,
+      came.0,
+      came.1,
+      came.2,
+      λ begin start w. inl (c.loop-rest.sink, came.3 begin start w),
+      (
+        reads.0,
+        reads.2,
+        λ told.
+            reads.3 (told_moved text extent gave old was old_feeds was_feeds came.2.ready.same came.2.moved told)
+            (below_next came.0 reads.0 (reads.1 came.0 came.2.above) (all_done LINE_LIMIT text was was_feeds) (came.2.handed.told told).1),
+      ),
+    )

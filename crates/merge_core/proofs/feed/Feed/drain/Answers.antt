@@ -1,4 +1,4 @@
-use Rattle.std.proofs.Common.{◌≡◌, ◌+◌, ◌<◌, ◌∷◌, ◌++◌, [], Box, Global, option_map, map, MatchOption, refl, sym, ap, ◌∙◌, subst, arith}
+use Rattle.std.proofs.Common.{◌≡◌, Some, ◌+◌, ◌<◌, ◌∷◌, ◌++◌, [], Box, Global, option_map, map, MatchOption, refl, sym, ap, ◌∙◌, subst, arith}
 use Rattle.std.specs.List.{AllByRecursion}
 use Rattle.std.specs.Ordering.{ordering_reverse}
 use Rattle.std.proofs.lemmas.Result.{err_from_is_err_and}
@@ -13,6 +13,8 @@ use Rattle.merge_core.specs.PairOrders.{Alike, Below, Upto}
 use Rattle.source_core.specs.LinesAtFault.{IsOutOfOrder}
 use Rattle.merge_core.specs.Feeds.{Fed, done, option_list}
 use Rattle.merge_core.specs.LineFaults.{NamesLine}
+use Rattle.merge_core.specs.Spending.{ReadTo}
+use Rattle.merge_core.proofs.SpendLemmas.{read_to}
 use Rattle.merge_core.proofs.BadLines.{bad_named, order_named}
 use Rattle.merge_core.proofs.FailLemmas.{if_err}
 use Rattle.merge_core.proofs.PairOrder.{below_upto, same_upto, same_from}
@@ -39,7 +41,7 @@ returns-in-Greater-clause-fed g c =
     ∙ ap (λ k. ordering_reverse (pair_cmp (member_pair k) first)) (sym c.deref.ensures) ∙ ap ordering_reverse (sym c.compare_pairs.ensures ∙ c.in-Greater.is) in
     settled LINE_LIMIT (g.R.Range.past c.args.range.now) (λ (b : Box Line Global). b.value) (g.S.Source.text c.loop-line.source) (g.S.Source.text c.next_line.new.source)
     (g.S.Source.extent c.loop-line.source) (g.S.Source.extent c.next_line.new.source) c.loop-line.self c.next_line.new.cursor c.in_ok-line.field-0 ok.text ok.extent
-    inv.due inv.fed ok.stands ok.start ok.count ok.given c.settle.new.self c.settle.ensures.cursor c.in-Some.line c.in-Some.is first
+    inv.due inv.fed ok.stands ok.start ok.count ok.given ok.most c.settle.new.self c.settle.ensures.cursor c.in-Some.line c.in-Some.is first
     (λ t e. inv.low t (sym inv.text ∙ e)) (below_upto first (member_pair m) above)
     (option_list (option_map (λ (b : Box Line Global). b.value) c.settle.result)) c.settle.ensures.next
 
@@ -55,7 +57,7 @@ returns-in-Greater-clause-taken g c = λ t e.
       h.0,
       settled_done LINE_LIMIT (g.R.Range.past c.args.range.now) (λ (b : Box Line Global). b.value) (g.S.Source.text c.loop-line.source) (g.S.Source.text c.next_line.new.source)
           (g.S.Source.extent c.loop-line.source) (g.S.Source.extent c.next_line.new.source) c.loop-line.self c.next_line.new.cursor c.in_ok-line.field-0 ok.text ok.extent
-          inv.due inv.fed ok.stands ok.start ok.count ok.given c.settle.new.self c.settle.ensures.cursor c.in-Some.line c.in-Some.is first
+          inv.due inv.fed ok.stands ok.start ok.count ok.given ok.most c.settle.new.self c.settle.ensures.cursor c.in-Some.line c.in-Some.is first
           (λ t e. inv.low t (sym inv.text ∙ e)) (below_upto first (member_pair m) above)
           (option_list (option_map (λ (b : Box Line Global). b.value) c.settle.result)) c.settle.ensures.next t ∙ h.1,
       h.2,
@@ -75,7 +77,7 @@ loop-line-preserved g c =
     ap (map (λ (b : Box Line Global). b.value)) c.in-Ok.ensures.items ∙ map_push (λ (b : Box Line Global). b.value) c.loop-line.rest.items line in
     let more = taken_done LINE_LIMIT (g.R.Range.past c.args.range.now) (λ (b : Box Line Global). b.value) (g.S.Source.text c.loop-line.source) (g.S.Source.text c.next_line.new.source)
     (g.S.Source.extent c.loop-line.source) (g.S.Source.extent c.next_line.new.source) c.loop-line.self c.next_line.new.cursor c.in_ok-line.field-0 ok.text ok.extent
-    inv.due inv.fed ok.stands ok.start ok.count ok.given f refl line c.in-Some.is first
+    inv.due inv.fed ok.stands ok.start ok.count ok.given ok.most f refl line c.in-Some.is first
     (λ t e. inv.low t (sym inv.text ∙ e)) (same_from (member_pair m) first alike) inv.due in
     record {
       text = ok.text ∙ inv.text;
@@ -86,7 +88,7 @@ loop-line-preserved g c =
       there = (let h = subst (λ o. MatchOption o (c.next_line.new.cursor.at ≡ g.S.Source.extent c.loop-line.source) (λ _. c.loop-line.self.cursor.at < c.next_line.new.cursor.at)) c.in-Some.is ok.there in omega (arith, h, inv.there));
       fed = taken LINE_LIMIT (g.R.Range.past c.args.range.now) (λ (b : Box Line Global). b.value) (g.S.Source.text c.loop-line.source) (g.S.Source.text c.next_line.new.source)
           (g.S.Source.extent c.loop-line.source) (g.S.Source.extent c.next_line.new.source) c.loop-line.self c.next_line.new.cursor c.in_ok-line.field-0 ok.text ok.extent
-          inv.due inv.fed ok.stands ok.start ok.count ok.given f refl line c.in-Some.is first
+          inv.due inv.fed ok.stands ok.start ok.count ok.given ok.most f refl line c.in-Some.is first
           (λ t e. inv.low t (sym inv.text ∙ e)) (same_from (member_pair m) first alike) inv.due
           (λ t e. same_stays (g.R.Range.past c.args.range.now) first m (done LINE_LIMIT t c.loop-line.self) (inv.fed.told t e).within (inv.low t (sym inv.text ∙ e)) (inv.last t (sym inv.text ∙ e)) alike);
       due = inv.due;
@@ -106,7 +108,7 @@ returns-clause-fed g c =
     let inv = c.loop-line.invariant in
     at_end LINE_LIMIT (g.R.Range.past c.args.range.now) (λ (b : Box Line Global). b.value) (g.S.Source.text c.loop-line.source) (g.S.Source.text c.next_line.new.source)
     (g.S.Source.extent c.loop-line.source) (g.S.Source.extent c.next_line.new.source) c.loop-line.self c.next_line.new.cursor c.in_ok-line.field-0 ok.text ok.extent
-    inv.due inv.fed ok.stands ok.start ok.count ok.given (record { cursor = c.next_line.new.cursor; progress = Ended }) refl c.in_default.is refl
+    inv.due inv.fed ok.stands ok.start ok.count ok.given ok.most (record { cursor = c.next_line.new.cursor; progress = Ended }) refl c.in_default.is refl
 
 pub returns-in_err-line-clause-fault : goal.returns-in_err-line-clause-fault
 returns-in_err-line-clause-fault g c = λ t e.
@@ -134,3 +136,59 @@ returns-in-Less-clause-fault g c = λ t e.
     subst (IsOutOfOrder LINE_LIMIT t) (sym inv.begin)
     (order_named LINE_LIMIT past t extent c.loop-line.self (subst (λ o. Fed LINE_LIMIT past o extent c.loop-line.self []) told inv.fed) first c.next_line.new.cursor m inv.due (inv.last t e) ok.start more
     (line_read LINE_LIMIT t c.loop-line.self.cursor c.next_line.new.cursor (λ (b : Box Line Global). b.value) c.in_ok-line.field-0 c.in-Some.line c.in-Some.is (ok.given t told)) below)
+
+pub returns-in_err-line-clause-reads : goal.returns-in_err-line-clause-reads
+returns-in_err-line-clause-reads g c = λ t e.
+    let past = g.R.Range.past c.args.range.now in
+    let inv = c.loop-line.invariant in
+    let extent = g.S.Source.extent c.loop-line.source in
+    let f = c.loop-line.self in
+    let first = member_pair c.args.first.now in
+    let told = inv.text ∙ e in
+    let next = c.next_line.ensures in
+    read_to LINE_LIMIT past t extent f [] (Some first) (subst (λ o. Fed LINE_LIMIT past o extent f []) told inv.fed) (inv.low t e) c.next_line.new.cursor next.start (next.most t told) next.ahead
+
+pub returns-in-Less-clause-reads : goal.returns-in-Less-clause-reads
+returns-in-Less-clause-reads g c = λ t e.
+    let past = g.R.Range.past c.args.range.now in
+    let inv = c.loop-line.invariant in
+    let extent = g.S.Source.extent c.loop-line.source in
+    let f = c.loop-line.self in
+    let first = member_pair c.args.first.now in
+    let told = inv.text ∙ e in
+    let next = c.next_line.ensures in
+    read_to LINE_LIMIT past t extent f [] (Some first) (subst (λ o. Fed LINE_LIMIT past o extent f []) told inv.fed) (inv.low t e) c.next_line.new.cursor next.start (next.most t told) next.ahead
+
+pub returns-in-Err-clause-reads : goal.returns-in-Err-clause-reads
+returns-in-Err-clause-reads g c = λ t e.
+    let past = g.R.Range.past c.args.range.now in
+    let inv = c.loop-line.invariant in
+    let extent = g.S.Source.extent c.loop-line.source in
+    let f = c.loop-line.self in
+    let first = member_pair c.args.first.now in
+    let told = inv.text ∙ e in
+    let next = c.next_line.ensures in
+    read_to LINE_LIMIT past t extent f [] (Some first) (subst (λ o. Fed LINE_LIMIT past o extent f []) told inv.fed) (inv.low t e) c.next_line.new.cursor next.start (next.most t told) next.ahead
+
+pub returns-clause-reads : goal.returns-clause-reads
+returns-clause-reads g c = λ t e.
+    let past = g.R.Range.past c.args.range.now in
+    let inv = c.loop-line.invariant in
+    let extent = g.S.Source.extent c.loop-line.source in
+    let f = c.loop-line.self in
+    let first = member_pair c.args.first.now in
+    let told = inv.text ∙ e in
+    let next = c.next_line.ensures in
+    read_to LINE_LIMIT past t extent f [] (Some first) (subst (λ o. Fed LINE_LIMIT past o extent f []) told inv.fed) (inv.low t e) c.next_line.new.cursor next.start (next.most t told) next.ahead
+
+pub returns-in-Greater-clause-reads : goal.returns-in-Greater-clause-reads
+returns-in-Greater-clause-reads g c = λ t e.
+    let past = g.R.Range.past c.args.range.now in
+    let inv = c.loop-line.invariant in
+    let extent = g.S.Source.extent c.loop-line.source in
+    let f = c.loop-line.self in
+    let first = member_pair c.args.first.now in
+    let told = inv.text ∙ e in
+    let next = c.next_line.ensures in
+    subst (ReadTo LINE_LIMIT past (Some first) t) (sym c.settle.ensures.cursor)
+    (read_to LINE_LIMIT past t extent f [] (Some first) (subst (λ o. Fed LINE_LIMIT past o extent f []) told inv.fed) (inv.low t e) c.next_line.new.cursor next.start (next.most t told) next.ahead)

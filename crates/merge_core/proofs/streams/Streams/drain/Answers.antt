@@ -1,4 +1,4 @@
-use Rattle.std.proofs.Common.{◌≡◌, ◌++◌, [], Box, Global, List, get_or, set, map, zip, refl, sym, ap, ◌∙◌, subst, arith}
+use Rattle.std.proofs.Common.{◌≡◌, Some, ◌++◌, [], Box, Global, List, get_or, set, map, zip, refl, sym, ap, ◌∙◌, subst, arith}
 use Rattle.std.specs.List.{AllByRecursion}
 use Rattle.std.proofs.lemmas.List.{get_or_default}
 use Rattle.cdxj_core.specs.declared.limit.TheConstants.{LINE_LIMIT}
@@ -12,6 +12,8 @@ use Rattle.merge_core.specs.Failures.{RaisedAt}
 use Rattle.merge_core.specs.Feeds.{Fed, Ready, done}
 use Rattle.merge_core.specs.Gathering.{AllTwo, EndsAt, unread}
 use Rattle.std.proofs.lemmas.Result.{err_from_is_err_and}
+use Rattle.merge_core.specs.Spending.{AreReadTo}
+use Rattle.merge_core.proofs.SpendLemmas.{are_read_to, read_on}
 use Rattle.merge_core.proofs.FailLemmas.{if_err, raised, feed_is}
 use Rattle.merge_core.proofs.Many.{Move, moved_set, map_set_same, unread_set}
 use Rattle.merge_core.proofs.StreamLemmas.{due_fed, waited_ready, waited_length}
@@ -118,3 +120,33 @@ returns-in_err-let_wait-clause-kept g c =
     let p = err_from_is_err_and c.from_residual.result c.from_residual.ensures.1 in
     if_err c.from_residual.result p.0 _ p.1 (λ h.
     map_set_same g.S.Source.failures c.args.sources.now c.args.i c.index-sources-i.result c.drain.new.source c.requires.inside c.in-Ok.ensures.worked)
+
+pub returns-in-Err-clause-reads : goal.returns-in-Err-clause-reads
+returns-in-Err-clause-reads g c = λ low.
+    let past = g.R.Range.past c.args.range.now in
+    let text = g.S.Source.text in let extent = g.S.Source.extent in
+    let ss = c.args.sources.now in let fs = c.args.self.now.feeds.items in let i = c.args.i in let a = c.index-sources-i.result in
+    let pair = member_pair c.args.first.now in
+    let all = are_read_to LINE_LIMIT past text extent (Some pair) 0 ss fs c.args.self.now.waiting c.requires.ready.fed low in
+    let new = read_on LINE_LIMIT past text extent (Some pair) ss fs i c.drain.new.source c.drain.new.self all (λ t e. c.drain.ensures.reads t (sym c.drain.ensures.text ∙ e)) in
+    new
+
+pub returns-in_err-let_wait-clause-reads : goal.returns-in_err-let_wait-clause-reads
+returns-in_err-let_wait-clause-reads g c = λ low.
+    let past = g.R.Range.past c.args.range.now in
+    let text = g.S.Source.text in let extent = g.S.Source.extent in
+    let ss = c.args.sources.now in let fs = c.args.self.now.feeds.items in let i = c.args.i in let a = c.index-sources-i.result in
+    let pair = member_pair c.args.first.now in
+    let all = are_read_to LINE_LIMIT past text extent (Some pair) 0 ss fs c.args.self.now.waiting c.requires.ready.fed low in
+    let new = read_on LINE_LIMIT past text extent (Some pair) ss fs i c.drain.new.source c.drain.new.self all (λ t e. c.drain.ensures.reads t (sym c.drain.ensures.text ∙ e)) in
+    subst (λ (us : List Feed). AreReadTo LINE_LIMIT past text (Some pair) (set ss i c.drain.new.source) us) (sym c.let_wait.ensures.feeds) new
+
+pub returns-clause-reads : goal.returns-clause-reads
+returns-clause-reads g c = λ low.
+    let past = g.R.Range.past c.args.range.now in
+    let text = g.S.Source.text in let extent = g.S.Source.extent in
+    let ss = c.args.sources.now in let fs = c.args.self.now.feeds.items in let i = c.args.i in let a = c.index-sources-i.result in
+    let pair = member_pair c.args.first.now in
+    let all = are_read_to LINE_LIMIT past text extent (Some pair) 0 ss fs c.args.self.now.waiting c.requires.ready.fed low in
+    let new = read_on LINE_LIMIT past text extent (Some pair) ss fs i c.drain.new.source c.drain.new.self all (λ t e. c.drain.ensures.reads t (sym c.drain.ensures.text ∙ e)) in
+    subst (λ (us : List Feed). AreReadTo LINE_LIMIT past text (Some pair) (set ss i c.drain.new.source) us) (sym c.let_wait.ensures.feeds) new

@@ -1,7 +1,8 @@
-use Rattle.std.proofs.Common.{◌≡◌, ◌+◌, ◌∷◌, ◌++◌, [], Box, Global, List, length, get_or, set, map, zip, false, is_lt, refl, sym, ap, ◌∙◌, subst, arith, length-set}
+use Rattle.std.proofs.Common.{◌≡◌, Some, ◌+◌, ◌∷◌, ◌++◌, [], Box, Global, List, length, get_or, set, map, zip, false, is_lt, refl, sym, ap, ◌∙◌, subst, arith, length-set}
 use Rattle.std.specs.List.{AllByRecursion}
 use Rattle.std.specs.List.Sorted.{IsPermutation}
 use Rattle.std.proofs.lemmas.Cmp.{tied_itself}
+use Rattle.std.proofs.lemmas.List.Sorted.{IsPermutation-sym}
 use Rattle.std.proofs.lemmas.Result.{err_from_is_err_and}
 use Rattle.cdxj_places.proofs.PairLemmas.{pair_cmp_total}
 use Rattle.cdxj_places.proofs.RisingLaws.{each_weaker}
@@ -14,6 +15,10 @@ use Rattle.merge_core.specs.WaitingLines.{WaitingLine, waiting_pair, turn_cmp}
 use Rattle.merge_core.specs.Feeds.{IsSettled, AreSettled, due}
 use Rattle.merge_core.specs.Gathering.{AllTwo, Gathered, IsFrom, IsDue, WaitsAbove, Drained, all_done, unread}
 use Rattle.merge_core.specs.LineFaults.{IsFaultOf}
+use Rattle.merge_core.specs.Spending.{AreReadTo}
+use Rattle.merge_core.proofs.PairOrder.{upto_itself}
+use Rattle.merge_core.proofs.MergeLemmas.{on_err}
+use Rattle.merge_core.proofs.SpendLemmas.{due_read}
 use Rattle.merge_core.proofs.WholeLemmas.{texts_kept}
 use Rattle.merge_core.proofs.FailLemmas.{if_err, raised_from}
 use Rattle.merge_core.proofs.FeedLemmas.{each_join, map_push}
@@ -21,7 +26,7 @@ use Rattle.merge_core.proofs.GroupLemmas.{AreAt, from_waited}
 use Rattle.merge_core.proofs.GatherSteps.{Gathers, gathers_start, taken_next, gathers_drained, gathers_all}
 use Rattle.merge_core.proofs.HeapLemmas.{each_permuted}
 use Rattle.merge_core.proofs.Many.{Move, moved_trans, moved_still, set_set, set_own, each_replaced}
-use Rattle.merge_core.proofs.TurnLemmas.{above_popped}
+use Rattle.merge_core.proofs.TurnLemmas.{above_popped, not_before}
 use Rattle.merge_core.proofs.streams.Streams.gather.Goals as goal
 
 pub returns-in_default-clause-moved : goal.returns-in_default-clause-moved
@@ -52,6 +57,12 @@ sources-init g c =
       failures = refl;
       from = t.from;
       above = λ b h. above_popped b ws c.take_first.new.self.waiting w out h;
+      least = each_permuted (λ (v : WaitingLine). Upto pair (waiting_pair v)) (w ∷ c.take_first.new.self.waiting) ws (IsPermutation-sym ws (w ∷ c.take_first.new.self.waiting) out)
+          (
+            upto_itself pair,
+            each_weaker (λ (v : WaitingLine) (q : is_lt (turn_cmp v w) ≡ false). not_before v w q) c.take_first.new.self.waiting
+                (subst (λ (x : WaitingLine). AllByRecursion (λ v. is_lt (turn_cmp v x) ≡ false) c.take_first.new.self.waiting) is c.in-Some.ensures.first),
+          );
       each = subst (λ (l : List (Box Line Global)). AreAt pair (map (λ (b : Box Line Global). b.value) l)) (sym c.requires.empty) tt;
       fewer = t.fewer;
     }
@@ -123,6 +134,7 @@ returns-in_default-take_at-clause-group g c =
     let long = ap (λ (ws : List WaitingLine). length ws) out.0 in
     record {
       above = inv.above;
+      least = inv.least;
       later = subst (λ p. AllByRecursion (λ w. Below p (waiting_pair w)) c.take_at.new.self.waiting) (ap member_pair c.deref-in-sources.ensures) out.1;
       each = (alike, each inv.each);
       fewer = omega (arith, few, less, same, long);
@@ -235,6 +247,7 @@ sources-preserved g c =
       failures = ok.worked ∙ inv.failures;
       from = t.from;
       above = inv.above;
+      least = inv.least;
       each = subst (AreAt pair) (sym pushed) (each_join (λ m. Alike (member_pair m) pair) (values c.drain.new.rest.items) (w.member ∷ []) (each inv.each) (alike, tt));
       fewer = omega (arith, fewer, few, less);
     }
@@ -256,3 +269,45 @@ returns-in_err-drain-clause-fault g c =
     let q : p.0 ≡ c.in_err-drain.field-0.0 = p.2 in
     if_err c.from_residual.result p.0 (IsFaultOf LINE_LIMIT texts) p.1
     (subst (IsFaultOf LINE_LIMIT texts) (sym q) (subst (λ ts. IsFaultOf LINE_LIMIT ts c.in_err-drain.field-0.0) kept c.in_err-drain.ensures.fault))
+
+pub returns-in_err-drain-clause-reads : goal.returns-in_err-drain-clause-reads
+returns-in_err-drain-clause-reads g c =
+    let past = g.R.Range.past c.args.range.now in
+    let text = g.S.Source.text in let extent = g.S.Source.extent in let gave = g.S.Source.gave in
+    let inv = c.sources.invariant in
+    let pair = member_pair c.next.inside.line.value in
+    let ss = c.sources.sources in let fs = c.sources.self.feeds.items in let i = c.sources.i in
+    let group = c.next.inside.line.value ∷ map (λ (b : Box Line Global). b.value) c.sources.rest.items in
+    let p = err_from_is_err_and c.from_residual.result c.from_residual.ensures.1 in
+    on_err c.from_residual.result p.0 _ p.1 (
+      pair,
+      inv.above,
+      inv.least,
+      λ told low.
+          let all = (gathers_all LINE_LIMIT past text extent gave c.args.sources.now c.args.self.now.feeds.items pair (i + 1) ss fs c.sources.self.waiting group inv.gathers c.requires.ready.same (let l = inv.inside in omega arith) told low).upto in
+          subst (λ q. AreReadTo LINE_LIMIT past text (Some q) c.drain.new.sources c.drain.new.self.feeds.items) (ap member_pair c.deref.ensures)
+          (c.drain.ensures.reads (subst (λ q. AllByRecursion (λ m. Upto (member_pair m) q) (all_done LINE_LIMIT text ss fs)) (sym (ap member_pair c.deref.ensures)) all)),
+    )
+
+pub returns-in-Err-clause-reads : goal.returns-in-Err-clause-reads
+returns-in-Err-clause-reads g c =
+    let past = g.R.Range.past c.args.range.now in
+    let text = g.S.Source.text in let extent = g.S.Source.extent in let gave = g.S.Source.gave in
+    let inv = c.sources.invariant in
+    let ok = c.in_ok-drain.ensures in
+    let pair = member_pair c.next.inside.line.value in
+    let ss = c.sources.sources in let fs = c.sources.self.feeds.items in let i = c.sources.i in
+    let feeds = c.drain.new.self.feeds.items in
+    let group = c.next.inside.line.value ∷ map (λ (b : Box Line Global). b.value) c.sources.rest.items in
+    let w : WaitingLine = record { member = c.next-in-sources.inside.line.value; source = c.next-in-sources.inside.source } in
+    let is = sym c.next-in-sources.view_is in
+    let next = (subst (λ (v : WaitingLine). (d : Feed) → c.take_at.new.self.feeds.items ≡ set feeds v.source (due (get_or feeds v.source d))) is c.in-Some-take_at.ensures.feeds) ok.drained.1 in (
+      pair,
+      inv.above,
+      inv.least,
+      λ told low.
+          let all = (gathers_all LINE_LIMIT past text extent gave c.args.sources.now c.args.self.now.feeds.items pair (i + 1) ss fs c.sources.self.waiting group inv.gathers c.requires.ready.same (let l = inv.inside in omega arith) told low).upto in
+          let here = subst (λ q. AreReadTo LINE_LIMIT past text (Some q) c.drain.new.sources feeds) (ap member_pair c.deref.ensures)
+          (c.drain.ensures.reads (subst (λ q. AllByRecursion (λ m. Upto (member_pair m) q) (all_done LINE_LIMIT text ss fs)) (sym (ap member_pair c.deref.ensures)) all)) in
+          subst (λ (us : List Feed). AreReadTo LINE_LIMIT past text (Some pair) c.drain.new.sources us) (sym next) (due_read LINE_LIMIT past text extent (Some pair) c.drain.new.sources feeds w.source ok.drained.1 here),
+    )

@@ -4,7 +4,7 @@ use Rattle.cdxj_core.specs.declared.limit.TheConstants.{LINE_LIMIT}
 use Rattle.cdxj_core.specs.Members.{member_pair}
 use Rattle.cdxj_places.specs.Pairs.{Pair}
 use Rattle.merge_core.specs.declared.feed.Feed.{Feed}
-use Rattle.merge_core.specs.PairOrders.{IsAbove}
+use Rattle.merge_core.specs.PairOrders.{IsAbove, Upto}
 use Rattle.merge_core.specs.WaitingLines.{waiting_pair}
 use Rattle.merge_core.specs.Feeds.{IsSettled, AreSettled}
 use Rattle.merge_core.specs.Gathering.{IsFrom, IsDue, unread}
@@ -23,6 +23,7 @@ invariant-sources g l = record {
   failures : map g.S.Source.failures l.sources ≡ map g.S.Source.failures l.fn.sources;
   from : AllByRecursion (IsFrom (member_pair l.first.value) (l.i + 1)) l.self.waiting;
   above : (b : Option Pair) → AllByRecursion (λ w. IsAbove b (waiting_pair w)) l.fn.self.waiting → IsAbove b (member_pair l.first.value);
+  least : AllByRecursion (λ w. Upto (member_pair l.first.value) (waiting_pair w)) l.fn.self.waiting;
   each : AreAt (member_pair l.first.value) (map (λ b. b.value) l.rest.items);
   fewer : unread g.S.Source.extent l.sources l.self.feeds.items + length l.self.waiting < unread g.S.Source.extent l.fn.sources l.fn.self.feeds.items + length l.fn.self.waiting;
 }

@@ -1,0 +1,94 @@
+-- How far sources were read.
+use Rattle.std.proofs.Common.{◌≡◌, ℕ, zero, suc, ◌+◌, ◌-◌, ◌*◌, ◌≤◌, List, [], ◌∷◌, ◌++◌, length, take, drop, map, flat_map, zip, get_or, set, Bool, false, Option, Some, refl, sym, ap, ◌∙◌, subst, arith, append_assoc, append-nil, take-append-drop, length-append, length-take, length-drop}
+use Rattle.std.specs.List.{AllByRecursion}
+use Rattle.std.proofs.lemmas.List.Concat.{flat_map-append}
+use Rattle.cdxj_places.specs.Pairs.{Pair}
+use Rattle.cdxj_places.specs.TextLines.{lines}
+use Rattle.cdxj_core.specs.Members.{Member, member_pair, line_entry}
+use Rattle.source_core.specs.Cursors.{CursorState}
+use Rattle.source_core.specs.IndexLines.{first_length, longest}
+use Rattle.source_core.proofs.LongestLines.{first_most, longest_drop}
+use Rattle.merge_core.specs.declared.feed.Feed.{Feed}
+use Rattle.merge_core.specs.PairOrders.{IsUpto}
+use Rattle.merge_core.specs.WaitingLines.{WaitingLine, waits_of}
+use Rattle.merge_core.specs.Feeds.{Fed, AreFed, bytes_of, read_lines, given, held, done, due}
+use Rattle.merge_core.specs.Gathering.{text_or, all_done}
+use Rattle.merge_core.specs.Spending.{ReadTo, AreReadTo}
+use Rattle.merge_core.proofs.CountLemmas.{each_both, one_held}
+use Rattle.merge_core.proofs.GroupLemmas.{each_cut}
+use Rattle.merge_core.proofs.Many.{zip_set, each_replaced}
+use Rattle.merge_core.proofs.ReadLines.{take_of_map}
+
+longest_later : (k : ℕ) (ls : List (List ℕ)) → longest (drop k ls) ≤ longest ls
+longest_later zero ls = omega arith
+longest_later (suc k) [] = omega arith
+longest_later (suc k) (l ∷ ls) = let h = longest_later k ls in omega arith
+
+longest_front : (k : ℕ) (ls : List (List ℕ)) → longest (take k ls) ≤ longest ls
+longest_front zero ls = omega arith
+longest_front (suc k) [] = omega arith
+longest_front (suc k) (l ∷ ls) = let h = longest_front k ls in omega arith
+
+-- one line at most
+one_line : (ls : List (List ℕ)) → length ls ≤ 1 → bytes_of ls ≤ longest ls
+one_line [] h = omega arith
+one_line (l ∷ []) h = omega (arith, ap length (append-nil l))
+one_line (l ∷ k ∷ ls) h = absurd (omega arith)
+
+module _ (limit : ℕ) (past : List ℕ → Bool) where
+  -- a cursor that passed one line more at most than those that the feed gave
+  pub read_to : (t : List ℕ) (extent : ℕ) (f : Feed) (ws : List Member) (b : Option Pair) → Fed limit past (Some t) extent f ws → AllByRecursion (λ m. IsUpto b (member_pair m)) (done limit t f)
+      → (new : CursorState) → new.start ≡ f.cursor.start → new.at ≤ f.cursor.at + first_length (lines (drop f.cursor.at t)) → length new.ahead ≤ 8192 → ReadTo limit past b t new
+  read_to t extent f ws b fed upto new start near ahead =
+      let told = fed.told t refl in
+      let from = lines (drop f.cursor.start t) in
+      let all = read_lines t f.cursor in
+      let k = f.cursor.count - held f.progress in
+      let one = one_held f.progress in
+      let many = told.as_many in
+      let stood = told.stood in
+      let split = ap bytes_of (take-append-drop k all) in
+      let parts = ap length (flat_map-append (λ (l : List ℕ). l) (take k all) (drop k all)) in
+      let sum = length-append (flat_map (λ (l : List ℕ). l) (take k all)) (flat_map (λ (l : List ℕ). l) (drop k all)) in
+      let last = one_line (drop k all) (omega (arith, length-drop k all)) in
+      let l1 = longest_later k all in
+      let l2 = longest_front f.cursor.count from in
+      let l3 = longest_drop f.cursor.start t in
+      let l4 = first_most (lines (drop f.cursor.at t)) in
+      let l5 = longest_drop f.cursor.at t in
+      record {
+        read = take k all;
+        rest = drop k all ++ drop f.cursor.count from;
+        cut = ap (λ s. lines (drop s t)) start ∙ sym (take-append-drop f.cursor.count from) ∙ ap (λ ls. ls ++ drop f.cursor.count from) (sym (take-append-drop k all))
+            ∙ append_assoc (take k all) (drop k all) (drop f.cursor.count from);
+        members = done limit t f;
+        entries = sym (take_of_map (line_entry limit) k all) ∙ ap (take k) told.run.entries ∙ take_of_map Some k (given limit t f.cursor);
+        within = each_both (λ (m : Member). past m.values.key ≡ false) (λ m. IsUpto b (member_pair m)) (done limit t f) told.within upto;
+        most = omega (arith, start, near, ahead, stood, split, parts, sum, last, l1, l2, l3, l4, l5);
+      }
+
+  module _ {S : Type 0} (text : S → Option (List ℕ)) (extent : S → ℕ) (b : Option Pair) where
+    -- sources of which no line above the bound is done
+    pub are_read_to : (n : ℕ) (ss : List S) (fs : List Feed) (ws : List WaitingLine) → AreFed limit past text extent n ss fs ws → AllByRecursion (λ m. IsUpto b (member_pair m)) (all_done limit text ss fs) → AreReadTo limit past text b ss fs
+    are_read_to n [] fs ws fed upto = tt
+    are_read_to n (s ∷ ss) [] ws fed upto = tt
+    are_read_to n (s ∷ ss) (f ∷ fs) ws fed upto =
+        let parts = each_cut (λ m. IsUpto b (member_pair m)) (done limit (text_or (text s)) f) (all_done limit text ss fs) upto in (
+          λ t e. read_to t (extent s) f (waits_of n ws) b (subst (λ o. Fed limit past o (extent s) f (waits_of n ws)) e fed.0) (subst (λ o. AllByRecursion (λ m. IsUpto b (member_pair m)) (done limit (text_or o) f)) e parts.0)
+              f.cursor refl (omega arith) (fed.0.stands.filled.most),
+          are_read_to (n + 1) ss fs ws fed.1 parts.1,
+        )
+
+    -- one of them was read on
+    pub read_on : (ss : List S) (fs : List Feed) (i : ℕ) (s : S) (f : Feed) → AreReadTo limit past text b ss fs → ((t : List ℕ) → text s ≡ Some t → ReadTo limit past b t f.cursor) → AreReadTo limit past text b (set ss i s) (set fs i f)
+    read_on ss fs i s f h k =
+        subst (AllByRecursion (λ x. (t : List ℕ) → text x.0 ≡ Some t → ReadTo limit past b t x.1.cursor)) (sym (zip_set ss fs i s f))
+        (each_replaced (λ (x : S × Feed). (t : List ℕ) → text x.0 ≡ Some t → ReadTo limit past b t x.1.cursor) (zip ss fs) i (s, f) h k)
+
+    -- the next line of one of them is to be read
+    pub due_read : (ss : List S) (fs : List Feed) (i : ℕ) (d : Feed) → AreReadTo limit past text b ss fs → AreReadTo limit past text b ss (set fs i (due (get_or fs i d)))
+    due_read [] fs i d h = tt
+    due_read (s ∷ ss) [] zero d h = h
+    due_read (s ∷ ss) [] (suc i) d h = h
+    due_read (s ∷ ss) (f ∷ fs) zero d h = h
+    due_read (s ∷ ss) (f ∷ fs) (suc i) d h = (h.0, due_read ss fs i d h.1)

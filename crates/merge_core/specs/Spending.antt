@@ -1,0 +1,26 @@
+-- How far sources were read.
+use Rattle.std.specs.Prelude.{◌≡◌, ℕ, ◌+◌, ◌*◌, ◌≤◌, List, ◌++◌, length, map, drop, Bool, false, Option, Some}
+use Rattle.std.specs.List.{AllByRecursion, zip}
+use Rattle.cdxj_places.specs.Pairs.{Pair}
+use Rattle.cdxj_places.specs.TextLines.{lines}
+use Rattle.cdxj_core.specs.Members.{Member, member_pair, line_entry}
+use Rattle.source_core.specs.Cursors.{CursorState, reach}
+use Rattle.source_core.specs.IndexLines.{longest}
+use Rattle.merge_core.specs.declared.feed.Feed.{Feed}
+use Rattle.merge_core.specs.Feeds.{bytes_of}
+use Rattle.merge_core.specs.PairOrders.{IsUpto}
+
+-- Of a source with this text, lines were read that lie within the range and aren't above the bound; beyond them, two lines and
+-- a piece of 8,192 bytes at most
+pub record ReadTo (limit : ℕ) (past : List ℕ → Bool) (b : Option Pair) (text : List ℕ) (c : CursorState) : Type 0 where
+  pub read : List (List ℕ)
+  pub rest : List (List ℕ)
+  pub cut : lines (drop c.start text) ≡ read ++ rest
+  pub members : List Member
+  pub entries : map (line_entry limit) read ≡ map Some members
+  pub within : AllByRecursion (λ m. (past m.values.key ≡ false) × IsUpto b (member_pair m)) members
+  pub most : reach c ≤ c.start + bytes_of read + 2 * longest (lines text) + 8192
+
+-- the same of each source that tells its bytes
+abbrev pub AreReadTo : {S : Type 0} → ℕ → (List ℕ → Bool) → (S → Option (List ℕ)) → Option Pair → List S → List Feed → Type 0
+AreReadTo limit past text b ss fs = AllByRecursion (λ x. (t : List ℕ) → text x.0 ≡ Some t → ReadTo limit past b t x.1.cursor) (zip ss fs)
