@@ -7,6 +7,9 @@ pub mod SourceLines
 pub mod AskedLemmas
 pub mod PageOfIndexes
 pub mod PageExits
+pub mod PagesWritten
+pub mod PageSteps
+pub mod PagesReached
 pub mod NextPlaces
 pub mod Ranks
 pub mod PlaceReading

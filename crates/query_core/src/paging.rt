@@ -1,12 +1,19 @@
 //! The pages of a query over indexes.
 ghost use Rattle.std.specs.Prelude.{◌≡◌, ◌≢◌, ◌<◌, ◌≤◌, ⊤, ℕ, List, length, map, true, false, nat_lt, Err, IfOk, IfErr, OnOk, MatchOption};
 ghost use Rattle.std.specs.List.{list_all};
-ghost use Rattle.devices.specs.Device.{next_count};
+ghost use Rattle.devices.specs.Device.{AppendsPrefix, next_count};
+ghost use Rattle.cdxj_core.specs.declared.limit.TheConstants.{LINE_LIMIT};
+ghost use Rattle.cdxj_core.specs.Indexes.{IsIndex};
+ghost use Rattle.cdxj_core.specs.Members.{Member};
+ghost use Rattle.cdxj_places.specs.Places.{PlaceValue};
 ghost use Rattle.cdxj_places.specs.PlaceViews.{place_view};
+ghost use Rattle.merge_core.specs.Collections.{Known, collection};
 ghost use Rattle.merge_core.specs.Failures.{RaisedAt};
-ghost use Rattle.page_core.specs.Pages.{first_size, later_sizes};
+ghost use Rattle.merge_core.specs.Gathering.{AllTwo};
+ghost use Rattle.page_core.specs.Pages.{Page, first_size, later_sizes};
 ghost use Rattle.query_core.specs.declared.merging.TheConstants.{SOURCES_LIMIT};
-ghost use Rattle.query_core.specs.Paging.{are_sizes, IsEarly};
+ghost use Rattle.query_core.specs.LineFaults.{IsFaultOf};
+ghost use Rattle.query_core.specs.Paging.{are_sizes, IsEarly, pages_text, ArePagesOf, WrotePages, WrotePagesInPart};
 ghost use Rattle.query_core.specs.PlaceBounds.{IsBounded};
 ghost use Rattle.query_core.specs.WriterView.{from_view};
 
@@ -124,6 +131,13 @@ pub fn pages<S: Source, O: Output>(
     ensures worked { OnOk result ((map S.failures sources.new ≡ map S.failures sources.old) × (O.failures out.new ≡ O.failures out.old)) }
     ensures read { IfErr result (λ e. (i : ℕ) → e ≡ AnswerFault.Read i → RaisedAt i (map S.failures sources.old) (map S.failures sources.new)) }
     ensures failed { IfErr result (λ e. e ≡ AnswerFault.Write → O.failures out.new ≡ next_count (O.failures out.old)) }
+    ensures fault { IfErr result (IsFaultOf LINE_LIMIT (map S.text sources.old)) }
+    ensures rising { (pages : List (Page Member PlaceValue)) × ArePagesOf LINE_LIMIT query.now (map S.text sources.old) query.now.resume sizes.now pages
+        × AppendsPrefix (O.written out.old) (O.written out.new) (pages_text query.now pages) }
+    ensures pages { (texts : List (List ℕ)) → (indexes : List (List Member)) → Known (map S.text sources.old) texts → AllTwo (IsIndex LINE_LIMIT) texts indexes
+        → IfOk result (WrotePages query.now (collection indexes) sizes.now (O.written out.old) (O.written out.new)) }
+    ensures part { (texts : List (List ℕ)) → (indexes : List (List Member)) → Known (map S.text sources.old) texts → AllTwo (IsIndex LINE_LIMIT) texts indexes
+        → are_sizes sizes.now ≡ true → WrotePagesInPart query.now (collection indexes) sizes.now (O.written out.old) (O.written out.new) }
 {
     if !are_sizes(sizes) {
         return Err(AnswerFault::BadSizes);
@@ -138,8 +152,9 @@ pub fn pages<S: Source, O: Output>(
         let size = Some(first_size(left));
         let page = write_page(alloc, sources, query, borrowed(&from), size, true, out)?;
         count = count.saturating_add(1);
-        let Some(next) = page.end.next else {
-            return Ok(count);
+        let next = match page.end.next {
+            Some(next) => next,
+            None => return Ok(count),
         };
         from = Some(read_key(alloc, next.place())?);
         left = later_sizes(left);
