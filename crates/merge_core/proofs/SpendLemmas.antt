@@ -1,19 +1,19 @@
 -- How far sources were read.
-use Rattle.std.proofs.Common.{◌≡◌, ℕ, zero, suc, ◌+◌, ◌-◌, ◌*◌, ◌≤◌, List, [], ◌∷◌, ◌++◌, length, take, drop, map, flat_map, zip, get_or, set, Bool, false, Option, Some, refl, sym, ap, ◌∙◌, subst, arith, append_assoc, append-nil, take-append-drop, length-append, length-take, length-drop}
+use Rattle.std.proofs.Common.{◌≡◌, ℕ, zero, suc, ◌+◌, ◌-◌, ◌*◌, ◌≤◌, List, [], ◌∷◌, ◌++◌, length, take, drop, map, flat_map, zip, get_or, set, Bool, false, Option, None, Some, refl, sym, ap, ◌∙◌, subst, arith, append_assoc, append-nil, take-append-drop, length-append, length-drop, drop-drop, drop-set-lt}
 use Rattle.std.specs.List.{AllByRecursion}
 use Rattle.std.proofs.lemmas.List.Concat.{flat_map-append}
 use Rattle.cdxj_places.specs.Pairs.{Pair}
 use Rattle.cdxj_places.specs.TextLines.{lines}
 use Rattle.cdxj_core.specs.Members.{Member, member_pair, line_entry}
-use Rattle.source_core.specs.Cursors.{CursorState}
+use Rattle.source_core.specs.Cursors.{CursorState, reach}
 use Rattle.source_core.specs.IndexLines.{first_length, longest}
 use Rattle.source_core.proofs.LongestLines.{first_most, longest_drop}
 use Rattle.merge_core.specs.declared.feed.Feed.{Feed}
 use Rattle.merge_core.specs.PairOrders.{IsUpto}
 use Rattle.merge_core.specs.WaitingLines.{WaitingLine, waits_of}
 use Rattle.merge_core.specs.Feeds.{Fed, AreFed, bytes_of, read_lines, given, held, done, due}
-use Rattle.merge_core.specs.Gathering.{text_or, all_done}
-use Rattle.merge_core.specs.Spending.{ReadTo, AreReadTo}
+use Rattle.merge_core.specs.Gathering.{AllTwo, text_or, all_done}
+use Rattle.merge_core.specs.Spending.{ReadTo, AreReadTo, OpenedWithin}
 use Rattle.merge_core.proofs.CountLemmas.{each_both, one_held}
 use Rattle.merge_core.proofs.GroupLemmas.{each_cut}
 use Rattle.merge_core.proofs.Many.{zip_set, each_replaced}
@@ -92,3 +92,52 @@ module _ (limit : ℕ) (past : List ℕ → Bool) where
     due_read (s ∷ ss) [] (suc i) d h = h
     due_read (s ∷ ss) (f ∷ fs) zero d h = h
     due_read (s ∷ ss) (f ∷ fs) (suc i) d h = (h.0, due_read ss fs i d h.1)
+
+-- ---- the opening of sources
+
+-- where nothing may be read, little was
+pub read_none : (limit : ℕ) (past : List ℕ → Bool) (t : List ℕ) (c : CursorState) → ReadTo limit past None t c → reach c ≤ c.start + 2 * longest (lines t) + 8192
+read_none limit past t c h = let most = h.most in let none = ap bytes_of (no_lines h.read h.members h.entries (none_of h.members h.within)) in omega arith
+  where
+    none_of : (ms : List Member) → AllByRecursion (λ m. (past m.values.key ≡ false) × IsUpto None (member_pair m)) ms → ms ≡ []
+    none_of [] k = refl
+    none_of (m ∷ ms) k = absurd k.0.1
+
+    no_lines : (ls : List (List ℕ)) (ms : List Member) → map (line_entry limit) ls ≡ map Some ms → ms ≡ [] → ls ≡ []
+    no_lines [] ms e n = refl
+    no_lines (l ∷ ls) [] e n = cc
+    no_lines (l ∷ ls) (m ∷ ms) e n = cc
+
+pub opened_none : {S : Type 0} (text : S → Option (List ℕ)) (extent gave : S → ℕ) (ss : List S) → AllTwo (λ x y. OpenedWithin (text x) (extent x) (gave x) (gave y)) ss ss
+opened_none text extent gave [] = tt
+opened_none text extent gave (s ∷ ss) = ((λ t e. omega arith), opened_none text extent gave ss)
+
+pub two_put : {X Y : Type 0} (R : X → Y → Type 0) (xs : List X) (ys : List Y) (i : ℕ) (d : X) (y : Y) → AllTwo R xs ys → R (get_or xs i d) y → AllTwo R xs (set ys i y)
+two_put R [] [] i d y h r = tt
+two_put R [] (z ∷ ys) i d y h r = absurd h
+two_put R (x ∷ xs) [] i d y h r = absurd h
+two_put R (x ∷ xs) (z ∷ ys) zero d y h r = (r, h.1)
+two_put R (x ∷ xs) (z ∷ ys) (suc i) d y h r = (h.0, two_put R xs ys i d y h.1 r)
+
+pub two_push : {X Y : Type 0} (R : X → Y → Type 0) (xs : List X) (ys : List Y) (x : X) (y : Y) → AllTwo R xs ys → R x y → AllTwo R (xs ++ x ∷ []) (ys ++ y ∷ [])
+two_push R [] [] x y h r = (r, tt)
+two_push R [] (z ∷ ys) x y h r = absurd h
+two_push R (w ∷ xs) [] x y h r = absurd h
+two_push R (w ∷ xs) (z ∷ ys) x y h r = (h.0, two_push R xs ys x y h.1 r)
+
+-- what is left of a list that was gone over up to an index
+pub left_here : {X : Type 0} (old xs : List X) (i : ℕ) (d : X) → drop i xs ≡ drop i old → get_or xs i d ≡ get_or old i d
+left_here {X = X} old xs i d e = first_left xs i ∙ ap (λ l. get_or l 0 d) e ∙ sym (first_left old i)
+  where
+    first_left : (us : List X) (k : ℕ) → get_or us k d ≡ get_or (drop k us) 0 d
+    first_left us zero = refl
+    first_left [] (suc k) = refl
+    first_left (u ∷ us) (suc k) = first_left us k
+
+pub left_after : {X : Type 0} (old xs : List X) (i : ℕ) (y : X) → drop i xs ≡ drop i old → drop (i + 1) (set xs i y) ≡ drop (i + 1) old
+left_after {X = X} old xs i y e =
+    drop-set-lt (i + 1) xs i y (omega arith) ∙ ap (λ n. drop n xs) (let q : i + 1 ≡ 1 + i = omega arith in q) ∙ after 1 i xs ∙ ap (drop 1) e ∙ sym (after 1 i old)
+    ∙ ap (λ n. drop n old) (let q : 1 + i ≡ i + 1 = omega arith in q)
+  where
+    after : (k n : ℕ) (us : List X) → drop (k + n) us ≡ drop k (drop n us)
+    after k n us = ap (λ m. drop m us) (let q : k + n ≡ n + k = omega arith in q) ∙ sym (drop-drop k n us)

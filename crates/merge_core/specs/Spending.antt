@@ -1,10 +1,11 @@
 -- How far sources were read.
-use Rattle.std.specs.Prelude.{◌≡◌, ℕ, ◌+◌, ◌*◌, ◌≤◌, List, ◌++◌, length, map, drop, Bool, false, Option, Some}
+use Rattle.std.specs.Prelude.{◌≡◌, ℕ, ◌+◌, ◌*◌, ◌≤◌, List, ◌++◌, map, drop, Bool, false, Option, Some}
 use Rattle.std.specs.List.{AllByRecursion, zip}
 use Rattle.cdxj_places.specs.Pairs.{Pair}
 use Rattle.cdxj_places.specs.TextLines.{lines}
 use Rattle.cdxj_core.specs.Members.{Member, member_pair, line_entry}
 use Rattle.source_core.specs.Cursors.{CursorState, reach}
+use Rattle.source_core.specs.Halving.{digits}
 use Rattle.source_core.specs.IndexLines.{longest}
 use Rattle.merge_core.specs.declared.feed.Feed.{Feed}
 use Rattle.merge_core.specs.Feeds.{bytes_of}
@@ -24,3 +25,15 @@ pub record ReadTo (limit : ℕ) (past : List ℕ → Bool) (b : Option Pair) (te
 -- the same of each source that tells its bytes
 abbrev pub AreReadTo : {S : Type 0} → ℕ → (List ℕ → Bool) → (S → Option (List ℕ)) → Option Pair → List S → List Feed → Type 0
 AreReadTo limit past text b ss fs = AllByRecursion (λ x. (t : List ℕ) → text x.0 ≡ Some t → ReadTo limit past b t x.1.cursor) (zip ss fs)
+
+-- what a search in a source of so many bytes, with this text, takes at most
+abbrev pub search_most : ℕ → List ℕ → ℕ
+search_most extent text = digits extent * (2 * longest (lines text) + 2048)
+
+-- a source gave no more than a search takes, two lines and a piece
+abbrev pub OpenedWithin : Option (List ℕ) → ℕ → ℕ → ℕ → Type 0
+OpenedWithin text extent old new = (t : List ℕ) → text ≡ Some t → new ≤ old + search_most extent t + 2 * longest (lines t) + 8192
+
+-- a source gave no more than a search takes, and what lies between the cursor's start and the offset up to which it was read
+abbrev pub CameWithin : Option (List ℕ) → ℕ → ℕ → ℕ → CursorState → Type 0
+CameWithin text extent old new c = (t : List ℕ) → text ≡ Some t → new + c.start ≤ old + search_most extent t + reach c

@@ -1,12 +1,12 @@
 //! The opening of sources.
-ghost use Rattle.std.specs.Prelude.{◌≡◌, ◌≢◌, ◌++◌, ◌∷◌, ℕ, Option, List, [], length, map, Some, MatchOption, IfOk, IfErr, OnOk};
+ghost use Rattle.std.specs.Prelude.{◌≡◌, ◌≢◌, ◌+◌, ◌*◌, ◌≤◌, ◌++◌, ◌∷◌, ℕ, Option, List, [], length, map, Some, MatchOption, IfOk, IfErr, OnOk};
 ghost use Rattle.std.specs.List.{AllByRecursion};
 ghost use Rattle.std.specs.List.Sorted.{IsPermutation};
 ghost use Rattle.cdxj_core.specs.declared.limit.TheConstants.{LINE_LIMIT};
 ghost use Rattle.cdxj_core.specs.Members.{Member};
 ghost use Rattle.devices.specs.Device.{next_count};
-ghost use Rattle.source_core.specs.Cursors.{Stands};
-ghost use Rattle.source_core.specs.IndexLines.{BeginsAfter};
+ghost use Rattle.source_core.specs.Cursors.{Stands, reach};
+ghost use Rattle.source_core.specs.IndexLines.{BeginsAfter, lines, longest};
 ghost use Rattle.merge_core.specs.Failures.{RaisedAt};
 ghost use Rattle.merge_core.specs.LineFaults.{NamesLine, IsFaultOf};
 
@@ -46,7 +46,9 @@ impl Streams {
         ensures added { OnOk result ((f : Feed) × (o : Option Member) × (self.new.feeds.items ≡ self.old.feeds.items ++ f ∷ [])
             × MatchOption o (self.new.waiting ≡ self.old.waiting) (λ m. IsPermutation (record { member = m; source = length self.old.feeds.items } ∷ self.old.waiting) self.new.waiting)
             × Fed LINE_LIMIT (R.past range.now) (S.text source.new) (S.extent source.new) f (option_list o)
-            × (f.cursor.start ≡ cursor.start) × ((t : List ℕ) → S.text source.old ≡ Some t → done LINE_LIMIT t f ≡ [])) }
+            × (f.cursor.start ≡ cursor.start) × ((t : List ℕ) → S.text source.old ≡ Some t → done LINE_LIMIT t f ≡ [])
+            × (S.gave source.new + reach cursor ≤ S.gave source.old + reach f.cursor)) }
+        ensures spent { (t : List ℕ) → S.text source.old ≡ Some t → S.gave source.new + reach cursor ≤ S.gave source.old + cursor.start + 2 * longest (lines t) + 8192 }
     {
         let mut feed = Feed {
             cursor,

@@ -1,17 +1,19 @@
 //! The opening of sources at the lines from which on they are read.
-ghost use Rattle.std.specs.Prelude.{◌≡◌, ◌≢◌, ◌⊎◌, ◌≤◌, ◌++◌, ◌∷◌, ℕ, Option, List, [], length, map, Some, MatchOption, IfOk, IfErr, OnOk};
+ghost use Rattle.std.specs.Prelude.{◌≡◌, ◌≢◌, ◌⊎◌, ◌≤◌, ◌+◌, ◌++◌, ◌∷◌, ℕ, Option, List, [], length, map, Some, MatchOption, IfOk, IfErr, OnOk};
 ghost use Rattle.std.specs.List.{AllByRecursion, zip, sum};
 ghost use Rattle.std.specs.List.Sorted.{IsPermutation};
 ghost use Rattle.cdxj_core.specs.declared.limit.TheConstants.{LINE_LIMIT};
 ghost use Rattle.cdxj_core.specs.Indexes.{IsIndex};
 ghost use Rattle.cdxj_core.specs.Members.{Member};
 ghost use Rattle.devices.specs.Device.{next_count};
-ghost use Rattle.source_core.specs.Cursors.{Stands};
+ghost use Rattle.source_core.specs.Cursors.{Stands, reach};
 ghost use Rattle.source_core.specs.Halving.{digits};
 ghost use Rattle.source_core.specs.IndexLines.{BeginsAfter};
 ghost use Rattle.source_core.specs.Search.{IsCut};
 ghost use Rattle.merge_core.specs.Failures.{RaisedAt};
+ghost use Rattle.merge_core.specs.Gathering.{AllTwo};
 ghost use Rattle.merge_core.specs.LineFaults.{NamesLine, IsFaultOf};
+ghost use Rattle.merge_core.specs.Spending.{search_most, CameWithin, OpenedWithin};
 
 use crate::fault::{FeedFault, MergeFault};
 use crate::queue::Queue;
@@ -34,7 +36,8 @@ fn find_start<S: Source>(
     ensures failed { IfErr result (λ e. e ≡ FeedFault.Read → S.failures source.new ≡ next_count (S.failures source.old)) }
     ensures stands { IfOk result (λ r. Stands (S.text source.new) (S.extent source.new) r.0) }
     ensures fresh { IfOk result (λ r. r.0.count ≡ 0) }
-    ensures first { IfOk result (λ r. r.0.at ≡ r.0.start) }
+    ensures first { IfOk result (λ r. (r.0.at ≡ r.0.start) × (reach r.0 ≡ r.0.start)) }
+    ensures gave { (t : List ℕ) → S.text source.old ≡ Some t → S.gave source.new ≤ S.gave source.old + search_most (S.extent source.old) t }
     ensures begins { (t : List ℕ) → S.text source.old ≡ Some t → IfOk result (λ r. (before : List (List ℕ)) × BeginsAfter t r.0.start before) }
     ensures kept { IfErr result (λ e. e ≢ FeedFault.Read → S.failures source.new ≡ S.failures source.old) }
     ensures refused { IfErr result (λ e. (e ≡ FeedFault.Memory) ⊎ (e ≡ FeedFault.Read)) }
@@ -87,7 +90,9 @@ impl Streams {
             × MatchOption o (self.new.waiting ≡ self.old.waiting) (λ m. IsPermutation (record { member = m; source = length self.old.feeds.items } ∷ self.old.waiting) self.new.waiting)
             × Fed LINE_LIMIT (R.past range.now) (S.text source.new) (S.extent source.new) f (option_list o)
             × IsCutAt LINE_LIMIT (key.now, stamp.now) (S.text source.new) f.cursor
-            × ((t : List ℕ) → S.text source.old ≡ Some t → done LINE_LIMIT t f ≡ [])) }
+            × ((t : List ℕ) → S.text source.old ≡ Some t → done LINE_LIMIT t f ≡ [])
+            × CameWithin (S.text source.old) (S.extent source.old) (S.gave source.old) (S.gave source.new) f.cursor) }
+        ensures spent { OpenedWithin (S.text source.old) (S.extent source.old) (S.gave source.old) (S.gave source.new) }
     {
         let (cursor, probes) = find_start(alloc, source, key, stamp)?;
         self.add(source, cursor, range)?;
@@ -107,6 +112,8 @@ impl Streams {
         ensures worked { OnOk result (map S.failures sources.new ≡ map S.failures sources.old) }
         ensures read { IfErr result (λ e. (n : ℕ) → e ≡ MergeFault.Feed n FeedFault.Read → RaisedAt n (map S.failures sources.old) (map S.failures sources.new)) }
         ensures kept { IfErr result (λ e. ((n : ℕ) → e ≢ MergeFault.Feed n FeedFault.Read) → map S.failures sources.new ≡ map S.failures sources.old) }
+        ensures spent { AllTwo (λ x y. OpenedWithin (S.text x) (S.extent x) (S.gave x) (S.gave y)) sources.old sources.new }
+        ensures came { IfOk result (λ o. AllTwo (λ x y. CameWithin (S.text x) (S.extent x) (S.gave x) (S.gave y.0) y.1.cursor) sources.old (zip sources.new o.streams.feeds.items)) }
         ensures unwritten { IfErr result (λ e. e ≢ MergeFault.Write) }
         ensures fault { IfErr result (IsFaultOf LINE_LIMIT (map S.text sources.old)) }
         ensures ready { IfOk result (λ o. Ready LINE_LIMIT (R.past range.now) S.text S.extent sources.new o.streams.feeds.items o.streams.waiting) }

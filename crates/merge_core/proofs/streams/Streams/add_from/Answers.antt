@@ -1,4 +1,4 @@
-use Rattle.std.proofs.Common.{sym, ◌∙◌, subst}
+use Rattle.std.proofs.Common.{arith, sym, ◌∙◌, subst}
 use Rattle.source_core.specs.Search.{IsCut}
 use Rattle.merge_core.proofs.streams.Streams.add_from.Goals as goal
 
@@ -14,4 +14,10 @@ returns-clause-added g c =
       added.4,
       λ t members e index. subst (λ n. IsCut (c.args.key.now, c.args.stamp.now) t members n) (sym added.5) (found.cut t members (sym (ok.text ∙ found.text) ∙ e) index),
       λ t e. added.6 t (found.text ∙ e),
+      λ t e.
+          let a = found.gave t e in
+          let b = added.7 in
+          let c1 = found.first.1 in
+          let c2 = added.5 in
+          omega (arith, a, b, c1, c2),
     )

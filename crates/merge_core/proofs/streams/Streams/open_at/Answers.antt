@@ -1,6 +1,6 @@
-use Rattle.std.proofs.Common.{◌<◌, ◌+◌, ◌∷◌, [], length, map, refl, sym, ap, ◌∙◌, subst, set, zip, flat_map, length-append, arith}
+use Rattle.std.proofs.Common.{◌≡◌, ◌++◌, get_or, take, ◌<◌, ◌+◌, ◌∷◌, [], length, map, refl, sym, ap, ◌∙◌, subst, set, zip, flat_map, length-append, arith}
 use Rattle.std.specs.List.{AllByRecursion, sum}
-use Rattle.std.proofs.lemmas.List.{take_all}
+use Rattle.std.proofs.lemmas.List.{take_all, take_more}
 use Rattle.cdxj_core.specs.declared.limit.TheConstants.{LINE_LIMIT}
 use Rattle.source_core.specs.Halving.{digits}
 use Rattle.merge_core.specs.declared.fault.MergeFault.TheVariants as fault
@@ -10,6 +10,9 @@ use Rattle.merge_core.specs.Feeds.{AreSettled, AreFed, done}
 use Rattle.merge_core.specs.Gathering.{text_or}
 use Rattle.merge_core.specs.Failures.{RaisedAt}
 use Rattle.merge_core.specs.Openings.{IsCutAt}
+use Rattle.merge_core.specs.Gathering.{AllTwo}
+use Rattle.merge_core.specs.Spending.{CameWithin, OpenedWithin}
+use Rattle.merge_core.proofs.SpendLemmas.{opened_none, two_put, two_push, left_here, left_after}
 use Rattle.merge_core.proofs.FailLemmas.{raised, feed_is}
 use Rattle.merge_core.proofs.FeedLemmas.{each_join}
 use Rattle.merge_core.proofs.Many.{map_set_same}
@@ -33,6 +36,10 @@ loop-i-init g c =
       settled = subst AreSettled (sym none) tt;
       fresh = done_none (λ (x : g.row.S.Denot × Feed). done LINE_LIMIT (text_or (g.S.Source.text x.0)) x.1) c.args.sources.now c.new.result.items none;
       probes = omega arith;
+      left = refl;
+      spent = opened_none g.S.Source.text g.S.Source.extent g.S.Source.gave c.args.sources.now;
+      came = subst (AllTwo (λ (x : g.row.S.Denot) (y : g.row.S.Denot × Feed). CameWithin (g.S.Source.text x) (g.S.Source.extent x) (g.S.Source.gave x) (g.S.Source.gave y.0) y.1.cursor) [])
+          (sym (zip_none c.args.sources.now c.new.result.items none)) tt;
     }
 
 pub returns-in-Err-clause-text : goal.returns-in-Err-clause-text
@@ -64,6 +71,10 @@ loop-i-preserved g c =
     let of = λ (x : g.row.S.Denot × Feed). done LINE_LIMIT (text_or (g.S.Source.text x.0)) x.1 in
     let Cut = λ (x : g.row.S.Denot × Feed). IsCutAt LINE_LIMIT (c.args.key.now, c.args.stamp.now) (g.S.Source.text x.0) x.1.cursor in
     let both = fed_added LINE_LIMIT past g.S.Source.text g.S.Source.extent i ss fs ws ws' s f added.1 inv.count inside inv.placed inv.fed added.3 added.4 in
+    let text = g.S.Source.text in let extent = g.S.Source.extent in let gave = g.S.Source.gave in
+    let Came = λ (x : g.row.S.Denot) (y : g.row.S.Denot × Feed). CameWithin (text x) (extent x) (gave x) (gave y.0) y.1.cursor in
+    let inside_old : i < length c.args.sources.now = omega arith in
+    let same_here : get_or ss i a ≡ get_or c.args.sources.now i a = left_here c.args.sources.now ss i a inv.left in
     let turns = sum_turn (λ s. digits (g.S.Source.extent s)) ss i s inside in
     let here = ap digits ok.extent in
     let few = ok.probes in
@@ -82,6 +93,13 @@ loop-i-preserved g c =
       fresh = ap (λ us. flat_map of (zip (set ss i s) us)) added.2 ∙ ap (flat_map of) (zip_push ss fs i s f inv.count inside)
           ∙ flat_push of (zip ss fs) (s, f) inv.fresh (fresh_of LINE_LIMIT (g.S.Source.text s) f (λ t e. added.6 t (sym ok.text ∙ e)));
       probes = omega (arith, turns, here, few, before, all);
+      left = left_after c.args.sources.now ss i s inv.left;
+      spent = two_put (λ x y. OpenedWithin (text x) (extent x) (gave x) (gave y)) c.args.sources.now ss i a s inv.spent (subst (λ x. OpenedWithin (text x) (extent x) (gave x) (gave s)) same_here ok.spent);
+      came = subst (λ us. AllTwo Came (take (i + 1) c.args.sources.now) (zip (set ss i s) us)) (sym added.2)
+          (subst (AllTwo Came (take (i + 1) c.args.sources.now)) (sym (zip_push ss fs i s f inv.count inside))
+          (subst (λ us. AllTwo Came us (zip ss fs ++ (s, f) ∷ [])) (sym (take_more c.args.sources.now i a inside_old))
+          (two_push Came (take i c.args.sources.now) (zip ss fs) (get_or c.args.sources.now i a) (s, f) inv.came
+          (subst (λ x. CameWithin (text x) (extent x) (gave x) (gave s) f.cursor) same_here added.7))));
     }
 
 pub returns-clause-probes : goal.returns-clause-probes
@@ -96,3 +114,18 @@ returns-clause-probes g c =
 pub returns-in-Err-clause-kept : goal.returns-in-Err-clause-kept
 returns-in-Err-clause-kept g c = λ h.
     map_set_same g.S.Source.failures c.loop-i.sources c.loop-i.i c.index-sources-i.result c.add_from.new.source (omega arith) (c.in-Err.ensures.kept (λ e. h c.loop-i.i (ap (fault.Feed c.loop-i.i) e))) ∙ c.loop-i.invariant.failures
+
+pub returns-in-Err-clause-spent : goal.returns-in-Err-clause-spent
+returns-in-Err-clause-spent g c =
+    let text = g.S.Source.text in let extent = g.S.Source.extent in let gave = g.S.Source.gave in
+    let inv = c.loop-i.invariant in
+    let ss = c.loop-i.sources in let i = c.loop-i.i in let a = c.index-sources-i.result in let s = c.add_from.new.source in
+    two_put (λ x y. OpenedWithin (text x) (extent x) (gave x) (gave y)) c.args.sources.now ss i a s inv.spent
+    (subst (λ x. OpenedWithin (text x) (extent x) (gave x) (gave s)) (left_here c.args.sources.now ss i a inv.left) c.add_from.ensures.spent)
+
+pub returns-clause-came : goal.returns-clause-came
+returns-clause-came g c =
+    let text = g.S.Source.text in let extent = g.S.Source.extent in let gave = g.S.Source.gave in
+    let inv = c.loop-i.invariant in
+    let Came = λ (x : g.row.S.Denot) (y : g.row.S.Denot × Feed). CameWithin (text x) (extent x) (gave x) (gave y.0) y.1.cursor in
+    subst (λ us. AllTwo Came us (zip c.loop-i.sources c.loop-i.streams.feeds.items)) (take_all c.loop-i.i c.args.sources.now (omega arith)) inv.came
