@@ -22,4 +22,5 @@ pub mod RunLemmas
 pub mod CountLemmas
 pub mod SourceLemmas
 pub mod SpendLemmas
+pub mod ByteLemmas
 pub mod HeldLemmas

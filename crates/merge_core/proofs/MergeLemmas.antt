@@ -31,7 +31,7 @@ below_next (Some bound) pair up ms h = each_weaker (λ (m : Member) (q : Upto (m
 pub place_below : (x y : Member) → Below (member_pair x) (member_pair y) → place_cmp (member_place x) (member_place y) ≡ Less
 place_below x y h = lower_pair (member_place x) (member_place y) h
 
-is_less : (r : Ordering) → is_lt r ≡ true → r ≡ Less
+pub is_less : (r : Ordering) → is_lt r ≡ true → r ≡ Less
 is_less Less e = refl
 is_less Equal e = cc
 is_less Greater e = cc

@@ -9,8 +9,8 @@ use Rattle.cdxj_places.proofs.RisingLaws.{each_weaker}
 use Rattle.cdxj_core.specs.Indexes.{IsIndex}
 use Rattle.cdxj_core.specs.Members.{Member, member_pair, member_place}
 use Rattle.merge_core.specs.declared.feed.Feed.{Feed}
-use Rattle.merge_core.specs.PairOrders.{IsUpto, is_low}
-use Rattle.merge_core.specs.WaitingLines.{WaitingLine, is_of, waits_of}
+use Rattle.merge_core.specs.PairOrders.{IsAbove, IsUpto, Upto, is_low}
+use Rattle.merge_core.specs.WaitingLines.{WaitingLine, waiting_pair, is_of, waits_of}
 use Rattle.merge_core.specs.Collections.{Known, all_lines, collection}
 use Rattle.merge_core.specs.Feeds.{AreFed, AreSettled, Fed, done}
 use Rattle.merge_core.specs.Gathering.{AllTwo, AreTold, text_or, all_done}
@@ -22,7 +22,7 @@ use Rattle.merge_core.proofs.Many.{is_told, told_moved}
 use Rattle.merge_core.proofs.MergeLemmas.{lower_by_pair}
 use Rattle.merge_core.proofs.WholeLemmas.{told_known}
 use Rattle.merge_core.proofs.ReadLines.{IsUpward, stays, is_read, IsLate, fed_read, wanted_high}
-use Rattle.merge_core.proofs.TakenLemmas.{taken_first, taken_whole}
+use Rattle.merge_core.proofs.TakenLemmas.{taken_first, taken_whole, taken_before}
 pub use Rattle.merge_core.proofs.TakenLemmas.{TakenFirst}
 use Rattle.merge_core.proofs.StartLemmas.{RunsFrom, runs_whole, runs_sought, runs_kept}
 
@@ -78,6 +78,10 @@ module _ {S : Type 0} (text : S → Option (List ℕ)) (extent gave : S → ℕ)
     whole_of : ws ≡ [] → filter wanted (rising member_place place_cmp (all_lines highs)) ≡ filter wanted taken
     whole_of = taken_whole limit past upward wanted within b ws reached.above (all_done limit text ss fs) taken handed.1 handed.0 (all_lines highs) read
 
+    before_of : (next : Pair) → IsAbove b next → AllByRecursion (λ w. Upto next (waiting_pair w)) ws
+        → (rest : List Member) × (filter wanted (rising member_place place_cmp (all_lines highs)) ≡ filter wanted taken ++ rest) × AllByRecursion (λ m. (wanted m ≡ true) × Upto next (member_pair m)) rest
+    before_of = taken_before limit past upward wanted within b ws reached.above (all_done limit text ss fs) taken handed.1 handed.0 (all_lines highs) read
+
   -- sources that are read from their beginning
   module _ (begun : AllByRecursion (λ (f : Feed). f.cursor.start ≡ 0) fs0) where
     runs_all : AllTwo (RunsFrom limit text) (zip ss0 fs0) indexes
@@ -106,3 +110,8 @@ module _ {S : Type 0} (text : S → Option (List ℕ)) (extent gave : S → ℕ)
     -- where no line waits, it is all
     pub sought_whole : ws ≡ [] → filter wanted (collection indexes) ≡ filter wanted taken
     sought_whole none = skipped ∙ whole_of sought.0 sought.1 none
+
+    -- where the lines that wait don't stand below a pair, what is wanted beyond those that were taken doesn't either
+    pub sought_before : (next : Pair) → IsAbove b next → AllByRecursion (λ w. Upto next (waiting_pair w)) ws
+        → (rest : List Member) × (filter wanted (collection indexes) ≡ filter wanted taken ++ rest) × AllByRecursion (λ m. (wanted m ≡ true) × Upto next (member_pair m)) rest
+    sought_before next above least = let h = before_of sought.0 sought.1 next above least in (h.0, skipped ∙ h.1, h.2)

@@ -17,7 +17,7 @@ use Rattle.merge_core.specs.Openings.{IsCutAt}
 use Rattle.merge_core.proofs.GroupLemmas.{filter_none, filter_all}
 use Rattle.merge_core.proofs.Many.{Move}
 
-map_append : {X Y : Type 0} (f : X → Y) (us vs : List X) → map f (us ++ vs) ≡ map f us ++ map f vs
+pub map_append : {X Y : Type 0} (f : X → Y) (us vs : List X) → map f (us ++ vs) ≡ map f us ++ map f vs
 map_append f [] vs = refl
 map_append f (u ∷ us) vs = ap (λ l. f u ∷ l) (map_append f us vs)
 

@@ -1,5 +1,5 @@
 -- What was taken of lines, beside all that is wanted of them.
-use Rattle.std.proofs.Common.{◌≡◌, inl, inr, ℕ, List, [], ◌∷◌, ◌++◌, filter, Bool, true, false, not, ◌&&◌, Option, None, Some, refl, sym, ap, ◌∙◌, subst, append-nil, is_gt}
+use Rattle.std.proofs.Common.{◌≡◌, inl, inr, ℕ, List, [], ◌∷◌, ◌++◌, filter, Bool, true, false, not, ◌&&◌, Option, None, Some, refl, sym, ap, ◌∙◌, subst, append-nil, is_gt, is_lt, Less, Equal, Greater, Ordering}
 use Rattle.std.specs.List.{AllByRecursion}
 use Rattle.std.specs.Ordering.{ordering_reverse}
 use Rattle.std.proofs.lemmas.Bool.{true≢false}
@@ -11,10 +11,10 @@ use Rattle.cdxj_places.proofs.PairLemmas.{pair_cmp_total}
 use Rattle.cdxj_places.proofs.PlaceOrder.{place_cmp_total}
 use Rattle.cdxj_places.proofs.RisingLaws.{each_weaker, each_rising, rising_split}
 use Rattle.cdxj_core.specs.Members.{Member, member_pair, member_place}
-use Rattle.merge_core.specs.PairOrders.{Below, Upto, IsAbove, IsUpto}
+use Rattle.merge_core.specs.PairOrders.{Below, Upto, IsAbove, IsUpto, is_low}
 use Rattle.merge_core.specs.WaitingLines.{WaitingLine, waiting_pair}
-use Rattle.merge_core.proofs.PairOrder.{below_then, then_below}
-use Rattle.merge_core.proofs.MergeLemmas.{place_below}
+use Rattle.merge_core.proofs.PairOrder.{below_then, then_below, from_not_below, upto_upto}
+use Rattle.merge_core.proofs.MergeLemmas.{place_below, below_next, is_less}
 use Rattle.merge_core.proofs.ReadLines.{IsUpward, stays, is_read, IsLate, stays_lower, gt_is, and_left, and_right, and_false, not_true, not_false, filter_out, each_filter, none_wanted, wanted_low}
 
 -- ---- what stands above a bound
@@ -106,3 +106,34 @@ module _ (limit : ℕ) (past : List ℕ → Bool) (upward : IsUpward past) (want
       each_any : (xs : List Member) → AllByRecursion (λ m. true ≡ true) xs
       each_any [] = tt
       each_any (x ∷ xs) = (refl, each_any xs)
+
+  -- what was taken stands below this pair, and the lines that wait don't
+  module _ (next : Pair) (later : IsAbove b next) (least : AllByRecursion (λ w. Upto next (waiting_pair w)) ws) where
+    not_low : (k : Member) → Upto next (member_pair k) → is_low next k ≡ false
+    not_low k u = ap is_lt (pair_cmp_total.antisymm (member_pair k) next) ∙ turned (pair_cmp next (member_pair k)) u
+      where
+        turned : (r : Ordering) → is_gt r ≡ false → is_lt (ordering_reverse r) ≡ false
+        turned Less h = refl
+        turned Equal h = refl
+        turned Greater h = cc
+
+    from_next : (m : Member) → (low (is_low next) m ≡ false) × (wanted m ≡ true) → (wanted m ≡ true) × Upto next (member_pair m)
+    from_next m h = (
+      h.1,
+      elim (and_false (is_low next m) (not (past m.values.key)) h.0) [
+        | inl e ↦ from_not_below (member_pair m) next e
+        | inr e ↦ absurd (true≢false (sym (within m h.1) ∙ e))
+      ],
+    )
+
+    -- then the rest doesn't stand below it either
+    pub taken_before : (rest : List Member) × (filter wanted (rising member_place place_cmp all) ≡ filter wanted taken ++ rest) × AllByRecursion (λ m. (wanted m ≡ true) × Upto next (member_pair m)) rest
+    taken_before =
+        let others = filter (λ m. not (low (is_low next) m)) all in (
+          seen others,
+          split (is_low next) (λ x y h k. below_then (member_pair x) next (member_pair y) (is_less _ h) (from_not_below (member_pair y) next k))
+              (each_weaker (λ (w : WaitingLine) (h : Upto next (waiting_pair w)). λ k u. not_low k (upto_upto next (member_pair w.member) (member_pair k) h u)) ws least)
+              (each_weaker (λ (m : Member) (h : Below (member_pair m) next). ap is_lt h) done (below_next b next later done below)),
+          each_weaker from_next (seen others) (each_filter (λ m. low (is_low next) m ≡ false) wanted (rising member_place place_cmp others)
+              (each_rising member_place place_cmp place_cmp_total (λ m. low (is_low next) m ≡ false) others (filter_out (low (is_low next)) all))),
+        )

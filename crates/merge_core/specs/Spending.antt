@@ -1,6 +1,6 @@
 -- How far sources were read.
-use Rattle.std.specs.Prelude.{◌≡◌, ℕ, ◌+◌, ◌*◌, ◌≤◌, List, ◌++◌, map, drop, Bool, false, Option, Some}
-use Rattle.std.specs.List.{AllByRecursion, zip}
+use Rattle.std.specs.Prelude.{◌≡◌, ◌⊎◌, ℕ, ◌+◌, ◌*◌, ◌≤◌, List, [], ◌∷◌, ◌++◌, length, map, drop, Bool, false, Option, Some}
+use Rattle.std.specs.List.{AllByRecursion, filter, zip}
 use Rattle.cdxj_places.specs.Pairs.{Pair}
 use Rattle.cdxj_places.specs.TextLines.{lines}
 use Rattle.cdxj_core.specs.Members.{Member, member_pair, line_entry}
@@ -9,7 +9,9 @@ use Rattle.source_core.specs.Halving.{digits}
 use Rattle.source_core.specs.IndexLines.{longest}
 use Rattle.merge_core.specs.declared.feed.Feed.{Feed}
 use Rattle.merge_core.specs.Feeds.{bytes_of}
-use Rattle.merge_core.specs.PairOrders.{IsUpto}
+use Rattle.merge_core.specs.PairOrders.{IsAbove, IsUpto, Upto}
+use Rattle.merge_core.specs.WaitingLines.{WaitingLine, waiting_pair}
+use Rattle.merge_core.specs.Written.{lines_text}
 
 -- Of a source with this text, lines were read that lie within the range and aren't above the bound; beyond them, two lines and
 -- a piece of 8,192 bytes at most
@@ -37,3 +39,16 @@ OpenedWithin text extent old new = (t : List ℕ) → text ≡ Some t → new �
 -- a source gave no more than a search takes, and what lies between the cursor's start and the offset up to which it was read
 abbrev pub CameWithin : Option (List ℕ) → ℕ → ℕ → ℕ → CursorState → Type 0
 CameWithin text extent old new c = (t : List ℕ) → text ≡ Some t → new + c.start ≤ old + search_most extent t + reach c
+
+-- Sources gave no more than the bytes of those of their lines that pass, what a search takes, two lines and a piece: by their
+-- texts, their indexes, and the sources before and after
+abbrev pub AllGaveWithin : {S : Type 0} → (S → ℕ) → (S → ℕ) → (Member → Bool) → List (List ℕ) → List (List Member) → List S → List S → Type 0
+AllGaveWithin extent gave test [] [] [] [] = Unit {0}
+AllGaveWithin extent gave test (t ∷ ts) (i ∷ is) (old ∷ olds) (new ∷ news) =
+    (gave new ≤ gave old + length (lines_text (filter test i)) + search_most (extent old) t + 2 * longest (lines t) + 8192)
+    × AllGaveWithin extent gave test ts is olds news
+AllGaveWithin extent gave test ts is olds news = ⊥
+
+-- the bound up to which lines were read: that of the lines that were taken, or the least pair of those that wait
+abbrev pub IsNextBound : Option Pair → List WaitingLine → Pair → Type 0
+IsNextBound b ws next = (b ≡ Some next) ⊎ (IsAbove b next × AllByRecursion (λ w. Upto next (waiting_pair w)) ws)

@@ -7,8 +7,7 @@ ghost use Rattle.cdxj_core.specs.Members.{Member};
 ghost use Rattle.cdxj_places.specs.Pairs.{Pair};
 ghost use Rattle.devices.specs.Device.{next_count};
 ghost use Rattle.merge_core.specs.declared.feed.Feed.{Feed};
-ghost use Rattle.merge_core.specs.PairOrders.{Upto};
-ghost use Rattle.merge_core.specs.WaitingLines.{WaitingLine, waiting_pair};
+ghost use Rattle.merge_core.specs.WaitingLines.{WaitingLine};
 ghost use Rattle.merge_core.specs.Collections.{Known, all_lines};
 ghost use Rattle.merge_core.specs.Counts.{ShareAtMost};
 ghost use Rattle.merge_core.specs.Failures.{RaisedAt};
@@ -16,7 +15,7 @@ ghost use Rattle.merge_core.specs.LineFaults.{IsFaultOf};
 ghost use Rattle.merge_core.specs.Feeds.{Moved, Ready, AreSettled};
 ghost use Rattle.merge_core.specs.Gathering.{AllTwo, AreTold, all_done};
 ghost use Rattle.merge_core.specs.Reached.{Reached};
-ghost use Rattle.merge_core.specs.Spending.{AreReadTo};
+ghost use Rattle.merge_core.specs.Spending.{AreReadTo, IsNextBound};
 
 use crate::fault::{FeedFault, MergeFault};
 use crate::range::Range;
@@ -59,7 +58,7 @@ pub fn merge<S: Source, R: Range, K: Sink, O: Output>(
         × Reached LINE_LIMIT S.text (R.past range.now) S.extent S.gave sources.old streams.old.feeds.items ss fs ws b taken
         × ((begin : K) → (start : Option (List ℕ)) → K.Wrote begin sink.old [] start (O.written out.old)
         → ((k : K) × K.Wrote begin k taken start (O.written out.new)) ⊎ K.Broke begin taken start (O.written out.new))
-        × ((next : Pair) × AllByRecursion (λ w. Upto next (waiting_pair w)) ws
+        × ((next : Pair) × IsNextBound b ws next
         × (AreTold S.text sources.old → AreReadTo LINE_LIMIT (R.past range.now) S.text (Some next) sources.new streams.new.feeds.items))) }
 {
     let mut rest = Vec::new(alloc);

@@ -104,7 +104,7 @@ returns-in_err-more-clause-broke g c =
         came.1,
         came.2,
         λ begin start w. inl (c.loop-rest.sink, subst (λ o. g.K.Sink.Wrote begin c.loop-rest.sink came.1 start (g.O.Output.written o)) (sym k.1) (came.3 begin start w)),
-        (pair, grouped.least, λ told. are_read_to LINE_LIMIT past text extent (Some pair) 0 now feeds c.gather.new.self.waiting ok.ready.fed (reached.handed.told told).1),
+        (pair, inr (grouped.above came.0 came.2.above, grouped.least), λ told. are_read_to LINE_LIMIT past text extent (Some pair) 0 now feeds c.gather.new.self.waiting ok.ready.fed (reached.handed.told told).1),
       )
       | inr k ↦ (
         now,
@@ -116,7 +116,7 @@ returns-in_err-more-clause-broke g c =
         λ begin start w. inr (subst (λ l. g.K.Sink.Broke begin (came.1 ++ l) start (g.O.Output.written c.hand_on.new.out)) order (k begin came.1 start (came.3 begin start w))),
         (
           pair,
-          each_weaker (λ (w : WaitingLine) (h : Below pair (waiting_pair w)). below_upto pair (waiting_pair w) h) c.gather.new.self.waiting grouped.later,
+          inl refl,
           λ told. are_read_to LINE_LIMIT past text extent (Some pair) 0 now feeds c.gather.new.self.waiting ok.ready.fed (reached.handed.told told).1,
         ),
       )
@@ -279,7 +279,7 @@ returns-in_err-first-clause-broke g c =
       λ begin start w. inl (c.loop-rest.sink, came.3 begin start w),
       (
         reads.0,
-        reads.2,
+        inr (reads.1 came.0 came.2.above, reads.2),
         λ told.
             reads.3 (told_moved text extent gave old was old_feeds was_feeds came.2.ready.same came.2.moved told)
             (below_next came.0 reads.0 (reads.1 came.0 came.2.above) (all_done LINE_LIMIT text was was_feeds) (came.2.handed.told told).1),
