@@ -1,10 +1,9 @@
 -- How many bytes indexes gave.
-use Rattle.std.proofs.Common.{◌≡◌, ℕ, ◌+◌, ◌-◌, ◌*◌, ◌≤◌, List, [], ◌∷◌, ◌++◌, length, take, drop, map, filter, zip, Bool, true, false, cond, Option, None, Some, refl, sym, ap, ◌∙◌, subst, arith, length-append, length-take}
+use Rattle.std.proofs.Common.{◌≡◌, ℕ, ◌+◌, ◌-◌, ◌≤◌, List, [], ◌∷◌, ◌++◌, length, take, map, filter, zip, Bool, true, false, cond, Option, Some, refl, sym, ap, ◌∙◌, subst, arith, length-append, length-take}
 use Rattle.std.specs.List.{AllByRecursion}
 use Rattle.std.proofs.lemmas.List.Concat.{flat_map-append}
 use Rattle.std.proofs.lemmas.List.Elements.{filter-append}
 use Rattle.cdxj_places.specs.Pairs.{Pair}
-use Rattle.cdxj_places.specs.TextLines.{lines}
 use Rattle.cdxj_places.proofs.RisingLaws.{each_weaker}
 use Rattle.cdxj_core.specs.Indexes.{IsIndex}
 use Rattle.cdxj_core.specs.Lines.{body_of}

@@ -1,5 +1,5 @@
 -- How many lines were read of indexes.
-use Rattle.std.proofs.Common.{◌≡◌, ℕ, zero, suc, ◌+◌, ◌-◌, ◌≤◌, List, [], ◌∷◌, length, take, drop, map, filter, zip, Bool, true, false, Option, Some, refl, sym, ap, subst, arith, length-append, length-take}
+use Rattle.std.proofs.Common.{◌≡◌, ℕ, zero, suc, ◌+◌, ◌-◌, ◌≤◌, List, [], ◌∷◌, length, take, drop, map, filter, zip, Bool, true, false, Option, Some, refl, sym, ap, subst, arith, length-append, length-take, Less, Equal, Greater}
 use Rattle.std.specs.List.{AllByRecursion, sum}
 use Rattle.std.proofs.lemmas.List.Elements.{filter-append}
 use Rattle.std.proofs.lemmas.List.Sums.{sum_by-cons}
@@ -7,7 +7,7 @@ use Rattle.cdxj_places.specs.Pairs.{Pair}
 use Rattle.cdxj_places.specs.TextLines.{lines}
 use Rattle.cdxj_places.proofs.RisingLaws.{each_weaker}
 use Rattle.cdxj_core.specs.Indexes.{IsIndex}
-use Rattle.cdxj_core.specs.Members.{Member, member_pair}
+use Rattle.cdxj_core.specs.Members.{Member, member_pair, member_place}
 use Rattle.source_core.specs.Search.{IsCut}
 use Rattle.merge_core.specs.declared.feed.Progress.{Progress}
 use Rattle.merge_core.specs.declared.feed.Progress.TheVariants.{Due, Waiting, Past, Ended}
@@ -16,7 +16,10 @@ use Rattle.merge_core.specs.PairOrders.{IsUpto, is_low}
 use Rattle.merge_core.specs.WaitingLines.{WaitingLine, waits_of}
 use Rattle.merge_core.specs.Collections.{Known, all_lines}
 use Rattle.merge_core.specs.Feeds.{AreFed, Fed, done, given, held, member_of, read_lines}
-use Rattle.merge_core.specs.Gathering.{AllTwo, text_or, all_done}
+use Rattle.merge_core.specs.Gathering.{AllTwo, AreTold, text_or, all_done}
+use Rattle.merge_core.specs.Reached.{Handed}
+use Rattle.cdxj_places.specs.Places.{place_cmp}
+use Rattle.cdxj_places.specs.Rising.{choose, put, rising}
 use Rattle.merge_core.specs.Openings.{IsCutAt}
 use Rattle.merge_core.proofs.GroupLemmas.{each_cut, filter_all}
 use Rattle.merge_core.proofs.HeldLemmas.{done_fewer}
@@ -82,3 +85,34 @@ module _ (limit : ℕ) (past : List ℕ → Bool) (start : Pair) (b : Option Pai
         (subst (λ o. AllByRecursion (λ m. IsUpto b (member_pair m)) (done limit (text_or o) f)) known.0 parts.0) in
         let rest = lines_most (n + 1) ss fs ts is (omega arith) known.1 are.1 cut.1 fed.1 parts.1 in
         omega (arith, sum_by-cons (λ (k : ℕ). k) f.cursor.count (map (λ (f : Feed). f.cursor.count) fs), ap length (filter-append test i (all_lines is)), length-append (filter test i) (filter test (all_lines is)))
+
+-- ---- lines that were taken
+
+put_fewer : (m : Member) (ms : List Member) → length (put member_place place_cmp m ms) ≤ suc (length ms)
+put_fewer m [] = omega arith
+put_fewer m (k ∷ ms) =
+    let h = put_fewer m ms in
+    elim (place_cmp (member_place m) (member_place k)) as (λ r. length (choose r (m ∷ k ∷ ms) (m ∷ ms) (k ∷ put member_place place_cmp m ms)) ≤ suc (suc (length ms)))
+    [ Less ↦ omega arith | Equal ↦ omega arith | Greater ↦ omega arith ]
+
+rising_fewer : (ms : List Member) → length (rising member_place place_cmp ms) ≤ length ms
+rising_fewer [] = omega arith
+rising_fewer (m ∷ ms) = let h = rising_fewer ms in let k = put_fewer m (rising member_place place_cmp ms) in omega arith
+
+done_count : {S : Type 0} (limit : ℕ) (text : S → Option (List ℕ)) (ss : List S) (fs : List Feed) → length (all_done limit text ss fs) ≤ sum (map (λ (f : Feed). f.cursor.count) fs)
+done_count limit text [] fs = omega arith
+done_count limit text (s ∷ ss) [] = omega arith
+done_count limit text (s ∷ ss) (f ∷ fs) =
+    let t = text_or (text s) in
+    let h = done_count limit text ss fs in
+    omega (arith, length-append (done limit t f) (all_done limit text ss fs), length-take (f.cursor.count - held f.progress) (given limit t f.cursor),
+    sum_by-cons (λ (k : ℕ). k) f.cursor.count (map (λ (f : Feed). f.cursor.count) fs))
+
+-- of sources that tell their bytes, no more lines were taken than were read
+pub taken_fewer : {S : Type 0} (limit : ℕ) (text : S → Option (List ℕ)) (old ss : List S) (fs : List Feed) (b : Option Pair) (taken : List Member) → Handed limit text old ss fs b taken → AreTold text old
+    → length taken ≤ sum (map (λ (f : Feed). f.cursor.count) fs)
+taken_fewer limit text old ss fs b taken handed told =
+    let is = ap length (handed.told told).0 in
+    let a = rising_fewer (all_done limit text ss fs) in
+    let c = done_count limit text ss fs in
+    omega arith

@@ -6,10 +6,7 @@ use Rattle.cdxj_core.specs.Members.{Member, member_pair, member_place}
 use Rattle.cdxj_places.specs.Places.{place_cmp}
 use Rattle.cdxj_places.specs.Rising.{rising}
 use Rattle.merge_core.specs.declared.feed.Feed.{Feed}
-use Rattle.merge_core.specs.PairOrders.{Below}
-use Rattle.merge_core.specs.WaitingLines.{WaitingLine, waiting_pair}
-use Rattle.cdxj_places.proofs.RisingLaws.{each_weaker}
-use Rattle.merge_core.proofs.PairOrder.{below_upto}
+use Rattle.merge_core.specs.WaitingLines.{WaitingLine}
 use Rattle.merge_core.proofs.SpendLemmas.{are_read_to}
 use Rattle.merge_core.specs.Collections.{Known}
 use Rattle.merge_core.specs.Gathering.{AllTwo, Grouped, all_done}
