@@ -1,6 +1,7 @@
 -- How many bytes indexes gave.
 use Rattle.std.proofs.Common.{◌≡◌, ℕ, ◌+◌, ◌-◌, ◌≤◌, List, [], ◌∷◌, ◌++◌, length, take, map, filter, zip, Bool, true, false, cond, Option, Some, refl, sym, ap, ◌∙◌, subst, arith, length-append, length-take}
 use Rattle.std.specs.List.{AllByRecursion}
+use Rattle.std.proofs.lemmas.List.{map-append}
 use Rattle.std.proofs.lemmas.List.Concat.{flat_map-append}
 use Rattle.std.proofs.lemmas.List.Elements.{filter-append}
 use Rattle.cdxj_places.specs.Pairs.{Pair}
@@ -19,10 +20,10 @@ use Rattle.merge_core.specs.Gathering.{AllTwo}
 use Rattle.merge_core.specs.Openings.{IsCutAt}
 use Rattle.merge_core.specs.Spending.{ReadTo, CameWithin, AllGaveWithin}
 use Rattle.merge_core.specs.Written.{line_row, lines_text}
-use Rattle.merge_core.proofs.CountLemmas.{each_both}
+use Rattle.merge_core.proofs.Filters.{each_both}
 use Rattle.merge_core.proofs.GroupLemmas.{each_cut, filter_all}
 use Rattle.merge_core.proofs.Many.{Move}
-use Rattle.merge_core.proofs.StartLemmas.{run_after, map_append}
+use Rattle.merge_core.proofs.StartLemmas.{run_after}
 
 text_append : (us vs : List Member) → length (lines_text (us ++ vs)) ≡ length (lines_text us) + length (lines_text vs)
 text_append us vs = ap length (flat_map-append line_row us vs) ∙ length-append (lines_text us) (lines_text vs)
@@ -68,7 +69,7 @@ module _ (limit : ℕ) (past : List ℕ → Bool) (start : Pair) (b : Option Pai
   source_bytes t ms c index cut r =
       let run = run_after limit start t ms c.start index cut in
       let both : map Some r.members ++ map (line_entry limit) r.rest ≡ map Some cut.high =
-      ap (λ l. l ++ map (line_entry limit) r.rest) (sym r.entries) ∙ sym (map_append (line_entry limit) r.read r.rest) ∙ ap (map (line_entry limit)) (sym r.cut) ∙ run.0.entries in
+      ap (λ l. l ++ map (line_entry limit) r.rest) (sym r.entries) ∙ sym (map-append (line_entry limit) r.read r.rest) ∙ ap (map (line_entry limit)) (sym r.cut) ∙ run.0.entries in
       let tail = front_of r.members (map (line_entry limit) r.rest) cut.high both in
       let not_low = (each_cut (λ m. is_low start m ≡ false) r.members tail.0 (subst (AllByRecursion (λ m. is_low start m ≡ false)) tail.1 cut.none_below)).0 in
       let all_pass : AllByRecursion (λ m. test m ≡ true) r.members =

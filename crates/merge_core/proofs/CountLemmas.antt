@@ -1,6 +1,8 @@
 -- How many lines were read of indexes.
-use Rattle.std.proofs.Common.{◌≡◌, ℕ, zero, suc, ◌+◌, ◌-◌, ◌≤◌, List, [], ◌∷◌, length, take, drop, map, filter, zip, Bool, true, false, Option, Some, refl, sym, ap, subst, arith, length-append, length-take, Less, Equal, Greater}
+use Rattle.std.proofs.Common.{◌≡◌, ℕ, suc, ◌+◌, ◌-◌, ◌≤◌, List, [], ◌∷◌, length, drop, map, filter, zip, Bool, true, false, Option, Some, refl, sym, ap, subst, arith, length-append, length-take, Less, Equal, Greater}
 use Rattle.std.specs.List.{AllByRecursion, sum}
+use Rattle.std.proofs.lemmas.List.{length-map}
+use Rattle.merge_core.proofs.Filters.{each_take, each_both}
 use Rattle.std.proofs.lemmas.List.Elements.{filter-append}
 use Rattle.std.proofs.lemmas.List.Sums.{sum_by-cons}
 use Rattle.cdxj_places.specs.Pairs.{Pair}
@@ -25,19 +27,6 @@ use Rattle.merge_core.proofs.GroupLemmas.{each_cut, filter_all}
 use Rattle.merge_core.proofs.HeldLemmas.{done_fewer}
 use Rattle.merge_core.proofs.ReadLines.{members_are, take_of_map}
 use Rattle.merge_core.proofs.StartLemmas.{run_after}
-
-pub each_take : {X : Type 0} (A : X → Type 0) (n : ℕ) (xs : List X) → AllByRecursion A xs → AllByRecursion A (take n xs)
-each_take A zero xs h = tt
-each_take A (suc n) [] h = tt
-each_take A (suc n) (x ∷ xs) h = (h.0, each_take A n xs h.1)
-
-pub each_both : {X : Type 0} (A B : X → Type 0) (xs : List X) → AllByRecursion A xs → AllByRecursion B xs → AllByRecursion (λ x. A x × B x) xs
-each_both A B [] h k = tt
-each_both A B (x ∷ xs) h k = ((h.0, k.0), each_both A B xs h.1 k.1)
-
-length_map : {X Y : Type 0} (f : X → Y) (xs : List X) → length (map f xs) ≡ length xs
-length_map f [] = refl
-length_map f (x ∷ xs) = let h = length_map f xs in omega arith
 
 pub one_held : (p : Progress) → held p ≤ 1
 one_held Due = omega arith
@@ -66,7 +55,7 @@ module _ (limit : ℕ) (past : List ℕ → Bool) (start : Pair) (b : Option Pai
       let fewer = done_fewer limit past (λ (u : Unit {0}). Some t) (λ u. extent) t extent f ws ms test fed index in
       let one = one_held f.progress in
       let many = told.as_many in
-      let as_read = length_map (member_of limit) (read_lines t f.cursor) in
+      let as_read = length-map (read_lines t f.cursor) (member_of limit) in
       omega (arith, ap length (filter_all test (done limit t f) all_pass), length-take (f.cursor.count - held f.progress) (given limit t f.cursor))
 
   module _ {S : Type 0} (text : S → Option (List ℕ)) (extent : S → ℕ) (ws : List WaitingLine) where
@@ -105,8 +94,12 @@ done_count limit text (s ∷ ss) [] = omega arith
 done_count limit text (s ∷ ss) (f ∷ fs) =
     let t = text_or (text s) in
     let h = done_count limit text ss fs in
-    omega (arith, length-append (done limit t f) (all_done limit text ss fs), length-take (f.cursor.count - held f.progress) (given limit t f.cursor),
-    sum_by-cons (λ (k : ℕ). k) f.cursor.count (map (λ (f : Feed). f.cursor.count) fs))
+    omega (
+      arith,
+      length-append (done limit t f) (all_done limit text ss fs),
+      length-take (f.cursor.count - held f.progress) (given limit t f.cursor),
+      sum_by-cons (λ (k : ℕ). k) f.cursor.count (map (λ (f : Feed). f.cursor.count) fs),
+    )
 
 -- of sources that tell their bytes, no more lines were taken than were read
 pub taken_fewer : {S : Type 0} (limit : ℕ) (text : S → Option (List ℕ)) (old ss : List S) (fs : List Feed) (b : Option Pair) (taken : List Member) → Handed limit text old ss fs b taken → AreTold text old

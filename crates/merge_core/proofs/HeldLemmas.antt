@@ -1,7 +1,9 @@
 -- How many lines are held at once.
-use Rattle.std.proofs.Common.{◌≡◌, ◌≢◌, ◌^◌, max, min, ℕ, zero, suc, ◌+◌, ◌-◌, ◌==◌, ◌<◌, ◌≤◌, List, [], ◌∷◌, ◌++◌, length, take, drop, map, filter, Bool, true, false, not, cond, Option, Some, inl, inr, refl, sym, ap, ◌∙◌, subst, arith, length-append, take-append-drop, Ordering, Less, Equal, Greater, is_gt, is_lt, is_eq}
+use Rattle.std.proofs.Common.{◌≡◌, ◌≢◌, ◌^◌, max, min, ℕ, zero, suc, ◌+◌, ◌-◌, ◌==◌, ◌<◌, ◌≤◌, List, [], ◌∷◌, ◌++◌, length, take, drop, map, filter, Bool, true, false, not, Option, Some, inl, inr, refl, sym, ap, ◌∙◌, subst, arith, length-append, Ordering, Less, Equal, Greater, is_gt, is_lt, is_eq}
 use Rattle.std.specs.List.{AllByRecursion}
-use Rattle.std.proofs.lemmas.Bool.{cases_Bool, cond-true}
+use Rattle.std.proofs.lemmas.List.{length-map, map-append}
+use Rattle.merge_core.proofs.Filters.{each_filter, filter_split, filter_fewer, filter_weaker, filter_front, filter_back}
+use Rattle.std.proofs.lemmas.Bool.{cases_Bool}
 use Rattle.std.proofs.lemmas.Bool.Decides.{nat_tests}
 use Rattle.std.proofs.lemmas.List.Elements.{filter-append}
 use Rattle.cdxj_places.specs.Pairs.{Pair, pair_cmp}
@@ -18,51 +20,9 @@ use Rattle.merge_core.specs.Feeds.{Fed, AreFed, Ready, member_of, given, held, d
 use Rattle.merge_core.specs.Gathering.{AllTwo, AreTold, Grouped, text_or, all_done}
 use Rattle.merge_core.specs.Reached.{Handed}
 use Rattle.merge_core.proofs.MergeLemmas.{below_next}
-use Rattle.merge_core.proofs.ReadLines.{take_of_map, members_are, each_filter}
+use Rattle.merge_core.proofs.ReadLines.{take_of_map, members_are}
 use Rattle.merge_core.proofs.StreamLemmas.{few_waits}
 use Rattle.merge_core.proofs.WholeLemmas.{told_known}
-
--- ---- how many a filter lets through
-
-filter_split : {X : Type 0} (f : X → Bool) (xs : List X) → length xs ≡ length (filter f xs) + length (filter (λ x. not (f x)) xs)
-filter_split f [] = refl
-filter_split f (x ∷ xs) =
-    let h = filter_split f xs in
-    elim (f x) as (λ b. length (x ∷ xs) ≡ length (cond b (x ∷ filter f xs) (filter f xs)) + length (cond (not b) (x ∷ filter (λ y. not (f y)) xs) (filter (λ y. not (f y)) xs)))
-    [ true ↦ omega arith | false ↦ omega arith ]
-
-filter_fewer : {X : Type 0} (f g : X → Bool) (xs : List X) → length (filter g (filter f xs)) ≤ length (filter g xs)
-filter_fewer f g [] = omega arith
-filter_fewer f g (x ∷ xs) =
-    let h = filter_fewer f g xs in
-    elim (f x) as (λ b. length (filter g (cond b (x ∷ filter f xs) (filter f xs))) ≤ length (cond (g x) (x ∷ filter g xs) (filter g xs))) [
-      | true ↦ (elim (g x) as (λ b. length (cond b (x ∷ filter g (filter f xs)) (filter g (filter f xs))) ≤ length (cond b (x ∷ filter g xs) (filter g xs))) [ true ↦ omega arith | false ↦ h ])
-      | false ↦ (elim (g x) as (λ b. length (filter g (filter f xs)) ≤ length (cond b (x ∷ filter g xs) (filter g xs))) [ true ↦ omega arith | false ↦ h ])
-    ]
-
-filter_weaker : {X : Type 0} (f g : X → Bool) (xs : List X) → AllByRecursion (λ x. f x ≡ true → g x ≡ true) xs → length (filter f xs) ≤ length (filter g xs)
-filter_weaker f g [] h = omega arith
-filter_weaker f g (x ∷ xs) h =
-    let ih = filter_weaker f g xs h.1 in
-    (elim (f x) as (λ b. (b ≡ true → g x ≡ true) → length (cond b (x ∷ filter f xs) (filter f xs)) ≤ length (cond (g x) (x ∷ filter g xs) (filter g xs))) [
-      | true ↦ (λ k. let e = cond-true (g x) (x ∷ filter g xs) (filter g xs) (k refl) in omega (arith, ap length e))
-      | false ↦ (λ k. elim (g x) as (λ b. length (filter f xs) ≤ length (cond b (x ∷ filter g xs) (filter g xs))) [ true ↦ omega arith | false ↦ ih ])
-    ]) h.0
-
-pub filter_front : {X : Type 0} (f : X → Bool) (n : ℕ) (xs : List X) → length (filter f (take n xs)) ≤ length (filter f xs)
-filter_front f n xs =
-    omega (arith, ap (λ l. length (filter f l)) (take-append-drop n xs), ap length (filter-append f (take n xs) (drop n xs)), length-append (filter f (take n xs)) (filter f (drop n xs)))
-
-pub filter_back : {X : Type 0} (f : X → Bool) (us vs : List X) → length (filter f vs) ≤ length (filter f (us ++ vs))
-filter_back f us vs = omega (arith, ap length (filter-append f us vs), length-append (filter f us) (filter f vs))
-
-length_map : {X Y : Type 0} (f : X → Y) (xs : List X) → length (map f xs) ≡ length xs
-length_map f [] = refl
-length_map f (x ∷ xs) = let h = length_map f xs in omega arith
-
-map_append : {X Y : Type 0} (f : X → Y) (us vs : List X) → map f (us ++ vs) ≡ map f us ++ map f vs
-map_append f [] vs = refl
-map_append f (u ∷ us) vs = ap (λ l. f u ∷ l) (map_append f us vs)
 
 -- ---- the lines that wait: one of each source at most
 
@@ -73,12 +33,12 @@ few_of (suc n) ws placed few =
     let others = filter (λ w. not (is_of n w)) ws in
     let split = filter_split (is_of n) ws in
     let one = few n (omega arith) in
-    let same = length_map (λ (w : WaitingLine). w.member) (filter (is_of n) ws) in
+    let same = length-map (filter (is_of n) ws) (λ (w : WaitingLine). w.member) in
     let fewer = few_of n others
     (each_weaker (λ (w : WaitingLine) (h : (w.source < suc n) × (not (is_of n w) ≡ true)). before w h) others (each_filter (λ (w : WaitingLine). w.source < suc n) (λ w. not (is_of n w)) ws placed))
     (λ i l. let k = few i (omega arith) in
-    let p = length_map (λ (w : WaitingLine). w.member) (filter (is_of i) ws) in
-    let q = length_map (λ (w : WaitingLine). w.member) (filter (is_of i) others) in
+    let p = length-map (filter (is_of i) ws) (λ (w : WaitingLine). w.member) in
+    let q = length-map (filter (is_of i) others) (λ (w : WaitingLine). w.member) in
     let r = filter_fewer (λ w. not (is_of n w)) (is_of i) ws in omega arith) in
     omega arith
   where
@@ -110,7 +70,7 @@ module _ (limit : ℕ) (past : List ℕ → Bool) {S : Type 0} (text : S → Opt
       let told = fed.told t refl in
       let from = lines (drop f.cursor.start t) in
       let whole : ms ≡ map (member_of limit) told.begins.0 ++ map (member_of limit) from =
-      sym (members_are limit (lines t) ms index.entries) ∙ ap (map (member_of limit)) told.begins.1.0 ∙ map_append (member_of limit) told.begins.0 from in
+      sym (members_are limit (lines t) ms index.entries) ∙ ap (map (member_of limit)) told.begins.1.0 ∙ map-append (member_of limit) told.begins.0 from in
       let read : given limit t f.cursor ≡ take f.cursor.count (map (member_of limit) from) = sym (take_of_map (member_of limit) f.cursor.count from) in
       let a = filter_front test (f.cursor.count - held f.progress) (given limit t f.cursor) in
       let b = filter_front test f.cursor.count (map (member_of limit) from) in
@@ -129,12 +89,18 @@ module _ (limit : ℕ) (past : List ℕ → Bool) {S : Type 0} (text : S → Opt
       let is_done : first ≡ done limit t f = ap (λ o. done limit (text_or o) f) known.0 in
       let here = done_fewer t (extent s) f (waits_of n ws) i test (subst (λ o. Fed limit past o (extent s) f (waits_of n ws)) known.0 fed.0) are.0 in
       let rest = all_fewer (n + 1) ss fs ws ts is test (omega arith) known.1 are.1 fed.1 in
-      omega (arith, ap (λ l. length (filter test l)) is_done, ap length (filter-append test first others), length-append (filter test first) (filter test others),
-      ap length (filter-append test i (all_lines is)), length-append (filter test i) (filter test (all_lines is)))
+      omega (
+        arith,
+        ap (λ l. length (filter test l)) is_done,
+        ap length (filter-append test first others),
+        length-append (filter test first) (filter test others),
+        ap length (filter-append test i (all_lines is)),
+        length-append (filter test i) (filter test (all_lines is)),
+      )
 
 pub held_after : {B : Type 0} (value : B → Member) (ws : List WaitingLine) (first : Member) (rest : List B) (old new bound : ℕ) → new ≡ max old (min (length ws + 1 + length rest) (2 ^ 64 - 1))
     → old ≤ bound → length ws + length (first ∷ map value rest) ≤ bound → new ≤ bound
-held_after value ws first rest old new bound e h k = let l = length_map value rest in omega arith
+held_after value ws first rest old new bound e h k = let l = length-map rest value in omega arith
 
 at_pair : (pair : Pair) (m : Member) → Upto (member_pair m) pair → not (is_low pair m) ≡ true → is_at pair m ≡ true
 at_pair pair m u = at_order (pair_cmp (member_pair m) pair) u

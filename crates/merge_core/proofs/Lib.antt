@@ -1,4 +1,5 @@
 pub mod PairOrder
+pub mod Filters
 pub mod TurnLemmas
 pub mod FeedLemmas
 pub mod DrainLemmas

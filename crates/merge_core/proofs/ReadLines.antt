@@ -1,6 +1,7 @@
 -- The lines of one source that were come to, among all that it has from its start on.
 use Rattle.std.proofs.Common.{◌≡◌, ◌⊎◌, inl, inr, ℕ, zero, suc, List, [], ◌∷◌, ◌++◌, refl, sym, ap, ap₂, ◌∙◌, subst, Bool, true, false, not, ◌&&◌, Some, unwrap_or, take, drop, map, filter, cond, append-nil, append_assoc, take-append-drop, Less, Equal, Greater, Ordering, is_gt}
 use Rattle.std.specs.List.{AllByRecursion}
+use Rattle.merge_core.proofs.Filters.{filter_same, filter_out}
 use Rattle.std.specs.Ordering.{ordering_then, ordering_reverse, nat_cmp}
 use Rattle.std.specs.Cmp.Lexicographic.{slice_cmp}
 use Rattle.std.proofs.lemmas.Bool.{true≢false, cases_Bool}
@@ -25,22 +26,6 @@ use Rattle.merge_core.proofs.GroupLemmas.{filter_none}
 use Rattle.merge_core.proofs.MergeLemmas.{place_below}
 
 -- ---- lists
-
-filter_same : {X : Type 0} (f g : X → Bool) (xs : List X) → AllByRecursion (λ x. f x ≡ g x) xs → filter f xs ≡ filter g xs
-filter_same f g [] h = refl
-filter_same f g (x ∷ xs) h = ap₂ (λ b l. cond b (x ∷ l) l) h.0 (filter_same f g xs h.1)
-
--- what a filter lets through, of things that have a property
-pub each_filter : {X : Type 0} (A : X → Type 0) (f : X → Bool) (xs : List X) → AllByRecursion A xs → AllByRecursion (λ x. A x × (f x ≡ true)) (filter f xs)
-each_filter A f [] h = tt
-each_filter A f (x ∷ xs) h = (elim (f x) as (λ b. f x ≡ b → AllByRecursion (λ x. A x × (f x ≡ true)) (cond b (x ∷ filter f xs) (filter f xs)))
-    [ true ↦ (λ e. ((h.0, e), each_filter A f xs h.1)) | false ↦ (λ e. each_filter A f xs h.1) ]) refl
-
--- what a filter leaves out
-pub filter_out : {X : Type 0} (f : X → Bool) (xs : List X) → AllByRecursion (λ x. f x ≡ false) (filter (λ x. not (f x)) xs)
-filter_out f [] = tt
-filter_out f (x ∷ xs) = (elim (f x) as (λ b. f x ≡ b → AllByRecursion (λ y. f y ≡ false) (cond (not b) (x ∷ filter (λ y. not (f y)) xs) (filter (λ y. not (f y)) xs)))
-    [ true ↦ (λ e. filter_out f xs) | false ↦ (λ e. (e, filter_out f xs)) ]) refl
 
 pub take_of_map : {X Y : Type 0} (f : X → Y) (n : ℕ) (xs : List X) → take n (map f xs) ≡ map f (take n xs)
 take_of_map f zero xs = refl

@@ -1,6 +1,7 @@
 -- What was taken of sources of any bytes, beside the lines that were read of them.
 use Rattle.std.proofs.Common.{◌≡◌, ◌⊎◌, inl, inr, ℕ, ◌+◌, List, [], ◌∷◌, ◌++◌, length, take, drop, map, filter, Bool, true, not, Option, Some, refl, sym, ap, ap₂, ◌∙◌, subst, arith, take-append-drop, append_assoc}
 use Rattle.std.specs.List.{AllByRecursion, sum}
+use Rattle.std.proofs.lemmas.List.{length-map}
 use Rattle.std.proofs.lemmas.List.Elements.{filter-append}
 use Rattle.std.proofs.lemmas.List.Sums.{sum_by-cons}
 use Rattle.cdxj_places.specs.Pairs.{Pair}
@@ -48,10 +49,6 @@ module _ (limit : ℕ) (past : List ℕ → Bool) where
         ended = λ e. head_ended f.progress (done limit t f) (given limit t f.cursor) (lines (drop f.cursor.at t)) ws settled fed.waits (none e) told.head;
       }
 
-length_map : {X Y : Type 0} (f : X → Y) (xs : List X) → length (map f xs) ≡ length xs
-length_map f [] = refl
-length_map f (x ∷ xs) = let h = length_map f xs in omega arith
-
 -- ---- all sources
 
 module _ (limit : ℕ) (past : List ℕ → Bool) {S : Type 0} (text : S → Option (List ℕ)) (extent : S → ℕ) (ws : List WaitingLine) where
@@ -78,7 +75,7 @@ module _ (limit : ℕ) (past : List ℕ → Bool) {S : Type 0} (text : S → Opt
   parts_count n (s ∷ ss) (f ∷ fs) same told fed =
       let t = text_or (text s) in
       let many = (fed.0.told t (is_told (text s) told.0)).as_many in
-      let here = length_map (member_of limit) (read_lines t f.cursor) in
+      let here = length-map (read_lines t f.cursor) (member_of limit) in
       let rest = parts_count (n + 1) ss fs (omega arith) told.1 fed.1 in
       let a = sum_by-cons (λ (k : ℕ). k) f.cursor.count (map (λ (f : Feed). f.cursor.count) fs) in
       let b = sum_by-cons (λ (k : ℕ). k) (length (given limit t f.cursor)) (map (λ (ms : List Member). length ms) (parts limit text ss fs)) in

@@ -15,7 +15,7 @@ use Rattle.merge_core.specs.Feeds.{Fed, AreFed, read_lines, given, held, done}
 use Rattle.merge_core.specs.Gathering.{AreTold, text_or, all_done}
 use Rattle.merge_core.specs.Reached.{Reached}
 use Rattle.merge_core.specs.SourceLines.{IsLineIn, IsLineOf, AreLinesOf}
-use Rattle.merge_core.proofs.CountLemmas.{each_take}
+use Rattle.merge_core.proofs.Filters.{each_take}
 use Rattle.merge_core.proofs.FeedLemmas.{each_join}
 use Rattle.merge_core.proofs.Many.{Move, is_told, told_moved, length_zip, two_long}
 use Rattle.merge_core.proofs.WholeLemmas.{texts_kept}

@@ -14,7 +14,8 @@ use Rattle.merge_core.specs.WaitingLines.{WaitingLine, waits_of}
 use Rattle.merge_core.specs.Feeds.{Fed, AreFed, bytes_of, read_lines, given, held, done, due}
 use Rattle.merge_core.specs.Gathering.{AllTwo, text_or, all_done}
 use Rattle.merge_core.specs.Spending.{ReadTo, AreReadTo, OpenedWithin}
-use Rattle.merge_core.proofs.CountLemmas.{each_both, one_held}
+use Rattle.merge_core.proofs.CountLemmas.{one_held}
+use Rattle.merge_core.proofs.Filters.{each_both}
 use Rattle.merge_core.proofs.GroupLemmas.{each_cut}
 use Rattle.merge_core.proofs.Many.{zip_set, each_replaced}
 use Rattle.merge_core.proofs.ReadLines.{take_of_map}

@@ -1,6 +1,7 @@
 -- The lines that the sources have from where they are read on.
 use Rattle.std.proofs.Common.{◌≡◌, ℕ, List, [], ◌∷◌, ◌++◌, length, map, drop, filter, zip, true, false, not, Option, Some, refl, sym, ap, ap₂, ◌∙◌, subst, arith}
 use Rattle.std.specs.List.{AllByRecursion}
+use Rattle.std.proofs.lemmas.List.{length-map, map-append}
 use Rattle.std.proofs.lemmas.List.Elements.{filter-append}
 use Rattle.cdxj_places.specs.Pairs.{Pair, pair_cmp}
 use Rattle.cdxj_places.specs.Rising.{NeverFalls}
@@ -17,10 +18,6 @@ use Rattle.merge_core.specs.Openings.{IsCutAt}
 use Rattle.merge_core.proofs.GroupLemmas.{filter_none, filter_all}
 use Rattle.merge_core.proofs.Many.{Move}
 
-pub map_append : {X Y : Type 0} (f : X → Y) (us vs : List X) → map f (us ++ vs) ≡ map f us ++ map f vs
-map_append f [] vs = refl
-map_append f (u ∷ us) vs = ap (λ l. f u ∷ l) (map_append f us vs)
-
 -- of equal lists, with fronts of one length
 after_front : {X : Type 0} (us vs xs ys : List X) → length us ≡ length xs → us ++ vs ≡ xs ++ ys → vs ≡ ys
 after_front [] vs [] ys n e = e
@@ -32,21 +29,16 @@ falls_back : (us vs : List Member) → NeverFalls member_pair pair_cmp (us ++ vs
 falls_back [] vs h = h
 falls_back (u ∷ us) vs h = falls_back us vs h.1
 
-length_map : {X Y : Type 0} (f : X → Y) (xs : List X) → length (map f xs) ≡ length xs
-length_map f [] = refl
-length_map f (x ∷ xs) = let h = length_map f xs in omega arith
-
 -- an index that was cut: its last lines are a run, and they are those that aren't below
 pub run_after : (limit : ℕ) (start : Pair) (t : List ℕ) (ms : List Member) (offset : ℕ) → IsIndex limit t ms → (cut : IsCut start t ms offset)
     → IsRun limit (lines (drop offset t)) cut.high × (filter (λ m. not (is_low start m)) ms ≡ cut.high)
 run_after limit start t ms offset index cut =
     let entries : map (line_entry limit) cut.before ++ map (line_entry limit) (lines (drop offset t)) ≡ map Some cut.low ++ map Some cut.high =
-    sym (map_append (line_entry limit) cut.before (lines (drop offset t))) ∙ ap (map (line_entry limit)) (sym cut.begins.0) ∙ index.entries
-    ∙ ap (map Some) cut.members_are ∙ map_append Some cut.low cut.high in
-    (
+    sym (map-append (line_entry limit) cut.before (lines (drop offset t))) ∙ ap (map (line_entry limit)) (sym cut.begins.0) ∙ index.entries
+    ∙ ap (map Some) cut.members_are ∙ map-append Some cut.low cut.high in (
       record {
         entries = after_front (map (line_entry limit) cut.before) (map (line_entry limit) (lines (drop offset t))) (map Some cut.low) (map Some cut.high)
-            (length_map (line_entry limit) cut.before ∙ cut.as_many ∙ sym (length_map Some cut.low)) entries;
+            (length-map cut.before (line_entry limit) ∙ cut.as_many ∙ sym (length-map cut.low Some)) entries;
         ordered = falls_back cut.low cut.high (subst (NeverFalls member_pair pair_cmp) cut.members_are index.ordered);
       },
       ap (filter (λ m. not (is_low start m))) cut.members_are ∙ filter-append (λ m. not (is_low start m)) cut.low cut.high

@@ -1,6 +1,7 @@
 -- What was taken of lines, beside all that is wanted of them.
 use Rattle.std.proofs.Common.{◌≡◌, inl, inr, ℕ, List, [], ◌∷◌, ◌++◌, filter, Bool, true, false, not, ◌&&◌, Option, None, Some, refl, sym, ap, ◌∙◌, subst, append-nil, is_gt, is_lt, Less, Equal, Greater, Ordering}
 use Rattle.std.specs.List.{AllByRecursion}
+use Rattle.merge_core.proofs.Filters.{filter_out, each_filter}
 use Rattle.std.specs.Ordering.{ordering_reverse}
 use Rattle.std.proofs.lemmas.Bool.{true≢false}
 use Rattle.std.proofs.lemmas.List.Elements.{filter-append}
@@ -15,7 +16,7 @@ use Rattle.merge_core.specs.PairOrders.{Below, Upto, IsAbove, IsUpto, is_low}
 use Rattle.merge_core.specs.WaitingLines.{WaitingLine, waiting_pair}
 use Rattle.merge_core.proofs.PairOrder.{below_then, then_below, from_not_below, upto_upto}
 use Rattle.merge_core.proofs.MergeLemmas.{place_below, below_next, is_less}
-use Rattle.merge_core.proofs.ReadLines.{IsUpward, stays, is_read, IsLate, stays_lower, gt_is, and_left, and_right, and_false, not_true, not_false, filter_out, each_filter, none_wanted, wanted_low}
+use Rattle.merge_core.proofs.ReadLines.{IsUpward, stays, is_read, IsLate, stays_lower, gt_is, and_left, and_right, and_false, not_true, not_false, none_wanted, wanted_low}
 
 -- ---- what stands above a bound
 

@@ -199,7 +199,8 @@ impl Streams {
         ensures rest { rest.new.items ≡ [] }
         ensures held { self.new.held ≡ max self.old.held (min (length self.old.waiting + 1 + length rest.old.items) (2 ^ 64 - 1)) }
     {
-        let held = self.waiting.len().saturating_add(1).saturating_add(rest.len());
+        let waiting = self.waiting.len();
+        let held = waiting.saturating_add(1).saturating_add(rest.len());
         self.held = self.held.max(held as u64);
         self.store.put_back(first);
         while let Some(line) = rest.pop() {

@@ -57,12 +57,11 @@ sources-init g c =
       failures = refl;
       from = t.from;
       above = λ b h. above_popped b ws c.take_first.new.self.waiting w out h;
-      least = each_permuted (λ (v : WaitingLine). Upto pair (waiting_pair v)) (w ∷ c.take_first.new.self.waiting) ws (IsPermutation-sym ws (w ∷ c.take_first.new.self.waiting) out)
-          (
-            upto_itself pair,
-            each_weaker (λ (v : WaitingLine) (q : is_lt (turn_cmp v w) ≡ false). not_before v w q) c.take_first.new.self.waiting
-                (subst (λ (x : WaitingLine). AllByRecursion (λ v. is_lt (turn_cmp v x) ≡ false) c.take_first.new.self.waiting) is c.in-Some.ensures.first),
-          );
+      least = each_permuted (λ (v : WaitingLine). Upto pair (waiting_pair v)) (w ∷ c.take_first.new.self.waiting) ws (IsPermutation-sym ws (w ∷ c.take_first.new.self.waiting) out) (
+        upto_itself pair,
+        each_weaker (λ (v : WaitingLine) (q : is_lt (turn_cmp v w) ≡ false). not_before v w q) c.take_first.new.self.waiting
+            (subst (λ (x : WaitingLine). AllByRecursion (λ v. is_lt (turn_cmp v x) ≡ false) c.take_first.new.self.waiting) is c.in-Some.ensures.first),
+      );
       each = subst (λ (l : List (Box Line Global)). AreAt pair (map (λ (b : Box Line Global). b.value) l)) (sym c.requires.empty) tt;
       fewer = t.fewer;
     }
