@@ -123,3 +123,8 @@ answered q from limit shows lines old new end report a b d given more wrote =
 pub write_counted : (f : TextFault) (old new : ℕ) → f ≡ Write → CountsWrite {A = Unit {0}} (Err f) old new → new ≡ next_count old
 write_counted Memory old new e h = cc
 write_counted Write old new e h = h
+
+-- where the output didn't fail, nothing is counted
+pub write_kept : (f : TextFault) (old new : ℕ) → (f ≡ Write → ⊥) → CountsWrite {A = Unit {0}} (Err f) old new → new ≡ old
+write_kept Memory old new e h = h
+write_kept Write old new e h = absurd (e refl)

@@ -3,7 +3,7 @@ pub mod CheckLemmas
 pub mod TakenLines
 pub mod WriterLemmas
 pub mod StartLemmas
-pub mod SourceLines
+pub mod LineStamps
 pub mod AskedLemmas
 pub mod PageOfIndexes
 pub mod PageExits

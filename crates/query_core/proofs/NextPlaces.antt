@@ -1,12 +1,14 @@
 -- The place from which the next page goes on.
-use Rattle.std.proofs.Common.{◌≡◌, ℕ, zero, suc, List, [], ◌∷◌, Bool, true, false, ◌&&◌, cond, filter, Option, None, Some, refl, sym, ◌∙◌, subst, IfSome}
+use Rattle.std.proofs.Common.{◌≡◌, ℕ, zero, suc, List, [], ◌∷◌, Bool, true, false, not, ◌&&◌, ap, cond, filter, Option, None, Some, refl, sym, ◌∙◌, subst, IfSome}
 use Rattle.std.specs.List.{AllByRecursion}
 use Rattle.std.proofs.lemmas.Bool.{true≢false}
+use Rattle.std.specs.Option.{is_some}
 use Rattle.cdxj_places.specs.declared.place.Place.{Place}
 use Rattle.cdxj_places.specs.Places.{PlaceValue, place_cmp}
 use Rattle.cdxj_core.specs.Members.{Member, member_place}
 use Rattle.query_text.specs.Queries.{QueryValue}
 use Rattle.query_text.specs.Matching.{matches}
+use Rattle.merge_core.specs.WaitingLines.{WaitingLine}
 use Rattle.page_core.specs.Pages.{is_above, next_after}
 use Rattle.query_core.specs.QueryPages.{never}
 use Rattle.query_core.specs.declared.page_writer.PageWriter.{PageWriter}
@@ -57,3 +59,9 @@ written_next_above first w taken start now from b wrote next is =
 pub after_is : (found : Option PlaceValue) (next read : PlaceValue) (f from : Option PlaceValue) → IfSome found (StandsAfter f) → found ≡ Some next → read ≡ next → f ≡ from → StandsAfter from read
 after_is None next read f from h a b e = cc
 after_is (Some p) next read f from h a b e = (let same : p ≡ read = (let q : p ≡ next = cc in q ∙ sym b) in subst (λ g. StandsAfter g read) e (subst (StandsAfter f) same h))
+
+-- where no capture follows the page, no line waits
+pub none_waits : (all more : Bool) (next found : Option PlaceValue) → more ≡ is_some found → next ≡ found → (ws : List WaitingLine) → (all ≡ true → ws ≡ []) → (all ≡ false → more ≡ true) → not (is_some next) ≡ true → ws ≡ []
+none_waits true more next found a b ws ended enough e = ended refl
+none_waits false more next found a b ws ended enough e =
+    absurd (true≢false (sym (sym (ap not (ap is_some b ∙ sym a ∙ enough refl)) ∙ e)))

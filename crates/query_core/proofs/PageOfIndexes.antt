@@ -22,10 +22,11 @@ use Rattle.merge_core.specs.Reached.{Reached}
 use Rattle.merge_core.proofs.FeedLemmas.{each_join}
 use Rattle.merge_core.proofs.ReadLemmas.{sought_first, sought_whole}
 use Rattle.query_core.specs.PageWriting.{is_wanted}
-use Rattle.query_core.specs.SourceLines.{IsLineIn, IsLineOf}
+use Rattle.merge_core.specs.SourceLines.{IsLineIn, IsLineOf}
 use Rattle.query_core.specs.Starts.{start_pair}
 use Rattle.query_core.proofs.AskedLemmas.{wanted_within}
-use Rattle.query_core.proofs.SourceLines.{index_lines, line_stamp, each_taken}
+use Rattle.query_core.proofs.LineStamps.{index_lines, line_stamp}
+use Rattle.merge_core.proofs.SourceLemmas.{taken_lines}
 use Rattle.query_core.proofs.StartLemmas.{start_not_above, and_left, and_right}
 
 and_true : (a b : Bool) → b ≡ true → (a && b) ≡ a
@@ -42,7 +43,7 @@ index_stamps [] [] are = tt
 index_stamps [] (i ∷ is) are = absurd are
 index_stamps (t ∷ ts) [] are = absurd are
 index_stamps (t ∷ ts) (i ∷ is) are =
-    each_join (λ m. is_stamp m.values.stamp ≡ true) i (all_lines is) (each_weaker (λ (m : Member) (h : IsLineIn LINE_LIMIT t m). line_stamp LINE_LIMIT t m h) i (index_lines LINE_LIMIT (λ key. false) t i are.0)) (index_stamps ts is are.1)
+    each_join (λ m. is_stamp m.values.stamp ≡ true) i (all_lines is) (each_weaker (λ (m : Member) (h : IsLineIn LINE_LIMIT t m). line_stamp LINE_LIMIT t m h) i (index_lines LINE_LIMIT t i are.0)) (index_stamps ts is are.1)
 
 -- a line of sources that tell their bytes has one
 known_stamp : (told : List (Option (List ℕ))) (texts : List (List ℕ)) (m : Member) → Known told texts → IsLineOf LINE_LIMIT told m → is_stamp m.values.stamp ≡ true
@@ -74,7 +75,7 @@ module _ {S : Type 0} (text : S → Option (List ℕ)) (extent gave : S → ℕ)
   of_taken : filter sought taken ≡ filter (is_wanted q from) taken
   of_taken = stamped (is_wanted q from) taken
       (each_weaker (λ (m : Member) (h : IsLineOf LINE_LIMIT (map text ss0) m). known_stamp (map text ss0) texts m known h) taken
-      (each_taken LINE_LIMIT (is_past q.target) text extent gave ss0 fs0 ss fs ws b taken same reached))
+      (taken_lines LINE_LIMIT text extent (is_past q.target) gave ss0 fs0 ss fs ws b taken same reached).each)
 
   -- what was taken is a front of what is wanted
   pub wanted_first : (rest : List Member) × (filter (is_wanted q from) (collection indexes) ≡ filter (is_wanted q from) taken ++ rest)

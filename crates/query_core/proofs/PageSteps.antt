@@ -18,7 +18,7 @@ use Rattle.query_core.specs.Collections.{all_lines, collection, selected}
 use Rattle.query_core.specs.QueryPages.{never, chain_text}
 use Rattle.query_core.specs.PageAsked.{asked_page, asked_text, WrotePage}
 use Rattle.query_core.specs.Paging.{are_sizes, pages_text, IsPageOf, ArePagesOf}
-use Rattle.query_core.specs.SourceLines.{AreLinesOf}
+use Rattle.merge_core.specs.SourceLines.{AreLinesOf}
 use Rattle.query_core.proofs.PagesWritten.{Pages}
 
 -- ---- sizes

@@ -11,7 +11,7 @@ use Rattle.query_core.specs.Collections.{collection}
 use Rattle.query_core.specs.QueryPages.{chain_text}
 use Rattle.query_core.specs.PageAsked.{asked_text, WrotePage}
 use Rattle.query_core.specs.Paging.{pages_text, ArePagesOf, WrotePages, WrotePagesInPart}
-use Rattle.query_core.specs.SourceLines.{AreLinesOf}
+use Rattle.merge_core.specs.SourceLines.{AreLinesOf}
 use Rattle.query_core.proofs.PagesWritten.{Pages, WrittenTo, page_more, front_more, page_last}
 use Rattle.query_core.proofs.PageSteps.{risen_more, risen_one, written_page, front_page, written_of, front_of, one_front, Chain, page_at, chain_more, chain_last, chain_front}
 use Rattle.query_core.proofs.WriterLemmas.{whole_prefix}

@@ -4,8 +4,8 @@ pub mod Collections
 pub mod QueryPages
 pub mod PageWriting
 pub mod WriterView
-pub mod SourceLines
 pub mod PageAsked
+pub mod PageParts
 pub mod Answering
 pub mod LineFaults
 pub mod Merging

@@ -11,7 +11,7 @@ use Rattle.query_core.specs.declared.fault.AnswerFault.{AnswerFault}
 use Rattle.query_core.specs.declared.fault.AnswerFault.TheVariants.{TooManySources, BadSizes}
 use Rattle.query_core.specs.PageAsked.{asked_page}
 use Rattle.query_core.specs.QueryPages.{IsQueryChain, chain_text}
-use Rattle.query_core.specs.SourceLines.{AreLinesOf}
+use Rattle.merge_core.specs.SourceLines.{AreLinesOf}
 
 -- one or more sizes, none of them 0
 abbrev pub are_sizes : List ℕ → Bool

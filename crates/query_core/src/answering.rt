@@ -1,20 +1,21 @@
 //! The answer to a query over indexes.
-ghost use Rattle.std.specs.Prelude.{◌≡◌, ◌≢◌, ◌<◌, ◌≤◌, ℕ, List, length, map, Err, IfOk, IfErr, OnOk};
+ghost use Rattle.std.specs.Prelude.{◌≡◌, ◌≢◌, ◌+◌, ◌<◌, ◌≤◌, ℕ, List, length, map, Err, IfOk, IfErr, OnOk};
 ghost use Rattle.std.specs.List.{sum};
 ghost use Rattle.cdxj_core.specs.declared.limit.TheConstants.{LINE_LIMIT};
 ghost use Rattle.cdxj_core.specs.Indexes.{IsIndex};
 ghost use Rattle.cdxj_core.specs.Members.{Member};
 ghost use Rattle.devices.specs.Device.{AppendsPrefix, next_count};
 ghost use Rattle.source_core.specs.Halving.{digits};
-ghost use Rattle.merge_core.specs.Collections.{Known, collection};
+ghost use Rattle.merge_core.specs.Collections.{Known, all_lines, collection};
+ghost use Rattle.merge_core.specs.Counts.{ShareAtMost};
 ghost use Rattle.merge_core.specs.Failures.{RaisedAt};
 ghost use Rattle.merge_core.specs.Gathering.{AllTwo};
 ghost use Rattle.query_core.specs.declared.merging.TheConstants.{SOURCES_LIMIT};
-ghost use Rattle.query_core.specs.Answering.{Answered};
+ghost use Rattle.query_core.specs.Answering.{Answered, AnsweredParts};
 ghost use Rattle.query_core.specs.LineFaults.{IsFaultOf};
 ghost use Rattle.query_core.specs.Merging.{IsMergeFault};
 ghost use Rattle.query_core.specs.QueryPages.{query_page, answer_text};
-ghost use Rattle.query_core.specs.SourceLines.{AreLinesOf};
+ghost use Rattle.merge_core.specs.SourceLines.{AreLinesOf};
 
 use crate::fault::AnswerFault;
 use crate::merging::SOURCES_LIMIT;
@@ -45,16 +46,22 @@ pub fn answer<S: Source, O: Output>(
     ensures worked { OnOk result ((map S.failures sources.new ≡ map S.failures sources.old) × (O.failures out.new ≡ O.failures out.old)) }
     ensures read { IfErr result (λ e. (i : ℕ) → e ≡ AnswerFault.Read i → RaisedAt i (map S.failures sources.old) (map S.failures sources.new)) }
     ensures failed { IfErr result (λ e. e ≡ AnswerFault.Write → O.failures out.new ≡ next_count (O.failures out.old)) }
+    ensures kept { IfErr result (λ e. ((i : ℕ) → e ≢ AnswerFault.Read i) → map S.failures sources.new ≡ map S.failures sources.old) }
+    ensures unwritten { IfErr result (λ e. e ≢ AnswerFault.Write → O.failures out.new ≡ O.failures out.old) }
     ensures fault { IfErr result (IsFaultOf LINE_LIMIT (map S.text sources.old)) }
     ensures rising { (lines : List Member) × AreLinesOf LINE_LIMIT (map S.text sources.old) lines
         × AppendsPrefix (O.written out.old) (O.written out.new) (answer_text query.now (query_page query.now lines)) }
     ensures written { IfOk result (λ report. (lines : List Member) × AreLinesOf LINE_LIMIT (map S.text sources.old) lines
         × Answered query.now lines (O.written out.old) (O.written out.new) report) }
+    ensures parts { (texts : List (List ℕ)) → Known (map S.text sources.old) texts
+        → IfOk result (AnsweredParts LINE_LIMIT query.now texts (O.written out.old) (O.written out.new)) }
     ensures page { (texts : List (List ℕ)) → (indexes : List (List Member)) → Known (map S.text sources.old) texts → AllTwo (IsIndex LINE_LIMIT) texts indexes
         → IfOk result (Answered query.now (collection indexes) (O.written out.old) (O.written out.new)) }
     ensures part { (texts : List (List ℕ)) → (indexes : List (List Member)) → Known (map S.text sources.old) texts → AllTwo (IsIndex LINE_LIMIT) texts indexes
         → AppendsPrefix (O.written out.old) (O.written out.new) (answer_text query.now (query_page query.now (collection indexes))) }
     ensures probes { IfOk result (λ report. report.probes ≤ sum (map (λ s. digits (S.extent s)) sources.old)) }
+    ensures held { (texts : List (List ℕ)) → (indexes : List (List Member)) → (most : ℕ) → Known (map S.text sources.old) texts → AllTwo (IsIndex LINE_LIMIT) texts indexes
+        → ShareAtMost most (all_lines indexes) → IfOk result (λ report. report.held ≤ length sources.old + most) }
 {
     if sources.len() > SOURCES_LIMIT {
         return Err(AnswerFault::TooManySources);

@@ -24,6 +24,7 @@ pub const SOURCES_LIMIT: usize = 1_024;
 
 fn index_fault(index: usize, fault: FeedFault) -> AnswerFault
     ensures read { (i : ℕ) → result ≡ AnswerFault.Read i → (index ≡ i) × (fault ≡ FeedFault.Read) }
+    ensures is_read { fault ≡ FeedFault.Read → result ≡ AnswerFault.Read index }
     ensures write { result ≢ AnswerFault.Write }
     ensures kind { (result ≢ AnswerFault.TooManySources) × IsMergeFault result }
     ensures line { (texts : List (Option (List ℕ))) → feed.IsFaultOf LINE_LIMIT texts (MergeFault.Feed index fault) → IsFaultOf LINE_LIMIT texts result }
@@ -38,6 +39,8 @@ fn index_fault(index: usize, fault: FeedFault) -> AnswerFault
 
 pub(crate) fn merge_fault(fault: MergeFault) -> AnswerFault
     ensures read { (i : ℕ) → result ≡ AnswerFault.Read i → fault ≡ MergeFault.Feed i FeedFault.Read }
+    ensures is_read { (i : ℕ) → fault ≡ MergeFault.Feed i FeedFault.Read → result ≡ AnswerFault.Read i }
+    ensures is_write { fault ≡ MergeFault.Write → result ≡ AnswerFault.Write }
     ensures write { result ≡ AnswerFault.Write → fault ≡ MergeFault.Write }
     ensures kind { (result ≢ AnswerFault.TooManySources) × IsMergeFault result }
     ensures line { (texts : List (Option (List ℕ))) → feed.IsFaultOf LINE_LIMIT texts fault → IsFaultOf LINE_LIMIT texts result }
@@ -68,6 +71,8 @@ pub fn merge<S: Source, O: Output>(
     ensures worked { OnOk result ((map S.failures sources.new ≡ map S.failures sources.old) × (O.failures out.new ≡ O.failures out.old)) }
     ensures read { IfErr result (λ e. (i : ℕ) → e ≡ AnswerFault.Read i → RaisedAt i (map S.failures sources.old) (map S.failures sources.new)) }
     ensures failed { IfErr result (λ e. e ≡ AnswerFault.Write → O.failures out.new ≡ next_count (O.failures out.old)) }
+    ensures kept { IfErr result (λ e. ((i : ℕ) → e ≢ AnswerFault.Read i) → map S.failures sources.new ≡ map S.failures sources.old) }
+    ensures unwritten { IfErr result (λ e. e ≢ AnswerFault.Write → O.failures out.new ≡ O.failures out.old) }
     ensures fault { IfErr result (IsFaultOf LINE_LIMIT (map S.text sources.old)) }
     ensures merged { (texts : List (List ℕ)) → Known (map S.text sources.old) texts
         → IfOk result (Merged LINE_LIMIT texts (O.written out.old) (O.written out.new)) }

@@ -1,18 +1,20 @@
 //! One page over indexes.
-ghost use Rattle.std.specs.Prelude.{◌≡◌, ◌≢◌, ◌≤◌, ℕ, List, Option, map, IfOk, IfErr, IfSome, OnOk, true};
+ghost use Rattle.std.specs.Prelude.{◌≡◌, ◌≢◌, ◌+◌, ◌≤◌, ℕ, List, Option, length, map, IfOk, IfErr, IfSome, OnOk, true};
 ghost use Rattle.std.specs.List.{sum};
 ghost use Rattle.cdxj_core.specs.declared.limit.TheConstants.{LINE_LIMIT};
 ghost use Rattle.cdxj_core.specs.Indexes.{IsIndex};
 ghost use Rattle.cdxj_core.specs.Members.{Member};
 ghost use Rattle.devices.specs.Device.{AppendsPrefix, next_count};
 ghost use Rattle.source_core.specs.Halving.{digits};
-ghost use Rattle.merge_core.specs.Collections.{Known, collection};
+ghost use Rattle.merge_core.specs.Collections.{Known, all_lines, collection};
+ghost use Rattle.merge_core.specs.Counts.{ShareAtMost};
 ghost use Rattle.merge_core.specs.Gathering.{AllTwo};
 ghost use Rattle.merge_core.specs.Failures.{RaisedAt};
 ghost use Rattle.query_core.specs.LineFaults.{IsFaultOf};
 ghost use Rattle.query_core.specs.Merging.{IsMergeFault};
+ghost use Rattle.query_core.specs.PageParts.{WroteParts};
 ghost use Rattle.query_core.specs.PageAsked.{asked_text, WrotePage, StandsAfter};
-ghost use Rattle.query_core.specs.SourceLines.{AreLinesOf};
+ghost use Rattle.merge_core.specs.SourceLines.{AreLinesOf};
 ghost use Rattle.query_core.specs.WriterView.{from_view};
 
 use crate::fault::AnswerFault;
@@ -43,6 +45,7 @@ pub struct WrittenPage {
 fn text_fault(fault: TextFault) -> AnswerFault
     ensures read { (i : ℕ) → result ≡ AnswerFault.Read i → ⊥ }
     ensures write { result ≡ AnswerFault.Write → fault ≡ TextFault.Write }
+    ensures is_write { fault ≡ TextFault.Write → result ≡ AnswerFault.Write }
     ensures kind { (result ≢ AnswerFault.TooManySources) × IsMergeFault result }
     ensures line { (texts : List (Option (List ℕ))) → IsFaultOf LINE_LIMIT texts result }
 {
@@ -68,6 +71,8 @@ pub fn write_page<S: Source, O: Output>(
     ensures worked { OnOk result ((map S.failures sources.new ≡ map S.failures sources.old) × (O.failures out.new ≡ O.failures out.old)) }
     ensures read { IfErr result (λ e. (i : ℕ) → e ≡ AnswerFault.Read i → RaisedAt i (map S.failures sources.old) (map S.failures sources.new)) }
     ensures failed { IfErr result (λ e. e ≡ AnswerFault.Write → O.failures out.new ≡ next_count (O.failures out.old)) }
+    ensures kept { IfErr result (λ e. ((i : ℕ) → e ≢ AnswerFault.Read i) → map S.failures sources.new ≡ map S.failures sources.old) }
+    ensures unwritten { IfErr result (λ e. e ≢ AnswerFault.Write → O.failures out.new ≡ O.failures out.old) }
     ensures fault { IfErr result (IsFaultOf LINE_LIMIT (map S.text sources.old)) }
     ensures probes { IfOk result (λ page. page.probes ≤ sum (map (λ s. digits (S.extent s)) sources.old)) }
     ensures rising { (lines : List Member) × AreLinesOf LINE_LIMIT (map S.text sources.old) lines
@@ -78,7 +83,11 @@ pub fn write_page<S: Source, O: Output>(
         → IfOk result (λ page. WrotePage query.now (from_view from.entry) limit shows (collection indexes) (O.written out.old) (O.written out.new) page.end) }
     ensures part { (texts : List (List ℕ)) → (indexes : List (List Member)) → Known (map S.text sources.old) texts → AllTwo (IsIndex LINE_LIMIT) texts indexes
         → AppendsPrefix (O.written out.old) (O.written out.new) (asked_text query.now (from_view from.entry) limit shows (collection indexes)) }
+    ensures parts { (texts : List (List ℕ)) → Known (map S.text sources.old) texts
+        → IfOk result (WroteParts LINE_LIMIT query.now (from_view from.entry) limit shows texts (O.written out.old) (O.written out.new)) }
     ensures above { IfOk result (λ page. IfSome page.end.next (λ next. StandsAfter (from_view from.entry) next)) }
+    ensures held { (texts : List (List ℕ)) → (indexes : List (List Member)) → (most : ℕ) → Known (map S.text sources.old) texts → AllTwo (IsIndex LINE_LIMIT) texts indexes
+        → ShareAtMost most (all_lines indexes) → IfOk result (λ page. page.held ≤ length sources.old + most) }
 {
     let mut writer = match PageWriter::begin(alloc, query, from, limit, out) {
         Ok(writer) => writer,

@@ -131,6 +131,8 @@ pub fn pages<S: Source, O: Output>(
     ensures worked { OnOk result ((map S.failures sources.new ≡ map S.failures sources.old) × (O.failures out.new ≡ O.failures out.old)) }
     ensures read { IfErr result (λ e. (i : ℕ) → e ≡ AnswerFault.Read i → RaisedAt i (map S.failures sources.old) (map S.failures sources.new)) }
     ensures failed { IfErr result (λ e. e ≡ AnswerFault.Write → O.failures out.new ≡ next_count (O.failures out.old)) }
+    ensures kept { IfErr result (λ e. ((i : ℕ) → e ≢ AnswerFault.Read i) → map S.failures sources.new ≡ map S.failures sources.old) }
+    ensures unwritten { IfErr result (λ e. e ≢ AnswerFault.Write → O.failures out.new ≡ O.failures out.old) }
     ensures fault { IfErr result (IsFaultOf LINE_LIMIT (map S.text sources.old)) }
     ensures rising { (pages : List (Page Member PlaceValue)) × ArePagesOf LINE_LIMIT query.now (map S.text sources.old) query.now.resume sizes.now pages
         × AppendsPrefix (O.written out.old) (O.written out.new) (pages_text query.now pages) }

@@ -1,5 +1,10 @@
-use Rattle.std.proofs.Common.{refl, []}
+use Rattle.std.proofs.Common.{not, sym, subst, refl, []}
 use Rattle.devices.proofs.WritingLemmas.{wrote_nothing}
+use Rattle.cdxj_core.specs.declared.limit.TheConstants.{LINE_LIMIT}
+use Rattle.query_text.specs.Matching.{is_past}
+use Rattle.merge_core.specs.Gathering.{AllTwo}
+use Rattle.merge_core.specs.Runs.{IsPart}
+use Rattle.query_core.specs.Collections.{collection}
 use Rattle.query_core.specs.WriterView.{from_view}
 use Rattle.query_core.proofs.AskedLemmas.{answered}
 use Rattle.query_core.proofs.answering.answer.Goals as goal
@@ -18,3 +23,14 @@ returns-clause-written g c =
       answered c.args.query.now (from_view c.resume.result) c.limit.result c.shows_resume_key.result w.0 (g.O.Output.written c.args.out.now) (g.O.Output.written c.write_page.new.out) c.in_ok-page.page.end _
           c.resume.ensures c.limit.ensures.value c.shows_resume_key.ensures refl c.is_some.ensures w.2,
     )
+
+pub returns-clause-parts : goal.returns-clause-parts
+returns-clause-parts g c = λ texts known.
+    let w = c.in_ok-page.ensures.parts texts known in
+    record {
+      parts = w.parts;
+      each = subst (λ more. AllTwo (IsPart LINE_LIMIT (is_past c.args.query.now.target) (not more)) texts w.parts) (sym c.is_some.ensures) w.each;
+      lines = w.lines;
+      answered = answered c.args.query.now (from_view c.resume.result) c.limit.result c.shows_resume_key.result (collection w.parts) (g.O.Output.written c.args.out.now) (g.O.Output.written c.write_page.new.out)
+          c.in_ok-page.page.end _ c.resume.ensures c.limit.ensures.value c.shows_resume_key.ensures refl c.is_some.ensures w.wrote;
+    }

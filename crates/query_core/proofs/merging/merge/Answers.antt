@@ -10,3 +10,9 @@ returns-in-Err-clause-fault g c = c.merge_fault.ensures.line (map g.S.Source.tex
 
 pub returns-then-sources-gt-SOURCES_LIMIT-clause-part : goal.returns-then-sources-gt-SOURCES_LIMIT-clause-part
 returns-then-sources-gt-SOURCES_LIMIT-clause-part g c = λ texts indexes known are. wrote_nothing _ _
+
+pub returns-in-Err-clause-kept : goal.returns-in-Err-clause-kept
+returns-in-Err-clause-kept g c = λ h. c.in-Err.ensures.kept (λ n e. h n (c.merge_fault.ensures.is_read n e))
+
+pub returns-in-Err-clause-unwritten : goal.returns-in-Err-clause-unwritten
+returns-in-Err-clause-unwritten g c = λ h. c.in-Err.ensures.unwritten (λ e. h (c.merge_fault.ensures.is_write e))

@@ -1,4 +1,4 @@
-use Rattle.std.proofs.Common.{refl, sym, ◌∙◌, map, arith, subst, ℕ, List, [], zip, ap, Option, append-nil}
+use Rattle.std.proofs.Common.{◌-◌, ◌^◌, min, refl, sym, ◌∙◌, map, arith, subst, ℕ, List, [], zip, ap, Option, append-nil}
 use Rattle.std.specs.List.{AllByRecursion}
 use Rattle.cdxj_core.specs.declared.limit.TheConstants.{LINE_LIMIT}
 use Rattle.query_text.specs.Matching.{is_past}
@@ -6,14 +6,23 @@ use Rattle.merge_core.specs.Collections.{Known, collection}
 use Rattle.merge_core.specs.Openings.{IsCutAt}
 use Rattle.merge_core.specs.Reached.{Reached}
 use Rattle.merge_core.proofs.FailLemmas.{raised_from}
-use Rattle.merge_core.proofs.WholeLemmas.{texts_kept}
+use Rattle.merge_core.proofs.WholeLemmas.{texts_kept, told_known}
+use Rattle.merge_core.proofs.Many.{told_moved}
+use Rattle.merge_core.proofs.RunLemmas.{parts_are, parts_count, parts_first, parts_whole}
+use Rattle.merge_core.specs.Runs.{parts}
+use Rattle.cdxj_core.specs.Members.{Member}
+use Rattle.cdxj_places.specs.Places.{PlaceValue}
+use Rattle.page_core.specs.Pages.{Page}
+use Rattle.query_text.proofs.RangeLaw.{past_upward}
+use Rattle.query_core.specs.PageWriting.{is_wanted}
+use Rattle.query_core.proofs.NextPlaces.{none_waits}
 use Rattle.query_core.specs.LineFaults.{IsFaultOf}
 use Rattle.query_core.specs.PageAsked.{asked_text}
-use Rattle.query_core.specs.SourceLines.{AreLinesOf}
+use Rattle.merge_core.specs.SourceLines.{AreLinesOf}
 use Rattle.query_core.specs.WriterView.{from_view}
 use Rattle.query_core.proofs.WriterLemmas.{whole_prefix}
-use Rattle.query_core.proofs.AskedLemmas.{asked_is, page_settled, page_broke}
-use Rattle.query_core.proofs.SourceLines.{taken_lines}
+use Rattle.query_core.proofs.AskedLemmas.{asked_is, wanted_within, page_settled, page_broke, write_kept}
+use Rattle.merge_core.proofs.SourceLemmas.{taken_lines}
 use Rattle.query_core.proofs.PageOfIndexes.{wanted_first, wanted_whole}
 use Rattle.query_core.proofs.PageExits.{start_front, stood, rows_front, begun_front, page_ended, end_front}
 use Rattle.query_core.proofs.NextPlaces.{written_next_above}
@@ -29,6 +38,30 @@ returns-in-Err-merge-clause-read g c = λ i e.
     let f = g.S.Source.failures in
     raised_from i (map f c.args.sources.now) (map f c.open_at.new.sources) (map f c.merge.new.sources) c.in-Ok-open_at.ensures.worked
     (c.in-Err-merge.ensures.read i (c.merge_fault-in-Err-merge.ensures.read i e))
+
+pub returns-in-Err-open_at-clause-kept : goal.returns-in-Err-open_at-clause-kept
+returns-in-Err-open_at-clause-kept g c = λ h. c.in-Err-open_at.ensures.kept (λ n e. h n (c.merge_fault.ensures.is_read n e))
+
+pub returns-in-Err-merge-clause-kept : goal.returns-in-Err-merge-clause-kept
+returns-in-Err-merge-clause-kept g c = λ h. c.in-Err-merge.ensures.kept (λ n e. h n (c.merge_fault-in-Err-merge.ensures.is_read n e)) ∙ c.in-Ok-open_at.ensures.worked
+
+pub returns-in-Err-clause-unwritten : goal.returns-in-Err-clause-unwritten
+returns-in-Err-clause-unwritten g c = λ h.
+    write_kept c.in-Err.fault (g.O.Output.failures c.args.out.now) (g.O.Output.failures c.begin.new.out) (λ e. h (c.text_fault.ensures.is_write e)) c.in-Err.ensures.failures
+
+pub returns-in-Err-merge-clause-unwritten : goal.returns-in-Err-merge-clause-unwritten
+returns-in-Err-merge-clause-unwritten g c = λ h.
+    c.in-Err-merge.ensures.unwritten (λ e. h (c.merge_fault-in-Err-merge.ensures.is_write e)) ∙ c.in-Ok.ensures.failures
+
+pub returns-in-Err-end-clause-unwritten : goal.returns-in-Err-end-clause-unwritten
+returns-in-Err-end-clause-unwritten g c = λ h.
+    write_kept c.in-Err-end.fault (g.O.Output.failures c.merge.new.out) (g.O.Output.failures c.end.new.out) (λ e. h (c.text_fault-in-Err-end.ensures.is_write e)) c.in-Err-end.ensures.failures
+    ∙ c.in-Ok-merge.ensures.written ∙ c.in-Ok.ensures.failures
+
+pub returns-clause-held : goal.returns-clause-held
+returns-clause-held g c = λ texts indexes most known are share.
+    let h = c.merge.ensures.held texts indexes most (subst (λ l. Known l texts) (sym c.open_at.ensures.text) known) are share (omega (arith, c.in-Ok-open_at.ensures.held)) in
+    omega (arith, h)
 
 pub returns-in-Err-clause-fault : goal.returns-in-Err-clause-fault
 returns-in-Err-clause-fault g c = c.text_fault.ensures.line (map g.S.Source.text c.args.sources.now)
@@ -107,7 +140,7 @@ returns-in-Err-merge-clause-rising g c =
     let front = rows_front writer q c.args.from c.args.limit c.args.shows is.0 is.1 is.2 taken start now (broke.6 writer start ((refl, refl, refl), c.in-Ok.ensures.stands)) in (
       taken,
       subst (λ texts. AreLinesOf LINE_LIMIT texts taken) c.open_at.ensures.text
-          (taken_lines LINE_LIMIT (is_past c.target.result.now) text g.S.Source.extent g.S.Source.gave c.open_at.new.sources c.in-Ok-open_at.opened.streams.feeds.items broke.0 broke.1 broke.2 broke.3 taken
+          (taken_lines LINE_LIMIT text g.S.Source.extent (is_past c.target.result.now) g.S.Source.gave c.open_at.new.sources c.in-Ok-open_at.opened.streams.feeds.items broke.0 broke.1 broke.2 broke.3 taken
           c.in-Ok-open_at.ensures.ready.same broke.5),
       page_broke q (from_view c.args.from) c.args.limit c.args.shows taken taken start now [] (sym (append-nil _)) front,
     )
@@ -122,7 +155,7 @@ returns-in-Err-end-clause-rising g c =
     let taken = wrote.1 in (
       taken,
       subst (λ texts. AreLinesOf LINE_LIMIT texts taken) c.open_at.ensures.text
-          (taken_lines LINE_LIMIT (is_past c.target.result.now) g.S.Source.text g.S.Source.extent g.S.Source.gave c.open_at.new.sources c.in-Ok-open_at.opened.streams.feeds.items
+          (taken_lines LINE_LIMIT g.S.Source.text g.S.Source.extent (is_past c.target.result.now) g.S.Source.gave c.open_at.new.sources c.in-Ok-open_at.opened.streams.feeds.items
           c.merge.new.sources c.merge.new.streams.feeds.items c.merge.new.streams.waiting wrote.0 taken c.in-Ok-open_at.ensures.ready.same wrote.2),
       end_front writer q c.args.from c.args.limit c.args.shows is.0 is.1 is.2 c.merge.new.sink taken taken start (g.O.Output.written c.merge.new.out) (g.O.Output.written c.end.new.out)
           (wrote.3 writer start ((refl, refl, refl), c.in-Ok.ensures.stands)) (asked_is q (from_view c.args.from) c.args.limit taken) c.in-Err-end.ensures.text,
@@ -139,7 +172,7 @@ returns-clause-written g c =
     let end = c.in-Ok-end.ensures in (
       taken,
       subst (λ texts. AreLinesOf LINE_LIMIT texts taken) c.open_at.ensures.text
-          (taken_lines LINE_LIMIT (is_past c.target.result.now) g.S.Source.text g.S.Source.extent g.S.Source.gave c.open_at.new.sources c.in-Ok-open_at.opened.streams.feeds.items
+          (taken_lines LINE_LIMIT g.S.Source.text g.S.Source.extent (is_past c.target.result.now) g.S.Source.gave c.open_at.new.sources c.in-Ok-open_at.opened.streams.feeds.items
           c.merge.new.sources c.merge.new.streams.feeds.items c.merge.new.streams.waiting wrote.0 taken c.in-Ok-open_at.ensures.ready.same wrote.2),
       page_ended writer q c.args.from c.args.limit c.args.shows is.0 is.1 is.2 c.merge.new.sink taken taken start (g.O.Output.written c.merge.new.out) (g.O.Output.written c.end.new.out)
           (wrote.3 writer start ((refl, refl, refl), c.in-Ok.ensures.stands)) (asked_is q (from_view c.args.from) c.args.limit taken) c.in-Ok-end.end end.text end.end.0 end.end.1,
@@ -239,3 +272,40 @@ returns-clause-page g c = λ texts indexes known are.
 pub returns-clause-part : goal.returns-clause-part
 returns-clause-part g c = λ texts indexes known are.
     whole_prefix _ _ (asked_text c.args.query.now (from_view c.args.from) c.args.limit c.args.shows (collection indexes)) (returns-clause-page g c texts indexes known are).text
+
+-- ---- the lines that were read
+
+pub returns-clause-parts : goal.returns-clause-parts
+returns-clause-parts g c = λ texts known.
+    let text = g.S.Source.text in let extent = g.S.Source.extent in let gave = g.S.Source.gave in
+    let writer = c.in-Ok.writer in
+    let is = c.in-Ok.ensures.query in
+    let q = c.args.query.now in
+    let from = from_view c.args.from in
+    let ss1 = c.open_at.new.sources in let fs1 = c.in-Ok-open_at.opened.streams.feeds.items in
+    let ss2 = c.merge.new.sources in let fs2 = c.merge.new.streams.feeds.items in let ws = c.merge.new.streams.waiting in
+    let start = g.O.Output.written c.args.out.now in
+    let mid = g.O.Output.written c.merge.new.out in
+    let ok = c.in-Ok-merge.ensures in
+    let b = ok.wrote.0 in
+    let taken = ok.wrote.1 in
+    let stood_now = ok.wrote.3 writer start ((refl, refl, refl), c.in-Ok.ensures.stands) in
+    let reached = subst (λ target. Reached LINE_LIMIT text (is_past target) extent gave ss1 fs1 ss2 fs2 ws b taken) c.target.ensures ok.wrote.2 in
+    let known1 = subst (λ l. Known l texts) (sym c.open_at.ensures.text) known in
+    let known2 = subst (λ l. Known l texts) (sym (returns-clause-texts g c)) known in
+    let told = told_known text ss1 texts known1 in
+    let first = parts_first text extent gave LINE_LIMIT (is_past q.target) (past_upward q.target) ss1 fs1 ss2 fs2 ws b taken reached told (is_wanted q from) (wanted_within q from) in
+    let more_is = (stood writer q c.args.from c.args.limit c.args.shows is.0 is.1 is.2 c.merge.new.sink taken start mid stood_now).more_is in
+    let read = parts LINE_LIMIT text ss2 fs2 in
+    let settled = page_settled q from c.args.limit c.args.shows (collection read) taken c.in-Ok-merge.all c.merge.new.sink.more first.0 first.1
+    (λ e. parts_whole text extent gave LINE_LIMIT (is_past q.target) (past_upward q.target) ss1 fs1 ss2 fs2 ws b taken reached told (is_wanted q from) (wanted_within q from) (ok.ended e)) (λ e. ok.enough e) more_is in
+    let end = c.in-Ok-end.ensures in
+    let wrote = page_ended writer q c.args.from c.args.limit c.args.shows is.0 is.1 is.2 c.merge.new.sink (collection read) taken start mid (g.O.Output.written c.end.new.out) stood_now settled c.in-Ok-end.end end.text end.end.0 end.end.1 in
+    record {
+      parts = read;
+      each = parts_are LINE_LIMIT (is_past q.target) text extent ws 0 ss2 fs2 texts _ reached.ready.same known2 reached.ready.fed reached.settled
+          (λ e. none_waits c.in-Ok-merge.all c.merge.new.sink.more c.in-Ok-end.end.next _ more_is (wrote.next ∙ ap (λ (p : Page Member PlaceValue). p.next) settled) ws ok.ended ok.enough e);
+      lines = c.lines.ensures ∙ ap (λ n. min n (2 ^ 64 - 1)) (parts_count LINE_LIMIT (is_past q.target) text extent ws 0 ss2 fs2 reached.ready.same
+          (told_moved text extent gave ss1 ss2 fs1 fs2 reached.ready.same reached.moved told) reached.ready.fed);
+      wrote = wrote;
+    }
