@@ -3,12 +3,13 @@ ghost use Rattle.std.specs.Prelude.{drop, true, ◌≡◌, ◌≢◌, Option, So
 ghost use Rattle.std.specs.Io.KnownBytes.{Keeps, IsAtEnd, prepend_known};
 ghost use Rattle.devices.specs.Device.{next_count};
 ghost use Rattle.devices.specs.LineCuts.{without_carriage_return};
-ghost use Rattle.devices.specs.LineReading.{TakesPart, TakesLine, CountsTaken, CountsLineRead};
+ghost use Rattle.devices.specs.LineReading.{LineState, TakesPart, TakesLine, CountsTaken, CountsLineRead};
 
 use crate::buffer::Buffer;
 use crate::device::{DeviceFault, Input};
 use crate::line_cuts::{find_line_feed, hold, without_carriage_return};
 use std::alloc::{AllocError, Global};
+use std::marker::Model;
 use thiserror::Error;
 
 /// An input of this many bytes, or of more, is too long to be read by its lines.
@@ -70,9 +71,14 @@ pub struct InputLines {
     line: Vec<u8>,
     most: usize,
     taken: u64,
-    pub ghost some_rule: { 0 < most },
-    pub ghost held_rule: { length line.items ≤ most },
-    pub ghost taken_rule: { taken < 2 ^ 63 - 1 },
+}
+
+impl Model for InputLines {
+    ghost Value = { LineState };
+
+    ghost view = { λ l. record { buffer = l.buffer; line = l.line.items; most = l.most; taken = l.taken } };
+
+    ghost invariant = { λ l. (0 < l.most) × (length l.line.items ≤ l.most) × (l.taken < 2 ^ 63 - 1) };
 }
 
 impl InputLines {
@@ -95,7 +101,7 @@ impl InputLines {
 
     /// The bytes that are held of the line that was read last, without one carriage return at their end.
     pub fn line(&self) -> &[u8]
-        ensures { result.now ≡ without_carriage_return self.now.line.items }
+        ensures { result.now ≡ without_carriage_return self.now.line }
     {
         without_carriage_return(self.line.as_slice())
     }
@@ -103,6 +109,7 @@ impl InputLines {
     /// Passes over bytes that are held of the input.
     fn pass(&mut self, count: usize) -> Result<(), InputLineFault>
         requires { count ≤ length self.old.buffer }
+        ensures within { OnOk result (self.new.taken < 2 ^ 63 - 1) }
         ensures line { (self.new.line ≡ self.old.line) × (self.new.most ≡ self.old.most) }
         ensures rest { OnOk result (self.new.buffer ≡ drop count self.old.buffer) }
         ensures taken { OnOk result (self.new.taken ≡ self.old.taken + count) }
@@ -119,11 +126,12 @@ impl InputLines {
 
     /// Takes what is held of the input, up to and with the first line feed.
     fn take_held(&mut self) -> Result<Part, InputLineFault>
+        ensures within { OnOk result (self.new.taken < 2 ^ 63 - 1) }
         ensures most { self.new.most ≡ self.old.most }
-        ensures part { IfOk result (λ part. TakesPart self.old.most part (Some self.old.buffer) (Some self.new.buffer) self.old.line.items self.new.line.items) }
+        ensures part { IfOk result (λ part. TakesPart self.old.most part (Some self.old.buffer) (Some self.new.buffer) self.old.line self.new.line) }
         ensures count { OnOk result (self.old.taken + length self.old.buffer ≡ self.new.taken + length self.new.buffer) }
         ensures some { IfOk result (λ part. part ≢ AtEnd → self.old.taken < self.new.taken) }
-        ensures end { IfOk result (λ part. part ≡ AtEnd → (self.new.line.items ≡ self.old.line.items) × (self.new.taken ≡ self.old.taken)) }
+        ensures end { IfOk result (λ part. part ≡ AtEnd → (self.new.line ≡ self.old.line) × (self.new.taken ≡ self.old.taken)) }
         ensures full { IfErr result (λ fault. (fault ≡ Memory) ⊎ ((fault ≡ TooLong) × (2 ^ 63 - 1 ≤ self.old.taken + length self.old.buffer))) }
     {
         let piece = self.buffer.as_slice();
@@ -147,11 +155,12 @@ impl InputLines {
 
     /// Takes a piece of the input, up to and with the first line feed.
     fn take_part<I: Input>(&mut self, input: &mut I) -> Result<Part, InputLineFault>
+        ensures within { OnOk result (self.new.taken < 2 ^ 63 - 1) }
         ensures most { self.new.most ≡ self.old.most }
-        ensures part { IfOk result (λ part. TakesPart self.old.most part (prepend_known self.old.buffer (I.remaining input.old)) (prepend_known self.new.buffer (I.remaining input.new)) self.old.line.items self.new.line.items) }
+        ensures part { IfOk result (λ part. TakesPart self.old.most part (prepend_known self.old.buffer (I.remaining input.old)) (prepend_known self.new.buffer (I.remaining input.new)) self.old.line self.new.line) }
         ensures count { OnOk result (CountsTaken (prepend_known self.old.buffer (I.remaining input.old)) (prepend_known self.new.buffer (I.remaining input.new)) self.old.taken self.new.taken) }
         ensures some { IfOk result (λ part. part ≢ AtEnd → self.old.taken < self.new.taken) }
-        ensures end { IfOk result (λ part. part ≡ AtEnd → (self.new.line.items ≡ self.old.line.items) × (self.new.taken ≡ self.old.taken)) }
+        ensures end { IfOk result (λ part. part ≡ AtEnd → (self.new.line ≡ self.old.line) × (self.new.taken ≡ self.old.taken)) }
         ensures failures { CountsLineRead result (I.failures input.old) (I.failures input.new) (prepend_known self.old.buffer (I.remaining input.old)) self.old.taken }
     {
         self.buffer.fill(input)?;
@@ -160,8 +169,9 @@ impl InputLines {
 
     /// Reads the next line, and answers whether there was one. A line that is longer than what is held is read to its end.
     pub fn next<I: Input>(&mut self, input: &mut I) -> Result<bool, InputLineFault>
+        ensures within { OnOk result (self.new.taken < 2 ^ 63 - 1) }
         ensures most { self.new.most ≡ self.old.most }
-        ensures line { IfOk result (λ found. TakesLine self.old.most found (prepend_known self.old.buffer (I.remaining input.old)) (prepend_known self.new.buffer (I.remaining input.new)) self.new.line.items) }
+        ensures line { IfOk result (λ found. TakesLine self.old.most found (prepend_known self.old.buffer (I.remaining input.old)) (prepend_known self.new.buffer (I.remaining input.new)) self.new.line) }
         ensures count { OnOk result (CountsTaken (prepend_known self.old.buffer (I.remaining input.old)) (prepend_known self.new.buffer (I.remaining input.new)) self.old.taken self.new.taken) }
         ensures some { IfOk result (λ found. found ≡ true → self.old.taken < self.new.taken) }
         ensures failures { CountsLineRead result (I.failures input.old) (I.failures input.new) (prepend_known self.old.buffer (I.remaining input.old)) self.old.taken }
