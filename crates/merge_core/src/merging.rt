@@ -1,9 +1,9 @@
 //! The merge of several sources.
-ghost use Rattle.std.specs.Prelude.{◌≡◌, ◌≢◌, ◌⊎◌, ◌+◌, ◌≤◌, ℕ, Option, List, [], length, map, false, true, Some, IfOk, IfErr, OnOk, OnErr};
+ghost use Rattle.std.specs.Prelude.{◌≡◌, ◌≢◌, ◌⊎◌, ◌+◌, ◌≤◌, ◌++◌, ℕ, Option, List, [], length, map, false, true, Some, IfOk, IfErr, OnOk, OnErr};
 ghost use Rattle.std.specs.List.{AllByRecursion, zip};
 ghost use Rattle.cdxj_core.specs.declared.limit.TheConstants.{LINE_LIMIT};
 ghost use Rattle.cdxj_core.specs.Indexes.{IsIndex};
-ghost use Rattle.cdxj_core.specs.Members.{Member};
+ghost use Rattle.cdxj_core.specs.Members.{Member, member_pair};
 ghost use Rattle.cdxj_places.specs.Pairs.{Pair};
 ghost use Rattle.devices.specs.Device.{next_count};
 ghost use Rattle.merge_core.specs.declared.feed.Feed.{Feed};
@@ -14,6 +14,7 @@ ghost use Rattle.merge_core.specs.Failures.{RaisedAt};
 ghost use Rattle.merge_core.specs.LineFaults.{IsFaultOf};
 ghost use Rattle.merge_core.specs.Feeds.{Moved, Ready, AreSettled};
 ghost use Rattle.merge_core.specs.Gathering.{AllTwo, AreTold, all_done};
+ghost use Rattle.merge_core.specs.PairOrders.{Below};
 ghost use Rattle.merge_core.specs.Reached.{Reached};
 ghost use Rattle.merge_core.specs.Spending.{AreReadTo, IsNextBound};
 
@@ -51,9 +52,13 @@ pub fn merge<S: Source, R: Range, K: Sink, O: Output>(
         → streams.old.held ≤ length sources.old + most → streams.new.held ≤ length sources.old + most }
     ensures ended { IfOk result (λ all. all ≡ true → streams.new.waiting ≡ []) }
     ensures enough { IfOk result (λ all. all ≡ false → K.Enough sink.new) }
-    ensures wrote { OnOk result ((b : Option Pair) × (taken : List Member)
+    ensures wrote { IfOk result (λ all. (b : Option Pair) × (taken : List Member)
         × Reached LINE_LIMIT S.text (R.past range.now) S.extent S.gave sources.old streams.old.feeds.items sources.new streams.new.feeds.items streams.new.waiting b taken
-        × ((begin : K) → (start : Option (List ℕ)) → K.Wrote begin sink.old [] start (O.written out.old) → K.Wrote begin sink.new taken start (O.written out.new))) }
+        × ((begin : K) → (start : Option (List ℕ)) → K.Wrote begin sink.old [] start (O.written out.old) → K.Wrote begin sink.new taken start (O.written out.new))
+        × (all ≡ false → (pair : Pair) × (earlier : List Member) × (group : List Member) × (before : K) × (middle : Option (List ℕ))
+        × (b ≡ Some pair) × (taken ≡ earlier ++ group) × AllByRecursion (λ m. Below (member_pair m) pair) earlier
+        × ((K.Enough sink.old → ⊥) → K.Enough before → ⊥)
+        × ((begin : K) → (start : Option (List ℕ)) → K.Wrote begin sink.old [] start (O.written out.old) → K.Wrote begin before earlier start middle))) }
     ensures broke { OnErr result ((ss : List S) × (fs : List Feed) × (ws : List WaitingLine) × (b : Option Pair) × (taken : List Member)
         × Reached LINE_LIMIT S.text (R.past range.now) S.extent S.gave sources.old streams.old.feeds.items ss fs ws b taken
         × ((begin : K) → (start : Option (List ℕ)) → K.Wrote begin sink.old [] start (O.written out.old)

@@ -1,5 +1,5 @@
 //! What takes the lines of a merge.
-ghost use Rattle.std.specs.Prelude.{◌≡◌, ◌≢◌, ◌⊎◌, ◌++◌, ◌∷◌, ℕ, Option, List, map, false, IfOk, IfErr, OnOk, OnErr, MatchResult};
+ghost use Rattle.std.specs.Prelude.{◌≡◌, ◌≢◌, ◌⊎◌, ◌++◌, ◌∷◌, ℕ, Option, List, map, true, false, IfOk, IfErr, OnOk, OnErr, MatchResult};
 ghost use Rattle.cdxj_places.specs.Places.{place_cmp};
 ghost use Rattle.cdxj_places.specs.Rising.{rising};
 ghost use Rattle.cdxj_core.specs.Members.{Member, member_place};
@@ -36,6 +36,7 @@ pub trait Sink {
             → MatchResult result (λ _. Wrote first self.new (taken ++ map (λ l. l.now) lines.now) start (O.written out.new))
             (λ _. Broke first (taken ++ map (λ l. l.now) lines.now) start (O.written out.new)) }
         ensures enough { IfOk result (λ all. all ≡ false → Enough self.new) }
+        ensures further { IfOk result (λ all. all ≡ true → Enough self.new → ⊥) }
         ensures failures { CountsWrite result (O.failures out.old) (O.failures out.new) };
 }
 
@@ -91,6 +92,7 @@ pub fn hand_on<K: Sink, O: Output>(
         ⊎ ((begin : K) → (taken : List Member) → (start : Option (List ℕ)) → K.Wrote begin sink.old taken start (O.written out.old)
         → K.Broke begin (taken ++ rising member_place place_cmp (first.now ∷ map (λ b. b.value) rest.now)) start (O.written out.new))) }
     ensures enough { IfOk result (λ all. all ≡ false → K.Enough sink.new) }
+    ensures further { IfOk result (λ all. all ≡ true → K.Enough sink.new → ⊥) }
     ensures unread { IfErr result (λ e. (i : ℕ) → (f : FeedFault) → e ≢ MergeFault.Feed i f) }
     ensures worked { OnOk result (O.failures out.new ≡ O.failures out.old) }
     ensures kept { IfErr result (λ e. e ≢ MergeFault.Write → O.failures out.new ≡ O.failures out.old) }

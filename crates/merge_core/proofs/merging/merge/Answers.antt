@@ -1,4 +1,5 @@
 use Rattle.std.proofs.Common.{arith, ◌≡◌, ◌+◌, ◌≤◌, length, ◌∷◌, ◌++◌, [], inl, inr, Box, Global, List, Some, None, MatchOption, map, zip, refl, sym, ap₂, ◌∙◌, subst}
+use Rattle.std.proofs.lemmas.Bool.{true≢false}
 use Rattle.std.proofs.lemmas.Result.{err_from_is_err_and}
 use Rattle.cdxj_core.specs.declared.limit.TheConstants.{LINE_LIMIT}
 use Rattle.cdxj_core.specs.declared.line.Line.{Line}
@@ -26,6 +27,7 @@ loop-rest-init g c = record {
   settled = c.requires.settled;
   reads = refl;
   writes = refl;
+  further = λ f. f;
   held = λ texts indexes most known are share h. h;
   came = (
     None,
@@ -152,6 +154,18 @@ returns-then-not-more-clause-wrote g c =
       came.1 ++ rising member_place place_cmp group,
       kept,
       λ begin start w. subst (λ l. g.K.Sink.Wrote begin c.hand_on.new.sink (came.1 ++ l) start (g.O.Output.written c.hand_on.new.out)) order (wrote begin came.1 start (came.3 begin start w)),
+      λ e. (
+        pair,
+        came.1,
+        rising member_place place_cmp group,
+        c.loop-rest.sink,
+        g.O.Output.written c.loop-rest.out,
+        refl,
+        refl,
+        below_next came.0 pair (grouped.above came.0 came.2.above) came.1 came.2.handed.upto,
+        c.loop-rest.invariant.further,
+        came.3,
+      ),
     )
 
 pub loop-rest-preserved : goal.loop-rest-preserved
@@ -188,6 +202,7 @@ loop-rest-preserved g c =
       settled = subst AreSettled (sym c.put_back.ensures.feeds) ok.settled;
       reads = ok.worked ∙ c.loop-rest.invariant.reads;
       writes = c.in_ok-more.ensures.worked ∙ c.loop-rest.invariant.writes;
+      further = λ f. c.in_ok-more.ensures.further c.if-not-more.false;
       held = λ texts indexes most known are share h.
           let kept_old = texts_kept text extent gave old was old_feeds was_feeds c.requires.ready.same (omega arith) came.2.moved in
           let kept_new = texts_kept text extent gave was now was_feeds feeds came.2.ready.same (omega arith) ok.moved in
@@ -281,4 +296,24 @@ returns-in_err-first-clause-broke g c =
             reads.3 (told_moved text extent gave old was old_feeds was_feeds came.2.ready.same came.2.moved told)
             (below_next came.0 reads.0 (reads.1 came.0 came.2.above) (all_done LINE_LIMIT text was was_feeds) (came.2.handed.told told).1),
       ),
+    )
+
+pub returns-clause-wrote : goal.returns-clause-wrote
+returns-clause-wrote g c =
+    let past = g.R.Range.past c.args.range.now in
+    let text = g.S.Source.text in let extent = g.S.Source.extent in let gave = g.S.Source.gave in
+    let old = c.args.sources.now in let old_feeds = c.args.streams.now.feeds.items in
+    let was = c.loop-rest.sources in let was_feeds = c.loop-rest.streams.feeds.items in let waits = c.loop-rest.streams.waiting in
+    let now = c.gather.new.sources in let feeds = c.gather.new.self.feeds.items in let left = c.gather.new.self.waiting in
+    let came = c.loop-rest.invariant.came in
+    let none = subst (λ o. MatchOption o ((now ≡ was) × (feeds ≡ was_feeds) × (waits ≡ []) × (left ≡ []))
+    (λ (b : Box Line Global). Grouped LINE_LIMIT text extent was was_feeds waits now feeds left (member_pair b.value) (b.value ∷ map (λ (b : Box Line Global). b.value) c.gather.new.rest.items)))
+    c.in_default.is c.in_ok-first.ensures.group in (
+      came.0,
+      came.1,
+      subst (λ us. Reached LINE_LIMIT text past extent gave old old_feeds us feeds left came.0 came.1) (sym none.0)
+          (subst (λ (us : List Feed). Reached LINE_LIMIT text past extent gave old old_feeds was us left came.0 came.1) (sym none.1)
+          (subst (λ (us : List WaitingLine). Reached LINE_LIMIT text past extent gave old old_feeds was was_feeds us came.0 came.1) (none.2 ∙ sym none.3) came.2)),
+      came.3,
+      λ e. absurd (true≢false e),
     )

@@ -16,6 +16,7 @@ invariant-loop-rest g l = record {
   settled : AreSettled l.streams.feeds.items;
   reads : map g.S.Source.failures l.sources ≡ map g.S.Source.failures l.fn.sources;
   writes : g.O.Output.failures l.out ≡ g.O.Output.failures l.fn.out;
+  further : (g.K.Sink.Enough l.fn.sink → ⊥) → g.K.Sink.Enough l.sink → ⊥;
   held : (texts : List (List ℕ)) → (indexes : List (List Member)) → (most : ℕ) → Known (map g.S.Source.text l.fn.sources) texts → AllTwo (IsIndex LINE_LIMIT) texts indexes → ShareAtMost most (all_lines indexes)
       → l.fn.streams.held ≤ length l.fn.sources + most → l.streams.held ≤ length l.fn.sources + most;
   came : (b : Option Pair) × (taken : List Member)
