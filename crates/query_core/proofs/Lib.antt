@@ -10,6 +10,8 @@ pub mod PageExits
 pub mod PagesWritten
 pub mod PageSteps
 pub mod PagesReached
+pub mod FewerLines
 pub mod NextPlaces
+pub mod RisingPages
 pub mod Ranks
 pub mod PlaceReading

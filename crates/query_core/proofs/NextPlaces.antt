@@ -17,7 +17,7 @@ use Rattle.query_core.specs.PageAsked.{StandsAfter}
 use Rattle.query_core.specs.WriterView.{Wrote, from_view}
 use Rattle.query_core.proofs.WriterLemmas.{next_is}
 
-filter_holds : {X : Type 0} (f : X → Bool) (xs : List X) → AllByRecursion (λ x. f x ≡ true) (filter f xs)
+pub filter_holds : {X : Type 0} (f : X → Bool) (xs : List X) → AllByRecursion (λ x. f x ≡ true) (filter f xs)
 filter_holds f [] = tt
 filter_holds f (x ∷ xs) = (elim (f x) as (λ b. f x ≡ b → AllByRecursion (λ y. f y ≡ true) (cond b (x ∷ filter f xs) (filter f xs)))
     [ true ↦ (λ e. (e, filter_holds f xs)) | false ↦ (λ e. filter_holds f xs) ]) refl
@@ -31,7 +31,7 @@ module _ (from : Option PlaceValue) where
   stands_after None m h = tt
   stands_after (Some p) m h = h
 
-  next_above : (n : ℕ) (c : List Member) → AllByRecursion (λ m. is_above member_place place_cmp never from m ≡ true) c → IfSome (next_after member_place place_cmp never n c) (StandsAfter from)
+  pub next_above : (n : ℕ) (c : List Member) → AllByRecursion (λ m. is_above member_place place_cmp never from m ≡ true) c → IfSome (next_after member_place place_cmp never n c) (StandsAfter from)
   next_above zero c h = tt
   next_above (suc n) [] h = tt
   next_above (suc zero) (x ∷ []) h = tt

@@ -13,3 +13,4 @@ pub mod Starts
 pub mod StartViews
 pub mod Paging
 pub mod PlaceBounds
+pub mod Laws

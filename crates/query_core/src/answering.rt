@@ -55,6 +55,7 @@ pub fn answer<S: Source, O: Output>(
         × Answered query.now lines (O.written out.old) (O.written out.new) report) }
     ensures parts { (texts : List (List ℕ)) → Known (map S.text sources.old) texts
         → IfOk result (AnsweredParts LINE_LIMIT query.now texts (O.written out.old) (O.written out.new)) }
+    ensures least { (texts : List (List ℕ)) → Known (map S.text sources.old) texts → IfOk result (λ report. report.given ≤ report.lines) }
     ensures page { (texts : List (List ℕ)) → (indexes : List (List Member)) → Known (map S.text sources.old) texts → AllTwo (IsIndex LINE_LIMIT) texts indexes
         → IfOk result (Answered query.now (collection indexes) (O.written out.old) (O.written out.new)) }
     ensures part { (texts : List (List ℕ)) → (indexes : List (List Member)) → Known (map S.text sources.old) texts → AllTwo (IsIndex LINE_LIMIT) texts indexes

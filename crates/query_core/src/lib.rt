@@ -4,6 +4,7 @@
 mod answering;
 mod checking;
 mod fault;
+mod laws;
 mod line_reading;
 mod merging;
 mod one_page;
@@ -16,6 +17,7 @@ mod target_range;
 pub use crate::answering::answer;
 pub use crate::checking::check;
 pub use crate::fault::AnswerFault;
+pub use crate::laws::pages_rise;
 pub use crate::merging::{SOURCES_LIMIT, merge};
 pub use crate::page_writer::{PageEnd, PageWriter};
 pub use crate::paging::pages;

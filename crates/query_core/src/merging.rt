@@ -7,6 +7,7 @@ ghost use Rattle.cdxj_core.specs.Members.{Member};
 ghost use Rattle.merge_core.specs.Collections.{Known, collection, Merged, WroteRising};
 ghost use Rattle.merge_core.specs.Failures.{RaisedAt};
 ghost use Rattle.merge_core.specs.Gathering.{AllTwo};
+ghost use Rattle.merge_core.specs.SourceLines.{WroteLinesOf};
 ghost use Rattle.merge_core.specs.Written.{lines_text};
 ghost use Rattle.query_core.specs.declared.merging.TheConstants.{SOURCES_LIMIT};
 ghost use Rattle.merge_core.specs.LineFaults as feed;
@@ -78,6 +79,7 @@ pub fn merge<S: Source, O: Output>(
         → IfOk result (Merged LINE_LIMIT texts (O.written out.old) (O.written out.new)) }
     ensures part { (texts : List (List ℕ)) → (indexes : List (List Member)) → Known (map S.text sources.old) texts → AllTwo (IsIndex LINE_LIMIT) texts indexes
         → AppendsPrefix (O.written out.old) (O.written out.new) (lines_text (collection indexes)) }
+    ensures lines { WroteLinesOf LINE_LIMIT (map S.text sources.old) (O.written out.old) (O.written out.new) }
     ensures rising { WroteRising (O.written out.old) (O.written out.new) }
 {
     if sources.len() > SOURCES_LIMIT {

@@ -7,6 +7,7 @@ use Rattle.merge_core.specs.Runs.{IsPart}
 use Rattle.query_core.specs.Collections.{collection}
 use Rattle.query_core.specs.WriterView.{from_view}
 use Rattle.query_core.proofs.AskedLemmas.{answered}
+use Rattle.query_core.proofs.FewerLines.{page_fewer}
 use Rattle.query_core.proofs.answering.answer.Goals as goal
 
 pub returns-then-sources-gt-SOURCES_LIMIT-clause-rising : goal.returns-then-sources-gt-SOURCES_LIMIT-clause-rising
@@ -34,3 +35,8 @@ returns-clause-parts g c = λ texts known.
       answered = answered c.args.query.now (from_view c.resume.result) c.limit.result c.shows_resume_key.result (collection w.parts) (g.O.Output.written c.args.out.now) (g.O.Output.written c.write_page.new.out)
           c.in_ok-page.page.end _ c.resume.ensures c.limit.ensures.value c.shows_resume_key.ensures refl c.is_some.ensures w.wrote;
     }
+
+pub returns-clause-least : goal.returns-clause-least
+returns-clause-least g c = λ texts known.
+    let p = returns-clause-parts g c texts known in
+    page_fewer c.args.query.now c.args.query.now.resume c.args.query.now.limit p.parts c.in_ok-page.page.end.given c.in_ok-page.page.lines p.answered.given p.lines

@@ -1,4 +1,4 @@
-use Rattle.std.proofs.Common.{map}
+use Rattle.std.proofs.Common.{map, []}
 use Rattle.devices.proofs.WritingLemmas.{wrote_nothing}
 use Rattle.query_core.proofs.merging.merge.Goals as goal
 
@@ -16,3 +16,6 @@ returns-in-Err-clause-kept g c = λ h. c.in-Err.ensures.kept (λ n e. h n (c.mer
 
 pub returns-in-Err-clause-unwritten : goal.returns-in-Err-clause-unwritten
 returns-in-Err-clause-unwritten g c = λ h. c.in-Err.ensures.unwritten (λ e. h (c.merge_fault.ensures.is_write e))
+
+pub returns-then-sources-gt-SOURCES_LIMIT-clause-lines : goal.returns-then-sources-gt-SOURCES_LIMIT-clause-lines
+returns-then-sources-gt-SOURCES_LIMIT-clause-lines g c = ([], record { rise = tt; each = tt }, wrote_nothing _ _)
