@@ -1,8 +1,19 @@
--- The reading of a query text by a command.
-use Rattle.std.specs.Prelude.{◌≡◌, ◌≢◌, ℕ, List, Result, Ok, Err}
+-- The reading of a query text by a command, and the answers that it writes.
+use Rattle.std.specs.Prelude.{◌≡◌, ◌≢◌, ℕ, List, Option, Result, Ok, Err, IfOk, IfErr}
+use Rattle.devices.specs.Device.{AppendsPrefix}
+use Rattle.cdxj_core.specs.declared.limit.TheConstants.{LINE_LIMIT}
+use Rattle.cdxj_core.specs.Indexes.{IsIndex}
+use Rattle.cdxj_core.specs.Members.{Member}
 use Rattle.query_text.specs.declared.fault.QueryFault.TheVariants as queries
 use Rattle.query_text.specs.declared.query.TheConstants.{QUERY_LIMIT}
 use Rattle.query_text.specs.Queries.{QueryValue, query_of}
+use Rattle.merge_core.specs.Collections.{Known, collection}
+use Rattle.merge_core.specs.Gathering.{AllTwo}
+use Rattle.query_core.specs.declared.fault.AnswerFault.{AnswerFault}
+use Rattle.query_core.specs.declared.report.Report.{Report}
+use Rattle.query_core.specs.Answering.{Answered}
+use Rattle.query_core.specs.LineFaults.{IsFaultOf}
+use Rattle.query_core.specs.QueryPages.{answer_text, query_page}
 use Rattle.warcdx.specs.declared.outcome.Outcome.{Outcome}
 use Rattle.warcdx.specs.declared.outcome.Outcome.TheVariants as outcomes
 
@@ -11,3 +22,18 @@ abbrev pub ReadsQuery : List ℕ → Result QueryValue Outcome → Type 0
 ReadsQuery text (Ok query) = query_of QUERY_LIMIT text ≡ Ok query
 ReadsQuery text (Err (outcomes.Query fault)) = fault ≢ queries.Memory → query_of QUERY_LIMIT text ≡ Err fault
 ReadsQuery text (Err outcome) = ⊥
+
+-- how a call on indexes ended
+abbrev pub answered_outcome : {A : Type 0} → Result A AnswerFault → Outcome
+answered_outcome (Ok answer) = outcomes.Done
+answered_outcome (Err fault) = outcomes.Answer fault
+
+-- a query was answered over sources: over indexes its page was written, whole or in part; a line that is named is at fault
+pub record AnswersQuery (query : QueryValue) (told : List (Option (List ℕ))) (before after : Option (List ℕ)) (outcome : Outcome) : Type 0 where
+  pub answer : Result Report AnswerFault
+  pub outcome_is : outcome ≡ answered_outcome answer
+  pub page : (texts : List (List ℕ)) → (indexes : List (List Member)) → Known told texts → AllTwo (IsIndex LINE_LIMIT) texts indexes
+      → IfOk answer (Answered query (collection indexes) before after)
+  pub part : (texts : List (List ℕ)) → (indexes : List (List Member)) → Known told texts → AllTwo (IsIndex LINE_LIMIT) texts indexes
+      → AppendsPrefix before after (answer_text query (query_page query (collection indexes)))
+  pub fault : IfErr answer (IsFaultOf LINE_LIMIT told)

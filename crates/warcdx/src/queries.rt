@@ -1,5 +1,6 @@
 //! The answers to queries.
-ghost use Rattle.warcdx.specs.Queries.{ReadsQuery};
+ghost use Rattle.std.specs.Prelude.{map};
+ghost use Rattle.warcdx.specs.Queries.{AnswersQuery, ReadsQuery};
 
 use crate::archives::open_indexes;
 use crate::faults::{say_query_fault, say_source_fault};
@@ -68,7 +69,9 @@ fn answer_opened<R: Runtime + AllocGlobal, S: Source, O: Output>(
     names: &[String],
     sources: &mut [S],
     out: &mut O,
-) -> Outcome {
+) -> Outcome
+    ensures { AnswersQuery query.now (map S.text sources.old) (O.written out.old) (O.written out.new) result }
+{
     match answer(rt.alloc(), sources, query, out) {
         Ok(_report) => Outcome::Done,
         Err(fault) => {
