@@ -1,5 +1,5 @@
 -- The reading of a query text by a command, and the answers that it writes.
-use Rattle.std.specs.Prelude.{◌≡◌, ◌≢◌, ℕ, List, Option, Result, Ok, Err, IfOk, IfErr}
+use Rattle.std.specs.Prelude.{◌≡◌, ◌≢◌, ℕ, true, List, Option, Result, Ok, Err, IfOk, IfErr}
 use Rattle.devices.specs.Device.{AppendsPrefix}
 use Rattle.cdxj_core.specs.declared.limit.TheConstants.{LINE_LIMIT}
 use Rattle.cdxj_core.specs.Indexes.{IsIndex}
@@ -13,6 +13,7 @@ use Rattle.query_core.specs.declared.fault.AnswerFault.{AnswerFault}
 use Rattle.query_core.specs.declared.report.Report.{Report}
 use Rattle.query_core.specs.Answering.{Answered}
 use Rattle.query_core.specs.LineFaults.{IsFaultOf}
+use Rattle.query_core.specs.Paging.{WrotePages, WrotePagesInPart, are_sizes}
 use Rattle.query_core.specs.QueryPages.{answer_text, query_page}
 use Rattle.warcdx.specs.declared.outcome.Outcome.{Outcome}
 use Rattle.warcdx.specs.declared.outcome.Outcome.TheVariants as outcomes
@@ -28,7 +29,7 @@ abbrev pub answered_outcome : {A : Type 0} → Result A AnswerFault → Outcome
 answered_outcome (Ok answer) = outcomes.Done
 answered_outcome (Err fault) = outcomes.Answer fault
 
--- a query was answered over sources: over indexes its page was written, whole or in part; a line that is named is at fault
+-- a query was answered over sources: over indexes its page was written, whole or in part; a line that a fault names is at fault
 pub record AnswersQuery (query : QueryValue) (told : List (Option (List ℕ))) (before after : Option (List ℕ)) (outcome : Outcome) : Type 0 where
   pub answer : Result Report AnswerFault
   pub outcome_is : outcome ≡ answered_outcome answer
@@ -36,4 +37,14 @@ pub record AnswersQuery (query : QueryValue) (told : List (Option (List ℕ))) (
       → IfOk answer (Answered query (collection indexes) before after)
   pub part : (texts : List (List ℕ)) → (indexes : List (List Member)) → Known told texts → AllTwo (IsIndex LINE_LIMIT) texts indexes
       → AppendsPrefix before after (answer_text query (query_page query (collection indexes)))
+  pub fault : IfErr answer (IsFaultOf LINE_LIMIT told)
+
+-- the same of the pages of these sizes
+pub record AnswersPages (query : QueryValue) (sizes : List ℕ) (told : List (Option (List ℕ))) (before after : Option (List ℕ)) (outcome : Outcome) : Type 0 where
+  pub answer : Result ℕ AnswerFault
+  pub outcome_is : outcome ≡ answered_outcome answer
+  pub pages : (texts : List (List ℕ)) → (indexes : List (List Member)) → Known told texts → AllTwo (IsIndex LINE_LIMIT) texts indexes
+      → IfOk answer (WrotePages query (collection indexes) sizes before after)
+  pub part : (texts : List (List ℕ)) → (indexes : List (List Member)) → Known told texts → AllTwo (IsIndex LINE_LIMIT) texts indexes
+      → are_sizes sizes ≡ true → WrotePagesInPart query (collection indexes) sizes before after
   pub fault : IfErr answer (IsFaultOf LINE_LIMIT told)

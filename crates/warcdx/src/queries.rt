@@ -1,6 +1,6 @@
 //! The answers to queries.
 ghost use Rattle.std.specs.Prelude.{map};
-ghost use Rattle.warcdx.specs.Queries.{AnswersQuery, ReadsQuery};
+ghost use Rattle.warcdx.specs.Queries.{AnswersPages, AnswersQuery, ReadsQuery};
 
 use crate::archives::open_indexes;
 use crate::faults::{say_query_fault, say_source_fault};
@@ -89,7 +89,9 @@ fn pages_opened<R: Runtime + AllocGlobal, S: Source, O: Output>(
     names: &[String],
     sources: &mut [S],
     out: &mut O,
-) -> Outcome {
+) -> Outcome
+    ensures { AnswersPages query.now sizes.now (map S.text sources.old) (O.written out.old) (O.written out.new) result }
+{
     match pages(rt.alloc(), sources, query, sizes, out) {
         Ok(_count) => Outcome::Done,
         Err(fault) => {
