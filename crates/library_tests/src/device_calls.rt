@@ -1,5 +1,7 @@
 //! Inputs and outputs: what no clause says, and values worked out by hand.
-use devices::{DeviceFault, FromRead, FromWrite, Fuse, Gather, Input, Output, Slice, put};
+use devices::{
+    DeviceFault, FromRead, FromWrite, Fuse, Gather, Input, InputLines, Output, Slice, put,
+};
 use std::io;
 use std::test::Fail;
 
@@ -12,6 +14,29 @@ fn reads_memory(rt: HostRuntime) -> Result<(), Fail> {
     for (count, text) in [(3, b"abc"), (2, b"dec"), (0, b"dec")] {
         assert_eq!(rt; input.read(&mut piece)?, count);
         assert_eq!(rt; piece.as_slice(), text.as_slice());
+    }
+    Ok(())
+}
+
+/// Of the fourth line, which is longer, the first five bytes are held.
+#[test]
+fn reads_lines(rt: HostRuntime) -> Result<(), Fail> {
+    let lines = [
+        b"one".as_slice(),
+        b"two".as_slice(),
+        b"".as_slice(),
+        b"longe".as_slice(),
+        b"end".as_slice(),
+    ];
+    for piece in [1, 2, 8192] {
+        let text = Slice::new(b"one\r\ntwo\n\nlonger\r\nend");
+        let mut input = Fuse::new(text, piece, u64::MAX);
+        let mut reader = InputLines::new(rt.alloc(), 5)?;
+        for line in &lines {
+            assert!(rt; reader.next(&mut input)?);
+            assert_eq!(rt; reader.line(), *line);
+        }
+        assert!(rt; !reader.next(&mut input)?);
     }
     Ok(())
 }
