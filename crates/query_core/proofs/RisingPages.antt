@@ -7,7 +7,6 @@ use Rattle.cdxj_places.specs.Rising.{Rises}
 use Rattle.cdxj_places.proofs.PlaceOrder.{place_cmp_total}
 use Rattle.cdxj_places.proofs.RisingLaws.{each_weaker, is_gt-true}
 use Rattle.cdxj_core.specs.Members.{Member, member_place}
-use Rattle.merge_core.proofs.CountLemmas.{each_take}
 use Rattle.merge_core.proofs.FeedLemmas.{each_join}
 use Rattle.query_text.specs.Queries.{QueryValue}
 use Rattle.query_text.specs.Matching.{matches}
@@ -20,6 +19,11 @@ use Rattle.query_core.specs.Paging.{IsPageOf, ArePagesOf}
 use Rattle.query_core.proofs.AskedLemmas.{asked_is}
 use Rattle.query_core.proofs.NextPlaces.{filter_holds, next_above, page_next_above}
 use Rattle.query_core.proofs.StartLemmas.{and_left, and_right}
+
+each_take : {X : Type 0} (A : X → Type 0) (n : ℕ) (xs : List X) → AllByRecursion A xs → AllByRecursion A (take n xs)
+each_take A zero xs h = tt
+each_take A (suc n) [] h = tt
+each_take A (suc n) (x ∷ xs) h = (h.0, each_take A n xs h.1)
 
 abbrev Above : PlaceValue → PlaceValue → Type 0
 Above r p = is_gt (place_cmp r p) ≡ true
