@@ -30,8 +30,8 @@ use std::alloc::Global;
 /// places, after its resume key and up to its limit. The resume key of the next page stands at its end where the query shows it
 /// and a further capture follows.
 ///
-/// `TooManySources` over `SOURCES_LIMIT` indexes comes before anything is read or written. `BadLine` and `OutOfOrder` name a line by which
-/// an index is none; only lines that are read are looked at. After a fault a front of the page was written, without its end.
+/// `TooManySources` over `SOURCES_LIMIT` indexes comes before anything is read or written. `BadLine` and `OutOfOrder` name a line
+/// by which an index is none; only lines that are read are looked at. After a fault a front of the page was written.
 pub fn answer<S: Source, O: Output>(
     alloc: Global,
     sources: &mut [S],

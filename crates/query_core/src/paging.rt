@@ -108,12 +108,12 @@ fn borrowed(place: &Option<OwnedPlace>) -> Option<Place<'_>>
     }
 }
 
-/// Writes the pages of a query, each of its size, until one has no successor, and answers how many they are. The last size is repeated.
-/// Each page begins after the place that is read of the resume key before it, the first after the query's own resume key,
-/// if it has one. Each page but the last ends with its resume key. The query's limit isn't used, nor whether it shows a key.
+/// Writes the pages of a query, each of its size, until one has no successor, and answers how many they are. The last size is
+/// repeated. Each page begins after the place that is read of the resume key before it, the first after the query's own resume
+/// key, if it has one. Each page but the last ends with its resume key. The query's limit isn't used, nor whether it shows a key.
 ///
 /// `BadSizes` where there are no sizes, or one of them is 0; then `TooManySources` over `SOURCES_LIMIT` indexes. Both come before
-/// anything is read or written. The other faults are those of `answer`.
+/// anything is read or written. The other faults are those of `answer`; after one a front of the pages was written.
 pub fn pages<S: Source, O: Output>(
     alloc: Global,
     sources: &mut [S],
