@@ -1,5 +1,5 @@
 -- Where the first line feed of a piece stands.
-use Rattle.std.proofs.Common.{◌≡◌, ℕ, zero, suc, ◌+◌, ◌-◌, ◌<◌, ◌≤◌, List, [], ◌∷◌, ◌++◌, length, take, drop, get_or, refl, sym, ap, ◌∙◌, subst, arith, eqb, ne_eqb, eqb-true, Bool, true, false, Option, Some, None, min}
+use Rattle.std.proofs.Common.{◌≡◌, ℕ, zero, suc, ◌+◌, ◌-◌, ◌<◌, ◌≤◌, List, [], ◌∷◌, ◌++◌, length, take, drop, get_or, sym, ap, ◌∙◌, subst, arith, eqb, ne_eqb, eqb-true, false, Option, Some, None, min}
 use Rattle.std.proofs.lemmas.List.{take_all, take_min}
 use Rattle.std.specs.Prelude.{MatchOption}
 use Rattle.memchr.specs.Find.{is_byte, IsFirstByte}
@@ -35,4 +35,3 @@ held (b ∷ line) bytes zero fits = absurd (omega arith)
 held (b ∷ line) bytes (suc most) fits =
     let e : suc most - suc (length line) ≡ most - length line = omega arith in
     ap (λ n. b ∷ (line ++ take (min n (length bytes)) bytes)) e ∙ ap (λ l. b ∷ l) (held line bytes most (omega arith))
-

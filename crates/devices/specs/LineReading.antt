@@ -1,5 +1,5 @@
 -- What the reading of a line takes from an input.
-use Rattle.std.specs.Prelude.{◌≡◌, ℕ, ◌+◌, ◌-◌, ◌^◌, ◌≤◌, ◌⊎◌, ⊤, Bool, true, false, List, [], ◌∷◌, ◌++◌, length, take, Option, None, Some, Result, MatchResult}
+use Rattle.std.specs.Prelude.{◌≡◌, ℕ, ◌+◌, ◌-◌, ◌^◌, ◌≤◌, ⊤, Bool, true, false, List, [], ◌∷◌, ◌++◌, length, take, Option, None, Some, Result, MatchResult}
 use Rattle.devices.specs.Device.{next_count}
 use Rattle.devices.specs.LineCuts.{HasNoLineFeed, cut_lines}
 use Rattle.devices.specs.declared.input_lines.Part.{Part}
