@@ -61,13 +61,7 @@ struct Ended {
 }
 
 /// The source fails at its call `read`, the output at its call `write`; 0 is never. A refused growth is an error.
-fn run(
-    alloc: Global,
-    call: Call,
-    piece: usize,
-    read: u64,
-    write: u64,
-) -> Result<Ended, Refused> {
+fn run(alloc: Global, call: Call, piece: usize, read: u64, write: u64) -> Result<Ended, Refused> {
     let Ok(query) = Query::read(alloc, QUERY) else {
         return Err(Refused::Memory);
     };

@@ -1,5 +1,7 @@
 //! Answers to queries over indexes.
-use crate::small_indexes::{APART, FIRST_OF_2016, HOSTS, LETTERS, Rows, files, index_texts, slices};
+use crate::small_indexes::{
+    APART, FIRST_OF_2016, HOSTS, LETTERS, Rows, files, index_texts, slices,
+};
 use devices::Gather;
 use query_core::{AnswerFault, Query, Report, SliceSource, Source, answer};
 use std::alloc::Global;
@@ -176,7 +178,11 @@ fn a_query_is_answered_by_its_page(rt: HostRuntime) -> Result<(), Fail> {
         let mut sources = slices(rt.alloc(), &texts)?;
         assert!(rt; answers(rt.alloc(), &mut sources, case)?, "{}", case.query);
         let mut files = files(&rt, &texts)?;
-        assert!(rt; answers(rt.alloc(), &mut files, case)?, "{} of files", case.query);
+        assert!(rt;
+            answers(rt.alloc(), &mut files, case)?,
+            "{} of files",
+            case.query
+        );
     }
     Ok(())
 }
@@ -199,9 +205,19 @@ const TEXTS: &[(&[u8], &[u8], &str, &[u8])] = &[
     (PAGE, IMAGE, "url=example.com&is=mimetype:image/png", b""),
     (PAGE, IMAGE, "url=example.com&fl=mimetype", b"text/html\n"),
     (IMAGE, PAGE, "url=example.com&fl=mimetype", b"image/png\n"),
-    (FOREIGN, PAGE, "url=example.com&fl=statuscode,filename&to=2015", b"200 example%20b.warc\n"),
+    (
+        FOREIGN,
+        PAGE,
+        "url=example.com&fl=statuscode,filename&to=2015",
+        b"200 example%20b.warc\n",
+    ),
     (FOREIGN, b"", "url=example.com&output=cdxj", FOREIGN_LINE),
-    (b"", FOREIGN, "url=example.com&output=cdxj&fl=offset", FOREIGN_LINE),
+    (
+        b"",
+        FOREIGN,
+        "url=example.com&output=cdxj&fl=offset",
+        FOREIGN_LINE,
+    ),
 ];
 
 /// The page of a query over these texts.
@@ -272,9 +288,11 @@ fn thousand_lines(alloc: Global) -> Result<Vec<u8>, Fail> {
     Ok(text)
 }
 
-const AFTER_499: &str = "url=example.com&fl=offset&limit=10&showResumeKey=true&resumeKey=com%2Cexample%29%2F+20160101000499+a.warc+499";
+const AFTER_499: &str =
+    "url=example.com&fl=offset&limit=10&showResumeKey=true&resumeKey=com%2Cexample%29%2F+20160101000499+a.warc+499";
 
-const FROM_500: &str = "500\n501\n502\n503\n504\n505\n506\n507\n508\n509\n\ncom%2Cexample%29%2F+20160101000509+a.warc+509\n";
+const FROM_500: &str =
+    "500\n501\n502\n503\n504\n505\n506\n507\n508\n509\n\ncom%2Cexample%29%2F+20160101000509+a.warc+509\n";
 
 #[test]
 fn a_page_begins_where_its_resume_key_says(rt: HostRuntime) -> Result<(), Fail> {

@@ -81,7 +81,11 @@ fn pages_follow_one_another(rt: HostRuntime) -> Result<(), Fail> {
         let mut sources = slices(rt.alloc(), &texts)?;
         assert!(rt; answers(rt.alloc(), &mut sources, case)?, "{}", case.query);
         let mut files = files(&rt, &texts)?;
-        assert!(rt; answers(rt.alloc(), &mut files, case)?, "{} of files", case.query);
+        assert!(rt;
+            answers(rt.alloc(), &mut files, case)?,
+            "{} of files",
+            case.query
+        );
     }
     Ok(())
 }

@@ -11,7 +11,12 @@ use std::test::Fail;
 const LINE: &[u8] =
     b"com,example)/ 20160101000000 {\"url\": \"http://x/ \\\"\\u00e9\\t\", \"status\": 200, \"offset\": \"007\", \"filename\": \"a b.warc\"}";
 
-const FIELDS: &[Field] = &[Field::Original, Field::Mimetype, Field::Statuscode, Field::Offset];
+const FIELDS: &[Field] = &[
+    Field::Original,
+    Field::Mimetype,
+    Field::Statuscode,
+    Field::Offset,
+];
 
 /// Forms of a page, and the page of that line with a resume key.
 const FORMS: &[(PageForm, &str)] = &[
@@ -75,11 +80,18 @@ fn a_page_is_full_at_its_limit(rt: HostRuntime) -> Result<(), Fail> {
     let mut writer = PageWriter::begin(rt.alloc(), &query, None, Some(2), &mut out)?;
     for (at, wanted) in [(0, true), (145, true), (290, false)] {
         let line = Line::read(rt.alloc(), text.get(at..at + 144).unwrap_or(b""))?;
-        assert_eq!(rt; writer.take(rt.alloc(), &[&line], &mut out)?, wanted, "{at}");
+        assert_eq!(rt;
+            writer.take(rt.alloc(), &[&line], &mut out)?,
+            wanted,
+            "{at}"
+        );
     }
     let end = writer.end(rt.alloc(), true, &mut out)?;
     assert_eq!(rt; (end.given, end.next.is_some()), (2, true));
-    assert_eq!(rt; out.bytes(), b"0\n1\n\nb%29%2F+20160101000000+a.warc+1\n".as_slice());
+    assert_eq!(rt;
+        out.bytes(),
+        b"0\n1\n\nb%29%2F+20160101000000+a.warc+1\n".as_slice()
+    );
     Ok(())
 }
 
@@ -115,7 +127,11 @@ fn sources_are_opened_at_a_pair(rt: HostRuntime) -> Result<(), Fail> {
             &mut writer,
             &mut out,
         )?;
-        assert_eq!(rt; out.bytes(), text.get(*before..).unwrap_or(b""), "{key} {stamp}");
+        assert_eq!(rt;
+            out.bytes(),
+            text.get(*before..).unwrap_or(b""),
+            "{key} {stamp}"
+        );
         assert!(rt; opened.probes <= 9, "{key} {stamp}");
     }
     Ok(())

@@ -198,9 +198,7 @@ fn are_pages(task: &Task, wanted: &[u64], text: &str, indexes: &[&str]) -> bool 
             query,
             names,
         } => {
-            sizes.as_slice() == wanted
-                && query.as_str() == text
-                && are(names.as_slice(), indexes)
+            sizes.as_slice() == wanted && query.as_str() == text && are(names.as_slice(), indexes)
         }
         _ => false,
     }
