@@ -31,7 +31,11 @@ counts_line (fault.BadLine n offset) ss ss' out out' input mid input' taken text
 counts_line (fault.OutOfOrder n offset) ss ss' out out' input mid input' taken text now s o i t c = absurd c
 counts_line fault.TooManySources ss ss' out out' input mid input' taken text now s o i t c = absurd c
 counts_line fault.BadSizes ss ss' out out' input mid input' taken text now s o i t c = absurd c
-counts_line fault.Input ss ss' out out' input mid input' taken text now s o i t c = (s, o, elim c [
-  | inl failed ↦ inl (subst (λ n. input' ≡ next_count n) i failed)
-  | inr long ↦ inr (long.0 ∙ i, full-earlier text now 0 taken t long.1)
-])
+counts_line fault.Input ss ss' out out' input mid input' taken text now s o i t c = (
+  s,
+  o,
+  elim c [
+    | inl failed ↦ inl (subst (λ n. input' ≡ next_count n) i failed)
+    | inr long ↦ inr (long.0 ∙ i, full-earlier text now 0 taken t long.1)
+  ],
+)

@@ -45,12 +45,7 @@ pub(crate) fn put_refusal<O: Output>(
     }
 }
 
-fn fault_line(
-    alloc: Global,
-    name: &str,
-    index: usize,
-    offset: u64,
-) -> Result<Vec<u8>, AllocError>
+fn fault_line(alloc: Global, name: &str, index: usize, offset: u64) -> Result<Vec<u8>, AllocError>
     ensures { IfOk result (λ text. text.items ≡ fault_line name.now index offset) }
 {
     let mut text = Vec::new(alloc);
