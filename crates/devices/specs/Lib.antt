@@ -5,4 +5,3 @@ pub mod FromStd
 pub mod Fused
 pub mod LineCuts
 pub mod LineReading
-pub mod Prompted

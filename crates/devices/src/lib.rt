@@ -10,7 +10,6 @@ mod fuse;
 mod input_lines;
 mod line_cuts;
 mod memory;
-mod prompt;
 mod standard;
 
 pub use crate::buffer::{Buffer, PIECE};
@@ -18,5 +17,4 @@ pub use crate::device::{DeviceFault, Input, Output, put};
 pub use crate::fuse::Fuse;
 pub use crate::input_lines::{INPUT_LIMIT, InputLineFault, InputLines};
 pub use crate::memory::{Gather, Slice};
-pub use crate::prompt::Prompt;
 pub use crate::standard::{FromRead, FromWrite};

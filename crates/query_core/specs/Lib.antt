@@ -14,6 +14,3 @@ pub mod StartViews
 pub mod Paging
 pub mod PlaceBounds
 pub mod Laws
-pub mod Replies
-pub mod Conversations
-pub mod ReplyFaults

@@ -3,7 +3,6 @@
 
 mod archives;
 mod checks;
-mod conversing;
 mod faults;
 mod fetching;
 mod indexing;
