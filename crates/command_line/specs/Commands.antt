@@ -21,6 +21,7 @@ pub data Meaning : Type 0 where
   ToCheck : List Text → Meaning
   ToQuery : Text → List Text → Meaning
   ToPages : List ℕ → Text → List Text → Meaning
+  ToServe : List Text → Meaning
   ToGet : ℕ → Text → Meaning
 
 -- which operands a command takes, and the task that they make: one name or more; those after a query, or after sizes and a query; an
@@ -34,7 +35,7 @@ pub data Form : Type 0 where
 abbrev pub commands : List (Text × Form)
 commands = (codes "list", Names ToList) ∷ (codes "verify", Names ToVerify) ∷ (codes "index", Names ToIndex)
     ∷ (codes "merge", Names ToMerge) ∷ (codes "check", Names ToCheck) ∷ (codes "query", Query ToQuery)
-    ∷ (codes "pages", Sizes ToPages) ∷ (codes "get", Offset ToGet) ∷ []
+    ∷ (codes "pages", Sizes ToPages) ∷ (codes "serve", Names ToServe) ∷ (codes "get", Offset ToGet) ∷ []
 
 -- ---- words with a task
 
@@ -85,6 +86,7 @@ view (task.Merge names) = ToMerge (texts names.items)
 view (task.Check names) = ToCheck (texts names.items)
 view (task.Query query names) = ToQuery (string_bytes query) (texts names.items)
 view (task.Pages sizes query names) = ToPages sizes.items (string_bytes query) (texts names.items)
+view (task.Serve names) = ToServe (texts names.items)
 view (task.Get offset name) = ToGet offset (string_bytes name)
 
 -- nothing for want of memory

@@ -5,7 +5,7 @@ ghost use Rattle.command_line.specs.Clap.{word_rule, names_rule, command_with, w
 
 use crate::help::{
     ARCHIVE, CDXJ, CHECK, GET, INDEX, LIST, MERGE, OFFSET, Operand, PAGES, PROGRAM, Page, QUERY,
-    QUERY_TEXT, SIZES, VERIFY,
+    QUERY_TEXT, SERVE, SIZES, VERIFY,
 };
 use clap::{Arg, Command};
 use std::alloc::{AllocError, Global};
@@ -27,7 +27,8 @@ pub fn command_line<'a>(alloc: Global) -> Result<Command<'a>, AllocError>
     let check = with_names(merge, alloc, "check", CHECK, CDXJ)?;
     let query = with_query(check, alloc, "query", QUERY, CDXJ)?;
     let pages = with_sizes(query, alloc, "pages", PAGES, CDXJ)?;
-    with_offset(pages, alloc, "get", GET, ARCHIVE)
+    let serve = with_names(pages, alloc, "serve", SERVE, CDXJ)?;
+    with_offset(serve, alloc, "get", GET, ARCHIVE)
 }
 
 /// The command with one more, which takes one operand or more.

@@ -303,6 +303,42 @@ Exit status:
   3  a file can't be opened or read, or memory or the output failed",
 };
 
+pub const SERVE: Page = Page {
+    about: "Answers queries line by line",
+    details: "\
+Reads queries from standard input, a line each, and writes a reply to each: what
+'warcdx query' writes for it, and then a line with a period alone. A reply has
+left the program before the next line is waited for.
+
+A query that is refused gets
+
+  refused CAUSE
+
+and one of more than 65,536 bytes QueryTooLong, one that isn't UTF-8 NotText. An
+index that is found not to be in order ends its reply, after what was written, by
+
+  fault CAUSE NUMBER OFFSET
+
+where NUMBER is that of the index, counted from 0. Then the next line is read.
+
+All indexes are opened first. What ends the command is reported on standard
+error:
+
+  warcdx: NAME: cannot open
+  warcdx: NAME: Read
+  warcdx: TooManySources
+
+Examples:
+  printf 'url=example.com\\nurl=example.org\\n' | warcdx serve crawl.cdxj
+  socat TCP-LISTEN:8080,fork,reuseaddr EXEC:'warcdx serve crawl.cdxj'
+
+Exit status:
+  0  the input ended
+  1  there are too many indexes
+  2  the words mean nothing
+  3  a file can't be opened or read, or memory, the input or the output failed",
+};
+
 pub const GET: Page = Page {
     about: "Writes the record at an offset of an archive",
     details: "\

@@ -43,6 +43,7 @@ fn command_task(
         "check" => Ok(names_of(alloc, values)?.map(|names| Task::Check { names })),
         "query" => query_task(alloc, values),
         "pages" => pages_task(alloc, values),
+        "serve" => Ok(names_of(alloc, values)?.map(|names| Task::Serve { names })),
         "get" => get_task(alloc, values),
         _ => Ok(None),
     }

@@ -34,6 +34,10 @@ pub enum Task {
         query: String,
         names: Vec<String>,
     },
+    /// Answer the queries on standard input over the indexes.
+    Serve {
+        names: Vec<String>,
+    },
     /// Write the record that begins at the offset, in bytes from the archive's start.
     Get {
         offset: u64,

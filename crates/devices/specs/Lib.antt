@@ -5,3 +5,4 @@ pub mod FromStd
 pub mod Fused
 pub mod LineCuts
 pub mod LineReading
+pub mod Prompted

@@ -10,6 +10,7 @@ mod fuse;
 mod input_lines;
 mod line_cuts;
 mod memory;
+mod prompt;
 mod standard;
 
 pub use crate::buffer::{Buffer, PIECE};
@@ -17,4 +18,5 @@ pub use crate::device::{DeviceFault, Input, Output, put};
 pub use crate::fuse::Fuse;
 pub use crate::input_lines::{INPUT_LIMIT, InputLineFault, InputLines};
 pub use crate::memory::{Gather, Slice};
+pub use crate::prompt::Prompt;
 pub use crate::standard::{FromRead, FromWrite};

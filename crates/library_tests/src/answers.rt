@@ -1,6 +1,6 @@
 //! Answers to queries over indexes.
 use crate::small_indexes::{
-    APART, FIRST_OF_2016, HOSTS, LETTERS, Rows, files, index_texts, slices,
+    APART, FIRST_OF_2016, HOSTS, LETTERS, Rows, files, in_memory, index_texts, slices,
 };
 use devices::Gather;
 use query_core::{AnswerFault, Query, Report, SliceSource, Source, answer};
@@ -166,7 +166,7 @@ const CASES: &[Case] = &[
 fn answers<S: Source>(alloc: Global, sources: &mut [S], case: &Case) -> Result<bool, Fail> {
     let query = Query::read(alloc, case.query)?;
     let mut out = Gather::new(alloc);
-    let report = answer(alloc, sources, &query, &mut out)?;
+    let report = in_memory(answer(alloc, sources, &query, &mut out))?;
     let counts = (report.given, report.more) == (case.given, case.more);
     Ok(counts && out.bytes() == case.page.as_bytes())
 }
@@ -225,7 +225,7 @@ fn page(alloc: Global, texts: [&[u8]; 2], text: &str) -> Result<Gather, Fail> {
     let query = Query::read(alloc, text)?;
     let mut sources = [SliceSource::new(texts[0]), SliceSource::new(texts[1])];
     let mut out = Gather::new(alloc);
-    let _report = answer(alloc, &mut sources, &query, &mut out)?;
+    let _report = in_memory(answer(alloc, &mut sources, &query, &mut out))?;
     Ok(out)
 }
 
@@ -245,7 +245,7 @@ fn the_first_line_of_a_place_counts_before_filters_do(rt: HostRuntime) -> Result
 fn report(alloc: Global, texts: &[Vec<u8>], text: &str) -> Result<Report, Fail> {
     let query = Query::read(alloc, text)?;
     let mut sources = slices(alloc, texts)?;
-    Ok(answer(alloc, &mut sources, &query, &mut Gather::new(alloc))?)
+    Ok(in_memory(answer(alloc, &mut sources, &query, &mut Gather::new(alloc)))?)
 }
 
 /// Queries over the letters, and how many lines are given, and at most read.
@@ -300,7 +300,7 @@ fn a_page_begins_where_its_resume_key_says(rt: HostRuntime) -> Result<(), Fail> 
     let query = Query::read(rt.alloc(), AFTER_499)?;
     let mut sources = [SliceSource::new(&text)];
     let mut out = Gather::new(rt.alloc());
-    let report = answer(rt.alloc(), &mut sources, &query, &mut out)?;
+    let report = in_memory(answer(rt.alloc(), &mut sources, &query, &mut out))?;
     assert_eq!(rt; out.bytes(), FROM_500.as_bytes());
     assert!(rt; report.lines >= 10 && report.lines <= 13, "{report:?}");
     assert!(rt; report.held <= 2, "{report:?}");
@@ -322,6 +322,9 @@ fn at_most_1024_indexes_are_asked(rt: HostRuntime) -> Result<(), Fail> {
     );
     assert_eq!(rt; out.bytes(), b"".as_slice());
     let _source = sources.pop();
-    assert_eq!(rt; answer(alloc, &mut sources, &query, &mut out)?.given, 0);
+    assert_eq!(rt;
+        in_memory(answer(alloc, &mut sources, &query, &mut out))?.given,
+        0
+    );
     Ok(())
 }

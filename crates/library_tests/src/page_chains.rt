@@ -1,5 +1,5 @@
 //! The pages of queries, one after another.
-use crate::small_indexes::{APART, HOSTS, LETTERS, Rows, files, index_texts, slices};
+use crate::small_indexes::{APART, HOSTS, LETTERS, Rows, files, in_memory, index_texts, slices};
 use devices::Gather;
 use query_core::{AnswerFault, Query, SliceSource, Source, answer, pages};
 use std::alloc::Global;
@@ -70,7 +70,7 @@ const CASES: &[Case] = &[
 fn answers<S: Source>(alloc: Global, sources: &mut [S], case: &Case) -> Result<bool, Fail> {
     let query = Query::read(alloc, case.query)?;
     let mut out = Gather::new(alloc);
-    let count = pages(alloc, sources, &query, case.sizes, &mut out)?;
+    let count = in_memory(pages(alloc, sources, &query, case.sizes, &mut out))?;
     Ok(count == case.count && out.bytes() == case.pages.as_bytes())
 }
 
@@ -111,7 +111,7 @@ fn step(
     )?;
     let query = Query::read(alloc, text.as_str())?;
     let mut out = Gather::new(alloc);
-    let _report = answer(alloc, sources, &query, &mut out)?;
+    let _report = in_memory(answer(alloc, sources, &query, &mut out))?;
     let (page, next) = cut_key(str::from_utf8(out.bytes())?);
     rows.push_str(page)?;
     rows.push_str("\n")?;

@@ -1,5 +1,5 @@
 //! Small indexes, and sources over them.
-use query_core::{FileSource, SliceSource};
+use query_core::{AnswerFault, FileSource, SliceSource};
 use std::alloc::{AllocError, Global};
 use std::fs::{self, File, Files};
 use std::rt::Runtime;
@@ -32,6 +32,14 @@ pub const LETTERS: Rows = &[
     ("b)/", FIRST_OF_2016, "a.warc", 1),
     ("c)/", FIRST_OF_2016, "a.warc", 2),
 ];
+
+/// The answer of a call that writes into memory. A growth that is refused there is the output's failure; here it is want of memory.
+pub fn in_memory<T>(answer: Result<T, AnswerFault>) -> Result<T, AnswerFault> {
+    match answer {
+        Err(AnswerFault::Write) => Err(AnswerFault::Memory),
+        answer => answer,
+    }
+}
 
 /// The text of an index.
 pub fn index_text(alloc: Global, rows: &[Row]) -> Result<Vec<u8>, AllocError> {

@@ -15,3 +15,7 @@ pub mod NextPlaces
 pub mod RisingPages
 pub mod Ranks
 pub mod PlaceReading
+pub mod SoundIndexes
+pub mod LineReplies
+pub mod ReplyCounts
+pub mod ReplyLemmas

@@ -14,3 +14,6 @@ pub mod StartViews
 pub mod Paging
 pub mod PlaceBounds
 pub mod Laws
+pub mod Replies
+pub mod Conversations
+pub mod ReplyFaults

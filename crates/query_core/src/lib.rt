@@ -10,7 +10,9 @@ mod merging;
 mod one_page;
 mod page_writer;
 mod paging;
+mod reply_texts;
 mod report;
+mod serving;
 mod start;
 mod target_range;
 
@@ -22,5 +24,6 @@ pub use crate::merging::{SOURCES_LIMIT, merge};
 pub use crate::page_writer::{PageEnd, PageWriter};
 pub use crate::paging::pages;
 pub use crate::report::Report;
+pub use crate::serving::serve;
 pub use query_text::{Query, QueryFault};
 pub use source_core::{FileSource, SliceSource, Source, SourceFault};

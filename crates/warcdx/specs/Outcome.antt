@@ -113,6 +113,7 @@ message_of (outcomes.Query queries.Memory) = Some (codes "Memory")
 message_of (outcomes.Answer answers.Memory) = Some (codes "Memory")
 message_of (outcomes.Answer answers.Write) = Some (codes "Write")
 message_of (outcomes.Answer answers.TooManySources) = Some (codes "TooManySources")
+message_of (outcomes.Answer answers.Input) = Some (codes "Input")
 message_of outcomes.CannotFlush = Some (codes "cannot flush")
 message_of outcome = None
 

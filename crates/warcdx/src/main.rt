@@ -3,6 +3,7 @@
 
 mod archives;
 mod checks;
+mod conversing;
 mod faults;
 mod fetching;
 mod indexing;

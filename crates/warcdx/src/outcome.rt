@@ -75,6 +75,7 @@ pub fn message(outcome: Outcome) -> Option<&'static str>
         Outcome::Answer(AnswerFault::Memory) => Some("Memory"),
         Outcome::Answer(AnswerFault::Write) => Some("Write"),
         Outcome::Answer(AnswerFault::TooManySources) => Some("TooManySources"),
+        Outcome::Answer(AnswerFault::Input) => Some("Input"),
         Outcome::CannotFlush => Some("cannot flush"),
         _ => None,
     }

@@ -6,6 +6,7 @@ ghost use Rattle.warcdx.specs.Outcome.{IsHelpOutcome};
 ghost use Rattle.warcdx.specs.Words.{EndsWords};
 
 use crate::checks::check_all;
+use crate::conversing::serve_all;
 use crate::fetching::fetch;
 use crate::indexing::index_all;
 use crate::merging::merge_all;
@@ -13,6 +14,7 @@ use crate::outcome::{Outcome, flushed_outcome, message};
 use crate::queries::{answer_query, write_pages};
 use crate::reports::{ArchiveReport, report_on};
 use command_line::{Task, WordsFault, read_words};
+use devices::Prompt;
 use index_core::IndexFault;
 use std::env;
 use std::io::{self, BufWriter, ErrorKind, Write};
@@ -79,7 +81,10 @@ fn run_task<R: Runtime + AllocGlobal>(rt: &R, task: &Task) -> Outcome {
     let Ok(mut writer) = BufWriter::with_capacity(rt.alloc(), OUTPUT_ROOM, io::writer(rt)) else {
         return say_outcome(rt, MEMORY);
     };
-    let outcome = perform(rt, task, &mut FromWrite::new(&mut writer));
+    let outcome = match task {
+        Task::Serve { .. } => perform(rt, task, &mut Prompt::new(&mut writer)),
+        _ => perform(rt, task, &mut FromWrite::new(&mut writer)),
+    };
     let flushed = writer.flush();
     say_outcome(rt, flushed_outcome(outcome, flushed.is_ok()))
 }
@@ -98,6 +103,7 @@ pub fn perform<R: Runtime + AllocGlobal, O: Output>(rt: &R, task: &Task, out: &m
             query,
             names,
         } => write_pages(rt, sizes, query, names, out),
+        Task::Serve { names } => serve_all(rt, names, out),
         Task::Get { offset, name } => fetch(rt, *offset, name, out),
     }
 }

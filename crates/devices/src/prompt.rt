@@ -1,0 +1,69 @@
+//! An output for a client that waits for each reply.
+ghost use Rattle.std.specs.Prelude.{◌≡◌, ◌≤◌, None, IfOk, length};
+ghost use Rattle.std.specs.Io.KnownBytes.{WriteAppends};
+ghost use Rattle.devices.specs.Device.{CountsFailure, TakesSome};
+ghost use Rattle.devices.specs.Prompted.{prompt_failures};
+
+use crate::device::{DeviceFault, Output};
+use std::io;
+
+/// A buffered writer of `std` as an output. Its bytes are not known. The writer's `Ok(0)` for a piece that isn't empty is a failure.
+///
+/// The writer is flushed after a piece that ends with a line `.` or is a line feed alone. So a reply that ends with a line `.` in a
+/// piece of its own has left the buffer once that piece was put. A flush that fails is a failure of the piece.
+#[derive(Drop)]
+pub struct Prompt<W> {
+    writer: W,
+    failures: u64,
+}
+
+impl<W> Prompt<W> {
+    /// The output over a writer.
+    pub fn new(writer: W) -> Prompt<W>
+        ensures { prompt_failures result ≡ 0 }
+    {
+        Prompt {
+            writer,
+            failures: 0,
+        }
+    }
+}
+
+fn ends_reply(piece: &[u8]) -> bool {
+    match piece {
+        [b'\n'] | [.., b'.', b'\n'] => true,
+        _ => false,
+    }
+}
+
+/// Writes a piece, and hands on what is buffered where the piece was taken whole and ends a reply.
+fn write_promptly<W: io::Write>(writer: &mut W, piece: &[u8]) -> Result<usize, io::Error>
+    ensures { IfOk result (λ n. n ≤ length piece.now) }
+{
+    let count = writer.write(piece)?;
+    if count == piece.len() && ends_reply(piece) {
+        writer.flush()?;
+    }
+    Ok(count)
+}
+
+impl<W: io::Write> Output for Prompt<W> {
+    ghost written = { λ _. None };
+
+    ghost failures = { prompt_failures };
+
+    /// Writes what the writer takes.
+    fn write(&mut self, piece: &[u8]) -> Result<usize, DeviceFault>
+        ensures some { IfOk result (TakesSome piece.now) }
+        ensures bytes { WriteAppends None None result piece.now }
+        ensures failures { CountsFailure result (prompt_failures self.old) (prompt_failures self.new) }
+    {
+        match write_promptly(&mut self.writer, piece) {
+            Ok(count) if count > 0 || piece.is_empty() => Ok(count),
+            _ => {
+                self.failures = self.failures.saturating_add(1);
+                Err(DeviceFault)
+            }
+        }
+    }
+}

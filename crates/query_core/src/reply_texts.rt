@@ -1,0 +1,77 @@
+//! The texts of replies that are no pages.
+ghost use Rattle.std.specs.Prelude.{◌≡◌, ◌∷◌, ◌++◌, [], IfOk, IfErr, codes};
+ghost use Rattle.devices.specs.Writing.{WritesText};
+ghost use Rattle.query_core.specs.Replies.{refusal_text, fault_line};
+ghost use Rattle.query_core.specs.ReplyFaults.{CountsReply};
+
+use crate::fault::AnswerFault;
+use devices::{Output, put};
+use itoa::Buffer;
+use std::alloc::{AllocError, Global};
+
+/// Writes a text.
+pub(crate) fn put_text<O: Output>(text: &[u8], out: &mut O) -> Result<(), AnswerFault>
+    ensures text { WritesText result (O.written out.old) (O.written out.new) text.now }
+    ensures failures { CountsReply result (O.failures out.old) (O.failures out.new) }
+{
+    match put(out, text) {
+        Ok(()) => Ok(()),
+        Err(_) => Err(AnswerFault::Write),
+    }
+}
+
+fn refusal(alloc: Global, name: &str) -> Result<Vec<u8>, AllocError>
+    ensures { IfOk result (λ text. text.items ≡ refusal_text name.now) }
+{
+    let mut text = Vec::new(alloc);
+    text.extend_from_slice(b"refused ")?;
+    text.extend_from_slice(name.as_bytes())?;
+    text.push(b'\n')?;
+    Ok(text)
+}
+
+/// Writes that a line was refused, and by which name.
+pub(crate) fn put_refusal<O: Output>(
+    alloc: Global,
+    name: &str,
+    out: &mut O,
+) -> Result<(), AnswerFault>
+    ensures text { WritesText result (O.written out.old) (O.written out.new) (refusal_text name.now) }
+    ensures failures { CountsReply result (O.failures out.old) (O.failures out.new) }
+{
+    match refusal(alloc, name) {
+        Ok(text) => put_text(&text, out),
+        Err(_) => Err(AnswerFault::Memory),
+    }
+}
+
+fn fault_line(alloc: Global, name: &str, index: usize, offset: u64) -> Result<Vec<u8>, AllocError>
+    ensures { IfOk result (λ text. text.items ≡ fault_line name.now index offset) }
+{
+    let mut text = Vec::new(alloc);
+    text.extend_from_slice(b"\nfault ")?;
+    text.extend_from_slice(name.as_bytes())?;
+    text.push(b' ')?;
+    text.extend_from_slice(Buffer::new().format(index).as_bytes())?;
+    text.push(b' ')?;
+    text.extend_from_slice(Buffer::new().format(offset).as_bytes())?;
+    text.push(b'\n')?;
+    Ok(text)
+}
+
+/// Writes, behind what was written of a page, at which line of which index the fault of this name lies.
+pub(crate) fn put_fault_line<O: Output>(
+    alloc: Global,
+    name: &str,
+    index: usize,
+    offset: u64,
+    out: &mut O,
+) -> Result<(), AnswerFault>
+    ensures text { WritesText result (O.written out.old) (O.written out.new) (fault_line name.now index offset) }
+    ensures failures { CountsReply result (O.failures out.old) (O.failures out.new) }
+{
+    match fault_line(alloc, name, index, offset) {
+        Ok(text) => put_text(&text, out),
+        Err(_) => Err(AnswerFault::Memory),
+    }
+}

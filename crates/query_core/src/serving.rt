@@ -1,0 +1,168 @@
+//! A conversation: a reply to each line of an input.
+ghost use Rattle.std.specs.Prelude.{◌≡◌, ◌-◌, ◌^◌, ◌<◌, ◌≤◌, ◌≢◌, ℕ, List, length, map, true, Err, IfOk, IfErr, OnOk};
+ghost use Rattle.std.specs.Io.KnownBytes.{prepend_known};
+ghost use Rattle.cdxj_core.specs.declared.limit.TheConstants.{LINE_LIMIT};
+ghost use Rattle.cdxj_core.specs.Indexes.{IsIndex};
+ghost use Rattle.cdxj_core.specs.Members.{Member};
+ghost use Rattle.devices.specs.LineReading.{CountsTaken, TakesLine};
+ghost use Rattle.devices.specs.Writing.{WritesText};
+ghost use Rattle.query_text.specs.declared.query.TheConstants.{QUERY_LIMIT};
+ghost use Rattle.merge_core.specs.Collections.{Known};
+ghost use Rattle.merge_core.specs.Gathering.{AllTwo};
+ghost use Rattle.query_core.specs.declared.merging.TheConstants.{SOURCES_LIMIT};
+ghost use Rattle.query_core.specs.Collections.{collection};
+ghost use Rattle.query_core.specs.QueryPages.{query_page, answer_text};
+ghost use Rattle.query_core.specs.Replies.{marked_reply, reply_of, reply_text};
+ghost use Rattle.query_core.specs.Conversations.{Replied, RepliedInPart};
+ghost use Rattle.query_core.specs.ReplyFaults.{CountsAnswer, CountsLine, CountsServing};
+
+use crate::answering::answer;
+use crate::fault::AnswerFault;
+use crate::merging::SOURCES_LIMIT;
+use crate::reply_texts::{put_fault_line, put_refusal, put_text};
+use devices::{Input, InputLineFault, InputLines, Output};
+use query_text::{QUERY_LIMIT, Query, QueryFault};
+use source_core::Source;
+use std::alloc::Global;
+
+/// Bytes of a line that are held. They show that a line is over the limit of a query, whether or not it ends with a carriage return.
+const LINE_HELD: usize = QUERY_LIMIT + 2;
+
+/// Writes the page of a query, and the fault of an index behind what was written.
+fn reply_to_query<S: Source, O: Output>(
+    alloc: Global,
+    sources: &mut [S],
+    query: &Query,
+    out: &mut O,
+) -> Result<(), AnswerFault>
+    ensures texts { map S.text sources.new ≡ map S.text sources.old }
+    ensures few { length sources.old ≤ SOURCES_LIMIT → IfErr result (λ e. e ≢ AnswerFault.TooManySources) }
+    ensures failures { CountsAnswer result (map S.failures sources.old) (map S.failures sources.new) (O.failures out.old) (O.failures out.new) }
+    ensures text { (texts : List (List ℕ)) → (indexes : List (List Member)) → Known (map S.text sources.old) texts → AllTwo (IsIndex LINE_LIMIT) texts indexes
+        → WritesText result (O.written out.old) (O.written out.new) (answer_text query.now (query_page query.now (collection indexes))) }
+{
+    match answer(alloc, sources, query, out) {
+        Ok(_) => Ok(()),
+        Err(AnswerFault::BadLine(index, offset)) => {
+            put_fault_line(alloc, "BadLine", index, offset, out)
+        }
+        Err(AnswerFault::OutOfOrder(index, offset)) => {
+            put_fault_line(alloc, "OutOfOrder", index, offset, out)
+        }
+        Err(fault) => Err(fault),
+    }
+}
+
+/// Writes the reply to a text.
+fn reply_to_text<S: Source, O: Output>(
+    alloc: Global,
+    sources: &mut [S],
+    text: &str,
+    out: &mut O,
+) -> Result<(), AnswerFault>
+    ensures texts { map S.text sources.new ≡ map S.text sources.old }
+    ensures few { length sources.old ≤ SOURCES_LIMIT → IfErr result (λ e. e ≢ AnswerFault.TooManySources) }
+    ensures failures { CountsAnswer result (map S.failures sources.old) (map S.failures sources.new) (O.failures out.old) (O.failures out.new) }
+    ensures text { (texts : List (List ℕ)) → (indexes : List (List Member)) → Known (map S.text sources.old) texts → AllTwo (IsIndex LINE_LIMIT) texts indexes
+        → WritesText result (O.written out.old) (O.written out.new) (reply_of QUERY_LIMIT (collection indexes) text.now) }
+{
+    match Query::read(alloc, text) {
+        Ok(query) => reply_to_query(alloc, sources, &query, out),
+        Err(QueryFault::Memory) => Err(AnswerFault::Memory),
+        Err(fault) => put_refusal(alloc, fault.name(), out),
+    }
+}
+
+/// Writes the reply to a line, of which at least the first `LINE_HELD` bytes are given.
+fn reply_to_line<S: Source, O: Output>(
+    alloc: Global,
+    sources: &mut [S],
+    line: &[u8],
+    out: &mut O,
+) -> Result<(), AnswerFault>
+    ensures texts { map S.text sources.new ≡ map S.text sources.old }
+    ensures few { length sources.old ≤ SOURCES_LIMIT → IfErr result (λ e. e ≢ AnswerFault.TooManySources) }
+    ensures failures { CountsAnswer result (map S.failures sources.old) (map S.failures sources.new) (O.failures out.old) (O.failures out.new) }
+    ensures text { (texts : List (List ℕ)) → (indexes : List (List Member)) → Known (map S.text sources.old) texts → AllTwo (IsIndex LINE_LIMIT) texts indexes
+        → WritesText result (O.written out.old) (O.written out.new) (reply_text QUERY_LIMIT (reply_of QUERY_LIMIT (collection indexes)) line.now) }
+{
+    if line.len() > QUERY_LIMIT {
+        return put_refusal(alloc, "QueryTooLong", out);
+    }
+    match str::from_utf8(line) {
+        Ok(text) => reply_to_text(alloc, sources, text, out),
+        Err(_) => put_refusal(alloc, "NotText", out),
+    }
+}
+
+/// Writes the reply to a line, and the line `.` behind it.
+fn reply_and_mark<S: Source, O: Output>(
+    alloc: Global,
+    sources: &mut [S],
+    line: &[u8],
+    out: &mut O,
+) -> Result<(), AnswerFault>
+    ensures texts { map S.text sources.new ≡ map S.text sources.old }
+    ensures few { length sources.old ≤ SOURCES_LIMIT → IfErr result (λ e. e ≢ AnswerFault.TooManySources) }
+    ensures failures { CountsAnswer result (map S.failures sources.old) (map S.failures sources.new) (O.failures out.old) (O.failures out.new) }
+    ensures text { (texts : List (List ℕ)) → (indexes : List (List Member)) → Known (map S.text sources.old) texts → AllTwo (IsIndex LINE_LIMIT) texts indexes
+        → WritesText result (O.written out.old) (O.written out.new) (marked_reply QUERY_LIMIT (reply_of QUERY_LIMIT (collection indexes)) line.now) }
+{
+    reply_to_line(alloc, sources, line, out)?;
+    put_text(b".\n", out)
+}
+
+/// Whether the input has a further line, which is then held.
+fn read_line<I: Input>(lines: &mut InputLines, input: &mut I) -> Result<bool, AnswerFault>
+    ensures most { lines.new.most ≡ lines.old.most }
+    ensures line { IfOk result (λ found. TakesLine lines.old.most found (prepend_known lines.old.buffer (I.remaining input.old)) (prepend_known lines.new.buffer (I.remaining input.new)) lines.new.line) }
+    ensures count { OnOk result (CountsTaken (prepend_known lines.old.buffer (I.remaining input.old)) (prepend_known lines.new.buffer (I.remaining input.new)) lines.old.taken lines.new.taken) }
+    ensures some { IfOk result (λ found. found ≡ true → lines.old.taken < lines.new.taken) }
+    ensures within { OnOk result (lines.new.taken < 2 ^ 63 - 1) }
+    ensures few { IfErr result (λ e. e ≢ AnswerFault.TooManySources) }
+    ensures failures { CountsLine result (I.failures input.old) (I.failures input.new) (prepend_known lines.old.buffer (I.remaining input.old)) lines.old.taken }
+{
+    match lines.next(input) {
+        Ok(found) => Ok(found),
+        Err(InputLineFault::Memory) => Err(AnswerFault::Memory),
+        Err(InputLineFault::Read) => Err(AnswerFault::Input),
+        Err(InputLineFault::TooLong) => Err(AnswerFault::Input),
+    }
+}
+
+/// Answers the queries of an input, each line one, and says how many lines there were.
+///
+/// A line ends with a line feed, which the last may lack; a carriage return before it is dropped. The reply to a line is the page of its
+/// query, or `refused` and the name of the refusal, `QueryTooLong` over `QUERY_LIMIT` bytes and `NotText` where the line isn't UTF-8. Where an
+/// index is found to be none, a line feed follows what was written, and `fault` with the name of the fault, the number of the index and the
+/// offset of the line. After each reply comes a line `.`, which is handed to the output in a call of its own.
+///
+/// `TooManySources` over `SOURCES_LIMIT` indexes comes before anything is read. `Memory`, `Read` of an index, `Write` and `Input`
+/// end the conversation: `Input` also at an input of 2^63 - 1 bytes.
+pub fn serve<S: Source, I: Input, O: Output>(
+    alloc: Global,
+    sources: &mut [S],
+    input: &mut I,
+    out: &mut O,
+) -> Result<u64, AnswerFault>
+    ensures many { SOURCES_LIMIT < length sources.old → result ≡ Err AnswerFault.TooManySources }
+    ensures few { length sources.old ≤ SOURCES_LIMIT → IfErr result (λ e. e ≢ AnswerFault.TooManySources) }
+    ensures unread { IfErr result (λ e. e ≡ AnswerFault.TooManySources → (sources.new ≡ sources.old) × (input.new ≡ input.old) × (out.new ≡ out.old)) }
+    ensures texts { map S.text sources.new ≡ map S.text sources.old }
+    ensures failures { CountsServing result (map S.failures sources.old) (map S.failures sources.new) (O.failures out.old) (O.failures out.new) (I.failures input.old) (I.failures input.new) (I.remaining input.old) }
+    ensures replies { (texts : List (List ℕ)) → (indexes : List (List Member)) → Known (map S.text sources.old) texts → AllTwo (IsIndex LINE_LIMIT) texts indexes
+        → IfOk result (λ count. Replied QUERY_LIMIT (reply_of QUERY_LIMIT (collection indexes)) (I.remaining input.old) count (O.written out.old) (O.written out.new)) }
+    ensures part { (texts : List (List ℕ)) → (indexes : List (List Member)) → Known (map S.text sources.old) texts → AllTwo (IsIndex LINE_LIMIT) texts indexes
+        → RepliedInPart QUERY_LIMIT (reply_of QUERY_LIMIT (collection indexes)) (I.remaining input.old) (O.written out.old) (O.written out.new) }
+{
+    if sources.len() > SOURCES_LIMIT {
+        return Err(AnswerFault::TooManySources);
+    }
+    let mut lines = InputLines::new(alloc, LINE_HELD)?;
+    let mut count = 0u64;
+    while read_line(&mut lines, input)? {
+        reply_and_mark(alloc, sources, lines.line(), out)?;
+        count += 1;
+    }
+    Ok(count)
+}
