@@ -1,12 +1,15 @@
 -- A line that is kept in one buffer.
-use Rattle.std.proofs.Common.{◌≡◌, ℕ, ◌+◌, ◌-◌, ◌<◌, ◌^◌, true, List, ◌∷◌, ◌++◌, take, drop, length, get_or, codes, Option, Some, unwrap_or, refl, sym, ap, ◌∙◌, subst, arith, append_assoc, IsUtf8}
+use Rattle.std.proofs.Common.{◌≡◌, ℕ, ◌+◌, ◌-◌, ◌<◌, ◌^◌, true, List, ◌∷◌, ◌++◌, take, drop, length, get_or, codes, Option, Some, unwrap_or, MatchOption, refl, sym, ap, ◌∙◌, subst, arith, append_assoc, IsUtf8}
+use Rattle.std.specs.Bool.{⊤}
 use Rattle.std.proofs.lemmas.List.{length-append}
 use Rattle.std.proofs.lemmas.Str.{IsUtf8-append, IsCharBoundary-at_seam, IsCharBoundary-before_ascii}
 use Rattle.std.proofs.Math.Seq.{take-append_seam, drop-append_seam, get_or-append_seam}
 use Rattle.cdxj_places.specs.Pair.{is_key, is_stamp}
 use Rattle.cdxj_places.specs.Places.{PlaceValue}
 use Rattle.cdxj_places.proofs.PairLemmas.{pair_front}
+use Rattle.cdxj_core.specs.declared.member_ends.MemberEnds.{MemberEnds}
 use Rattle.cdxj_core.specs.Members.{Member, member_pair, member_place, line_entry}
+use Rattle.cdxj_core.specs.PlainPlaces.{AreMemberEnds}
 use Rattle.cdxj_core.specs.Lines.{body_of}
 use Rattle.cdxj_core.specs.KeptLine.{StandsAt, IsNamed, IsKept, no_member, member_in}
 use Rattle.cdxj_core.proofs.EntryUtf8.{ascii_name}
@@ -28,11 +31,11 @@ stands text front close start name t f u v =
 pub close_utf8 : IsUtf8 (codes "\"}")
 close_utf8 = ascii_name (codes "\"}") refl
 
-pub kept_parts : (limit : ℕ) (body : List ℕ) (member : Member) (place : PlaceValue) (key_length : ℕ) (within : Option (ℕ × ℕ)) (apart : List ℕ)
+pub kept_parts : (limit : ℕ) (body : List ℕ) (member : Member) (place : PlaceValue) (key_length : ℕ) (within : Option (ℕ × ℕ)) (apart : List ℕ) (ends : Option MemberEnds)
     → line_entry limit body ≡ Some member → body ≡ member.line → place ≡ member_place member → key_length ≡ length place.key
     → IsNamed body within apart place.filename → is_key place.key ≡ true → is_stamp place.stamp ≡ true → 0 < length place.filename → place.offset < 2 ^ 63
-    → IsKept limit body key_length place.stamp within apart place.offset member
-kept_parts limit body member place key_length within apart entry line is size named key stamp filename offset =
+    → MatchOption ends ⊤ (λ e. AreMemberEnds body key_length e member.values) → IsKept limit body key_length place.stamp within apart place.offset ends member
+kept_parts limit body member place key_length within apart ends entry line is size named key stamp filename offset placed =
     let pair = entry_pair_is limit body member entry in
     let front = pair_front body (member_pair member) pair in
     let keys : place.key ≡ member.values.key = ap (λ p. p.key) is in
@@ -47,6 +50,7 @@ kept_parts limit body member place key_length within apart entry line is size na
       stamp_is = ap (λ p. p.stamp) is;
       filename_is = subst (IsNamed body within apart) names named;
       offset_is = ap (λ p. p.offset) is;
+      placed = placed;
       key_rule = subst (λ k. is_key k ≡ true) keys key;
       stamp_rule = subst (λ s. is_stamp s ≡ true) (ap (λ p. p.stamp) is) stamp;
       filename_rule = subst (λ n. 0 < length n) names filename;
@@ -54,19 +58,11 @@ kept_parts limit body member place key_length within apart entry line is size na
     }
 
 -- the member of a body is the one that it is kept as
-pub kept_member : (limit : ℕ) (body : List ℕ) (k : ℕ) (s : List ℕ) (w : Option (ℕ × ℕ)) (a : List ℕ) (o : ℕ) (member : Member) → IsKept limit body k s w a o member → member_in limit body ≡ member
-kept_member limit body k s w a o member h = ap (λ e. unwrap_or e no_member) h.entry
+pub kept_member : (limit : ℕ) (body : List ℕ) (k : ℕ) (s : List ℕ) (w : Option (ℕ × ℕ)) (a : List ℕ) (o : ℕ) (e : Option MemberEnds) (member : Member) → IsKept limit body k s w a o e member → member_in limit body ≡ member
+kept_member limit body k s w a o e member h = ap (λ v. unwrap_or v no_member) h.entry
 
--- copies of what is kept
-pub kept_copies : (limit : ℕ) (body text : List ℕ) (k : ℕ) (s : List ℕ) (w : Option (ℕ × ℕ)) (a apart : List ℕ) (o : ℕ) (member : Member)
-    → body ≡ text → a ≡ apart → IsKept limit text k s w apart o member → IsKept limit body k s w a o (member_in limit body)
-kept_copies limit body text k s w a apart o member b e h =
-    let whole : IsKept limit body k s w a o member = subst (λ t. IsKept limit t k s w a o member) (sym b) (subst (λ x. IsKept limit text k s w x o member) (sym e) h) in
-    subst (IsKept limit body k s w a o) (sym (kept_member limit body k s w a o member whole)) whole
-
-pub copied_member : (limit : ℕ) (body text : List ℕ) (k : ℕ) (s : List ℕ) (w : Option (ℕ × ℕ)) (a : List ℕ) (o : ℕ) (member : Member)
-    → body ≡ text → IsKept limit text k s w a o member → member_in limit body ≡ member
-copied_member limit body text k s w a o member b h = ap (member_in limit) b ∙ kept_member limit text k s w a o member h
+pub kept_in : (limit : ℕ) (body : List ℕ) (k : ℕ) (s : List ℕ) (w : Option (ℕ × ℕ)) (a : List ℕ) (o : ℕ) (e : Option MemberEnds) (member : Member) → IsKept limit body k s w a o e member → IsKept limit body k s w a o e (member_in limit body)
+kept_in limit body k s w a o e member h = subst (IsKept limit body k s w a o e) (sym (kept_member limit body k s w a o e member h)) h
 
 -- the key ends before its line
 pub key_short : (limit : ℕ) (line : List ℕ) (member : Member) → line_entry limit line ≡ Some member → length member.values.key < length member.line

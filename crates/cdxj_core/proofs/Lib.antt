@@ -12,3 +12,4 @@ pub mod PlainBytes
 pub mod PlainCuts
 pub mod PlainLaw
 pub mod UnescapedAscii
+pub mod PlainPlaces

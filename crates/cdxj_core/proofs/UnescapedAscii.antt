@@ -1,7 +1,10 @@
 -- Bytes that are characters of ASCII, and neither controls nor backslashes.
-use Rattle.std.proofs.Common.{◌≡◌, ℕ, zero, suc, ◌+◌, ◌==◌, Bool, true, not, nat_lt, nat_le, List, [], ◌∷◌, drop, refl, arith, IsUtf8}
+use Rattle.std.proofs.Common.{◌≡◌, ℕ, zero, suc, ◌+◌, ◌==◌, Bool, true, not, nat_lt, nat_le, List, [], ◌∷◌, drop, get_or, refl, arith, IsUtf8}
 use Rattle.std.specs.List.{list_all, position_or_len, after_first}
-use Rattle.std.proofs.lemmas.Bool.{and_parts}
+use Rattle.std.proofs.lemmas.Bool.{and_parts, ltb-true}
+use Rattle.std.specs.Str.{IsAscii}
+use Rattle.std.proofs.lemmas.Str.Ascii.{IsAscii-from_all}
+use Rattle.std.proofs.lemmas.List.Sums.{AllPass-from_list_all}
 use Rattle.std.proofs.lemmas.Bool.Decides.{nat_tests}
 use Rattle.json.proofs.Printed.Utf8.{are_ascii, IsUtf8-are_ascii}
 use Rattle.cdxj_places.proofs.PlaceLaw.{both}
@@ -38,3 +41,6 @@ behind p (suc n) (x ∷ xs) h = behind p n xs (and_parts (p x) (list_all p xs) h
 
 pub all_after : (p q : ℕ → Bool) (xs : List ℕ) → list_all p xs ≡ true → list_all p (after_first q xs) ≡ true
 all_after p q xs h = behind p (position_or_len q xs + 1) xs h
+
+pub is_ascii : (xs : List ℕ) → list_all is_unescaped_ascii xs ≡ true → IsAscii xs
+is_ascii xs h = IsAscii-from_all xs (λ k d l. ltb-true (get_or xs k d) 128 (byte_is_ascii (get_or xs k d) (AllPass-from_list_all is_unescaped_ascii xs h k d l)))

@@ -5,6 +5,8 @@ pub mod Plain
 pub mod MemberViews
 pub mod ValuesView
 pub mod Members
+pub mod PlainPlaces
+pub mod PlainLines
 pub mod KeptLine
 pub mod Indexes
 -- what contracts see of places

@@ -4,8 +4,12 @@ ghost use Rattle.std.specs.String.{string_capacity};
 ghost use Rattle.cdxj_core.specs.declared.limit.TheConstants.{LINE_LIMIT};
 
 use crate::fault::LineFault;
+use crate::line_members::LineMembers;
 use crate::line_ref::LineRef;
+use crate::member_ends::MemberEnds;
 use crate::name_ends::cut_name;
+use crate::plain_line::PlainLine;
+use crate::values::Values;
 use cdxj_places::{HasPlace, Place};
 use std::alloc::{AllocError, Global};
 use std::cmp::Ordering;
@@ -23,6 +27,8 @@ pub struct Line {
     /// The file name, if it does not.
     apart: String,
     offset: u64,
+    /// Where the texts of its members end, if it is plain.
+    ends: Option<MemberEnds>,
 }
 
 impl Model for Line {
@@ -36,11 +42,11 @@ impl Model for Line {
     ghost view = { λ l. member_in LINE_LIMIT (string_bytes l.body) };
 
     ghost invariant = { λ l. IsKept LINE_LIMIT (string_bytes l.body) l.key_length l.stamp l.within
-        (string_bytes l.apart) l.offset (member_in LINE_LIMIT (string_bytes l.body)) };
+        (string_bytes l.apart) l.offset l.ends (member_in LINE_LIMIT (string_bytes l.body)) };
 }
 
 // What a line keeps of one that was read.
-#[derive(Clone, Copy)]
+#[derive(Drop)]
 struct Parts<'a> {
     body: &'a str,
     key_length: usize,
@@ -48,16 +54,28 @@ struct Parts<'a> {
     within: Option<(usize, usize)>,
     apart: &'a str,
     offset: u64,
+    ends: Option<MemberEnds>,
+}
+
+impl<'a> Model for Parts<'a> {
+    ghost use Rattle.cdxj_core.specs.declared.limit.TheConstants.{LINE_LIMIT};
+    ghost use Rattle.cdxj_core.specs.KeptLine.{IsKept, member_in};
+    ghost use Rattle.cdxj_core.specs.Members.{Member};
+
+    ghost Value = { Member };
+
+    ghost view = { λ p. member_in LINE_LIMIT p.body.now };
+
+    ghost invariant = { λ p. IsKept LINE_LIMIT p.body.now p.key_length p.stamp p.within p.apart.now p.offset p.ends
+        (member_in LINE_LIMIT p.body.now) };
 }
 
 impl<'a> Parts<'a> {
     ghost use Rattle.std.specs.Prelude.{◌≡◌};
-    ghost use Rattle.cdxj_core.specs.declared.limit.TheConstants.{LINE_LIMIT};
-    ghost use Rattle.cdxj_core.specs.KeptLine.{IsKept};
+    ghost use Rattle.cdxj_core.specs.PlainLines.{plain_member};
 
     fn of(line: &'a LineRef<'_>) -> Parts<'a>
-        ensures { IsKept LINE_LIMIT result.body.now result.key_length result.stamp result.within
-            result.apart.now result.offset line.now }
+        ensures { result ≡ line.now }
     {
         let body = line.text();
         let place = line.place();
@@ -69,6 +87,23 @@ impl<'a> Parts<'a> {
             within,
             apart,
             offset: place.offset,
+            ends: None,
+        }
+    }
+
+    #[inline(always)]
+    fn of_plain(line: &PlainLine<'a>) -> Parts<'a>
+        ensures { result ≡ plain_member line.now }
+    {
+        let ends = MemberEnds::of(line);
+        Parts {
+            body: line.body,
+            key_length: line.key.len(),
+            stamp: line.digits,
+            within: Some(ends.filename(line.body.len())),
+            apart: "",
+            offset: line.offset,
+            ends: Some(ends),
         }
     }
 }
@@ -99,10 +134,12 @@ impl Line {
     pub fn read(alloc: Global, line: &[u8]) -> Result<Line, LineFault>
         ensures { IsReading LINE_LIMIT line.now result }
     {
-        let line = LineRef::read(alloc, line)?;
-        match Line::new(alloc, &line) {
-            Ok(kept) => Ok(kept),
-            Err(_) => Err(LineFault::Memory),
+        match PlainLine::read(line) {
+            Some(plain) => Ok(Line::of(alloc, Parts::of_plain(&plain))?),
+            None => {
+                let line = LineRef::read_any(alloc, line)?;
+                Ok(Line::of(alloc, Parts::of(&line))?)
+            }
         }
     }
 
@@ -110,7 +147,12 @@ impl Line {
     pub fn new(alloc: Global, line: &LineRef<'_>) -> Result<Line, AllocError>
         ensures { IfOk result (λ kept. kept ≡ line.now) }
     {
-        let parts = Parts::of(line);
+        Line::of(alloc, Parts::of(line))
+    }
+
+    fn of(alloc: Global, parts: Parts<'_>) -> Result<Line, AllocError>
+        ensures { IfOk result (λ kept. kept ≡ parts.entry) }
+    {
         Ok(Line {
             alloc,
             body: String::from_str(alloc, parts.body)?,
@@ -119,6 +161,7 @@ impl Line {
             within: parts.within,
             apart: String::from_str(alloc, parts.apart)?,
             offset: parts.offset,
+            ends: parts.ends,
         })
     }
 
@@ -129,31 +172,31 @@ impl Line {
         ensures { MatchResult result (λ _. IsReading LINE_LIMIT line.now (Ok self.new))
             (λ fault. IsReading LINE_LIMIT line.now (Err fault) × (self.new ≡ self.old)) }
     {
-        match LineRef::read_plain(line) {
-            Some(plain) => self.take_on(&plain),
+        match PlainLine::read(line) {
+            Some(plain) => self.take_on(Parts::of_plain(&plain)),
             None => {
                 let line = LineRef::read_any(self.alloc, line)?;
-                self.take_on(&line)
+                let parts = Parts::of(&line);
+                self.take_on(parts)
             }
         }
     }
 
     #[inline(always)]
-    fn take_on(&mut self, line: &LineRef<'_>) -> Result<(), LineFault>
-        ensures { MatchResult result (λ _. self.new ≡ line.now)
+    fn take_on(&mut self, parts: Parts<'_>) -> Result<(), LineFault>
+        ensures { MatchResult result (λ _. self.new ≡ parts.entry)
             (λ fault. (fault ≡ LineFault.Memory) × (self.new ≡ self.old)) }
     {
-        match self.keep(line) {
+        match self.keep(parts) {
             Ok(()) => Ok(()),
             Err(_) => Err(LineFault::Memory),
         }
     }
 
-    fn keep(&mut self, line: &LineRef<'_>) -> Result<(), AllocError>
-        ensures ok { OnOk result (self.new ≡ line.now) }
+    fn keep(&mut self, parts: Parts<'_>) -> Result<(), AllocError>
+        ensures ok { OnOk result (self.new ≡ parts.entry) }
         ensures err { OnErr result (self.new ≡ self.old) }
     {
-        let parts = Parts::of(line);
         make_room(&mut self.body, parts.body.len())?;
         make_room(&mut self.apart, parts.apart.len())?;
         fill(&mut self.body, parts.body);
@@ -162,6 +205,7 @@ impl Line {
         self.stamp = parts.stamp;
         self.within = parts.within;
         self.offset = parts.offset;
+        self.ends = parts.ends;
         Ok(())
     }
 
@@ -208,8 +252,28 @@ impl Line {
         self.body.as_bytes()
     }
 
-    /// The line with all its values, read again.
+    /// The line with all its values. A line that isn't plain is read again.
     pub fn values(&self) -> Result<LineRef<'_>, AllocError>
+        ensures { IfOk result (λ found. found ≡ self.now) }
+    {
+        match &self.ends {
+            Some(ends) => Ok(LineRef {
+                body: self.body.as_str(),
+                key: self.key(),
+                stamp: ends.stamp(self.body.as_str(), self.key_length),
+                digits: self.stamp,
+                values: Values {
+                    offset: self.offset,
+                    members: LineMembers::Borrowed(
+                        ends.texts(self.body.as_str(), self.key_length).values(),
+                    ),
+                },
+            }),
+            None => self.read_again(),
+        }
+    }
+
+    fn read_again(&self) -> Result<LineRef<'_>, AllocError>
         ensures { IfOk result (λ found. found ≡ self.now) }
     {
         match LineRef::read(self.alloc, self.line()) {

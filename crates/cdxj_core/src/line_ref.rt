@@ -5,10 +5,12 @@ ghost use Rattle.cdxj_places.specs.Pair.{is_key, is_stamp};
 ghost use Rattle.cdxj_core.specs.Members.{line_entry};
 ghost use Rattle.cdxj_core.specs.ValuesView.{parts_view};
 
-use crate::body::{body_of, has_no_feed, unescaped_text};
+use crate::body::{body_of, has_no_feed};
 use crate::fault::LineFault;
 use crate::field::Field;
 use crate::limit::LINE_LIMIT;
+use crate::line_members::LineMembers;
+use crate::plain_line::PlainLine;
 use crate::values::Values;
 use cdxj_places::{HasPlace, Place, cut_first};
 use std::alloc::Global;
@@ -18,11 +20,11 @@ use std::marker::Model;
 /// A line of an index that was read, with all that it says.
 #[derive(Debug, Drop)]
 pub struct LineRef<'a> {
-    body: &'a str,
-    key: &'a str,
-    stamp: &'a str,
-    digits: [u8; 14],
-    values: Values<'a>,
+    pub(crate) body: &'a str,
+    pub(crate) key: &'a str,
+    pub(crate) stamp: &'a str,
+    pub(crate) digits: [u8; 14],
+    pub(crate) values: Values<'a>,
     pub ghost key_rule: { is_key key.now ≡ true },
     pub ghost stamp_rule: { is_stamp digits ≡ true },
     pub ghost digits_rule: { digits ≡ stamp.now },
@@ -40,6 +42,7 @@ impl<'a> Model for LineRef<'a> {
 }
 
 impl<'a> LineRef<'a> {
+    ghost use Rattle.cdxj_core.specs.PlainLines.{plain_member};
     ghost use Rattle.std.specs.Prelude.{◌≤◌, length, MatchResult, IfOk, IfSome, IfErr, Err, None, IsUtf8};
     ghost use Rattle.cdxj_core.specs.Lines.{field_value};
     ghost use Rattle.cdxj_core.specs.Members.{member_place, line_entry, IsReading};
@@ -51,32 +54,26 @@ impl<'a> LineRef<'a> {
     pub fn read(alloc: Global, line: &'a [u8]) -> Result<LineRef<'a>, LineFault>
         ensures { IsReading LINE_LIMIT line.now result }
     {
-        match LineRef::read_plain(line) {
-            Some(found) => Ok(found),
+        match PlainLine::read(line) {
+            Some(plain) => Ok(LineRef::of_plain(plain)),
             None => LineRef::read_any(alloc, line),
         }
     }
 
-    /// Reads a line whose object is plain. It may decline any line, and takes no memory.
     #[inline(always)]
-    pub(crate) fn read_plain(line: &'a [u8]) -> Option<LineRef<'a>>
-        ensures { IfSome result (λ found. line_entry LINE_LIMIT line.now ≡ Some found) }
+    fn of_plain(line: PlainLine<'a>) -> LineRef<'a>
+        ensures { result ≡ plain_member line.entry }
     {
-        let body = body_of(line);
-        let text = unescaped_text(body)?;
-        let (key, rest) = cut_first(text);
-        let (stamp, object) = cut_first(rest);
-        let values = Values::read_unescaped(key, stamp, object)?;
-        let Ok(digits) = <[u8; 14]>::try_from(stamp.as_bytes()) else {
-            return None;
-        };
-        Some(LineRef {
-            body: text,
-            key,
-            stamp,
-            digits,
-            values,
-        })
+        LineRef {
+            body: line.body,
+            key: line.key,
+            stamp: line.stamp,
+            digits: line.digits,
+            values: Values {
+                offset: line.offset,
+                members: LineMembers::Borrowed(line.texts.values()),
+            },
+        }
     }
 
     /// Reads any line.

@@ -1,11 +1,13 @@
 //! Plain objects: seven members in the order and the spelling of a written line, whose texts stand
 //! between their quotes as they are.
-ghost use Rattle.std.specs.Prelude.{◌≡◌, ◌∷◌, ◌++◌, true, codes, IfSome};
+ghost use Rattle.std.specs.Prelude.{◌≡◌, ◌<◌, ◌^◌, ◌∷◌, ◌++◌, length, true, codes, decimal, IfSome, Some};
 ghost use Rattle.std.specs.List.{list_all};
 ghost use Rattle.cdxj_core.specs.Plain.{is_open, is_unescaped, plain_text, ArePlain, AreOpen};
 ghost use Rattle.cdxj_core.specs.MemberViews.{borrowed_view};
+ghost use Rattle.cdxj_places.specs.Places.{offset_of};
 
 use crate::borrowed_members::BorrowedMembers;
+use crate::offset::canonical_offset;
 use crate::unescaped::{is_unescaped, quoted_part};
 
 // The text after the front, up to its quote, and what follows that quote.
@@ -69,4 +71,18 @@ pub(crate) fn plain_texts(object: &str) -> Option<BorrowedMembers<'_>>
     } else {
         None
     }
+}
+
+/// The offset of a plain object with a file name, where it is spelled as in a written line.
+#[inline(always)]
+pub(crate) fn plain_offset(texts: BorrowedMembers<'_>) -> Option<u64>
+    ensures value { IfSome result (λ n. offset_of texts.entry.offset.now ≡ Some n) }
+    ensures small { IfSome result (λ n. n < 2 ^ 63) }
+    ensures text { IfSome result (λ n. texts.entry.offset.now ≡ decimal n) }
+    ensures named { IfSome result (λ _. 0 < length texts.entry.filename.now) }
+{
+    if texts.filename.is_empty() {
+        return None;
+    }
+    canonical_offset(texts.offset)
 }

@@ -2,13 +2,11 @@
 ghost use Rattle.std.specs.Prelude.{◌≡◌, ◌<◌, ◌^◌, length, decimal, true};
 ghost use Rattle.cdxj_core.specs.MemberViews.{members_view};
 
-use crate::borrowed_members::BorrowedMembers;
 use crate::fault::LineFault;
 use crate::line_members::LineMembers;
 use crate::member_values::{filename_value, offset_value, value_text};
-use crate::offset::canonical_offset;
 use crate::owned_members::OwnedMembers;
-use crate::plain::{plain_texts, unescaped_texts};
+use crate::plain::{plain_offset, plain_texts};
 use cdxj_places::{is_key, is_stamp};
 use serde_json::Value;
 use serde_json::error::Category;
@@ -27,9 +25,6 @@ impl<'a> Values<'a> {
     ghost use Rattle.std.specs.Prelude.{◌≢◌, MatchResult, IfOk, IfSome, Some, None};
     ghost use Rattle.cdxj_core.specs.Lines.{line_parts, line_object};
     ghost use Rattle.cdxj_places.specs.Pair.{is_key, is_stamp};
-    ghost use Rattle.std.specs.List.{list_all};
-    ghost use Rattle.cdxj_core.specs.MemberViews.{borrowed_view};
-    ghost use Rattle.cdxj_core.specs.Plain.{is_unescaped, plain_text, ArePlain};
     ghost use Rattle.cdxj_core.specs.ValuesView.{parts_view};
 
     /// The values of a line that was cut at its first two spaces.
@@ -63,41 +58,7 @@ impl<'a> Values<'a> {
             ≡ Some (parts_view key.now stamp.now found)) }
     {
         let texts = plain_texts(object)?;
-        Values::of_plain(key, stamp, object, texts)
-    }
-
-    /// The values of a line that was cut at its first two spaces and whose object is plain. No byte
-    /// of the object is a control or a backslash. It may decline any line, and takes no memory.
-    #[inline(always)]
-    pub(crate) fn read_unescaped(key: &str, stamp: &str, object: &'a str) -> Option<Values<'a>>
-        requires { list_all is_unescaped object.now ≡ true }
-        ensures value { IfSome result (λ found. line_parts key.now stamp.now object.now
-            ≡ Some (parts_view key.now stamp.now found)) }
-        ensures key { IfSome result (λ _. is_key key.now ≡ true) }
-        ensures stamp { IfSome result (λ _. is_stamp stamp.now ≡ true) }
-    {
-        if !is_key(key.as_bytes()) || !is_stamp(stamp.as_bytes()) {
-            return None;
-        }
-        let texts = unescaped_texts(object)?;
-        Values::of_plain(key, stamp, object, texts)
-    }
-
-    #[inline(always)]
-    fn of_plain(
-        key: &str,
-        stamp: &str,
-        object: &str,
-        texts: BorrowedMembers<'a>,
-    ) -> Option<Values<'a>>
-        requires { (object.now ≡ plain_text (borrowed_view texts)) × ArePlain (borrowed_view texts) }
-        ensures { IfSome result (λ found. line_object key.now stamp.now object.now
-            ≡ Some (parts_view key.now stamp.now found)) }
-    {
-        let offset = canonical_offset(texts.offset)?;
-        if texts.filename.is_empty() {
-            return None;
-        }
+        let offset = plain_offset(texts)?;
         Some(Values {
             offset,
             members: LineMembers::Borrowed(texts.values()),

@@ -1,0 +1,60 @@
+use Rattle.std.proofs.Common.{◌≡◌, ◌∷◌, ◌++◌, Some, refl, subst, sym, ap, ◌∙◌, true, arith}
+use Rattle.std.specs.List.{list_all}
+use Rattle.std.proofs.lemmas.Grind.{common_steps}
+use Rattle.cdxj_core.specs.declared.limit.TheConstants.{LINE_LIMIT}
+use Rattle.cdxj_places.specs.Pair.{is_space, is_key, is_stamp}
+use Rattle.cdxj_core.specs.MemberViews.{borrowed_view}
+use Rattle.cdxj_core.specs.Plain.{is_unescaped_ascii}
+use Rattle.cdxj_core.proofs.MemberLemmas.{line_of_body}
+use Rattle.cdxj_core.proofs.PlainPlaces.{cut_parts, plain_entry}
+use Rattle.cdxj_core.proofs.UnescapedAscii.{without_feed, unescaped_only, all_after}
+use Rattle.cdxj_core.proofs.plain_line.PlainLine.read.Goals as goal
+
+pub unescaped_texts-requires : goal.unescaped_texts-requires
+unescaped_texts-requires c =
+    let all = c.in_ok-text.ensures.ascii in
+    let rest : list_all is_unescaped_ascii c.cut_first.result.1.now ≡ true = ap (list_all is_unescaped_ascii) c.cut_first.ensures.after ∙ all_after is_unescaped_ascii is_space c.in_ok-text.text.now all in
+    unescaped_only c.cut_first-2.result.1.now (ap (list_all is_unescaped_ascii) c.cut_first-2.ensures.after ∙ all_after is_unescaped_ascii is_space c.cut_first.result.1.now rest)
+
+pub invariant_of-result : goal.invariant_of-result
+invariant_of-result c =
+    let text = c.in_ok-text.text.now in
+    let key = c.cut_first.result.0.now in
+    let rest = c.cut_first.result.1.now in
+    let stamp = c.cut_first-2.result.0.now in
+    let object = c.cut_first-2.result.1.now in
+    let t = borrowed_view c.in_ok-texts.texts in
+    let plain = c.in_ok-texts.ensures in
+    let offset = c.in_ok-offset.ensures in
+    let all = c.in_ok-text.ensures.ascii in
+    let good_key : is_key key ≡ true = ap is_key (sym c.as_bytes.ensures.value) ∙ sym c.if-not-is_key.ensures in
+    let good_stamp : is_stamp stamp ≡ true = ap is_stamp (sym c.as_bytes-else-not-is_key.ensures.value) ∙ sym c.if-not-is_stamp.ensures in
+    let digits : c.in-Ok.digits ≡ stamp = grind (arith, common_steps) in
+    let first = c.cut_first.ensures in let second = c.cut_first-2.ensures in
+    record {
+      key_rule = good_key;
+      stamp_rule = subst (λ s. is_stamp s ≡ true) (sym digits) good_stamp;
+      digits_rule = digits;
+      ascii_rule = all;
+      cut_rule = cut_parts text key rest stamp object t first.before first.after second.before second.after plain.0;
+      filename_rule = offset.named;
+      offset_rule = offset.small;
+      offset_text_rule = offset.text;
+      entry_rule = plain_entry LINE_LIMIT text key rest stamp object t c.in_ok-offset.offset all c.in_ok-text.ensures.short first.before first.after second.before second.after good_key good_stamp plain offset.value offset.named;
+    }
+
+pub returns : goal.returns
+returns c =
+    let text = c.in_ok-text.text.now in
+    let key = c.cut_first.result.0.now in
+    let rest = c.cut_first.result.1.now in
+    let stamp = c.cut_first-2.result.0.now in
+    let object = c.cut_first-2.result.1.now in
+    let t = borrowed_view c.in_ok-texts.texts in
+    let offset = c.in_ok-offset.ensures in
+    let all = c.in_ok-text.ensures.ascii in
+    let good_key : is_key key ≡ true = ap is_key (sym c.as_bytes.ensures.value) ∙ sym c.if-not-is_key.ensures in
+    let good_stamp : is_stamp stamp ≡ true = ap is_stamp (sym c.as_bytes-else-not-is_key.ensures.value) ∙ sym c.if-not-is_stamp.ensures in
+    let first = c.cut_first.ensures in let second = c.cut_first-2.ensures in
+    line_of_body LINE_LIMIT c.args.line.now c.body_of-body.result.now text _ c.in_ok-text.ensures.value c.body_of-body.ensures (sym (without_feed c.body_of-body.result.now (subst (λ t. list_all is_unescaped_ascii t ≡ true) c.in_ok-text.ensures.value all)))
+    (plain_entry LINE_LIMIT text key rest stamp object t c.in_ok-offset.offset all c.in_ok-text.ensures.short first.before first.after second.before second.after good_key good_stamp c.in_ok-texts.ensures offset.value offset.named)
