@@ -22,7 +22,7 @@ pub use crate::fault::AnswerFault;
 pub use crate::laws::pages_rise;
 pub use crate::merging::{SOURCES_LIMIT, merge};
 pub use crate::page_writer::{PageEnd, PageWriter};
-pub use crate::paging::pages;
+pub use crate::paging::{are_sizes, pages};
 pub use crate::report::Report;
 pub use crate::serving::serve;
 pub use query_text::{Query, QueryFault};

@@ -33,7 +33,7 @@ fn are_positive(sizes: &[u64]) -> bool
 }
 
 /// Whether there are sizes, and none of them is 0.
-fn are_sizes(sizes: &[u64]) -> bool
+pub fn are_sizes(sizes: &[u64]) -> bool
     ensures { result ≡ are_sizes sizes.now }
 {
     !sizes.is_empty() && are_positive(sizes)
