@@ -1,0 +1,107 @@
+-- The collection of several indexes is that of all captures.
+use Rattle.std.proofs.Common.{◌≡◌, List, [], ◌∷◌, ◌++◌, map, ◌⊎◌, inl, inr, refl, sym, ap, ◌∙◌, subst, Ordering, Less, Equal, Greater, is_gt, true}
+use Rattle.std.specs.List.{AllByRecursion, flat_map}
+use Rattle.std.specs.Cmp.{IsTotalOrder}
+use Rattle.std.proofs.lemmas.Bool.{true≢false}
+use Rattle.std.proofs.lemmas.Cmp.{tied_back}
+use Rattle.std.proofs.lemmas.List.{map-append}
+use Rattle.cdxj_places.specs.Places.{place_cmp}
+use Rattle.cdxj_places.specs.Rising.{IsIn, IsFirst, Rises, choose, put, rising}
+use Rattle.cdxj_places.proofs.PlaceOrder.{place_cmp_total}
+use Rattle.cdxj_places.proofs.RisingAlike.{rising_referred}
+use Rattle.cdxj_places.proofs.RisingLaws.{each_rising, rises_rising, rising_members, rising_same}
+use Rattle.cdxj_core.specs.Entries.{EntryValue, entry_place}
+use Rattle.cdxj_core.specs.Members.{entry_member, member_place}
+use Rattle.index_core.specs.Indexing.{in_places}
+use Rattle.merge_core.specs.Collections.{collection, all_lines}
+use Rattle.scan_core.specs.Archives.{index_members}
+use Rattle.scan_core.specs.Captures.{captured_lines}
+
+module _ {X P : Type 0} (place : X → P) (R : P → P → Ordering) (o : IsTotalOrder R) where
+  -- none of the list has the place of x
+  abbrev Absent : X → List X → Type 0
+  Absent x us = AllByRecursion (λ y. R (place x) (place y) ≡ Equal → ⊥) us
+
+  absent_put : (x y : X) (c : List X) → Absent x (put place R y c) → (R (place x) (place y) ≡ Equal → ⊥) × Absent x c
+  absent_put x y [] h = (h.0, tt)
+  absent_put x y (z ∷ zs) h =
+      (elim (R (place y) (place z)) as (λ r. R (place y) (place z) ≡ r → Absent x (choose r (y ∷ z ∷ zs) (y ∷ zs) (z ∷ put place R y zs)) → (R (place x) (place y) ≡ Equal → ⊥) × Absent x (z ∷ zs)) [
+        | Less ↦ (λ e k. (k.0, k.1))
+        | Equal ↦ (λ e k. (k.0, ((λ (q : R (place x) (place z) ≡ Equal). k.0 (o.congr (place x) (place z) (place y) q ∙ tied_back o (place y) (place z) e)), k.1)))
+        | Greater ↦ (λ e k. let r = absent_put x y zs k.1 in (r.0, (k.0, r.1)))
+      ]) refl h
+
+  absent_rising : (x : X) (us : List X) → Absent x (rising place R us) → Absent x us
+  absent_rising x [] h = tt
+  absent_rising x (u ∷ us) h = let r = absent_put x u (rising place R us) h in (r.0, absent_rising x us r.1)
+
+  -- the first with its place of two lists
+  first_of : (x : X) (us vs : List X) → IsFirst place R x (us ++ vs) → IsFirst place R x us ⊎ (Absent x us × IsFirst place R x vs)
+  first_of x [] vs h = inr (tt, h)
+  first_of x (u ∷ us) vs h = elim h [
+    | inl e ↦ inl (inl e)
+    | inr w ↦ elim (first_of x us vs w.1) [ inl f ↦ inl (inr (w.0, f)) | inr v ↦ inr ((w.0, v.0), v.1) ]
+  ]
+
+  of_first : (x : X) (us vs : List X) → IsFirst place R x us ⊎ (Absent x us × IsFirst place R x vs) → IsFirst place R x (us ++ vs)
+  of_first x [] vs h = elim h [ inl f ↦ absurd f | inr v ↦ v.1 ]
+  of_first x (u ∷ us) vs h = elim h [
+    | inl f ↦ elim f [ inl e ↦ inl e | inr w ↦ inr (w.0, of_first x us vs (inl w.1)) ]
+    | inr v ↦ inr (v.0.0, of_first x us vs (inr (v.0.1, v.1)))
+  ]
+
+  in_list : (x : X) (us : List X) → IsFirst place R x us → IsIn x us
+  in_list x [] h = h
+  in_list x (u ∷ us) h = elim h [ inl e ↦ inl e | inr w ↦ inr (in_list x us w.1) ]
+
+  -- of a rising list each is the first with its place
+  is_first : (x : X) (us : List X) → Rises place R us → IsIn x us → IsFirst place R x us
+  is_first x [] h i = i
+  is_first x (u ∷ us) h i = elim i [ inl e ↦ inl e | inr j ↦ inr (apart us h.0 j, is_first x us h.1 j) ]
+    where
+      apart : (ys : List X) → AllByRecursion (λ y. is_gt (R (place y) (place u)) ≡ true) ys → IsIn x ys → R (place x) (place u) ≡ Equal → ⊥
+      apart [] a j q = absurd j
+      apart (y ∷ ys) a j q = elim j [ inl e ↦ true≢false (sym (subst (λ v. is_gt (R (place v) (place u)) ≡ true) e a.0) ∙ ap is_gt q) | inr k ↦ apart ys a.1 k q ]
+
+  -- the first with their places of a list are those of its rising list
+  first_risen : (x : X) (us : List X) → IsFirst place R x us → IsFirst place R x (rising place R us)
+  first_risen x us h = is_first x (rising place R us) (rises_rising place R o us) ((rising_members place R o x us).1 h)
+
+  risen_first : (x : X) (us : List X) → IsFirst place R x (rising place R us) → IsFirst place R x us
+  risen_first x us h = (rising_members place R o x us).0 (in_list x (rising place R us) h)
+
+  -- what rises already may stand in the stead of a list
+  rising_left : (us vs : List X) → rising place R (rising place R us ++ vs) ≡ rising place R (us ++ vs)
+  rising_left us vs =
+      rising_same place R o (rising place R (rising place R us ++ vs)) (rising place R (us ++ vs)) (rises_rising place R o (rising place R us ++ vs)) (rises_rising place R o (us ++ vs)) (λ x. (
+        (λ i. (rising_members place R o x (us ++ vs)).1 (of_first x us vs (elim (first_of x (rising place R us) vs ((rising_members place R o x (rising place R us ++ vs)).0 i)) [
+          | inl f ↦ inl (risen_first x us f)
+          | inr v ↦ inr (absent_rising x us v.0, v.1)
+        ]))),
+        (λ i. (rising_members place R o x (rising place R us ++ vs)).1 (of_first x (rising place R us) vs (elim (first_of x us vs ((rising_members place R o x (us ++ vs)).0 i)) [
+          | inl f ↦ inl (first_risen x us f)
+          | inr v ↦ inr (each_rising place R o _ us v.0, v.1)
+        ]))),
+      ))
+
+  rising_right : (xs us vs : List X) → rising place R us ≡ rising place R vs → rising place R (xs ++ us) ≡ rising place R (xs ++ vs)
+  rising_right [] us vs e = e
+  rising_right (x ∷ xs) us vs e = ap (put place R x) (rising_right xs us vs e)
+
+  pub rising_parts : (parts : List (List X)) → rising place R (flat_map (rising place R) parts) ≡ rising place R (flat_map (λ part. part) parts)
+  rising_parts [] = refl
+  rising_parts (part ∷ parts) = rising_left part (flat_map (rising place R) parts) ∙ rising_right part (flat_map (rising place R) parts) (flat_map (λ part. part) parts) (rising_parts parts)
+
+all_members : (archives : List (List EntryValue)) → flat_map (λ members. members) (map index_members archives) ≡ map entry_member (flat_map in_places archives)
+all_members [] = refl
+all_members (captures ∷ archives) = ap (λ ms. index_members captures ++ ms) (all_members archives) ∙ sym (map-append entry_member (in_places captures) (flat_map in_places archives))
+
+pub collected : (archives : List (List EntryValue)) → collection (map index_members archives) ≡ captured_lines archives
+collected archives =
+    ap (rising member_place place_cmp) (all_members archives)
+    ∙ sym (rising_referred entry_member member_place place_cmp (flat_map in_places archives))
+    ∙ ap (map entry_member) (rising_parts entry_place place_cmp place_cmp_total archives)
+
+-- they rise
+pub lines_rise : (archives : List (List EntryValue)) → Rises member_place place_cmp (captured_lines archives)
+lines_rise archives = subst (Rises member_place place_cmp) (collected archives) (rises_rising member_place place_cmp place_cmp_total (all_lines (map index_members archives)))

@@ -1,0 +1,4 @@
+pub mod ArchiveLemmas
+pub mod PageLemmas
+pub mod CollectionLemmas
+pub mod ScanLemmas

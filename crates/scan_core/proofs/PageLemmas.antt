@@ -1,0 +1,61 @@
+-- Pages over indexes in memory.
+use Rattle.std.proofs.Common.{◌≡◌, ◌≢◌, ℕ, zero, suc, ◌<◌, List, [], ◌∷◌, length, map, get_or, set, Option, Some, Result, Ok, Err, IfErr, refl, sym, ap, ◌∙◌, subst, arith}
+use Rattle.cdxj_core.specs.declared.limit.TheConstants.{LINE_LIMIT}
+use Rattle.cdxj_core.specs.Indexes.{IsIndex}
+use Rattle.cdxj_core.specs.Members.{Member}
+use Rattle.devices.specs.Device.{next_count}
+use Rattle.merge_core.specs.Collections.{Known}
+use Rattle.merge_core.specs.Failures.{RaisedAt}
+use Rattle.merge_core.specs.Gathering.{AllTwo}
+use Rattle.query_core.specs.declared.fault.AnswerFault.{AnswerFault}
+use Rattle.query_core.specs.declared.fault.AnswerFault.TheVariants as answer
+use Rattle.query_core.specs.LineFaults.{IsFaultOf}
+use Rattle.query_core.proofs.SoundIndexes.{names_no_bad_line, names_none_out_of_order}
+use Rattle.scan_core.proofs.ArchiveLemmas.{map_length}
+use Rattle.scan_core.specs.Scanning.{IsPagesFault}
+
+-- sources in memory tell their bytes
+pub known_texts : {S : Type 0} (text : S → List ℕ) (sources : List S) (texts : List (List ℕ)) → map text sources ≡ texts → Known (map (λ s. Some (text s)) sources) texts
+known_texts text sources texts e = subst (Known (map (λ s. Some (text s)) sources)) e (known_own sources)
+  where
+    known_own : (ss : List _) → Known (map (λ s. Some (text s)) ss) (map text ss)
+    known_own [] = tt
+    known_own (s ∷ ss) = (refl, known_own ss)
+
+-- lists that show one list are of one length
+pub same_length : {X Y Z : Type 0} (f : X → Z) (g : Y → Z) (xs : List X) (ys : List Y) → map f xs ≡ map g ys → length xs ≡ length ys
+same_length f g xs ys e = sym (map_length f xs) ∙ ap length e ∙ map_length g ys
+
+abbrev zeros : {S : Type 0} → List S → List ℕ
+zeros ss = map (λ s. 0) ss
+
+zero_at : {S : Type 0} (ss : List S) (i : ℕ) → get_or (zeros ss) i 0 ≡ 0
+zero_at [] i = refl
+zero_at (s ∷ ss) zero = refl
+zero_at (s ∷ ss) (suc i) = zero_at ss i
+
+put_at : (ns : List ℕ) (i n : ℕ) → i < length ns → get_or (set ns i n) i 0 ≡ n
+put_at [] i n l = absurd (omega arith)
+put_at (m ∷ ns) zero n l = refl
+put_at (m ∷ ns) (suc i) n l = put_at ns i n (omega arith)
+
+-- no count of 0 rises where all stay 0
+pub none_raised : {S : Type 0} (i : ℕ) (old new : List S) → RaisedAt i (zeros old) (zeros new) → ⊥
+none_raised i old new h =
+    let raised : 0 ≡ next_count (get_or (zeros old) i 0) = sym (zero_at new i) ∙ ap (λ ns. get_or ns i 0) h.1 ∙ put_at (zeros old) i (next_count (get_or (zeros old) i 0)) h.0 in
+    let none : 0 ≡ next_count 0 = raised ∙ ap next_count (zero_at old i) in
+    omega (arith, none)
+
+-- pages over indexes meet no fault of a line or of a source
+pub pages_fault : {S : Type 0} (r : Result ℕ AnswerFault) (tolds : List (Option (List ℕ))) (texts : List (List ℕ)) (members : List (List Member)) (old new : List S) → Known tolds texts → AllTwo (IsIndex LINE_LIMIT) texts members
+    → IfErr r (IsFaultOf LINE_LIMIT tolds) → IfErr r (λ e. (i : ℕ) → e ≡ answer.Read i → RaisedAt i (zeros old) (zeros new))
+    → IfErr r (λ e. e ≢ answer.BadSizes) → IfErr r (λ e. e ≢ answer.TooManySources) → IfErr r (λ e. e ≢ answer.Input) → IfErr r IsPagesFault
+pages_fault (Ok n) tolds texts members old new known are f read sized few input = tt
+pages_fault (Err answer.Memory) tolds texts members old new known are f read sized few input = tt
+pages_fault (Err (answer.Read i)) tolds texts members old new known are f read sized few input = none_raised i old new (read i refl)
+pages_fault (Err answer.Write) tolds texts members old new known are f read sized few input = tt
+pages_fault (Err (answer.BadLine i o)) tolds texts members old new known are f read sized few input = names_no_bad_line LINE_LIMIT tolds texts members known are i o f
+pages_fault (Err (answer.OutOfOrder i o)) tolds texts members old new known are f read sized few input = names_none_out_of_order LINE_LIMIT tolds texts members known are i o f
+pages_fault (Err answer.TooManySources) tolds texts members old new known are f read sized few input = few refl
+pages_fault (Err answer.BadSizes) tolds texts members old new known are f read sized few input = sized refl
+pages_fault (Err answer.Input) tolds texts members old new known are f read sized few input = input refl

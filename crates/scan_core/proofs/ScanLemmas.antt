@@ -1,0 +1,48 @@
+-- What a scan wrote, from what its parts did.
+use Rattle.std.proofs.Common.{ℕ, List, length, map, Option, subst}
+use Rattle.cdxj_places.specs.Places.{place_cmp}
+use Rattle.cdxj_places.proofs.PlaceOrder.{place_cmp_total}
+use Rattle.cdxj_core.specs.Entries.{EntryValue}
+use Rattle.cdxj_core.specs.Members.{member_place}
+use Rattle.merge_core.specs.Collections.{collection}
+use Rattle.query_text.specs.Queries.{QueryValue}
+use Rattle.query_text.specs.Matching.{matches}
+use Rattle.page_core.proofs.PageLaws.{chain_law, rises_filter}
+use Rattle.query_core.specs.Collections.{selected}
+use Rattle.query_core.specs.QueryPages.{never}
+use Rattle.query_core.specs.Paging.{WrotePages, WrotePagesInPart}
+use Rattle.query_core.proofs.PageSteps.{all_positive}
+use Rattle.scan_core.specs.Archives.{AreIndexed, index_members}
+use Rattle.scan_core.specs.Captures.{captured_lines}
+use Rattle.scan_core.specs.Scanning.{IsAsked, Scanned, ScannedInPart}
+use Rattle.scan_core.proofs.CollectionLemmas.{collected, lines_rise}
+
+module _ (names : List (List ℕ)) (inputs : List (Option (List ℕ))) (sizes text : List ℕ) (query : QueryValue) (archives : List (List EntryValue)) (old new : Option (List ℕ))
+    (asked : IsAsked sizes text (length names) query) (indexed : AreIndexed names inputs archives) where
+  pub scanned_whole : (number : ℕ) → WrotePages query (collection (map index_members archives)) sizes old new number → Scanned names inputs sizes text old new number
+  scanned_whole number w =
+      let wrote = subst (λ lines. WrotePages query lines sizes old new number) (collected archives) w in
+      let law = chain_law member_place place_cmp never place_cmp_total (selected query (captured_lines archives)) query.resume sizes wrote.pages
+      (rises_filter member_place place_cmp never place_cmp_total (λ m. matches query m.values) (captured_lines archives) (lines_rise archives))
+      (all_positive sizes asked.sizes) wrote.chain in
+      record {
+        query = query;
+        asked = asked;
+        captures = archives;
+        indexed = indexed;
+        pages = wrote.pages;
+        chain = wrote.chain;
+        joined = law.0;
+        full = law.1;
+        wrote = wrote.text;
+        count = wrote.count;
+      }
+
+  pub scanned_part : WrotePagesInPart query (collection (map index_members archives)) sizes old new → ScannedInPart names inputs sizes text old new
+  scanned_part w = record {
+    query = query;
+    asked = asked;
+    captures = archives;
+    indexed = indexed;
+    part = subst (λ lines. WrotePagesInPart query lines sizes old new) (collected archives) w;
+  }

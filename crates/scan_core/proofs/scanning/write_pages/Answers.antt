@@ -1,0 +1,32 @@
+use Rattle.std.proofs.Common.{◌≤◌, length, map, Some, ap, ◌∙◌, arith}
+use Rattle.devices.specs.Gathered.{gathered}
+use Rattle.devices.proofs.WritingLemmas.{wrote_nothing}
+use Rattle.source_core.specs.Slices.{slice_text}
+use Rattle.query_core.specs.declared.merging.TheConstants.{SOURCES_LIMIT}
+use Rattle.query_core.proofs.PageSteps.{there, all_positive}
+use Rattle.scan_core.proofs.PageLemmas.{known_texts, same_length, pages_fault}
+use Rattle.scan_core.proofs.scanning.write_pages.Goals as goal
+
+pub returns-in-Err-clause-part : goal.returns-in-Err-clause-part
+returns-in-Err-clause-part g c = λ members are.
+    let t = there c.args.query.now members c.args.query.now.resume c.args.sizes.now (all_positive c.args.sizes.now c.requires.sizes) in (t.0, t.1, wrote_nothing _ _)
+
+pub returns-clause-pages : goal.returns-clause-pages
+returns-clause-pages g c = λ members are.
+    c.pages.ensures.pages (map gathered c.args.indexes.now) members
+    (known_texts slice_text c.deref_mut.result.now (map gathered c.args.indexes.now) (ap (map slice_text) c.deref_mut.ensures.value ∙ c.in-Ok.ensures)) are
+
+pub returns-clause-part : goal.returns-clause-part
+returns-clause-part g c = λ members are.
+    c.pages.ensures.part (map gathered c.args.indexes.now) members
+    (known_texts slice_text c.deref_mut.result.now (map gathered c.args.indexes.now) (ap (map slice_text) c.deref_mut.ensures.value ∙ c.in-Ok.ensures)) are c.requires.sizes
+
+pub returns-clause-refusals : goal.returns-clause-refusals
+returns-clause-refusals g c = λ members are.
+    let ok = c.pages.ensures in
+    let texts = ap (map slice_text) c.deref_mut.ensures.value ∙ c.in-Ok.ensures in
+    let same = same_length slice_text gathered c.deref_mut.result.now c.args.indexes.now texts in
+    let number : length c.deref_mut.result.now ≤ SOURCES_LIMIT = omega arith in
+    pages_fault c.pages.result (map (λ s. Some (slice_text s)) c.deref_mut.result.now) (map gathered c.args.indexes.now) members c.deref_mut.result.now c.pages.new.sources
+    (known_texts slice_text c.deref_mut.result.now (map gathered c.args.indexes.now) texts) are
+    ok.fault ok.read (ok.sized c.requires.sizes) (ok.few number) ok.refusals

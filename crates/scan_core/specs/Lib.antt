@@ -1,0 +1,4 @@
+pub mod Archives
+pub mod Captures
+pub mod Scanning
+pub mod Failures

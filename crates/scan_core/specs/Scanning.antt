@@ -1,0 +1,92 @@
+-- What a scan of archives owes.
+use Rattle.std.specs.Prelude.{◌≡◌, ℕ, ◌-◌, ◌^◌, ◌<◌, ◌≤◌, ⊤, List, length, drop, suc, flat_map, min, true, false, Option, Ok, Err}
+use Rattle.std.specs.Io.KnownBytes.{Appends}
+use Rattle.cdxj_places.specs.Places.{PlaceValue, place_cmp}
+use Rattle.cdxj_core.specs.Entries.{EntryValue}
+use Rattle.cdxj_core.specs.Members.{Member, member_place}
+use Rattle.index_core.specs.declared.fault.IndexFault.TheVariants as index
+use Rattle.query_text.specs.declared.fault.QueryFault.TheVariants as refusal
+use Rattle.query_text.specs.declared.query.TheConstants.{QUERY_LIMIT}
+use Rattle.query_text.specs.Queries.{QueryValue, query_of}
+use Rattle.page_core.specs.Pages.{Page, collapsed, FullButLast}
+use Rattle.query_core.specs.declared.fault.AnswerFault.{AnswerFault}
+use Rattle.query_core.specs.declared.fault.AnswerFault.TheVariants as answer
+use Rattle.query_core.specs.declared.merging.TheConstants.{SOURCES_LIMIT}
+use Rattle.query_core.specs.Collections.{selected}
+use Rattle.query_core.specs.QueryPages.{never, IsQueryChain}
+use Rattle.query_core.specs.Paging.{are_sizes, pages_text, WrotePagesInPart}
+use Rattle.scan_core.specs.declared.fault.ScanFault.{ScanFault}
+use Rattle.scan_core.specs.declared.fault.ScanFault.TheVariants.{Query, Archive, Answer}
+use Rattle.scan_core.specs.Archives.{AreIndexed, IsFirstFault}
+use Rattle.scan_core.specs.Captures.{captured_lines}
+
+-- the sizes are given and positive, the text means this query, and the archives aren't too many
+pub record IsAsked (ns text : List ℕ) (count : ℕ) (query : QueryValue) : Type 0 where
+  pub sizes : are_sizes ns ≡ true
+  pub meaning : query_of QUERY_LIMIT text ≡ Ok query
+  pub few : count ≤ SOURCES_LIMIT
+
+-- The archives, by their names and by what their inputs hold; the sizes of pages, and the query's text
+module _ (names : List (List ℕ)) (inputs : List (Option (List ℕ))) (sizes text : List ℕ) where
+  -- The pages that were written, joined, are exactly the captures of the archives that the query selects, each once, in the
+  -- order of places. Every page but the last is full and ends with a key from which the next one goes on.
+  pub record Scanned (old new : Option (List ℕ)) (number : ℕ) : Type 0 where
+    pub query : QueryValue
+    pub asked : IsAsked sizes text (length names) query
+    pub captures : List (List EntryValue)
+    pub indexed : AreIndexed names inputs captures
+    pub pages : List (Page Member PlaceValue)
+    pub chain : IsQueryChain query (captured_lines captures) sizes pages
+    pub joined : flat_map (λ page. page.members) pages ≡ collapsed member_place place_cmp never (selected query (captured_lines captures)) query.resume
+    pub full : FullButLast sizes pages
+    pub wrote : Appends old new (pages_text query pages)
+    pub count : number ≡ min (length pages) (2 ^ 64 - 1)
+
+  -- a front of those pages was written
+  pub record ScannedInPart (old new : Option (List ℕ)) : Type 0 where
+    pub query : QueryValue
+    pub asked : IsAsked sizes text (length names) query
+    pub captures : List (List EntryValue)
+    pub indexed : AreIndexed names inputs captures
+    pub part : WrotePagesInPart query (captured_lines captures) sizes old new
+
+  -- Why nothing or no more was written. What comes before the fault in this order isn't at fault.
+  abbrev pub IsScanFault : ScanFault → Type 0
+  IsScanFault (Answer answer.BadSizes) = are_sizes sizes ≡ false
+  IsScanFault (Query refusal.Memory) = are_sizes sizes ≡ true
+  IsScanFault (Query fault) = (are_sizes sizes ≡ true) × (query_of QUERY_LIMIT text ≡ Err fault)
+  IsScanFault (Answer answer.TooManySources) =
+      (are_sizes sizes ≡ true) × (query : QueryValue) × (query_of QUERY_LIMIT text ≡ Ok query) × (SOURCES_LIMIT < length names)
+  IsScanFault (Archive i fault) = (query : QueryValue) × IsAsked sizes text (length names) query × IsFirstFault names inputs i fault
+  IsScanFault (Answer answer.Memory) = ⊤
+  IsScanFault (Answer answer.Write) = ⊤
+  IsScanFault (Answer fault) = ⊥
+
+-- the archive that is named is the first that isn't indexed
+abbrev pub IsArchiveFault : List (List ℕ) → List (Option (List ℕ)) → ScanFault → Type 0
+IsArchiveFault names inputs (Archive i fault) = IsFirstFault names inputs i fault
+IsArchiveFault names inputs other = ⊥
+
+-- pages over indexes in memory end for want of memory, or where the output failed
+abbrev pub IsPagesFault : AnswerFault → Type 0
+IsPagesFault answer.Memory = ⊤
+IsPagesFault answer.Write = ⊤
+IsPagesFault other = ⊥
+
+-- the fault was met before anything was written
+abbrev pub IsEarly : ScanFault → Type 0
+IsEarly (Query fault) = ⊤
+IsEarly (Archive i fault) = ⊤
+IsEarly (Answer answer.BadSizes) = ⊤
+IsEarly (Answer answer.TooManySources) = ⊤
+IsEarly (Answer fault) = ⊥
+
+-- the archives that a fault leaves unread: all, those from the one at fault on, or those after it
+abbrev pub LeavesUnread : {X : Type 0} → List X → List X → ScanFault → Type 0
+LeavesUnread old new (Query fault) = new ≡ old
+LeavesUnread old new (Answer answer.BadSizes) = new ≡ old
+LeavesUnread old new (Answer answer.TooManySources) = new ≡ old
+LeavesUnread old new (Archive i index.BadName) = drop i new ≡ drop i old
+LeavesUnread old new (Archive i index.DuplicateName) = drop i new ≡ drop i old
+LeavesUnread old new (Archive i fault) = drop (suc i) new ≡ drop (suc i) old
+LeavesUnread old new (Answer fault) = ⊤

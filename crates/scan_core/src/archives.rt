@@ -1,0 +1,85 @@
+//! Archives that are indexed in memory.
+ghost use Rattle.std.specs.Prelude.{◌≡◌, ◌↔◌, ◌<◌, ◌∷◌, ◌++◌, ℕ, List, [], length, map, drop, suc, true, Err, IfOk, IfErr, OnOk, string_bytes};
+ghost use Rattle.cdxj_core.specs.declared.limit.TheConstants.{LINE_LIMIT};
+ghost use Rattle.cdxj_core.specs.Entries.{EntryValue};
+ghost use Rattle.cdxj_core.specs.Indexes.{IsIndex};
+ghost use Rattle.devices.specs.Gathered.{gathered};
+ghost use Rattle.index_core.specs.Counting.{CountsIndex};
+ghost use Rattle.index_core.specs.Indexing.{IsName, is_among};
+ghost use Rattle.merge_core.specs.Gathering.{AllTwo};
+ghost use Rattle.scan_core.specs.Archives.{IsNewName, IsAcceptedAs, IsFaultOfArchive, IsNameFault, AreIndexed, index_members};
+ghost use Rattle.scan_core.specs.Failures.{CountsInputs};
+ghost use Rattle.scan_core.specs.Scanning.{LeavesUnread, IsArchiveFault};
+
+use crate::fault::ScanFault;
+use crate::named::Named;
+use devices::Gather;
+use index_core::{IndexFault, Indexer};
+use std::alloc::Global;
+use warc_core::Input;
+
+/// The index of what an indexer holds.
+fn index_of(alloc: Global, indexer: &Indexer) -> Result<Gather, IndexFault>
+    ensures index { IfOk result (λ index. IsIndex LINE_LIMIT (gathered index) (index_members indexer.now.captures)) }
+    ensures memory { IfErr result (λ fault. fault ≡ IndexFault.Memory) }
+{
+    let mut index = Gather::new(alloc);
+    match indexer.write(&mut index) {
+        Ok(_count) => Ok(index),
+        Err(_fault) => Err(IndexFault::Memory),
+    }
+}
+
+/// Indexes an archive. The indexer holds no captures before or after, and the names of the archives up to this one.
+fn index_archive<I: Input>(
+    alloc: Global,
+    indexer: &mut Indexer,
+    archive: &mut Named<I>,
+) -> Result<Gather, IndexFault>
+    requires { indexer.old.captures ≡ [] }
+    ensures name { archive.new.name ≡ archive.old.name }
+    ensures held { OnOk result (indexer.new ≡ record { names = indexer.old.names ++ string_bytes archive.old.name ∷ []; captures = [] }) }
+    ensures index { IfOk result (λ index. IsNewName indexer.old.names (string_bytes archive.old.name)
+        × (captures : List EntryValue) × IsAcceptedAs (string_bytes archive.old.name) (I.remaining archive.old.input) captures
+        × IsIndex LINE_LIMIT (gathered index) (index_members captures)) }
+    ensures refused { IfErr result (IsFaultOfArchive indexer.old.names (string_bytes archive.old.name) (I.remaining archive.old.input)) }
+    ensures unread { IfErr result (λ fault. IsNameFault fault → archive.new ≡ archive.old) }
+    ensures failures { CountsIndex result (I.failures archive.old.input) (I.failures archive.new.input) }
+{
+    match indexer.add(archive.name.as_str(), &mut archive.input) {
+        Ok(_count) => {}
+        Err(fault) => return Err(fault),
+    }
+    let index = index_of(alloc, indexer);
+    indexer.forget_captures();
+    index
+}
+
+/// Indexes archives, each into an index of its own.
+pub fn index_archives<I: Input>(
+    alloc: Global,
+    inputs: &mut [Named<I>],
+) -> Result<Vec<Gather>, ScanFault>
+    ensures names { map (λ n. string_bytes n.name) inputs.new ≡ map (λ n. string_bytes n.name) inputs.old }
+    ensures indexes { IfOk result (λ indexes. (captures : List (List EntryValue))
+        × AreIndexed (map (λ n. string_bytes n.name) inputs.old) (map (λ n. I.remaining n.input) inputs.old) captures
+        × AllTwo (IsIndex LINE_LIMIT) (map gathered indexes.items) (map index_members captures)) }
+    ensures number { IfOk result (λ indexes. length indexes.items ≡ length inputs.old) }
+    ensures refused { IfErr result (IsArchiveFault (map (λ n. string_bytes n.name) inputs.old) (map (λ n. I.remaining n.input) inputs.old)) }
+    ensures unread { IfErr result (LeavesUnread inputs.old inputs.new) }
+    ensures failures { CountsInputs result (map (λ n. I.failures n.input) inputs.old) (map (λ n. I.failures n.input) inputs.new) }
+{
+    let mut indexer = Indexer::new(alloc);
+    let mut indexes = Vec::new(alloc);
+    for i in 0..inputs.len() {
+        let index = match index_archive(alloc, &mut indexer, &mut inputs[i]) {
+            Ok(index) => index,
+            Err(fault) => return Err(ScanFault::Archive(i, fault)),
+        };
+        match indexes.push(index) {
+            Ok(()) => {}
+            Err(_) => return Err(ScanFault::Archive(i, IndexFault::Memory)),
+        }
+    }
+    Ok(indexes)
+}

@@ -1,0 +1,10 @@
+//! Archives and their names.
+
+/// An archive and the name that its captures have.
+#[derive(Drop)]
+pub struct Named<I> {
+    /// 1 to 255 bytes, unlike the names of the other archives.
+    pub name: String,
+    /// The archive's bytes.
+    pub input: I,
+}

@@ -1,0 +1,101 @@
+//! The pages of a query over archives.
+ghost use Rattle.std.specs.Prelude.{◌≡◌, ◌<◌, ◌≤◌, ℕ, List, length, map, true, false, Some, Err, IfOk, IfErr, string_bytes};
+ghost use Rattle.cdxj_core.specs.declared.limit.TheConstants.{LINE_LIMIT};
+ghost use Rattle.cdxj_core.specs.Indexes.{IsIndex};
+ghost use Rattle.cdxj_core.specs.Members.{Member};
+ghost use Rattle.devices.specs.Gathered.{gathered};
+ghost use Rattle.merge_core.specs.Collections.{collection};
+ghost use Rattle.merge_core.specs.Gathering.{AllTwo};
+ghost use Rattle.source_core.specs.Slices.{slice_text};
+ghost use Rattle.query_core.specs.declared.merging.TheConstants.{SOURCES_LIMIT};
+ghost use Rattle.query_core.specs.Paging.{are_sizes, WrotePages, WrotePagesInPart};
+ghost use Rattle.scan_core.specs.Failures.{CountsAnswer, CountsInputs, CountsOutput};
+ghost use Rattle.scan_core.specs.Scanning.{IsPagesFault, Scanned, ScannedInPart, IsScanFault, IsEarly, LeavesUnread};
+
+use crate::archives::index_archives;
+use crate::fault::ScanFault;
+use crate::named::Named;
+use devices::{Gather, Input, Output};
+use query_core::{AnswerFault, Query, SOURCES_LIMIT, SliceSource, are_sizes, pages};
+use std::alloc::{AllocError, Global};
+
+/// The indexes as sources.
+fn sources_of(alloc: Global, indexes: &[Gather]) -> Result<Vec<SliceSource<'_>>, AllocError>
+    ensures { IfOk result (λ sources. map slice_text sources.items ≡ map gathered indexes.now) }
+{
+    let mut sources = Vec::new(alloc);
+    for index in indexes {
+        sources.push(SliceSource::new(index.bytes()))?;
+    }
+    Ok(sources)
+}
+
+/// Writes the pages of a query over indexes.
+fn write_pages<O: Output>(
+    alloc: Global,
+    indexes: &[Gather],
+    query: &Query,
+    sizes: &[u64],
+    out: &mut O,
+) -> Result<u64, AnswerFault>
+    requires sizes { are_sizes sizes.now ≡ true }
+    requires few { length indexes.now ≤ SOURCES_LIMIT }
+    ensures pages { (members : List (List Member)) → AllTwo (IsIndex LINE_LIMIT) (map gathered indexes.now) members
+        → IfOk result (WrotePages query.now (collection members) sizes.now (O.written out.old) (O.written out.new)) }
+    ensures part { (members : List (List Member)) → AllTwo (IsIndex LINE_LIMIT) (map gathered indexes.now) members
+        → WrotePagesInPart query.now (collection members) sizes.now (O.written out.old) (O.written out.new) }
+    ensures refusals { (members : List (List Member)) → AllTwo (IsIndex LINE_LIMIT) (map gathered indexes.now) members → IfErr result IsPagesFault }
+    ensures failures { CountsAnswer result (O.failures out.old) (O.failures out.new) }
+{
+    let mut sources = match sources_of(alloc, indexes) {
+        Ok(sources) => sources,
+        Err(_) => return Err(AnswerFault::Memory),
+    };
+    pages(alloc, &mut sources, query, sizes, out)
+}
+
+/// Writes the pages of a query over archives, and answers how many they are. Each archive is indexed in memory, into an index of
+/// its own. The captures have the archives' names for file names. The pages are those of `pages` over these indexes: the sizes
+/// are in captures, the last size is repeated, and the query's limit isn't used, nor whether it shows a key.
+///
+/// Errors, in this order: `Answer(BadSizes)` where there are no sizes, or one of them is 0; `Query` for a text that is refused;
+/// `Answer(TooManySources)` over `SOURCES_LIMIT` archives. Then, archive by archive, `Archive`: `BadName` and `DuplicateName`
+/// before the archive is read, then the fault that its captures end with, and `Memory` for any growth. Up to here nothing was
+/// written. Then `Answer(Memory)`, and `Answer(Write)` at the output's first failure: a front of the pages was written.
+pub fn scan<I: Input, O: Output>(
+    alloc: Global,
+    inputs: &mut [Named<I>],
+    sizes: &[u64],
+    query: &str,
+    out: &mut O,
+) -> Result<u64, ScanFault>
+    ensures names { map (λ n. string_bytes n.name) inputs.new ≡ map (λ n. string_bytes n.name) inputs.old }
+    ensures scanned { IfOk result (Scanned (map (λ n. string_bytes n.name) inputs.old) (map (λ n. I.remaining n.input) inputs.old) sizes.now query.now
+        (O.written out.old) (O.written out.new)) }
+    ensures fault { IfErr result (IsScanFault (map (λ n. string_bytes n.name) inputs.old) (map (λ n. I.remaining n.input) inputs.old) sizes.now query.now) }
+    ensures part { IfErr result (λ fault. (IsEarly fault → ⊥) → ScannedInPart (map (λ n. string_bytes n.name) inputs.old) (map (λ n. I.remaining n.input) inputs.old) sizes.now query.now
+        (O.written out.old) (O.written out.new)) }
+    ensures unwritten { IfErr result (λ fault. IsEarly fault → out.new ≡ out.old) }
+    ensures unread { IfErr result (LeavesUnread inputs.old inputs.new) }
+    ensures inputs { CountsInputs result (map (λ n. I.failures n.input) inputs.old) (map (λ n. I.failures n.input) inputs.new) }
+    ensures output { CountsOutput result (O.failures out.old) (O.failures out.new) }
+{
+    if !are_sizes(sizes) {
+        return Err(ScanFault::Answer(AnswerFault::BadSizes));
+    }
+    let query = match Query::read(alloc, query) {
+        Ok(query) => query,
+        Err(fault) => return Err(ScanFault::Query(fault)),
+    };
+    if inputs.len() > SOURCES_LIMIT {
+        return Err(ScanFault::Answer(AnswerFault::TooManySources));
+    }
+    let indexes = match index_archives(alloc, inputs) {
+        Ok(indexes) => indexes,
+        Err(fault) => return Err(fault),
+    };
+    match write_pages(alloc, &indexes, &query, sizes, out) {
+        Ok(count) => Ok(count),
+        Err(fault) => Err(ScanFault::Answer(fault)),
+    }
+}
