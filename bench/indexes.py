@@ -68,12 +68,16 @@ def for_query(folder, count):
         deal(whole, files, folder, f"whole-{files}")
 
 
+def for_serve(folder, count):
+    write_whole(lines(count), folder)
+
+
 def main():
-    """Writes the indexes that bench/merge or bench/query measures into a folder; in a process of its own, as its memory counts there."""
+    """Writes the indexes that bench/merge, bench/query or bench/serve measures into a folder; in a process of its own, as its memory counts there."""
     import pathlib
     import sys
 
-    makers = {"merge": for_merge, "query": for_query}
+    makers = {"merge": for_merge, "query": for_query, "serve": for_serve}
     makers[sys.argv[1]](pathlib.Path(sys.argv[2]), int(sys.argv[3]))
 
 

@@ -50,6 +50,10 @@ make_archives() {
         capture q 0 a.warc
         echo
     } > bad.cdxj
+    {
+        cat sorted.cdxj
+        echo
+    } > late.cdxj
     # Three captures of one key and stamp in an index each.
     capture p 10 b.warc > 10.cdxj
     capture p 20 a.warc > 20.cdxj
@@ -289,10 +293,47 @@ check "pages: out of order"             ""               "$falling"        1 pag
 check "pages: a missing file"           ""               "$missing"        3 pages 1 "url=example.com/q" missing sorted.cdxj
 check "pages: a folder"    "" "warcdx: folder: Read"                       3 pages 1 url=example.com/q folder
 
+asked="url=example.com/p&fl=offset" # one key, and captures of it
+all="key=&matchType=prefix&fl=offset"
+replies=$(lines 5 20 10 . "refused BadLimit" . .)
+keyed=$(lines "a.warc 5" "" "$key_5" .)
+falls=$(lines "" "fault OutOfOrder 0 ${falling##* }" .)
+second_bad=$(lines 5 "" "fault BadLine 1 $first" . 5 .)
+second=$(wc --bytes < sorted.cdxj)
+breaks_off=$(lines 0 "" "fault BadLine 0 $second" . '[["offset"],' '["0"]' "fault BadLine 0 $second" . 0 .)
+too_long=$(lines "refused QueryTooLong" . "refused QueryTooLong" . .)
+
+check "serve: a reply to each line"     "$replies"       ""                0 serve $apart < <(printf '%s\nlimit=0\nkey=x' "$asked")
+check "serve: CR LF"                    "$replies"       ""                0 serve $apart < <(printf '%s\r\nlimit=0\r\nkey=x\r' "$asked")
+check "serve: one CR is dropped" "$(lines "refused BadOutput" .)" ""       0 serve $apart <<< $'key=x&output=text\r\r'
+check "serve: no lines"                 ""               ""                0 serve sorted.cdxj < empty.warc
+check "serve: empty lines" "$(lines "refused NoUrl" . "refused NoUrl" .)" "" 0 serve sorted.cdxj < <(printf '\n\n')
+check "serve: a resume key"             "$keyed"         ""                0 serve $apart <<< "$of_p&limit=1&showResumeKey=true"
+check "serve: from a resume key"        "$(lines 20 10 .)" ""              0 serve $apart <<< "$asked&resumeKey=$key_5"
+check "serve: cdxj"                     "$(lines "$sorted" .)" ""          0 serve sorted.cdxj <<< "url=example.com/*&output=cdxj"
+check "serve: json" "$(lines "$json_p" .)" "" 0 serve $apart <<< "$of_p&output=json&limit=1&showResumeKey=true"
+check "serve: nothing, json" "$(lines "$no_rows" .)" "" 0 serve sorted.cdxj <<< "url=example.org&output=json"
+check "serve: an empty index"           .                ""                0 serve empty.warc <<< key=x
+check "serve: 65,536 bytes"             "$(lines "refused Unknown" .)" ""  0 serve sorted.cdxj < <(printf a | repeated 65536)
+check "serve: 65,536 bytes, CR LF"      "$(lines "refused Unknown" .)" ""  0 serve sorted.cdxj < <(printf a | repeated 65536; printf '\r\n')
+check "serve: over 65,536 bytes" "$too_long" "" 0 serve sorted.cdxj < <(printf a | repeated 65537; echo; printf '\xff' | repeated 1000000; printf '\nkey=x\n')
+check "serve: not UTF-8" "$(lines "refused NotText" . .)" ""               0 serve sorted.cdxj < <(printf 'key=\xff\nkey=x\n')
+check "serve: out of order"             "$falls"         ""                0 serve falling.cdxj <<< "$all"
+check "serve: goes on after a fault"    "$second_bad"    ""                0 serve 5.cdxj bad.cdxj < <(lines "$all" "$asked")
+check "serve: what was written stands"  "$breaks_off"    ""                0 serve late.cdxj < <(lines "$all" "$all&output=json" "url=example.com/q&fl=offset")
+check "serve: 1,024 indexes"            .                ""                0 serve $at_limit <<< key=x
+check "serve: 1,025 indexes"      "" "warcdx: TooManySources"              1 serve $too_many
+check "serve: a missing file"           ""               "$missing"        3 serve sorted.cdxj missing
+check "serve: missing, before too many" ""               "$missing"        3 serve missing $at_limit
+check "serve: a folder"    "" "warcdx: folder: Read"                       3 serve sorted.cdxj folder <<< key=x
+check "serve: - is a file's name"  "" "warcdx: -: cannot open"             3 serve - <<< key=x
+check "serve: the input is a folder"  "" "warcdx: Input"                   3 serve sorted.cdxj < folder
+
 no_list=$(refusal "the following required arguments were not provided:"$'\n  <WARC>...' "list <WARC>...")
 no_verify=$(refusal "the following required arguments were not provided:"$'\n  <WARC>...' "verify <WARC>...")
 no_index=$(refusal "the following required arguments were not provided:"$'\n  <WARC>...' "index <WARC>...")
 no_check=$(refusal "the following required arguments were not provided:"$'\n  <INDEX>...' "check <INDEX>...")
+no_serve=$(refusal "the following required arguments were not provided:"$'\n  <INDEX>...' "serve <INDEX>...")
 no_query=$(refusal "the following required arguments were not provided:"$'\n  <QUERY>\n  <INDEX>...' "query <QUERY> <INDEX>...")
 no_index_asked=$(refusal "the following required arguments were not provided:"$'\n  <INDEX>...' "query <QUERY> <INDEX>...")
 no_pages=$(refusal "the following required arguments were not provided:"$'\n  <SIZES>\n  <QUERY>\n  <INDEX>...' "pages <SIZES> <QUERY> <INDEX>...")
@@ -310,6 +351,8 @@ check "check alone"                     "" "$no_check"                     2 che
 check "query alone"                     "" "$no_query"                     2 query
 check "query without an index"          "" "$no_index_asked"               2 query url=a
 check "query -x"                        "" "$(unexpected -x)"              2 query -x sorted.cdxj
+check "serve alone"                     "" "$no_serve"                     2 serve
+check "serve -x"                        "" "$(unexpected -x)"              2 serve -x
 check "pages alone"                     "" "$no_pages"                     2 pages
 check "pages without a query"           "" "$no_query_of_pages"            2 pages 1
 for sizes in "" 0 1,0 1, ,1 1,,2 +1 1.5 x 1000001 00000001 "1 2" "1;2" "$(printf '1,%.0s' {1..1000})1"; do
@@ -351,6 +394,7 @@ of_get=$(lines "Writes the record at an offset of an archive" "" "Usage: warcdx 
 of_check=$(lines "Checks that indexes are sorted, and counts their lines" "" "Usage: warcdx check <INDEX>...")
 of_query=$(lines "Writes the captures that a query asks for" "" "Usage: warcdx query <QUERY> <INDEX>...")
 of_pages=$(lines "Writes the captures that a query asks for, page by page" "" "Usage: warcdx pages <SIZES> <QUERY> <INDEX>...")
+of_serve=$(lines "Answers queries line by line" "" "Usage: warcdx serve <INDEX>...")
 of_verify=$(lines "Checks the digests of the records of archives" "" "Usage: warcdx verify <WARC>...")
 
 check_help "-h"                         "$of_program" -h
@@ -366,6 +410,8 @@ check_help "check -h"                   "$of_check"   check -h
 check_help "query --help"               "$of_query"   query --help
 check_help "query NAME -h"              "$of_query"   query missing -h
 check_help "pages -h"                   "$of_pages"   pages 0 -h
+check_help "serve -h"                   "$of_serve"   serve -h
+check_help "serve NAME --help"          "$of_serve"   serve missing --help
 check_help "get --help"                 "$of_get"     get --help
 check_help "get NAME NAME NAME -h"      "$of_get"     get r.warc q.warc missing -h
 
@@ -394,6 +440,10 @@ for way in full closed broken; do
     check_into $way "$way: query, a fault" "" "$bad"                         1 query "key=&matchType=prefix" bad.cdxj
     check_into $way "$way: pages, short"   "" "$flush"                       3 pages 1 "$of_p" $apart
     check_into $way "$way: pages, many"    "" "$write"                       3 pages 10 "url=example.com/*" many.cdxj
+    check_into $way "$way: serve, an empty page" "" "$write"                 3 serve sorted.cdxj <<< key=x
+    check_into $way "$way: serve, refused" "" "$write"                       3 serve sorted.cdxj <<< ""
+    check_into $way "$way: serve, many"    "" "$write"                       3 serve many.cdxj < <(lines "$all" "$all")
+    check_into $way "$way: serve, no lines" "" ""                            0 serve sorted.cdxj < empty.warc
     check_into $way "$way: get, short"     "" "$flush"                       3 get 0 r.warc
     check_into $way "$way: get, long"      "" "$write"                       3 get 0 large.warc
     check_into $way "$way: get, none"      "" "$none"                        1 get 1 r.warc
