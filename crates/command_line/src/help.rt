@@ -21,6 +21,7 @@ Examples:
   warcdx check crawl.cdxj
   warcdx query 'url=*.example.com&from=2016&limit=100' crawl.cdxj
   warcdx pages 100 'url=example.com/*' crawl-1.cdxj crawl-2.cdxj
+  warcdx serve crawl.cdxj < queries
   warcdx get 4096 crawl.warc
   gunzip -c crawl.warc.gz | warcdx verify -
 
@@ -314,12 +315,14 @@ A query that is refused gets
 
   refused CAUSE
 
-and one of more than 65,536 bytes QueryTooLong, one that isn't UTF-8 NotText. An
-index that is found not to be in order ends its reply, after what was written, by
+and one of more than 65,536 bytes QueryTooLong, one that isn't UTF-8 NotText.
+Where an index has a bad line, or one out of order, what was written of the page
+is followed by a line feed and
 
   fault CAUSE NUMBER OFFSET
 
-where NUMBER is that of the index, counted from 0. Then the next line is read.
+with the number of the index, from 0, and the offset of the line in bytes. Then
+the next query is read. docs/QUERY.md has the rules.
 
 All indexes are opened first. What ends the command is reported on standard
 error:
@@ -327,10 +330,11 @@ error:
   warcdx: NAME: cannot open
   warcdx: NAME: Read
   warcdx: TooManySources
+  warcdx: Input
 
 Examples:
-  printf 'url=example.com\\nurl=example.org\\n' | warcdx serve crawl.cdxj
-  socat TCP-LISTEN:8080,fork,reuseaddr EXEC:'warcdx serve crawl.cdxj'
+  warcdx serve crawl.cdxj < queries
+  socat -t 60 TCP-LISTEN:8080,bind=127.0.0.1,fork EXEC:'warcdx serve crawl.cdxj'
 
 Exit status:
   0  the input ended

@@ -14,20 +14,18 @@ use crate::faults::say_source_fault;
 use crate::outcome::Outcome;
 use query_core::{Source, serve};
 use std::rt::Runtime;
-use warc_core::{FromRead, Input, Output};
+use warc_core::{Input, Output};
 
-/// Answers the queries on standard input over the indexes, which are all opened before a line is read. What is at fault is
+/// Answers the queries of an input over the indexes of these names, which are all opened before a line is read. What is at fault is
 /// reported on standard error.
-pub fn serve_all<R: Runtime + AllocGlobal, O: Output>(
+pub fn serve_all<R: Runtime + AllocGlobal, I: Input, O: Output>(
     rt: &R,
     names: &[String],
+    input: &mut I,
     out: &mut O,
 ) -> Outcome {
     match open_indexes(rt, names) {
-        Ok(mut sources) => {
-            let mut input = FromRead::new(rt.reader());
-            serve_opened(rt, names, &mut sources, &mut input, out)
-        }
+        Ok(mut sources) => serve_opened(rt, names, &mut sources, input, out),
         Err(outcome) => outcome,
     }
 }

@@ -19,7 +19,7 @@ use index_core::IndexFault;
 use std::env;
 use std::io::{self, BufWriter, ErrorKind, Write};
 use std::rt::Runtime;
-use warc_core::{FromWrite, Output};
+use warc_core::{FromRead, FromWrite, Output};
 
 const MEMORY: Outcome = Outcome::Index(IndexFault::Memory);
 
@@ -103,7 +103,7 @@ pub fn perform<R: Runtime + AllocGlobal, O: Output>(rt: &R, task: &Task, out: &m
             query,
             names,
         } => write_pages(rt, sizes, query, names, out),
-        Task::Serve { names } => serve_all(rt, names, out),
+        Task::Serve { names } => serve_all(rt, names, &mut FromRead::new(rt.reader()), out),
         Task::Get { offset, name } => fetch(rt, *offset, name, out),
     }
 }

@@ -1,5 +1,6 @@
 //! Queries over indexes by name.
 use super::{Refused, owned, performed};
+use crate::conversing::serve_all;
 use crate::outcome::Outcome;
 use command_line::Task;
 use query_core::{AnswerFault, QueryFault};
@@ -7,6 +8,7 @@ use std::alloc::{AllocError, Global};
 use std::rt::Runtime;
 use std::test::Fail;
 use std::{fs, io};
+use warc_core::{Fuse, Gather, Slice};
 
 const OFFSET_10: &[u8] =
     b"com,example)/ 20160101000000 {\"url\": \"http://x/\", \"mime\": \"text/html\", \"status\": \"200\", \"digest\": \"-\", \"length\": \"1\", \"offset\": \"10\", \"filename\": \"b.warc\"}\n";
@@ -73,6 +75,32 @@ const PAGES: &[(&[u64], &str, &[u8], Outcome)] = &[
     (&[1], "url=", b"", Outcome::Query(QueryFault::BadUrl)),
 ];
 
+/// Indexes, the lines of an input whose second read fails where that is said, the replies that are written, and how that ends.
+const CONVERSATIONS: &[(&[&str], &[u8], u64, &[u8], Outcome)] = &[
+    (
+        APART,
+        b"url=example.com&fl=offset\nlimit=0\nkey=x",
+        0,
+        b"5\n20\n10\n.\nrefused BadLimit\n.\n.\n",
+        Outcome::Done,
+    ),
+    (
+        &["5.cdxj", "bad.cdxj"],
+        b"key=x\nlimit=0\n",
+        0,
+        b"\nfault BadLine 1 0\n.\nrefused BadLimit\n.\n",
+        Outcome::Done,
+    ),
+    (
+        APART,
+        b"key=x\nkey=y\n",
+        2,
+        b".\n",
+        Outcome::Answer(AnswerFault::Input),
+    ),
+    (&["5.cdxj", "none"], b"key=x\n", 0, b"", Outcome::CannotOpen),
+];
+
 fn query(alloc: Global, text: &str, names: &[&str]) -> Result<Task, AllocError> {
     let query = String::from_str(alloc, text)?;
     let names = owned(alloc, names)?;
@@ -99,6 +127,24 @@ fn writes<R: Runtime + AllocGlobal>(
 ) -> Result<bool, Refused> {
     let (outcome, out) = performed(rt, task, 0)?;
     Ok(out.device.bytes() == text && outcome == wanted)
+}
+
+/// Whether these replies are written to the lines, which are read six bytes at a time, and it ends so.
+fn replies<R: Runtime + AllocGlobal>(
+    rt: &R,
+    names: &[&str],
+    lines: &[u8],
+    at: u64,
+    text: &[u8],
+    wanted: Outcome,
+) -> Result<bool, Refused> {
+    let Ok(names) = owned(rt.alloc(), names) else {
+        return Err(Refused::Memory);
+    };
+    let mut input = Fuse::new(Slice::new(lines), 6, at);
+    let mut out = Gather::new(rt.alloc());
+    let outcome = serve_all(rt, &names, &mut input, &mut out);
+    Ok(out.bytes() == text && outcome == wanted)
 }
 
 fn write_indexes<R: Runtime>(rt: &R) -> io::Result<()> {
@@ -128,6 +174,12 @@ fn indexes_are_asked_by_name(rt: HostRuntime) -> Result<(), Fail> {
         assert!(rt;
             writes(&rt, pages(rt.alloc(), sizes, text), written, *wanted)?,
             "{text}"
+        );
+    }
+    for (names, lines, at, text, wanted) in CONVERSATIONS {
+        assert!(rt;
+            replies(&rt, names, lines, *at, text, *wanted)?,
+            "{names:?}"
         );
     }
     Ok(remove_indexes(&rt)?)

@@ -11,6 +11,7 @@ enum Wanted {
     Check(&'static [&'static str]),
     Query(&'static str, &'static [&'static str]),
     Pages(&'static [u64], &'static str, &'static [&'static str]),
+    Serve(&'static [&'static str]),
     Get(u64, &'static str),
     Help(&'static str),
     Usage(&'static str),
@@ -27,6 +28,8 @@ const INDEX: Wanted = Wanted::Help("Usage: warcdx index <WARC>...\n");
 const QUERY: Wanted = Wanted::Help("Usage: warcdx query <QUERY> <INDEX>...\n");
 
 const PAGES: Wanted = Wanted::Help("Usage: warcdx pages <SIZES> <QUERY> <INDEX>...\n");
+
+const SERVE: Wanted = Wanted::Help("Usage: warcdx serve <INDEX>...\n");
 
 const GET: Wanted = Wanted::Help("Usage: warcdx get <OFFSET> <WARC>\n");
 
@@ -61,6 +64,7 @@ const ROWS: &[(&[&str], Wanted)] = &[
         &["pages", "1,0000002,1000000", "url=a", "i", "j"],
         Wanted::Pages(&[1, 2, 1_000_000], "url=a", &["i", "j"]),
     ),
+    (&["serve", "i", "-"], Wanted::Serve(&["i", "-"])),
     (&["get", "264", "a.warc"], Wanted::Get(264, "a.warc")),
     (&["get", "007", "-"], Wanted::Get(7, "-")),
     (&["get", LARGEST, "a"], Wanted::Get((1 << 63) - 1, "a")),
@@ -79,6 +83,7 @@ const ROWS: &[(&[&str], Wanted)] = &[
         &["query", "url=a"],
         Wanted::Usage("not provided:\n  <INDEX>...\n"),
     ),
+    (&["serve"], Wanted::Usage("not provided:\n  <INDEX>...\n")),
     (
         &["pages", "1", "url=a"],
         Wanted::Usage("not provided:\n  <INDEX>...\n"),
@@ -144,6 +149,7 @@ const ROWS: &[(&[&str], Wanted)] = &[
     (&["index", "-h"], INDEX),
     (&["query", "--help"], QUERY),
     (&["pages", "0", "-h"], PAGES),
+    (&["serve", "i", "-h"], SERVE),
     (&["get", "--help"], GET),
     (&["get", "x", "-h"], GET),
     (&["get", "0", "a", "b", "-h"], GET),
@@ -184,6 +190,7 @@ fn is_task(task: &Task, wanted: &Wanted) -> bool {
             query.as_str() == *text && are(names.as_slice(), wanted)
         }
         (task, Wanted::Pages(sizes, text, wanted)) => are_pages(task, sizes, text, wanted),
+        (Task::Serve { names }, Wanted::Serve(wanted)) => are(names.as_slice(), wanted),
         (Task::Get { offset, name }, Wanted::Get(at, wanted)) => {
             offset == at && name.as_str() == *wanted
         }
