@@ -1,10 +1,12 @@
 //! Answers to queries over indexes.
 use crate::small_indexes::{
-    APART, FIRST_OF_2016, HOSTS, LETTERS, Rows, files, in_memory, index_texts, slices,
+    APART, FIRST_OF_2016, HOSTS, LETTERS, Rows, empty_sources, files, in_memory, index_texts,
+    slices,
 };
 use devices::Gather;
 use query_core::{AnswerFault, Query, Report, SliceSource, Source, answer};
 use std::alloc::Global;
+use std::rt::Runtime;
 use std::test::Fail;
 
 /// A query over indexes, the page that answers it, how many captures that has, and whether more follow.
@@ -171,18 +173,21 @@ fn answers<S: Source>(alloc: Global, sources: &mut [S], case: &Case) -> Result<b
     Ok(counts && out.bytes() == case.page.as_bytes())
 }
 
+fn answers_from_memory(alloc: Global, case: &Case) -> Result<bool, Fail> {
+    let texts = index_texts(alloc, case.indexes)?;
+    answers(alloc, &mut slices(alloc, &texts)?, case)
+}
+
+fn answers_from_files<R: Runtime + AllocGlobal>(rt: &R, case: &Case) -> Result<bool, Fail> {
+    let texts = index_texts(rt.alloc(), case.indexes)?;
+    answers(rt.alloc(), &mut files(rt, &texts)?, case)
+}
+
 #[test]
 fn a_query_is_answered_by_its_page(rt: HostRuntime) -> Result<(), Fail> {
     for case in CASES {
-        let texts = index_texts(rt.alloc(), case.indexes)?;
-        let mut sources = slices(rt.alloc(), &texts)?;
-        assert!(rt; answers(rt.alloc(), &mut sources, case)?, "{}", case.query);
-        let mut files = files(&rt, &texts)?;
-        assert!(rt;
-            answers(rt.alloc(), &mut files, case)?,
-            "{} of files",
-            case.query
-        );
+        assert!(rt; answers_from_memory(rt.alloc(), case)?, "{}", case.query);
+        assert!(rt; answers_from_files(&rt, case)?, "{} of files", case.query);
     }
     Ok(())
 }
@@ -241,11 +246,10 @@ fn the_first_line_of_a_place_counts_before_filters_do(rt: HostRuntime) -> Result
     Ok(())
 }
 
-/// What is reported of a query over these texts.
-fn report(alloc: Global, texts: &[Vec<u8>], text: &str) -> Result<Report, Fail> {
+/// What is reported of a query over these sources.
+fn report<S: Source>(alloc: Global, sources: &mut [S], text: &str) -> Result<Report, Fail> {
     let query = Query::read(alloc, text)?;
-    let mut sources = slices(alloc, texts)?;
-    Ok(in_memory(answer(alloc, &mut sources, &query, &mut Gather::new(alloc)))?)
+    Ok(in_memory(answer(alloc, sources, &query, &mut Gather::new(alloc)))?)
 }
 
 /// Queries over the letters, and how many lines are given, and at most read.
@@ -260,9 +264,11 @@ const READ_OF_LETTERS: &[(&str, u64, u64)] = &[
 fn little_is_read_of_an_index(rt: HostRuntime) -> Result<(), Fail> {
     let texts = index_texts(rt.alloc(), &[LETTERS])?;
     for (query, given, lines) in READ_OF_LETTERS {
-        let report = report(rt.alloc(), &texts, query)?;
-        assert_eq!(rt; report.given, *given, "{query}");
-        assert!(rt; report.lines <= *lines && report.probes <= 10, "{query}");
+        let report = report(rt.alloc(), &mut slices(rt.alloc(), &texts)?, query)?;
+        assert!(rt;
+            report.given == *given && report.lines <= *lines && report.probes <= 10,
+            "{query}"
+        );
     }
     Ok(())
 }
@@ -270,9 +276,14 @@ fn little_is_read_of_an_index(rt: HostRuntime) -> Result<(), Fail> {
 #[test]
 fn one_line_of_each_index_is_held_and_those_of_one_pair(rt: HostRuntime) -> Result<(), Fail> {
     let texts = index_texts(rt.alloc(), APART)?;
-    let report = report(rt.alloc(), &texts, "url=example.com&fl=offset&limit=1")?;
-    assert_eq!(rt; (report.given, report.more), (1, true));
-    assert_eq!(rt; (report.lines, report.held), (3, 3));
+    let mut sources = slices(rt.alloc(), &texts)?;
+    let report = report(
+        rt.alloc(),
+        &mut sources,
+        "url=example.com&fl=offset&limit=1",
+    )?;
+    assert!(rt; report.given == 1 && report.more);
+    assert!(rt; report.lines == 3 && report.held == 3);
     Ok(())
 }
 
@@ -297,34 +308,34 @@ const FROM_500: &str =
 #[test]
 fn a_page_begins_where_its_resume_key_says(rt: HostRuntime) -> Result<(), Fail> {
     let text = thousand_lines(rt.alloc())?;
-    let query = Query::read(rt.alloc(), AFTER_499)?;
-    let mut sources = [SliceSource::new(&text)];
-    let mut out = Gather::new(rt.alloc());
-    let report = in_memory(answer(rt.alloc(), &mut sources, &query, &mut out))?;
-    assert_eq!(rt; out.bytes(), FROM_500.as_bytes());
-    assert!(rt; report.lines >= 10 && report.lines <= 13, "{report:?}");
-    assert!(rt; report.held <= 2, "{report:?}");
+    let page = page(rt.alloc(), [&text, b""], AFTER_499)?;
+    assert_eq!(rt; page.bytes(), FROM_500.as_bytes());
     Ok(())
 }
 
 #[test]
-fn at_most_1024_indexes_are_asked(rt: HostRuntime) -> Result<(), Fail> {
-    let alloc = rt.alloc();
+fn what_stands_before_a_resume_key_is_not_read(rt: HostRuntime) -> Result<(), Fail> {
+    let text = thousand_lines(rt.alloc())?;
+    let report = report(rt.alloc(), &mut [SliceSource::new(&text)], AFTER_499)?;
+    assert!(rt; report.lines >= 10 && report.lines <= 13 && report.held <= 2);
+    Ok(())
+}
+
+/// Whether so many empty indexes are too many; then nothing is written.
+fn are_too_many(alloc: Global, count: usize) -> Result<bool, Fail> {
     let query = Query::read(alloc, "url=example.com&output=json")?;
-    let mut sources = Vec::new(alloc);
-    for _ in 0..1_025 {
-        sources.push(SliceSource::new(b""))?;
-    }
+    let mut sources = empty_sources(alloc, count)?;
     let mut out = Gather::new(alloc);
-    assert_eq!(rt;
-        answer(alloc, &mut sources, &query, &mut out),
-        Err(AnswerFault::TooManySources)
-    );
-    assert_eq!(rt; out.bytes(), b"".as_slice());
-    let _source = sources.pop();
-    assert_eq!(rt;
-        in_memory(answer(alloc, &mut sources, &query, &mut out))?.given,
-        0
-    );
+    match in_memory(answer(alloc, &mut sources, &query, &mut out)) {
+        Err(AnswerFault::TooManySources) => Ok(out.bytes().is_empty()),
+        Err(fault) => Err(Fail::from(fault)),
+        Ok(_) => Ok(false),
+    }
+}
+
+#[test]
+fn at_most_1024_indexes_are_asked(rt: HostRuntime) -> Result<(), Fail> {
+    assert!(rt; !are_too_many(rt.alloc(), 1_024)?);
+    assert!(rt; are_too_many(rt.alloc(), 1_025)?);
     Ok(())
 }

@@ -17,28 +17,26 @@ fn replies(
     input: &[u8],
     piece: usize,
     at: u64,
-) -> Result<(Result<u64, AnswerFault>, Vec<u8>), Fail> {
+) -> Result<(Result<u64, AnswerFault>, Gather), Fail> {
     let texts = index_texts(alloc, indexes)?;
     let mut sources = slices(alloc, &texts)?;
     let mut input = Fuse::new(Slice::new(input), piece, at);
     let mut out = Gather::new(alloc);
     let answer = in_memory(serve(alloc, &mut sources, &mut input, &mut out));
-    if answer == Err(AnswerFault::Memory) {
-        return Err("Memory")?;
+    match answer {
+        Err(AnswerFault::Memory) => Err(Fail::from(AnswerFault::Memory)),
+        answer => Ok((answer, out)),
     }
-    let mut text = Vec::new(alloc);
-    text.extend_from_slice(out.bytes())?;
-    Ok((answer, text))
 }
 
 #[test]
 fn each_line_has_a_reply(rt: HostRuntime) -> Result<(), Fail> {
     let input = b"url=example.com&fl=offset\r\nlimit=0\nkey=x";
     for piece in [1, 2, 8192] {
-        let (answer, text) = replies(rt.alloc(), APART, input, piece, u64::MAX)?;
+        let (answer, out) = replies(rt.alloc(), APART, input, piece, u64::MAX)?;
         assert_eq!(rt; answer, Ok(3));
         assert_eq!(rt;
-            text.as_slice(),
+            out.bytes(),
             b"5\n20\n10\n.\nrefused BadLimit\n.\n.\n".as_slice()
         );
     }
@@ -54,10 +52,10 @@ fn lines_are_refused_by_name(rt: HostRuntime) -> Result<(), Fail> {
     let last = vec![in alloc; b'a'; 65_536]?;
     input.extend_from_slice(&last)?;
     input.extend_from_slice(b"\r\nkey=&matchType=prefix&fl=offset")?;
-    let (answer, text) = replies(alloc, &[FALLING], &input, 8192, u64::MAX)?;
+    let (answer, out) = replies(alloc, &[FALLING], &input, 8192, u64::MAX)?;
     assert_eq!(rt; answer, Ok(5));
     assert_eq!(rt;
-        text.as_slice(),
+        out.bytes(),
         b"refused QueryTooLong\n.\nrefused NotText\n.\nrefused NoUrl\n.\nrefused Unknown\n.\n\nfault OutOfOrder 0 145\n.\n".as_slice()
     );
     Ok(())
@@ -67,9 +65,9 @@ fn lines_are_refused_by_name(rt: HostRuntime) -> Result<(), Fail> {
 fn a_conversation_ends_where_its_input_fails(rt: HostRuntime) -> Result<(), Fail> {
     let input = b"key=x\nkey=y\n";
     for (at, written) in [(1, b"".as_slice()), (4, b".\n".as_slice())] {
-        let (answer, text) = replies(rt.alloc(), APART, input, 2, at)?;
+        let (answer, out) = replies(rt.alloc(), APART, input, 2, at)?;
         assert_eq!(rt; answer, Err(AnswerFault::Input));
-        assert_eq!(rt; text.as_slice(), written);
+        assert_eq!(rt; out.bytes(), written);
     }
     Ok(())
 }

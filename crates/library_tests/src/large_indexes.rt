@@ -1,4 +1,5 @@
 //! How much is read of a large index.
+use crate::small_indexes::in_memory;
 use devices::{Fuse, Gather};
 use query_core::{AnswerFault, Query, SliceSource, answer};
 use std::alloc::Global;
@@ -16,30 +17,41 @@ fn index_text(alloc: Global) -> Result<Vec<u8>, Fail> {
     Ok(text)
 }
 
+/// Whether the exact query for the last line gives its offset, and reads two lines at most; and how many bytes are read.
+fn last_line(alloc: Global, text: &[u8]) -> Result<(bool, u64), Fail> {
+    let query = Query::read(alloc, "key=com,example)/99999&fl=offset")?;
+    let mut sources = [SliceSource::new(text)];
+    let mut out = Gather::new(alloc);
+    let report = in_memory(answer(alloc, &mut sources, &query, &mut out))?;
+    Ok((
+        out.bytes() == b"99999\n".as_slice() && report.lines <= 2,
+        sources[0].gave(),
+    ))
+}
+
 #[test]
 fn an_exact_query_for_the_last_line_reads_little(rt: HostRuntime) -> Result<(), Fail> {
     let text = index_text(rt.alloc())?;
-    let query = Query::read(rt.alloc(), "key=com,example)/99999&fl=offset")?;
-    let mut sources = [SliceSource::new(&text)];
-    let mut out = Gather::new(rt.alloc());
-    let report = answer(rt.alloc(), &mut sources, &query, &mut out)?;
-    assert_eq!(rt; out.bytes(), b"99999\n".as_slice());
-    assert!(rt; report.lines <= 2, "{report:?}");
-    assert!(rt; sources[0].gave() < text.len() as u64 / 100);
+    let (is_answered, gave) = last_line(rt.alloc(), &text)?;
+    assert!(rt; is_answered && gave < text.len() as u64 / 100);
     Ok(())
+}
+
+/// How many bytes are read of the text before a page of all its lines fails at its first write.
+fn read_for_one_write(alloc: Global, text: &[u8]) -> Result<u64, Fail> {
+    let query = Query::read(alloc, "key=&matchType=prefix")?;
+    let mut sources = [SliceSource::new(text)];
+    let mut out = Fuse::new(Gather::new(alloc), 8_192, 1);
+    match answer(alloc, &mut sources, &query, &mut out) {
+        Err(AnswerFault::Write) => Ok(sources[0].gave()),
+        Err(fault) => Err(Fail::from(fault)),
+        Ok(_) => Err("the page was written")?,
+    }
 }
 
 #[test]
 fn a_page_of_all_lines_is_written_as_it_is_read(rt: HostRuntime) -> Result<(), Fail> {
     let text = index_text(rt.alloc())?;
-    let query = Query::read(rt.alloc(), "key=&matchType=prefix")?;
-    let mut sources = [SliceSource::new(&text)];
-    let mut out = Fuse::new(Gather::new(rt.alloc()), 8_192, 1);
-    let answer = answer(rt.alloc(), &mut sources, &query, &mut out);
-    if answer == Err(AnswerFault::Memory) {
-        return Err(Fail::from(AnswerFault::Memory));
-    }
-    assert!(rt; answer == Err(AnswerFault::Write));
-    assert!(rt; sources[0].gave() < text.len() as u64 / 100);
+    assert!(rt; read_for_one_write(rt.alloc(), &text)? < text.len() as u64 / 100);
     Ok(())
 }

@@ -63,48 +63,39 @@ fn merged(
     }
 }
 
+/// Texts, how many lines their merge has, and these.
+const MERGES: &[(&[&[u8]], u64, &[u8])] = &[
+    (&[OFFSET_10, OFFSET_20, OFFSET_5], 3, RISEN),
+    (&[LETTERS, b""], 3, WHOLE_LETTERS),
+    (&[LETTERS, WHOLE_LETTERS], 3, WHOLE_LETTERS),
+    (&[PAGE, IMAGE], 1, PAGE),
+    (&[IMAGE, PAGE], 1, IMAGE),
+    (&[], 0, b""),
+];
+
 #[test]
 fn lines_are_written_in_the_order_of_places_each_place_once(rt: HostRuntime) -> Result<(), Fail> {
-    let alloc = rt.alloc();
-    for (texts, count, wanted) in [
-        ([OFFSET_10, OFFSET_20, OFFSET_5].as_slice(), 3, RISEN),
-        ([LETTERS, b"".as_slice()].as_slice(), 3, WHOLE_LETTERS),
-        ([LETTERS, WHOLE_LETTERS].as_slice(), 3, WHOLE_LETTERS),
-        ([PAGE, IMAGE].as_slice(), 1, PAGE),
-        ([IMAGE, PAGE].as_slice(), 1, IMAGE),
-        ([].as_slice(), 0, b"".as_slice()),
-    ] {
-        assert_eq!(rt; merged(alloc, texts, wanted)?, (Ok(count), true));
+    for (texts, count, wanted) in MERGES {
+        assert!(rt; merged(rt.alloc(), texts, wanted)? == (Ok(*count), true));
     }
     Ok(())
 }
 
+/// Texts whose merge ends before it writes a line, and its fault.
+const AT_FAULT: &[(&[&[u8]], AnswerFault)] = &[
+    (&[FALLING], AnswerFault::OutOfOrder(0, 145)),
+    (&[b"\n"], AnswerFault::BadLine(0, 0)),
+    (&[PAGE, b"\n"], AnswerFault::BadLine(1, 0)),
+    (&[TORN], AnswerFault::BadLine(0, 145)),
+];
+
 #[test]
 fn a_line_at_fault_ends_the_merge(rt: HostRuntime) -> Result<(), Fail> {
-    let alloc = rt.alloc();
-    for (texts, fault, wanted) in [
-        (
-            [FALLING].as_slice(),
-            AnswerFault::OutOfOrder(0, 145),
-            b"".as_slice(),
-        ),
-        (
-            [b"\n".as_slice()].as_slice(),
-            AnswerFault::BadLine(0, 0),
-            b"".as_slice(),
-        ),
-        (
-            [PAGE, b"\n".as_slice()].as_slice(),
-            AnswerFault::BadLine(1, 0),
-            b"".as_slice(),
-        ),
-        (
-            [TORN].as_slice(),
-            AnswerFault::BadLine(0, 145),
-            b"".as_slice(),
-        ),
-    ] {
-        assert_eq!(rt; merged(alloc, texts, wanted)?, (Err(fault), true));
+    for (texts, fault) in AT_FAULT {
+        assert!(rt;
+            merged(rt.alloc(), texts, b"")? == (Err(*fault), true),
+            "{fault:?}"
+        );
     }
     Ok(())
 }
@@ -124,10 +115,7 @@ fn fails_in_part(alloc: Global, piece: usize, at: u64) -> Result<bool, Refused> 
 fn a_source_that_fails_ends_the_merge(rt: HostRuntime) -> Result<(), Fail> {
     for piece in [1, 2, 8192] {
         for at in 0..440 {
-            assert!(rt;
-                fails_in_part(rt.alloc(), piece, at)?,
-                "piece {piece}, call {at}"
-            );
+            assert!(rt; fails_in_part(rt.alloc(), piece, at)?, "{piece}, {at}");
         }
     }
     Ok(())

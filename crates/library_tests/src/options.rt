@@ -1,5 +1,5 @@
 //! What queries say of their pages.
-use cdxj_core::Field;
+use cdxj_core::{Field, Place};
 use query_text::{OutputFormat, Query};
 use std::test::Fail;
 
@@ -26,6 +26,11 @@ fn a_query_has_its_defaults(rt: HostRuntime) -> Result<(), Fail> {
 
 const TWO_FIELDS: &[Field] = &[Field::Offset, Field::Filename, Field::Offset];
 
+/// Whether the place is that of the resume key.
+fn is_resume_place(place: Place<'_>) -> bool {
+    place.key == "k=1" && place.filename == "a b.warc" && place.offset == 5
+}
+
 #[test]
 fn a_query_has_what_its_text_says(rt: HostRuntime) -> Result<(), Fail> {
     let query = Query::read(
@@ -36,14 +41,7 @@ fn a_query_has_what_its_text_says(rt: HostRuntime) -> Result<(), Fail> {
     assert!(rt; query.shows_resume_key());
     assert!(rt; query.output() == OutputFormat::Json);
     assert!(rt; query.fields() == TWO_FIELDS);
-    match query.resume() {
-        Some(place) => {
-            assert_eq!(rt; place.key, "k=1");
-            assert_eq!(rt; place.filename, "a b.warc");
-            assert_eq!(rt; place.offset, 5);
-        }
-        None => assert!(rt; false),
-    }
+    assert!(rt; query.resume().is_some_and(is_resume_place));
     Ok(())
 }
 

@@ -1,8 +1,11 @@
 //! The pages of queries, one after another.
-use crate::small_indexes::{APART, HOSTS, LETTERS, Rows, files, in_memory, index_texts, slices};
+use crate::small_indexes::{
+    APART, HOSTS, LETTERS, Rows, empty_sources, files, in_memory, index_texts, slices,
+};
 use devices::Gather;
 use query_core::{AnswerFault, Query, SliceSource, Source, answer, pages};
 use std::alloc::Global;
+use std::rt::Runtime;
 use std::test::Fail;
 
 /// A query over indexes and sizes, the pages that answer it, and their number.
@@ -74,18 +77,21 @@ fn answers<S: Source>(alloc: Global, sources: &mut [S], case: &Case) -> Result<b
     Ok(count == case.count && out.bytes() == case.pages.as_bytes())
 }
 
+fn answers_from_memory(alloc: Global, case: &Case) -> Result<bool, Fail> {
+    let texts = index_texts(alloc, case.indexes)?;
+    answers(alloc, &mut slices(alloc, &texts)?, case)
+}
+
+fn answers_from_files<R: Runtime + AllocGlobal>(rt: &R, case: &Case) -> Result<bool, Fail> {
+    let texts = index_texts(rt.alloc(), case.indexes)?;
+    answers(rt.alloc(), &mut files(rt, &texts)?, case)
+}
+
 #[test]
 fn pages_follow_one_another(rt: HostRuntime) -> Result<(), Fail> {
     for case in CASES {
-        let texts = index_texts(rt.alloc(), case.indexes)?;
-        let mut sources = slices(rt.alloc(), &texts)?;
-        assert!(rt; answers(rt.alloc(), &mut sources, case)?, "{}", case.query);
-        let mut files = files(&rt, &texts)?;
-        assert!(rt;
-            answers(rt.alloc(), &mut files, case)?,
-            "{} of files",
-            case.query
-        );
+        assert!(rt; answers_from_memory(rt.alloc(), case)?, "{}", case.query);
+        assert!(rt; answers_from_files(&rt, case)?, "{} of files", case.query);
     }
     Ok(())
 }
@@ -146,38 +152,34 @@ fn resume_keys_lead_through_all_captures(rt: HostRuntime) -> Result<(), Fail> {
     Ok(())
 }
 
-#[test]
-fn sizes_are_given_and_positive(rt: HostRuntime) -> Result<(), Fail> {
-    let alloc = rt.alloc();
+/// The fault of pages over so many empty indexes, which leaves nothing written.
+fn early_fault(alloc: Global, count: usize, sizes: &[u64]) -> Result<Option<AnswerFault>, Fail> {
     let query = Query::read(alloc, "url=example.com&output=json")?;
-    let mut sources = [SliceSource::new(b"")];
+    let mut sources = empty_sources(alloc, count)?;
     let mut out = Gather::new(alloc);
-    for sizes in [[].as_slice(), [0].as_slice(), [1, 0].as_slice()] {
-        assert_eq!(rt;
-            pages(alloc, &mut sources, &query, sizes, &mut out),
-            Err(AnswerFault::BadSizes)
-        );
+    match in_memory(pages(alloc, &mut sources, &query, sizes, &mut out)) {
+        Err(AnswerFault::Memory) => Err(Fail::from(AnswerFault::Memory)),
+        Err(fault) if out.bytes().is_empty() => Ok(Some(fault)),
+        _ => Ok(None),
     }
-    assert_eq!(rt; out.bytes(), b"".as_slice());
-    Ok(())
 }
+
+/// Numbers of indexes, sizes, and the fault of the two.
+const EARLY_FAULTS: &[(usize, &[u64], Option<AnswerFault>)] = &[
+    (1, &[], Some(AnswerFault::BadSizes)),
+    (1, &[0], Some(AnswerFault::BadSizes)),
+    (1, &[1, 0], Some(AnswerFault::BadSizes)),
+    (1_024, &[1], None),
+    (1_025, &[], Some(AnswerFault::BadSizes)),
+    (1_025, &[1], Some(AnswerFault::TooManySources)),
+];
 
 #[test]
 fn sizes_are_looked_at_before_the_number_of_indexes(rt: HostRuntime) -> Result<(), Fail> {
-    let alloc = rt.alloc();
-    let query = Query::read(alloc, "url=example.com")?;
-    let mut sources = Vec::new(alloc);
-    for _ in 0..1_025 {
-        sources.push(SliceSource::new(b""))?;
-    }
-    let mut out = Gather::new(alloc);
-    for (sizes, fault) in [
-        ([].as_slice(), AnswerFault::BadSizes),
-        ([1].as_slice(), AnswerFault::TooManySources),
-    ] {
-        assert_eq!(rt;
-            pages(alloc, &mut sources, &query, sizes, &mut out),
-            Err(fault)
+    for (count, sizes, fault) in EARLY_FAULTS {
+        assert!(rt;
+            early_fault(rt.alloc(), *count, sizes)? == *fault,
+            "{count}"
         );
     }
     Ok(())

@@ -69,6 +69,15 @@ pub fn slices(alloc: Global, texts: &[Vec<u8>]) -> Result<Vec<SliceSource<'_>>, 
     Ok(sources)
 }
 
+/// So many sources without a line.
+pub fn empty_sources(alloc: Global, count: usize) -> Result<Vec<SliceSource<'static>>, AllocError> {
+    let mut sources = Vec::new(alloc);
+    for _ in 0..count {
+        sources.push(SliceSource::new(b""))?;
+    }
+    Ok(sources)
+}
+
 /// Sources over files that are written anew.
 pub fn files<R: Runtime + AllocGlobal>(
     rt: &R,

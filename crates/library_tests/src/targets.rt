@@ -1,5 +1,6 @@
 //! The targets of query texts.
-use query_text::{MatchKind, Query};
+use query_text::{MatchKind, Query, QueryFault};
+use std::alloc::Global;
 use std::test::Fail;
 
 const EXACT: &[(&str, &str)] = &[
@@ -87,13 +88,23 @@ const TARGETS: &[(&[(&str, &str)], MatchKind)] = &[
     (DOMAIN, MatchKind::Domain),
 ];
 
+/// Whether the query has this target.
+fn has_target(
+    alloc: Global,
+    text: &str,
+    target: &str,
+    kind: MatchKind,
+) -> Result<bool, QueryFault> {
+    let query = Query::read(alloc, text)?;
+    let found = query.target();
+    Ok(found.text() == target && found.kind() == kind)
+}
+
 #[test]
 fn targets_are_those_of_the_url_or_the_key(rt: HostRuntime) -> Result<(), Fail> {
     for (table, kind) in TARGETS {
         for (text, target) in *table {
-            let query = Query::read(rt.alloc(), text)?;
-            assert_eq!(rt; query.target().text(), *target, "{text}");
-            assert_eq!(rt; query.target().kind(), *kind, "{text}");
+            assert!(rt; has_target(rt.alloc(), text, target, *kind)?, "{text}");
         }
     }
     Ok(())
