@@ -1,5 +1,5 @@
 -- How far sources were read.
-use Rattle.std.specs.Prelude.{◌≡◌, ◌⊎◌, ℕ, ◌+◌, ◌*◌, ◌≤◌, List, [], ◌∷◌, ◌++◌, length, map, drop, Bool, false, Option, Some}
+use Rattle.std.specs.Prelude.{◌≡◌, ℕ, ◌+◌, ◌*◌, ◌≤◌, List, [], ◌∷◌, ◌++◌, length, map, drop, Bool, false, Option, Some}
 use Rattle.std.specs.List.{AllByRecursion, filter, zip}
 use Rattle.cdxj_places.specs.Pairs.{Pair}
 use Rattle.cdxj_places.specs.TextLines.{lines}
@@ -9,8 +9,7 @@ use Rattle.source_core.specs.Halving.{digits}
 use Rattle.source_core.specs.IndexLines.{longest}
 use Rattle.merge_core.specs.declared.feed.Feed.{Feed}
 use Rattle.merge_core.specs.Feeds.{bytes_of}
-use Rattle.merge_core.specs.PairOrders.{IsAbove, IsUpto, Upto}
-use Rattle.merge_core.specs.WaitingLines.{WaitingLine, waiting_pair}
+use Rattle.merge_core.specs.PairOrders.{IsUpto}
 use Rattle.merge_core.specs.Written.{lines_text}
 
 -- Of a source with this text, lines were read that lie within the range and aren't above the bound; beyond them, two lines and
@@ -48,7 +47,3 @@ AllGaveWithin extent gave test (t ∷ ts) (i ∷ is) (old ∷ olds) (new ∷ new
     (gave new ≤ gave old + length (lines_text (filter test i)) + search_most (extent old) t + 2 * longest (lines t) + 8192)
     × AllGaveWithin extent gave test ts is olds news
 AllGaveWithin extent gave test ts is olds news = ⊥
-
--- the bound up to which lines were read: that of the lines that were taken, or the least pair of those that wait
-abbrev pub IsNextBound : Option Pair → List WaitingLine → Pair → Type 0
-IsNextBound b ws next = (b ≡ Some next) ⊎ (IsAbove b next × AllByRecursion (λ w. Upto next (waiting_pair w)) ws)

@@ -2,7 +2,7 @@
 ghost use Rattle.std.specs.Prelude.{◌≡◌, ◌+◌, ◌-◌, ◌^◌, min, OnOk, OnErr};
 ghost use Rattle.std.specs.Io.KnownBytes.{Appends};
 ghost use Rattle.devices.specs.Device.{AppendsPrefix};
-ghost use Rattle.merge_core.specs.Reached.{CountsWrite};
+ghost use Rattle.merge_core.specs.Reached.{CountsWrite, Grows};
 ghost use Rattle.merge_core.specs.Written.{line_row};
 
 use crate::fault::SinkFault;
@@ -39,9 +39,11 @@ impl LineWriter {
         }
     }
 
+    #[tactic(auto, using(crate::proofs::WrittenLemmas::grows_not, crate::proofs::WrittenLemmas::grows_by, crate::proofs::WrittenLemmas::grows_part))]
     fn put_line<O: Output>(&mut self, line: &Line, out: &mut O) -> Result<(), SinkFault>
         ensures text { OnOk result (Appends (O.written out.old) (O.written out.new) (line_row line.now)) }
         ensures part { OnErr result (AppendsPrefix (O.written out.old) (O.written out.new) (line_row line.now)) }
+        ensures grows { Grows (O.written out.old) (O.written out.new) }
         ensures count { OnOk result (self.new.count ≡ min (self.old.count + 1) (2 ^ 64 - 1)) }
         ensures failures { CountsWrite result (O.failures out.old) (O.failures out.new) }
     {

@@ -7,16 +7,16 @@ ghost use Rattle.cdxj_core.specs.Members.{Member, member_pair};
 ghost use Rattle.cdxj_places.specs.Pairs.{Pair};
 ghost use Rattle.devices.specs.Device.{next_count};
 ghost use Rattle.merge_core.specs.declared.feed.Feed.{Feed};
-ghost use Rattle.merge_core.specs.WaitingLines.{WaitingLine};
+ghost use Rattle.merge_core.specs.WaitingLines.{WaitingLine, waiting_pair};
 ghost use Rattle.merge_core.specs.Collections.{Known, all_lines};
 ghost use Rattle.merge_core.specs.Counts.{ShareAtMost};
 ghost use Rattle.merge_core.specs.Failures.{RaisedAt};
 ghost use Rattle.merge_core.specs.LineFaults.{IsFaultOf};
 ghost use Rattle.merge_core.specs.Feeds.{Moved, Ready, AreSettled};
 ghost use Rattle.merge_core.specs.Gathering.{AllTwo, AreTold, all_done};
-ghost use Rattle.merge_core.specs.PairOrders.{Below};
-ghost use Rattle.merge_core.specs.Reached.{Reached};
-ghost use Rattle.merge_core.specs.Spending.{AreReadTo, IsNextBound};
+ghost use Rattle.merge_core.specs.PairOrders.{Alike, Below, IsAbove, Upto};
+ghost use Rattle.merge_core.specs.Reached.{Grows, Reached};
+ghost use Rattle.merge_core.specs.Spending.{AreReadTo};
 
 use crate::fault::{FeedFault, MergeFault};
 use crate::range::Range;
@@ -52,18 +52,23 @@ pub fn merge<S: Source, R: Range, K: Sink, O: Output>(
         → streams.old.held ≤ length sources.old + most → streams.new.held ≤ length sources.old + most }
     ensures ended { IfOk result (λ all. all ≡ true → streams.new.waiting ≡ []) }
     ensures enough { IfOk result (λ all. all ≡ false → K.Enough sink.new) }
+    ensures further { IfOk result (λ all. all ≡ true → (K.Enough sink.old → ⊥) → K.Enough sink.new → ⊥) }
     ensures wrote { IfOk result (λ all. (b : Option Pair) × (taken : List Member)
         × Reached LINE_LIMIT S.text (R.past range.now) S.extent S.gave sources.old streams.old.feeds.items sources.new streams.new.feeds.items streams.new.waiting b taken
         × ((begin : K) → (start : Option (List ℕ)) → K.Wrote begin sink.old [] start (O.written out.old) → K.Wrote begin sink.new taken start (O.written out.new))
         × (all ≡ false → (pair : Pair) × (earlier : List Member) × (group : List Member) × (before : K) × (middle : Option (List ℕ))
-        × (b ≡ Some pair) × (taken ≡ earlier ++ group) × AllByRecursion (λ m. Below (member_pair m) pair) earlier
+        × (b ≡ Some pair) × (taken ≡ earlier ++ group) × AllByRecursion (λ m. Below (member_pair m) pair) earlier × AllByRecursion (λ m. Alike (member_pair m) pair) group
         × ((K.Enough sink.old → ⊥) → K.Enough before → ⊥)
         × ((begin : K) → (start : Option (List ℕ)) → K.Wrote begin sink.old [] start (O.written out.old) → K.Wrote begin before earlier start middle))) }
     ensures broke { OnErr result ((ss : List S) × (fs : List Feed) × (ws : List WaitingLine) × (b : Option Pair) × (taken : List Member)
         × Reached LINE_LIMIT S.text (R.past range.now) S.extent S.gave sources.old streams.old.feeds.items ss fs ws b taken
         × ((begin : K) → (start : Option (List ℕ)) → K.Wrote begin sink.old [] start (O.written out.old)
-        → ((k : K) × K.Wrote begin k taken start (O.written out.new)) ⊎ K.Broke begin taken start (O.written out.new))
-        × ((next : Pair) × IsNextBound b ws next
+        → ((k : K) × K.Wrote begin k taken start (O.written out.new)) ⊎ K.Broke begin taken start (O.written out.new))) }
+    ensures halted { OnErr result ((ss : List S) × (fs : List Feed) × (ws : List WaitingLine) × (b : Option Pair) × (taken : List Member)
+        × Reached LINE_LIMIT S.text (R.past range.now) S.extent S.gave sources.old streams.old.feeds.items ss fs ws b taken
+        × ((before : K) × (middle : Option (List ℕ)) × ((K.Enough sink.old → ⊥) → K.Enough before → ⊥) × Grows middle (O.written out.new)
+        × ((begin : K) → (start : Option (List ℕ)) → K.Wrote begin sink.old [] start (O.written out.old) → K.Wrote begin before taken start middle))
+        × ((next : Pair) × IsAbove b next × AllByRecursion (λ w. Upto next (waiting_pair w)) ws
         × (AreTold S.text sources.old → AreReadTo LINE_LIMIT (R.past range.now) S.text (Some next) sources.new streams.new.feeds.items))) }
 {
     let mut rest = Vec::new(alloc);

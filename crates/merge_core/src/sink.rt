@@ -4,7 +4,7 @@ ghost use Rattle.cdxj_places.specs.Places.{place_cmp};
 ghost use Rattle.cdxj_places.specs.Rising.{rising};
 ghost use Rattle.cdxj_core.specs.Members.{Member, member_place};
 ghost use Rattle.devices.specs.Device.{next_count};
-ghost use Rattle.merge_core.specs.Reached.{CountsWrite};
+ghost use Rattle.merge_core.specs.Reached.{CountsWrite, Grows};
 
 use crate::fault::{FeedFault, MergeFault, SinkFault};
 use cdxj_core::{Line, in_order};
@@ -37,6 +37,7 @@ pub trait Sink {
             (λ _. Broke first (taken ++ map (λ l. l.now) lines.now) start (O.written out.new)) }
         ensures enough { IfOk result (λ all. all ≡ false → Enough self.new) }
         ensures further { IfOk result (λ all. all ≡ true → Enough self.new → ⊥) }
+        ensures grows { Grows (O.written out.old) (O.written out.new) }
         ensures failures { CountsWrite result (O.failures out.old) (O.failures out.new) };
 }
 
@@ -79,6 +80,7 @@ fn in_places<'a>(
 }
 
 /// Hands the lines of a pair on, in the order of places and the first line at each; false where no more are wanted.
+#[tactic(auto, using(crate::proofs::WrittenLemmas::grows_not))]
 pub fn hand_on<K: Sink, O: Output>(
     alloc: Global,
     first: &Line,
@@ -93,6 +95,7 @@ pub fn hand_on<K: Sink, O: Output>(
         → K.Broke begin (taken ++ rising member_place place_cmp (first.now ∷ map (λ b. b.value) rest.now)) start (O.written out.new))) }
     ensures enough { IfOk result (λ all. all ≡ false → K.Enough sink.new) }
     ensures further { IfOk result (λ all. all ≡ true → K.Enough sink.new → ⊥) }
+    ensures grows { Grows (O.written out.old) (O.written out.new) }
     ensures unread { IfErr result (λ e. (i : ℕ) → (f : FeedFault) → e ≢ MergeFault.Feed i f) }
     ensures worked { OnOk result (O.failures out.new ≡ O.failures out.old) }
     ensures kept { IfErr result (λ e. e ≢ MergeFault.Write → O.failures out.new ≡ O.failures out.old) }

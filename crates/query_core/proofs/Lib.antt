@@ -19,3 +19,4 @@ pub mod SoundIndexes
 pub mod LineReplies
 pub mod ReplyCounts
 pub mod ReplyLemmas
+pub mod ReachLemmas

@@ -8,19 +8,19 @@ use Rattle.cdxj_places.proofs.PlaceOrder.{place_cmp_total}
 use Rattle.cdxj_places.proofs.RisingLaws.{each_weaker, each_rising}
 use Rattle.cdxj_core.specs.declared.limit.TheConstants.{LINE_LIMIT}
 use Rattle.cdxj_core.specs.Indexes.{IsIndex}
-use Rattle.cdxj_core.specs.Members.{Member, member_place}
+use Rattle.cdxj_core.specs.Members.{Member, member_pair, member_place}
 use Rattle.query_text.specs.Queries.{QueryValue}
 use Rattle.query_text.specs.Matching.{is_past}
 use Rattle.query_text.proofs.RangeLaw.{past_upward}
 use Rattle.merge_core.specs.declared.feed.Feed.{Feed}
-use Rattle.merge_core.specs.WaitingLines.{WaitingLine}
+use Rattle.merge_core.specs.WaitingLines.{WaitingLine, waiting_pair}
 use Rattle.merge_core.specs.Collections.{Known, all_lines, collection}
 use Rattle.merge_core.specs.Gathering.{AllTwo}
-use Rattle.merge_core.specs.PairOrders.{is_low}
+use Rattle.merge_core.specs.PairOrders.{IsAbove, Upto, is_low}
 use Rattle.merge_core.specs.Openings.{IsCutAt}
 use Rattle.merge_core.specs.Reached.{Reached}
 use Rattle.merge_core.proofs.FeedLemmas.{each_join}
-use Rattle.merge_core.proofs.ReadLemmas.{sought_first, sought_whole}
+use Rattle.merge_core.proofs.ReadLemmas.{sought_before, sought_first, sought_whole}
 use Rattle.query_core.specs.PageWriting.{is_wanted}
 use Rattle.merge_core.specs.SourceLines.{IsLineIn, IsLineOf}
 use Rattle.query_core.specs.Starts.{start_pair}
@@ -78,10 +78,17 @@ module _ {S : Type 0} (text : S → Option (List ℕ)) (extent gave : S → ℕ)
       (taken_lines LINE_LIMIT text extent (is_past q.target) gave ss0 fs0 ss fs ws b taken same reached).each)
 
   -- what was taken is a front of what is wanted
-  pub wanted_first : (rest : List Member) × (filter (is_wanted q from) (collection indexes) ≡ filter (is_wanted q from) taken ++ rest)
+  pub wanted_first : (rest : List Member) × (filter (is_wanted q from) (collection indexes) ≡ filter (is_wanted q from) taken ++ rest) × AllByRecursion (λ m. IsAbove b (member_pair m)) rest
   wanted_first =
       let f = sought_first text extent gave LINE_LIMIT (is_past q.target) (past_upward q.target) ss0 fs0 ss fs ws b taken same reached texts indexes known are sought within (start_pair q from) cut beyond in
-      (f.0, sym of_all ∙ f.1 ∙ ap (λ l. l ++ f.0) of_taken)
+      (f.0, sym of_all ∙ f.1 ∙ ap (λ l. l ++ f.0) of_taken, each_weaker (λ (m : Member) (h : (sought m ≡ true) × IsAbove b (member_pair m)). h.1) f.0 f.2)
+
+  -- where the lines that wait don't stand below a pair, the rest doesn't either
+  pub wanted_before : (next : Pair) → IsAbove b next → AllByRecursion (λ w. Upto next (waiting_pair w)) ws
+      → (rest : List Member) × (filter (is_wanted q from) (collection indexes) ≡ filter (is_wanted q from) taken ++ rest) × AllByRecursion (λ m. Upto next (member_pair m)) rest
+  wanted_before next above least =
+      let f = sought_before text extent gave LINE_LIMIT (is_past q.target) (past_upward q.target) ss0 fs0 ss fs ws b taken same reached texts indexes known are sought within (start_pair q from) cut beyond next above least in
+      (f.0, sym of_all ∙ f.1 ∙ ap (λ l. l ++ f.0) of_taken, each_weaker (λ (m : Member) (h : (sought m ≡ true) × Upto next (member_pair m)). h.1) f.0 f.2)
 
   -- where no line waits, it is all
   pub wanted_whole : ws ≡ [] → filter (is_wanted q from) (collection indexes) ≡ filter (is_wanted q from) taken

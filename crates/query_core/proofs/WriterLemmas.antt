@@ -33,7 +33,7 @@ next_some (suc zero) (x ∷ []) h = absurd (true≢false (sym h))
 next_some (suc zero) (x ∷ y ∷ ys) h = omega arith
 next_some (suc (suc n)) (x ∷ xs) h = let ih = next_some (suc n) xs h in omega arith
 
-next_none : (n : ℕ) (c : List Member) → 0 < n → is_some (next n c) ≡ false → length c ≤ n
+pub next_none : (n : ℕ) (c : List Member) → 0 < n → is_some (next n c) ≡ false → length c ≤ n
 next_none zero c z h = absurd (omega arith)
 next_none (suc n) [] z h = omega arith
 next_none (suc zero) (x ∷ []) z h = omega arith

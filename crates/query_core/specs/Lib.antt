@@ -17,3 +17,4 @@ pub mod Laws
 pub mod Replies
 pub mod Conversations
 pub mod ReplyFaults
+pub mod Reach

@@ -1,6 +1,6 @@
 //! The answer to a query over indexes.
 ghost use Rattle.std.specs.Prelude.{◌≡◌, ◌≢◌, ◌+◌, ◌<◌, ◌≤◌, ℕ, List, length, map, Err, IfOk, IfErr, OnOk};
-ghost use Rattle.std.specs.List.{sum};
+ghost use Rattle.std.specs.List.{filter, sum};
 ghost use Rattle.cdxj_core.specs.declared.limit.TheConstants.{LINE_LIMIT};
 ghost use Rattle.cdxj_core.specs.Indexes.{IsIndex};
 ghost use Rattle.cdxj_core.specs.Members.{Member};
@@ -15,6 +15,7 @@ ghost use Rattle.query_core.specs.Answering.{Answered, AnsweredParts};
 ghost use Rattle.query_core.specs.LineFaults.{IsFaultOf};
 ghost use Rattle.query_core.specs.Merging.{IsMergeFault};
 ghost use Rattle.query_core.specs.QueryPages.{query_page, answer_text};
+ghost use Rattle.query_core.specs.Reach.{in_reach};
 ghost use Rattle.merge_core.specs.SourceLines.{AreLinesOf};
 
 use crate::fault::AnswerFault;
@@ -61,6 +62,8 @@ pub fn answer<S: Source, O: Output>(
     ensures part { (texts : List (List ℕ)) → (indexes : List (List Member)) → Known (map S.text sources.old) texts → AllTwo (IsIndex LINE_LIMIT) texts indexes
         → AppendsPrefix (O.written out.old) (O.written out.new) (answer_text query.now (query_page query.now (collection indexes))) }
     ensures probes { IfOk result (λ report. report.probes ≤ sum (map (λ s. digits (S.extent s)) sources.old)) }
+    ensures most { (texts : List (List ℕ)) → (indexes : List (List Member)) → Known (map S.text sources.old) texts → AllTwo (IsIndex LINE_LIMIT) texts indexes
+        → IfOk result (λ report. report.lines ≤ length (filter (in_reach query.now query.now.resume query.now.limit (collection indexes)) (all_lines indexes)) + length sources.old) }
     ensures held { (texts : List (List ℕ)) → (indexes : List (List Member)) → (most : ℕ) → Known (map S.text sources.old) texts → AllTwo (IsIndex LINE_LIMIT) texts indexes
         → ShareAtMost most (all_lines indexes) → IfOk result (λ report. report.held ≤ length sources.old + most) }
 {

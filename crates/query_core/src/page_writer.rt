@@ -87,6 +87,7 @@ impl<'q> PageWriter<'q> {
     ghost use Rattle.std.specs.Prelude.{◌+◌, ◌-◌, ◌^◌, min, true, false};
     ghost use Rattle.devices.specs.Device.{AppendsPrefix};
     ghost use Rattle.devices.specs.Writing.{WritesText};
+    ghost use Rattle.merge_core.specs.Reached.{Grows};
     ghost use Rattle.page_core.specs.PageText.{page_start, page_end};
     ghost use Rattle.query_core.specs.PageWriting.{is_full, last_after, next_of, FitsWord};
     ghost use Rattle.query_core.specs.WriterView.{stands, Kept, Broke, from_view};
@@ -166,6 +167,7 @@ impl<'q> PageWriter<'q> {
     }
 
     /// Takes one more line.
+    #[tactic(auto, using(merge_core::proofs::WrittenLemmas::grows_not, merge_core::proofs::WrittenLemmas::grows_by, merge_core::proofs::WrittenLemmas::grows_part))]
     fn take_line<O: Output>(
         &mut self,
         alloc: Global,
@@ -177,6 +179,7 @@ impl<'q> PageWriter<'q> {
         ensures broke { (taken : List Member) → (start : Option (List ℕ)) → stands self.old taken start (O.written out.old)
             → OnErr result (Broke self.old (taken ++ line.now ∷ []) start (O.written out.new)) }
         ensures kept { Kept self.old self.new }
+        ensures grows { Grows (O.written out.old) (O.written out.new) }
         ensures failures { CountsWrite result (O.failures out.old) (O.failures out.new) }
     {
         if self.more {

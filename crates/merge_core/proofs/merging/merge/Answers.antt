@@ -6,11 +6,14 @@ use Rattle.cdxj_core.specs.declared.line.Line.{Line}
 use Rattle.cdxj_core.specs.Members.{Member, member_pair, member_place}
 use Rattle.cdxj_places.specs.Places.{place_cmp}
 use Rattle.cdxj_places.specs.Rising.{rising}
+use Rattle.cdxj_places.proofs.PlaceOrder.{place_cmp_total}
+use Rattle.cdxj_places.proofs.RisingLaws.{each_rising}
 use Rattle.merge_core.specs.declared.feed.Feed.{Feed}
 use Rattle.merge_core.specs.WaitingLines.{WaitingLine}
 use Rattle.merge_core.proofs.SpendLemmas.{are_read_to}
 use Rattle.merge_core.specs.Collections.{Known}
 use Rattle.merge_core.specs.Gathering.{AllTwo, Grouped, all_done}
+use Rattle.merge_core.specs.PairOrders.{Alike}
 use Rattle.merge_core.specs.Reached.{Reached}
 use Rattle.merge_core.specs.LineFaults.{IsFaultOf}
 use Rattle.merge_core.proofs.WholeLemmas.{texts_kept}
@@ -19,6 +22,7 @@ use Rattle.merge_core.proofs.Many.{Move, moved_trans, moved_still, told_moved}
 use Rattle.merge_core.proofs.HeldLemmas.{held_most, held_after}
 use Rattle.merge_core.proofs.MergeLemmas.{above_none, below_next, handed_none, handed_next, on_err}
 use Rattle.merge_core.specs.Feeds.{AreSettled}
+use Rattle.merge_core.proofs.WrittenLemmas.{grows_not}
 use Rattle.merge_core.proofs.merging.merge.Goals as goal
 
 pub loop-rest-init : goal.loop-rest-init
@@ -103,7 +107,6 @@ returns-in_err-more-clause-broke g c =
         came.1,
         came.2,
         λ begin start w. inl (c.loop-rest.sink, subst (λ o. g.K.Sink.Wrote begin c.loop-rest.sink came.1 start (g.O.Output.written o)) (sym k.1) (came.3 begin start w)),
-        (pair, inr (grouped.above came.0 came.2.above, grouped.least), λ told. are_read_to LINE_LIMIT past text extent (Some pair) 0 now feeds c.gather.new.self.waiting ok.ready.fed (reached.handed.told told).1),
       )
       | inr k ↦ (
         now,
@@ -113,11 +116,6 @@ returns-in_err-more-clause-broke g c =
         came.1 ++ rising member_place place_cmp group,
         reached,
         λ begin start w. inr (subst (λ l. g.K.Sink.Broke begin (came.1 ++ l) start (g.O.Output.written c.hand_on.new.out)) order (k begin came.1 start (came.3 begin start w))),
-        (
-          pair,
-          inl refl,
-          λ told. are_read_to LINE_LIMIT past text extent (Some pair) 0 now feeds c.gather.new.self.waiting ok.ready.fed (reached.handed.told told).1,
-        ),
       )
     ])
 
@@ -163,6 +161,7 @@ returns-then-not-more-clause-wrote g c =
         refl,
         refl,
         below_next came.0 pair (grouped.above came.0 came.2.above) came.1 came.2.handed.upto,
+        each_rising member_place place_cmp place_cmp_total (λ m. Alike (member_pair m) pair) group grouped.each,
         c.loop-rest.invariant.further,
         came.3,
       ),
@@ -275,6 +274,13 @@ returns-clause-held g c = λ texts indexes most known are share h.
 
 pub returns-in_err-first-clause-broke : goal.returns-in_err-first-clause-broke
 returns-in_err-first-clause-broke g c =
+    let came = c.loop-rest.invariant.came in
+    let p = err_from_is_err_and c.from_residual.result c.from_residual.ensures.1 in
+    on_err c.from_residual.result p.0 _ p.1
+    (c.loop-rest.sources, c.loop-rest.streams.feeds.items, c.loop-rest.streams.waiting, came.0, came.1, came.2, λ begin start w. inl (c.loop-rest.sink, came.3 begin start w))
+
+pub returns-in_err-first-clause-halted : goal.returns-in_err-first-clause-halted
+returns-in_err-first-clause-halted g c =
     let text = g.S.Source.text in let extent = g.S.Source.extent in let gave = g.S.Source.gave in
     let old = c.args.sources.now in let old_feeds = c.args.streams.now.feeds.items in
     let was = c.loop-rest.sources in let was_feeds = c.loop-rest.streams.feeds.items in
@@ -288,13 +294,50 @@ returns-in_err-first-clause-broke g c =
       came.0,
       came.1,
       came.2,
-      λ begin start w. inl (c.loop-rest.sink, came.3 begin start w),
+      (c.loop-rest.sink, g.O.Output.written c.loop-rest.out, c.loop-rest.invariant.further, grows_not _, came.3),
       (
         reads.0,
-        inr (reads.1 came.0 came.2.above, reads.2),
+        reads.1 came.0 came.2.above,
+        reads.2,
         λ told.
             reads.3 (told_moved text extent gave old was old_feeds was_feeds came.2.ready.same came.2.moved told)
             (below_next came.0 reads.0 (reads.1 came.0 came.2.above) (all_done LINE_LIMIT text was was_feeds) (came.2.handed.told told).1),
+      ),
+    )
+
+pub returns-in_err-more-clause-halted : goal.returns-in_err-more-clause-halted
+returns-in_err-more-clause-halted g c =
+    let past = g.R.Range.past c.args.range.now in
+    let text = g.S.Source.text in let extent = g.S.Source.extent in let gave = g.S.Source.gave in
+    let old = c.args.sources.now in let old_feeds = c.args.streams.now.feeds.items in
+    let was = c.loop-rest.sources in let was_feeds = c.loop-rest.streams.feeds.items in let waits = c.loop-rest.streams.waiting in
+    let now = c.gather.new.sources in let feeds = c.gather.new.self.feeds.items in
+    let came = c.loop-rest.invariant.came in
+    let ok = c.in_ok-first.ensures in
+    let values = map (λ (b : Box Line Global). b.value) in
+    let first = c.in-Some.first.value in
+    let pair = member_pair first in
+    let group = first ∷ values c.gather.new.rest.items in
+    let grouped = subst (λ o. MatchOption o ((now ≡ was) × (feeds ≡ was_feeds) × (waits ≡ []) × (c.gather.new.self.waiting ≡ []))
+    (λ (b : Box Line Global). Grouped LINE_LIMIT text extent was was_feeds waits now feeds c.gather.new.self.waiting (member_pair b.value) (b.value ∷ values c.gather.new.rest.items))) c.in-Some.is ok.group in
+    let above = grouped.above came.0 came.2.above in
+    let p = err_from_is_err_and c.from_residual-in_err-more.result c.from_residual-in_err-more.ensures.1 in
+    on_err c.from_residual-in_err-more.result p.0 _ p.1 (
+      was,
+      was_feeds,
+      waits,
+      came.0,
+      came.1,
+      came.2,
+      (c.loop-rest.sink, g.O.Output.written c.loop-rest.out, c.loop-rest.invariant.further, c.hand_on.ensures.grows, came.3),
+      (
+        pair,
+        above,
+        grouped.least,
+        λ told.
+            let handed = handed_next LINE_LIMIT text extent old was now was_feeds feeds waits c.gather.new.self.waiting came.0 pair came.1 group came.2.handed came.2.above grouped
+            (told_moved text extent gave old was old_feeds was_feeds came.2.ready.same came.2.moved) in
+            are_read_to LINE_LIMIT past text extent (Some pair) 0 now feeds c.gather.new.self.waiting ok.ready.fed (handed.told told).1,
       ),
     )
 

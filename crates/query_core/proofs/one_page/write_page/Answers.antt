@@ -1,5 +1,7 @@
-use Rattle.std.proofs.Common.{◌-◌, ◌^◌, min, refl, sym, ◌∙◌, map, arith, subst, ℕ, List, [], zip, ap, Option, append-nil}
+use Rattle.std.proofs.Common.{◌-◌, ◌^◌, min, length, ◌≡◌, true, refl, sym, ◌∙◌, map, arith, subst, ℕ, List, [], zip, ap, Option, append-nil}
 use Rattle.std.specs.List.{AllByRecursion}
+use Rattle.std.proofs.lemmas.Bool.{true≢false, false_from_ne_true}
+use Rattle.std.proofs.lemmas.List.{length-map}
 use Rattle.cdxj_core.specs.declared.limit.TheConstants.{LINE_LIMIT}
 use Rattle.query_text.specs.Matching.{is_past}
 use Rattle.merge_core.specs.Collections.{Known, collection}
@@ -19,13 +21,15 @@ use Rattle.query_core.proofs.NextPlaces.{none_waits}
 use Rattle.query_core.specs.LineFaults.{IsFaultOf}
 use Rattle.query_core.specs.PageAsked.{asked_text}
 use Rattle.merge_core.specs.SourceLines.{AreLinesOf}
-use Rattle.query_core.specs.WriterView.{from_view}
+use Rattle.query_core.specs.declared.page_writer.PageWriter.{PageWriter}
+use Rattle.query_core.specs.WriterView.{from_view, Wrote}
 use Rattle.query_core.proofs.WriterLemmas.{whole_prefix}
 use Rattle.query_core.proofs.AskedLemmas.{asked_is, wanted_within, page_settled, page_broke, write_kept}
 use Rattle.merge_core.proofs.SourceLemmas.{taken_lines}
 use Rattle.query_core.proofs.PageOfIndexes.{wanted_first, wanted_whole}
 use Rattle.query_core.proofs.PageExits.{start_front, stood, rows_front, begun_front, page_ended, end_front}
 use Rattle.query_core.proofs.NextPlaces.{written_next_above}
+use Rattle.query_core.proofs.ReachLemmas.{bounds, lines_within, none_follows}
 use Rattle.query_core.proofs.one_page.write_page.Goals as goal
 
 -- ---- failures
@@ -274,6 +278,45 @@ returns-clause-part g c = λ texts indexes known are.
     whole_prefix _ _ (asked_text c.args.query.now (from_view c.args.from) c.args.limit c.args.shows (collection indexes)) (returns-clause-page g c texts indexes known are).text
 
 -- ---- the lines that were read
+
+pub returns-clause-most : goal.returns-clause-most
+returns-clause-most g c = λ texts indexes known are some.
+    let text = g.S.Source.text in let extent = g.S.Source.extent in let gave = g.S.Source.gave in
+    let writer = c.in-Ok.writer in
+    let is = c.in-Ok.ensures.query in
+    let q = c.args.query.now in
+    let from = from_view c.args.from in
+    let ss1 = c.open_at.new.sources in let fs1 = c.in-Ok-open_at.opened.streams.feeds.items in
+    let ss2 = c.merge.new.sources in let fs2 = c.merge.new.streams.feeds.items in let ws = c.merge.new.streams.waiting in
+    let start = g.O.Output.written c.args.out.now in
+    let mid = g.O.Output.written c.merge.new.out in
+    let ok = c.in-Ok-merge.ensures in
+    let b = ok.wrote.0 in
+    let taken = ok.wrote.1 in
+    let begun : Wrote writer writer [] start (g.O.Output.written c.begin.new.out) = ((refl, refl, refl), c.in-Ok.ensures.stands) in
+    let reached = subst (λ target. Reached LINE_LIMIT text (is_past target) extent gave ss1 fs1 ss2 fs2 ws b taken) c.target.ensures ok.wrote.2 in
+    let cut = subst (λ pair. AllByRecursion (λ x. IsCutAt LINE_LIMIT pair (text x.0) x.1.cursor) (zip ss1 fs1)) (ap (λ key. (key, c.start_pair-start.result.stamp)) c.as_bytes.ensures.value ∙ c.start_pair-start.ensures)
+    c.in-Ok-open_at.ensures.cut in
+    let known1 = subst (λ l. Known l texts) (sym c.open_at.ensures.text) known in
+    let known2 = subst (λ l. Known l texts) (sym (returns-clause-texts g c)) known in
+    let same = c.in-Ok-open_at.ensures.ready.same in
+    let stood_by = λ (w : PageWriter) (lines : List Member) (now : Option (List ℕ)) (h : Wrote writer w lines start now). (stood writer q c.args.from c.args.limit c.args.shows is.0 is.1 is.2 w lines start now h).more_is in
+    let fresh : writer.more ≡ true → ⊥ = λ e. true≢false (sym e ∙ stood_by writer [] _ begun ∙ none_follows c.args.limit) in
+    let bound = bounds text extent gave q from c.args.limit some ss1 fs1 ss2 fs2 ws b taken same reached cut texts indexes known1 are c.in-Ok-merge.all ok.ended
+    (λ e. sym (stood_by c.merge.new.sink taken mid (ok.wrote.3 writer start begun)) ∙ false_from_ne_true _ (ok.further e fresh))
+    (λ e.
+    let l = ok.wrote.4 e in
+    record {
+      pair = l.0;
+      earlier = l.1;
+      group = l.2;
+      bound = l.5;
+      parts = l.6;
+      alike = l.8;
+      room = sym (stood_by l.3 l.1 l.4 (l.10 writer start begun)) ∙ false_from_ne_true _ (l.9 fresh);
+    }) in
+    let most = lines_within text extent gave q from c.args.limit some ss1 fs1 ss2 fs2 ws b taken same reached cut texts indexes known1 are known2 bound in
+    omega (arith, c.lines.ensures, most, length-map ss1 text, length-map c.args.sources.now text, ap length c.open_at.ensures.text)
 
 pub returns-clause-parts : goal.returns-clause-parts
 returns-clause-parts g c = λ texts known.

@@ -1,6 +1,7 @@
 use Rattle.std.proofs.Common.{◌≡◌, ◌++◌, ◌-◌, ◌^◌, ℕ, List, Option, length, take, map, min}
 use Rattle.std.specs.Io.KnownBytes.{Appends}
 use Rattle.cdxj_core.specs.Members.{Member}
+use Rattle.merge_core.specs.Reached.{Grows}
 use Rattle.merge_core.specs.Written.{lines_text}
 use Rattle.merge_core.proofs.line_writer.LineWriterSink.take.Given as goal
 
@@ -11,5 +12,6 @@ abbrev pub invariant-loop-line : goal.invariant-loop-line
 invariant-loop-line g l = record {
   wrote : (taken : List Member) (start : Option (List ℕ)) → Wrote l.fn.self.count taken start (g.O.Output.written l.fn.out)
       → Wrote l.self.count (taken ++ map (λ line. line.now) (take l.line-index l.lines)) start (g.O.Output.written l.out);
+  grows : Grows (g.O.Output.written l.fn.out) (g.O.Output.written l.out);
   failures : g.O.Output.failures l.out ≡ g.O.Output.failures l.fn.out;
 }

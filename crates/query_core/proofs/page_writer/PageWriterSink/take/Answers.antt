@@ -2,6 +2,7 @@ use Rattle.std.proofs.Common.{◌≡◌, ◌++◌, ◌∷◌, [], take, map, sym
 use Rattle.std.proofs.lemmas.List.{take_all}
 use Rattle.cdxj_core.specs.declared.line.Line.{Line}
 use Rattle.devices.specs.Device.{AppendsPrefix}
+use Rattle.merge_core.proofs.WrittenLemmas.{grows_on}
 use Rattle.page_core.specs.PageText.{begun}
 use Rattle.query_core.specs.QueryPages.{form_of}
 use Rattle.query_core.specs.PageWriting.{page_over}
@@ -22,6 +23,7 @@ loop-line-preserved g c =
           (one_more seen taken ls k c.line-item.result c.loop-line-test.true c.line-item.is)
           (c.in-Ok.ensures.stands (taken ++ map seen (take k ls)) start (inv.stands taken start s));
       kept = (let n = c.take_line.ensures.kept in (n.0 ∙ inv.kept.0, n.1 ∙ inv.kept.1, n.2 ∙ inv.kept.2));
+      grows = grows_on (g.O.Output.written c.args.out.now) (g.O.Output.written c.loop-line.out) (g.O.Output.written c.take_line.new.out) inv.grows c.take_line.ensures.grows;
       failures = c.in-Ok.ensures.failures ∙ inv.failures;
     }
 
@@ -52,3 +54,6 @@ returns-in-Err-clause-wrote g c = λ first taken start s.
     subst (λ l. AppendsPrefix start now (begun (form_of q) (page_over q (from_view first.from) first.limit l).members))
     (sym (parted seen taken ls k item c.loop-line-test.true c.line-item.is))
     (broke_longer q (from_view first.from) first.limit (before ++ item.now ∷ []) rest start now broke)
+
+pub returns-in-Err-clause-grows : goal.returns-in-Err-clause-grows
+returns-in-Err-clause-grows g c = grows_on (g.O.Output.written c.args.out.now) (g.O.Output.written c.loop-line.out) (g.O.Output.written c.take_line.new.out) c.loop-line.invariant.grows c.take_line.ensures.grows

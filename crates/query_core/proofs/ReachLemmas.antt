@@ -1,0 +1,203 @@
+-- What was read of indexes, beside the reach of a page.
+use Rattle.std.proofs.Common.{◌≡◌, ℕ, zero, suc, ◌+◌, ◌<◌, ◌≤◌, List, [], ◌∷◌, ◌++◌, length, map, filter, zip, Bool, true, false, not, ◌&&◌, cond, Option, None, Some, refl, sym, ap, ◌∙◌, subst, arith, append_assoc, append-nil, Ordering, Less, Equal, Greater, nat_cmp, is_gt, is_lt}
+use Rattle.std.specs.List.{AllByRecursion, sum}
+use Rattle.std.specs.Option.{is_some}
+use Rattle.std.specs.Ordering.{ordering_then, ordering_reverse}
+use Rattle.std.specs.Cmp.Lexicographic.{slice_cmp}
+use Rattle.std.proofs.lemmas.Bool.{false_from_ne_true, eq-eqb}
+use Rattle.std.proofs.lemmas.Cmp.{ranked, by_ranked}
+use Rattle.std.proofs.lemmas.List.{length-map}
+use Rattle.std.proofs.lemmas.Slice.Eq.{bytes_eq-Decides}
+use Rattle.std.proofs.lemmas.List.Elements.{filter-append}
+use Rattle.cdxj_places.specs.Pairs.{Pair, pair_cmp, place_pair}
+use Rattle.cdxj_places.specs.Places.{PlaceValue}
+use Rattle.cdxj_places.proofs.PlaceLaw.{both}
+use Rattle.cdxj_places.proofs.PairLemmas.{pair_cmp_total}
+use Rattle.cdxj_places.proofs.RisingLaws.{each_weaker}
+use Rattle.cdxj_core.specs.declared.limit.TheConstants.{LINE_LIMIT}
+use Rattle.cdxj_core.specs.Indexes.{IsIndex}
+use Rattle.cdxj_core.specs.Members.{Member, member_pair}
+use Rattle.query_text.specs.Queries.{QueryValue}
+use Rattle.query_text.specs.Targets.{TargetValue}
+use Rattle.query_text.specs.Matching.{begins, kind_covers, covers, is_past}
+use Rattle.query_text.specs.declared.target.MatchKind.{MatchKind}
+use Rattle.query_text.specs.declared.target.MatchKind.TheVariants.{Exact, Prefix, Host, Domain}
+use Rattle.source_core.specs.Search.{IsCut}
+use Rattle.merge_core.specs.declared.feed.Feed.{Feed}
+use Rattle.merge_core.specs.PairOrders.{Alike, Below, IsAbove, IsUpto, Upto, is_low}
+use Rattle.merge_core.specs.WaitingLines.{WaitingLine}
+use Rattle.merge_core.specs.Collections.{Known, all_lines, collection}
+use Rattle.merge_core.specs.Gathering.{AllTwo}
+use Rattle.merge_core.specs.Openings.{IsCutAt}
+use Rattle.merge_core.specs.Reached.{Reached}
+use Rattle.merge_core.proofs.CountLemmas.{lines_most}
+use Rattle.merge_core.proofs.FeedLemmas.{each_join}
+use Rattle.merge_core.proofs.Filters.{each_filter}
+use Rattle.merge_core.proofs.Many.{Move, two_each}
+use Rattle.merge_core.proofs.PairOrder.{below_below, below_upto, from_not_below, not_below_itself, same_from, upto_upto}
+use Rattle.merge_core.proofs.MergeLemmas.{is_less}
+use Rattle.merge_core.proofs.WholeLemmas.{told_known}
+use Rattle.query_core.specs.PageWriting.{is_wanted, page_over}
+use Rattle.query_core.specs.Reach.{pair_after, follower, is_within, in_reach}
+use Rattle.query_core.specs.Starts.{first_stamp, later_pair, start_pair}
+use Rattle.query_core.proofs.PageOfIndexes.{wanted_first, wanted_whole}
+use Rattle.query_core.proofs.WriterLemmas.{page, next_none}
+
+-- ---- the range
+
+first_not_less : (a b : Ordering) → is_lt (ordering_then a b) ≡ false → is_lt a ≡ false
+first_not_less Less b h = h
+first_not_less Equal b h = refl
+first_not_less Greater b h = refl
+
+nat_met : (x y : ℕ) → nat_cmp x y ≡ Equal → x ≡ y
+nat_met x y h =
+    by_ranked (x < y) (x ≡ y) (y < x) (nat_cmp x y) (ranked x y (nat_cmp x y) refl) (λ o less. let e : Equal ≡ Less = sym h ∙ o in cc) (λ o met. met) (λ o more. let e : Equal ≡ Greater = sym h ∙ o in cc)
+
+then_met : (a b : Ordering) → ordering_then a b ≡ Equal → (a ≡ Equal) × (b ≡ Equal)
+then_met Less b h = cc
+then_met Equal b h = (refl, h)
+then_met Greater b h = cc
+
+text_met : (xs ys : List ℕ) → slice_cmp nat_cmp xs ys ≡ Equal → xs ≡ ys
+text_met [] [] h = refl
+text_met [] (y ∷ ys) h = cc
+text_met (x ∷ xs) [] h = cc
+text_met (x ∷ xs) (y ∷ ys) h =
+    let parts = then_met (nat_cmp x y) (slice_cmp nat_cmp xs ys) h in
+    λ i. nat_met x y parts.0 i ∷ text_met xs ys parts.1 i
+
+begins_itself : (text : List ℕ) → begins text text ≡ true
+begins_itself [] = refl
+begins_itself (b ∷ text) = rw (eq-eqb b b refl, begins_itself text) refl
+
+covers_itself : (kind : MatchKind) (text : List ℕ) → kind_covers kind text text ≡ true
+covers_itself Exact text = (bytes_eq-Decides text text).1 refl
+covers_itself Prefix text = begins_itself text
+covers_itself Host text = begins_itself text
+covers_itself Domain text = begins_itself text
+
+neither : (r : Ordering) → is_gt r ≡ false → is_lt r ≡ false → r ≡ Equal
+neither Less h k = cc
+neither Equal h k = refl
+neither Greater h k = cc
+
+-- a key that isn't past the target, and isn't below it
+covered_where_met : (t : TargetValue) (key : List ℕ) → is_past t key ≡ false → is_lt (slice_cmp nat_cmp key t.text) ≡ false → covers t key ≡ true
+covered_where_met t key past low =
+    (elim (covers t key) as (λ b. covers t key ≡ b → (is_gt (slice_cmp nat_cmp key t.text) && not b) ≡ false → b ≡ true) [
+      | true ↦ (λ e h. refl)
+      | false ↦ (λ e h.
+          let same : key ≡ t.text = text_met key t.text (neither (slice_cmp nat_cmp key t.text) (sym (and_whole (is_gt (slice_cmp nat_cmp key t.text))) ∙ h) low) in
+          sym e ∙ ap (covers t) same ∙ covers_itself t.kind t.text)
+    ]) refl past
+  where
+    and_whole : (a : Bool) → (a && true) ≡ a
+    and_whole true = refl
+    and_whole false = refl
+
+turned : (p q : Pair) (o : Ordering) → pair_cmp p q ≡ o → is_gt o ≡ true → Below q p
+turned p q Less f h = cc
+turned p q Equal f h = cc
+turned p q Greater f h = pair_cmp_total.antisymm q p ∙ ap ordering_reverse f
+
+-- what isn't below a pair that is above this one isn't below this one either
+not_low_above : (p q : Pair) (m : Member) → is_gt (pair_cmp p q) ≡ true → is_low p m ≡ false → is_low q m ≡ false
+not_low_above p q m e k =
+    false_from_ne_true (is_low q m) (λ l. not_below_itself (member_pair m) p (below_below (member_pair m) q p (is_less (pair_cmp (member_pair m) q) l) (turned p q (pair_cmp p q) refl e)) (from_not_below (member_pair m) p k))
+
+not_low_later : (pair : Pair) (from : Option PlaceValue) (m : Member) → is_low (later_pair pair from) m ≡ false → is_low pair m ≡ false
+not_low_later pair None m h = h
+not_low_later pair (Some p) m h =
+    (elim (is_gt (pair_cmp (place_pair p) pair)) as (λ b. is_gt (pair_cmp (place_pair p) pair) ≡ b → is_low (cond b (place_pair p) pair) m ≡ false → is_low pair m ≡ false)
+    [ true ↦ (λ e k. not_low_above (place_pair p) pair m e k) | false ↦ (λ e k. k) ]) refl h
+
+-- a line of the range that isn't below the start is covered by the target
+pub covered_from_start : (q : QueryValue) (from : Option PlaceValue) (m : Member) → is_past q.target m.values.key ≡ false → is_low (start_pair q from) m ≡ false → covers q.target m.values.key ≡ true
+covered_from_start q from m past low =
+    covered_where_met q.target m.values.key past
+    (first_not_less (slice_cmp nat_cmp m.values.key q.target.text) (slice_cmp nat_cmp m.values.stamp first_stamp) (not_low_later (q.target.text, first_stamp) from m low))
+
+-- ---- the line that follows a page
+
+past_front : (n : ℕ) (c vs : List Member) (x : Pair) → length c ≤ n → AllByRecursion (λ v. Upto x (member_pair v)) vs → is_within (pair_after n (c ++ vs)) x ≡ true
+past_front zero [] [] x h k = refl
+past_front zero [] (v ∷ vs) x h k = ap not k.0
+past_front (suc n) [] [] x h k = refl
+past_front (suc n) [] (v ∷ vs) x h k = past_front n [] vs x (omega arith) k.1
+past_front zero (c ∷ cs) vs x h k = absurd (omega arith)
+past_front (suc n) (c ∷ cs) vs x h k = past_front n cs vs x (omega arith) k
+
+-- an empty page has none
+pub none_follows : (limit : Option ℕ) → is_some (page limit []).next ≡ false
+none_follows None = refl
+none_follows (Some zero) = refl
+none_follows (Some (suc n)) = refl
+
+-- these captures don't pass the page, and what is wanted beside them isn't below a pair
+pub within_follower : (q : QueryValue) (from : Option PlaceValue) (limit : Option ℕ) (lines c vs : List Member) → filter (is_wanted q from) lines ≡ c ++ vs → (limit ≡ Some 0 → ⊥) → is_some (page limit c).next ≡ false
+    → (x : Pair) → AllByRecursion (λ v. Upto x (member_pair v)) vs → is_within (follower q from limit lines) x ≡ true
+within_follower q from None lines c vs split some none x k = refl
+within_follower q from (Some zero) lines c vs split some none x k = absurd (some refl)
+within_follower q from (Some (suc n)) lines c vs split some none x k =
+    ap (λ ms. is_within (pair_after (suc n) ms) x) split ∙ past_front (suc n) c vs x (next_none (suc n) c (omega arith) none) k
+
+-- ---- lines that were read
+
+pub reach_passes : (q : QueryValue) (from : Option PlaceValue) (limit : Option ℕ) (lines : List Member) (b : Option Pair) → ((m : Member) → IsUpto b (member_pair m) → is_within (follower q from limit lines) (member_pair m) ≡ true)
+    → (m : Member) → is_past q.target m.values.key ≡ false → is_low (start_pair q from) m ≡ false → IsUpto b (member_pair m) → in_reach q from limit lines m ≡ true
+reach_passes q from limit lines b bound m past low upto =
+    both (covers q.target m.values.key && not (is_low (start_pair q from) m)) _ (both (covers q.target m.values.key) _ (covered_from_start q from m past low) (ap not low)) (bound m upto)
+
+as_many : {X Y : Type 0} (R : X → Y → Type 0) (xs : List X) (ys : List Y) → AllTwo R xs ys → length xs ≡ length ys
+as_many R [] [] h = refl
+as_many R [] (y ∷ ys) h = absurd h
+as_many R (x ∷ xs) [] h = absurd h
+as_many R (x ∷ xs) (y ∷ ys) h = ap suc (as_many R xs ys h.1)
+
+-- Of a page that has so many captures at most, these lines were taken of indexes that were read from where the search for its start ended
+module _ {S : Type 0} (text : S → Option (List ℕ)) (extent gave : S → ℕ) (q : QueryValue) (from : Option PlaceValue) (limit : Option ℕ) (some : limit ≡ Some 0 → ⊥) (ss0 : List S) (fs0 : List Feed) (ss : List S) (fs : List Feed)
+    (ws : List WaitingLine) (b : Option Pair) (taken : List Member) (same : length ss0 ≡ length fs0) (reached : Reached LINE_LIMIT text (is_past q.target) extent gave ss0 fs0 ss fs ws b taken)
+    (cut : AllByRecursion (λ x. IsCutAt LINE_LIMIT (start_pair q from) (text x.0) x.1.cursor) (zip ss0 fs0))
+    (texts : List (List ℕ)) (indexes : List (List Member)) (known : Known (map text ss0) texts) (are : AllTwo (IsIndex LINE_LIMIT) texts indexes) where
+  abbrev wanted : List Member → List Member
+  wanted lines = filter (is_wanted q from) lines
+
+  abbrev pub Bounds : Type 0
+  Bounds = (m : Member) → IsUpto b (member_pair m) → is_within (follower q from limit (collection indexes)) (member_pair m) ≡ true
+
+  -- the pair of the lines that were taken last, where those before them didn't pass the page
+  pub record Last : Type 0 where
+    pub pair : Pair
+    pub earlier : List Member
+    pub group : List Member
+    pub bound : b ≡ Some pair
+    pub parts : taken ≡ earlier ++ group
+    pub alike : AllByRecursion (λ m. Alike (member_pair m) pair) group
+    pub room : is_some (page_over q from limit earlier).next ≡ false
+
+  -- all was read, or the page was passed by the last pair
+  pub bounds : (all : Bool) → (all ≡ true → ws ≡ []) → (all ≡ true → is_some (page_over q from limit taken).next ≡ false) → (all ≡ false → Last) → Bounds
+  bounds true none room last m upto =
+      within_follower q from limit (collection indexes) (wanted taken) []
+      (wanted_whole text extent gave q from ss0 fs0 ss fs ws b taken same reached cut texts indexes known are (none refl) ∙ sym (append-nil (wanted taken))) some (room refl) (member_pair m) tt
+  bounds false none room last m upto =
+      let l = last refl in
+      let first = wanted_first text extent gave q from ss0 fs0 ss fs ws b taken same reached cut texts indexes known are in
+      let split : wanted (collection indexes) ≡ wanted l.earlier ++ (wanted l.group ++ first.0) =
+      first.1 ∙ ap (λ ms. wanted ms ++ first.0) l.parts ∙ ap (λ ms. ms ++ first.0) (filter-append (is_wanted q from) l.earlier l.group) ∙ append_assoc (wanted l.earlier) (wanted l.group) first.0 in
+      let low : Upto (member_pair m) l.pair = subst (λ o. IsUpto o (member_pair m)) l.bound upto in
+      let group = each_weaker (λ (v : Member) (h : Alike (member_pair v) l.pair × (is_wanted q from v ≡ true)). upto_upto (member_pair m) l.pair (member_pair v) low (same_from (member_pair v) l.pair h.0)) (wanted l.group)
+      (each_filter (λ v. Alike (member_pair v) l.pair) (is_wanted q from) l.group l.alike) in
+      let rest = each_weaker (λ (v : Member) (h : IsAbove b (member_pair v)). upto_upto (member_pair m) l.pair (member_pair v) low (below_upto l.pair (member_pair v) (subst (λ o. IsAbove o (member_pair v)) l.bound h))) first.0 first.2 in
+      within_follower q from limit (collection indexes) (wanted l.earlier) (wanted l.group ++ first.0) split some l.room (member_pair m) (each_join (λ v. Upto (member_pair m) (member_pair v)) (wanted l.group) first.0 group rest)
+
+  -- no more lines were read than the page reaches, and one of each index
+  pub lines_within : Known (map text ss) texts → Bounds → sum (map (λ (f : Feed). f.cursor.count) fs) ≤ length (filter (in_reach q from limit (collection indexes)) (all_lines indexes)) + length ss0
+  lines_within known_now bound =
+      let h = lines_most LINE_LIMIT (is_past q.target) (start_pair q from) b (in_reach q from limit (collection indexes)) (reach_passes q from limit (collection indexes) b bound) text extent ws 0 ss fs texts indexes reached.ready.same
+      known_now are
+      (two_each (Move text extent gave) (λ (x : S × Feed). IsCutAt LINE_LIMIT (start_pair q from) (text x.0) x.1.cursor) (λ (x : S × Feed). IsCutAt LINE_LIMIT (start_pair q from) (text x.0) x.1.cursor)
+      (λ x y m c. λ t members e i. subst (λ n. IsCut (start_pair q from) t members n) (sym m.start_kept) (c t members (sym m.text_kept ∙ e) i)) (zip ss0 fs0) (zip ss fs) reached.moved cut)
+      reached.ready.fed (reached.handed.told (told_known text ss0 texts known)).1 in
+      omega (arith, h, as_many (IsIndex LINE_LIMIT) texts indexes are, as_many (λ told t. told ≡ Some t) (map text ss0) texts known, length-map ss0 text)

@@ -1,0 +1,35 @@
+-- The lines of indexes that have to be read for a page.
+use Rattle.std.specs.Prelude.{ℕ, zero, suc, List, [], ◌∷◌, Bool, true, not, ◌&&◌, Option, None, Some}
+use Rattle.std.specs.List.{filter}
+use Rattle.std.specs.Ordering.{is_gt}
+use Rattle.cdxj_places.specs.Pairs.{Pair, pair_cmp}
+use Rattle.cdxj_places.specs.Places.{PlaceValue}
+use Rattle.cdxj_core.specs.Members.{Member, member_pair}
+use Rattle.query_text.specs.Queries.{QueryValue}
+use Rattle.query_text.specs.Matching.{covers}
+use Rattle.merge_core.specs.PairOrders.{is_low}
+use Rattle.query_core.specs.PageWriting.{is_wanted}
+use Rattle.query_core.specs.Starts.{start_pair}
+
+-- the pair of the first line after so many
+abbrev pub pair_after : ℕ → List Member → Option Pair
+pair_after zero [] = None
+pair_after zero (m ∷ ms) = Some (member_pair m)
+pair_after (suc n) [] = None
+pair_after (suc n) (m ∷ ms) = pair_after n ms
+
+-- the pair of the first capture that follows a page of so many, where one does
+abbrev pub follower : QueryValue → Option PlaceValue → Option ℕ → List Member → Option Pair
+follower q from None lines = None
+follower q from (Some n) lines = pair_after n (filter (is_wanted q from) lines)
+
+-- the pair isn't above the bound, if there is one
+abbrev pub is_within : Option Pair → Pair → Bool
+is_within None pair = true
+is_within (Some bound) pair = not (is_gt (pair_cmp pair bound))
+
+-- The line is of the target's range. It isn't below the start of the page after a place, nor above the capture that follows the
+-- page of so many, of lines that rise by place.
+abbrev pub in_reach : QueryValue → Option PlaceValue → Option ℕ → List Member → Member → Bool
+in_reach q from limit lines m =
+    covers q.target m.values.key && not (is_low (start_pair q from) m) && is_within (follower q from limit lines) (member_pair m)
