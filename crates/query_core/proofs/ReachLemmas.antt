@@ -1,7 +1,9 @@
 -- What was read of indexes, beside the reach of a page.
-use Rattle.std.proofs.Common.{◌≡◌, ℕ, zero, suc, ◌+◌, ◌<◌, ◌≤◌, List, [], ◌∷◌, ◌++◌, length, map, filter, zip, Bool, true, false, not, ◌&&◌, cond, Option, None, Some, refl, sym, ap, ◌∙◌, subst, arith, append_assoc, append-nil, Ordering, Less, Equal, Greater, nat_cmp, is_gt, is_lt}
+use Rattle.std.proofs.Common.{◌≡◌, ℕ, zero, suc, ◌+◌, ◌<◌, ◌≤◌, List, [], ◌∷◌, ◌++◌, length, take, map, filter, zip, Bool, true, false, not, ◌&&◌, cond, Option, None, Some, refl, sym, ap, ◌∙◌, subst, arith, append_assoc, append-nil, length-append, length-take, Ordering, Less, Equal, Greater, nat_cmp, is_gt, is_lt}
 use Rattle.std.specs.List.{AllByRecursion, sum}
+use Rattle.std.specs.Io.KnownBytes.{Appends}
 use Rattle.std.specs.Option.{is_some}
+use Rattle.std.proofs.Math.Seq.{take-append_seam}
 use Rattle.std.specs.Ordering.{ordering_then, ordering_reverse}
 use Rattle.std.specs.Cmp.Lexicographic.{slice_cmp}
 use Rattle.std.proofs.lemmas.Bool.{false_from_ne_true, eq-eqb}
@@ -22,26 +24,36 @@ use Rattle.query_text.specs.Targets.{TargetValue}
 use Rattle.query_text.specs.Matching.{begins, kind_covers, covers, is_past}
 use Rattle.query_text.specs.declared.target.MatchKind.{MatchKind}
 use Rattle.query_text.specs.declared.target.MatchKind.TheVariants.{Exact, Prefix, Host, Domain}
+use Rattle.page_core.specs.Form.{Form}
+use Rattle.page_core.specs.Pages.{Page}
+use Rattle.page_core.specs.PageText.{begun}
+use Rattle.devices.proofs.DeviceLemmas.{Appends-none}
 use Rattle.source_core.specs.Search.{IsCut}
 use Rattle.merge_core.specs.declared.feed.Feed.{Feed}
 use Rattle.merge_core.specs.PairOrders.{Alike, Below, IsAbove, IsUpto, Upto, is_low}
-use Rattle.merge_core.specs.WaitingLines.{WaitingLine}
+use Rattle.merge_core.specs.WaitingLines.{WaitingLine, waiting_pair}
 use Rattle.merge_core.specs.Collections.{Known, all_lines, collection}
 use Rattle.merge_core.specs.Gathering.{AllTwo}
 use Rattle.merge_core.specs.Openings.{IsCutAt}
-use Rattle.merge_core.specs.Reached.{Reached}
+use Rattle.merge_core.specs.Reached.{Grows, Reached}
+use Rattle.merge_core.specs.Spending.{AllGaveWithin, AreReadTo, CameWithin, OpenedWithin}
 use Rattle.merge_core.proofs.CountLemmas.{lines_most}
 use Rattle.merge_core.proofs.FeedLemmas.{each_join}
 use Rattle.merge_core.proofs.Filters.{each_filter}
-use Rattle.merge_core.proofs.Many.{Move, two_each}
+use Rattle.merge_core.proofs.ByteLemmas.{gave_most, tell_both}
+use Rattle.merge_core.proofs.Many.{Move, length_zip, two_each, two_same}
+use Rattle.merge_core.proofs.WrittenLemmas.{grows_by, grows_on}
 use Rattle.merge_core.proofs.PairOrder.{below_below, below_upto, from_not_below, not_below_itself, same_from, upto_upto}
 use Rattle.merge_core.proofs.MergeLemmas.{is_less}
 use Rattle.merge_core.proofs.WholeLemmas.{told_known}
+use Rattle.query_core.specs.PageAsked.{asked_page}
+use Rattle.query_core.specs.QueryPages.{form_of}
 use Rattle.query_core.specs.PageWriting.{is_wanted, page_over}
-use Rattle.query_core.specs.Reach.{pair_after, follower, is_within, in_reach}
+use Rattle.query_core.specs.Reach.{pair_after, follower, is_within, in_reach, captures_text, GaveInReach, WroteFront}
 use Rattle.query_core.specs.Starts.{first_stamp, later_pair, start_pair}
-use Rattle.query_core.proofs.PageOfIndexes.{wanted_first, wanted_whole}
-use Rattle.query_core.proofs.WriterLemmas.{page, next_none}
+use Rattle.query_core.proofs.PageOfIndexes.{wanted_before, wanted_first, wanted_whole}
+use Rattle.query_core.proofs.AskedLemmas.{asked_is}
+use Rattle.query_core.proofs.WriterLemmas.{page, next_none, page_front}
 
 -- ---- the range
 
@@ -142,6 +154,22 @@ within_follower q from (Some zero) lines c vs split some none x k = absurd (some
 within_follower q from (Some (suc n)) lines c vs split some none x k =
     ap (λ ms. is_within (pair_after (suc n) ms) x) split ∙ past_front (suc n) c vs x (next_none (suc n) c (omega arith) none) k
 
+-- a page has at least the captures that don't pass it
+has_all : (limit : Option ℕ) (c tail : List Member) → (limit ≡ Some 0 → ⊥) → is_some (page limit c).next ≡ false → length c ≤ length (page limit (c ++ tail)).members
+has_all None c tail some none = omega (arith, length-append c tail)
+has_all (Some zero) c tail some none = absurd (some refl)
+has_all (Some (suc n)) c tail some none = let h = next_none (suc n) c (omega arith) none in omega (arith, length-take (suc n) (c ++ tail), length-append c tail)
+
+-- where a page is written at least so far
+front_written : (form : Form) (ms : List Member) (old middle new : Option (List ℕ)) → Appends old middle (begun form ms) → Grows middle new → WroteFront old new (captures_text form ms)
+front_written form [] old middle new a g = record { middle = old; front = Appends-none old; grows = grows_on old middle new (grows_by old middle (begun form []) a) g }
+front_written form (m ∷ ms) old middle new a g = record { middle = middle; front = a; grows = g }
+
+firsts : {X Y : Type 0} (xs : List X) (ys : List Y) → length (zip xs ys) ≡ length xs → map (λ (x : X × Y). x.0) (zip xs ys) ≡ xs
+firsts [] ys h = refl
+firsts (x ∷ xs) [] h = absurd (omega arith)
+firsts (x ∷ xs) (y ∷ ys) h = ap (λ l. x ∷ l) (firsts xs ys (omega arith))
+
 -- ---- lines that were read
 
 pub reach_passes : (q : QueryValue) (from : Option PlaceValue) (limit : Option ℕ) (lines : List Member) (b : Option Pair) → ((m : Member) → IsUpto b (member_pair m) → is_within (follower q from limit lines) (member_pair m) ≡ true)
@@ -163,9 +191,6 @@ module _ {S : Type 0} (text : S → Option (List ℕ)) (extent gave : S → ℕ)
   abbrev wanted : List Member → List Member
   wanted lines = filter (is_wanted q from) lines
 
-  abbrev pub Bounds : Type 0
-  Bounds = (m : Member) → IsUpto b (member_pair m) → is_within (follower q from limit (collection indexes)) (member_pair m) ≡ true
-
   -- the pair of the lines that were taken last, where those before them didn't pass the page
   pub record Last : Type 0 where
     pub pair : Pair
@@ -176,28 +201,121 @@ module _ {S : Type 0} (text : S → Option (List ℕ)) (extent gave : S → ℕ)
     pub alike : AllByRecursion (λ m. Alike (member_pair m) pair) group
     pub room : is_some (page_over q from limit earlier).next ≡ false
 
+  -- what is wanted, cut after captures that don't pass the page; nothing up to the bound stands above those behind the cut
+  pub record Cut : Type 0 where
+    pub front : List Member
+    pub back : List Member
+    pub tail : List Member
+    pub whole : wanted (collection indexes) ≡ front ++ back
+    pub of_taken : wanted taken ≡ front ++ tail
+    pub room : is_some (page limit front).next ≡ false
+    pub later : (m : Member) → IsUpto b (member_pair m) → AllByRecursion (λ v. Upto (member_pair m) (member_pair v)) back
+
   -- all was read, or the page was passed by the last pair
-  pub bounds : (all : Bool) → (all ≡ true → ws ≡ []) → (all ≡ true → is_some (page_over q from limit taken).next ≡ false) → (all ≡ false → Last) → Bounds
-  bounds true none room last m upto =
-      within_follower q from limit (collection indexes) (wanted taken) []
-      (wanted_whole text extent gave q from ss0 fs0 ss fs ws b taken same reached cut texts indexes known are (none refl) ∙ sym (append-nil (wanted taken))) some (room refl) (member_pair m) tt
-  bounds false none room last m upto =
+  pub cut_of : (all : Bool) → (all ≡ true → ws ≡ []) → (all ≡ true → is_some (page_over q from limit taken).next ≡ false) → (all ≡ false → Last) → Cut
+  cut_of true none room last = record {
+    front = wanted taken;
+    back = [];
+    tail = [];
+    whole = wanted_whole text extent gave q from ss0 fs0 ss fs ws b taken same reached cut texts indexes known are (none refl) ∙ sym (append-nil (wanted taken));
+    of_taken = sym (append-nil (wanted taken));
+    room = room refl;
+    later = λ m upto. tt;
+  }
+  cut_of false none room last =
       let l = last refl in
       let first = wanted_first text extent gave q from ss0 fs0 ss fs ws b taken same reached cut texts indexes known are in
-      let split : wanted (collection indexes) ≡ wanted l.earlier ++ (wanted l.group ++ first.0) =
-      first.1 ∙ ap (λ ms. wanted ms ++ first.0) l.parts ∙ ap (λ ms. ms ++ first.0) (filter-append (is_wanted q from) l.earlier l.group) ∙ append_assoc (wanted l.earlier) (wanted l.group) first.0 in
-      let low : Upto (member_pair m) l.pair = subst (λ o. IsUpto o (member_pair m)) l.bound upto in
-      let group = each_weaker (λ (v : Member) (h : Alike (member_pair v) l.pair × (is_wanted q from v ≡ true)). upto_upto (member_pair m) l.pair (member_pair v) low (same_from (member_pair v) l.pair h.0)) (wanted l.group)
-      (each_filter (λ v. Alike (member_pair v) l.pair) (is_wanted q from) l.group l.alike) in
-      let rest = each_weaker (λ (v : Member) (h : IsAbove b (member_pair v)). upto_upto (member_pair m) l.pair (member_pair v) low (below_upto l.pair (member_pair v) (subst (λ o. IsAbove o (member_pair v)) l.bound h))) first.0 first.2 in
-      within_follower q from limit (collection indexes) (wanted l.earlier) (wanted l.group ++ first.0) split some l.room (member_pair m) (each_join (λ v. Upto (member_pair m) (member_pair v)) (wanted l.group) first.0 group rest)
+      let both_parts : wanted taken ≡ wanted l.earlier ++ wanted l.group = ap wanted l.parts ∙ filter-append (is_wanted q from) l.earlier l.group in
+      record {
+        front = wanted l.earlier;
+        back = wanted l.group ++ first.0;
+        tail = wanted l.group;
+        whole = first.1 ∙ ap (λ ms. ms ++ first.0) both_parts ∙ append_assoc (wanted l.earlier) (wanted l.group) first.0;
+        of_taken = both_parts;
+        room = l.room;
+        later = λ m upto.
+            let low : Upto (member_pair m) l.pair = subst (λ o. IsUpto o (member_pair m)) l.bound upto in
+            each_join (λ v. Upto (member_pair m) (member_pair v)) (wanted l.group) first.0
+            (each_weaker (λ (v : Member) (h : Alike (member_pair v) l.pair × (is_wanted q from v ≡ true)). upto_upto (member_pair m) l.pair (member_pair v) low (same_from (member_pair v) l.pair h.0)) (wanted l.group)
+            (each_filter (λ v. Alike (member_pair v) l.pair) (is_wanted q from) l.group l.alike))
+            (each_weaker (λ (v : Member) (h : IsAbove b (member_pair v)). upto_upto (member_pair m) l.pair (member_pair v) low (below_upto l.pair (member_pair v) (subst (λ o. IsAbove o (member_pair v)) l.bound h))) first.0 first.2);
+      }
 
   -- no more lines were read than the page reaches, and one of each index
-  pub lines_within : Known (map text ss) texts → Bounds → sum (map (λ (f : Feed). f.cursor.count) fs) ≤ length (filter (in_reach q from limit (collection indexes)) (all_lines indexes)) + length ss0
-  lines_within known_now bound =
+  pub lines_within : Known (map text ss) texts → Cut → sum (map (λ (f : Feed). f.cursor.count) fs) ≤ length (filter (in_reach q from limit (collection indexes)) (all_lines indexes)) + length ss0
+  lines_within known_now c =
+      let bound = λ (m : Member) (upto : IsUpto b (member_pair m)). within_follower q from limit (collection indexes) c.front c.back c.whole some c.room (member_pair m) (c.later m upto) in
       let h = lines_most LINE_LIMIT (is_past q.target) (start_pair q from) b (in_reach q from limit (collection indexes)) (reach_passes q from limit (collection indexes) b bound) text extent ws 0 ss fs texts indexes reached.ready.same
       known_now are
       (two_each (Move text extent gave) (λ (x : S × Feed). IsCutAt LINE_LIMIT (start_pair q from) (text x.0) x.1.cursor) (λ (x : S × Feed). IsCutAt LINE_LIMIT (start_pair q from) (text x.0) x.1.cursor)
       (λ x y m c. λ t members e i. subst (λ n. IsCut (start_pair q from) t members n) (sym m.start_kept) (c t members (sym m.text_kept ∙ e) i)) (zip ss0 fs0) (zip ss fs) reached.moved cut)
       reached.ready.fed (reached.handed.told (told_known text ss0 texts known)).1 in
       omega (arith, h, as_many (IsIndex LINE_LIMIT) texts indexes are, as_many (λ told t. told ≡ Some t) (map text ss0) texts known, length-map ss0 text)
+
+  -- what was written of the page before, and what sources gave that were read up to a bound
+  module _ (olds news : List S) (feeds : List Feed) (old middle new : Option (List ℕ)) (front : Appends old middle (begun (form_of q) (page_over q from limit taken).members)) (grows : Grows middle new)
+      (known_old : Known (map text olds) texts) (came : AllTwo (λ x y. CameWithin (text x) (extent x) (gave x) (gave y.0) y.1.cursor) olds (zip ss0 fs0)) (moved : AllTwo (Move text extent gave) (zip ss0 fs0) (zip news feeds))
+      (long : length news ≡ length ss0) where
+    abbrev many : ℕ
+    many = length (page_over q from limit taken).members
+
+    given : (rest : List Member) → wanted (collection indexes) ≡ wanted taken ++ rest → (bound : Option Pair) → ((m : Member) → IsUpto bound (member_pair m) → is_within (follower q from (Some many) (collection indexes)) (member_pair m) ≡ true)
+        → AreReadTo LINE_LIMIT (is_past q.target) text bound news feeds → GaveInReach extent gave q from limit texts indexes old new olds news
+    given rest split bound within reads =
+        let later = page_front limit (wanted taken) rest in
+        let members : (asked_page q from limit (collection indexes)).members ≡ (page_over q from limit taken).members ++ later.0 =
+        ap (λ (p : Page Member PlaceValue). p.members) (asked_is q from limit (collection indexes) ∙ ap (page limit) split) ∙ later.1 in
+        let test = in_reach q from (Some many) (collection indexes) in
+        let passes = reach_passes q from (Some many) (collection indexes) bound within in
+        let all = as_many (Move text extent gave) (zip ss0 fs0) (zip news feeds) moved in
+        record {
+          whole = many;
+          most = omega (arith, ap length members, length-append (page_over q from limit taken).members later.0);
+          wrote = subst (λ ms. WroteFront old new (captures_text (form_of q) ms)) (sym (ap (take many) members ∙ take-append_seam (page_over q from limit taken).members later.0))
+              (front_written (form_of q) (page_over q from limit taken).members old middle new front grows);
+          within = subst (λ ys. AllGaveWithin extent gave test texts indexes olds ys) (firsts news feeds (omega (arith, all, long, length_zip ss0 fs0 same)))
+              (gave_most LINE_LIMIT (is_past q.target) (start_pair q from) bound test passes text extent gave olds (zip ss0 fs0) (zip news feeds) texts indexes known_old
+              (tell_both LINE_LIMIT (is_past q.target) (start_pair q from) bound test passes text extent gave ss0 fs0 texts same known) are came moved cut reads);
+        }
+
+    -- after all that the page asked for
+    pub gave_whole : Cut → AreReadTo LINE_LIMIT (is_past q.target) text b news feeds → GaveInReach extent gave q from limit texts indexes old new olds news
+    gave_whole c reads =
+        let first = wanted_first text extent gave q from ss0 fs0 ss fs ws b taken same reached cut texts indexes known are in
+        given first.0 first.1 b (λ m upto. ap (λ ms. is_within (pair_after many ms) (member_pair m)) c.whole
+        ∙ past_front many c.front c.back (member_pair m) (subst (λ ms. length c.front ≤ length (page limit ms).members) (sym c.of_taken) (has_all limit c.front c.tail some c.room)) (c.later m upto)) reads
+
+    -- after a pair whose lines couldn't be had or handed on
+    pub gave_halted : (next : Pair) → IsAbove b next → AllByRecursion (λ w. Upto next (waiting_pair w)) ws → is_some (page_over q from limit taken).next ≡ false → AreReadTo LINE_LIMIT (is_past q.target) text (Some next) news feeds
+        → GaveInReach extent gave q from limit texts indexes old new olds news
+    gave_halted next above least room reads =
+        let before = wanted_before text extent gave q from ss0 fs0 ss fs ws b taken same reached cut texts indexes known are next above least in
+        let size : length (wanted taken) ≤ many = subst (λ ms. length (wanted taken) ≤ length (page limit ms).members) (append-nil (wanted taken)) (has_all limit (wanted taken) [] some room) in
+        given before.0 before.1 (Some next) (λ m upto. ap (λ ms. is_within (pair_after many ms) (member_pair m)) before.1
+        ∙ past_front many (wanted taken) before.0 (member_pair m) size (each_weaker (λ (v : Member) (h : Upto next (member_pair v)). upto_upto (member_pair m) next (member_pair v) upto h) before.0 before.2)) reads
+
+within_opening : {S : Type 0} (text : S → Option (List ℕ)) (extent gave : S → ℕ) (test : Member → Bool) (texts : List (List ℕ)) (indexes : List (List Member)) (olds news : List S) → Known (map text olds) texts → AllTwo (IsIndex LINE_LIMIT) texts indexes
+    → AllTwo (λ x y. OpenedWithin (text x) (extent x) (gave x) (gave y)) olds news → AllGaveWithin extent gave test texts indexes olds news
+within_opening text extent gave test [] [] [] [] known are opened = tt
+within_opening text extent gave test [] [] [] (y ∷ ys) known are opened = absurd opened
+within_opening text extent gave test [] [] (x ∷ xs) ys known are opened = absurd known
+within_opening text extent gave test [] (i ∷ is) xs ys known are opened = absurd are
+within_opening text extent gave test (t ∷ ts) [] xs ys known are opened = absurd are
+within_opening text extent gave test (t ∷ ts) (i ∷ is) [] ys known are opened = absurd known
+within_opening text extent gave test (t ∷ ts) (i ∷ is) (x ∷ xs) [] known are opened = absurd opened
+within_opening text extent gave test (t ∷ ts) (i ∷ is) (x ∷ xs) (y ∷ ys) known are opened = (let h = opened.0 t known.0 in omega (arith, h), within_opening text extent gave test ts is xs ys known.1 are.1 opened.1)
+
+-- nothing was read but what the opening takes, and no capture was written
+pub gave_opened : {S : Type 0} (text : S → Option (List ℕ)) (extent gave : S → ℕ) (q : QueryValue) (from : Option PlaceValue) (limit : Option ℕ) (texts : List (List ℕ)) (indexes : List (List Member)) (old new : Option (List ℕ)) (olds news : List S)
+    → Known (map text olds) texts → AllTwo (IsIndex LINE_LIMIT) texts indexes → Grows old new → AllTwo (λ x y. OpenedWithin (text x) (extent x) (gave x) (gave y)) olds news
+    → GaveInReach extent gave q from limit texts indexes old new olds news
+gave_opened text extent gave q from limit texts indexes old new olds news known are grows opened = record {
+  whole = 0;
+  most = omega arith;
+  wrote = record { middle = old; front = Appends-none old; grows = grows };
+  within = within_opening text extent gave (in_reach q from (Some 0) (collection indexes)) texts indexes olds news known are opened;
+}
+
+-- nothing was read at all
+pub opened_not : {S : Type 0} (text : S → Option (List ℕ)) (extent gave : S → ℕ) (xs : List S) → AllTwo (λ x y. OpenedWithin (text x) (extent x) (gave x) (gave y)) xs xs
+opened_not text extent gave = two_same (λ x y. OpenedWithin (text x) (extent x) (gave x) (gave y)) (λ x t e. omega arith)

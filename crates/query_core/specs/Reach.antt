@@ -1,14 +1,22 @@
 -- The lines of indexes that have to be read for a page.
-use Rattle.std.specs.Prelude.{ℕ, zero, suc, List, [], ◌∷◌, Bool, true, not, ◌&&◌, Option, None, Some}
+use Rattle.std.specs.Prelude.{ℕ, zero, suc, ◌≤◌, List, [], ◌∷◌, length, take, Bool, true, not, ◌&&◌, Option, None, Some}
 use Rattle.std.specs.List.{filter}
+use Rattle.std.specs.Io.KnownBytes.{Appends}
 use Rattle.std.specs.Ordering.{is_gt}
 use Rattle.cdxj_places.specs.Pairs.{Pair, pair_cmp}
 use Rattle.cdxj_places.specs.Places.{PlaceValue}
 use Rattle.cdxj_core.specs.Members.{Member, member_pair}
 use Rattle.query_text.specs.Queries.{QueryValue}
 use Rattle.query_text.specs.Matching.{covers}
+use Rattle.page_core.specs.Form.{Form}
+use Rattle.page_core.specs.PageText.{begun}
 use Rattle.merge_core.specs.PairOrders.{is_low}
+use Rattle.merge_core.specs.Reached.{Grows}
+use Rattle.merge_core.specs.Spending.{AllGaveWithin}
+use Rattle.query_core.specs.Collections.{collection}
+use Rattle.query_core.specs.PageAsked.{asked_page}
 use Rattle.query_core.specs.PageWriting.{is_wanted}
+use Rattle.query_core.specs.QueryPages.{form_of}
 use Rattle.query_core.specs.Starts.{start_pair}
 
 -- the pair of the first line after so many
@@ -33,3 +41,22 @@ is_within (Some bound) pair = not (is_gt (pair_cmp pair bound))
 abbrev pub in_reach : QueryValue → Option PlaceValue → Option ℕ → List Member → Member → Bool
 in_reach q from limit lines m =
     covers q.target m.values.key && not (is_low (start_pair q from) m) && is_within (follower q from limit lines) (member_pair m)
+
+-- what has to stand written where these captures of a page are
+abbrev pub captures_text : Form → List Member → List ℕ
+captures_text form [] = []
+captures_text form (m ∷ ms) = begun form (m ∷ ms)
+
+-- what was written begins with the text
+pub record WroteFront (old new : Option (List ℕ)) (text : List ℕ) : Type 0 where
+  pub middle : Option (List ℕ)
+  pub front : Appends old middle text
+  pub grows : Grows middle new
+
+-- So many captures of the page were written whole. Each source gave no more bytes than its lines have that a page of so many reaches,
+-- and what a search takes, two lines and a piece.
+pub record GaveInReach {S : Type 0} (extent gave : S → ℕ) (q : QueryValue) (from : Option PlaceValue) (limit : Option ℕ) (texts : List (List ℕ)) (indexes : List (List Member)) (old new : Option (List ℕ)) (olds news : List S) : Type 0 where
+  pub whole : ℕ
+  pub most : whole ≤ length (asked_page q from limit (collection indexes)).members
+  pub wrote : WroteFront old new (captures_text (form_of q) (take whole (asked_page q from limit (collection indexes)).members))
+  pub within : AllGaveWithin extent gave (in_reach q from (Some whole) (collection indexes)) texts indexes olds news

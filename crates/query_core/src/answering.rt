@@ -15,7 +15,7 @@ ghost use Rattle.query_core.specs.Answering.{Answered, AnsweredParts};
 ghost use Rattle.query_core.specs.LineFaults.{IsFaultOf};
 ghost use Rattle.query_core.specs.Merging.{IsMergeFault};
 ghost use Rattle.query_core.specs.QueryPages.{query_page, answer_text};
-ghost use Rattle.query_core.specs.Reach.{in_reach};
+ghost use Rattle.query_core.specs.Reach.{GaveInReach, in_reach};
 ghost use Rattle.merge_core.specs.SourceLines.{AreLinesOf};
 
 use crate::fault::AnswerFault;
@@ -64,6 +64,8 @@ pub fn answer<S: Source, O: Output>(
     ensures probes { IfOk result (λ report. report.probes ≤ sum (map (λ s. digits (S.extent s)) sources.old)) }
     ensures most { (texts : List (List ℕ)) → (indexes : List (List Member)) → Known (map S.text sources.old) texts → AllTwo (IsIndex LINE_LIMIT) texts indexes
         → IfOk result (λ report. report.lines ≤ length (filter (in_reach query.now query.now.resume query.now.limit (collection indexes)) (all_lines indexes)) + length sources.old) }
+    ensures bytes { (texts : List (List ℕ)) → (indexes : List (List Member)) → Known (map S.text sources.old) texts → AllTwo (IsIndex LINE_LIMIT) texts indexes
+        → GaveInReach S.extent S.gave query.now query.now.resume query.now.limit texts indexes (O.written out.old) (O.written out.new) sources.old sources.new }
     ensures held { (texts : List (List ℕ)) → (indexes : List (List Member)) → (most : ℕ) → Known (map S.text sources.old) texts → AllTwo (IsIndex LINE_LIMIT) texts indexes
         → ShareAtMost most (all_lines indexes) → IfOk result (λ report. report.held ≤ length sources.old + most) }
 {

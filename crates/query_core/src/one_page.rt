@@ -15,7 +15,7 @@ ghost use Rattle.query_core.specs.Merging.{IsMergeFault};
 ghost use Rattle.query_core.specs.PageParts.{WroteParts};
 ghost use Rattle.query_core.specs.PageAsked.{asked_text, WrotePage, StandsAfter};
 ghost use Rattle.merge_core.specs.SourceLines.{AreLinesOf};
-ghost use Rattle.query_core.specs.Reach.{in_reach};
+ghost use Rattle.query_core.specs.Reach.{GaveInReach, in_reach};
 ghost use Rattle.query_core.specs.WriterView.{from_view};
 
 use crate::fault::AnswerFault;
@@ -88,6 +88,8 @@ pub fn write_page<S: Source, O: Output>(
         → IfOk result (WroteParts LINE_LIMIT query.now (from_view from.entry) limit shows texts (O.written out.old) (O.written out.new)) }
     ensures most { (texts : List (List ℕ)) → (indexes : List (List Member)) → Known (map S.text sources.old) texts → AllTwo (IsIndex LINE_LIMIT) texts indexes → (limit ≡ Some 0 → ⊥)
         → IfOk result (λ page. page.lines ≤ length (filter (in_reach query.now (from_view from.entry) limit (collection indexes)) (all_lines indexes)) + length sources.old) }
+    ensures bytes { (texts : List (List ℕ)) → (indexes : List (List Member)) → Known (map S.text sources.old) texts → AllTwo (IsIndex LINE_LIMIT) texts indexes → (limit ≡ Some 0 → ⊥)
+        → GaveInReach S.extent S.gave query.now (from_view from.entry) limit texts indexes (O.written out.old) (O.written out.new) sources.old sources.new }
     ensures above { IfOk result (λ page. IfSome page.end.next (λ next. StandsAfter (from_view from.entry) next)) }
     ensures held { (texts : List (List ℕ)) → (indexes : List (List Member)) → (most : ℕ) → Known (map S.text sources.old) texts → AllTwo (IsIndex LINE_LIMIT) texts indexes
         → ShareAtMost most (all_lines indexes) → IfOk result (λ page. page.held ≤ length sources.old + most) }

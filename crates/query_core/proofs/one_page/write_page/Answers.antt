@@ -1,4 +1,4 @@
-use Rattle.std.proofs.Common.{◌-◌, ◌^◌, min, length, ◌≡◌, true, refl, sym, ◌∙◌, map, arith, subst, ℕ, List, [], zip, ap, Option, append-nil}
+use Rattle.std.proofs.Common.{◌-◌, ◌^◌, min, length, ◌≡◌, true, refl, sym, ◌∙◌, map, arith, subst, ℕ, List, [], zip, ap, Option, append-nil, Some}
 use Rattle.std.specs.List.{AllByRecursion}
 use Rattle.std.proofs.lemmas.Bool.{true≢false, false_from_ne_true}
 use Rattle.std.proofs.lemmas.List.{length-map}
@@ -29,7 +29,10 @@ use Rattle.merge_core.proofs.SourceLemmas.{taken_lines}
 use Rattle.query_core.proofs.PageOfIndexes.{wanted_first, wanted_whole}
 use Rattle.query_core.proofs.PageExits.{start_front, stood, rows_front, begun_front, page_ended, end_front}
 use Rattle.query_core.proofs.NextPlaces.{written_next_above}
-use Rattle.query_core.proofs.ReachLemmas.{bounds, lines_within, none_follows}
+use Rattle.merge_core.proofs.SpendLemmas.{are_read_to}
+use Rattle.merge_core.proofs.WrittenLemmas.{grows_by, grows_part}
+use Rattle.merge_core.specs.Spending.{AreReadTo}
+use Rattle.query_core.proofs.ReachLemmas.{cut_of, gave_halted, gave_opened, gave_whole, lines_within, none_follows, opened_not}
 use Rattle.query_core.proofs.one_page.write_page.Goals as goal
 
 -- ---- failures
@@ -302,7 +305,7 @@ returns-clause-most g c = λ texts indexes known are some.
     let same = c.in-Ok-open_at.ensures.ready.same in
     let stood_by = λ (w : PageWriter) (lines : List Member) (now : Option (List ℕ)) (h : Wrote writer w lines start now). (stood writer q c.args.from c.args.limit c.args.shows is.0 is.1 is.2 w lines start now h).more_is in
     let fresh : writer.more ≡ true → ⊥ = λ e. true≢false (sym e ∙ stood_by writer [] _ begun ∙ none_follows c.args.limit) in
-    let bound = bounds text extent gave q from c.args.limit some ss1 fs1 ss2 fs2 ws b taken same reached cut texts indexes known1 are c.in-Ok-merge.all ok.ended
+    let last = cut_of text extent gave q from c.args.limit some ss1 fs1 ss2 fs2 ws b taken same reached cut texts indexes known1 are c.in-Ok-merge.all ok.ended
     (λ e. sym (stood_by c.merge.new.sink taken mid (ok.wrote.3 writer start begun)) ∙ false_from_ne_true _ (ok.further e fresh))
     (λ e.
     let l = ok.wrote.4 e in
@@ -315,8 +318,128 @@ returns-clause-most g c = λ texts indexes known are some.
       alike = l.8;
       room = sym (stood_by l.3 l.1 l.4 (l.10 writer start begun)) ∙ false_from_ne_true _ (l.9 fresh);
     }) in
-    let most = lines_within text extent gave q from c.args.limit some ss1 fs1 ss2 fs2 ws b taken same reached cut texts indexes known1 are known2 bound in
+    let most = lines_within text extent gave q from c.args.limit some ss1 fs1 ss2 fs2 ws b taken same reached cut texts indexes known1 are known2 last in
     omega (arith, c.lines.ensures, most, length-map ss1 text, length-map c.args.sources.now text, ap length c.open_at.ensures.text)
+
+-- ---- the bytes that sources gave
+
+pub returns-in-Err-clause-bytes : goal.returns-in-Err-clause-bytes
+returns-in-Err-clause-bytes g c = λ texts indexes known are some.
+    gave_opened g.S.Source.text g.S.Source.extent g.S.Source.gave c.args.query.now (from_view c.args.from) c.args.limit texts indexes (g.O.Output.written c.args.out.now) (g.O.Output.written c.begin.new.out) c.args.sources.now c.args.sources.now
+    known are (grows_part _ _ _ c.in-Err.ensures.front) (opened_not g.S.Source.text g.S.Source.extent g.S.Source.gave c.args.sources.now)
+
+pub returns-in-Err-open_at-clause-bytes : goal.returns-in-Err-open_at-clause-bytes
+returns-in-Err-open_at-clause-bytes g c = λ texts indexes known are some.
+    gave_opened g.S.Source.text g.S.Source.extent g.S.Source.gave c.args.query.now (from_view c.args.from) c.args.limit texts indexes (g.O.Output.written c.args.out.now) (g.O.Output.written c.begin.new.out) c.args.sources.now c.open_at.new.sources
+    known are (grows_by _ _ _ c.in-Ok.ensures.stands.text) c.open_at.ensures.spent
+
+pub returns-in-Err-merge-clause-bytes : goal.returns-in-Err-merge-clause-bytes
+returns-in-Err-merge-clause-bytes g c = λ texts indexes known are some.
+    let text = g.S.Source.text in let extent = g.S.Source.extent in let gave = g.S.Source.gave in
+    let writer = c.in-Ok.writer in
+    let is = c.in-Ok.ensures.query in
+    let q = c.args.query.now in
+    let from = from_view c.args.from in
+    let ss1 = c.open_at.new.sources in let fs1 = c.in-Ok-open_at.opened.streams.feeds.items in
+    let start = g.O.Output.written c.args.out.now in
+    let begun : Wrote writer writer [] start (g.O.Output.written c.begin.new.out) = ((refl, refl, refl), c.in-Ok.ensures.stands) in
+    let h = c.in-Err-merge.ensures.halted in
+    let taken = h.4 in
+    let reached = subst (λ target. Reached LINE_LIMIT text (is_past target) extent gave ss1 fs1 h.0 h.1 h.2 h.3 taken) c.target.ensures h.5 in
+    let cut = subst (λ pair. AllByRecursion (λ x. IsCutAt LINE_LIMIT pair (text x.0) x.1.cursor) (zip ss1 fs1)) (ap (λ key. (key, c.start_pair-start.result.stamp)) c.as_bytes.ensures.value ∙ c.start_pair-start.ensures)
+    c.in-Ok-open_at.ensures.cut in
+    let known1 = subst (λ l. Known l texts) (sym c.open_at.ensures.text) known in
+    let stood_by = λ (w : PageWriter) (lines : List Member) (now : Option (List ℕ)) (k : Wrote writer w lines start now). stood writer q c.args.from c.args.limit c.args.shows is.0 is.1 is.2 w lines start now k in
+    let fresh : writer.more ≡ true → ⊥ = λ e. true≢false (sym e ∙ (stood_by writer [] _ begun).more_is ∙ none_follows c.args.limit) in
+    let state = h.6 in
+    let wrote = stood_by state.0 taken state.1 (state.4 writer start begun) in
+    let told = told_known text ss1 texts known1 in
+    let next = h.7 in
+    gave_halted text extent gave q from c.args.limit some ss1 fs1 h.0 h.1 h.2 h.3 taken c.in-Ok-open_at.ensures.ready.same reached cut texts indexes known1 are c.args.sources.now c.merge.new.sources c.merge.new.streams.feeds.items
+    start state.1 (g.O.Output.written c.merge.new.out) wrote.text state.3 known c.in-Ok-open_at.ensures.came c.merge.ensures.moved (omega arith)
+    next.0 next.1 next.2 (sym wrote.more_is ∙ false_from_ne_true _ (state.2 fresh)) (subst (λ target. AreReadTo LINE_LIMIT (is_past target) text (Some next.0) c.merge.new.sources c.merge.new.streams.feeds.items) c.target.ensures (next.3 told))
+
+pub returns-in-Err-end-clause-bytes : goal.returns-in-Err-end-clause-bytes
+returns-in-Err-end-clause-bytes g c = λ texts indexes known are some.
+    let text = g.S.Source.text in let extent = g.S.Source.extent in let gave = g.S.Source.gave in
+    let writer = c.in-Ok.writer in
+    let is = c.in-Ok.ensures.query in
+    let q = c.args.query.now in
+    let from = from_view c.args.from in
+    let ss1 = c.open_at.new.sources in let fs1 = c.in-Ok-open_at.opened.streams.feeds.items in
+    let ss2 = c.merge.new.sources in let fs2 = c.merge.new.streams.feeds.items in let ws = c.merge.new.streams.waiting in
+    let start = g.O.Output.written c.args.out.now in
+    let mid = g.O.Output.written c.merge.new.out in
+    let ok = c.in-Ok-merge.ensures in
+    let b = ok.wrote.0 in
+    let taken = ok.wrote.1 in
+    let begun : Wrote writer writer [] start (g.O.Output.written c.begin.new.out) = ((refl, refl, refl), c.in-Ok.ensures.stands) in
+    let reached = subst (λ target. Reached LINE_LIMIT text (is_past target) extent gave ss1 fs1 ss2 fs2 ws b taken) c.target.ensures ok.wrote.2 in
+    let cut = subst (λ pair. AllByRecursion (λ x. IsCutAt LINE_LIMIT pair (text x.0) x.1.cursor) (zip ss1 fs1)) (ap (λ key. (key, c.start_pair-start.result.stamp)) c.as_bytes.ensures.value ∙ c.start_pair-start.ensures)
+    c.in-Ok-open_at.ensures.cut in
+    let known1 = subst (λ l. Known l texts) (sym c.open_at.ensures.text) known in
+    let same = c.in-Ok-open_at.ensures.ready.same in
+    let stood_by = λ (w : PageWriter) (lines : List Member) (now : Option (List ℕ)) (h : Wrote writer w lines start now). stood writer q c.args.from c.args.limit c.args.shows is.0 is.1 is.2 w lines start now h in
+    let fresh : writer.more ≡ true → ⊥ = λ e. true≢false (sym e ∙ (stood_by writer [] _ begun).more_is ∙ none_follows c.args.limit) in
+    let wrote = stood_by c.merge.new.sink taken mid (ok.wrote.3 writer start begun) in
+    let last = cut_of text extent gave q from c.args.limit some ss1 fs1 ss2 fs2 ws b taken same reached cut texts indexes known1 are c.in-Ok-merge.all ok.ended
+    (λ e. sym wrote.more_is ∙ false_from_ne_true _ (ok.further e fresh))
+    (λ e.
+    let l = ok.wrote.4 e in
+    record {
+      pair = l.0;
+      earlier = l.1;
+      group = l.2;
+      bound = l.5;
+      parts = l.6;
+      alike = l.8;
+      room = sym (stood_by l.3 l.1 l.4 (l.10 writer start begun)).more_is ∙ false_from_ne_true _ (l.9 fresh);
+    }) in
+    let upto = (reached.handed.told (told_known text ss1 texts known1)).1 in
+    gave_whole text extent gave q from c.args.limit some ss1 fs1 ss2 fs2 ws b taken same reached cut texts indexes known1 are c.args.sources.now ss2 fs2 start mid (g.O.Output.written c.end.new.out)
+    wrote.text (grows_part _ _ _ c.in-Err-end.ensures.text) known c.in-Ok-open_at.ensures.came c.merge.ensures.moved (omega arith) last
+    (are_read_to LINE_LIMIT (is_past q.target) text extent b 0 ss2 fs2 ws reached.ready.fed upto)
+
+pub returns-clause-bytes : goal.returns-clause-bytes
+returns-clause-bytes g c = λ texts indexes known are some.
+    let text = g.S.Source.text in let extent = g.S.Source.extent in let gave = g.S.Source.gave in
+    let writer = c.in-Ok.writer in
+    let is = c.in-Ok.ensures.query in
+    let q = c.args.query.now in
+    let from = from_view c.args.from in
+    let ss1 = c.open_at.new.sources in let fs1 = c.in-Ok-open_at.opened.streams.feeds.items in
+    let ss2 = c.merge.new.sources in let fs2 = c.merge.new.streams.feeds.items in let ws = c.merge.new.streams.waiting in
+    let start = g.O.Output.written c.args.out.now in
+    let mid = g.O.Output.written c.merge.new.out in
+    let ok = c.in-Ok-merge.ensures in
+    let b = ok.wrote.0 in
+    let taken = ok.wrote.1 in
+    let begun : Wrote writer writer [] start (g.O.Output.written c.begin.new.out) = ((refl, refl, refl), c.in-Ok.ensures.stands) in
+    let reached = subst (λ target. Reached LINE_LIMIT text (is_past target) extent gave ss1 fs1 ss2 fs2 ws b taken) c.target.ensures ok.wrote.2 in
+    let cut = subst (λ pair. AllByRecursion (λ x. IsCutAt LINE_LIMIT pair (text x.0) x.1.cursor) (zip ss1 fs1)) (ap (λ key. (key, c.start_pair-start.result.stamp)) c.as_bytes.ensures.value ∙ c.start_pair-start.ensures)
+    c.in-Ok-open_at.ensures.cut in
+    let known1 = subst (λ l. Known l texts) (sym c.open_at.ensures.text) known in
+    let same = c.in-Ok-open_at.ensures.ready.same in
+    let stood_by = λ (w : PageWriter) (lines : List Member) (now : Option (List ℕ)) (h : Wrote writer w lines start now). stood writer q c.args.from c.args.limit c.args.shows is.0 is.1 is.2 w lines start now h in
+    let fresh : writer.more ≡ true → ⊥ = λ e. true≢false (sym e ∙ (stood_by writer [] _ begun).more_is ∙ none_follows c.args.limit) in
+    let wrote = stood_by c.merge.new.sink taken mid (ok.wrote.3 writer start begun) in
+    let last = cut_of text extent gave q from c.args.limit some ss1 fs1 ss2 fs2 ws b taken same reached cut texts indexes known1 are c.in-Ok-merge.all ok.ended
+    (λ e. sym wrote.more_is ∙ false_from_ne_true _ (ok.further e fresh))
+    (λ e.
+    let l = ok.wrote.4 e in
+    record {
+      pair = l.0;
+      earlier = l.1;
+      group = l.2;
+      bound = l.5;
+      parts = l.6;
+      alike = l.8;
+      room = sym (stood_by l.3 l.1 l.4 (l.10 writer start begun)).more_is ∙ false_from_ne_true _ (l.9 fresh);
+    }) in
+    let upto = (reached.handed.told (told_known text ss1 texts known1)).1 in
+    gave_whole text extent gave q from c.args.limit some ss1 fs1 ss2 fs2 ws b taken same reached cut texts indexes known1 are c.args.sources.now ss2 fs2 start mid (g.O.Output.written c.end.new.out)
+    wrote.text (grows_by _ _ _ c.in-Ok-end.ensures.text) known c.in-Ok-open_at.ensures.came c.merge.ensures.moved (omega arith) last
+    (are_read_to LINE_LIMIT (is_past q.target) text extent b 0 ss2 fs2 ws reached.ready.fed upto)
 
 pub returns-clause-parts : goal.returns-clause-parts
 returns-clause-parts g c = λ texts known.
