@@ -26,6 +26,8 @@ mod page_parts;
 #[cfg(test)]
 mod query_texts;
 #[cfg(test)]
+mod scans;
+#[cfg(test)]
 mod small_indexes;
 #[cfg(test)]
 mod sources;

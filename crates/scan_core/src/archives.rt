@@ -13,10 +13,9 @@ ghost use Rattle.scan_core.specs.Scanning.{LeavesUnread, IsArchiveFault};
 
 use crate::fault::ScanFault;
 use crate::named::Named;
-use devices::Gather;
+use devices::{Gather, Input};
 use index_core::{IndexFault, Indexer};
 use std::alloc::Global;
-use warc_core::Input;
 
 /// The index of what an indexer holds.
 fn index_of(alloc: Global, indexer: &Indexer) -> Result<Gather, IndexFault>
