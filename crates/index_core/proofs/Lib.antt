@@ -4,7 +4,7 @@ pub mod VerdictLemmas
 mod IndexLemmas
 mod AddingLemmas
 mod SpellingLemmas
-mod SoundLemmas
+pub mod SoundLemmas
 mod OneIndexLemmas
 mod WholeLemmas
 mod CopyLemmas

@@ -65,7 +65,7 @@ sound_step limit names name o h xs (Some x) used at e before s = record {
 
 -- ---- names
 
-among_more : (names more : List (List ℕ)) (name : List ℕ) → is_among names name ≡ true → is_among (names ++ more) name ≡ true
+pub among_more : (names more : List (List ℕ)) (name : List ℕ) → is_among names name ≡ true → is_among (names ++ more) name ≡ true
 among_more [] more name h = cc
 among_more (n ∷ names) more name h =
     elim (bytes_eq n name) as (λ b. (b || is_among names name) ≡ true → (b || is_among (names ++ more) name) ≡ true) [
@@ -73,7 +73,7 @@ among_more (n ∷ names) more name h =
       | false ↦ λ k. among_more names more name k
     ] h
 
-among_last : (names : List (List ℕ)) (name : List ℕ) → is_among (names ++ name ∷ []) name ≡ true
+pub among_last : (names : List (List ℕ)) (name : List ℕ) → is_among (names ++ name ∷ []) name ≡ true
 among_last [] name = ap (λ b. b || false) ((bytes_eq-Decides name name).1 refl)
 among_last (n ∷ names) name = elim (bytes_eq n name) as (λ b. (b || is_among (names ++ name ∷ []) name) ≡ true) [ true ↦ refl | false ↦ among_last names name ]
 

@@ -52,7 +52,7 @@ module _ {X P : Type 0} (place : X → P) (R : P → P → Ordering) (same : P �
       elim (f x) as (λ b. Rises place R (cond b (x ∷ filter f xs) (filter f xs)))
       [ true ↦ (each_filter _ f xs h.0, rises_filter f xs h.1) | false ↦ rises_filter f xs h.1 ]
 
-  each_kept : (A : X → Type 0) (p : Option P) (xs : List X) → AllByRecursion A xs → AllByRecursion A (kept place R same p xs)
+  pub each_kept : (A : X → Type 0) (p : Option P) (xs : List X) → AllByRecursion A xs → AllByRecursion A (kept place R same p xs)
   each_kept A p [] h = tt
   each_kept A p (x ∷ xs) h =
       elim (repeats place R same p x) as (λ b. AllByRecursion A (cond b (kept place R same (Some (place x)) xs) (x ∷ kept place R same (Some (place x)) xs)))
