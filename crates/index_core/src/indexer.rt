@@ -40,7 +40,7 @@ impl Indexer {
     ghost use Rattle.capture_core.specs.CaptureAnswer.{usual_limits};
     ghost use Rattle.index_core.specs.Adding.{Adds, IsAddFault, IsRefusal};
     ghost use Rattle.index_core.specs.Counting.{CountsIndex, CountsWrite};
-    ghost use Rattle.index_core.specs.Indexing.{IsWriteFault, IsName, is_among, index_text, in_places};
+    ghost use Rattle.index_core.specs.Indexing.{IsWriteFault, IsName, is_among, index_text, in_places, AreSound};
 
     /// An indexer that holds nothing. It takes no memory.
     pub fn new(alloc: Global) -> Indexer
@@ -93,6 +93,7 @@ impl Indexer {
         ensures lines { WritesText result (O.written out.old) (O.written out.new) (index_text self.now.captures) }
         ensures index { IsIndex LINE_LIMIT (index_text self.now.captures) (map entry_member (in_places self.now.captures)) }
         ensures number { IfOk result (λ n. n ≡ length (in_places self.now.captures)) }
+        ensures sound { AreSound LINE_LIMIT self.now.names self.now.captures }
         ensures all { length (in_places self.now.captures) ≡ length self.now.captures }
         ensures refusals { IfErr result IsWriteFault }
         ensures failures { CountsWrite result (O.failures out.old) (O.failures out.new) }
