@@ -7,9 +7,10 @@ use Rattle.index_core.specs.declared.fault.IndexFault.{IndexFault}
 use Rattle.index_core.specs.declared.fault.IndexFault.TheVariants as index
 use Rattle.index_core.specs.Counting.{CountsIndex}
 use Rattle.merge_core.specs.Gathering.{AllTwo}
+use Rattle.merge_core.proofs.FeedLemmas.{each_join}
 use Rattle.merge_core.proofs.SpendLemmas.{left_after}
 use Rattle.scan_core.specs.declared.fault.ScanFault.TheVariants.{Archive}
-use Rattle.scan_core.specs.Archives.{IsNewName, AreNewNames, IsAcceptedAs, AreAcceptedAs, AreIndexed, IsFaultOfArchive, IsFirstFault, IsNameFault, index_members}
+use Rattle.scan_core.specs.Archives.{IsNewName, AreNewNames, IsAcceptedAs, AreAcceptedAs, HaveLines, AreIndexed, IsFaultOfArchive, IsFirstFault, IsNameFault, index_members}
 use Rattle.scan_core.specs.Failures.{CountsAt}
 use Rattle.scan_core.specs.Scanning.{LeavesUnread}
 
@@ -28,13 +29,14 @@ accepted_push (n ∷ names) (i ∷ inputs) (c ∷ archives) name input captures 
 
 -- one archive more
 pub indexed_push : (names : List (List ℕ)) (inputs : List (Option (List ℕ))) (archives : List (List EntryValue)) (i : ℕ) (captures : List EntryValue) → i < length names → i < length inputs
-    → AreIndexed (take i names) (take i inputs) archives → IsNewName (take i names) (get_or names i []) → IsAcceptedAs (get_or names i []) (get_or inputs i None) captures
+    → AreIndexed (take i names) (take i inputs) archives → IsNewName (take i names) (get_or names i []) → IsAcceptedAs (get_or names i []) (get_or inputs i None) captures → HaveLines captures
     → AreIndexed (take (i + 1) names) (take (i + 1) inputs) (archives ++ captures ∷ [])
-indexed_push names inputs archives i captures l m h new accepted = record {
+indexed_push names inputs archives i captures l m h new accepted lines = record {
   named = subst (AreNewNames []) (sym (take_more names i [] l)) (names_push [] (take i names) (get_or names i []) h.named new);
   accepted = subst (λ ns. AreAcceptedAs ns (take (i + 1) inputs) (archives ++ captures ∷ [])) (sym (take_more names i [] l))
       (subst (λ is. AreAcceptedAs (take i names ++ get_or names i [] ∷ []) is (archives ++ captures ∷ [])) (sym (take_more inputs i None m))
       (accepted_push (take i names) (take i inputs) archives (get_or names i []) (get_or inputs i None) captures h.accepted accepted));
+  lines = each_join HaveLines archives (captures ∷ []) h.lines (lines, tt);
 }
 
 -- an index more
@@ -87,12 +89,12 @@ module _ {X : Type 0} (name : X → List ℕ) (input : X → Option (List ℕ)) 
     }
 
     -- it is
-    pub one_more_indexed : (captures : List EntryValue) → IsNewName earlier (name x) → IsAcceptedAs (name x) (input x) captures
+    pub one_more_indexed : (captures : List EntryValue) → IsNewName earlier (name x) → IsAcceptedAs (name x) (input x) captures → HaveLines captures
         → AreIndexed (take (i + 1) (map name xs0)) (take (i + 1) (map input xs0)) (archives ++ captures ∷ [])
-    one_more_indexed captures new accepted =
+    one_more_indexed captures new accepted lines =
         indexed_push (map name xs0) (map input xs0) archives i captures names_inside inputs_inside before
         (subst (λ ns. IsNewName ns (get_or (map name xs0) i [])) names_are (subst (IsNewName earlier) name_at new))
-        (subst (λ n. IsAcceptedAs n (get_or (map input xs0) i None) captures) name_at (subst (λ o. IsAcceptedAs (name x) o captures) input_at accepted))
+        (subst (λ n. IsAcceptedAs n (get_or (map input xs0) i None) captures) name_at (subst (λ o. IsAcceptedAs (name x) o captures) input_at accepted)) lines
 
   -- the names up to it
   pub names_after : (earlier : List (List ℕ)) → earlier ≡ take i (map name xs0) → earlier ++ name x ∷ [] ≡ take (i + 1) (map name xs0)

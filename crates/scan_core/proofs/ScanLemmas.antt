@@ -1,13 +1,13 @@
 -- What a scan wrote, from what its parts did.
 use Rattle.std.proofs.Common.{ℕ, List, length, map, Option, subst}
-use Rattle.cdxj_places.specs.Places.{place_cmp}
+use Rattle.cdxj_places.specs.Places.{IsPlace, place_cmp}
 use Rattle.cdxj_places.proofs.PlaceOrder.{place_cmp_total}
 use Rattle.cdxj_core.specs.Entries.{EntryValue}
 use Rattle.cdxj_core.specs.Members.{member_place}
 use Rattle.merge_core.specs.Collections.{collection}
 use Rattle.query_text.specs.Queries.{QueryValue}
 use Rattle.query_text.specs.Matching.{matches}
-use Rattle.page_core.proofs.PageLaws.{chain_law, rises_filter}
+use Rattle.page_core.proofs.PageLaws.{chain_law, rises_filter, each_filter}
 use Rattle.query_core.specs.Collections.{selected}
 use Rattle.query_core.specs.QueryPages.{never}
 use Rattle.query_core.specs.Paging.{WrotePages, WrotePagesInPart}
@@ -16,6 +16,8 @@ use Rattle.scan_core.specs.Archives.{AreIndexed, index_members}
 use Rattle.scan_core.specs.Captures.{captured_lines}
 use Rattle.scan_core.specs.Scanning.{IsAsked, Scanned, ScannedInPart}
 use Rattle.scan_core.proofs.CollectionLemmas.{collected, lines_rise}
+use Rattle.scan_core.proofs.KeyLemmas.{lines_placed, keys_but_last}
+use Rattle.scan_core.proofs.OnceLemmas.{once}
 
 module _ (names : List (List ℕ)) (inputs : List (Option (List ℕ))) (sizes text : List ℕ) (query : QueryValue) (archives : List (List EntryValue)) (old new : Option (List ℕ))
     (asked : IsAsked sizes text (length names) query) (indexed : AreIndexed names inputs archives) where
@@ -30,10 +32,13 @@ module _ (names : List (List ℕ)) (inputs : List (Option (List ℕ))) (sizes te
         asked = asked;
         captures = archives;
         indexed = indexed;
+        once = λ told known. once names inputs archives told known indexed.named indexed.accepted indexed.lines;
         pages = wrote.pages;
         chain = wrote.chain;
         joined = law.0;
         full = law.1;
+        keys = keys_but_last never (selected query (captured_lines archives))
+            (each_filter (λ m. IsPlace (member_place m)) (λ m. matches query m.values) (captured_lines archives) (lines_placed archives indexed.lines)) query.resume sizes wrote.pages wrote.chain;
         wrote = wrote.text;
         count = wrote.count;
       }

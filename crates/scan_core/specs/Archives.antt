@@ -1,14 +1,16 @@
 -- The archives of a scan: with which captures they are accepted, and why one isn't.
 use Rattle.std.specs.Prelude.{◌≡◌, ℕ, ◌<◌, ⊤, List, [], ◌∷◌, ◌++◌, length, map, take, get_or, false, true, Option, None, IfSome}
+use Rattle.std.specs.List.{AllByRecursion}
 use Rattle.warc_core.specs.declared.next.TheConstants.{HEAD_LIMIT}
-use Rattle.cdxj_core.specs.Entries.{EntryValue}
+use Rattle.cdxj_core.specs.declared.limit.TheConstants.{LINE_LIMIT}
+use Rattle.cdxj_core.specs.Entries.{EntryValue, HasLine}
 use Rattle.cdxj_core.specs.Members.{Member, entry_member}
 use Rattle.capture_core.specs.Indexed.{usual_types}
 use Rattle.capture_core.specs.CaptureAnswer.{usual_limits}
 use Rattle.index_core.specs.declared.fault.IndexFault.{IndexFault}
 use Rattle.index_core.specs.declared.fault.IndexFault.TheVariants as index
 use Rattle.index_core.specs.Accepted.{IsAccepted, IsAcceptedTo}
-use Rattle.index_core.specs.Indexing.{IsName, is_among, in_places}
+use Rattle.index_core.specs.Indexing.{IsName, is_among, in_places, HaveOwnPlaces}
 
 -- a name that an archive may have, and none of the earlier ones
 pub record IsNewName (earlier : List (List ℕ)) (name : List ℕ) : Type 0 where
@@ -30,10 +32,16 @@ AreAcceptedAs [] [] [] = ⊤
 AreAcceptedAs (name ∷ names) (input ∷ inputs) (captures ∷ others) = IsAcceptedAs name input captures × AreAcceptedAs names inputs others
 AreAcceptedAs names inputs captures = ⊥
 
+-- an archive's captures have lines, each at a place of its own
+pub record HaveLines (captures : List EntryValue) : Type 0 where
+  pub lines : AllByRecursion (HasLine LINE_LIMIT) captures
+  pub places : HaveOwnPlaces captures
+
 -- the archives are accepted under names of their own, with these captures
 pub record AreIndexed (names : List (List ℕ)) (inputs : List (Option (List ℕ))) (captures : List (List EntryValue)) : Type 0 where
   pub named : AreNewNames [] names
   pub accepted : AreAcceptedAs names inputs captures
+  pub lines : AllByRecursion HaveLines captures
 
 -- why an archive isn't indexed: its name is bad, or an earlier one; else its captures end with this fault, or memory is refused
 abbrev pub IsFaultOfArchive : List (List ℕ) → List ℕ → Option (List ℕ) → IndexFault → Type 0

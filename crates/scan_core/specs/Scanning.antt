@@ -5,6 +5,8 @@ use Rattle.cdxj_places.specs.Places.{PlaceValue, place_cmp}
 use Rattle.cdxj_core.specs.Entries.{EntryValue}
 use Rattle.cdxj_core.specs.Members.{Member, member_place}
 use Rattle.index_core.specs.declared.fault.IndexFault.TheVariants as index
+use Rattle.index_core.specs.Indexing.{HaveOwnPlaces}
+use Rattle.merge_core.specs.Collections.{Known}
 use Rattle.query_text.specs.declared.fault.QueryFault.TheVariants as refusal
 use Rattle.query_text.specs.declared.query.TheConstants.{QUERY_LIMIT}
 use Rattle.query_text.specs.Queries.{QueryValue, query_of}
@@ -18,7 +20,7 @@ use Rattle.query_core.specs.Paging.{are_sizes, pages_text, WrotePagesInPart}
 use Rattle.scan_core.specs.declared.fault.ScanFault.{ScanFault}
 use Rattle.scan_core.specs.declared.fault.ScanFault.TheVariants.{Query, Archive, Answer}
 use Rattle.scan_core.specs.Archives.{AreIndexed, IsFirstFault}
-use Rattle.scan_core.specs.Captures.{captured_lines}
+use Rattle.scan_core.specs.Captures.{all_captures, captured_lines, KeysButLast}
 
 -- the sizes are given and positive, the text means this query, and the archives aren't too many
 pub record IsAsked (ns text : List ℕ) (count : ℕ) (query : QueryValue) : Type 0 where
@@ -35,10 +37,12 @@ module _ (names : List (List ℕ)) (inputs : List (Option (List ℕ))) (sizes te
     pub asked : IsAsked sizes text (length names) query
     pub captures : List (List EntryValue)
     pub indexed : AreIndexed names inputs captures
+    pub once : (archives : List (List ℕ)) → Known inputs archives → HaveOwnPlaces (all_captures captures)
     pub pages : List (Page Member PlaceValue)
     pub chain : IsQueryChain query (captured_lines captures) sizes pages
     pub joined : flat_map (λ page. page.members) pages ≡ collapsed member_place place_cmp never (selected query (captured_lines captures)) query.resume
     pub full : FullButLast sizes pages
+    pub keys : KeysButLast pages
     pub wrote : Appends old new (pages_text query pages)
     pub count : number ≡ min (length pages) (2 ^ 64 - 1)
 

@@ -7,7 +7,7 @@ ghost use Rattle.devices.specs.Gathered.{gathered};
 ghost use Rattle.index_core.specs.Counting.{CountsIndex};
 ghost use Rattle.index_core.specs.Indexing.{IsName, is_among};
 ghost use Rattle.merge_core.specs.Gathering.{AllTwo};
-ghost use Rattle.scan_core.specs.Archives.{IsNewName, IsAcceptedAs, IsFaultOfArchive, IsNameFault, AreIndexed, index_members};
+ghost use Rattle.scan_core.specs.Archives.{IsNewName, IsAcceptedAs, HaveLines, IsFaultOfArchive, IsNameFault, AreIndexed, index_members};
 ghost use Rattle.scan_core.specs.Failures.{CountsInputs};
 ghost use Rattle.scan_core.specs.Scanning.{LeavesUnread, IsArchiveFault};
 
@@ -20,6 +20,7 @@ use std::alloc::Global;
 /// The index of what an indexer holds.
 fn index_of(alloc: Global, indexer: &Indexer) -> Result<Gather, IndexFault>
     ensures index { IfOk result (λ index. IsIndex LINE_LIMIT (gathered index) (index_members indexer.now.captures)) }
+    ensures lines { HaveLines indexer.now.captures }
     ensures memory { IfErr result (λ fault. fault ≡ IndexFault.Memory) }
 {
     let mut index = Gather::new(alloc);
@@ -40,7 +41,7 @@ fn index_archive<I: Input>(
     ensures held { OnOk result (indexer.new ≡ record { names = indexer.old.names ++ string_bytes archive.old.name ∷ []; captures = [] }) }
     ensures index { IfOk result (λ index. IsNewName indexer.old.names (string_bytes archive.old.name)
         × (captures : List EntryValue) × IsAcceptedAs (string_bytes archive.old.name) (I.remaining archive.old.input) captures
-        × IsIndex LINE_LIMIT (gathered index) (index_members captures)) }
+        × HaveLines captures × IsIndex LINE_LIMIT (gathered index) (index_members captures)) }
     ensures refused { IfErr result (IsFaultOfArchive indexer.old.names (string_bytes archive.old.name) (I.remaining archive.old.input)) }
     ensures unread { IfErr result (λ fault. IsNameFault fault → archive.new ≡ archive.old) }
     ensures failures { CountsIndex result (I.failures archive.old.input) (I.failures archive.new.input) }

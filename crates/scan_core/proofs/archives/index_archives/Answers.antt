@@ -18,7 +18,7 @@ loop-i-init g c = record {
   failures = refl;
   held = c.new-indexer.ensures;
   number = ap length c.new-indexes.ensures.items;
-  indexed = ([], record { named = tt; accepted = tt }, no_indexes LINE_LIMIT gathered c.new-indexes.result.items c.new-indexes.ensures.items);
+  indexed = ([], record { named = tt; accepted = tt; lines = tt }, no_indexes LINE_LIMIT gathered c.new-indexes.result.items c.new-indexes.ensures.items);
 }
 
 -- ---- an archive isn't indexed
@@ -92,8 +92,8 @@ loop-i-preserved g c =
       indexed = (
         inv.indexed.0 ++ found.1 ∷ [],
         one_more_indexed (λ n. string_bytes n.name) (λ n. g.I.Input.remaining n.input) xs0 i d (get_or xs i d) inside0 here
-            c.loop-i.indexer.names inv.indexed.0 names inv.indexed.1 found.1 found.0 found.2,
+            c.loop-i.indexer.names inv.indexed.0 names inv.indexed.1 found.1 found.0 found.2 found.3,
         subst (λ is. AllTwo (IsIndex LINE_LIMIT) (map gathered is) (map index_members (inv.indexed.0 ++ found.1 ∷ []))) (sym pushed)
-            (indexes_push LINE_LIMIT gathered c.loop-i.indexes.items inv.indexed.0 c.in-Ok.index found.1 inv.indexed.2 found.3),
+            (indexes_push LINE_LIMIT gathered c.loop-i.indexes.items inv.indexed.0 c.in-Ok.index found.1 inv.indexed.2 found.4),
       );
     }

@@ -1,0 +1,7 @@
+use Rattle.scan_core.proofs.archives.index_of.Goals as goal
+
+pub returns-in-Ok-clause-lines : goal.returns-in-Ok-clause-lines
+returns-in-Ok-clause-lines c = record { lines = c.write.ensures.sound.lines; places = c.write.ensures.sound.places }
+
+pub returns-in-Err-clause-lines : goal.returns-in-Err-clause-lines
+returns-in-Err-clause-lines c = record { lines = c.write.ensures.sound.lines; places = c.write.ensures.sound.places }
