@@ -5,3 +5,4 @@ pub mod ScanLemmas
 pub mod TextBytes
 pub mod KeyLemmas
 pub mod OnceLemmas
+pub mod WantLemmas

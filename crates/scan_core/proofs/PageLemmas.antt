@@ -34,7 +34,7 @@ zero_at [] i = refl
 zero_at (s ∷ ss) zero = refl
 zero_at (s ∷ ss) (suc i) = zero_at ss i
 
-put_at : (ns : List ℕ) (i n : ℕ) → i < length ns → get_or (set ns i n) i 0 ≡ n
+pub put_at : (ns : List ℕ) (i n : ℕ) → i < length ns → get_or (set ns i n) i 0 ≡ n
 put_at [] i n l = absurd (omega arith)
 put_at (m ∷ ns) zero n l = refl
 put_at (m ∷ ns) (suc i) n l = put_at ns i n (omega arith)

@@ -3,9 +3,11 @@
 
 mod archives;
 mod fault;
+mod laws;
 mod named;
 mod scanning;
 
 pub use crate::fault::ScanFault;
+pub use crate::laws::accepted_archives_are_scanned;
 pub use crate::named::Named;
 pub use crate::scanning::scan;
