@@ -329,6 +329,32 @@ check "serve: a folder"    "" "warcdx: folder: Read"                       3 ser
 check "serve: - is a file's name"  "" "warcdx: -: cannot open"             3 serve - <<< key=x
 check "serve: the input is a folder"  "" "warcdx: Input"                   3 serve sorted.cdxj < folder
 
+of_archives="url=example.com/*&fl=urlkey,filename,offset"
+scanned=$(lines "com,example)/q both.warc 158" "com,example)/r both.warc 0" "com,example)/r r.warc 0")
+key_q="com%2Cexample%29%2Fq+20160919172024+both.warc+158"
+scanned_pages=$(lines "com,example)/q both.warc 158" "" "$key_q" "com,example)/r both.warc 0" "com,example)/r r.warc 0")
+scanned_on=$(lines "com,example)/r both.warc 0" "com,example)/r r.warc 0")
+twice_r="warcdx: folder/r.warc: DuplicateName"
+
+check "scan: two archives"              "$scanned"       ""                0 scan 9 "$of_archives" r.warc both.warc
+check "scan: pages"                     "$scanned_pages" ""                0 scan 1,2 "$of_archives" r.warc both.warc
+check "scan: from a resume key"         "$scanned_on"    ""                0 scan 9 "$of_archives&resumeKey=$key_q" r.warc both.warc
+check "scan: cdxj"                      "$of_both"       ""                0 scan 9 "url=example.com/*&output=cdxj" both.warc
+check "scan: -"                         "com,example)/r - 0" ""            0 scan 9 "$of_archives" - < r.warc
+check "scan: nothing"                   ""               ""                0 scan 1 url=example.org same.warc empty.warc r.warc
+check "scan: nothing, json"             "$no_rows"       ""                0 scan 1 "url=example.org&output=json" empty.warc
+check "scan: a fault"                   ""               "$torn"           1 scan 1 "$of_archives" r.warc torn.warc
+check "scan: the first fault ends it"   ""               "$torn"           1 scan 1 "$of_archives" torn.warc folder r.warc r.warc
+check "scan: a file name twice"         ""               "$twice_r"        1 scan 1 "$of_archives" r.warc folder/r.warc
+check "scan: - twice"            "" "warcdx: -: DuplicateName"             1 scan 1 "$of_archives" - - < r.warc
+check "scan: a folder"           "" "warcdx: folder: fault 0 Read"         3 scan 1 "$of_archives" r.warc folder
+check "scan: a folder without a name"  "" "warcdx: folder/: BadName"       1 scan 1 "$of_archives" r.warc folder/
+check "scan: 1,024 archives"     "" "warcdx: empty.warc: DuplicateName"    1 scan 1 "$of_archives" $at_limit
+check "scan: 1,025 archives"     "" "warcdx: TooManySources"               1 scan 1 "$of_archives" $too_many
+check "scan: a refused query"    "" "warcdx: query: BadUrl"                1 scan 1 url= missing
+check "scan: a missing file"            ""               "$missing"        3 scan 1 "$of_archives" torn.warc missing
+check "scan: missing, before too many"  ""               "$missing"        3 scan 1 "$of_archives" missing $too_many
+
 no_list=$(refusal "the following required arguments were not provided:"$'\n  <WARC>...' "list <WARC>...")
 no_verify=$(refusal "the following required arguments were not provided:"$'\n  <WARC>...' "verify <WARC>...")
 no_index=$(refusal "the following required arguments were not provided:"$'\n  <WARC>...' "index <WARC>...")
@@ -338,6 +364,7 @@ no_query=$(refusal "the following required arguments were not provided:"$'\n  <Q
 no_index_asked=$(refusal "the following required arguments were not provided:"$'\n  <INDEX>...' "query <QUERY> <INDEX>...")
 no_pages=$(refusal "the following required arguments were not provided:"$'\n  <SIZES>\n  <QUERY>\n  <INDEX>...' "pages <SIZES> <QUERY> <INDEX>...")
 no_query_of_pages=$(refusal "the following required arguments were not provided:"$'\n  <QUERY>\n  <INDEX>...' "pages <SIZES> <QUERY> <INDEX>...")
+no_scan=$(refusal "the following required arguments were not provided:"$'\n  <SIZES>\n  <QUERY>\n  <WARC>...' "scan <SIZES> <QUERY> <WARC>...")
 no_get=$(refusal "the following required arguments were not provided:"$'\n  <OFFSET>\n  <WARC>' "get <OFFSET> <WARC>")
 no_archive=$(refusal "the following required arguments were not provided:"$'\n  <WARC>' "get <OFFSET> <WARC>")
 one_too_many=$(refusal "unexpected argument 'q.warc' found" "get <OFFSET> <WARC>")
@@ -359,6 +386,8 @@ for sizes in "" 0 1,0 1, ,1 1,,2 +1 1.5 x 1000001 00000001 "1 2" "1;2" "$(printf
     check "pages $(head --bytes=20 <<< "$sizes")"  "" "$(no_sizes "$sizes")"   2 pages "$sizes" url=a missing
 done
 check "pages of 1,000 sizes"      "$each_p" "" 0 pages "$(printf '9,%.0s' {1..999})9" "$of_p" $apart
+check "scan alone"                      "" "$no_scan"                      2 scan
+check "scan 0"                          "" "$(no_sizes 0)"                 2 scan 0 url=a missing
 check "get alone"                       "" "$no_get"                       2 get
 check "get without an archive"          "" "$no_archive"                   2 get 0
 check "get of two archives"             "" "$one_too_many"                 2 get 0 r.warc q.warc
@@ -395,6 +424,7 @@ of_check=$(lines "Checks that indexes are sorted, and counts their lines" "" "Us
 of_query=$(lines "Writes the captures that a query asks for" "" "Usage: warcdx query <QUERY> <INDEX>...")
 of_pages=$(lines "Writes the captures that a query asks for, page by page" "" "Usage: warcdx pages <SIZES> <QUERY> <INDEX>...")
 of_serve=$(lines "Answers queries line by line" "" "Usage: warcdx serve <INDEX>...")
+of_scan=$(lines "Writes the captures of archives that a query asks for" "" "Usage: warcdx scan <SIZES> <QUERY> <WARC>...")
 of_verify=$(lines "Checks the digests of the records of archives" "" "Usage: warcdx verify <WARC>...")
 
 check_help "-h"                         "$of_program" -h
@@ -412,6 +442,7 @@ check_help "query NAME -h"              "$of_query"   query missing -h
 check_help "pages -h"                   "$of_pages"   pages 0 -h
 check_help "serve -h"                   "$of_serve"   serve -h
 check_help "serve NAME --help"          "$of_serve"   serve missing --help
+check_help "scan -h"                    "$of_scan"    scan 0 -h
 check_help "get --help"                 "$of_get"     get --help
 check_help "get NAME NAME NAME -h"      "$of_get"     get r.warc q.warc missing -h
 
@@ -444,6 +475,9 @@ for way in full closed broken; do
     check_into $way "$way: serve, refused" "" "$write"                       3 serve sorted.cdxj <<< ""
     check_into $way "$way: serve, many"    "" "$write"                       3 serve many.cdxj < <(lines "$all" "$all")
     check_into $way "$way: serve, no lines" "" ""                            0 serve sorted.cdxj < empty.warc
+    check_into $way "$way: scan, short"    "" "$flush"                       3 scan 1 "$of_archives" r.warc
+    check_into $way "$way: scan, many"     "" "$write"                       3 scan 1000 "$of_archives" captures.warc
+    check_into $way "$way: scan, a fault"  "" "$torn"                        1 scan 1 "$of_archives" r.warc torn.warc
     check_into $way "$way: get, short"     "" "$flush"                       3 get 0 r.warc
     check_into $way "$way: get, long"      "" "$write"                       3 get 0 large.warc
     check_into $way "$way: get, none"      "" "$none"                        1 get 1 r.warc

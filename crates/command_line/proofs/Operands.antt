@@ -1,5 +1,5 @@
 -- What clap makes of the words after a command's name.
-use Rattle.std.proofs.Common.{rules, arith, refl, ℕ, ◌≡◌, ◌<◌, ◌^◌, ◌==◌, List, [], ◌∷◌, ◌++◌, Some, None, Bool, true, false, codes, length, ap, ◌∙◌, append_assoc, fold, nat_lt, Option, inl, inr}
+use Rattle.std.proofs.Common.{rules, arith, refl, ℕ, ◌≡◌, ◌<◌, ◌^◌, ◌==◌, List, [], ◌∷◌, ◌++◌, Some, None, Bool, true, false, codes, length, ap, ◌∙◌, append_assoc, fold, nat_lt, Option, option_map, inl, inr}
 use Rattle.std.specs.List.{list_all}
 use Rattle.std.proofs.lemmas.Bool.Decides.{nat_tests}
 use Rattle.std.specs.Char.{encode_utf8}
@@ -13,6 +13,7 @@ use Rattle.clap.specs.Lexer.{usize_max}
 use Rattle.clap.specs.declared.error.kind.ErrorKind.TheVariants as kind
 use Rattle.clap.specs.declared.parser.matches.ValueSource.TheVariants.{CommandLine}
 use Rattle.command_line.specs.Words.{Text, asks_for_help}
+use Rattle.command_line.specs.Sizes.{sizes_of}
 use Rattle.command_line.specs.Commands.{Meaning, Form, Names as OfNames, Query as OfQuery, Sizes as OfSizes, Offset as OfOffset, Refusal, Usage, operands_task}
 use Rattle.command_line.specs.Clap.{names_rule, program, command_for, values_task, refusal_for}
 use Rattle.command_line.proofs.PlainWords.{IsPlain, AllPlain, help_word}
@@ -279,10 +280,14 @@ values (OfSizes make) (a ∷ b ∷ c ∷ more) f p = rw (ends (OfSizes make) (a 
 values (OfOffset make) (a ∷ b ∷ []) f p = rw (ends (OfOffset make) (a ∷ b ∷ []) f p) refl
 values _ _ f p = cc
 
+in_turn : {A B C : Type 0} (o : Option A) (f : A → B) (g : B → C) → option_map g (option_map f o) ≡ option_map (λ x. g (f x)) o
+in_turn None f g = refl
+in_turn (Some x) f g = refl
+
 pub reads : (form : Form) (words : List Text) → fits form words ≡ true → values_task form (rows_of form words) ≡ operands_task form words
 reads (OfNames make) (a ∷ more) f = refl
 reads (OfQuery make) (a ∷ b ∷ more) f = refl
-reads (OfSizes make) (a ∷ b ∷ c ∷ more) f = refl
+reads (OfSizes make) (a ∷ b ∷ c ∷ more) f = in_turn (sizes_of a) (λ s. (s, b, c ∷ more)) (λ asked. make asked.0 asked.1 asked.2)
 reads (OfOffset make) (a ∷ b ∷ []) f = refl
 reads _ _ f = cc
 

@@ -1,5 +1,5 @@
 -- clap's command, made from the table of commands, and what is read of clap's answer.
-use Rattle.std.specs.Prelude.{List, [], ◌∷◌, Option, None, Some, true, false, codes, map, option_map, option_and_then}
+use Rattle.std.specs.Prelude.{ℕ, List, [], ◌∷◌, Option, None, Some, true, false, codes, map, option_map, option_and_then}
 use Rattle.clap.specs.Words.{App, Row, Rule, Shape, new_rule, all_of, first_of}
 use Rattle.clap.specs.Simple.{new_shape}
 use Rattle.clap.specs.Lexer.{usize_max}
@@ -49,14 +49,18 @@ warcdx = record { top = program; subs = map command_for commands }
 
 -- ---- the answer
 
+-- sizes, a query and names
+abbrev pub sized_query : List Row → Option (List ℕ × Text × List Text)
+sized_query rows = option_and_then (λ sizes. option_and_then
+    (λ query. option_and_then (λ names. option_map (λ s. (s, query, names)) (sizes_of sizes)) (all_of (codes "names") rows))
+    (first_of (codes "query") rows)) (first_of (codes "sizes") rows)
+
 -- the task that the values of a command make
 abbrev pub values_task : Form → List Row → Option Meaning
 values_task (Names make) rows = option_map make (all_of (codes "names") rows)
 values_task (Query make) rows = option_and_then
     (λ query. option_map (make query) (all_of (codes "names") rows)) (first_of (codes "query") rows)
-values_task (Sizes make) rows = option_and_then (λ sizes. option_and_then
-    (λ query. option_and_then (λ names. option_map (λ s. make s query names) (sizes_of sizes)) (all_of (codes "names") rows))
-    (first_of (codes "query") rows)) (first_of (codes "sizes") rows)
+values_task (Sizes make) rows = option_map (λ asked. make asked.0 asked.1 asked.2) (sized_query rows)
 values_task (Offset make) rows = option_and_then
     (λ offset. option_and_then (λ name. option_map (λ n. make n name) (offset_of offset)) (first_of (codes "name") rows))
     (first_of (codes "offset") rows)

@@ -23,6 +23,7 @@ pub data Meaning : Type 0 where
   ToPages : List ℕ → Text → List Text → Meaning
   ToServe : List Text → Meaning
   ToGet : ℕ → Text → Meaning
+  ToScan : List ℕ → Text → List Text → Meaning
 
 -- which operands a command takes, and the task that they make: one name or more; those after a query, or after sizes and a query; an
 -- offset and a name
@@ -35,7 +36,8 @@ pub data Form : Type 0 where
 abbrev pub commands : List (Text × Form)
 commands = (codes "list", Names ToList) ∷ (codes "verify", Names ToVerify) ∷ (codes "index", Names ToIndex)
     ∷ (codes "merge", Names ToMerge) ∷ (codes "check", Names ToCheck) ∷ (codes "query", Query ToQuery)
-    ∷ (codes "pages", Sizes ToPages) ∷ (codes "serve", Names ToServe) ∷ (codes "get", Offset ToGet) ∷ []
+    ∷ (codes "pages", Sizes ToPages) ∷ (codes "serve", Names ToServe) ∷ (codes "get", Offset ToGet)
+    ∷ (codes "scan", Sizes ToScan) ∷ []
 
 -- ---- words with a task
 
@@ -88,6 +90,7 @@ view (task.Query query names) = ToQuery (string_bytes query) (texts names.items)
 view (task.Pages sizes query names) = ToPages sizes.items (string_bytes query) (texts names.items)
 view (task.Serve names) = ToServe (texts names.items)
 view (task.Get offset name) = ToGet offset (string_bytes name)
+view (task.Scan sizes query names) = ToScan sizes.items (string_bytes query) (texts names.items)
 
 -- nothing for want of memory
 abbrev pub refusal_of : WordsFault → Option Refusal

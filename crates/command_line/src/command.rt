@@ -3,10 +3,9 @@ ghost use Rattle.std.specs.Prelude.{◌≡◌, IfOk, false, [], ◌∷◌, codes
 ghost use Rattle.clap.specs.Words.{app_of, rule_of, with_subcommand};
 ghost use Rattle.command_line.specs.Clap.{word_rule, names_rule, command_with, warcdx};
 
-use crate::help::{
-    ARCHIVE, CDXJ, CHECK, GET, INDEX, LIST, MERGE, OFFSET, Operand, PAGES, PROGRAM, Page, QUERY,
-    QUERY_TEXT, SERVE, SIZES, VERIFY,
-};
+use crate::help::archives::{GET, INDEX, LIST, SCAN, VERIFY};
+use crate::help::indexes::{CHECK, MERGE, PAGES, QUERY, SERVE};
+use crate::help::{ARCHIVE, CDXJ, OFFSET, Operand, PROGRAM, Page, QUERY_TEXT, SIZES};
 use clap::{Arg, Command};
 use std::alloc::{AllocError, Global};
 
@@ -28,7 +27,8 @@ pub fn command_line<'a>(alloc: Global) -> Result<Command<'a>, AllocError>
     let query = with_query(check, alloc, "query", QUERY, CDXJ)?;
     let pages = with_sizes(query, alloc, "pages", PAGES, CDXJ)?;
     let serve = with_names(pages, alloc, "serve", SERVE, CDXJ)?;
-    with_offset(serve, alloc, "get", GET, ARCHIVE)
+    let get = with_offset(serve, alloc, "get", GET, ARCHIVE)?;
+    with_sizes(get, alloc, "scan", SCAN, ARCHIVE)
 }
 
 /// The command with one more, which takes one operand or more.

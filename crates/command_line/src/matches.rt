@@ -2,8 +2,8 @@
 ghost use Rattle.std.specs.Prelude.{◌≡◌, IfOk, Some, option_map, codes, map, string_bytes};
 ghost use Rattle.clap.specs.Words.{all_of, first_of, found_of, rows_of, subcommand_rows_of};
 ghost use Rattle.command_line.specs.Words.{texts};
-ghost use Rattle.command_line.specs.Commands.{Offset, Query, Sizes, ToGet, ToPages, ToQuery, list_input, view};
-ghost use Rattle.command_line.specs.Clap.{matches_task, values_task};
+ghost use Rattle.command_line.specs.Commands.{Offset, Query, Sizes, ToGet, ToPages, ToQuery, ToScan, list_input, view};
+ghost use Rattle.command_line.specs.Clap.{matches_task, sized_query, values_task};
 
 use crate::sizes::read_sizes;
 use crate::task::Task;
@@ -45,6 +45,7 @@ fn command_task(
         "pages" => pages_task(alloc, values),
         "serve" => Ok(names_of(alloc, values)?.map(|names| Task::Serve { names })),
         "get" => get_task(alloc, values),
+        "scan" => scan_task(alloc, values),
         _ => Ok(None),
     }
 }
@@ -74,6 +75,38 @@ fn pages_task(alloc: Global, values: &ArgMatches) -> Result<Option<Task>, AllocE
     ensures { IfOk result (λ task. option_map view task
         ≡ values_task (Sizes ToPages) (rows_of (found_of values.now))) }
 {
+    match sized_query(alloc, values)? {
+        Some((sizes, query, names)) => Ok(Some(Task::Pages {
+            sizes,
+            query,
+            names,
+        })),
+        None => Ok(None),
+    }
+}
+
+fn scan_task(alloc: Global, values: &ArgMatches) -> Result<Option<Task>, AllocError>
+    ensures { IfOk result (λ task. option_map view task
+        ≡ values_task (Sizes ToScan) (rows_of (found_of values.now))) }
+{
+    match sized_query(alloc, values)? {
+        Some((sizes, query, names)) => Ok(Some(Task::Scan {
+            sizes,
+            query,
+            names,
+        })),
+        None => Ok(None),
+    }
+}
+
+/// Sizes, a query and names.
+fn sized_query(
+    alloc: Global,
+    values: &ArgMatches,
+) -> Result<Option<(Vec<u64>, String, Vec<String>)>, AllocError>
+    ensures { IfOk result (λ asked. option_map (λ a. (a.0.items, string_bytes a.1, texts a.2.items)) asked
+        ≡ sized_query (rows_of (found_of values.now))) }
+{
     let Some(sizes) = value_of(values, "sizes") else {
         return Ok(None);
     };
@@ -84,11 +117,7 @@ fn pages_task(alloc: Global, values: &ArgMatches) -> Result<Option<Task>, AllocE
         return Ok(None);
     };
     match read_sizes(alloc, sizes)? {
-        Some(sizes) => Ok(Some(Task::Pages {
-            sizes,
-            query,
-            names,
-        })),
+        Some(sizes) => Ok(Some((sizes, query, names))),
         None => Ok(None),
     }
 }

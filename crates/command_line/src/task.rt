@@ -43,4 +43,10 @@ pub enum Task {
         offset: u64,
         name: String,
     },
+    /// Answer the query over the captures of the archives, page by page.
+    Scan {
+        sizes: Vec<u64>,
+        query: String,
+        names: Vec<String>,
+    },
 }

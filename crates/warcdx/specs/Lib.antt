@@ -5,4 +5,5 @@ pub mod Indexing
 pub mod Outcome
 pub mod Queries
 pub mod Reports
+pub mod Scanning
 pub mod Words

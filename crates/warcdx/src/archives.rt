@@ -16,7 +16,7 @@ use std::rt::Runtime;
 use warc_core::FromRead;
 
 /// Standard input, or a file.
-type Archive<R> = Either<<R as io::Input>::Reader, <R as Files>::File>;
+pub type Archive<R> = Either<<R as io::Input>::Reader, <R as Files>::File>;
 
 /// Opens the archive of this name; `-` is standard input. That a file can't be opened is said on standard error.
 pub fn open<R: Runtime + AllocGlobal>(rt: &R, name: &str) -> Result<FromRead<Archive<R>>, Outcome>

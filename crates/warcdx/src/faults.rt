@@ -5,6 +5,7 @@ ghost use Rattle.warcdx.specs.Outcome.{outcome_of};
 use crate::outcome::{Outcome, outcome_of};
 use index_core::IndexFault;
 use query_core::{AnswerFault, QueryFault};
+use scan_core::ScanFault;
 use std::rt::Runtime;
 
 /// How a call on the archive of this name ended, whose fault is said on standard error.
@@ -65,5 +66,18 @@ pub fn say_answer_fault<R: Runtime>(rt: &R, name: &str, fault: AnswerFault) {
             let _ = eprintln!(rt; "warcdx: {name}: OutOfOrder {offset}");
         }
         _ => {}
+    }
+}
+
+/// Reports why archives of these names couldn't be scanned. What is at fault of all of them is said at the command's end.
+pub fn say_scan_fault<R: Runtime>(rt: &R, names: &[String], fault: ScanFault) {
+    match fault {
+        ScanFault::Query(fault) => say_query_fault(rt, fault),
+        ScanFault::Archive(archive, fault) => {
+            if let Some(name) = names.get(archive) {
+                say_fault(rt, name, fault);
+            }
+        }
+        ScanFault::Answer(_fault) => {}
     }
 }

@@ -12,6 +12,7 @@ mod outcome;
 mod program;
 mod queries;
 mod reports;
+mod scanning;
 mod status;
 #[cfg(test)]
 mod tests;

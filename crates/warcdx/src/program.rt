@@ -13,6 +13,7 @@ use crate::merging::merge_all;
 use crate::outcome::{Outcome, flushed_outcome, message};
 use crate::queries::{answer_query, write_pages};
 use crate::reports::{ArchiveReport, report_on};
+use crate::scanning::scan_all;
 use command_line::{Task, WordsFault, read_words};
 use devices::Prompt;
 use index_core::IndexFault;
@@ -105,5 +106,10 @@ pub fn perform<R: Runtime + AllocGlobal, O: Output>(rt: &R, task: &Task, out: &m
         } => write_pages(rt, sizes, query, names, out),
         Task::Serve { names } => serve_all(rt, names, &mut FromRead::new(rt.reader()), out),
         Task::Get { offset, name } => fetch(rt, *offset, name, out),
+        Task::Scan {
+            sizes,
+            query,
+            names,
+        } => scan_all(rt, sizes, query, names, out),
     }
 }

@@ -50,7 +50,7 @@ fn read_and_open<R: Runtime + AllocGlobal>(
 }
 
 /// The query of a text. Why it is refused is reported on standard error.
-fn read_query<R: Runtime + AllocGlobal>(rt: &R, text: &str) -> Result<Query, Outcome>
+pub fn read_query<R: Runtime + AllocGlobal>(rt: &R, text: &str) -> Result<Query, Outcome>
     ensures { ReadsQuery text.now result }
 {
     match Query::read(rt.alloc(), text) {

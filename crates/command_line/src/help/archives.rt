@@ -1,0 +1,188 @@
+//! Help on the commands that read archives.
+use super::Page;
+
+pub const LIST: Page = Page {
+    about: "Lists the records of archives",
+    details: "\
+Prints a line for each record:
+
+  OFFSET LENGTH KIND
+
+OFFSET is where the record begins, and LENGTH how long it is, both in bytes.
+KIND is its type: warcinfo, response, resource, request, metadata, revisit,
+conversion, continuation, or other.
+
+A damaged archive is listed up to the damage. The last line is then
+
+  fault OFFSET CAUSE
+
+with the offset of the record at fault. CAUSE is one of these:
+
+  Version       the record doesn't begin with WARC/1.0 or WARC/1.1
+  ShortHead     the archive ends inside the record's head
+  HeadTooLong   the record's head is too long to be read
+  FieldLine     a line of the head is not a field
+  Missing       a mandatory field is missing
+  Repeated      a mandatory field is repeated
+  BadLength     Content-Length is not a length
+  BadDate       WARC-Date is not a date
+  ShortBlock    the archive ends inside the record's block
+  Closing       the record doesn't end with two line breaks
+  TooFar        the record would end past byte 2^63 - 1
+  Memory, Read  memory or the input failed: the archive may be whole
+
+With more than one archive, a line NAME: stands before each listing.
+
+Examples:
+  warcdx list crawl.warc
+  warcdx list crawl-1.warc crawl-2.warc
+  gunzip -c crawl.warc.gz | warcdx list -
+
+Exit status:
+  0  everything was read
+  1  an archive is damaged
+  2  the words mean nothing
+  3  a file can't be opened, or memory, an input or the output failed",
+};
+
+pub const VERIFY: Page = Page {
+    about: "Checks the digests of the records of archives",
+    details: "\
+Compares each record's block with its WARC-Block-Digest, and prints a line for
+each record:
+
+  OFFSET VERDICT
+
+OFFSET is where the record begins, in bytes. VERDICT is one of these:
+
+  same      the digest is the block's
+  differs   the digest isn't the block's: one of them was changed
+  not-sha1  the digest isn't a SHA-1 in base 32, and wasn't compared
+  absent    the record has no digest
+
+A damaged archive is checked up to the damage. The last line is then
+
+  fault OFFSET CAUSE
+
+with the offset of the record at fault. 'warcdx list --help' has the causes.
+
+With more than one archive, a line NAME: stands before the lines of each.
+
+Examples:
+  warcdx verify crawl.warc
+  warcdx verify crawl-1.warc crawl-2.warc
+  gunzip -c crawl.warc.gz | warcdx verify -
+
+Exit status:
+  0  everything was read, and no digest differs
+  1  an archive is damaged, or a digest differs
+  2  the words mean nothing
+  3  a file can't be opened, or memory, an input or the output failed",
+};
+
+pub const INDEX: Page = Page {
+    about: "Writes an index of the captures of archives",
+    details: "\
+Writes one sorted CDXJ index of all the archives: a line for each response,
+resource and revisit record with a WARC-Target-URI.
+
+  KEY STAMP OBJECT
+
+KEY is made of the record's URL, and STAMP is its date in 14 digits. OBJECT is
+JSON with the members url, mime, status, digest, length, offset and filename;
+length and offset are in bytes, and 'warcdx get' writes the record from its
+offset. docs/CDXJ.md has the rules.
+
+An archive's file name in the index is the part of its word after the last /,
+1 to 255 bytes that no archive before it has; - is the file name of standard
+input. An archive whose file name can't be used so is left out, and BadName or
+DuplicateName said on standard error.
+
+A damaged archive is indexed up to the damage, and this is said on standard
+error, with the offset of the record at fault:
+
+  warcdx: NAME: fault OFFSET CAUSE
+
+'warcdx list --help' has the causes. Two more stand for a whole record that
+can't be indexed, and the archive is indexed up to it:
+
+  KeyTooLong    the record's URL is too long for the URL parser
+  LineTooLong   the record's line would be longer than 1,048,576 bytes
+
+Examples:
+  warcdx index crawl.warc > crawl.cdxj
+  warcdx index crawl-1.warc crawl-2.warc > crawl.cdxj
+  gunzip -c crawl.warc.gz | warcdx index - > crawl.cdxj
+
+Exit status:
+  0  everything was indexed
+  1  an archive is damaged, or its file name or a record can't be indexed
+  2  the words mean nothing
+  3  a file can't be opened, or memory, an input or the output failed",
+};
+
+pub const GET: Page = Page {
+    about: "Writes the record at an offset of an archive",
+    details: "\
+Writes the record that begins at OFFSET as it is stored, from its version line
+through the two line breaks after its block. An index has the offset of each
+record, and so has 'warcdx list'.
+
+The archive is read from its start. Where no record begins at OFFSET, nothing
+is written, and this line is on standard error:
+
+  warcdx: NAME: NoRecord
+
+Where the archive is damaged at OFFSET or before it, this one is, with the
+offset of the record at fault; 'warcdx list --help' has the causes:
+
+  warcdx: NAME: fault OFFSET CAUSE
+
+Nothing is written then, but for a first part of the record at OFFSET where
+that is the one at fault.
+
+Examples:
+  warcdx get 0 crawl.warc
+  warcdx get 4096 crawl.warc > record.warc
+  gunzip -c crawl.warc.gz | warcdx get 4096 -
+
+Exit status:
+  0  the record was written
+  1  no record begins at OFFSET, or the archive is damaged there or before it
+  2  the words mean nothing
+  3  the file can't be opened, or memory, an input or the output failed",
+};
+
+pub const SCAN: Page = Page {
+    about: "Writes the captures of archives that a query asks for",
+    details: "\
+Indexes the archives in memory, and writes the captures that the query selects,
+page by page, as 'warcdx pages' does with an index of each. 'warcdx index --help'
+says what a capture is, and 'warcdx query --help' what a query has.
+
+The query is read first. Then all archives are opened; at most 1,024 are taken.
+The first fault ends the command, and is reported on standard error. Nothing is
+written before all archives are indexed:
+
+  warcdx: query: CAUSE
+  warcdx: NAME: cannot open
+  warcdx: TooManySources
+  warcdx: NAME: BadName
+  warcdx: NAME: DuplicateName
+  warcdx: NAME: fault OFFSET CAUSE
+
+An archive's file name is the part of its word after the last /, 1 to 255 bytes
+that no archive before it has; - is the file name of standard input. OFFSET is
+where the record at fault begins, in bytes.
+
+Examples:
+  warcdx scan 100 'url=example.com/*' crawl-1.warc crawl-2.warc
+  gunzip -c crawl.warc.gz | warcdx scan 1000 'url=*.example.com' -
+
+Exit status:
+  0  the captures were written
+  1  the query is refused, an archive is damaged, its file name or a record
+     can't be indexed, or there are too many archives
+  2  the words mean nothing
+  3  a file can't be opened, or memory, an input or the output failed",
+};

@@ -1,0 +1,189 @@
+//! Help on the commands that read indexes.
+use super::Page;
+
+pub const MERGE: Page = Page {
+    about: "Merges indexes into one",
+    details: "\
+Writes the lines of all indexes to standard output, in the order of key, stamp,
+file name and offset. Each line is written as it stands in its index. Where
+several lines have all four in common, the first of them is written: that of
+the index that is named first.
+
+The indexes must be sorted, as 'warcdx check' says. They are read line by line:
+one line of each index is held, and the lines of one key and stamp. At most
+1,024 indexes are merged.
+
+All indexes are opened before the first is read. The first fault ends the
+command, and is reported on standard error; what was written before it stands:
+
+  warcdx: NAME: cannot open
+  warcdx: NAME: Read
+  warcdx: NAME: BadLine OFFSET
+  warcdx: NAME: OutOfOrder OFFSET
+  warcdx: TooManySources
+
+OFFSET is where the line at fault begins, in bytes. 'warcdx check --help' says
+what the causes mean.
+
+Examples:
+  warcdx merge crawl-1.cdxj crawl-2.cdxj > crawls.cdxj
+  warcdx merge *.cdxj > all
+
+Exit status:
+  0  the indexes were merged
+  1  an index has a bad line, or one out of order, or there are too many
+  2  the words mean nothing
+  3  a file can't be opened or read, or memory or the output failed",
+};
+
+pub const CHECK: Page = Page {
+    about: "Checks that indexes are sorted, and counts their lines",
+    details: "\
+Reads each index from its start, and prints a line for one that is in order:
+
+  NAME COUNT
+
+COUNT is the number of its lines. An index is in order where every line is one
+of a capture, and the key and stamp of no line are below those of the line
+before it, by bytes. 'warcdx index' writes such indexes, and so does
+LC_ALL=C sort. docs/CDXJ.md has the rules.
+
+Of another index nothing is printed, and its first line at fault is said on
+standard error, with the offset at which it begins, in bytes:
+
+  warcdx: NAME: CAUSE OFFSET
+
+CAUSE is one of these:
+
+  BadLine     the line is not one of a capture, or it is longer than 1,048,576
+              bytes, line feed included
+  OutOfOrder  the line's key and stamp are below those of the line before it
+
+The indexes after it are checked all the same. The size of an index is asked
+when it is opened; an index that ends before, or can't be read, is said as
+
+  warcdx: NAME: Read
+
+Example:
+  warcdx check crawl-1.cdxj crawl-2.cdxj
+
+Exit status:
+  0  all the indexes are in order
+  1  an index has a bad line, or one out of order
+  2  the words mean nothing
+  3  a file can't be opened or read, or memory or the output failed",
+};
+
+pub const QUERY: Page = Page {
+    about: "Writes the captures that a query asks for",
+    details: "\
+Writes the captures of the indexes that the query selects, in the order of key,
+stamp, file name and offset. Where lines of several indexes have all four in
+common, the first of them counts: that of the index that is named first.
+
+QUERY has parameters with & between; most shells want it in quotes:
+
+  url=ADDRESS        *.example.com also asks for its subdomains, and
+                     example.com/a* for all that begins so
+  key=KEY            in place of url: a key, as it stands in an index
+  matchType=         exact, prefix, host or domain
+  from=, to=         the first digits of a time: 2016, 201609, ...
+  filter=FIELD:TEXT  the field is TEXT, or isn't, with ! before FIELD
+  is=, isnot=        the same, for any TEXT
+  has=, hasnot=      the field has TEXT somewhere, or nowhere
+  fl=FIELD,FIELD     urlkey, timestamp, original, mimetype, statuscode, digest,
+                     length, offset, filename
+  output=            text, json, or cdxj: the lines of the indexes
+  limit=NUMBER       no more captures than this
+  showResumeKey=true where more follow, says from where they go on ...
+  resumeKey=KEY      ... and goes on from there
+
+docs/QUERY.md has the rules. The indexes must be sorted, as 'warcdx check' says;
+of each only what is needed is read, and lines that aren't read aren't checked.
+
+The query is read first. Then all indexes are opened; at most 1,024 are taken.
+The first fault ends the command, and is reported on standard error; what was
+written before it stands:
+
+  warcdx: query: CAUSE
+  warcdx: NAME: cannot open
+  warcdx: NAME: Read
+  warcdx: NAME: BadLine OFFSET
+  warcdx: NAME: OutOfOrder OFFSET
+  warcdx: TooManySources
+
+Examples:
+  warcdx query 'url=example.com' crawl.cdxj
+  warcdx query 'url=*.example.com&filter=statuscode:200&output=json' *.cdxj
+  warcdx query 'key=com,example)/a&fl=offset,filename' crawl.cdxj
+
+Exit status:
+  0  the captures were written
+  1  the query is refused, an index has a bad line or one out of order, or
+     there are too many
+  2  the words mean nothing
+  3  a file can't be opened or read, or memory or the output failed",
+};
+
+pub const PAGES: Page = Page {
+    about: "Writes the captures that a query asks for, page by page",
+    details: "\
+Writes all captures that the query selects, as 'warcdx query' does, in pages of
+so many captures. SIZES are 1 to 1,000 numbers from 1 to 1,000,000 with commas
+between: of the first page, the second and so on; the last of them counts for
+all pages after it. Each page but the last ends with the resume key of the next.
+The query's limit and showResumeKey aren't used; its resumeKey is where the
+first page begins.
+
+'warcdx query --help' says what a query has, and what is reported.
+
+Examples:
+  warcdx pages 100 'url=example.com/*' crawl.cdxj
+  warcdx pages 10,100,1000 'url=*.example.com&output=json' *.cdxj
+
+Exit status:
+  0  the captures were written
+  1  the query is refused, an index has a bad line or one out of order, or
+     there are too many
+  2  the words mean nothing
+  3  a file can't be opened or read, or memory or the output failed",
+};
+
+pub const SERVE: Page = Page {
+    about: "Answers queries line by line",
+    details: "\
+Reads queries from standard input, a line each, and writes a reply to each: what
+'warcdx query' writes for it, and then a line with a period alone. A reply has
+left the program before the next line is waited for.
+
+A query that is refused gets
+
+  refused CAUSE
+
+and one of more than 65,536 bytes QueryTooLong, one that isn't UTF-8 NotText.
+Where an index has a bad line, or one out of order, what was written of the page
+is followed by a line feed and
+
+  fault CAUSE NUMBER OFFSET
+
+with the number of the index, from 0, and the offset of the line in bytes. Then
+the next query is read. docs/QUERY.md has the rules.
+
+All indexes are opened first. What ends the command is reported on standard
+error:
+
+  warcdx: NAME: cannot open
+  warcdx: NAME: Read
+  warcdx: TooManySources
+  warcdx: Input
+
+Examples:
+  warcdx serve crawl.cdxj < queries
+  socat -t 60 TCP-LISTEN:8080,bind=127.0.0.1,fork EXEC:'warcdx serve crawl.cdxj'
+
+Exit status:
+  0  the input ended
+  1  there are too many indexes
+  2  the words mean nothing
+  3  a file can't be opened or read, or memory, the input or the output failed",
+};
