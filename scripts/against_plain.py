@@ -5,8 +5,8 @@ usage: against_plain.py [PROGRAM [CASES [SEED]]]      default: the script warcdx
 
 A case is one to four indexes, a query and sizes of pages. The indexes share places, have lines of equal keys and stamps in any
 order, and lines in other spellings than warcdx writes. One query in twelve or so is refused. `query` and `pages` have to write
-the same bytes as the plain program, say the same refusal, and end with its status; what `query` writes page by page, with the
-resume keys as they were printed, has to be what `pages` writes.
+the same bytes as the plain program, say the same refusal, and end with its status, and `serve` has to reply with either. What
+`query` writes page by page, with the resume keys as they were printed, has to be what `pages` writes.
 
 Prints what was tried, and the first case that differs. The status is 1 where there is one.
 """
@@ -189,13 +189,13 @@ class Differs(Exception):
     """What differs, with what was wanted and what was found."""
 
 
-def run(program, *words):
-    done = subprocess.run((program, *words), stdin=subprocess.DEVNULL, stdout=subprocess.PIPE, stderr=subprocess.PIPE)
+def run(program, *words, lines=b""):
+    done = subprocess.run((program, *words), input=lines, stdout=subprocess.PIPE, stderr=subprocess.PIPE)
     return done.returncode, done.stdout, done.stderr
 
 
-def expect(program, wanted, *words):
-    found = run(program, *words)
+def expect(program, wanted, *words, lines=b""):
+    found = run(program, *words, lines=lines)
     if found != wanted:
         raise Differs(f"{' '.join(words[:2])}\nwanted {wanted}\nfound  {found}")
 
@@ -209,10 +209,12 @@ def compare(program, case, names, tried):
         tried[f"refused as {refusal}"] += 1
         for words in (("query",), ("pages", sizes)):
             expect(program, (1, b"", f"warcdx: query: {refusal}\n".encode()), *words, case.query, *names)
+        expect(program, (0, f"refused {refusal}\n.\n".encode(), b""), "serve", *names, lines=case.query.encode())
         return
     lines = plain.read_lines(case.texts)
     given = plain.answer(query, lines)
     expect(program, (0, given, b""), "query", case.query, *names)
+    expect(program, (0, given + b".\n", b""), "serve", *names, lines=case.query.encode())
     expect(program, (0, plain.pages(query, case.sizes, lines), b""), "pages", sizes, case.query, *names)
     chain = list(plain.chain(plain.select(query, lines), query.resume, case.sizes))
     tried["queries"] += 1
