@@ -1,4 +1,4 @@
--- The reading of a query text by a command, and the answers that it writes.
+-- The reading of a query text by a command, the answers that it writes, and the replies to lines of queries.
 use Rattle.std.specs.Prelude.{◌≡◌, ◌≢◌, ℕ, true, List, Option, Result, Ok, Err, IfOk, IfErr}
 use Rattle.devices.specs.Device.{AppendsPrefix}
 use Rattle.cdxj_core.specs.declared.limit.TheConstants.{LINE_LIMIT}
@@ -12,9 +12,11 @@ use Rattle.merge_core.specs.Gathering.{AllTwo}
 use Rattle.query_core.specs.declared.fault.AnswerFault.{AnswerFault}
 use Rattle.query_core.specs.declared.report.Report.{Report}
 use Rattle.query_core.specs.Answering.{Answered}
+use Rattle.query_core.specs.Conversations.{Replied, RepliedInPart}
 use Rattle.query_core.specs.LineFaults.{IsFaultOf}
 use Rattle.query_core.specs.Paging.{WrotePages, WrotePagesInPart, are_sizes}
 use Rattle.query_core.specs.QueryPages.{answer_text, query_page}
+use Rattle.query_core.specs.Replies.{reply_of}
 use Rattle.warcdx.specs.declared.outcome.Outcome.{Outcome}
 use Rattle.warcdx.specs.declared.outcome.Outcome.TheVariants as outcomes
 
@@ -48,3 +50,12 @@ pub record AnswersPages (query : QueryValue) (sizes : List ℕ) (told : List (Op
   pub part : (texts : List (List ℕ)) → (indexes : List (List Member)) → Known told texts → AllTwo (IsIndex LINE_LIMIT) texts indexes
       → are_sizes sizes ≡ true → WrotePagesInPart query (collection indexes) sizes before after
   pub fault : IfErr answer (IsFaultOf LINE_LIMIT told)
+
+-- lines of an input were answered over sources: over indexes the replies were written, whole or in part
+pub record AnswersLines (told : List (Option (List ℕ))) (lines : Option (List ℕ)) (before after : Option (List ℕ)) (outcome : Outcome) : Type 0 where
+  pub answer : Result ℕ AnswerFault
+  pub outcome_is : outcome ≡ answered_outcome answer
+  pub replies : (texts : List (List ℕ)) → (indexes : List (List Member)) → Known told texts → AllTwo (IsIndex LINE_LIMIT) texts indexes
+      → IfOk answer (λ count. Replied QUERY_LIMIT (reply_of QUERY_LIMIT (collection indexes)) lines count before after)
+  pub part : (texts : List (List ℕ)) → (indexes : List (List Member)) → Known told texts → AllTwo (IsIndex LINE_LIMIT) texts indexes
+      → RepliedInPart QUERY_LIMIT (reply_of QUERY_LIMIT (collection indexes)) lines before after

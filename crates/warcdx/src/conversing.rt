@@ -1,13 +1,6 @@
 //! Conversations over indexes.
-ghost use Rattle.std.specs.Prelude.{◌≡◌, ℕ, List, map};
-ghost use Rattle.cdxj_core.specs.declared.limit.TheConstants.{LINE_LIMIT};
-ghost use Rattle.cdxj_core.specs.Indexes.{IsIndex};
-ghost use Rattle.cdxj_core.specs.Members.{Member};
-ghost use Rattle.merge_core.specs.Collections.{Known, collection};
-ghost use Rattle.merge_core.specs.Gathering.{AllTwo};
-ghost use Rattle.query_core.specs.Conversations.{Replied, RepliedInPart};
-ghost use Rattle.query_core.specs.Replies.{reply_of};
-ghost use Rattle.query_text.specs.declared.query.TheConstants.{QUERY_LIMIT};
+ghost use Rattle.std.specs.Prelude.{map};
+ghost use Rattle.warcdx.specs.Queries.{AnswersLines};
 
 use crate::archives::open_indexes;
 use crate::faults::say_source_fault;
@@ -38,10 +31,7 @@ fn serve_opened<R: Runtime + AllocGlobal, S: Source, I: Input, O: Output>(
     input: &mut I,
     out: &mut O,
 ) -> Outcome
-    ensures replies { result ≡ Outcome.Done → (texts : List (List ℕ)) → (indexes : List (List Member)) → Known (map S.text sources.old) texts → AllTwo (IsIndex LINE_LIMIT) texts indexes
-        → (number : ℕ) × Replied QUERY_LIMIT (reply_of QUERY_LIMIT (collection indexes)) (I.remaining input.old) number (O.written out.old) (O.written out.new) }
-    ensures part { (texts : List (List ℕ)) → (indexes : List (List Member)) → Known (map S.text sources.old) texts → AllTwo (IsIndex LINE_LIMIT) texts indexes
-        → RepliedInPart QUERY_LIMIT (reply_of QUERY_LIMIT (collection indexes)) (I.remaining input.old) (O.written out.old) (O.written out.new) }
+    ensures { AnswersLines (map S.text sources.old) (I.remaining input.old) (O.written out.old) (O.written out.new) result }
 {
     match serve(rt.alloc(), sources, input, out) {
         Ok(_count) => Outcome::Done,

@@ -157,8 +157,8 @@ pub const SCAN: Page = Page {
     about: "Writes the captures of archives that a query asks for",
     details: "\
 Indexes the archives in memory, and writes the captures that the query selects,
-page by page, as 'warcdx pages' does with an index of each. 'warcdx index --help'
-says what a capture is, and 'warcdx query --help' what a query has.
+page by page, as 'warcdx pages' does with an index of each. What a capture is,
+'warcdx index --help' says, and what a query has, 'warcdx query --help'.
 
 The query is read first. Then all archives are opened; at most 1,024 are taken.
 The first fault ends the command, and is reported on standard error. Nothing is

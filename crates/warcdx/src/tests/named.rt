@@ -7,6 +7,7 @@ use crate::outcome::Outcome;
 use capture_core::CaptureFault;
 use command_line::Task;
 use index_core::IndexFault;
+use query_core::{AnswerFault, QueryFault};
 use std::alloc::{AllocError, Global};
 use std::rt::Runtime;
 use std::test::Fail;
@@ -62,6 +63,41 @@ const RECORDS: &[(u64, &str, &[u8], Outcome)] = &[
     (0, "whole", b"", READ),
 ];
 
+/// Sizes of pages, queries and names of archives, what is written, and how that ends.
+const SCANS: &[(&[u64], &str, &[&str], &[u8], Outcome)] = &[
+    (
+        &[1],
+        "url=example.com/*&fl=filename,offset",
+        &["whole/b.warc"],
+        b"b.warc 0\n",
+        Outcome::Done,
+    ),
+    (&[1], "key=", &["b.warc", "whole"], b"", SHORT_BLOCK),
+    (
+        &[1],
+        "key=",
+        &["whole/b.warc", "b.warc"],
+        b"",
+        DUPLICATE_NAME,
+    ),
+    (&[1], "key=", &["whole/"], b"", BAD_NAME),
+    (&[1], "key=", &["b.warc", "none"], b"", Outcome::CannotOpen),
+    (
+        &[1],
+        "url=",
+        &["none"],
+        b"",
+        Outcome::Query(QueryFault::BadUrl),
+    ),
+    (
+        &[],
+        "key=",
+        &["b.warc"],
+        b"",
+        Outcome::Answer(AnswerFault::BadSizes),
+    ),
+];
+
 fn index(alloc: Global, names: &[&str]) -> Result<Task, AllocError> {
     let names = owned(alloc, names)?;
     Ok(Task::Index { names })
@@ -70,6 +106,17 @@ fn index(alloc: Global, names: &[&str]) -> Result<Task, AllocError> {
 fn record_at(alloc: Global, offset: u64, name: &str) -> Result<Task, AllocError> {
     let name = String::from_str(alloc, name)?;
     Ok(Task::Get { offset, name })
+}
+
+fn scan(alloc: Global, sizes: &[u64], text: &str, names: &[&str]) -> Result<Task, AllocError> {
+    let sizes = Vec::from_slice(alloc, sizes)?;
+    let query = String::from_str(alloc, text)?;
+    let names = owned(alloc, names)?;
+    Ok(Task::Scan {
+        sizes,
+        query,
+        names,
+    })
 }
 
 /// Whether the task writes these pieces, one after another, and ends so.
@@ -128,6 +175,12 @@ fn archives_are_indexed_and_read_by_name(rt: HostRuntime) -> Result<(), Fail> {
         assert!(rt;
             writes(&rt, record_at(alloc, *offset, name), &[record], *wanted)?,
             "{offset} {name}"
+        );
+    }
+    for (sizes, query, names, text, wanted) in SCANS {
+        assert!(rt;
+            writes(&rt, scan(alloc, sizes, query, names), &[text], *wanted)?,
+            "{names:?}"
         );
     }
     assert!(rt; writes_in_part(&rt)?);

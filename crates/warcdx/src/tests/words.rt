@@ -13,6 +13,7 @@ enum Wanted {
     Pages(&'static [u64], &'static str, &'static [&'static str]),
     Serve(&'static [&'static str]),
     Get(u64, &'static str),
+    Scan(&'static [u64], &'static str, &'static [&'static str]),
     Help(&'static str),
     Usage(&'static str),
 }
@@ -32,6 +33,8 @@ const PAGES: Wanted = Wanted::Help("Usage: warcdx pages <SIZES> <QUERY> <INDEX>.
 const SERVE: Wanted = Wanted::Help("Usage: warcdx serve <INDEX>...\n");
 
 const GET: Wanted = Wanted::Help("Usage: warcdx get <OFFSET> <WARC>\n");
+
+const SCAN: Wanted = Wanted::Help("Usage: warcdx scan <SIZES> <QUERY> <WARC>...\n");
 
 const NO_NAME: Wanted = Wanted::Usage("required arguments were not provided:\n  <WARC>...\n");
 
@@ -68,6 +71,10 @@ const ROWS: &[(&[&str], Wanted)] = &[
     (&["get", "264", "a.warc"], Wanted::Get(264, "a.warc")),
     (&["get", "007", "-"], Wanted::Get(7, "-")),
     (&["get", LARGEST, "a"], Wanted::Get((1 << 63) - 1, "a")),
+    (
+        &["scan", "7,8", "url=a", "a.warc", "-"],
+        Wanted::Scan(&[7, 8], "url=a", &["a.warc", "-"]),
+    ),
     (&["list"], NO_NAME),
     (&["verify"], NO_NAME),
     (&["index"], NO_NAME),
@@ -105,6 +112,14 @@ const ROWS: &[(&[&str], Wanted)] = &[
         Wanted::Usage("invalid value '00000001' for '<SIZES>': "),
     ),
     (&["get", "0"], Wanted::Usage("not provided:\n  <WARC>\n")),
+    (
+        &["scan", "1", "url=a"],
+        Wanted::Usage("not provided:\n  <WARC>...\n"),
+    ),
+    (
+        &["scan", "1,x", "url=a", "a.warc"],
+        Wanted::Usage("invalid value '1,x' for '<SIZES>': "),
+    ),
     (
         &["get", "0", "a", "b"],
         Wanted::Usage("error: unexpected argument 'b' found\n"),
@@ -153,6 +168,7 @@ const ROWS: &[(&[&str], Wanted)] = &[
     (&["get", "--help"], GET),
     (&["get", "x", "-h"], GET),
     (&["get", "0", "a", "b", "-h"], GET),
+    (&["scan", "-h"], SCAN),
     (&["list", "a", "-x"], WITH_X),
     (&["-h", "-x"], WITH_X),
     (&["list", "-x", "--help"], WITH_X),
@@ -189,23 +205,25 @@ fn is_task(task: &Task, wanted: &Wanted) -> bool {
         (Task::Query { query, names }, Wanted::Query(text, wanted)) => {
             query.as_str() == *text && are(names.as_slice(), wanted)
         }
-        (task, Wanted::Pages(sizes, text, wanted)) => are_pages(task, sizes, text, wanted),
+        (
+            Task::Pages {
+                sizes,
+                query,
+                names,
+            },
+            Wanted::Pages(wanted, text, of),
+        ) => { sizes.as_slice() == *wanted && query.as_str() == *text && are(names.as_slice(), of) }
+        (
+            Task::Scan {
+                sizes,
+                query,
+                names,
+            },
+            Wanted::Scan(wanted, text, of),
+        ) => { sizes.as_slice() == *wanted && query.as_str() == *text && are(names.as_slice(), of) }
         (Task::Serve { names }, Wanted::Serve(wanted)) => are(names.as_slice(), wanted),
         (Task::Get { offset, name }, Wanted::Get(at, wanted)) => {
             offset == at && name.as_str() == *wanted
-        }
-        _ => false,
-    }
-}
-
-fn are_pages(task: &Task, wanted: &[u64], text: &str, indexes: &[&str]) -> bool {
-    match task {
-        Task::Pages {
-            sizes,
-            query,
-            names,
-        } => {
-            sizes.as_slice() == wanted && query.as_str() == text && are(names.as_slice(), indexes)
         }
         _ => false,
     }
