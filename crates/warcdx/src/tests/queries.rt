@@ -2,6 +2,7 @@
 use super::{Refused, owned, performed};
 use crate::conversing::serve_all;
 use crate::outcome::Outcome;
+use crate::status::ends_command;
 use command_line::Task;
 use query_core::{AnswerFault, QueryFault};
 use std::alloc::{AllocError, Global};
@@ -144,6 +145,9 @@ fn replies<R: Runtime + AllocGlobal>(
     let mut input = Fuse::new(Slice::new(lines), 6, at);
     let mut out = Gather::new(rt.alloc());
     let outcome = serve_all(rt, &names, &mut input, &mut out);
+    if ends_command(&outcome) {
+        return Err(Refused::Memory);
+    }
     Ok(out.bytes() == text && outcome == wanted)
 }
 
