@@ -22,14 +22,14 @@ pub fn scan_all<R: Runtime + AllocGlobal, O: Output>(
     names: &[String],
     out: &mut O,
 ) -> Outcome {
-    match read_and_open(rt, query, names) {
+    match archives_to_scan(rt, query, names) {
         Ok(mut archives) => scan_opened(rt, sizes, query, names, &mut archives, out),
         Err(outcome) => outcome,
     }
 }
 
-/// Reads the query, and then opens the archives.
-fn read_and_open<R: Runtime + AllocGlobal>(
+/// The archives, which are opened once the query was read.
+fn archives_to_scan<R: Runtime + AllocGlobal>(
     rt: &R,
     query: &str,
     names: &[String],
