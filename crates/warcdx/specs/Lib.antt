@@ -2,6 +2,7 @@ pub mod Checks
 pub mod Each
 pub mod Fetching
 pub mod Indexing
+pub mod Merging
 pub mod Outcome
 pub mod Queries
 pub mod Reports

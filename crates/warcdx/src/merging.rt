@@ -1,7 +1,6 @@
 //! The merging of indexes.
-ghost use Rattle.std.specs.Prelude.{◌≡◌, ℕ, List, map};
-ghost use Rattle.cdxj_core.specs.declared.limit.TheConstants.{LINE_LIMIT};
-ghost use Rattle.merge_core.specs.Collections.{Known, Merged, WroteRising};
+ghost use Rattle.std.specs.Prelude.{map};
+ghost use Rattle.warcdx.specs.Merging.{MergesIndexes};
 
 use crate::archives::open_indexes;
 use crate::faults::say_source_fault;
@@ -30,9 +29,7 @@ fn merge_opened<R: Runtime + AllocGlobal, S: Source, O: Output>(
     sources: &mut [S],
     out: &mut O,
 ) -> Outcome
-    ensures merged { result ≡ Outcome.Done → (texts : List (List ℕ)) → Known (map S.text sources.old) texts
-        → (number : ℕ) × Merged LINE_LIMIT texts (O.written out.old) (O.written out.new) number }
-    ensures rising { WroteRising (O.written out.old) (O.written out.new) }
+    ensures { MergesIndexes (map S.text sources.old) (O.written out.old) (O.written out.new) result }
 {
     match merge(rt.alloc(), sources, out) {
         Ok(_count) => Outcome::Done,
