@@ -7,6 +7,7 @@ GET /cdx?QUERY is answered by one `warcdx serve INDEX..`, one query at a time: 2
 where the program has ended, which is started anew for the next query. A page is held in memory until it is sent.
 """
 import argparse
+import contextlib
 import http.server
 import re
 import subprocess
@@ -57,11 +58,9 @@ class Serve:
         """The reply to a query, without its mark."""
         if self.process.poll() is not None:
             self.process = self.start()
-        try:
+        with contextlib.suppress(BrokenPipeError):
             self.process.stdin.write(query + b"\n\n")
             self.process.stdin.flush()
-        except BrokenPipeError:
-            raise Ended from None
         lines = []
         while lines[-3:] != END:
             lines.append(self.process.stdout.readline())
