@@ -18,6 +18,6 @@ const BYTES: &[(&[u8; 20], &[u8; 32])] = &[
 #[test]
 fn letters_of_bytes(rt: HostRuntime) {
     for (bytes, letters) in BYTES {
-        assert_eq!(rt; base32(bytes), **letters);
+        assert!(rt; base32(bytes) == **letters);
     }
 }

@@ -138,7 +138,7 @@ fn lists_prefix(alloc: Global, archive: &[u8]) -> Result<bool, Refused> {
 #[test]
 fn lists_every_prefix(rt: HostRuntime) -> Result<(), Fail> {
     let archive = three_records(rt.alloc())?;
-    assert_eq!(rt; archive.len(), 712);
+    assert!(rt; archive.len() == 712);
     for length in 0..713 {
         assert!(rt;
             lists_prefix(rt.alloc(), cut(archive.as_slice(), length))?,

@@ -201,6 +201,6 @@ const FILE_NAMES: &[(&str, &str)] = &[
 #[test]
 fn a_file_name_stands_after_the_last_slash(rt: HostRuntime) {
     for (name, wanted) in FILE_NAMES {
-        assert_eq!(rt; file_name(name), *wanted);
+        assert!(rt; file_name(name) == *wanted);
     }
 }

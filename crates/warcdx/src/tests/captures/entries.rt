@@ -79,7 +79,7 @@ fn captures_have_their_lines(rt: HostRuntime) -> Result<(), Fail> {
     for (records, wanted) in ARCHIVES {
         let archive = joined(rt.alloc(), records)?;
         let lines = lines_of(rt.alloc(), archive.as_slice())?;
-        assert_eq!(rt; lines.as_slice(), *wanted);
+        assert!(rt; lines.as_slice() == *wanted);
     }
     Ok(())
 }

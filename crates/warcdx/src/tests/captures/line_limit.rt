@@ -38,7 +38,7 @@ fn lines_of_captures_are_limited(rt: HostRuntime) -> Result<(), Fail> {
     ] {
         let name = letters(rt.alloc(), count)?;
         let found = too_long(rt.alloc(), archive.as_slice(), name.as_str())?;
-        assert_eq!(rt; found, wanted, "{count}");
+        assert!(rt; found == wanted, "{count}");
     }
     Ok(())
 }

@@ -122,7 +122,7 @@ fn targets_have_keys(rt: HostRuntime) -> Result<(), Fail> {
     for table in TARGETS {
         for (target, key) in table.iter() {
             let found = url_key(rt.alloc(), target)?;
-            assert_eq!(rt; found.as_str(), *key, "at {target}");
+            assert!(rt; found.as_str() == *key, "at {target}");
         }
     }
     Ok(())
@@ -150,7 +150,7 @@ fn web_urls_have_host_keys(rt: HostRuntime) -> Result<(), Fail> {
     for (target, key) in HOST_KEYS {
         let found = host_key(rt.alloc(), target)?;
         let found = found.as_ref().map(|host| host.as_str());
-        assert_eq!(rt; found, Some(*key), "at {target}");
+        assert!(rt; found == Some(*key), "at {target}");
     }
     for target in NO_HOST_KEYS {
         assert!(rt; host_key(rt.alloc(), target)?.is_none(), "at {target}");

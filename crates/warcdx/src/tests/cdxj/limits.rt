@@ -1,6 +1,5 @@
-use cdxj_core::{Field, LINE_LIMIT, LineFault, LineRef, split_pair};
+use cdxj_core::{LINE_LIMIT, LineFault, LineRef, split_pair};
 use std::alloc::{AllocError, Global};
-use std::process::Abort;
 use std::test::Fail;
 
 const FRONT: &[u8] = b"k 20160101000000 {\"offset\": \"7\", \"filename\": \"f\", \"a\": \"";
@@ -17,71 +16,84 @@ fn long_line(alloc: Global, length: usize, feed: bool) -> Result<Vec<u8>, AllocE
     Ok(line)
 }
 
-fn is_too_long(rt: &impl Abort, alloc: Global, line: &[u8]) {
-    let read = LineRef::read(alloc, line);
-    assert!(rt; matches!(read, Err(LineFault::LineTooLong)));
+/// The offset in a line of this length, or none where it is too long. Memory is an error of the test's.
+fn offset_of(alloc: Global, length: usize, feed: bool) -> Result<Option<u64>, LineFault> {
+    let line = long_line(alloc, length, feed)?;
+    match LineRef::read(alloc, &line) {
+        Ok(read) => Ok(Some(read.place().offset)),
+        Err(LineFault::LineTooLong) => Ok(None),
+        Err(fault) => Err(fault),
+    }
 }
+
+/// Lengths of lines, with a line feed as their last byte or none, and whether they are read.
+const LENGTHS: &[(usize, bool, bool)] = &[
+    (1_048_575, false, true),
+    (1_048_575, true, true),
+    (1_048_576, true, true),
+    (1_048_576, false, false),
+    (1_048_577, true, false),
+    (1_048_577, false, false),
+];
 
 // The limit counts a line feed, whether it is there or not.
 #[test]
 fn a_line_is_read_up_to_the_limit(rt: HostRuntime) -> Result<(), Fail> {
-    let alloc = rt.alloc();
-    assert_eq!(rt; LINE_LIMIT, 1_048_576);
-    for (length, feed) in [(1_048_575, false), (1_048_575, true), (1_048_576, true)] {
-        let line = long_line(alloc, length, feed)?;
-        assert_eq!(rt; line.len(), length);
-        let read = LineRef::read(alloc, &line)?;
-        assert_eq!(rt; read.value(Field::Offset), "7");
+    assert!(rt; LINE_LIMIT == 1_048_576);
+    for (length, feed, is_read) in LENGTHS {
+        let offset = offset_of(rt.alloc(), *length, *feed)?;
+        assert!(rt; offset == is_read.then_some(7), "{length}, {feed}");
     }
-    is_too_long(&rt, alloc, &long_line(alloc, 1_048_576, false)?);
-    is_too_long(&rt, alloc, &long_line(alloc, 1_048_577, true)?);
-    is_too_long(&rt, alloc, &long_line(alloc, 1_048_577, false)?);
     Ok(())
+}
+
+/// Whether a line of this byte, over the limit, is too long.
+fn is_too_long(alloc: Global, byte: u8) -> Result<bool, Fail> {
+    let mut line = Vec::new(alloc);
+    line.resize(1_048_576, byte)?;
+    line.push(b'x')?;
+    Ok(matches!(LineRef::read(alloc, &line), Err(LineFault::LineTooLong)))
 }
 
 #[test]
 fn a_line_over_the_limit_is_too_long_before_all_else(rt: HostRuntime) -> Result<(), Fail> {
-    let alloc = rt.alloc();
-    for byte in [0xff, b'\n', b' ', 0] {
-        let mut line = Vec::new(alloc);
-        for _ in 0..1_048_576 {
-            line.push(byte)?;
-        }
-        line.push(b'x')?;
-        is_too_long(&rt, alloc, &line);
+    for byte in *b"\xff\n \0" {
+        assert!(rt; is_too_long(rt.alloc(), byte)?, "{byte}");
     }
     Ok(())
 }
 
+/// Lines that begin with a pair, whose stamp is the first of 2016, and its key.
+const PAIRS: &[(&[u8], &[u8])] = &[
+    (b"a)/ 20160101000000 {\"url\": \"http://x/\"}\n", b"a)/"),
+    (b"b)/ 20160101000000 ", b"b)/"),
+    (b"c)/ 20160101000000 \xff\n\n", b"c)/"),
+    (b"! 20160101000000 x", b"!"),
+    (b"\xff 20160101000000 x", b"\xff"),
+    (b"k 20160101000000  x", b"k"),
+];
+
+const WITHOUT_PAIR: &[&[u8]] = &[
+    b"",
+    b"\n",
+    b" 20160101000000 x",
+    b"k 20160101000000",
+    b"k 2016010100000 x",
+    b"k 201601010000000 x",
+    b"k 2016010100000x x",
+    b"k  20160101000000 x",
+    b"k\t20160101000000 x",
+    b"a\tb 20160101000000 x",
+    b"a\x7f 20160101000000 x",
+    b"k 20160101000000\n",
+];
+
 #[test]
 fn pairs_stand_in_front(rt: HostRuntime) {
-    let stamp: &[u8] = b"20160101000000";
-    let pairs: [(&[u8], &[u8]); 6] = [
-        (b"a)/ 20160101000000 {\"url\": \"http://x/\"}\n", b"a)/"),
-        (b"b)/ 20160101000000 ", b"b)/"),
-        (b"c)/ 20160101000000 \xff\n\n", b"c)/"),
-        (b"! 20160101000000 x", b"!"),
-        (b"\xff 20160101000000 x", b"\xff"),
-        (b"k 20160101000000  x", b"k"),
-    ];
-    for (line, key) in pairs {
-        assert_eq!(rt; split_pair(line), Some((key, stamp)));
+    for (line, key) in PAIRS {
+        assert!(rt; split_pair(line) == Some((*key, b"20160101000000".as_slice())));
     }
-    let others: [&[u8]; 12] = [
-        b"",
-        b"\n",
-        b" 20160101000000 x",
-        b"k 20160101000000",
-        b"k 2016010100000 x",
-        b"k 201601010000000 x",
-        b"k 2016010100000x x",
-        b"k  20160101000000 x",
-        b"k\t20160101000000 x",
-        b"a\tb 20160101000000 x",
-        b"a\x7f 20160101000000 x",
-        b"k 20160101000000\n",
-    ];
-    for line in others {
+    for line in WITHOUT_PAIR {
         assert!(rt; split_pair(line).is_none());
     }
 }

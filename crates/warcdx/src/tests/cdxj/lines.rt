@@ -23,10 +23,10 @@ const FOREIGN_VALUES: &[(Field, &str)] = &[
 fn a_foreign_line_is_read(rt: HostRuntime) -> Result<(), Fail> {
     let read = LineRef::read(rt.alloc(), FOREIGN)?;
     for (field, value) in FOREIGN_VALUES {
-        assert_eq!(rt; read.value(*field), *value);
+        assert!(rt; read.value(*field) == *value);
     }
     let (key, stamp) = read.pair();
-    assert_eq!(rt; key, "com,example)/");
+    assert!(rt; key == "com,example)/");
     assert!(rt; stamp == *b"20140103030321");
     assert!(rt; read.line() == FOREIGN);
     Ok(())
@@ -52,7 +52,7 @@ fn has_values(
         read.value(Field::Offset),
         read.value(Field::Filename)
     )?;
-    assert_eq!(rt; found.as_str(), values, "of {name}");
+    assert!(rt; found.as_str() == values, "of {name}");
     let end = line.strip_suffix('\n').unwrap_or(line);
     assert!(rt; read.line() == end.as_bytes(), "of {name}");
     assert!(rt; split_pair(line.as_bytes()).is_some(), "of {name}");
@@ -228,17 +228,17 @@ fn a_kept_line_is_refilled(rt: HostRuntime) -> Result<(), Fail> {
     let alloc = rt.alloc();
     let mut kept = Line::new(alloc, &LineRef::read(alloc, FOREIGN)?)?;
     assert!(rt; kept.line() == FOREIGN);
-    assert_eq!(rt; kept.pair().0, "com,example)/");
-    assert_eq!(rt; kept.place().filename, "example.warc");
-    assert_eq!(rt; kept.place().offset, 333);
-    assert_eq!(rt; kept.values()?.value(Field::Statuscode), "200");
+    assert!(rt; kept.pair().0 == "com,example)/");
+    assert!(rt; kept.place().filename == "example.warc");
+    assert!(rt; kept.place().offset == 333);
+    assert!(rt; kept.values()?.value(Field::Statuscode) == "200");
     kept.refill(ESCAPED)?;
     assert!(rt; kept.line() == ESCAPED.strip_suffix(b"\n").unwrap_or(ESCAPED));
     assert!(rt; kept.pair().1 == *b"20160101000000");
-    assert_eq!(rt; kept.place().filename, "\u{e9}.warc");
-    assert_eq!(rt; kept.values()?.value(Field::Original), "-");
-    assert_eq!(rt; kept.refill(b"k").err(), Some(LineFault::BadLine));
-    assert_eq!(rt; kept.place().offset, 7);
+    assert!(rt; kept.place().filename == "\u{e9}.warc");
+    assert!(rt; kept.values()?.value(Field::Original) == "-");
+    assert!(rt; kept.refill(b"k").err() == Some(LineFault::BadLine));
+    assert!(rt; kept.place().offset == 7);
     assert!(rt; Line::read(alloc, ESCAPED)?.place() == kept.place());
     Ok(())
 }

@@ -10,12 +10,9 @@ const PLAIN: &[u8] =
 #[test]
 fn a_plain_line_takes_no_memory(rt: HostRuntime) -> Result<(), Fail> {
     let read = LineRef::read(rt.alloc(), PLAIN)?;
-    assert_eq!(rt; read.value(Field::Original), "http://x/");
-    assert_eq!(rt; read.value(Field::Filename), "a.warc");
-    assert_eq!(rt;
-        split_pair(PLAIN),
-        Some((b"k".as_slice(), b"20160101000000".as_slice()))
-    );
+    assert!(rt; read.value(Field::Original) == "http://x/");
+    assert!(rt; read.value(Field::Filename) == "a.warc");
+    assert!(rt; split_pair(PLAIN) == Some((b"k".as_slice(), b"20160101000000".as_slice())));
     Ok(())
 }
 
@@ -26,10 +23,10 @@ fn a_warm_line_takes_no_memory(rt: HostRuntime) -> Result<(), Fail> {
     let Ok(()) = kept.refill(PLAIN) else {
         return Ok(assert!(rt; false));
     };
-    assert_eq!(rt; kept.place().filename, "a.warc");
+    assert!(rt; kept.place().filename == "a.warc");
     let Ok(values) = kept.values() else {
         return Ok(assert!(rt; false));
     };
-    assert_eq!(rt; values.value(Field::Original), "http://x/");
+    assert!(rt; values.value(Field::Original) == "http://x/");
     Ok(())
 }

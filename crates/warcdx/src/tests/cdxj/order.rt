@@ -1,22 +1,47 @@
-use super::writing::{home, text};
-use cdxj_core::{Entry, Field, LineRef, in_order};
+use super::writing::{HOME, Members, entry};
+use cdxj_core::{Entry, LineRef, in_order};
 use std::alloc::{AllocError, Global};
 use std::test::Fail;
 
-fn entry(alloc: Global, filename: &str, offset: u64, mime: &str) -> Result<Entry, AllocError> {
-    let mut entry = home(alloc)?;
-    entry.filename = text(alloc, filename)?;
-    entry.offset = offset;
-    entry.mime = text(alloc, mime)?;
-    Ok(entry)
+fn entries(alloc: Global, rows: &[Members]) -> Result<Vec<Entry>, AllocError> {
+    let mut entries = Vec::new(alloc);
+    for members in rows {
+        entries.push(entry(alloc, members)?)?;
+    }
+    Ok(entries)
 }
 
-const ENTRIES: &[(&str, u64, &str)] = &[
-    ("b.warc", 10, "first"),
-    ("a.warc", 1000, "first"),
-    ("a.warc", 99, "first"),
-    ("a.warc", 1000, "second"),
-    ("b.warc", 10, "second"),
+const ENTRIES: &[Members] = &[
+    Members {
+        filename: "b.warc",
+        offset: 10,
+        mime: "first",
+        ..HOME
+    },
+    Members {
+        filename: "a.warc",
+        offset: 1000,
+        mime: "first",
+        ..HOME
+    },
+    Members {
+        filename: "a.warc",
+        offset: 99,
+        mime: "first",
+        ..HOME
+    },
+    Members {
+        filename: "a.warc",
+        offset: 1000,
+        mime: "second",
+        ..HOME
+    },
+    Members {
+        filename: "b.warc",
+        offset: 10,
+        mime: "second",
+        ..HOME
+    },
 ];
 
 const IN_ORDER: &[(&str, u64)] = &[("a.warc", 99), ("a.warc", 1000), ("b.warc", 10)];
@@ -24,17 +49,15 @@ const IN_ORDER: &[(&str, u64)] = &[("a.warc", 99), ("a.warc", 1000), ("b.warc", 
 // By file name, then by offset as a number; of two at one place the first.
 #[test]
 fn entries_rise_by_place(rt: HostRuntime) -> Result<(), Fail> {
-    let alloc = rt.alloc();
-    let mut entries = Vec::new(alloc);
-    for (filename, offset, mime) in ENTRIES {
-        entries.push(entry(alloc, filename, *offset, mime)?)?;
-    }
-    let order = in_order(alloc, &entries)?;
-    assert_eq!(rt; order.len(), IN_ORDER.len());
+    let entries = entries(rt.alloc(), ENTRIES)?;
+    let order = in_order(rt.alloc(), &entries)?;
+    assert!(rt; order.len() == IN_ORDER.len());
     for (found, (filename, offset)) in order.iter().zip(IN_ORDER.iter()) {
-        assert_eq!(rt; found.filename.as_str(), *filename);
-        assert_eq!(rt; found.offset, *offset);
-        assert_eq!(rt; found.mime.as_str(), "first");
+        let is_wanted = found.filename.as_str() == *filename && found.offset == *offset;
+        assert!(rt;
+            is_wanted && found.mime.as_str() == "first",
+            "{filename} {offset}"
+        );
     }
     Ok(())
 }
@@ -55,25 +78,21 @@ const RISING: &[&[&str]] = &[
     &["k"],
 ];
 
-fn keyed(alloc: Global, key: &str) -> Result<Entry, AllocError> {
-    let mut entry = home(alloc)?;
-    entry.key = text(alloc, key)?;
-    Ok(entry)
+/// Whether entries with these keys, handed over from the last to the first, rise as the keys do.
+fn rise(alloc: Global, keys: &[&'static str]) -> Result<bool, Fail> {
+    let mut entries = Vec::new(alloc);
+    for key in keys.iter().rev() {
+        entries.push(entry(alloc, &Members { key, ..HOME })?)?;
+    }
+    let order = in_order(alloc, &entries)?;
+    let mut pairs = order.iter().zip(keys.iter());
+    Ok(order.len() == keys.len() && pairs.all(|(found, key)| found.key.as_str() == *key))
 }
 
 #[test]
 fn keys_rise_by_their_bytes(rt: HostRuntime) -> Result<(), Fail> {
-    let alloc = rt.alloc();
     for keys in RISING {
-        let mut entries = Vec::new(alloc);
-        for key in keys.iter().rev() {
-            entries.push(keyed(alloc, key)?)?;
-        }
-        let order = in_order(alloc, &entries)?;
-        assert_eq!(rt; order.len(), keys.len());
-        for (found, key) in order.iter().zip(keys.iter()) {
-            assert_eq!(rt; found.key.as_str(), *key);
-        }
+        assert!(rt; rise(rt.alloc(), keys)?);
     }
     Ok(())
 }
@@ -84,23 +103,29 @@ const LINES: &[&[u8]] = &[
     b"j 20170101000000 {\"offset\": \"5\", \"filename\": \"b.warc\"}",
 ];
 
-#[test]
-fn lines_rise_by_place(rt: HostRuntime) -> Result<(), Fail> {
-    let alloc = rt.alloc();
+fn lines(alloc: Global) -> Result<Vec<LineRef<'static>>, Fail> {
     let mut lines = Vec::new(alloc);
     for line in LINES {
         lines.push(LineRef::read(alloc, line)?)?;
     }
+    Ok(lines)
+}
+
+/// The offset of the line that stands at this index once they are in order.
+fn offset_at(alloc: Global, lines: &[LineRef<'_>], index: usize) -> Result<Option<u64>, Fail> {
     let mut references = Vec::new(alloc);
-    for line in &lines {
+    for line in lines {
         references.push(line)?;
     }
     let order = in_order(alloc, &references)?;
-    assert_eq!(rt; order.len(), 3);
-    assert_eq!(rt; order[0].value(Field::Offset), "5");
-    assert_eq!(rt; order[1].value(Field::Offset), "99");
-    assert_eq!(rt; order[2].value(Field::Offset), "1000");
-    let none: [Entry; 0] = [];
-    assert!(rt; in_order(alloc, &none)?.is_empty());
+    Ok(order.get(index).map(|line| line.place().offset))
+}
+
+#[test]
+fn lines_rise_by_place(rt: HostRuntime) -> Result<(), Fail> {
+    let lines = lines(rt.alloc())?;
+    for (index, offset) in [Some(5), Some(99), Some(1000), None].iter().enumerate() {
+        assert!(rt; offset_at(rt.alloc(), &lines, index)? == *offset, "{index}");
+    }
     Ok(())
 }

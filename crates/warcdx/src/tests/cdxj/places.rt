@@ -1,4 +1,5 @@
 use cdxj_core::{OwnedPlace, PlaceFault, resume_text};
+use std::alloc::Global;
 use std::cmp::Ordering;
 use std::test::Fail;
 
@@ -8,14 +9,14 @@ fn resume_keys_name_places(rt: HostRuntime) -> Result<(), Fail> {
     let text = "com%2Cexample%29%2F+20160101000000+a+b.warc+5";
     let kept = OwnedPlace::read(alloc, text)?;
     let place = kept.place();
-    assert_eq!(rt; place.key, "com,example)/");
+    assert!(rt; place.key == "com,example)/");
     assert!(rt; place.stamp == *b"20160101000000");
-    assert_eq!(rt; place.filename, "a b.warc");
-    assert_eq!(rt; place.offset, 5);
+    assert!(rt; place.filename == "a b.warc");
+    assert!(rt; place.offset == 5);
     let again = OwnedPlace::new(alloc, place)?;
     assert!(rt; again.place() == place);
     let back = resume_text(alloc, again.place())?;
-    assert_eq!(rt; back.as_str(), text);
+    assert!(rt; back.as_str() == text);
     Ok(())
 }
 
@@ -62,9 +63,9 @@ fn resume_keys_are_form_encoded(rt: HostRuntime) -> Result<(), Fail> {
     for (text, filename, offset, written) in RESUME_KEYS {
         let kept = OwnedPlace::read(alloc, text)?;
         let back = resume_text(alloc, kept.place())?;
-        assert_eq!(rt; kept.place().filename, *filename, "at {text}");
-        assert_eq!(rt; kept.place().offset, *offset, "at {text}");
-        assert_eq!(rt; back.as_str(), *written, "at {text}");
+        assert!(rt; kept.place().filename == *filename, "at {text}");
+        assert!(rt; kept.place().offset == *offset, "at {text}");
+        assert!(rt; back.as_str() == *written, "at {text}");
     }
     Ok(())
 }
@@ -97,35 +98,40 @@ fn other_texts_are_no_resume_keys(rt: HostRuntime) -> Result<(), Fail> {
         if refused == Some(PlaceFault::Memory) {
             return Err(PlaceFault::Memory)?;
         }
-        assert_eq!(rt; refused, Some(PlaceFault::BadResume), "at {text}");
+        assert!(rt; refused == Some(PlaceFault::BadResume), "at {text}");
     }
     Ok(())
 }
 
+/// Places, each below the next.
+const RISING: &[&str] = &[
+    "a%29%2F+20160101000000+b.warc+7",
+    "com%2Cexample%29%2F+20150101000000+b.warc+7",
+    "com%2Cexample%29%2F+20160101000000+B.warc+7",
+    "com%2Cexample%29%2F+20160101000000+a.warc+99",
+    "com%2Cexample%29%2F+20160101000000+a.warc+1000",
+    "com%2Cexample%29%2F+20160101000000+a.warc.1+0",
+    "com%2Cexample%29%2F+20160101000000+%C3%A9.warc+0",
+    "com%2Cexample%29%2F+20160101000001+a.warc+0",
+    "com%2Cexample%29%2Fa+20150101000000+a.warc+0",
+    "com%2Cexample%2Ca%29%2F+20150101000000+a.warc+0",
+    "com%2Cexample-shop%29%2F+20150101000000+a.warc+0",
+];
+
+/// Whether the places of these resume keys compare so.
+fn compare_as(alloc: Global, left: &str, right: &str, order: Ordering) -> Result<bool, PlaceFault> {
+    let left = OwnedPlace::read(alloc, left)?;
+    let right = OwnedPlace::read(alloc, right)?;
+    let is_same = left.place() == right.place();
+    Ok(left.place().cmp(&right.place()) == order && is_same == order.is_eq())
+}
+
 #[test]
 fn places_compare_part_by_part(rt: HostRuntime) -> Result<(), Fail> {
-    let alloc = rt.alloc();
-    // each below the next
-    let rising = [
-        "a%29%2F+20160101000000+b.warc+7",
-        "com%2Cexample%29%2F+20150101000000+b.warc+7",
-        "com%2Cexample%29%2F+20160101000000+B.warc+7",
-        "com%2Cexample%29%2F+20160101000000+a.warc+99",
-        "com%2Cexample%29%2F+20160101000000+a.warc+1000",
-        "com%2Cexample%29%2F+20160101000000+a.warc.1+0",
-        "com%2Cexample%29%2F+20160101000000+%C3%A9.warc+0",
-        "com%2Cexample%29%2F+20160101000001+a.warc+0",
-        "com%2Cexample%29%2Fa+20150101000000+a.warc+0",
-        "com%2Cexample%2Ca%29%2F+20150101000000+a.warc+0",
-        "com%2Cexample-shop%29%2F+20150101000000+a.warc+0",
-    ];
-    for (i, left) in rising.iter().enumerate() {
-        for (j, right) in rising.iter().enumerate() {
-            let left = OwnedPlace::read(alloc, left)?;
-            let right = OwnedPlace::read(alloc, right)?;
-            let order = left.place().cmp(&right.place());
-            assert!(rt; order == i.cmp(&j), "at {i} and {j}");
-            assert_eq!(rt; left.place() == right.place(), order == Ordering::Equal);
+    for (i, left) in RISING.iter().enumerate() {
+        for (j, right) in RISING.iter().enumerate() {
+            let is_ordered = compare_as(rt.alloc(), left, right, i.cmp(&j))?;
+            assert!(rt; is_ordered, "at {i} and {j}");
         }
     }
     Ok(())

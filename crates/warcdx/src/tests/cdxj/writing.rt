@@ -1,104 +1,116 @@
-use cdxj_core::{
-    Entry, Field, LINE_LIMIT, LineFault, LineRef, push_quoted, split_pair, write_line,
-};
+use cdxj_core::{Entry, Field, LineFault, LineRef, push_quoted, write_line};
 use std::alloc::{AllocError, Global};
-use std::process::Abort;
 use std::test::Fail;
 
-pub fn text(alloc: Global, text: &str) -> Result<String, AllocError> {
-    String::from_str(alloc, text)
+/// The members of an entry.
+#[derive(Clone, Copy)]
+pub struct Members {
+    pub key: &'static str,
+    pub stamp: &'static [u8; 14],
+    pub url: &'static str,
+    pub mime: &'static str,
+    pub status: &'static str,
+    pub digest: &'static str,
+    pub length: u64,
+    pub offset: u64,
+    pub filename: &'static str,
 }
 
-pub fn home(alloc: Global) -> Result<Entry, AllocError> {
+pub const HOME: Members = Members {
+    key: "com,example)/",
+    stamp: b"20160919172024",
+    url: "http://example.com/",
+    mime: "text/html",
+    status: "200",
+    digest: "3I42H3S6NNFQ2MSVX7XZKYAYSCX5QBYJ",
+    length: 264,
+    offset: 0,
+    filename: "a.warc",
+};
+
+const RESOURCE: Members = Members {
+    key: "com,example)/r",
+    stamp: b"20160919172024",
+    url: "http://example.com/r",
+    mime: "text/plain",
+    status: "-",
+    digest: "VGMT4NSHA2AWVOR6EVYXQUGCNSONBWE5",
+    length: 184,
+    offset: 264,
+    filename: "b.warc",
+};
+
+const ESCAPED: Members = Members {
+    url: "a\"b\\c/\u{e9}\u{7f}",
+    mime: "\t\n\u{1}",
+    filename: "\u{1f600} \".warc",
+    ..HOME
+};
+
+pub fn entry(alloc: Global, members: &Members) -> Result<Entry, AllocError> {
     Ok(Entry {
-        key: text(alloc, "com,example)/")?,
-        stamp: *b"20160919172024",
-        url: text(alloc, "http://example.com/")?,
-        mime: text(alloc, "text/html")?,
-        status: text(alloc, "200")?,
-        digest: text(alloc, "3I42H3S6NNFQ2MSVX7XZKYAYSCX5QBYJ")?,
-        length: 264,
-        offset: 0,
-        filename: text(alloc, "a.warc")?,
+        key: String::from_str(alloc, members.key)?,
+        stamp: *members.stamp,
+        url: String::from_str(alloc, members.url)?,
+        mime: String::from_str(alloc, members.mime)?,
+        status: String::from_str(alloc, members.status)?,
+        digest: String::from_str(alloc, members.digest)?,
+        length: members.length,
+        offset: members.offset,
+        filename: String::from_str(alloc, members.filename)?,
     })
 }
 
-fn resource(alloc: Global) -> Result<Entry, AllocError> {
-    Ok(Entry {
-        key: text(alloc, "com,example)/r")?,
-        stamp: *b"20160919172024",
-        url: text(alloc, "http://example.com/r")?,
-        mime: text(alloc, "text/plain")?,
-        status: text(alloc, "-")?,
-        digest: text(alloc, "VGMT4NSHA2AWVOR6EVYXQUGCNSONBWE5")?,
-        length: 184,
-        offset: 264,
-        filename: text(alloc, "b.warc")?,
-    })
+/// The values of a line with these members, but for the offset and the length.
+fn has_texts(read: &LineRef<'_>, members: &Members) -> bool {
+    read.value(Field::Urlkey) == members.key
+        && read.value(Field::Timestamp).as_bytes() == members.stamp.as_slice()
+        && read.value(Field::Original) == members.url
+        && read.value(Field::Mimetype) == members.mime
+        && read.value(Field::Statuscode) == members.status
+        && read.value(Field::Digest) == members.digest
+        && read.value(Field::Filename) == members.filename
 }
 
-const HOME: &[u8] =
+const HOME_LINE: &[u8] =
     b"com,example)/ 20160919172024 {\"url\": \"http://example.com/\", \"mime\": \"text/html\", \"status\": \"200\", \"digest\": \"3I42H3S6NNFQ2MSVX7XZKYAYSCX5QBYJ\", \"length\": \"264\", \"offset\": \"0\", \"filename\": \"a.warc\"}\n";
 
-const RESOURCE: &[u8] =
+const RESOURCE_LINE: &[u8] =
     b"com,example)/r 20160919172024 {\"url\": \"http://example.com/r\", \"mime\": \"text/plain\", \"status\": \"-\", \"digest\": \"VGMT4NSHA2AWVOR6EVYXQUGCNSONBWE5\", \"length\": \"184\", \"offset\": \"264\", \"filename\": \"b.warc\"}\n";
 
-const HOME_VALUES: &[(Field, &str)] = &[
-    (Field::Urlkey, "com,example)/"),
-    (Field::Timestamp, "20160919172024"),
-    (Field::Original, "http://example.com/"),
-    (Field::Mimetype, "text/html"),
-    (Field::Statuscode, "200"),
-    (Field::Digest, "3I42H3S6NNFQ2MSVX7XZKYAYSCX5QBYJ"),
-    (Field::Length, "264"),
-    (Field::Offset, "0"),
-    (Field::Filename, "a.warc"),
+/// Escapes by RFC 8259, section 7: a quote, a backslash and the controls, and nothing else.
+const ESCAPED_LINE: &[u8] =
+    b"com,example)/ 20160919172024 {\"url\": \"a\\\"b\\\\c/\xc3\xa9\x7f\", \"mime\": \"\\t\\n\\u0001\", \"status\": \"200\", \"digest\": \"3I42H3S6NNFQ2MSVX7XZKYAYSCX5QBYJ\", \"length\": \"264\", \"offset\": \"0\", \"filename\": \"\xf0\x9f\x98\x80 \\\".warc\"}\n";
+
+/// Entries, and their lines with the length and the offset as they stand there.
+const WRITTEN: &[(Members, &[u8], &str, &str)] = &[
+    (HOME, HOME_LINE, "264", "0"),
+    (RESOURCE, RESOURCE_LINE, "184", "264"),
+    (ESCAPED, ESCAPED_LINE, "264", "0"),
 ];
+
+/// Whether the entry is written as this line, and read back.
+fn is_written(alloc: Global, members: &Members, line: &[u8]) -> Result<bool, Fail> {
+    let written = write_line(alloc, &entry(alloc, members)?)?;
+    Ok(written.as_slice() == line && has_texts(&LineRef::read(alloc, line)?, members))
+}
+
+/// Whether the line has this length and offset.
+fn has_numbers(alloc: Global, line: &[u8], length: &str, offset: &str) -> Result<bool, LineFault> {
+    let read = LineRef::read(alloc, line)?;
+    Ok(read.value(Field::Length) == length && read.value(Field::Offset) == offset)
+}
 
 #[test]
 fn entries_are_written_and_read_back(rt: HostRuntime) -> Result<(), Fail> {
-    let alloc = rt.alloc();
-    let entry = home(alloc)?;
-    assert!(rt; entry.good());
-    let line = write_line(alloc, &entry)?;
-    assert!(rt; line.as_slice() == HOME);
-    let read = LineRef::read(alloc, &line)?;
-    for (field, value) in HOME_VALUES {
-        assert_eq!(rt; read.value(*field), *value);
+    for (members, line, length, offset) in WRITTEN {
+        assert!(rt; is_written(rt.alloc(), members, line)?, "{}", members.url);
+        assert!(rt;
+            has_numbers(rt.alloc(), line, length, offset)?,
+            "{}",
+            members.url
+        );
     }
-    let entry = resource(alloc)?;
-    assert!(rt; entry.good());
-    let line = write_line(alloc, &entry)?;
-    assert!(rt; line.as_slice() == RESOURCE);
-    let read = LineRef::read(alloc, &line)?;
-    assert_eq!(rt; read.value(Field::Urlkey), "com,example)/r");
-    assert_eq!(rt; read.value(Field::Statuscode), "-");
-    assert_eq!(rt; read.value(Field::Length), "184");
-    assert_eq!(rt; read.place().offset, 264);
-    assert_eq!(rt;
-        split_pair(&line),
-        Some((b"com,example)/r".as_slice(), b"20160919172024".as_slice()))
-    );
-    Ok(())
-}
-
-// Escapes by RFC 8259, section 7: a quote, a backslash and the controls, and nothing else.
-#[test]
-fn texts_are_escaped(rt: HostRuntime) -> Result<(), Fail> {
-    let alloc = rt.alloc();
-    let mut entry = home(alloc)?;
-    entry.url = text(alloc, "a\"b\\c/\u{e9}\u{7f}")?;
-    entry.mime = text(alloc, "\t\n\u{1}")?;
-    entry.filename = text(alloc, "\u{1f600} \".warc")?;
-    assert!(rt; entry.good());
-    let line = write_line(alloc, &entry)?;
-    let wanted =
-        "com,example)/ 20160919172024 {\"url\": \"a\\\"b\\\\c/\u{e9}\u{7f}\", \"mime\": \"\\t\\n\\u0001\", \"status\": \"200\", \"digest\": \"3I42H3S6NNFQ2MSVX7XZKYAYSCX5QBYJ\", \"length\": \"264\", \"offset\": \"0\", \"filename\": \"\u{1f600} \\\".warc\"}\n";
-    assert!(rt; line.as_slice() == wanted.as_bytes());
-    let read = LineRef::read(alloc, &line)?;
-    assert_eq!(rt; read.value(Field::Original), "a\"b\\c/\u{e9}\u{7f}");
-    assert_eq!(rt; read.value(Field::Mimetype), "\t\n\u{1}");
-    assert_eq!(rt; read.value(Field::Filename), "\u{1f600} \".warc");
     Ok(())
 }
 
@@ -111,59 +123,82 @@ fn a_text_is_quoted(rt: HostRuntime) -> Result<(), Fail> {
     Ok(())
 }
 
-#[test]
-fn an_entry_is_good_where_each_member_is(rt: HostRuntime) -> Result<(), Fail> {
-    let alloc = rt.alloc();
-    for key in ["", "a b", "a\tb", "a\u{7f}", "\u{0}", "a\n"] {
-        let mut entry = home(alloc)?;
-        entry.key = text(alloc, key)?;
-        assert!(rt; !entry.good(), "at the key {key:?}");
-    }
-    for stamp in [*b"2016091917202x", *b"2016 919172024", *b"-0160919172024"] {
-        let mut entry = home(alloc)?;
-        entry.stamp = stamp;
-        assert!(rt; !entry.good());
-    }
-    let mut entry = home(alloc)?;
-    entry.url = String::new(alloc);
-    assert!(rt; !entry.good());
-    let mut entry = home(alloc)?;
-    entry.mime = String::new(alloc);
-    assert!(rt; !entry.good());
-    let mut entry = home(alloc)?;
-    entry.status = String::new(alloc);
-    assert!(rt; !entry.good());
-    let mut entry = home(alloc)?;
-    entry.digest = String::new(alloc);
-    assert!(rt; !entry.good());
-    let mut entry = home(alloc)?;
-    entry.filename = String::new(alloc);
-    assert!(rt; !entry.good());
-    let mut entry = home(alloc)?;
-    entry.length = 1 << 63;
-    assert!(rt; !entry.good());
-    entry.length = (1 << 63) - 1;
-    assert!(rt; entry.good());
-    entry.offset = 1 << 63;
-    assert!(rt; !entry.good());
-    entry.offset = (1 << 63) - 1;
-    assert!(rt; entry.good());
-    Ok(())
+const GREATEST: Members = Members {
+    length: (1 << 63) - 1,
+    offset: (1 << 63) - 1,
+    ..HOME
+};
+
+/// Entries with one member that is at fault.
+const NOT_GOOD: &[Members] = &[
+    Members { key: "", ..HOME },
+    Members { key: "a b", ..HOME },
+    Members {
+        key: "a\tb",
+        ..HOME
+    },
+    Members {
+        key: "a\u{7f}",
+        ..HOME
+    },
+    Members {
+        key: "\u{0}",
+        ..HOME
+    },
+    Members { key: "a\n", ..HOME },
+    Members {
+        stamp: b"2016091917202x",
+        ..HOME
+    },
+    Members {
+        stamp: b"2016 919172024",
+        ..HOME
+    },
+    Members {
+        stamp: b"-0160919172024",
+        ..HOME
+    },
+    Members { url: "", ..HOME },
+    Members { mime: "", ..HOME },
+    Members { status: "", ..HOME },
+    Members { digest: "", ..HOME },
+    Members {
+        filename: "",
+        ..HOME
+    },
+    Members {
+        length: 1 << 63,
+        ..HOME
+    },
+    Members {
+        offset: 1 << 63,
+        ..HOME
+    },
+];
+
+fn is_good(alloc: Global, members: &Members) -> Result<bool, AllocError> {
+    Ok(entry(alloc, members)?.good())
 }
 
-/// Whether the line of a good entry is too long. Memory is an error of the test's.
-fn is_too_long(rt: &impl Abort, alloc: Global, entry: &Entry) -> Result<bool, LineFault> {
-    assert!(rt; entry.good());
-    match write_line(alloc, entry) {
-        Err(LineFault::Memory) => Err(LineFault::Memory),
-        Err(fault) => Ok(fault == LineFault::LineTooLong),
-        Ok(_line) => Ok(false),
+#[test]
+fn an_entry_is_good_where_each_member_is(rt: HostRuntime) -> Result<(), Fail> {
+    for members in [&HOME, &RESOURCE, &ESCAPED, &GREATEST] {
+        assert!(rt; is_good(rt.alloc(), members)?);
     }
+    for members in NOT_GOOD {
+        assert!(rt;
+            !is_good(rt.alloc(), members)?,
+            "{} of length {}",
+            members.key,
+            members.length
+        );
+    }
+    Ok(())
 }
 
 /// The home page's entry with a URL of this many letters.
 fn with_long_url(alloc: Global, letters: usize) -> Result<Entry, AllocError> {
-    let mut entry = home(alloc)?;
+    let mut entry = entry(alloc, &HOME)?;
     entry.url = String::new(alloc);
     for _ in 0..letters {
         entry.url.push('a')?;
@@ -171,19 +206,21 @@ fn with_long_url(alloc: Global, letters: usize) -> Result<Entry, AllocError> {
     Ok(entry)
 }
 
+/// The length of the line of an entry with so many letters, or none where it is too long. Memory is an error of the test's.
+fn length_of_line(alloc: Global, letters: usize) -> Result<Option<usize>, LineFault> {
+    match write_line(alloc, &with_long_url(alloc, letters)?) {
+        Ok(line) => Ok(Some(line.len())),
+        Err(LineFault::LineTooLong) => Ok(None),
+        Err(fault) => Err(fault),
+    }
+}
+
 #[test]
 fn a_line_has_at_most_the_limit(rt: HostRuntime) -> Result<(), Fail> {
-    let alloc = rt.alloc();
-    let rest = HOME.len().saturating_sub("http://example.com/".len());
-    let room = LINE_LIMIT.saturating_sub(rest);
-    let entry = with_long_url(alloc, room)?;
-    assert!(rt; entry.good());
-    let line = write_line(alloc, &entry)?;
-    assert_eq!(rt; line.len(), 1_048_576);
-    let read = LineRef::read(alloc, &line)?;
-    assert_eq!(rt; read.value(Field::Original).len(), room);
-    for letters in [room.saturating_add(1), 1_048_576] {
-        assert!(rt; is_too_long(&rt, alloc, &with_long_url(alloc, letters)?)?);
-    }
+    let rest = HOME_LINE.len() - HOME.url.len();
+    let room = 1_048_576 - rest;
+    assert!(rt; length_of_line(rt.alloc(), room)? == Some(1_048_576));
+    assert!(rt; length_of_line(rt.alloc(), room + 1)?.is_none());
+    assert!(rt; length_of_line(rt.alloc(), 1_048_576)?.is_none());
     Ok(())
 }

@@ -22,7 +22,7 @@ const NAMES: &[(Cause, &str)] = &[
 #[test]
 fn names_causes(rt: HostRuntime) {
     for (cause, name) in NAMES {
-        assert_eq!(rt; cause.name(), *name);
+        assert!(rt; cause.name() == *name);
     }
 }
 
@@ -122,15 +122,15 @@ fn answers_the_first_cause(rt: HostRuntime) -> Result<(), Fail> {
                 rt.alloc(),
                 &mut Fuse::new(Slice::new(text.as_bytes()), most, 0),
             )?;
-            assert_eq!(rt;
-                found,
-                (
-                    0,
-                    Some(Fault {
-                        offset: 0,
-                        cause: *cause
-                    })
-                ),
+            assert!(rt;
+                found
+                    == (
+                        0,
+                        Some(Fault {
+                            offset: 0,
+                            cause: *cause
+                        })
+                    ),
                 "{most} of {text}"
             );
         }
@@ -142,7 +142,7 @@ fn answers_the_first_cause(rt: HostRuntime) -> Result<(), Fail> {
 fn accepts_leading_zeros(rt: HostRuntime) -> Result<(), Fail> {
     let text =
         b"WARC/1.0\r\nWARC-Record-ID: a\r\ncontent-length: 0000000000000000003\r\nWARC-Date: 2016\r\nWARC-Type: b\r\n\r\nabc\r\n\r\n";
-    assert_eq!(rt; walk(rt.alloc(), &mut Slice::new(text))?, (1, None));
+    assert!(rt; walk(rt.alloc(), &mut Slice::new(text))? == (1, None));
     Ok(())
 }
 
@@ -157,24 +157,18 @@ fn second_of_length(alloc: Global, digits: &str) -> Result<Vec<u8>, AllocError> 
 #[test]
 fn ends_at_the_greatest_offset(rt: HostRuntime) -> Result<(), Fail> {
     let last = second_of_length(rt.alloc(), "9223372036854775440")?;
-    assert_eq!(rt; last.len(), 264 + 99);
+    assert!(rt; last.len() == 264 + 99);
     let short = Fault {
         offset: 264,
         cause: Cause::ShortBlock,
     };
-    assert_eq!(rt;
-        walk(rt.alloc(), &mut Slice::new(last.as_slice()))?,
-        (1, Some(short))
-    );
+    assert!(rt; walk(rt.alloc(), &mut Slice::new(last.as_slice()))? == (1, Some(short)));
     let past = second_of_length(rt.alloc(), "9223372036854775441")?;
     let far = Fault {
         offset: 264,
         cause: Cause::TooFar,
     };
-    assert_eq!(rt;
-        walk(rt.alloc(), &mut Slice::new(past.as_slice()))?,
-        (1, Some(far))
-    );
+    assert!(rt; walk(rt.alloc(), &mut Slice::new(past.as_slice()))? == (1, Some(far)));
     Ok(())
 }
 
@@ -198,9 +192,8 @@ fn stops_where_its_input_fails(rt: HostRuntime) -> Result<(), Fail> {
             cause: Cause::Read,
         };
         let mut input = Fuse::new(Slice::new(archive.as_slice()), 1, at);
-        assert_eq!(rt;
-            walk(rt.alloc(), &mut input)?,
-            (records, Some(fault)),
+        assert!(rt;
+            walk(rt.alloc(), &mut input)? == (records, Some(fault)),
             "at {at}"
         );
     }
@@ -224,11 +217,11 @@ fn repeats_its_fault(rt: HostRuntime) -> Result<(), Fail> {
     });
     let mut input = Fuse::new(Slice::new(b"no version line"), 8192, 0);
     let mut reader = Reader::new(rt.alloc())?;
-    assert_eq!(rt; fault_of(reader.next(&mut input))?, fault);
+    assert!(rt; fault_of(reader.next(&mut input))? == fault);
     let calls = input.calls;
-    assert_eq!(rt; reader.next(&mut input).err(), fault);
-    assert_eq!(rt; reader.finish(&mut input).err(), fault);
-    assert_eq!(rt; reader.block(&mut input, &mut [0; 10]).err(), fault);
-    assert_eq!(rt; input.calls, calls);
+    assert!(rt; reader.next(&mut input).err() == fault);
+    assert!(rt; reader.finish(&mut input).err() == fault);
+    assert!(rt; reader.block(&mut input, &mut [0; 10]).err() == fault);
+    assert!(rt; input.calls == calls);
     Ok(())
 }

@@ -21,7 +21,7 @@ fn head_of(alloc: Global, length: usize, open: bool) -> Result<Vec<u8>, AllocErr
 
 #[test]
 fn reads_heads_up_to_the_limit(rt: HostRuntime) -> Result<(), Fail> {
-    assert_eq!(rt; HEAD_LIMIT, 65_536);
+    assert!(rt; HEAD_LIMIT == 65_536);
     let long = Some(Fault {
         offset: 0,
         cause: Cause::HeadTooLong,
@@ -39,15 +39,14 @@ fn reads_heads_up_to_the_limit(rt: HostRuntime) -> Result<(), Fail> {
         (65_536, true, (0, long)),
     ] {
         let head = head_of(rt.alloc(), length, open)?;
-        assert_eq!(rt; head.len(), length);
+        assert!(rt; head.len() == length);
         let text = if open {
             head
         } else {
             joined(rt.alloc(), &[head.as_slice(), b"abc\r\n\r\n"])?
         };
-        assert_eq!(rt;
-            walk(rt.alloc(), &mut Slice::new(text.as_slice()))?,
-            want,
+        assert!(rt;
+            walk(rt.alloc(), &mut Slice::new(text.as_slice()))? == want,
             "{length} {open}"
         );
     }
@@ -66,10 +65,7 @@ fn finds_a_long_head_before_its_lines(rt: HostRuntime) -> Result<(), Fail> {
         offset: 0,
         cause: Cause::HeadTooLong,
     });
-    assert_eq!(rt;
-        walk(rt.alloc(), &mut Slice::new(text.as_slice()))?,
-        (0, long)
-    );
+    assert!(rt; walk(rt.alloc(), &mut Slice::new(text.as_slice()))? == (0, long));
     Ok(())
 }
 
@@ -112,10 +108,7 @@ fn reads_folded_fields_of_the_older_version(rt: HostRuntime) -> Result<(), Fail>
     let head = Reader::new(rt.alloc())?
         .next(&mut input)?
         .ok_or("a record")?;
-    assert_eq!(rt;
-        head.field(b"WARC-Target-URI"),
-        Some(b"<http://example.com/>".as_slice())
-    );
-    assert_eq!(rt; head.stamp().as_slice(), b"20160919172024".as_slice());
+    assert!(rt; head.field(b"WARC-Target-URI") == Some(b"<http://example.com/>".as_slice()));
+    assert!(rt; head.stamp().as_slice() == b"20160919172024".as_slice());
     Ok(())
 }
