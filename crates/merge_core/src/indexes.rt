@@ -4,7 +4,7 @@ ghost use Rattle.cdxj_core.specs.declared.limit.TheConstants.{LINE_LIMIT};
 ghost use Rattle.cdxj_core.specs.Indexes.{IsIndex};
 ghost use Rattle.cdxj_core.specs.Members.{Member};
 ghost use Rattle.devices.specs.Device.{AppendsPrefix, next_count};
-ghost use Rattle.merge_core.specs.Collections.{Known, collection, Merged, WroteRising};
+ghost use Rattle.merge_core.specs.Collections.{Known, collection, Merged};
 ghost use Rattle.merge_core.specs.Failures.{RaisedAt};
 ghost use Rattle.merge_core.specs.Gathering.{AllTwo};
 ghost use Rattle.merge_core.specs.LineFaults.{IsFaultOf};
@@ -43,7 +43,6 @@ pub fn merge_indexes<S: Source, O: Output>(
     ensures part { (texts : List (List ℕ)) → (indexes : List (List Member)) → Known (map S.text sources.old) texts → AllTwo (IsIndex LINE_LIMIT) texts indexes
         → AppendsPrefix (O.written out.old) (O.written out.new) (lines_text (collection indexes)) }
     ensures lines { WroteLinesOf LINE_LIMIT (map S.text sources.old) (O.written out.old) (O.written out.new) }
-    ensures rising { WroteRising (O.written out.old) (O.written out.new) }
 {
     let mut streams = Streams::open(alloc, sources, &All)?;
     let mut writer = LineWriter::new(alloc);

@@ -94,28 +94,6 @@ returns-in_err-merge-clause-read g c =
     if_err c.from_residual-in_err-merge.result p.0 _ p.1 (λ i h.
     raised_from i (map f c.args.sources.now) (map f c.open.new.sources) (map f c.merge.new.sources) c.in_ok-streams.ensures.worked (c.in_err-merge.ensures.read i (sym q ∙ h)))
 
-pub returns-in_err-merge-clause-rising : goal.returns-in_err-merge-clause-rising
-returns-in_err-merge-clause-rising g c =
-    let out = g.O.Output.written c.args.out.now in
-    let new = g.O.Output.written c.merge.new.out in
-    let broke = c.in_err-merge.ensures.broke in
-    let taken = broke.4 in (
-      taken,
-      broke.5.handed.rises,
-      elim (broke.6 c.new-writer.result out (Appends-none out, c.new-writer.ensures)) [
-        | inl k ↦ whole out new (lines_text taken) k.1.0
-        | inr p ↦ p
-      ],
-    )
-
-pub returns-clause-rising : goal.returns-clause-rising
-returns-clause-rising g c =
-    let out = g.O.Output.written c.args.out.now in
-    let new = g.O.Output.written c.merge.new.out in
-    let wrote = c.in_ok-merge.ensures.wrote in
-    let taken = wrote.1 in
-    (taken, wrote.2.handed.rises, whole out new (lines_text taken) (wrote.3 c.new-writer.result out (Appends-none out, c.new-writer.ensures)).0)
-
 pub returns-clause-merged : goal.returns-clause-merged
 returns-clause-merged g c = λ texts known.
     let text = g.S.Source.text in let extent = g.S.Source.extent in let gave = g.S.Source.gave in
