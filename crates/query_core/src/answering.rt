@@ -33,6 +33,10 @@ use std::alloc::Global;
 ///
 /// `TooManySources` over `SOURCES_LIMIT` indexes comes before anything is read or written. `BadLine` and `OutOfOrder` name a line
 /// by which an index is none; only lines that are read are looked at. After a fault a front of the page was written.
+///
+/// A binary search finds where the page begins in each index. From there on lines of the target's range are read, up to the key and
+/// stamp of the first capture after the page, and at most one more of each index. Each capture is written before lines of a later
+/// key and stamp are read.
 pub fn answer<S: Source, O: Output>(
     alloc: Global,
     sources: &mut [S],
