@@ -10,3 +10,4 @@ pub mod Parameters
 pub mod ParameterViews
 pub mod Queries
 pub mod Matching
+pub mod Resuming

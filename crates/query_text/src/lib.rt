@@ -13,6 +13,7 @@ mod parameters;
 mod parts;
 mod query;
 mod resume;
+mod resuming;
 mod stamp;
 mod target;
 
@@ -20,4 +21,5 @@ pub use crate::fault::QueryFault;
 pub use crate::laws::matching_keys_are_in_one_range;
 pub use crate::output::OutputFormat;
 pub use crate::query::{QUERY_LIMIT, Query};
+pub use crate::resuming::resume_key_is_put_into_query;
 pub use crate::target::{MatchKind, Target};
