@@ -1,8 +1,10 @@
 -- Laws of the definitions that the contracts cite.
-use Rattle.std.specs.Prelude.{◌≡◌, ℕ, ◌-◌, ◌^◌, ◌<◌, ⊤, List, [], length, Option, Err}
+use Rattle.std.specs.Prelude.{◌≡◌, ℕ, ◌-◌, ◌^◌, ◌<◌, ◌≤◌, ⊤, List, [], length, Option, Some, Ok, Err}
 use Rattle.std.specs.List.{AllByRecursion}
 use Rattle.warc_core.specs.declared.fault.Cause.TheVariants as causes
 use Rattle.warc_core.specs.declared.next.TheConstants.{HEAD_LIMIT}
+use Rattle.cdxj_places.specs.Places.{PlaceValue, place_cmp, resume_text}
+use Rattle.cdxj_core.specs.Members.{Member, member_place}
 use Rattle.capture_core.specs.declared.fault.CaptureFault.TheVariants as capture
 use Rattle.capture_core.specs.CaptureAnswer.{usual_limits}
 use Rattle.capture_core.specs.Indexed.{usual_types}
@@ -11,11 +13,18 @@ use Rattle.index_core.specs.Accepted.{IsAcceptedWhole}
 use Rattle.merge_core.specs.Collections.{Known}
 use Rattle.merge_core.specs.Gathering.{AllTwo}
 use Rattle.query_text.specs.declared.fault.QueryFault.TheVariants as refusal
-use Rattle.query_text.specs.Queries.{QueryValue}
+use Rattle.query_text.specs.declared.query.TheConstants.{QUERY_LIMIT}
+use Rattle.query_text.specs.Parameters.{pieces_of}
+use Rattle.query_text.specs.Queries.{QueryValue, query_of}
+use Rattle.query_text.specs.Resuming.{with_resume_key}
+use Rattle.page_core.specs.Pages.{Page, page_of}
+use Rattle.query_core.specs.Collections.{selected}
+use Rattle.query_core.specs.QueryPages.{never, query_page}
 use Rattle.query_core.specs.declared.fault.AnswerFault.TheVariants as answer
 use Rattle.scan_core.specs.declared.fault.ScanFault.{ScanFault}
 use Rattle.scan_core.specs.declared.fault.ScanFault.TheVariants.{Query, Archive, Answer}
 use Rattle.scan_core.specs.Archives.{AreNewNames}
+use Rattle.scan_core.specs.Captures.{EndsWithKey}
 use Rattle.scan_core.specs.Failures.{CountsInputs, CountsOutput}
 use Rattle.scan_core.specs.Scanning.{IsAsked, IsScanFault}
 
@@ -46,3 +55,12 @@ OnlyMemoryIsWanting = (names archives : List (List ℕ)) (inputs : List (Option 
     → IsScannable names archives sizes text → Known inputs archives → IsScanFault names inputs sizes text fault
     → AllByRecursion MayRise counts → CountsInputs {A = Unit {0}} (Err fault) counts counts
     → MayRise count → CountsOutput {A = Unit {0}} (Err fault) count count → IsWantOfMemory fault
+
+-- The resume key that a page ends with continues the page: put into the query's text, in the place of an older one or after all
+-- else, where the text isn't too long, it asks `answer` for the page that follows, from the first line on that stands above the
+-- key's place.
+abbrev pub KeysContinue : Type 0
+KeysContinue = (text new : List ℕ) (query : QueryValue) (page : Page Member PlaceValue) (lines : List Member) → query_of QUERY_LIMIT text ≡ Ok query
+    → (ended : EndsWithKey page) → length new ≤ QUERY_LIMIT → pieces_of new ≡ with_resume_key (resume_text (member_place ended.last)) (pieces_of text)
+    → (next : QueryValue) × (query_of QUERY_LIMIT new ≡ Ok next)
+    × (query_page next lines ≡ page_of member_place place_cmp never (selected query lines) (Some (member_place ended.last)) query.limit)

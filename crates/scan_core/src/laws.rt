@@ -1,7 +1,8 @@
 //! Laws of the definitions that the contracts cite. These functions do nothing: each law is a contract.
-ghost use Rattle.scan_core.specs.Laws.{OnlyMemoryIsWanting};
+ghost use Rattle.scan_core.specs.Laws.{OnlyMemoryIsWanting, KeysContinue};
 
 use index_core::accepted_archive_is_not_refused;
+use query_text::resume_key_is_put_into_query;
 
 /// A scan of archives that are accepted whole, under names of their own, with good sizes and a good query, whose inputs tell
 /// their bytes, and of which no device failed, is refused only for want of memory, or for a key that is too long.
@@ -9,4 +10,12 @@ pub fn accepted_archives_are_scanned()
     ensures { OnlyMemoryIsWanting }
 {
     accepted_archive_is_not_refused();
+}
+
+/// The resume key that a page ends with, put into the query's text as it was printed, makes `answer` go on with the next capture
+/// that is selected.
+pub fn resume_keys_continue()
+    ensures { KeysContinue }
+{
+    resume_key_is_put_into_query();
 }

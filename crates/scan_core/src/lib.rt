@@ -8,6 +8,6 @@ mod named;
 mod scanning;
 
 pub use crate::fault::ScanFault;
-pub use crate::laws::accepted_archives_are_scanned;
+pub use crate::laws::{accepted_archives_are_scanned, resume_keys_continue};
 pub use crate::named::Named;
 pub use crate::scanning::scan;
