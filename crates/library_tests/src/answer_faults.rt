@@ -1,7 +1,7 @@
 //! Answers whose source or output fails, or whose lines are at fault.
 use crate::small_indexes::in_memory;
-use devices::{Fuse, Gather};
-use query_core::{AnswerFault, Query, SliceSource, answer, pages};
+use devices::{Fuse, Gather, Slice};
+use query_core::{AnswerFault, Query, SliceSource, answer, pages, serve};
 use std::alloc::Global;
 use std::test::Fail;
 
@@ -20,42 +20,64 @@ const QUERY: &str = "key=&matchType=prefix&output=json&fl=urlkey,offset";
 const PAGE: &[u8] =
     b"[[\"urlkey\",\"offset\"],\n[\"a)/\",\"0\"],\n[\"b)/\",\"1\"],\n[\"c)/\",\"2\"]]\n";
 
+/// The reply to the query.
+const REPLY: &[u8] =
+    b"[[\"urlkey\",\"offset\"],\n[\"a)/\",\"0\"],\n[\"b)/\",\"1\"],\n[\"c)/\",\"2\"]]\n.\n";
+
 /// Its pages of two captures.
 const PAGES: &[u8] =
     b"[[\"urlkey\",\"offset\"],\n[\"a)/\",\"0\"],\n[\"b)/\",\"1\"],\n[],\n[\"b%29%2F+20160101000000+a+1\"]]\n[[\"urlkey\",\"offset\"],\n[\"c)/\",\"2\"]]\n";
 
-/// One page of the query, or its pages of these sizes.
-type Sizes = Option<&'static [u64]>;
+/// What writes a page, pages of two captures, or a reply.
+#[derive(Clone, Copy)]
+enum Call {
+    Answer,
+    Pages,
+    Serve,
+}
 
-/// What is asked for, and how many bytes the source and the output move at once.
-const CALLS: &[(Sizes, usize)] = &[
-    (None, 1),
-    (None, 2),
-    (None, 8192),
-    (Some(&[2]), 1),
-    (Some(&[2]), 2),
-    (Some(&[2]), 8192),
+/// Calls, and how many bytes the source and the output move at once.
+const CALLS: &[(Call, usize)] = &[
+    (Call::Answer, 1),
+    (Call::Answer, 2),
+    (Call::Answer, 8192),
+    (Call::Pages, 1),
+    (Call::Pages, 2),
+    (Call::Pages, 8192),
+    (Call::Serve, 1),
+    (Call::Serve, 2),
+    (Call::Serve, 8192),
 ];
 
 /// What is to be written.
-fn wanted(sizes: Sizes) -> &'static [u8] {
-    match sizes {
-        None => PAGE,
-        Some(_) => PAGES,
+fn wanted(call: Call) -> &'static [u8] {
+    match call {
+        Call::Answer => PAGE,
+        Call::Pages => PAGES,
+        Call::Serve => REPLY,
     }
 }
 
-/// The number of captures in the page, or of pages.
+/// What is to be written where the source fails: no end of the last page.
+fn unended(call: Call) -> &'static [u8] {
+    match call {
+        Call::Answer | Call::Serve => without_end(PAGE),
+        Call::Pages => without_end(PAGES),
+    }
+}
+
+/// The number of captures in the page, of pages, or of replies.
 fn called(
     alloc: Global,
-    sizes: Sizes,
+    call: Call,
     query: &Query,
     sources: &mut [Fuse<SliceSource<'_>>],
     out: &mut Fuse<Gather>,
 ) -> Result<u64, AnswerFault> {
-    match sizes {
-        None => answer(alloc, sources, query, out).map(|report| report.given),
-        Some(sizes) => pages(alloc, sources, query, sizes, out),
+    match call {
+        Call::Answer => answer(alloc, sources, query, out).map(|report| report.given),
+        Call::Pages => pages(alloc, sources, query, &[2], out),
+        Call::Serve => serve(alloc, sources, &mut Slice::new(QUERY.as_bytes()), out),
     }
 }
 
@@ -68,13 +90,13 @@ struct Ended {
 }
 
 /// The source fails at its call `read`, the output at its call `write`; 0 is never. A refused growth is an error.
-fn run(alloc: Global, sizes: Sizes, piece: usize, read: u64, write: u64) -> Result<Ended, Refused> {
+fn run(alloc: Global, call: Call, piece: usize, read: u64, write: u64) -> Result<Ended, Refused> {
     let Ok(query) = Query::read(alloc, QUERY) else {
         return Err(Refused::Memory);
     };
     let mut sources = [Fuse::new(SliceSource::new(INDEX), piece, read)];
     let mut out = Fuse::new(Gather::new(alloc), piece, write);
-    let answer = called(alloc, sizes, &query, &mut sources, &mut out);
+    let answer = called(alloc, call, &query, &mut sources, &mut out);
     if answer == Err(AnswerFault::Memory)
         || (answer == Err(AnswerFault::Write) && out.calls != write)
     {
@@ -88,26 +110,25 @@ fn run(alloc: Global, sizes: Sizes, piece: usize, read: u64, write: u64) -> Resu
 }
 
 /// Whether all was written.
-fn is_whole(sizes: Sizes, ended: &Ended) -> bool {
-    ended.answer.is_ok() && ended.out.device.bytes() == wanted(sizes)
+fn is_whole(call: Call, ended: &Ended) -> bool {
+    ended.answer.is_ok() && ended.out.device.bytes() == wanted(call)
 }
 
 /// The text without the end of its last page, which has two bytes.
-fn without_end(text: &[u8]) -> &[u8] {
+fn without_end(text: &'static [u8]) -> &'static [u8] {
     text.get(..text.len().saturating_sub(2)).unwrap_or(text)
 }
 
 /// Whether the call ended by a failed read, before the end of the last page.
-fn ends_unread(sizes: Sizes, ended: &Ended) -> bool {
-    ended.answer == Err(AnswerFault::Read(0))
-        && without_end(wanted(sizes)).starts_with(ended.out.device.bytes())
+fn ends_unread(call: Call, ended: &Ended) -> bool {
+    ended.answer == Err(AnswerFault::Read(0)) && unended(call).starts_with(ended.out.device.bytes())
 }
 
 /// The first failed read that doesn't end the call so.
-fn read_let_through(alloc: Global, sizes: Sizes, piece: usize) -> Result<Option<u64>, Refused> {
-    let whole = run(alloc, sizes, piece, 0, 0)?;
+fn read_let_through(alloc: Global, call: Call, piece: usize) -> Result<Option<u64>, Refused> {
+    let whole = run(alloc, call, piece, 0, 0)?;
     for read in 1..whole.reads.saturating_add(1) {
-        if !ends_unread(sizes, &run(alloc, sizes, piece, read, 0)?) {
+        if !ends_unread(call, &run(alloc, call, piece, read, 0)?) {
             return Ok(Some(read));
         }
     }
@@ -116,27 +137,27 @@ fn read_let_through(alloc: Global, sizes: Sizes, piece: usize) -> Result<Option<
 
 #[test]
 fn a_page_has_no_end_after_a_failed_read(rt: HostRuntime) -> Result<(), Fail> {
-    for (sizes, piece) in CALLS {
-        assert!(rt; is_whole(*sizes, &run(rt.alloc(), *sizes, *piece, 0, 0)?));
-        assert_eq!(rt; read_let_through(rt.alloc(), *sizes, *piece)?, None);
+    for (call, piece) in CALLS {
+        assert!(rt; is_whole(*call, &run(rt.alloc(), *call, *piece, 0, 0)?));
+        assert_eq!(rt; read_let_through(rt.alloc(), *call, *piece)?, None);
     }
     Ok(())
 }
 
 /// Whether the call ended by this failed write, before all was written; by one byte a call as many bytes were as calls before.
-fn ends_unwritten(sizes: Sizes, piece: usize, write: u64, ended: &Ended) -> bool {
+fn ends_unwritten(call: Call, piece: usize, write: u64, ended: &Ended) -> bool {
     let written = ended.out.device.bytes();
     ended.answer == Err(AnswerFault::Write)
-        && wanted(sizes).starts_with(written)
-        && written.len() < wanted(sizes).len()
+        && wanted(call).starts_with(written)
+        && written.len() < wanted(call).len()
         && (piece > 1 || written.len() as u64 + 1 == write)
 }
 
 /// The first failed write that doesn't end the call so.
-fn write_let_through(alloc: Global, sizes: Sizes, piece: usize) -> Result<Option<u64>, Refused> {
-    let whole = run(alloc, sizes, piece, 0, 0)?;
+fn write_let_through(alloc: Global, call: Call, piece: usize) -> Result<Option<u64>, Refused> {
+    let whole = run(alloc, call, piece, 0, 0)?;
     for write in 1..whole.out.calls.saturating_add(1) {
-        if !ends_unwritten(sizes, piece, write, &run(alloc, sizes, piece, 0, write)?) {
+        if !ends_unwritten(call, piece, write, &run(alloc, call, piece, 0, write)?) {
             return Ok(Some(write));
         }
     }
@@ -145,8 +166,8 @@ fn write_let_through(alloc: Global, sizes: Sizes, piece: usize) -> Result<Option
 
 #[test]
 fn a_page_ends_at_a_failed_write(rt: HostRuntime) -> Result<(), Fail> {
-    for (sizes, piece) in CALLS {
-        assert_eq!(rt; write_let_through(rt.alloc(), *sizes, *piece)?, None);
+    for (call, piece) in CALLS {
+        assert_eq!(rt; write_let_through(rt.alloc(), *call, *piece)?, None);
     }
     Ok(())
 }
