@@ -14,9 +14,8 @@ use Rattle.merge_core.specs.Collections.{Known}
 use Rattle.merge_core.specs.Gathering.{AllTwo}
 use Rattle.query_text.specs.declared.fault.QueryFault.TheVariants as refusal
 use Rattle.query_text.specs.declared.query.TheConstants.{QUERY_LIMIT}
-use Rattle.query_text.specs.Parameters.{pieces_of}
 use Rattle.query_text.specs.Queries.{QueryValue, query_of}
-use Rattle.query_text.specs.Resuming.{with_resume_key}
+use Rattle.query_text.specs.Resuming.{text_with_key}
 use Rattle.page_core.specs.Pages.{Page, page_of}
 use Rattle.query_core.specs.Collections.{selected}
 use Rattle.query_core.specs.QueryPages.{never, query_page}
@@ -60,7 +59,7 @@ OnlyMemoryIsWanting = (names archives : List (List ℕ)) (inputs : List (Option 
 -- else, where the text isn't too long, it asks `answer` for the page that follows, from the first line on that stands above the
 -- key's place.
 abbrev pub KeysContinue : Type 0
-KeysContinue = (text new : List ℕ) (query : QueryValue) (page : Page Member PlaceValue) (lines : List Member) → query_of QUERY_LIMIT text ≡ Ok query
-    → (ended : EndsWithKey page) → length new ≤ QUERY_LIMIT → pieces_of new ≡ with_resume_key (resume_text (member_place ended.last)) (pieces_of text)
-    → (next : QueryValue) × (query_of QUERY_LIMIT new ≡ Ok next)
+KeysContinue = (text : List ℕ) (query : QueryValue) (page : Page Member PlaceValue) (lines : List Member) → query_of QUERY_LIMIT text ≡ Ok query
+    → (ended : EndsWithKey page) → length (text_with_key (resume_text (member_place ended.last)) text) ≤ QUERY_LIMIT
+    → (next : QueryValue) × (query_of QUERY_LIMIT (text_with_key (resume_text (member_place ended.last)) text) ≡ Ok next)
     × (query_page next lines ≡ page_of member_place place_cmp never (selected query lines) (Some (member_place ended.last)) query.limit)
