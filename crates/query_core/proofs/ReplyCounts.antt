@@ -15,10 +15,10 @@ counts_after (Ok x) ss mid ss' out now out' input input' text s o i c = ((c.0 �
 counts_after (Err fault.Memory) ss mid ss' out now out' input input' text s o i c = ((c.0 ∙ s, c.1 ∙ o), i)
 counts_after (Err (fault.Read n)) ss mid ss' out now out' input input' text s o i c = ((subst (λ l. RaisedAt n l ss') s c.0, c.1 ∙ o), i)
 counts_after (Err fault.Write) ss mid ss' out now out' input input' text s o i c = ((c.0 ∙ s, subst (λ n. out' ≡ next_count n) o c.1), i)
-counts_after (Err (fault.BadLine n offset)) ss mid ss' out now out' input input' text s o i c = ((c.0 ∙ s, c.1 ∙ o), i)
-counts_after (Err (fault.OutOfOrder n offset)) ss mid ss' out now out' input input' text s o i c = ((c.0 ∙ s, c.1 ∙ o), i)
+counts_after (Err (fault.BadLine n offset)) ss mid ss' out now out' input input' text s o i c = absurd c
+counts_after (Err (fault.OutOfOrder n offset)) ss mid ss' out now out' input input' text s o i c = absurd c
 counts_after (Err fault.TooManySources) ss mid ss' out now out' input input' text s o i c = ((c.0 ∙ s, c.1 ∙ o), i)
-counts_after (Err fault.BadSizes) ss mid ss' out now out' input input' text s o i c = ((c.0 ∙ s, c.1 ∙ o), i)
+counts_after (Err fault.BadSizes) ss mid ss' out now out' input input' text s o i c = absurd c
 counts_after (Err fault.Input) ss mid ss' out now out' input input' text s o i c = absurd c
 
 -- nothing failed, and then a line wasn't read

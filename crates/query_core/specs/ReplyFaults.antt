@@ -13,11 +13,14 @@ CountsReply (Err fault.Memory) old new = new ≡ old
 CountsReply (Err fault.Write) old new = new ≡ next_count old
 CountsReply (Err other) old new = ⊥
 
--- the counts of failures of the sources and of the output
+-- the counts of failures of the sources and of the output, which alone end a reply, with Memory
 abbrev pub CountsAnswer : {A : Type 0} → Result A AnswerFault → List ℕ → List ℕ → ℕ → ℕ → Type 0
 CountsAnswer (Err (fault.Read i)) sources sources' out out' = RaisedAt i sources sources' × (out' ≡ out)
 CountsAnswer (Err fault.Write) sources sources' out out' = (sources' ≡ sources) × (out' ≡ next_count out)
 CountsAnswer (Err fault.Input) sources sources' out out' = ⊥
+CountsAnswer (Err fault.BadSizes) sources sources' out out' = ⊥
+CountsAnswer (Err (fault.BadLine i offset)) sources sources' out out' = ⊥
+CountsAnswer (Err (fault.OutOfOrder i offset)) sources sources' out out' = ⊥
 CountsAnswer other sources sources' out out' = (sources' ≡ sources) × (out' ≡ out)
 
 -- the same of a conversation, and the count of its input, of which these bytes were left: Input where it failed or is too long
