@@ -9,15 +9,15 @@ use Rattle.std.proofs.Math.Seq.{take-append_seam, drop-append_seam}
 use Rattle.cdxj_places.specs.Pair.{is_space, is_key, is_stamp}
 use Rattle.cdxj_core.specs.declared.member_ends.MemberEnds.{MemberEnds}
 use Rattle.cdxj_core.specs.declared.member_ends.TheConstants.{TO_STAMP, TO_STAMP_END, TO_URL, TO_FILENAME, CLOSE}
-use Rattle.cdxj_core.specs.KeptLine.{StandsAt, IsKept, member_in}
+use Rattle.cdxj_core.specs.KeptLine.{StandsAt, IsKept}
 use Rattle.cdxj_places.specs.Places.{offset_of}
 use Rattle.cdxj_places.proofs.PlaceLaw.{both}
 use Rattle.cdxj_core.specs.Lines.{line_object, line_value}
-use Rattle.cdxj_core.specs.Members.{Member, line_entry}
+use Rattle.cdxj_core.specs.Members.{line_entry}
 use Rattle.cdxj_core.specs.Plain.{ArePlain, is_unescaped_ascii, after, plain_text, values_of_texts}
-use Rattle.cdxj_core.specs.PlainPlaces.{AreEndsOf, AreMemberEnds, IsPart, part, texts_at, texts_in}
+use Rattle.cdxj_core.specs.PlainPlaces.{AreEndsOf, AreMemberEnds, IsPart, part}
 use Rattle.cdxj_core.specs.Texts.{TextsValue, or_missing}
-use Rattle.cdxj_core.proofs.KeptLemmas.{kept_member, kept_parts}
+use Rattle.cdxj_core.proofs.KeptLemmas.{kept_parts}
 use Rattle.cdxj_core.proofs.MemberLemmas.{body_entry}
 use Rattle.cdxj_core.proofs.PlainLaw.{line_object-plain}
 use Rattle.cdxj_core.proofs.UnescapedAscii.{ascii_utf8, is_ascii, without_feed}

@@ -1,7 +1,6 @@
-use Rattle.std.proofs.Common.{◌-◌, length, refl, None}
+use Rattle.std.proofs.Common.{length, refl, None}
 use Rattle.cdxj_places.specs.PlaceViews.{place_view}
 use Rattle.cdxj_core.specs.declared.limit.TheConstants.{LINE_LIMIT}
-use Rattle.cdxj_core.specs.KeptLine.{IsKept}
 use Rattle.cdxj_core.proofs.KeptLemmas.{kept_in, kept_member, kept_parts}
 use Rattle.cdxj_core.proofs.line.Parts.of.Goals as goal
 

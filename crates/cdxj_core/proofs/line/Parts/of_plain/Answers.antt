@@ -1,8 +1,8 @@
-use Rattle.std.proofs.Common.{◌-◌, [], length, refl, Some}
+use Rattle.std.proofs.Common.{[], length, Some}
 use Rattle.cdxj_core.specs.declared.limit.TheConstants.{LINE_LIMIT}
 use Rattle.cdxj_core.specs.MemberViews.{borrowed_view}
 use Rattle.cdxj_core.specs.PlainLines.{plain_member}
-use Rattle.cdxj_core.proofs.KeptLemmas.{kept_in, kept_member}
+use Rattle.cdxj_core.proofs.KeptLemmas.{kept_in}
 use Rattle.cdxj_core.proofs.PlainPlaces.{kept_plain}
 use Rattle.cdxj_core.proofs.line.Parts.of_plain.Goals as goal
 
