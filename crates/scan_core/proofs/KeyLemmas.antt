@@ -1,5 +1,5 @@
 -- The resume keys of pages.
-use Rattle.std.proofs.Common.{◌≡◌, ℕ, zero, suc, List, [], ◌∷◌, ◌++◌, take, map, Bool, Option, None, Some, MatchOption, inl, inr, refl, sym, ap, ◌∙◌}
+use Rattle.std.proofs.Common.{◌≡◌, ℕ, zero, suc, List, [], ◌∷◌, ◌++◌, take, map, Bool, Option, None, Some, MatchOption, inl, inr, refl, sym, ap, ap₂, subst, ◌∙◌}
 use Rattle.std.specs.List.{AllByRecursion, filter}
 use Rattle.cdxj_places.specs.Places.{PlaceValue, IsPlace, place_cmp}
 use Rattle.cdxj_places.specs.Rising.{IsIn}
@@ -14,7 +14,7 @@ use Rattle.merge_core.proofs.FeedLemmas.{each_join}
 use Rattle.page_core.specs.Pages.{Page, first_size, later_sizes, collapsed, is_above, next_after, IsChain}
 use Rattle.page_core.proofs.PageLaws.{each_filter, each_kept}
 use Rattle.scan_core.specs.Archives.{HaveLines}
-use Rattle.scan_core.specs.Captures.{all_captures, captured_lines, EndsWithKey, KeysButLast}
+use Rattle.scan_core.specs.Captures.{all_captures, captured_lines, EndsWithKey, KeysButLast, empty_page}
 use Rattle.scan_core.proofs.TextBytes.{text_bytes}
 
 -- an entry that has a line is at a place
@@ -87,3 +87,26 @@ module _ (same : PlaceValue → PlaceValue → Bool) (l : List Member) (placed :
         | None ↦ (λ e k. cc)
         | Some q ↦ (λ e k. (page_key p (first_size sizes) page q mem nx e, keys_but_last (Some q) (later_sizes sizes) (other ∷ more) k))
       ]) refl h.1
+
+-- ---- where nothing is left
+
+none_taken : (n : ℕ) → take {A = Member} n [] ≡ []
+none_taken zero = refl
+none_taken (suc n) = refl
+
+none_next : (same : PlaceValue → PlaceValue → Bool) (n : ℕ) → next_after member_place place_cmp same n [] ≡ None
+none_next same zero = refl
+none_next same (suc zero) = refl
+none_next same (suc (suc n)) = refl
+
+-- the chain is one empty page
+pub one_empty : (same : PlaceValue → PlaceValue → Bool) (l : List Member) (p : Option PlaceValue) (sizes : List ℕ) (pages : List (Page Member PlaceValue)) → collapsed member_place place_cmp same l p ≡ []
+    → IsChain member_place place_cmp same l p sizes pages → pages ≡ empty_page ∷ []
+one_empty same l p sizes [] e h = absurd h
+one_empty same l p sizes (page ∷ rest) e h =
+    let n = first_size sizes in
+    let mem : page.members ≡ [] = ap (λ g. g.members) h.0 ∙ ap (take n) e ∙ none_taken n in
+    let nx : page.next ≡ None = ap (λ g. g.next) h.0 ∙ ap (next_after member_place place_cmp same n) e ∙ none_next same n in
+    let last : rest ≡ [] = subst (λ v. MatchOption v (rest ≡ []) (λ q. IsChain member_place place_cmp same l (Some q) (later_sizes sizes) rest)) nx h.1 in
+    let first : page ≡ empty_page = ap₂ (λ ms v. record { members = ms; next = v }) mem nx in
+    ap₂ (λ g gs. g ∷ gs) first last

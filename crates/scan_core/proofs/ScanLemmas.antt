@@ -16,7 +16,7 @@ use Rattle.scan_core.specs.Archives.{AreIndexed, index_members}
 use Rattle.scan_core.specs.Captures.{captured_lines}
 use Rattle.scan_core.specs.Scanning.{IsAsked, Scanned, ScannedInPart}
 use Rattle.scan_core.proofs.CollectionLemmas.{collected, lines_rise}
-use Rattle.scan_core.proofs.KeyLemmas.{lines_placed, keys_but_last}
+use Rattle.scan_core.proofs.KeyLemmas.{lines_placed, keys_but_last, one_empty}
 use Rattle.scan_core.proofs.OnceLemmas.{once}
 
 module _ (names : List (List ℕ)) (inputs : List (Option (List ℕ))) (sizes text : List ℕ) (query : QueryValue) (archives : List (List EntryValue)) (old new : Option (List ℕ))
@@ -39,6 +39,7 @@ module _ (names : List (List ℕ)) (inputs : List (Option (List ℕ))) (sizes te
         full = law.1;
         keys = keys_but_last never (selected query (captured_lines archives))
             (each_filter (λ m. IsPlace (member_place m)) (λ m. matches query m.values) (captured_lines archives) (lines_placed archives indexed.lines)) query.resume sizes wrote.pages wrote.chain;
+        empty = λ none. one_empty never (selected query (captured_lines archives)) query.resume sizes wrote.pages none wrote.chain;
         wrote = wrote.text;
         count = wrote.count;
       }

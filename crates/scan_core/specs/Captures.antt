@@ -1,5 +1,5 @@
 -- The captures of archives, and the pages of a query over them.
-use Rattle.std.specs.Prelude.{◌≡◌, ⊤, List, [], ◌∷◌, ◌++◌, flat_map, map, Some}
+use Rattle.std.specs.Prelude.{◌≡◌, ⊤, List, [], ◌∷◌, ◌++◌, flat_map, map, None, Some}
 use Rattle.cdxj_places.specs.Places.{PlaceValue, resume_text, resume_place}
 use Rattle.cdxj_core.specs.Entries.{EntryValue}
 use Rattle.cdxj_core.specs.Members.{Member, entry_member, member_place}
@@ -26,3 +26,7 @@ abbrev pub KeysButLast : List (Page Member PlaceValue) → Type 0
 KeysButLast [] = ⊤
 KeysButLast (page ∷ []) = ⊤
 KeysButLast (page ∷ other ∷ rest) = EndsWithKey page × KeysButLast (other ∷ rest)
+
+-- a page of nothing, without a key
+abbrev pub empty_page : Page Member PlaceValue
+empty_page = record { members = []; next = None }

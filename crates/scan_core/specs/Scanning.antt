@@ -1,5 +1,5 @@
 -- What a scan of archives owes.
-use Rattle.std.specs.Prelude.{◌≡◌, ℕ, ◌-◌, ◌^◌, ◌<◌, ◌≤◌, ⊤, List, length, drop, suc, flat_map, min, true, false, Option, Ok, Err}
+use Rattle.std.specs.Prelude.{◌≡◌, ℕ, ◌-◌, ◌^◌, ◌<◌, ◌≤◌, ⊤, List, [], ◌∷◌, length, drop, suc, flat_map, min, true, false, Option, Ok, Err}
 use Rattle.std.specs.Io.KnownBytes.{Appends}
 use Rattle.cdxj_places.specs.Places.{PlaceValue, place_cmp}
 use Rattle.cdxj_core.specs.Entries.{EntryValue}
@@ -20,7 +20,7 @@ use Rattle.query_core.specs.Paging.{are_sizes, pages_text, WrotePagesInPart}
 use Rattle.scan_core.specs.declared.fault.ScanFault.{ScanFault}
 use Rattle.scan_core.specs.declared.fault.ScanFault.TheVariants.{Query, Archive, Answer}
 use Rattle.scan_core.specs.Archives.{AreIndexed, IsFirstFault}
-use Rattle.scan_core.specs.Captures.{all_captures, captured_lines, KeysButLast}
+use Rattle.scan_core.specs.Captures.{all_captures, captured_lines, KeysButLast, empty_page}
 
 -- the sizes are given and positive, the text means this query, and the archives aren't too many
 pub record IsAsked (ns text : List ℕ) (count : ℕ) (query : QueryValue) : Type 0 where
@@ -31,7 +31,8 @@ pub record IsAsked (ns text : List ℕ) (count : ℕ) (query : QueryValue) : Typ
 -- The archives, by their names and by what their inputs hold; the sizes of pages, and the query's text
 module _ (names : List (List ℕ)) (inputs : List (Option (List ℕ))) (sizes text : List ℕ) where
   -- The pages that were written, joined, are exactly the captures of the archives that the query selects, each once, in the
-  -- order of places. Every page but the last is full and ends with a key from which the next one goes on.
+  -- order of places. Every page but the last is full and ends with a key from which the next one goes on. Where nothing is
+  -- selected there is one empty page.
   pub record Scanned (old new : Option (List ℕ)) (number : ℕ) : Type 0 where
     pub query : QueryValue
     pub asked : IsAsked sizes text (length names) query
@@ -43,6 +44,7 @@ module _ (names : List (List ℕ)) (inputs : List (Option (List ℕ))) (sizes te
     pub joined : flat_map (λ page. page.members) pages ≡ collapsed member_place place_cmp never (selected query (captured_lines captures)) query.resume
     pub full : FullButLast sizes pages
     pub keys : KeysButLast pages
+    pub empty : collapsed member_place place_cmp never (selected query (captured_lines captures)) query.resume ≡ [] → pages ≡ empty_page ∷ []
     pub wrote : Appends old new (pages_text query pages)
     pub count : number ≡ min (length pages) (2 ^ 64 - 1)
 
