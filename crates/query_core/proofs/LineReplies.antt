@@ -1,13 +1,12 @@
 -- The reply to a line, by what the line is.
-use Rattle.std.proofs.Common.{◌≡◌, ℕ, ◌<◌, ◌≤◌, List, [], ◌∷◌, ◌++◌, length, Bool, true, false, cond, refl, sym, ap, ◌∙◌, subst, nat_lt, Option, Result, Ok, Err}
-use Rattle.std.specs.Prelude.{codes, IsErrAnd}
+use Rattle.std.proofs.Common.{◌≡◌, ℕ, List, ◌++◌, length, Bool, true, false, cond, sym, ap, ◌∙◌, nat_lt, Option, Result, Ok, Err}
+use Rattle.std.specs.Prelude.{codes}
 use Rattle.std.specs.Str.{is_utf8}
 use Rattle.std.specs.Io.KnownBytes.{Appends}
-use Rattle.devices.specs.Device.{AppendsPrefix}
 use Rattle.devices.specs.Writing.{WritesText}
 use Rattle.devices.proofs.DeviceLemmas.{Appends-join}
-use Rattle.devices.proofs.WritingLemmas.{prefix_longer, prefix_after}
-use Rattle.query_core.specs.Replies.{refusal_text, reply_text, marked_reply}
+use Rattle.devices.proofs.WritingLemmas.{prefix_after}
+use Rattle.query_core.specs.Replies.{refusal_text, reply_text}
 
 module _ (limit : ℕ) (reply : List ℕ → List ℕ) (line : List ℕ) where
   within : (b : Bool) → nat_lt limit (length line) ≡ false → is_utf8 line ≡ b → reply_text limit reply line ≡ cond b (reply line) (refusal_text (codes "NotText"))

@@ -1,7 +1,7 @@
 -- Which device failed in a conversation.
-use Rattle.std.proofs.Common.{◌≡◌, ◌⊎◌, ℕ, Bool, List, Option, Result, Ok, Err, refl, sym, ◌∙◌, subst, inl, inr}
+use Rattle.std.proofs.Common.{◌≡◌, ℕ, Bool, List, Option, Result, Ok, Err, ◌∙◌, subst, inl, inr}
 use Rattle.devices.specs.Device.{next_count}
-use Rattle.devices.specs.LineReading.{CountsTaken, IsTooLong}
+use Rattle.devices.specs.LineReading.{CountsTaken}
 use Rattle.devices.proofs.Takings.{full-earlier}
 use Rattle.merge_core.specs.Failures.{RaisedAt}
 use Rattle.query_core.specs.declared.fault.AnswerFault.{AnswerFault}

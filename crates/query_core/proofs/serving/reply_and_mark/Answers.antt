@@ -1,4 +1,3 @@
-use Rattle.std.proofs.Common.{List, ℕ}
 use Rattle.std.specs.Prelude.{codes}
 use Rattle.devices.proofs.WritingLemmas.{writes_prefix, prefix_longer}
 use Rattle.query_text.specs.declared.query.TheConstants.{QUERY_LIMIT}

@@ -1,17 +1,16 @@
-use Rattle.std.proofs.Common.{◌≡◌, ◌+◌, ◌<◌, ◌∙◌, ℕ, List, Option, length, map, refl, sym, ap, subst, arith, true, false}
+use Rattle.std.proofs.Common.{◌<◌, ◌∙◌, ℕ, List, map, refl, sym, subst, arith}
 use Rattle.std.specs.Prelude.{Err}
 use Rattle.std.proofs.lemmas.Result.{err_from_is_err_and}
 use Rattle.std.specs.Io.KnownBytes.{prepend_known}
-use Rattle.cdxj_core.specs.Indexes.{IsIndex}
 use Rattle.cdxj_core.specs.Members.{Member}
 use Rattle.devices.specs.LineReading.{TakesLine}
-use Rattle.devices.proofs.Takings.{taken-none, taken-join}
+use Rattle.devices.proofs.Takings.{taken-join}
 use Rattle.query_text.specs.declared.query.TheConstants.{QUERY_LIMIT}
 use Rattle.merge_core.specs.Collections.{Known}
 use Rattle.query_core.specs.Collections.{collection}
 use Rattle.query_core.specs.Replies.{reply_of}
 use Rattle.query_core.proofs.ReplyCounts.{counts_after, counts_line}
-use Rattle.query_core.proofs.ReplyLemmas.{nothing_replied, replied-none, replied-front, line-more, line-within, line-none}
+use Rattle.query_core.proofs.ReplyLemmas.{nothing_replied, replied-front, line-more, line-within, line-none}
 use Rattle.query_core.proofs.serving.serve.Goals as goal
 
 abbrev reply : List (List Member) → List ℕ → List ℕ
