@@ -139,7 +139,7 @@ fn read_let_through(alloc: Global, call: Call, piece: usize) -> Result<Option<u6
 fn a_page_has_no_end_after_a_failed_read(rt: HostRuntime) -> Result<(), Fail> {
     for (call, piece) in CALLS {
         assert!(rt; is_whole(*call, &run(rt.alloc(), *call, *piece, 0, 0)?));
-        assert_eq!(rt; read_let_through(rt.alloc(), *call, *piece)?, None);
+        assert!(rt; read_let_through(rt.alloc(), *call, *piece)? == None);
     }
     Ok(())
 }
@@ -167,7 +167,7 @@ fn write_let_through(alloc: Global, call: Call, piece: usize) -> Result<Option<u
 #[test]
 fn a_page_ends_at_a_failed_write(rt: HostRuntime) -> Result<(), Fail> {
     for (call, piece) in CALLS {
-        assert_eq!(rt; write_let_through(rt.alloc(), *call, *piece)?, None);
+        assert!(rt; write_let_through(rt.alloc(), *call, *piece)? == None);
     }
     Ok(())
 }

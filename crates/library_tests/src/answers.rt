@@ -237,9 +237,8 @@ fn page(alloc: Global, texts: [&[u8]; 2], text: &str) -> Result<Gather, Fail> {
 #[test]
 fn the_first_line_of_a_place_counts_before_filters_do(rt: HostRuntime) -> Result<(), Fail> {
     for (first, second, query, wanted) in TEXTS {
-        assert_eq!(rt;
-            page(rt.alloc(), [first, second], query)?.bytes(),
-            *wanted,
+        assert!(rt;
+            page(rt.alloc(), [first, second], query)?.bytes() == *wanted,
             "{query}"
         );
     }
@@ -309,7 +308,7 @@ const FROM_500: &str =
 fn a_page_begins_where_its_resume_key_says(rt: HostRuntime) -> Result<(), Fail> {
     let text = thousand_lines(rt.alloc())?;
     let page = page(rt.alloc(), [&text, b""], AFTER_499)?;
-    assert_eq!(rt; page.bytes(), FROM_500.as_bytes());
+    assert!(rt; page.bytes() == FROM_500.as_bytes());
     Ok(())
 }
 

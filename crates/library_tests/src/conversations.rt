@@ -34,11 +34,8 @@ fn each_line_has_a_reply(rt: HostRuntime) -> Result<(), Fail> {
     let input = b"url=example.com&fl=offset\r\nlimit=0\nkey=x";
     for piece in [1, 2, 8192] {
         let (answer, out) = replies(rt.alloc(), APART, input, piece, u64::MAX)?;
-        assert_eq!(rt; answer, Ok(3));
-        assert_eq!(rt;
-            out.bytes(),
-            b"5\n20\n10\n.\nrefused BadLimit\n.\n.\n".as_slice()
-        );
+        assert!(rt; answer == Ok(3));
+        assert!(rt; out.bytes() == b"5\n20\n10\n.\nrefused BadLimit\n.\n.\n".as_slice());
     }
     Ok(())
 }
@@ -53,10 +50,10 @@ fn lines_are_refused_by_name(rt: HostRuntime) -> Result<(), Fail> {
     input.extend_from_slice(&last)?;
     input.extend_from_slice(b"\r\nkey=&matchType=prefix&fl=offset")?;
     let (answer, out) = replies(alloc, &[FALLING], &input, 8192, u64::MAX)?;
-    assert_eq!(rt; answer, Ok(5));
-    assert_eq!(rt;
-        out.bytes(),
-        b"refused QueryTooLong\n.\nrefused NotText\n.\nrefused NoUrl\n.\nrefused Unknown\n.\n\nfault OutOfOrder 0 145\n.\n".as_slice()
+    assert!(rt; answer == Ok(5));
+    assert!(rt;
+        out.bytes()
+            == b"refused QueryTooLong\n.\nrefused NotText\n.\nrefused NoUrl\n.\nrefused Unknown\n.\n\nfault OutOfOrder 0 145\n.\n".as_slice()
     );
     Ok(())
 }
@@ -66,8 +63,8 @@ fn a_conversation_ends_where_its_input_fails(rt: HostRuntime) -> Result<(), Fail
     let input = b"key=x\nkey=y\n";
     for (at, written) in [(1, b"".as_slice()), (4, b".\n".as_slice())] {
         let (answer, out) = replies(rt.alloc(), APART, input, 2, at)?;
-        assert_eq!(rt; answer, Err(AnswerFault::Input));
-        assert_eq!(rt; out.bytes(), written);
+        assert!(rt; answer == Err(AnswerFault::Input));
+        assert!(rt; out.bytes() == written);
     }
     Ok(())
 }

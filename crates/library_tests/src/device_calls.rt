@@ -12,8 +12,8 @@ fn reads_memory(rt: HostRuntime) -> Result<(), Fail> {
     let mut input = Slice::new(b"abcde");
     let mut piece = [0; 3];
     for (count, text) in [(3, b"abc"), (2, b"dec"), (0, b"dec")] {
-        assert_eq!(rt; input.read(&mut piece)?, count);
-        assert_eq!(rt; piece.as_slice(), text.as_slice());
+        assert!(rt; input.read(&mut piece)? == count);
+        assert!(rt; piece.as_slice() == text.as_slice());
     }
     Ok(())
 }
@@ -34,7 +34,7 @@ fn reads_lines(rt: HostRuntime) -> Result<(), Fail> {
         let mut reader = InputLines::new(rt.alloc(), 5)?;
         for line in &lines {
             assert!(rt; reader.next(&mut input)?);
-            assert_eq!(rt; reader.line(), *line);
+            assert!(rt; reader.line() == *line);
         }
         assert!(rt; !reader.next(&mut input)?);
     }
@@ -70,12 +70,12 @@ fn writes_all_or_a_prefix(rt: HostRuntime) -> Result<(), Fail> {
 fn fails_at_one_call(rt: HostRuntime) -> Result<(), Fail> {
     let mut input = Fuse::new(Slice::new(b"abcde"), 2, 2);
     let mut piece = [0; 5];
-    assert_eq!(rt; input.read(&mut piece)?, 2);
-    assert_eq!(rt; input.read(&mut piece), Err(DeviceFault));
-    assert_eq!(rt; input.read(&mut piece)?, 2);
-    assert_eq!(rt; piece.as_slice(), b"cd\0\0\0".as_slice());
-    assert_eq!(rt; input.calls, 3);
-    assert_eq!(rt; input.failures, 1);
+    assert!(rt; input.read(&mut piece)? == 2);
+    assert!(rt; input.read(&mut piece) == Err(DeviceFault));
+    assert!(rt; input.read(&mut piece)? == 2);
+    assert!(rt; piece.as_slice() == b"cd\0\0\0".as_slice());
+    assert!(rt; input.calls == 3);
+    assert!(rt; input.failures == 1);
     Ok(())
 }
 
@@ -103,18 +103,15 @@ impl io::Write for Full {
 fn lifts_the_devices_of_std(rt: HostRuntime) -> Result<(), Fail> {
     let mut input = FromRead::new(b"abc".as_slice());
     let mut piece = [0; 2];
-    assert_eq!(rt; input.read(&mut piece)?, 2);
-    assert_eq!(rt; piece.as_slice(), b"ab".as_slice());
+    assert!(rt; input.read(&mut piece)? == 2);
+    assert!(rt; piece.as_slice() == b"ab".as_slice());
     let mut written = [0; 2];
     let mut out = FromWrite::new(written.as_mut_slice());
-    assert_eq!(rt; out.write(b"xy")?, 2);
-    assert_eq!(rt; out.write(b"z"), Err(DeviceFault));
-    assert_eq!(rt; out.write(b"")?, 0);
+    assert!(rt; out.write(b"xy")? == 2);
+    assert!(rt; out.write(b"z") == Err(DeviceFault));
+    assert!(rt; out.write(b"")? == 0);
     for says_so in [false, true] {
-        assert_eq!(rt;
-            put(&mut FromWrite::new(Full { says_so }), b"x"),
-            Err(DeviceFault)
-        );
+        assert!(rt; put(&mut FromWrite::new(Full { says_so }), b"x") == Err(DeviceFault));
     }
     Ok(())
 }

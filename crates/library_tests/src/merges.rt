@@ -128,11 +128,8 @@ fn at_most_1024_sources_are_merged(rt: HostRuntime) -> Result<(), Fail> {
     for _ in 0..1024 {
         texts.push(b"".as_slice())?;
     }
-    assert_eq!(rt; merged(alloc, &texts, b"")?, (Ok(0), true));
+    assert!(rt; merged(alloc, &texts, b"")? == (Ok(0), true));
     texts.push(b"".as_slice())?;
-    assert_eq!(rt;
-        merged(alloc, &texts, b"")?,
-        (Err(AnswerFault::TooManySources), true)
-    );
+    assert!(rt; merged(alloc, &texts, b"")? == (Err(AnswerFault::TooManySources), true));
     Ok(())
 }

@@ -147,7 +147,7 @@ fn walked(alloc: Global, limit: u64) -> Result<String, Fail> {
 #[test]
 fn resume_keys_lead_through_all_captures(rt: HostRuntime) -> Result<(), Fail> {
     for limit in 1..8 {
-        assert_eq!(rt; walked(rt.alloc(), limit)?.as_str(), ALL_ROWS, "{limit}");
+        assert!(rt; walked(rt.alloc(), limit)?.as_str() == ALL_ROWS, "{limit}");
     }
     Ok(())
 }

@@ -224,7 +224,7 @@ const REFUSED: &[&[(&str, QueryFault)]] = &[VALUES, EMPTY_VALUES, TWO_FAULTS, WI
 fn texts_are_refused_for_their_first_fault(rt: HostRuntime) -> Result<(), Fail> {
     for table in REFUSED {
         for (text, fault) in *table {
-            assert_eq!(rt; refusal(rt.alloc(), text)?, Some(*fault), "{text}");
+            assert!(rt; refusal(rt.alloc(), text)? == Some(*fault), "{text}");
         }
     }
     Ok(())
@@ -240,7 +240,7 @@ const REFUSED_ALIKE: &[(&[&str], QueryFault)] = &[
 fn parameters_are_unknown_repeated_or_no_places(rt: HostRuntime) -> Result<(), Fail> {
     for (table, fault) in REFUSED_ALIKE {
         for text in *table {
-            assert_eq!(rt; refusal(rt.alloc(), text)?, Some(*fault), "{text}");
+            assert!(rt; refusal(rt.alloc(), text)? == Some(*fault), "{text}");
         }
     }
     Ok(())
@@ -251,19 +251,17 @@ fn patterns_are_refused_in_filter_alone(rt: HostRuntime) -> Result<(), Fail> {
     let alloc = rt.alloc();
     for pattern in PATTERNS {
         let filter = format!(in alloc; "url=a&filter=original:x{pattern}y")?;
-        assert_eq!(rt;
-            refusal(alloc, filter.as_str())?,
-            Some(QueryFault::NotLiteral),
+        assert!(rt;
+            refusal(alloc, filter.as_str())? == Some(QueryFault::NotLiteral),
             "{filter}"
         );
         let not = format!(in alloc; "url=a&filter=!original:{pattern}")?;
-        assert_eq!(rt;
-            refusal(alloc, not.as_str())?,
-            Some(QueryFault::NotLiteral),
+        assert!(rt;
+            refusal(alloc, not.as_str())? == Some(QueryFault::NotLiteral),
             "{not}"
         );
         let is = format!(in alloc; "url=a&is=original:x{pattern}y")?;
-        assert_eq!(rt; refusal(alloc, is.as_str())?, None, "{is}");
+        assert!(rt; refusal(alloc, is.as_str())? == None, "{is}");
     }
     Ok(())
 }
@@ -271,7 +269,7 @@ fn patterns_are_refused_in_filter_alone(rt: HostRuntime) -> Result<(), Fail> {
 #[test]
 fn texts_are_accepted(rt: HostRuntime) -> Result<(), Fail> {
     for text in ACCEPTED {
-        assert_eq!(rt; refusal(rt.alloc(), text)?, None, "{text}");
+        assert!(rt; refusal(rt.alloc(), text)? == None, "{text}");
     }
     Ok(())
 }
@@ -297,7 +295,7 @@ const LENGTHS: &[(&str, usize, Option<QueryFault>)] = &[
 fn texts_have_at_most_65536_bytes(rt: HostRuntime) -> Result<(), Fail> {
     for (text, letters, wanted) in LENGTHS {
         let long = lengthened(rt.alloc(), text, *letters)?;
-        assert_eq!(rt; refusal(rt.alloc(), long.as_str())?, *wanted);
+        assert!(rt; refusal(rt.alloc(), long.as_str())? == *wanted);
     }
     Ok(())
 }
@@ -313,6 +311,6 @@ const NAMES: &[(QueryFault, &str)] = &[
 #[test]
 fn refusals_have_names(rt: HostRuntime) {
     for (fault, name) in NAMES {
-        assert_eq!(rt; fault.name(), *name);
+        assert!(rt; fault.name() == *name);
     }
 }

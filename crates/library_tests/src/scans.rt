@@ -54,14 +54,16 @@ const BAD_SIZES: Result<u64, ScanFault> = Err(ScanFault::Answer(AnswerFault::Bad
 
 const UNKNOWN: Result<u64, ScanFault> = Err(ScanFault::Query(QueryFault::Unknown));
 
+const PAGED: Case = Case {
+    archives: ARCHIVES,
+    sizes: &[2],
+    query: QUERY,
+    answer: Ok(2),
+    written: PAGES,
+};
+
 const CASES: &[Case] = &[
-    Case {
-        archives: ARCHIVES,
-        sizes: &[2],
-        query: QUERY,
-        answer: Ok(2),
-        written: PAGES,
-    },
+    PAGED,
     Case {
         archives: ARCHIVES,
         sizes: &[3],
@@ -165,21 +167,19 @@ fn texts(alloc: Global, archives: &[Archive]) -> Result<Vec<Vec<u8>>, AllocError
     Ok(texts)
 }
 
-/// Archives by name, over inputs that move so many bytes at once. That with the number `archive` fails at its call `read`.
+/// Archives by name, over inputs that move 100 bytes at once. That with the number 1 fails at its call `read`.
 fn inputs<'a>(
     alloc: Global,
     archives: &[Archive],
     texts: &'a [Vec<u8>],
-    piece: usize,
-    archive: usize,
     read: u64,
 ) -> Result<Vec<Named<Fuse<Slice<'a>>>>, AllocError> {
     let mut inputs = Vec::new(alloc);
     for (i, ((name, _pieces), text)) in archives.iter().zip(texts).enumerate() {
-        let at = if i == archive { read } else { 0 };
+        let at = if i == 1 { read } else { 0 };
         inputs.push(Named {
             name: String::from_str(alloc, name)?,
-            input: Fuse::new(Slice::new(text.as_slice()), piece, at),
+            input: Fuse::new(Slice::new(text.as_slice()), 100, at),
         })?;
     }
     Ok(inputs)
@@ -191,120 +191,128 @@ enum Refused {
     Memory,
 }
 
+fn is_memory(fault: ScanFault) -> bool {
+    match fault {
+        ScanFault::Query(fault) => fault == QueryFault::Memory,
+        ScanFault::Answer(fault) => fault == AnswerFault::Memory,
+        ScanFault::Archive(_, IndexFault::Memory) => true,
+        ScanFault::Archive(_, IndexFault::Capture(CaptureFault::Archive(fault))) => {
+            fault.cause == Cause::Memory
+        }
+        ScanFault::Archive(..) => false,
+    }
+}
+
 /// The answer, unless memory was refused.
 fn with_memory(answer: Result<u64, ScanFault>) -> Result<Result<u64, ScanFault>, Refused> {
     match answer {
-        Err(
-            ScanFault::Query(QueryFault::Memory)
-            | ScanFault::Archive(_, IndexFault::Memory)
-            | ScanFault::Answer(AnswerFault::Memory),
-        ) => Err(Refused::Memory),
-        Err(
-            ScanFault::Archive(
-                _,
-                IndexFault::Capture(
-                    CaptureFault::Archive(
-                        Fault {
-                            cause: Cause::Memory,
-                            ..
-                        },
-                    ),
-                ),
-            ),
-        ) => Err(Refused::Memory),
+        Err(fault) if is_memory(fault) => Err(Refused::Memory),
         answer => Ok(answer),
     }
 }
 
+/// What a scan of the case's archives answers, over an output that takes so many bytes a call and fails at its call `write`. They are read
+/// by 100 bytes a call, and that with the number 1 fails at its call `read`.
+fn scanned(
+    alloc: Global,
+    case: &Case,
+    piece: usize,
+    read: u64,
+    write: u64,
+) -> Result<(Result<u64, ScanFault>, Fuse<Gather>), Fail> {
+    let texts = texts(alloc, case.archives)?;
+    let mut inputs = inputs(alloc, case.archives, &texts, read)?;
+    let mut out = Fuse::new(Gather::new(alloc), piece, write);
+    let answer = scan(alloc, &mut inputs, case.sizes, case.query, &mut out);
+    if answer == Err(ScanFault::Answer(AnswerFault::Write)) && out.calls != write {
+        return Err(Refused::Memory)?;
+    }
+    Ok((with_memory(answer)?, out))
+}
+
+/// Whether the scan answers and writes as the case says.
+fn is_scanned(alloc: Global, case: &Case) -> Result<bool, Fail> {
+    let (answer, out) = scanned(alloc, case, 8_192, 0, 0)?;
+    Ok(answer == case.answer && out.device.bytes() == case.written)
+}
+
 #[test]
 fn scans_write_pages_or_refuse(rt: HostRuntime) -> Result<(), Fail> {
-    let alloc = rt.alloc();
-    for case in CASES {
-        let texts = texts(alloc, case.archives)?;
-        let mut inputs = inputs(alloc, case.archives, &texts, 100, 0, 0)?;
-        let mut out = Gather::new(alloc);
-        let answer = scan(alloc, &mut inputs, case.sizes, case.query, &mut out);
-        let Ok(answer) = with_memory(answer) else {
-            return Err(AllocError.into());
-        };
-        assert_eq!(rt; answer, case.answer);
-        assert_eq!(rt; out.bytes(), case.written);
+    for (number, case) in CASES.iter().enumerate() {
+        assert!(rt; is_scanned(rt.alloc(), case)?, "case {number}");
     }
     Ok(())
 }
 
-/// Each read gives 100 bytes. `b.warc` has a record at 0 and one at 264, and ends at 448.
+/// Whether the scan ends where the second archive fails at this call, before anything is written.
+fn ends_unread(alloc: Global, read: u64, offset: u64) -> Result<bool, Fail> {
+    let (answer, out) = scanned(alloc, &PAGED, 8_192, read, 0)?;
+    let fault = CaptureFault::Archive(Fault {
+        offset,
+        cause: Cause::Read,
+    });
+    let is_named = answer == Err(ScanFault::Archive(1, IndexFault::Capture(fault)));
+    Ok(is_named && out.device.bytes().is_empty())
+}
+
+/// Calls of the second archive's input, which give 100 bytes each, and the start of the record that each reads of. There is one at 0 and one
+/// at 264, and the archive ends at 448.
+const READS: &[(u64, u64)] = &[(1, 0), (2, 0), (3, 0), (4, 264), (5, 264), (6, 448)];
+
 #[test]
 fn scans_say_which_archive_failed(rt: HostRuntime) -> Result<(), Fail> {
-    let alloc = rt.alloc();
-    let texts = texts(alloc, ARCHIVES)?;
-    for (read, offset) in [(1, 0), (2, 0), (3, 0), (4, 264), (5, 264), (6, 448)] {
-        let mut inputs = inputs(alloc, ARCHIVES, &texts, 100, 1, read)?;
-        let mut out = Gather::new(alloc);
-        let answer = scan(alloc, &mut inputs, &[2], QUERY, &mut out);
-        let Ok(answer) = with_memory(answer) else {
-            return Err(AllocError.into());
-        };
-        let fault = CaptureFault::Archive(Fault {
-            offset,
-            cause: Cause::Read,
-        });
-        assert_eq!(rt;
-            answer,
-            Err(ScanFault::Archive(1, IndexFault::Capture(fault))),
-            "{read}"
-        );
-        assert_eq!(rt; out.bytes(), b"".as_slice());
+    for (read, offset) in READS {
+        assert!(rt; ends_unread(rt.alloc(), *read, *offset)?, "{read}");
     }
     Ok(())
+}
+
+/// Whether the scan ends where its output fails at this call, of one byte, with as many bytes written as calls before.
+fn ends_unwritten(alloc: Global, write: usize) -> Result<bool, Fail> {
+    let (answer, out) = scanned(alloc, &PAGED, 1, 0, write as u64)?;
+    let is_named = answer == Err(ScanFault::Answer(AnswerFault::Write));
+    Ok(is_named && PAGES.get(..write.saturating_sub(1)) == Some(out.device.bytes()))
 }
 
 #[test]
 fn scans_end_where_their_output_fails(rt: HostRuntime) -> Result<(), Fail> {
-    let alloc = rt.alloc();
-    let texts = texts(alloc, ARCHIVES)?;
-    for written in 0..PAGES.len() {
-        let mut inputs = inputs(alloc, ARCHIVES, &texts, 8_192, 0, 0)?;
-        let mut out = Fuse::new(Gather::new(alloc), 1, written as u64 + 1);
-        let answer = scan(alloc, &mut inputs, &[2], QUERY, &mut out);
-        let Ok(answer) = with_memory(answer) else {
-            return Err(AllocError.into());
-        };
-        assert_eq!(rt;
-            answer,
-            Err(ScanFault::Answer(AnswerFault::Write)),
-            "{written}"
-        );
-        assert_eq!(rt; out.device.bytes(), &PAGES[..written]);
+    assert!(rt; PAGES.len() == 117);
+    for write in 1..118 {
+        assert!(rt; ends_unwritten(rt.alloc(), write)?, "{write}");
     }
+    let (answer, out) = scanned(rt.alloc(), &PAGED, 1, 0, 118)?;
+    assert!(rt; answer == Ok(2) && out.device.bytes() == PAGES);
     Ok(())
 }
 
-#[test]
-fn scans_take_1024_archives(rt: HostRuntime) -> Result<(), Fail> {
-    let alloc = rt.alloc();
+/// Archives of one resource each, whose names are numbers.
+fn numbered(alloc: Global, count: usize) -> Result<Vec<Named<Slice<'static>>>, Fail> {
     let mut inputs = Vec::new(alloc);
-    for i in 0..1_025 {
+    for i in 0..count {
         inputs.push(Named {
             name: format!(in alloc; "{i}")?,
             input: Slice::new(RESOURCE),
         })?;
     }
+    Ok(inputs)
+}
+
+/// What a scan of so many archives answers, and how many bytes it writes, four for each.
+fn scanned_of(alloc: Global, count: usize) -> Result<(Result<u64, ScanFault>, usize), Fail> {
+    let mut inputs = numbered(alloc, count)?;
     let mut out = Gather::new(alloc);
-    let many = scan(alloc, &mut inputs, &[1], "key=x&limit=1", &mut out);
-    assert_eq!(rt; many, Err(ScanFault::Answer(AnswerFault::TooManySources)));
-    let _last = inputs.pop();
-    let answer = scan(
-        alloc,
-        &mut inputs,
-        &[5_000],
-        "key=com,example)/r&fl=length",
-        &mut out,
-    );
-    let Ok(answer) = with_memory(answer) else {
-        return Err(AllocError.into());
-    };
-    assert_eq!(rt; answer, Ok(1));
-    assert_eq!(rt; out.bytes().len(), 1_024 * 4);
+    let query = "key=com,example)/r&fl=length";
+    let answer = scan(alloc, &mut inputs, &[5_000], query, &mut out);
+    if answer == Err(ScanFault::Answer(AnswerFault::Write)) {
+        return Err(Refused::Memory)?;
+    }
+    Ok((with_memory(answer)?, out.bytes().len()))
+}
+
+#[test]
+fn scans_take_1024_archives(rt: HostRuntime) -> Result<(), Fail> {
+    let too_many = Err(ScanFault::Answer(AnswerFault::TooManySources));
+    assert!(rt; scanned_of(rt.alloc(), 1_025)? == (too_many, 0));
+    assert!(rt; scanned_of(rt.alloc(), 1_024)? == (Ok(1), 4_096));
     Ok(())
 }

@@ -84,9 +84,9 @@ fn reads_dates(rt: HostRuntime) -> Result<(), HeadFault> {
         match (stamp_of(rt.alloc(), value), want) {
             (Err(HeadFault::Memory), _) => return Err(HeadFault::Memory),
             (Ok(found), Some(stamp)) => {
-                assert_eq!(rt; found.as_slice(), stamp.as_bytes(), "{value}");
+                assert!(rt; found.as_slice() == stamp.as_bytes(), "{value}");
             }
-            (found, _) => assert_eq!(rt; found, Err(HeadFault::BadDate), "{value}"),
+            (found, _) => assert!(rt; found == Err(HeadFault::BadDate), "{value}"),
         }
     }
     Ok(())
