@@ -193,8 +193,11 @@ fn ends_open(alloc: Global, text: &[u8], fault: AnswerFault) -> Result<bool, Fai
     let query = Query::read(alloc, QUERY)?;
     let mut sources = [SliceSource::new(text)];
     let mut out = Gather::new(alloc);
-    let answer = answer(alloc, &mut sources, &query, &mut out).map(|report| report.given);
-    Ok(in_memory(answer) == Err(fault) && !out.bytes().ends_with(b"]\n"))
+    match in_memory(answer(alloc, &mut sources, &query, &mut out)) {
+        Err(AnswerFault::Memory) => Err(Fail::from(AnswerFault::Memory)),
+        Err(found) => Ok(found == fault && !out.bytes().ends_with(b"]\n")),
+        Ok(_report) => Ok(false),
+    }
 }
 
 #[test]

