@@ -91,7 +91,11 @@ const WRITTEN: &[(Members, &[u8], &str, &str)] = &[
 
 /// Whether the entry is written as this line, and read back.
 fn is_written(alloc: Global, members: &Members, line: &[u8]) -> Result<bool, Fail> {
-    let written = write_line(alloc, &entry(alloc, members)?)?;
+    let entry = entry(alloc, members)?;
+    if !entry.good() {
+        return Ok(false);
+    }
+    let written = write_line(alloc, &entry)?;
     Ok(written.as_slice() == line && has_texts(&LineRef::read(alloc, line)?, members))
 }
 
@@ -206,12 +210,16 @@ fn with_long_url(alloc: Global, letters: usize) -> Result<Entry, AllocError> {
     Ok(entry)
 }
 
-/// The length of the line of an entry with so many letters, or none where it is too long. Memory is an error of the test's.
-fn length_of_line(alloc: Global, letters: usize) -> Result<Option<usize>, LineFault> {
-    match write_line(alloc, &with_long_url(alloc, letters)?) {
+/// The length of the line of a good entry with so many letters, or none where it is too long. Memory is an error of the test's.
+fn length_of_line(alloc: Global, letters: usize) -> Result<Option<usize>, Fail> {
+    let entry = with_long_url(alloc, letters)?;
+    if !entry.good() {
+        return Err("the entry isn't good")?;
+    }
+    match write_line(alloc, &entry) {
         Ok(line) => Ok(Some(line.len())),
         Err(LineFault::LineTooLong) => Ok(None),
-        Err(fault) => Err(fault),
+        Err(fault) => Err(Fail::from(fault)),
     }
 }
 
