@@ -1,4 +1,5 @@
 pub mod WaitingLines
+pub mod KeyStarts
 pub mod PairOrders
 pub mod TurnOrder
 pub mod Feeds

@@ -4,6 +4,7 @@
 mod fault;
 mod feed;
 mod indexes;
+mod key_start;
 mod line_writer;
 mod merging;
 mod opening;

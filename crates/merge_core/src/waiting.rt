@@ -8,35 +8,32 @@ ghost use Rattle.std.proofs.lemmas.Cmp.{eq_by_cmp_equiv};
 ghost use Rattle.merge_core.specs.WaitingLines.{WaitingLine, waiting_pair, waiting_cmp};
 ghost use Rattle.merge_core.specs.TurnOrder.{waiting_cmp_total};
 
+use crate::key_start::{KeyStart, key_start};
 use crate::pair::compare_pairs;
 use cdxj_core::Line;
-use cdxj_places::abbreviated;
 use std::cmp::Ordering;
 use std::marker::Model;
-
-/// Bytes of a key that decide most comparisons without a look at the line.
-const KEY_START: usize = 32;
 
 /// The next line of a source. The greatest is the one whose turn comes first: by pair, then by the
 /// source's number.
 #[derive(Drop)]
 pub struct Waiting {
-    key_start: [u8; KEY_START],
+    /// It decides most comparisons without a look at the line.
+    key_start: KeyStart,
     pub line: Box<Line>,
     pub source: usize,
 }
 
 impl Model for Waiting {
     ghost use Rattle.std.specs.Prelude.{◌≡◌};
-    ghost use Rattle.cdxj_places.specs.Abbreviated.{padded};
-    ghost use Rattle.merge_core.specs.declared.waiting.TheConstants.{KEY_START};
+    ghost use Rattle.merge_core.specs.KeyStarts.{IsText, key_words};
     ghost use Rattle.merge_core.specs.WaitingLines.{WaitingLine};
 
     ghost Value = { WaitingLine };
 
     ghost view = { λ w. record { member = w.line.value; source = w.source } };
 
-    ghost invariant = { λ w. w.key_start ≡ padded KEY_START w.line.value.values.key };
+    ghost invariant = { λ w. (w.key_start ≡ key_words w.line.value.values.key) × IsText w.line.value.values.key };
 }
 
 impl Waiting {
@@ -45,7 +42,7 @@ impl Waiting {
         ensures { result ≡ record { member = line.value; source = source } }
     {
         Waiting {
-            key_start: abbreviated(line.pair().0.as_bytes()),
+            key_start: key_start(line.pair().0.as_bytes()),
             line,
             source,
         }

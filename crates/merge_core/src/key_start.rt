@@ -1,0 +1,44 @@
+//! The starts of keys, as numbers.
+ghost use Rattle.std.specs.Prelude.{◌≡◌, ◌+◌, ◌≤◌, length, take, drop};
+ghost use Rattle.merge_core.specs.KeyStarts.{IsText, key_words, spelled, words};
+
+use cdxj_places::abbreviated;
+
+/// The first 32 bytes of a key as four numbers, which are in order as the bytes are. Where the key has fewer, zeros follow it.
+pub(crate) type KeyStart = [u64; 4];
+
+/// The number that the eight bytes from `at` on spell, the first the highest.
+fn word(bytes: &[u8; 32], at: usize) -> u64
+    requires { at + 8 ≤ 32 }
+    ensures { result ≡ spelled 0 (take 8 (drop at bytes.now)) }
+{
+    u64::from_be_bytes([
+        bytes[at],
+        bytes[at + 1],
+        bytes[at + 2],
+        bytes[at + 3],
+        bytes[at + 4],
+        bytes[at + 5],
+        bytes[at + 6],
+        bytes[at + 7],
+    ])
+}
+
+fn words_of(bytes: &[u8; 32]) -> KeyStart
+    ensures { result ≡ words 4 bytes.now }
+{
+    [
+        word(bytes, 0),
+        word(bytes, 8),
+        word(bytes, 16),
+        word(bytes, 24),
+    ]
+}
+
+/// The start of a key.
+pub(crate) fn key_start(key: &[u8]) -> KeyStart
+    ensures words { result ≡ key_words key.now }
+    ensures text { IsText key.now }
+{
+    words_of(&abbreviated(key))
+}
