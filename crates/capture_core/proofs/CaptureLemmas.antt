@@ -47,6 +47,7 @@ module _ {A : Type 0} (left : ℕ) (h : HeadView) (old new : ReaderView) (before
     bytes = subst (λ x. Reads (after_record left) x (prepend_known old.held before) (prepend_known new.held after)) (sym own) f.bytes;
     state = subst (Leaves h new) (sym own) (subst (λ s. StandsAt new (s + record_length h) Between) o f.state.1);
     fault = at;
+    cause = subst (λ x. IfErr x StopsRecord) (sym own) tt;
     failures = subst (λ x. CountsRead x k k') (sym own) f.failures;
   }
 
@@ -56,6 +57,7 @@ module _ {A : Type 0} (left : ℕ) (h : HeadView) (old new : ReaderView) (before
     bytes = subst (λ x. Reads (after_record left) x (prepend_known old.held before) (prepend_known new.held after)) (sym (read_to-fault f.cause m)) b;
     state = subst (Leaves h new) (sym (read_to-fault f.cause m)) s.stands;
     fault = s.at;
+    cause = subst (λ x. IfErr x StopsRecord) (sym (read_to-fault f.cause m)) stops;
     failures = subst (λ x. CountsRead x k k') (sym (read_to-fault f.cause m)) c;
   }
 
@@ -65,6 +67,7 @@ rest-behind left left' h old mid new r before between after k l k' g e s = recor
   bytes = GoesOn-reads (after_record left) (after_record left') (reading_of r) _ _ _ g s.bytes;
   state = s.state;
   fault = s.fault;
+  cause = s.cause;
   failures = subst (λ c. CountsRead (reading_of r) c k') e s.failures;
 }
 

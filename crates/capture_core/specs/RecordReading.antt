@@ -4,6 +4,7 @@ use Rattle.warc_core.specs.declared.fault.Cause.{Cause}
 use Rattle.warc_core.specs.declared.fault.Cause.TheVariants as causes
 use Rattle.warc_core.specs.declared.phase.Phase.TheVariants.{Between, Open, Failed}
 use Rattle.warc_core.specs.Answers.{CountsRead}
+use Rattle.warc_core.specs.Cause.{StopsRecord}
 use Rattle.warc_core.specs.HeadView.{HeadView, record_length}
 use Rattle.warc_core.specs.Reading.{Reads}
 use Rattle.warc_core.specs.ReaderView.{ReaderView, ReaderState, ahead, StandsAt}
@@ -40,6 +41,7 @@ pub record ReadsRest {A : Type 0} (left : ℕ) (h : HeadView) (old new : ReaderS
   pub bytes : Reads (after_record left) (reading_of r) (ahead old) (ahead new)
   pub state : Leaves h new.reader (reading_of r)
   pub fault : IfErr r (IsFaultAt h.start)
+  pub cause : IfErr (reading_of r) StopsRecord
   pub failures : CountsRead (reading_of r) old.failures new.failures
 
 -- A call read the record to its end, or failed by what it met.
