@@ -7,7 +7,7 @@ use Rattle.std.proofs.lemmas.Cmp.{tied_itself}
 use Rattle.std.proofs.lemmas.Bool.{cond-true, cond-false, cases_Bool}
 use Rattle.cdxj_places.specs.Rising.{IsIn, Rises}
 use Rattle.cdxj_places.proofs.RisingLaws.{is_gt-true, each_at}
-use Rattle.page_core.specs.Pages.{Page, AllPositive, later_sizes, first_size, is_above, repeats, kept, collapsed, next_after, page_of, IsChain, FullButLast}
+use Rattle.page_core.specs.Pages.{Page, AllPositive, later_sizes, first_size, is_above, repeats, end_place, kept, collapsed, next_after, page_of, IsChain, FullButLast}
 
 -- a filter that all pass
 pub filter_all : {X : Type 0} (f : X → Bool) (xs : List X) → AllByRecursion (λ y. f y ≡ true) xs → filter f xs ≡ xs
@@ -25,10 +25,7 @@ each_filter A f (x ∷ xs) h =
     elim (f x) as (λ b. AllByRecursion A (cond b (x ∷ filter f xs) (filter f xs)))
     [ true ↦ (h.0, each_filter A f xs h.1) | false ↦ each_filter A f xs h.1 ]
 
-module _ {X P : Type 0} (place : X → P) (R : P → P → Ordering) (same : P → P → Bool) (o : IsTotalOrder R) where
-  above_itself : (x : X) → is_above place R same (Some (place x)) x ≡ false
-  above_itself x = ap is_gt (tied_itself o (place x))
-
+module _ {X P : Type 0} (place : X → P) (R : P → P → Ordering) (o : IsTotalOrder R) where
   pub gt_back : (a b : P) → R a b ≡ Greater → R b a ≡ Less
   gt_back a b h = o.antisymm b a ∙ ap ordering_reverse h
 
@@ -38,39 +35,43 @@ module _ {X P : Type 0} (place : X → P) (R : P → P → Ordering) (same : P �
   pub gt_trans : (a b c : P) → R a b ≡ Greater → R b c ≡ Greater → R a c ≡ Greater
   gt_trans a b c h k = lt_back c a (o.trans c b a (gt_back b c k) (gt_back a b h))
 
-  pub above_trans : (x : X) (m : X) (p : Option P) → is_above place R same p m ≡ true → is_above place R same (Some (place m)) x ≡ true → is_above place R same p x ≡ true
-  above_trans x m None h k = refl
-  above_trans x m (Some p) h k = ap is_gt (gt_trans (place x) (place m) p (is_gt-true _ k) (is_gt-true _ h))
-
-  -- what is above the one is not below it
-  pub above_not_below : (x m : X) → is_above place R same (Some (place x)) m ≡ true → is_above place R same (Some (place m)) x ≡ false
-  above_not_below x m h = ap is_gt (gt_back (place m) (place x) (is_gt-true _ h))
-
   pub rises_filter : (f : X → Bool) (l : List X) → Rises place R l → Rises place R (filter f l)
   rises_filter f [] h = tt
   rises_filter f (x ∷ xs) h =
       elim (f x) as (λ b. Rises place R (cond b (x ∷ filter f xs) (filter f xs)))
       [ true ↦ (each_filter _ f xs h.0, rises_filter f xs h.1) | false ↦ rises_filter f xs h.1 ]
 
-  pub each_kept : (A : X → Type 0) (p : Option P) (xs : List X) → AllByRecursion A xs → AllByRecursion A (kept place R same p xs)
+module _ {X P : Type 0} (place : X → P) (R : P → P → Ordering) (same : P → P → Bool) (o : IsTotalOrder R) where
+  above_itself : (x : X) → is_above place R (Some (place x)) x ≡ false
+  above_itself x = ap is_gt (tied_itself o (place x))
+
+  pub above_trans : (x : X) (m : X) (p : Option P) → is_above place R p m ≡ true → is_above place R (Some (place m)) x ≡ true → is_above place R p x ≡ true
+  above_trans x m None h k = refl
+  above_trans x m (Some p) h k = ap is_gt (gt_trans place R o (place x) (place m) p (is_gt-true _ k) (is_gt-true _ h))
+
+  -- what is above the one is not below it
+  pub above_not_below : (x m : X) → is_above place R (Some (place x)) m ≡ true → is_above place R (Some (place m)) x ≡ false
+  above_not_below x m h = ap is_gt (gt_back place R o (place m) (place x) (is_gt-true _ h))
+
+  pub each_kept : (A : X → Type 0) (p : Option P) (xs : List X) → AllByRecursion A xs → AllByRecursion A (kept place same p xs)
   each_kept A p [] h = tt
   each_kept A p (x ∷ xs) h =
-      elim (repeats place R same p x) as (λ b. AllByRecursion A (cond b (kept place R same (Some (place x)) xs) (x ∷ kept place R same (Some (place x)) xs)))
+      elim (repeats place same p x) as (λ b. AllByRecursion A (cond b (kept place same (Some (place x)) xs) (x ∷ kept place same (Some (place x)) xs)))
       [ true ↦ each_kept A (Some (place x)) xs h.1 | false ↦ (h.0, each_kept A (Some (place x)) xs h.1) ]
 
-  pub rises_kept : (p : Option P) (l : List X) → Rises place R l → Rises place R (kept place R same p l)
+  pub rises_kept : (p : Option P) (l : List X) → Rises place R l → Rises place R (kept place same p l)
   rises_kept p [] h = tt
   rises_kept p (x ∷ xs) h =
-      elim (repeats place R same p x) as (λ b. Rises place R (cond b (kept place R same (Some (place x)) xs) (x ∷ kept place R same (Some (place x)) xs)))
+      elim (repeats place same p x) as (λ b. Rises place R (cond b (kept place same (Some (place x)) xs) (x ∷ kept place same (Some (place x)) xs)))
       [ true ↦ rises_kept (Some (place x)) xs h.1 | false ↦ (each_kept _ (Some (place x)) xs h.0, rises_kept (Some (place x)) xs h.1) ]
 
   pub rises_collapsed : (l : List X) (p : Option P) → Rises place R l → Rises place R (collapsed place R same l p)
-  rises_collapsed l p h = rises_kept p _ (rises_filter (is_above place R same p) l h)
+  rises_collapsed l p h = rises_kept p _ (rises_filter place R o (is_above place R p) l h)
 
-  in_kept : (m : X) (p : Option P) (xs : List X) → IsIn m (kept place R same p xs) → IsIn m xs
+  in_kept : (m : X) (p : Option P) (xs : List X) → IsIn m (kept place same p xs) → IsIn m xs
   in_kept m p [] i = i
   in_kept m p (x ∷ xs) i =
-      (elim (repeats place R same p x) as (λ b. IsIn m (cond b (kept place R same (Some (place x)) xs) (x ∷ kept place R same (Some (place x)) xs)) → IsIn m (x ∷ xs)) [
+      (elim (repeats place same p x) as (λ b. IsIn m (cond b (kept place same (Some (place x)) xs) (x ∷ kept place same (Some (place x)) xs)) → IsIn m (x ∷ xs)) [
         | true ↦ (λ i. inr (in_kept m (Some (place x)) xs i))
         | false ↦ (λ i. elim i [ inl e ↦ inl e | inr j ↦ inr (in_kept m (Some (place x)) xs j) ])
       ]) i
@@ -83,32 +84,32 @@ module _ {X P : Type 0} (place : X → P) (R : P → P → Ordering) (same : P �
   ]
 
   -- The members above one that is kept, collapsed from it on, are those that were kept above it
-  resumes : (p : Option P) (m : X) (xs : List X) → Rises place R xs → IsIn m (kept place R same p xs)
-      → kept place R same (Some (place m)) (filter (is_above place R same (Some (place m))) xs) ≡ filter (is_above place R same (Some (place m))) (kept place R same p xs)
+  resumes : (p : Option P) (m : X) (xs : List X) → Rises place R xs → IsIn m (kept place same p xs)
+      → kept place same (Some (place m)) (filter (is_above place R (Some (place m))) xs) ≡ filter (is_above place R (Some (place m))) (kept place same p xs)
   resumes p m [] h i = refl
   resumes p m (x ∷ xs) h i =
-      let below : IsIn m (kept place R same (Some (place x)) xs) → is_above place R same (Some (place m)) x ≡ false =
+      let below : IsIn m (kept place same (Some (place x)) xs) → is_above place R (Some (place m)) x ≡ false =
       λ j. above_not_below x m (each_at _ m xs h.0 (in_kept m (Some (place x)) xs j)) in
-      let later : (b : Bool) → IsIn m (kept place R same (Some (place x)) xs) → kept place R same (Some (place m)) (filter (is_above place R same (Some (place m))) (x ∷ xs)) ≡ filter (is_above place R same (Some (place m))) (cond b (kept place R same (Some (place x)) xs) (x ∷ kept place R same (Some (place x)) xs)) =
-      λ b j. ap (kept place R same (Some (place m))) (cond-false _ _ _ (below j)) ∙ resumes (Some (place x)) m xs h.1 j ∙
-      elim b as (λ b. filter (is_above place R same (Some (place m))) (kept place R same (Some (place x)) xs) ≡ filter (is_above place R same (Some (place m))) (cond b (kept place R same (Some (place x)) xs) (x ∷ kept place R same (Some (place x)) xs))) [ true ↦ refl | false ↦ sym (cond-false _ _ _ (below j)) ] in
-      let here : (e : x ≡ m) → kept place R same (Some (place m)) (filter (is_above place R same (Some (place m))) (x ∷ xs)) ≡ filter (is_above place R same (Some (place m))) (x ∷ kept place R same (Some (place x)) xs) =
-      λ e. subst (λ (m : X). kept place R same (Some (place m)) (filter (is_above place R same (Some (place m))) (x ∷ xs)) ≡ filter (is_above place R same (Some (place m))) (x ∷ kept place R same (Some (place x)) xs)) e
-      (ap (kept place R same (Some (place x))) (cond-false _ _ _ (above_itself x) ∙ filter_all _ xs h.0)
+      let later : (b : Bool) → IsIn m (kept place same (Some (place x)) xs) → kept place same (Some (place m)) (filter (is_above place R (Some (place m))) (x ∷ xs)) ≡ filter (is_above place R (Some (place m))) (cond b (kept place same (Some (place x)) xs) (x ∷ kept place same (Some (place x)) xs)) =
+      λ b j. ap (kept place same (Some (place m))) (cond-false _ _ _ (below j)) ∙ resumes (Some (place x)) m xs h.1 j ∙
+      elim b as (λ b. filter (is_above place R (Some (place m))) (kept place same (Some (place x)) xs) ≡ filter (is_above place R (Some (place m))) (cond b (kept place same (Some (place x)) xs) (x ∷ kept place same (Some (place x)) xs))) [ true ↦ refl | false ↦ sym (cond-false _ _ _ (below j)) ] in
+      let here : (e : x ≡ m) → kept place same (Some (place m)) (filter (is_above place R (Some (place m))) (x ∷ xs)) ≡ filter (is_above place R (Some (place m))) (x ∷ kept place same (Some (place x)) xs) =
+      λ e. subst (λ (m : X). kept place same (Some (place m)) (filter (is_above place R (Some (place m))) (x ∷ xs)) ≡ filter (is_above place R (Some (place m))) (x ∷ kept place same (Some (place x)) xs)) e
+      (ap (kept place same (Some (place x))) (cond-false _ _ _ (above_itself x) ∙ filter_all _ xs h.0)
       ∙ sym (cond-false _ _ _ (above_itself x) ∙ filter_all _ _ (each_kept _ (Some (place x)) xs h.0))) in
-      (elim (repeats place R same p x) as (λ b. IsIn m (cond b (kept place R same (Some (place x)) xs) (x ∷ kept place R same (Some (place x)) xs)) → kept place R same (Some (place m)) (filter (is_above place R same (Some (place m))) (x ∷ xs)) ≡ filter (is_above place R same (Some (place m))) (cond b (kept place R same (Some (place x)) xs) (x ∷ kept place R same (Some (place x)) xs)))
+      (elim (repeats place same p x) as (λ b. IsIn m (cond b (kept place same (Some (place x)) xs) (x ∷ kept place same (Some (place x)) xs)) → kept place same (Some (place m)) (filter (is_above place R (Some (place m))) (x ∷ xs)) ≡ filter (is_above place R (Some (place m))) (cond b (kept place same (Some (place x)) xs) (x ∷ kept place same (Some (place x)) xs)))
       [ true ↦ later true | false ↦ (λ i. elim i [ inl e ↦ here e | inr j ↦ later false j ]) ]) i
 
   -- The law of collapsing: it goes on from each of its members as it began
   pub collapse_resumes : (l : List X) (p : Option P) (m : X) → Rises place R l → IsIn m (collapsed place R same l p)
-      → collapsed place R same l (Some (place m)) ≡ filter (is_above place R same (Some (place m))) (collapsed place R same l p)
+      → collapsed place R same l (Some (place m)) ≡ filter (is_above place R (Some (place m))) (collapsed place R same l p)
   collapse_resumes l p m h i =
-      let up : is_above place R same p m ≡ true = in_filter (is_above place R same p) m l (in_kept m p _ i) in
-      ap (kept place R same (Some (place m))) (sym (filter_filter (is_above place R same (Some (place m))) (is_above place R same p) (λ x k. above_trans x m p up k) l))
-      ∙ resumes p m (filter (is_above place R same p) l) (rises_filter (is_above place R same p) l h) i
+      let up : is_above place R p m ≡ true = in_filter (is_above place R p) m l (in_kept m p _ i) in
+      ap (kept place same (Some (place m))) (sym (filter_filter (is_above place R (Some (place m))) (is_above place R p) (λ x k. above_trans x m p up k) l))
+      ∙ resumes p m (filter (is_above place R p) l) (rises_filter place R o (is_above place R p) l h) i
 
   -- where no place follows the n-th member, the first n are all
-  all_taken : (n : ℕ) (c : List X) → 0 < n → next_after place R same n c ≡ None → take n c ≡ c
+  all_taken : (n : ℕ) (c : List X) → 0 < n → next_after place n c ≡ None → take n c ≡ c
   all_taken zero c z h = absurd (omega arith)
   all_taken (suc n) [] z h = refl
   all_taken (suc zero) (x ∷ []) z h = refl
@@ -116,8 +117,8 @@ module _ {X P : Type 0} (place : X → P) (R : P → P → Ordering) (same : P �
   all_taken (suc (suc n)) (x ∷ xs) z h = ap (λ t. x ∷ t) (all_taken (suc n) xs (omega arith) h)
 
   -- where one follows, it is that of a member, the page is full, and the members above it are the rest
-  split_there : (n : ℕ) (c : List X) (q : P) → Rises place R c → next_after place R same n c ≡ Some q
-      → (m : X) × IsIn m c × (place m ≡ q) × (length (take n c) ≡ n) × (filter (is_above place R same (Some (place m))) c ≡ drop n c)
+  split_there : (n : ℕ) (c : List X) (q : P) → Rises place R c → next_after place n c ≡ Some q
+      → (m : X) × IsIn m c × (place m ≡ q) × (length (take n c) ≡ n) × (filter (is_above place R (Some (place m))) c ≡ drop n c)
   split_there zero c q r h = cc
   split_there (suc n) [] q r h = cc
   split_there (suc zero) (x ∷ []) q r h = cc
@@ -143,14 +144,14 @@ module _ {X P : Type 0} (place : X → P) (R : P → P → Ordering) (same : P �
   chain_law l p sizes [] r z h = absurd h
   chain_law l p sizes (page ∷ []) r z h =
       let mem : page.members ≡ take (first_size sizes) (collapsed place R same l p) = ap (λ g. g.members) h.0 in
-      let nx : page.next ≡ next_after place R same (first_size sizes) (collapsed place R same l p) = ap (λ g. g.next) h.0 in
+      let nx : page.next ≡ next_after place (first_size sizes) (collapsed place R same l p) = ap (λ g. g.next) h.0 in
       (elim page.next as (λ v. page.next ≡ v → MatchOption v (◌≡◌ {A = List (Page X P)} [] []) (λ q. IsChain place R same l (Some q) (later_sizes sizes) []) → (page.members ++ [] ≡ collapsed place R same l p) × (page.next ≡ None)) [
         | None ↦ (λ e k. (append-nil page.members ∙ mem ∙ all_taken (first_size sizes) _ (first_positive sizes z) (sym nx ∙ e), e))
         | Some q ↦ (λ e k. absurd k)
       ]) refl h.1
   chain_law l p sizes (page ∷ other ∷ more) r z h =
       let mem : page.members ≡ take (first_size sizes) (collapsed place R same l p) = ap (λ g. g.members) h.0 in
-      let nx : page.next ≡ next_after place R same (first_size sizes) (collapsed place R same l p) = ap (λ g. g.next) h.0 in
+      let nx : page.next ≡ next_after place (first_size sizes) (collapsed place R same l p) = ap (λ g. g.next) h.0 in
       (elim page.next as (λ v. page.next ≡ v → MatchOption v (other ∷ more ≡ []) (λ q. IsChain place R same l (Some q) (later_sizes sizes) (other ∷ more)) → (page.members ++ flat_map (λ (g : Page X P). g.members) (other ∷ more) ≡ collapsed place R same l p) × ((length page.members ≡ first_size sizes) × FullButLast (later_sizes sizes) (other ∷ more))) [
         | None ↦ (λ e k. cc)
         | Some q ↦ (λ e k.
@@ -182,8 +183,8 @@ module _ {X P : Type 0} (place : X → P) (R : P → P → Ordering) (same : P �
       → (pages : List (Page X P)) × IsChain place R same l p sizes pages
   chain_at zero l p sizes r z f = absurd (omega arith)
   chain_at (suc fuel) l p sizes r z f =
-      (elim (next_after place R same (first_size sizes) (collapsed place R same l p)) as
-      (λ v. next_after place R same (first_size sizes) (collapsed place R same l p) ≡ v → (pages : List (Page X P)) × IsChain place R same l p sizes pages) [
+      (elim (next_after place (first_size sizes) (collapsed place R same l p)) as
+      (λ v. next_after place (first_size sizes) (collapsed place R same l p) ≡ v → (pages : List (Page X P)) × IsChain place R same l p sizes pages) [
         | None ↦ (λ e. (page_of place R same l p (Some (first_size sizes)) ∷ [], (refl, match_at _ None _ _ e refl)))
         | Some q ↦ (λ e.
             let s = split_there (first_size sizes) (collapsed place R same l p) q (rises_collapsed l p r) e in
@@ -200,20 +201,15 @@ module _ {X P : Type 0} (place : X → P) (R : P → P → Ordering) (same : P �
   pub chain_there : (l : List X) (p : Option P) (sizes : List ℕ) → Rises place R l → AllPositive sizes → (pages : List (Page X P)) × IsChain place R same l p sizes pages
   chain_there l p sizes r z = chain_at (suc (length (collapsed place R same l p))) l p sizes r z (omega arith)
 
-  -- the place of the last member, or else p
-  abbrev pub last_place : Option P → List X → Option P
-  last_place p [] = p
-  last_place p (x ∷ xs) = last_place (Some (place x)) xs
-
   -- Collapsing goes on from where it stands: what a stream of groups keeps
-  pub kept_append : (p : Option P) (us vs : List X) → kept place R same p (us ++ vs) ≡ kept place R same p us ++ kept place R same (last_place p us) vs
+  pub kept_append : (p : Option P) (us vs : List X) → kept place same p (us ++ vs) ≡ kept place same p us ++ kept place same (end_place place p us) vs
   kept_append p [] vs = refl
   kept_append p (u ∷ us) vs =
-      elim (repeats place R same p u) as (λ b. cond b (kept place R same (Some (place u)) (us ++ vs)) (u ∷ kept place R same (Some (place u)) (us ++ vs)) ≡ cond b (kept place R same (Some (place u)) us) (u ∷ kept place R same (Some (place u)) us) ++ kept place R same (last_place (Some (place u)) us) vs)
+      elim (repeats place same p u) as (λ b. cond b (kept place same (Some (place u)) (us ++ vs)) (u ∷ kept place same (Some (place u)) (us ++ vs)) ≡ cond b (kept place same (Some (place u)) us) (u ∷ kept place same (Some (place u)) us) ++ kept place same (end_place place (Some (place u)) us) vs)
       [ true ↦ kept_append (Some (place u)) us vs | false ↦ ap (λ t. u ∷ t) (kept_append (Some (place u)) us vs) ]
 
   -- A page is known as soon as n members and one more were found, whatever follows
-  pub page_known : (n : ℕ) (us vs : List X) → n < length us → (take n (us ++ vs) ≡ take n us) × (next_after place R same n (us ++ vs) ≡ next_after place R same n us)
+  pub page_known : (n : ℕ) (us vs : List X) → n < length us → (take n (us ++ vs) ≡ take n us) × (next_after place n (us ++ vs) ≡ next_after place n us)
   page_known zero us vs h = (refl, refl)
   page_known (suc n) [] vs h = absurd (omega arith)
   page_known (suc zero) (x ∷ []) vs h = absurd (omega arith)

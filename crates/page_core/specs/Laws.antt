@@ -23,4 +23,4 @@ module _ (same : PlaceValue → PlaceValue → Bool) (l : List Member) (rises : 
   abbrev pub CollapseResumes : Type 0
   CollapseResumes = (p : Option PlaceValue) (m : Member) → IsIn m (collapsed member_place place_cmp same l p)
       → collapsed member_place place_cmp same l (Some (member_place m))
-      ≡ filter (is_above member_place place_cmp same (Some (member_place m))) (collapsed member_place place_cmp same l p)
+      ≡ filter (is_above member_place place_cmp (Some (member_place m))) (collapsed member_place place_cmp same l p)

@@ -1,5 +1,5 @@
 -- One page of a query, by what was taken of its sources.
-use Rattle.std.proofs.Common.{◌≡◌, Err, ℕ, List, [], ◌∷◌, ◌++◌, refl, sym, ap, ap₂, ◌∙◌, subst, Bool, true, false, not, ◌&&◌, cond, Option, Some, None, filter, min, length, ◌-◌, ◌^◌}
+use Rattle.std.proofs.Common.{◌≡◌, Err, ℕ, List, [], ◌∷◌, ◌++◌, refl, sym, ap, ap₂, ◌∙◌, subst, Bool, true, false, not, ◌&&◌, cond, Option, filter, min, length, ◌-◌, ◌^◌}
 use Rattle.std.specs.Option.{is_some}
 use Rattle.std.specs.Io.KnownBytes.{Appends}
 use Rattle.std.proofs.lemmas.Bool.{true≢false}
@@ -7,6 +7,7 @@ use Rattle.cdxj_places.specs.Places.{PlaceValue, place_cmp}
 use Rattle.devices.specs.Device.{AppendsPrefix}
 use Rattle.query_text.specs.Queries.{QueryValue}
 use Rattle.query_text.specs.Matching.{matches, key_matches, not_before, not_after, is_past}
+use Rattle.query_text.specs.Collapses.{same_part}
 use Rattle.query_text.specs.Filters.{holds}
 use Rattle.std.specs.List.{list_all}
 use Rattle.query_text.proofs.RangeLaw.{match_not_past}
@@ -22,15 +23,11 @@ use Rattle.devices.proofs.WritingLemmas.{prefix_longer}
 use Rattle.query_core.specs.declared.page_writer.PageEnd.{PageEnd}
 use Rattle.query_core.specs.declared.report.Report.{Report}
 use Rattle.query_core.specs.Answering.{Answered}
-use Rattle.query_core.specs.QueryPages.{never, form_of, shown_key, query_page}
-use Rattle.query_core.specs.PageWriting.{is_wanted, page_over, next_of, PageStands}
+use Rattle.query_core.specs.Collapsings.{CollapsingValue}
+use Rattle.query_core.specs.QueryPages.{form_of, shown_key, query_page}
+use Rattle.query_core.specs.PageWriting.{is_wanted, captures_over, page_over, next_of, PageStands}
 use Rattle.query_core.specs.PageAsked.{asked_page, asked_text, WrotePage}
 use Rattle.query_core.proofs.WriterLemmas.{page, decided, next_is, page_front}
-
-kept_never : (p : Option PlaceValue) (l : List Member) → kept member_place place_cmp never p l ≡ l
-kept_never p [] = refl
-kept_never None (x ∷ xs) = ap (λ l. x ∷ l) (kept_never (Some (member_place x)) xs)
-kept_never (Some q) (x ∷ xs) = ap (λ l. x ∷ l) (kept_never (Some (member_place x)) xs)
 
 filter_and : (f g : Member → Bool) (xs : List Member) → filter g (filter f xs) ≡ filter (λ m. f m && g m) xs
 filter_and f g [] = refl
@@ -54,29 +51,25 @@ wanted_within q from m h =
     let c = not_after q.to m.values.stamp in
     let d = list_all (holds m.values) q.filters in
     ap not (match_not_past q.target m.values.key
-    (and_left a b (and_left (a && b) c (and_left (a && b && c) d (and_left (matches q m.values) (is_above member_place place_cmp never from m) h)))))
+    (and_left a b (and_left (a && b) c (and_left (a && b && c) d (and_left (matches q m.values) (is_above member_place place_cmp from m) h)))))
 
 -- the page that is asked for is that of the lines that are wanted
 pub asked_is : (q : QueryValue) (from : Option PlaceValue) (limit : Option ℕ) (lines : List Member) → asked_page q from limit lines ≡ page_over q from limit lines
 asked_is q from limit lines =
-    ap (page limit) (kept_never from (filter (is_above member_place place_cmp never from) (filter (λ m. matches q m.values) lines))
-    ∙ filter_and (λ m. matches q m.values) (is_above member_place place_cmp never from) lines)
+    ap (λ l. page limit (kept member_place (same_part q.collapse) from l)) (filter_and (λ m. matches q m.values) (is_above member_place place_cmp from) lines)
 
 -- of all lines these were taken
 module _ (q : QueryValue) (from : Option PlaceValue) (limit : Option ℕ) (shows : Bool) (all taken : List Member) where
-  abbrev pub wanted : List Member → List Member
-  wanted lines = filter (is_wanted q from) lines
-
   -- they settle the page
-  pub page_settled : (whole more : Bool) (rest : List Member) → wanted all ≡ wanted taken ++ rest → (whole ≡ true → wanted all ≡ wanted taken) → (whole ≡ false → more ≡ true)
+  pub page_settled : (whole more : Bool) (rest : List Member) → captures_over q from all ≡ captures_over q from taken ++ rest → (whole ≡ true → captures_over q from all ≡ captures_over q from taken) → (whole ≡ false → more ≡ true)
       → more ≡ is_some (page_over q from limit taken).next → asked_page q from limit all ≡ page_over q from limit taken
   page_settled true more rest first ended enough is = asked_is q from limit all ∙ ap (page limit) (ended refl)
   page_settled false more rest first ended enough is =
-      asked_is q from limit all ∙ ap (page limit) first ∙ decided limit (wanted taken) rest (sym is ∙ enough refl)
+      asked_is q from limit all ∙ ap (page limit) first ∙ decided limit (captures_over q from taken) rest (sym is ∙ enough refl)
 
-  module _ (start mid new : Option (List ℕ)) (given : ℕ) (more : Bool) (last : Option PlaceValue) (s : PageStands q from limit taken start mid given more last) (same : asked_page q from limit all ≡ page_over q from limit taken) where
+  module _ (start mid new : Option (List ℕ)) (given : ℕ) (more : Bool) (last : Option PlaceValue) (collapsing : Option CollapsingValue) (s : PageStands q from limit taken start mid given more last collapsing) (same : asked_page q from limit all ≡ page_over q from limit taken) where
     next_same : next_of more last ≡ (asked_page q from limit all).next
-    next_same = next_is limit (wanted taken) more last s.more_is s.last_is ∙ ap (λ (p : Page Member PlaceValue). p.next) (sym same)
+    next_same = next_is limit (captures_over q from taken) more last s.more_is s.last_is ∙ ap (λ (p : Page Member PlaceValue). p.next) (sym same)
 
     text_same : page_text (form_of q) (page_over q from limit taken).members (shown_key shows (next_of more last)) ≡ asked_text q from limit shows all
     text_same =
@@ -96,10 +89,10 @@ module _ (q : QueryValue) (from : Option PlaceValue) (limit : Option ℕ) (shows
     page_cut p = subst (AppendsPrefix start new) text_same (front-end start mid new (form_of q) (page_over q from limit taken).members (shown_key shows (next_of more last)) s.text p)
 
   -- a front of what was taken is a front of the page
-  pub page_broke : (start now : Option (List ℕ)) (rest : List Member) → wanted all ≡ wanted taken ++ rest
+  pub page_broke : (start now : Option (List ℕ)) (rest : List Member) → captures_over q from all ≡ captures_over q from taken ++ rest
       → AppendsPrefix start now (begun (form_of q) (page_over q from limit taken).members) → AppendsPrefix start now (asked_text q from limit shows all)
   page_broke start now rest first p =
-      let r = page_front limit (wanted taken) rest in
+      let r = page_front limit (captures_over q from taken) rest in
       let key = shown_key shows (asked_page q from limit all).next in
       let members : (asked_page q from limit all).members ≡ (page_over q from limit taken).members ++ r.0 =
       ap (λ (p : Page Member PlaceValue). p.members) (asked_is q from limit all ∙ ap (page limit) first) ∙ r.1 in

@@ -1,6 +1,7 @@
 pub mod Runs
 pub mod CheckLemmas
 pub mod TakenLines
+pub mod CaptureLemmas
 pub mod WriterLemmas
 pub mod StartLemmas
 pub mod LineStamps

@@ -11,7 +11,9 @@ use Rattle.cdxj_core.specs.Indexes.{IsIndex}
 use Rattle.cdxj_core.specs.Members.{Member, member_pair, member_place}
 use Rattle.query_text.specs.Queries.{QueryValue}
 use Rattle.query_text.specs.Matching.{is_past}
+use Rattle.query_text.specs.Collapses.{same_part}
 use Rattle.query_text.proofs.RangeLaw.{past_upward}
+use Rattle.page_core.proofs.PageLaws.{each_kept}
 use Rattle.merge_core.specs.declared.feed.Feed.{Feed}
 use Rattle.merge_core.specs.WaitingLines.{WaitingLine, waiting_pair}
 use Rattle.merge_core.specs.Collections.{Known, all_lines, collection}
@@ -21,10 +23,11 @@ use Rattle.merge_core.specs.Openings.{IsCutAt}
 use Rattle.merge_core.specs.Reached.{Reached}
 use Rattle.merge_core.proofs.FeedLemmas.{each_join}
 use Rattle.merge_core.proofs.ReadLemmas.{sought_before, sought_first, sought_whole}
-use Rattle.query_core.specs.PageWriting.{is_wanted}
+use Rattle.query_core.specs.PageWriting.{is_wanted, captures_over, place_before}
 use Rattle.merge_core.specs.SourceLines.{IsLineIn, IsLineOf}
 use Rattle.query_core.specs.Starts.{start_pair}
 use Rattle.query_core.proofs.AskedLemmas.{wanted_within}
+use Rattle.query_core.proofs.CaptureLemmas.{kept_after, captures_split}
 use Rattle.query_core.proofs.LineStamps.{index_lines, line_stamp}
 use Rattle.merge_core.proofs.SourceLemmas.{taken_lines}
 use Rattle.query_core.proofs.StartLemmas.{start_not_above, and_left, and_right}
@@ -77,22 +80,39 @@ module _ {S : Type 0} (text : S → Option (List ℕ)) (extent gave : S → ℕ)
       (each_weaker (λ (m : Member) (h : IsLineOf LINE_LIMIT (map text ss0) m). known_stamp (map text ss0) texts m known h) taken
       (taken_lines LINE_LIMIT text extent (is_past q.target) gave ss0 fs0 ss fs ws b taken same reached).each)
 
+  abbrev captures : List Member → List Member
+  captures lines = captures_over q from lines
+
+  -- what is wanted after these lines, collapsed
+  abbrev later : List Member → List Member
+  later rest = kept_after q from (place_before q from taken) rest
+
+  later_each : (A : Member → Type 0) (rest : List Member) → AllByRecursion A rest → AllByRecursion A (later rest)
+  later_each A rest = each_kept member_place place_cmp (same_part q.collapse) place_cmp_total A (place_before q from taken) rest
+
   -- what was taken is a front of what is wanted
-  pub wanted_first : (rest : List Member) × (filter (is_wanted q from) (collection indexes) ≡ filter (is_wanted q from) taken ++ rest) × AllByRecursion (λ m. IsAbove b (member_pair m)) rest
+  pub wanted_first : (rest : List Member) × (captures (collection indexes) ≡ captures taken ++ rest) × AllByRecursion (λ m. IsAbove b (member_pair m)) rest
   wanted_first =
-      let f = sought_first text extent gave LINE_LIMIT (is_past q.target) (past_upward q.target) ss0 fs0 ss fs ws b taken same reached texts indexes known are sought within (start_pair q from) cut beyond in
-      (f.0, sym of_all ∙ f.1 ∙ ap (λ l. l ++ f.0) of_taken, each_weaker (λ (m : Member) (h : (sought m ≡ true) × IsAbove b (member_pair m)). h.1) f.0 f.2)
+      let f = sought_first text extent gave LINE_LIMIT (is_past q.target) (past_upward q.target) ss0 fs0 ss fs ws b taken same reached texts indexes known are sought within (start_pair q from) cut beyond in (
+        later f.0,
+        captures_split q from (collection indexes) taken f.0 (sym of_all ∙ f.1 ∙ ap (λ l. l ++ f.0) of_taken),
+        later_each (λ m. IsAbove b (member_pair m)) f.0 (each_weaker (λ (m : Member) (h : (sought m ≡ true) × IsAbove b (member_pair m)). h.1) f.0 f.2),
+      )
 
   -- where the lines that wait don't stand below a pair, the rest doesn't either
   pub wanted_before : (next : Pair) → IsAbove b next → AllByRecursion (λ w. Upto next (waiting_pair w)) ws
-      → (rest : List Member) × (filter (is_wanted q from) (collection indexes) ≡ filter (is_wanted q from) taken ++ rest) × AllByRecursion (λ m. Upto next (member_pair m)) rest
+      → (rest : List Member) × (captures (collection indexes) ≡ captures taken ++ rest) × AllByRecursion (λ m. Upto next (member_pair m)) rest
   wanted_before next above least =
-      let f = sought_before text extent gave LINE_LIMIT (is_past q.target) (past_upward q.target) ss0 fs0 ss fs ws b taken same reached texts indexes known are sought within (start_pair q from) cut beyond next above least in
-      (f.0, sym of_all ∙ f.1 ∙ ap (λ l. l ++ f.0) of_taken, each_weaker (λ (m : Member) (h : (sought m ≡ true) × Upto next (member_pair m)). h.1) f.0 f.2)
+      let f = sought_before text extent gave LINE_LIMIT (is_past q.target) (past_upward q.target) ss0 fs0 ss fs ws b taken same reached texts indexes known are sought within (start_pair q from) cut beyond next above least in (
+        later f.0,
+        captures_split q from (collection indexes) taken f.0 (sym of_all ∙ f.1 ∙ ap (λ l. l ++ f.0) of_taken),
+        later_each (λ m. Upto next (member_pair m)) f.0 (each_weaker (λ (m : Member) (h : (sought m ≡ true) × Upto next (member_pair m)). h.1) f.0 f.2),
+      )
 
   -- where no line waits, it is all
-  pub wanted_whole : ws ≡ [] → filter (is_wanted q from) (collection indexes) ≡ filter (is_wanted q from) taken
+  pub wanted_whole : ws ≡ [] → captures (collection indexes) ≡ captures taken
   wanted_whole none =
-      sym of_all
+      ap (kept_after q from from)
+      (sym of_all
       ∙ sought_whole text extent gave LINE_LIMIT (is_past q.target) (past_upward q.target) ss0 fs0 ss fs ws b taken same reached texts indexes known are sought within (start_pair q from) cut beyond none
-      ∙ of_taken
+      ∙ of_taken)

@@ -11,11 +11,12 @@ use Rattle.devices.specs.Device.{AppendsPrefix}
 use Rattle.devices.proofs.WritingLemmas.{prefix_longer}
 use Rattle.query_text.specs.Queries.{QueryValue}
 use Rattle.query_text.specs.Matching.{matches}
+use Rattle.query_text.specs.Collapses.{same_part}
 use Rattle.page_core.specs.Pages.{Page, AllPositive, IsChain, first_size, later_sizes}
 use Rattle.page_core.proofs.PageLaws.{chain_there, rises_filter}
 use Rattle.query_core.specs.declared.page_writer.PageEnd.{PageEnd}
 use Rattle.query_core.specs.Collections.{all_lines, collection, selected}
-use Rattle.query_core.specs.QueryPages.{never, chain_text}
+use Rattle.query_core.specs.QueryPages.{chain_text}
 use Rattle.query_core.specs.PageAsked.{asked_page, asked_text, WrotePage}
 use Rattle.query_core.specs.Paging.{are_sizes, pages_text, IsPageOf, ArePagesOf}
 use Rattle.merge_core.specs.SourceLines.{AreLinesOf}
@@ -103,15 +104,15 @@ one_front q page old new = subst (AppendsPrefix old new) (sym (append-nil (chain
 
 module _ (q : QueryValue) (indexes : List (List Member)) where
   abbrev pub Chain : Option PlaceValue → List ℕ → Pages → Type 0
-  Chain from sizes pages = IsChain member_place place_cmp never (selected q (collection indexes)) from sizes pages
+  Chain from sizes pages = IsChain member_place place_cmp (same_part q.collapse) (selected q (collection indexes)) from sizes pages
 
   abbrev pub page_at : Option PlaceValue → List ℕ → Page Member PlaceValue
   page_at from left = asked_page q from (Some (first_size left)) (collection indexes)
 
   pub there : (from : Option PlaceValue) (left : List ℕ) → AllPositive left → (pages : Pages) × Chain from left pages
   there from left positive =
-      chain_there member_place place_cmp never place_cmp_total (selected q (collection indexes)) from left
-      (rises_filter member_place place_cmp never place_cmp_total (λ m. matches q m.values) (collection indexes) (rises_rising member_place place_cmp place_cmp_total (all_lines indexes))) positive
+      chain_there member_place place_cmp (same_part q.collapse) place_cmp_total (selected q (collection indexes)) from left
+      (rises_filter member_place place_cmp place_cmp_total (λ m. matches q m.values) (collection indexes) (rises_rising member_place place_cmp place_cmp_total (all_lines indexes))) positive
 
   pub chain_more : (from : Option PlaceValue) (left : List ℕ) (next : PlaceValue) → (page_at from left).next ≡ Some next → (rest : Pages) → Chain (Some next) (later_sizes left) rest → Chain from left (page_at from left ∷ rest)
   chain_more from left next e rest h = (refl, match_some (page_at from left).next next _ (λ p. Chain (Some p) (later_sizes left) rest) e h)

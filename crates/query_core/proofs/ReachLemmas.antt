@@ -10,15 +10,16 @@ use Rattle.std.proofs.lemmas.Bool.{false_from_ne_true, eq-eqb}
 use Rattle.std.proofs.lemmas.Cmp.{ranked, by_ranked}
 use Rattle.std.proofs.lemmas.List.{length-map}
 use Rattle.std.proofs.lemmas.Slice.Eq.{bytes_eq-Decides}
-use Rattle.std.proofs.lemmas.List.Elements.{filter-append}
 use Rattle.cdxj_places.specs.Pairs.{Pair, pair_cmp, place_pair}
-use Rattle.cdxj_places.specs.Places.{PlaceValue}
+use Rattle.cdxj_places.specs.Places.{PlaceValue, place_cmp}
 use Rattle.cdxj_places.proofs.PlaceLaw.{both}
+use Rattle.cdxj_places.proofs.PlaceOrder.{place_cmp_total}
 use Rattle.cdxj_places.proofs.PairLemmas.{pair_cmp_total}
 use Rattle.cdxj_places.proofs.RisingLaws.{each_weaker}
 use Rattle.cdxj_core.specs.declared.limit.TheConstants.{LINE_LIMIT}
 use Rattle.cdxj_core.specs.Indexes.{IsIndex}
-use Rattle.cdxj_core.specs.Members.{Member, member_pair}
+use Rattle.cdxj_core.specs.Members.{Member, member_pair, member_place}
+use Rattle.query_text.specs.Collapses.{same_part}
 use Rattle.query_text.specs.Queries.{QueryValue}
 use Rattle.query_text.specs.Targets.{TargetValue}
 use Rattle.query_text.specs.Matching.{begins, kind_covers, covers, is_past}
@@ -27,6 +28,7 @@ use Rattle.query_text.specs.declared.target.MatchKind.TheVariants.{Exact, Prefix
 use Rattle.page_core.specs.Form.{Form}
 use Rattle.page_core.specs.Pages.{Page}
 use Rattle.page_core.specs.PageText.{begun}
+use Rattle.page_core.proofs.PageLaws.{each_kept}
 use Rattle.devices.proofs.DeviceLemmas.{Appends-none}
 use Rattle.source_core.specs.Search.{IsCut}
 use Rattle.merge_core.specs.declared.feed.Feed.{Feed}
@@ -48,9 +50,10 @@ use Rattle.merge_core.proofs.MergeLemmas.{is_less}
 use Rattle.merge_core.proofs.WholeLemmas.{told_known}
 use Rattle.query_core.specs.PageAsked.{asked_page}
 use Rattle.query_core.specs.QueryPages.{form_of}
-use Rattle.query_core.specs.PageWriting.{is_wanted, page_over}
+use Rattle.query_core.specs.PageWriting.{is_wanted, captures_over, place_before, page_over}
 use Rattle.query_core.specs.Reach.{pair_after, follower, is_within, in_reach, captures_text, GaveInReach, WroteFront}
 use Rattle.query_core.specs.Starts.{first_stamp, later_pair, start_pair}
+use Rattle.query_core.proofs.CaptureLemmas.{kept_after, captures_append}
 use Rattle.query_core.proofs.PageOfIndexes.{wanted_before, wanted_first, wanted_whole}
 use Rattle.query_core.proofs.AskedLemmas.{asked_is}
 use Rattle.query_core.proofs.WriterLemmas.{page, next_none, page_front}
@@ -147,7 +150,7 @@ none_follows (Some zero) = refl
 none_follows (Some (suc n)) = refl
 
 -- these captures don't pass the page, and what is wanted beside them isn't below a pair
-pub within_follower : (q : QueryValue) (from : Option PlaceValue) (limit : Option ℕ) (lines c vs : List Member) → filter (is_wanted q from) lines ≡ c ++ vs → (limit ≡ Some 0 → ⊥) → is_some (page limit c).next ≡ false
+pub within_follower : (q : QueryValue) (from : Option PlaceValue) (limit : Option ℕ) (lines c vs : List Member) → captures_over q from lines ≡ c ++ vs → (limit ≡ Some 0 → ⊥) → is_some (page limit c).next ≡ false
     → (x : Pair) → AllByRecursion (λ v. Upto x (member_pair v)) vs → is_within (follower q from limit lines) x ≡ true
 within_follower q from None lines c vs split some none x k = refl
 within_follower q from (Some zero) lines c vs split some none x k = absurd (some refl)
@@ -189,7 +192,7 @@ module _ {S : Type 0} (text : S → Option (List ℕ)) (extent gave : S → ℕ)
     (cut : AllByRecursion (λ x. IsCutAt LINE_LIMIT (start_pair q from) (text x.0) x.1.cursor) (zip ss0 fs0))
     (texts : List (List ℕ)) (indexes : List (List Member)) (known : Known (map text ss0) texts) (are : AllTwo (IsIndex LINE_LIMIT) texts indexes) where
   abbrev wanted : List Member → List Member
-  wanted lines = filter (is_wanted q from) lines
+  wanted lines = captures_over q from lines
 
   -- the pair of the lines that were taken last, where those before them didn't pass the page
   pub record Last : Type 0 where
@@ -225,19 +228,22 @@ module _ {S : Type 0} (text : S → Option (List ℕ)) (extent gave : S → ℕ)
   cut_of false none room last =
       let l = last refl in
       let first = wanted_first text extent gave q from ss0 fs0 ss fs ws b taken same reached cut texts indexes known are in
-      let both_parts : wanted taken ≡ wanted l.earlier ++ wanted l.group = ap wanted l.parts ∙ filter-append (is_wanted q from) l.earlier l.group in
+      let group = filter (is_wanted q from) l.group in
+      let p = place_before q from l.earlier in
+      let both_parts : wanted taken ≡ wanted l.earlier ++ kept_after q from p group = ap wanted l.parts ∙ captures_append q from l.earlier l.group in
       record {
         front = wanted l.earlier;
-        back = wanted l.group ++ first.0;
-        tail = wanted l.group;
-        whole = first.1 ∙ ap (λ ms. ms ++ first.0) both_parts ∙ append_assoc (wanted l.earlier) (wanted l.group) first.0;
+        back = kept_after q from p group ++ first.0;
+        tail = kept_after q from p group;
+        whole = first.1 ∙ ap (λ ms. ms ++ first.0) both_parts ∙ append_assoc (wanted l.earlier) (kept_after q from p group) first.0;
         of_taken = both_parts;
         room = l.room;
         later = λ m upto.
             let low : Upto (member_pair m) l.pair = subst (λ o. IsUpto o (member_pair m)) l.bound upto in
-            each_join (λ v. Upto (member_pair m) (member_pair v)) (wanted l.group) first.0
-            (each_weaker (λ (v : Member) (h : Alike (member_pair v) l.pair × (is_wanted q from v ≡ true)). upto_upto (member_pair m) l.pair (member_pair v) low (same_from (member_pair v) l.pair h.0)) (wanted l.group)
-            (each_filter (λ v. Alike (member_pair v) l.pair) (is_wanted q from) l.group l.alike))
+            each_join (λ v. Upto (member_pair m) (member_pair v)) (kept_after q from p group) first.0
+            (each_kept member_place place_cmp (same_part q.collapse) place_cmp_total (λ v. Upto (member_pair m) (member_pair v)) p group
+            (each_weaker (λ (v : Member) (h : Alike (member_pair v) l.pair × (is_wanted q from v ≡ true)). upto_upto (member_pair m) l.pair (member_pair v) low (same_from (member_pair v) l.pair h.0)) group
+            (each_filter (λ v. Alike (member_pair v) l.pair) (is_wanted q from) l.group l.alike)))
             (each_weaker (λ (v : Member) (h : IsAbove b (member_pair v)). upto_upto (member_pair m) l.pair (member_pair v) low (below_upto l.pair (member_pair v) (subst (λ o. IsAbove o (member_pair v)) l.bound h))) first.0 first.2);
       }
 

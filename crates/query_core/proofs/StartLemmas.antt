@@ -18,7 +18,6 @@ use Rattle.query_text.specs.Matching.{matches, key_matches, not_before, not_afte
 use Rattle.query_text.proofs.RangeLaw.{match_not_below}
 use Rattle.page_core.specs.Pages.{is_above}
 use Rattle.merge_core.specs.PairOrders.{is_low}
-use Rattle.query_core.specs.QueryPages.{never}
 use Rattle.query_core.specs.PageWriting.{is_wanted}
 use Rattle.query_core.specs.Starts.{first_stamp, later_pair, start_pair}
 
@@ -85,7 +84,7 @@ stamp_not_below stamp h =
 above_place : (p : PlaceValue) (m : Member) → is_gt (place_cmp (member_place m) p) ≡ true → is_low (place_pair p) m ≡ false
 above_place p m h = above_not_low (slice_cmp nat_cmp m.values.key p.key) (slice_cmp nat_cmp m.values.stamp p.stamp) _ h
 
-later_not_low : (pair : Pair) (from : Option PlaceValue) (m : Member) → is_low pair m ≡ false → is_above member_place place_cmp never from m ≡ true → is_low (later_pair pair from) m ≡ false
+later_not_low : (pair : Pair) (from : Option PlaceValue) (m : Member) → is_low pair m ≡ false → is_above member_place place_cmp from m ≡ true → is_low (later_pair pair from) m ≡ false
 later_not_low pair None m h k = h
 later_not_low pair (Some p) m h k =
     (elim (is_gt (pair_cmp (place_pair p) pair)) as (λ b. is_low (cond b (place_pair p) pair) m ≡ false) [ true ↦ above_place p m k | false ↦ h ])
@@ -95,11 +94,11 @@ wanted_key q from m h =
     let a = key_matches q.target m.values.key in
     let b = not_before q.from m.values.stamp in
     let c = not_after q.to m.values.stamp in
-    and_left a b (and_left (a && b) c (and_left (a && b && c) (passes_filters q m.values) (and_left (matches q m.values) (is_above member_place place_cmp never from m) h)))
+    and_left a b (and_left (a && b) c (and_left (a && b && c) (passes_filters q m.values) (and_left (matches q m.values) (is_above member_place place_cmp from m) h)))
 
 -- a line with a stamp that is wanted doesn't stand below the start
 pub start_not_above : (q : QueryValue) (from : Option PlaceValue) (m : Member) → is_stamp m.values.stamp ≡ true → is_wanted q from m ≡ true → is_low (start_pair q from) m ≡ false
 start_not_above q from m s h =
     later_not_low (q.target.text, first_stamp) from m
     (not_low (q.target.text, first_stamp) m (then_not_above _ _ (match_not_below q.target m.values.key (wanted_key q from m h)) (stamp_not_below m.values.stamp s)))
-    (and_right (matches q m.values) (is_above member_place place_cmp never from m) h)
+    (and_right (matches q m.values) (is_above member_place place_cmp from m) h)

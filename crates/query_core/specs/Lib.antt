@@ -2,6 +2,7 @@ pub mod NextLine
 pub mod Checking
 pub mod Collections
 pub mod QueryPages
+pub mod Collapsings
 pub mod PageWriting
 pub mod WriterView
 pub mod PageAsked

@@ -4,16 +4,17 @@ use Rattle.std.specs.Ordering.{is_gt}
 use Rattle.std.specs.Io.KnownBytes.{Appends}
 use Rattle.cdxj_places.specs.Places.{PlaceValue, place_cmp}
 use Rattle.cdxj_core.specs.Members.{Member, member_place}
+use Rattle.query_text.specs.Collapses.{same_part}
 use Rattle.query_text.specs.Queries.{QueryValue}
 use Rattle.page_core.specs.Pages.{Page, page_of}
 use Rattle.page_core.specs.PageText.{page_text}
 use Rattle.query_core.specs.declared.page_writer.PageEnd.{PageEnd}
 use Rattle.query_core.specs.Collections.{selected}
-use Rattle.query_core.specs.QueryPages.{never, form_of, shown_key}
+use Rattle.query_core.specs.QueryPages.{form_of, shown_key}
 
--- the page of those that are selected
+-- the page of those that are selected, collapsed from the place on
 abbrev pub asked_page : QueryValue → Option PlaceValue → Option ℕ → List Member → Page Member PlaceValue
-asked_page q from limit lines = page_of member_place place_cmp never (selected q lines) from limit
+asked_page q from limit lines = page_of member_place place_cmp (same_part q.collapse) (selected q lines) from limit
 
 abbrev pub asked_text : QueryValue → Option PlaceValue → Option ℕ → Bool → List Member → List ℕ
 asked_text q from limit shows lines =

@@ -6,18 +6,28 @@ use Rattle.std.specs.Io.KnownBytes.{Appends}
 use Rattle.cdxj_places.specs.Places.{PlaceValue, place_cmp}
 use Rattle.query_text.specs.Queries.{QueryValue}
 use Rattle.query_text.specs.Matching.{matches}
+use Rattle.query_text.specs.Collapses.{same_part}
 use Rattle.cdxj_core.specs.Members.{Member, member_place}
-use Rattle.page_core.specs.Pages.{Page, is_above, at_most}
+use Rattle.page_core.specs.Pages.{Page, is_above, end_place, kept, at_most}
 use Rattle.page_core.specs.PageText.{begun}
-use Rattle.query_core.specs.QueryPages.{never, form_of}
+use Rattle.query_core.specs.Collapsings.{CollapsingValue, collapsing_at}
+use Rattle.query_core.specs.QueryPages.{form_of}
 
 -- the line matches the query and stands above the place
 abbrev pub is_wanted : QueryValue → Option PlaceValue → Member → Bool
-is_wanted q from m = matches q m.values && is_above member_place place_cmp never from m
+is_wanted q from m = matches q m.values && is_above member_place place_cmp from m
+
+-- those of these lines, collapsed from the place on
+abbrev pub captures_over : QueryValue → Option PlaceValue → List Member → List Member
+captures_over q from lines = kept member_place (same_part q.collapse) from (filter (is_wanted q from) lines)
+
+-- the place of the last of them, collapsed or not, or else that after which the page begins
+abbrev pub place_before : QueryValue → Option PlaceValue → List Member → Option PlaceValue
+place_before q from lines = end_place member_place from (filter (is_wanted q from) lines)
 
 -- the page of these lines after the place
 abbrev pub page_over : QueryValue → Option PlaceValue → Option ℕ → List Member → Page Member PlaceValue
-page_over q from limit lines = at_most member_place place_cmp never limit (filter (is_wanted q from) lines)
+page_over q from limit lines = at_most member_place limit (captures_over q from lines)
 
 -- the place of the n-th, from 1 on
 abbrev pub place_at : ℕ → List Member → Option PlaceValue
@@ -31,12 +41,14 @@ abbrev pub last_place : Option ℕ → List Member → Option PlaceValue
 last_place None ms = None
 last_place (Some n) ms = place_at n ms
 
--- what stands written of the page, how many captures it has, whether a further one follows, and the place of the last that it has room for
-pub record PageStands (q : QueryValue) (from : Option PlaceValue) (limit : Option ℕ) (taken : List Member) (start now : Option (List ℕ)) (given : ℕ) (more : Bool) (last : Option PlaceValue) : Type 0 where
+-- what stands written of the page, how many captures it has, whether a further one follows, the place of the last that it has room
+-- for, and, while no further one follows, the part by which the next line is compared
+pub record PageStands (q : QueryValue) (from : Option PlaceValue) (limit : Option ℕ) (taken : List Member) (start now : Option (List ℕ)) (given : ℕ) (more : Bool) (last : Option PlaceValue) (collapsing : Option CollapsingValue) : Type 0 where
   pub text : Appends start now (begun (form_of q) (page_over q from limit taken).members)
   pub given_is : given ≡ min (length (page_over q from limit taken).members) (2 ^ 64 - 1)
   pub more_is : more ≡ is_some (page_over q from limit taken).next
-  pub last_is : last ≡ last_place limit (filter (is_wanted q from) taken)
+  pub last_is : last ≡ last_place limit (captures_over q from taken)
+  pub collapsing_is : more ≡ false → collapsing ≡ collapsing_at q.collapse (place_before q from taken)
 
 -- the page has as many as its limit
 abbrev pub is_full : Option ℕ → ℕ → Bool

@@ -1,7 +1,8 @@
 -- The pages of a query, and their texts.
-use Rattle.std.specs.Prelude.{ℕ, List, Bool, false, Option, None, option_map, if◌then◌else◌}
+use Rattle.std.specs.Prelude.{ℕ, List, Bool, Option, None, option_map, if◌then◌else◌}
 use Rattle.cdxj_core.specs.declared.field.Field.{Field}
 use Rattle.cdxj_places.specs.Places.{PlaceValue, place_cmp, resume_text}
+use Rattle.query_text.specs.Collapses.{same_part}
 use Rattle.query_text.specs.declared.output.OutputFormat.{OutputFormat}
 use Rattle.query_text.specs.declared.output.OutputFormat.TheVariants as output
 use Rattle.query_text.specs.Queries.{QueryValue}
@@ -11,17 +12,13 @@ use Rattle.page_core.specs.Pages.{Page, page_of, IsChain}
 use Rattle.page_core.specs.PageText.{page_text}
 use Rattle.query_core.specs.Collections.{selected}
 
--- nothing is collapsed
-abbrev pub never : PlaceValue → PlaceValue → Bool
-never p q = false
-
 -- the page that a query asks for, of lines that rise by place
 abbrev pub query_page : QueryValue → List Member → Page Member PlaceValue
-query_page q lines = page_of member_place place_cmp never (selected q lines) q.resume q.limit
+query_page q lines = page_of member_place place_cmp (same_part q.collapse) (selected q lines) q.resume q.limit
 
 -- the pages of these sizes, of such lines
 abbrev pub IsQueryChain : QueryValue → List Member → List ℕ → List (Page Member PlaceValue) → Type 0
-IsQueryChain q lines sizes pages = IsChain member_place place_cmp never (selected q lines) q.resume sizes pages
+IsQueryChain q lines sizes pages = IsChain member_place place_cmp (same_part q.collapse) (selected q lines) q.resume sizes pages
 
 abbrev pub output_form : OutputFormat → List Field → Form
 output_form output.Text fields = Text fields

@@ -1,6 +1,5 @@
 -- The lines of indexes that have to be read for a page.
 use Rattle.std.specs.Prelude.{ℕ, zero, suc, ◌≤◌, List, [], ◌∷◌, length, take, Bool, true, not, ◌&&◌, Option, None, Some}
-use Rattle.std.specs.List.{filter}
 use Rattle.std.specs.Io.KnownBytes.{Appends}
 use Rattle.std.specs.Ordering.{is_gt}
 use Rattle.cdxj_places.specs.Pairs.{Pair, pair_cmp}
@@ -15,7 +14,7 @@ use Rattle.merge_core.specs.Reached.{Grows}
 use Rattle.merge_core.specs.Spending.{AllGaveWithin}
 use Rattle.query_core.specs.Collections.{collection}
 use Rattle.query_core.specs.PageAsked.{asked_page}
-use Rattle.query_core.specs.PageWriting.{is_wanted}
+use Rattle.query_core.specs.PageWriting.{captures_over}
 use Rattle.query_core.specs.QueryPages.{form_of}
 use Rattle.query_core.specs.Starts.{start_pair}
 
@@ -29,7 +28,7 @@ pair_after (suc n) (m ∷ ms) = pair_after n ms
 -- the pair of the first capture that follows a page of so many, where one does
 abbrev pub follower : QueryValue → Option PlaceValue → Option ℕ → List Member → Option Pair
 follower q from None lines = None
-follower q from (Some n) lines = pair_after n (filter (is_wanted q from) lines)
+follower q from (Some n) lines = pair_after n (captures_over q from lines)
 
 -- the pair isn't above the bound, if there is one
 abbrev pub is_within : Option Pair → Pair → Bool

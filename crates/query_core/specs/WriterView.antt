@@ -18,7 +18,7 @@ abbrev pub Kept : PageWriter → PageWriter → Type 0
 Kept old new = (new.query ≡ old.query) × (new.from ≡ old.from) × (new.limit ≡ old.limit)
 
 abbrev pub stands : PageWriter → List Member → Option (List ℕ) → Option (List ℕ) → Type 0
-stands w taken start now = PageStands w.query.now (from_view w.from) w.limit taken start now w.given w.more w.last
+stands w taken start now = PageStands w.query.now (from_view w.from) w.limit taken start now w.given w.more w.last w.collapsing
 
 -- the same of a writer that was the first before the lines
 abbrev pub Wrote : PageWriter → PageWriter → List Member → Option (List ℕ) → Option (List ℕ) → Type 0

@@ -29,7 +29,8 @@ use std::alloc::Global;
 
 /// Writes the page that the query asks for: the captures that it selects of the collection of the indexes, in the order of
 /// places, after its resume key and up to its limit. The resume key of the next page stands at its end where the query shows it
-/// and a further capture follows.
+/// and a further capture follows. Where the query collapses captures, one is left out whose part is that of the capture before it,
+/// the first after a resume key where its part is that of the key's place.
 ///
 /// `TooManySources` over `SOURCES_LIMIT` indexes comes before anything is read or written. `BadLine` and `OutOfOrder` name a line
 /// by which an index is none; only lines that are read are looked at. After a fault a front of the page was written.

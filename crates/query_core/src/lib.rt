@@ -3,6 +3,7 @@
 
 mod answering;
 mod checking;
+mod collapsing;
 mod fault;
 mod laws;
 mod line_reading;

@@ -6,9 +6,10 @@ ghost use Rattle.cdxj_core.specs.Members.{Member, member_place};
 ghost use Rattle.page_core.specs.Pages.{is_above};
 ghost use Rattle.page_core.specs.FormView.{form_view};
 ghost use Rattle.page_core.specs.Faults.{CountsWrite};
-ghost use Rattle.query_core.specs.QueryPages.{form_of, never, shown_key};
+ghost use Rattle.query_core.specs.QueryPages.{form_of, shown_key};
 ghost use Rattle.query_core.specs.PageWriting.{is_wanted};
 
+use crate::collapsing::Collapsing;
 use cdxj_core::{HasPlace, Line, OwnedPlace, Place, resume_text};
 use devices::Output;
 use merge_core::{Sink, SinkFault};
@@ -80,6 +81,8 @@ pub struct PageWriter<'q> {
     more: bool,
     /// The place of the last capture that the page has room for.
     last: Option<OwnedPlace>,
+    /// What the next line is compared with, where captures are collapsed.
+    collapsing: Option<Collapsing>,
     pub ghost page_rule: { page ≡ form_of query.now },
 }
 
@@ -89,6 +92,7 @@ impl<'q> PageWriter<'q> {
     ghost use Rattle.devices.specs.Writing.{WritesText};
     ghost use Rattle.merge_core.specs.Reached.{Grows};
     ghost use Rattle.page_core.specs.PageText.{page_start, page_end};
+    ghost use Rattle.query_core.specs.Collapsings.{collapsing_after, repeats_part};
     ghost use Rattle.query_core.specs.PageWriting.{is_full, last_after, next_of, FitsWord};
     ghost use Rattle.query_core.specs.WriterView.{stands, Kept, Broke, from_view};
 
@@ -105,6 +109,7 @@ impl<'q> PageWriter<'q> {
         ensures front { OnErr result (AppendsPrefix (O.written out.old) (O.written out.new) (page_start (form_of query.now))) }
         ensures failures { CountsWrite result (O.failures out.old) (O.failures out.new) }
     {
+        let collapsing = Collapsing::begin(alloc, query.collapse(), from)?;
         let mut page = PageOutput::new(alloc, form_of(query));
         page.put_start(out)?;
         Ok(PageWriter {
@@ -115,11 +120,12 @@ impl<'q> PageWriter<'q> {
             given: 0,
             more: false,
             last: None,
+            collapsing,
         })
     }
 
     fn is_above(&self, line: &Line) -> bool
-        ensures { result ≡ is_above member_place place_cmp never (from_view self.now.from) line.now }
+        ensures { result ≡ is_above member_place place_cmp (from_view self.now.from) line.now }
     {
         match self.from {
             Some(place) => line.place().compare_place(&place).is_gt(),
@@ -138,6 +144,31 @@ impl<'q> PageWriter<'q> {
         }
     }
 
+    /// Whether the line is left out for the capture before it.
+    fn repeats(&self, line: &Line) -> bool
+        ensures { result ≡ repeats_part self.now.collapsing (member_place line.now) }
+    {
+        match &self.collapsing {
+            Some(collapsing) => collapsing.repeats(line.place()),
+            None => false,
+        }
+    }
+
+    /// Keeps what the lines after this one are compared with.
+    fn keep_part(&mut self, alloc: Global, line: &Line) -> Result<(), TextFault>
+        ensures part { OnOk result (self.new.collapsing ≡ collapsing_after self.old.collapsing (member_place line.now)) }
+        ensures kept { Kept self.old self.new × (self.new.given ≡ self.old.given) × (self.new.more ≡ self.old.more) × (self.new.last ≡ self.old.last) }
+        ensures memory { IfErr result (λ e. e ≡ TextFault.Memory) }
+    {
+        match &mut self.collapsing {
+            Some(collapsing) => match collapsing.keep(alloc, line.place()) {
+                Ok(()) => Ok(()),
+                Err(_) => Err(TextFault::Memory),
+            },
+            None => Ok(()),
+        }
+    }
+
     fn is_full(&self) -> bool
         ensures full { result ≡ is_full self.now.limit self.now.given }
         ensures fits { FitsWord self.now.limit }
@@ -151,7 +182,7 @@ impl<'q> PageWriter<'q> {
     /// Keeps the place of a line that was written, where it is the last that the page has room for.
     fn keep_last(&mut self, alloc: Global, line: &Line) -> Result<(), TextFault>
         ensures last { OnOk result (self.new.last ≡ last_after self.old.limit self.old.given self.old.last (member_place line.now)) }
-        ensures kept { Kept self.old self.new × (self.new.given ≡ self.old.given) × (self.new.more ≡ self.old.more) }
+        ensures kept { Kept self.old self.new × (self.new.given ≡ self.old.given) × (self.new.more ≡ self.old.more) × (self.new.collapsing ≡ self.old.collapsing) }
         ensures memory { IfErr result (λ e. e ≡ TextFault.Memory) }
     {
         if !self.is_full() {
@@ -188,6 +219,10 @@ impl<'q> PageWriter<'q> {
         if !self.wants(line)? {
             return Ok(());
         }
+        if self.repeats(line) {
+            return Ok(());
+        }
+        self.keep_part(alloc, line)?;
         if self.is_full() {
             self.more = self.last.is_some();
             return Ok(());

@@ -5,7 +5,7 @@
 pub struct Report {
     /// How many captures were written.
     pub given: u64,
-    /// Whether a further capture that the query selects follows them.
+    /// Whether a further capture follows them.
     pub more: bool,
     /// How many turns the searches for the first line took, in all indexes together.
     pub probes: u64,

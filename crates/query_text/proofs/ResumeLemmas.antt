@@ -19,6 +19,7 @@ use Rattle.query_text.specs.Values.{or_refused, stamp_start_of, limit_of, resume
 use Rattle.query_text.specs.Filters.{filter_of, literal_of}
 use Rattle.query_text.specs.Targets.{kind_of}
 use Rattle.query_text.specs.Outputs.{output_of, flag_of}
+use Rattle.query_text.specs.Collapses.{collapse_of}
 use Rattle.query_text.specs.Parameters.{ParameterValues, no_values, with_filter, with_parameter, with_piece, with_pieces, pieces_of}
 use Rattle.query_text.specs.Queries.{QueryValue, query_with, with_target, target_of}
 use Rattle.query_text.proofs.PlainTexts.{plain_text_stands}
@@ -54,6 +55,7 @@ parameter_at r parameter.ResumeKey v text h = absurd (true≢false h)
 parameter_at r parameter.ShowResumeKey v text h = ifs_at r (is_some v.show_resume_key) fault.RepeatedParameter _ _ (then_at r (flag_of (decoded text)) (λ x. record v { show_resume_key = Some x }) _ (λ x. refl))
 parameter_at r parameter.Fl v text h = ifs_at r (is_some v.fields) fault.RepeatedParameter _ _ (then_at r (fields_of (decoded text)) (λ x. record v { fields = Some x }) _ (λ x. refl))
 parameter_at r parameter.Output v text h = ifs_at r (is_some v.output) fault.RepeatedParameter _ _ (then_at r (output_of (decoded text)) (λ x. record v { output = Some x }) _ (λ x. refl))
+parameter_at r parameter.Collapse v text h = ifs_at r (is_some v.collapse) fault.RepeatedParameter _ _ (then_at r (collapse_of (decoded text)) (λ x. record v { collapse = Some x }) _ (λ x. refl))
 
 named_at : (r : Option PlaceValue) (p : Option Parameter) (v : ParameterValues) (text : Text) → is_resume_key p ≡ false → with_parameter p (at r v) text ≡ all_at r (with_parameter p v text)
 named_at r None v text h = refl

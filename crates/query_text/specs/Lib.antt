@@ -5,6 +5,7 @@ pub mod Values
 pub mod Filters
 pub mod Targets
 pub mod Outputs
+pub mod Collapses
 pub mod ParameterNames
 pub mod Parameters
 pub mod ParameterViews

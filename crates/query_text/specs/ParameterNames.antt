@@ -2,7 +2,7 @@
 use Rattle.std.specs.Prelude.{codes, bytes_eq, Option, Some, None, if◌then◌else◌}
 use Rattle.query_text.specs.declared.filter.Test.TheVariants as test
 use Rattle.query_text.specs.declared.parameter.Parameter.{Parameter}
-use Rattle.query_text.specs.declared.parameter.Parameter.TheVariants.{Url, Key, MatchType, From, To, Filter, Condition, Limit, ResumeKey, ShowResumeKey, Fl, Output}
+use Rattle.query_text.specs.declared.parameter.Parameter.TheVariants.{Url, Key, MatchType, From, To, Filter, Condition, Limit, ResumeKey, ShowResumeKey, Fl, Output, Collapse}
 use Rattle.query_text.specs.Readings.{Text}
 
 abbrev pub parameter_named : Text → Option Parameter
@@ -20,4 +20,5 @@ parameter_named name = if bytes_eq name (codes "url") then Some Url
     else (if bytes_eq name (codes "resumeKey") then Some ResumeKey
     else (if bytes_eq name (codes "showResumeKey") then Some ShowResumeKey
     else (if bytes_eq name (codes "fl") then Some Fl
-    else (if bytes_eq name (codes "output") then Some Output else None))))))))))))))
+    else (if bytes_eq name (codes "output") then Some Output
+    else (if bytes_eq name (codes "collapse") then Some Collapse else None)))))))))))))))

@@ -19,6 +19,7 @@ values_of p = record {
   show_resume_key = p.show_resume_key;
   fields = option_map (λ fields. fields.items) p.fields;
   output = p.output;
+  collapse = p.collapse;
 }
 
 -- What is read into parameters is what is expected; memory may be refused for any.

@@ -6,6 +6,7 @@ use Rattle.cdxj_core.specs.Places.{PlaceValue}
 use Rattle.query_text.specs.declared.fault.QueryFault.TheVariants as fault
 use Rattle.query_text.specs.declared.target.MatchKind.{MatchKind}
 use Rattle.query_text.specs.declared.output.OutputFormat.{OutputFormat}
+use Rattle.query_text.specs.declared.collapse.Collapse.{Collapse}
 use Rattle.query_text.specs.declared.parameter.Parameter.{Parameter}
 use Rattle.query_text.specs.declared.parameter.Parameter.TheVariants as parameter
 use Rattle.query_text.specs.Readings.{Text, Read, and_then}
@@ -15,6 +16,7 @@ use Rattle.query_text.specs.Values.{stamp_start_of, limit_of, resume_of, fields_
 use Rattle.query_text.specs.Filters.{FilterValue, filter_of, literal_of}
 use Rattle.query_text.specs.Targets.{kind_of}
 use Rattle.query_text.specs.Outputs.{output_of, flag_of}
+use Rattle.query_text.specs.Collapses.{collapse_of}
 
 -- the values that were given
 pub record ParameterValues : Type 0 where
@@ -29,6 +31,7 @@ pub record ParameterValues : Type 0 where
   pub show_resume_key : Option Bool
   pub fields : Option (List Field)
   pub output : Option OutputFormat
+  pub collapse : Option Collapse
 
 abbrev pub no_values : ParameterValues
 no_values = record {
@@ -43,6 +46,7 @@ no_values = record {
   show_resume_key = None;
   fields = None;
   output = None;
+  collapse = None;
 }
 
 -- the parameter was given, and may not be given again
@@ -59,6 +63,7 @@ is_given parameter.ResumeKey v = is_some v.resume
 is_given parameter.ShowResumeKey v = is_some v.show_resume_key
 is_given parameter.Fl v = is_some v.fields
 is_given parameter.Output v = is_some v.output
+is_given parameter.Collapse v = is_some v.collapse
 
 abbrev pub with_filter : ParameterValues → FilterValue → ParameterValues
 with_filter v filter = record v { filters = v.filters ++ filter ∷ [] }
@@ -87,6 +92,8 @@ with_value parameter.Fl v text =
     and_then (fields_of (decoded text)) (λ fields. Ok (record v { fields = Some fields }))
 with_value parameter.Output v text =
     and_then (output_of (decoded text)) (λ output. Ok (record v { output = Some output }))
+with_value parameter.Collapse v text =
+    and_then (collapse_of (decoded text)) (λ collapse. Ok (record v { collapse = Some collapse }))
 
 -- a known name, not given before, and then its value
 abbrev pub with_parameter : Option Parameter → ParameterValues → Text → Read ParameterValues

@@ -4,6 +4,7 @@ use Rattle.cdxj_core.specs.declared.field.Field.{Field}
 use Rattle.cdxj_core.specs.declared.field.Field.TheVariants as field
 use Rattle.cdxj_core.specs.Places.{PlaceValue}
 use Rattle.query_text.specs.declared.fault.QueryFault.TheVariants as fault
+use Rattle.query_text.specs.declared.collapse.Collapse.{Collapse}
 use Rattle.query_text.specs.declared.target.MatchKind.{MatchKind}
 use Rattle.query_text.specs.declared.target.MatchKind.TheVariants.{Exact}
 use Rattle.query_text.specs.declared.output.OutputFormat.{OutputFormat}
@@ -24,6 +25,7 @@ pub record QueryValue : Type 0 where
   pub show_resume_key : Bool
   pub fields : List Field
   pub output : OutputFormat
+  pub collapse : Option Collapse
 
 -- the fields of a row where a query names none
 abbrev pub usual_fields : List Field
@@ -50,6 +52,7 @@ with_target v target = record {
   show_resume_key = unwrap_or v.show_resume_key false;
   fields = unwrap_or v.fields usual_fields;
   output = unwrap_or v.output output.Text;
+  collapse = v.collapse;
 }
 
 abbrev pub query_with : ParameterValues → Read QueryValue

@@ -40,6 +40,8 @@ pub enum QueryFault {
     BadUrl,
     #[error("query too long")]
     QueryTooLong,
+    #[error("bad collapse")]
+    BadCollapse,
 }
 
 impl From<AllocError> for QueryFault {
@@ -86,6 +88,7 @@ impl QueryFault {
             QueryFault::UrlAndKey => "UrlAndKey",
             QueryFault::BadUrl => "BadUrl",
             QueryFault::QueryTooLong => "QueryTooLong",
+            QueryFault::BadCollapse => "BadCollapse",
         }
     }
 }

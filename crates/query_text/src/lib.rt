@@ -2,6 +2,7 @@
 #![tactic(auto)]
 
 mod address;
+mod collapse;
 mod fault;
 mod fields;
 mod filter;
@@ -17,6 +18,7 @@ mod resuming;
 mod stamp;
 mod target;
 
+pub use crate::collapse::Collapse;
 pub use crate::fault::QueryFault;
 pub use crate::laws::matching_keys_are_in_one_range;
 pub use crate::output::OutputFormat;

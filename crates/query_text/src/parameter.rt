@@ -19,6 +19,7 @@ pub(crate) enum Parameter {
     ShowResumeKey,
     Fl,
     Output,
+    Collapse,
 }
 
 /// The parameter of a name, in which case counts.
@@ -41,6 +42,7 @@ pub(crate) fn parameter_named(name: &str) -> Option<Parameter>
         "showResumeKey" => Some(Parameter::ShowResumeKey),
         "fl" => Some(Parameter::Fl),
         "output" => Some(Parameter::Output),
+        "collapse" => Some(Parameter::Collapse),
         _ => None,
     }
 }

@@ -4,6 +4,7 @@ ghost use Rattle.query_text.specs.Readings.{IsReadingBy};
 ghost use Rattle.query_text.specs.ParameterViews.{IsReadingInto, values_of};
 ghost use Rattle.query_text.specs.Parameters.{no_values, is_given, with_filter, with_value, with_piece, with_pieces, pieces_of};
 
+use crate::collapse::{Collapse, read_collapse};
 use crate::fault::QueryFault;
 use crate::fields::read_fields;
 use crate::filter::Filter;
@@ -31,6 +32,7 @@ pub(crate) struct Parameters {
     pub show_resume_key: Option<bool>,
     pub fields: Option<Vec<Field>>,
     pub output: Option<OutputFormat>,
+    pub collapse: Option<Collapse>,
 }
 
 impl Parameters {
@@ -50,6 +52,7 @@ impl Parameters {
             Parameter::ShowResumeKey => self.show_resume_key.is_some(),
             Parameter::Fl => self.fields.is_some(),
             Parameter::Output => self.output.is_some(),
+            Parameter::Collapse => self.collapse.is_some(),
         }
     }
 
@@ -89,6 +92,7 @@ impl Parameters {
             Parameter::ShowResumeKey => self.show_resume_key = Some(read_flag(value.as_str())?),
             Parameter::Fl => self.fields = Some(read_fields(alloc, value.as_str())?),
             Parameter::Output => self.output = Some(read_output(value.as_str())?),
+            Parameter::Collapse => self.collapse = Some(read_collapse(value.as_str())?),
         }
         Ok(())
     }
@@ -127,6 +131,7 @@ impl Parameters {
             show_resume_key: None,
             fields: None,
             output: None,
+            collapse: None,
         };
         let mut left = Some(text);
         while let Some(pieces) = left {

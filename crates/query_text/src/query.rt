@@ -5,6 +5,7 @@ ghost use Rattle.query_text.specs.Readings.{IsReading};
 ghost use Rattle.query_text.specs.Filters.{holds};
 ghost use Rattle.query_text.specs.Queries.{usual_fields, target_of};
 
+use crate::collapse::Collapse;
 use crate::fault::QueryFault;
 use crate::filter::Filter;
 use crate::limit::Limit;
@@ -31,6 +32,7 @@ pub struct Query {
     show_resume_key: bool,
     fields: Vec<Field>,
     output: OutputFormat,
+    collapse: Option<Collapse>,
 }
 
 impl Model for Query {
@@ -48,6 +50,7 @@ impl Model for Query {
       show_resume_key = q.show_resume_key;
       fields = q.fields.items;
       output = q.output;
+      collapse = q.collapse;
     } };
 }
 
@@ -117,6 +120,7 @@ impl Query {
             show_resume_key,
             fields,
             output,
+            collapse,
         } = parameters;
         let target = target_of(alloc, url, key, kind)?;
         let fields = match fields {
@@ -133,6 +137,7 @@ impl Query {
             show_resume_key: show_resume_key.unwrap_or(false),
             fields,
             output: output.unwrap_or(OutputFormat::Text),
+            collapse,
         })
     }
 
@@ -221,5 +226,12 @@ impl Query {
         ensures { result ≡ self.now.output }
     {
         self.output
+    }
+
+    /// By what captures are collapsed that follow one another, if they are.
+    pub fn collapse(&self) -> Option<Collapse>
+        ensures { result ≡ self.now.collapse }
+    {
+        self.collapse
     }
 }

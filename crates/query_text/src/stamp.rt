@@ -45,7 +45,7 @@ impl StampStart {
 }
 
 /// The first bytes of a stamp, or all of them.
-fn front(stamp: &[u8], count: usize) -> &[u8]
+pub(crate) fn front(stamp: &[u8], count: usize) -> &[u8]
     ensures { result.now ≡ take count stamp.now }
 {
     stamp.get(..count).unwrap_or(stamp)

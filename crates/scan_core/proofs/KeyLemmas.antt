@@ -45,30 +45,30 @@ pub lines_placed : (archives : List (List EntryValue)) → AllByRecursion HaveLi
 lines_placed archives h = members_placed (in_places (all_captures archives)) (each_rising entry_place place_cmp place_cmp_total (HasLine LINE_LIMIT) (all_captures archives) (all_lines archives h))
 
 -- where a page has a next, that is the place of its last
-record EndsAt (same : PlaceValue → PlaceValue → Bool) (n : ℕ) (c : List Member) (q : PlaceValue) : Type 0 where
+record EndsAt (n : ℕ) (c : List Member) (q : PlaceValue) : Type 0 where
   before : List Member
   last : Member
   taken : take n c ≡ before ++ last ∷ []
   is : q ≡ member_place last
   among : IsIn last c
 
-ends_at : (same : PlaceValue → PlaceValue → Bool) (n : ℕ) (c : List Member) (q : PlaceValue) → next_after member_place place_cmp same n c ≡ Some q → EndsAt same n c q
-ends_at same zero c q e = absurd (let f = e in cc)
-ends_at same (suc n) [] q e = absurd (let f = e in cc)
-ends_at same (suc zero) (x ∷ []) q e = absurd (let f = e in cc)
-ends_at same (suc zero) (x ∷ y ∷ ys) q e = record { before = []; last = x; taken = refl; is = (let f = e in cc); among = inl refl }
-ends_at same (suc (suc n)) (x ∷ xs) q e =
-    let r = ends_at same (suc n) xs q e in
+ends_at : (n : ℕ) (c : List Member) (q : PlaceValue) → next_after member_place n c ≡ Some q → EndsAt n c q
+ends_at zero c q e = absurd (let f = e in cc)
+ends_at (suc n) [] q e = absurd (let f = e in cc)
+ends_at (suc zero) (x ∷ []) q e = absurd (let f = e in cc)
+ends_at (suc zero) (x ∷ y ∷ ys) q e = record { before = []; last = x; taken = refl; is = (let f = e in cc); among = inl refl }
+ends_at (suc (suc n)) (x ∷ xs) q e =
+    let r = ends_at (suc n) xs q e in
     record { before = x ∷ r.before; last = r.last; taken = ap (λ us. x ∷ us) r.taken; is = r.is; among = inr r.among }
 
 module _ (same : PlaceValue → PlaceValue → Bool) (l : List Member) (placed : AllByRecursion (λ m. IsPlace (member_place m)) l) where
   page_key : (p : Option PlaceValue) (n : ℕ) (page : Page Member PlaceValue) (q : PlaceValue) → page.members ≡ take n (collapsed member_place place_cmp same l p)
-      → page.next ≡ next_after member_place place_cmp same n (collapsed member_place place_cmp same l p) → page.next ≡ Some q → EndsWithKey page
+      → page.next ≡ next_after member_place n (collapsed member_place place_cmp same l p) → page.next ≡ Some q → EndsWithKey page
   page_key p n page q mem nx e =
       let c = collapsed member_place place_cmp same l p in
-      let r = ends_at same n c q (sym nx ∙ e) in
-      let each = each_kept member_place place_cmp same place_cmp_total (λ m. IsPlace (member_place m)) p (filter (is_above member_place place_cmp same p) l)
-      (each_filter (λ m. IsPlace (member_place m)) (is_above member_place place_cmp same p) l placed) in
+      let r = ends_at n c q (sym nx ∙ e) in
+      let each = each_kept member_place place_cmp same place_cmp_total (λ m. IsPlace (member_place m)) p (filter (is_above member_place place_cmp p) l)
+      (each_filter (λ m. IsPlace (member_place m)) (is_above member_place place_cmp p) l placed) in
       record {
         before = r.before;
         last = r.last;
@@ -82,7 +82,7 @@ module _ (same : PlaceValue → PlaceValue → Bool) (l : List Member) (placed :
   keys_but_last p sizes (page ∷ []) h = tt
   keys_but_last p sizes (page ∷ other ∷ more) h =
       let mem : page.members ≡ take (first_size sizes) (collapsed member_place place_cmp same l p) = ap (λ g. g.members) h.0 in
-      let nx : page.next ≡ next_after member_place place_cmp same (first_size sizes) (collapsed member_place place_cmp same l p) = ap (λ g. g.next) h.0 in
+      let nx : page.next ≡ next_after member_place (first_size sizes) (collapsed member_place place_cmp same l p) = ap (λ g. g.next) h.0 in
       (elim page.next as (λ v. page.next ≡ v → MatchOption v (other ∷ more ≡ []) (λ q. IsChain member_place place_cmp same l (Some q) (later_sizes sizes) (other ∷ more)) → EndsWithKey page × KeysButLast (other ∷ more)) [
         | None ↦ (λ e k. cc)
         | Some q ↦ (λ e k. (page_key p (first_size sizes) page q mem nx e, keys_but_last (Some q) (later_sizes sizes) (other ∷ more) k))
@@ -94,10 +94,10 @@ none_taken : (n : ℕ) → take {A = Member} n [] ≡ []
 none_taken zero = refl
 none_taken (suc n) = refl
 
-none_next : (same : PlaceValue → PlaceValue → Bool) (n : ℕ) → next_after member_place place_cmp same n [] ≡ None
-none_next same zero = refl
-none_next same (suc zero) = refl
-none_next same (suc (suc n)) = refl
+none_next : (n : ℕ) → next_after member_place n [] ≡ None
+none_next zero = refl
+none_next (suc zero) = refl
+none_next (suc (suc n)) = refl
 
 -- the chain is one empty page
 pub one_empty : (same : PlaceValue → PlaceValue → Bool) (l : List Member) (p : Option PlaceValue) (sizes : List ℕ) (pages : List (Page Member PlaceValue)) → collapsed member_place place_cmp same l p ≡ []
@@ -106,7 +106,7 @@ one_empty same l p sizes [] e h = absurd h
 one_empty same l p sizes (page ∷ rest) e h =
     let n = first_size sizes in
     let mem : page.members ≡ [] = ap (λ g. g.members) h.0 ∙ ap (take n) e ∙ none_taken n in
-    let nx : page.next ≡ None = ap (λ g. g.next) h.0 ∙ ap (next_after member_place place_cmp same n) e ∙ none_next same n in
+    let nx : page.next ≡ None = ap (λ g. g.next) h.0 ∙ ap (next_after member_place n) e ∙ none_next n in
     let last : rest ≡ [] = subst (λ v. MatchOption v (rest ≡ []) (λ q. IsChain member_place place_cmp same l (Some q) (later_sizes sizes) rest)) nx h.1 in
     let first : page ≡ empty_page = ap₂ (λ ms v. record { members = ms; next = v }) mem nx in
     ap₂ (λ g gs. g ∷ gs) first last

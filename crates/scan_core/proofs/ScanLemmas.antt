@@ -5,11 +5,11 @@ use Rattle.cdxj_places.proofs.PlaceOrder.{place_cmp_total}
 use Rattle.cdxj_core.specs.Entries.{EntryValue}
 use Rattle.cdxj_core.specs.Members.{member_place}
 use Rattle.merge_core.specs.Collections.{collection}
+use Rattle.query_text.specs.Collapses.{same_part}
 use Rattle.query_text.specs.Queries.{QueryValue}
 use Rattle.query_text.specs.Matching.{matches}
 use Rattle.page_core.proofs.PageLaws.{chain_law, rises_filter, each_filter}
 use Rattle.query_core.specs.Collections.{selected}
-use Rattle.query_core.specs.QueryPages.{never}
 use Rattle.query_core.specs.Paging.{WrotePages, WrotePagesInPart}
 use Rattle.query_core.proofs.PageSteps.{all_positive}
 use Rattle.scan_core.specs.Archives.{AreIndexed, index_members}
@@ -24,8 +24,8 @@ module _ (names : List (List ℕ)) (inputs : List (Option (List ℕ))) (sizes te
   pub scanned_whole : (number : ℕ) → WrotePages query (collection (map index_members archives)) sizes old new number → Scanned names inputs sizes text old new number
   scanned_whole number w =
       let wrote = subst (λ lines. WrotePages query lines sizes old new number) (collected archives) w in
-      let law = chain_law member_place place_cmp never place_cmp_total (selected query (captured_lines archives)) query.resume sizes wrote.pages
-      (rises_filter member_place place_cmp never place_cmp_total (λ m. matches query m.values) (captured_lines archives) (lines_rise archives))
+      let law = chain_law member_place place_cmp (same_part query.collapse) place_cmp_total (selected query (captured_lines archives)) query.resume sizes wrote.pages
+      (rises_filter member_place place_cmp place_cmp_total (λ m. matches query m.values) (captured_lines archives) (lines_rise archives))
       (all_positive sizes asked.sizes) wrote.chain in
       record {
         query = query;
@@ -37,9 +37,9 @@ module _ (names : List (List ℕ)) (inputs : List (Option (List ℕ))) (sizes te
         chain = wrote.chain;
         joined = law.0;
         full = law.1;
-        keys = keys_but_last never (selected query (captured_lines archives))
+        keys = keys_but_last (same_part query.collapse) (selected query (captured_lines archives))
             (each_filter (λ m. IsPlace (member_place m)) (λ m. matches query m.values) (captured_lines archives) (lines_placed archives indexed.lines)) query.resume sizes wrote.pages wrote.chain;
-        empty = λ none. one_empty never (selected query (captured_lines archives)) query.resume sizes wrote.pages none wrote.chain;
+        empty = λ none. one_empty (same_part query.collapse) (selected query (captured_lines archives)) query.resume sizes wrote.pages none wrote.chain;
         wrote = wrote.text;
         count = wrote.count;
       }

@@ -14,11 +14,12 @@ use Rattle.merge_core.specs.Collections.{Known}
 use Rattle.merge_core.specs.Gathering.{AllTwo}
 use Rattle.query_text.specs.declared.fault.QueryFault.TheVariants as refusal
 use Rattle.query_text.specs.declared.query.TheConstants.{QUERY_LIMIT}
+use Rattle.query_text.specs.Collapses.{same_part}
 use Rattle.query_text.specs.Queries.{QueryValue, query_of}
 use Rattle.query_text.specs.Resuming.{text_with_key}
 use Rattle.page_core.specs.Pages.{Page, page_of}
 use Rattle.query_core.specs.Collections.{selected}
-use Rattle.query_core.specs.QueryPages.{never, query_page}
+use Rattle.query_core.specs.QueryPages.{query_page}
 use Rattle.query_core.specs.declared.fault.AnswerFault.TheVariants as answer
 use Rattle.scan_core.specs.declared.fault.ScanFault.{ScanFault}
 use Rattle.scan_core.specs.declared.fault.ScanFault.TheVariants.{Query, Archive, Answer}
@@ -62,4 +63,4 @@ abbrev pub KeysContinue : Type 0
 KeysContinue = (text : List ℕ) (query : QueryValue) (page : Page Member PlaceValue) (lines : List Member) → query_of QUERY_LIMIT text ≡ Ok query
     → (ended : EndsWithKey page) → length (text_with_key (resume_text (member_place ended.last)) text) ≤ QUERY_LIMIT
     → (next : QueryValue) × (query_of QUERY_LIMIT (text_with_key (resume_text (member_place ended.last)) text) ≡ Ok next)
-    × (query_page next lines ≡ page_of member_place place_cmp never (selected query lines) (Some (member_place ended.last)) query.limit)
+    × (query_page next lines ≡ page_of member_place place_cmp (same_part query.collapse) (selected query lines) (Some (member_place ended.last)) query.limit)

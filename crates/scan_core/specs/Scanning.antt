@@ -9,13 +9,14 @@ use Rattle.index_core.specs.Indexing.{HaveOwnPlaces}
 use Rattle.merge_core.specs.Collections.{Known}
 use Rattle.query_text.specs.declared.fault.QueryFault.TheVariants as refusal
 use Rattle.query_text.specs.declared.query.TheConstants.{QUERY_LIMIT}
+use Rattle.query_text.specs.Collapses.{same_part}
 use Rattle.query_text.specs.Queries.{QueryValue, query_of}
 use Rattle.page_core.specs.Pages.{Page, collapsed, FullButLast}
 use Rattle.query_core.specs.declared.fault.AnswerFault.{AnswerFault}
 use Rattle.query_core.specs.declared.fault.AnswerFault.TheVariants as answer
 use Rattle.query_core.specs.declared.merging.TheConstants.{SOURCES_LIMIT}
 use Rattle.query_core.specs.Collections.{selected}
-use Rattle.query_core.specs.QueryPages.{never, IsQueryChain}
+use Rattle.query_core.specs.QueryPages.{IsQueryChain}
 use Rattle.query_core.specs.Paging.{are_sizes, pages_text, WrotePagesInPart}
 use Rattle.scan_core.specs.declared.fault.ScanFault.{ScanFault}
 use Rattle.scan_core.specs.declared.fault.ScanFault.TheVariants.{Query, Archive, Answer}
@@ -41,10 +42,10 @@ module _ (names : List (List ℕ)) (inputs : List (Option (List ℕ))) (sizes te
     pub once : (archives : List (List ℕ)) → Known inputs archives → HaveOwnPlaces (all_captures captures)
     pub pages : List (Page Member PlaceValue)
     pub chain : IsQueryChain query (captured_lines captures) sizes pages
-    pub joined : flat_map (λ page. page.members) pages ≡ collapsed member_place place_cmp never (selected query (captured_lines captures)) query.resume
+    pub joined : flat_map (λ page. page.members) pages ≡ collapsed member_place place_cmp (same_part query.collapse) (selected query (captured_lines captures)) query.resume
     pub full : FullButLast sizes pages
     pub keys : KeysButLast pages
-    pub empty : collapsed member_place place_cmp never (selected query (captured_lines captures)) query.resume ≡ [] → pages ≡ empty_page ∷ []
+    pub empty : collapsed member_place place_cmp (same_part query.collapse) (selected query (captured_lines captures)) query.resume ≡ [] → pages ≡ empty_page ∷ []
     pub wrote : Appends old new (pages_text query pages)
     pub count : number ≡ min (length pages) (2 ^ 64 - 1)
 

@@ -16,7 +16,8 @@ use Rattle.cdxj_core.specs.Members.{Member}
 use Rattle.cdxj_places.specs.Places.{PlaceValue}
 use Rattle.page_core.specs.Pages.{Page}
 use Rattle.query_text.proofs.RangeLaw.{past_upward}
-use Rattle.query_core.specs.PageWriting.{is_wanted}
+use Rattle.query_core.specs.PageWriting.{is_wanted, place_before}
+use Rattle.query_core.proofs.CaptureLemmas.{kept_after, captures_split}
 use Rattle.query_core.proofs.NextPlaces.{none_waits}
 use Rattle.query_core.specs.LineFaults.{IsFaultOf}
 use Rattle.query_core.specs.PageAsked.{asked_text}
@@ -460,11 +461,11 @@ returns-clause-parts g c = λ texts known.
     let known1 = subst (λ l. Known l texts) (sym c.open_at.ensures.text) known in
     let known2 = subst (λ l. Known l texts) (sym (returns-clause-texts g c)) known in
     let told = told_known text ss1 texts known1 in
-    let first = parts_first text extent gave LINE_LIMIT (is_past q.target) (past_upward q.target) ss1 fs1 ss2 fs2 ws b taken reached told (is_wanted q from) (wanted_within q from) in
+    let found = parts_first text extent gave LINE_LIMIT (is_past q.target) (past_upward q.target) ss1 fs1 ss2 fs2 ws b taken reached told (is_wanted q from) (wanted_within q from) in
     let more_is = (stood writer q c.args.from c.args.limit c.args.shows is.0 is.1 is.2 c.merge.new.sink taken start mid stood_now).more_is in
     let read = parts LINE_LIMIT text ss2 fs2 in
-    let settled = page_settled q from c.args.limit c.args.shows (collection read) taken c.in-Ok-merge.all c.merge.new.sink.more first.0 first.1
-    (λ e. parts_whole text extent gave LINE_LIMIT (is_past q.target) (past_upward q.target) ss1 fs1 ss2 fs2 ws b taken reached told (is_wanted q from) (wanted_within q from) (ok.ended e)) (λ e. ok.enough e) more_is in
+    let settled = page_settled q from c.args.limit c.args.shows (collection read) taken c.in-Ok-merge.all c.merge.new.sink.more (kept_after q from (place_before q from taken) found.0) (captures_split q from (collection read) taken found.0 found.1)
+    (λ e. ap (kept_after q from from) (parts_whole text extent gave LINE_LIMIT (is_past q.target) (past_upward q.target) ss1 fs1 ss2 fs2 ws b taken reached told (is_wanted q from) (wanted_within q from) (ok.ended e))) (λ e. ok.enough e) more_is in
     let end = c.in-Ok-end.ensures in
     let wrote = page_ended writer q c.args.from c.args.limit c.args.shows is.0 is.1 is.2 c.merge.new.sink (collection read) taken start mid (g.O.Output.written c.end.new.out) stood_now settled c.in-Ok-end.end end.text end.end.0 end.end.1 in
     record {

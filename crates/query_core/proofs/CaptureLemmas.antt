@@ -1,0 +1,81 @@
+-- The captures of lines, which are collapsed, and what the next line is compared with.
+use Rattle.std.proofs.Common.{◌≡◌, List, [], ◌∷◌, ◌++◌, refl, sym, ap, ◌∙◌, Option, Some, None, true, false, filter, append-nil}
+use Rattle.std.proofs.lemmas.Bool.{cond-true, cond-false, true≢false}
+use Rattle.std.proofs.lemmas.List.Elements.{filter-append}
+use Rattle.std.proofs.lemmas.Slice.Eq.{bytes_eq-Decides}
+use Rattle.cdxj_places.specs.Places.{PlaceValue, place_cmp}
+use Rattle.cdxj_places.proofs.PlaceOrder.{place_cmp_total}
+use Rattle.cdxj_core.specs.Members.{Member, member_place}
+use Rattle.query_text.specs.declared.collapse.Collapse.{Collapse}
+use Rattle.query_text.specs.Collapses.{same_part}
+use Rattle.query_text.specs.Queries.{QueryValue}
+use Rattle.page_core.specs.Pages.{repeats, kept, end_place}
+use Rattle.page_core.proofs.PageLaws.{kept_append}
+use Rattle.query_core.specs.Collapsings.{place_part, collapsing_at, collapsing_after, repeats_part}
+use Rattle.query_core.specs.PageWriting.{is_wanted, captures_over, place_before}
+
+-- ---- what the next line is compared with
+
+pub repeats_is : (by : Option Collapse) (p : Option PlaceValue) (m : Member) → repeats_part (collapsing_at by p) (member_place m) ≡ repeats member_place (same_part by) p m
+repeats_is None None m = refl
+repeats_is None (Some p) m = refl
+repeats_is (Some by) None m = refl
+repeats_is (Some by) (Some p) m = refl
+
+-- what is left out has the part of the one before
+pub same_part_after : (by : Option Collapse) (p : Option PlaceValue) (m : Member) → repeats member_place (same_part by) p m ≡ true → collapsing_at by p ≡ collapsing_at by (Some (member_place m))
+same_part_after None p m h = refl
+same_part_after (Some by) None m h = absurd (true≢false (sym h))
+same_part_after (Some by) (Some p) m h = ap (λ part. Some (record { by = by; part = Some part })) ((bytes_eq-Decides (place_part by p) (place_part by (member_place m))).0 h)
+
+pub part_after : (by : Option Collapse) (p : Option PlaceValue) (r : PlaceValue) → collapsing_after (collapsing_at by p) r ≡ collapsing_at by (Some r)
+part_after None p r = refl
+part_after (Some by) p r = refl
+
+-- ---- the captures of more lines
+
+end_last : (p : Option PlaceValue) (us : List Member) (m : Member) → end_place member_place p (us ++ m ∷ []) ≡ Some (member_place m)
+end_last p [] m = refl
+end_last p (u ∷ us) m = end_last (Some (member_place u)) us m
+
+module _ (q : QueryValue) (from : Option PlaceValue) where
+  abbrev pub kept_after : Option PlaceValue → List Member → List Member
+  kept_after = kept member_place (same_part q.collapse)
+
+  pub captures_split : (all taken rest : List Member) → filter (is_wanted q from) all ≡ filter (is_wanted q from) taken ++ rest
+      → captures_over q from all ≡ captures_over q from taken ++ kept_after (place_before q from taken) rest
+  captures_split all taken rest h =
+      ap (kept_after from) h ∙ kept_append member_place place_cmp (same_part q.collapse) place_cmp_total from (filter (is_wanted q from) taken) rest
+
+  pub captures_append : (us vs : List Member) → captures_over q from (us ++ vs) ≡ captures_over q from us ++ kept_after (place_before q from us) (filter (is_wanted q from) vs)
+  captures_append us vs = captures_split (us ++ vs) us (filter (is_wanted q from) vs) (filter-append (is_wanted q from) us vs)
+
+  module _ (taken : List Member) (m : Member) where
+    passed : is_wanted q from m ≡ false → filter (is_wanted q from) (taken ++ m ∷ []) ≡ filter (is_wanted q from) taken
+    passed h =
+        filter-append (is_wanted q from) taken (m ∷ []) ∙ ap (λ l. filter (is_wanted q from) taken ++ l) (cond-false (is_wanted q from m) (m ∷ []) [] h)
+        ∙ append-nil (filter (is_wanted q from) taken)
+
+    joined : is_wanted q from m ≡ true → filter (is_wanted q from) (taken ++ m ∷ []) ≡ filter (is_wanted q from) taken ++ m ∷ []
+    joined h = filter-append (is_wanted q from) taken (m ∷ []) ∙ ap (λ l. filter (is_wanted q from) taken ++ l) (cond-true (is_wanted q from m) (m ∷ []) [] h)
+
+    -- a line that isn't wanted
+    pub captures_passed : is_wanted q from m ≡ false → captures_over q from (taken ++ m ∷ []) ≡ captures_over q from taken
+    captures_passed h = ap (kept_after from) (passed h)
+
+    pub place_passed : is_wanted q from m ≡ false → place_before q from (taken ++ m ∷ []) ≡ place_before q from taken
+    place_passed h = ap (end_place member_place from) (passed h)
+
+    -- a line that is
+    pub place_joined : is_wanted q from m ≡ true → place_before q from (taken ++ m ∷ []) ≡ Some (member_place m)
+    place_joined h = ap (end_place member_place from) (joined h) ∙ end_last from (filter (is_wanted q from) taken) m
+
+    pub captures_repeated : is_wanted q from m ≡ true → repeats member_place (same_part q.collapse) (place_before q from taken) m ≡ true → captures_over q from (taken ++ m ∷ []) ≡ captures_over q from taken
+    captures_repeated h r =
+        captures_split (taken ++ m ∷ []) taken (m ∷ []) (joined h)
+        ∙ ap (λ l. captures_over q from taken ++ l) (cond-true (repeats member_place (same_part q.collapse) (place_before q from taken) m) [] (m ∷ []) r) ∙ append-nil (captures_over q from taken)
+
+    pub captures_joined : is_wanted q from m ≡ true → repeats member_place (same_part q.collapse) (place_before q from taken) m ≡ false → captures_over q from (taken ++ m ∷ []) ≡ captures_over q from taken ++ m ∷ []
+    captures_joined h r =
+        captures_split (taken ++ m ∷ []) taken (m ∷ []) (joined h)
+        ∙ ap (λ l. captures_over q from taken ++ l) (cond-false (repeats member_place (same_part q.collapse) (place_before q from taken) m) [] (m ∷ []) r)

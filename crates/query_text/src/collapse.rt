@@ -1,0 +1,59 @@
+//! By what captures are collapsed.
+ghost use Rattle.std.specs.Prelude.{◌≡◌};
+ghost use Rattle.query_text.specs.Readings.{IsReading};
+ghost use Rattle.query_text.specs.Collapses.{collapse_of, width_of};
+
+use crate::fault::QueryFault;
+use crate::parts::is_number;
+use crate::stamp::front;
+
+/// By what captures are collapsed that follow one another. Of those with this part in common the first is kept.
+#[derive(Clone, Copy, Debug, Drop, PartialEq, Eq)]
+pub enum Collapse {
+    /// The key.
+    Urlkey,
+    /// The first digits of the stamp, so many.
+    Timestamp(usize),
+}
+
+impl Collapse {
+    ghost use Rattle.query_text.specs.Collapses.{part_of};
+
+    /// The part that is compared, of a capture of this key and stamp.
+    pub fn part<'p>(self, key: &'p str, stamp: &'p [u8]) -> &'p [u8]
+        ensures { result.now ≡ part_of self key.now stamp.now }
+    {
+        match self {
+            Collapse::Urlkey => key.as_bytes(),
+            Collapse::Timestamp(digits) => front(stamp, digits),
+        }
+    }
+}
+
+/// `BadCollapse` where the text is anything but one or two digits of a value from 1 to 14.
+#[tactic(auto, using(crate::proofs::Limits::width_parsed))]
+fn read_width(text: &str) -> Result<Collapse, QueryFault>
+    ensures { IsReading (width_of text.now) result }
+{
+    if !is_number(text, 2) {
+        return Err(QueryFault::BadCollapse);
+    }
+    match text.parse::<usize>() {
+        Ok(digits) if digits > 0 && digits <= 14 => Ok(Collapse::Timestamp(digits)),
+        _ => Err(QueryFault::BadCollapse),
+    }
+}
+
+/// `BadCollapse` where the text is none of `urlkey`, `timestamp` and `timestamp:N`, whose `N` is a number of digits from 1 to 14.
+pub(crate) fn read_collapse(text: &str) -> Result<Collapse, QueryFault>
+    ensures { IsReading (collapse_of text.now) result }
+{
+    match text {
+        "urlkey" => Ok(Collapse::Urlkey),
+        "timestamp" => Ok(Collapse::Timestamp(14)),
+        _ => match text.strip_prefix("timestamp:") {
+            Some(digits) => read_width(digits),
+            None => Err(QueryFault::BadCollapse),
+        },
+    }
+}
