@@ -94,6 +94,8 @@ QUERY has parameters with & between; most shells want it in quotes:
   fl=FIELD,FIELD     urlkey, timestamp, original, mimetype, statuscode, digest,
                      length, offset, filename
   output=            text, json, or cdxj: the lines of the indexes
+  collapse=          urlkey, timestamp or timestamp:N: of captures in a row with
+                     this in common, or its first N digits, the first alone
   limit=NUMBER       no more captures than this
   showResumeKey=true where more follow, says from where they go on ...
   resumeKey=KEY      ... and goes on from there
