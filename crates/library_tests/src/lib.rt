@@ -12,6 +12,10 @@ mod device_calls;
 #[cfg(test)]
 mod heads;
 #[cfg(test)]
+mod hostile_devices;
+#[cfg(test)]
+mod hostile_indexes;
+#[cfg(test)]
 mod large_indexes;
 #[cfg(test)]
 mod matching;

@@ -78,8 +78,13 @@ const CASES: &[Case] = &[
         answer: Ok(2),
         written: b"[[\"offset\"],\n[\"0\"],\n[],\n[\"com%2Cexample%29%2F+20160919172024+b.warc+0\"]]\n[[\"offset\"],\n[\"264\"]]\n",
     },
+    // The last archive is empty: a growth for the index of one before it is refused before the last is begun.
     Case {
-        archives: &[("b.warc", &[RESPONSE, RESOURCE]), ("a.warc", &[RESPONSE])],
+        archives: &[
+            ("b.warc", &[RESPONSE, RESOURCE]),
+            ("a.warc", &[RESPONSE]),
+            ("c.warc", &[]),
+        ],
         sizes: &[2],
         query: QUERY,
         answer: Ok(2),
@@ -167,28 +172,52 @@ fn texts(alloc: Global, archives: &[Archive]) -> Result<Vec<Vec<u8>>, AllocError
     Ok(texts)
 }
 
-/// Archives by name, over inputs that move 100 bytes at once. That with the number 1 fails at its call `read`.
+/// How many bytes each call of an archive's input moves, and of the output; the call of an archive, and of the output, that fails; 0 is none.
+#[derive(Clone, Copy)]
+struct Devices {
+    read_at_once: usize,
+    archive: usize,
+    failing_read: u64,
+    written_at_once: usize,
+    failing_write: u64,
+}
+
+/// No call fails.
+const SOUND: Devices = Devices {
+    read_at_once: 100,
+    archive: 0,
+    failing_read: 0,
+    written_at_once: 8_192,
+    failing_write: 0,
+};
+
+/// Archives by name.
 fn inputs<'a>(
     alloc: Global,
     archives: &[Archive],
     texts: &'a [Vec<u8>],
-    read: u64,
+    devices: Devices,
 ) -> Result<Vec<Named<Fuse<Slice<'a>>>>, AllocError> {
     let mut inputs = Vec::new(alloc);
     for (i, ((name, _pieces), text)) in archives.iter().zip(texts).enumerate() {
-        let at = if i == 1 { read } else { 0 };
+        let at = if i == devices.archive {
+            devices.failing_read
+        } else {
+            0
+        };
         inputs.push(Named {
             name: String::from_str(alloc, name)?,
-            input: Fuse::new(Slice::new(text.as_slice()), 100, at),
+            input: Fuse::new(Slice::new(text.as_slice()), devices.read_at_once, at),
         })?;
     }
     Ok(inputs)
 }
 
-/// A growth was refused.
+/// A growth was refused, and the fault names what it was for or something else.
 #[derive(Debug, Drop)]
 enum Refused {
     Memory,
+    NamedAmiss,
 }
 
 fn is_memory(fault: ScanFault) -> bool {
@@ -203,36 +232,61 @@ fn is_memory(fault: ScanFault) -> bool {
     }
 }
 
-/// The answer, unless memory was refused.
-fn with_memory(answer: Result<u64, ScanFault>) -> Result<Result<u64, ScanFault>, Refused> {
+/// Whether the fault names what is done where so many of the archives were begun: the query before all, an archive once those before it were
+/// begun and none behind it, the pages after all.
+fn is_named_rightly(fault: ScanFault, begun: usize, count: usize) -> bool {
+    match fault {
+        ScanFault::Query(_fault) => begun == 0,
+        ScanFault::Archive(i, _fault) => begun == i || begun == i.saturating_add(1),
+        ScanFault::Answer(_fault) => begun == count,
+    }
+}
+
+/// How many of the archives were read, or asked for bytes.
+fn begun(inputs: &[Named<Fuse<Slice<'_>>>]) -> usize {
+    inputs.iter().filter(|named| named.input.calls > 0).count()
+}
+
+/// The answer of a scan of these archives, unless memory was refused.
+fn with_memory(
+    answer: Result<u64, ScanFault>,
+    inputs: &[Named<Fuse<Slice<'_>>>],
+) -> Result<Result<u64, ScanFault>, Refused> {
     match answer {
-        Err(fault) if is_memory(fault) => Err(Refused::Memory),
+        Err(fault) if is_memory(fault) => {
+            if is_named_rightly(fault, begun(inputs), inputs.len()) {
+                Err(Refused::Memory)
+            } else {
+                Err(Refused::NamedAmiss)
+            }
+        }
         answer => Ok(answer),
     }
 }
 
-/// What a scan of the case's archives answers, over an output that takes so many bytes a call and fails at its call `write`. They are read
-/// by 100 bytes a call, and that with the number 1 fails at its call `read`.
+/// What a scan of the case's archives answers, and its output.
 fn scanned(
     alloc: Global,
     case: &Case,
-    piece: usize,
-    read: u64,
-    write: u64,
+    devices: Devices,
 ) -> Result<(Result<u64, ScanFault>, Fuse<Gather>), Fail> {
     let texts = texts(alloc, case.archives)?;
-    let mut inputs = inputs(alloc, case.archives, &texts, read)?;
-    let mut out = Fuse::new(Gather::new(alloc), piece, write);
+    let mut inputs = inputs(alloc, case.archives, &texts, devices)?;
+    let mut out = Fuse::new(
+        Gather::new(alloc),
+        devices.written_at_once,
+        devices.failing_write,
+    );
     let answer = scan(alloc, &mut inputs, case.sizes, case.query, &mut out);
-    if answer == Err(ScanFault::Answer(AnswerFault::Write)) && out.calls != write {
+    if answer == Err(ScanFault::Answer(AnswerFault::Write)) && out.calls != devices.failing_write {
         return Err(Refused::Memory)?;
     }
-    Ok((with_memory(answer)?, out))
+    Ok((with_memory(answer, &inputs)?, out))
 }
 
 /// Whether the scan answers and writes as the case says.
 fn is_scanned(alloc: Global, case: &Case) -> Result<bool, Fail> {
-    let (answer, out) = scanned(alloc, case, 8_192, 0, 0)?;
+    let (answer, out) = scanned(alloc, case, SOUND)?;
     Ok(answer == case.answer && out.device.bytes() == case.written)
 }
 
@@ -244,32 +298,73 @@ fn scans_write_pages_or_refuse(rt: HostRuntime) -> Result<(), Fail> {
     Ok(())
 }
 
-/// Whether the scan ends where the second archive fails at this call, before anything is written.
-fn ends_unread(alloc: Global, read: u64, offset: u64) -> Result<bool, Fail> {
-    let (answer, out) = scanned(alloc, &PAGED, 8_192, read, 0)?;
+/// Whether the scan ends where an archive fails at this call, before anything is written.
+fn ends_unread(alloc: Global, devices: Devices, offset: u64) -> Result<bool, Fail> {
+    let (answer, out) = scanned(alloc, &PAGED, devices)?;
     let fault = CaptureFault::Archive(Fault {
         offset,
         cause: Cause::Read,
     });
-    let is_named = answer == Err(ScanFault::Archive(1, IndexFault::Capture(fault)));
+    let is_named = answer == Err(ScanFault::Archive(devices.archive, IndexFault::Capture(fault)));
     Ok(is_named && out.device.bytes().is_empty())
 }
 
-/// Calls of the second archive's input, which give 100 bytes each, and the start of the record that each reads of. There is one at 0 and one
-/// at 264, and the archive ends at 448.
-const READS: &[(u64, u64)] = &[(1, 0), (2, 0), (3, 0), (4, 264), (5, 264), (6, 448)];
+/// Of an archive by its number: how many calls its input has by one byte each, the last of which finds its end, and by 100 bytes each.
+const READS: &[(usize, u64, u64)] = &[(0, 265, 4), (1, 449, 6)];
+
+/// Where the record begins that is read of at a call that comes behind so many bytes: one begins at 0 and one at 264, and the longer archive
+/// ends at 448.
+fn record_behind(bytes: u64) -> u64 {
+    match bytes {
+        0..=263 => 0,
+        264..=447 => 264,
+        _ => 448,
+    }
+}
+
+/// The first call of the archive's input that fails and doesn't end the scan, of so many that move so many bytes each.
+fn read_let_through(
+    alloc: Global,
+    archive: usize,
+    read_at_once: usize,
+    calls: u64,
+) -> Result<Option<u64>, Fail> {
+    for failing_read in 1..calls.saturating_add(1) {
+        let devices = Devices {
+            read_at_once,
+            archive,
+            failing_read,
+            ..SOUND
+        };
+        let offset = record_behind((failing_read - 1).saturating_mul(read_at_once as u64));
+        if !ends_unread(alloc, devices, offset)? {
+            return Ok(Some(failing_read));
+        }
+    }
+    Ok(None)
+}
 
 #[test]
 fn scans_say_which_archive_failed(rt: HostRuntime) -> Result<(), Fail> {
-    for (read, offset) in READS {
-        assert!(rt; ends_unread(rt.alloc(), *read, *offset)?, "{read}");
+    for (archive, by_one, by_hundred) in READS {
+        assert!(rt; read_let_through(rt.alloc(), *archive, 1, *by_one)? == None);
+        assert!(rt; read_let_through(rt.alloc(), *archive, 100, *by_hundred)? == None);
     }
     Ok(())
 }
 
+/// An output of one byte a call, of which this call fails.
+fn by_one_byte(failing_write: u64) -> Devices {
+    Devices {
+        written_at_once: 1,
+        failing_write,
+        ..SOUND
+    }
+}
+
 /// Whether the scan ends where its output fails at this call, of one byte, with as many bytes written as calls before.
 fn ends_unwritten(alloc: Global, write: usize) -> Result<bool, Fail> {
-    let (answer, out) = scanned(alloc, &PAGED, 1, 0, write as u64)?;
+    let (answer, out) = scanned(alloc, &PAGED, by_one_byte(write as u64))?;
     let is_named = answer == Err(ScanFault::Answer(AnswerFault::Write));
     Ok(is_named && PAGES.get(..write.saturating_sub(1)) == Some(out.device.bytes()))
 }
@@ -280,18 +375,18 @@ fn scans_end_where_their_output_fails(rt: HostRuntime) -> Result<(), Fail> {
     for write in 1..118 {
         assert!(rt; ends_unwritten(rt.alloc(), write)?, "{write}");
     }
-    let (answer, out) = scanned(rt.alloc(), &PAGED, 1, 0, 118)?;
+    let (answer, out) = scanned(rt.alloc(), &PAGED, by_one_byte(118))?;
     assert!(rt; answer == Ok(2) && out.device.bytes() == PAGES);
     Ok(())
 }
 
 /// Archives of one resource each, whose names are numbers.
-fn numbered(alloc: Global, count: usize) -> Result<Vec<Named<Slice<'static>>>, Fail> {
+fn numbered(alloc: Global, count: usize) -> Result<Vec<Named<Fuse<Slice<'static>>>>, Fail> {
     let mut inputs = Vec::new(alloc);
     for i in 0..count {
         inputs.push(Named {
             name: format!(in alloc; "{i}")?,
-            input: Slice::new(RESOURCE),
+            input: Fuse::new(Slice::new(RESOURCE), 8_192, 0),
         })?;
     }
     Ok(inputs)
@@ -306,7 +401,7 @@ fn scanned_of(alloc: Global, count: usize) -> Result<(Result<u64, ScanFault>, us
     if answer == Err(ScanFault::Answer(AnswerFault::Write)) {
         return Err(Refused::Memory)?;
     }
-    Ok((with_memory(answer)?, out.bytes().len()))
+    Ok((with_memory(answer, &inputs)?, out.bytes().len()))
 }
 
 #[test]

@@ -1,0 +1,334 @@
+//! Calls on indexes whose sources, input or output fail at each of their calls in turn, and go on behind it.
+use devices::{Fuse, Gather, Slice};
+use query_core::{AnswerFault, Query, SliceSource, answer, check, merge, pages, serve};
+use std::alloc::Global;
+use std::test::Fail;
+
+const OFFSET_10: &[u8] =
+    b"com,example)/ 20160101000000 {\"url\": \"http://x/\", \"mime\": \"text/html\", \"status\": \"200\", \"digest\": \"-\", \"length\": \"1\", \"offset\": \"10\", \"filename\": \"b.warc\"}\n";
+
+const OFFSET_20: &[u8] =
+    b"com,example)/ 20160101000000 {\"url\": \"http://x/\", \"mime\": \"text/html\", \"status\": \"200\", \"digest\": \"-\", \"length\": \"1\", \"offset\": \"20\", \"filename\": \"a.warc\"}\n";
+
+const OFFSET_5: &[u8] =
+    b"com,example)/ 20160101000000 {\"url\": \"http://x/\", \"mime\": \"text/html\", \"status\": \"200\", \"digest\": \"-\", \"length\": \"1\", \"offset\": \"5\", \"filename\": \"a.warc\"}\n";
+
+/// The lines of the three indexes, in the order of places.
+const RISEN: &[u8] =
+    b"com,example)/ 20160101000000 {\"url\": \"http://x/\", \"mime\": \"text/html\", \"status\": \"200\", \"digest\": \"-\", \"length\": \"1\", \"offset\": \"5\", \"filename\": \"a.warc\"}\ncom,example)/ 20160101000000 {\"url\": \"http://x/\", \"mime\": \"text/html\", \"status\": \"200\", \"digest\": \"-\", \"length\": \"1\", \"offset\": \"20\", \"filename\": \"a.warc\"}\ncom,example)/ 20160101000000 {\"url\": \"http://x/\", \"mime\": \"text/html\", \"status\": \"200\", \"digest\": \"-\", \"length\": \"1\", \"offset\": \"10\", \"filename\": \"b.warc\"}\n";
+
+/// Three queries, the last line without its line feed.
+const QUERIES: &[u8] = b"url=example.com&fl=offset\nlimit=0\nkey=x";
+
+/// The replies to the first of them, to the first two, and to all.
+const FIRST_REPLY: &[u8] = b"5\n20\n10\n.\n";
+
+const TWO_REPLIES: &[u8] = b"5\n20\n10\n.\nrefused BadLimit\n.\n";
+
+const REPLIES: &[u8] = b"5\n20\n10\n.\nrefused BadLimit\n.\n.\n";
+
+/// A growth was refused.
+#[derive(Debug, Drop)]
+enum Refused {
+    Memory,
+}
+
+/// A call on the three indexes.
+#[derive(Clone, Copy)]
+enum Call {
+    Answer(&'static str),
+    Pages(&'static [u64], &'static str),
+    Merge,
+    Serve(&'static [u8]),
+}
+
+/// A call, what it writes, and how many first bytes of that stand written at most where a source failed. All captures have one pair, so the
+/// last read comes before the first row of a page, behind its start.
+struct Row {
+    call: Call,
+    text: &'static [u8],
+    before_reads: usize,
+}
+
+const ROWS: &[Row] = &[
+    Row {
+        call: Call::Answer(
+            "url=example.com&fl=filename,offset&output=json&limit=1&showResumeKey=true",
+        ),
+        text: b"[[\"filename\",\"offset\"],\n[\"a.warc\",\"5\"],\n[],\n[\"com%2Cexample%29%2F+20160101000000+a.warc+5\"]]\n",
+        before_reads: 22,
+    },
+    Row {
+        call: Call::Answer("url=example.com&fl=offset&output=json"),
+        text: b"[[\"offset\"],\n[\"5\"],\n[\"20\"],\n[\"10\"]]\n",
+        before_reads: 11,
+    },
+    Row {
+        call: Call::Answer("url=example.com&fl=offset"),
+        text: b"5\n20\n10\n",
+        before_reads: 0,
+    },
+    Row {
+        call: Call::Pages(&[1, 2], "url=example.com&fl=filename,offset"),
+        text: b"a.warc 5\n\ncom%2Cexample%29%2F+20160101000000+a.warc+5\na.warc 20\nb.warc 10\n",
+        before_reads: 54,
+    },
+    Row {
+        call: Call::Pages(&[2], "url=example.com&fl=offset&output=json"),
+        text: b"[[\"offset\"],\n[\"5\"],\n[\"20\"],\n[],\n[\"com%2Cexample%29%2F+20160101000000+a.warc+20\"]]\n[[\"offset\"],\n[\"10\"]]\n",
+        before_reads: 93,
+    },
+    Row {
+        call: Call::Merge,
+        text: RISEN,
+        before_reads: 0,
+    },
+    Row {
+        call: Call::Serve(QUERIES),
+        text: REPLIES,
+        before_reads: 29,
+    },
+];
+
+type Failing = Fuse<Fuse<SliceSource<'static>>>;
+
+/// A source that gives 64 bytes a call. Its call `first` fails, and the `second` of those that didn't fail so; 0 is none.
+fn failing(text: &'static [u8], first: u64, second: u64) -> Failing {
+    Fuse::new(Fuse::new(SliceSource::new(text), 64, second), 64, first)
+}
+
+/// Sources over the three indexes, of which that with this number fails.
+fn sources(number: usize, first: u64, second: u64) -> [Failing; 3] {
+    let at = |i: usize, call: u64| if i == number { call } else { 0 };
+    [
+        failing(OFFSET_10, at(0, first), at(0, second)),
+        failing(OFFSET_20, at(1, first), at(1, second)),
+        failing(OFFSET_5, at(2, first), at(2, second)),
+    ]
+}
+
+fn answered(
+    alloc: Global,
+    text: &str,
+    sources: &mut [Failing],
+    out: &mut Fuse<Gather>,
+) -> Result<(), AnswerFault> {
+    let Ok(query) = Query::read(alloc, text) else {
+        return Err(AnswerFault::Memory);
+    };
+    match answer(alloc, sources, &query, out) {
+        Ok(_report) => Ok(()),
+        Err(fault) => Err(fault),
+    }
+}
+
+fn paged(
+    alloc: Global,
+    sizes: &[u64],
+    text: &str,
+    sources: &mut [Failing],
+    out: &mut Fuse<Gather>,
+) -> Result<(), AnswerFault> {
+    let Ok(query) = Query::read(alloc, text) else {
+        return Err(AnswerFault::Memory);
+    };
+    match pages(alloc, sources, &query, sizes, out) {
+        Ok(_number) => Ok(()),
+        Err(fault) => Err(fault),
+    }
+}
+
+fn merged(
+    alloc: Global,
+    sources: &mut [Failing],
+    out: &mut Fuse<Gather>,
+) -> Result<(), AnswerFault> {
+    match merge(alloc, sources, out) {
+        Ok(_number) => Ok(()),
+        Err(fault) => Err(fault),
+    }
+}
+
+fn served(
+    alloc: Global,
+    lines: &[u8],
+    sources: &mut [Failing],
+    out: &mut Fuse<Gather>,
+) -> Result<(), AnswerFault> {
+    match serve(alloc, sources, &mut Slice::new(lines), out) {
+        Ok(_number) => Ok(()),
+        Err(fault) => Err(fault),
+    }
+}
+
+fn called(
+    alloc: Global,
+    call: Call,
+    sources: &mut [Failing],
+    out: &mut Fuse<Gather>,
+) -> Result<(), AnswerFault> {
+    match call {
+        Call::Answer(text) => answered(alloc, text, sources, out),
+        Call::Pages(sizes, text) => paged(alloc, sizes, text, sources, out),
+        Call::Merge => merged(alloc, sources, out),
+        Call::Serve(lines) => served(alloc, lines, sources, out),
+    }
+}
+
+/// What a call came to over an output that takes a byte a call and fails at this one: the fault, and whether the written bytes are the
+/// first so many of the row's text, or fewer.
+fn ended(
+    alloc: Global,
+    row: &Row,
+    sources: &mut [Failing],
+    write: u64,
+) -> Result<(Result<(), AnswerFault>, Option<usize>), Refused> {
+    let mut out = Fuse::new(Gather::new(alloc), 1, write);
+    let answer = called(alloc, row.call, sources, &mut out);
+    if answer == Err(AnswerFault::Memory)
+        || (answer == Err(AnswerFault::Write) && out.calls != write)
+    {
+        return Err(Refused::Memory);
+    }
+    let written = out.device.bytes();
+    let is_front = row.text.starts_with(written);
+    Ok((answer, is_front.then_some(written.len())))
+}
+
+/// Whether all was written.
+fn is_whole(alloc: Global, row: &Row) -> Result<bool, Refused> {
+    let (answer, written) = ended(alloc, row, &mut sources(0, 0, 0), 0)?;
+    Ok(answer == Ok(()) && written == Some(row.text.len()))
+}
+
+/// How many calls each source has where none fails.
+fn calls_of(alloc: Global, row: &Row) -> Result<[u64; 3], Refused> {
+    let mut sources = sources(0, 0, 0);
+    let _ended = ended(alloc, row, &mut sources, 0)?;
+    Ok([sources[0].calls, sources[1].calls, sources[2].calls])
+}
+
+/// Whether so many first bytes can stand written where a source failed.
+fn is_unended(row: &Row, written: Option<usize>) -> bool {
+    match written {
+        Some(count) => count <= row.before_reads,
+        None => false,
+    }
+}
+
+/// Whether the call ends where this call of a source fails.
+fn ends_unread(alloc: Global, row: &Row, number: usize, read: u64) -> Result<bool, Refused> {
+    let (answer, written) = ended(alloc, row, &mut sources(number, read, 0), 0)?;
+    Ok(answer == Err(AnswerFault::Read(number)) && is_unended(row, written))
+}
+
+/// Whether the calls that follow a failure of the source go on as if none had been, until the source fails again two calls behind the
+/// first, and then write all.
+fn goes_on(alloc: Global, row: &Row, number: usize, read: u64) -> Result<bool, Refused> {
+    let mut sources = sources(number, read, read.saturating_add(1));
+    let mut has_failed = false;
+    for _ in 0..3 {
+        let (answer, written) = ended(alloc, row, &mut sources, 0)?;
+        if answer == Ok(()) {
+            return Ok(has_failed && written == Some(row.text.len()));
+        }
+        if answer != Err(AnswerFault::Read(number)) || !is_unended(row, written) {
+            return Ok(false);
+        }
+        has_failed = true;
+    }
+    Ok(false)
+}
+
+/// The first source and its first call that fails and doesn't end the call so.
+fn read_let_through(alloc: Global, row: &Row) -> Result<Option<(usize, u64)>, Refused> {
+    for (number, calls) in calls_of(alloc, row)?.iter().enumerate() {
+        for read in 1..calls.saturating_add(1) {
+            if !ends_unread(alloc, row, number, read)? || !goes_on(alloc, row, number, read)? {
+                return Ok(Some((number, read)));
+            }
+        }
+    }
+    Ok(None)
+}
+
+#[test]
+fn a_call_ends_at_a_failed_read_of_any_index(rt: HostRuntime) -> Result<(), Fail> {
+    for (number, row) in ROWS.iter().enumerate() {
+        assert!(rt; is_whole(rt.alloc(), row)?, "row {number}");
+        assert!(rt; read_let_through(rt.alloc(), row)? == None, "row {number}");
+    }
+    Ok(())
+}
+
+/// The first write that fails and doesn't end the call, with as many bytes written as writes before.
+fn write_let_through(alloc: Global, row: &Row) -> Result<Option<usize>, Refused> {
+    for before in 0..row.text.len() {
+        let write = before as u64 + 1;
+        let (answer, written) = ended(alloc, row, &mut sources(0, 0, 0), write)?;
+        if answer != Err(AnswerFault::Write) || written != Some(before) {
+            return Ok(Some(before));
+        }
+    }
+    Ok(None)
+}
+
+#[test]
+fn a_call_ends_at_a_failed_write(rt: HostRuntime) -> Result<(), Fail> {
+    for (number, row) in ROWS.iter().enumerate() {
+        assert!(rt; write_let_through(rt.alloc(), row)? == None, "row {number}");
+    }
+    Ok(())
+}
+
+/// The answer where a read of the lines fails, and what is written: the replies to the lines that were read whole. There are 39 bytes; the
+/// read behind them ends the last line, and the one after it finds no further line.
+fn served_to(read: u64) -> (Result<u64, AnswerFault>, &'static [u8]) {
+    match read {
+        1..=26 => (Err(AnswerFault::Input), b""),
+        27..=34 => (Err(AnswerFault::Input), FIRST_REPLY),
+        35..=40 => (Err(AnswerFault::Input), TWO_REPLIES),
+        41 => (Err(AnswerFault::Input), REPLIES),
+        _ => (Ok(3), REPLIES),
+    }
+}
+
+/// Whether a conversation ends so whose input gives a byte a call and fails at this one.
+fn is_served_to(alloc: Global, read: u64) -> Result<bool, Refused> {
+    let mut input = Fuse::new(Slice::new(QUERIES), 1, read);
+    let mut out = Gather::new(alloc);
+    let answer = serve(alloc, &mut sources(0, 0, 0), &mut input, &mut out);
+    match answer {
+        Err(AnswerFault::Memory | AnswerFault::Write) => Err(Refused::Memory),
+        answer => Ok((answer, out.bytes()) == served_to(read)),
+    }
+}
+
+#[test]
+fn a_conversation_ends_at_a_failed_read_of_its_lines(rt: HostRuntime) -> Result<(), Fail> {
+    for read in 1..43 {
+        assert!(rt; is_served_to(rt.alloc(), read)?, "{read}");
+    }
+    Ok(())
+}
+
+/// Whether the check of an index that fails at this call and at the next one fails twice, and then counts its line.
+fn is_checked_again(alloc: Global, read: u64) -> Result<bool, Refused> {
+    let mut source = failing(OFFSET_5, read, read);
+    for wanted in [Err(AnswerFault::Read(0)), Err(AnswerFault::Read(0)), Ok(1)] {
+        match check(alloc, &mut source) {
+            Err(AnswerFault::Memory) => return Err(Refused::Memory),
+            answer if answer != wanted => return Ok(false),
+            _answer => {}
+        }
+    }
+    Ok(true)
+}
+
+#[test]
+fn an_index_that_failed_is_checked_again(rt: HostRuntime) -> Result<(), Fail> {
+    for read in 1..4 {
+        assert!(rt; is_checked_again(rt.alloc(), read)?, "{read}");
+    }
+    Ok(())
+}

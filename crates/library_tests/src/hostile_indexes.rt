@@ -1,0 +1,334 @@
+//! Indexes of any bytes: torn, overlong, falling and no text at all.
+use cdxj_core::LINE_LIMIT;
+use devices::{Gather, Slice};
+use query_core::{
+    AnswerFault, FileSource, Query, SliceSource, Source, answer, check, merge, serve,
+};
+use std::alloc::{AllocError, Global};
+use std::fs::{self, File};
+use std::test::Fail;
+
+/// A growth was refused.
+#[derive(Debug, Drop)]
+enum Refused {
+    Memory,
+}
+
+impl From<AllocError> for Refused {
+    fn from(_refused: AllocError) -> Refused {
+        Refused::Memory
+    }
+}
+
+/// A good line of 50 bytes, and one behind it that has no entry: because of its bytes, its pair, its object, its file name or its offset.
+const BAD_LINES: &[&[u8]] = &[
+    b"a)/ 20160101000000 {\"offset\": 0, \"filename\": \"a\"}\nb\xff)/ 20160101000000 {\"offset\": 1, \"filename\": \"a\"}\n",
+    b"a)/ 20160101000000 {\"offset\": 0, \"filename\": \"a\"}\nb)/ 20160101000000 {\"offset\": 1, \"filename\": \"a\", \"url\": \"\xc3(\"}\n",
+    b"a)/ 20160101000000 {\"offset\": 0, \"filename\": \"a\"}\n\n",
+    b"a)/ 20160101000000 {\"offset\": 0, \"filename\": \"a\"}\n\x0d\n",
+    b"a)/ 20160101000000 {\"offset\": 0, \"filename\": \"a\"}\n \n",
+    b"a)/ 20160101000000 {\"offset\": 0, \"filename\": \"a\"}\nb\x00)/ 20160101000000 {\"offset\": 1, \"filename\": \"a\"}\n",
+    b"a)/ 20160101000000 {\"offset\": 0, \"filename\": \"a\"}\nb\x09 20160101000000 {\"offset\": 1, \"filename\": \"a\"}\n",
+    b"a)/ 20160101000000 {\"offset\": 0, \"filename\": \"a\"}\nb)/ 2016010100000 {\"offset\": 1, \"filename\": \"a\"}\n",
+    b"a)/ 20160101000000 {\"offset\": 0, \"filename\": \"a\"}\nb)/ 201601010000000 {\"offset\": 1, \"filename\": \"a\"}\n",
+    b"a)/ 20160101000000 {\"offset\": 0, \"filename\": \"a\"}\nb)/ 20160101000000\n",
+    b"a)/ 20160101000000 {\"offset\": 0, \"filename\": \"a\"}\nb)/ 20160101000000 [1]\n",
+    b"a)/ 20160101000000 {\"offset\": 0, \"filename\": \"a\"}\nb)/ 20160101000000 {\"offset\": 1, \"filename\": \"a\"} {}\n",
+    b"a)/ 20160101000000 {\"offset\": 0, \"filename\": \"a\"}\nb)/ 20160101000000 {\"offset\": 1, \"filename\": \"a\"\n",
+    b"a)/ 20160101000000 {\"offset\": 0, \"filename\": \"a\"}\nb)/ 20160101000000 {\"offset\": 1}\n",
+    b"a)/ 20160101000000 {\"offset\": 0, \"filename\": \"a\"}\nb)/ 20160101000000 {\"filename\": \"a\"}\n",
+    b"a)/ 20160101000000 {\"offset\": 0, \"filename\": \"a\"}\nb)/ 20160101000000 {\"offset\": 1, \"filename\": \"\"}\n",
+    b"a)/ 20160101000000 {\"offset\": 0, \"filename\": \"a\"}\nb)/ 20160101000000 {\"offset\": -1, \"filename\": \"a\"}\n",
+    b"a)/ 20160101000000 {\"offset\": 0, \"filename\": \"a\"}\nb)/ 20160101000000 {\"offset\": 1.0, \"filename\": \"a\"}\n",
+    b"a)/ 20160101000000 {\"offset\": 0, \"filename\": \"a\"}\nb)/ 20160101000000 {\"offset\": 9223372036854775808, \"filename\": \"a\"}\n",
+    b"a)/ 20160101000000 {\"offset\": 0, \"filename\": \"a\"}\nb)/ 20160101000000 {\"offset\": \"00000000000000000001\", \"filename\": \"a\"}\n",
+    b"a)/ 20160101000000 {\"offset\": 0, \"filename\": \"a\"}\nb)/ 20160101000000 {\"offset\": 1, \"filename\": \"\\ud800\"}\n",
+    b"a)/ 20160101000000 {\"offset\": 0, \"filename\": \"a\"}\nb)/ 20160101000000 {\"offset\": 1, \"filename\": \"a\x01\"}\n",
+];
+
+/// A line with an entry, as another tool might write it.
+const ODD_LINES: &[&[u8]] = &[
+    b"\xef\xbb\xbfa)/ 20160101000000 {\"offset\": 0, \"filename\": \"a\"}\n",
+    b"!a 20160101000000 {\"offset\": 0, \"filename\": \"a\"}\x0d\n",
+    b"a)/ 99999999999999  \x09{\"filename\": \"a\", \"x\": [null, {}], \"offset\": \"0000000000000000001\"} ",
+    b"a)/ 00000000000000 {\"offset\": 9223372036854775807, \"filename\": \"\\u0000\"}",
+];
+
+/// An index of a whole line, of 145 bytes, and the first 100 bytes of another.
+const TORN: &[u8] =
+    b"a)/ 20160101000000 {\"url\": \"http://x/\", \"mime\": \"text/html\", \"status\": \"200\", \"digest\": \"-\", \"length\": \"1\", \"offset\": \"0\", \"filename\": \"a.warc\"}\nb)/ 20160101000000 {\"url\": \"http://x/\", \"mime\": \"text/html\", \"status\": \"200\", \"digest\": \"-\", \"length";
+
+/// What a check answers; a refused growth is an error.
+fn checked<S: Source>(alloc: Global, source: &mut S) -> Result<Result<u64, AnswerFault>, Refused> {
+    match check(alloc, source) {
+        Err(AnswerFault::Memory) => Err(Refused::Memory),
+        answer => Ok(answer),
+    }
+}
+
+/// What a merge answers, and how many bytes it writes.
+fn merged<S: Source>(
+    alloc: Global,
+    sources: &mut [S],
+) -> Result<(Result<u64, AnswerFault>, usize), Refused> {
+    let mut out = Gather::new(alloc);
+    match merge(alloc, sources, &mut out) {
+        Err(AnswerFault::Memory | AnswerFault::Write) => Err(Refused::Memory),
+        answer => Ok((answer, out.bytes().len())),
+    }
+}
+
+/// What a query answers, the number of captures where it does, and what it writes.
+fn answered<S: Source>(
+    alloc: Global,
+    sources: &mut [S],
+    text: &str,
+) -> Result<(Result<u64, AnswerFault>, Gather), Refused> {
+    let Ok(query) = Query::read(alloc, text) else {
+        return Err(Refused::Memory);
+    };
+    let mut out = Gather::new(alloc);
+    match answer(alloc, sources, &query, &mut out) {
+        Err(AnswerFault::Memory | AnswerFault::Write) => Err(Refused::Memory),
+        Err(fault) => Ok((Err(fault), out)),
+        Ok(report) => Ok((Ok(report.given), out)),
+    }
+}
+
+/// Whether the query has this answer, and writes nothing.
+fn answers_empty(
+    alloc: Global,
+    text: &[u8],
+    query: &str,
+    wanted: Result<u64, AnswerFault>,
+) -> Result<bool, Refused> {
+    let (answer, out) = answered(alloc, &mut [SliceSource::new(text)], query)?;
+    Ok(answer == wanted && out.bytes().is_empty())
+}
+
+const ALL: &str = "key=&matchType=prefix";
+
+/// Whether the line at this offset is bad to a check, to a merge and to a query of all lines, before anything is written.
+fn is_bad_at(alloc: Global, text: &[u8], offset: u64) -> Result<bool, Refused> {
+    let fault = Err(AnswerFault::BadLine(0, offset));
+    Ok(
+        checked(alloc, &mut SliceSource::new(text))? == fault
+            && merged(alloc, &mut [SliceSource::new(text)])? == (fault, 0)
+            && answers_empty(alloc, text, ALL, fault)?,
+    )
+}
+
+/// Whether the text is an index of one line, which a merge writes with a line feed.
+fn is_one_line(alloc: Global, text: &[u8]) -> Result<bool, Refused> {
+    let ended = text.len() + usize::from(!text.ends_with(b"\n"));
+    Ok(
+        checked(alloc, &mut SliceSource::new(text))? == Ok(1)
+            && merged(alloc, &mut [SliceSource::new(text)])? == (Ok(1), ended),
+    )
+}
+
+#[test]
+fn lines_without_an_entry_are_bad_wherever_they_are_read(rt: HostRuntime) -> Result<(), Fail> {
+    for (number, text) in BAD_LINES.iter().enumerate() {
+        assert!(rt; is_bad_at(rt.alloc(), text, 50)?, "line {number}");
+    }
+    for (number, text) in ODD_LINES.iter().enumerate() {
+        assert!(rt; is_one_line(rt.alloc(), text)?, "line {number}");
+    }
+    Ok(())
+}
+
+/// Queries of the torn index, and their answers.
+const QUERIES_OF_TORN: &[(&str, Result<u64, AnswerFault>)] = &[
+    ("key=a)/", Err(AnswerFault::BadLine(0, 145))),
+    ("key=b)/", Err(AnswerFault::BadLine(0, 145))),
+    ("key=0", Ok(0)),
+];
+
+#[test]
+fn a_torn_line_is_bad_where_it_is_reached(rt: HostRuntime) -> Result<(), Fail> {
+    assert!(rt; is_bad_at(rt.alloc(), TORN, 145)?);
+    for (query, wanted) in QUERIES_OF_TORN {
+        assert!(rt; answers_empty(rt.alloc(), TORN, query, *wanted)?, "{query}");
+    }
+    Ok(())
+}
+
+/// A line of so many bytes with its line feed, if it has one.
+fn long_line(alloc: Global, length: usize, has_feed: bool) -> Result<Vec<u8>, AllocError> {
+    let start = b"a)/ 20160101000000 {\"filename\": \"a.warc\", \"offset\": 0, \"url\": \"";
+    let mut line = Vec::new(alloc);
+    line.extend_from_slice(start)?;
+    let end: &[u8] = if has_feed { b"\"}\n" } else { b"\"}" };
+    line.resize(length.saturating_sub(end.len()), b'x')?;
+    line.extend_from_slice(end)?;
+    Ok(line)
+}
+
+/// How many bytes lines have over the limit, whether a line feed is among them, and whether they are good.
+const LENGTHS: &[(usize, bool, bool)] = &[
+    (0, true, true),
+    (0, false, false),
+    (1, true, false),
+    (1, false, false),
+    (2_000_000, true, false),
+    (2_000_000, false, false),
+];
+
+fn is_read_or_bad(
+    alloc: Global,
+    length: usize,
+    has_feed: bool,
+    is_good: bool,
+) -> Result<bool, Refused> {
+    let line = long_line(alloc, length, has_feed)?;
+    if is_good {
+        is_one_line(alloc, &line)
+    } else {
+        is_bad_at(alloc, &line, 0)
+    }
+}
+
+#[test]
+fn a_line_over_the_limit_is_bad(rt: HostRuntime) -> Result<(), Fail> {
+    for (over, has_feed, is_good) in LENGTHS {
+        let length = LINE_LIMIT.saturating_add(*over);
+        assert!(rt;
+            is_read_or_bad(rt.alloc(), length, *has_feed, *is_good)?,
+            "{over} over"
+        );
+    }
+    Ok(())
+}
+
+/// A thousand lines, one each second, the last of them first.
+fn falling_lines(alloc: Global) -> Result<Vec<u8>, AllocError> {
+    let mut text = Vec::new(alloc);
+    for number in (0..1_000).rev() {
+        let line = format!(in alloc;
+            "com,example)/ 20160101{number:06} {{\"url\": \"http://x/\", \"mime\": \"text/html\", \"status\": \"200\", \"digest\": \"-\", \"length\": \"1\", \"offset\": \"{number}\", \"filename\": \"a.warc\"}}\n"
+        )?;
+        text.extend_from_slice(line.as_bytes())?;
+    }
+    Ok(text)
+}
+
+/// Of what a query of the falling lines wrote: whether these are offsets that rise from one above this number on.
+fn are_rising_offsets(written: &[u8], above: i64) -> bool {
+    let mut last = above;
+    for line in written.split(|byte| *byte == b'\n') {
+        let Ok(text) = str::from_utf8(line) else {
+            return false;
+        };
+        if text.is_empty() {
+            continue;
+        }
+        match text.parse::<i64>() {
+            Ok(number) if number > last && number < 1_000 => last = number,
+            _ => return false,
+        }
+    }
+    true
+}
+
+/// Whether a query of the falling lines returns, after no more turns of the search than their size allows, with offsets that rise above this
+/// number.
+fn is_answered_in_part(
+    alloc: Global,
+    text: &[u8],
+    query: &str,
+    above: i64,
+) -> Result<bool, Refused> {
+    let Ok(query) = Query::read(alloc, query) else {
+        return Err(Refused::Memory);
+    };
+    let mut out = Gather::new(alloc);
+    let is_bounded = match answer(alloc, &mut [SliceSource::new(text)], &query, &mut out) {
+        Err(AnswerFault::Memory | AnswerFault::Write) => return Err(Refused::Memory),
+        Err(fault) => matches!(fault, AnswerFault::OutOfOrder(0, _)),
+        Ok(report) => report.probes <= 19,
+    };
+    Ok(is_bounded && are_rising_offsets(out.bytes(), above))
+}
+
+/// Queries of the falling lines, and the number above which captures are asked for.
+const QUERIES_OF_FALLING: &[(&str, i64)] = &[
+    ("url=example.com&fl=offset", -1),
+    ("url=example.com&fl=offset&limit=1", -1),
+    (
+        "url=example.com&fl=offset&resumeKey=com%2Cexample%29%2F+20160101000000+a.warc+0",
+        0,
+    ),
+    (
+        "url=example.com&fl=offset&resumeKey=com%2Cexample%29%2F+20160101000499+a.warc+499",
+        499,
+    ),
+    (
+        "url=example.com&fl=offset&resumeKey=com%2Cexample%29%2F+20160101000998+a.warc+998",
+        998,
+    ),
+    (
+        "url=example.com&fl=offset&resumeKey=com%2Cexample%29%2F+20160101000999+a.warc+999",
+        999,
+    ),
+];
+
+#[test]
+fn falling_lines_are_answered_in_part(rt: HostRuntime) -> Result<(), Fail> {
+    let text = falling_lines(rt.alloc())?;
+    let out_of_order = Err(AnswerFault::OutOfOrder(0, 157));
+    assert!(rt; checked(rt.alloc(), &mut SliceSource::new(&text))? == out_of_order);
+    assert!(rt; merged(rt.alloc(), &mut [SliceSource::new(&text)])? == (out_of_order, 0));
+    for (query, above) in QUERIES_OF_FALLING {
+        assert!(rt;
+            is_answered_in_part(rt.alloc(), &text, query, *above)?,
+            "{query}"
+        );
+    }
+    Ok(())
+}
+
+/// The reply to a line of this byte alone: a name that is none, no text, or nothing.
+fn reply_to_byte(byte: u8) -> &'static [u8] {
+    match byte {
+        b'&' | b'\r' | b'\n' => b"refused NoUrl\n.\n",
+        0x80.. => b"refused NotText\n.\n",
+        _ => b"refused Unknown\n.\n",
+    }
+}
+
+fn is_replied_to(alloc: Global, byte: u8) -> Result<bool, Refused> {
+    let line = [byte];
+    let mut out = Gather::new(alloc);
+    match serve(
+        alloc,
+        &mut [SliceSource::new(TORN)],
+        &mut Slice::new(&line),
+        &mut out,
+    ) {
+        Err(AnswerFault::Memory | AnswerFault::Write) => Err(Refused::Memory),
+        answer => Ok(answer == Ok(1) && out.bytes() == reply_to_byte(byte)),
+    }
+}
+
+#[test]
+fn each_byte_has_its_reply(rt: HostRuntime) -> Result<(), Fail> {
+    for byte in 0..=u8::MAX {
+        assert!(rt; is_replied_to(rt.alloc(), byte)?, "{byte}");
+    }
+    Ok(())
+}
+
+/// A file is cut within its second line after its source was made.
+#[test]
+fn a_file_that_was_cut_cannot_be_read(rt: HostRuntime) -> Result<(), Fail> {
+    let read = Err(AnswerFault::Read(0));
+    fs::write(&rt, "cut.cdxj", BAD_LINES[0])?;
+    let to_merge = FileSource::new(File::open(&rt, "cut.cdxj")?)?;
+    let to_ask = FileSource::new(File::open(&rt, "cut.cdxj")?)?;
+    fs::write(&rt, "cut.cdxj", BAD_LINES[0].get(..60).unwrap_or(b""))?;
+    assert!(rt; merged(rt.alloc(), &mut [to_merge])? == (read, 0));
+    let (answer, out) = answered(rt.alloc(), &mut [to_ask], ALL)?;
+    assert!(rt; answer == read && out.bytes().is_empty());
+    Ok(fs::remove_file(&rt, "cut.cdxj")?)
+}
