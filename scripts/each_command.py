@@ -1,0 +1,64 @@
+"""What refuse_program.py and fail_devices.py share: runs of each command on the samples, with a library that is preloaded."""
+import os
+import pathlib
+import subprocess
+import tempfile
+
+ROOT = pathlib.Path(__file__).resolve().parent.parent
+ALL = "key=&matchType=prefix"
+LINES = f"url=example.com&limit=0\n{ALL}\nkey=\xff\n\n{ALL}&output=json".encode("latin-1")
+CASES = (
+    ("list", "response.warc"),
+    ("verify", "response.warc"),
+    ("index", "response.warc", "wget.warc"),
+    ("merge", "response.cdxj", "wget.cdxj"),
+    ("check", "response.cdxj", "wget.cdxj"),
+    ("query", f"{ALL}&is=length:264&resumeKey=a+20160101000000+a.warc+1", "response.cdxj", "wget.cdxj"),
+    ("query", "url=*.example.com&output=json&filter=!mimetype:x&fl=urlkey,length", "response.cdxj"),
+    ("query", "url=%&limit=0", "response.cdxj"),
+    ("pages", "1,7", ALL, "response.cdxj", "wget.cdxj"),
+    ("serve", "response.cdxj", "wget.cdxj"),
+    ("get", "0", "response.warc"),
+    ("scan", "1,7", ALL, "response.warc", "wget.warc"),
+    ("scan", "5", ALL, "response.warc", "damaged.warc"),
+    ("list", "--help"),
+    ("frob",),
+)
+
+
+def program_of(words):
+    """The program of a script's words, built where it has to be."""
+    if words:
+        return pathlib.Path(words[0]).resolve()
+    subprocess.run([ROOT / "warcdx", "--help"], stdout=subprocess.DEVNULL, check=True)
+    return ROOT / "crates/warcdx/out/warcdx"
+
+
+class Bench:
+    """A folder with the samples, their indexes and a library made of a C source of this folder."""
+
+    def __init__(self, program, source):
+        self.program = program
+        self.kept = tempfile.TemporaryDirectory()
+        self.folder = pathlib.Path(self.kept.name)
+        for archive in (ROOT / "samples").glob("*.warc"):
+            (self.folder / archive.name).write_bytes(archive.read_bytes())
+            index = subprocess.run((program, "index", archive), stdout=subprocess.PIPE, stderr=subprocess.DEVNULL).stdout
+            (self.folder / archive.name).with_suffix(".cdxj").write_bytes(index)
+        self.library = self.folder / "library.so"
+        words = (os.environ.get("CC", "cc"), "-O2", "-fPIC", "-shared", "-nostdlib", "-o", self.library, ROOT / "scripts" / source)
+        subprocess.run(words, check=True)
+
+    def usual(self, words):
+        """The status of a run, its output, and what it says on standard error."""
+        return self.run(words, {})
+
+    def preloaded(self, words, **more):
+        return self.run(words, {**more, "LD_PRELOAD": str(self.library)})
+
+    def run(self, words, more):
+        words, environment = (self.program, *words), {**os.environ, **more}
+        done = subprocess.run(
+            words, input=LINES, stdout=subprocess.PIPE, stderr=subprocess.PIPE, cwd=self.folder, env=environment, timeout=60
+        )
+        return done.returncode, done.stdout, done.stderr
