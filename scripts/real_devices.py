@@ -1,0 +1,321 @@
+#!/usr/bin/env python3
+"""Runs each command of warcdx on devices that fail: full disks, readers that leave, pipes and sockets, files that are cut.
+
+usage: real_devices.py [PROGRAM]      default: the program that the script warcdx at the top of the repository builds
+
+Each run ends by itself within 60 s, with a status and the line on standard error that docs/COMMANDS.md gives, and what it has written is the
+beginning of what it writes otherwise: an index that broke off is none for `check`, unless it ends with a whole line. A full disk is a small
+tmpfs, where one can be mounted.
+
+Prints a line for each case. The status is 1 where one differs.
+"""
+import contextlib
+import os
+import pathlib
+import re
+import resource
+import signal
+import socket
+import subprocess
+import sys
+import threading
+import time
+
+from device_runs import ASKED, LONG, SECONDS, ended, expect, of_input, try_ways
+from each_command import ALL
+
+
+def expect_failed_output(place, words, written, status, error, usual):
+    """The output failed, and what it took is the beginning of the usual one."""
+    expect(status == 3 and error in (b"warcdx: Write\n", b"warcdx: cannot flush\n"), status, error)
+    expect(usual.startswith(written), "wrote", written[-300:])
+    if words[0] in ("index", "merge") or "output=cdxj" in words[1]:
+        expect_broken_index(place, written)
+
+
+def expect_broken_index(place, written):
+    """`check` counts the whole lines, or refuses the last."""
+    (place.folder / "written").write_bytes(written)
+    status, output, error = place.run(("check", "written"))
+    start = written.rfind(b"\n") + 1
+    whole = written.count(b"\n") + written[start:].endswith(b"}")
+    if start == len(written) or written.endswith(b"}"):
+        expect((status, output, error) == (0, b"written %d\n" % whole, b""), status, output, error)
+    else:
+        expect((status, output, error) == (1, b"", b"warcdx: written: BadLine %d\n" % start), status, output, error)
+
+
+# ---- outputs
+
+
+def limit_files(size):
+    def limit():
+        resource.setrlimit(resource.RLIMIT_FSIZE, (size, size))
+
+    return limit
+
+
+def a_file_that_may_not_grow(place):
+    """All up to the limit is written. Python ignores SIGXFSZ, and with `restore_signals=False` so does the program."""
+    for name, words in LONG.items():
+        usual = place.usual(words)
+        for size in (0, 1, 4096, 70_000, len(usual) - 1):
+            with open(place.folder / "output", "wb") as output:
+                devices = {"stdout": output, "preexec_fn": limit_files(size), "restore_signals": False}
+                status, _, error = place.run(words, **devices)
+            written = (place.folder / "output").read_bytes()
+            expect(len(written) == size, name, size, len(written))
+            expect_failed_output(place, words, written, status, error, usual)
+        yield name
+
+
+def a_full_disk(place):
+    disk = place.folder / "disk"
+    disk.mkdir()
+    if subprocess.run(("mount", "-t", "tmpfs", "-o", "size=64k", "tmpfs", disk), stderr=subprocess.DEVNULL, check=False).returncode:
+        yield "no tmpfs can be mounted: left out"
+        return
+    try:
+        for name, words in LONG.items():
+            usual = place.usual(words)
+            with open(disk / "output", "wb") as output:
+                status, _, error = place.run(words, stdout=output)
+            written = (disk / "output").read_bytes()
+            expect(len(written) == 65_536, name, len(written))
+            expect_failed_output(place, words, written, status, error, usual)
+            yield name
+    finally:
+        subprocess.run(("umount", disk), check=True)
+
+
+def a_reader_that_leaves(place):
+    """Like `head -c 1`."""
+    for name, words in LONG.items():
+        usual = place.usual(words)
+        process = place.start(words, stdin=subprocess.PIPE)
+        writer = threading.Thread(target=write_all, args=(process.stdin, ASKED if name == "serve" else b""))
+        writer.start()
+        first = process.stdout.read(1)
+        process.stdout.close()
+        error = process.stderr.read()
+        writer.join()
+        expect_failed_output(place, words, first, process.wait(SECONDS), error, usual)
+        yield name
+
+
+def write_all(pipe, lines):
+    with contextlib.suppress(BrokenPipeError), pipe:
+        pipe.write(lines)
+
+
+def an_output_that_would_block(place):
+    """A pipe that is full, and takes nothing more just now."""
+    for name, words in LONG.items():
+        usual = place.usual(words)
+        reader, writer = os.pipe()
+        os.set_blocking(writer, False)
+        status, _, error = place.run(words, stdout=writer)
+        os.close(writer)
+        with open(reader, "rb") as pipe:
+            written = pipe.read()
+        expect_failed_output(place, words, written, status, error, usual)
+        yield name
+
+
+def no_standard_error(place):
+    """What would be said is lost, and the status stays."""
+    archives, indexes = of_input("missing")
+    for words in archives + indexes:
+        status, output, _ = place.run(words, preexec_fn=lambda: os.close(2))
+        expect((status, output) == (3, b""), words, status, output)
+        yield words[0]
+
+
+def neither_input_nor_output(place):
+    def close():
+        os.close(0)
+        os.close(1)
+
+    for words in of_input("-")[0][:4]:
+        status, _, error = ended(place.start(words, preexec_fn=close))
+        wanted = b"warcdx: cannot flush\n" if words[0] in ("list", "verify") else b"warcdx: -: fault 0 Read\n"
+        expect((status, error) == (3, wanted), words, status, error)
+        yield words[0]
+
+
+# ---- inputs
+
+
+def a_fifo(place):
+    """An archive is read from it. An index can't be sought in it."""
+    os.mkfifo(place.folder / "fifo")
+    archive = (place.folder / "one.warc").read_bytes()
+    archives, indexes = of_input("fifo")
+    for words, regular in zip(archives, of_input("one.warc")[0]):
+        for text, status, error in ((archive, 0, b""), (archive[:-1], 1, b"warcdx: fifo: fault 0 Closing\n")):
+            writer = threading.Thread(target=lambda: (place.folder / "fifo").write_bytes(text))
+            writer.start()
+            found = place.run(words)
+            writer.join()
+            output = place.usual(regular).replace(b"one.warc", b"fifo") if not status else found[1]
+            if words[0] in ("list", "verify") and status:
+                output, error = b"fault 0 Closing\n", b""
+            expect(found == (status, output, error), words, found)
+        yield words[0]
+    both = os.open(place.folder / "fifo", os.O_RDWR)
+    for words in indexes:
+        found = place.run(words)
+        expect(found == (3, b"", b"warcdx: fifo: Read\n"), words, found)
+        yield words[0]
+    os.close(both)
+
+
+def a_socket(place):
+    """One in the file system can't be opened. One that is standard input is read."""
+    listener = socket.socket(socket.AF_UNIX)
+    listener.bind(str(place.folder / "socket"))
+    archives, indexes = of_input("socket")
+    for words in archives + indexes:
+        found = place.run(words)
+        expect(found == (3, b"", b"warcdx: socket: cannot open\n"), words, found)
+        yield words[0]
+    for words, regular in zip(of_input("-")[0], of_input("one.warc")[0]):
+        here, there = socket.socketpair()
+        with here, there:
+            here.sendall((place.folder / "one.warc").read_bytes())
+            here.shutdown(socket.SHUT_WR)
+            found = place.run(words, stdin=there)
+        expect(found == (0, place.usual(regular).replace(b"one.warc", b"-"), b""), words, found)
+        yield f"{words[0]} -"
+
+
+def a_file_that_may_not_be_read(place):
+    if os.getuid():
+        yield "only root may give up its rights: left out"
+        return
+    place.folder.chmod(0o755)
+    (place.folder / "secret").write_bytes(b"")
+    (place.folder / "secret").chmod(0)
+    archives, indexes = of_input("secret")
+    for words in archives + indexes:
+        found = place.run(words, user=65_534)
+        expect(found == (3, b"", b"warcdx: secret: cannot open\n"), words, found)
+        yield words[0]
+
+
+def a_loop_of_links(place):
+    (place.folder / "loop").symlink_to("loop")
+    archives, indexes = of_input("loop")
+    for words in archives + indexes:
+        found = place.run(words)
+        expect(found == (3, b"", b"warcdx: loop: cannot open\n"), words, found)
+        yield words[0]
+
+
+def an_input_that_would_block(place):
+    """A pipe in which nothing stands just now."""
+    reader, writer = os.pipe()
+    os.set_blocking(reader, False)
+    for words in of_input("-")[0]:
+        found = place.run(words, stdin=reader)
+        wanted = (b"fault 0 Read\n", b"") if words[0] in ("list", "verify") else (b"", b"warcdx: -: fault 0 Read\n")
+        expect(found == (3, *wanted), words, found)
+        yield words[0]
+    found = ended(place.start(("serve", "one.cdxj"), stdin=reader))
+    expect(found == (3, b"", b"warcdx: Input\n"), found)
+    os.close(reader)
+    os.close(writer)
+    yield "serve"
+
+
+def a_run_that_is_stopped(place):
+    """It goes on where it stood."""
+    for words in (*of_input("-")[0], ("serve", "one.cdxj")):
+        lines = ASKED if words[0] == "serve" else (place.folder / "one.warc").read_bytes()
+        process = place.start(words, stdin=subprocess.PIPE)
+        process.stdin.write(lines[:20])
+        process.stdin.flush()
+        time.sleep(0.1)
+        for sign in (signal.SIGSTOP, signal.SIGCONT) * 2:
+            process.send_signal(sign)
+            time.sleep(0.02)
+        found = ended(process, lines[20:])
+        expect(found == place.run(words, lines), words, found)
+        yield words[0]
+
+
+def a_file_that_is_cut(place):
+    """It is cut while it is read: an archive ends early, and an index can't be read."""
+    text = (place.folder / "many.warc").read_bytes()
+    lines = (place.folder / "many.cdxj").read_bytes()
+    archives = (("list", "cut"), ("verify", "cut"), ("index", "cut"), ("get", str(len(text) * 11), "cut"), ("scan", "9", ALL, "cut"))
+    for words in archives:
+        (place.folder / "cut").write_bytes(text * 12)
+        status, output, error = cut_while_read(place, words)
+        said = output if words[0] in ("list", "verify") else error
+        expect(status == 1 and re.search(rb"(^|: )fault \d+ (ShortHead|ShortBlock|Closing|Version)\n\Z", said, re.MULTILINE), words, status, said[-99:])
+        expect(words[0] not in ("get", "scan") or not output, words, output)
+        if words[0] == "index":
+            expect_broken_index(place, output)
+        yield words[0]
+    indexes = (("merge", "cut"), ("check", "cut"), ("query", f"{ALL}&output=json", "cut"), ("pages", "99", ALL, "cut"), ("serve", "cut"))
+    for words in indexes:
+        (place.folder / "cut").write_bytes(b"".join(lines.replace(b"com,", b"com%d," % number) for number in range(10, 30)))
+        whole = place.usual(words)
+        status, output, error = cut_while_read(place, words)
+        expect((status, error) == (3, b"warcdx: cut: Read\n") and whole.startswith(output) and output != whole, words, status, error)
+        if words[0] == "merge":
+            expect_broken_index(place, output)
+        yield words[0]
+
+
+def cut_while_read(place, words):
+    """Stops the program once it has begun to read the file, leaves a part of the file, and lets the program go on."""
+    process = place.start(words, stdin=subprocess.PIPE)
+    output, error = [], []
+    readers = [
+        threading.Thread(target=lambda: output.append(process.stdout.read())),
+        threading.Thread(target=lambda: error.append(process.stderr.read())),
+    ]
+    for reader in readers:
+        reader.start()
+    write_all(process.stdin, ASKED if words[0] == "serve" else b"")
+    path = place.folder / words[-1]
+    while not (at := position(process.pid, path)):
+        expect(process.poll() is None, words, "has ended before it was stopped")
+    process.send_signal(signal.SIGSTOP)
+    os.truncate(path, min(at, path.stat().st_size // 2) + 50)
+    process.send_signal(signal.SIGCONT)
+    for reader in readers:
+        reader.join()
+    return process.wait(SECONDS), output[0], error[0]
+
+
+def position(process, path):
+    """Where a process stands in a file that it has opened, else 0."""
+    with contextlib.suppress(OSError):
+        for link in pathlib.Path(f"/proc/{process}/fd").iterdir():
+            if os.readlink(link) == str(path):
+                return int(pathlib.Path(f"/proc/{process}/fdinfo/{link.name}").read_text().split()[1])
+    return 0
+
+
+WAYS = (
+    a_file_that_may_not_grow,
+    a_full_disk,
+    a_reader_that_leaves,
+    an_output_that_would_block,
+    no_standard_error,
+    neither_input_nor_output,
+    a_fifo,
+    a_socket,
+    a_file_that_may_not_be_read,
+    a_loop_of_links,
+    an_input_that_would_block,
+    a_run_that_is_stopped,
+    a_file_that_is_cut,
+)
+
+
+if __name__ == "__main__":
+    sys.exit(try_ways(WAYS, sys.argv[1:]))
