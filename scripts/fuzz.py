@@ -10,7 +10,7 @@ A case is one of four kinds:
   indexes   one to four indexes: `check` counts them or tells the first line at fault; `merge` is their collection; `query` writes lines of
             theirs, or breaks off at a line at fault; where none is, the pages of `pages` and of a walk by resume keys are the page without a limit
   parts     an index cut up or dealt out, where lines repeat: `merge` and `query` of the parts are the index
-  queries   ten lines of queries: `serve` replies to each as `query` answers it
+  queries   six lines of queries: `serve` replies to each as `query` answers it
 No run may end by a signal, with a status or a line on standard error that docs/COMMANDS.md doesn't name, or after 20 s.
 
 Prints what was tried. At a case that fails it says what is wrong and keeps its files, and its status is 1. `--case` runs one case again.
@@ -22,6 +22,7 @@ import multiprocessing
 import os
 import pathlib
 import random
+import shutil
 import subprocess
 import sys
 import tempfile
@@ -58,19 +59,17 @@ def work(words, numbers, failed, results):
     """Tries cases until one fails or the time is over. Hands over the tally, or the number of the case that failed with what is wrong."""
     tally = collections.Counter()
     end = time.monotonic() + words.seconds if words.seconds else None
+    folder = pathlib.Path(tempfile.mkdtemp(prefix="fuzz-"))
     for number in numbers:
         if failed.is_set() or end and time.monotonic() > end:
             break
-        folder = pathlib.Path(tempfile.mkdtemp(prefix=f"fuzz-{words.seed}-{number}-"))
         try:
             try_case(words.program, words.seed, number, folder, tally)
         except Exception as wrong:  # also what the rules didn't think of
             failed.set()
             results.put((number, folder, f"{wrong}\n{traceback.format_exc(limit=-3)}"))
             return
-        for path in folder.iterdir():
-            path.unlink()
-        folder.rmdir()
+    shutil.rmtree(folder)
     results.put(tally)
 
 

@@ -247,7 +247,7 @@ def try_queries(trial):
     choice = trial.choice
     texts = [mutations.index(choice, 8) for _ in range(choice.choice((1, 1, 2)))]
     names = trial.write(texts, "cdxj")
-    asked = choice.choice((b"\n", b"\r\n")).join(a_query(choice) for _ in range(10))
+    asked = choice.choice((b"\n", b"\r\n")).join(a_query(choice) for _ in range(6))
     lines = [line.removesuffix(b"\r") for line in asked.removesuffix(b"\n").split(b"\n")] if asked else []
     replies = [a_reply(trial, names, line) for line in lines]
     trial.expect(0, b"".join(replies), b"", "serve", *names, lines=asked)

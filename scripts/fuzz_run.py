@@ -1,5 +1,6 @@
 """One case of fuzz.py: its folder, its choices, and runs of the program that have to end as docs/COMMANDS.md says."""
 import re
+import signal
 import string
 import subprocess
 from typing import NamedTuple
@@ -19,6 +20,13 @@ OF_INDEX = re.compile(rb"warcdx: (.*): (BadLine|OutOfOrder) ([0-9]+)\n")
 
 class Wrong(Exception):
     """What the program did that it mustn't."""
+
+
+def be_late(_signal, _frame):
+    raise TimeoutError
+
+
+signal.signal(signal.SIGALRM, be_late)
 
 
 class Done(NamedTuple):
@@ -47,14 +55,18 @@ class Trial:
         self.tally["runs"] += 1
         try:
             done = Done(*self.ended((self.program, *words), lines))
-        except subprocess.TimeoutExpired:
+        except TimeoutError:
             raise Wrong(f"{words} takes over {SECONDS} s") from None
         if done.status not in (0, 1, 3) or bool(done.error) > bool(done.status) or not ON_ERROR.fullmatch(done.error):
             raise Wrong(f"{words} ends with {done}")
         return done
 
     def ended(self, words, lines=b""):
-        done = subprocess.run(words, input=lines, stdout=subprocess.PIPE, stderr=subprocess.PIPE, cwd=self.folder, timeout=SECONDS)
+        signal.alarm(SECONDS)  # cheaper than the timeout of subprocess, which looks again and again
+        try:
+            done = subprocess.run(words, input=lines, stdout=subprocess.PIPE, stderr=subprocess.PIPE, cwd=self.folder)
+        finally:
+            signal.alarm(0)
         return done.returncode, done.stdout, done.stderr
 
     def expect(self, status, output, error, *words, lines=b""):
