@@ -8,6 +8,8 @@ from urllib.parse import quote_plus
 
 ROOT = pathlib.Path(__file__).resolve().parent.parent
 CLOSING = b"\r\n\r\n"
+HEAD_LIMIT = 65_536
+LINE_LIMIT = 1_048_576
 KINDS = ("response", "response", "resource", "revisit", "warcinfo", "request", "metadata", "conversion", "continuation", "Response", "x")
 DATES = ("2016-09-19T17:20:24Z", "2016", "2016-02-29", "0000-01", "2016-09-19T17:20Z", "9999-12-31T23:59:59.123456789Z", "2015-02-29")
 ADDRESSES = (
@@ -154,7 +156,15 @@ def record(choice):
         choice.shuffle(fields)
     lines = [mostly(choice, 0.95, f"{name}: {value}", f"{name.lower()}:\r\n\t {value} ") for name, value in fields]
     version = choice.choice(("WARC/1.1", "WARC/1.0"))
-    return "\r\n".join((version, *lines)).encode("latin-1") + CLOSING + block + CLOSING
+    head = "\r\n".join((version, *lines)).encode("latin-1")
+    if choice.random() < 0.001:
+        head += b"\r\nX:" + bytes_up_to(choice, HEAD_LIMIT - len(head + b"\r\nX:" + CLOSING))
+    return head + CLOSING + block + CLOSING
+
+
+def bytes_up_to(choice, limit):
+    """So many bytes, or a few less or more."""
+    return b"a" * (limit + choice.randint(-2, 2))
 
 
 def sample_records():
@@ -184,9 +194,21 @@ def line(choice):
     if not plain:
         members["offset"] = choice.choice((offset, f"{offset:019}"))
         members = dict(choice.sample(list(members.items()), len(members)))
+    if choice.random() < 0.01:
+        members["nested"] = nested(choice.randint(125, 129))
     end = mostly(choice, 0.95, "", choice.choice((" ", "\t", "\r")))
     said = json.dumps(members, ensure_ascii=not plain)
-    return f"{choice.choice(KEYS)} {choice.choice(STAMPS)} {said}{end}".encode()
+    text = f"{choice.choice(KEYS)} {choice.choice(STAMPS)} {said}{end}".encode()
+    if choice.random() < 0.0002:
+        text = text.replace(b"/example.com/", b"/" + bytes_up_to(choice, LINE_LIMIT - len(text) + 12))
+    return text
+
+
+def nested(depth):
+    value = 0
+    for _ in range(depth):
+        value = [value]
+    return value
 
 
 def ordered(lines):
@@ -292,6 +314,6 @@ LIMIT = 1_200_000
 
 def mutated(choice, text, changes=CHANGES):
     """The text after a few changes."""
-    for change in choice.choices(changes, k=choice.choice((0, 1, 1, 1, 2, 3, 5))):
+    for change in choice.choices(changes, k=choice.choice((0, 1, 1, 1, 2, 3, 5))) if changes else ():
         text = change(choice, text)[:LIMIT] if text else text
     return text
