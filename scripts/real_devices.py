@@ -122,6 +122,24 @@ def an_output_that_would_block(place):
         yield name
 
 
+def an_output_that_is_the_input(place):
+    """The file grows while it is read. Of an index nothing behind its size at first is read, and a report is no record."""
+    for name, words in LONG.items():
+        usual = place.usual(words)
+        if name == "check":
+            continue
+        text = (place.folder / words[-1]).read_bytes()
+        (place.folder / "own").mkdir(exist_ok=True)
+        own = place.folder / "own" / words[-1]
+        own.write_bytes(text)
+        with open(own, "ab") as output:
+            status, _, error = place.run((*words[:-1], f"own/{words[-1]}"), stdout=output)
+        wanted, end = (1, b"fault %d Version\n" % len(text)) if name in ("list", "verify") else (0, b"")
+        written = own.read_bytes()[len(text) :]
+        expect((status, error) == (wanted, b"") and written == usual + end, words, status, error, written[-99:])
+        yield name
+
+
 def no_standard_error(place):
     """What would be said is lost, and the status stays."""
     archives, indexes = of_input("missing")
@@ -201,6 +219,24 @@ def a_file_that_may_not_be_read(place):
         found = place.run(words, user=65_534)
         expect(found == (3, b"", b"warcdx: secret: cannot open\n"), words, found)
         yield words[0]
+
+
+def few_open_files(place):
+    """A file is closed before the next is opened, but for the commands that read all of them at once."""
+    for words in (*of_input("one.warc")[0][:2], ("check", "one.cdxj")):
+        many = (words[0], *words[1:] * 50)
+        found = place.run(many, preexec_fn=limit_open_files)
+        expect(found == (0, place.usual(many), b""), words, found)
+        yield f"{words[0]}, one after another"
+    for name in ("merge", "query", "pages", "serve", "scan"):
+        *words, file = next(words for words in of_input("one.warc")[0] + of_input("one.cdxj")[1] if words[0] == name)
+        found = place.run((*words, *[file] * 50), preexec_fn=limit_open_files)
+        expect(found == (3, b"", f"warcdx: {file}: cannot open\n".encode()), words, found)
+        yield f"{name}, all at once"
+
+
+def limit_open_files():
+    resource.setrlimit(resource.RLIMIT_NOFILE, (16, 16))
 
 
 def a_loop_of_links(place):
@@ -305,11 +341,13 @@ WAYS = (
     a_full_disk,
     a_reader_that_leaves,
     an_output_that_would_block,
+    an_output_that_is_the_input,
     no_standard_error,
     neither_input_nor_output,
     a_fifo,
     a_socket,
     a_file_that_may_not_be_read,
+    few_open_files,
     a_loop_of_links,
     an_input_that_would_block,
     a_run_that_is_stopped,
