@@ -85,6 +85,8 @@ OPTIONS = (
     "has=original:example",
     "hasnot=urlkey:a",
     "resumeKey=com%2Cexample%29%2F+20160101000000+a.warc+5",
+    "collapse=urlkey",
+    "collapse=timestamp:8",
     "page=0",
 )
 TOKENS = (
