@@ -2,7 +2,8 @@
 """Runs warcdx on archives, indexes and queries that were changed by chance, and holds it to what docs/ says.
 
 usage: fuzz.py [--seed N] [--seconds S | --cases N | --case NUMBER] [--jobs N] [PROGRAM]
-       default: seed 1, 1000 cases, a job for each processor, the script warcdx at the top of the repository
+       default: seed 1, 1000 cases, a job for each processor, the program that the script warcdx at the top of the
+                repository builds
 
 A case is one of four kinds:
   archives  one to three archives: the records that `list`, `verify`, `index` and `get` tell are those of a plain reader, and where one is
@@ -23,17 +24,16 @@ import os
 import pathlib
 import random
 import shutil
-import subprocess
 import sys
 import tempfile
 import time
 import traceback
 
+from each_command import program_of
 from fuzz_archives import try_archives
 from fuzz_indexes import try_indexes, try_parts, try_queries
 from fuzz_run import Trial
 
-ROOT = pathlib.Path(__file__).resolve().parent.parent
 KINDS = {"archives": (try_archives, 40), "indexes": (try_indexes, 30), "parts": (try_parts, 10), "queries": (try_queries, 20)}
 
 
@@ -44,7 +44,7 @@ def read_words():
     parser.add_argument("--cases", type=int)
     parser.add_argument("--case", type=int)
     parser.add_argument("--jobs", type=int, default=os.cpu_count())
-    parser.add_argument("program", nargs="?", default=ROOT / "warcdx")
+    parser.add_argument("program", nargs="*")
     return parser.parse_args()
 
 
@@ -82,9 +82,8 @@ def numbers_of(words, job):
 
 def main():
     words = read_words()
-    words.program = str(pathlib.Path(words.program).resolve())
+    words.program = str(program_of(words.program))
     words.jobs = 1 if words.case is not None else words.jobs
-    subprocess.run((words.program, "--help"), stdout=subprocess.DEVNULL, check=True)  # builds it, where it has to be
     start = time.monotonic()
     failed, results = multiprocessing.Event(), multiprocessing.Queue()
     for job in range(words.jobs):
