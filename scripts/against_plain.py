@@ -75,7 +75,13 @@ FAULTS = (
     "resumeKey=a+20160101000000+a.warc+-1",
     "page=0",
     "URL=a",
-    "collapse=urlkey",
+    "collapse=digest",
+    "collapse=urlkey:5",
+    "collapse=timestamp:0",
+    "collapse=timestamp:15",
+    "collapse=timestamp:008",
+    "collapse=timestamp:",
+    "collapse=",
     "output=json&output=json",
     "key=a&url=a",
 )
@@ -135,6 +141,7 @@ class Case:
             "showResumeKey": (0.6, lambda: choice.choice(("true", "true", "false"))),
             "fl": (0.5, lambda: ",".join(choice.choices(plain.FIELDS, k=choice.randint(1, 5)))),
             "output": (0.7, lambda: choice.choice(plain.OUTPUTS)),
+            "collapse": (0.4, lambda: choice.choice(("urlkey", "timestamp", f"timestamp:{choice.randint(1, 14)}", f"timestamp:{choice.randint(1, 9):02}"))),
         }
         for name, (share, value) in options.items():
             if choice.random() < share:
@@ -216,12 +223,21 @@ def compare(program, case, names, tried):
     expect(program, (0, given, b""), "query", case.query, *names)
     expect(program, (0, given + b".\n", b""), "serve", *names, lines=case.query.encode())
     expect(program, (0, plain.pages(query, case.sizes, lines), b""), "pages", sizes, case.query, *names)
-    chain = list(plain.chain(plain.select(query, lines), query.resume, case.sizes))
+    chain = list(plain.chain(query, plain.select(query, lines), case.sizes))
     tried["queries"] += 1
     tried["pages"] += len(chain)
     tried["captures"] += sum(len(page) for page, _ in chain)
     tried[f"match {query.match}"] += 1
     tried[f"output {query.output}"] += 1
+    if query.part:
+        tried["collapsed queries"] += 1
+        tried["captures left out"] += left_out(query, lines, chain)
+
+
+def left_out(query, lines, chain):
+    """How many selected captures above the query's place are on no page."""
+    above = [line for line in plain.select(query, lines) if query.resume is None or line.place > query.resume]
+    return len(above) - sum(len(page) for page, _ in chain)
 
 
 def walk(program, case, names, tried):

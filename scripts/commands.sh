@@ -246,6 +246,7 @@ key_20="com%2Cexample%29%2Fp+20160919172024+a.warc+20"
 first_p=$(lines "a.warc 5" "" "$key_5")
 json_p=$(lines '[["filename","offset"],' '["a.warc","5"],' '[],' "[\"$key_5\"]]")
 no_rows='[["urlkey","timestamp","original","mimetype","statuscode","digest","length"]]'
+first_of_all=$(head --lines=1 sorted.cdxj)
 usual="com,example)/q 20160919172024 http://example.com/q - - $abc 158"
 too_many=$(repeated 1025 <<< empty.warc)
 at_limit=$(repeated 1024 <<< empty.warc)
@@ -257,6 +258,10 @@ check "query: a limit"                  "a.warc 5"       ""                0 que
 check "query: a resume key"             "$first_p"       ""                0 query "$of_p&limit=1&showResumeKey=true" $apart
 check "query: from a resume key"        "$(lines "a.warc 20" "b.warc 10")" "" 0 query "$of_p&resumeKey=$key_5" $apart
 check "query: json"                     "$json_p"        ""                0 query "$of_p&output=json&limit=1&showResumeKey=true" $apart
+check "query: by key"                   "a.warc 5"       ""                0 query "$of_p&collapse=urlkey" $apart
+check "query: by time, of all keys"     "$first_of_all"  ""                0 query "url=example.com/*&output=cdxj&collapse=timestamp:4" sorted.cdxj
+check "query: by time, from a resume key" ""             ""                0 query "$of_p&collapse=timestamp&resumeKey=$key_5" $apart
+check "query: a bad collapse"   "" "warcdx: query: BadCollapse"            1 query "url=a&collapse=digest" sorted.cdxj
 check "query: nothing"                  ""               ""                0 query url=example.org sorted.cdxj
 check "query: nothing, json"            "$no_rows"       ""                0 query "url=example.org&output=json" sorted.cdxj
 check "query: an index twice"           "$usual"         ""                0 query url=example.com/q sorted.cdxj unended.cdxj
@@ -284,6 +289,7 @@ check "pages: of two"                   "$of_two_and_one" ""               0 pag
 check "pages: one"                      "$each_p"        ""                0 pages 1000000 "$of_p" $apart
 check "pages: a limit isn't used"       "$each_p"        ""                0 pages 0000003 "$of_p&limit=1&showResumeKey=true" $apart
 check "pages: from a resume key"        "b.warc 10"      ""                0 pages 2 "$of_p&resumeKey=$key_20" $apart
+check "pages: by key"                   "a.warc 5"       ""                0 pages 1 "$of_p&collapse=urlkey" $apart
 check "pages: json"                     "$json_pages"    ""                0 pages 2 "url=example.com/p&output=json&fl=offset" $apart
 check "pages: nothing"                  ""               ""                0 pages 1 url=example.org sorted.cdxj
 check "pages: nothing, json"            "$no_rows"       ""                0 pages 1 "url=example.org&output=json" sorted.cdxj
@@ -310,6 +316,7 @@ check "serve: no lines"                 ""               ""                0 ser
 check "serve: empty lines" "$(lines "refused NoUrl" . "refused NoUrl" .)" "" 0 serve sorted.cdxj < <(printf '\n\n')
 check "serve: a resume key"             "$keyed"         ""                0 serve $apart <<< "$of_p&limit=1&showResumeKey=true"
 check "serve: from a resume key"        "$(lines 20 10 .)" ""              0 serve $apart <<< "$asked&resumeKey=$key_5"
+check "serve: by key" "$(lines 5 . "refused BadCollapse" .)" ""            0 serve $apart < <(printf '%s&collapse=urlkey\nkey=x&collapse=timestamp:15\n' "$asked")
 check "serve: cdxj"                     "$(lines "$sorted" .)" ""          0 serve sorted.cdxj <<< "url=example.com/*&output=cdxj"
 check "serve: json" "$(lines "$json_p" .)" "" 0 serve $apart <<< "$of_p&output=json&limit=1&showResumeKey=true"
 check "serve: nothing, json" "$(lines "$no_rows" .)" "" 0 serve sorted.cdxj <<< "url=example.org&output=json"
@@ -334,11 +341,13 @@ scanned=$(lines "com,example)/q both.warc 158" "com,example)/r both.warc 0" "com
 key_q="com%2Cexample%29%2Fq+20160919172024+both.warc+158"
 scanned_pages=$(lines "com,example)/q both.warc 158" "" "$key_q" "com,example)/r both.warc 0" "com,example)/r r.warc 0")
 scanned_on=$(lines "com,example)/r both.warc 0" "com,example)/r r.warc 0")
+scanned_keys=$(lines "com,example)/q both.warc 158" "" "$key_q" "com,example)/r both.warc 0")
 twice_r="warcdx: folder/r.warc: DuplicateName"
 
 check "scan: two archives"              "$scanned"       ""                0 scan 9 "$of_archives" r.warc both.warc
 check "scan: pages"                     "$scanned_pages" ""                0 scan 1,2 "$of_archives" r.warc both.warc
 check "scan: from a resume key"         "$scanned_on"    ""                0 scan 9 "$of_archives&resumeKey=$key_q" r.warc both.warc
+check "scan: by key"                    "$scanned_keys"  ""                0 scan 1 "$of_archives&collapse=urlkey" r.warc both.warc
 check "scan: cdxj"                      "$of_both"       ""                0 scan 9 "url=example.com/*&output=cdxj" both.warc
 check "scan: -"                         "com,example)/r - 0" ""            0 scan 9 "$of_archives" - < r.warc
 check "scan: nothing"                   ""               ""                0 scan 1 url=example.org same.warc empty.warc r.warc

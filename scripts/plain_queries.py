@@ -73,6 +73,7 @@ class Query(NamedTuple):
     shows_key: bool
     fields: tuple
     output: str
+    part: Optional[Callable]  # of a place, by which captures are collapsed
 
     def asks_for(self, line):
         stamp = line.values["timestamp"]
@@ -129,6 +130,15 @@ def read_fields(text):
     return fields
 
 
+def read_collapse(text):
+    name, colon, digits = text.partition(":")
+    if text == "urlkey":
+        return lambda place: place.key
+    if name != "timestamp" or colon and not (is_digits(digits, 2) and 1 <= int(digits) <= 14):
+        raise Refused("BadCollapse")
+    return lambda place: place.stamp[: int(digits or 14)]
+
+
 def read_place(text):
     key, _, later = decoded(text).partition(" ")
     stamp, _, later = later.partition(" ")
@@ -182,6 +192,7 @@ READERS = {
     "showResumeKey": one_of(("true", "false"), "BadFlag"),
     "fl": read_fields,
     "output": one_of(OUTPUTS, "BadOutput"),
+    "collapse": read_collapse,
     **CONDITIONS,
 }
 
@@ -218,6 +229,7 @@ def read_query(text):
         given.get("showResumeKey") == "true",
         given.get("fl", USUAL_FIELDS),
         given.get("output", "text"),
+        given.get("collapse"),
     )
 
 
@@ -274,17 +286,26 @@ def collected(lines):
     return [line for _, line in sorted(collection.items())]
 
 
-def page_after(selected, place, limit):
+def collapsed(lines, place, part):
+    """The lines whose part differs from that of the line before, the first from that of the place."""
+    before = [place, *(line.place for line in lines)]
+    return [line for line, place in zip(lines, before) if place is None or part(line.place) != part(place)]
+
+
+def page_after(query, selected, place, limit):
     """The first lines above the place, and the place from which the next page goes on, where there is one."""
     later = [line for line in selected if place is None or line.place > place]
+    if query.part:
+        later = collapsed(later, place, query.part)
     page = later[:limit]
     return page, page[-1].place if len(later) > len(page) else None
 
 
-def chain(selected, place, sizes):
-    """The pages from a place on, the last of the sizes repeated."""
+def chain(query, selected, sizes):
+    """The pages from the query's place on, the last of the sizes repeated."""
+    place = query.resume
     for size in itertools.chain(sizes, itertools.repeat(sizes[-1])):
-        page, place = page_after(selected, place, size)
+        page, place = page_after(query, selected, place, size)
         yield page, place
         if place is None:
             return
@@ -322,12 +343,12 @@ def page_text(query, page, place):
 
 
 def answer(query, lines):
-    page, place = page_after(select(query, lines), query.resume, query.limit)
+    page, place = page_after(query, select(query, lines), query.resume, query.limit)
     return page_text(query, page, place if query.shows_key else None)
 
 
 def pages(query, sizes, lines):
-    return b"".join(page_text(query, page, place) for page, place in chain(select(query, lines), query.resume, sizes))
+    return b"".join(page_text(query, page, place) for page, place in chain(query, select(query, lines), sizes))
 
 
 def select(query, lines):
