@@ -1,4 +1,4 @@
-"""What fuzz.py holds warcdx to on archives: `list`, `verify`, `index`, `get` and `scan` agree with the archive's bytes and with each other."""
+"""What fuzz.py holds warcdx to on archives: the commands agree with the archive's bytes and with each other."""
 import json
 
 import mutations

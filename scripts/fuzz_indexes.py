@@ -1,4 +1,4 @@
-"""What fuzz.py holds warcdx to on indexes and queries: `check`, `merge`, `query`, `pages` and `serve` agree with the lines and with each other."""
+"""What fuzz.py holds warcdx to on indexes and queries: the commands agree with the lines and with each other."""
 import json
 from urllib.parse import unquote_plus
 

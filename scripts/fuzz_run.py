@@ -6,7 +6,10 @@ import subprocess
 from typing import NamedTuple
 
 SECONDS = 20
-CAUSES = "Version|ShortHead|HeadTooLong|FieldLine|Missing|Repeated|BadLength|BadDate|ShortBlock|Closing|TooFar|KeyTooLong|LineTooLong|Read|Memory"
+CAUSES = (
+    "Version|ShortHead|HeadTooLong|FieldLine|Missing|Repeated|BadLength|BadDate|ShortBlock|Closing|TooFar|KeyTooLong|LineTooLong|"
+    "Read|Memory"
+)
 REFUSALS = (
     "Unknown|RepeatedParameter|BadMatch|BadStamp|BadFilter|NotLiteral|BadLimit|BadResume|BadField|BadOutput|BadFlag|BadCollapse|NoUrl|"
     "UrlAndKey|BadUrl|QueryTooLong|Memory"

@@ -289,7 +289,8 @@ def a_file_that_is_cut(place):
         (place.folder / "cut").write_bytes(text * 12)
         status, output, error = cut_while_read(place, words)
         said = output if words[0] in ("list", "verify") else error
-        expect(status == 1 and re.search(rb"(^|: )fault \d+ (ShortHead|ShortBlock|Closing|Version)\n\Z", said, re.MULTILINE), words, status, said[-99:])
+        ends = re.search(rb"(^|: )fault \d+ (ShortHead|ShortBlock|Closing|Version)\n\Z", said, re.MULTILINE)
+        expect(status == 1 and ends, words, status, said[-99:])
         expect(words[0] not in ("get", "scan") or not output, words, output)
         if words[0] == "index":
             expect_broken_index(place, output)
