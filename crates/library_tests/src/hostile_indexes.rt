@@ -138,6 +138,26 @@ fn lines_without_an_entry_are_bad_wherever_they_are_read(rt: HostRuntime) -> Res
     Ok(())
 }
 
+/// The replies to a query of all lines, as JSON, and to a bad one, over an index whose line at 50 is bad: the page has a start and no end.
+const REPLIES_BEFORE_50: &[u8] = b"[[\"offset\"]\nfault BadLine 0 50\n.\nrefused BadLimit\n.\n";
+
+fn is_served_to_bad_line(alloc: Global, text: &[u8]) -> Result<bool, Refused> {
+    let mut lines = Slice::new(b"key=&matchType=prefix&output=json&fl=offset\nlimit=0\n");
+    let mut out = Gather::new(alloc);
+    match serve(alloc, &mut [SliceSource::new(text)], &mut lines, &mut out) {
+        Err(AnswerFault::Memory | AnswerFault::Write) => Err(Refused::Memory),
+        answer => Ok(answer == Ok(2) && out.bytes() == REPLIES_BEFORE_50),
+    }
+}
+
+#[test]
+fn a_bad_line_ends_its_reply_and_no_other(rt: HostRuntime) -> Result<(), Fail> {
+    for (number, text) in BAD_LINES.iter().enumerate() {
+        assert!(rt; is_served_to_bad_line(rt.alloc(), text)?, "line {number}");
+    }
+    Ok(())
+}
+
 /// Queries of the torn index, and their answers.
 const QUERIES_OF_TORN: &[(&str, Result<u64, AnswerFault>)] = &[
     ("key=a)/", Err(AnswerFault::BadLine(0, 145))),
