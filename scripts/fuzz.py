@@ -63,6 +63,8 @@ def work(words, numbers, failed, results):
     for number in numbers:
         if failed.is_set() or end and time.monotonic() > end:
             break
+        for path in folder.iterdir():
+            path.unlink()
         try:
             try_case(words.program, words.seed, number, folder, tally)
         except Exception as wrong:  # also what the rules didn't think of

@@ -18,7 +18,7 @@ def try_archives(trial):
         trial.tally[f"archive: {fault[1] if fault else 'whole'}"] += 1
     expect_reports(trial, names, reads)
     index = an_index(trial, names, reads)
-    expect_index(trial, names, reads, index)
+    expect_index(trial, names, index)
     expect_record(trial, names[0], texts[0], *reads[0])
     expect_scan(trial, names, reads, index)
     if choice.random() < 0.2:
@@ -79,7 +79,7 @@ def expect_capture(trial, record, stamp, members):
     trial.check(digest and status, f"capture {members} of {record}")
 
 
-def expect_index(trial, names, reads, index):
+def expect_index(trial, names, index):
     """What `index` writes rises by place, and is an index for `check` and for `sort`."""
     places = [plain_lines.place(line) for _, line in plain_lines.cut(index)]
     trial.check(all(one < next_one for one, next_one in zip(places, places[1:])), f"index {names}: places don't rise")
