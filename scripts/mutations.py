@@ -6,10 +6,10 @@ import pathlib
 import re
 from urllib.parse import quote_plus
 
+from plain_lines import LINE_LIMIT
+from plain_records import CLOSING, HEAD_LIMIT
+
 ROOT = pathlib.Path(__file__).resolve().parent.parent
-CLOSING = b"\r\n\r\n"
-HEAD_LIMIT = 65_536
-LINE_LIMIT = 1_048_576
 KINDS = ("response", "response", "resource", "revisit", "warcinfo", "request", "metadata", "conversion", "continuation", "Response", "x")
 DATES = ("2016-09-19T17:20:24Z", "2016", "2016-02-29", "0000-01", "2016-09-19T17:20Z", "9999-12-31T23:59:59.123456789Z", "2015-02-29")
 ADDRESSES = (
@@ -311,7 +311,7 @@ def change_lines(choice, text):
 
 
 CHANGES = (cut_end, cut_start, flip_bit, change_byte, insert, replace, remove, repeat, swap, change_number, change_lines)
-LIMIT = 1_200_000
+LIMIT = LINE_LIMIT + 100_000
 
 
 def mutated(choice, text, changes=CHANGES):

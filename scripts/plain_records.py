@@ -11,6 +11,7 @@ from typing import NamedTuple
 VERSIONS = (b"WARC/1.1\r\n", b"WARC/1.0\r\n")
 CLOSING = b"\r\n\r\n"
 HEAD_LIMIT = 65_536
+HTTP_HEAD_LIMIT = 65_536
 END_LIMIT = (1 << 63) - 1
 MANDATORY = (b"warc-record-id", b"content-length", b"warc-date", b"warc-type")
 KINDS = ("warcinfo", "response", "resource", "request", "metadata", "revisit", "conversion", "continuation")
@@ -157,7 +158,7 @@ def known_members(record, filename):
 
 def payload_digests(record):
     """The digests that the payload may have, wherever an HTTP head ends."""
-    ends = [found.end(1) for found in re.finditer(rb"\n(?=(\r?\n))", record.block[:HEAD_LIMIT])]
+    ends = [found.end(1) for found in re.finditer(rb"\n(?=(\r?\n))", record.block[:HTTP_HEAD_LIMIT])]
     return {base_32(record.block[end:]).decode() for end in (0, *ends)}
 
 
