@@ -161,7 +161,24 @@ def neither_input_nor_output(place):
         yield words[0]
 
 
+def nothing_open(place):
+    """Files are opened under the numbers of standard input, output and error, and are not written."""
+    for words in of_input("one.warc")[0] + of_input("one.cdxj")[1][:4]:
+        before = (place.folder / words[-1]).read_bytes()
+        process = place.start(words, preexec_fn=lambda: os.closerange(0, 3))
+        expect(ended(process)[0] == 3 and (place.folder / words[-1]).read_bytes() == before, words, process.returncode)
+        yield words[0]
+
+
 # ---- inputs
+
+
+def no_input(place):
+    """It isn't missed where no word names it."""
+    for words in of_input("one.warc")[0] + of_input("one.cdxj")[1][:4]:
+        found = place.run(words, preexec_fn=lambda: os.close(0))
+        expect(found == (0, place.usual(words), b""), words, found)
+        yield words[0]
 
 
 def a_fifo(place):
@@ -345,6 +362,8 @@ WAYS = (
     an_output_that_is_the_input,
     no_standard_error,
     neither_input_nor_output,
+    nothing_open,
+    no_input,
     a_fifo,
     a_socket,
     a_file_that_may_not_be_read,
