@@ -12,9 +12,10 @@ enum Refused {
 }
 
 const INDEX: &[u8] =
-    b"a)/ 20160101000000 {\"offset\": 0, \"filename\": \"a\"}\nb)/ 20160101000000 {\"offset\": 1, \"filename\": \"a\"}\nc)/ 20160101000000 {\"offset\": 2, \"filename\": \"a\"}\n";
+    b"a)/ 20160101000000 {\"offset\": 0, \"filename\": \"a\"}\nb)/ 20160101000000 {\"offset\": 1, \"filename\": \"a\"}\nb)/ 20160101000001 {\"offset\": 3, \"filename\": \"a\"}\nc)/ 20160101000000 {\"offset\": 2, \"filename\": \"a\"}\n";
 
-const QUERY: &str = "key=&matchType=prefix&output=json&fl=urlkey,offset";
+/// The first capture of each key. All its growths, reads and writes are those of a query that collapses nothing, and some more.
+const QUERY: &str = "key=&matchType=prefix&output=json&fl=urlkey,offset&collapse=urlkey";
 
 /// The page of the query over the index.
 const PAGE: &[u8] =

@@ -287,7 +287,7 @@ fn one_line_of_each_index_is_held_and_those_of_one_pair(rt: HostRuntime) -> Resu
 }
 
 /// A thousand lines, one each second from the first of 2016 by number.
-fn thousand_lines(alloc: Global) -> Result<Vec<u8>, Fail> {
+pub fn thousand_lines(alloc: Global) -> Result<Vec<u8>, Fail> {
     let mut text = Vec::new(alloc);
     for number in 0..1_000 {
         let line = format!(in alloc;

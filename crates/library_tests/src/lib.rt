@@ -6,6 +6,8 @@ mod answer_faults;
 #[cfg(test)]
 mod answers;
 #[cfg(test)]
+mod collapsing;
+#[cfg(test)]
 mod conversations;
 #[cfg(test)]
 mod device_calls;

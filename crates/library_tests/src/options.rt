@@ -1,6 +1,6 @@
 //! What queries say of their pages.
 use cdxj_core::{Field, Place};
-use query_text::{OutputFormat, Query};
+use query_text::{Collapse, OutputFormat, Query};
 use std::test::Fail;
 
 const USUAL_FIELDS: &[Field] = &[
@@ -61,6 +61,24 @@ fn numbers_flags_and_outputs_are_read(rt: HostRuntime) -> Result<(), Fail> {
     assert!(rt; !cdxj.shows_resume_key());
     let text = Query::read(rt.alloc(), "key=k&output=text")?;
     assert!(rt; text.output() == OutputFormat::Text);
+    Ok(())
+}
+
+const COLLAPSES: &[(&str, Option<Collapse>)] = &[
+    ("key=k", None),
+    ("key=k&collapse=urlkey", Some(Collapse::Urlkey)),
+    ("key=k&collapse=timestamp", Some(Collapse::Timestamp(14))),
+    ("key=k&collapse=timestamp:01", Some(Collapse::Timestamp(1))),
+];
+
+#[test]
+fn captures_are_collapsed_by_key_or_stamp(rt: HostRuntime) -> Result<(), Fail> {
+    for (text, collapse) in COLLAPSES {
+        assert!(rt;
+            Query::read(rt.alloc(), text)?.collapse() == *collapse,
+            "{text}"
+        );
+    }
     Ok(())
 }
 

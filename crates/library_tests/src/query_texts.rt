@@ -57,6 +57,19 @@ const VALUES: &[(&str, QueryFault)] = &[
     ("output=xml", QueryFault::BadOutput),
     ("output=JSON", QueryFault::BadOutput),
     ("output=+text", QueryFault::BadOutput),
+    ("collapse=timestamp:0", QueryFault::BadCollapse),
+    ("collapse=timestamp:00", QueryFault::BadCollapse),
+    ("collapse=timestamp:15", QueryFault::BadCollapse),
+    ("collapse=timestamp:008", QueryFault::BadCollapse),
+    ("collapse=timestamp:", QueryFault::BadCollapse),
+    ("collapse=timestamp:+8", QueryFault::BadCollapse),
+    ("collapse=timestamp:8,", QueryFault::BadCollapse),
+    ("collapse=timestamp8", QueryFault::BadCollapse),
+    ("collapse=urlkey:5", QueryFault::BadCollapse),
+    ("collapse=Urlkey", QueryFault::BadCollapse),
+    ("collapse=digest", QueryFault::BadCollapse),
+    ("collapse=original", QueryFault::BadCollapse),
+    ("collapse=length:2", QueryFault::BadCollapse),
 ];
 
 const EMPTY_VALUES: &[(&str, QueryFault)] = &[
@@ -88,6 +101,8 @@ const EMPTY_VALUES: &[(&str, QueryFault)] = &[
     ("fl", QueryFault::BadField),
     ("output=", QueryFault::BadOutput),
     ("output", QueryFault::BadOutput),
+    ("collapse=", QueryFault::BadCollapse),
+    ("collapse", QueryFault::BadCollapse),
 ];
 
 const UNKNOWN: &[&str] = &[
@@ -99,7 +114,7 @@ const UNKNOWN: &[&str] = &[
     "%FF=a",
     "matchtype=exact",
     "is%00=offset:1",
-    "collapse=urlkey",
+    "Collapse=urlkey",
     "page=0",
     "pageSize=1",
     "showNumPages=true",
@@ -129,6 +144,8 @@ const REPEATED: &[&str] = &[
     "showResumeKey=true&showResumeKey=false",
     "fl=offset&fl=offset",
     "output=text&output=xml",
+    "collapse=urlkey&collapse=urlkey",
+    "collapse=urlkey&collapse=digest",
 ];
 
 const TWO_FAULTS: &[(&str, QueryFault)] = &[
@@ -149,6 +166,9 @@ const TWO_FAULTS: &[(&str, QueryFault)] = &[
     ("to=1&to=2&x=1", QueryFault::RepeatedParameter),
     ("x=1&to=1&to=2", QueryFault::Unknown),
     ("limit=0&limit=0", QueryFault::BadLimit),
+    ("collapse=digest&limit=0", QueryFault::BadCollapse),
+    ("limit=0&collapse=digest", QueryFault::BadLimit),
+    ("collapse=digest&x=1", QueryFault::BadCollapse),
 ];
 
 const WITHOUT_A_TARGET: &[(&str, QueryFault)] = &[
@@ -216,6 +236,10 @@ const ACCEPTED: &[&str] = &[
     "url=a&limit=1000000",
     "url=a&l%69mit=%31",
     "url=a&fl=urlkey,timestamp,original,mimetype,statuscode,digest,length,offset,filename",
+    "collapse=timestamp:08&url=a",
+    "url=a&collapse=timestamp:14",
+    "url=a&collapse=timestamp:1",
+    "url=a&collapse=time%73tamp%3A9",
 ];
 
 const REFUSED: &[&[(&str, QueryFault)]] = &[VALUES, EMPTY_VALUES, TWO_FAULTS, WITHOUT_A_TARGET];
@@ -306,6 +330,7 @@ const NAMES: &[(QueryFault, &str)] = &[
     (QueryFault::NotLiteral, "NotLiteral"),
     (QueryFault::UrlAndKey, "UrlAndKey"),
     (QueryFault::QueryTooLong, "QueryTooLong"),
+    (QueryFault::BadCollapse, "BadCollapse"),
 ];
 
 #[test]
