@@ -22,12 +22,12 @@ abbrev pub collapsing_after : Option CollapsingValue → PlaceValue → Option C
 collapsing_after None place = None
 collapsing_after (Some c) place = Some (record { by = c.by; part = Some (place_part c.by place) })
 
--- the part of the place is this one
-abbrev pub is_part : Collapse → Option (List ℕ) → PlaceValue → Bool
-is_part by None place = false
-is_part by (Some part) place = bytes_eq part (place_part by place)
+-- the part before, if there was one, is this one
+abbrev pub has_part : Option (List ℕ) → List ℕ → Bool
+has_part None part = false
+has_part (Some before) part = bytes_eq before part
 
 -- a capture at the place is left out
 abbrev pub repeats_part : Option CollapsingValue → PlaceValue → Bool
 repeats_part None place = false
-repeats_part (Some c) place = is_part c.by c.part place
+repeats_part (Some c) place = has_part c.part (place_part c.by place)

@@ -1,8 +1,7 @@
 //! The leaving out of captures that have a part in common with the one directly before.
-ghost use Rattle.std.specs.Prelude.{◌≡◌, Some, IfOk, OnOk, List, ℕ, string_bytes};
-ghost use Rattle.cdxj_places.specs.PlaceViews.{place_view};
+ghost use Rattle.std.specs.Prelude.{◌≡◌, Some, IfOk, OnOk};
 ghost use Rattle.query_text.specs.Collapses.{part_of};
-ghost use Rattle.query_core.specs.Collapsings.{collapsing_at, is_part, place_part};
+ghost use Rattle.query_core.specs.Collapsings.{collapsing_at, has_part};
 ghost use Rattle.query_core.specs.WriterView.{from_view};
 
 use cdxj_core::Place;
@@ -10,18 +9,14 @@ use query_text::Collapse;
 use std::alloc::{AllocError, Global};
 use std::marker::Model;
 
-/// What is compared of a capture: its stamp, or its key where captures are collapsed by it.
-#[derive(Debug, Drop)]
-struct Compared {
-    key: String,
-    stamp: [u8; 14],
-}
-
-/// By what captures are collapsed, and what is compared of the one directly before, if there was one.
+/// By what captures are collapsed, and what is compared of the one directly before.
 #[derive(Debug, Drop)]
 pub(crate) struct Collapsing {
     by: Collapse,
-    before: Option<Compared>,
+    /// Its key, where captures are collapsed by that.
+    key: String,
+    /// Its stamp, if there was one before.
+    stamp: Option<[u8; 14]>,
 }
 
 impl Model for Collapsing {
@@ -31,30 +26,7 @@ impl Model for Collapsing {
 
     ghost Value = { CollapsingValue };
 
-    ghost view = { λ c. record { by = c.by; part = option_map (λ b. part_of c.by (string_bytes b.key) b.stamp) c.before } };
-}
-
-/// The key, where captures are collapsed by it, in the room of the one before.
-fn kept_key(
-    alloc: Global,
-    by: Collapse,
-    before: Option<Compared>,
-    key: &str,
-) -> Result<String, AllocError>
-    ensures { IfOk result (λ kept. (stamp : List ℕ) → part_of by (string_bytes kept) stamp ≡ part_of by key.now stamp) }
-{
-    let mut kept = match before {
-        Some(before) => before.key,
-        None => String::new(alloc),
-    };
-    match by {
-        Collapse::Urlkey => {
-            kept.clear();
-            kept.push_str(key)?;
-            Ok(kept)
-        }
-        Collapse::Timestamp(_) => Ok(kept),
-    }
+    ghost view = { λ c. record { by = c.by; part = option_map (λ stamp. part_of c.by (string_bytes c.key) stamp) c.stamp } };
 }
 
 impl Collapsing {
@@ -69,38 +41,42 @@ impl Collapsing {
         let Some(by) = by else {
             return Ok(None);
         };
-        let mut begun = Collapsing { by, before: None };
+        let mut begun = Collapsing {
+            by,
+            key: String::new(alloc),
+            stamp: None,
+        };
         match from {
             Some(place) => {
-                begun.keep(alloc, place)?;
+                begun.keep(place.key, place.stamp)?;
                 Ok(Some(begun))
             }
             None => Ok(Some(begun)),
         }
     }
 
-    /// Whether a capture at the place has its part in common with the one before.
-    pub(crate) fn repeats(&self, place: Place<'_>) -> bool
-        ensures { result ≡ is_part self.now.by self.now.part (place_view place.entry) }
+    /// Whether a capture of this key and stamp has its part in common with the one before.
+    pub(crate) fn repeats(&self, key: &str, stamp: &[u8; 14]) -> bool
+        ensures { result ≡ has_part self.now.part (part_of self.now.by key.now stamp.now) }
     {
-        match &self.before {
-            Some(before) => {
-                self.by.part(before.key.as_str(), &before.stamp)
-                    == self.by.part(place.key, &place.stamp)
-            }
+        match &self.stamp {
+            Some(before) => self.by.part(self.key.as_str(), before) == self.by.part(key, stamp),
             None => false,
         }
     }
 
-    /// Keeps what is compared of a capture at the place.
-    pub(crate) fn keep(&mut self, alloc: Global, place: Place<'_>) -> Result<(), AllocError>
-        ensures { OnOk result (self.new ≡ record { by = self.old.by; part = Some (place_part self.old.by (place_view place.entry)) }) }
+    /// Keeps what is compared of a capture of this key and stamp.
+    pub(crate) fn keep(&mut self, key: &str, stamp: [u8; 14]) -> Result<(), AllocError>
+        ensures { OnOk result (self.new ≡ record { by = self.old.by; part = Some (part_of self.old.by key.now stamp) }) }
     {
-        let key = kept_key(alloc, self.by, self.before.take(), place.key)?;
-        self.before = Some(Compared {
-            key,
-            stamp: place.stamp,
-        });
+        match self.by {
+            Collapse::Urlkey => {
+                self.key.clear();
+                self.key.push_str(key)?;
+            }
+            Collapse::Timestamp(_) => {}
+        }
+        self.stamp = Some(stamp);
         Ok(())
     }
 }

@@ -149,22 +149,28 @@ impl<'q> PageWriter<'q> {
         ensures { result ≡ repeats_part self.now.collapsing (member_place line.now) }
     {
         match &self.collapsing {
-            Some(collapsing) => collapsing.repeats(line.place()),
+            Some(collapsing) => {
+                let (key, stamp) = line.pair();
+                collapsing.repeats(key, &stamp)
+            }
             None => false,
         }
     }
 
     /// Keeps what the lines after this one are compared with.
-    fn keep_part(&mut self, alloc: Global, line: &Line) -> Result<(), TextFault>
+    fn keep_part(&mut self, line: &Line) -> Result<(), TextFault>
         ensures part { OnOk result (self.new.collapsing ≡ collapsing_after self.old.collapsing (member_place line.now)) }
         ensures kept { Kept self.old self.new × (self.new.given ≡ self.old.given) × (self.new.more ≡ self.old.more) × (self.new.last ≡ self.old.last) }
         ensures memory { IfErr result (λ e. e ≡ TextFault.Memory) }
     {
         match &mut self.collapsing {
-            Some(collapsing) => match collapsing.keep(alloc, line.place()) {
-                Ok(()) => Ok(()),
-                Err(_) => Err(TextFault::Memory),
-            },
+            Some(collapsing) => {
+                let (key, stamp) = line.pair();
+                match collapsing.keep(key, stamp) {
+                    Ok(()) => Ok(()),
+                    Err(_) => Err(TextFault::Memory),
+                }
+            }
             None => Ok(()),
         }
     }
@@ -222,7 +228,7 @@ impl<'q> PageWriter<'q> {
         if self.repeats(line) {
             return Ok(());
         }
-        self.keep_part(alloc, line)?;
+        self.keep_part(line)?;
         if self.is_full() {
             self.more = self.last.is_some();
             return Ok(());
