@@ -4,6 +4,7 @@ pub mod Payload
 pub mod BlockDigest
 pub mod Utf8Text
 pub mod FieldValue
+pub mod Types
 pub mod Indexed
 pub mod Capture
 pub mod ResponseView

@@ -21,6 +21,7 @@ mod payload_digest;
 mod record_capture;
 mod status;
 mod target;
+mod types;
 mod utf8_text;
 mod verdict;
 
@@ -29,4 +30,5 @@ pub use crate::digest_text::base32;
 pub use crate::fault::CaptureFault;
 pub use crate::laws::{block_has_one_head, record_has_one_capture};
 pub use crate::record_capture::capture;
+pub use crate::types::Types;
 pub use crate::verdict::Verdict;
