@@ -6,7 +6,6 @@ use Rattle.std.proofs.Math.Seq.{take-append_seam, drop-append_seam}
 use Rattle.std.specs.Io.KnownBytes.{prepend_known, Consumes}
 use Rattle.httparse.specs.Grammar.{ResponseHead}
 use Rattle.sha1.specs.Sha1.{sha1}
-use Rattle.warc_core.specs.Kind.{Kind}
 use Rattle.warc_core.specs.declared.fault.Cause.{Cause}
 use Rattle.warc_core.specs.declared.fault.Cause.TheVariants as causes
 use Rattle.warc_core.specs.declared.fault.Fault.{Fault}
@@ -25,9 +24,9 @@ use Rattle.capture_core.specs.declared.fault.CaptureFault.{CaptureFault}
 use Rattle.capture_core.specs.declared.fault.CaptureFault.TheVariants.{Archive, LineTooLong, KeyTooLong}
 use Rattle.capture_core.specs.Base32.{base32_of}
 use Rattle.capture_core.specs.HttpHead.{IsHeadOf, then_more}
-use Rattle.capture_core.specs.Indexed.{may_have_head, url_of}
+use Rattle.capture_core.specs.Indexed.{may_have_head}
 use Rattle.capture_core.specs.Payload.{digest_of_rest}
-use Rattle.capture_core.specs.Capture.{ResponseValue, IsHeadFor, IsCapture, IsCaptureUnder, entry_of, response_of, digest_of, settled_digest, payload_of}
+use Rattle.capture_core.specs.Capture.{ResponseValue, IsHeadFor, IsCaptureUnder, entry_of, response_of, digest_of, settled_digest, payload_of}
 use Rattle.capture_core.specs.RecordReading.{read_to, reading_of, IsFaultAt, Leaves, ReadsRest, IsFrontOf, front_limit}
 use Rattle.capture_core.specs.CaptureAnswer.{Limits, IsCaptureOf, IsEntryOf, AnswersEntry}
 use Rattle.capture_core.proofs.HeadLemmas.{front_decides, take_past}
@@ -127,15 +126,15 @@ same-response : (more : List ℕ) (found : Option (ResponseHead × List ℕ)) �
 same-response more None = refl
 same-response more (Some f) = refl
 
-module _ (types : Kind → Bool) (limits : Limits) (h : HeadView) (name url front bytes digest : List ℕ) (response : Option ResponseValue) (found : Option (ResponseHead × List ℕ)) where
+module _ (limits : Limits) (h : HeadView) (name url front bytes digest : List ℕ) (response : Option ResponseValue) (found : Option (ResponseHead × List ℕ)) where
   abbrev pub more : List ℕ
   more = take (h.parts.length - length front) bytes
 
   abbrev pub entry : EntryValue
   entry = entry_of h name response digest url
 
-  capture-is : url_of types h ≡ Some url → IsFrontOf limits.head h front → IsHeadFor limits.head limits.fields h front found → response ≡ option_map (λ f. response_of f.0) found → digest ≡ digest_of h (payload_of front found ++ more) → IsCapture types limits.head limits.fields h (take h.parts.length (front ++ bytes)) name (Some entry)
-  capture-is u l f r d =
+  capture-is : IsFrontOf limits.head h front → IsHeadFor limits.head limits.fields h front found → response ≡ option_map (λ f. response_of f.0) found → digest ≡ digest_of h (payload_of front found ++ more) → IsCaptureUnder (Some url) limits.head limits.fields h (take h.parts.length (front ++ bytes)) name (Some entry)
+  capture-is l f r d =
       let short : length front ≤ h.parts.length = subst (λ n. n ≤ h.parts.length) (sym l) (min-le_left h.parts.length (front_limit limits.head h)) in
       let block : take h.parts.length (front ++ bytes) ≡ front ++ more = take_past h.parts.length front bytes short in
       let whole : IsCaptureUnder (Some url) limits.head limits.fields h (front ++ more) name (Some entry) = (
@@ -143,14 +142,14 @@ module _ (types : Kind → Bool) (limits : Limits) (h : HeadView) (name url fron
         head-for (may_have_head h) limits.head limits.fields h.parts.length front bytes found l f,
         ap Some (ap (λ x. entry_of h name x digest url) (r ∙ sym (same-response more found)) ∙ ap (λ x. entry_of h name (option_map (λ p. response_of p.0) (then_more more found)) x url) (d ∙ ap (digest_of h) (sym (payload-behind front more found)))),
       ) in
-      subst (λ o. IsCaptureUnder o limits.head limits.fields h (take h.parts.length (front ++ bytes)) name (Some entry)) (sym u) (subst (λ b. IsCaptureUnder (Some url) limits.head limits.fields h b name (Some entry)) (sym block) whole)
+      subst (λ b. IsCaptureUnder (Some url) limits.head limits.fields h b name (Some entry)) (sym block) whole
 
   -- what the entry answers is the capture
-  pub capture-known : url_of types h ≡ Some url → IsFrontOf limits.head h front → IsHeadFor limits.head limits.fields h front found → response ≡ option_map (λ f. response_of f.0) found → digest ≡ digest_of h (payload_of front found ++ more) → (r : Result (Option EntryValue) CaptureFault) → AnswersEntry limits.line entry r → IsCaptureOf types limits h name (front ++ bytes) r
-  capture-known u l f e d (Ok captured) a = subst (IsCapture types limits.head limits.fields h (take h.parts.length (front ++ bytes)) name) (sym a) (capture-is u l f e d)
-  capture-known u l f e d (Err (Archive x)) a = tt
-  capture-known u l f e d (Err (LineTooLong o)) a = (entry, capture-is u l f e d, a)
-  capture-known u l f e d (Err (KeyTooLong o)) a = tt
+  pub capture-known : IsFrontOf limits.head h front → IsHeadFor limits.head limits.fields h front found → response ≡ option_map (λ f. response_of f.0) found → digest ≡ digest_of h (payload_of front found ++ more) → (r : Result (Option EntryValue) CaptureFault) → AnswersEntry limits.line entry r → IsCaptureOf (Some url) limits h name (front ++ bytes) r
+  capture-known l f e d (Ok captured) a = subst (IsCaptureUnder (Some url) limits.head limits.fields h (take h.parts.length (front ++ bytes)) name) (sym a) (capture-is l f e d)
+  capture-known l f e d (Err (Archive x)) a = tt
+  capture-known l f e d (Err (LineTooLong o)) a = (entry, capture-is l f e d, a)
+  capture-known l f e d (Err (KeyTooLong o)) a = tt
 
 -- a digest that is settled is that of any payload
 pub digest-settled : (h : HeadView) (digest payload : List ℕ) → settled_digest h ≡ Some digest → digest ≡ digest_of h payload
@@ -160,10 +159,10 @@ pub digest-made : (h : HeadView) (digest payload : List ℕ) → settled_digest 
 digest-made h digest payload e d = ap base32_of d ∙ sym (ap (λ o. unwrap_or o (base32_of (sha1 payload))) e)
 
 -- what is known of the bytes behind the front is known of the block
-pub capture-behind : (types : Kind → Bool) (limits : Limits) (h : HeadView) (name front : List ℕ) (before mid : Option (List ℕ)) (r : Result (Option EntryValue) CaptureFault) → Consumes before mid front → IfSome mid (λ bytes. IsCaptureOf types limits h name (front ++ bytes) r) → IfSome before (λ bytes. IsCaptureOf types limits h name bytes r)
-capture-behind types limits h name front None mid r c t = tt
-capture-behind types limits h name front (Some z) None r c t = absurd c
-capture-behind types limits h name front (Some z) (Some w) r c t = subst (λ b. IsCaptureOf types limits h name b r) (sym c) t
+pub capture-behind : (url : Option (List ℕ)) (limits : Limits) (h : HeadView) (name front : List ℕ) (before mid : Option (List ℕ)) (r : Result (Option EntryValue) CaptureFault) → Consumes before mid front → IfSome mid (λ bytes. IsCaptureOf url limits h name (front ++ bytes) r) → IfSome before (λ bytes. IsCaptureOf url limits h name bytes r)
+capture-behind url limits h name front None mid r c t = tt
+capture-behind url limits h name front (Some z) None r c t = absurd c
+capture-behind url limits h name front (Some z) (Some w) r c t = subst (λ b. IsCaptureOf url limits h name b r) (sym c) t
 
 -- an entry whose line is within the limit
 pub entry-fits : (h : HeadView) (name : List ℕ) (limit : ℕ) (response : Option ResponseValue) (digest url : List ℕ) (e : EntryValue) (r : Result EntryValue CaptureFault) → IsGood e → e ≡ entry_of h name response digest url → IfOk r (λ x. (x ≡ e) × (length (line_text x) ≤ limit)) → IfOk r (IsEntryOf h name limit)

@@ -42,7 +42,7 @@ object_length n1 n2 n3 n4 n5 n6 n7 v1 v2 v3 v4 v5 v6 v7 a b c d e f g h i j k l 
     ))
 
 line_length : (key stamp object : List ℕ) → length key ≤ 16384 → length stamp ≡ 14 → length object ≤ 700000
-    → length ((key ++ 32 ∷ (stamp ++ 32 ∷ object)) ++ 10 ∷ []) ≤ 1048576
+    → length ((key ++ 32 ∷ (stamp ++ 32 ∷ object)) ++ 10 ∷ []) ≤ 16777216
 line_length key stamp object k s o = simp length-append (omega arith)
 
 stamp_length : (stamp : List ℕ) → is_stamp stamp ≡ true → length stamp ≡ 14
@@ -54,7 +54,7 @@ number_length n h =
     omega arith
 
 pub line_is_short : (e : EntryValue) → IsGood e → length e.key ≤ 16384 → length e.url ≤ 16384 → length e.mime ≤ 16384 → length e.status ≤ 16384
-    → length e.digest ≤ 16384 → length e.filename ≤ 16384 → length (line_text e) ≤ 1048576
+    → length e.digest ≤ 16384 → length e.filename ≤ 16384 → length (line_text e) ≤ 16777216
 line_is_short e good key url mime status digest filename =
     line_length e.key e.stamp (object_text (members_of e)) key (stamp_length e.stamp good.stamp)
     (object_length (codes "url") (codes "mime") (codes "status") (codes "digest") (codes "length") (codes "offset") (codes "filename")

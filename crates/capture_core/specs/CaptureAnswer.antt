@@ -1,13 +1,12 @@
 -- What a capture answers.
-use Rattle.std.specs.Prelude.{◌≡◌, ℕ, ◌<◌, ◌≤◌, ⊤, Bool, List, ◌++◌, length, take, Option, Some, Result, Ok, Err, IfSome}
-use Rattle.warc_core.specs.Kind.{Kind}
+use Rattle.std.specs.Prelude.{◌≡◌, ℕ, ◌<◌, ◌≤◌, ⊤, List, ◌++◌, length, take, Option, Some, Result, Ok, Err, IfSome}
 use Rattle.warc_core.specs.HeadView.{HeadView, record_length}
 use Rattle.cdxj_core.specs.Entries.{EntryValue, IsGood, line_text}
 use Rattle.cdxj_core.specs.declared.limit.TheConstants.{LINE_LIMIT}
 use Rattle.capture_core.specs.declared.http_head.TheConstants.{HTTP_HEAD_LIMIT, HTTP_FIELD_LIMIT}
 use Rattle.capture_core.specs.declared.fault.CaptureFault.{CaptureFault}
 use Rattle.capture_core.specs.declared.fault.CaptureFault.TheVariants.{LineTooLong}
-use Rattle.capture_core.specs.Capture.{IsCapture}
+use Rattle.capture_core.specs.Capture.{IsCaptureUnder}
 
 -- the limits of an HTTP head, in bytes and fields, and that of a line, in bytes
 pub record Limits : Type 0 where
@@ -15,19 +14,20 @@ pub record Limits : Type 0 where
   pub fields : ℕ
   pub line : ℕ
 
--- The answer is the capture of the record that begins the bytes, within the limit of a line, or says that its line is too long.
-abbrev pub IsCaptureOf : (Kind → Bool) → Limits → HeadView → List ℕ → List ℕ → Result (Option EntryValue) CaptureFault → Type 0
-IsCaptureOf types limits h name bytes (Ok captured) = IsCapture types limits.head limits.fields h (take h.parts.length bytes) name captured
-IsCaptureOf types limits h name bytes (Err (LineTooLong o)) =
-    (entry : EntryValue) × IsCapture types limits.head limits.fields h (take h.parts.length bytes) name (Some entry) × (limits.line < length (line_text entry))
-IsCaptureOf types limits h name bytes (Err other) = ⊤
+-- The answer is the capture, under this URL, of the record that begins the bytes, within the limit of a line, or says that its
+-- line is too long.
+abbrev pub IsCaptureOf : Option (List ℕ) → Limits → HeadView → List ℕ → List ℕ → Result (Option EntryValue) CaptureFault → Type 0
+IsCaptureOf url limits h name bytes (Ok captured) = IsCaptureUnder url limits.head limits.fields h (take h.parts.length bytes) name captured
+IsCaptureOf url limits h name bytes (Err (LineTooLong o)) =
+    (entry : EntryValue) × IsCaptureUnder url limits.head limits.fields h (take h.parts.length bytes) name (Some entry) × (limits.line < length (line_text entry))
+IsCaptureOf url limits h name bytes (Err other) = ⊤
 
 -- the same, where these bytes come after the front of the block
-abbrev pub CapturesBehind : (Kind → Bool) → Limits → HeadView → List ℕ → List ℕ → Option (List ℕ) → Result (Option EntryValue) CaptureFault → Type 0
-CapturesBehind types limits h name front before r = IfSome before (λ bytes. IsCaptureOf types limits h name (front ++ bytes) r)
+abbrev pub CapturesBehind : Option (List ℕ) → Limits → HeadView → List ℕ → List ℕ → Option (List ℕ) → Result (Option EntryValue) CaptureFault → Type 0
+CapturesBehind url limits h name front before r = IfSome before (λ bytes. IsCaptureOf url limits h name (front ++ bytes) r)
 
-abbrev pub Captures : (Kind → Bool) → Limits → HeadView → List ℕ → Option (List ℕ) → Result (Option EntryValue) CaptureFault → Type 0
-Captures types limits h name before r = IfSome before (λ bytes. IsCaptureOf types limits h name bytes r)
+abbrev pub Captures : Option (List ℕ) → Limits → HeadView → List ℕ → Option (List ℕ) → Result (Option EntryValue) CaptureFault → Type 0
+Captures url limits h name before r = IfSome before (λ bytes. IsCaptureOf url limits h name bytes r)
 
 abbrev pub usual_limits : Limits
 usual_limits = record { head = HTTP_HEAD_LIMIT; fields = HTTP_FIELD_LIMIT; line = LINE_LIMIT }

@@ -7,13 +7,6 @@ use Rattle.warc_head.specs.Names.{same_name}
 use Rattle.warc_core.specs.HeadView.{HeadView}
 use Rattle.capture_core.specs.FieldValue.{non_empty, without_brackets, media_type, without_sha1}
 
--- the types of records that are indexed
-abbrev pub usual_types : Kind → Bool
-usual_types kinds.Response = true
-usual_types kinds.Resource = true
-usual_types kinds.Revisit = true
-usual_types kind = false
-
 -- the value of the head's first field of this name
 abbrev pub field : List ℕ → HeadView → Option (List ℕ)
 field name h = value_of name h.parts.fields

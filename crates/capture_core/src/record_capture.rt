@@ -4,7 +4,8 @@ ghost use Rattle.std.specs.Io.KnownBytes.{prepend_known};
 ghost use Rattle.warc_core.specs.HeadView.{record_length};
 ghost use Rattle.warc_core.specs.declared.phase.Phase.TheVariants.{Open};
 ghost use Rattle.warc_core.specs.ReaderView.{IsUnread, StandsAt, state_of};
-ghost use Rattle.capture_core.specs.Indexed.{usual_types, url_of};
+ghost use Rattle.capture_core.specs.Indexed.{url_of};
+ghost use Rattle.capture_core.specs.Types.{includes};
 ghost use Rattle.capture_core.specs.Capture.{entry_of};
 ghost use Rattle.capture_core.specs.ResponseView.{response_view};
 ghost use Rattle.capture_core.specs.RecordReading.{ReadsRest, ReadsWhole, IsFrontOf, IsOpenFor};
@@ -20,12 +21,13 @@ use crate::indexed::Indexed;
 use crate::payload::{front_buffer, part};
 use crate::payload_digest::settled_digest;
 use crate::target::url;
+use crate::types::Types;
 use cdxj_core::{Entry, LINE_LIMIT};
 use std::alloc::Global;
 use warc_core::{Head, Input, Reader};
 
-/// The entry of a record under the archive's name, or none where the record isn't indexed: a response, resource or revisit
-/// with a target is. Reads the record to its end, and hashes the payload where its head gives no digest of it.
+/// The entry of a record under the archive's name, or none where the record isn't indexed: one with a target is, where its type
+/// is one of these. Reads the record to its end, and hashes the payload where its head gives no digest of it.
 ///
 /// The record is the reader's last, and none of its block was read; the name isn't empty. Errors are the archive's fault;
 /// and, once the record was read to its end, `KeyTooLong`, `LineTooLong` and `Memory`, all at the record's offset.
@@ -35,16 +37,17 @@ pub fn capture<I: Input>(
     input: &mut I,
     head: &Head,
     name: &str,
+    types: Types,
 ) -> Result<Option<Entry>, CaptureFault>
     requires unread { IsUnread reader.old head.now }
     requires named { 0 < length name.now }
     ensures reads { ReadsWhole head.now
         (state_of reader.old (I.remaining input.old) (I.failures input.old))
         (state_of reader.new (I.remaining input.new) (I.failures input.new)) result }
-    ensures capture { Captures usual_types usual_limits head.now name.now (prepend_known reader.old.held (I.remaining input.old)) result }
+    ensures capture { Captures (url_of (includes types) head.now) usual_limits head.now name.now (prepend_known reader.old.held (I.remaining input.old)) result }
     ensures entry { IfOk result (λ captured. IfSome captured (IsEntryOf head.now name.now LINE_LIMIT)) }
 {
-    match url(head) {
+    match url(head, types) {
         Some(url) => {
             let indexed = Indexed { head, name, url };
             capture_as(alloc, reader, input, indexed)
@@ -66,11 +69,10 @@ fn capture_as<I: Input>(
     requires unread { IsUnread reader.old indexed.head.now }
     requires named { 0 < length indexed.name.now }
     requires target { 0 < length indexed.url.now }
-    requires url { url_of usual_types indexed.head.now ≡ Some indexed.url.now }
     ensures reads { ReadsWhole indexed.entry.head.now
         (state_of reader.old (I.remaining input.old) (I.failures input.old))
         (state_of reader.new (I.remaining input.new) (I.failures input.new)) result }
-    ensures capture { Captures usual_types usual_limits indexed.entry.head.now indexed.entry.name.now (prepend_known reader.old.held (I.remaining input.old)) result }
+    ensures capture { Captures (Some indexed.entry.url.now) usual_limits indexed.entry.head.now indexed.entry.name.now (prepend_known reader.old.held (I.remaining input.old)) result }
     ensures entry { IfOk result (λ captured. IfSome captured (IsEntryOf indexed.entry.head.now indexed.entry.name.now LINE_LIMIT)) }
 {
     match front_buffer(alloc, indexed.head) {
@@ -93,12 +95,11 @@ fn capture_through<I: Input>(
     requires unread { IsUnread reader.old indexed.head.now }
     requires named { 0 < length indexed.name.now }
     requires target { 0 < length indexed.url.now }
-    requires url { url_of usual_types indexed.head.now ≡ Some indexed.url.now }
     requires front { IsFrontOf HTTP_HEAD_LIMIT indexed.head.now front.old }
     ensures reads { ReadsWhole indexed.entry.head.now
         (state_of reader.old (I.remaining input.old) (I.failures input.old))
         (state_of reader.new (I.remaining input.new) (I.failures input.new)) result }
-    ensures capture { Captures usual_types usual_limits indexed.entry.head.now indexed.entry.name.now (prepend_known reader.old.held (I.remaining input.old)) result }
+    ensures capture { Captures (Some indexed.entry.url.now) usual_limits indexed.entry.head.now indexed.entry.name.now (prepend_known reader.old.held (I.remaining input.old)) result }
     ensures entry { IfOk result (λ captured. IfSome captured (IsEntryOf indexed.entry.head.now indexed.entry.name.now LINE_LIMIT)) }
 {
     reader.block_exact(input, front)?;
@@ -115,13 +116,12 @@ fn capture_behind<I: Input>(
 ) -> Result<Option<Entry>, CaptureFault>
     requires named { 0 < length indexed.name.now }
     requires target { 0 < length indexed.url.now }
-    requires url { url_of usual_types indexed.head.now ≡ Some indexed.url.now }
     requires front { IsFrontOf HTTP_HEAD_LIMIT indexed.head.now front.now }
     requires stands { StandsAt reader.old indexed.head.now.start (Open (indexed.head.now.parts.length - length front.now) (record_length indexed.head.now)) }
     ensures reads { ReadsRest (indexed.entry.head.now.parts.length - length front.now) indexed.entry.head.now
         (state_of reader.old (I.remaining input.old) (I.failures input.old))
         (state_of reader.new (I.remaining input.new) (I.failures input.new)) result }
-    ensures capture { CapturesBehind usual_types usual_limits indexed.entry.head.now indexed.entry.name.now front.now (prepend_known reader.old.held (I.remaining input.old)) result }
+    ensures capture { CapturesBehind (Some indexed.entry.url.now) usual_limits indexed.entry.head.now indexed.entry.name.now front.now (prepend_known reader.old.held (I.remaining input.old)) result }
     ensures entry { IfOk result (λ captured. IfSome captured (IsEntryOf indexed.entry.head.now indexed.entry.name.now LINE_LIMIT)) }
 {
     let parted = part(indexed.head, front);

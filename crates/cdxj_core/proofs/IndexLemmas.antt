@@ -1,5 +1,5 @@
 -- The lines of entries are an index.
-use Rattle.std.proofs.Common.{◌≡◌, ℕ, ◌==◌, true, false, not, cond, List, [], ◌∷◌, ◌++◌, map, flat_map, Some, refl, sym, ap, ap₂, ◌∙◌, append_assoc, Ordering, Less, Equal, Greater, is_gt}
+use Rattle.std.proofs.Common.{◌≡◌, ◌≤◌, ℕ, ◌==◌, true, false, not, cond, List, [], ◌∷◌, ◌++◌, map, flat_map, Some, refl, sym, ap, ap₂, ◌∙◌, append_assoc, Ordering, Less, Equal, Greater, is_gt}
 use Rattle.std.specs.List.{AllByRecursion, onto_first}
 use Rattle.std.specs.Ordering.{ordering_reverse}
 use Rattle.std.proofs.lemmas.Bool.{and_parts, not-true, true≢false}
@@ -15,7 +15,7 @@ use Rattle.cdxj_core.specs.Lines.{has_no_feed}
 use Rattle.cdxj_core.specs.Members.{Member, member_pair, entry_member, line_entry}
 use Rattle.cdxj_core.specs.Indexes.{IsIndex}
 use Rattle.cdxj_core.proofs.EntryRead.{body_feed}
-use Rattle.cdxj_core.proofs.MemberLemmas.{written_entry}
+use Rattle.cdxj_core.proofs.MemberLemmas.{written_entry, entry-higher}
 
 -- the first line of a text
 pub lines_front : (body rest : List ℕ) → has_no_feed body ≡ true → lines (body ++ 10 ∷ rest) ≡ (body ++ 10 ∷ []) ∷ lines rest
@@ -78,3 +78,17 @@ one_list (x ∷ xs) (y ∷ ys) e =
 
 pub one_index : (limit : ℕ) (text : List ℕ) (these those : List Member) → IsIndex limit text these → IsIndex limit text those → these ≡ those
 one_index limit text these those h k = one_list these those (sym h.entries ∙ k.entries)
+
+-- ---- a higher limit
+
+entries_stay : (low high : ℕ) → low ≤ high → (these : List (List ℕ)) (members : List Member) → map (line_entry low) these ≡ map Some members → map (line_entry high) these ≡ map Some members
+entries_stay low high up [] [] e = refl
+entries_stay low high up [] (m ∷ members) e = cc
+entries_stay low high up (line ∷ these) [] e = cc
+entries_stay low high up (line ∷ these) (m ∷ members) e =
+    let first : line_entry low line ≡ Some m = cc in
+    let rest : map (line_entry low) these ≡ map Some members = cc in
+    ap₂ (λ x xs. x ∷ xs) (entry-higher low high up line m first) (entries_stay low high up these members rest)
+
+pub index_stays : (low high : ℕ) → low ≤ high → (text : List ℕ) (members : List Member) → IsIndex low text members → IsIndex high text members
+index_stays low high up text members i = record { entries = entries_stay low high up (lines text) members i.entries; ordered = i.ordered }

@@ -17,10 +17,12 @@ pub fn written_line_is_read()
         → line_entry limit (line_text entry) ≡ Some (entry_member entry) }
 {}
 
-/// A line keeps its entry under a higher limit.
+/// A line keeps its entry under a higher limit, and an index its members.
 pub fn line_stays_under_higher_limit()
-    ensures { (low high : ℕ) → low ≤ high → (line : List ℕ) → (member : Member)
+    ensures line { (low high : ℕ) → low ≤ high → (line : List ℕ) → (member : Member)
         → line_entry low line ≡ Some member → line_entry high line ≡ Some member }
+    ensures index { (low high : ℕ) → low ≤ high → (text : List ℕ) → (members : List Member)
+        → IsIndex low text members → IsIndex high text members }
 {}
 
 /// A line that is too long has no entry.

@@ -1,2 +1,2 @@
 /// The most bytes of a line, counted with its line feed, whether it is there or not.
-pub const LINE_LIMIT: usize = 1_048_576;
+pub const LINE_LIMIT: usize = 16_777_216;

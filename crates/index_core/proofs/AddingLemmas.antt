@@ -16,6 +16,7 @@ use Rattle.warc_core.proofs.WalkLemmas.{Walks-more, none_at_end, record-unclosed
 use Rattle.cdxj_core.specs.Entries.{EntryValue, line_text}
 use Rattle.capture_core.specs.declared.fault.CaptureFault.{CaptureFault}
 use Rattle.capture_core.specs.declared.fault.CaptureFault.TheVariants.{Archive, LineTooLong, KeyTooLong}
+use Rattle.capture_core.specs.Indexed.{url_of}
 use Rattle.capture_core.specs.Capture.{IsCapture}
 use Rattle.capture_core.specs.CaptureAnswer.{Limits, IsEntryOf, Captures}
 use Rattle.capture_core.specs.RecordReading.{IsFaultAt, read_to, reading_of}
@@ -52,14 +53,14 @@ module _ (types : Kind → Bool) (limits : Limits) (limit : ℕ) (name : List �
   AddedSoFar (Some archive) (Some rest) offset captures = (heads : List HeadView) × Walks limit 0 archive heads offset rest × AreCaptured types limits limit name archive heads captures
 
   -- a record's capture is that of the record which begins the bytes
-  pub capture_there : (start : ℕ) (h : HeadView) (captured : Option EntryValue) (before mid after : Option (List ℕ)) → Reads (next_at limit start) (Ok (Some h)) before mid → Reads (after_record h.parts.length) (Ok tt) mid after → Captures types limits h name mid (Ok captured) → IfSome before (λ bytes. IsCaptureAt types limits limit name h bytes captured)
+  pub capture_there : (start : ℕ) (h : HeadView) (captured : Option EntryValue) (before mid after : Option (List ℕ)) → Reads (next_at limit start) (Ok (Some h)) before mid → Reads (after_record h.parts.length) (Ok tt) mid after → Captures (url_of types h) limits h name mid (Ok captured) → IfSome before (λ bytes. IsCaptureAt types limits limit name h bytes captured)
   capture_there start h captured None mid after r s k = tt
   capture_there start h captured (Some z) None after r s k = absurd r
   capture_there start h captured (Some z) (Some y) after r s k =
       subst (λ bytes. IsCapture types limits.head limits.fields h (take h.parts.length bytes) name captured) (sym (behind_head limit start h z y r)) k
 
   -- why a record that was read has no capture
-  pub refused_there : (start : ℕ) (h : HeadView) (fault : CaptureFault) (before mid after : Option (List ℕ)) → Reads (next_at limit start) (Ok (Some h)) before mid → Reads (after_record h.parts.length) (reading_of {A = Option EntryValue} (Err fault)) mid after → Captures types limits h name mid (Err fault) → IfSome before (λ bytes. IsRefused types limits limit name start bytes fault)
+  pub refused_there : (start : ℕ) (h : HeadView) (fault : CaptureFault) (before mid after : Option (List ℕ)) → Reads (next_at limit start) (Ok (Some h)) before mid → Reads (after_record h.parts.length) (reading_of {A = Option EntryValue} (Err fault)) mid after → Captures (url_of types h) limits h name mid (Err fault) → IfSome before (λ bytes. IsRefused types limits limit name start bytes fault)
   refused_there start h (Archive f) before mid after r s k = found_there (record_at limit start) f.cause before after (record_met limit start h f.cause before mid after r s)
   refused_there start h (LineTooLong o) None mid after r s k = tt
   refused_there start h (LineTooLong o) (Some z) None after r s k = absurd r

@@ -10,3 +10,4 @@ mod WholeLemmas
 mod CopyLemmas
 mod FetchLemmas
 mod OffsetLemmas
+pub mod LimitLemmas

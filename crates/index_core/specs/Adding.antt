@@ -11,7 +11,7 @@ use Rattle.index_core.specs.Indexing.{Held}
 
 -- what is held with one more archive
 abbrev pub with_archive : List ℕ → List EntryValue → Held → Held
-with_archive name captures held = record { names = held.names ++ name ∷ []; captures = held.captures ++ captures }
+with_archive name captures held = record held { names = held.names ++ name ∷ []; captures = held.captures ++ captures }
 
 -- the types of records that are indexed, the limits of captures and of a head, and the archive's name
 module _ (types : Kind → Bool) (limits : Limits) (limit : ℕ) (name : List ℕ) where

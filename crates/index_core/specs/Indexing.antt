@@ -3,14 +3,16 @@ use Rattle.std.specs.Prelude.{◌≡◌, ℕ, ◌<◌, ◌≤◌, ◌||◌, Bool
 use Rattle.std.specs.List.{AllByRecursion}
 use Rattle.std.specs.Str.{bytes_eq}
 use Rattle.std.specs.declared.cmp.Ordering.TheVariants.{Equal}
+use Rattle.capture_core.specs.declared.types.Types.{Types}
 use Rattle.cdxj_core.specs.Entries.{EntryValue, HasLine, entry_place, line_text}
 use Rattle.cdxj_places.specs.Places.{place_cmp}
 use Rattle.cdxj_places.specs.Rising.{rising}
 use Rattle.index_core.specs.declared.fault.IndexFault.{IndexFault}
 use Rattle.index_core.specs.declared.fault.IndexFault.TheVariants as faults
 
--- the names of the archives that were added, and their captures, in the order of adding
+-- the types of records that are indexed, the names of the archives that were added, and their captures, in the order of adding
 pub record Held : Type 0 where
+  pub types : Types
   pub names : List (List ℕ)
   pub captures : List EntryValue
 

@@ -1,5 +1,5 @@
 -- Laws of the definitions that the contracts cite.
-use Rattle.std.specs.Prelude.{◌≡◌, ℕ, ⊤, Bool, List, Some, Result, Err}
+use Rattle.std.specs.Prelude.{◌≡◌, ℕ, ◌≤◌, ⊤, Bool, List, Some, Result, Err}
 use Rattle.warc_core.specs.Kind.{Kind}
 use Rattle.cdxj_core.specs.Entries.{EntryValue}
 use Rattle.capture_core.specs.declared.fault.CaptureFault.{CaptureFault}
@@ -40,3 +40,13 @@ OneStands = (limit offset : ℕ) (archive : List ℕ) (this that : Result (List 
 -- and something does
 abbrev pub SomeStands : Type 0
 SomeStands = (limit offset : ℕ) (archive : List ℕ) → (answer : Result (List ℕ) IndexFault) × StandsIn limit archive offset answer
+
+-- an archive that is accepted whole is so under higher limits of lines and heads
+abbrev pub WholeStays : Type 0
+WholeStays = (types : Kind → Bool) (limits : Limits) (line low high : ℕ) → limits.line ≤ line → low ≤ high → (name archive : List ℕ)
+    → IsAcceptedWhole types limits low name archive → IsAcceptedWhole types (record limits { line = line }) high name archive
+
+-- and it has the captures that it had
+abbrev pub CapturesStay : Type 0
+CapturesStay = (types : Kind → Bool) (limits : Limits) (line low high : ℕ) → limits.line ≤ line → low ≤ high → (name archive : List ℕ) (captures : List EntryValue)
+    → IsAccepted types limits low name archive captures → IsAccepted types (record limits { line = line }) high name archive captures

@@ -5,7 +5,7 @@ ghost use Rattle.warc_core.specs.declared.phase.Phase.TheVariants.{Between};
 ghost use Rattle.warc_core.specs.declared.next.TheConstants.{HEAD_LIMIT};
 ghost use Rattle.cdxj_core.specs.declared.limit.TheConstants.{LINE_LIMIT};
 ghost use Rattle.cdxj_core.specs.Entries.{EntryValue, HasLine};
-ghost use Rattle.capture_core.specs.Indexed.{usual_types};
+ghost use Rattle.capture_core.specs.Types.{includes};
 ghost use Rattle.capture_core.specs.CaptureAnswer.{usual_limits};
 ghost use Rattle.index_core.specs.Indexing.{AreSound, is_among};
 ghost use Rattle.index_core.specs.Adding.{Gains};
@@ -13,7 +13,7 @@ ghost use Rattle.index_core.specs.Counting.{CountsCapture};
 ghost use Rattle.index_core.specs.Captures.{StandBefore, TakesNext};
 
 use crate::held_line::HeldLine;
-use capture_core::{CaptureFault, capture};
+use capture_core::{CaptureFault, Types, capture};
 use cdxj_core::Entry;
 use std::alloc::{AllocError, Global};
 use warc_core::{Cause, Fault, Head, Input, Reader};
@@ -24,16 +24,17 @@ fn next_capture<I: Input>(
     reader: &mut Reader,
     input: &mut I,
     name: &str,
+    types: Types,
 ) -> Result<Option<(Head, Option<Entry>)>, CaptureFault>
     requires between { reader.old.phase ≡ Between }
     requires named { 0 < length name.now }
-    ensures takes { TakesNext usual_types usual_limits HEAD_LIMIT name.now reader.old.offset result reader.new (prepend_known reader.old.held (I.remaining input.old)) (prepend_known reader.new.held (I.remaining input.new)) }
+    ensures takes { TakesNext (includes types) usual_limits HEAD_LIMIT name.now reader.old.offset result reader.new (prepend_known reader.old.held (I.remaining input.old)) (prepend_known reader.new.held (I.remaining input.new)) }
     ensures failures { CountsCapture result (I.failures input.old) (I.failures input.new) }
 {
     match reader.next(input)? {
         None => Ok(None),
         Some(head) => {
-            let captured = capture(alloc, reader, input, &head, name)?;
+            let captured = capture(alloc, reader, input, &head, name, types)?;
             Ok(Some((head, captured)))
         }
     }
@@ -66,23 +67,24 @@ fn keep(
     }
 }
 
-/// Adds the captures of an archive under its name, and answers how many they are.
+/// Adds the captures of an archive's records of these types under its name, and answers how many they are.
 pub fn add_captures<I: Input>(
     alloc: Global,
     captures: &mut Vec<HeldLine>,
     name: &str,
+    types: Types,
     input: &mut I,
 ) -> Result<u64, CaptureFault>
     requires named { 0 < length name.now }
     requires unused { StandBefore name.now 0 captures.old.items }
-    ensures gains { (gained : List EntryValue) × (captures.new.items ≡ captures.old.items ++ gained) × Gains usual_types usual_limits HEAD_LIMIT name.now (I.remaining input.old) gained result }
+    ensures gains { (gained : List EntryValue) × (captures.new.items ≡ captures.old.items ++ gained) × Gains (includes types) usual_limits HEAD_LIMIT name.now (I.remaining input.old) gained result }
     ensures sound { (names : List (List ℕ)) → is_among names name.now ≡ true → AreSound LINE_LIMIT names captures.old.items → AreSound LINE_LIMIT names captures.new.items }
     ensures failures { CountsCapture result (I.failures input.old) (I.failures input.new) }
 {
     let held = captures.len();
     let mut reader = Reader::new(alloc)?;
     loop {
-        match next_capture(alloc, &mut reader, input, name) {
+        match next_capture(alloc, &mut reader, input, name, types) {
             Ok(None) => return Ok((captures.len() - held) as u64),
             Ok(Some((head, captured))) => match keep(alloc, captures, captured) {
                 Ok(()) => {}

@@ -4,6 +4,7 @@ use crate::fault::IndexFault;
 use crate::held_line::HeldLine;
 use crate::index_lines::put_index;
 use crate::names::{is_among, is_name, keep_name};
+use capture_core::Types;
 use std::alloc::Global;
 use std::marker::Model;
 use warc_core::{Input, Output};
@@ -12,6 +13,7 @@ use warc_core::{Input, Output};
 #[derive(Drop)]
 pub struct Indexer {
     alloc: Global,
+    types: Types,
     names: Vec<String>,
     captures: Vec<HeldLine>,
 }
@@ -24,7 +26,7 @@ impl Model for Indexer {
 
     ghost Value = { Held };
 
-    ghost view = { λ i. record { names = map string_bytes i.names.items; captures = i.captures.items } };
+    ghost view = { λ i. record { types = i.types; names = map string_bytes i.names.items; captures = i.captures.items } };
 
     ghost invariant = { λ i. AreSound LINE_LIMIT (map string_bytes i.names.items) i.captures.items };
 }
@@ -36,24 +38,25 @@ impl Indexer {
     ghost use Rattle.cdxj_core.specs.Members.{entry_member};
     ghost use Rattle.devices.specs.Writing.{WritesText};
     ghost use Rattle.warc_core.specs.declared.next.TheConstants.{HEAD_LIMIT};
-    ghost use Rattle.capture_core.specs.Indexed.{usual_types};
+    ghost use Rattle.capture_core.specs.Types.{includes};
     ghost use Rattle.capture_core.specs.CaptureAnswer.{usual_limits};
     ghost use Rattle.index_core.specs.Adding.{Adds, IsAddFault, IsRefusal};
     ghost use Rattle.index_core.specs.Counting.{CountsIndex, CountsWrite};
     ghost use Rattle.index_core.specs.Indexing.{IsWriteFault, IsName, is_among, index_text, in_places, AreSound};
 
-    /// An indexer that holds nothing. It takes no memory.
-    pub fn new(alloc: Global) -> Indexer
-        ensures { result ≡ record { names = []; captures = [] } }
+    /// An indexer of records of these types, which holds nothing. It takes no memory.
+    pub fn new(alloc: Global, types: Types) -> Indexer
+        ensures { result ≡ record { types = types; names = []; captures = [] } }
     {
         Indexer {
             alloc,
+            types,
             names: Vec::new(alloc),
             captures: Vec::new(alloc),
         }
     }
 
-    /// Adds the captures of an archive's records under its name, of 1 to 255 bytes. It answers how many they are.
+    /// Adds the captures of an archive's records of the indexer's types under its name, of 1 to 255 bytes. It answers how many they are.
     ///
     /// Errors are `BadName`, `DuplicateName` for a name that an earlier call has kept, and `Memory` where the name can't be
     /// kept: then nothing was read and nothing changed. Any other is `Capture`: then the name is kept, and with it the
@@ -61,7 +64,7 @@ impl Indexer {
     pub fn add<I: Input>(&mut self, name: &str, input: &mut I) -> Result<u64, IndexFault>
         ensures bad { (result ≡ Err IndexFault.BadName) ↔ ¬ (IsName name.now) }
         ensures duplicate { (result ≡ Err IndexFault.DuplicateName) ↔ (IsName name.now × (is_among self.old.names name.now ≡ true)) }
-        ensures adds { Adds usual_types usual_limits HEAD_LIMIT name.now (I.remaining input.old) self.old self.new result }
+        ensures adds { Adds (includes self.old.types) usual_limits HEAD_LIMIT name.now (I.remaining input.old) self.old self.new result }
         ensures refusals { IfErr result IsAddFault }
         ensures unread { IfErr result (λ fault. IsRefusal fault → input.new ≡ input.old) }
         ensures failures { CountsIndex result (I.failures input.old) (I.failures input.new) }
@@ -76,7 +79,13 @@ impl Indexer {
             Ok(()) => {}
             Err(_) => return Err(IndexFault::Memory),
         }
-        Ok(add_captures(self.alloc, &mut self.captures, name, input)?)
+        Ok(add_captures(
+            self.alloc,
+            &mut self.captures,
+            name,
+            self.types,
+            input,
+        )?)
     }
 
     /// Forgets the captures that it holds. Names that were added stay used.

@@ -1,5 +1,5 @@
 //! Laws of the definitions that the contracts cite. These functions do nothing: each law is a contract.
-ghost use Rattle.index_core.specs.Laws.{OneIndexed, OneIndexedTo, OneStands, SomeStands, WholeIsNotRefused};
+ghost use Rattle.index_core.specs.Laws.{OneIndexed, OneIndexedTo, OneStands, SomeStands, WholeIsNotRefused, WholeStays, CapturesStay};
 
 /// An archive has one list of captures, whether it is accepted whole or up to a fault's offset.
 pub fn archive_has_one_list_of_captures()
@@ -17,4 +17,10 @@ pub fn one_thing_stands_at_an_offset()
 /// for no damage nor a line that is too long.
 pub fn accepted_archive_is_not_refused()
     ensures { WholeIsNotRefused }
+{}
+
+/// An archive that is accepted whole is accepted whole under higher limits of lines and heads, with the same captures.
+pub fn accepted_archive_stays_accepted()
+    ensures whole { WholeStays }
+    ensures captures { CapturesStay }
 {}

@@ -1,6 +1,7 @@
 -- Archives that are indexed one after another.
-use Rattle.std.proofs.Common.{◌≡◌, ℕ, zero, suc, ◌+◌, ◌<◌, List, [], ◌∷◌, ◌++◌, length, map, take, drop, get_or, set, Option, None, Err, refl, sym, ap, ap₂, ◌∙◌, subst, arith, append_assoc, append-nil}
+use Rattle.std.proofs.Common.{◌≡◌, ℕ, zero, suc, ◌+◌, ◌<◌, List, [], ◌∷◌, ◌++◌, length, map, take, drop, get_or, set, Option, None, Err, refl, sym, ap, ap₂, Bool, ◌∙◌, subst, arith, append_assoc, append-nil}
 use Rattle.std.proofs.lemmas.List.{take_more}
+use Rattle.warc_core.specs.Kind.{Kind}
 use Rattle.cdxj_core.specs.Entries.{EntryValue}
 use Rattle.cdxj_core.specs.Indexes.{IsIndex}
 use Rattle.index_core.specs.declared.fault.IndexFault.{IndexFault}
@@ -18,24 +19,24 @@ names_push : (earlier names : List (List ℕ)) (name : List ℕ) → AreNewNames
 names_push earlier [] name h k = (subst (λ ns. IsNewName ns name) (append-nil earlier) k, tt)
 names_push earlier (n ∷ names) name h k = (h.0, names_push (earlier ++ n ∷ []) names name h.1 (subst (λ ns. IsNewName ns name) (sym (append_assoc earlier (n ∷ []) names)) k))
 
-accepted_push : (names : List (List ℕ)) (inputs : List (Option (List ℕ))) (archives : List (List EntryValue)) (name : List ℕ) (input : Option (List ℕ)) (captures : List EntryValue)
-    → AreAcceptedAs names inputs archives → IsAcceptedAs name input captures → AreAcceptedAs (names ++ name ∷ []) (inputs ++ input ∷ []) (archives ++ captures ∷ [])
-accepted_push [] [] [] name input captures h k = (k, tt)
-accepted_push [] [] (c ∷ archives) name input captures h k = absurd h
-accepted_push [] (i ∷ inputs) archives name input captures h k = absurd h
-accepted_push (n ∷ names) [] archives name input captures h k = absurd h
-accepted_push (n ∷ names) (i ∷ inputs) [] name input captures h k = absurd h
-accepted_push (n ∷ names) (i ∷ inputs) (c ∷ archives) name input captures h k = (h.0, accepted_push names inputs archives name input captures h.1 k)
+accepted_push : (types : Kind → Bool) (names : List (List ℕ)) (inputs : List (Option (List ℕ))) (archives : List (List EntryValue)) (name : List ℕ) (input : Option (List ℕ)) (captures : List EntryValue)
+    → AreAcceptedAs types names inputs archives → IsAcceptedAs types name input captures → AreAcceptedAs types (names ++ name ∷ []) (inputs ++ input ∷ []) (archives ++ captures ∷ [])
+accepted_push types [] [] [] name input captures h k = (k, tt)
+accepted_push types [] [] (c ∷ archives) name input captures h k = absurd h
+accepted_push types [] (i ∷ inputs) archives name input captures h k = absurd h
+accepted_push types (n ∷ names) [] archives name input captures h k = absurd h
+accepted_push types (n ∷ names) (i ∷ inputs) [] name input captures h k = absurd h
+accepted_push types (n ∷ names) (i ∷ inputs) (c ∷ archives) name input captures h k = (h.0, accepted_push types names inputs archives name input captures h.1 k)
 
 -- one archive more
-pub indexed_push : (names : List (List ℕ)) (inputs : List (Option (List ℕ))) (archives : List (List EntryValue)) (i : ℕ) (captures : List EntryValue) → i < length names → i < length inputs
-    → AreIndexed (take i names) (take i inputs) archives → IsNewName (take i names) (get_or names i []) → IsAcceptedAs (get_or names i []) (get_or inputs i None) captures → HaveLines captures
-    → AreIndexed (take (i + 1) names) (take (i + 1) inputs) (archives ++ captures ∷ [])
-indexed_push names inputs archives i captures l m h new accepted lines = record {
+pub indexed_push : (types : Kind → Bool) (names : List (List ℕ)) (inputs : List (Option (List ℕ))) (archives : List (List EntryValue)) (i : ℕ) (captures : List EntryValue) → i < length names → i < length inputs
+    → AreIndexed types (take i names) (take i inputs) archives → IsNewName (take i names) (get_or names i []) → IsAcceptedAs types (get_or names i []) (get_or inputs i None) captures → HaveLines captures
+    → AreIndexed types (take (i + 1) names) (take (i + 1) inputs) (archives ++ captures ∷ [])
+indexed_push types names inputs archives i captures l m h new accepted lines = record {
   named = subst (AreNewNames []) (sym (take_more names i [] l)) (names_push [] (take i names) (get_or names i []) h.named new);
-  accepted = subst (λ ns. AreAcceptedAs ns (take (i + 1) inputs) (archives ++ captures ∷ [])) (sym (take_more names i [] l))
-      (subst (λ is. AreAcceptedAs (take i names ++ get_or names i [] ∷ []) is (archives ++ captures ∷ [])) (sym (take_more inputs i None m))
-      (accepted_push (take i names) (take i inputs) archives (get_or names i []) (get_or inputs i None) captures h.accepted accepted));
+  accepted = subst (λ ns. AreAcceptedAs types ns (take (i + 1) inputs) (archives ++ captures ∷ [])) (sym (take_more names i [] l))
+      (subst (λ is. AreAcceptedAs types (take i names ++ get_or names i [] ∷ []) is (archives ++ captures ∷ [])) (sym (take_more inputs i None m))
+      (accepted_push types (take i names) (take i inputs) archives (get_or names i []) (get_or inputs i None) captures h.accepted accepted));
   lines = each_join HaveLines archives (captures ∷ []) h.lines (lines, tt);
 }
 
@@ -64,7 +65,7 @@ map_replaced f (y ∷ xs) zero x = refl
 map_replaced f (y ∷ xs) (suc i) x = ap (λ ys. f y ∷ ys) (map_replaced f xs i x)
 
 -- An archive x among archives of which those before the i-th were gone over
-module _ {X : Type 0} (name : X → List ℕ) (input : X → Option (List ℕ)) (xs0 : List X) (i : ℕ) (d x : X) (inside : i < length xs0) (is : x ≡ get_or xs0 i d) where
+module _ {X : Type 0} (types : Kind → Bool) (name : X → List ℕ) (input : X → Option (List ℕ)) (xs0 : List X) (i : ℕ) (d x : X) (inside : i < length xs0) (is : x ≡ get_or xs0 i d) where
   name_at : name x ≡ get_or (map name xs0) i []
   name_at = ap name is ∙ shown_at name xs0 i d [] inside
 
@@ -77,24 +78,24 @@ module _ {X : Type 0} (name : X → List ℕ) (input : X → Option (List ℕ)) 
   inputs_inside : i < length (map input xs0)
   inputs_inside = let e = map_length input xs0 in omega arith
 
-  module _ (earlier : List (List ℕ)) (archives : List (List EntryValue)) (names_are : earlier ≡ take i (map name xs0)) (before : AreIndexed (take i (map name xs0)) (take i (map input xs0)) archives) where
+  module _ (earlier : List (List ℕ)) (archives : List (List EntryValue)) (names_are : earlier ≡ take i (map name xs0)) (before : AreIndexed types (take i (map name xs0)) (take i (map input xs0)) archives) where
     -- it isn't indexed
-    pub first_fault : (fault : IndexFault) → IsFaultOfArchive earlier (name x) (input x) fault → IsFirstFault (map name xs0) (map input xs0) i fault
+    pub first_fault : (fault : IndexFault) → IsFaultOfArchive types earlier (name x) (input x) fault → IsFirstFault types (map name xs0) (map input xs0) i fault
     first_fault fault h = record {
       inside = names_inside;
       captures = archives;
       before = before;
-      refused = subst (λ ns. IsFaultOfArchive ns (get_or (map name xs0) i []) (get_or (map input xs0) i None) fault) names_are
-          (subst (λ n. IsFaultOfArchive earlier n (get_or (map input xs0) i None) fault) name_at (subst (λ o. IsFaultOfArchive earlier (name x) o fault) input_at h));
+      refused = subst (λ ns. IsFaultOfArchive types ns (get_or (map name xs0) i []) (get_or (map input xs0) i None) fault) names_are
+          (subst (λ n. IsFaultOfArchive types earlier n (get_or (map input xs0) i None) fault) name_at (subst (λ o. IsFaultOfArchive types earlier (name x) o fault) input_at h));
     }
 
     -- it is
-    pub one_more_indexed : (captures : List EntryValue) → IsNewName earlier (name x) → IsAcceptedAs (name x) (input x) captures → HaveLines captures
-        → AreIndexed (take (i + 1) (map name xs0)) (take (i + 1) (map input xs0)) (archives ++ captures ∷ [])
+    pub one_more_indexed : (captures : List EntryValue) → IsNewName earlier (name x) → IsAcceptedAs types (name x) (input x) captures → HaveLines captures
+        → AreIndexed types (take (i + 1) (map name xs0)) (take (i + 1) (map input xs0)) (archives ++ captures ∷ [])
     one_more_indexed captures new accepted lines =
-        indexed_push (map name xs0) (map input xs0) archives i captures names_inside inputs_inside before
+        indexed_push types (map name xs0) (map input xs0) archives i captures names_inside inputs_inside before
         (subst (λ ns. IsNewName ns (get_or (map name xs0) i [])) names_are (subst (IsNewName earlier) name_at new))
-        (subst (λ n. IsAcceptedAs n (get_or (map input xs0) i None) captures) name_at (subst (λ o. IsAcceptedAs (name x) o captures) input_at accepted)) lines
+        (subst (λ n. IsAcceptedAs types n (get_or (map input xs0) i None) captures) name_at (subst (λ o. IsAcceptedAs types (name x) o captures) input_at accepted)) lines
 
   -- the names up to it
   pub names_after : (earlier : List (List ℕ)) → earlier ≡ take i (map name xs0) → earlier ++ name x ∷ [] ≡ take (i + 1) (map name xs0)

@@ -1,5 +1,6 @@
 -- What a scan wrote, from what its parts did.
-use Rattle.std.proofs.Common.{ℕ, List, length, map, Option, subst}
+use Rattle.std.proofs.Common.{ℕ, Bool, List, length, map, Option, subst}
+use Rattle.warc_core.specs.Kind.{Kind}
 use Rattle.cdxj_places.specs.Places.{IsPlace, place_cmp}
 use Rattle.cdxj_places.proofs.PlaceOrder.{place_cmp_total}
 use Rattle.cdxj_core.specs.Entries.{EntryValue}
@@ -19,9 +20,9 @@ use Rattle.scan_core.proofs.CollectionLemmas.{collected, lines_rise}
 use Rattle.scan_core.proofs.KeyLemmas.{lines_placed, keys_but_last, one_empty}
 use Rattle.scan_core.proofs.OnceLemmas.{once}
 
-module _ (names : List (List ℕ)) (inputs : List (Option (List ℕ))) (sizes text : List ℕ) (query : QueryValue) (archives : List (List EntryValue)) (old new : Option (List ℕ))
-    (asked : IsAsked sizes text (length names) query) (indexed : AreIndexed names inputs archives) where
-  pub scanned_whole : (number : ℕ) → WrotePages query (collection (map index_members archives)) sizes old new number → Scanned names inputs sizes text old new number
+module _ (types : Kind → Bool) (names : List (List ℕ)) (inputs : List (Option (List ℕ))) (sizes text : List ℕ) (query : QueryValue) (archives : List (List EntryValue)) (old new : Option (List ℕ))
+    (asked : IsAsked sizes text (length names) query) (indexed : AreIndexed types names inputs archives) where
+  pub scanned_whole : (number : ℕ) → WrotePages query (collection (map index_members archives)) sizes old new number → Scanned types names inputs sizes text old new number
   scanned_whole number w =
       let wrote = subst (λ lines. WrotePages query lines sizes old new number) (collected archives) w in
       let law = chain_law member_place place_cmp (same_part query.collapse) place_cmp_total (selected query (captured_lines archives)) query.resume sizes wrote.pages
@@ -32,7 +33,7 @@ module _ (names : List (List ℕ)) (inputs : List (Option (List ℕ))) (sizes te
         asked = asked;
         captures = archives;
         indexed = indexed;
-        once = λ told known. once names inputs archives told known indexed.named indexed.accepted indexed.lines;
+        once = λ told known. once types names inputs archives told known indexed.named indexed.accepted indexed.lines;
         pages = wrote.pages;
         chain = wrote.chain;
         joined = law.0;
@@ -44,7 +45,7 @@ module _ (names : List (List ℕ)) (inputs : List (Option (List ℕ))) (sizes te
         count = wrote.count;
       }
 
-  pub scanned_part : WrotePagesInPart query (collection (map index_members archives)) sizes old new → ScannedInPart names inputs sizes text old new
+  pub scanned_part : WrotePagesInPart query (collection (map index_members archives)) sizes old new → ScannedInPart types names inputs sizes text old new
   scanned_part w = record {
     query = query;
     asked = asked;

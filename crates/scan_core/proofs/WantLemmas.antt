@@ -1,7 +1,8 @@
 -- A scan of which nothing is at fault is refused for want of memory.
-use Rattle.std.proofs.Common.{◌≡◌, ℕ, zero, suc, ◌<◌, List, [], ◌∷◌, ◌++◌, length, take, get_or, set, Option, None, Some, IfSome, Result, Ok, Err, refl, sym, ap, ◌∙◌, subst, arith, append_assoc, append-nil}
+use Rattle.std.proofs.Common.{◌≡◌, ℕ, zero, suc, ◌<◌, Bool, List, [], ◌∷◌, ◌++◌, length, take, get_or, set, Option, None, Some, IfSome, Result, Ok, Err, refl, sym, ap, ◌∙◌, subst, arith, append_assoc, append-nil}
 use Rattle.std.specs.List.{AllByRecursion}
 use Rattle.std.proofs.lemmas.Bool.{true≢false}
+use Rattle.warc_core.specs.Kind.{Kind}
 use Rattle.warc_core.specs.declared.fault.Cause.{Cause}
 use Rattle.warc_core.specs.declared.fault.Cause.TheVariants as causes
 use Rattle.warc_core.specs.Answers.{CountsRead}
@@ -10,7 +11,6 @@ use Rattle.devices.specs.Device.{next_count}
 use Rattle.capture_core.specs.declared.fault.CaptureFault.{CaptureFault}
 use Rattle.capture_core.specs.declared.fault.CaptureFault.TheVariants as capture
 use Rattle.capture_core.specs.CaptureAnswer.{usual_limits}
-use Rattle.capture_core.specs.Indexed.{usual_types}
 use Rattle.cdxj_core.specs.Entries.{EntryValue}
 use Rattle.index_core.specs.declared.fault.IndexFault.{IndexFault}
 use Rattle.index_core.specs.declared.fault.IndexFault.TheVariants as index
@@ -37,18 +37,18 @@ new_at earlier (n ∷ names) zero h l = subst (λ ns. IsNewName ns n) (sym (appe
 new_at earlier (n ∷ names) (suc i) h l = subst (λ ns. IsNewName ns (get_or names i [])) (append_assoc earlier (n ∷ []) (take i names)) (new_at (earlier ++ n ∷ []) names i h.1 (omega arith))
 
 -- the archive with this number is told, and accepted whole
-record ToldWhole (name : List ℕ) (input : Option (List ℕ)) : Type 0 where
+record ToldWhole (types : Kind → Bool) (name : List ℕ) (input : Option (List ℕ)) : Type 0 where
   archive : List ℕ
   told : input ≡ Some archive
-  whole : IsAcceptedWhole usual_types usual_limits HEAD_LIMIT name archive
+  whole : IsAcceptedWhole types usual_limits HEAD_LIMIT name archive
 
-whole_at : (names : List (List ℕ)) (inputs : List (Option (List ℕ))) (archives : List (List ℕ)) (i : ℕ) → Known inputs archives → AllTwo (IsAcceptedWhole usual_types usual_limits HEAD_LIMIT) names archives
-    → i < length names → ToldWhole (get_or names i []) (get_or inputs i None)
-whole_at [] inputs archives i known whole l = absurd (omega arith)
-whole_at (n ∷ names) inputs [] i known whole l = absurd whole
-whole_at (n ∷ names) [] (a ∷ archives) i known whole l = absurd known
-whole_at (n ∷ names) (o ∷ inputs) (a ∷ archives) zero known whole l = record { archive = a; told = known.0; whole = whole.0 }
-whole_at (n ∷ names) (o ∷ inputs) (a ∷ archives) (suc i) known whole l = whole_at names inputs archives i known.1 whole.1 (omega arith)
+whole_at : (types : Kind → Bool) (names : List (List ℕ)) (inputs : List (Option (List ℕ))) (archives : List (List ℕ)) (i : ℕ) → Known inputs archives → AllTwo (IsAcceptedWhole types usual_limits HEAD_LIMIT) names archives
+    → i < length names → ToldWhole types (get_or names i []) (get_or inputs i None)
+whole_at types [] inputs archives i known whole l = absurd (omega arith)
+whole_at types (n ∷ names) inputs [] i known whole l = absurd whole
+whole_at types (n ∷ names) [] (a ∷ archives) i known whole l = absurd known
+whole_at types (n ∷ names) (o ∷ inputs) (a ∷ archives) zero known whole l = record { archive = a; told = known.0; whole = whole.0 }
+whole_at types (n ∷ names) (o ∷ inputs) (a ∷ archives) (suc i) known whole l = whole_at types names inputs archives i known.1 whole.1 (omega arith)
 
 -- ---- no device failed
 
@@ -73,18 +73,18 @@ memory_cause c h n = absurd h
 
 -- ---- an archive's fault
 
-module _ (whole_is_not_refused : WholeIsNotRefused) (names archives : List (List ℕ)) (inputs : List (Option (List ℕ))) (i : ℕ) (counts : List ℕ) (new : AreNewNames [] names) (known : Known inputs archives)
-    (whole : AllTwo (IsAcceptedWhole usual_types usual_limits HEAD_LIMIT) names archives) (inside : i < length names) (may : AllByRecursion MayRise counts) where
-  no_fault : (fault : CaptureFault) → IfSome (get_or inputs i None) (λ archive. (captures : List EntryValue) × IsAcceptedTo usual_types usual_limits HEAD_LIMIT (get_or names i []) fault archive captures) → IsNoFaultOfArchive fault
+module _ (whole_is_not_refused : WholeIsNotRefused) (types : Kind → Bool) (names archives : List (List ℕ)) (inputs : List (Option (List ℕ))) (i : ℕ) (counts : List ℕ) (new : AreNewNames [] names) (known : Known inputs archives)
+    (whole : AllTwo (IsAcceptedWhole types usual_limits HEAD_LIMIT) names archives) (inside : i < length names) (may : AllByRecursion MayRise counts) where
+  no_fault : (fault : CaptureFault) → IfSome (get_or inputs i None) (λ archive. (captures : List EntryValue) × IsAcceptedTo types usual_limits HEAD_LIMIT (get_or names i []) fault archive captures) → IsNoFaultOfArchive fault
   no_fault fault h =
-      let w = whole_at names inputs archives i known whole inside in
-      let found = subst (λ o. IfSome o (λ archive. (captures : List EntryValue) × IsAcceptedTo usual_types usual_limits HEAD_LIMIT (get_or names i []) fault archive captures)) w.told h in
-      whole_is_not_refused usual_types usual_limits HEAD_LIMIT (get_or names i []) w.archive found.0 fault w.whole found.1
+      let w = whole_at types names inputs archives i known whole inside in
+      let found = subst (λ o. IfSome o (λ archive. (captures : List EntryValue) × IsAcceptedTo types usual_limits HEAD_LIMIT (get_or names i []) fault archive captures)) w.told h in
+      whole_is_not_refused types usual_limits HEAD_LIMIT (get_or names i []) w.archive found.0 fault w.whole found.1
 
   read_counts : (offset : ℕ) (c : Cause) → CountsAt i (index.Capture (capture.Archive (record { offset = offset; cause = c }))) counts counts → c ≡ causes.Read → ⊥
   read_counts offset c h e = stayed i counts h.1 may h.0 h.2 (subst (λ x. CountsRead {A = Unit {0}} (Err x) (get_or counts i 0) h.1) e h.3)
 
-  archive_want : (fault : IndexFault) → IsFaultOfArchive (take i names) (get_or names i []) (get_or inputs i None) fault → CountsAt i fault counts counts → IsWantOfMemory (Archive i fault)
+  archive_want : (fault : IndexFault) → IsFaultOfArchive types (take i names) (get_or names i []) (get_or inputs i None) fault → CountsAt i fault counts counts → IsWantOfMemory (Archive i fault)
   archive_want index.Memory h k = tt
   archive_want index.BadName h k = h (new_at [] names i new inside).good
   archive_want index.DuplicateName h k = true≢false (sym h.1 ∙ (new_at [] names i new inside).unused)
@@ -98,12 +98,12 @@ ok_not_err : (query : QueryValue) (fault : QueryFault) (r : Result QueryValue Qu
 ok_not_err query fault r e f = let g : ◌≡◌ {A = Result QueryValue QueryFault} (Ok query) (Err fault) = sym e ∙ f in cc
 
 pub only_memory : WholeIsNotRefused → OnlyMemoryIsWanting
-only_memory law names archives inputs sizes text (Query refusal.Memory) counts count s known h may k may' k' = tt
-only_memory law names archives inputs sizes text (Query fault) counts count s known h may k may' k' = absurd (ok_not_err s.query _ _ s.asked.meaning h.1)
-only_memory law names archives inputs sizes text (Archive i fault) counts count s known h may k may' k' =
-    archive_want law names archives inputs i counts s.named known s.whole h.2.inside may fault h.2.refused k
-only_memory law names archives inputs sizes text (Answer answer.Memory) counts count s known h may k may' k' = tt
-only_memory law names archives inputs sizes text (Answer answer.Write) counts count s known h may k may' k' = not_next count may' k'
-only_memory law names archives inputs sizes text (Answer answer.BadSizes) counts count s known h may k may' k' = true≢false (sym s.asked.sizes ∙ h)
-only_memory law names archives inputs sizes text (Answer answer.TooManySources) counts count s known h may k may' k' = let few = s.asked.few in let many = h.3 in omega (arith, few, many)
-only_memory law names archives inputs sizes text (Answer fault) counts count s known h may k may' k' = absurd h
+only_memory law types names archives inputs sizes text (Query refusal.Memory) counts count s known h may k may' k' = tt
+only_memory law types names archives inputs sizes text (Query fault) counts count s known h may k may' k' = absurd (ok_not_err s.query _ _ s.asked.meaning h.1)
+only_memory law types names archives inputs sizes text (Archive i fault) counts count s known h may k may' k' =
+    archive_want law types names archives inputs i counts s.named known s.whole h.2.inside may fault h.2.refused k
+only_memory law types names archives inputs sizes text (Answer answer.Memory) counts count s known h may k may' k' = tt
+only_memory law types names archives inputs sizes text (Answer answer.Write) counts count s known h may k may' k' = not_next count may' k'
+only_memory law types names archives inputs sizes text (Answer answer.BadSizes) counts count s known h may k may' k' = true≢false (sym s.asked.sizes ∙ h)
+only_memory law types names archives inputs sizes text (Answer answer.TooManySources) counts count s known h may k may' k' = let few = s.asked.few in let many = h.3 in omega (arith, few, many)
+only_memory law types names archives inputs sizes text (Answer fault) counts count s known h may k may' k' = absurd h

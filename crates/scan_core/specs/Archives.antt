@@ -1,11 +1,11 @@
 -- The archives of a scan: with which captures they are accepted, and why one isn't.
-use Rattle.std.specs.Prelude.{◌≡◌, ℕ, ◌<◌, ⊤, List, [], ◌∷◌, ◌++◌, length, map, take, get_or, false, true, Option, None, IfSome}
+use Rattle.std.specs.Prelude.{◌≡◌, ℕ, ◌<◌, ⊤, Bool, List, [], ◌∷◌, ◌++◌, length, map, take, get_or, false, true, Option, None, IfSome}
 use Rattle.std.specs.List.{AllByRecursion}
+use Rattle.warc_core.specs.Kind.{Kind}
 use Rattle.warc_core.specs.declared.next.TheConstants.{HEAD_LIMIT}
 use Rattle.cdxj_core.specs.declared.limit.TheConstants.{LINE_LIMIT}
 use Rattle.cdxj_core.specs.Entries.{EntryValue, HasLine}
 use Rattle.cdxj_core.specs.Members.{Member, entry_member}
-use Rattle.capture_core.specs.Indexed.{usual_types}
 use Rattle.capture_core.specs.CaptureAnswer.{usual_limits}
 use Rattle.index_core.specs.declared.fault.IndexFault.{IndexFault}
 use Rattle.index_core.specs.declared.fault.IndexFault.TheVariants as index
@@ -22,15 +22,15 @@ abbrev pub AreNewNames : List (List ℕ) → List (List ℕ) → Type 0
 AreNewNames earlier [] = ⊤
 AreNewNames earlier (name ∷ names) = IsNewName earlier name × AreNewNames (earlier ++ name ∷ []) names
 
--- what the input holds, where that is known, is accepted whole under the name, with these captures
-abbrev pub IsAcceptedAs : List ℕ → Option (List ℕ) → List EntryValue → Type 0
-IsAcceptedAs name input captures = IfSome input (λ archive. IsAccepted usual_types usual_limits HEAD_LIMIT name archive captures)
+-- what the input holds, where that is known, is accepted whole under the name, with these captures of records of these types
+abbrev pub IsAcceptedAs : (Kind → Bool) → List ℕ → Option (List ℕ) → List EntryValue → Type 0
+IsAcceptedAs types name input captures = IfSome input (λ archive. IsAccepted types usual_limits HEAD_LIMIT name archive captures)
 
 -- the same of each archive
-abbrev pub AreAcceptedAs : List (List ℕ) → List (Option (List ℕ)) → List (List EntryValue) → Type 0
-AreAcceptedAs [] [] [] = ⊤
-AreAcceptedAs (name ∷ names) (input ∷ inputs) (captures ∷ others) = IsAcceptedAs name input captures × AreAcceptedAs names inputs others
-AreAcceptedAs names inputs captures = ⊥
+abbrev pub AreAcceptedAs : (Kind → Bool) → List (List ℕ) → List (Option (List ℕ)) → List (List EntryValue) → Type 0
+AreAcceptedAs types [] [] [] = ⊤
+AreAcceptedAs types (name ∷ names) (input ∷ inputs) (captures ∷ others) = IsAcceptedAs types name input captures × AreAcceptedAs types names inputs others
+AreAcceptedAs types names inputs captures = ⊥
 
 -- an archive's captures have lines, each at a place of its own
 pub record HaveLines (captures : List EntryValue) : Type 0 where
@@ -38,27 +38,27 @@ pub record HaveLines (captures : List EntryValue) : Type 0 where
   pub places : HaveOwnPlaces captures
 
 -- the archives are accepted under names of their own, with these captures
-pub record AreIndexed (names : List (List ℕ)) (inputs : List (Option (List ℕ))) (captures : List (List EntryValue)) : Type 0 where
+pub record AreIndexed (types : Kind → Bool) (names : List (List ℕ)) (inputs : List (Option (List ℕ))) (captures : List (List EntryValue)) : Type 0 where
   pub named : AreNewNames [] names
-  pub accepted : AreAcceptedAs names inputs captures
+  pub accepted : AreAcceptedAs types names inputs captures
   pub lines : AllByRecursion HaveLines captures
 
 -- why an archive isn't indexed: its name is bad, or an earlier one; else its captures end with this fault, or memory is refused
-abbrev pub IsFaultOfArchive : List (List ℕ) → List ℕ → Option (List ℕ) → IndexFault → Type 0
-IsFaultOfArchive earlier name input index.BadName = ¬ (IsName name)
-IsFaultOfArchive earlier name input index.DuplicateName = IsName name × (is_among earlier name ≡ true)
-IsFaultOfArchive earlier name input (index.Capture fault) =
+abbrev pub IsFaultOfArchive : (Kind → Bool) → List (List ℕ) → List ℕ → Option (List ℕ) → IndexFault → Type 0
+IsFaultOfArchive types earlier name input index.BadName = ¬ (IsName name)
+IsFaultOfArchive types earlier name input index.DuplicateName = IsName name × (is_among earlier name ≡ true)
+IsFaultOfArchive types earlier name input (index.Capture fault) =
     IsNewName earlier name
-    × IfSome input (λ archive. (captures : List EntryValue) × IsAcceptedTo usual_types usual_limits HEAD_LIMIT name fault archive captures)
-IsFaultOfArchive earlier name input index.Memory = IsNewName earlier name
-IsFaultOfArchive earlier name input other = ⊥
+    × IfSome input (λ archive. (captures : List EntryValue) × IsAcceptedTo types usual_limits HEAD_LIMIT name fault archive captures)
+IsFaultOfArchive types earlier name input index.Memory = IsNewName earlier name
+IsFaultOfArchive types earlier name input other = ⊥
 
 -- the archive with this number is the first that isn't indexed
-pub record IsFirstFault (names : List (List ℕ)) (inputs : List (Option (List ℕ))) (i : ℕ) (fault : IndexFault) : Type 0 where
+pub record IsFirstFault (types : Kind → Bool) (names : List (List ℕ)) (inputs : List (Option (List ℕ))) (i : ℕ) (fault : IndexFault) : Type 0 where
   pub inside : i < length names
   pub captures : List (List EntryValue)
-  pub before : AreIndexed (take i names) (take i inputs) captures
-  pub refused : IsFaultOfArchive (take i names) (get_or names i []) (get_or inputs i None) fault
+  pub before : AreIndexed types (take i names) (take i inputs) captures
+  pub refused : IsFaultOfArchive types (take i names) (get_or names i []) (get_or inputs i None) fault
 
 -- the lines of an archive's captures, as its index has them
 abbrev pub index_members : List EntryValue → List Member

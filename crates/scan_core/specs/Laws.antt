@@ -1,13 +1,13 @@
 -- Laws of the definitions that the contracts cite.
-use Rattle.std.specs.Prelude.{◌≡◌, ℕ, ◌-◌, ◌^◌, ◌<◌, ◌≤◌, ⊤, List, [], length, Option, Some, Ok, Err}
+use Rattle.std.specs.Prelude.{◌≡◌, ℕ, ◌-◌, ◌^◌, ◌<◌, ◌≤◌, ⊤, Bool, List, [], length, Option, Some, Ok, Err}
 use Rattle.std.specs.List.{AllByRecursion}
+use Rattle.warc_core.specs.Kind.{Kind}
 use Rattle.warc_core.specs.declared.fault.Cause.TheVariants as causes
 use Rattle.warc_core.specs.declared.next.TheConstants.{HEAD_LIMIT}
 use Rattle.cdxj_places.specs.Places.{PlaceValue, place_cmp, resume_text}
 use Rattle.cdxj_core.specs.Members.{Member, member_place}
 use Rattle.capture_core.specs.declared.fault.CaptureFault.TheVariants as capture
 use Rattle.capture_core.specs.CaptureAnswer.{usual_limits}
-use Rattle.capture_core.specs.Indexed.{usual_types}
 use Rattle.index_core.specs.declared.fault.IndexFault.TheVariants as index
 use Rattle.index_core.specs.Accepted.{IsAcceptedWhole}
 use Rattle.merge_core.specs.Collections.{Known}
@@ -30,11 +30,11 @@ use Rattle.scan_core.specs.Scanning.{IsAsked, IsScanFault}
 
 -- nothing that is asked of a scan is at fault: the archives are accepted whole under names of their own, the sizes are given and
 -- positive, and the text means a query
-pub record IsScannable (names archives : List (List ℕ)) (sizes text : List ℕ) : Type 0 where
+pub record IsScannable (types : Kind → Bool) (names archives : List (List ℕ)) (sizes text : List ℕ) : Type 0 where
   pub query : QueryValue
   pub asked : IsAsked sizes text (length names) query
   pub named : AreNewNames [] names
-  pub whole : AllTwo (IsAcceptedWhole usual_types usual_limits HEAD_LIMIT) names archives
+  pub whole : AllTwo (IsAcceptedWhole types usual_limits HEAD_LIMIT) names archives
 
 -- a fault for want of memory, or for a key that the URL parser has no room for
 abbrev pub IsWantOfMemory : ScanFault → Type 0
@@ -51,8 +51,8 @@ MayRise count = count < 2 ^ 64 - 1
 
 -- where nothing is at fault and no device failed, a scan is refused only for want of memory
 abbrev pub OnlyMemoryIsWanting : Type 0
-OnlyMemoryIsWanting = (names archives : List (List ℕ)) (inputs : List (Option (List ℕ))) (sizes text : List ℕ) (fault : ScanFault) (counts : List ℕ) (count : ℕ)
-    → IsScannable names archives sizes text → Known inputs archives → IsScanFault names inputs sizes text fault
+OnlyMemoryIsWanting = (types : Kind → Bool) (names archives : List (List ℕ)) (inputs : List (Option (List ℕ))) (sizes text : List ℕ) (fault : ScanFault) (counts : List ℕ) (count : ℕ)
+    → IsScannable types names archives sizes text → Known inputs archives → IsScanFault types names inputs sizes text fault
     → AllByRecursion MayRise counts → CountsInputs {A = Unit {0}} (Err fault) counts counts
     → MayRise count → CountsOutput {A = Unit {0}} (Err fault) count count → IsWantOfMemory fault
 

@@ -1,6 +1,7 @@
 -- What a scan of archives owes.
-use Rattle.std.specs.Prelude.{◌≡◌, ℕ, ◌-◌, ◌^◌, ◌<◌, ◌≤◌, ⊤, List, [], ◌∷◌, length, drop, suc, flat_map, min, true, false, Option, Ok, Err}
+use Rattle.std.specs.Prelude.{◌≡◌, ℕ, ◌-◌, ◌^◌, ◌<◌, ◌≤◌, ⊤, Bool, List, [], ◌∷◌, length, drop, suc, flat_map, min, true, false, Option, Ok, Err}
 use Rattle.std.specs.Io.KnownBytes.{Appends}
+use Rattle.warc_core.specs.Kind.{Kind}
 use Rattle.cdxj_places.specs.Places.{PlaceValue, place_cmp}
 use Rattle.cdxj_core.specs.Entries.{EntryValue}
 use Rattle.cdxj_core.specs.Members.{Member, member_place}
@@ -29,8 +30,9 @@ pub record IsAsked (ns text : List ℕ) (count : ℕ) (query : QueryValue) : Typ
   pub meaning : query_of QUERY_LIMIT text ≡ Ok query
   pub few : count ≤ SOURCES_LIMIT
 
--- The archives, by their names and by what their inputs hold; the sizes of pages, and the query's text
-module _ (names : List (List ℕ)) (inputs : List (Option (List ℕ))) (sizes text : List ℕ) where
+-- The types of records that are indexed; the archives, by their names and by what their inputs hold; the sizes of pages, and the
+-- query's text
+module _ (types : Kind → Bool) (names : List (List ℕ)) (inputs : List (Option (List ℕ))) (sizes text : List ℕ) where
   -- The pages that were written, joined, are exactly the captures of the archives that the query selects, each once, in the
   -- order of places. Every page but the last is full and ends with a key from which the next one goes on. Where nothing is
   -- selected there is one empty page.
@@ -38,7 +40,7 @@ module _ (names : List (List ℕ)) (inputs : List (Option (List ℕ))) (sizes te
     pub query : QueryValue
     pub asked : IsAsked sizes text (length names) query
     pub captures : List (List EntryValue)
-    pub indexed : AreIndexed names inputs captures
+    pub indexed : AreIndexed types names inputs captures
     pub once : (archives : List (List ℕ)) → Known inputs archives → HaveOwnPlaces (all_captures captures)
     pub pages : List (Page Member PlaceValue)
     pub chain : IsQueryChain query (captured_lines captures) sizes pages
@@ -54,7 +56,7 @@ module _ (names : List (List ℕ)) (inputs : List (Option (List ℕ))) (sizes te
     pub query : QueryValue
     pub asked : IsAsked sizes text (length names) query
     pub captures : List (List EntryValue)
-    pub indexed : AreIndexed names inputs captures
+    pub indexed : AreIndexed types names inputs captures
     pub part : WrotePagesInPart query (captured_lines captures) sizes old new
 
   -- Why nothing or no more was written. What comes before the fault in this order isn't at fault.
@@ -64,15 +66,15 @@ module _ (names : List (List ℕ)) (inputs : List (Option (List ℕ))) (sizes te
   IsScanFault (Query fault) = (are_sizes sizes ≡ true) × (query_of QUERY_LIMIT text ≡ Err fault)
   IsScanFault (Answer answer.TooManySources) =
       (are_sizes sizes ≡ true) × (query : QueryValue) × (query_of QUERY_LIMIT text ≡ Ok query) × (SOURCES_LIMIT < length names)
-  IsScanFault (Archive i fault) = (query : QueryValue) × IsAsked sizes text (length names) query × IsFirstFault names inputs i fault
+  IsScanFault (Archive i fault) = (query : QueryValue) × IsAsked sizes text (length names) query × IsFirstFault types names inputs i fault
   IsScanFault (Answer answer.Memory) = ⊤
   IsScanFault (Answer answer.Write) = ⊤
   IsScanFault (Answer fault) = ⊥
 
 -- the archive that is named is the first that isn't indexed
-abbrev pub IsArchiveFault : List (List ℕ) → List (Option (List ℕ)) → ScanFault → Type 0
-IsArchiveFault names inputs (Archive i fault) = IsFirstFault names inputs i fault
-IsArchiveFault names inputs other = ⊥
+abbrev pub IsArchiveFault : (Kind → Bool) → List (List ℕ) → List (Option (List ℕ)) → ScanFault → Type 0
+IsArchiveFault types names inputs (Archive i fault) = IsFirstFault types names inputs i fault
+IsArchiveFault types names inputs other = ⊥
 
 -- pages over indexes in memory end for want of memory, or where the output failed
 abbrev pub IsPagesFault : AnswerFault → Type 0

@@ -1,5 +1,6 @@
 //! Archives that are indexed in memory.
 ghost use Rattle.std.specs.Prelude.{◌≡◌, ◌↔◌, ◌<◌, ◌∷◌, ◌++◌, ℕ, List, [], length, map, drop, suc, true, Err, IfOk, IfErr, OnOk, string_bytes};
+ghost use Rattle.capture_core.specs.Types.{includes};
 ghost use Rattle.cdxj_core.specs.declared.limit.TheConstants.{LINE_LIMIT};
 ghost use Rattle.cdxj_core.specs.Entries.{EntryValue};
 ghost use Rattle.cdxj_core.specs.Indexes.{IsIndex};
@@ -13,6 +14,7 @@ ghost use Rattle.scan_core.specs.Scanning.{LeavesUnread, IsArchiveFault};
 
 use crate::fault::ScanFault;
 use crate::named::Named;
+use capture_core::Types;
 use devices::{Gather, Input};
 use index_core::{IndexFault, Indexer};
 use std::alloc::Global;
@@ -38,11 +40,11 @@ fn index_archive<I: Input>(
 ) -> Result<Gather, IndexFault>
     requires { indexer.old.captures ≡ [] }
     ensures name { archive.new.name ≡ archive.old.name }
-    ensures held { OnOk result (indexer.new ≡ record { names = indexer.old.names ++ string_bytes archive.old.name ∷ []; captures = [] }) }
+    ensures held { OnOk result (indexer.new ≡ record indexer.old { names = indexer.old.names ++ string_bytes archive.old.name ∷ []; captures = [] }) }
     ensures index { IfOk result (λ index. IsNewName indexer.old.names (string_bytes archive.old.name)
-        × (captures : List EntryValue) × IsAcceptedAs (string_bytes archive.old.name) (I.remaining archive.old.input) captures
+        × (captures : List EntryValue) × IsAcceptedAs (includes indexer.old.types) (string_bytes archive.old.name) (I.remaining archive.old.input) captures
         × HaveLines captures × IsIndex LINE_LIMIT (gathered index) (index_members captures)) }
-    ensures refused { IfErr result (IsFaultOfArchive indexer.old.names (string_bytes archive.old.name) (I.remaining archive.old.input)) }
+    ensures refused { IfErr result (IsFaultOfArchive (includes indexer.old.types) indexer.old.names (string_bytes archive.old.name) (I.remaining archive.old.input)) }
     ensures unread { IfErr result (λ fault. IsNameFault fault → archive.new ≡ archive.old) }
     ensures failures { CountsIndex result (I.failures archive.old.input) (I.failures archive.new.input) }
 {
@@ -55,21 +57,22 @@ fn index_archive<I: Input>(
     index
 }
 
-/// Indexes archives, each into an index of its own.
+/// Indexes the archives' records of these types, each archive into an index of its own.
 pub fn index_archives<I: Input>(
     alloc: Global,
     inputs: &mut [Named<I>],
+    types: Types,
 ) -> Result<Vec<Gather>, ScanFault>
     ensures names { map (λ n. string_bytes n.name) inputs.new ≡ map (λ n. string_bytes n.name) inputs.old }
     ensures indexes { IfOk result (λ indexes. (captures : List (List EntryValue))
-        × AreIndexed (map (λ n. string_bytes n.name) inputs.old) (map (λ n. I.remaining n.input) inputs.old) captures
+        × AreIndexed (includes types) (map (λ n. string_bytes n.name) inputs.old) (map (λ n. I.remaining n.input) inputs.old) captures
         × AllTwo (IsIndex LINE_LIMIT) (map gathered indexes.items) (map index_members captures)) }
     ensures number { IfOk result (λ indexes. length indexes.items ≡ length inputs.old) }
-    ensures refused { IfErr result (IsArchiveFault (map (λ n. string_bytes n.name) inputs.old) (map (λ n. I.remaining n.input) inputs.old)) }
+    ensures refused { IfErr result (IsArchiveFault (includes types) (map (λ n. string_bytes n.name) inputs.old) (map (λ n. I.remaining n.input) inputs.old)) }
     ensures unread { IfErr result (LeavesUnread inputs.old inputs.new) }
     ensures failures { CountsInputs result (map (λ n. I.failures n.input) inputs.old) (map (λ n. I.failures n.input) inputs.new) }
 {
-    let mut indexer = Indexer::new(alloc);
+    let mut indexer = Indexer::new(alloc, types);
     let mut indexes = Vec::new(alloc);
     for i in 0..inputs.len() {
         let index = match index_archive(alloc, &mut indexer, &mut inputs[i]) {

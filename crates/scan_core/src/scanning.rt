@@ -1,5 +1,6 @@
 //! The pages of a query over archives.
 ghost use Rattle.std.specs.Prelude.{◌≡◌, ◌<◌, ◌≤◌, ℕ, List, length, map, true, false, Some, Err, IfOk, IfErr, string_bytes};
+ghost use Rattle.capture_core.specs.Types.{includes};
 ghost use Rattle.cdxj_core.specs.declared.limit.TheConstants.{LINE_LIMIT};
 ghost use Rattle.cdxj_core.specs.Indexes.{IsIndex};
 ghost use Rattle.cdxj_core.specs.Members.{Member};
@@ -15,6 +16,7 @@ ghost use Rattle.scan_core.specs.Scanning.{IsPagesFault, Scanned, ScannedInPart,
 use crate::archives::index_archives;
 use crate::fault::ScanFault;
 use crate::named::Named;
+use capture_core::Types;
 use devices::{Gather, Input, Output};
 use query_core::{AnswerFault, Query, SOURCES_LIMIT, SliceSource, are_sizes, pages};
 use std::alloc::{AllocError, Global};
@@ -54,9 +56,10 @@ fn write_pages<O: Output>(
     pages(alloc, &mut sources, query, sizes, out)
 }
 
-/// Writes the pages of a query over archives, and answers how many they are. Each archive is indexed in memory, into an index of
-/// its own. The captures have the archives' names for file names. The pages are those of `pages` over these indexes: the sizes
-/// are in captures, the last size is repeated, and the query's limit isn't used, nor whether it shows a key.
+/// Writes the pages of a query over archives, and answers how many they are. The records of these types of each archive are
+/// indexed in memory, into an index of its own. The captures have the archives' names for file names. The pages are those of
+/// `pages` over these indexes: the sizes are in captures, the last size is repeated, and the query's limit isn't used, nor
+/// whether it shows a key.
 ///
 /// Errors, in this order: `Answer(BadSizes)` where there are no sizes, or one of them is 0; `Query` for a text that is refused;
 /// `Answer(TooManySources)` over `SOURCES_LIMIT` archives. Then, archive by archive, `Archive`: `BadName` and `DuplicateName`
@@ -65,15 +68,16 @@ fn write_pages<O: Output>(
 pub fn scan<I: Input, O: Output>(
     alloc: Global,
     inputs: &mut [Named<I>],
+    types: Types,
     sizes: &[u64],
     query: &str,
     out: &mut O,
 ) -> Result<u64, ScanFault>
     ensures names { map (λ n. string_bytes n.name) inputs.new ≡ map (λ n. string_bytes n.name) inputs.old }
-    ensures scanned { IfOk result (Scanned (map (λ n. string_bytes n.name) inputs.old) (map (λ n. I.remaining n.input) inputs.old) sizes.now query.now
+    ensures scanned { IfOk result (Scanned (includes types) (map (λ n. string_bytes n.name) inputs.old) (map (λ n. I.remaining n.input) inputs.old) sizes.now query.now
         (O.written out.old) (O.written out.new)) }
-    ensures fault { IfErr result (IsScanFault (map (λ n. string_bytes n.name) inputs.old) (map (λ n. I.remaining n.input) inputs.old) sizes.now query.now) }
-    ensures part { IfErr result (λ fault. (IsEarly fault → ⊥) → ScannedInPart (map (λ n. string_bytes n.name) inputs.old) (map (λ n. I.remaining n.input) inputs.old) sizes.now query.now
+    ensures fault { IfErr result (IsScanFault (includes types) (map (λ n. string_bytes n.name) inputs.old) (map (λ n. I.remaining n.input) inputs.old) sizes.now query.now) }
+    ensures part { IfErr result (λ fault. (IsEarly fault → ⊥) → ScannedInPart (includes types) (map (λ n. string_bytes n.name) inputs.old) (map (λ n. I.remaining n.input) inputs.old) sizes.now query.now
         (O.written out.old) (O.written out.new)) }
     ensures unwritten { IfErr result (λ fault. IsEarly fault → out.new ≡ out.old) }
     ensures unread { IfErr result (LeavesUnread inputs.old inputs.new) }
@@ -90,7 +94,7 @@ pub fn scan<I: Input, O: Output>(
     if inputs.len() > SOURCES_LIMIT {
         return Err(ScanFault::Answer(AnswerFault::TooManySources));
     }
-    let indexes = match index_archives(alloc, inputs) {
+    let indexes = match index_archives(alloc, inputs, types) {
         Ok(indexes) => indexes,
         Err(fault) => return Err(fault),
     };

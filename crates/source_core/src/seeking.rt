@@ -70,8 +70,44 @@ fn read_on<S: Source>(
     Ok(ends)
 }
 
+/// Reads on in the line that begins at the offset, until `front` holds so many of its bytes, or the line or the source ends. Says
+/// whether the line ends with those that are held then.
+fn read_to<S: Source>(
+    source: &mut S,
+    piece: &mut [u8],
+    offset: u64,
+    front: &mut Vec<u8>,
+    wanted: usize,
+) -> Result<bool, SearchFault>
+    requires room { 0 < length piece.old }
+    requires inside { offset + length front.old.items < S.extent source.old }
+    requires more { length front.old.items < wanted }
+    ensures text { S.text source.new ≡ S.text source.old }
+    ensures extent { S.extent source.new ≡ S.extent source.old }
+    ensures within { OnOk result (offset + length front.new.items ≤ S.extent source.old) }
+    ensures some { OnOk result (length front.old.items < length front.new.items) }
+    ensures most { OnOk result (length front.new.items ≤ wanted) }
+    ensures reads { (t : List ℕ) → S.text source.old ≡ Some t → BeginsWith t offset front.old.items → IfOk result (λ ends. ReadsOn t offset front.new.items ends) }
+    ensures gave { (t : List ℕ) → S.text source.old ≡ Some t → BeginsWith t offset front.old.items
+        → S.gave source.new + length front.old.items ≤ S.gave source.old + longest (lines t) + length piece.old }
+    ensures held { IfOk result (λ ends. ends ≡ false → S.gave source.new + length front.old.items ≤ S.gave source.old + length front.new.items) }
+    ensures failures { CountsSearch result (S.failures source.old) (S.failures source.new) }
+{
+    let size = source.size();
+    while front.len() < wanted && offset + (front.len() as u64) < size {
+        let most = piece.len().min(wanted - front.len());
+        let ends = read_on(source, &mut piece[..most], offset, front)?;
+        if ends {
+            return Ok(true);
+        }
+    }
+    Ok(false)
+}
+
 /// Whether the line that begins at the offset isn't below the pair, or the text ends there. Looks at its first
 /// [`LINE_LIMIT`] bytes; a line that shows no pair in them isn't below.
+///
+/// Each look begins at the line's start, so twice as many bytes are read before the next one.
 fn stops_at<S: Source>(
     source: &mut S,
     piece: &mut [u8],
@@ -91,8 +127,8 @@ fn stops_at<S: Source>(
     front.clear();
     let size = source.size();
     while front.len() < LINE_LIMIT && offset + (front.len() as u64) < size {
-        let most = piece.len().min(LINE_LIMIT - front.len());
-        let ends = read_on(source, &mut piece[..most], offset, front)?;
+        let wanted = (2 * front.len()).max(SEARCH_PIECE).min(LINE_LIMIT);
+        let ends = read_to(source, piece, offset, front, wanted)?;
         match front_is_below(front, key, stamp) {
             Some(below) => return Ok(!below),
             None => {}

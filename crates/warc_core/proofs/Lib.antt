@@ -13,3 +13,4 @@ pub mod FillLemmas
 pub mod CauseLemmas
 pub mod HeadTextLemmas
 pub mod DamageLemmas
+pub mod LimitLemmas

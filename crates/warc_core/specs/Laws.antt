@@ -1,5 +1,5 @@
 -- Laws over the definitions of records, archives and damage.
-use Rattle.std.specs.Prelude.{◌≡◌, ℕ, List, [], ◌++◌, Some, Ok, ◌⊎◌}
+use Rattle.std.specs.Prelude.{◌≡◌, ℕ, ◌≤◌, List, Option, [], ◌++◌, Some, Ok, ◌⊎◌}
 use Rattle.std.specs.List.{concat}
 use Rattle.warc_head.specs.Parts.{HeadParts}
 use Rattle.warc_core.specs.declared.fault.Cause.{Cause}
@@ -52,3 +52,15 @@ HeadIsSpelled = (limit start : ℕ) (bytes rest : List ℕ) (h : HeadView) → n
 abbrev pub HeadAtDamage : Type 0
 HeadAtDamage = (limit : ℕ) (archive : List ℕ) (heads : List HeadView) (offset : ℕ) (cause : Cause) (d : IsDamaged limit archive heads offset cause) → (StopsHead cause → ⊥) →
     (h : HeadView) × (rest : List ℕ) × (next_at limit offset d.rest ≡ Ok (Some h, rest)) × IsHead limit h × (h.start ≡ offset) × (d.rest ≡ h.raw ++ rest)
+
+-- a record text is one under a higher limit of heads
+abbrev pub TextStays : Type 0
+TextStays = (low high : ℕ) → low ≤ high → (head : List ℕ) (parts : HeadParts) (block text : List ℕ) → IsRecordText low head parts block text → IsRecordText high head parts block text
+
+-- what is read as a record, or as the end, is read so under a higher limit
+abbrev pub ReadingStays : Type 0
+ReadingStays = (low high : ℕ) → low ≤ high → (start : ℕ) (bytes rest : List ℕ) (read : Option HeadView) → record_at low start bytes ≡ Ok (read, rest) → record_at high start bytes ≡ Ok (read, rest)
+
+-- an archive of records has the same records under a higher limit
+abbrev pub RecordsStay : Type 0
+RecordsStay = (low high : ℕ) → low ≤ high → (archive : List ℕ) (heads : List HeadView) → AreRecords low archive heads → AreRecords high archive heads

@@ -23,7 +23,7 @@ pub enum Cause {
     /// The input ends before the head does.
     #[error("the head is cut off")]
     ShortHead,
-    /// The head doesn't end within 65,536 bytes.
+    /// The head doesn't end within 1,048,576 bytes.
     #[error("the head is too long")]
     HeadTooLong,
     /// A line of the head is neither a named field nor goes on with one.

@@ -1,6 +1,6 @@
 //! Laws over the definitions of records, archives and damage that the calls of this crate cite.
 ghost use Rattle.std.specs.Prelude.{ℕ, List};
-ghost use Rattle.warc_core.specs.Laws.{ReadIsSpelled, SpelledIsRead, NoPrefix, RecordsAreSpelled, SpelledAreRecords, OneReading, RecordsOrDamage, NoRecordAtDamage, HeadIsSpelled, HeadAtDamage};
+ghost use Rattle.warc_core.specs.Laws.{ReadIsSpelled, SpelledIsRead, NoPrefix, RecordsAreSpelled, SpelledAreRecords, OneReading, RecordsOrDamage, NoRecordAtDamage, HeadIsSpelled, HeadAtDamage, TextStays, ReadingStays, RecordsStay};
 
 /// A record is read exactly where its text stands: a head, a block of the length that the head says, CR LF CR LF.
 pub fn reading_and_spelling()
@@ -38,4 +38,11 @@ pub fn no_record_at_damage()
 pub fn head_is_spelled()
     ensures read { HeadIsSpelled }
     ensures damaged { HeadAtDamage }
+{}
+
+/// A record stays what it is under a higher limit of heads: as a text, as what is read of an archive, and in its archive.
+pub fn record_stays_under_higher_limit()
+    ensures text { TextStays }
+    ensures read { ReadingStays }
+    ensures archive { RecordsStay }
 {}

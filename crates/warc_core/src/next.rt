@@ -15,7 +15,7 @@ use devices::{Buffer, Input};
 use std::alloc::Global;
 
 /// The most bytes of a head.
-pub const HEAD_LIMIT: usize = 65_536;
+pub const HEAD_LIMIT: usize = 1_048_576;
 
 const GREATEST_OFFSET: u128 = i64::MAX as u128;
 

@@ -3,7 +3,7 @@ use Rattle.std.specs.Prelude.{◌≡◌, ◌↔◌, ℕ, List, Option, Bool, tru
 use Rattle.std.specs.List.{after_last}
 use Rattle.devices.specs.Writing.{WritesText}
 use Rattle.warc_core.specs.declared.next.TheConstants.{HEAD_LIMIT}
-use Rattle.capture_core.specs.Indexed.{usual_types}
+use Rattle.capture_core.specs.Types.{includes}
 use Rattle.capture_core.specs.CaptureAnswer.{usual_limits}
 use Rattle.index_core.specs.declared.fault.IndexFault.{IndexFault}
 use Rattle.index_core.specs.declared.fault.IndexFault.TheVariants as faults
@@ -27,7 +27,7 @@ pub record AddsArchive (name : List ℕ) (archive : Option (List ℕ)) (old new 
   pub outcome_is : outcome ≡ outcome_of answer
   pub bad : (answer ≡ Err faults.BadName) ↔ ¬ (IsName (file_name name))
   pub duplicate : (answer ≡ Err faults.DuplicateName) ↔ (IsName (file_name name) × (is_among old.names (file_name name) ≡ true))
-  pub adds : Adds usual_types usual_limits HEAD_LIMIT (file_name name) archive old new answer
+  pub adds : Adds (includes old.types) usual_limits HEAD_LIMIT (file_name name) archive old new answer
 
 -- the outcome of the adding, unless the writing was refused
 abbrev pub unless_refused : {A : Type 0} → Outcome → Result A IndexFault → Outcome

@@ -8,18 +8,20 @@ use crate::archives::{file_name, open, with_each};
 use crate::faults::said_outcome;
 use crate::outcome::Outcome;
 use crate::status::ends_command;
+use capture_core::Types;
 use index_core::Indexer;
 use std::rt::Runtime;
 use warc_core::{Input, Output};
 
-/// Writes one index of the archives, of those that can't be read to their end up to the fault. Where memory failed before,
-/// nothing is written.
+/// Writes one index of the archives' records of these types, of archives that can't be read to their end up to the fault. Where
+/// memory failed before, nothing is written.
 pub fn index_all<R: Runtime + AllocGlobal, O: Output>(
     rt: &R,
+    types: Types,
     names: &[String],
     out: &mut O,
 ) -> Outcome {
-    let mut indexer = Indexer::new(rt.alloc());
+    let mut indexer = Indexer::new(rt.alloc(), types);
     let added = with_each(
         names,
         |name| add_opened(rt, &mut indexer, name, open(rt, name)),

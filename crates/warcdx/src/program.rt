@@ -95,7 +95,7 @@ pub fn perform<R: Runtime + AllocGlobal, O: Output>(rt: &R, task: &Task, out: &m
     match task {
         Task::List { names } => report_on(rt, names, ArchiveReport::Listing, out),
         Task::Verify { names } => report_on(rt, names, ArchiveReport::Verdicts, out),
-        Task::Index { names } => index_all(rt, names, out),
+        Task::Index { types, names } => index_all(rt, *types, names, out),
         Task::Merge { names } => merge_all(rt, names, out),
         Task::Check { names } => check_all(rt, names, out),
         Task::Query { query, names } => answer_query(rt, query, names, out),
@@ -107,9 +107,10 @@ pub fn perform<R: Runtime + AllocGlobal, O: Output>(rt: &R, task: &Task, out: &m
         Task::Serve { names } => serve_all(rt, names, &mut FromRead::new(rt.reader()), out),
         Task::Get { offset, name } => fetch(rt, *offset, name, out),
         Task::Scan {
+            types,
             sizes,
             query,
             names,
-        } => scan_all(rt, sizes, query, names, out),
+        } => scan_all(rt, *types, sizes, query, names, out),
     }
 }

@@ -1,5 +1,6 @@
 //! Queries over archives.
 ghost use Rattle.std.specs.Prelude.{◌≡◌, ◌∷◌, ◌++◌, [], IfOk, map, string_bytes};
+ghost use Rattle.capture_core.specs.Types.{includes};
 ghost use Rattle.warcdx.specs.Indexing.{file_name};
 ghost use Rattle.warcdx.specs.Scanning.{ScansArchives, archive_names, scan_outcome};
 
@@ -7,23 +8,25 @@ use crate::archives::{Archive, file_name, open};
 use crate::faults::say_scan_fault;
 use crate::outcome::Outcome;
 use crate::queries::read_query;
+use capture_core::Types;
 use index_core::IndexFault;
 use scan_core::{Named, ScanFault, scan};
 use std::alloc::{AllocError, Global};
 use std::rt::Runtime;
 use warc_core::{FromRead, Input, Output};
 
-/// Writes the pages of the query text over the captures of these archives, each of its size, the last of which is repeated.
-/// What is at fault is reported on standard error.
+/// Writes the pages of the query text over the captures of these archives' records of these types. Each page has its size, and
+/// the last size is repeated. What is at fault is reported on standard error.
 pub fn scan_all<R: Runtime + AllocGlobal, O: Output>(
     rt: &R,
+    types: Types,
     sizes: &[u64],
     query: &str,
     names: &[String],
     out: &mut O,
 ) -> Outcome {
     match archives_to_scan(rt, query, names) {
-        Ok(mut archives) => scan_opened(rt, sizes, query, names, &mut archives, out),
+        Ok(mut archives) => scan_opened(rt, types, sizes, query, names, &mut archives, out),
         Err(outcome) => outcome,
     }
 }
@@ -73,15 +76,16 @@ fn push_named<I: Drop>(
 /// Writes the pages over archives that were opened by these words.
 fn scan_opened<R: Runtime + AllocGlobal, I: Input, O: Output>(
     rt: &R,
+    types: Types,
     sizes: &[u64],
     query: &str,
     names: &[String],
     archives: &mut [Named<I>],
     out: &mut O,
 ) -> Outcome
-    ensures { ScansArchives (archive_names archives.old) (map (λ a. I.remaining a.input) archives.old) sizes.now query.now (O.written out.old) (O.written out.new) result }
+    ensures { ScansArchives (includes types) (archive_names archives.old) (map (λ a. I.remaining a.input) archives.old) sizes.now query.now (O.written out.old) (O.written out.new) result }
 {
-    let answer = scan(rt.alloc(), archives, sizes, query, out);
+    let answer = scan(rt.alloc(), archives, types, sizes, query, out);
     if let Err(fault) = answer {
         say_scan_fault(rt, names, fault);
     }

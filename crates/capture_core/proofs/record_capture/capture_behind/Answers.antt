@@ -2,7 +2,6 @@ use Rattle.std.proofs.Common.{◌≡◌, ◌∙◌, ◌-◌, ◌++◌, List, ℕ
 use Rattle.std.proofs.lemmas.Result.{err_from_is_err_and}
 use Rattle.sha1.specs.Sha1.{sha1}
 use Rattle.warc_core.specs.HeadView.{record_length}
-use Rattle.capture_core.specs.Indexed.{usual_types}
 use Rattle.capture_core.specs.ResponseView.{response_view}
 use Rattle.capture_core.specs.CaptureAnswer.{usual_limits}
 use Rattle.warc_core.proofs.OpenLemmas.{CountsRead-as}
@@ -21,8 +20,8 @@ returns-in-Some-clause-reads g c = c.capture_closed.ensures.reads _ (record_leng
 pub returns-in-Some-clause-capture : goal.returns-in-Some-clause-capture
 returns-in-Some-clause-capture g c =
     let p = c.part-parted.ensures.parts in
-    some-always _ _ (λ bytes. capture-known usual_types usual_limits c.args.indexed.head.now c.args.indexed.name.now c.args.indexed.url.now c.args.front.now bytes c.in-Some.digest.now (option_map response_view c.part-parted.result.response) p.0
-    c.requires.url c.requires.front p.1 p.2 (digest-settled c.args.indexed.head.now c.in-Some.digest.now _ c.in-Some.ensures.value) c.capture_closed.result c.capture_closed.ensures.answers)
+    some-always _ _ (λ bytes. capture-known usual_limits c.args.indexed.head.now c.args.indexed.name.now c.args.indexed.url.now c.args.front.now bytes c.in-Some.digest.now (option_map response_view c.part-parted.result.response) p.0
+    c.requires.front p.1 p.2 (digest-settled c.args.indexed.head.now c.in-Some.digest.now _ c.in-Some.ensures.value) c.capture_closed.result c.capture_closed.ensures.answers)
 
 pub returns-in_ok-digest_rest-in-None-clause-reads : goal.returns-in_ok-digest_rest-in-None-clause-reads
 returns-in_ok-digest_rest-in-None-clause-reads g c =
@@ -34,8 +33,8 @@ returns-in_ok-digest_rest-in-None-clause-capture g c =
     let d = c.in_ok-digest_rest-in-None.ensures _ (record_length c.args.indexed.head.now) c.requires.stands.phase_is in
     let p = c.part-parted.ensures.parts in
     let left = c.args.indexed.head.now.parts.length - length c.args.front.now in
-    some-then _ (λ bytes. c.in_ok-digest_rest-in-None.field-0 ≡ sha1 (c.part-parted.result.payload.now ++ take left bytes)) _ (λ bytes hashed. capture-known usual_types usual_limits c.args.indexed.head.now c.args.indexed.name.now c.args.indexed.url.now c.args.front.now bytes c.base32-digest.result (option_map response_view c.part-parted.result.response) p.0
-    c.requires.url c.requires.front p.1 p.2 (c.base32-digest.ensures ∙ digest-made c.args.indexed.head.now c.in_ok-digest_rest-in-None.field-0 _ c.in-None.ensures.value (rw p.3 at hashed)) c.capture_closed-in-None.result c.capture_closed-in-None.ensures.answers)
+    some-then _ (λ bytes. c.in_ok-digest_rest-in-None.field-0 ≡ sha1 (c.part-parted.result.payload.now ++ take left bytes)) _ (λ bytes hashed. capture-known usual_limits c.args.indexed.head.now c.args.indexed.name.now c.args.indexed.url.now c.args.front.now bytes c.base32-digest.result (option_map response_view c.part-parted.result.response) p.0
+    c.requires.front p.1 p.2 (c.base32-digest.ensures ∙ digest-made c.args.indexed.head.now c.in_ok-digest_rest-in-None.field-0 _ c.in-None.ensures.value (rw p.3 at hashed)) c.capture_closed-in-None.result c.capture_closed-in-None.ensures.answers)
     (digest-known left c.part-parted.result.payload.now c.in_ok-digest_rest-in-None.field-0 _ _ d.bytes)
 
 pub returns-in_err-digest_rest-in-None-clause-reads : goal.returns-in_err-digest_rest-in-None-clause-reads

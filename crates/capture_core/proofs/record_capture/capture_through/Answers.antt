@@ -1,8 +1,7 @@
-use Rattle.std.proofs.Common.{◌∙◌, ◌≤◌, length, sym, subst}
+use Rattle.std.proofs.Common.{◌∙◌, ◌≤◌, Some, length, sym, subst}
 use Rattle.std.proofs.lemmas.Result.{err_from_is_err_and}
 use Rattle.std.proofs.Math.Nat.{min-le_left}
 use Rattle.warc_core.specs.HeadView.{record_length}
-use Rattle.capture_core.specs.Indexed.{usual_types}
 use Rattle.capture_core.specs.CaptureAnswer.{usual_limits}
 use Rattle.warc_core.proofs.OpenLemmas.{behind-front, found-of-record}
 use Rattle.warc_core.proofs.CauseLemmas.{stops-record}
@@ -22,7 +21,7 @@ returns-clause-reads g c =
 pub returns-clause-capture : goal.returns-clause-capture
 returns-clause-capture g c =
     let f = c.in_ok-block_exact.ensures _ (record_length c.args.indexed.head.now) c.requires.unread.phase_is in
-    capture-behind usual_types usual_limits c.args.indexed.head.now c.args.indexed.name.now c.block_exact.new.piece _ _ c.capture_behind.result f.given c.capture_behind.ensures.capture
+    capture-behind (Some c.args.indexed.url.now) usual_limits c.args.indexed.head.now c.args.indexed.name.now c.block_exact.new.piece _ _ c.capture_behind.result f.given c.capture_behind.ensures.capture
 
 pub returns-in_err-block_exact-clause-reads : goal.returns-in_err-block_exact-clause-reads
 returns-in_err-block_exact-clause-reads g c =

@@ -2,7 +2,7 @@ use Rattle.std.proofs.Common.{◌∙◌, ◌++◌, List, length, length-append, 
 use Rattle.warc_core.specs.declared.next.TheConstants.{HEAD_LIMIT}
 use Rattle.cdxj_core.specs.declared.limit.TheConstants.{LINE_LIMIT}
 use Rattle.cdxj_core.specs.Entries.{EntryValue}
-use Rattle.capture_core.specs.Indexed.{usual_types}
+use Rattle.capture_core.specs.Types.{includes}
 use Rattle.capture_core.specs.CaptureAnswer.{usual_limits}
 use Rattle.index_core.specs.Indexing.{AreSound}
 use Rattle.index_core.specs.Captures.{StandBefore}
@@ -14,7 +14,7 @@ pub returns-in-Ok-None-clause-gains : goal.returns-in-Ok-None-clause-gains
 returns-in-Ok-None-clause-gains g c =
     let e = rw c.in-Ok-None.field-0-is at c.in-Ok-None.ensures in
     let s = c.loop-captures.invariant.gains in
-    (s.0, s.1, (omega (arith, c.len.ensures, c.loop-captures.invariant.held, ap length s.1, length-append c.args.captures.now.items s.0), AddedSoFar-end usual_types usual_limits HEAD_LIMIT c.args.name.now _ _ _ c.loop-captures.reader.offset s.0 s.2 e.takes))
+    (s.0, s.1, (omega (arith, c.len.ensures, c.loop-captures.invariant.held, ap length s.1, length-append c.args.captures.now.items s.0), AddedSoFar-end (includes c.args.types) usual_limits HEAD_LIMIT c.args.name.now _ _ _ c.loop-captures.reader.offset s.0 s.2 e.takes))
 
 pub loop-captures-preserved : goal.loop-captures-preserved
 loop-captures-preserved g c =
@@ -30,7 +30,7 @@ loop-captures-preserved g c =
       gains = (
         i.gains.0 ++ more,
         c.in-Ok.ensures.ok ∙ (ap (λ (xs : List EntryValue). xs ++ more) i.gains.1 ∙ append_assoc c.args.captures.now.items i.gains.0 more),
-        rw t.stands.offset_is (AddedSoFar-more usual_types usual_limits HEAD_LIMIT c.args.name.now _ _ _ o i.gains.0 c.in-Ok-Some.head c.in-Ok-Some.captured _ i.gains.2 t),
+        rw t.stands.offset_is (AddedSoFar-more (includes c.args.types) usual_limits HEAD_LIMIT c.args.name.now _ _ _ o i.gains.0 c.in-Ok-Some.head c.in-Ok-Some.captured _ i.gains.2 t),
       );
       before = subst (StandBefore c.args.name.now c.next_capture.new.reader.offset) (sym c.in-Ok.ensures.ok)
           (before_step c.args.name.now LINE_LIMIT o c.next_capture.new.reader.offset c.in-Ok-Some.head _ c.in-Ok-Some.captured (rw t.stands.offset_is (omega arith)) t.begins.start_is t.entry i.before);

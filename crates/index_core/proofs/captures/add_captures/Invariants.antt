@@ -4,7 +4,7 @@ use Rattle.warc_core.specs.declared.next.TheConstants.{HEAD_LIMIT}
 use Rattle.warc_core.specs.declared.phase.Phase.TheVariants.{Between}
 use Rattle.cdxj_core.specs.declared.limit.TheConstants.{LINE_LIMIT}
 use Rattle.cdxj_core.specs.Entries.{EntryValue}
-use Rattle.capture_core.specs.Indexed.{usual_types}
+use Rattle.capture_core.specs.Types.{includes}
 use Rattle.capture_core.specs.CaptureAnswer.{usual_limits}
 use Rattle.index_core.specs.Indexing.{AreSound, is_among}
 use Rattle.index_core.specs.Captures.{StandBefore}
@@ -16,7 +16,7 @@ invariant-loop-captures g l = record {
   held : l.held ≡ length l.fn.captures.items;
   phase : l.reader.phase ≡ Between;
   within : l.reader.offset ≤ 2 ^ 63 - 1;
-  gains : (gained : List EntryValue) × (l.captures.items ≡ l.fn.captures.items ++ gained) × AddedSoFar usual_types usual_limits HEAD_LIMIT l.name (g.I.Input.remaining l.fn.input) (prepend_known l.reader.held (g.I.Input.remaining l.input)) l.reader.offset gained;
+  gains : (gained : List EntryValue) × (l.captures.items ≡ l.fn.captures.items ++ gained) × AddedSoFar (includes l.types) usual_limits HEAD_LIMIT l.name (g.I.Input.remaining l.fn.input) (prepend_known l.reader.held (g.I.Input.remaining l.input)) l.reader.offset gained;
   before : StandBefore l.name l.reader.offset l.captures.items;
   sound : (names : List (List ℕ)) → is_among names l.name ≡ true → AreSound LINE_LIMIT names l.fn.captures.items → AreSound LINE_LIMIT names l.captures.items;
   reads : g.I.Input.failures l.input ≡ g.I.Input.failures l.fn.input;

@@ -6,7 +6,7 @@ use Rattle.warc_core.specs.HeadView.{record_length}
 use Rattle.warc_core.specs.ReaderView.{StandsAt}
 use Rattle.warc_core.specs.Walk.{record_at}
 use Rattle.warc_core.proofs.WalkLemmas.{record-stopped, record-end, record-whole}
-use Rattle.capture_core.specs.Indexed.{usual_types}
+use Rattle.capture_core.specs.Types.{includes}
 use Rattle.capture_core.specs.CaptureAnswer.{usual_limits}
 use Rattle.index_core.proofs.AddingLemmas.{fault_at, found_there, capture_there, refused_there}
 use Rattle.index_core.proofs.captures.next_capture.Goals as goal
@@ -28,7 +28,7 @@ returns-in_err-captured-in-Some-clause-takes g c =
     let n = rw c.in-Some.is at (c.in_ok-next.ensures.between c.requires.between) in
     let k = c.in_err-captured-in-Some.ensures in
     let f = c.in_err-captured-in-Some.field-0.0 in
-    rw (p.1, p.2) (fault_at c.in-Some.head.start f k.reads.fault ∙ n.begins.start_is, refused_there usual_types usual_limits HEAD_LIMIT c.args.name.now c.args.reader.now.offset c.in-Some.head f _ _ _ n.bytes k.reads.bytes k.capture)
+    rw (p.1, p.2) (fault_at c.in-Some.head.start f k.reads.fault ∙ n.begins.start_is, refused_there (includes c.args.types) usual_limits HEAD_LIMIT c.args.name.now c.args.reader.now.offset c.in-Some.head f _ _ _ n.bytes k.reads.bytes k.capture)
 
 pub returns-in_ok-captured-in-Some-clause-takes : goal.returns-in_ok-captured-in-Some-clause-takes
 returns-in_ok-captured-in-Some-clause-takes g c =
@@ -38,6 +38,6 @@ returns-in_ok-captured-in-Some-clause-takes g c =
       bytes = record-whole HEAD_LIMIT c.args.reader.now.offset _ _ _ c.in-Some.head n.bytes k.reads.bytes;
       stands = subst (λ s. StandsAt c.capture.new.reader (s + record_length c.in-Some.head) Between) n.begins.start_is k.reads.state;
       begins = n.begins;
-      capture = capture_there usual_types usual_limits HEAD_LIMIT c.args.name.now c.args.reader.now.offset c.in-Some.head c.in_ok-captured-in-Some.captured _ _ _ n.bytes k.reads.bytes k.capture;
+      capture = capture_there (includes c.args.types) usual_limits HEAD_LIMIT c.args.name.now c.args.reader.now.offset c.in-Some.head c.in_ok-captured-in-Some.captured _ _ _ n.bytes k.reads.bytes k.capture;
       entry = k.entry;
     }

@@ -1,4 +1,5 @@
-use Rattle.std.proofs.Common.{◌<◌, ◌+◌, ◌∷◌, ◌++◌, [], length, map, refl, sym, ap, ◌∙◌, subst, arith, get_or, length-append, string_bytes}
+use Rattle.std.proofs.Common.{◌<◌, ◌+◌, ◌∷◌, ◌++◌, [], length, map, refl, sym, ap, ap₂, ◌∙◌, subst, arith, get_or, length-append, string_bytes}
+use Rattle.capture_core.specs.Types.{includes}
 use Rattle.cdxj_core.specs.declared.limit.TheConstants.{LINE_LIMIT}
 use Rattle.cdxj_core.specs.Indexes.{IsIndex}
 use Rattle.devices.specs.Gathered.{gathered}
@@ -31,9 +32,9 @@ returns-in-Err-clause-names g c =
 pub returns-in-Err-clause-refused : goal.returns-in-Err-clause-refused
 returns-in-Err-clause-refused g c =
     let inv = c.loop-i.invariant in
-    first_fault (λ n. string_bytes n.name) (λ n. g.I.Input.remaining n.input) c.args.inputs.now c.loop-i.i c.index-inputs-i.result (get_or c.loop-i.inputs c.loop-i.i c.index-inputs-i.result) (omega arith)
+    first_fault (includes c.args.types) (λ n. string_bytes n.name) (λ n. g.I.Input.remaining n.input) c.args.inputs.now c.loop-i.i c.index-inputs-i.result (get_or c.loop-i.inputs c.loop-i.i c.index-inputs-i.result) (omega arith)
     (left_here c.args.inputs.now c.loop-i.inputs c.loop-i.i c.index-inputs-i.result inv.rest)
-    c.loop-i.indexer.names inv.indexed.0 (ap (λ (h : Held). h.names) inv.held) inv.indexed.1 c.in-Err.fault c.in-Err.ensures.refused
+    c.loop-i.indexer.names inv.indexed.0 (ap (λ (h : Held). h.names) inv.held) inv.indexed.1 c.in-Err.fault (rw (ap (λ (h : Held). h.types) inv.held) at c.in-Err.ensures.refused)
 
 pub returns-in-Err-clause-unread : goal.returns-in-Err-clause-unread
 returns-in-Err-clause-unread g c =
@@ -55,7 +56,7 @@ returns-in-Err-push-clause-names g c =
 pub returns-in-Err-push-clause-refused : goal.returns-in-Err-push-clause-refused
 returns-in-Err-push-clause-refused g c =
     let inv = c.loop-i.invariant in
-    first_fault (λ n. string_bytes n.name) (λ n. g.I.Input.remaining n.input) c.args.inputs.now c.loop-i.i c.index-inputs-i.result (get_or c.loop-i.inputs c.loop-i.i c.index-inputs-i.result) (omega arith)
+    first_fault (includes c.args.types) (λ n. string_bytes n.name) (λ n. g.I.Input.remaining n.input) c.args.inputs.now c.loop-i.i c.index-inputs-i.result (get_or c.loop-i.inputs c.loop-i.i c.index-inputs-i.result) (omega arith)
     (left_here c.args.inputs.now c.loop-i.inputs c.loop-i.i c.index-inputs-i.result inv.rest)
     c.loop-i.indexer.names inv.indexed.0 (ap (λ (h : Held). h.names) inv.held) inv.indexed.1 Memory c.in-Ok.ensures.index.0
 
@@ -80,18 +81,19 @@ loop-i-preserved g c =
     let inside0 : i < length xs0 = omega arith in
     let here = left_here xs0 xs i d inv.rest in
     let names = ap (λ (h : Held). h.names) inv.held in
-    let found = c.in-Ok.ensures.index in
+    let types = ap (λ (h : Held). h.types) inv.held in
+    let found = rw types at c.in-Ok.ensures.index in
     let pushed = c.in-Ok-push.ensures.items in
     record {
       names = map_set_same (λ n. string_bytes n.name) xs i d y inside (ap string_bytes c.index_archive.ensures.name) ∙ inv.names;
       rest = left_after xs0 xs i y inv.rest;
       failures = map_set_same (λ n. g.I.Input.failures n.input) xs i d y inside c.in-Ok.ensures.failures ∙ inv.failures;
-      held = c.in-Ok.ensures.held ∙ ap (λ ns. record { names = ns; captures = [] })
-          (names_after (λ n. string_bytes n.name) (λ n. g.I.Input.remaining n.input) xs0 i d (get_or xs i d) inside0 here c.loop-i.indexer.names names);
+      held = c.in-Ok.ensures.held ∙ ap₂ (λ t ns. record { types = t; names = ns; captures = [] }) types
+          (names_after (includes c.args.types) (λ n. string_bytes n.name) (λ n. g.I.Input.remaining n.input) xs0 i d (get_or xs i d) inside0 here c.loop-i.indexer.names names);
       number = ap length pushed ∙ length-append c.loop-i.indexes.items (c.in-Ok.index ∷ []) ∙ ap (λ n. n + 1) inv.number;
       indexed = (
         inv.indexed.0 ++ found.1 ∷ [],
-        one_more_indexed (λ n. string_bytes n.name) (λ n. g.I.Input.remaining n.input) xs0 i d (get_or xs i d) inside0 here
+        one_more_indexed (includes c.args.types) (λ n. string_bytes n.name) (λ n. g.I.Input.remaining n.input) xs0 i d (get_or xs i d) inside0 here
             c.loop-i.indexer.names inv.indexed.0 names inv.indexed.1 found.1 found.0 found.2 found.3,
         subst (λ is. AllTwo (IsIndex LINE_LIMIT) (map gathered is) (map index_members (inv.indexed.0 ++ found.1 ∷ []))) (sym pushed)
             (indexes_push LINE_LIMIT gathered c.loop-i.indexes.items inv.indexed.0 c.in-Ok.index found.1 inv.indexed.2 found.4),

@@ -1,4 +1,5 @@
 use Rattle.std.proofs.Common.{◌≡◌, List, [], length, map, take, drop, string_bytes}
+use Rattle.capture_core.specs.Types.{includes}
 use Rattle.cdxj_core.specs.declared.limit.TheConstants.{LINE_LIMIT}
 use Rattle.cdxj_core.specs.Entries.{EntryValue}
 use Rattle.cdxj_core.specs.Indexes.{IsIndex}
@@ -12,9 +13,9 @@ invariant-loop-i g l = record {
   names : map (λ n. string_bytes n.name) l.inputs ≡ map (λ n. string_bytes n.name) l.fn.inputs;
   rest : drop l.i l.inputs ≡ drop l.i l.fn.inputs;
   failures : map (λ n. g.I.Input.failures n.input) l.inputs ≡ map (λ n. g.I.Input.failures n.input) l.fn.inputs;
-  held : l.indexer ≡ record { names = take l.i (map (λ n. string_bytes n.name) l.fn.inputs); captures = [] };
+  held : l.indexer ≡ record { types = l.types; names = take l.i (map (λ n. string_bytes n.name) l.fn.inputs); captures = [] };
   number : length l.indexes.items ≡ l.i;
   indexed : (archives : List (List EntryValue))
-      × AreIndexed (take l.i (map (λ n. string_bytes n.name) l.fn.inputs)) (take l.i (map (λ n. g.I.Input.remaining n.input) l.fn.inputs)) archives
+      × AreIndexed (includes l.types) (take l.i (map (λ n. string_bytes n.name) l.fn.inputs)) (take l.i (map (λ n. g.I.Input.remaining n.input) l.fn.inputs)) archives
       × AllTwo (IsIndex LINE_LIMIT) (map gathered l.indexes.items) (map index_members archives);
 }

@@ -13,7 +13,7 @@ invariant-loop-front g l = record {
   room : 0 < length l.piece;
   as_long : length l.piece ≡ length l.fn.piece;
   within : l.offset + length l.front.items ≤ l.size;
-  short : length l.front.items ≤ 1048576;
+  short : length l.front.items ≤ 16777216;
   none : pair_of l.front.items ≡ None;
   told : (t : List ℕ) → g.S.Source.text l.fn.source ≡ Some t → (length t ≡ l.size) × BeginsWith t l.offset l.front.items;
 }

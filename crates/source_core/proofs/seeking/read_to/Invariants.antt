@@ -1,0 +1,20 @@
+use Rattle.std.proofs.Common.{◌≡◌, ◌+◌, ◌-◌, ◌<◌, ◌≤◌, ℕ, List, length, Some}
+use Rattle.source_core.specs.LineParts.{BeginsWith}
+use Rattle.source_core.proofs.seeking.read_to.Given as goal
+
+abbrev pub invariant-loop-front : goal.invariant-loop-front
+invariant-loop-front g l = record {
+  text : g.S.Source.text l.source ≡ g.S.Source.text l.fn.source;
+  extent : g.S.Source.extent l.source ≡ g.S.Source.extent l.fn.source;
+  failures : g.S.Source.failures l.source ≡ g.S.Source.failures l.fn.source;
+  gave : g.S.Source.gave l.source + length l.fn.front.items ≤ g.S.Source.gave l.fn.source + length l.front.items;
+  size : l.size ≡ g.S.Source.extent l.fn.source;
+  room : 0 < length l.piece;
+  as_long : length l.piece ≡ length l.fn.piece;
+  within : l.offset + length l.front.items ≤ l.size;
+  short : length l.front.items ≤ l.wanted;
+  told : (t : List ℕ) → g.S.Source.text l.fn.source ≡ Some t → BeginsWith t l.offset l.fn.front.items → BeginsWith t l.offset l.front.items;
+}
+
+abbrev pub decreases-loop-front : goal.decreases-loop-front
+decreases-loop-front g l = l.size - (l.offset + length l.front.items)
