@@ -1,21 +1,9 @@
 //! Calls on indexes whose sources, input or output fail at each of their calls in turn, and go on behind it.
+use crate::small_indexes::{OFFSET_5, OFFSET_10, OFFSET_20, RISEN};
 use devices::{Fuse, Gather, Slice};
 use query_core::{AnswerFault, Query, SliceSource, answer, check, merge, pages, serve};
 use std::alloc::Global;
 use std::test::Fail;
-
-const OFFSET_10: &[u8] =
-    b"com,example)/ 20160101000000 {\"url\": \"http://x/\", \"mime\": \"text/html\", \"status\": \"200\", \"digest\": \"-\", \"length\": \"1\", \"offset\": \"10\", \"filename\": \"b.warc\"}\n";
-
-const OFFSET_20: &[u8] =
-    b"com,example)/ 20160101000000 {\"url\": \"http://x/\", \"mime\": \"text/html\", \"status\": \"200\", \"digest\": \"-\", \"length\": \"1\", \"offset\": \"20\", \"filename\": \"a.warc\"}\n";
-
-const OFFSET_5: &[u8] =
-    b"com,example)/ 20160101000000 {\"url\": \"http://x/\", \"mime\": \"text/html\", \"status\": \"200\", \"digest\": \"-\", \"length\": \"1\", \"offset\": \"5\", \"filename\": \"a.warc\"}\n";
-
-/// The lines of the three indexes, in the order of places.
-const RISEN: &[u8] =
-    b"com,example)/ 20160101000000 {\"url\": \"http://x/\", \"mime\": \"text/html\", \"status\": \"200\", \"digest\": \"-\", \"length\": \"1\", \"offset\": \"5\", \"filename\": \"a.warc\"}\ncom,example)/ 20160101000000 {\"url\": \"http://x/\", \"mime\": \"text/html\", \"status\": \"200\", \"digest\": \"-\", \"length\": \"1\", \"offset\": \"20\", \"filename\": \"a.warc\"}\ncom,example)/ 20160101000000 {\"url\": \"http://x/\", \"mime\": \"text/html\", \"status\": \"200\", \"digest\": \"-\", \"length\": \"1\", \"offset\": \"10\", \"filename\": \"b.warc\"}\n";
 
 /// Three queries, the last line without its line feed.
 const QUERIES: &[u8] = b"url=example.com&fl=offset\nlimit=0\nkey=x";
@@ -107,57 +95,10 @@ fn sources(number: usize, first: u64, second: u64) -> [Failing; 3] {
     ]
 }
 
-fn answered(
-    alloc: Global,
-    text: &str,
-    sources: &mut [Failing],
-    out: &mut Fuse<Gather>,
-) -> Result<(), AnswerFault> {
-    let Ok(query) = Query::read(alloc, text) else {
-        return Err(AnswerFault::Memory);
-    };
-    match answer(alloc, sources, &query, out) {
-        Ok(_report) => Ok(()),
-        Err(fault) => Err(fault),
-    }
-}
-
-fn paged(
-    alloc: Global,
-    sizes: &[u64],
-    text: &str,
-    sources: &mut [Failing],
-    out: &mut Fuse<Gather>,
-) -> Result<(), AnswerFault> {
-    let Ok(query) = Query::read(alloc, text) else {
-        return Err(AnswerFault::Memory);
-    };
-    match pages(alloc, sources, &query, sizes, out) {
-        Ok(_number) => Ok(()),
-        Err(fault) => Err(fault),
-    }
-}
-
-fn merged(
-    alloc: Global,
-    sources: &mut [Failing],
-    out: &mut Fuse<Gather>,
-) -> Result<(), AnswerFault> {
-    match merge(alloc, sources, out) {
-        Ok(_number) => Ok(()),
-        Err(fault) => Err(fault),
-    }
-}
-
-fn served(
-    alloc: Global,
-    lines: &[u8],
-    sources: &mut [Failing],
-    out: &mut Fuse<Gather>,
-) -> Result<(), AnswerFault> {
-    match serve(alloc, sources, &mut Slice::new(lines), out) {
-        Ok(_number) => Ok(()),
-        Err(fault) => Err(fault),
+fn query_of(alloc: Global, text: &str) -> Result<Query, AnswerFault> {
+    match Query::read(alloc, text) {
+        Ok(query) => Ok(query),
+        Err(_refused) => Err(AnswerFault::Memory),
     }
 }
 
@@ -168,11 +109,20 @@ fn called(
     out: &mut Fuse<Gather>,
 ) -> Result<(), AnswerFault> {
     match call {
-        Call::Answer(text) => answered(alloc, text, sources, out),
-        Call::Pages(sizes, text) => paged(alloc, sizes, text, sources, out),
-        Call::Merge => merged(alloc, sources, out),
-        Call::Serve(lines) => served(alloc, lines, sources, out),
+        Call::Answer(text) => {
+            answer(alloc, sources, &query_of(alloc, text)?, out)?;
+        }
+        Call::Pages(sizes, text) => {
+            pages(alloc, sources, &query_of(alloc, text)?, sizes, out)?;
+        }
+        Call::Merge => {
+            merge(alloc, sources, out)?;
+        }
+        Call::Serve(lines) => {
+            serve(alloc, sources, &mut Slice::new(lines), out)?;
+        }
     }
+    Ok(())
 }
 
 /// What a call came to over an output that takes a byte a call and fails at this one: the fault, and whether the written bytes are the

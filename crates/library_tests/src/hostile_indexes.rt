@@ -1,5 +1,4 @@
 //! Indexes of any bytes: torn, overlong, falling and no text at all.
-use cdxj_core::LINE_LIMIT;
 use devices::{Gather, Slice};
 use query_core::{
     AnswerFault, FileSource, Query, SliceSource, Source, answer, check, merge, serve,
@@ -185,14 +184,15 @@ fn long_line(alloc: Global, length: usize, has_feed: bool) -> Result<Vec<u8>, Al
     Ok(line)
 }
 
-/// How many bytes lines have over the limit, whether a line feed is among them, and whether they are good.
+/// How many bytes lines have, whether a line feed is among them, and whether they are good.
 const LENGTHS: &[(usize, bool, bool)] = &[
-    (0, true, true),
-    (0, false, false),
-    (1, true, false),
-    (1, false, false),
-    (2_000_000, true, false),
-    (2_000_000, false, false),
+    (16_777_215, false, true),
+    (16_777_216, true, true),
+    (16_777_216, false, false),
+    (16_777_217, true, false),
+    (16_777_217, false, false),
+    (20_000_000, true, false),
+    (20_000_000, false, false),
 ];
 
 fn is_read_or_bad(
@@ -210,12 +210,11 @@ fn is_read_or_bad(
 }
 
 #[test]
-fn a_line_over_the_limit_is_bad(rt: HostRuntime) -> Result<(), Fail> {
-    for (over, has_feed, is_good) in LENGTHS {
-        let length = LINE_LIMIT.saturating_add(*over);
+fn a_line_has_at_most_16_777_216_bytes_with_its_line_feed(rt: HostRuntime) -> Result<(), Fail> {
+    for (length, has_feed, is_good) in LENGTHS {
         assert!(rt;
-            is_read_or_bad(rt.alloc(), length, *has_feed, *is_good)?,
-            "{over} over"
+            is_read_or_bad(rt.alloc(), *length, *has_feed, *is_good)?,
+            "{length}"
         );
     }
     Ok(())

@@ -32,6 +32,8 @@ mod page_parts;
 #[cfg(test)]
 mod query_texts;
 #[cfg(test)]
+mod scan_runs;
+#[cfg(test)]
 mod scans;
 #[cfg(test)]
 mod small_indexes;

@@ -1,4 +1,5 @@
 //! The merge of sources.
+use crate::small_indexes::{OFFSET_5, OFFSET_10, OFFSET_20, RISEN};
 use devices::{Fuse, Gather};
 use query_core::{AnswerFault, SliceSource, merge};
 use std::alloc::{AllocFailed, Global};
@@ -15,18 +16,6 @@ impl<T: Drop> From<AllocFailed<T>> for Refused {
         Refused::Memory
     }
 }
-
-const OFFSET_10: &[u8] =
-    b"com,example)/ 20160101000000 {\"url\": \"http://x/\", \"mime\": \"text/html\", \"status\": \"200\", \"digest\": \"-\", \"length\": \"1\", \"offset\": \"10\", \"filename\": \"b.warc\"}\n";
-
-const OFFSET_20: &[u8] =
-    b"com,example)/ 20160101000000 {\"url\": \"http://x/\", \"mime\": \"text/html\", \"status\": \"200\", \"digest\": \"-\", \"length\": \"1\", \"offset\": \"20\", \"filename\": \"a.warc\"}\n";
-
-const OFFSET_5: &[u8] =
-    b"com,example)/ 20160101000000 {\"url\": \"http://x/\", \"mime\": \"text/html\", \"status\": \"200\", \"digest\": \"-\", \"length\": \"1\", \"offset\": \"5\", \"filename\": \"a.warc\"}\n";
-
-const RISEN: &[u8] =
-    b"com,example)/ 20160101000000 {\"url\": \"http://x/\", \"mime\": \"text/html\", \"status\": \"200\", \"digest\": \"-\", \"length\": \"1\", \"offset\": \"5\", \"filename\": \"a.warc\"}\ncom,example)/ 20160101000000 {\"url\": \"http://x/\", \"mime\": \"text/html\", \"status\": \"200\", \"digest\": \"-\", \"length\": \"1\", \"offset\": \"20\", \"filename\": \"a.warc\"}\ncom,example)/ 20160101000000 {\"url\": \"http://x/\", \"mime\": \"text/html\", \"status\": \"200\", \"digest\": \"-\", \"length\": \"1\", \"offset\": \"10\", \"filename\": \"b.warc\"}\n";
 
 const LETTERS: &[u8] =
     b"a)/ 20160101000000 {\"url\": \"http://x/\", \"mime\": \"text/html\", \"status\": \"200\", \"digest\": \"-\", \"length\": \"1\", \"offset\": \"0\", \"filename\": \"a.warc\"}\nb)/ 20160101000000 {\"url\": \"http://x/\", \"mime\": \"text/html\", \"status\": \"200\", \"digest\": \"-\", \"length\": \"1\", \"offset\": \"1\", \"filename\": \"a.warc\"}\nc)/ 20160101000000 {\"url\": \"http://x/\", \"mime\": \"text/html\", \"status\": \"200\", \"digest\": \"-\", \"length\": \"1\", \"offset\": \"2\", \"filename\": \"a.warc\"}";

@@ -1,10 +1,11 @@
 //! Scans of archives.
-use capture_core::CaptureFault;
+use crate::scan_runs::{Archive, Case, Devices, Refused, SOUND, scanned, with_memory};
+use capture_core::{CaptureFault, Types};
 use devices::{Fuse, Gather, Slice};
 use index_core::IndexFault;
 use query_core::{AnswerFault, QueryFault};
 use scan_core::{Named, ScanFault, scan};
-use std::alloc::{AllocError, Global};
+use std::alloc::Global;
 use std::test::Fail;
 use warc_core::{Cause, Fault};
 
@@ -16,24 +17,12 @@ const RESPONSE: &[u8] =
 const RESOURCE: &[u8] =
     b"WARC/1.1\r\nWARC-Type: resource\r\nWARC-Record-ID: <urn:x:3>\r\nWARC-Date: 2016-09-19T17:20:24Z\r\nWARC-Target-URI: http://example.com/r\r\nContent-Type: text/plain\r\nContent-Length: 3\r\n\r\nabc\r\n\r\n";
 
-/// The name of an archive, and its pieces.
-type Archive = (&'static str, &'static [&'static [u8]]);
-
 const ARCHIVES: &[Archive] = &[("a.warc", &[RESPONSE]), ("b.warc", &[RESPONSE, RESOURCE])];
 
 const QUERY: &str = "url=example.com&matchType=prefix&fl=urlkey,filename,offset";
 
 const PAGES: &[u8] =
     b"com,example)/ a.warc 0\ncom,example)/ b.warc 0\n\ncom%2Cexample%29%2F+20160919172024+b.warc+0\ncom,example)/r b.warc 264\n";
-
-/// Archives, the sizes of pages and a query; what a scan answers, and what it writes.
-struct Case {
-    archives: &'static [Archive],
-    sizes: &'static [u64],
-    query: &'static str,
-    answer: Result<u64, ScanFault>,
-    written: &'static [u8],
-}
 
 const NAME_OF_256_BYTES: &str =
     "aaaaaaaaaaaaaaaaaaaaaaaaaaaaaaaaaaaaaaaaaaaaaaaaaaaaaaaaaaaaaaaaaaaaaaaaaaaaaaaaaaaaaaaaaaaaaaaaaaaaaaaaaaaaaaaaaaaaaaaaaaaaaaaaaaaaaaaaaaaaaaaaaaaaaaaaaaaaaaaaaaaaaaaaaaaaaaaaaaaaaaaaaaaaaaaaaaaaaaaaaaaaaaaaaaaaaaaaaaaaaaaaaaaaaaaaaaaaaaaaaaaaaaaaaaaaaaaa";
@@ -159,148 +148,61 @@ const CASES: &[Case] = &[
     },
 ];
 
-/// The bytes of archives.
-fn texts(alloc: Global, archives: &[Archive]) -> Result<Vec<Vec<u8>>, AllocError> {
-    let mut texts = Vec::new(alloc);
-    for (_name, pieces) in archives {
-        let mut text = Vec::new(alloc);
-        for piece in *pieces {
-            text.extend_from_slice(piece)?;
-        }
-        texts.push(text)?;
-    }
-    Ok(texts)
-}
-
-/// How many bytes each call of an archive's input moves, and of the output; the call of an archive, and of the output, that fails; 0 is none.
-#[derive(Clone, Copy)]
-struct Devices {
-    read_at_once: usize,
-    archive: usize,
-    failing_read: u64,
-    written_at_once: usize,
-    failing_write: u64,
-}
-
-/// No call fails.
-const SOUND: Devices = Devices {
-    read_at_once: 100,
-    archive: 0,
-    failing_read: 0,
-    written_at_once: 8_192,
-    failing_write: 0,
-};
-
-/// Archives by name.
-fn inputs<'a>(
-    alloc: Global,
-    archives: &[Archive],
-    texts: &'a [Vec<u8>],
-    devices: Devices,
-) -> Result<Vec<Named<Fuse<Slice<'a>>>>, AllocError> {
-    let mut inputs = Vec::new(alloc);
-    for (i, ((name, _pieces), text)) in archives.iter().zip(texts).enumerate() {
-        let at = if i == devices.archive {
-            devices.failing_read
-        } else {
-            0
-        };
-        inputs.push(Named {
-            name: String::from_str(alloc, name)?,
-            input: Fuse::new(Slice::new(text.as_slice()), devices.read_at_once, at),
-        })?;
-    }
-    Ok(inputs)
-}
-
-/// A growth was refused, and the fault names what it was for or something else.
-#[derive(Debug, Drop)]
-enum Refused {
-    Memory,
-    NamedAmiss,
-}
-
-fn is_memory(fault: ScanFault) -> bool {
-    match fault {
-        ScanFault::Query(fault) => fault == QueryFault::Memory,
-        ScanFault::Answer(fault) => fault == AnswerFault::Memory,
-        ScanFault::Archive(_, IndexFault::Memory) => true,
-        ScanFault::Archive(_, IndexFault::Capture(CaptureFault::Archive(fault))) => {
-            fault.cause == Cause::Memory
-        }
-        ScanFault::Archive(..) => false,
-    }
-}
-
-/// Whether the fault names what is done where so many of the archives were begun: the query before all, an archive once those before it were
-/// begun and none behind it, the pages after all.
-fn is_named_rightly(fault: ScanFault, begun: usize, count: usize) -> bool {
-    match fault {
-        ScanFault::Query(_fault) => begun == 0,
-        ScanFault::Archive(i, _fault) => begun == i || begun == i.saturating_add(1),
-        ScanFault::Answer(_fault) => begun == count,
-    }
-}
-
-/// How many of the archives were read, or asked for bytes.
-fn begun(inputs: &[Named<Fuse<Slice<'_>>>]) -> usize {
-    inputs.iter().filter(|named| named.input.calls > 0).count()
-}
-
-/// The answer of a scan of these archives, unless memory was refused.
-fn with_memory(
-    answer: Result<u64, ScanFault>,
-    inputs: &[Named<Fuse<Slice<'_>>>],
-) -> Result<Result<u64, ScanFault>, Refused> {
-    match answer {
-        Err(fault) if is_memory(fault) => {
-            if is_named_rightly(fault, begun(inputs), inputs.len()) {
-                Err(Refused::Memory)
-            } else {
-                Err(Refused::NamedAmiss)
-            }
-        }
-        answer => Ok(answer),
-    }
-}
-
-/// What a scan of the case's archives answers, and its output.
-fn scanned(
-    alloc: Global,
-    case: &Case,
-    devices: Devices,
-) -> Result<(Result<u64, ScanFault>, Fuse<Gather>), Fail> {
-    let texts = texts(alloc, case.archives)?;
-    let mut inputs = inputs(alloc, case.archives, &texts, devices)?;
-    let mut out = Fuse::new(
-        Gather::new(alloc),
-        devices.written_at_once,
-        devices.failing_write,
-    );
-    let answer = scan(alloc, &mut inputs, case.sizes, case.query, &mut out);
-    if answer == Err(ScanFault::Answer(AnswerFault::Write)) && out.calls != devices.failing_write {
-        return Err(Refused::Memory)?;
-    }
-    Ok((with_memory(answer, &inputs)?, out))
-}
-
 /// Whether the scan answers and writes as the case says.
-fn is_scanned(alloc: Global, case: &Case) -> Result<bool, Fail> {
-    let (answer, out) = scanned(alloc, case, SOUND)?;
+fn is_scanned(alloc: Global, case: &Case, types: Types) -> Result<bool, Fail> {
+    let (answer, out) = scanned(alloc, case, types, SOUND)?;
     Ok(answer == case.answer && out.device.bytes() == case.written)
 }
 
 #[test]
 fn scans_write_pages_or_refuse(rt: HostRuntime) -> Result<(), Fail> {
     for (number, case) in CASES.iter().enumerate() {
-        assert!(rt; is_scanned(rt.alloc(), case)?, "case {number}");
+        assert!(rt; is_scanned(rt.alloc(), case, Types::usual())?, "case {number}");
+    }
+    Ok(())
+}
+
+/// The resource as a metadata record, of 184 bytes too.
+const METADATA: &[u8] =
+    b"WARC/1.1\r\nWARC-Type: metadata\r\nWARC-Record-ID: <urn:x:3>\r\nWARC-Date: 2016-09-19T17:20:24Z\r\nWARC-Target-URI: http://example.com/r\r\nContent-Type: text/plain\r\nContent-Length: 3\r\n\r\nabc\r\n\r\n";
+
+/// Records of three types.
+const MIXED: &[Archive] = &[("m.warc", &[METADATA, RESOURCE]), ("a.warc", &[RESPONSE])];
+
+/// Texts of types, and what a scan for them writes of these archives.
+const CHOSEN: &[(&str, &[u8])] = &[
+    ("metadata", b"m.warc 0\n"),
+    ("resource,metadata", b"m.warc 0\nm.warc 184\n"),
+    ("response", b"a.warc 0\n"),
+    ("conversion,revisit", b""),
+];
+
+/// Whether a scan for these types writes so.
+fn finds(alloc: Global, types: &str, written: &'static [u8]) -> Result<bool, Fail> {
+    let Some(types) = Types::read(types) else {
+        return Ok(false);
+    };
+    let case = Case {
+        archives: MIXED,
+        sizes: &[9],
+        query: "url=example.com/*&fl=filename,offset",
+        answer: Ok(1),
+        written,
+    };
+    is_scanned(alloc, &case, types)
+}
+
+#[test]
+fn scans_find_records_of_chosen_types(rt: HostRuntime) -> Result<(), Fail> {
+    for (types, written) in CHOSEN {
+        assert!(rt; finds(rt.alloc(), types, *written)?, "{types}");
     }
     Ok(())
 }
 
 /// Whether the scan ends where an archive fails at this call, before anything is written.
 fn ends_unread(alloc: Global, devices: Devices, offset: u64) -> Result<bool, Fail> {
-    let (answer, out) = scanned(alloc, &PAGED, devices)?;
+    let (answer, out) = scanned(alloc, &PAGED, Types::usual(), devices)?;
     let fault = CaptureFault::Archive(Fault {
         offset,
         cause: Cause::Read,
@@ -364,7 +266,7 @@ fn by_one_byte(failing_write: u64) -> Devices {
 
 /// Whether the scan ends where its output fails at this call, of one byte, with as many bytes written as calls before.
 fn ends_unwritten(alloc: Global, write: usize) -> Result<bool, Fail> {
-    let (answer, out) = scanned(alloc, &PAGED, by_one_byte(write as u64))?;
+    let (answer, out) = scanned(alloc, &PAGED, Types::usual(), by_one_byte(write as u64))?;
     let is_named = answer == Err(ScanFault::Answer(AnswerFault::Write));
     Ok(is_named && PAGES.get(..write.saturating_sub(1)) == Some(out.device.bytes()))
 }
@@ -375,7 +277,7 @@ fn scans_end_where_their_output_fails(rt: HostRuntime) -> Result<(), Fail> {
     for write in 1..118 {
         assert!(rt; ends_unwritten(rt.alloc(), write)?, "{write}");
     }
-    let (answer, out) = scanned(rt.alloc(), &PAGED, by_one_byte(118))?;
+    let (answer, out) = scanned(rt.alloc(), &PAGED, Types::usual(), by_one_byte(118))?;
     assert!(rt; answer == Ok(2) && out.device.bytes() == PAGES);
     Ok(())
 }
@@ -397,7 +299,14 @@ fn scanned_of(alloc: Global, count: usize) -> Result<(Result<u64, ScanFault>, us
     let mut inputs = numbered(alloc, count)?;
     let mut out = Gather::new(alloc);
     let query = "key=com,example)/r&fl=length";
-    let answer = scan(alloc, &mut inputs, &[5_000], query, &mut out);
+    let answer = scan(
+        alloc,
+        &mut inputs,
+        Types::usual(),
+        &[5_000],
+        query,
+        &mut out,
+    );
     if answer == Err(ScanFault::Answer(AnswerFault::Write)) {
         return Err(Refused::Memory)?;
     }

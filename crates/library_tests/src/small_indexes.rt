@@ -27,6 +27,20 @@ pub const APART: &[Rows] = &[
     &[("com,example)/", FIRST_OF_2016, "a.warc", 5)],
 ];
 
+/// The lines of three indexes, which have one key and stamp.
+pub const OFFSET_10: &[u8] =
+    b"com,example)/ 20160101000000 {\"url\": \"http://x/\", \"mime\": \"text/html\", \"status\": \"200\", \"digest\": \"-\", \"length\": \"1\", \"offset\": \"10\", \"filename\": \"b.warc\"}\n";
+
+pub const OFFSET_20: &[u8] =
+    b"com,example)/ 20160101000000 {\"url\": \"http://x/\", \"mime\": \"text/html\", \"status\": \"200\", \"digest\": \"-\", \"length\": \"1\", \"offset\": \"20\", \"filename\": \"a.warc\"}\n";
+
+pub const OFFSET_5: &[u8] =
+    b"com,example)/ 20160101000000 {\"url\": \"http://x/\", \"mime\": \"text/html\", \"status\": \"200\", \"digest\": \"-\", \"length\": \"1\", \"offset\": \"5\", \"filename\": \"a.warc\"}\n";
+
+/// These lines in the order of places.
+pub const RISEN: &[u8] =
+    b"com,example)/ 20160101000000 {\"url\": \"http://x/\", \"mime\": \"text/html\", \"status\": \"200\", \"digest\": \"-\", \"length\": \"1\", \"offset\": \"5\", \"filename\": \"a.warc\"}\ncom,example)/ 20160101000000 {\"url\": \"http://x/\", \"mime\": \"text/html\", \"status\": \"200\", \"digest\": \"-\", \"length\": \"1\", \"offset\": \"20\", \"filename\": \"a.warc\"}\ncom,example)/ 20160101000000 {\"url\": \"http://x/\", \"mime\": \"text/html\", \"status\": \"200\", \"digest\": \"-\", \"length\": \"1\", \"offset\": \"10\", \"filename\": \"b.warc\"}\n";
+
 pub const LETTERS: Rows = &[
     ("a)/", FIRST_OF_2016, "a.warc", 0),
     ("b)/", FIRST_OF_2016, "a.warc", 1),

@@ -1,5 +1,4 @@
 //! The lines of sources: their checking, and the search in them.
-use cdxj_core::LINE_LIMIT;
 use devices::Fuse;
 use query_core::{AnswerFault, FileSource, SliceSource, Source, check};
 use source_core::{SearchFault, search};
@@ -54,34 +53,6 @@ const TEXTS: &[(&[u8], Result<u64, AnswerFault>)] = &[
 fn an_index_is_counted_or_its_first_line_at_fault_is_named(rt: HostRuntime) -> Result<(), Fail> {
     for (text, wanted) in TEXTS {
         assert!(rt; check_of(rt.alloc(), text)? == *wanted);
-    }
-    Ok(())
-}
-
-/// A line of so many bytes, without its line feed.
-fn long_line(alloc: Global, length: usize) -> Result<Vec<u8>, Fail> {
-    let start = b"a)/ 20160101000000 {\"filename\": \"a.warc\", \"offset\": 0, \"url\": \"";
-    let mut line = Vec::new(alloc);
-    line.extend_from_slice(start)?;
-    line.resize(length.saturating_sub(2), b'x')?;
-    line.extend_from_slice(b"\"}")?;
-    Ok(line)
-}
-
-#[test]
-fn a_line_has_at_most_1_048_576_bytes_with_its_line_feed(rt: HostRuntime) -> Result<(), Fail> {
-    let too_long = Err(AnswerFault::BadLine(0, 0));
-    for (length, feed, wanted) in [
-        (LINE_LIMIT - 1, true, Ok(1)),
-        (LINE_LIMIT - 1, false, Ok(1)),
-        (LINE_LIMIT, false, too_long),
-        (LINE_LIMIT, true, too_long),
-    ] {
-        let mut line = long_line(rt.alloc(), length)?;
-        if feed {
-            line.push(b'\n')?;
-        }
-        assert!(rt; check_of(rt.alloc(), &line)? == wanted);
     }
     Ok(())
 }

@@ -1,0 +1,147 @@
+//! Runs of scans, over archives in memory and devices that may fail.
+use capture_core::{CaptureFault, Types};
+use devices::{Fuse, Gather, Slice};
+use index_core::IndexFault;
+use query_core::{AnswerFault, QueryFault};
+use scan_core::{Named, ScanFault, scan};
+use std::alloc::{AllocError, Global};
+use std::test::Fail;
+use warc_core::Cause;
+
+/// The name of an archive, and its pieces.
+pub type Archive = (&'static str, &'static [&'static [u8]]);
+
+/// Archives, the sizes of pages and a query; what a scan answers, and what it writes.
+pub struct Case {
+    pub archives: &'static [Archive],
+    pub sizes: &'static [u64],
+    pub query: &'static str,
+    pub answer: Result<u64, ScanFault>,
+    pub written: &'static [u8],
+}
+
+/// The bytes of archives.
+fn texts(alloc: Global, archives: &[Archive]) -> Result<Vec<Vec<u8>>, AllocError> {
+    let mut texts = Vec::new(alloc);
+    for (_name, pieces) in archives {
+        let mut text = Vec::new(alloc);
+        for piece in *pieces {
+            text.extend_from_slice(piece)?;
+        }
+        texts.push(text)?;
+    }
+    Ok(texts)
+}
+
+/// How many bytes each call of an archive's input moves, and of the output; the call of an archive, and of the output, that fails; 0 is none.
+#[derive(Clone, Copy)]
+pub struct Devices {
+    pub read_at_once: usize,
+    pub archive: usize,
+    pub failing_read: u64,
+    pub written_at_once: usize,
+    pub failing_write: u64,
+}
+
+/// No call fails.
+pub const SOUND: Devices = Devices {
+    read_at_once: 100,
+    archive: 0,
+    failing_read: 0,
+    written_at_once: 8_192,
+    failing_write: 0,
+};
+
+/// Archives by name.
+fn inputs<'a>(
+    alloc: Global,
+    archives: &[Archive],
+    texts: &'a [Vec<u8>],
+    devices: Devices,
+) -> Result<Vec<Named<Fuse<Slice<'a>>>>, AllocError> {
+    let mut inputs = Vec::new(alloc);
+    for (i, ((name, _pieces), text)) in archives.iter().zip(texts).enumerate() {
+        let at = if i == devices.archive {
+            devices.failing_read
+        } else {
+            0
+        };
+        inputs.push(Named {
+            name: String::from_str(alloc, name)?,
+            input: Fuse::new(Slice::new(text.as_slice()), devices.read_at_once, at),
+        })?;
+    }
+    Ok(inputs)
+}
+
+/// A growth was refused, and the fault names what it was for or something else.
+#[derive(Debug, Drop)]
+pub enum Refused {
+    Memory,
+    NamedAmiss,
+}
+
+fn is_memory(fault: ScanFault) -> bool {
+    match fault {
+        ScanFault::Query(fault) => fault == QueryFault::Memory,
+        ScanFault::Answer(fault) => fault == AnswerFault::Memory,
+        ScanFault::Archive(_, IndexFault::Memory) => true,
+        ScanFault::Archive(_, IndexFault::Capture(CaptureFault::Archive(fault))) => {
+            fault.cause == Cause::Memory
+        }
+        ScanFault::Archive(..) => false,
+    }
+}
+
+/// Whether the fault names what is done where so many of the archives were begun: the query before all, an archive once those before it were
+/// begun and none behind it, the pages after all.
+fn is_named_rightly(fault: ScanFault, begun: usize, count: usize) -> bool {
+    match fault {
+        ScanFault::Query(_fault) => begun == 0,
+        ScanFault::Archive(i, _fault) => begun == i || begun == i.saturating_add(1),
+        ScanFault::Answer(_fault) => begun == count,
+    }
+}
+
+/// How many of the archives were read, or asked for bytes.
+fn begun(inputs: &[Named<Fuse<Slice<'_>>>]) -> usize {
+    inputs.iter().filter(|named| named.input.calls > 0).count()
+}
+
+/// The answer of a scan of these archives, unless memory was refused.
+pub fn with_memory(
+    answer: Result<u64, ScanFault>,
+    inputs: &[Named<Fuse<Slice<'_>>>],
+) -> Result<Result<u64, ScanFault>, Refused> {
+    match answer {
+        Err(fault) if is_memory(fault) => {
+            if is_named_rightly(fault, begun(inputs), inputs.len()) {
+                Err(Refused::Memory)
+            } else {
+                Err(Refused::NamedAmiss)
+            }
+        }
+        answer => Ok(answer),
+    }
+}
+
+/// What a scan of the case's archives for these types answers, and its output.
+pub fn scanned(
+    alloc: Global,
+    case: &Case,
+    types: Types,
+    devices: Devices,
+) -> Result<(Result<u64, ScanFault>, Fuse<Gather>), Fail> {
+    let texts = texts(alloc, case.archives)?;
+    let mut inputs = inputs(alloc, case.archives, &texts, devices)?;
+    let mut out = Fuse::new(
+        Gather::new(alloc),
+        devices.written_at_once,
+        devices.failing_write,
+    );
+    let answer = scan(alloc, &mut inputs, types, case.sizes, case.query, &mut out);
+    if answer == Err(ScanFault::Answer(AnswerFault::Write)) && out.calls != devices.failing_write {
+        return Err(Refused::Memory)?;
+    }
+    Ok((with_memory(answer, &inputs)?, out))
+}
