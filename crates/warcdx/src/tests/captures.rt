@@ -5,8 +5,9 @@ mod http_limits;
 mod line_limit;
 mod records;
 mod targets;
+mod types;
 
-use capture_core::{CaptureFault, capture};
+use capture_core::{CaptureFault, Types, capture};
 use cdxj_core::Entry;
 use std::alloc::{AllocError, Global};
 use std::test::Fail;
@@ -49,16 +50,17 @@ fn push_line(text: &mut Vec<u8>, first: &[u8], second: &[u8]) -> Result<(), Allo
     text.extend_from_slice(b"\r\n")
 }
 
-/// The capture of the record after those that were read, under a name that isn't empty.
+/// The capture of the record after those that were read, under a name that isn't empty, where its type is one of these.
 fn next_capture(
     alloc: Global,
     reader: &mut Reader,
     input: &mut Slice<'_>,
     name: &str,
+    types: Types,
 ) -> Result<Option<Entry>, CaptureFault> {
     match reader.finish(input) {
         Ok(_length) => match reader.next(input) {
-            Ok(Some(head)) if !name.is_empty() => capture(alloc, reader, input, &head, name),
+            Ok(Some(head)) if !name.is_empty() => capture(alloc, reader, input, &head, name, types),
             Ok(_) => Ok(None),
             Err(fault) => Err(CaptureFault::Archive(fault)),
         },
@@ -66,10 +68,16 @@ fn next_capture(
     }
 }
 
-/// The capture of the first record.
-fn captured(alloc: Global, archive: &[u8]) -> Result<Option<Entry>, Fail> {
+/// The capture of the first record, where its type is one of these.
+fn captured(alloc: Global, archive: &[u8], types: Types) -> Result<Option<Entry>, Fail> {
     let mut reader = Reader::new(alloc)?;
-    Ok(next_capture(alloc, &mut reader, &mut Slice::new(archive), "a.warc")?)
+    Ok(next_capture(
+        alloc,
+        &mut reader,
+        &mut Slice::new(archive),
+        "a.warc",
+        types,
+    )?)
 }
 
 /// The capture of a record of `http://x/`.
@@ -79,8 +87,19 @@ fn capture_of(
     fields: &[u8],
     block: &[u8],
 ) -> Result<Option<Entry>, Fail> {
+    capture_among(alloc, Types::usual(), kind, fields, block)
+}
+
+/// The same, where its type is one of these.
+fn capture_among(
+    alloc: Global,
+    types: Types,
+    kind: &str,
+    fields: &[u8],
+    block: &[u8],
+) -> Result<Option<Entry>, Fail> {
     let text = record_text(alloc, kind, b"http://x/", fields, block)?;
-    captured(alloc, text.as_slice())
+    captured(alloc, text.as_slice(), types)
 }
 
 /// Whether the capture has this media type, status and digest.

@@ -2,7 +2,7 @@
 use super::indexes::{RESOURCE_LINE, RESPONSE_LINE, writes};
 use super::prefixes::{prefix_gives, three_records};
 use super::{Refused, cut, joined};
-use capture_core::CaptureFault;
+use capture_core::{CaptureFault, Types};
 use index_core::{IndexFault, Indexer};
 use std::alloc::{AllocError, Global};
 use std::test::Fail;
@@ -39,7 +39,7 @@ fn keeps<I: Input>(
     input: &mut I,
     wanted: Result<u64, Fault>,
 ) -> Result<bool, Refused> {
-    let mut indexer = Indexer::new(alloc);
+    let mut indexer = Indexer::new(alloc, Types::usual());
     let (kept, is_answer) = match indexer.add("b.warc", input) {
         Ok(count) => (count, wanted == Ok(count)),
         Err(IndexFault::Capture(CaptureFault::Archive(fault))) => (
@@ -134,7 +134,7 @@ fn an_index_stops_at_a_failed_write(rt: HostRuntime) -> Result<(), Fail> {
     let alloc = rt.alloc();
     let archive = three_records(alloc)?;
     let index = index_of(alloc, 3)?;
-    let mut indexer = Indexer::new(alloc);
+    let mut indexer = Indexer::new(alloc, Types::usual());
     if indexer.add("b.warc", &mut Slice::new(archive.as_slice())) != Ok(3) {
         return Err(Refused::Memory)?;
     }

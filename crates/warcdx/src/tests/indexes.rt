@@ -1,5 +1,6 @@
 //! Indexes of archives.
 use super::{RESOURCE, RESPONSE, Refused, cut, joined, repeated, settled};
+use capture_core::Types;
 use index_core::{IndexFault, Indexer};
 use std::alloc::Global;
 use std::test::Fail;
@@ -35,7 +36,7 @@ fn indexes(
     lines: &[u8],
     number: u64,
 ) -> Result<bool, Refused> {
-    let mut indexer = Indexer::new(alloc);
+    let mut indexer = Indexer::new(alloc, Types::usual());
     Ok(added(&mut indexer, "b.warc", archive)? == answer && writes(alloc, &indexer, lines, number)?)
 }
 
@@ -73,7 +74,7 @@ fn an_indexer_takes_each_name_once(rt: HostRuntime) -> Result<(), Fail> {
     let alloc = rt.alloc();
     let long = repeated(alloc, b"a", 256)?;
     let long = str::from_utf8(long.as_slice())?;
-    let mut indexer = Indexer::new(alloc);
+    let mut indexer = Indexer::new(alloc, Types::usual());
     assert!(rt; added(&mut indexer, "b.warc", RESPONSE)? == Ok(1));
     assert!(rt; refuses(&mut indexer, "", IndexFault::BadName));
     assert!(rt; refuses(&mut indexer, long, IndexFault::BadName));
@@ -86,12 +87,46 @@ fn an_indexer_takes_each_name_once(rt: HostRuntime) -> Result<(), Fail> {
 #[test]
 fn captures_are_forgotten_and_names_are_not(rt: HostRuntime) -> Result<(), Fail> {
     let alloc = rt.alloc();
-    let mut indexer = Indexer::new(alloc);
+    let mut indexer = Indexer::new(alloc, Types::usual());
     assert!(rt; added(&mut indexer, "a.warc", RESOURCE)? == Ok(1));
     indexer.forget_captures();
     assert!(rt; writes(alloc, &indexer, b"", 0)?);
     assert!(rt; refuses(&mut indexer, "a.warc", IndexFault::DuplicateName));
     assert!(rt; added(&mut indexer, "b.warc", RESPONSE)? == Ok(1));
     assert!(rt; writes(alloc, &indexer, RESPONSE_LINE, 1)?);
+    Ok(())
+}
+
+/// The resource as a metadata record, of 184 bytes too.
+const METADATA: &[u8] =
+    b"WARC/1.1\r\nWARC-Type: metadata\r\nWARC-Record-ID: <urn:x:3>\r\nWARC-Date: 2016-09-19T17:20:24Z\r\nWARC-Target-URI: http://example.com/r\r\nContent-Type: text/plain\r\nContent-Length: 3\r\n\r\nabc\r\n\r\n";
+
+const METADATA_LINE: &[u8] =
+    b"com,example)/r 20160919172024 {\"url\": \"http://example.com/r\", \"mime\": \"text/plain\", \"status\": \"-\", \"digest\": \"VGMT4NSHA2AWVOR6EVYXQUGCNSONBWE5\", \"length\": \"184\", \"offset\": \"0\", \"filename\": \"m.warc\"}\n";
+
+/// Texts of types, an archive, and its index.
+const CHOSEN: &[(&str, &[u8], &[u8])] = &[
+    ("response,resource,revisit", METADATA, b""),
+    ("metadata", METADATA, METADATA_LINE),
+    ("conversion,metadata", METADATA, METADATA_LINE),
+    ("metadata", RESPONSE, b""),
+];
+
+/// Whether the index of this archive for these types has these lines, of which there is one or none.
+fn indexes_types(alloc: Global, types: &str, archive: &[u8], lines: &[u8]) -> Result<bool, Refused> {
+    let Some(types) = Types::read(types) else {
+        return Ok(false);
+    };
+    let number = u64::from(!lines.is_empty());
+    let mut indexer = Indexer::new(alloc, types);
+    Ok(added(&mut indexer, "m.warc", archive)? == Ok(number)
+        && writes(alloc, &indexer, lines, number)?)
+}
+
+#[test]
+fn an_indexer_takes_records_of_its_types(rt: HostRuntime) -> Result<(), Fail> {
+    for (types, archive, lines) in CHOSEN {
+        assert!(rt; indexes_types(rt.alloc(), types, archive, lines)?, "{types}");
+    }
     Ok(())
 }

@@ -4,7 +4,7 @@ use super::indexes::{RESOURCE_LINE, RESPONSE_LINE};
 use super::{RESOURCE, RESPONSE, Refused, cut, joined, owned, performed};
 use crate::archives::file_name;
 use crate::outcome::Outcome;
-use capture_core::CaptureFault;
+use capture_core::{CaptureFault, Types};
 use command_line::Task;
 use index_core::IndexFault;
 use query_core::{AnswerFault, QueryFault};
@@ -99,8 +99,12 @@ const SCANS: &[(&[u64], &str, &[&str], &[u8], Outcome)] = &[
 ];
 
 fn index(alloc: Global, names: &[&str]) -> Result<Task, AllocError> {
+    index_of(alloc, Types::usual(), names)
+}
+
+fn index_of(alloc: Global, types: Types, names: &[&str]) -> Result<Task, AllocError> {
     let names = owned(alloc, names)?;
-    Ok(Task::Index { names })
+    Ok(Task::Index { types, names })
 }
 
 fn record_at(alloc: Global, offset: u64, name: &str) -> Result<Task, AllocError> {
@@ -109,10 +113,21 @@ fn record_at(alloc: Global, offset: u64, name: &str) -> Result<Task, AllocError>
 }
 
 fn scan(alloc: Global, sizes: &[u64], text: &str, names: &[&str]) -> Result<Task, AllocError> {
+    scan_of(alloc, Types::usual(), sizes, text, names)
+}
+
+fn scan_of(
+    alloc: Global,
+    types: Types,
+    sizes: &[u64],
+    text: &str,
+    names: &[&str],
+) -> Result<Task, AllocError> {
     let sizes = Vec::from_slice(alloc, sizes)?;
     let query = String::from_str(alloc, text)?;
     let names = owned(alloc, names)?;
     Ok(Task::Scan {
+        types,
         sizes,
         query,
         names,
@@ -140,6 +155,17 @@ fn stops<R: Runtime + AllocGlobal>(
 ) -> Result<bool, Refused> {
     let (outcome, out) = performed(rt, task, 1)?;
     Ok(out.device.bytes().is_empty() && outcome == WRITE)
+}
+
+/// Whether of the two records the resource alone is indexed and found by a scan.
+fn takes_resources<R: Runtime + AllocGlobal>(rt: &R) -> Result<bool, Refused> {
+    let alloc = rt.alloc();
+    let Some(types) = Types::read("resource,metadata") else {
+        return Ok(false);
+    };
+    let indexed = index_of(alloc, types, &["b.warc"]);
+    let found = scan_of(alloc, types, &[1], "key=com,example)/", &["whole/b.warc"]);
+    Ok(writes(rt, indexed, &[RESOURCE_LINE], SHORT_BLOCK)? && writes(rt, found, &[], Outcome::Done)?)
 }
 
 /// Whether a first part of the response is written before its block ends too early.
@@ -183,6 +209,7 @@ fn archives_are_indexed_and_read_by_name(rt: HostRuntime) -> Result<(), Fail> {
             "{names:?}"
         );
     }
+    assert!(rt; takes_resources(&rt)?);
     assert!(rt; writes_in_part(&rt)?);
     assert!(rt; stops(&rt, index(alloc, &["none", "b.warc"]))?);
     assert!(rt; stops(&rt, record_at(alloc, 264, "b.warc"))?);

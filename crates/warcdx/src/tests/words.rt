@@ -1,19 +1,25 @@
 //! What words ask for, worked out by hand.
 use super::owned;
+use capture_core::Types;
 use command_line::{Task, WordsFault, read_words};
 use std::alloc::Global;
 
-/// A task with these names, or a refusal whose text has this piece.
+/// A task with these names, of an index and a scan with the text of its types before; or a refusal whose text has this piece.
 enum Wanted {
     List(&'static [&'static str]),
     Verify(&'static [&'static str]),
-    Index(&'static [&'static str]),
+    Index(&'static str, &'static [&'static str]),
     Check(&'static [&'static str]),
     Query(&'static str, &'static [&'static str]),
     Pages(&'static [u64], &'static str, &'static [&'static str]),
     Serve(&'static [&'static str]),
     Get(u64, &'static str),
-    Scan(&'static [u64], &'static str, &'static [&'static str]),
+    Scan(
+        &'static str,
+        &'static [u64],
+        &'static str,
+        &'static [&'static str],
+    ),
     Help(&'static str),
     Usage(&'static str),
 }
@@ -24,7 +30,7 @@ const LIST: Wanted = Wanted::Help("Usage: warcdx list <WARC>...\n");
 
 const VERIFY: Wanted = Wanted::Help("Usage: warcdx verify <WARC>...\n");
 
-const INDEX: Wanted = Wanted::Help("Usage: warcdx index <WARC>...\n");
+const INDEX: Wanted = Wanted::Help("Usage: warcdx index [OPTIONS] <WARC>...\n");
 
 const QUERY: Wanted = Wanted::Help("Usage: warcdx query <QUERY> <INDEX>...\n");
 
@@ -34,11 +40,16 @@ const SERVE: Wanted = Wanted::Help("Usage: warcdx serve <INDEX>...\n");
 
 const GET: Wanted = Wanted::Help("Usage: warcdx get <OFFSET> <WARC>\n");
 
-const SCAN: Wanted = Wanted::Help("Usage: warcdx scan <SIZES> <QUERY> <WARC>...\n");
+const SCAN: Wanted = Wanted::Help("Usage: warcdx scan [OPTIONS] <SIZES> <QUERY> <WARC>...\n");
 
 const NO_NAME: Wanted = Wanted::Usage("required arguments were not provided:\n  <WARC>...\n");
 
 const WITH_X: Wanted = Wanted::Usage("error: unexpected option '-x'\n");
+
+const TYPES_ELSEWHERE: Wanted = Wanted::Usage("error: unexpected option '--types'\n");
+
+/// The types where none are chosen.
+const USUAL: &str = "response,resource,revisit";
 
 /// 2^63 - 1.
 const LARGEST: &str = "9223372036854775807";
@@ -56,7 +67,15 @@ const ROWS: &[(&[&str], Wanted)] = &[
     (&["list", "a", "b"], Wanted::List(&["a", "b"])),
     (&["list", "list", "", "a"], Wanted::List(&["list", "", "a"])),
     (&["verify", "-", "./-x"], Wanted::Verify(&["-", "./-x"])),
-    (&["index", "a", "b"], Wanted::Index(&["a", "b"])),
+    (&["index", "a", "b"], Wanted::Index(USUAL, &["a", "b"])),
+    (
+        &["index", "--types", "metadata", "m.warc"],
+        Wanted::Index("metadata", &["m.warc"]),
+    ),
+    (
+        &["index", "--types", "conversion,response", "metadata", "-"],
+        Wanted::Index("response,conversion", &["metadata", "-"]),
+    ),
     (&["check", "a", "-"], Wanted::Check(&["a", "-"])),
     (
         &["query", "url=a&fl=offset", "i", "-"],
@@ -73,7 +92,11 @@ const ROWS: &[(&[&str], Wanted)] = &[
     (&["get", LARGEST, "a"], Wanted::Get((1 << 63) - 1, "a")),
     (
         &["scan", "7,8", "url=a", "a.warc", "-"],
-        Wanted::Scan(&[7, 8], "url=a", &["a.warc", "-"]),
+        Wanted::Scan(USUAL, &[7, 8], "url=a", &["a.warc", "-"]),
+    ),
+    (
+        &["scan", "--types", "revisit,metadata", "7", "url=a", "a"],
+        Wanted::Scan("revisit,metadata", &[7], "url=a", &["a"]),
     ),
     (&["list"], NO_NAME),
     (&["verify"], NO_NAME),
@@ -145,6 +168,56 @@ const ROWS: &[(&[&str], Wanted)] = &[
         &["get", "-1", "a"],
         Wanted::Usage("unexpected option '-1'\n"),
     ),
+    (
+        &["index", "--types", "request", "m.warc"],
+        Wanted::Usage("invalid value 'request' for '--types <TYPES>': "),
+    ),
+    (
+        &["index", "--types", "metadata,metadata", "a"],
+        Wanted::Usage("invalid value 'metadata,metadata' for '--types <TYPES>': "),
+    ),
+    (
+        &["index", "--types", "", "a"],
+        Wanted::Usage("invalid value '' for '--types <TYPES>': "),
+    ),
+    (
+        &["scan", "--types", "-", "1", "url=a", "a"],
+        Wanted::Usage("invalid value '-' for '--types <TYPES>': "),
+    ),
+    (
+        &["scan", "--types", "metadata", "0", "url=a", "a"],
+        Wanted::Usage("invalid value '0' for '<SIZES>': "),
+    ),
+    (
+        &["index", "--types", "metadata"],
+        Wanted::Usage("not provided:\n  <WARC>...\n"),
+    ),
+    (&["index", "--types"], Wanted::Usage("'--types <TYPES>'")),
+    (
+        &["index", "--types=metadata", "a"],
+        Wanted::Usage("unexpected option '--types=metadata'\n"),
+    ),
+    (&["index", "m.warc", "--types", "metadata"], TYPES_ELSEWHERE),
+    (
+        &["index", "--types", "metadata", "--types", "metadata", "a"],
+        TYPES_ELSEWHERE,
+    ),
+    (&["index", "--types", "--types", "a"], TYPES_ELSEWHERE),
+    (
+        &["scan", "1", "--types", "metadata", "url=a", "a"],
+        TYPES_ELSEWHERE,
+    ),
+    (&["--types", "metadata", "index", "a"], TYPES_ELSEWHERE),
+    (&["list", "--types", "metadata", "a"], TYPES_ELSEWHERE),
+    (
+        &["pages", "--types", "metadata", "1", "url=a", "i"],
+        TYPES_ELSEWHERE,
+    ),
+    (&["index", "-h", "--types", "metadata", "a"], TYPES_ELSEWHERE),
+    (&["index", "--types", "-x", "a"], WITH_X),
+    (&["index", "--types", "-h"], INDEX),
+    (&["index", "--types", "request", "-h"], INDEX),
+    (&["scan", "--types", "metadata", "--help"], SCAN),
     (&["frob"], Wanted::Usage("unrecognized subcommand 'frob'\n")),
     (
         &["a.warc", "list"],
@@ -200,7 +273,9 @@ fn is_task(task: &Task, wanted: &Wanted) -> bool {
     match (task, wanted) {
         (Task::List { names }, Wanted::List(wanted)) => are(names.as_slice(), wanted),
         (Task::Verify { names }, Wanted::Verify(wanted)) => are(names.as_slice(), wanted),
-        (Task::Index { names }, Wanted::Index(wanted)) => are(names.as_slice(), wanted),
+        (Task::Index { types, names }, Wanted::Index(text, wanted)) => {
+            Types::read(text) == Some(*types) && are(names.as_slice(), wanted)
+        }
         (Task::Check { names }, Wanted::Check(wanted)) => are(names.as_slice(), wanted),
         (Task::Query { query, names }, Wanted::Query(text, wanted)) => {
             query.as_str() == *text && are(names.as_slice(), wanted)
@@ -215,12 +290,18 @@ fn is_task(task: &Task, wanted: &Wanted) -> bool {
         ) => { sizes.as_slice() == *wanted && query.as_str() == *text && are(names.as_slice(), of) }
         (
             Task::Scan {
+                types,
                 sizes,
                 query,
                 names,
             },
-            Wanted::Scan(wanted, text, of),
-        ) => { sizes.as_slice() == *wanted && query.as_str() == *text && are(names.as_slice(), of) }
+            Wanted::Scan(chosen, wanted, text, of),
+        ) => {
+            Types::read(chosen) == Some(*types)
+                && sizes.as_slice() == *wanted
+                && query.as_str() == *text
+                && are(names.as_slice(), of)
+        }
         (Task::Serve { names }, Wanted::Serve(wanted)) => are(names.as_slice(), wanted),
         (Task::Get { offset, name }, Wanted::Get(at, wanted)) => {
             offset == at && name.as_str() == *wanted

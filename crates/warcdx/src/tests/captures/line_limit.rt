@@ -1,24 +1,16 @@
 use super::super::{RESOURCE, RESPONSE, joined};
 use super::next_capture;
-use capture_core::CaptureFault;
-use std::alloc::{AllocError, Global};
+use capture_core::{CaptureFault, Types};
+use std::alloc::Global;
 use std::test::Fail;
 use warc_core::{Reader, Slice};
-
-fn letters(alloc: Global, count: usize) -> Result<String, AllocError> {
-    let mut text = String::with_capacity(alloc, count)?;
-    for _ in 0..count {
-        text.push('a')?;
-    }
-    Ok(text)
-}
 
 /// Where the line of the first record's capture is too long: the offset that the fault has, and the start of the record
 /// that is read after it.
 fn too_long(alloc: Global, archive: &[u8], name: &str) -> Result<Option<(u64, u64)>, Fail> {
     let mut input = Slice::new(archive);
     let mut reader = Reader::new(alloc)?;
-    match next_capture(alloc, &mut reader, &mut input, name) {
+    match next_capture(alloc, &mut reader, &mut input, name, Types::usual()) {
         Ok(_captured) => Ok(None),
         Err(CaptureFault::LineTooLong(offset)) => {
             Ok(reader.next(&mut input)?.map(|head| (offset, head.start())))
@@ -32,11 +24,12 @@ fn too_long(alloc: Global, archive: &[u8], name: &str) -> Result<Option<(u64, u6
 fn lines_of_captures_are_limited(rt: HostRuntime) -> Result<(), Fail> {
     let archive = joined(rt.alloc(), &[RESPONSE, RESOURCE])?;
     for (count, wanted) in [
-        (1_048_384, None),
-        (1_048_385, Some((0, 264))),
-        (1_048_576, Some((0, 264))),
+        (1_048_576, None),
+        (16_777_024, None),
+        (16_777_025, Some((0, 264))),
+        (16_777_216, Some((0, 264))),
     ] {
-        let name = letters(rt.alloc(), count)?;
+        let name = "a".repeat(rt.alloc(), count)?;
         let found = too_long(rt.alloc(), archive.as_slice(), name.as_str())?;
         assert!(rt; found == wanted, "{count}");
     }

@@ -9,9 +9,7 @@ fn long_line(alloc: Global, length: usize, feed: bool) -> Result<Vec<u8>, AllocE
     let end: &[u8] = if feed { b"\"}\n" } else { b"\"}" };
     let mut line = Vec::new(alloc);
     line.extend_from_slice(FRONT)?;
-    for _ in line.len()..length.saturating_sub(end.len()) {
-        line.push(b'a')?;
-    }
+    line.resize(length.saturating_sub(end.len()), b'a')?;
     line.extend_from_slice(end)?;
     Ok(line)
 }
@@ -28,18 +26,19 @@ fn offset_of(alloc: Global, length: usize, feed: bool) -> Result<Option<u64>, Li
 
 /// Lengths of lines, with a line feed as their last byte or none, and whether they are read.
 const LENGTHS: &[(usize, bool, bool)] = &[
-    (1_048_575, false, true),
-    (1_048_575, true, true),
-    (1_048_576, true, true),
-    (1_048_576, false, false),
-    (1_048_577, true, false),
-    (1_048_577, false, false),
+    (1_048_577, true, true),
+    (16_777_215, false, true),
+    (16_777_215, true, true),
+    (16_777_216, true, true),
+    (16_777_216, false, false),
+    (16_777_217, true, false),
+    (16_777_217, false, false),
 ];
 
 // The limit counts a line feed, whether it is there or not.
 #[test]
 fn a_line_is_read_up_to_the_limit(rt: HostRuntime) -> Result<(), Fail> {
-    assert!(rt; LINE_LIMIT == 1_048_576);
+    assert!(rt; LINE_LIMIT == 16_777_216);
     for (length, feed, is_read) in LENGTHS {
         let offset = offset_of(rt.alloc(), *length, *feed)?;
         assert!(rt; offset == is_read.then_some(7), "{length}, {feed}");
@@ -50,7 +49,7 @@ fn a_line_is_read_up_to_the_limit(rt: HostRuntime) -> Result<(), Fail> {
 /// Whether a line of this byte, over the limit, is too long.
 fn is_too_long(alloc: Global, byte: u8) -> Result<bool, Fail> {
     let mut line = Vec::new(alloc);
-    line.resize(1_048_576, byte)?;
+    line.resize(16_777_216, byte)?;
     line.push(b'x')?;
     Ok(matches!(LineRef::read(alloc, &line), Err(LineFault::LineTooLong)))
 }

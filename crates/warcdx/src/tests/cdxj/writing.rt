@@ -203,10 +203,7 @@ fn an_entry_is_good_where_each_member_is(rt: HostRuntime) -> Result<(), Fail> {
 /// The home page's entry with a URL of this many letters.
 fn with_long_url(alloc: Global, letters: usize) -> Result<Entry, AllocError> {
     let mut entry = entry(alloc, &HOME)?;
-    entry.url = String::new(alloc);
-    for _ in 0..letters {
-        entry.url.push('a')?;
-    }
+    entry.url = "a".repeat(alloc, letters)?;
     Ok(entry)
 }
 
@@ -226,9 +223,10 @@ fn length_of_line(alloc: Global, letters: usize) -> Result<Option<usize>, Fail> 
 #[test]
 fn a_line_has_at_most_the_limit(rt: HostRuntime) -> Result<(), Fail> {
     let rest = HOME_LINE.len() - HOME.url.len();
-    let room = 1_048_576 - rest;
-    assert!(rt; length_of_line(rt.alloc(), room)? == Some(1_048_576));
+    let room = 16_777_216 - rest;
+    assert!(rt; length_of_line(rt.alloc(), 1_048_576)? == Some(1_048_576 + rest));
+    assert!(rt; length_of_line(rt.alloc(), room)? == Some(16_777_216));
     assert!(rt; length_of_line(rt.alloc(), room + 1)?.is_none());
-    assert!(rt; length_of_line(rt.alloc(), 1_048_576)?.is_none());
+    assert!(rt; length_of_line(rt.alloc(), 16_777_216)?.is_none());
     Ok(())
 }

@@ -11,17 +11,14 @@ fn head_of(alloc: Global, length: usize, open: bool) -> Result<Vec<u8>, AllocErr
     } else {
         b"\r\n\r\n"
     };
-    let filled = length.saturating_sub(end.len());
-    for _ in head.len()..filled {
-        head.push(b'x')?;
-    }
+    head.resize(length.saturating_sub(end.len()), b'x')?;
     head.extend_from_slice(end)?;
     Ok(head)
 }
 
 #[test]
 fn reads_heads_up_to_the_limit(rt: HostRuntime) -> Result<(), Fail> {
-    assert!(rt; HEAD_LIMIT == 65_536);
+    assert!(rt; HEAD_LIMIT == 1_048_576);
     let long = Some(Fault {
         offset: 0,
         cause: Cause::HeadTooLong,
@@ -31,12 +28,13 @@ fn reads_heads_up_to_the_limit(rt: HostRuntime) -> Result<(), Fail> {
         cause: Cause::ShortHead,
     });
     for (length, open, want) in [
-        (65_535, false, (1, None)),
-        (65_536, false, (1, None)),
-        (65_537, false, (0, long)),
-        (65_538, false, (0, long)),
-        (65_535, true, (0, short)),
-        (65_536, true, (0, long)),
+        (65_537, false, (1, None)),
+        (1_048_575, false, (1, None)),
+        (1_048_576, false, (1, None)),
+        (1_048_577, false, (0, long)),
+        (1_048_578, false, (0, long)),
+        (1_048_575, true, (0, short)),
+        (1_048_576, true, (0, long)),
     ] {
         let head = head_of(rt.alloc(), length, open)?;
         assert!(rt; head.len() == length);
@@ -56,7 +54,7 @@ fn reads_heads_up_to_the_limit(rt: HostRuntime) -> Result<(), Fail> {
 /// A head that is too long is so before a line of it is looked at.
 #[test]
 fn finds_a_long_head_before_its_lines(rt: HostRuntime) -> Result<(), Fail> {
-    let filler = head_of(rt.alloc(), 70_000, false)?;
+    let filler = head_of(rt.alloc(), 1_100_000, false)?;
     let text = joined(
         rt.alloc(),
         &[b"WARC/1.1\r\nno colon\r\n", filler.as_slice()],
