@@ -1,5 +1,5 @@
 #!/usr/bin/env python3
-"""Compares the pages of warcdx with those of plain_queries.py, on small indexes and queries made by chance.
+"""Compares the pages of warcdx with those of plain_queries.py, on small indexes, archives and queries made by chance.
 
 usage: against_plain.py [PROGRAM [CASES [SEED]]]      default: the script warcdx at the top of the repository, 5000, 1
 
@@ -8,9 +8,14 @@ order, and lines in other spellings than warcdx writes. One query in twelve or s
 the same bytes as the plain program, say the same refusal, and end with its status, and `serve` has to reply with either. What
 `query` writes page by page, with the resume keys as they were printed, has to be what `pages` writes.
 
+With every fifth case come one to three archives of a few records without an HTTP head, mostly with a choice of types. `index` has to write the
+plain index of them, and `scan` the pages of its lines.
+
 Prints what was tried, and the first case that differs. The status is 1 where there is one.
 """
+import base64
 import collections
+import hashlib
 import json
 import pathlib
 import random
@@ -58,6 +63,23 @@ ADDRESSES = (
     "",
     "*",
 )
+INDEXABLE = ("response", "resource", "revisit", "conversion", "metadata")
+PAGES = {
+    "http://example.com/": "com,example)/",
+    "http://www.example.com/a": "com,example)/a",
+    "https://example.com/a?b=c": "com,example)/a?b=c",
+    "http://example.com:8080/": "com,example:8080)/",
+    "http://a.example.com/": "com,example,a)/",
+    "dns:example.com": "dns:example.com",
+}
+DATES = {
+    "2015-12-31T23:59:59Z": "20151231235959",
+    "2016": "20160101000000",
+    "2016-02-29T12:00Z": "20160229120000",
+    "2016-12-31T23:59:59.5Z": "20161231235959",
+    "2017-01-01": "20170101000000",
+}
+ABC = base64.b32encode(hashlib.sha1(b"abc").digest()).decode()
 FAULTS = (
     "limit=0",
     "limit=1000001",
@@ -192,6 +214,50 @@ class Case:
         return quote_plus(text) if self.choice.random() < 0.7 else quote_plus(text, safe="!*'():,;/?@$=~ ")
 
 
+class Crawl(Case):
+    """Archives, types, a query and sizes, made by chance."""
+
+    def __init__(self, choice):
+        self.choice = choice
+        self.types = choice.sample(INDEXABLE, choice.randint(1, 5)) if choice.random() < 0.8 else None
+        self.keys = list(PAGES.values())
+        made = [self.archive(name) for name in ("a.warc", "b.warc", "\xe9+.warc")[: choice.randint(1, 3)]]
+        self.archives, self.texts = zip(*made)
+        self.places = [line.place for line in plain.read_lines(self.texts)]
+        self.query = self.query_text()
+        self.sizes = [choice.randint(1, 6) for _ in range(choice.randint(1, 4))]
+
+    def archive(self, name):
+        """An archive with its name, and the index of it."""
+        choice, archive, lines = self.choice, b"", []
+        for _ in range(choice.randrange(12)):
+            kind = choice.choice((*INDEXABLE, *INDEXABLE, "warcinfo", "request"))
+            (url, key), (date, stamp) = choice.choice(list(PAGES.items())), choice.choice(list(DATES.items()))
+            record = record_text(choice.choice((kind, kind, kind.upper())), url, date)
+            members = {"url": url, "mime": "text/plain", "status": "-", "digest": ABC, "length": str(len(record)), "offset": str(len(archive))}
+            if kind == "revisit":
+                members |= {"mime": "warc/revisit", "digest": "-"}
+            if kind in (self.types or INDEXABLE[:3]):
+                lines.append(f"{key} {stamp} {json.dumps(members | {'filename': name}, ensure_ascii=False)}".encode())
+            archive += record
+        return (name, archive), self.ordered(lines)
+
+
+def record_text(kind, url, date):
+    lines = (
+        "WARC/1.1",
+        f"WARC-Type: {kind}",
+        "WARC-Record-ID: <urn:x:1>",
+        f"WARC-Date: {date}",
+        f"WARC-Target-URI: {url}",
+        "Content-Type: text/plain; charset=utf-8",
+        "Content-Length: 3",
+        "",
+        "abc\r\n\r\n",
+    )
+    return "\r\n".join(lines).encode()
+
+
 class Differs(Exception):
     """What differs, with what was wanted and what was found."""
 
@@ -259,6 +325,25 @@ def walk(program, case, names, tried):
         raise Differs(f"the walk in steps of {case.sizes[-1]}\nwanted {wanted}\nfound  {text}")
 
 
+def try_crawl(program, crawl, folder, tried):
+    """`index` writes the plain index of the archives, and `scan` its pages."""
+    for name, archive in crawl.archives:
+        (folder / name).write_bytes(archive)
+    names = [str(folder / name) for name, _ in crawl.archives]
+    option = ("--types", ",".join(crawl.types)) if crawl.types else ()
+    lines = plain.collected(plain.read_lines(crawl.texts))
+    expect(program, (0, b"".join(line.body + b"\n" for line in lines), b""), "index", *option, *names)
+    words = ("scan", *option, ",".join(map(str, crawl.sizes)), crawl.query, *names)
+    try:
+        wanted = (0, plain.pages(plain.read_query(crawl.query), crawl.sizes, lines), b"")
+    except plain.Refused as refusal:
+        wanted = (1, b"", f"warcdx: query: {refusal}\n".encode())
+    expect(program, wanted, *words)
+    tried["archives"] += len(names)
+    tried["captures of archives"] += len(lines)
+    tried["choices of types"] += bool(option)
+
+
 def try_case(program, case, folder, tried):
     names = [folder / f"{number}.cdxj" for number in range(len(case.texts))]
     for name, text in zip(names, case.texts):
@@ -279,16 +364,23 @@ def is_refused(text):
     return False
 
 
+def all_cases(seed, count):
+    """The number of each case, how it is tried, and the case."""
+    for number in range(count):
+        yield number, try_case, Case(random.Random(f"{seed} {number}"))
+        if number % 5 == 0:
+            yield number, try_crawl, Crawl(random.Random(f"{seed} {number} archives"))
+
+
 def main(program=None, cases="5000", seed="1"):
     root = pathlib.Path(__file__).resolve().parent.parent
     program = str(pathlib.Path(program or root / "warcdx").resolve())
     subprocess.run((program, "--help"), stdout=subprocess.DEVNULL, check=True)  # builds it, where it has to be
     tried = collections.Counter()
     with tempfile.TemporaryDirectory() as folder:
-        for number in range(int(cases)):
-            case = Case(random.Random(f"{seed} {number}"))
+        for number, attempt, case in all_cases(seed, int(cases)):
             try:
-                try_case(program, case, pathlib.Path(folder), tried)
+                attempt(program, case, pathlib.Path(folder), tried)
             except Differs as difference:
                 texts = "\n".join(f"index {text!r}" for text in case.texts)
                 print(f"case {number} of seed {seed} differs: {case.query}\n{texts}\n{difference}")

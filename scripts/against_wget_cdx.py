@@ -35,7 +35,7 @@ TEXT = rb"[\t -~\x80-\xff]*"
 FIELD = rb"[-\w!#$%&'*+.^`|~]+:" + TEXT + rb"\r?\n"
 FOLDS = rb"(?:[ \t]" + TEXT + rb"\r?\n)*"
 HTTP_HEAD = re.compile(rb"HTTP/1\.[01] \d{3}(?: " + TEXT + rb")?\r?\n((?:" + FIELD + FOLDS + rb")*)\r?\n")
-MOST_HEAD = 65_536  # bytes
+MOST_HEAD = 1_048_576  # bytes
 MOST_FIELDS = 256
 
 

@@ -34,6 +34,7 @@ make_archives() {
     resource "WARC-Target-URI: http://example.com/q" > q.warc
     resource "WARC-Target-URI: http://example.com/r" > r.warc
     cp r.warc folder
+    sed 's/^WARC-Type: resource/WARC-Type: metadata/' r.warc > m.warc
     cat r.warc q.warc > both.warc
     { cat both.warc; head --bytes=100 r.warc; } > torn.warc
     : > empty.warc
@@ -62,6 +63,12 @@ make_archives() {
     for number in {10000..12999}; do capture "$number" 0 a.warc; done > many.cdxj
     # The index of this one, and the record of the next, are longer than any buffer of the program.
     repeated 20000 < r.warc > captures.warc
+    # Heads and lines at the limit, and one byte over it.
+    long_head 1048576 > head.warc
+    long_head 1048577 > long_head.warc
+    long_line 16777216 > line.cdxj
+    long_line 16777217 > long_line.cdxj
+    head --bytes=-1 long_line.cdxj > open_line.cdxj
     {
         printf '%s\r\n' WARC/1.1 "WARC-Type: metadata" "WARC-Record-ID: <urn:x:2>" "WARC-Date: 2016-09-19T17:20:24Z" \
             "Content-Length: 100000" ""
@@ -73,6 +80,17 @@ make_archives() {
 resource() { # FIELD: a record with the block "abc"
     printf '%s\r\n' WARC/1.1 "WARC-Type: resource" "WARC-Record-ID: <urn:x:1>" "WARC-Date: 2016-09-19T17:20:24Z" \
         "$1" "Content-Length: 3" "" abc ""
+}
+
+long_head() { # BYTES: a record whose head has so many; without the value of its last field it has 117
+    resource "X: $(printf a | repeated $(($1 - 117)))"
+}
+
+long_line() { # BYTES: the line of a capture, its line feed among them
+    local front='k 20160101000000 {"offset": 7, "filename": "a.warc", "x": "'
+    printf '%s' "$front"
+    printf a | repeated $(($1 - ${#front} - 3))
+    echo '"}'
 }
 
 capture() { # PATH OFFSET NAME: the line of a capture
@@ -99,6 +117,11 @@ no_offset() { # WORD
 
 no_sizes() { # WORD
     lines "error: invalid value '$1' for '<SIZES>': sizes are 1 to 1,000 numbers from 1 to 1,000,000, with ',' between" "" \
+        "For more information, try '--help'."
+}
+
+no_types() { # WORD
+    lines "error: invalid value '$1' for '--types <TYPES>': types are one or more of response, resource, revisit, conversion and metadata, with ',' between" "" \
         "For more information, try '--help'."
 }
 
@@ -147,6 +170,9 @@ check "a fault, and a missing file"     "$cut"           "$missing"        3 lis
 check "a folder"                        "fault 0 Read"   ""                3 list folder
 check "a folder, and a good archive"    "$folder_first"  ""                3 list folder same.warc
 
+check "a head of 1,048,576 bytes"       "0 1048583 resource"  ""           0 list head.warc
+check "a head of 1,048,577 bytes"       "fault 0 HeadTooLong" ""           1 list long_head.warc
+
 each=$(lines "0 same" "177 differs" "354 absent" "528 same" "705 not-sha1" "890 not-sha1")
 differs_first=$(lines differs.warc: "0 differs" same.warc: "0 same")
 cut=$(lines cut.warc: "0 same" "fault 177 ShortHead")
@@ -190,6 +216,17 @@ check "index: a folder"                 ""   "warcdx: folder: fault 0 Read" 3 in
 check "index: a folder, and a good archive" "$of_r" "warcdx: folder: fault 0 Read" 3 index folder r.warc
 check "index: a folder without a name"  "$of_r" "warcdx: folder/: BadName" 1 index folder/ r.warc
 check "index: an empty name"            ""      "warcdx: : cannot open"    3 index ""
+
+of_metadata=$(capture r 0 m.warc)
+of_both_types=$(capture r 0 m.warc; capture r 0 r.warc)
+
+check "index: of the usual types"       ""               ""                0 index m.warc
+check "index: --types"                  "$of_metadata"   ""                0 index --types metadata m.warc r.warc
+check "index: --types, two"             "$of_both_types" ""                0 index --types resource,metadata r.warc m.warc
+check "index: --types, others"          ""               ""                0 index --types response,conversion r.warc m.warc
+check "index: --types, a fault"         "$of_torn"       "$torn"           1 index --types revisit,resource torn.warc
+check "index: --types, -"               "$of_input"      ""                0 index --types resource - < r.warc
+check "index: a head of 1,048,577 bytes" "" "warcdx: long_head.warc: fault 0 HeadTooLong" 1 index head.warc long_head.warc
 
 # A record ends with LF, which the comparing adds.
 q=$(< q.warc)
@@ -237,6 +274,12 @@ check "check: a missing file among good ones" "$both_checked" "$missing"   3 che
 check "check: a folder"                 ""  "warcdx: folder: Read"         3 check folder
 check "check: a folder, and an index"   "sorted.cdxj 2" "warcdx: folder: Read" 3 check folder sorted.cdxj
 check "check: - is a file's name"       ""  "warcdx: -: cannot open"       3 check - < sorted.cdxj
+check "check: a line of 16,777,216 bytes" "line.cdxj 1"  ""                0 check line.cdxj
+check "check: a line of 16,777,217 bytes" "" "warcdx: long_line.cdxj: BadLine 0"  1 check long_line.cdxj
+check "check: as many without a line feed" "" "warcdx: open_line.cdxj: BadLine 0" 1 check open_line.cdxj
+check "merge: a line of 16,777,217 bytes" "" "warcdx: long_line.cdxj: BadLine 0"  1 merge line.cdxj long_line.cdxj
+check "query: a line of 16,777,216 bytes" 7              ""                0 query "key=k&fl=offset" line.cdxj
+check "query: a line of 16,777,217 bytes" "" "warcdx: long_line.cdxj: BadLine 0"  1 query "key=k&fl=offset" long_line.cdxj
 
 apart="10.cdxj 20.cdxj 5.cdxj" # words
 of_p="url=example.com/p&fl=filename,offset"
@@ -342,6 +385,7 @@ key_q="com%2Cexample%29%2Fq+20160919172024+both.warc+158"
 scanned_pages=$(lines "com,example)/q both.warc 158" "" "$key_q" "com,example)/r both.warc 0" "com,example)/r r.warc 0")
 scanned_on=$(lines "com,example)/r both.warc 0" "com,example)/r r.warc 0")
 scanned_keys=$(lines "com,example)/q both.warc 158" "" "$key_q" "com,example)/r both.warc 0")
+scanned_types=$(lines "com,example)/r m.warc 0" "com,example)/r r.warc 0")
 twice_r="warcdx: folder/r.warc: DuplicateName"
 
 check "scan: two archives"              "$scanned"       ""                0 scan 9 "$of_archives" r.warc both.warc
@@ -364,6 +408,11 @@ check "scan: a refused query"    "" "warcdx: query: BadUrl"                1 sca
 check "scan: a missing file"            ""               "$missing"        3 scan 1 "$of_archives" torn.warc missing
 check "scan: missing, before too many"  ""               "$missing"        3 scan 1 "$of_archives" missing $too_many
 
+check "scan: of the usual types"        ""               ""                0 scan 9 "$of_archives" m.warc
+check "scan: --types"            "com,example)/r m.warc 0" ""              0 scan --types metadata 9 "$of_archives" m.warc r.warc
+check "scan: --types, two"              "$scanned_types" ""                0 scan --types metadata,resource 9 "$of_archives" r.warc m.warc
+check "scan: --types, a refused query"  "" "warcdx: query: BadUrl"         1 scan --types metadata 1 url= missing
+
 no_list=$(refusal "the following required arguments were not provided:"$'\n  <WARC>...' "list <WARC>...")
 no_verify=$(refusal "the following required arguments were not provided:"$'\n  <WARC>...' "verify <WARC>...")
 no_index=$(refusal "the following required arguments were not provided:"$'\n  <WARC>...' "index <WARC>...")
@@ -378,6 +427,7 @@ no_get=$(refusal "the following required arguments were not provided:"$'\n  <OFF
 no_archive=$(refusal "the following required arguments were not provided:"$'\n  <WARC>' "get <OFFSET> <WARC>")
 one_too_many=$(refusal "unexpected argument 'q.warc' found" "get <OFFSET> <WARC>")
 misspelt=$(refusal "unrecognized subcommand 'lst'"$'\n\n  tip: a similar subcommand exists: \'list\'' "[COMMAND]")
+no_value=$(lines "error: a value is required for '--types <TYPES>' but none was supplied" "" "For more information, try '--help'.")
 no_text=$(lines "error: a word isn't UTF-8" "" "For more information, try '--help'.")
 
 check "list alone"                      "" "$no_list"                      2 list
@@ -397,6 +447,20 @@ done
 check "pages of 1,000 sizes"      "$each_p" "" 0 pages "$(printf '9,%.0s' {1..999})9" "$of_p" $apart
 check "scan alone"                      "" "$no_scan"                      2 scan
 check "scan 0"                          "" "$(no_sizes 0)"                 2 scan 0 url=a missing
+for types in "" , request Response response,response response, ,response "response, resource" warcinfo all; do
+    check "index --types $types"        "" "$(no_types "$types")"          2 index --types "$types" missing
+done
+check "index --types request, scan"     "" "$(no_types request)"           2 scan --types request 1 url=a missing
+check "--types behind a name"           "" "$(unexpected --types)"         2 index m.warc --types metadata
+check "--types twice"                   "" "$(unexpected --types)"         2 index --types metadata --types metadata m.warc
+check "--types before a command"        "" "$(unexpected --types)"         2 --types metadata index m.warc
+check "--types behind sizes"            "" "$(unexpected --types)"         2 scan 1 --types metadata url=a m.warc
+check "--types=metadata"                "" "$(unexpected --types=metadata)" 2 index --types=metadata m.warc
+check "--types of another command"      "" "$(unexpected --types)"         2 list --types metadata m.warc
+check "--types of an option"            "" "$(unexpected -x)"              2 index --types -x m.warc
+check "--types behind -h"               "" "$(unexpected --types)"         2 index -h --types metadata m.warc
+check "--types alone"                   "" "$no_value"                     2 index --types
+check "--types without an archive"      "" "$no_index"                     2 index --types metadata
 check "get alone"                       "" "$no_get"                       2 get
 check "get without an archive"          "" "$no_archive"                   2 get 0
 check "get of two archives"             "" "$one_too_many"                 2 get 0 r.warc q.warc
@@ -427,13 +491,13 @@ check "a name that isn't UTF-8"         "" "$no_text"                      2 lis
 
 of_program=$(lines "Indexes web archives, answers queries, and fetches records" "" "Usage: warcdx [COMMAND]")
 of_list=$(lines "Lists the records of archives" "" "Usage: warcdx list <WARC>...")
-of_index=$(lines "Writes an index of the captures of archives" "" "Usage: warcdx index <WARC>...")
+of_index=$(lines "Writes an index of the captures of archives" "" "Usage: warcdx index [OPTIONS] <WARC>...")
 of_get=$(lines "Writes the record at an offset of an archive" "" "Usage: warcdx get <OFFSET> <WARC>")
 of_check=$(lines "Checks that indexes are sorted, and counts their lines" "" "Usage: warcdx check <INDEX>...")
 of_query=$(lines "Writes the captures that a query asks for" "" "Usage: warcdx query <QUERY> <INDEX>...")
 of_pages=$(lines "Writes the captures that a query asks for, page by page" "" "Usage: warcdx pages <SIZES> <QUERY> <INDEX>...")
 of_serve=$(lines "Answers queries line by line" "" "Usage: warcdx serve <INDEX>...")
-of_scan=$(lines "Writes the captures of archives that a query asks for" "" "Usage: warcdx scan <SIZES> <QUERY> <WARC>...")
+of_scan=$(lines "Writes the captures of archives that a query asks for" "" "Usage: warcdx scan [OPTIONS] <SIZES> <QUERY> <WARC>...")
 of_verify=$(lines "Checks the digests of the records of archives" "" "Usage: warcdx verify <WARC>...")
 
 check_help "-h"                         "$of_program" -h
@@ -445,6 +509,8 @@ check_help "list --help NAME"           "$of_list"    list --help missing
 check_help "verify -h"                  "$of_verify"  verify -h
 check_help "verify NAME NAME --help"    "$of_verify"  verify same.warc missing --help
 check_help "index -h"                   "$of_index"   index -h
+check_help "index --types -h"           "$of_index"   index --types -h
+check_help "index --types TYPES -h"     "$of_index"   index --types request missing -h
 check_help "check -h"                   "$of_check"   check -h
 check_help "query --help"               "$of_query"   query --help
 check_help "query NAME -h"              "$of_query"   query missing -h
@@ -452,6 +518,7 @@ check_help "pages -h"                   "$of_pages"   pages 0 -h
 check_help "serve -h"                   "$of_serve"   serve -h
 check_help "serve NAME --help"          "$of_serve"   serve missing --help
 check_help "scan -h"                    "$of_scan"    scan 0 -h
+check_help "scan --types TYPES -h"      "$of_scan"    scan --types metadata -h
 check_help "get --help"                 "$of_get"     get --help
 check_help "get NAME NAME NAME -h"      "$of_get"     get r.warc q.warc missing -h
 

@@ -11,6 +11,7 @@ CASES = (
     ("list", "response.warc"),
     ("verify", "response.warc"),
     ("index", "response.warc", "wget.warc"),
+    ("index", "--types", "metadata,resource", "response.warc", "wget.warc"),
     ("merge", "response.cdxj", "wget.cdxj"),
     ("check", "response.cdxj", "wget.cdxj"),
     ("query", f"{ALL}&is=length:264&resumeKey=a+20160101000000+a.warc+1", "response.cdxj", "wget.cdxj"),
@@ -23,6 +24,7 @@ CASES = (
     ("get", "0", "response.warc"),
     ("scan", "1,7", ALL, "response.warc", "wget.warc"),
     ("scan", "5", ALL, "response.warc", "damaged.warc"),
+    ("scan", "--types", "metadata", "5", ALL, "response.warc", "wget.warc"),
     ("list", "--help"),
     ("frob",),
 )

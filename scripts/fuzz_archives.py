@@ -17,10 +17,11 @@ def try_archives(trial):
         trial.tally["records"] += len(records)
         trial.tally[f"archive: {fault[1] if fault else 'whole'}"] += 1
     expect_reports(trial, names, reads)
-    index = an_index(trial, names, reads)
+    types = some_types(choice)
+    index = an_index(trial, names, reads, types)
     expect_index(trial, names, index)
     expect_record(trial, names[0], texts[0], *reads[0])
-    expect_scan(trial, names, reads, index)
+    expect_scan(trial, names, reads, types)
     if choice.random() < 0.2:
         expect_input(trial, texts[0], *reads[0])
 
@@ -54,11 +55,21 @@ def faults_said(names, reads):
     return [f"warcdx: {name}: fault {fault[0]} {fault[1]}\n".encode() for name, (_, fault) in zip(names, reads) if fault]
 
 
-def an_index(trial, names, reads):
+def some_types(choice):
+    """The types of the records that are indexed, or none where they aren't chosen."""
+    return choice.sample(plain.INDEXABLE, choice.randint(1, 5)) if choice.random() < 0.5 else None
+
+
+def option(types):
+    return ("--types", ",".join(types)) if types else ()
+
+
+def an_index(trial, names, reads, types=None):
     """The index that the program writes, after its captures were found to be those of the archives."""
-    done = trial.run("index", *names)
+    done = trial.run("index", *option(types), *names)
     trial.check(done.status == any_fault(reads) and done.error == b"".join(faults_said(names, reads)), f"index {names}: {done}")
-    captured = {(name, each.offset): each for name, (records, _) in zip(names, reads) for each in records if plain.target(each)}
+    all_records = ((name, each) for name, (records, _) in zip(names, reads) for each in records)
+    captured = {(name, each.offset): each for name, each in all_records if plain.target(each, types or plain.USUAL)}
     for line in done.output.splitlines():
         key, stamp, said = line.decode().split(" ", 2)
         members = json.loads(said)
@@ -67,6 +78,7 @@ def an_index(trial, names, reads):
         expect_capture(trial, record, stamp, members)
     trial.check(not captured, f"index {names}: no capture of {list(captured)}")
     trial.tally["captures"] += done.output.count(b"\n")
+    trial.tally["indexes of chosen types"] += bool(types)
     return done.output
 
 
@@ -108,14 +120,14 @@ def expect_record(trial, name, text, records, fault):
             trial.check(said and front.startswith(done.output), f"{words}: {done}")
 
 
-def expect_scan(trial, names, reads, index):
+def expect_scan(trial, names, reads, types):
     """`scan` writes what `pages` does over the index, where no archive is damaged."""
     choice = trial.choice
     sizes, query = ",".join(str(choice.randint(1, 4)) for _ in range(choice.randint(1, 3))), mutations.query(choice)
     done = trial.run("pages", sizes, query, "all.cdxj")
     if any_fault(reads) and done.status == 0:
         done = (1, b"", faults_said(names, reads)[0])
-    trial.expect(*done, "scan", sizes, query, *names)
+    trial.expect(*done, "scan", *option(types), sizes, query, *names)
 
 
 def expect_input(trial, text, records, fault):

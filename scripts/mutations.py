@@ -201,7 +201,7 @@ def line(choice):
     end = mostly(choice, 0.95, "", choice.choice((" ", "\t", "\r")))
     said = json.dumps(members, ensure_ascii=not plain)
     text = f"{choice.choice(KEYS)} {choice.choice(STAMPS)} {said}{end}".encode()
-    if choice.random() < 0.0002:
+    if choice.random() < 0.00002:
         text = text.replace(b"/example.com/", b"/" + bytes_up_to(choice, LINE_LIMIT - len(text) + 12))
     return text
 

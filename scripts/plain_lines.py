@@ -7,7 +7,7 @@ import math
 import re
 from typing import NamedTuple
 
-LINE_LIMIT = 1_048_576
+LINE_LIMIT = 16_777_216
 DEPTH_LIMIT = 127
 KEY = re.compile("[^\0-\x20\x7f]+")
 STAMP = re.compile("[0-9]{14}")

@@ -10,12 +10,13 @@ from typing import NamedTuple
 
 VERSIONS = (b"WARC/1.1\r\n", b"WARC/1.0\r\n")
 CLOSING = b"\r\n\r\n"
-HEAD_LIMIT = 65_536
+HEAD_LIMIT = 1_048_576
 HTTP_HEAD_LIMIT = 65_536
 END_LIMIT = (1 << 63) - 1
 MANDATORY = (b"warc-record-id", b"content-length", b"warc-date", b"warc-type")
 KINDS = ("warcinfo", "response", "resource", "request", "metadata", "revisit", "conversion", "continuation")
-INDEXED = ("response", "resource", "revisit")
+INDEXABLE = ("response", "resource", "revisit", "conversion", "metadata")
+USUAL = INDEXABLE[:3]
 NAME = re.compile(rb"[!#$%&'*+.0-9A-Z^_`a-z|~-]+")
 DATE = re.compile(rb"(\d{4})(?:-(\d\d)(?:-(\d\d)(?:T(\d\d):(\d\d)(?::(\d\d)(?:\.\d{1,9})?)?Z)?)?)?")
 DIGEST = re.compile(rb"sha1:([a-z2-7]{32})", re.IGNORECASE)
@@ -124,9 +125,9 @@ def read_stamp(value):
 # ---- captures
 
 
-def target(record):
-    """The address of a record that is indexed, else nothing."""
-    value = record.fields.get(b"warc-target-uri", b"") if record.kind in INDEXED else b""
+def target(record, types=USUAL):
+    """The address of a record of one of these types, else nothing."""
+    value = record.fields.get(b"warc-target-uri", b"") if record.kind in types else b""
     return value[1:-1] if len(value) > 1 and value[:1] + value[-1:] == b"<>" else value
 
 
@@ -141,17 +142,20 @@ def known_members(record, filename):
     given = re.sub(rb"\Asha1:", b"", record.fields.get(b"warc-payload-digest", b""), flags=re.IGNORECASE)
     kind = cut(record.fields.get(b"content-type", b""))
     is_http = kind.lower() == b"application/http"
+    is_headless = not is_http or record.kind not in ("response", "revisit")
     if record.kind == "revisit":
         members["mime"] = "warc/revisit"
     elif not is_http:
         members["mime"] = text_of(kind) or "-"
-    if record.kind == "resource" or not is_http:
+    elif is_headless:
+        members["mime"] = "-"
+    if is_headless:
         members["status"] = "-"
     if given:
         members["digest"] = text_of(given)
     elif record.kind == "revisit":
         members["digest"] = "-"
-    elif record.kind == "resource" or not is_http:
+    elif is_headless:
         members["digest"] = base_32(record.block).decode()
     return read_stamp(record.fields[b"warc-date"]), members
 

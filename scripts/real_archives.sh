@@ -7,7 +7,7 @@
 # NAME-meta.warc. README.md has a call of wget that makes such files. Each crawl is indexed twice: as it is, and, in a
 # temporary folder, with each WARC-Payload-Digest under a name of the same length that says nothing, so that the digests of
 # its index are those that warcdx has made. The archives of a crawl are also indexed one by one, and the indexes merged, and
-# each index is asked for what stands in it, and the archives for the same without it.
+# each index is asked for what stands in it, and the archives for the same without it. An index of all types is compared with it.
 #
 # Prints a line for each check. The status is 1 where one fails.
 set -euo pipefail
@@ -72,6 +72,7 @@ check_crawl() { # CASE FOLDER NAME
     check "$1, check" is_checked
     check "$1, index of each archive" index_each "${archives[@]}"
     check "$1, merge" is_merged
+    check "$1, all types" "$scripts/check_types.py" "$work/index" "$program" "${archives[@]}"
     check "$1, queries" "$scripts/check_queries.py" "$work/index" "$program"
     check "$1, scans" "$scripts/check_scans.py" "$work/index" "$program" "${archives[@]}"
     check "$1, against wget's CDX" "$scripts/against_wget_cdx.py" "$work/index" "$folder/$3.cdx" "$2"
