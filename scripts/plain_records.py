@@ -134,7 +134,7 @@ def target(record, types=USUAL):
 def known_members(record, filename):
     """The stamp of a record's capture, and those members of its line that no HTTP head decides."""
     members = {
-        "url": text_of(target(record)),
+        "url": text_of(target(record, INDEXABLE)),
         "length": str(record.length),
         "offset": str(record.offset),
         "filename": filename,
