@@ -121,7 +121,7 @@ no_sizes() { # WORD
 }
 
 no_types() { # WORD
-    lines "error: invalid value '$1' for '--types <TYPES>': types are one or more of response, resource, revisit, conversion and metadata, with ',' between" "" \
+    lines "error: invalid value '$1' for '--types <TYPES>': types are response, resource, revisit, conversion and metadata, each once at most, with ',' between" "" \
         "For more information, try '--help'."
 }
 
