@@ -1,4 +1,4 @@
-# What bad_input.sh and commands.sh share: the cases, each one run of the program. They source it with their own words, and
+# What bad_input.sh, commands.sh and words.sh share: the cases, each one run of the program. They source it with their own words, and
 # then stand in a folder made for them, which is removed when they end.
 program=$(readlink -f "${1:-$root/warcdx}")
 work=$(mktemp -d)
