@@ -157,7 +157,10 @@ fn is_scanned(alloc: Global, case: &Case, types: Types) -> Result<bool, Fail> {
 #[test]
 fn scans_write_pages_or_refuse(rt: HostRuntime) -> Result<(), Fail> {
     for (number, case) in CASES.iter().enumerate() {
-        assert!(rt; is_scanned(rt.alloc(), case, Types::usual())?, "case {number}");
+        assert!(rt;
+            is_scanned(rt.alloc(), case, Types::usual())?,
+            "case {number}"
+        );
     }
     Ok(())
 }

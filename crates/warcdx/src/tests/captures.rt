@@ -50,8 +50,18 @@ fn push_line(text: &mut Vec<u8>, first: &[u8], second: &[u8]) -> Result<(), Allo
     text.extend_from_slice(b"\r\n")
 }
 
-/// The capture of the record after those that were read, under a name that isn't empty, where its type is one of these.
+/// The capture of the record after those that were read, under a name that isn't empty.
 fn next_capture(
+    alloc: Global,
+    reader: &mut Reader,
+    input: &mut Slice<'_>,
+    name: &str,
+) -> Result<Option<Entry>, CaptureFault> {
+    next_among(alloc, reader, input, name, Types::usual())
+}
+
+/// The same, where the record's type is one of these.
+fn next_among(
     alloc: Global,
     reader: &mut Reader,
     input: &mut Slice<'_>,
@@ -68,16 +78,10 @@ fn next_capture(
     }
 }
 
-/// The capture of the first record, where its type is one of these.
-fn captured(alloc: Global, archive: &[u8], types: Types) -> Result<Option<Entry>, Fail> {
+/// The capture of the first record.
+fn captured(alloc: Global, archive: &[u8]) -> Result<Option<Entry>, Fail> {
     let mut reader = Reader::new(alloc)?;
-    Ok(next_capture(
-        alloc,
-        &mut reader,
-        &mut Slice::new(archive),
-        "a.warc",
-        types,
-    )?)
+    Ok(next_capture(alloc, &mut reader, &mut Slice::new(archive), "a.warc")?)
 }
 
 /// The capture of a record of `http://x/`.
@@ -87,10 +91,11 @@ fn capture_of(
     fields: &[u8],
     block: &[u8],
 ) -> Result<Option<Entry>, Fail> {
-    capture_among(alloc, Types::usual(), kind, fields, block)
+    let text = record_text(alloc, kind, b"http://x/", fields, block)?;
+    captured(alloc, text.as_slice())
 }
 
-/// The same, where its type is one of these.
+/// The same, where the record's type is one of these.
 fn capture_among(
     alloc: Global,
     types: Types,
@@ -99,7 +104,9 @@ fn capture_among(
     block: &[u8],
 ) -> Result<Option<Entry>, Fail> {
     let text = record_text(alloc, kind, b"http://x/", fields, block)?;
-    captured(alloc, text.as_slice(), types)
+    let mut input = Slice::new(text.as_slice());
+    let mut reader = Reader::new(alloc)?;
+    Ok(next_among(alloc, &mut reader, &mut input, "a.warc", types)?)
 }
 
 /// Whether the capture has this media type, status and digest.

@@ -113,20 +113,30 @@ const CHOSEN: &[(&str, &[u8], &[u8])] = &[
 ];
 
 /// Whether the index of this archive for these types has these lines, of which there is one or none.
-fn indexes_types(alloc: Global, types: &str, archive: &[u8], lines: &[u8]) -> Result<bool, Refused> {
+fn indexes_types(
+    alloc: Global,
+    types: &str,
+    archive: &[u8],
+    lines: &[u8],
+) -> Result<bool, Refused> {
     let Some(types) = Types::read(types) else {
         return Ok(false);
     };
     let number = u64::from(!lines.is_empty());
     let mut indexer = Indexer::new(alloc, types);
-    Ok(added(&mut indexer, "m.warc", archive)? == Ok(number)
-        && writes(alloc, &indexer, lines, number)?)
+    Ok(
+        added(&mut indexer, "m.warc", archive)? == Ok(number)
+            && writes(alloc, &indexer, lines, number)?,
+    )
 }
 
 #[test]
 fn an_indexer_takes_records_of_its_types(rt: HostRuntime) -> Result<(), Fail> {
     for (types, archive, lines) in CHOSEN {
-        assert!(rt; indexes_types(rt.alloc(), types, archive, lines)?, "{types}");
+        assert!(rt;
+            indexes_types(rt.alloc(), types, archive, lines)?,
+            "{types}"
+        );
     }
     Ok(())
 }

@@ -165,7 +165,10 @@ fn takes_resources<R: Runtime + AllocGlobal>(rt: &R) -> Result<bool, Refused> {
     };
     let indexed = index_of(alloc, types, &["b.warc"]);
     let found = scan_of(alloc, types, &[1], "key=com,example)/", &["whole/b.warc"]);
-    Ok(writes(rt, indexed, &[RESOURCE_LINE], SHORT_BLOCK)? && writes(rt, found, &[], Outcome::Done)?)
+    Ok(
+        writes(rt, indexed, &[RESOURCE_LINE], SHORT_BLOCK)?
+            && writes(rt, found, &[], Outcome::Done)?,
+    )
 }
 
 /// Whether a first part of the response is written before its block ends too early.

@@ -14,12 +14,7 @@ enum Wanted {
     Pages(&'static [u64], &'static str, &'static [&'static str]),
     Serve(&'static [&'static str]),
     Get(u64, &'static str),
-    Scan(
-        &'static str,
-        &'static [u64],
-        &'static str,
-        &'static [&'static str],
-    ),
+    Scan(&'static str, &'static [u64], &'static str, &'static [&'static str]),
     Help(&'static str),
     Usage(&'static str),
 }
@@ -213,7 +208,10 @@ const ROWS: &[(&[&str], Wanted)] = &[
         &["pages", "--types", "metadata", "1", "url=a", "i"],
         TYPES_ELSEWHERE,
     ),
-    (&["index", "-h", "--types", "metadata", "a"], TYPES_ELSEWHERE),
+    (
+        &["index", "-h", "--types", "metadata", "a"],
+        TYPES_ELSEWHERE,
+    ),
     (&["index", "--types", "-x", "a"], WITH_X),
     (&["index", "--types", "-h"], INDEX),
     (&["index", "--types", "request", "-h"], INDEX),

@@ -1,6 +1,5 @@
 use super::super::{RESOURCE, RESPONSE, joined};
 use super::next_capture;
-use capture_core::Types;
 use cdxj_core::{Entry, write_line};
 use std::alloc::Global;
 use std::test::Fail;
@@ -60,7 +59,7 @@ fn lines_of(alloc: Global, archive: &[u8]) -> Result<Vec<u8>, Fail> {
     let mut reader = Reader::new(alloc)?;
     let mut lines = Vec::new(alloc);
     for _ in 0..2 {
-        if let Some(entry) = next_capture(alloc, &mut reader, &mut input, "a.warc", Types::usual())? {
+        if let Some(entry) = next_capture(alloc, &mut reader, &mut input, "a.warc")? {
             push_line(alloc, &mut lines, &entry)?;
         }
     }

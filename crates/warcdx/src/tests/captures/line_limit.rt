@@ -1,6 +1,6 @@
 use super::super::{RESOURCE, RESPONSE, joined};
 use super::next_capture;
-use capture_core::{CaptureFault, Types};
+use capture_core::CaptureFault;
 use std::alloc::Global;
 use std::test::Fail;
 use warc_core::{Reader, Slice};
@@ -10,7 +10,7 @@ use warc_core::{Reader, Slice};
 fn too_long(alloc: Global, archive: &[u8], name: &str) -> Result<Option<(u64, u64)>, Fail> {
     let mut input = Slice::new(archive);
     let mut reader = Reader::new(alloc)?;
-    match next_capture(alloc, &mut reader, &mut input, name, Types::usual()) {
+    match next_capture(alloc, &mut reader, &mut input, name) {
         Ok(_captured) => Ok(None),
         Err(CaptureFault::LineTooLong(offset)) => {
             Ok(reader.next(&mut input)?.map(|head| (offset, head.start())))

@@ -1,5 +1,4 @@
 use super::{captured, record_text};
-use capture_core::Types;
 use cdxj_core::Entry;
 use std::alloc::Global;
 use std::test::Fail;
@@ -29,7 +28,7 @@ const TARGETS: &[(&str, &[u8], Option<&str>)] = &[
 /// The capture of a record of this type and target.
 fn capture_under(alloc: Global, kind: &str, target: &[u8]) -> Result<Option<Entry>, Fail> {
     let text = record_text(alloc, kind, target, b"", b"")?;
-    captured(alloc, text.as_slice(), Types::usual())
+    captured(alloc, text.as_slice())
 }
 
 fn has_url(captured: &Option<Entry>, wanted: Option<&str>) -> bool {

@@ -1,5 +1,5 @@
 //! Sets of types, and the captures of records that aren't of the usual ones.
-use super::{ABC, EMPTY, HTTP, capture_among, says};
+use super::{ABC, EMPTY, HTTP, capture_among, capture_of, says};
 use capture_core::Types;
 use std::alloc::Global;
 use std::test::Fail;
@@ -93,13 +93,19 @@ const SAMPLES: &[(&str, &[u8], &[u8], &str, &str)] = &[
     ("metadata", PLAIN, b"abc", "text/plain", ABC),
     ("Metadata", b"", b"", "-", EMPTY),
     ("metadata", HTTP, PAGE, "-", WHOLE_PAGE),
-    ("metadata", b"WARC-Payload-Digest: sha1:ABC\r\n", b"abc", "-", "ABC"),
+    (
+        "metadata",
+        b"WARC-Payload-Digest: sha1:ABC\r\n",
+        b"abc",
+        "-",
+        "ABC",
+    ),
     ("conversion", PLAIN, b"abc", "text/plain", ABC),
     ("CONVERSION", b"", b"abc", "-", ABC),
     ("conversion", HTTP, PAGE, "-", WHOLE_PAGE),
 ];
 
-/// Whether a record is captured so among conversion and metadata records, and not among others.
+/// Whether a record is captured so among conversion and metadata records, and not among the usual ones.
 fn is_captured(
     alloc: Global,
     kind: &str,
@@ -112,8 +118,8 @@ fn is_captured(
         return Ok(false);
     };
     let captured = capture_among(alloc, types, kind, fields, block)?;
-    let among_usual = capture_among(alloc, Types::usual(), kind, fields, block)?;
-    Ok(says(&captured, mime, "-", digest) && among_usual.is_none())
+    let usual = capture_of(alloc, kind, fields, block)?;
+    Ok(says(&captured, mime, "-", digest) && usual.is_none())
 }
 
 #[test]
@@ -134,8 +140,13 @@ fn other_types_are_left_out(rt: HostRuntime) -> Result<(), Fail> {
     let Some(types) = Types::read("conversion,metadata") else {
         return Err("no types")?;
     };
-    for kind in ["response", "resource", "revisit", "warcinfo", "request", "x"] {
-        assert!(rt; capture_among(rt.alloc(), types, kind, b"", b"")?.is_none(), "{kind}");
+    for kind in [
+        "response", "resource", "revisit", "warcinfo", "request", "x",
+    ] {
+        assert!(rt;
+            capture_among(rt.alloc(), types, kind, b"", b"")?.is_none(),
+            "{kind}"
+        );
     }
     Ok(())
 }
