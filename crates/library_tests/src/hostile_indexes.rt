@@ -190,9 +190,7 @@ const LENGTHS: &[(usize, bool, bool)] = &[
     (16_777_216, true, true),
     (16_777_216, false, false),
     (16_777_217, true, false),
-    (16_777_217, false, false),
     (20_000_000, true, false),
-    (20_000_000, false, false),
 ];
 
 fn is_read_or_bad(

@@ -28,7 +28,6 @@ fn offset_of(alloc: Global, length: usize, feed: bool) -> Result<Option<u64>, Li
 const LENGTHS: &[(usize, bool, bool)] = &[
     (1_048_577, true, true),
     (16_777_215, false, true),
-    (16_777_215, true, true),
     (16_777_216, true, true),
     (16_777_216, false, false),
     (16_777_217, true, false),
