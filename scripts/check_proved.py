@@ -1,5 +1,5 @@
 #!/usr/bin/env python3
-"""Looks up each clause that docs/PROVED.md names in the contract of its call.
+"""Looks up each clause that docs/PROVED.md names, call by call, in the contract of its call.
 
 usage: check_proved.py
 
@@ -47,11 +47,14 @@ def calls(cell):
         yield owner, name
 
 
+COLUMNS = 7
+
+
 def rows():
-    """The cells of each row of the tables, without the heads."""
+    """The cells of each row of the tables by call, without the heads."""
     for line in (ROOT / "docs/PROVED.md").read_text().splitlines():
         cells = [cell.strip() for cell in line.strip("|").split("|")]
-        if line.startswith("| `"):
+        if line.startswith("| `") and len(cells) == COLUMNS:
             yield cells[0], [clause for cell in cells[1:] for clause in names(cell)]
 
 
