@@ -1,3 +1,4 @@
+pub mod TypeNames
 pub mod Bits
 pub mod HeadLemmas
 pub mod DigestLemmas

@@ -68,10 +68,7 @@ impl Types {
         ensures { result ≡ with_names self (slice_split is_comma names.now) }
     {
         match names.split_once(',') {
-            Some((name, others)) => match self.with_name(name) {
-                Some(types) => types.with_names(others),
-                None => None,
-            },
+            Some((name, others)) => self.with_name(name)?.with_names(others),
             None => self.with_name(names),
         }
     }

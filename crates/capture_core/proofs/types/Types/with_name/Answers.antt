@@ -1,0 +1,15 @@
+use Rattle.std.proofs.Common.{◌≡◌, Bool, true, false, List, ℕ, bytes_eq, refl, sym}
+use Rattle.std.proofs.lemmas.Slice.Eq.{bytes_eq-Decides}
+use Rattle.capture_core.proofs.types.Types.with_name.Goals as goal
+
+other : (kind name : List ℕ) → (name ≡ kind → ⊥) → bytes_eq kind name ≡ false
+other kind name differ = go (bytes_eq kind name) refl
+  where
+    go : (b : Bool) → bytes_eq kind name ≡ b → b ≡ false
+    go false e = refl
+    go true e = absurd (differ (sym ((bytes_eq-Decides kind name).0 e)))
+
+pub returns-in_default : goal.returns-in_default
+returns-in_default c =
+    let d = c.in_default in
+    rw (other _ _ d.not-response, other _ _ d.not-resource, other _ _ d.not-revisit, other _ _ d.not-conversion, other _ _ d.not-metadata) refl
