@@ -1,5 +1,5 @@
 -- The captures that are added, one record further, at the end, and at a fault.
-use Rattle.std.proofs.Common.{◌≡◌, ◌∙◌, ℕ, ◌+◌, ◌≤◌, Bool, List, [], ◌∷◌, ◌++◌, Option, None, Some, Result, Ok, Err, IfSome, option_to_list, length, take, drop, sym, ap, refl, subst, append-nil, append_assoc}
+use Rattle.std.proofs.Common.{◌≡◌, ◌∙◌, ℕ, ◌+◌, ◌≤◌, Bool, List, [], ◌∷◌, ◌++◌, Option, None, Some, Result, Ok, Err, IfSome, option_to_list, length, take, drop, sym, ap, ap₂, refl, subst, append-nil, append_assoc}
 use Rattle.std.specs.Bool.{⊤}
 use Rattle.std.proofs.Math.Seq.{drop-append_seam}
 use Rattle.warc_core.specs.Kind.{Kind}
@@ -20,9 +20,12 @@ use Rattle.capture_core.specs.Indexed.{url_of}
 use Rattle.capture_core.specs.Capture.{IsCapture}
 use Rattle.capture_core.specs.CaptureAnswer.{Limits, IsEntryOf, Captures}
 use Rattle.capture_core.specs.RecordReading.{IsFaultAt, read_to, reading_of}
-use Rattle.index_core.specs.Accepted.{IsCaptureAt, IsCaptured, AreCaptured, IsAccepted, IsRefused}
+use Rattle.index_core.specs.Accepted.{IsCaptureAt, IsCaptured, AreCaptured, IsAccepted, IsAcceptedTo, IsRefused}
 use Rattle.capture_core.specs.Fault.{fault_offset}
+use Rattle.capture_core.specs.declared.types.Types.{Types}
+use Rattle.index_core.specs.Adding.{with_archive}
 use Rattle.index_core.specs.Captures.{TakesRecord}
+use Rattle.index_core.specs.Indexing.{Held}
 use Rattle.index_core.proofs.ReportLemmas.{stopped_anywhere}
 use Rattle.index_core.proofs.VerdictLemmas.{behind}
 
@@ -102,3 +105,26 @@ module _ (types : Kind → Bool) (limits : Limits) (limit : ℕ) (name : List �
     whole = record { end = o; walks = subst (Walks limit 0 archive s.0 o) (none_at_end limit o z y r) s.1 };
     captured = s.2;
   }
+
+  -- what comes next is refused
+  pub AddedSoFar-refused : (left now : Option (List ℕ)) (o : ℕ) (gained : List EntryValue) (fault : CaptureFault) → AddedSoFar left now o gained
+      → (fault_offset fault ≡ o) × IfSome now (λ bytes. IsRefused types limits limit name o bytes fault) → IfSome left (λ archive. IsAcceptedTo types limits limit name fault archive gained)
+  AddedSoFar-refused None now o gained fault s r = tt
+  AddedSoFar-refused (Some archive) None o gained fault s r = absurd s
+  AddedSoFar-refused (Some archive) (Some z) o gained fault s r = record {
+    heads = s.0;
+    rest = z;
+    walks = subst (λ n. Walks limit 0 archive s.0 n z) (sym r.0) s.1;
+    captured = s.2;
+    refused = subst (λ n. IsRefused types limits limit name n z fault) (sym r.0) r.1;
+  }
+
+  -- memory is refused before anything is read
+  pub none_added : (left : Option (List ℕ)) → IfSome left (λ archive. IsAcceptedTo types limits limit name (Archive (record { offset = 0; cause = causes.Memory })) archive [])
+  none_added None = tt
+  none_added (Some archive) = record { heads = []; rest = archive; walks = (refl, refl); captured = refl; refused = tt }
+
+-- what is held with the captures of one more archive
+pub held_more : (types : Types) (names more : List (List ℕ)) (captures those gained : List EntryValue) (name : List ℕ) → more ≡ names ++ name ∷ [] → those ≡ captures ++ gained
+    → ◌≡◌ {A = Held} (record { types = types; names = more; captures = those }) (with_archive name gained (record { types = types; names = names; captures = captures }))
+held_more types names more captures those gained name e f = ap₂ (λ (ns : List (List ℕ)) (es : List EntryValue). record { types = types; names = ns; captures = es }) e f

@@ -1,4 +1,5 @@
-use Rattle.std.proofs.Common.{◌∙◌, ◌++◌, List, length, length-append, option_to_list, ap, sym, subst, append_assoc, arith}
+use Rattle.std.proofs.lemmas.Result.{err_from_is_err_and}
+use Rattle.std.proofs.Common.{◌∙◌, ◌++◌, [], append-nil, List, length, length-append, option_to_list, ap, sym, subst, append_assoc, arith}
 use Rattle.warc_core.specs.declared.next.TheConstants.{HEAD_LIMIT}
 use Rattle.cdxj_core.specs.declared.limit.TheConstants.{LINE_LIMIT}
 use Rattle.cdxj_core.specs.Entries.{EntryValue}
@@ -6,7 +7,7 @@ use Rattle.capture_core.specs.Types.{includes}
 use Rattle.capture_core.specs.CaptureAnswer.{usual_limits}
 use Rattle.index_core.specs.Indexing.{AreSound}
 use Rattle.index_core.specs.Captures.{StandBefore}
-use Rattle.index_core.proofs.AddingLemmas.{AddedSoFar-more, AddedSoFar-end}
+use Rattle.index_core.proofs.AddingLemmas.{AddedSoFar-more, AddedSoFar-end, AddedSoFar-refused, none_added}
 use Rattle.index_core.proofs.SoundLemmas.{before_step, sound_step}
 use Rattle.index_core.proofs.captures.add_captures.Goals as goal
 
@@ -15,6 +16,16 @@ returns-in-Ok-None-clause-gains g c =
     let e = rw c.in-Ok-None.field-0-is at c.in-Ok-None.ensures in
     let s = c.loop-captures.invariant.gains in
     (s.0, s.1, (omega (arith, c.len.ensures, c.loop-captures.invariant.held, ap length s.1, length-append c.args.captures.now.items s.0), AddedSoFar-end (includes c.args.types) usual_limits HEAD_LIMIT c.args.name.now _ _ _ c.loop-captures.reader.offset s.0 s.2 e.takes))
+
+pub returns-in_err-reader-clause-gains : goal.returns-in_err-reader-clause-gains
+returns-in_err-reader-clause-gains g c =
+    let p = err_from_is_err_and c.from_residual.result c.from_residual.ensures.1 in
+    ([], sym (append-nil c.args.captures.now.items), rw (p.1, p.2, c.in_err-reader.ensures.memory) (none_added (includes c.args.types) usual_limits HEAD_LIMIT c.args.name.now (g.I.Input.remaining c.args.input.now)))
+
+pub returns-in-Err-clause-gains : goal.returns-in-Err-clause-gains
+returns-in-Err-clause-gains g c =
+    let i = c.loop-captures.invariant.gains in
+    (i.0, i.1, AddedSoFar-refused (includes c.args.types) usual_limits HEAD_LIMIT c.args.name.now _ _ c.loop-captures.reader.offset i.0 c.in-Err.fault i.2 c.in-Err.ensures.takes)
 
 pub loop-captures-preserved : goal.loop-captures-preserved
 loop-captures-preserved g c =

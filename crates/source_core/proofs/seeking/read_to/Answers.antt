@@ -27,6 +27,9 @@ returns-after-loop-front-clause-gave g c =
     let inv = c.loop-front.invariant in
     λ t e b. let m = front_most t c.args.offset c.loop-front.front.items (inv.told t e b) in omega (arith, inv.gave, m)
 
+pub returns-then-ends-clause-some : goal.returns-then-ends-clause-some
+returns-then-ends-clause-some g c = let some = c.in_ok-ends.ensures.some in omega (arith, some, c.loop-front.invariant.grown)
+
 pub loop-front-preserved : goal.loop-front-preserved
 loop-front-preserved g c =
     let inv = c.loop-front.invariant in
@@ -45,5 +48,6 @@ loop-front-preserved g c =
       as_long = piece ∙ inv.as_long;
       within = omega (arith, ok.within, inv.extent, inv.size);
       short = omega (arith, ok.most, inv.short, length-take most c.loop-front.piece, c.min-most.ensures, c.len.ensures, c.len-in-loop-front-2.ensures);
+      grown = omega (arith, ok.some, inv.grown);
       told = λ t e b. subst (λ ends. ReadsOn t c.args.offset c.read_on.new.front.items ends) c.if-ends.false (ok.reads t (inv.text ∙ e) (inv.told t e b));
     }

@@ -13,6 +13,7 @@ invariant-loop-front g l = record {
   as_long : length l.piece ≡ length l.fn.piece;
   within : l.offset + length l.front.items ≤ l.size;
   short : length l.front.items ≤ l.wanted;
+  grown : length l.fn.front.items ≤ length l.front.items;
   told : (t : List ℕ) → g.S.Source.text l.fn.source ≡ Some t → BeginsWith t l.offset l.fn.front.items → BeginsWith t l.offset l.front.items;
 }
 
