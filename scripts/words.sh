@@ -67,6 +67,7 @@ no_get=$(refusal "the following required arguments were not provided:"$'\n  <OFF
 no_archive=$(refusal "the following required arguments were not provided:"$'\n  <WARC>' "get <OFFSET> <WARC>")
 one_too_many=$(refusal "unexpected argument 'q.warc' found" "get <OFFSET> <WARC>")
 misspelt=$(refusal "unrecognized subcommand 'lst'"$'\n\n  tip: a similar subcommand exists: \'list\'' "[COMMAND]")
+no_typed=$(refusal "the following required arguments were not provided:"$'\n  <WARC>...' "index --types <TYPES> <WARC>...")
 no_value=$(lines "error: a value is required for '--types <TYPES>' but none was supplied" "" "For more information, try '--help'.")
 no_text=$(lines "error: a word isn't UTF-8" "" "For more information, try '--help'.")
 
@@ -100,7 +101,7 @@ check "--types of another command"      "" "$(unexpected --types)"         2 lis
 check "--types of an option"            "" "$(unexpected -x)"              2 index --types -x m.warc
 check "--types behind -h"               "" "$(unexpected --types)"         2 index -h --types metadata m.warc
 check "--types alone"                   "" "$no_value"                     2 index --types
-check "--types without an archive"      "" "$no_index"                     2 index --types metadata
+check "--types without an archive"      "" "$no_typed"                     2 index --types metadata
 check "get alone"                       "" "$no_get"                       2 get
 check "get without an archive"          "" "$no_archive"                   2 get 0
 check "get of two archives"             "" "$one_too_many"                 2 get 0 r.warc q.warc
