@@ -39,6 +39,11 @@ unexpected() { # OPTION
         "For more information, try '--help'."
 }
 
+misplaced() { # OPTION
+    lines "error: unexpected option '$1'" "" "  tip: '--types TYPES' stands once, directly after 'index' or 'scan'" "" \
+        "For more information, try '--help'."
+}
+
 # check_help CASE LINES WORD..
 # the help that begins with these lines, on standard output alone
 check_help() {
@@ -92,14 +97,14 @@ for types in "" , request Response response,response response, ,response "respon
     check "index --types $types"        "" "$(no_types "$types")"          2 index --types "$types" missing
 done
 check "index --types request, scan"     "" "$(no_types request)"           2 scan --types request 1 url=a missing
-check "--types behind a name"           "" "$(unexpected --types)"         2 index m.warc --types metadata
-check "--types twice"                   "" "$(unexpected --types)"         2 index --types metadata --types metadata m.warc
-check "--types before a command"        "" "$(unexpected --types)"         2 --types metadata index m.warc
-check "--types behind sizes"            "" "$(unexpected --types)"         2 scan 1 --types metadata url=a m.warc
-check "--types=metadata"                "" "$(unexpected --types=metadata)" 2 index --types=metadata m.warc
-check "--types of another command"      "" "$(unexpected --types)"         2 list --types metadata m.warc
+check "--types behind a name"           "" "$(misplaced --types)"         2 index m.warc --types metadata
+check "--types twice"                   "" "$(misplaced --types)"         2 index --types metadata --types metadata m.warc
+check "--types before a command"        "" "$(misplaced --types)"         2 --types metadata index m.warc
+check "--types behind sizes"            "" "$(misplaced --types)"         2 scan 1 --types metadata url=a m.warc
+check "--types=metadata"                "" "$(misplaced --types=metadata)" 2 index --types=metadata m.warc
+check "--types of another command"      "" "$(misplaced --types)"         2 list --types metadata m.warc
 check "--types of an option"            "" "$(unexpected -x)"              2 index --types -x m.warc
-check "--types behind -h"               "" "$(unexpected --types)"         2 index -h --types metadata m.warc
+check "--types behind -h"               "" "$(misplaced --types)"         2 index -h --types metadata m.warc
 check "--types alone"                   "" "$no_value"                     2 index --types
 check "--types without an archive"      "" "$no_typed"                     2 index --types metadata
 check "get alone"                       "" "$no_get"                       2 get
