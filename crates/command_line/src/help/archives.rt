@@ -107,7 +107,7 @@ error, with the offset of the record at fault:
 can't be indexed, and the archive is indexed up to it:
 
   KeyTooLong    the record's URL is too long for the URL parser
-  LineTooLong   the record's line would be longer than 1,048,576 bytes
+  LineTooLong   the record's line would be longer than 16,777,216 bytes
 
 Examples:
   warcdx index crawl.warc > crawl.cdxj

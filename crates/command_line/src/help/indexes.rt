@@ -55,7 +55,7 @@ standard error, with the offset at which it begins, in bytes:
 
 CAUSE is one of these:
 
-  BadLine     the line is not one of a capture, or it is longer than 1,048,576
+  BadLine     the line is not one of a capture, or it is longer than 16,777,216
               bytes, line feed included
   OutOfOrder  the line's key and stamp are below those of the line before it
 
