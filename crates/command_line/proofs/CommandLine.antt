@@ -1,5 +1,5 @@
 -- What clap answers to the words of a command line.
-use Rattle.std.proofs.Common.{arith, refl, ◌≡◌, ◌<◌, ◌^◌, ◌&&◌, ◌⊎◌, List, [], ◌∷◌, Option, Some, None, Bool, true, false, length, ap, ◌∙◌, sym, inl, inr, find, Err}
+use Rattle.std.proofs.Common.{arith, refl, ◌≡◌, ◌<◌, ◌^◌, ◌&&◌, ◌⊎◌, List, [], ◌∷◌, Option, Some, None, Bool, true, false, codes, length, ap, ap₂, ◌∙◌, sym, inl, inr, find, Err}
 use Rattle.std.specs.List.{list_any, list_all}
 use Rattle.std.specs.Option.{IfSome, ok_or}
 use Rattle.clap.specs.Words.{Row, subcommand_of, fault_of, IsAmong}
@@ -8,10 +8,13 @@ use Rattle.clap.specs.Faults.{walk_fault, defaults_fault}
 use Rattle.clap.specs.declared.error.kind.ErrorKind.{ErrorKind}
 use Rattle.clap.specs.declared.error.kind.ErrorKind.TheVariants as kind
 use Rattle.command_line.specs.Words.{Text, asks_for_help, is_unknown_option}
-use Rattle.command_line.specs.Commands.{Meaning, Form, Refusal, Help, Usage, asked, help_or_usage, task_of, operands_task, command_of, commands}
+use Rattle.command_line.specs.Commands.{Meaning, ToIndex, ToScan, Form, Typed, TypedSizes, Refusal, Help, Usage, asked, help_or_usage, task_of, operands_task, command_of, commands, takes_types, is_typed_command, chooses_types, other_words}
 use Rattle.command_line.specs.Clap.{warcdx, matches_task, refusal_for}
 use Rattle.command_line.proofs.PlainWords.{IsPlain, AllPlain, plain_word}
-use Rattle.command_line.proofs.Operands.{fits, reads, unfit_task, level_fits, level_unfit, level_help, is_usage, are_usage}
+use Rattle.command_line.proofs.OtherWords.{choice, typed_command, types_option}
+use Rattle.command_line.proofs.OperandWalk.{fits, is_usage, are_usage}
+use Rattle.command_line.proofs.Operands.{rows_of, values, reads, unfit_task, level_fits, level_unfit, level_help}
+use Rattle.command_line.proofs.TypedOperands.{typed_rows, typed_values, typed_reads, typed_unfit_task, typed_fits, typed_unfit, without_text}
 use Rattle.command_line.proofs.CommandName.{is_named, same_name, given, below, unknown, top_help}
 
 -- ---- words without options
@@ -34,11 +37,11 @@ operands_told : (word : Text) (form : Form) (rest : List Text) → find (is_name
     → (b : Bool) → fits form rest ≡ b → Told (operands_task form rest) (fault_of warcdx (word ∷ rest)) (subcommand_of warcdx (word ∷ rest))
 operands_told word form rest e p short true f = inl (
   below word form commands rest e ∙ level_fits word form rest f p short,
-  ap matches_task (given word form commands rest e f p) ∙ rw e (reads form rest f),
+  ap matches_task (given word form commands rest (rows_of form rest) e (values form rest f p)) ∙ rw e (reads form rest f p),
 )
 operands_told word form rest e p short false f = inr (
   ap are_usage (below word form commands rest e) ∙ level_unfit word form rest f p,
-  unfit_task form rest f,
+  unfit_task form rest f p,
 )
 
 first_told : (word : Text) (rest : List Text) → IsPlain word → AllPlain rest → length rest < 2 ^ 64
@@ -48,12 +51,61 @@ first_told word rest q p short (Some c) n = told_as (task_of (word ∷ rest)) (o
     (subcommand_of warcdx (word ∷ rest)) (rw n refl)
     (operands_told word c.1 rest (same_name word commands c n) p short (fits c.1 rest) refl)
 
-pub tells : (words : List Text) → AllPlain words → length words < 2 ^ 64 → Tells words
+-- `--types` and its text, directly after a command that takes types
+abbrev choosing : Text → List Text → List Text
+choosing text rest = codes "--types" ∷ text ∷ rest
+
+chosen_told : (word : Text) (form : Form) (text : Text) (rest : List Text) → find (is_named word) commands ≡ Some (word, form) → takes_types form ≡ true
+    → IsPlain text → AllPlain rest → length rest < 2 ^ 64 → (b : Bool) → fits form rest ≡ b
+    → Told (operands_task form (choosing text rest)) (fault_of warcdx (word ∷ choosing text rest)) (subcommand_of warcdx (word ∷ choosing text rest))
+chosen_told word form text rest e t q p short true f = inl (
+  below word form commands (choosing text rest) e ∙ typed_fits word form (Some text) rest t f q p short,
+  ap matches_task (given word form commands (choosing text rest) (typed_rows form (Some text) rest) e (typed_values form (Some text) rest t f q p))
+      ∙ rw e (typed_reads form (Some text) rest t f q p),
+)
+chosen_told word form text rest e t q p short false f = inr (
+  ap are_usage (below word form commands (choosing text rest) e) ∙ typed_unfit word form (Some text) rest t f q p,
+  typed_unfit_task form (Some text) rest t f q p,
+)
+
+no_text_task : (form : Form) → takes_types form ≡ true → operands_task form (codes "--types" ∷ []) ≡ None
+no_text_task (Typed make) t = refl
+no_text_task (TypedSizes make) t = refl
+no_text_task _ t = cc
+
+types_told : (word : Text) (form : Form) (rest : List Text) → find (is_named word) commands ≡ Some (word, form) → takes_types form ≡ true
+    → AllPlain rest → length rest < 2 ^ 64
+    → Told (operands_task form (codes "--types" ∷ rest)) (fault_of warcdx (word ∷ codes "--types" ∷ rest)) (subcommand_of warcdx (word ∷ codes "--types" ∷ rest))
+types_told word form [] e t p short = inr (
+  ap are_usage (below word form commands (codes "--types" ∷ []) e) ∙ without_text word form t,
+  no_text_task form t,
+)
+types_told word form (text ∷ rest) e t p short = chosen_told word form text rest e t p.0 p.1 (omega (arith, short)) (fits form rest) refl
+
+tells_as : (a b : List Text) → a ≡ b → Tells b → Tells a
+tells_as a b e t = rw e t
+
+typed_told : (word option : Text) (rest : List Text) → is_typed_command word ≡ true → chooses_types option ≡ true → AllPlain rest → length rest < 2 ^ 64
+    → Tells (word ∷ option ∷ rest)
+typed_told word option rest n o p short = elim (typed_command word n) [
+  | inl e ↦ tells_as _ _ (ap₂ (λ (a b : Text). a ∷ b ∷ rest) e (types_option option o)) (types_told (codes "index") (Typed ToIndex) rest refl refl p short)
+  | inr e ↦ tells_as _ _ (ap₂ (λ (a b : Text). a ∷ b ∷ rest) e (types_option option o)) (types_told (codes "scan") (TypedSizes ToScan) rest refl refl p short)
+]
+
+two_told : (word option : Text) (rest : List Text) → AllPlain (other_words (word ∷ option ∷ rest)) → length (option ∷ rest) < 2 ^ 64
+    → Tells (word ∷ option ∷ rest)
+two_told word option rest p short = elim (choice word option rest) [
+  | inl c ↦ typed_told word option rest c.takes c.chooses (rw c.others at p) (omega (arith, short))
+  | inr e ↦ let q : AllPlain (word ∷ option ∷ rest) = rw e at p in first_told word (option ∷ rest) q.0 q.1 short (command_of word) refl
+]
+
+pub tells : (words : List Text) → AllPlain (other_words words) → length words < 2 ^ 64 → Tells words
 tells [] p short = no_words
-tells (word ∷ rest) p short = first_told word rest p.0 p.1 (omega (arith, short)) (command_of word) refl
+tells (word ∷ []) p short = first_told word [] p.0 p.1 (omega (arith, short)) (command_of word) refl
+tells (word ∷ option ∷ rest) p short = two_told word option rest p (omega (arith, short))
 
 -- what is asked is the task of the words
-pub plain_asked : (words : List Text) → list_any is_unknown_option words ≡ false → list_any asks_for_help words ≡ false
+pub plain_asked : (words : List Text) → list_any is_unknown_option (other_words words) ≡ false → list_any asks_for_help (other_words words) ≡ false
     → asked words ≡ ok_or (task_of words) Usage
 plain_asked words u h = rw (u, h) refl
 

@@ -3,17 +3,17 @@ use Rattle.std.proofs.Common.{rules, ap₂, refl, inl, inr, ◌≡◌, ◌&&◌,
 use Rattle.std.proofs.lemmas.Slice.Eq.{bytes_eq-Decides}
 use Rattle.std.specs.Char.{encode_utf8}
 use Rattle.std.specs.Str.{chars}
-use Rattle.clap.specs.Words.{App, Shape, built, is_simple}
+use Rattle.clap.specs.Words.{App, Row, Shape, built, is_simple}
 use Rattle.clap.specs.Simple.{names_of, label_of, entered}
-use Rattle.clap.specs.Walk.{Walk, Names, walked, walk, walk_from, stop_after, nothing_held, answers_to}
+use Rattle.clap.specs.Walk.{Walk, Names, walked, walk, walk_from, stop_after, nothing_held, answers_to, finished}
 use Rattle.clap.specs.Faults.{flags_fault, walk_fault, defaults_fault, level_fault, built_fault, is_simple_and_free}
 use Rattle.clap.specs.Kinds.{Kinds, or_else}
 use Rattle.clap.specs.declared.error.kind.ErrorKind.TheVariants as kind
 use Rattle.command_line.specs.Words.{Text, asks_for_help}
 use Rattle.command_line.specs.Commands.{Form, commands}
 use Rattle.command_line.specs.Clap.{warcdx}
-use Rattle.command_line.proofs.PlainWords.{IsPlain, AllPlain, help_word}
-use Rattle.command_line.proofs.Operands.{shaped, fits, rows_of, values, are_usage}
+use Rattle.command_line.proofs.PlainWords.{IsPlain, help_word}
+use Rattle.command_line.proofs.OperandWalk.{shaped, rules_of, are_usage}
 
 pub simple : is_simple warcdx ≡ true
 simple = refl
@@ -102,12 +102,12 @@ stops word form cs rest e =
     ap (λ w. fold (walked head.rules (names_of (app_for cs))) w rest) (met word form cs e)
     ∙ all_more (names_of (app_for cs)) word [] rest
 
-pub given : (word : Text) (form : Form) (cs : List (Text × Form)) (rest : List Text) → find (is_named word) cs ≡ Some (word, form)
-    → fits form rest ≡ true → AllPlain rest
-    → entered (app_for cs) (stop_after head.rules (names_of (app_for cs)) (word ∷ rest)) ≡ Some (word, rows_of form rest)
-given word form cs rest e f p =
+pub given : (word : Text) (form : Form) (cs : List (Text × Form)) (rest : List Text) (rows : List Row) → find (is_named word) cs ≡ Some (word, form)
+    → finished (rules_of form) (walk (rules_of form) [] nothing_held rest).held ≡ rows
+    → entered (app_for cs) (stop_after head.rules (names_of (app_for cs)) (word ∷ rest)) ≡ Some (word, rows)
+given word form cs rest rows e values =
     ap (λ (w : Walk). entered (app_for cs) w.stopped) (stops word form cs rest e)
-    ∙ rw (shape_in word cs, e, values form rest f p) refl
+    ∙ rw (shape_in word cs, e, values) refl
 
 -- ---- faults
 

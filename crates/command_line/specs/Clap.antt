@@ -5,10 +5,12 @@ use Rattle.clap.specs.Simple.{new_shape}
 use Rattle.clap.specs.Lexer.{usize_max}
 use Rattle.clap.specs.declared.error.kind.ErrorKind.{ErrorKind}
 use Rattle.clap.specs.declared.error.kind.ErrorKind.TheVariants as kind
+use Rattle.capture_core.specs.Types.{types_of, usual_types}
+use Rattle.capture_core.specs.declared.types.Types.{Types}
 use Rattle.cdxj_places.specs.Places.{offset_of}
 use Rattle.command_line.specs.Words.{Text}
 use Rattle.command_line.specs.Sizes.{sizes_of}
-use Rattle.command_line.specs.Commands.{Meaning, Form, Names, Query, Sizes, Offset, Refusal, Help, Usage, commands, command_of, list_input}
+use Rattle.command_line.specs.Commands.{Meaning, Form, Names, Query, Sizes, Offset, Typed, TypedSizes, Refusal, Help, Usage, commands, command_of, list_input}
 
 -- ---- the command
 
@@ -25,11 +27,20 @@ names_rule = record (word_rule (codes "names")) {
   range = Some (record { start_inclusive = 1; end_inclusive = usize_max });
 }
 
+-- the option `--types`, with a word
+abbrev pub types_rule : Rule
+types_rule = record (new_rule (codes "types")) {
+  long = Some (codes "types");
+  value_names = 1;
+}
+
 abbrev pub rules_for : Form → List Rule
 rules_for (Names make) = names_rule ∷ []
 rules_for (Query make) = word_rule (codes "query") ∷ names_rule ∷ []
 rules_for (Sizes make) = word_rule (codes "sizes") ∷ word_rule (codes "query") ∷ names_rule ∷ []
 rules_for (Offset make) = word_rule (codes "offset") ∷ word_rule (codes "name") ∷ []
+rules_for (Typed make) = types_rule ∷ names_rule ∷ []
+rules_for (TypedSizes make) = types_rule ∷ word_rule (codes "sizes") ∷ word_rule (codes "query") ∷ names_rule ∷ []
 
 abbrev pub command_with : Text → List Rule → Shape
 command_with name rules = record (new_shape name) { rules = rules }
@@ -55,6 +66,14 @@ sized_query rows = option_and_then (λ sizes. option_and_then
     (λ query. option_and_then (λ names. option_map (λ s. (s, query, names)) (sizes_of sizes)) (all_of (codes "names") rows))
     (first_of (codes "query") rows)) (first_of (codes "sizes") rows)
 
+-- the types of the option's word, or the usual ones where it isn't given
+abbrev pub given_types : Option Text → Option Types
+given_types None = Some usual_types
+given_types (Some text) = types_of text
+
+abbrev pub chosen_types : List Row → Option Types
+chosen_types rows = given_types (first_of (codes "types") rows)
+
 -- the task that the values of a command make
 abbrev pub values_task : Form → List Row → Option Meaning
 values_task (Names make) rows = option_map make (all_of (codes "names") rows)
@@ -64,6 +83,10 @@ values_task (Sizes make) rows = option_map (λ asked. make asked.0 asked.1 asked
 values_task (Offset make) rows = option_and_then
     (λ offset. option_and_then (λ name. option_map (λ n. make n name) (offset_of offset)) (first_of (codes "name") rows))
     (first_of (codes "offset") rows)
+values_task (Typed make) rows = option_and_then
+    (λ types. option_map (make types) (all_of (codes "names") rows)) (chosen_types rows)
+values_task (TypedSizes make) rows = option_and_then
+    (λ types. option_map (λ asked. make types asked.0 asked.1 asked.2) (sized_query rows)) (chosen_types rows)
 
 -- the task of the command that was met, with its values
 abbrev pub matches_task : Option (Text × List Row) → Option Meaning

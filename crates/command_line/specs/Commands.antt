@@ -1,7 +1,9 @@
 -- The commands, and what the words of a command line ask for.
-use Rattle.std.specs.Prelude.{ℕ, List, [], ◌∷◌, ◌||◌, Option, None, Some, Result, Ok, Err, MatchResult, ◌≡◌, if◌then◌else◌, codes, bytes_eq, find, is_some, option_map, option_and_then, string_bytes}
+use Rattle.std.specs.Prelude.{ℕ, List, [], ◌∷◌, ◌||◌, ◌&&◌, Bool, true, false, Option, None, Some, Result, Ok, Err, MatchResult, ◌≡◌, if◌then◌else◌, codes, bytes_eq, find, is_some, option_map, option_and_then, string_bytes}
 use Rattle.std.specs.List.{list_any}
 use Rattle.std.specs.Option.{IfSome, ok_or}
+use Rattle.capture_core.specs.Types.{types_of, usual_types}
+use Rattle.capture_core.specs.declared.types.Types.{Types}
 use Rattle.cdxj_places.specs.Places.{offset_of}
 use Rattle.command_line.specs.declared.fault.WordsFault.{WordsFault}
 use Rattle.command_line.specs.declared.fault.WordsFault.TheVariants as fault
@@ -16,37 +18,63 @@ use Rattle.command_line.specs.Sizes.{sizes_of}
 pub data Meaning : Type 0 where
   ToList : List Text → Meaning
   ToVerify : List Text → Meaning
-  ToIndex : List Text → Meaning
+  ToIndex : Types → List Text → Meaning
   ToMerge : List Text → Meaning
   ToCheck : List Text → Meaning
   ToQuery : Text → List Text → Meaning
   ToPages : List ℕ → Text → List Text → Meaning
   ToServe : List Text → Meaning
   ToGet : ℕ → Text → Meaning
-  ToScan : List ℕ → Text → List Text → Meaning
+  ToScan : Types → List ℕ → Text → List Text → Meaning
 
 -- which operands a command takes, and the task that they make: one name or more; those after a query, or after sizes and a query; an
--- offset and a name
+-- offset and a name; names, or sizes, a query and names, with the types that an option may choose
 pub data Form : Type 0 where
   Names : (List Text → Meaning) → Form
   Query : (Text → List Text → Meaning) → Form
   Sizes : (List ℕ → Text → List Text → Meaning) → Form
   Offset : (ℕ → Text → Meaning) → Form
+  Typed : (Types → List Text → Meaning) → Form
+  TypedSizes : (Types → List ℕ → Text → List Text → Meaning) → Form
 
 abbrev pub commands : List (Text × Form)
-commands = (codes "list", Names ToList) ∷ (codes "verify", Names ToVerify) ∷ (codes "index", Names ToIndex)
+commands = (codes "list", Names ToList) ∷ (codes "verify", Names ToVerify) ∷ (codes "index", Typed ToIndex)
     ∷ (codes "merge", Names ToMerge) ∷ (codes "check", Names ToCheck) ∷ (codes "query", Query ToQuery)
     ∷ (codes "pages", Sizes ToPages) ∷ (codes "serve", Names ToServe) ∷ (codes "get", Offset ToGet)
-    ∷ (codes "scan", Sizes ToScan) ∷ []
+    ∷ (codes "scan", TypedSizes ToScan) ∷ []
 
 -- ---- words with a task
 
--- the task of a command's operands
+abbrev pub names_task : (List Text → Meaning) → List Text → Option Meaning
+names_task make [] = None
+names_task make (name ∷ names) = Some (make (name ∷ names))
+
+abbrev pub sizes_task : (List ℕ → Text → List Text → Meaning) → List Text → Option Meaning
+sizes_task make (sizes ∷ query ∷ name ∷ names) = option_map (λ s. make s query (name ∷ names)) (sizes_of sizes)
+sizes_task make _ = None
+
+-- `--types`
+abbrev pub chooses_types : Text → Bool
+chooses_types option = bytes_eq option (codes "--types")
+
+-- the types that a text chooses, and the words after it
+abbrev pub types_first : List Text → Option (Types × List Text)
+types_first [] = None
+types_first (text ∷ words) = option_map (λ types. (types, words)) (types_of text)
+
+-- the types and the operands of the words after a command: `--types` and its text come first, or the types are the usual ones
+abbrev pub typed_operands : List Text → Option (Types × List Text)
+typed_operands [] = Some (usual_types, [])
+typed_operands (word ∷ words) = if chooses_types word then types_first words else Some (usual_types, word ∷ words)
+
+-- the task of the words after a command
 abbrev pub operands_task : Form → List Text → Option Meaning
-operands_task (Names make) (name ∷ names) = Some (make (name ∷ names))
+operands_task (Names make) operands = names_task make operands
 operands_task (Query make) (query ∷ name ∷ names) = Some (make query (name ∷ names))
-operands_task (Sizes make) (sizes ∷ query ∷ name ∷ names) = option_map (λ s. make s query (name ∷ names)) (sizes_of sizes)
+operands_task (Sizes make) operands = sizes_task make operands
 operands_task (Offset make) (offset ∷ name ∷ []) = option_map (λ n. make n name) (offset_of offset)
+operands_task (Typed make) words = option_and_then (λ typed. names_task (make typed.0) typed.1) (typed_operands words)
+operands_task (TypedSizes make) words = option_and_then (λ typed. sizes_task (make typed.0) typed.1) (typed_operands words)
 operands_task _ _ = None
 
 abbrev pub command_of : Text → Option (Text × Form)
@@ -56,12 +84,27 @@ command_of word = find (λ c. bytes_eq c.0 word) commands
 abbrev pub list_input : Meaning
 list_input = ToList (codes "-" ∷ [])
 
--- the task of words without options
+-- the task of words with no option but a choice of types
 abbrev pub task_of : List Text → Option Meaning
 task_of [] = Some list_input
 task_of (word ∷ operands) = option_and_then (λ c. operands_task c.1 operands) (command_of word)
 
 -- ---- any words
+
+abbrev pub takes_types : Form → Bool
+takes_types (Typed make) = true
+takes_types (TypedSizes make) = true
+takes_types _ = false
+
+-- the word is the name of a command that takes types
+abbrev pub is_typed_command : Text → Bool
+is_typed_command word = list_any (λ c. takes_types c.1 && bytes_eq word c.0) commands
+
+-- the words but for a command that takes types and `--types` directly after it
+abbrev pub other_words : List Text → List Text
+other_words (command ∷ option ∷ words) =
+    if is_typed_command command && chooses_types option then words else command ∷ option ∷ words
+other_words words = words
 
 pub data Refusal : Type 0 where
   Help : Refusal
@@ -74,8 +117,8 @@ help_or_usage (word ∷ rest) = if asks_for_help word || is_some (command_of wor
 
 -- an unknown option outweighs help, and help the number of the operands
 abbrev pub asked : List Text → Result Meaning Refusal
-asked words = if list_any is_unknown_option words then Err Usage
-    else (if list_any asks_for_help words then Err (help_or_usage words)
+asked words = if list_any is_unknown_option (other_words words) then Err Usage
+    else (if list_any asks_for_help (other_words words) then Err (help_or_usage words)
     else ok_or (task_of words) Usage)
 
 -- ---- what the code answers
@@ -83,14 +126,14 @@ asked words = if list_any is_unknown_option words then Err Usage
 abbrev pub view : Task → Meaning
 view (task.List names) = ToList (texts names.items)
 view (task.Verify names) = ToVerify (texts names.items)
-view (task.Index names) = ToIndex (texts names.items)
+view (task.Index types names) = ToIndex types (texts names.items)
 view (task.Merge names) = ToMerge (texts names.items)
 view (task.Check names) = ToCheck (texts names.items)
 view (task.Query query names) = ToQuery (string_bytes query) (texts names.items)
 view (task.Pages sizes query names) = ToPages sizes.items (string_bytes query) (texts names.items)
 view (task.Serve names) = ToServe (texts names.items)
 view (task.Get offset name) = ToGet offset (string_bytes name)
-view (task.Scan sizes query names) = ToScan sizes.items (string_bytes query) (texts names.items)
+view (task.Scan types sizes query names) = ToScan types sizes.items (string_bytes query) (texts names.items)
 
 -- nothing for want of memory
 abbrev pub refusal_of : WordsFault → Option Refusal

@@ -1,11 +1,11 @@
 //! clap's command.
 ghost use Rattle.std.specs.Prelude.{◌≡◌, IfOk, false, [], ◌∷◌, codes};
 ghost use Rattle.clap.specs.Words.{app_of, rule_of, with_subcommand};
-ghost use Rattle.command_line.specs.Clap.{word_rule, names_rule, command_with, warcdx};
+ghost use Rattle.command_line.specs.Clap.{word_rule, names_rule, types_rule, command_with, warcdx};
 
 use crate::help::archives::{GET, INDEX, LIST, SCAN, VERIFY};
 use crate::help::indexes::{CHECK, MERGE, PAGES, QUERY, SERVE};
-use crate::help::{ARCHIVE, CDXJ, OFFSET, Operand, PROGRAM, Page, QUERY_TEXT, SIZES};
+use crate::help::{ARCHIVE, CDXJ, OFFSET, Operand, PROGRAM, Page, QUERY_TEXT, SIZES, TYPES};
 use clap::{Arg, Command};
 use std::alloc::{AllocError, Global};
 
@@ -21,14 +21,14 @@ pub fn command_line<'a>(alloc: Global) -> Result<Command<'a>, AllocError>
         .disable_help_subcommand(true);
     let list = with_names(program, alloc, "list", LIST, ARCHIVE)?;
     let verify = with_names(list, alloc, "verify", VERIFY, ARCHIVE)?;
-    let index = with_names(verify, alloc, "index", INDEX, ARCHIVE)?;
+    let index = with_types(verify, alloc, "index", INDEX, ARCHIVE)?;
     let merge = with_names(index, alloc, "merge", MERGE, CDXJ)?;
     let check = with_names(merge, alloc, "check", CHECK, CDXJ)?;
     let query = with_query(check, alloc, "query", QUERY, CDXJ)?;
     let pages = with_sizes(query, alloc, "pages", PAGES, CDXJ)?;
     let serve = with_names(pages, alloc, "serve", SERVE, CDXJ)?;
     let get = with_offset(serve, alloc, "get", GET, ARCHIVE)?;
-    with_sizes(get, alloc, "scan", SCAN, ARCHIVE)
+    with_types_and_sizes(get, alloc, "scan", SCAN, ARCHIVE)
 }
 
 /// The command with one more, which takes one operand or more.
@@ -109,6 +109,59 @@ fn with_offset<'a>(
             .arg(word(alloc, "offset", OFFSET))?
             .arg(word(alloc, "name", operand))?,
     )
+}
+
+/// The command with one more, which takes the option `--types`, and one operand or more.
+fn with_types<'a>(
+    command: Command<'a>,
+    alloc: Global,
+    name: &'a str,
+    page: Page<'a>,
+    operand: Operand<'a>,
+) -> Result<Command<'a>, AllocError>
+    ensures { IfOk result (λ more. app_of more ≡ with_subcommand (app_of command.entry)
+        (command_with name.entry.now (types_rule ∷ names_rule ∷ []))) }
+{
+    command.subcommand(
+        Command::new(alloc, name)
+            .about(page.about)
+            .after_help(page.details)
+            .arg(types(alloc))?
+            .arg(names(alloc, operand))?,
+    )
+}
+
+/// The command with one more, which takes the option `--types`, sizes, a query, and one other operand or more.
+fn with_types_and_sizes<'a>(
+    command: Command<'a>,
+    alloc: Global,
+    name: &'a str,
+    page: Page<'a>,
+    operand: Operand<'a>,
+) -> Result<Command<'a>, AllocError>
+    ensures { IfOk result (λ more. app_of more ≡ with_subcommand (app_of command.entry)
+        (command_with name.entry.now (types_rule ∷ word_rule (codes "sizes") ∷ word_rule (codes "query") ∷ names_rule ∷ []))) }
+{
+    command.subcommand(
+        Command::new(alloc, name)
+            .about(page.about)
+            .after_help(page.details)
+            .arg(types(alloc))?
+            .arg(word(alloc, "sizes", SIZES))?
+            .arg(word(alloc, "query", QUERY_TEXT))?
+            .arg(names(alloc, operand))?,
+    )
+}
+
+/// The option `--types`, with a word.
+fn types<'a>(alloc: Global) -> Arg<'a>
+    ensures rule { rule_of result ≡ types_rule }
+    ensures local { result.global ≡ false }
+{
+    Arg::new(alloc, "types")
+        .long("types")
+        .value_name(TYPES.name)
+        .help(TYPES.help)
 }
 
 /// One operand or more.

@@ -66,6 +66,11 @@ pub const SIZES: Operand = Operand {
     help: "How many captures the pages have, such as 100 or 10,100,1000",
 };
 
+pub const TYPES: Operand = Operand {
+    name: "TYPES",
+    help: "Types of records to index, such as response,metadata",
+};
+
 pub const OFFSET: Operand = Operand {
     name: "OFFSET",
     help: "Where the record begins, in bytes from the archive's start",

@@ -2,11 +2,12 @@
 ghost use Rattle.std.specs.Prelude.{◌≡◌, IfOk, Some, option_map, codes, map, string_bytes};
 ghost use Rattle.clap.specs.Words.{all_of, first_of, found_of, rows_of, subcommand_rows_of};
 ghost use Rattle.command_line.specs.Words.{texts};
-ghost use Rattle.command_line.specs.Commands.{Offset, Query, Sizes, ToGet, ToPages, ToQuery, ToScan, list_input, view};
-ghost use Rattle.command_line.specs.Clap.{matches_task, sized_query, values_task};
+ghost use Rattle.command_line.specs.Commands.{Offset, Query, Sizes, ToGet, ToIndex, ToPages, ToQuery, ToScan, Typed, TypedSizes, list_input, view};
+ghost use Rattle.command_line.specs.Clap.{chosen_types, matches_task, sized_query, values_task};
 
 use crate::sizes::read_sizes;
 use crate::task::Task;
+use capture_core::Types;
 use cdxj_places::read_offset;
 use clap::ArgMatches;
 use std::alloc::{AllocError, Global};
@@ -21,7 +22,7 @@ pub fn task_of(alloc: Global, matches: &ArgMatches) -> Result<Option<Task>, Allo
     }
 }
 
-/// The word for an offset, or for sizes, as it was given.
+/// The word for types, for sizes or for an offset, as it was given.
 pub fn operand_word<'a>(matches: &ArgMatches<'a>, id: &str) -> Option<&'a str> {
     let (_command, values) = matches.subcommand()?;
     values.get_str(id)
@@ -38,7 +39,7 @@ fn command_task(
     match command {
         "list" => Ok(names_of(alloc, values)?.map(|names| Task::List { names })),
         "verify" => Ok(names_of(alloc, values)?.map(|names| Task::Verify { names })),
-        "index" => Ok(names_of(alloc, values)?.map(|names| Task::Index { names })),
+        "index" => index_task(alloc, values),
         "merge" => Ok(names_of(alloc, values)?.map(|names| Task::Merge { names })),
         "check" => Ok(names_of(alloc, values)?.map(|names| Task::Check { names })),
         "query" => query_task(alloc, values),
@@ -56,6 +57,19 @@ fn list_input(alloc: Global) -> Result<Task, AllocError>
     let name = String::from_str(alloc, "-")?;
     let names = vec![in alloc; name]?;
     Ok(Task::List { names })
+}
+
+fn index_task(alloc: Global, values: &ArgMatches) -> Result<Option<Task>, AllocError>
+    ensures { IfOk result (λ task. option_map view task
+        ≡ values_task (Typed ToIndex) (rows_of (found_of values.now))) }
+{
+    let Some(types) = chosen_types(values) else {
+        return Ok(None);
+    };
+    match names_of(alloc, values)? {
+        Some(names) => Ok(Some(Task::Index { types, names })),
+        None => Ok(None),
+    }
 }
 
 fn query_task(alloc: Global, values: &ArgMatches) -> Result<Option<Task>, AllocError>
@@ -87,10 +101,14 @@ fn pages_task(alloc: Global, values: &ArgMatches) -> Result<Option<Task>, AllocE
 
 fn scan_task(alloc: Global, values: &ArgMatches) -> Result<Option<Task>, AllocError>
     ensures { IfOk result (λ task. option_map view task
-        ≡ values_task (Sizes ToScan) (rows_of (found_of values.now))) }
+        ≡ values_task (TypedSizes ToScan) (rows_of (found_of values.now))) }
 {
+    let Some(types) = chosen_types(values) else {
+        return Ok(None);
+    };
     match sized_query(alloc, values)? {
         Some((sizes, query, names)) => Ok(Some(Task::Scan {
+            types,
             sizes,
             query,
             names,
@@ -135,6 +153,16 @@ fn get_task(alloc: Global, values: &ArgMatches) -> Result<Option<Task>, AllocErr
     match text_of(alloc, values, "name")? {
         Some(name) => Ok(Some(Task::Get { offset, name })),
         None => Ok(None),
+    }
+}
+
+/// The types of the option's word, or the usual ones where it isn't given.
+fn chosen_types(values: &ArgMatches) -> Option<Types>
+    ensures { result ≡ chosen_types (rows_of (found_of values.now)) }
+{
+    match value_of(values, "types") {
+        Some(text) => Types::read(text),
+        None => Some(Types::usual()),
     }
 }
 

@@ -1,6 +1,29 @@
 //! Which words are options.
-ghost use Rattle.std.specs.Prelude.{◌≡◌, find, option_map, string_bytes};
+ghost use Rattle.std.specs.Prelude.{◌≡◌, ◌&&◌, find, option_map, string_bytes};
 ghost use Rattle.command_line.specs.Words.{texts, is_option, asks_for_help, is_unknown_option};
+ghost use Rattle.command_line.specs.Commands.{chooses_types, is_typed_command, other_words};
+
+/// The words but for a command that takes types and `--types` directly after it.
+pub fn other_words(words: &[String]) -> &[String]
+    ensures { texts result.now ≡ other_words (texts words.now) }
+{
+    match words {
+        [command, option, rest @ ..] if takes_types(command, option) => rest,
+        _ => words,
+    }
+}
+
+fn takes_types(command: &str, option: &str) -> bool
+    ensures { result ≡ (is_typed_command command.now && chooses_types option.now) }
+{
+    is_typed_command(command) && option == "--types"
+}
+
+fn is_typed_command(word: &str) -> bool
+    ensures { result ≡ is_typed_command word.now }
+{
+    word == "index" || word == "scan"
+}
 
 /// The first word that begins with `-` and neither is `-` alone nor asks for help.
 pub fn unknown_option(words: &[String]) -> Option<&String>

@@ -1,4 +1,5 @@
 //! What the program is asked to do.
+use capture_core::Types;
 
 /// What the program is asked to do. Names are the words as they were given; `-` is standard input.
 #[derive(Debug, Drop, PartialEq, Eq)]
@@ -11,8 +12,9 @@ pub enum Task {
     Verify {
         names: Vec<String>,
     },
-    /// Index the captures of the archives.
+    /// Index the captures of the archives: the records of these types.
     Index {
+        types: Types,
         names: Vec<String>,
     },
     /// Merge the indexes into one.
@@ -43,8 +45,9 @@ pub enum Task {
         offset: u64,
         name: String,
     },
-    /// Answer the query over the captures of the archives, page by page.
+    /// Answer the query over the captures of the archives, page by page: the records of these types.
     Scan {
+        types: Types,
         sizes: Vec<u64>,
         query: String,
         names: Vec<String>,

@@ -1,17 +1,18 @@
 //! What the words of a command line ask for.
-ghost use Rattle.std.specs.Prelude.{◌≡◌, IfOk, IfErr, true, false, Err, Some, [], ◌∷◌, string_bytes};
+ghost use Rattle.std.specs.Prelude.{◌≡◌, IfOk, IfErr, true, false, Err, Some, [], ◌∷◌, string_bytes, take};
 ghost use Rattle.std.specs.List.{list_any};
 ghost use Rattle.std.specs.Option.{IfSome, ok_or};
 ghost use Rattle.clap.specs.Words.{kind_of, subcommand_rows_of};
 ghost use Rattle.command_line.specs.Words.{texts, asks_for_help, is_unknown_option};
-ghost use Rattle.command_line.specs.Commands.{Answers, IsUsage, Usage, asked, help_or_usage, refusal_of};
+ghost use Rattle.command_line.specs.Commands.{Answers, IsUsage, Usage, asked, help_or_usage, other_words, refusal_of};
 ghost use Rattle.command_line.specs.Clap.{matches_task, refusal_for};
 
 use crate::command::command_line;
 use crate::fault::WordsFault;
 use crate::matches::{operand_word, task_of};
-use crate::options::{help_option, unknown_option};
+use crate::options::{help_option, other_words, unknown_option};
 use crate::task::Task;
+use capture_core::Types;
 use clap::error::ErrorKind;
 use clap::{ArgMatches, Error};
 use std::alloc::{AllocError, Global};
@@ -19,37 +20,39 @@ use std::alloc::{AllocError, Global};
 /// What the words after the program's name ask for. No words at all are `list -`.
 ///
 /// `-h` and `--help` ask for help: as the first word for the program's, after a command for the command's, whatever the
-/// number of its words.
+/// number of its words. `--types` is an option of `index` and of `scan` alone, and stands directly after the command.
 ///
 /// # Errors
 ///
 /// - `Help` where help is asked for.
 /// - `Usage` for another word that begins with `-` and goes on, wherever it stands; else for a first word that is no
-///   command, for a wrong number of words, for an offset that isn't 1 to 19 digits below 2^63, and for sizes that aren't 1 to
-///   1,000 numbers from 1 to 1,000,000, each in at most 7 digits, with commas between.
+///   command, for a wrong number of words, for an offset that isn't 1 to 19 digits below 2^63, for sizes that aren't 1 to
+///   1,000 numbers from 1 to 1,000,000, each in at most 7 digits, with commas between, and for types that `Types::read`
+///   doesn't take.
 /// - `Memory` where a growth was refused.
 pub fn read_words(alloc: Global, words: &[String]) -> Result<Task, WordsFault>
     ensures { Answers (asked (texts words.now)) result }
 {
-    if let Some(option) = unknown_option(words) {
+    let others = other_words(words);
+    if let Some(option) = unknown_option(others) {
         return Err(unexpected(alloc, option));
     }
-    if let Some(help) = help_option(words) {
+    if let Some(help) = help_option(others) {
         return Err(help_fault(alloc, words, help));
     }
     match matches_of(alloc, words) {
         Ok(matches) => match task_of(alloc, &matches)? {
             Some(task) => Ok(task),
-            None => Err(no_numbers(alloc, &matches)),
+            None => Err(no_task(alloc, &matches)),
         },
         Err(error) => Err(fault_of(alloc, &error)),
     }
 }
 
-/// clap's answer to words without options.
+/// clap's answer to words with no option but a choice of types.
 fn matches_of<'a>(alloc: Global, words: &'a [String]) -> Result<ArgMatches<'a>, Error>
-    requires known { list_any is_unknown_option (texts words.now) ≡ false }
-    requires plain { list_any asks_for_help (texts words.now) ≡ false }
+    requires known { list_any is_unknown_option (other_words (texts words.now)) ≡ false }
+    requires plain { list_any asks_for_help (other_words (texts words.now)) ≡ false }
     ensures matches { IfOk result (λ matches. asked (texts words.entry.now)
         ≡ ok_or (matches_task (subcommand_rows_of matches)) Usage) }
     ensures refused { IfErr result (λ error. IfSome (refusal_for (kind_of error))
@@ -62,7 +65,7 @@ fn matches_of<'a>(alloc: Global, words: &'a [String]) -> Result<ArgMatches<'a>, 
 
 /// What clap says of the first word beside one that asks for help. Of all the words it could refuse one too many first.
 fn help_fault(alloc: Global, words: &[String], help: &String) -> WordsFault
-    requires known { list_any is_unknown_option (texts words.now) ≡ false }
+    requires known { list_any is_unknown_option (take 1 (texts words.now)) ≡ false }
     requires asks { asks_for_help (string_bytes help.now) ≡ true }
     ensures { IfSome (refusal_of result) (λ refusal. refusal ≡ help_or_usage (texts words.now)) }
 {
@@ -109,7 +112,16 @@ fn unexpected(alloc: Global, option: &str) -> WordsFault
     ))
 }
 
-/// clap takes any word for an offset and for sizes; the texts are in its style.
+/// clap takes any word for types, for sizes and for an offset; the texts are in its style.
+fn no_task(alloc: Global, matches: &ArgMatches) -> WordsFault
+    ensures { IsUsage result }
+{
+    match operand_word(matches, "types") {
+        Some(word) if Types::read(word).is_none() => no_types(alloc, word),
+        _ => no_numbers(alloc, matches),
+    }
+}
+
 fn no_numbers(alloc: Global, matches: &ArgMatches) -> WordsFault
     ensures { IsUsage result }
 {
@@ -117,6 +129,16 @@ fn no_numbers(alloc: Global, matches: &ArgMatches) -> WordsFault
         Some(word) => no_sizes(alloc, word),
         None => no_offset(alloc, operand_word(matches, "offset").unwrap_or("")),
     }
+}
+
+fn no_types(alloc: Global, word: &str) -> WordsFault
+    ensures { IsUsage result }
+{
+    usage(format!(in alloc;
+        "error: invalid value '{word}' for '--types <TYPES>': types are response, resource, revisit, conversion and metadata, \
+         each once at most, with ',' between\n\n\
+         For more information, try '--help'.\n"
+    ))
 }
 
 fn no_sizes(alloc: Global, word: &str) -> WordsFault

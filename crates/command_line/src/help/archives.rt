@@ -83,8 +83,8 @@ Exit status:
 pub const INDEX: Page = Page {
     about: "Writes an index of the captures of archives",
     details: "\
-Writes one sorted CDXJ index of all the archives: a line for each response,
-resource and revisit record with a WARC-Target-URI.
+Writes one sorted CDXJ index of all the archives: a line for each record of one
+of the TYPES with a WARC-Target-URI.
 
   KEY STAMP OBJECT
 
@@ -92,6 +92,10 @@ KEY is made of the record's URL, and STAMP is its date in 14 digits. OBJECT is
 JSON with the members url, mime, status, digest, length, offset and filename;
 length and offset are in bytes, and 'warcdx get' writes the record from its
 offset. docs/CDXJ.md has the rules.
+
+TYPES are one or more of these, with commas between, and none twice: response,
+resource, revisit, conversion, metadata. Without --types, response, resource and
+revisit records are indexed. --types stands directly after the command's name.
 
 An archive's file name in the index is the part of its word after the last /,
 1 to 255 bytes that no archive before it has; - is the file name of standard
@@ -112,6 +116,7 @@ can't be indexed, and the archive is indexed up to it:
 Examples:
   warcdx index crawl.warc > crawl.cdxj
   warcdx index crawl-1.warc crawl-2.warc > crawl.cdxj
+  warcdx index --types response,metadata crawl.warc > crawl.cdxj
   gunzip -c crawl.warc.gz | warcdx index - > crawl.cdxj
 
 Exit status:
@@ -160,6 +165,10 @@ Indexes the archives in memory, and writes the captures that the query selects,
 page by page, as 'warcdx pages' does with an index of each. What a capture is,
 'warcdx index --help' says, and what a query has, 'warcdx query --help'.
 
+TYPES are one or more of these, with commas between, and none twice: response,
+resource, revisit, conversion, metadata. Without --types, response, resource and
+revisit records are indexed. --types stands directly after the command's name.
+
 The query is read first. Then all archives are opened; at most 1,024 are taken.
 The first fault ends the command, and is reported on standard error. Nothing is
 written before all archives are indexed:
@@ -177,6 +186,7 @@ where the record at fault begins, in bytes.
 
 Examples:
   warcdx scan 100 'url=example.com/*' crawl-1.warc crawl-2.warc
+  warcdx scan --types metadata 100 'url=example.com/*' crawl.warc
   gunzip -c crawl.warc.gz | warcdx scan 1000 'url=*.example.com' -
 
 Exit status:

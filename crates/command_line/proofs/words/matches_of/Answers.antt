@@ -3,7 +3,7 @@ use Rattle.std.specs.Option.{ok_or}
 use Rattle.std.proofs.lemmas.List.{length-map}
 use Rattle.clap.specs.Words.{app_of, is_simple, subcommand_of, fault_of, is_simple_and_free, kind_of}
 use Rattle.command_line.specs.Words.{texts}
-use Rattle.command_line.specs.Commands.{Usage, task_of}
+use Rattle.command_line.specs.Commands.{Usage, task_of, other_words}
 use Rattle.command_line.specs.Clap.{matches_task, warcdx}
 use Rattle.command_line.proofs.PlainWords.{all_plain}
 use Rattle.command_line.proofs.CommandLine.{tells, plain_asked, matched, refused}
@@ -25,7 +25,7 @@ returns-clause-matches c =
     let count : length words ≡ length c.args.words.now = length-map c.args.words.now string_bytes in
     let bound : length c.args.words.now < 2 ^ 64 = search rules in
     let short : length words < 2 ^ 64 = omega (arith, count, bound) in
-    let told = tells words (all_plain words c.requires.known c.requires.plain) short in
+    let told = tells words (all_plain (other_words words) c.requires.known c.requires.plain) short in
     let parse = c.try_get_matches_from in
     both parse.result _ _ _ _ (λ m h k. plain_asked words c.requires.known c.requires.plain
     ∙ matched (task_of words) (fault_of warcdx words) (subcommand_of warcdx words) told (ap (λ a. fault_of a words) (sym same) ∙ k)
@@ -39,7 +39,7 @@ returns-clause-refused c =
     let count : length words ≡ length c.args.words.now = length-map c.args.words.now string_bytes in
     let bound : length c.args.words.now < 2 ^ 64 = search rules in
     let short : length words < 2 ^ 64 = omega (arith, count, bound) in
-    let told = tells words (all_plain words c.requires.known c.requires.plain) short in
+    let told = tells words (all_plain (other_words words) c.requires.known c.requires.plain) short in
     let parse = c.try_get_matches_from in
     error parse.result _ _ _ (λ e h. rw (plain_asked words c.requires.known c.requires.plain)
     (refused (task_of words) (fault_of warcdx words) (subcommand_of warcdx words) (kind_of e) told h))
