@@ -105,11 +105,20 @@ fn fault_of(alloc: Global, error: &Error) -> WordsFault
 fn unexpected(alloc: Global, option: &str) -> WordsFault
     ensures { IsUsage result }
 {
+    let tip = tip_for(option);
     usage(format!(in alloc;
         "error: unexpected option '{option}'\n\n  \
-         tip: a file whose name begins with '-' is written './-name'\n\n\
+         tip: {tip}\n\n\
          For more information, try '--help'.\n"
     ))
+}
+
+fn tip_for(option: &str) -> &'static str {
+    if option.starts_with("--types") {
+        "'--types TYPES' stands once, directly after 'index' or 'scan'"
+    } else {
+        "a file whose name begins with '-' is written './-name'"
+    }
 }
 
 /// clap takes any word for types, for sizes and for an offset; the texts are in its style.
