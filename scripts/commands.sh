@@ -1,6 +1,6 @@
 #!/usr/bin/env bash
 # Runs the commands of warcdx on small archives and indexes, and compares what it answers with the tables below: what it prints, what
-# it says on standard error, and its status. words.sh does so with words that ask for help or mean nothing.
+# it says on standard error, and its status. words.sh does so with arguments that ask for help or are usage errors.
 #
 # usage: commands.sh [PROGRAM]      default: the script warcdx at the top of the repository
 #

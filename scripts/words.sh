@@ -1,5 +1,5 @@
 #!/usr/bin/env bash
-# Hands warcdx words that ask for help or mean nothing, and compares what it answers with the tables below: what it prints, what it says on
+# Runs warcdx with arguments that ask for help or are usage errors, and compares what it answers with the tables below: what it prints, what it says on
 # standard error, and its status.
 #
 # usage: words.sh [PROGRAM]      default: the script warcdx at the top of the repository
@@ -135,7 +135,7 @@ check "an option beside -h"             "" "$(unexpected -x)"              2 lis
 check "a word that isn't UTF-8"         "" "$no_text"                      2 $'\xff'
 check "a name that isn't UTF-8"         "" "$no_text"                      2 list same.warc $'\xff'
 
-of_program=$(lines "Indexes web archives, answers queries, and fetches records" "" "Usage: warcdx [COMMAND]")
+of_program=$(lines "warcdx 0.1.0: indexes web archives, answers queries, and fetches records" "" "Usage: warcdx [COMMAND]")
 of_list=$(lines "Lists the records of archives" "" "Usage: warcdx list <WARC>...")
 of_index=$(lines "Writes an index of the captures of archives" "" "Usage: warcdx index [OPTIONS] <WARC>...")
 of_get=$(lines "Writes the record at an offset of an archive" "" "Usage: warcdx get <OFFSET> <WARC>")

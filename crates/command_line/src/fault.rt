@@ -12,7 +12,7 @@ pub enum WordsFault {
     /// The words ask for help: its text, for standard output.
     #[error("{0}")]
     Help(String),
-    /// The words mean nothing: why, and what is meant, for standard error.
+    /// A usage error: what is wrong, and how the command is used, for standard error.
     #[error("{0}")]
     Usage(String),
 }

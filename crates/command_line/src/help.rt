@@ -2,7 +2,7 @@
 pub mod archives;
 pub mod indexes;
 
-/// A command's page: its line in the list of commands, and what is said after its words.
+/// A command's page: its line in the list of commands, and the text after its usage.
 #[derive(Clone, Copy)]
 pub struct Page<'a> {
     pub about: &'a str,
@@ -10,7 +10,7 @@ pub struct Page<'a> {
 }
 
 pub const PROGRAM: Page = Page {
-    about: "Indexes web archives, answers queries, and fetches records",
+    about: "warcdx 0.1.0: indexes web archives, answers queries, and fetches records",
     details: "\
 An archive is an uncompressed WARC file, version 1.0 or 1.1. The name - is
 standard input. Without a command, warcdx lists the archive on standard input.
@@ -29,17 +29,17 @@ Examples:
   gunzip -c crawl.warc.gz | warcdx verify -
 
 Exit status:
-  0  everything was done, and no digest differs; or help was asked for
+  0  success, and no digest differs; or help was printed
   1  an archive is damaged, a digest differs, an archive's file name can't be
      used in an index, an index is not in order, a query is refused, or no
      record begins at the offset
-  2  the words mean nothing
+  2  usage error
   3  a file can't be opened, or memory, an input or the output failed
 
-'warcdx COMMAND --help' says what a command prints.",
+'warcdx COMMAND --help' explains a command.",
 };
 
-/// What is said of words after a command's name.
+/// An operand of a command.
 #[derive(Clone, Copy)]
 pub struct Operand<'a> {
     pub name: &'a str,

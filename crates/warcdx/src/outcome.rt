@@ -12,7 +12,7 @@ pub enum Outcome {
     Done,
     /// A block has another digest than its record gives.
     Differs,
-    /// The words mean nothing.
+    /// A usage error.
     Usage,
     /// A call on an archive failed.
     Index(IndexFault),

@@ -9,7 +9,7 @@ use query_core::{AnswerFault, QueryFault};
 use warc_core::Cause;
 
 /// The status of the process: 0 where all was done; 1 for a fault in an archive or an index, a refused query or name, a digest that differs,
-/// or an offset where no record begins; 2 for words that mean nothing; 3 where memory, a device or a file failed.
+/// or an offset where no record begins; 2 for a usage error; 3 where memory, a device or a file failed.
 pub fn status(outcome: &Outcome) -> u8
     ensures { result ≡ status_of outcome.now }
 {

@@ -41,7 +41,7 @@ Examples:
 Exit status:
   0  everything was read
   1  an archive is damaged
-  2  the words mean nothing
+  2  usage error
   3  a file can't be opened, or memory, an input or the output failed",
 };
 
@@ -76,7 +76,7 @@ Examples:
 Exit status:
   0  everything was read, and no digest differs
   1  an archive is damaged, or a digest differs
-  2  the words mean nothing
+  2  usage error
   3  a file can't be opened, or memory, an input or the output failed",
 };
 
@@ -93,16 +93,16 @@ JSON with the members url, mime, status, digest, length, offset and filename;
 length and offset are in bytes, and 'warcdx get' writes the record from its
 offset. docs/CDXJ.md has the rules.
 
-TYPES are one or more of these, with commas between, and none twice: response,
+TYPES are one or more of these, separated by commas, none twice: response,
 resource, revisit, conversion, metadata. Without --types, response, resource and
 revisit records are indexed. --types stands directly after the command's name.
 
-An archive's file name in the index is the part of its word after the last /,
-1 to 255 bytes that no archive before it has; - is the file name of standard
-input. An archive whose file name can't be used so is left out, and BadName or
-DuplicateName said on standard error.
+An archive's file name in the index is the part of its argument after the last
+/, 1 to 255 bytes; - is the file name of standard input. An archive with another
+file name is left out, and so is one whose file name an earlier archive has.
+That is reported on standard error as BadName or DuplicateName.
 
-A damaged archive is indexed up to the damage, and this is said on standard
+A damaged archive is indexed up to the damage. This is reported on standard
 error, with the offset of the record at fault:
 
   warcdx: NAME: fault OFFSET CAUSE
@@ -122,7 +122,7 @@ Examples:
 Exit status:
   0  everything was indexed
   1  an archive is damaged, or its file name or a record can't be indexed
-  2  the words mean nothing
+  2  usage error
   3  a file can't be opened, or memory, an input or the output failed",
 };
 
@@ -131,20 +131,20 @@ pub const GET: Page = Page {
     details: "\
 Writes the record that begins at OFFSET as it is stored, from its version line
 through the two line breaks after its block. An index has the offset of each
-record, and so has 'warcdx list'.
+record, and 'warcdx list' prints it.
 
 The archive is read from its start. Where no record begins at OFFSET, nothing
-is written, and this line is on standard error:
+is written, and this is reported on standard error:
 
   warcdx: NAME: NoRecord
 
-Where the archive is damaged at OFFSET or before it, this one is, with the
+Where the archive is damaged at OFFSET or before it, this is reported, with the
 offset of the record at fault; 'warcdx list --help' has the causes:
 
   warcdx: NAME: fault OFFSET CAUSE
 
-Nothing is written then, but for a first part of the record at OFFSET where
-that is the one at fault.
+Then nothing is written, or only a first part of the record at OFFSET, if that
+record is the one at fault.
 
 Examples:
   warcdx get 0 crawl.warc
@@ -154,7 +154,7 @@ Examples:
 Exit status:
   0  the record was written
   1  no record begins at OFFSET, or the archive is damaged there or before it
-  2  the words mean nothing
+  2  usage error
   3  the file can't be opened, or memory, an input or the output failed",
 };
 
@@ -162,10 +162,10 @@ pub const SCAN: Page = Page {
     about: "Writes the captures of archives that a query asks for",
     details: "\
 Indexes the archives in memory, and writes the captures that the query selects,
-page by page, as 'warcdx pages' does with an index of each. What a capture is,
-'warcdx index --help' says, and what a query has, 'warcdx query --help'.
+page by page, as 'warcdx pages' does with an index of each. 'warcdx index
+--help' explains captures, and 'warcdx query --help' queries.
 
-TYPES are one or more of these, with commas between, and none twice: response,
+TYPES are one or more of these, separated by commas, none twice: response,
 resource, revisit, conversion, metadata. Without --types, response, resource and
 revisit records are indexed. --types stands directly after the command's name.
 
@@ -180,9 +180,9 @@ written before all archives are indexed:
   warcdx: NAME: DuplicateName
   warcdx: NAME: fault OFFSET CAUSE
 
-An archive's file name is the part of its word after the last /, 1 to 255 bytes
-that no archive before it has; - is the file name of standard input. OFFSET is
-where the record at fault begins, in bytes.
+An archive's file name is the part of its argument after the last /, 1 to 255
+bytes that no earlier archive has; - is the file name of standard input. OFFSET
+is where the record at fault begins, in bytes.
 
 Examples:
   warcdx scan 100 'url=example.com/*' crawl-1.warc crawl-2.warc
@@ -193,6 +193,6 @@ Exit status:
   0  the captures were written
   1  the query is refused, an archive is damaged, its file name or a record
      can't be indexed, or there are too many archives
-  2  the words mean nothing
+  2  usage error
   3  a file can't be opened, or memory, an input or the output failed",
 };

@@ -9,12 +9,12 @@ file name and offset. Each line is written as it stands in its index. Where
 several lines have all four in common, the first of them is written: that of
 the index that is named first.
 
-The indexes must be sorted, as 'warcdx check' says. They are read line by line:
-one line of each index is held, and the lines of one key and stamp. At most
-1,024 indexes are merged.
+The indexes must be sorted: 'warcdx check' tells. They are read line by line.
+One line of each index is held in memory, and the lines of one key and stamp. At
+most 1,024 indexes are merged.
 
 All indexes are opened before the first is read. The first fault ends the
-command, and is reported on standard error; what was written before it stands:
+command, and is reported on standard error. What was written by then remains:
 
   warcdx: NAME: cannot open
   warcdx: NAME: Read
@@ -22,8 +22,8 @@ command, and is reported on standard error; what was written before it stands:
   warcdx: NAME: OutOfOrder OFFSET
   warcdx: TooManySources
 
-OFFSET is where the line at fault begins, in bytes. 'warcdx check --help' says
-what the causes mean.
+OFFSET is where the line at fault begins, in bytes. 'warcdx check --help'
+explains the causes.
 
 Examples:
   warcdx merge crawl-1.cdxj crawl-2.cdxj > crawls.cdxj
@@ -32,7 +32,7 @@ Examples:
 Exit status:
   0  the indexes were merged
   1  an index has a bad line, or one out of order, or there are too many
-  2  the words mean nothing
+  2  usage error
   3  a file can't be opened or read, or memory or the output failed",
 };
 
@@ -48,7 +48,7 @@ of a capture, and the key and stamp of no line are below those of the line
 before it, by bytes. 'warcdx index' writes such indexes, and so does
 LC_ALL=C sort. docs/CDXJ.md has the rules.
 
-Of another index nothing is printed, and its first line at fault is said on
+For any other index nothing is printed. Its first line at fault is reported on
 standard error, with the offset at which it begins, in bytes:
 
   warcdx: NAME: CAUSE OFFSET
@@ -60,7 +60,7 @@ CAUSE is one of these:
   OutOfOrder  the line's key and stamp are below those of the line before it
 
 The indexes after it are checked all the same. The size of an index is asked
-when it is opened; an index that ends before, or can't be read, is said as
+for when it is opened. An index that ends before, or can't be read, is reported:
 
   warcdx: NAME: Read
 
@@ -70,7 +70,7 @@ Example:
 Exit status:
   0  all the indexes are in order
   1  an index has a bad line, or one out of order
-  2  the words mean nothing
+  2  usage error
   3  a file can't be opened or read, or memory or the output failed",
 };
 
@@ -81,7 +81,7 @@ Writes the captures of the indexes that the query selects, in the order of key,
 stamp, file name and offset. Where lines of several indexes have all four in
 common, the first of them counts: that of the index that is named first.
 
-QUERY has parameters with & between; most shells want it in quotes:
+QUERY has parameters separated by &. Put it in quotes, as shells read the &:
 
   url=ADDRESS        *.example.com also asks for its subdomains, and
                      example.com/a* for all that begins so
@@ -94,14 +94,15 @@ QUERY has parameters with & between; most shells want it in quotes:
   fl=FIELD,FIELD     urlkey, timestamp, original, mimetype, statuscode, digest,
                      length, offset, filename
   output=            text, json, or cdxj: the lines of the indexes
-  collapse=          urlkey, timestamp or timestamp:N: of captures in a row with
-                     this in common, or its first N digits, the first alone
-  limit=NUMBER       no more captures than this
-  showResumeKey=true where more follow, says from where they go on ...
-  resumeKey=KEY      ... and goes on from there
+  collapse=          urlkey, timestamp or timestamp:N: only the first of
+                     consecutive captures with the same key, time, or first N
+                     digits of the time
+  limit=NUMBER       at most so many captures
+  showResumeKey=true where captures follow, print the key to continue with
+  resumeKey=KEY      continue from a printed key
 
-docs/QUERY.md has the rules. The indexes must be sorted, as 'warcdx check' says;
-of each only what is needed is read, and lines that aren't read aren't checked.
+docs/QUERY.md has the rules. The indexes must be sorted: 'warcdx check' tells.
+Only the lines that a query needs are read and checked.
 
 The query is read first. Then all indexes are opened; at most 1,024 are taken.
 The first fault ends the command, and is reported on standard error; what was
@@ -123,7 +124,7 @@ Exit status:
   0  the captures were written
   1  the query is refused, an index has a bad line or one out of order, or
      there are too many
-  2  the words mean nothing
+  2  usage error
   3  a file can't be opened or read, or memory or the output failed",
 };
 
@@ -131,13 +132,13 @@ pub const PAGES: Page = Page {
     about: "Writes the captures that a query asks for, page by page",
     details: "\
 Writes all captures that the query selects, as 'warcdx query' does, in pages of
-so many captures. SIZES are 1 to 1,000 numbers from 1 to 1,000,000 with commas
-between: of the first page, the second and so on; the last of them counts for
-all pages after it. Each page but the last ends with the resume key of the next.
+so many captures. SIZES are 1 to 1,000 numbers from 1 to 1,000,000, separated by
+commas: the size of the first page, of the second and so on. The last size is
+repeated. Each page but the last ends with the resume key of the next one.
 The query's limit and showResumeKey aren't used; its resumeKey is where the
 first page begins.
 
-'warcdx query --help' says what a query has, and what is reported.
+'warcdx query --help' explains queries, and what is reported.
 
 Examples:
   warcdx pages 100 'url=example.com/*' crawl.cdxj
@@ -147,22 +148,23 @@ Exit status:
   0  the captures were written
   1  the query is refused, an index has a bad line or one out of order, or
      there are too many
-  2  the words mean nothing
+  2  usage error
   3  a file can't be opened or read, or memory or the output failed",
 };
 
 pub const SERVE: Page = Page {
     about: "Answers queries line by line",
     details: "\
-Reads queries from standard input, a line each, and writes a reply to each: what
-'warcdx query' writes for it, and then a line with a period alone. A reply has
-left the program before the next line is waited for.
+Reads queries from standard input, one per line, and writes a reply to each:
+what 'warcdx query' writes for it, and then a line with only a period. A reply
+is flushed before the next line is waited for.
 
-A query that is refused gets
+The reply to a query that is refused is
 
   refused CAUSE
 
-and one of more than 65,536 bytes QueryTooLong, one that isn't UTF-8 NotText.
+with the cause QueryTooLong for one of more than 65,536 bytes, and NotText for
+one that isn't UTF-8.
 Where an index has a bad line, or one out of order, what was written of the page
 is followed by a line feed and
 
@@ -171,8 +173,8 @@ is followed by a line feed and
 with the number of the index, from 0, and the offset of the line in bytes. Then
 the next query is read. docs/QUERY.md has the rules.
 
-All indexes are opened first. What ends the command is reported on standard
-error:
+All indexes are opened first. Any other fault ends the command, and is reported
+on standard error:
 
   warcdx: NAME: cannot open
   warcdx: NAME: Read
@@ -186,6 +188,6 @@ Examples:
 Exit status:
   0  the input ended
   1  there are too many indexes
-  2  the words mean nothing
+  2  usage error
   3  a file can't be opened or read, or memory, the input or the output failed",
 };
