@@ -1,0 +1,58 @@
+# Completion of the words of warcdx for bash.
+
+_warcdx() {
+    local word=${COMP_WORDS[COMP_CWORD]} command=${COMP_WORDS[1]} operand=$((COMP_CWORD - 1))
+    COMPREPLY=()
+    if ((COMP_CWORD == 1)) && [[ $word != -* ]]; then
+        _warcdx_offer "list verify index merge check query pages serve get scan"
+        return
+    fi
+    if [[ $command == index || $command == scan ]] && [[ ${COMP_WORDS[2]} == --types ]] && ((COMP_CWORD > 2)); then
+        if ((COMP_CWORD == 3)); then
+            _warcdx_types
+            return
+        fi
+        operand=$((operand - 2))
+    fi
+    if [[ $word == -* ]]; then
+        _warcdx_offer "-h --help"
+        if [[ $command:$COMP_CWORD == index:2 || $command:$COMP_CWORD == scan:2 ]]; then _warcdx_offer --types; fi
+        return
+    fi
+    case $command:$operand in
+        list:* | verify:* | index:* | get:2) _warcdx_files warc ;;
+        query:1 | pages:2 | scan:2) _warcdx_query ;;
+        pages:1 | scan:1) ;;
+        scan:*) _warcdx_files warc ;;
+        merge:* | check:* | serve:* | query:* | pages:*) _warcdx_files cdxj ;;
+    esac
+}
+
+_warcdx_offer() { # WORDS
+    local offered
+    while read -r offered; do COMPREPLY+=("$offered"); done < <(compgen -W "$1" -- "$word")
+}
+
+# Types behind those that stand in the word, none of them twice.
+_warcdx_types() {
+    local given='' type
+    if [[ $word == *,* ]]; then given=${word%,*},; fi
+    for type in response resource revisit conversion metadata; do
+        if [[ ,$given != *,$type,* ]]; then _warcdx_offer "$given$type"; fi
+    done
+    compopt -o nospace
+}
+
+_warcdx_query() {
+    _warcdx_offer "url= key="
+    compopt -o nospace
+}
+
+# Folders and files with the ending; all files where there are none.
+_warcdx_files() { # ENDING
+    local name
+    while IFS= read -r name; do COMPREPLY+=("$name"); done < <(compgen -f -X "!*.$1" -- "$word"; compgen -d -- "$word")
+    compopt -o filenames -o default
+}
+
+complete -F _warcdx warcdx
