@@ -30,11 +30,11 @@ lines_of() { # RECIPE: its indented lines
     awk -v "recipe=## $1" '/^## / { inside = $0 == recipe } inside && sub(/^    /, "")' "$page"
 }
 
-# Makes of the lines of a recipe a script that says each command before it runs it.
+# Makes of the lines of a recipe a script that says each command before it runs it, and keeps $? for it.
 script_of() {
     awk '
         function end() {
-            if (said) printf "cat << \"END-OF-WORDS\"\n%s\nEND-OF-WORDS\n%s\n", said, command
+            if (said) printf "kept=$?; cat << \"END-OF-WORDS\"\n%s\nEND-OF-WORDS\n(exit $kept)\n%s\n", said, command
             said = ""
         }
         /^\$ / { end(); said = $0; command = substr($0, 3); next }
