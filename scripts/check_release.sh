@@ -4,8 +4,8 @@
 #
 # usage: check_release.sh [FILE]      default: that of scripts/release for the version of this repository
 #
-# Needs Debian's packages bash, zsh, fish, man-db, bsdextrautils (col) and mandoc. The kit isn't needed: the program runs with an
-# environment that has neither it nor this repository. Prints a line for each check. The status is 1 where one fails.
+# Needs Debian's packages bash, zsh, fish, man-db, bsdextrautils (col), mandoc and binutils. The kit isn't needed: the program runs
+# with an environment that has neither it nor this repository. Prints a line for each check. The status is 1 where one fails.
 # shellcheck disable=SC2317 # check calls the functions
 set -euo pipefail
 
@@ -64,6 +64,11 @@ has_its_sum() {
 
 has_no_symbols() {
     same "" "$(nm "$prefix/bin/warcdx" 2> /dev/null)"
+}
+
+needs_the_c_library_alone() { # of the version that docs/INSTALL.md names
+    same "libc.so.6" "$(objdump -p "$prefix/bin/warcdx" | sed -n 's/^ *NEEDED *//p')" &&
+        same GLIBC_2.34 "$(objdump -T "$prefix/bin/warcdx" | grep --only-matching 'GLIBC_[0-9.]*' | sort --version-sort | tail --lines=1)"
 }
 
 answers_on_a_sample() { # with what docs/QUERY.md shows
@@ -169,6 +174,7 @@ check "the sums of what it holds" has_good_sums
 check "no rt on the PATH" has_no_kit
 check "warcdx on the PATH" is_installed
 check "the program has no symbols" has_no_symbols
+check "it needs the C library alone" needs_the_c_library_alone
 check "a sample is indexed and asked" answers_on_a_sample
 
 installed warcdx --help > "$work/help"
