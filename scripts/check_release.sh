@@ -135,25 +135,13 @@ page_has_causes() { # those in the tables of docs/RECORDS.md and docs/QUERY.md
 offered_by() {
     local words
     case $1 in
-        bash) words=(bash --norc -c "$bash_offers" bash "$prefix/share/bash-completion/completions/warcdx" "$2") ;;
-        zsh) words=(zsh "$scripts/complete.zsh" "$prefix/share/zsh/site-functions" "$2") ;;
+        bash) words=(zsh "$scripts/complete_bash.zsh" "$prefix/share/bash-completion/completions/warcdx" "$2") ;;
+        zsh) words=(zsh "$scripts/complete_zsh.zsh" "$prefix/share/zsh/site-functions" "$2") ;;
         fish) words=(fish --no-config -c "$fish_offers" "$prefix/share/fish/vendor_completions.d/warcdx.fish" "$2") ;;
     esac
     installed "${words[@]}" | LC_ALL=C sort | in_a_line
 }
 
-# Calls the completion function as bash does, and prints what it offers. compopt works only where bash itself calls.
-# shellcheck disable=SC2016 # that bash expands it
-bash_offers='
-source "$1"
-[[ $(complete -p warcdx) == "complete -F _warcdx warcdx" ]] || exit
-compopt() { :; }
-read -ra COMP_WORDS <<< "$2"
-if [[ $2 == *" " ]]; then COMP_WORDS+=(""); fi
-COMP_CWORD=$((${#COMP_WORDS[@]} - 1))
-_warcdx
-if ((${#COMPREPLY[@]})); then printf "%s\n" "${COMPREPLY[@]}"; fi
-'
 # shellcheck disable=SC2016 # that fish expands it
 fish_offers='source $argv[1]; complete -C $argv[2] | cut -f 1'
 

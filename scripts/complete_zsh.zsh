@@ -1,6 +1,6 @@
 # Prints the words that zsh offers behind a line, one a line.
 #
-# usage: zsh complete.zsh FOLDER LINE      FOLDER holds the completion _warcdx
+# usage: zsh complete_zsh.zsh FOLDER LINE      FOLDER holds the completion _warcdx
 #
 # The line is typed into a zsh of its own, at a pseudo-terminal. There each call of the builtin compadd prints its matches.
 zmodload zsh/zpty

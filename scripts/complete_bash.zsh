@@ -1,0 +1,27 @@
+# Prints the words that bash offers behind a line, one a line.
+#
+# usage: zsh complete_bash.zsh FILE LINE      FILE has the completion function _warcdx
+#
+# The line is typed into a bash of its own, at a pseudo-terminal, which zsh makes. There the function's answer is printed.
+zmodload zsh/zpty
+setup=$(mktemp)
+trap 'rm -f $setup' EXIT
+cat > $setup << 'END'
+[[ $(complete -p warcdx) == "complete -F _warcdx warcdx" ]] || exit
+print_offered() {
+    _warcdx "$@"
+    {
+        echo
+        if ((${#COMPREPLY[@]})); then printf 'OFFERED %s\n' "${COMPREPLY[@]}"; fi
+        echo 'END''ED'
+    } > /dev/tty
+}
+complete -F print_offered warcdx
+END
+zpty shell "bash --norc -i"
+zpty -w shell "PS1=; source ${(q)1}; source $setup; echo REA''DY"
+zpty -r -m shell seen '*READY*'
+zpty -w -n shell "$2"$'\t'
+zpty -r -m shell seen '*ENDED*'
+zpty -d shell
+print -r -- "$seen" | tr -d '\r' | sed -n 's/^OFFERED //p'
