@@ -127,8 +127,10 @@ page_has_diagnostics() { # those of docs/COMMANDS.md
 }
 
 page_has_causes() { # those in the tables of docs/RECORDS.md and docs/QUERY.md
-    grep --only-matching "^|[ 0-9]*|\{0,1\} *\`[A-Z][^|]*\` |" "$root"/docs/{RECORDS,QUERY}.md |
-        grep --only-matching "\`[A-Z][a-z][A-Za-z]*\`" | tr --delete "\`" | page_has
+    {
+        grep --no-filename --only-matching "^|[ 0-9]*|\{0,1\} *\`[A-Z][^|]*\` |" "$root"/docs/{RECORDS,QUERY}.md
+        grep --only-matching "\`refused [A-Z][A-Za-z]*\`" "$root/docs/QUERY.md" | sed 's/refused //'
+    } | grep --only-matching "\`[A-Z][a-z][A-Za-z]*\`" | tr --delete "\`" | page_has
 }
 
 # offered_by SHELL LINE: the words that the shell offers behind the line, in order
