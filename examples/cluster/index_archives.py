@@ -3,7 +3,7 @@
 
 usage: index_archives.py [--scheduler ADDRESS] [--workers NUMBER] [--warcdx PROGRAM] [--retries NUMBER] ARCHIVES RESULTS
 
-ARCHIVES is a folder with files *.warc, RESULTS one that is made. Both, and the program, have the same names on every machine. Without --scheduler a
+ARCHIVES is a folder with files *.warc, RESULTS one that is made: both have the same names on every machine. Without --scheduler a
 cluster of processes on this machine is made, and ended with the work.
 
 RESULTS gets archives (their names, a line each), parts/ (an index of each), index.cdxj (all of them, merged) and report.json (each archive that
@@ -99,6 +99,8 @@ def words():
         parser.error(f"{given.archives} is no folder")
     if given.results.exists():
         parser.error(f"{given.results} exists")
+    if os.sep in given.warcdx:
+        given.warcdx = os.path.abspath(given.warcdx)  # workers run in other folders
     return given
 
 
