@@ -14,6 +14,8 @@ import sys
 import tempfile
 import time
 
+import index_archives
+
 HERE = pathlib.Path(__file__).resolve().parent
 ROOT = HERE.parent.parent
 WAIT = 120  # seconds for what takes a few
@@ -146,11 +148,23 @@ def results_are_not_written_over(program, folder):
     expect("results", list(trial.results.iterdir()), [])
 
 
+def more_indexes_are_merged_in_groups(program, folder):
+    trial = Trial(program, folder, SLOW)
+    parts = []
+    for archive in sorted(trial.archives.iterdir()):
+        parts.append(folder / f"{archive.name}.cdxj")
+        parts[-1].write_bytes(trial.index(program, archive.name))
+    index_archives.MERGED_AT_ONCE = 3  # of twelve: groups, and groups of these
+    expect("merge", index_archives.merge(program, parts, folder / "merged"), (0, ""))
+    expect("index", (folder / "merged").read_bytes() == trial.wanted, True)
+
+
 CASES = (
     a_worker_is_killed_in_the_middle,
     a_cluster_is_made_where_none_is_named,
     an_archive_that_fails_is_tried_again_and_reported,
     results_are_not_written_over,
+    more_indexes_are_merged_in_groups,
 )
 
 
