@@ -1,3 +1,4 @@
+pub mod AddedArchive
 pub mod ArchiveLemmas
 pub mod PageLemmas
 pub mod CollectionLemmas
