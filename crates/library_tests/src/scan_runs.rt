@@ -12,6 +12,7 @@ use warc_core::Cause;
 pub type Archive = (&'static str, &'static [&'static [u8]]);
 
 /// Archives, the sizes of pages and a query; what a scan answers, and what it writes.
+#[derive(Drop)]
 pub struct Case {
     pub archives: &'static [Archive],
     pub sizes: &'static [u64],
