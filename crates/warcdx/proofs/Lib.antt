@@ -1,2 +1,3 @@
+pub mod AddedArchive
 pub mod LastSlash
 mod WordsLemmas
