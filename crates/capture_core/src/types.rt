@@ -95,11 +95,26 @@ impl Types {
             return None;
         }
         match kind {
-            Kind::Response => Some(Types { response: true, ..self }),
-            Kind::Resource => Some(Types { resource: true, ..self }),
-            Kind::Revisit => Some(Types { revisit: true, ..self }),
-            Kind::Conversion => Some(Types { conversion: true, ..self }),
-            Kind::Metadata => Some(Types { metadata: true, ..self }),
+            Kind::Response => Some(Types {
+                response: true,
+                ..self
+            }),
+            Kind::Resource => Some(Types {
+                resource: true,
+                ..self
+            }),
+            Kind::Revisit => Some(Types {
+                revisit: true,
+                ..self
+            }),
+            Kind::Conversion => Some(Types {
+                conversion: true,
+                ..self
+            }),
+            Kind::Metadata => Some(Types {
+                metadata: true,
+                ..self
+            }),
             _ => None,
         }
     }

@@ -79,13 +79,7 @@ impl Indexer {
             Ok(()) => {}
             Err(_) => return Err(IndexFault::Memory),
         }
-        Ok(add_captures(
-            self.alloc,
-            &mut self.captures,
-            name,
-            self.types,
-            input,
-        )?)
+        Ok(add_captures(self.alloc, &mut self.captures, name, self.types, input)?)
     }
 
     /// Forgets the captures that it holds. Names that were added stay used.
