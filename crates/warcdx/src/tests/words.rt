@@ -163,6 +163,49 @@ const ROWS: &[(&[&str], Wanted)] = &[
         &["get", "-1", "a"],
         Wanted::Usage("unexpected option '-1'\n"),
     ),
+    (&["frob"], Wanted::Usage("unrecognized subcommand 'frob'\n")),
+    (
+        &["a.warc", "list"],
+        Wanted::Usage("unrecognized subcommand 'a.warc'\n"),
+    ),
+    (&["help"], Wanted::Usage("unrecognized subcommand 'help'\n")),
+    (
+        &["frob", "-h"],
+        Wanted::Usage("unrecognized subcommand 'frob'\n"),
+    ),
+    (&["-"], Wanted::Usage("unrecognized subcommand '-'\n")),
+    (&["-h"], PROGRAM),
+    (&["--help", "frob", "a"], PROGRAM),
+    (&["list", "-h"], LIST),
+    (&["list", "a", "--help", "b"], LIST),
+    (&["verify", "--help"], VERIFY),
+    (&["index", "-h"], INDEX),
+    (&["query", "--help"], QUERY),
+    (&["pages", "0", "-h"], PAGES),
+    (&["serve", "i", "-h"], SERVE),
+    (&["get", "--help"], GET),
+    (&["get", "x", "-h"], GET),
+    (&["get", "0", "a", "b", "-h"], GET),
+    (&["scan", "-h"], SCAN),
+    (&["list", "a", "-x"], WITH_X),
+    (&["-h", "-x"], WITH_X),
+    (&["list", "-x", "--help"], WITH_X),
+    (
+        &["list", "--", "a"],
+        Wanted::Usage("unexpected option '--'\n"),
+    ),
+    (
+        &["list", "a", "-hx"],
+        Wanted::Usage("unexpected option '-hx'\n"),
+    ),
+    (
+        &["--version"],
+        Wanted::Usage("unexpected option '--version'\n"),
+    ),
+];
+
+/// Words with a choice of types.
+const TYPED: &[(&[&str], Wanted)] = &[
     (
         &["index", "--types", "request", "m.warc"],
         Wanted::Usage("invalid value 'request' for '--types <TYPES>': "),
@@ -216,45 +259,6 @@ const ROWS: &[(&[&str], Wanted)] = &[
     (&["index", "--types", "-h"], INDEX),
     (&["index", "--types", "request", "-h"], INDEX),
     (&["scan", "--types", "metadata", "--help"], SCAN),
-    (&["frob"], Wanted::Usage("unrecognized subcommand 'frob'\n")),
-    (
-        &["a.warc", "list"],
-        Wanted::Usage("unrecognized subcommand 'a.warc'\n"),
-    ),
-    (&["help"], Wanted::Usage("unrecognized subcommand 'help'\n")),
-    (
-        &["frob", "-h"],
-        Wanted::Usage("unrecognized subcommand 'frob'\n"),
-    ),
-    (&["-"], Wanted::Usage("unrecognized subcommand '-'\n")),
-    (&["-h"], PROGRAM),
-    (&["--help", "frob", "a"], PROGRAM),
-    (&["list", "-h"], LIST),
-    (&["list", "a", "--help", "b"], LIST),
-    (&["verify", "--help"], VERIFY),
-    (&["index", "-h"], INDEX),
-    (&["query", "--help"], QUERY),
-    (&["pages", "0", "-h"], PAGES),
-    (&["serve", "i", "-h"], SERVE),
-    (&["get", "--help"], GET),
-    (&["get", "x", "-h"], GET),
-    (&["get", "0", "a", "b", "-h"], GET),
-    (&["scan", "-h"], SCAN),
-    (&["list", "a", "-x"], WITH_X),
-    (&["-h", "-x"], WITH_X),
-    (&["list", "-x", "--help"], WITH_X),
-    (
-        &["list", "--", "a"],
-        Wanted::Usage("unexpected option '--'\n"),
-    ),
-    (
-        &["list", "a", "-hx"],
-        Wanted::Usage("unexpected option '-hx'\n"),
-    ),
-    (
-        &["--version"],
-        Wanted::Usage("unexpected option '--version'\n"),
-    ),
 ];
 
 /// Whether the words are answered so.
@@ -334,6 +338,14 @@ fn is_usage(text: &str, wanted: &Wanted) -> bool {
 #[test]
 fn words_ask_for_a_task_or_are_refused(rt: HostRuntime) -> Result<(), WordsFault> {
     for (words, wanted) in ROWS {
+        assert!(rt; asks(rt.alloc(), words, wanted)?, "{words:?}");
+    }
+    Ok(())
+}
+
+#[test]
+fn types_are_chosen_behind_the_command_or_refused(rt: HostRuntime) -> Result<(), WordsFault> {
+    for (words, wanted) in TYPED {
         assert!(rt; asks(rt.alloc(), words, wanted)?, "{words:?}");
     }
     Ok(())
