@@ -1,8 +1,8 @@
 -- Records under a higher limit of heads.
-use Rattle.std.proofs.Common.{◌≡◌, ◌≤◌, ◌∙◌, ℕ, ◌+◌, List, [], ◌∷◌, Option, None, Some, Ok, ap, subst, sym, arith}
+use Rattle.std.proofs.Common.{◌≡◌, ◌≤◌, ◌∙◌, ℕ, ◌+◌, List, [], ◌∷◌, None, Some, Ok, ap, sym, arith}
 use Rattle.warc_core.specs.HeadView.{HeadView, record_length}
 use Rattle.warc_core.specs.Next.{next_at}
-use Rattle.warc_core.specs.RecordText.{IsHeadText, IsReadFrom, IsRecordHead}
+use Rattle.warc_core.specs.RecordText.{IsHeadText, IsReadFrom}
 use Rattle.warc_core.specs.Walk.{record_at, Walks}
 use Rattle.warc_core.specs.Laws.{TextStays, ReadingStays, RecordsStay}
 use Rattle.warc_head.specs.Fields.{Field}

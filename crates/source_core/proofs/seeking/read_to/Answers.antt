@@ -1,4 +1,4 @@
-use Rattle.std.proofs.Common.{◌≡◌, ◌≤◌, ◌++◌, length, drop, arith, ◌∙◌, subst, length-take, length-drop, length-append}
+use Rattle.std.proofs.Common.{◌≡◌, ◌++◌, length, drop, arith, ◌∙◌, subst, length-take, length-drop, length-append}
 use Rattle.source_core.specs.LineParts.{ReadsOn}
 use Rattle.source_core.proofs.LongestLines.{front_most}
 use Rattle.source_core.proofs.seeking.read_to.Goals as goal
