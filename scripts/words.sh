@@ -96,7 +96,7 @@ check "scan 0"                          "" "$(no_sizes 0)"                 2 sca
 for types in "" , request Response response,response response, ,response "response, resource" warcinfo all; do
     check "index --types $types"        "" "$(no_types "$types")"          2 index --types "$types" missing
 done
-check "index --types warcinfo, scan"     "" "$(no_types warcinfo)"           2 scan --types warcinfo 1 url=a missing
+check "index --types warcinfo, scan"    "" "$(no_types warcinfo)"          2 scan --types warcinfo 1 url=a missing
 check "--types behind a name"           "" "$(misplaced --types)"         2 index m.warc --types metadata
 check "--types twice"                   "" "$(misplaced --types)"         2 index --types metadata --types metadata m.warc
 check "--types before a command"        "" "$(misplaced --types)"         2 --types metadata index m.warc
