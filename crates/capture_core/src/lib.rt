@@ -1,4 +1,6 @@
 //! What the records of an archive say: captures, and the digests of blocks.
+//!
+//! The definitions begin in `specs/Capture.antt`: the capture of a record.
 #![tactic(auto)]
 
 mod block_check;

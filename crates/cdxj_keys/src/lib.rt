@@ -1,4 +1,6 @@
 //! The keys of captures in an index, in the manner of SURT; docs/CDXJ.md has the rules.
+//!
+//! The definitions are in `specs/Key.antt`: the key of a URL, and of its host.
 #![tactic(auto)]
 
 mod fault;

@@ -1,4 +1,6 @@
-//! The command line of `warcdx`: what its words ask for, read by clap.
+//! The command line of `warcdx`: what its arguments ask for, read by clap.
+//!
+//! The definitions begin in `specs/Commands.antt`: the forms of the command line, and the task of each.
 #![tactic(auto)]
 
 mod command;

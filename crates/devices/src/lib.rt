@@ -1,7 +1,9 @@
 //! Where bytes come from and where they go: inputs and outputs that count the calls that failed.
 //!
-//! An [`Input`] or an [`Output`] is a slice or a list in memory, a reader or a writer of `std`, or a [`Fuse`] round
+//! An [`Input`] or an [`Output`] is a slice or a list in memory, a reader or a writer of `std`, or a [`Fuse`] around
 //! another device, which fails at one of its calls.
+//!
+//! The definitions begin in `specs/Device.antt`: what a call of a device does to its bytes.
 #![tactic(auto)]
 
 mod buffer;

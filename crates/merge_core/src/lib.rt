@@ -1,4 +1,6 @@
-//! The merging of sorted indexes.
+//! The merge of sorted indexes, as they are read.
+//!
+//! The definitions begin in `specs/Collections.antt`: the collection of several indexes.
 #![tactic(auto)]
 
 mod fault;

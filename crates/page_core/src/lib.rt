@@ -1,4 +1,6 @@
 //! Pages of captures: their laws, and their text in the three outputs; docs/QUERY.md has the rules.
+//!
+//! The definitions begin in `specs/Pages.antt`: what a page is, and what a chain of pages is.
 #![tactic(auto)]
 
 mod escaping;

@@ -1,4 +1,6 @@
-//! Calls on indexes.
+//! Calls on indexes: their merge, the check of one, the page of a query, all its pages, and the replies to queries.
+//!
+//! The definitions begin in `specs/QueryPages.antt`: the pages of a query, and their texts.
 #![tactic(auto)]
 
 mod answering;

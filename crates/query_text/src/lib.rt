@@ -1,4 +1,7 @@
 //! What the text of a query says, and which lines it selects; docs/QUERY.md has the rules.
+//!
+//! The definitions begin in `specs/Matching.antt`: which lines a query selects. `specs/Queries.antt` has what its text
+//! says.
 #![tactic(auto)]
 
 mod address;

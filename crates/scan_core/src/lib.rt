@@ -1,4 +1,6 @@
 //! Queries over archives, without an index on disk.
+//!
+//! The definitions begin in `specs/Scanning.antt`: which pages a scan writes.
 #![tactic(auto)]
 
 mod archives;

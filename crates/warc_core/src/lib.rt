@@ -1,7 +1,9 @@
 //! The records of a WARC file, read from any input (ISO 28500:2017, file and record model).
 //!
-//! A [`Reader`] is handed its input at each call, and gives the records one after another: a [`Head`], the bytes
-//! of its block, and the closing. It stops with a [`Fault`] at the first place where no record stands.
+//! A [`Reader`] takes its input at each call, and returns the records one after another: a [`Head`], the bytes of its
+//! block, and the closing. It stops with a [`Fault`] at the first offset where no record stands.
+//!
+//! The definitions begin in `specs/RecordText.antt`: what a record is, as a text.
 #![tactic(auto)]
 
 mod block;

@@ -1,4 +1,6 @@
 //! The head of a WARC record: its fields, and what the mandatory ones say (ISO 28500:2017, WARC 1.0 and 1.1).
+//!
+//! The definitions begin in `specs/Parts.antt`: what the text of a head says.
 #![tactic(auto)]
 
 mod calendar;

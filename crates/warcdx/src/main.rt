@@ -1,4 +1,6 @@
 //! `warcdx`: indexes web archives, answers queries, and fetches records.
+//!
+//! The definitions begin in `specs/Outcome.antt`: how a command ends, and its exit status.
 #![tactic(auto)]
 
 mod archives;
