@@ -1,4 +1,4 @@
-//! A block against the digest that its head names.
+//! The check of a block against the digest that its head gives.
 ghost use Rattle.std.specs.Prelude.{◌≡◌, ℕ, ◌+◌, codes};
 ghost use Rattle.warc_core.specs.Fields.{value_of};
 ghost use Rattle.warc_core.specs.declared.phase.Phase.TheVariants.{Between, Open};
@@ -13,7 +13,7 @@ use crate::digest_value::{digest_verdict, sha1_text};
 use crate::verdict::Verdict;
 use warc_core::{Fault, Head, Input, Reader};
 
-/// Reads a record that is unread to its end, and says whether its block has the digest that `WARC-Block-Digest` names
+/// Reads an unread record to its end, and returns the verdict on its block by the digest that `WARC-Block-Digest` gives
 /// (ISO 28500:2017, 5.8). It takes no memory.
 ///
 /// Errors are those of `Reader::finish`.
@@ -36,7 +36,7 @@ pub fn block_digest<I: Input>(
     }
 }
 
-/// Reads what is left of the open record, whose block has this verdict without a look at it.
+/// Reads the rest of the open record, and returns this verdict without examining the block.
 fn pass<I: Input>(reader: &mut Reader, input: &mut I, verdict: Verdict) -> Result<Verdict, Fault>
     ensures { (left len : ℕ) → reader.old.phase ≡ Open left len →
         ReadsTo (judge_record (λ _. verdict) left) (reader.old.offset + len) Between
@@ -47,7 +47,7 @@ fn pass<I: Input>(reader: &mut Reader, input: &mut I, verdict: Verdict) -> Resul
     Ok(verdict)
 }
 
-/// Reads what is left of the open record, and compares its block with a digest's text.
+/// Reads the rest of the open record, and compares its block with the text of a digest.
 fn compare<I: Input>(reader: &mut Reader, input: &mut I, text: &[u8]) -> Result<Verdict, Fault>
     requires { HasLeft 0 reader.old.phase }
     ensures { (left len : ℕ) → reader.old.phase ≡ Open left len →

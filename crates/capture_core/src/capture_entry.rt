@@ -15,7 +15,7 @@ use cdxj_core::{Entry, KeyFault, LINE_LIMIT};
 use std::alloc::Global;
 use warc_core::{Cause, Fault, Head};
 
-/// A growth of the capture's own was refused.
+/// Returns the fault for memory that the capture itself could not allocate.
 pub(crate) fn memory(head: &Head) -> CaptureFault
     ensures { result ≡ CaptureFault.Archive (record { offset = head.now.start; cause = Cause.Memory }) }
 {
@@ -25,7 +25,7 @@ pub(crate) fn memory(head: &Head) -> CaptureFault
     })
 }
 
-/// The entry of the record, where its line is within the limit of a line.
+/// Returns the entry of the record, if its line is within the limit of a line.
 ///
 /// Errors are `KeyTooLong`, `LineTooLong` and `Memory`, at the record's offset.
 pub(crate) fn capture_entry(

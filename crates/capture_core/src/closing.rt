@@ -1,4 +1,4 @@
-//! The end of a capture: what is left of its record is read, and its entry is made.
+//! The end of a capture: the rest of its record is read, and its entry is made.
 ghost use Rattle.std.specs.Prelude.{◌≡◌, ◌<◌, ℕ, length, IfOk, IfSome, option_map};
 ghost use Rattle.warc_core.specs.declared.phase.Phase.TheVariants.{Open};
 ghost use Rattle.warc_core.specs.ReaderView.{state_of};
@@ -15,7 +15,7 @@ use cdxj_core::{Entry, LINE_LIMIT};
 use std::alloc::Global;
 use warc_core::{Input, Reader};
 
-/// The capture of a record whose digest is known: reads what is left of the record.
+/// Reads the rest of a record whose digest is known, and returns its capture.
 pub(crate) fn capture_closed<I: Input>(
     alloc: Global,
     reader: &mut Reader,

@@ -8,7 +8,7 @@ ghost use Rattle.capture_core.specs.Payload.{digest_of_rest};
 use sha1::Sha1;
 use warc_core::{Fault, Input, Reader};
 
-/// The SHA-1 (FIPS 180-4) of `start` and of what is left of the open record's block. It takes no memory.
+/// Returns the SHA-1 (FIPS 180-4) of `start` followed by the rest of the open record's block. It takes no memory.
 ///
 /// Errors are those of `Reader::block`.
 pub(crate) fn digest_rest<I: Input>(

@@ -2,7 +2,7 @@
 ghost use Rattle.std.specs.Prelude.{◌≡◌, ◌<◌, ◌∷◌, []};
 ghost use Rattle.capture_core.specs.Base32.{letter_of, letters_of, base32_of};
 
-/// The base 32 of a SHA-1 digest (RFC 4648, section 6): 32 of the letters `A` to `Z` and `2` to `7`.
+/// Returns the base 32 of a SHA-1 digest (RFC 4648, section 6): 32 of the characters `A` to `Z` and `2` to `7`.
 pub fn base32(digest: &[u8; 20]) -> [u8; 32]
     ensures { result ≡ base32_of digest.now }
 {
@@ -15,7 +15,7 @@ pub fn base32(digest: &[u8; 20]) -> [u8; 32]
     text
 }
 
-/// The eight letters for the forty bits of five bytes.
+/// Returns the eight characters for the 40 bits of five bytes.
 fn letters(a: u8, b: u8, c: u8, d: u8, e: u8) -> [u8; 8]
     ensures { result ≡ letters_of (a ∷ b ∷ c ∷ d ∷ e ∷ []) 8 }
 {
@@ -31,7 +31,7 @@ fn letters(a: u8, b: u8, c: u8, d: u8, e: u8) -> [u8; 8]
     ]
 }
 
-/// The letter for five bits.
+/// Returns the character for five bits.
 fn letter(value: u8) -> u8
     requires { value < 32 }
     ensures { result ≡ letter_of value }

@@ -1,4 +1,4 @@
-//! The value of a field that names a digest.
+//! The value of a field that gives a digest.
 ghost use Rattle.std.specs.Prelude.{◌≡◌, MatchOption, None, Some};
 ghost use Rattle.std.specs.List.{list_all};
 ghost use Rattle.capture_core.specs.BlockDigest.{digest_verdict, is_base32_letter, is_base32_text, sha1_text};
@@ -6,7 +6,7 @@ ghost use Rattle.capture_core.specs.BlockDigest.{digest_verdict, is_base32_lette
 use crate::digest_text::base32;
 use crate::verdict::Verdict;
 
-/// The text of the SHA-1 digest that a value holds: 32 letters of base 32 after `sha1:`, each in any case.
+/// Returns the text of the SHA-1 digest in a value: 32 characters of base 32 after `sha1:`, each in either case.
 #[tactic(auto, unfolding(crate::specs::BlockDigest::sha1_text))]
 pub(crate) fn sha1_text(value: &[u8]) -> Option<&[u8]>
     ensures { MatchOption result (sha1_text value.now ≡ None) (λ text. sha1_text value.now ≡ Some text.now) }
@@ -37,7 +37,7 @@ fn is_base32_letter(byte: u8) -> bool
     matches!(byte, b'A'..=b'Z' | b'a'..=b'z' | b'2'..=b'7')
 }
 
-/// Whether the text is that of the digest, ASCII case ignored.
+/// Compares the text with that of the digest, ignoring ASCII case.
 pub(crate) fn digest_verdict(text: &[u8], digest: &[u8; 20]) -> Verdict
     ensures { result ≡ digest_verdict text.now digest.now }
 {

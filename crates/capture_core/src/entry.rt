@@ -12,7 +12,7 @@ use crate::utf8_text::utf8_text;
 use cdxj_core::{Entry, KeyFault, url_key};
 use std::alloc::Global;
 
-/// The entry of the record with this head, by its URL, what its HTTP head says, its digest and the
+/// Returns the entry of the record with this head, from its URL, its HTTP head, its digest and the
 /// archive's name.
 pub(crate) fn entry(
     alloc: Global,

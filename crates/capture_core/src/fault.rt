@@ -1,17 +1,17 @@
-//! Why the captures of an archive end.
+//! Why the captures of an archive can't be read further.
 ghost use Rattle.std.specs.Prelude.{◌≡◌};
 ghost use Rattle.capture_core.specs.declared.fault.CaptureFault.TheVariants.{Archive};
 
 use thiserror::Error;
 use warc_core::Fault;
 
-/// Why a record's capture can't be given.
+/// Why the capture of a record could not be returned.
 #[derive(Clone, Copy, Debug, PartialEq, Eq, Error)]
 pub enum CaptureFault {
-    /// The archive can't be read further, or memory ran out.
+    /// The archive can't be read further, or memory could not be allocated.
     #[error("{0}")]
     Archive(Fault),
-    /// The line of the capture would be longer than a line may be. The number is the record's
+    /// The line of the capture would be longer than the limit of a line. The number is the record's
     /// offset, in bytes from the archive's start.
     #[error("record at offset {0}: the line of its capture is too long")]
     LineTooLong(u64),
@@ -24,7 +24,7 @@ pub enum CaptureFault {
 impl CaptureFault {
     ghost use Rattle.capture_core.specs.Fault.{fault_offset, fault_name};
 
-    /// Where the record at fault begins, in bytes from the archive's start.
+    /// Returns the offset of the record at fault, in bytes from the archive's start.
     pub fn offset(self) -> u64
         ensures { result ≡ fault_offset self }
     {
@@ -35,7 +35,8 @@ impl CaptureFault {
         }
     }
 
-    /// The cause as listings print it: that of the archive's fault, `LineTooLong` or `KeyTooLong`.
+    /// Returns the cause as listings print it: that of the archive's fault, `LineTooLong` or
+    /// `KeyTooLong`.
     pub fn name(self) -> &'static str
         ensures { result.now ≡ fault_name self }
     {

@@ -1,17 +1,17 @@
-//! What of a field's value goes into an entry.
+//! The parts of a field's value that an entry contains.
 ghost use Rattle.std.specs.Prelude.{◌≡◌, ◌==◌, ◌<◌, length, position, MatchOption, IfSome, Some, None};
 ghost use Rattle.capture_core.specs.FieldValue.{non_empty, without_brackets, before_semicolon, media_type, without_sha1};
 
 use warc_head::trim;
 
-/// A value that is not empty.
+/// Returns a value that isn't empty.
 pub(crate) fn non_empty(value: &[u8]) -> Option<&[u8]>
     ensures { MatchOption result (non_empty value.now ≡ None) (λ v. non_empty value.now ≡ Some v.now) }
 {
     if value.is_empty() { None } else { Some(value) }
 }
 
-/// The value without one enclosing pair of `<` and `>`.
+/// Returns the value without one enclosing pair of `<` and `>`.
 #[tactic(auto, unfolding(crate::specs::FieldValue::without_brackets))]
 pub(crate) fn without_brackets(value: &[u8]) -> &[u8]
     ensures { result.now ≡ without_brackets value.now }
@@ -22,7 +22,7 @@ pub(crate) fn without_brackets(value: &[u8]) -> &[u8]
     }
 }
 
-/// A digest without a leading `sha1:`, in any case.
+/// Returns a digest without a leading `sha1:`, in any case.
 #[tactic(auto, unfolding(crate::specs::FieldValue::without_sha1))]
 pub(crate) fn without_sha1(value: &[u8]) -> &[u8]
     ensures { result.now ≡ without_sha1 value.now }
@@ -33,7 +33,7 @@ pub(crate) fn without_sha1(value: &[u8]) -> &[u8]
     }
 }
 
-/// A media type without its parameters and the white space around it.
+/// Returns a media type without its parameters and the white space around it.
 #[tactic(auto, unfolding(crate::specs::FieldValue::media_type))]
 pub(crate) fn media_type(value: &[u8]) -> &[u8]
     ensures { result.now ≡ media_type value.now }

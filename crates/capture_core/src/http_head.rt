@@ -1,4 +1,4 @@
-//! The HTTP head at the front of a block.
+//! The HTTP head at the start of a block.
 ghost use Rattle.std.specs.Prelude.{◌≡◌, ℕ, ◌<◌, ◌≤◌, List, length, drop, map, codes, All, IfSome, IfNone, option_map};
 ghost use Rattle.std.specs.Str.{str_eq_ignore_ascii_case};
 ghost use Rattle.httparse.specs.Grammar.{ResponseHead, print_response, status_code};
@@ -8,24 +8,24 @@ ghost use Rattle.capture_core.specs.HttpHead.{BeginsWithHead, HasNoHead, field_o
 use httparse::Status;
 use httparse::spans::{EMPTY_HEADER_SPAN, HeaderSpan, parse_response};
 
-/// The most bytes of an HTTP head.
+/// The maximum length of an HTTP head in bytes.
 pub(crate) const HTTP_HEAD_LIMIT: usize = 65_536;
 
-/// The most fields of an HTTP head.
+/// The maximum number of fields of an HTTP head.
 pub(crate) const HTTP_FIELD_LIMIT: usize = 256;
 
-/// What is taken from an HTTP head.
+/// The parts of an HTTP head that a capture uses.
 #[derive(Clone, Copy)]
 pub(crate) struct HttpHead<'a> {
     /// The status code, of three digits.
     pub code: u16,
     /// The value of the first `Content-Type`.
     pub content_type: Option<&'a [u8]>,
-    /// How many bytes the head has; the payload follows.
+    /// The length of the head in bytes. The payload follows it.
     pub len: usize,
 }
 
-/// The HTTP head at the front of a block, where there is one. The first 65,536 bytes of the block are enough.
+/// Reads the HTTP head at the start of a block, if there is one. The first 65,536 bytes of the block are enough.
 pub(crate) fn http_head(block: &[u8]) -> Option<HttpHead<'_>>
     ensures found { IfSome result (λ r. (h : ResponseHead)
         × BeginsWithHead HTTP_HEAD_LIMIT HTTP_FIELD_LIMIT block.now h (drop r.len block.now)
@@ -47,7 +47,7 @@ pub(crate) fn http_head(block: &[u8]) -> Option<HttpHead<'_>>
     }
 }
 
-/// The value of the first field of this name, ASCII case ignored.
+/// Returns the value of the first field of this name, ignoring ASCII case.
 fn value_of<'a>(bytes: &'a [u8], fields: &[HeaderSpan], name: &[u8]) -> Option<&'a [u8]>
     requires { All (IsHeaderWithin (length bytes.now)) fields.now }
     ensures { option_map (λ v. v.now) result ≡ first_value name.now (map (header_bytes bytes.now) fields.now) }
@@ -60,7 +60,7 @@ fn value_of<'a>(bytes: &'a [u8], fields: &[HeaderSpan], name: &[u8]) -> Option<&
     None
 }
 
-/// Whether a field's name is this one, ASCII case ignored.
+/// Returns `true` if a field has this name, ignoring ASCII case.
 fn is_named(field: &[u8], name: &[u8]) -> bool
     ensures { result ≡ str_eq_ignore_ascii_case field.now name.now }
 {

@@ -1,18 +1,18 @@
-//! Which records hold HTTP messages.
+//! The records that hold HTTP messages.
 ghost use Rattle.std.specs.Prelude.{◌≡◌, codes, option_map};
 ghost use Rattle.capture_core.specs.Indexed.{field, is_marked, holds_response, may_have_head};
 
 use crate::field_value::media_type;
 use warc_core::{Head, Kind};
 
-/// The value of the record's own `Content-Type`.
+/// Returns the value of the record's own `Content-Type`.
 pub(crate) fn content_type(head: &Head) -> Option<&[u8]>
     ensures { option_map (λ v. v.now) result ≡ field (codes "Content-Type") head.now }
 {
     head.field(b"Content-Type")
 }
 
-/// Whether the record's `Content-Type` is `application/http`, whatever its parameters.
+/// Returns `true` if the record's `Content-Type` is `application/http`, with any parameters.
 pub(crate) fn is_marked(head: &Head) -> bool
     ensures { result ≡ is_marked head.now }
 {
@@ -28,7 +28,8 @@ fn holds_response(kind: Kind) -> bool
     matches!(kind, Kind::Response | Kind::Revisit)
 }
 
-/// Whether the record's block may begin with an HTTP head: a response or revisit that is marked.
+/// Returns `true` if the record's block may begin with an HTTP head: a response or revisit whose
+/// `Content-Type` is `application/http`.
 pub(crate) fn may_have_head(head: &Head) -> bool
     ensures { result ≡ may_have_head head.now }
 {

@@ -1,4 +1,4 @@
-//! What is known of an indexed record before its block is read.
+//! An indexed record, before its block is read.
 use warc_core::Head;
 
 /// A record that is indexed.

@@ -1,8 +1,9 @@
-//! Laws over the definitions of captures.
+//! Laws of the definitions of captures. These functions do nothing: each law is a contract.
 ghost use Rattle.capture_core.specs.HttpHead.{OneHead, FrontDecides};
 ghost use Rattle.capture_core.specs.Capture.{OneCapture};
 
-/// A block has one HTTP head and one payload, and as many of its first bytes as a head may have decide them.
+/// A block has one HTTP head and one payload, or no HTTP head. Its first bytes, as many as a head may have, decide what
+/// its head is.
 pub fn block_has_one_head()
     ensures one { OneHead }
     ensures front { FrontDecides }

@@ -1,11 +1,12 @@
-//! Whether an entry's line is within the limit of a line.
+//! The check that an entry's line is within the limit of a line.
 ghost use Rattle.std.specs.Prelude.{◌≡◌, ◌≤◌, ◌<◌, ◌↔◌, true, length, IfOk, IsTrue};
 ghost use Rattle.cdxj_core.specs.Entries.{IsGood, line_text};
 
 use cdxj_core::{Entry, LINE_LIMIT, LineFault, write_line};
 use std::alloc::{AllocError, Global};
 
-/// Six texts of so many bytes, with each byte written in six, leave room in a line for all else.
+/// If six texts have at most this many bytes each, and each byte is escaped as six bytes, the rest
+/// of the line still fits.
 const SHORT: usize = 16_384;
 
 fn is_short(text: &str) -> bool
@@ -14,7 +15,8 @@ fn is_short(text: &str) -> bool
     text.len() <= SHORT
 }
 
-/// Whether the texts are so short that the line is within the limit, however they are escaped.
+/// Returns `true` if the texts are so short that the line is within the limit, however they are
+/// escaped.
 #[tactic(auto, using(crate::proofs::ShortLines::line_is_short))]
 fn is_short_entry(entry: &Entry) -> bool
     requires { IsGood entry.now }
@@ -28,8 +30,8 @@ fn is_short_entry(entry: &Entry) -> bool
         && is_short(&entry.filename)
 }
 
-/// Whether the entry's line has at most `LINE_LIMIT` bytes. It is written out only where the
-/// lengths of its texts don't show it.
+/// Returns `true` if the entry's line has at most `LINE_LIMIT` bytes. The line is written out only
+/// if the lengths of its texts don't decide this.
 pub(crate) fn fits_line(alloc: Global, entry: &Entry) -> Result<bool, AllocError>
     requires { IsGood entry.now }
     ensures { IfOk result (λ fits. IsTrue fits ↔ length (line_text entry.now) ≤ LINE_LIMIT) }

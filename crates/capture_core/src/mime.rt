@@ -40,9 +40,10 @@ fn content<'a>(head: &'a Head, response: Option<HttpHead<'a>>) -> &'a [u8]
     }
 }
 
-/// The bytes of an entry's media type, the first that applies: `warc/revisit` for a revisit; the
-/// `Content-Type` of the HTTP head; `-` for a record marked HTTP; the record's `Content-Type`. The
-/// values are cut at `;` and trimmed, and `-` stands for one that is absent or empty.
+/// Returns the media type of an entry, the first of these that applies: `warc/revisit` for a
+/// revisit; the `Content-Type` of the HTTP head; `-` for a record whose own `Content-Type` is
+/// `application/http`; the record's `Content-Type`. A value is cut at `;` and trimmed. `-` stands
+/// for a value that is absent or empty.
 pub(crate) fn mime<'a>(head: &'a Head, response: Option<HttpHead<'a>>) -> &'a [u8]
     ensures { result.now ≡ mime_of head.now (option_map response_view response.entry) }
 {

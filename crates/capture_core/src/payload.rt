@@ -1,4 +1,4 @@
-//! The front of a record's block, parted into its HTTP head and what follows.
+//! The start of a record's block, split into its HTTP head and the payload.
 ghost use Rattle.std.specs.Prelude.{◌≡◌, ◌<◌, ℕ, List, Option, option_map, IfOk, IfSome};
 ghost use Rattle.httparse.specs.Grammar.{ResponseHead};
 ghost use Rattle.capture_core.specs.Capture.{IsHeadFor, response_of, payload_of};
@@ -11,14 +11,15 @@ use crate::http_record::may_have_head;
 use std::alloc::{AllocError, Global};
 use warc_core::Head;
 
-/// What an HTTP head says, where there is one, and the front of the payload.
+/// The HTTP head, if there is one, and the start of the payload.
 #[derive(Clone, Copy)]
 pub(crate) struct Parted<'a> {
     pub response: Option<HttpHead<'a>>,
     pub payload: &'a [u8],
 }
 
-/// How many bytes of the record's block are looked at for an HTTP head.
+/// Returns the maximum number of bytes at the start of the record's block that are searched for an
+/// HTTP head.
 fn front_limit(head: &Head) -> usize
     ensures { result ≡ front_limit HTTP_HEAD_LIMIT head.now }
 {
@@ -29,7 +30,7 @@ fn front_limit(head: &Head) -> usize
     }
 }
 
-/// Room for the front of the record's block that is looked at.
+/// Returns a buffer for the start of the record's block that is searched for an HTTP head.
 pub(crate) fn front_buffer(alloc: Global, head: &Head) -> Result<Vec<u8>, AllocError>
     ensures { IfOk result (λ v. IsFrontOf HTTP_HEAD_LIMIT head.now v.items) }
 {
@@ -37,7 +38,7 @@ pub(crate) fn front_buffer(alloc: Global, head: &Head) -> Result<Vec<u8>, AllocE
     vec![in alloc; 0; head.length().min(limit) as usize]
 }
 
-/// The front of a record's block, parted.
+/// Splits the start of a record's block.
 pub(crate) fn part<'a>(head: &Head, front: &'a [u8]) -> Parted<'a>
     ensures parts { (found : Option (ResponseHead × List ℕ)) × IsHeadFor HTTP_HEAD_LIMIT HTTP_FIELD_LIMIT head.now front.now found
         × (option_map response_view result.response ≡ option_map (λ f. response_of f.0) found)

@@ -6,7 +6,8 @@ ghost use Rattle.capture_core.specs.Capture.{settled_digest};
 use crate::field_value::{non_empty, without_sha1};
 use warc_core::{Head, Kind};
 
-/// The value of `WARC-Payload-Digest` without a leading `sha1:`; none where nothing remains.
+/// Returns the value of `WARC-Payload-Digest` without a leading `sha1:`, or `None` if nothing is
+/// left.
 fn given_digest(head: &Head) -> Option<&[u8]>
     ensures { MatchOption result (given_digest head.now ≡ None) (λ d. given_digest head.now ≡ Some d.now) }
 {
@@ -16,8 +17,8 @@ fn given_digest(head: &Head) -> Option<&[u8]>
     }
 }
 
-/// The digest that is known without the payload: the given one, or `-` for a revisit. Where there
-/// is none, the entry's digest is the base 32 of the payload's SHA-1.
+/// Returns the digest that is known without the payload: the one that the head gives, or `-` for a
+/// revisit without one. If there is none, the entry's digest is the base 32 of the payload's SHA-1.
 pub(crate) fn settled_digest(head: &Head) -> Option<&[u8]>
     ensures value { MatchOption result (settled_digest head.now ≡ None)
         (λ d. settled_digest head.now ≡ Some d.now) }

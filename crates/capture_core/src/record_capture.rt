@@ -26,11 +26,13 @@ use cdxj_core::{Entry, LINE_LIMIT};
 use std::alloc::Global;
 use warc_core::{Head, Input, Reader};
 
-/// The entry of a record under the archive's name, or none where the record isn't indexed: one with a target is, where its type
-/// is one of these. Reads the record to its end, and hashes the payload where its head gives no digest of it.
+/// Returns the entry of a record under the archive's name, or `None` if the record isn't indexed. A record is indexed
+/// if it has a target and its type is one of these. The record is read to its end, and its payload is hashed if the
+/// head gives no digest of it.
 ///
-/// The record is the reader's last, and none of its block was read; the name isn't empty. Errors are the archive's fault;
-/// and, once the record was read to its end, `KeyTooLong`, `LineTooLong` and `Memory`, all at the record's offset.
+/// The record must be the last that the reader returned, with none of its block read, and the name must not be empty.
+/// Errors are the archive's fault and, after the record was read to its end, `KeyTooLong`, `LineTooLong` and `Memory`,
+/// all at the record's offset.
 pub fn capture<I: Input>(
     alloc: Global,
     reader: &mut Reader,
@@ -59,7 +61,7 @@ pub fn capture<I: Input>(
     }
 }
 
-/// The entry of a record that is indexed under this URL.
+/// Returns the entry of a record that is indexed under this URL.
 fn capture_as<I: Input>(
     alloc: Global,
     reader: &mut Reader,
@@ -84,7 +86,7 @@ fn capture_as<I: Input>(
     }
 }
 
-/// The same, by a buffer for the front of the block.
+/// Like `capture_as`, with a buffer for the start of the block.
 fn capture_through<I: Input>(
     alloc: Global,
     reader: &mut Reader,
@@ -106,7 +108,7 @@ fn capture_through<I: Input>(
     capture_behind(alloc, reader, input, indexed, front)
 }
 
-/// The same, where the front of the block was read.
+/// Like `capture_as`, after the start of the block was read.
 fn capture_behind<I: Input>(
     alloc: Global,
     reader: &mut Reader,

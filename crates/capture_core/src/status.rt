@@ -25,7 +25,7 @@ fn three_digits(alloc: Global, code: u16) -> Result<String, AllocError>
     Ok(text)
 }
 
-/// The HTTP head's code in three digits, or `-` where there is no HTTP head.
+/// Returns the HTTP head's status code in three digits, or `-` if there is no HTTP head.
 pub(crate) fn status(alloc: Global, response: Option<HttpHead<'_>>) -> Result<String, AllocError>
     requires { IfSome response (λ r. r.code < 1000) }
     ensures { IfOk result (λ text. string_bytes text

@@ -1,4 +1,4 @@
-//! Which records are indexed, and under which URL.
+//! The records that are indexed, and their URLs.
 ghost use Rattle.std.specs.Prelude.{◌≡◌, ◌<◌, length, MatchOption, IfSome, Some, None};
 ghost use Rattle.capture_core.specs.Indexed.{target_of, url_of};
 ghost use Rattle.capture_core.specs.Types.{includes};
@@ -7,8 +7,8 @@ use crate::field_value::{non_empty, without_brackets};
 use crate::types::Types;
 use warc_core::Head;
 
-/// The value of `WARC-Target-URI` without one enclosing pair of `<` and `>`; none where nothing
-/// remains.
+/// Returns the value of `WARC-Target-URI` without one enclosing pair of `<` and `>`, or `None` if
+/// nothing is left.
 fn target(head: &Head) -> Option<&[u8]>
     ensures { MatchOption result (target_of head.now ≡ None) (λ t. target_of head.now ≡ Some t.now) }
 {
@@ -18,7 +18,7 @@ fn target(head: &Head) -> Option<&[u8]>
     }
 }
 
-/// The URL under which a record is indexed: its target, where its type is one of these.
+/// Returns the URL under which a record is indexed: its target, if its type is one of these.
 pub(crate) fn url(head: &Head, types: Types) -> Option<&[u8]>
     ensures value { MatchOption result (url_of (includes types) head.now ≡ None)
         (λ url. url_of (includes types) head.now ≡ Some url.now) }

@@ -1,8 +1,8 @@
-//! Which types of records are indexed.
+//! The types of records that are indexed.
 use warc_core::Kind;
 
-/// A set of record types, one or more of response, resource, revisit, conversion and metadata: the records of these types are
-/// indexed.
+/// A set of one or more record types out of response, resource, revisit, conversion and metadata. The records of these
+/// types are indexed.
 #[derive(Clone, Copy, Debug, PartialEq, Eq)]
 pub struct Types {
     response: bool,
@@ -17,7 +17,7 @@ impl Types {
     ghost use Rattle.std.specs.List.{slice_split};
     ghost use Rattle.capture_core.specs.Types.{includes, is_comma, no_types, types_of, usual_types, with_kind, with_name, with_names};
 
-    /// Response, resource and revisit: the types that are indexed where no others are chosen.
+    /// Returns the set of response, resource and revisit: the types that are indexed by default.
     pub fn usual() -> Types
         ensures { result ≡ usual_types }
     {
@@ -29,7 +29,7 @@ impl Types {
         }
     }
 
-    /// The types that a text names: the names of one type or more, in lower case, with commas between, and none twice. None for
+    /// Reads the names of one or more types, in lower case, separated by commas, with no type twice. Returns `None` for
     /// any other text.
     pub fn read(text: &str) -> Option<Types>
         ensures { result ≡ types_of text.now }
@@ -37,7 +37,7 @@ impl Types {
         Types::none().with_names(text)
     }
 
-    /// Whether the set has the type.
+    /// Returns `true` if the set contains the type.
     pub fn includes(self, kind: Kind) -> bool
         ensures { result ≡ includes self kind }
     {
@@ -63,7 +63,7 @@ impl Types {
         }
     }
 
-    /// The set with the types of these names, with commas between.
+    /// Returns the set with the types of these names added. The names are separated by commas.
     fn with_names(self, names: &str) -> Option<Types>
         ensures { result ≡ with_names self (slice_split is_comma names.now) }
     {
@@ -73,7 +73,7 @@ impl Types {
         }
     }
 
-    /// The set with the type of this name.
+    /// Returns the set with the type of this name added.
     fn with_name(self, name: &str) -> Option<Types>
         ensures { result ≡ with_name self name.now }
     {
@@ -87,7 +87,7 @@ impl Types {
         }
     }
 
-    /// The set with one type more, where it may have the type and doesn't have it yet.
+    /// Returns the set with this type added, if the type can be indexed and isn't in the set yet.
     fn with_kind(self, kind: Kind) -> Option<Types>
         ensures { result ≡ with_kind self kind }
     {

@@ -6,8 +6,8 @@ ghost use Rattle.capture_core.specs.Utf8Text.{utf8_text};
 use percent_encoding::{AsciiSet, percent_encode};
 use std::alloc::{AllocError, Global};
 
-/// The text of a value: UTF-8 as it is, else each byte from 0x80 as `%` and two upper-case
-/// hexadecimal digits.
+/// Returns the text of a value. A value in UTF-8 is returned as it is. In any other value, each
+/// byte from 0x80 on is written as `%` and two upper-case hexadecimal digits.
 pub(crate) fn utf8_text(alloc: Global, value: &[u8]) -> Result<String, AllocError>
     ensures { IfOk result (λ text. string_bytes text ≡ utf8_text value.now) }
 {

@@ -1,23 +1,23 @@
-//! What is said of a block and its digest.
+//! The verdict on a block by its digest.
 ghost use Rattle.std.specs.Prelude.{◌≡◌};
 
-/// What the digest of a block says of it (ISO 28500:2017, WARC-Block-Digest).
+/// The result of comparing a block with its digest (ISO 28500:2017, WARC-Block-Digest).
 #[derive(Clone, Copy, Debug, PartialEq, Eq)]
 pub enum Verdict {
-    /// The block has the digest that its head names.
+    /// The block has the digest that its head gives.
     Same,
     /// The block has another digest.
     Differs,
-    /// The head names a digest in another form than `sha1:` and 32 letters of base 32.
+    /// The head gives a digest in another form than `sha1:` and 32 characters of base 32.
     NotSha1,
-    /// The head names no digest of the block.
+    /// The head gives no digest of the block.
     Absent,
 }
 
 impl Verdict {
     ghost use Rattle.capture_core.specs.BlockDigest.{verdict_name};
 
-    /// The verdict as listings print it: `same`, `differs`, `not-sha1`, `absent`.
+    /// Returns the verdict as listings print it: `same`, `differs`, `not-sha1` or `absent`.
     pub fn name(self) -> &'static str
         ensures { result.now ≡ verdict_name self }
     {

@@ -9,7 +9,7 @@ use crate::limit::LINE_LIMIT;
 use crate::unescaped::is_unescaped_ascii;
 use memchr::memchr;
 
-/// The line without a line feed at its end.
+/// Returns the line without a line feed at its end.
 pub(crate) fn body_of(line: &[u8]) -> &[u8]
     ensures { result.now ≡ body_of line.now }
 {
@@ -26,8 +26,8 @@ pub(crate) fn has_no_feed(text: &[u8]) -> bool
     memchr(b'\n', text).is_none()
 }
 
-/// The body as a text, where it is within the limit and each of its bytes is a character of ASCII
-/// that is no control and no backslash.
+/// Returns the body as a text, if it is within the limit and consists of ASCII characters other
+/// than controls and backslashes.
 #[inline(always)]
 pub(crate) fn unescaped_text(body: &[u8]) -> Option<&str>
     ensures value { IfSome result (λ text. text.now ≡ body.now) }

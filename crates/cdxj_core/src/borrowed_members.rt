@@ -23,7 +23,7 @@ impl<'a> BorrowedMembers<'a> {
     ghost use Rattle.cdxj_core.specs.Plain.{values_of_texts};
     ghost use Rattle.cdxj_core.specs.MemberViews.{borrowed_view};
 
-    /// The values that the texts stand for: an empty one counts as absent.
+    /// Returns the values that the texts stand for. An empty text counts as absent.
     pub(crate) fn values(self) -> BorrowedMembers<'a>
         ensures { borrowed_view result ≡ values_of_texts (borrowed_view self.entry) }
     {

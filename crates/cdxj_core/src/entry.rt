@@ -1,21 +1,21 @@
-//! What an index says of a capture.
+//! The entry of a capture in an index.
 use cdxj_places::{HasPlace, is_key, is_stamp};
 use std::cmp::Ordering;
 use std::marker::Model;
 
-/// What a line of an index says of one capture.
+/// The contents of an index line about one capture.
 #[derive(Debug, Drop)]
 pub struct Entry {
     pub key: String,
-    /// `YYYYMMDDhhmmss`.
+    /// 14 digits, `YYYYMMDDhhmmss`.
     pub stamp: [u8; 14],
     pub url: String,
     pub mime: String,
     pub status: String,
     pub digest: String,
-    /// Bytes of the record.
+    /// The length of the record in bytes.
     pub length: u64,
-    /// Bytes from the archive's start.
+    /// The offset in bytes from the archive's start.
     pub offset: u64,
     /// The archive's name.
     pub filename: String,
@@ -44,8 +44,8 @@ impl Entry {
     ghost use Rattle.std.specs.Prelude.{◌↔◌, IsTrue, IsUtf8};
     ghost use Rattle.cdxj_core.specs.Entries.{IsGood};
 
-    /// Whether the entry can be written: the key is a key, the stamp fourteen digits, no text is
-    /// empty, and length and offset are below 2^63.
+    /// Returns `true` if the entry can be written: the key is a key, the stamp is 14 digits, no
+    /// text is empty, and length and offset are below 2^63.
     pub fn good(&self) -> bool
         ensures { IsTrue result ↔ IsGood self.now }
     {

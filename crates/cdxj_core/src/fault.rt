@@ -1,10 +1,10 @@
-//! Why a line can't be written or read.
+//! Why a line could not be written or read.
 ghost use Rattle.std.specs.Prelude.{◌≡◌};
 
 use std::alloc::AllocError;
 use thiserror::Error;
 
-/// Why a line was not written or read.
+/// Why a line could not be written or read.
 #[derive(Clone, Copy, Debug, Drop, Error, PartialEq, Eq)]
 pub enum LineFault {
     #[error("out of memory")]

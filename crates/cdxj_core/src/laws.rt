@@ -11,13 +11,13 @@ ghost use Rattle.cdxj_core.specs.Lines.{body_of};
 ghost use Rattle.cdxj_core.specs.Members.{Member, entry_member, line_entry, member_pair};
 ghost use Rattle.cdxj_core.specs.Indexes.{IsIndex};
 
-/// The line of a good entry, where it is within the limit, is read as that entry.
+/// The line of a good entry is read as that entry, if it is within the limit.
 pub fn written_line_is_read()
     ensures { (limit : ℕ) → (entry : EntryValue) → HasLine limit entry
         → line_entry limit (line_text entry) ≡ Some (entry_member entry) }
 {}
 
-/// A line keeps its entry under a higher limit, and an index its members.
+/// A line keeps its entry under a higher limit, and an index keeps its members.
 pub fn line_stays_under_higher_limit()
     ensures line { (low high : ℕ) → low ≤ high → (line : List ℕ) → (member : Member)
         → line_entry low line ≡ Some member → line_entry high line ≡ Some member }
@@ -36,8 +36,7 @@ pub fn line_begins_with_its_pair()
         → line_entry limit line ≡ Some member → pair_of line ≡ Some (member_pair member) }
 {}
 
-/// The key of a line is shorter than the line without its line feed. The file name is no longer than
-/// that.
+/// The key of a line is shorter than the line without its line feed, and the file name is no longer than that.
 pub fn key_and_file_name_are_no_longer_than_their_line()
     ensures key { (limit : ℕ) → (line : List ℕ) → (member : Member)
         → line_entry limit line ≡ Some member → length member.values.key < length member.line }
@@ -45,8 +44,8 @@ pub fn key_and_file_name_are_no_longer_than_their_line()
         → line_entry limit line ≡ Some member → length member.values.filename ≤ length member.line }
 {}
 
-/// The lines of good entries are an index with their members, where the pairs never fall, and so
-/// where the places rise.
+/// The lines of good entries are an index with their members, if their pairs never fall, and so also if their places
+/// rise.
 pub fn written_lines_are_an_index()
     ensures pairs { (limit : ℕ) → (entries : List EntryValue) → AllByRecursion (HasLine limit) entries
         → NeverFalls entry_pair pair_cmp entries

@@ -1,2 +1,2 @@
-/// The most bytes of a line, counted with its line feed, whether it is there or not.
+/// The maximum length of a line in bytes. It includes a line feed, whether the line has one or not.
 pub const LINE_LIMIT: usize = 16_777_216;

@@ -15,19 +15,19 @@ use std::alloc::{AllocError, Global};
 use std::cmp::Ordering;
 use std::marker::Model;
 
-/// A line that was read and owns its bytes, in a buffer that can be used again.
+/// A line that was read and owns its bytes, in a buffer that can be reused.
 #[derive(Debug, Drop)]
 pub struct Line {
     alloc: Global,
     body: String,
     key_length: usize,
     stamp: [u8; 14],
-    /// Where the file name stands in the body, if it does.
+    /// The start and the end of the file name in the body, if it was found there.
     within: Option<(usize, usize)>,
-    /// The file name, if it does not.
+    /// The file name, if it was not found in the body.
     apart: String,
     offset: u64,
-    /// Where the texts of its members end, if it is plain.
+    /// The ends of the texts of the members, if the line is plain.
     ends: Option<MemberEnds>,
 }
 
@@ -129,7 +129,7 @@ impl Line {
     ghost use Rattle.cdxj_core.specs.Members.{member_place, line_entry, IsReading};
     ghost use Rattle.cdxj_places.specs.PlaceViews.{place_view};
 
-    /// Reads a line, with or without its line feed. Faults as of `LineRef::read`.
+    /// Reads a line, with or without its line feed. Errors are those of `LineRef::read`.
     #[tactic(auto, using(crate::proofs::MemberLemmas::entry_is_short))]
     pub fn read(alloc: Global, line: &[u8]) -> Result<Line, LineFault>
         ensures { IsReading LINE_LIMIT line.now result }
@@ -143,7 +143,7 @@ impl Line {
         }
     }
 
-    /// A copy of a line that was read.
+    /// Copies a line that was read.
     pub fn new(alloc: Global, line: &LineRef<'_>) -> Result<Line, AllocError>
         ensures { IfOk result (λ kept. kept ≡ line.now) }
     {
@@ -165,8 +165,8 @@ impl Line {
         })
     }
 
-    /// Reads another line into this one's buffer: where that is large enough, a plain line takes no
-    /// memory. Faults as of `LineRef::read`; then this line stays as it was.
+    /// Reads another line into this line's buffer. If the buffer is large enough, a plain line
+    /// takes no memory. Errors are those of `LineRef::read`; after an error this line is unchanged.
     #[tactic(auto, using(crate::proofs::MemberLemmas::entry_is_short))]
     pub fn refill(&mut self, line: &[u8]) -> Result<(), LineFault>
         ensures { MatchResult result (λ _. IsReading LINE_LIMIT line.now (Ok self.new))
@@ -224,7 +224,7 @@ impl Line {
         }
     }
 
-    /// The key and the stamp.
+    /// Returns the key and the stamp.
     pub fn pair(&self) -> (&str, [u8; 14])
         ensures key { result.0.now ≡ self.now.values.key }
         ensures stamp { result.1 ≡ self.now.values.stamp }
@@ -232,7 +232,7 @@ impl Line {
         (self.key(), self.stamp)
     }
 
-    /// The place of the line's capture.
+    /// Returns the place of the line's capture.
     pub fn place(&self) -> Place<'_>
         ensures { place_view result ≡ member_place self.now }
     {
@@ -244,7 +244,7 @@ impl Line {
         }
     }
 
-    /// The line without its line feed.
+    /// Returns the line without its line feed.
     pub fn line(&self) -> &[u8]
         ensures value { result.now ≡ self.now.line }
         ensures entry { line_entry LINE_LIMIT result.now ≡ Some self.now }
@@ -252,7 +252,7 @@ impl Line {
         self.body.as_bytes()
     }
 
-    /// The line with all its values. A line that isn't plain is read again.
+    /// Returns the line with all its values. A line that isn't plain is read again.
     pub fn values(&self) -> Result<LineRef<'_>, AllocError>
         ensures { IfOk result (λ found. found ≡ self.now) }
     {

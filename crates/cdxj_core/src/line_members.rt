@@ -1,4 +1,4 @@
-//! The members of a line: borrowed from a plain one, owned of any other.
+//! The members of a line: borrowed if the line is plain, owned otherwise.
 ghost use Rattle.std.specs.Prelude.{◌≡◌};
 
 use crate::borrowed_members::BorrowedMembers;

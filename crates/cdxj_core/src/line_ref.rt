@@ -1,4 +1,4 @@
-//! Lines that were read, over the bytes that they were read from.
+//! Lines that were read and that borrow their bytes.
 ghost use Rattle.std.specs.Prelude.{◌≡◌, Some, true};
 ghost use Rattle.cdxj_core.specs.declared.limit.TheConstants.{LINE_LIMIT};
 ghost use Rattle.cdxj_places.specs.Pair.{is_key, is_stamp};
@@ -17,7 +17,7 @@ use std::alloc::Global;
 use std::cmp::Ordering;
 use std::marker::Model;
 
-/// A line of an index that was read, with all that it says.
+/// A line of an index that was read, with all its values.
 #[derive(Debug, Drop)]
 pub struct LineRef<'a> {
     pub(crate) body: &'a str,
@@ -49,8 +49,10 @@ impl<'a> LineRef<'a> {
     ghost use Rattle.cdxj_places.specs.PlaceViews.{place_view};
 
     /// Reads a line, with or without its line feed: a key, a space, a stamp, a space and a JSON
-    /// object with a file name and an offset. `LineTooLong`, which comes first, where it has more
-    /// than `LINE_LIMIT` bytes counted with a line feed; `BadLine` where it is no such line.
+    /// object with a file name and an offset.
+    ///
+    /// The error is `LineTooLong`, which is checked first, if the line has more than `LINE_LIMIT`
+    /// bytes, counted with a line feed. It is `BadLine` if the line doesn't have this form.
     pub fn read(alloc: Global, line: &'a [u8]) -> Result<LineRef<'a>, LineFault>
         ensures { IsReading LINE_LIMIT line.now result }
     {
@@ -106,8 +108,9 @@ impl<'a> LineRef<'a> {
         })
     }
 
-    /// The value of a field: the key, the stamp, the offset in decimal, or the text of a member,
-    /// where a member that is absent, empty or neither text nor number of 64 bits is `-`.
+    /// Returns the value of a field: the key, the stamp, the offset in decimal, or the text of a
+    /// member. The value of a member that is absent, empty, or neither a text nor an unsigned
+    /// 64-bit number is `-`.
     pub fn value(&self, field: Field) -> &str
         ensures { result.now ≡ field_value field self.now.values }
     {
@@ -125,7 +128,7 @@ impl<'a> LineRef<'a> {
         }
     }
 
-    /// The key and the stamp.
+    /// Returns the key and the stamp.
     pub fn pair(&self) -> (&str, [u8; 14])
         ensures key { result.0.now ≡ self.now.values.key }
         ensures stamp { result.1 ≡ self.now.values.stamp }
@@ -133,7 +136,7 @@ impl<'a> LineRef<'a> {
         (self.key, self.digits)
     }
 
-    /// The place of the line's capture.
+    /// Returns the place of the line's capture.
     pub fn place(&self) -> Place<'_>
         ensures { place_view result ≡ member_place self.now }
     {
@@ -145,7 +148,7 @@ impl<'a> LineRef<'a> {
         }
     }
 
-    /// The line without its line feed.
+    /// Returns the line without its line feed.
     pub(crate) fn text(&self) -> &str
         ensures value { result.now ≡ self.now.line }
         ensures entry { line_entry LINE_LIMIT result.now ≡ Some self.now }
@@ -153,7 +156,7 @@ impl<'a> LineRef<'a> {
         self.body
     }
 
-    /// The line without its line feed, from which the values were read.
+    /// Returns the line without its line feed, from which the values were read.
     pub fn line(&self) -> &[u8]
         ensures value { result.now ≡ self.now.line }
         ensures entry { line_entry LINE_LIMIT result.now ≡ Some self.now }

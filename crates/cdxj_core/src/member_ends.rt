@@ -1,4 +1,4 @@
-//! Where the texts of a plain line stand.
+//! The positions of the texts of a plain line.
 ghost use Rattle.std.specs.Prelude.{◌≡◌, ◌+◌, ◌-◌, ◌≤◌, length};
 ghost use Rattle.cdxj_core.specs.declared.member_ends.TheConstants.{TO_STAMP, TO_STAMP_END, TO_FILENAME, CLOSE};
 ghost use Rattle.cdxj_core.specs.MemberViews.{borrowed_view};
@@ -8,11 +8,11 @@ use crate::plain_line::PlainLine;
 
 // How far each text begins behind the key, or behind the text before it.
 
-/// The stamp between two spaces.
+/// The space before the stamp.
 const TO_STAMP: usize = 1;
 
 const TO_STAMP_END: usize = 15;
-/// The same, and `{"url": "`.
+/// A space, the stamp, a space and `{"url": "`.
 const TO_URL: usize = 25;
 /// `", "mime": "`
 const TO_MIME: usize = 12;
@@ -29,7 +29,7 @@ const TO_FILENAME: usize = 16;
 /// `"}`
 const CLOSE: usize = 2;
 
-/// Where the texts of a plain line's members end: offsets in bytes from the line's start.
+/// The ends of the texts of a plain line's members, as offsets in bytes from the line's start.
 #[derive(Clone, Copy, Debug, Drop)]
 pub(crate) struct MemberEnds {
     pub url: usize,
@@ -62,7 +62,7 @@ impl MemberEnds {
         }
     }
 
-    /// Where the file name stands in a line of so many bytes.
+    /// Returns the start and the end of the file name in a line of `size` bytes.
     pub(crate) fn filename(self, size: usize) -> (usize, usize)
         requires { self.offset + TO_FILENAME + CLOSE ≤ size }
         ensures { result ≡ (self.offset + TO_FILENAME, size - CLOSE) }
@@ -70,7 +70,7 @@ impl MemberEnds {
         (self.offset + TO_FILENAME, size - CLOSE)
     }
 
-    /// The stamp of a line, whose key has so many bytes.
+    /// Returns the stamp of a line, whose key has `key_length` bytes.
     pub(crate) fn stamp(self, line: &str, key_length: usize) -> &str
         requires { AreParts line.now key_length self }
         ensures { result.now ≡ part line.now (key_length + TO_STAMP) (key_length + TO_STAMP_END) }
@@ -79,7 +79,7 @@ impl MemberEnds {
         &line[key_length + TO_STAMP..key_length + TO_STAMP_END]
     }
 
-    /// The texts of the members of a line, whose key has so many bytes.
+    /// Returns the texts of the members of a line, whose key has `key_length` bytes.
     pub(crate) fn texts(self, line: &str, key_length: usize) -> BorrowedMembers<'_>
         requires { AreParts line.now key_length self }
         ensures { borrowed_view result ≡ texts_at line.now key_length self }

@@ -1,4 +1,4 @@
-//! The values of a line's members, as JSON has them.
+//! The values of a line's members, as they are in JSON.
 ghost use Rattle.std.specs.Prelude.{◌≡◌, ◌<◌, ◌^◌, IfOk, IfSome, option_map, string_bytes, length};
 ghost use Rattle.serde_json.specs.View.{view};
 ghost use Rattle.cdxj_core.specs.Lines.{value_text, filename_value, offset_value};
@@ -7,7 +7,8 @@ use cdxj_places::read_offset;
 use serde_json::Value;
 use std::alloc::{AllocError, Global};
 
-/// A member's value as a text: `-` where it is absent, empty or neither text nor number.
+/// Returns a member's value as a text, or `-` if it is absent, empty, or neither a text nor an
+/// unsigned 64-bit number.
 pub(crate) fn value_text(alloc: Global, member: Option<&Value>) -> Result<String, AllocError>
     ensures { IfOk result
         (λ text. string_bytes text ≡ value_text (option_map (λ v. view v.now) member.entry)) }
@@ -24,7 +25,7 @@ pub(crate) fn value_text(alloc: Global, member: Option<&Value>) -> Result<String
     }
 }
 
-/// A text that is not empty.
+/// Returns a text that isn't empty.
 pub(crate) fn filename_value(member: Option<&Value>) -> Option<&str>
     ensures value { option_map (λ s. s.now) result
         ≡ filename_value (option_map (λ v. view v.now) member.entry) }
@@ -34,7 +35,7 @@ pub(crate) fn filename_value(member: Option<&Value>) -> Option<&str>
     if text.is_empty() { None } else { Some(text) }
 }
 
-/// An offset, as a number or as digits.
+/// Returns an offset that is given as a number or as digits, if it is below 2^63.
 pub(crate) fn offset_value(member: Option<&Value>) -> Option<u64>
     ensures value { result ≡ offset_value (option_map (λ v. view v.now) member.entry) }
     ensures small { IfSome result (λ n. n < 2 ^ 63) }

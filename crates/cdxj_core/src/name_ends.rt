@@ -1,4 +1,4 @@
-//! Where a file name stands in a line.
+//! The position of the file name in a line.
 ghost use Rattle.std.specs.Prelude.{◌≡◌, ◌++◌, IfSome};
 ghost use Rattle.cdxj_core.specs.KeptLine.{StandsAt, IsNamed};
 
@@ -17,7 +17,8 @@ fn name_ends(line: &str, name: &str) -> Option<(usize, usize)>
     Some((start.len(), front.len()))
 }
 
-/// Where the file name stands in its line, and else the file name itself.
+/// Returns the start and the end of the file name in its line if it is the last text of the object, or else the file
+/// name itself.
 pub(crate) fn cut_name<'a>(line: &str, name: &'a str) -> (Option<(usize, usize)>, &'a str)
     ensures { IsNamed line.now result.0 result.1.now name.now }
 {

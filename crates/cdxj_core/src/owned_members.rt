@@ -1,4 +1,4 @@
-//! The members of a line, with texts of their own.
+//! The members of a line, with owned texts.
 ghost use Rattle.std.specs.Prelude.{◌≡◌};
 
 use crate::borrowed_members::BorrowedMembers;

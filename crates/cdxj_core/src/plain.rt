@@ -1,5 +1,5 @@
-//! Plain objects: seven members in the order and the spelling of a written line, whose texts stand
-//! between their quotes as they are.
+//! Plain objects: seven members in the order and the spelling of a written line, whose texts need
+//! no escapes.
 ghost use Rattle.std.specs.Prelude.{◌≡◌, ◌<◌, ◌^◌, ◌∷◌, ◌++◌, length, true, codes, decimal, IfSome, Some};
 ghost use Rattle.std.specs.List.{list_all};
 ghost use Rattle.cdxj_core.specs.Plain.{is_open, is_unescaped, plain_text, ArePlain, AreOpen};
@@ -52,7 +52,7 @@ fn open_texts(object: &str) -> Option<BorrowedMembers<'_>>
     }
 }
 
-/// The texts of a plain object, of which no byte is a control or a backslash. It may decline any
+/// Returns the texts of a plain object that has no control and no backslash. It may decline any
 /// object.
 #[inline(always)]
 pub(crate) fn unescaped_texts(object: &str) -> Option<BorrowedMembers<'_>>
@@ -62,7 +62,7 @@ pub(crate) fn unescaped_texts(object: &str) -> Option<BorrowedMembers<'_>>
     open_texts(object)
 }
 
-/// The texts of a plain object. It may decline any object, which JSON then reads.
+/// Returns the texts of a plain object. It may decline any object, which is then read as JSON.
 pub(crate) fn plain_texts(object: &str) -> Option<BorrowedMembers<'_>>
     ensures { IfSome result (λ t. (object.now ≡ plain_text (borrowed_view t)) × ArePlain (borrowed_view t)) }
 {
@@ -73,7 +73,8 @@ pub(crate) fn plain_texts(object: &str) -> Option<BorrowedMembers<'_>>
     }
 }
 
-/// The offset of a plain object with a file name, where it is spelled as in a written line.
+/// Returns the offset of a plain object that has a file name, if the offset is spelled as in a
+/// written line.
 #[inline(always)]
 pub(crate) fn plain_offset(texts: BorrowedMembers<'_>) -> Option<u64>
     ensures value { IfSome result (λ n. offset_of texts.entry.offset.now ≡ Some n) }

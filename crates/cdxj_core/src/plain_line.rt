@@ -13,7 +13,7 @@ use crate::borrowed_members::BorrowedMembers;
 use crate::plain::{plain_offset, unescaped_texts};
 use cdxj_places::{cut_first, is_key, is_stamp};
 
-/// A line of ASCII whose object is plain, cut into its texts.
+/// A line of ASCII whose object is plain, split into its texts.
 #[derive(Drop)]
 pub(crate) struct PlainLine<'a> {
     pub body: &'a str,
@@ -38,7 +38,7 @@ impl<'a> PlainLine<'a> {
     ghost use Rattle.std.specs.Prelude.{IfSome};
     ghost use Rattle.cdxj_core.specs.PlainLines.{plain_member};
 
-    /// Cuts a line, with or without its line feed. It may decline any line, and takes no memory.
+    /// Splits a line, with or without its line feed. It may decline any line, and takes no memory.
     #[inline(always)]
     pub(crate) fn read(line: &'a [u8]) -> Option<PlainLine<'a>>
         ensures { IfSome result (λ found. line_entry LINE_LIMIT line.now ≡ Some (plain_member found)) }

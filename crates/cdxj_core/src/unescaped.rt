@@ -1,4 +1,4 @@
-//! Texts that stand between their quotes as they are: no quote, no backslash, no control.
+//! Texts that need no escapes between their quotes: no quote, no backslash, no control.
 ghost use Rattle.std.specs.Prelude.{◌≡◌, ◌∷◌, ◌++◌, true, IfSome};
 ghost use Rattle.std.specs.List.{list_all};
 ghost use Rattle.json.specs.Run.{is_plain};
@@ -6,8 +6,8 @@ ghost use Rattle.cdxj_core.specs.Plain.{is_open, is_unescaped, is_unescaped_asci
 
 use memchr::memchr;
 
-/// Whether no byte is a control or a backslash. One pass without an early exit, which compiles to
-/// vector tests.
+/// Returns `true` if no byte is a control or a backslash. It is one pass without an early exit,
+/// which compiles to vector tests.
 pub(crate) fn is_unescaped(text: &[u8]) -> bool
     ensures { result ≡ list_all is_unescaped text.now }
 {
@@ -18,8 +18,8 @@ pub(crate) fn is_unescaped(text: &[u8]) -> bool
     good
 }
 
-/// Whether every byte is a character of ASCII, and none is a control or a backslash. One pass, as
-/// above.
+/// Returns `true` if every byte is an ASCII character, and none is a control or a backslash. It is
+/// one pass, as above.
 pub(crate) fn is_unescaped_ascii(text: &[u8]) -> bool
     ensures { result ≡ list_all is_unescaped_ascii text.now }
 {
@@ -37,14 +37,14 @@ fn has_no_quote(text: &[u8]) -> bool
     memchr(b'"', text).is_none()
 }
 
-/// Whether JSON writes the text between quotes as it is.
+/// Returns `true` if JSON writes the text between quotes without escapes.
 pub(crate) fn is_plain_text(text: &[u8]) -> bool
     ensures { result ≡ list_all is_plain text.now }
 {
     has_no_quote(text) && is_unescaped(text)
 }
 
-/// The text up to the first quote, and what follows it.
+/// Returns the text before the first quote, and the text after it.
 #[inline(always)]
 pub(crate) fn quoted_part(text: &str) -> Option<(&str, &str)>
     ensures { IfSome result

@@ -1,4 +1,4 @@
-//! What the object of a line says: the texts of its members, and its offset.
+//! The values of the object of a line: the texts of its members, and its offset.
 ghost use Rattle.std.specs.Prelude.{◌≡◌, ◌<◌, ◌^◌, length, decimal, true};
 ghost use Rattle.cdxj_core.specs.MemberViews.{members_view};
 
@@ -27,7 +27,7 @@ impl<'a> Values<'a> {
     ghost use Rattle.cdxj_places.specs.Pair.{is_key, is_stamp};
     ghost use Rattle.cdxj_core.specs.ValuesView.{parts_view};
 
-    /// The values of a line that was cut at its first two spaces.
+    /// Reads the values of a line that was cut at its first two spaces.
     pub(crate) fn read(
         alloc: Global,
         key: &str,

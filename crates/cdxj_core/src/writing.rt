@@ -1,4 +1,4 @@
-//! The line of an entry.
+//! The writing of an entry's line.
 ghost use Rattle.std.specs.Prelude.{◌≡◌, ◌≢◌, ◌<◌, ◌≤◌, ◌++◌, [], ◌∷◌, true, length, IfOk, MatchResult};
 ghost use Rattle.std.specs.List.{list_all};
 ghost use Rattle.json.specs.Run.{is_plain};
@@ -27,7 +27,7 @@ fn push_plain(line: &mut Vec<u8>, text: &str) -> Result<(), AllocError>
     Ok(())
 }
 
-/// Puts the text behind the line, between quotes, as `serde_json` writes it.
+/// Appends the text to the line, between quotes, as `serde_json` writes it.
 pub fn push_quoted(line: &mut Vec<u8>, alloc: Global, text: &str) -> Result<(), AllocError>
     ensures { IfOk result (λ _. line.new.items ≡ line.old.items ++ quoted text.now) }
 {
@@ -140,9 +140,9 @@ fn line_bytes(alloc: Global, entry: &Entry) -> Result<Vec<u8>, AllocError>
     Ok(line)
 }
 
-/// The line of a good entry, with its line feed: the key, the stamp and a JSON object with the
-/// members url, mime, status, digest, length, offset and filename, all as texts. `LineTooLong`
-/// where it has more than `LINE_LIMIT` bytes.
+/// Writes the line of a good entry, with its line feed: the key, the stamp and a JSON object with
+/// the members url, mime, status, digest, length, offset and filename, all as texts. The error is
+/// `LineTooLong` if the line has more than `LINE_LIMIT` bytes.
 pub fn write_line(alloc: Global, entry: &Entry) -> Result<Vec<u8>, LineFault>
     requires { IsGood entry.now }
     ensures { MatchResult result

@@ -77,7 +77,7 @@ fn domain_text(alloc: Global, domain: &str) -> Result<Vec<u8>, AllocError>
     join_labels(alloc, &kept)
 }
 
-/// The host text, and nothing where the URL has no host.
+/// Returns the host text, which is empty if the URL has no host.
 pub(crate) fn host_text(alloc: Global, url: &Url) -> Result<Vec<u8>, AllocError>
     ensures { IfOk result (λ text. text.items ≡ key_host (host_or_empty url.now)) }
 {

@@ -1,5 +1,5 @@
-//! Keys in the manner of SURT: URLs with the host's labels reversed, so that a host's pages stand
-//! together in an index.
+//! Keys in the manner of SURT: URLs with the host's labels reversed, so that the pages of a host are adjacent in an
+//! index.
 ghost use Rattle.std.specs.Prelude.{◌≡◌, ◌<◌, ◌++◌, length, option_copied, option_map, true, IfOk, None, Ok, string_bytes};
 ghost use Rattle.std.specs.Char.{digit_char};
 ghost use Rattle.std.specs.List.{list_all};
@@ -41,7 +41,7 @@ fn is_graphic(bytes: &[u8]) -> bool
     bytes.iter().all(|byte| *byte >= 0x21 && *byte <= 0x7e)
 }
 
-/// A text without escapes, as most are.
+/// Returns a text without escapes in lower case. Most texts have no escapes.
 fn lowered(alloc: Global, text: &str) -> Result<String, AllocError>
     requires { list_all is_graphic text.now ≡ true }
     ensures { IfOk result (λ lower. string_bytes lower ≡ folded text.now) }
@@ -64,7 +64,7 @@ fn folded(alloc: Global, bytes: &[u8]) -> Result<String, AllocError>
     Ok(text)
 }
 
-/// The key of a key text.
+/// Returns the key of a key text.
 fn key_from(alloc: Global, text: &[u8]) -> Result<String, AllocError>
     ensures value { IfOk result (λ key. string_bytes key ≡ folded text.now) }
     ensures key { IfOk result (λ key. 0 < length text.now → is_key (string_bytes key) ≡ true) }
@@ -113,7 +113,7 @@ fn web_text(alloc: Global, url: &Url) -> Result<Vec<u8>, AllocError>
     Ok(text)
 }
 
-/// The key of a target that the URL parser took as this URL, as `url_key` gives it.
+/// Returns the key of a target that the URL parser read as this URL, as `url_key` does.
 #[tactic(auto, using(crate::proofs::FoldedKey::web_text_is_filled), unfolding(crate::specs::Key::key_of))]
 pub fn parsed_url_key(alloc: Global, url: &Url, target: &str) -> Result<String, AllocError>
     ensures value { IfOk result (λ key. string_bytes key ≡ folded (key_text (Ok url.now) target.now)) }
@@ -128,10 +128,12 @@ pub fn parsed_url_key(alloc: Global, url: &Url, target: &str) -> Result<String, 
     }
 }
 
-/// The key of a target. Of a web URL, as the URL Standard parses it, it is the host text, `:` and
-/// the port unless it is the scheme's own, `)`, the path, and `?` and the query unless it is empty;
-/// of any other target it is the target. ASCII letters are lowered, and bytes outside 0x21 to 0x7E
-/// written as `%` and two digits; of a target that isn't empty it is a line's key. `TooLong` only where the URL parser has no room for the URL.
+/// Returns the key of a target. The key of a web URL, as the URL Standard parses it, is the host text, `:` and the port
+/// unless it is the scheme's default port, `)`, the path, and `?` and the query unless it is empty. The key of any
+/// other target is the target itself. ASCII letters are written in lower case, and bytes outside 0x21 to 0x7E as `%`
+/// and two hexadecimal digits. The key of a target that isn't empty is valid as the key of a line.
+///
+/// Returns `TooLong` only if the URL parser has no room for the URL.
 #[tactic(auto, unfolding(crate::specs::Key::key_of))]
 pub fn url_key(alloc: Global, target: &str) -> Result<String, KeyFault>
     ensures value { IfOk result (λ key. string_bytes key ≡ key_of target.now) }
@@ -145,8 +147,7 @@ pub fn url_key(alloc: Global, target: &str) -> Result<String, KeyFault>
     }
 }
 
-/// The host text of a target's key, in lower case, where the target is a web URL. Faults as of
-/// `url_key`.
+/// Returns the host text of a target's key, in lower case, if the target is a web URL. Errors are those of `url_key`.
 #[tactic(auto, unfolding(crate::specs::Key::host_key_of))]
 pub fn host_key(alloc: Global, target: &str) -> Result<Option<String>, KeyFault>
     ensures { IfOk result (λ host. option_map string_bytes host ≡ host_key_of target.now) }

@@ -1,10 +1,10 @@
-//! Abbreviated keys, which decide most comparisons without a look at the keys.
+//! Abbreviated keys, which decide most comparisons without reading the keys.
 ghost use Rattle.std.specs.Prelude.{◌≡◌, ◌≤◌, length, take, All};
 ghost use Rattle.cdxj_places.specs.Abbreviated.{StartsWith, padded};
 
 use crate::order::HasPlace;
 
-/// The first `N` bytes, followed by zeros where they are too few.
+/// Returns the first `N` bytes, padded with zeros if there are fewer.
 pub fn abbreviated<const N: usize>(bytes: &[u8]) -> [u8; N]
     ensures { result ≡ padded N bytes.now }
 {
@@ -14,7 +14,7 @@ pub fn abbreviated<const N: usize>(bytes: &[u8]) -> [u8; N]
     abbreviation
 }
 
-/// How many bytes two keys have in common from their starts on.
+/// Returns the length in bytes of the longest common prefix of two keys.
 fn common_length(a: &[u8], b: &[u8]) -> usize
     ensures bound { result ≤ length a.now }
     ensures same { take result a.now ≡ take result b.now }
@@ -26,7 +26,7 @@ fn common_length(a: &[u8], b: &[u8]) -> usize
     length
 }
 
-/// What a start and a key begin with.
+/// Returns the longest common prefix of a start and a key.
 fn common_start<'a>(start: &'a [u8], key: &[u8]) -> &'a [u8]
     ensures start { StartsWith result.now start.now }
     ensures key { StartsWith result.now key.now }
@@ -38,7 +38,7 @@ fn common_start<'a>(start: &'a [u8], key: &[u8]) -> &'a [u8]
     }
 }
 
-/// What the keys of all things begin with.
+/// Returns the prefix that the keys of all things have in common.
 pub(crate) fn shared_start<T: HasPlace>(things: &[T]) -> &[u8]
     ensures { All (λ e. StartsWith result.now (T.place_of e).key) things.now }
 {

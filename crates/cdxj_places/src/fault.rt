@@ -1,15 +1,15 @@
-//! Why a place can't be had.
+//! Why a place could not be kept, written or read.
 ghost use Rattle.std.specs.Prelude.{◌≡◌};
 
 use std::alloc::AllocError;
 use thiserror::Error;
 
-/// Why a place was not kept, written or read.
+/// Why a place could not be kept, written or read.
 #[derive(Clone, Copy, Debug, Drop, Error, PartialEq, Eq)]
 pub enum PlaceFault {
     #[error("out of memory")]
     Memory,
-    /// The text is no resume key.
+    /// The text isn't a resume key.
     #[error("the resume key is bad")]
     BadResume,
 }

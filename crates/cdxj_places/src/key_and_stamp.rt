@@ -1,4 +1,4 @@
-//! What a key is, and what a stamp is.
+//! The forms of keys and of stamps.
 ghost use Rattle.std.specs.Prelude.{◌≡◌};
 ghost use Rattle.std.specs.List.{list_all};
 ghost use Rattle.std.specs.Char.{is_ascii_digit};

@@ -13,20 +13,21 @@ ghost use Rattle.cdxj_places.specs.Rising.{IsIn, IsFirst, Rises, IsLower, rising
 use crate::order::HasPlace;
 use crate::place::Place;
 
-/// Places are totally ordered, and none but the same place compares as equal.
+/// Places are totally ordered, and two places compare as equal only if they are the same.
 pub fn places_are_ordered()
     ensures total { IsTotalOrder place_cmp }
     ensures same { (p q : PlaceValue) → place_cmp p q ≡ Equal → p ≡ q }
 {}
 
-/// Pairs are totally ordered, and places of different pairs are ordered as these.
+/// Pairs are totally ordered, and places of different pairs are ordered as their pairs.
 pub fn pairs_are_ordered()
     ensures total { IsTotalOrder pair_cmp }
     ensures lower { (p q : PlaceValue) → pair_cmp (place_pair p) (place_pair q) ≡ Less → place_cmp p q ≡ Less }
     ensures higher { (p q : PlaceValue) → pair_cmp (place_pair p) (place_pair q) ≡ Greater → place_cmp p q ≡ Greater }
 {}
 
-/// The pair that a text begins with is that of each longer text.
+/// The pair that a text begins with is also the pair of each longer text that begins with this
+/// text.
 pub fn longer_text_has_the_pair()
     ensures { (text rest : List ℕ) → (pair : Pair) → pair_of text ≡ Some pair → pair_of (text ++ rest) ≡ Some pair }
 {}
@@ -40,7 +41,7 @@ fn see_bytes(bytes: &[u8])
     ensures { All (λ b. b < 256) bytes.now }
 {}
 
-/// A place keeps the rules of places.
+/// A place satisfies the rules of places.
 pub fn place_is_good(place: Place<'_>)
     ensures { IsPlace (place_view place.entry) }
 {
@@ -50,9 +51,9 @@ pub fn place_is_good(place: Place<'_>)
     see_bytes(filename);
 }
 
-/// The list that rises by place has exactly the first thing at each place; it is the only rising
-/// list with these members; and where some things stand below all others, it is their list and
-/// then the others'.
+/// The list that rises by place has exactly the first thing at each place, and is the only rising
+/// list with these members. If some things are below all others, it is the list of those things,
+/// followed by the list of the others.
 pub fn rising_list_is_unique<T: HasPlace>()
     ensures members { (thing : T) → (things : List T)
         → IsIn thing (rising T.place_of place_cmp things) ↔ IsFirst T.place_of place_cmp thing things }
@@ -65,7 +66,8 @@ pub fn rising_list_is_unique<T: HasPlace>()
         ++ rising T.place_of place_cmp (filter (λ thing. not (is_low thing)) things) }
 {}
 
-/// The list of what things show, in the order of places, is what the things in that order show.
+/// Mapping things to their views and then ordering the views by place gives the same list as
+/// ordering the things by place and then mapping them.
 pub fn rising_list_of_views<X, Y, P>()
     ensures { (view : X → Y) → (place : Y → P) → (cmp : P → P → Ordering) → (things : List X)
         → map view (rising (λ thing. place (view thing)) cmp things) ≡ rising place cmp (map view things) }

@@ -4,7 +4,7 @@ ghost use Rattle.cdxj_places.specs.Places.{offset_of};
 
 use crate::key_and_stamp::has_digits;
 
-/// The number in 1 to 19 digits, if it is below 2^63.
+/// Returns the number that 1 to 19 digits spell, if it is below 2^63.
 #[tactic(auto, using(crate::proofs::Offsets::digits_parsed))]
 pub fn read_offset(text: &str) -> Option<u64>
     ensures value { result ≡ offset_of text.now }

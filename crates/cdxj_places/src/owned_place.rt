@@ -45,7 +45,7 @@ impl OwnedPlace {
     ghost use Rattle.cdxj_places.specs.Places.{resume_place, place_in};
     ghost use Rattle.cdxj_places.specs.PlaceViews.{place_view};
 
-    /// A copy of the place.
+    /// Copies a place.
     pub fn new(alloc: Global, place: Place<'_>) -> Result<OwnedPlace, PlaceFault>
         ensures { MatchResult result (λ kept. kept ≡ place_view place.entry)
             (λ fault. fault ≡ PlaceFault.Memory) }
@@ -58,10 +58,10 @@ impl OwnedPlace {
         })
     }
 
-    /// The place that a resume key names, as `resume_text` writes it. The text is decoded as one
-    /// form-encoded value (URL Standard, "application/x-www-form-urlencoded") and cut at its first
-    /// two spaces and at its last. `BadResume` where the parts are no key, stamp, file name and
-    /// offset of 1 to 19 digits.
+    /// Reads the place that a resume key names, as `resume_text` writes it. The text is decoded as
+    /// one form-encoded value (URL Standard, "application/x-www-form-urlencoded") and cut at its
+    /// first two spaces and at its last. The error is `BadResume` if the parts aren't a key, a
+    /// stamp, a file name and an offset of 1 to 19 digits below 2^63.
     pub fn read(alloc: Global, text: &str) -> Result<OwnedPlace, PlaceFault>
         ensures { MatchResult result (λ kept. resume_place text.now ≡ Some kept)
             (λ fault. fault ≡ PlaceFault.BadResume → resume_place text.now ≡ None) }
@@ -96,7 +96,7 @@ impl OwnedPlace {
         }
     }
 
-    /// The place that is kept.
+    /// Returns the place.
     pub fn place(&self) -> Place<'_>
         ensures { place_view result ≡ self.now }
     {

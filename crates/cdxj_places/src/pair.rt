@@ -1,4 +1,4 @@
-//! The key and the stamp at the front of a line.
+//! The key and the stamp at the start of a line.
 ghost use Rattle.std.specs.Prelude.{◌≡◌, option_map, take, drop};
 ghost use Rattle.std.specs.List.{position, before_first, after_first};
 ghost use Rattle.cdxj_places.specs.Pair.{is_space, begins_with_space, pair_of};
@@ -42,7 +42,7 @@ fn begins_with_space(bytes: &[u8]) -> bool
     matches!(bytes, [b' ', ..])
 }
 
-/// The key and the stamp's fourteen digits, where the bytes begin with a key, a space, a stamp and a space.
+/// Returns the key and the 14 digits of the stamp, if the bytes begin with a key, a space, a stamp and a space.
 pub fn split_pair(line: &[u8]) -> Option<(&[u8], &[u8])>
     ensures { option_map (λ p. (p.0.now, p.1.now)) result ≡ pair_of line.now }
 {

@@ -5,17 +5,17 @@ ghost use Rattle.cdxj_places.specs.Pair.{is_key, is_stamp};
 use crate::order::HasPlace;
 use std::cmp::Ordering;
 
-/// Where a capture stands in an index: places are ordered by key, stamp and file name, each by its
+/// The place of a capture in an index. Places are ordered by key, stamp and file name, each by its
 /// bytes, and then by offset as a number.
 #[derive(Clone, Copy, Debug, PartialEq, Eq, PartialOrd, Ord)]
 pub struct Place<'a> {
     /// One or more characters, none of them a space, a control or U+007F.
     pub key: &'a str,
-    /// Fourteen digits, `YYYYMMDDhhmmss`.
+    /// 14 digits, `YYYYMMDDhhmmss`.
     pub stamp: [u8; 14],
     /// Not empty.
     pub filename: &'a str,
-    /// Bytes from the archive's start, below 2^63.
+    /// The offset in bytes from the archive's start, below 2^63.
     pub offset: u64,
     pub ghost key_rule: { is_key key.now ≡ true },
     pub ghost stamp_rule: { is_stamp stamp ≡ true },

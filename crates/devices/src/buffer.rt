@@ -1,4 +1,4 @@
-//! What was read from an input and not yet given out.
+//! Bytes that were read from an input and not yet consumed.
 ghost use Rattle.std.specs.Prelude.{◌≡◌, Option, ℕ, ◌+◌, ◌-◌, ◌<◌, ◌≤◌, List, [], length, drop, take, IfOk, OnOk, MatchResult};
 ghost use Rattle.std.specs.Io.KnownBytes.{Keeps, IsAtEnd, prepend_known};
 ghost use Rattle.devices.specs.Device.{CountsFailure};
@@ -7,11 +7,11 @@ use crate::device::{DeviceFault, Input};
 use std::alloc::{AllocError, Global};
 use std::marker::Model;
 
-/// How many bytes are asked of an input at once.
+/// The number of bytes that one call requests from an input.
 pub const PIECE: usize = 8192;
 
-/// Bytes that were read from an input and not given out yet, at most [`PIECE`] of them. It is handed its input at each
-/// call that reads.
+/// Bytes that were read from an input and not yet consumed, at most [`PIECE`] of them. A buffer does not hold the
+/// input; each call that reads takes it.
 #[derive(Drop)]
 pub struct Buffer {
     bytes: Vec<u8>,
@@ -28,7 +28,7 @@ impl Model for Buffer {
 }
 
 impl Buffer {
-    /// A buffer that holds nothing, with room for [`PIECE`] bytes.
+    /// Creates a buffer that holds nothing, with room for [`PIECE`] bytes.
     pub fn new(alloc: Global) -> Result<Buffer, AllocError>
         ensures { IfOk result (λ b. b ≡ []) }
     {
@@ -40,14 +40,14 @@ impl Buffer {
         })
     }
 
-    /// The bytes that are held.
+    /// Returns the bytes that are held.
     pub fn as_slice(&self) -> &[u8]
         ensures { result.now ≡ self.now }
     {
         &self.bytes.as_slice()[self.from..self.to]
     }
 
-    /// Gives out the first `count` bytes.
+    /// Removes the first `count` bytes.
     pub fn consume(&mut self, count: usize)
         requires { count ≤ length self.old }
         ensures { self.new ≡ drop count self.old }
@@ -55,7 +55,7 @@ impl Buffer {
         self.from += count;
     }
 
-    /// Reads once from the input where nothing is held. It then still holds nothing only at the input's end.
+    /// Reads once from the input if nothing is held. If nothing is held after that, the input is at its end.
     ///
     /// The only error is the input's failure.
     pub fn fill<I: Input>(&mut self, input: &mut I) -> Result<(), DeviceFault>

@@ -10,39 +10,39 @@ use thiserror::Error;
 #[error("the device failed")]
 pub struct DeviceFault;
 
-/// Where bytes come from.
+/// A source of bytes.
 pub trait Input {
-    /// The bytes that are left, where they are known.
+    /// The bytes that are left, if they are known.
     ghost remaining: { Self → Option (List ℕ) };
 
-    /// How many calls have failed.
+    /// The number of calls that have failed.
     ghost failures: { Self → ℕ };
 
-    /// Moves the next bytes into the front of `piece`, and answers how many. `Ok(0)` for a piece that isn't
-    /// empty is the end. An `Err` moves none.
+    /// Reads the next bytes into the start of `piece`, and returns their number. `Ok(0)` for a piece that isn't empty
+    /// is the end of the input. A call that returns an error reads no bytes.
     fn read(&mut self, piece: &mut [u8]) -> Result<usize, DeviceFault>
         ensures bound { IfOk result (λ n. n ≤ length piece.new) }
         ensures bytes { ReadConsumes (remaining self.old) (remaining self.new) result piece.new }
         ensures failures { CountsFailure result (failures self.old) (failures self.new) };
 }
 
-/// Where bytes go.
+/// A destination of bytes.
 pub trait Output {
-    /// What was written, where it is known.
+    /// The bytes that were written, if they are known.
     ghost written: { Self → Option (List ℕ) };
 
-    /// How many calls have failed.
+    /// The number of calls that have failed.
     ghost failures: { Self → ℕ };
 
-    /// Takes the first `n` bytes of `piece` and answers `n`, at least 1 for a piece that isn't empty. An `Err`
-    /// takes none.
+    /// Writes the first `n` bytes of `piece` and returns `n`, at least 1 for a piece that isn't empty. A call that
+    /// returns an error writes no bytes.
     fn write(&mut self, piece: &[u8]) -> Result<usize, DeviceFault>
         ensures some { IfOk result (TakesSome piece.now) }
         ensures bytes { WriteAppends (written self.old) (written self.new) result piece.now }
         ensures failures { CountsFailure result (failures self.old) (failures self.new) };
 }
 
-/// Writes all of `bytes`, or a prefix of them before the output's failure.
+/// Writes all of `bytes`. If the output fails, only a prefix of them was written.
 pub fn put<O: Output>(out: &mut O, bytes: &[u8]) -> Result<(), DeviceFault>
     ensures all { OnOk result (Appends (O.written out.old) (O.written out.new) bytes.now) }
     ensures prefix { OnErr result (AppendsPrefix (O.written out.old) (O.written out.new) bytes.now) }

@@ -5,27 +5,27 @@ ghost use Rattle.devices.specs.Device.{CountsFailure, TakesSome};
 
 use crate::device::{DeviceFault, Input, Output};
 
-/// A device that lets another one move only so many bytes a call, and fails at one of its own calls.
+/// A device that limits the bytes per call of an inner device, and fails at one of its own calls.
 ///
-/// That call doesn't reach the device within; the ones after it do.
+/// The call that fails doesn't reach the inner device; the calls after it do.
 #[derive(Drop)]
 pub struct Fuse<D> {
-    /// The device within.
+    /// The inner device.
     pub device: D,
-    /// The most bytes that a call moves. 0 counts as 1.
+    /// The maximum number of bytes that a call moves. 0 counts as 1.
     pub piece: usize,
-    /// The call that fails; the first is 1. 0 and 2^64 - 1 mean none.
+    /// The number of the call that fails; the first call is 1. With 0 and 2^64 - 1 no call fails.
     pub at: u64,
-    /// How many calls there were. It stays at 2^64 - 1.
+    /// The number of calls so far. It stops at 2^64 - 1.
     pub calls: u64,
-    /// How many of them failed, those that failed within too. It stays at 2^64 - 1.
+    /// The number of calls that failed, including those that failed in the inner device. It stops at 2^64 - 1.
     pub failures: u64,
 }
 
 impl<D> Fuse<D> {
     ghost use Rattle.devices.specs.Fused.{IsNewFuse, IsBlown};
 
-    /// A fuse that had no call yet.
+    /// Creates a fuse that has had no call.
     pub fn new(device: D, piece: usize, at: u64) -> Fuse<D>
         ensures { IsNewFuse device piece at result }
     {
@@ -38,7 +38,7 @@ impl<D> Fuse<D> {
         }
     }
 
-    /// Counts a call, and answers whether it is the one that fails.
+    /// Counts a call, and returns whether it is the one that fails.
     pub fn blows(&mut self) -> bool
         ensures call { self.new ≡ record self.old { calls = min (self.old.calls + 1) (2 ^ 64 - 1) } }
         ensures at { IsTrue result ↔ IsBlown self.new.calls self.old.at }

@@ -12,13 +12,13 @@ use std::alloc::{AllocError, Global};
 use std::marker::Model;
 use thiserror::Error;
 
-/// An input of this many bytes, or of more, is too long to be read by its lines.
+/// An input of this many bytes or more is too long to be read line by line.
 pub const INPUT_LIMIT: u64 = 9_223_372_036_854_775_807;
 
-/// Why a line of an input wasn't read.
+/// Why a line of an input could not be read.
 #[derive(Clone, Copy, Debug, Drop, PartialEq, Eq, Error)]
 pub enum InputLineFault {
-    /// A growth was refused.
+    /// Memory could not be allocated.
     #[error("out of memory")]
     Memory,
     /// The input failed.
@@ -51,7 +51,7 @@ impl From<AllocError> for InputLineFault {
     }
 }
 
-/// What a piece of the input is to a line.
+/// How a piece of the input relates to the line that is read.
 #[derive(Clone, Copy, Debug, Drop, PartialEq, Eq)]
 enum Part {
     /// The piece ends within the line.
@@ -62,9 +62,9 @@ enum Part {
     AtEnd,
 }
 
-/// Gives the lines of an input, one after another. It is handed its input at each call that reads.
+/// Reads the lines of an input, one after another. It does not hold the input; each call that reads takes it.
 ///
-/// A line ends with a line feed; the last line may lack it. Of a line at most the first `most` bytes are held.
+/// A line ends with a line feed, which the last line may lack. At most the first `most` bytes of a line are held.
 #[derive(Drop)]
 pub struct InputLines {
     buffer: Buffer,
@@ -85,7 +85,7 @@ impl InputLines {
     ghost use Rattle.devices.specs.declared.input_lines.Part.TheVariants.{AtEnd};
     ghost use Rattle.devices.specs.declared.input_lines.InputLineFault.TheVariants.{Memory, TooLong};
 
-    /// Nothing read yet. Of each line the first `most` bytes will be held.
+    /// Creates a reader of lines that has read nothing. At most the first `most` bytes of each line will be held.
     pub fn new(alloc: Global, most: usize) -> Result<InputLines, AllocError>
         requires { 0 < most }
         ensures { IfOk result (λ lines. (lines.buffer ≡ []) × (lines.taken ≡ 0) × (lines.most ≡ most)) }
@@ -99,14 +99,14 @@ impl InputLines {
         })
     }
 
-    /// The bytes that are held of the line that was read last, without one carriage return at their end.
+    /// Returns the bytes that are held of the last line read, without one carriage return at their end.
     pub fn line(&self) -> &[u8]
         ensures { result.now ≡ without_carriage_return self.now.line }
     {
         without_carriage_return(self.line.as_slice())
     }
 
-    /// Passes over bytes that are held of the input.
+    /// Skips `count` buffered bytes of the input.
     fn pass(&mut self, count: usize) -> Result<(), InputLineFault>
         requires { count ≤ length self.old.buffer }
         ensures within { OnOk result (self.new.taken < 2 ^ 63 - 1) }
@@ -124,7 +124,7 @@ impl InputLines {
         Ok(())
     }
 
-    /// Takes what is held of the input, up to and with the first line feed.
+    /// Takes the buffered bytes of the input, up to and including the first line feed.
     fn take_held(&mut self) -> Result<Part, InputLineFault>
         ensures within { OnOk result (self.new.taken < 2 ^ 63 - 1) }
         ensures most { self.new.most ≡ self.old.most }
@@ -153,7 +153,7 @@ impl InputLines {
         }
     }
 
-    /// Takes a piece of the input, up to and with the first line feed.
+    /// Takes a piece of the input, up to and including the first line feed.
     fn take_part<I: Input>(&mut self, input: &mut I) -> Result<Part, InputLineFault>
         ensures within { OnOk result (self.new.taken < 2 ^ 63 - 1) }
         ensures most { self.new.most ≡ self.old.most }
@@ -167,7 +167,8 @@ impl InputLines {
         self.take_held()
     }
 
-    /// Reads the next line, and answers whether there was one. A line that is longer than what is held is read to its end.
+    /// Reads the next line, and returns whether there was one. A line that is longer than the bytes held is still read
+    /// to its end.
     pub fn next<I: Input>(&mut self, input: &mut I) -> Result<bool, InputLineFault>
         ensures within { OnOk result (self.new.taken < 2 ^ 63 - 1) }
         ensures most { self.new.most ≡ self.old.most }

@@ -1,11 +1,11 @@
-//! Where the lines of an input are cut.
+//! The ends of the lines of an input.
 ghost use Rattle.std.specs.Prelude.{◌≡◌, ◌++◌, ◌≤◌, ◌<◌, ◌+◌, length, take, drop, IfOk, MatchOption, ◌∷◌};
 ghost use Rattle.devices.specs.LineCuts.{without_carriage_return, HasNoLineFeed};
 
 use memchr::memchr;
 use std::alloc::AllocError;
 
-/// Where the first line feed stands.
+/// Returns the index of the first line feed, if there is one.
 pub(crate) fn find_line_feed(piece: &[u8]) -> Option<usize>
     ensures { MatchOption result (HasNoLineFeed piece.now)
         (λ at. (at < length piece.now) × HasNoLineFeed (take at piece.now) × (piece.now ≡ take at piece.now ++ 10 ∷ drop (at + 1) piece.now)) }
@@ -13,7 +13,7 @@ pub(crate) fn find_line_feed(piece: &[u8]) -> Option<usize>
     memchr(b'\n', piece)
 }
 
-/// The line without one carriage return at its end.
+/// Returns the line without one carriage return at its end.
 pub(crate) fn without_carriage_return(line: &[u8]) -> &[u8]
     ensures { result.now ≡ without_carriage_return line.now }
 {
@@ -23,7 +23,7 @@ pub(crate) fn without_carriage_return(line: &[u8]) -> &[u8]
     }
 }
 
-/// Adds bytes to a line of which at most the first `most` are held.
+/// Appends bytes to a line, of which at most the first `most` bytes are held.
 pub(crate) fn hold(line: &mut Vec<u8>, most: usize, bytes: &[u8]) -> Result<(), AllocError>
     requires { length line.old.items ≤ most }
     ensures bytes { IfOk result (λ _. line.new.items ≡ take most (line.old.items ++ bytes.now)) }

@@ -7,7 +7,7 @@ use crate::device::{DeviceFault, Input, Output};
 use std::alloc::Global;
 use std::marker::Model;
 
-/// An input over a text in memory. Its bytes are known, and it never fails.
+/// An input over bytes in memory. Its bytes are known, and it never fails.
 #[derive(Drop)]
 pub struct Slice<'a> {
     rest: &'a [u8],
@@ -20,7 +20,7 @@ impl<'a> Model for Slice<'a> {
 }
 
 impl<'a> Slice<'a> {
-    /// The input of these bytes.
+    /// Creates an input over these bytes.
     pub fn new(bytes: &'a [u8]) -> Slice<'a>
         ensures { result ≡ bytes.now }
     {
@@ -47,7 +47,8 @@ impl Input for Slice<'_> {
     }
 }
 
-/// An output that keeps what it took, in memory. A growth that is refused is its failure.
+/// An output that keeps the bytes written to it, in memory. A write fails if memory could not be
+/// allocated.
 #[derive(Drop)]
 pub struct Gather {
     bytes: Vec<u8>,
@@ -57,7 +58,7 @@ pub struct Gather {
 impl Gather {
     ghost use Rattle.devices.specs.Gathered.{gathered, gather_failures};
 
-    /// An output that took nothing yet.
+    /// Creates an output to which nothing was written.
     pub fn new(alloc: Global) -> Gather
         ensures none { gathered result ≡ [] }
         ensures failures { gather_failures result ≡ 0 }
@@ -68,7 +69,7 @@ impl Gather {
         }
     }
 
-    /// What it took.
+    /// Returns the bytes that were written.
     pub fn bytes(&self) -> &[u8]
         ensures { result.now ≡ gathered self.now }
     {

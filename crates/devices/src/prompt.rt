@@ -7,10 +7,12 @@ ghost use Rattle.devices.specs.Prompted.{prompt_failures};
 use crate::device::{DeviceFault, Output};
 use std::io;
 
-/// A buffered writer of `std` as an output. Its bytes are not known. The writer's `Ok(0)` for a piece that isn't empty is a failure.
+/// A buffered writer of `std` as an output. Its bytes are not known. If the writer returns `Ok(0)` for a piece that
+/// isn't empty, the write fails.
 ///
-/// The writer is flushed after a piece that ends with a line `.` or is a line feed alone. So a reply that ends with a line `.` in a
-/// piece of its own has left the buffer once that piece was put. A flush that fails is a failure of the piece.
+/// The writer is flushed after a piece that ends with `.` and a line feed, or that is a single line feed. So a reply
+/// whose last line is a `.` written as a piece of its own has left the buffer once that piece was written. If the flush
+/// fails, the write of the piece fails.
 #[derive(Drop)]
 pub struct Prompt<W> {
     writer: W,
@@ -18,7 +20,7 @@ pub struct Prompt<W> {
 }
 
 impl<W> Prompt<W> {
-    /// The output over a writer.
+    /// Creates an output over a writer.
     pub fn new(writer: W) -> Prompt<W>
         ensures { prompt_failures result ≡ 0 }
     {
@@ -36,7 +38,7 @@ fn ends_reply(piece: &[u8]) -> bool {
     }
 }
 
-/// Writes a piece, and hands on what is buffered where the piece was taken whole and ends a reply.
+/// Writes a piece, and flushes the writer if the piece was taken whole and ends a reply.
 fn write_promptly<W: io::Write>(writer: &mut W, piece: &[u8]) -> Result<usize, io::Error>
     ensures { IfOk result (λ n. n ≤ length piece.now) }
 {
@@ -52,7 +54,7 @@ impl<W: io::Write> Output for Prompt<W> {
 
     ghost failures = { prompt_failures };
 
-    /// Writes what the writer takes.
+    /// Writes as many bytes as the writer takes.
     fn write(&mut self, piece: &[u8]) -> Result<usize, DeviceFault>
         ensures some { IfOk result (TakesSome piece.now) }
         ensures bytes { WriteAppends None None result piece.now }

@@ -16,7 +16,7 @@ pub struct FromRead<R> {
 impl<R> FromRead<R> {
     ghost use Rattle.devices.specs.FromStd.{reader_of, read_failures};
 
-    /// The input over a reader.
+    /// Creates an input over a reader.
     pub fn new(reader: R) -> FromRead<R>
         ensures reader { reader_of result ≡ reader }
         ensures failures { read_failures result ≡ 0 }
@@ -35,7 +35,7 @@ impl<R: io::Read> Input for FromRead<R> {
 
     ghost failures = { read_failures };
 
-    /// Reads what the reader reads.
+    /// Reads as many bytes as the reader returns.
     fn read(&mut self, piece: &mut [u8]) -> Result<usize, DeviceFault>
         ensures bound { IfOk result (λ n. n ≤ length piece.new) }
         ensures bytes { ReadConsumes None None result piece.new }
@@ -52,7 +52,8 @@ impl<R: io::Read> Input for FromRead<R> {
     }
 }
 
-/// A writer of `std` as an output. Its bytes are not known. The writer's `Ok(0)` for a piece that isn't empty is a failure.
+/// A writer of `std` as an output. Its bytes are not known. If the writer returns `Ok(0)` for a piece that isn't empty,
+/// the write fails.
 #[derive(Drop)]
 pub struct FromWrite<W> {
     writer: W,
@@ -62,7 +63,7 @@ pub struct FromWrite<W> {
 impl<W> FromWrite<W> {
     ghost use Rattle.devices.specs.FromStd.{writer_of, write_failures};
 
-    /// The output over a writer.
+    /// Creates an output over a writer.
     pub fn new(writer: W) -> FromWrite<W>
         ensures writer { writer_of result ≡ writer }
         ensures failures { write_failures result ≡ 0 }
@@ -81,7 +82,7 @@ impl<W: io::Write> Output for FromWrite<W> {
 
     ghost failures = { write_failures };
 
-    /// Writes what the writer takes.
+    /// Writes as many bytes as the writer takes.
     fn write(&mut self, piece: &[u8]) -> Result<usize, DeviceFault>
         ensures some { IfOk result (TakesSome piece.now) }
         ensures bytes { WriteAppends None None result piece.now }

@@ -1,4 +1,4 @@
-//! The captures of an archive, taken record by record.
+//! The captures of an archive, read record by record.
 ghost use Rattle.std.specs.Prelude.{◌≡◌, ℕ, ◌<◌, ◌-◌, ◌^◌, ◌≤◌, ◌++◌, List, true, [], ◌∷◌, length, IfSome, OnOk, OnErr, option_to_list};
 ghost use Rattle.std.specs.Io.KnownBytes.{prepend_known};
 ghost use Rattle.warc_core.specs.declared.phase.Phase.TheVariants.{Between};
@@ -18,7 +18,7 @@ use cdxj_core::Entry;
 use std::alloc::{AllocError, Global};
 use warc_core::{Cause, Fault, Head, Input, Reader};
 
-/// The head of the next whole record, which is read to its end, and its capture under the archive's name.
+/// Reads the next whole record to its end, and returns its head and its capture under the archive's name.
 fn next_capture<I: Input>(
     alloc: Global,
     reader: &mut Reader,
@@ -40,7 +40,7 @@ fn next_capture<I: Input>(
     }
 }
 
-/// Keeps one more capture.
+/// Appends one capture.
 fn keep_line(captures: &mut Vec<HeldLine>, line: HeldLine) -> Result<(), AllocError>
     ensures ok { OnOk result (captures.new.items ≡ captures.old.items ++ line ∷ []) }
     ensures err { OnErr result (captures.new.items ≡ captures.old.items) }
@@ -51,7 +51,7 @@ fn keep_line(captures: &mut Vec<HeldLine>, line: HeldLine) -> Result<(), AllocEr
     }
 }
 
-/// Keeps what a record has for a capture.
+/// Appends the capture of a record, if it has one.
 fn keep(
     alloc: Global,
     captures: &mut Vec<HeldLine>,
@@ -67,7 +67,7 @@ fn keep(
     }
 }
 
-/// Adds the captures of an archive's records of these types under its name, and answers how many they are.
+/// Adds the captures of an archive's records of these types under its name, and returns their number.
 pub fn add_captures<I: Input>(
     alloc: Global,
     captures: &mut Vec<HeldLine>,

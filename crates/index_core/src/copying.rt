@@ -10,7 +10,7 @@ use crate::fault::IndexFault;
 use crate::writing::put_bytes;
 use warc_core::{Head, Input, Output, Reader};
 
-/// Writes what is left of the open record's block.
+/// Writes the rest of the open record's block.
 fn copy_block<I: Input, O: Output>(
     reader: &mut Reader,
     input: &mut I,
@@ -32,7 +32,7 @@ fn copy_block<I: Input, O: Output>(
     }
 }
 
-/// Writes a record as it is stored, whose head is read and its block unread. It answers the record's length in bytes.
+/// Writes a record as it is stored, and returns its length in bytes. Its head has been read, and none of its block.
 pub fn copy_record<I: Input, O: Output>(
     reader: &mut Reader,
     input: &mut I,

@@ -1,4 +1,4 @@
-//! Why a call on an archive couldn't be done.
+//! Why a call on an archive failed.
 ghost use Rattle.std.specs.Prelude.{◌≡◌};
 ghost use Rattle.capture_core.specs.declared.fault.CaptureFault.TheVariants.{Archive};
 ghost use Rattle.index_core.specs.declared.fault.IndexFault.TheVariants.{Capture};
@@ -7,19 +7,19 @@ use capture_core::CaptureFault;
 use thiserror::Error;
 use warc_core::Fault;
 
-/// Why a call on an archive couldn't be done.
+/// Why a call on an archive failed.
 #[derive(Clone, Copy, Debug, PartialEq, Eq, Error)]
 pub enum IndexFault {
-    /// A growth of the call's own was refused.
+    /// The call itself could not allocate memory.
     #[error("out of memory")]
     Memory,
-    /// The archive's captures end.
+    /// The archive's captures can't be read further.
     #[error("{0}")]
     Capture(CaptureFault),
     /// The name of an archive is empty, or longer than 255 bytes.
     #[error("a bad archive name")]
     BadName,
-    /// The indexer has had an archive of this name.
+    /// The indexer was already given an archive of this name.
     #[error("the archive name is used twice")]
     DuplicateName,
     /// The output failed.

@@ -12,13 +12,13 @@ use crate::walk::next_record;
 use std::alloc::Global;
 use warc_core::{Fault, HEAD_LIMIT, Input, Output, Phase, Reader};
 
-/// Writes the record that begins at `offset`, in bytes from the archive's start, as it is stored, and answers its length
-/// in bytes. No call of the input is made for what follows that record.
+/// Writes the record that begins at `offset`, in bytes from the archive's start, as it is stored, and returns its
+/// length in bytes. The input is not called for anything after that record.
 ///
-/// Errors are `NoRecord` where a record begins before the offset and ends behind it, or the archive ends at the offset or
-/// before it; the archive's fault at the offset or before it; and `Write` at the output's first failure. With `NoRecord`,
-/// and with a fault before the offset, nothing was written. With any other, the first bytes from the offset on may have
-/// been, and none behind the record that begins there.
+/// Errors are `NoRecord` if a record begins before the offset and ends after it, or if the archive ends at the offset
+/// or before it; the archive's fault at the offset or before it; and `Write` at the output's first failure. After
+/// `NoRecord`, or a fault before the offset, nothing was written. After any other error, the first bytes from the
+/// offset on may have been written, but none past the end of the record that begins there.
 pub fn get<I: Input, O: Output>(
     alloc: Global,
     offset: u64,
@@ -37,7 +37,7 @@ pub fn get<I: Input, O: Output>(
     }
 }
 
-/// A reader that has come to the offset, where whole records fill the archive up to there.
+/// Returns a reader that has reached the offset, if whole records fill the archive up to it.
 fn reader_at<I: Input>(alloc: Global, input: &mut I, offset: u64) -> Result<Option<Reader>, Fault>
     ensures reaches { Reaches HEAD_LIMIT offset result (I.remaining input.old) (I.remaining input.new) }
     ensures reads { CountsRead (causes_of result) (I.failures input.old) (I.failures input.new) }
@@ -57,7 +57,7 @@ fn reader_at<I: Input>(alloc: Global, input: &mut I, offset: u64) -> Result<Opti
     }
 }
 
-/// Writes the record that comes next, and answers its length in bytes.
+/// Writes the next record, and returns its length in bytes.
 fn copy_next<I: Input, O: Output>(
     reader: &mut Reader,
     input: &mut I,

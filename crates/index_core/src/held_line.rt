@@ -4,11 +4,11 @@ use std::alloc::{AllocError, Global};
 use std::cmp::Ordering;
 use std::marker::Model;
 
-/// A capture, held as the line that an index has for it.
+/// A capture, held as its line in the index.
 #[derive(Drop)]
 pub struct HeldLine {
     line: Vec<u8>,
-    /// Bytes of the key, which begins the line.
+    /// The length in bytes of the key, which begins the line.
     key_length: usize,
     filename: String,
     offset: u64,
@@ -31,7 +31,7 @@ impl HeldLine {
     ghost use Rattle.cdxj_core.specs.declared.limit.TheConstants.{LINE_LIMIT};
     ghost use Rattle.cdxj_core.specs.Entries.{line_text, HasLine};
 
-    /// Holds an entry by its line.
+    /// Creates a capture from an entry, by writing the entry's line.
     pub fn new(alloc: Global, entry: Entry) -> Result<HeldLine, AllocError>
         requires { HasLine LINE_LIMIT entry }
         ensures { IfOk result (λ held. held ≡ entry) }
@@ -48,7 +48,7 @@ impl HeldLine {
         })
     }
 
-    /// The line, with its line feed.
+    /// Returns the line, with its line feed.
     pub fn line(&self) -> &[u8]
         ensures { result.now ≡ line_text self.now }
     {

@@ -11,7 +11,7 @@ use cdxj_core::in_order;
 use std::alloc::Global;
 use warc_core::Output;
 
-/// Writes the lines of captures, and answers how many.
+/// Writes the lines of captures, and returns their number.
 fn put_lines<O: Output>(out: &mut O, lines: &[&HeldLine]) -> Result<u64, IndexFault>
     ensures lines { WritesText result (O.written out.old) (O.written out.new) (lines_text (map (λ line. line.now) lines.now)) }
     ensures number { IfOk result (λ n. n ≡ length lines.now) }
@@ -24,7 +24,7 @@ fn put_lines<O: Output>(out: &mut O, lines: &[&HeldLine]) -> Result<u64, IndexFa
     Ok(lines.len() as u64)
 }
 
-/// Writes the lines of captures in the order of places, and answers how many.
+/// Writes the lines of captures in the order of places, and returns their number.
 pub fn put_index<O: Output>(
     alloc: Global,
     out: &mut O,

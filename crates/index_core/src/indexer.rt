@@ -9,7 +9,7 @@ use std::alloc::Global;
 use std::marker::Model;
 use warc_core::{Input, Output};
 
-/// Gathers the captures of archives, and writes them as an index.
+/// Collects the captures of archives, and writes them as an index.
 #[derive(Drop)]
 pub struct Indexer {
     alloc: Global,
@@ -44,7 +44,7 @@ impl Indexer {
     ghost use Rattle.index_core.specs.Counting.{CountsIndex, CountsWrite};
     ghost use Rattle.index_core.specs.Indexing.{IsWriteFault, IsName, is_among, index_text, in_places, AreSound};
 
-    /// An indexer of records of these types, which holds nothing. It takes no memory.
+    /// Creates an indexer of records of these types, which holds nothing. It takes no memory.
     pub fn new(alloc: Global, types: Types) -> Indexer
         ensures { result ≡ record { types = types; names = []; captures = [] } }
     {
@@ -56,11 +56,13 @@ impl Indexer {
         }
     }
 
-    /// Adds the captures of an archive's records of the indexer's types under its name, of 1 to 255 bytes. It answers how many they are.
+    /// Adds the captures of an archive's records of the indexer's types under the archive's name, of 1 to 255 bytes.
+    /// Returns the number of captures added.
     ///
-    /// Errors are `BadName`, `DuplicateName` for a name that an earlier call has kept, and `Memory` where the name can't be
-    /// kept: then nothing was read and nothing changed. Any other is `Capture`: then the name is kept, and with it the
-    /// captures of the whole records that end at or before the fault's offset, and nothing else.
+    /// Errors are `BadName`, `DuplicateName` for a name that an earlier call has kept, and `Memory` if the name can't
+    /// be kept. After these, nothing was read and nothing has changed. Any other error is `Capture`. After it, the name
+    /// is kept, and with it the captures of the whole records that end at or before the fault's offset, and nothing
+    /// else.
     pub fn add<I: Input>(&mut self, name: &str, input: &mut I) -> Result<u64, IndexFault>
         ensures bad { (result ≡ Err IndexFault.BadName) ↔ ¬ (IsName name.now) }
         ensures duplicate { (result ≡ Err IndexFault.DuplicateName) ↔ (IsName name.now × (is_among self.old.names name.now ≡ true)) }
@@ -82,16 +84,17 @@ impl Indexer {
         Ok(add_captures(self.alloc, &mut self.captures, name, self.types, input)?)
     }
 
-    /// Forgets the captures that it holds. Names that were added stay used.
+    /// Forgets the captures that are held. Names that were added stay in use.
     pub fn forget_captures(&mut self)
         ensures { self.new ≡ record self.old { captures = [] } }
     {
         self.captures.clear();
     }
 
-    /// Writes the index: a line for each capture that is held, in the order of places. It answers how many lines there are.
+    /// Writes the index: a line for each capture that is held, in the order of places. Returns the number of lines.
     ///
-    /// Errors are `Memory`, and `Write` at the output's first failure; the first lines may have been written.
+    /// Errors are `Memory`, and `Write` at the output's first failure. After an error, the first lines may have been
+    /// written.
     pub fn write<O: Output>(&self, out: &mut O) -> Result<u64, IndexFault>
         ensures lines { WritesText result (O.written out.old) (O.written out.new) (index_text self.now.captures) }
         ensures index { IsIndex LINE_LIMIT (index_text self.now.captures) (map entry_member (in_places self.now.captures)) }

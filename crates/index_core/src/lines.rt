@@ -1,4 +1,4 @@
-//! The lines of reports, made without allocating.
+//! The lines of reports, written without allocating memory.
 ghost use Rattle.std.specs.Prelude.{◌≡◌, ◌+◌, ◌≤◌, ◌++◌, length};
 ghost use Rattle.arrayvec.specs.ArrayVec.{array_vec_len};
 ghost use Rattle.arrayvec.specs.ArrayString.{array_string_len};
@@ -14,7 +14,7 @@ use warc_core::{Fault, Head};
 /// A line of a report, with its LF.
 pub type Line = ArrayString<64>;
 
-/// `OFFSET LENGTH KIND`
+/// Returns the line `OFFSET LENGTH KIND`.
 pub fn record_line(head: &Head) -> Line
     ensures { result.bytes ≡ record_line head.now }
 {
@@ -29,7 +29,7 @@ pub fn record_line(head: &Head) -> Line
     line
 }
 
-/// `OFFSET VERDICT`
+/// Returns the line `OFFSET VERDICT`.
 pub fn verdict_line(offset: u64, verdict: Verdict) -> Line
     ensures { result.bytes ≡ verdict_line offset verdict }
 {
@@ -42,7 +42,7 @@ pub fn verdict_line(offset: u64, verdict: Verdict) -> Line
     line
 }
 
-/// `fault OFFSET CAUSE`
+/// Returns the line `fault OFFSET CAUSE`.
 pub fn fault_line(fault: Fault) -> Line
     ensures { result.bytes ≡ fault_line fault }
 {

@@ -5,14 +5,14 @@ ghost use Rattle.index_core.specs.Indexing.{IsName, is_among};
 
 use std::alloc::{AllocError, Global};
 
-/// Whether an archive may have this name.
+/// Returns `true` if an archive may have this name.
 pub fn is_name(name: &str) -> bool
     ensures { IsTrue result ↔ IsName name.now }
 {
     !name.is_empty() && name.len() <= 255
 }
 
-/// Whether the name is among these.
+/// Returns `true` if the name is among these.
 pub fn is_among(names: &[String], name: &str) -> bool
     ensures { result ≡ is_among (map string_bytes names.now) name.now }
 {
@@ -24,7 +24,7 @@ pub fn is_among(names: &[String], name: &str) -> bool
     false
 }
 
-/// Keeps a name.
+/// Appends a copy of the name.
 pub fn keep_name(alloc: Global, names: &mut Vec<String>, name: &str) -> Result<(), AllocError>
     ensures ok { OnOk result (map string_bytes names.new.items ≡ map string_bytes names.old.items ++ name.now ∷ []) }
     ensures err { OnErr result (names.new.items ≡ names.old.items) }

@@ -1,6 +1,6 @@
-//! What a verification answers.
+//! The result of a verification.
 
-/// How many records an archive has, and of how many the block has another digest than its record gives.
+/// The number of records of an archive, and the number of those whose block has another digest than the record gives.
 #[derive(Clone, Copy, Debug, PartialEq, Eq)]
 pub struct Verified {
     pub records: u64,

@@ -13,11 +13,11 @@ use capture_core::Verdict;
 use std::alloc::Global;
 use warc_core::{HEAD_LIMIT, Input, Output, Reader};
 
-/// Writes a line for each whole record of the archive, `OFFSET VERDICT`, and a last line `fault OFFSET CAUSE` where it can't
-/// be read to its end. The verdict on a block is `same`, `differs`, `not-sha1` or `absent`, by the digest that its record
-/// gives. It answers how many whole records there are, and how many differ.
+/// Writes a line `OFFSET VERDICT` for each whole record of the archive, and a last line `fault OFFSET CAUSE` if the
+/// archive can't be read to its end. The verdict on a block is `same`, `differs`, `not-sha1` or `absent`, by the digest
+/// that its record gives. Returns the number of whole records, and the number of those that differ.
 ///
-/// Errors are the archive's fault, once its line was written, and `Write` at the output's first failure.
+/// Errors are the archive's fault, after its line was written, and `Write` at the output's first failure.
 pub fn verify<I: Input, O: Output>(
     alloc: Global,
     input: &mut I,
@@ -47,7 +47,7 @@ pub fn verify<I: Input, O: Output>(
     }
 }
 
-/// One for a block with another digest, none for any other.
+/// Returns 1 for a block with another digest than its record gives, and 0 for any other.
 fn differing_by(verdict: Verdict) -> u64
     ensures { result ≡ differing_by verdict }
 {

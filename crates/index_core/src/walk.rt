@@ -1,4 +1,4 @@
-//! The walk over an archive's records.
+//! The reading of an archive's records, one after another.
 ghost use Rattle.std.specs.Prelude.{◌≡◌, ℕ, List, Some, Ok, IfOk, IfSome, MatchResult};
 ghost use Rattle.std.specs.Io.KnownBytes.{prepend_known};
 ghost use Rattle.warc_core.specs.HeadView.{HeadView, BeginsAt, block_at};
@@ -13,7 +13,7 @@ ghost use Rattle.index_core.specs.Verifying.{heads_of, verdict_on};
 use capture_core::{Verdict, block_digest};
 use warc_core::{Fault, HEAD_LIMIT, Head, Input, Phase, Reader};
 
-/// The head of the next whole record, which is read to its end.
+/// Reads the next whole record to its end, and returns its head.
 pub fn next_record<I: Input>(reader: &mut Reader, input: &mut I) -> Result<Option<Head>, Fault>
     requires { reader.old.phase ≡ Phase.Between }
     ensures bytes { Reads (record_at HEAD_LIMIT reader.old.offset) (causes_of result) (prepend_known reader.old.held (I.remaining input.old)) (prepend_known reader.new.held (I.remaining input.new)) }
@@ -30,7 +30,7 @@ pub fn next_record<I: Input>(reader: &mut Reader, input: &mut I) -> Result<Optio
     }
 }
 
-/// The head of the next whole record, which is read to its end, and the verdict on its block.
+/// Reads the next whole record to its end, and returns its head and the verdict on its block.
 pub fn next_verdict<I: Input>(
     reader: &mut Reader,
     input: &mut I,

@@ -29,7 +29,7 @@ pub fn put_line<O: Output>(out: &mut O, line: &Line) -> Result<(), IndexFault>
     put_bytes(out, line.as_str().as_bytes())
 }
 
-/// Writes the line of a fault, and gives the answer that goes with it.
+/// Writes the line of a fault. Returns that fault, or `Write` if the output fails.
 pub fn put_fault<O: Output>(out: &mut O, fault: Fault) -> IndexFault
     ensures { WritesFault fault result (O.written out.old) (O.written out.new) (O.failures out.old) (O.failures out.new) }
 {

@@ -17,7 +17,8 @@ fn are_scheme_bytes(bytes: &[u8]) -> bool
     bytes.iter().all(|byte| byte.is_ascii_alphanumeric() || matches!(byte, b'+' | b'-' | b'.'))
 }
 
-/// Whether the text begins with a letter, then letters, digits, `+`, `-` or `.`, then `://`.
+/// Returns `true` if the text begins with a letter, then letters, digits, `+`, `-` or `.`, then
+/// `://`.
 fn has_scheme(text: &str) -> bool
     ensures { result ≡ has_scheme text.now }
 {
@@ -29,7 +30,7 @@ fn has_scheme(text: &str) -> bool
         && rest.as_bytes().starts_with(b"//")
 }
 
-/// The text as an address, with `http://` before it where it has no scheme.
+/// Returns the text as an address, with `http://` before it if it has no scheme.
 pub(crate) fn web_address(alloc: Global, text: &str) -> Result<CowStr<'_>, AllocError>
     ensures { IfOk result (λ address. cow_str_bytes address ≡ web_address text.now) }
 {
@@ -42,7 +43,7 @@ pub(crate) fn web_address(alloc: Global, text: &str) -> Result<CowStr<'_>, Alloc
     Ok(CowStr::Owned(address))
 }
 
-/// The key of an address. `BadUrl` where the URL parser refuses it.
+/// Returns the key of an address. The error is `BadUrl` if the URL parser rejects the address.
 pub(crate) fn address_key(alloc: Global, address: &str) -> Result<String, QueryFault>
     ensures { IsReadingBy string_bytes (address_key address.now) result }
 {
@@ -53,7 +54,8 @@ pub(crate) fn address_key(alloc: Global, address: &str) -> Result<String, QueryF
     }
 }
 
-/// The host key of an address. `BadUrl` where it is no URL of `http` or `https`.
+/// Returns the host key of an address. The error is `BadUrl` if the address isn't a URL of `http`
+/// or `https`.
 pub(crate) fn address_host(alloc: Global, address: &str) -> Result<String, QueryFault>
     ensures { IsReadingBy string_bytes (address_host address.now) result }
 {

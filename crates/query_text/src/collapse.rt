@@ -1,4 +1,4 @@
-//! By what captures are collapsed.
+//! The collapsing of captures.
 ghost use Rattle.std.specs.Prelude.{◌≡◌};
 ghost use Rattle.query_text.specs.Readings.{IsReading};
 ghost use Rattle.query_text.specs.Collapses.{collapse_of, width_of};
@@ -7,19 +7,19 @@ use crate::fault::QueryFault;
 use crate::parts::is_number;
 use crate::stamp::front;
 
-/// By what captures are collapsed that follow one another. Of those with this part in common the first is kept.
+/// The part by which adjacent captures are collapsed. Of those with the same part, the first is kept.
 #[derive(Clone, Copy, Debug, Drop, PartialEq, Eq)]
 pub enum Collapse {
     /// The key.
     Urlkey,
-    /// The first digits of the stamp, so many.
+    /// The first digits of the stamp, this many.
     Timestamp(usize),
 }
 
 impl Collapse {
     ghost use Rattle.query_text.specs.Collapses.{part_of};
 
-    /// The part that is compared, of a capture of this key and stamp.
+    /// Returns the part that is compared, of a capture with this key and stamp.
     pub fn part<'p>(self, key: &'p str, stamp: &'p [u8]) -> &'p [u8]
         ensures { result.now ≡ part_of self key.now stamp.now }
     {
@@ -30,7 +30,7 @@ impl Collapse {
     }
 }
 
-/// `BadCollapse` where the text is anything but one or two digits of a value from 1 to 14.
+/// Reads a number of digits. The error is `BadCollapse` unless the text is one or two digits with a value from 1 to 14.
 #[tactic(auto, using(crate::proofs::Limits::width_parsed))]
 fn read_width(text: &str) -> Result<Collapse, QueryFault>
     ensures { IsReading (width_of text.now) result }
@@ -44,7 +44,8 @@ fn read_width(text: &str) -> Result<Collapse, QueryFault>
     }
 }
 
-/// `BadCollapse` where the text is none of `urlkey`, `timestamp` and `timestamp:N`, whose `N` is a number of digits from 1 to 14.
+/// Reads the value of `collapse`. The error is `BadCollapse` unless the text is `urlkey`, `timestamp` or `timestamp:N`,
+/// where `N` is a number of digits from 1 to 14.
 pub(crate) fn read_collapse(text: &str) -> Result<Collapse, QueryFault>
     ensures { IsReading (collapse_of text.now) result }
 {

@@ -1,11 +1,11 @@
-//! Why a query text is refused.
+//! Why a query text is rejected.
 ghost use Rattle.std.specs.Prelude.{◌≡◌};
 
 use cdxj_core::KeyFault;
 use std::alloc::AllocError;
 use thiserror::Error;
 
-/// Why a query text is refused.
+/// Why a query text is rejected.
 #[derive(Clone, Copy, Debug, Drop, Error, PartialEq, Eq)]
 pub enum QueryFault {
     #[error("memory")]
@@ -67,7 +67,7 @@ impl From<KeyFault> for QueryFault {
 impl QueryFault {
     ghost use Rattle.query_text.specs.FaultNames.{fault_name};
 
-    /// The fault's name, as replies write it.
+    /// Returns the fault's name, as replies write it.
     pub fn name(self) -> &'static str
         ensures { result.now ≡ fault_name self }
     {

@@ -8,7 +8,7 @@ use crate::parts::cut_part;
 use cdxj_core::Field;
 use std::alloc::Global;
 
-/// The field of a name, as queries write it.
+/// Returns the field of this name, as queries write it.
 pub(crate) fn field_named(name: &str) -> Option<Field>
     ensures { result ≡ field_named name.now }
 {
@@ -26,7 +26,7 @@ pub(crate) fn field_named(name: &str) -> Option<Field>
     }
 }
 
-/// The fields of names with commas between.
+/// Reads the fields of a list of names, separated by commas.
 pub(crate) fn read_fields(alloc: Global, names: &str) -> Result<Vec<Field>, QueryFault>
     ensures { IsReadingBy (λ fields. fields.items) (fields_of names.now) result }
 {

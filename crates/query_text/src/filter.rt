@@ -10,7 +10,7 @@ use memchr::memmem;
 use std::alloc::Global;
 use std::marker::Model;
 
-/// What a filter asks of a value: to equal a text or not, to have it somewhere or not.
+/// The test of a filter: whether a value equals a text or not, or contains it or not.
 #[derive(Clone, Copy, Debug, Drop, PartialEq, Eq)]
 pub(crate) enum Test {
     Is,
@@ -37,7 +37,8 @@ impl Model for Filter {
 }
 
 impl Filter {
-    /// The filter of `field:text`. `BadFilter` where there is no `:`, or no such field.
+    /// Reads the filter of `field:text`. The error is `BadFilter` if there is no `:`, or no such
+    /// field.
     pub(crate) fn read(alloc: Global, test: Test, condition: &str) -> Result<Filter, QueryFault>
         ensures { IsReading (filter_of test condition.now) result }
     {
@@ -51,8 +52,8 @@ impl Filter {
         Ok(Filter { field, test, text })
     }
 
-    /// The filter of `field:text` or `!field:text`. `BadFilter`, then `NotLiteral` where the text
-    /// has a character that patterns use.
+    /// Reads the filter of `field:text` or `!field:text`. The error is `BadFilter` as in `read`,
+    /// and otherwise `NotLiteral` if the text has a character that patterns use.
     pub(crate) fn read_literal(alloc: Global, condition: &str) -> Result<Filter, QueryFault>
         ensures { IsReading (literal_of condition.now) result }
     {
@@ -65,7 +66,7 @@ impl Filter {
         }
     }
 
-    /// Whether the filter holds of the line.
+    /// Returns `true` if the line satisfies the filter.
     pub(crate) fn holds(&self, line: &LineRef<'_>) -> bool
         ensures { result ≡ holds line.now.values self.now }
     {
@@ -80,7 +81,7 @@ impl Filter {
     }
 }
 
-/// One leading `!`, and what follows it.
+/// Splits off one leading `!`, if there is one.
 fn cut_bang(condition: &str) -> (Test, &str)
     ensures { (result.0, result.1.now) ≡ bang_cut condition.now }
 {
@@ -90,7 +91,7 @@ fn cut_bang(condition: &str) -> (Test, &str)
     }
 }
 
-/// Whether the text stands for itself alone, and for no pattern.
+/// Returns `true` if the text has no character that patterns use.
 fn is_literal(text: &[u8]) -> bool
     ensures { result ≡ is_literal text.now }
 {
@@ -115,7 +116,7 @@ fn is_literal(text: &[u8]) -> bool
     })
 }
 
-/// Whether the text occurs in the value.
+/// Returns `true` if the text occurs in the value.
 #[tactic(auto, using(crate::proofs::Occurs::occurs_found))]
 fn occurs(text: &str, value: &str) -> bool
     ensures { result ≡ occurs text.now value.now }

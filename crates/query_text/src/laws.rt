@@ -5,8 +5,8 @@ ghost use Rattle.query_text.specs.Readings.{Text};
 ghost use Rattle.query_text.specs.Targets.{TargetValue};
 ghost use Rattle.query_text.specs.Matching.{covers, key_matches, is_above, is_past};
 
-/// The keys that a target asks for are in its range, none of them below the target or past the
-/// range. What is not below a key past the range is past it too.
+/// The keys that a target matches are in its range. None of them is below the target or past the
+/// range. A key that isn't below a key past the range is past it too.
 pub fn matching_keys_are_in_one_range()
     ensures covered { (target : TargetValue) → (key : Text) → key_matches target key ≡ true
         → covers target key ≡ true }

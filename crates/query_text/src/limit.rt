@@ -1,4 +1,4 @@
-//! How many captures a page may have.
+//! The maximum number of captures on a page.
 ghost use Rattle.std.specs.Prelude.{◌<◌, ◌≤◌, IfOk};
 ghost use Rattle.query_text.specs.Readings.{IsReading};
 ghost use Rattle.query_text.specs.Values.{limit_of};
@@ -7,7 +7,7 @@ use crate::fault::QueryFault;
 use crate::parts::is_number;
 use std::marker::Model;
 
-/// The most captures of a page, 1 to 1,000,000.
+/// The maximum number of captures on a page, 1 to 1,000,000.
 #[derive(Debug, Drop)]
 pub(crate) struct Limit {
     captures: u64,
@@ -40,7 +40,8 @@ fn read_number(text: &str) -> Result<u64, QueryFault>
 impl Limit {
     ghost use Rattle.std.specs.Prelude.{◌≡◌, ◌<◌, ◌≤◌};
 
-    /// `BadLimit` where the text is anything but 1 to 7 digits of a value from 1 to 1,000,000.
+    /// Reads a limit. The error is `BadLimit` unless the text is 1 to 7 digits with a value from 1
+    /// to 1,000,000.
     pub(crate) fn read(text: &str) -> Result<Limit, QueryFault>
         ensures { IsReading (limit_of text.now) result }
     {

@@ -1,10 +1,10 @@
-//! How a query asks for its page to be written.
+//! The format in which a query's page is written.
 ghost use Rattle.query_text.specs.Readings.{IsReading};
 ghost use Rattle.query_text.specs.Outputs.{output_of, flag_of};
 
 use crate::fault::QueryFault;
 
-/// How a page is written: rows of fields, JSON, or index lines as they are.
+/// The format of a page: rows of fields, JSON, or index lines as they are.
 #[derive(Clone, Copy, Debug, Drop, PartialEq, Eq)]
 pub enum OutputFormat {
     Text,
@@ -12,7 +12,7 @@ pub enum OutputFormat {
     Cdxj,
 }
 
-/// `BadOutput` where the name is none of `text`, `json` and `cdxj`.
+/// Reads the name of a format. The error is `BadOutput` unless the name is `text`, `json` or `cdxj`.
 pub(crate) fn read_output(name: &str) -> Result<OutputFormat, QueryFault>
     ensures { IsReading (output_of name.now) result }
 {
@@ -24,7 +24,7 @@ pub(crate) fn read_output(name: &str) -> Result<OutputFormat, QueryFault>
     }
 }
 
-/// `BadFlag` where the text is neither `true` nor `false`.
+/// Reads a flag. The error is `BadFlag` unless the text is `true` or `false`.
 pub(crate) fn read_flag(text: &str) -> Result<bool, QueryFault>
     ensures { IsReading (flag_of text.now) result }
 {

@@ -22,7 +22,7 @@ pub(crate) enum Parameter {
     Collapse,
 }
 
-/// The parameter of a name, in which case counts.
+/// Returns the parameter of this name. Case is significant.
 pub(crate) fn parameter_named(name: &str) -> Option<Parameter>
     ensures { result ≡ parameter_named name.now }
 {

@@ -18,7 +18,7 @@ use crate::target::{MatchKind, read_kind};
 use cdxj_core::{Field, OwnedPlace};
 use std::alloc::Global;
 
-/// The values of the parameters that were read so far.
+/// The values of the parameters that have been read.
 #[derive(Drop)]
 pub(crate) struct Parameters {
     pub url: Option<String>,
@@ -36,7 +36,7 @@ pub(crate) struct Parameters {
 }
 
 impl Parameters {
-    /// Whether the parameter was given, and may not be given again.
+    /// Returns `true` if the parameter was given and may not be given again.
     fn is_given(&self, parameter: Parameter) -> bool
         ensures { result ≡ is_given parameter (values_of self.now) }
     {
@@ -65,7 +65,7 @@ impl Parameters {
         }
     }
 
-    /// Reads the value of one more parameter, which stands in the text as `text`.
+    /// Reads the value of one more parameter, from `text` as it is in the query text.
     fn read_value(
         &mut self,
         alloc: Global,
@@ -115,7 +115,7 @@ impl Parameters {
         self.read_value(alloc, parameter, text)
     }
 
-    /// The parameters of a text, or the first refusal.
+    /// Reads the parameters of a text, or returns the first error.
     pub(crate) fn read(alloc: Global, text: &str) -> Result<Parameters, QueryFault>
         ensures { IsReadingBy values_of (with_pieces no_values (pieces_of text.now)) result }
     {

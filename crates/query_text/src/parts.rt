@@ -11,7 +11,8 @@ use memchr::memchr2;
 use std::alloc::{AllocError, Global};
 use std::borrow::CowStr;
 
-/// The part of a text before its first `sign`, and what follows that sign, if there is one.
+/// Returns the part of a text before its first `sign`, and the text after that sign, if there is
+/// one.
 pub(crate) fn cut_part(text: &str, sign: char) -> (&str, Option<&str>)
     requires { sign < 128 }
     ensures parts { slice_split (λ b. b == sign) text.now ≡ result.0.now ∷ parts_left sign result.1 }
@@ -23,7 +24,7 @@ pub(crate) fn cut_part(text: &str, sign: char) -> (&str, Option<&str>)
     }
 }
 
-/// The name before the first `=`, and the text of the value after it.
+/// Returns the name before the first `=`, and the text of the value after it.
 pub(crate) fn cut_pair(piece: &str) -> (&str, &str)
     ensures name { result.0.now ≡ before_first is_equals piece.now }
     ensures value { result.1.now ≡ after_first is_equals piece.now }
@@ -38,7 +39,7 @@ fn is_plain(bytes: &[u8]) -> bool
     memchr2(b'+', b'%', bytes).is_none()
 }
 
-/// What a name or a value means, by the form encoding of the URL Standard.
+/// Decodes a name or a value by the form encoding of the URL Standard.
 #[tactic(auto, using(crate::proofs::PlainTexts::plain_text_stands))]
 pub(crate) fn decoded(alloc: Global, text: &str) -> Result<CowStr<'_>, AllocError>
     ensures { IfOk result (λ found. cow_str_bytes found ≡ decoded text.now) }
@@ -55,7 +56,7 @@ fn are_digits(bytes: &[u8]) -> bool
     bytes.iter().all(|byte| byte.is_ascii_digit())
 }
 
-/// Whether the text is digits, at least one and at most so many.
+/// Returns `true` if the text consists of digits, at least one and at most `most` of them.
 pub(crate) fn is_number(text: &str, most: usize) -> bool
     ensures { result ≡ is_number most text.now }
 {

@@ -1,4 +1,4 @@
-//! Queries: what is asked of the captures of indexes.
+//! Queries: selections of captures from indexes.
 ghost use Rattle.std.specs.Prelude.{◌≡◌, IfOk, option_map, string_bytes};
 ghost use Rattle.std.specs.List.{list_all};
 ghost use Rattle.query_text.specs.Readings.{IsReading};
@@ -17,10 +17,10 @@ use cdxj_core::{Field, Line, LineRef, OwnedPlace, Place};
 use std::alloc::{AllocError, Global};
 use std::marker::Model;
 
-/// The most bytes of a query text.
+/// The maximum length of a query text in bytes.
 pub const QUERY_LIMIT: usize = 65_536;
 
-/// What is asked of the captures of indexes.
+/// A selection of captures from indexes.
 #[derive(Debug, Drop)]
 pub struct Query {
     target: Target,
@@ -54,7 +54,7 @@ impl Model for Query {
     } };
 }
 
-/// The fields of a row where a query names none.
+/// Returns the fields of a row for a query that names none.
 fn usual_fields(alloc: Global) -> Result<Vec<Field>, AllocError>
     ensures { IfOk result (λ fields. fields.items ≡ usual_fields) }
 {
@@ -72,8 +72,8 @@ fn usual_fields(alloc: Global) -> Result<Vec<Field>, AllocError>
     )
 }
 
-/// The target of a `url` or of a `key`. `NoUrl` where there is neither, `UrlAndKey` where there are
-/// both, then `BadUrl`.
+/// Returns the target of a `url` or of a `key`. The error is `NoUrl` if there is neither and
+/// `UrlAndKey` if there are both, and otherwise `BadUrl`.
 fn target_of(
     alloc: Global,
     url: Option<String>,
@@ -141,9 +141,9 @@ impl Query {
         })
     }
 
-    /// The query of a text, or the first refusal: `QueryTooLong` over `QUERY_LIMIT` bytes; those of
-    /// the parameters, from left to right; then `NoUrl`, `UrlAndKey` and `BadUrl`. `Memory` also
-    /// where the URL parser has no room for the URL.
+    /// Reads the query of a text, or returns the first error: `QueryTooLong` over `QUERY_LIMIT`
+    /// bytes; the errors of the parameters, from left to right; then `NoUrl`, `UrlAndKey` and
+    /// `BadUrl`. `Memory` is also returned if the URL parser has no room for the URL.
     pub fn read(alloc: Global, text: &str) -> Result<Query, QueryFault>
         ensures { MatchResult result (λ query. query_of QUERY_LIMIT text.now ≡ Ok query)
             (λ fault. fault ≢ QueryFault.Memory → query_of QUERY_LIMIT text.now ≡ Err fault) }
@@ -154,21 +154,21 @@ impl Query {
         Query::with_parameters(alloc, Parameters::read(alloc, text)?)
     }
 
-    /// The keys that the query asks for.
+    /// Returns the keys that the query matches.
     pub fn target(&self) -> &Target
         ensures { result.now ≡ self.now.target }
     {
         &self.target
     }
 
-    /// Whether the query asks for lines of this key and stamp, whatever its filters say of them.
+    /// Returns `true` if the query matches this key and stamp. Its filters are not considered.
     pub fn matches_pair(&self, key: &str, stamp: [u8; 14]) -> bool
         ensures { result ≡ matches_pair self.now key.now stamp }
     {
         self.target.matches(key) && not_before(&self.from, &stamp) && not_after(&self.to, &stamp)
     }
 
-    /// Whether the query asks for the line.
+    /// Returns `true` if the query matches the line.
     pub fn matches(&self, line: &LineRef<'_>) -> bool
         ensures { result ≡ matches self.now line.now.values }
     {
@@ -176,8 +176,8 @@ impl Query {
         self.matches_pair(key, stamp) && all_hold(self.filters.as_slice(), line)
     }
 
-    /// Whether the query asks for the line, whose values are read again only where the query has
-    /// filters.
+    /// Returns `true` if the query matches the line. The line's values are read again only if the
+    /// query has filters.
     pub fn matches_kept(&self, line: &Line) -> Result<bool, AllocError>
         ensures value { IfOk result (λ found. found ≡ matches self.now line.now.values) }
         ensures unfiltered { self.now.filters ≡ [] → IsOk result }
@@ -192,7 +192,7 @@ impl Query {
         Ok(all_hold(self.filters.as_slice(), &line.values()?))
     }
 
-    /// The most captures of a page, if there is a bound.
+    /// Returns the maximum number of captures on a page, if there is one.
     pub fn limit(&self) -> Option<u64>
         ensures value { result ≡ self.now.limit }
         ensures bounds { IfSome result (λ limit. (0 < limit) × (limit ≤ 1000000)) }
@@ -200,35 +200,35 @@ impl Query {
         self.limit.as_ref().map(|limit| limit.captures())
     }
 
-    /// The place after which the page begins, if one was given.
+    /// Returns the place after which the page begins, if one was given.
     pub fn resume(&self) -> Option<Place<'_>>
         ensures { option_map place_view result ≡ self.now.resume }
     {
         self.resume.as_ref().map(|place| place.place())
     }
 
-    /// Whether the page ends with the resume key of the next.
+    /// Returns `true` if the page ends with the resume key of the next page.
     pub fn shows_resume_key(&self) -> bool
         ensures { result ≡ self.now.show_resume_key }
     {
         self.show_resume_key
     }
 
-    /// The fields of a row, in order.
+    /// Returns the fields of a row, in order.
     pub fn fields(&self) -> &[Field]
         ensures { result.now ≡ self.now.fields }
     {
         self.fields.as_slice()
     }
 
-    /// How the page is written.
+    /// Returns the format in which the page is written.
     pub fn output(&self) -> OutputFormat
         ensures { result ≡ self.now.output }
     {
         self.output
     }
 
-    /// By what captures are collapsed that follow one another, if they are.
+    /// Returns the part by which adjacent captures are collapsed, if they are.
     pub fn collapse(&self) -> Option<Collapse>
         ensures { result ≡ self.now.collapse }
     {

@@ -6,7 +6,7 @@ use crate::fault::QueryFault;
 use cdxj_core::{OwnedPlace, PlaceFault};
 use std::alloc::Global;
 
-/// The place that a resume key names, from its text as it was printed.
+/// Reads the place that a resume key names, from its text as it was printed.
 pub(crate) fn read_resume_key(alloc: Global, text: &str) -> Result<OwnedPlace, QueryFault>
     ensures { IsReading (resume_of text.now) result }
 {

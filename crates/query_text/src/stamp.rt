@@ -1,4 +1,4 @@
-//! The stamps between which a query selects.
+//! The bounds of the stamps that a query selects.
 ghost use Rattle.std.specs.Prelude.{◌≡◌, take};
 ghost use Rattle.query_text.specs.Readings.{IsReading};
 ghost use Rattle.query_text.specs.Values.{stamp_start_of};
@@ -9,7 +9,7 @@ use crate::parts::is_number;
 use arrayvec::ArrayString;
 use std::marker::Model;
 
-/// The digits with which a stamp may begin, 1 to 14 of them.
+/// The first digits of a stamp, 1 to 14 of them.
 #[derive(Debug, Drop)]
 pub(crate) struct StampStart {
     digits: ArrayString<14>,
@@ -27,7 +27,7 @@ impl Model for StampStart {
 }
 
 impl StampStart {
-    /// `BadStamp` where the text is anything but 1 to 14 digits.
+    /// Reads the first digits of a stamp. The error is `BadStamp` unless the text is 1 to 14 digits.
     pub(crate) fn read(text: &str) -> Result<StampStart, QueryFault>
         ensures { IsReading (stamp_start_of text.now) result }
     {
@@ -44,14 +44,14 @@ impl StampStart {
     }
 }
 
-/// The first bytes of a stamp, or all of them.
+/// Returns the first `count` bytes of a stamp, or all of them.
 pub(crate) fn front(stamp: &[u8], count: usize) -> &[u8]
     ensures { result.now ≡ take count stamp.now }
 {
     stamp.get(..count).unwrap_or(stamp)
 }
 
-/// Whether the stamp's first digits are not below these.
+/// Returns `true` if the stamp's first digits are not below these.
 pub(crate) fn not_before(from: &Option<StampStart>, stamp: &[u8]) -> bool
     ensures { result ≡ not_before from.now stamp.now }
 {
@@ -64,7 +64,7 @@ pub(crate) fn not_before(from: &Option<StampStart>, stamp: &[u8]) -> bool
     }
 }
 
-/// Whether the stamp's first digits are not above these.
+/// Returns `true` if the stamp's first digits are not above these.
 pub(crate) fn not_after(to: &Option<StampStart>, stamp: &[u8]) -> bool
     ensures { result ≡ not_after to.now stamp.now }
 {

@@ -1,4 +1,4 @@
-//! Targets: the keys that a query asks for.
+//! Targets: the keys that a query matches.
 ghost use Rattle.std.specs.Prelude.{◌≡◌, ◌≤◌, IsTrue, length, string_bytes};
 ghost use Rattle.query_text.specs.Readings.{IsReading};
 ghost use Rattle.query_text.specs.Targets.{kind_of, star_cut};
@@ -9,20 +9,20 @@ use crate::fault::QueryFault;
 use std::alloc::Global;
 use std::marker::Model;
 
-/// Which keys match a target.
+/// The keys that a target matches.
 #[derive(Clone, Copy, Debug, Drop, PartialEq, Eq)]
 pub enum MatchKind {
     /// The target alone.
     Exact,
-    /// Those that begin with it.
+    /// The keys that begin with the target.
     Prefix,
-    /// Those of a host, at any port.
+    /// The keys of a host, at any port.
     Host,
-    /// Those of a host and its subdomains, at any port.
+    /// The keys of a host and its subdomains, at any port.
     Domain,
 }
 
-/// `BadMatch` where the name is no match type's.
+/// Reads the name of a match type. The error is `BadMatch` if there is none of that name.
 pub(crate) fn read_kind(name: &str) -> Result<MatchKind, QueryFault>
     ensures { IsReading (kind_of name.now) result }
 {
@@ -35,8 +35,8 @@ pub(crate) fn read_kind(name: &str) -> Result<MatchKind, QueryFault>
     }
 }
 
-/// The keys that a query asks for. They are in one range of keys: at or above the target's text, and
-/// none above a key that is past it.
+/// The keys that a query matches. They form part of one range of keys: none is below the target's text, and none is
+/// above a key that is past the range.
 #[derive(Debug, Drop)]
 pub struct Target {
     kind: MatchKind,
@@ -52,7 +52,7 @@ impl Model for Target {
     ghost view = { λ t. record { kind = t.kind; text = string_bytes t.text } };
 }
 
-/// The match type that stars in a text name, and the text without them.
+/// Returns the match type that the stars in a text stand for, and the text without them.
 fn cut_star(text: &str) -> (MatchKind, &str)
     ensures { (result.0, result.1.now) ≡ star_cut text.now }
 {
@@ -65,7 +65,7 @@ fn cut_star(text: &str) -> (MatchKind, &str)
     }
 }
 
-/// Whether a key that begins with the target may go on with these bytes.
+/// Returns `true` if these bytes may follow the target in a key that begins with it.
 fn may_follow(kind: MatchKind, rest: &[u8]) -> bool
     ensures { result ≡ may_follow kind rest.now }
 {
@@ -80,7 +80,7 @@ impl Target {
     ghost use Rattle.query_text.specs.Targets.{url_target};
     ghost use Rattle.query_text.specs.Matching.{covers, key_matches, is_past};
 
-    /// The target of a `url`, with the match type that was given, if one was.
+    /// Returns the target of a `url`, with this match type if one was given.
     pub(crate) fn of_url(
         alloc: Global,
         url: &str,
@@ -100,29 +100,29 @@ impl Target {
         Ok(Target { kind, text })
     }
 
-    /// The target of a `key`, which stands as it is.
+    /// Returns the target of a `key`, which is taken as it is.
     pub(crate) fn of_key(key: String, kind: MatchKind) -> Target
         ensures { result ≡ record { kind = kind; text = string_bytes key } }
     {
         Target { kind, text: key }
     }
 
-    /// Which keys match.
+    /// Returns the match type.
     pub fn kind(&self) -> MatchKind
         ensures { result ≡ self.now.kind }
     {
         self.kind
     }
 
-    /// The key, or the bytes with which a key begins: where the target's range begins.
+    /// Returns the key, or the bytes that a key begins with. The target's range begins there.
     pub fn text(&self) -> &str
         ensures { result.now ≡ self.now.text }
     {
         self.text.as_str()
     }
 
-    /// Whether the key is in the target's range: it is the target for an exact match, and begins
-    /// with it for any other.
+    /// Returns `true` if the key is in the target's range. For an exact match it must be the target; for any other it
+    /// must begin with the target.
     pub fn covers(&self, key: &str) -> bool
         ensures value { result ≡ covers self.now key.now }
         ensures long { IsTrue result → length self.now.text ≤ length key.now }
@@ -133,14 +133,14 @@ impl Target {
         }
     }
 
-    /// Whether the target asks for the key.
+    /// Returns `true` if the target matches the key.
     pub fn matches(&self, key: &str) -> bool
         ensures { result ≡ key_matches self.now key.now }
     {
         self.covers(key) && may_follow(self.kind, &key.as_bytes()[self.text.len()..])
     }
 
-    /// Whether the key is past the target's range; then so is each key above it.
+    /// Returns `true` if the key is past the target's range. Then each key above it is past the range too.
     pub fn is_past(&self, key: &str) -> bool
         ensures { result ≡ is_past self.now key.now }
     {

@@ -9,7 +9,8 @@ ghost use Rattle.warc_core.specs.Cause.{StopsBlock};
 use crate::fault::Cause;
 use devices::{Buffer, Input};
 
-/// Gives out the next bytes, as a read of what is held and then of the input.
+/// Reads the next bytes into `piece` and returns their number, as a read of the buffered bytes
+/// followed by the input.
 fn give<I: Input>(buffer: &mut Buffer, input: &mut I, piece: &mut [u8]) -> Result<usize, Cause>
     ensures bound { IfOk result (λ n. n ≤ length piece.new) }
     ensures cause { IfErr result (λ c. c ≡ Cause.Read) }
@@ -24,7 +25,7 @@ fn give<I: Input>(buffer: &mut Buffer, input: &mut I, piece: &mut [u8]) -> Resul
     Ok(count)
 }
 
-/// Gives out the next bytes of a block of which so many are left.
+/// Reads the next bytes of a block into `piece`. The block has `left` bytes left.
 pub fn give_block<I: Input>(
     buffer: &mut Buffer,
     input: &mut I,
@@ -49,7 +50,7 @@ pub fn give_block<I: Input>(
     Ok(count)
 }
 
-/// Passes over a block's bytes.
+/// Skips the `length` bytes of a block.
 pub fn skip_block<I: Input>(buffer: &mut Buffer, input: &mut I, length: u64) -> Result<(), Cause>
     ensures bytes { Reads (after_block length) result (prepend_known buffer.old (I.remaining input.old)) (prepend_known buffer.new (I.remaining input.new)) }
     ensures cause { IfErr result StopsBlock }

@@ -10,7 +10,7 @@ use crate::block::skip_block;
 use crate::fault::Cause;
 use devices::{Buffer, Input};
 
-/// The next byte, if there is one.
+/// Reads the next byte, if there is one.
 fn next_byte<I: Input>(buffer: &mut Buffer, input: &mut I) -> Result<Option<u8>, Cause>
     ensures bytes { Reads first_of result (prepend_known buffer.old (I.remaining input.old)) (prepend_known buffer.new (I.remaining input.new)) }
     ensures cause { IfErr result (λ c. c ≡ Cause.Read) }
@@ -24,7 +24,7 @@ fn next_byte<I: Input>(buffer: &mut Buffer, input: &mut I) -> Result<Option<u8>,
     Ok(first)
 }
 
-/// Passes over the text, which has to come next.
+/// Skips the CR LF CR LF that must come next.
 fn expect_closing<I: Input>(buffer: &mut Buffer, input: &mut I) -> Result<(), Cause>
     ensures bytes { Reads (after_text closing) result (prepend_known buffer.old (I.remaining input.old)) (prepend_known buffer.new (I.remaining input.new)) }
     ensures cause { IfErr result StopsRecord }
@@ -39,7 +39,7 @@ fn expect_closing<I: Input>(buffer: &mut Buffer, input: &mut I) -> Result<(), Ca
     Ok(())
 }
 
-/// Passes over what is left of a block, and its closing.
+/// Skips the rest of a block, and its closing.
 pub fn skip_record<I: Input>(buffer: &mut Buffer, input: &mut I, left: u64) -> Result<(), Cause>
     ensures cause { IfErr result StopsRecord }
     ensures bytes { Reads (after_record left) result (prepend_known buffer.old (I.remaining input.old)) (prepend_known buffer.new (I.remaining input.new)) }

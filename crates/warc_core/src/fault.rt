@@ -8,10 +8,11 @@ use thiserror::Error;
 
 /// What is wrong with a record.
 ///
-/// Of several causes from `Version` on, the one that stands first here is answered; but `TooFar` comes before `ShortBlock`.
+/// If several causes from `Version` on apply, the first in this order is returned, except that `TooFar` comes before
+/// `ShortBlock`.
 #[derive(Clone, Copy, Debug, PartialEq, Eq, Error)]
 pub enum Cause {
-    /// A growth was refused.
+    /// Memory could not be allocated.
     #[error("out of memory")]
     Memory,
     /// The input failed.
@@ -26,19 +27,19 @@ pub enum Cause {
     /// The head doesn't end within 1,048,576 bytes.
     #[error("the head is too long")]
     HeadTooLong,
-    /// A line of the head is neither a named field nor goes on with one.
+    /// A line of the head is neither a named field nor the continuation of one.
     #[error("a line of the head is no field")]
     FieldLine,
     /// One of the four mandatory fields is absent.
     #[error("a mandatory field is missing")]
     Missing,
-    /// One of the four mandatory fields stands twice.
+    /// One of the four mandatory fields occurs more than once.
     #[error("a mandatory field is repeated")]
     Repeated,
     /// `Content-Length` isn't a number of 1 to 19 digits below 2^63.
     #[error("a bad Content-Length")]
     BadLength,
-    /// `WARC-Date` is no date text, or names a date that doesn't exist.
+    /// `WARC-Date` isn't a date text, or names a date or a time of day that doesn't exist.
     #[error("a bad WARC-Date")]
     BadDate,
     /// The input ends before the block does.
@@ -55,7 +56,7 @@ pub enum Cause {
 impl Cause {
     ghost use Rattle.warc_core.specs.Cause.{cause_name};
 
-    /// The cause as listings print it.
+    /// Returns the cause as listings print it.
     pub fn name(self) -> &'static str
         ensures { result.now ≡ cause_name self }
     {
@@ -77,11 +78,11 @@ impl Cause {
     }
 }
 
-/// Where an archive can't be read further, and why.
+/// The offset at which an archive can't be read further, and the cause.
 #[derive(Clone, Copy, Debug, PartialEq, Eq, Error)]
 #[error("record at offset {offset}: {cause}")]
 pub struct Fault {
-    /// Where the record at fault begins, in bytes from the archive's start.
+    /// The offset of the record at fault, in bytes from the archive's start.
     pub offset: u64,
     pub cause: Cause,
 }

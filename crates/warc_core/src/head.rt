@@ -9,7 +9,7 @@ use std::alloc::Global;
 use std::marker::Model;
 use warc_head::{HeadFault, Kind, Parts, read_parts};
 
-/// A record's head, with the record's place in its archive.
+/// A record's head, with the record's offset in its archive.
 #[derive(Drop)]
 pub struct Head {
     start: u64,
@@ -44,28 +44,28 @@ impl Head {
         Head { start, raw, parts }
     }
 
-    /// Where the record begins, in bytes from the archive's start.
+    /// Returns the offset of the record, in bytes from the archive's start.
     pub fn start(&self) -> u64
         ensures { result ≡ self.now.start }
     {
         self.start
     }
 
-    /// The record's type (ISO 28500:2017, WARC-Type).
+    /// Returns the record's type (ISO 28500:2017, WARC-Type).
     pub fn kind(&self) -> Kind
         ensures { result ≡ self.now.parts.kind }
     {
         self.parts.kind()
     }
 
-    /// How many bytes the block has (ISO 28500:2017, Content-Length).
+    /// Returns the length of the block in bytes (ISO 28500:2017, Content-Length).
     pub fn length(&self) -> u64
         ensures { result ≡ self.now.parts.length }
     {
         self.parts.length()
     }
 
-    /// How many bytes the whole record has: its head, its block and the closing.
+    /// Returns the length of the whole record in bytes: its head, its block and the closing.
     pub fn record_length(&self) -> u64
         ensures value { result ≡ record_length self.now }
         ensures within { IsWithinOffsets self.now }
@@ -73,7 +73,7 @@ impl Head {
         self.raw.len() as u64 + self.parts.length() + 4
     }
 
-    /// When the record was made, as 14 digits (ISO 28500:2017, WARC-Date).
+    /// Returns the time at which the record was made, as 14 digits (ISO 28500:2017, WARC-Date).
     pub fn stamp(&self) -> [u8; 14]
         ensures value { result ≡ self.now.parts.stamp }
         ensures digits { all_digits result ≡ true }
@@ -81,14 +81,14 @@ impl Head {
         self.parts.stamp()
     }
 
-    /// The value of the first field of this name, ASCII case ignored.
+    /// Returns the value of the first field of this name, ignoring ASCII case.
     pub fn field(&self, name: &[u8]) -> Option<&[u8]>
         ensures { MatchOption result (value_of name.now self.now.parts.fields ≡ None) (λ v. value_of name.now self.now.parts.fields ≡ Some v.now) }
     {
         self.parts.field(name)
     }
 
-    /// The head as it is stored, from the version line to the empty line.
+    /// Returns the head as it is stored, from the version line to the empty line.
     pub fn raw(&self) -> &[u8]
         ensures value { result.now ≡ self.now.raw }
         ensures said { IsHead HEAD_LIMIT self.now }
@@ -97,7 +97,7 @@ impl Head {
     }
 }
 
-/// What the text of a head says.
+/// Reads the text of a head.
 pub fn parts_of(alloc: Global, raw: &[u8]) -> Result<Parts, Cause>
     ensures answer { Gives (λ p. p) result (parts_of raw.now) }
     ensures cause { IfErr result StopsHead }

@@ -1,4 +1,4 @@
-//! The text of a head, taken from the input piece by piece.
+//! The text of a head, read from the input piece by piece.
 ghost use Rattle.std.specs.Prelude.{◌≡◌, Option, ℕ, ◌+◌, ◌-◌, ◌<◌, ◌≤◌, List, [], length, drop, take, IfOk, IfErr, OnOk, MatchResult, MatchOption};
 ghost use Rattle.std.specs.Io.KnownBytes.{Keeps, IsAtEnd, prepend_known, ReadConsumes};
 ghost use Rattle.warc_core.specs.Reading.{Reads};
@@ -11,10 +11,10 @@ use devices::{Buffer, Input};
 use memchr::memmem;
 use std::alloc::Global;
 
-/// How many bytes are added to a head at once. Most heads are shorter.
+/// The maximum number of bytes added to a head at once. Most heads are shorter.
 const HEAD_PIECE: usize = 1024;
 
-/// Whether the bytes are those of the line, as far as both go.
+/// Returns `true` if the bytes are those of the line, as far as both go.
 fn agrees(head: &[u8], line: &[u8]) -> bool
     ensures { result ≡ agrees head.now line.now }
 {
@@ -23,14 +23,14 @@ fn agrees(head: &[u8], line: &[u8]) -> bool
         .all(|(byte, expected)| *byte == *expected)
 }
 
-/// Whether the bytes are those of a version line, as far as they go.
+/// Returns `true` if the bytes are those of a version line, as far as they go.
 fn has_version(head: &[u8]) -> bool
     ensures { result ≡ has_version head.now }
 {
     agrees(head, b"WARC/1.1\r\n") || agrees(head, b"WARC/1.0\r\n")
 }
 
-/// Where the first front that is longer than this and ends with CR LF CR LF ends.
+/// Returns the length of the shortest prefix of more than `before` bytes that ends with CR LF CR LF, if there is one.
 fn closing_end(text: &[u8], before: usize) -> Option<usize>
     requires { before ≤ length text.now }
     ensures { MatchOption result (IsOpenAfter text.now before) (ClosesFirst text.now before) }
@@ -42,7 +42,7 @@ fn closing_end(text: &[u8], before: usize) -> Option<usize>
     }
 }
 
-/// The text of the head that comes next, of at most `limit` bytes.
+/// Reads the text of the next head, of at most `limit` bytes.
 pub fn read_head_text<I: Input>(
     alloc: Global,
     buffer: &mut Buffer,

@@ -1,8 +1,10 @@
-//! Laws over the definitions of records, archives and damage that the calls of this crate cite.
+//! Laws of the definitions of records, archives and damage that the contracts of this crate cite. These functions do
+//! nothing: each law is a contract.
 ghost use Rattle.std.specs.Prelude.{ℕ, List};
 ghost use Rattle.warc_core.specs.Laws.{ReadIsSpelled, SpelledIsRead, NoPrefix, RecordsAreSpelled, SpelledAreRecords, OneReading, RecordsOrDamage, NoRecordAtDamage, HeadIsSpelled, HeadAtDamage, TextStays, ReadingStays, RecordsStay};
 
-/// A record is read exactly where its text stands: a head, a block of the length that the head says, CR LF CR LF.
+/// A record is read if and only if its text is there: a head, a block of the length that the head gives, and CR LF CR
+/// LF.
 pub fn reading_and_spelling()
     ensures spelled { ReadIsSpelled }
     ensures read { SpelledIsRead }
@@ -29,18 +31,19 @@ pub fn records_or_damage()
     ensures { RecordsOrDamage }
 {}
 
-/// No record stands where an archive is damaged.
+/// No record begins where an archive is damaged.
 pub fn no_record_at_damage()
     ensures { NoRecordAtDamage }
 {}
 
-/// A head that is read is a head text in front of its block, also where the record then proves damaged.
+/// A head that is read is a head text before its block, even if the record then proves to be damaged.
 pub fn head_is_spelled()
     ensures read { HeadIsSpelled }
     ensures damaged { HeadAtDamage }
 {}
 
-/// A record stays what it is under a higher limit of heads: as a text, as what is read of an archive, and in its archive.
+/// A record stays the same under a higher limit of heads: as a text, as what is read from an archive, and in its
+/// archive.
 pub fn record_stays_under_higher_limit()
     ensures text { TextStays }
     ensures read { ReadingStays }

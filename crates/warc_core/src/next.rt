@@ -1,4 +1,4 @@
-//! The head that comes next.
+//! The next head.
 ghost use Rattle.std.specs.Prelude.{◌≡◌, Option, ℕ, ◌+◌, ◌-◌, ◌<◌, ◌≤◌, ◌^◌, List, [], length, IfOk, IfErr, IfSome};
 ghost use Rattle.std.specs.Option.{option_map};
 ghost use Rattle.std.specs.Io.KnownBytes.{prepend_known};
@@ -14,12 +14,12 @@ use crate::head_text::read_head_text;
 use devices::{Buffer, Input};
 use std::alloc::Global;
 
-/// The most bytes of a head.
+/// The maximum length of a head in bytes.
 pub const HEAD_LIMIT: usize = 1_048_576;
 
 const GREATEST_OFFSET: u128 = i64::MAX as u128;
 
-/// The head of the record that starts at this offset.
+/// Reads the head of the record that starts at this offset.
 fn read_head<I: Input>(
     alloc: Global,
     buffer: &mut Buffer,
@@ -41,7 +41,7 @@ fn read_head<I: Input>(
     Ok(Head::from_parts(start, raw, parts))
 }
 
-/// The head of the record that starts at this offset, if a byte follows.
+/// Reads the head of the record that starts at this offset, if a byte follows.
 pub fn read_next<I: Input>(
     alloc: Global,
     buffer: &mut Buffer,

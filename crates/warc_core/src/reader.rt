@@ -1,4 +1,4 @@
-//! Records, one after another, from an input that each call is handed.
+//! A reader of records, one after another, that takes the input at each call.
 ghost use Rattle.std.specs.Prelude.{◌≡◌, ℕ, ◌-◌, ◌^◌, ◌≤◌, [], length, Ok, Err, IfOk, IfErr, OnOk};
 
 use crate::block::give_block;
@@ -11,10 +11,10 @@ use devices::{Buffer, Input};
 use std::alloc::Global;
 use std::marker::Model;
 
-/// Reads an archive's records in turn. It holds no input: each call is handed it.
+/// Reads an archive's records in turn. It does not hold the input; each call takes it.
 ///
-/// A record is open from its head until its closing was read. A reader whose call failed answers the same fault for
-/// good, and reads nothing more.
+/// A record is open from its head until its closing is read. After a call has failed, each further call returns the
+/// same fault and reads nothing.
 #[derive(Drop)]
 pub struct Reader {
     alloc: Global,
@@ -39,7 +39,7 @@ impl Reader {
     ghost use Rattle.warc_core.specs.ReaderView.{HasLeft, state_of};
     ghost use Rattle.warc_core.specs.Calls.{Finishes, GivesBlock, Fills, GoesNext, FinishesAndGoesNext};
 
-    /// A reader at the start of an archive, with a buffer of 8,192 bytes.
+    /// Creates a reader at the start of an archive, with a buffer of 8,192 bytes.
     ///
     /// The only error is `Memory`, at offset 0.
     pub fn new(alloc: Global) -> Result<Reader, Fault>
@@ -60,7 +60,7 @@ impl Reader {
         }
     }
 
-    /// From here on each call answers this fault.
+    /// Marks the reader as failed, so that each further call returns this fault.
     fn fail(&mut self, cause: Cause) -> Fault
         ensures fault { result ≡ record { offset = self.old.offset; cause = cause } }
         ensures reader { self.new ≡ record self.old { phase = Phase.Failed cause } }
@@ -72,8 +72,8 @@ impl Reader {
         }
     }
 
-    /// Reads what is left of the open record and its closing, and answers the record's length in bytes. Where no
-    /// record is open it answers 0 and reads nothing.
+    /// Reads the rest of the open record and its closing, and returns the record's length in bytes. If no record is
+    /// open, it returns 0 and reads nothing.
     ///
     /// Errors are `Read`, `ShortBlock` and `Closing`, at the record's offset.
     pub fn finish<I: Input>(&mut self, input: &mut I) -> Result<u64, Fault>
@@ -106,8 +106,8 @@ impl Reader {
         }
     }
 
-    /// Gives the next bytes of the open record's block in the front of `piece`, and answers how many: 0 only at the
-    /// block's end or for an empty piece. Where no record is open it answers 0 and reads nothing.
+    /// Reads the next bytes of the open record's block into the start of `piece`, and returns their number, which is 0
+    /// only at the block's end or for an empty piece. If no record is open, it returns 0 and reads nothing.
     ///
     /// Errors are `Read` and `ShortBlock`, at the record's offset.
     pub fn block<I: Input>(&mut self, input: &mut I, piece: &mut [u8]) -> Result<usize, Fault>
@@ -139,7 +139,7 @@ impl Reader {
         }
     }
 
-    /// Fills `piece` with the next bytes of the open record's block, which has as many.
+    /// Fills `piece` with the next bytes of the open record's block, which has at least this many left.
     ///
     /// Errors are those of `block`.
     pub fn block_exact<I: Input>(&mut self, input: &mut I, piece: &mut [u8]) -> Result<(), Fault>
@@ -156,7 +156,7 @@ impl Reader {
         Ok(())
     }
 
-    /// What comes next where no record is open.
+    /// Reads the next head when no record is open.
     fn next_between<I: Input>(&mut self, input: &mut I) -> Result<Option<Head>, Fault>
         requires { self.old.phase ≡ Phase.Between }
         ensures next { GoesNext HEAD_LIMIT
@@ -178,11 +178,11 @@ impl Reader {
         }
     }
 
-    /// Reads what is left of the open record and its closing, and then the head that follows. `None` at the end of the
-    /// archive, and again as long as the input stays at its end.
+    /// Reads the rest of the open record and its closing, and then the head that follows. Returns `None` at the end of
+    /// the archive, and again as long as the input stays at its end.
     ///
-    /// Errors are those of `finish` at the open record's offset, and `Memory`, `Read` and the causes from `Version` to
-    /// `BadDate` and `TooFar` at the offset where the next record would begin.
+    /// Errors are those of `finish`, at the open record's offset. At the offset where the next record would begin, they
+    /// are `Memory`, `Read`, the causes from `Version` to `BadDate`, and `TooFar`.
     pub fn next<I: Input>(&mut self, input: &mut I) -> Result<Option<Head>, Fault>
         ensures between { self.old.phase ≡ Phase.Between →
             GoesNext HEAD_LIMIT

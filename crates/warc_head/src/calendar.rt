@@ -1,10 +1,10 @@
-//! The dates that exist.
+//! Calendar dates.
 ghost use Rattle.std.specs.Prelude.{◌≡◌, ◌≤◌, ◌↔◌, IsTrue};
 ghost use Rattle.warc_head.specs.Calendar.{is_date, DateExists};
 
 use jiff::civil::Date;
 
-/// Whether the year has this month and day.
+/// Returns `true` if the year has this month and day.
 pub fn date_exists(year: u32, month: u32, day: u32) -> bool
     requires year { year ≤ 9999 }
     requires month { month ≤ 99 }

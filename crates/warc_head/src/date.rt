@@ -8,7 +8,7 @@ use crate::calendar::date_exists;
 use crate::fault::HeadFault;
 use crate::length::all_digits;
 
-/// The stamp of a date text: year, month, day, hour, minute and second in fourteen digits.
+/// Returns the stamp of a date text: year, month, day, hour, minute and second in 14 digits.
 #[tactic(auto, unfolding(crate::specs::Date::stamp_of))]
 pub fn stamp_of(text: &[u8]) -> Result<[u8; 14], HeadFault>
     ensures answer { Answers (λ s. s) result (stamp_of text.now) }
@@ -24,7 +24,7 @@ pub fn stamp_of(text: &[u8]) -> Result<[u8; 14], HeadFault>
     Ok(digits_of(&whole))
 }
 
-/// How many bytes the date and the time have, without fraction and `Z`.
+/// Returns the length of the date and the time in bytes, without the fraction and `Z`.
 #[tactic(auto, using(crate::proofs::DateLemmas::fits_long, crate::proofs::DateLemmas::long_fraction), unfolding(crate::specs::Date::date_length))]
 fn date_length(text: &[u8]) -> Option<usize>
     ensures is { result ≡ date_length text.now }
@@ -47,7 +47,7 @@ fn date_length(text: &[u8]) -> Option<usize>
     }
 }
 
-/// Whether the text has the form, in which 0 stands for a digit.
+/// Returns `true` if the text has the form, in which 0 stands for any digit.
 #[tactic(auto, unfolding(crate::specs::Date::fits))]
 fn fits(form: &[u8], text: &[u8]) -> bool
     ensures { result ≡ fits form.now text.now }
@@ -74,7 +74,7 @@ fn fits(form: &[u8], text: &[u8]) -> bool
     }
 }
 
-/// Whether a fraction of the second stands before `Z`.
+/// Returns `true` if the text is a date and a time with a fraction of the second before `Z`.
 #[tactic(auto, using(crate::proofs::DateLemmas::short_fraction))]
 fn has_fraction(text: &[u8]) -> bool
     ensures { result ≡ has_fraction text.now }
@@ -88,7 +88,7 @@ fn has_fraction(text: &[u8]) -> bool
     is_fraction(&text[19..])
 }
 
-/// `.`, one to nine digits, `Z`.
+/// Returns `true` if the text is `.`, one to nine digits and `Z`.
 fn is_fraction(text: &[u8]) -> bool
     ensures { result ≡ is_fraction text.now }
 {
@@ -98,7 +98,8 @@ fn is_fraction(text: &[u8]) -> bool
     text[0] == b'.' && text[text.len() - 1] == b'Z' && all_digits(&text[1..text.len() - 1])
 }
 
-/// The date and time whose first bytes the text gives: an absent month or day is 01, an absent hour, minute or second 00.
+/// Returns the date and time whose first `size` bytes the text gives. An absent month or day is 01; an absent hour,
+/// minute or second is 00.
 fn full_date(text: &[u8], size: usize) -> [u8; 19]
     requires text { size ≤ length text.now }
     requires whole { size ≤ 19 }
@@ -109,7 +110,7 @@ fn full_date(text: &[u8], size: usize) -> [u8; 19]
     whole
 }
 
-/// Whether the date exists, and the time of day.
+/// Returns `true` if the date and the time of day exist.
 fn is_moment(whole: &[u8; 19]) -> bool
     requires { fits to_the_second whole.now ≡ true }
     ensures { result ≡ is_moment whole.now }
@@ -123,7 +124,7 @@ fn is_moment(whole: &[u8; 19]) -> bool
         && two(whole, 17) <= 59
 }
 
-/// The number of two digits.
+/// Returns the number that the two digits at `at` spell.
 fn two(text: &[u8], at: usize) -> u32
     requires { at + 1 < length text.now }
     ensures value { result ≡ two text.now at }

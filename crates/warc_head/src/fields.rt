@@ -11,7 +11,7 @@ use memchr::memchr;
 use std::alloc::Global;
 use std::marker::Model;
 
-/// A name and its value, one after the other in one text.
+/// A name and its value, stored one after the other in one text.
 #[derive(Drop)]
 pub struct Field {
     text: Vec<u8>,
@@ -58,7 +58,7 @@ impl Field {
         &self.text.as_slice()[self.name_length..]
     }
 
-    /// Goes on with a piece of a further line.
+    /// Appends a piece of a continuation line to the value.
     fn join(&mut self, piece: &[u8]) -> Result<(), HeadFault>
         ensures ok { OnOk result (self.new ≡ record { name = self.old.name; value = joined self.old.value piece.now }) }
         ensures err { IfErr result (λ e. e ≡ Memory) }
@@ -74,10 +74,10 @@ impl Field {
     }
 }
 
-/// Room for as many fields as most heads have.
+/// The initial capacity of a list of fields, enough for most heads.
 const USUAL_FIELDS: usize = 16;
 
-/// The fields of the lines between the version line and the empty line.
+/// Reads the fields from the lines between the version line and the empty line.
 pub fn fields_of(alloc: Global, body: &[u8]) -> Result<Vec<Field>, HeadFault>
     ensures { Answers (λ v. v.items) result (fields_of body.now) }
 {
@@ -100,7 +100,7 @@ pub fn fields_of(alloc: Global, body: &[u8]) -> Result<Vec<Field>, HeadFault>
     Ok(fields)
 }
 
-/// The field that a line begins.
+/// Reads the field that begins on a line.
 #[tactic(auto, unfolding(crate::specs::Fields::field_in))]
 fn field_in(alloc: Global, text: &[u8]) -> Result<Field, HeadFault>
     ensures { Answers (λ f. f) result (field_in text.now) }
@@ -114,7 +114,7 @@ fn field_in(alloc: Global, text: &[u8]) -> Result<Field, HeadFault>
     Field::new(alloc, name, trim(rest))
 }
 
-/// The text before the first colon, and the text after it.
+/// Returns the text before the first colon and the text after it.
 fn at_colon(text: &[u8]) -> Option<(&[u8], &[u8])>
     ensures { MatchOption result (at_colon text.now ≡ None) (λ p. at_colon text.now ≡ Some (p.0.now, p.1.now)) }
 {
@@ -124,7 +124,7 @@ fn at_colon(text: &[u8]) -> Option<(&[u8], &[u8])>
     }
 }
 
-/// The value of the first field of this name.
+/// Returns the value of the first field of this name.
 #[tactic(auto, unfolding(crate::specs::Fields::value_of))]
 pub fn value_of<'a>(fields: &'a [Field], name: &[u8]) -> Option<&'a [u8]>
     ensures { MatchOption result (value_of name.now fields.now ≡ None) (λ v. value_of name.now fields.now ≡ Some v.now) }

@@ -2,7 +2,7 @@
 ghost use Rattle.std.specs.Prelude.{◌≡◌};
 ghost use Rattle.warc_head.specs.Kind.{kind_of};
 
-/// The type of a record (ISO 28500:2017, clause 6), `Other` where the standard has none of that name.
+/// The type of a record (ISO 28500:2017, clause 6). `Other` is a type that the standard doesn't name.
 #[derive(Clone, Copy, Debug, PartialEq, Eq)]
 pub enum Kind {
     Warcinfo,
@@ -19,7 +19,7 @@ pub enum Kind {
 impl Kind {
     ghost use Rattle.warc_head.specs.Kind.{kind_name};
 
-    /// The type's name in lower case, as `WARC-Type` spells it; `other` for `Other`.
+    /// Returns the type's name in lower case, as `WARC-Type` spells it, or `other` for `Other`.
     pub fn name(self) -> &'static str
         ensures { result.now ≡ kind_name self }
     {
@@ -37,7 +37,7 @@ impl Kind {
     }
 }
 
-/// The type that a value names.
+/// Returns the type that a value names.
 #[tactic(auto, unfolding(crate::specs::Kind::kind_of))]
 pub fn kind_of(value: &[u8]) -> Kind
     ensures { result ≡ kind_of value.now }

@@ -5,7 +5,7 @@ ghost use Rattle.warc_head.specs.Length.{all_digits, number_of, length_of};
 
 use crate::fault::HeadFault;
 
-/// The length, in bytes, that a value says.
+/// Returns the length in bytes that a value gives.
 #[tactic(auto, unfolding(crate::specs::Length::length_of))]
 pub fn length_of(value: &[u8]) -> Result<u64, HeadFault>
     ensures answer { Answers (λ n. n) result (length_of value.now) }
@@ -27,7 +27,7 @@ pub fn all_digits(text: &[u8]) -> bool
     text.iter().all(|byte| *byte >= b'0' && *byte <= b'9')
 }
 
-/// The number that at most 19 digits spell.
+/// Returns the number that at most 19 digits spell.
 fn number_of(digits: &[u8]) -> u64
     requires digits { all_digits digits.now ≡ true }
     requires few { length digits.now ≤ 19 }

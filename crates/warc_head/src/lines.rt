@@ -6,7 +6,7 @@ ghost use Rattle.warc_head.specs.Lines.{lines_of, line_content, continues, is_sp
 use crate::fault::HeadFault;
 use memchr::{memchr, memchr2};
 
-/// The first line, with its LF, and what follows it.
+/// Returns the first line, with its LF, and the text that follows it.
 pub fn cut_line(text: &[u8]) -> (&[u8], &[u8])
     requires { 0 < length text.now }
     ensures lines { lines_of text.now ≡ result.0.now ∷ lines_of result.1.now }
@@ -18,7 +18,7 @@ pub fn cut_line(text: &[u8]) -> (&[u8], &[u8])
     }
 }
 
-/// A line without the CR LF that ends it.
+/// Returns a line without the CR LF that ends it.
 pub fn line_content(line: &[u8]) -> Result<&[u8], HeadFault>
     ensures { MatchResult result (λ text. line_content line.now ≡ Ok text.now) (λ e. line_content line.now ≡ Err e) }
 {
@@ -32,7 +32,7 @@ pub fn line_content(line: &[u8]) -> Result<&[u8], HeadFault>
     Ok(text)
 }
 
-/// Whether neither CR nor LF stands in the text.
+/// Returns `true` if the text contains neither CR nor LF.
 fn is_plain(text: &[u8]) -> bool
     ensures { result ≡ list_all is_plain text.now }
 {
@@ -45,7 +45,7 @@ fn is_space(byte: u8) -> bool
     byte == b' ' || byte == b'\t'
 }
 
-/// Whether the line goes on with the field before it.
+/// Returns `true` if the line continues the field before it.
 pub fn continues(text: &[u8]) -> bool
     ensures { result ≡ continues text.now }
 {
@@ -55,7 +55,7 @@ pub fn continues(text: &[u8]) -> bool
     }
 }
 
-/// Without the white space at both ends.
+/// Returns the text without the white space at both ends.
 pub fn trim(text: &[u8]) -> &[u8]
     ensures { result.now ≡ trim text.now }
 {

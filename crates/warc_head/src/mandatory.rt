@@ -1,4 +1,4 @@
-//! The fields that each record has.
+//! The mandatory fields of a record.
 ghost use Rattle.std.specs.Prelude.{◌≡◌, length};
 ghost use Rattle.warc_head.specs.Answers.{Answers};
 ghost use Rattle.warc_head.specs.Fields.{values_of};
@@ -7,7 +7,7 @@ ghost use Rattle.warc_head.specs.Mandatory.{mandatory, none_missing, none_repeat
 use crate::fault::HeadFault;
 use crate::fields::{Field, value_of};
 
-/// Whether each mandatory field stands once.
+/// Checks that each mandatory field occurs exactly once.
 #[tactic(auto, unfolding(crate::specs::Mandatory::each_once))]
 pub fn each_once(fields: &[Field]) -> Result<(), HeadFault>
     ensures { Answers (λ u. tt) result (each_once fields.now) }
@@ -39,7 +39,7 @@ fn none_repeated(fields: &[Field]) -> bool
         && count(fields, b"WARC-Type") < 2
 }
 
-/// How many fields have this name.
+/// Returns the number of fields of this name.
 fn count(fields: &[Field], name: &[u8]) -> usize
     ensures { result ≡ length (values_of name.now fields.now) }
 {
@@ -54,7 +54,7 @@ fn count(fields: &[Field], name: &[u8]) -> usize
     count
 }
 
-/// A value that has to be there.
+/// Returns the value of a field that must be present.
 #[tactic(auto, unfolding(crate::specs::Mandatory::required))]
 pub fn required<'a>(fields: &'a [Field], name: &[u8]) -> Result<&'a [u8], HeadFault>
     ensures { Answers (λ v. v.now) result (required name.now fields.now) }

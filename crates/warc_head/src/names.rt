@@ -3,7 +3,7 @@ ghost use Rattle.std.specs.Prelude.{◌≡◌, true};
 ghost use Rattle.std.specs.List.{list_all};
 ghost use Rattle.warc_head.specs.Names.{is_separator, is_name_byte, is_name};
 
-/// Whether the text is one or more bytes that a name may hold.
+/// Returns `true` if the text is one or more bytes that a field name may contain.
 pub fn is_name(name: &[u8]) -> bool
     ensures { result ≡ is_name name.now }
 {
@@ -16,7 +16,7 @@ fn all_name_bytes(name: &[u8]) -> bool
     name.iter().all(|byte| is_name_byte(*byte))
 }
 
-/// Most names are of small letters, capitals and `-` alone: those are looked for first.
+/// Most names consist of ASCII letters and `-` alone, so these are tested first.
 fn is_name_byte(byte: u8) -> bool
     ensures { result ≡ is_name_byte byte }
 {

@@ -1,4 +1,4 @@
-//! What the head of a record says.
+//! The contents of a record's head.
 ghost use Rattle.std.specs.Prelude.{◌≡◌, ◌≤◌, ◌^◌, ◌-◌, true, IfOk};
 ghost use Rattle.warc_head.specs.Answers.{Answers};
 ghost use Rattle.warc_head.specs.Length.{all_digits};
@@ -13,7 +13,7 @@ use crate::mandatory::{each_once, required};
 use std::alloc::Global;
 use std::marker::Model;
 
-/// What the head of a record says.
+/// The contents of a record's head.
 #[derive(Drop)]
 pub struct Parts {
     kind: Kind,
@@ -38,15 +38,15 @@ impl Parts {
     ghost use Rattle.std.specs.Prelude.{MatchOption, None, Some};
     ghost use Rattle.warc_head.specs.Fields.{value_of};
 
-    /// The type of the record, by `WARC-Type` without regard to case.
+    /// Returns the type of the record, from `WARC-Type`, ignoring case.
     pub fn kind(&self) -> Kind
         ensures { result ≡ self.now.kind }
     {
         self.kind
     }
 
-    /// The digits of year, month, day, hour, minute and second of `WARC-Date`; what the date leaves out is the
-    /// first of its kind, and a fraction of the second is dropped.
+    /// Returns the digits of year, month, day, hour, minute and second of `WARC-Date`. An absent month or day is 01; an
+    /// absent hour, minute or second is 00. A fraction of the second is dropped.
     pub fn stamp(&self) -> [u8; 14]
         ensures value { result ≡ self.now.stamp }
         ensures digits { all_digits result ≡ true }
@@ -54,14 +54,14 @@ impl Parts {
         self.stamp
     }
 
-    /// The length of the block in bytes, at most 2^63 - 1, by `Content-Length`.
+    /// Returns the length of the block in bytes, at most 2^63 - 1, from `Content-Length`.
     pub fn length(&self) -> u64
         ensures { result ≡ self.now.length }
     {
         self.length
     }
 
-    /// The value of the first field of this name; the case of ASCII letters makes no difference.
+    /// Returns the value of the first field of this name, ignoring ASCII case.
     pub fn field(&self, name: &[u8]) -> Option<&[u8]>
         ensures { MatchOption result (value_of name.now self.now.fields ≡ None) (λ v. value_of name.now self.now.fields ≡ Some v.now) }
     {
@@ -69,13 +69,13 @@ impl Parts {
     }
 }
 
-/// The bytes of a version line: `WARC/1.1` or `WARC/1.0`, CR LF.
+/// The length of a version line in bytes: `WARC/1.1` or `WARC/1.0`, and CR LF.
 const VERSION_LINE: usize = 10;
 
-/// What the text of a head says: the version line, the lines of the fields and an empty line, each with its CR LF.
+/// Reads the text of a head: the version line, the lines of the fields and an empty line, each with its CR LF.
 ///
-/// Which version the text says, and that the last line is empty, isn't looked at. A text that is too short to hold
-/// the first and the last of these lines has no fields.
+/// It checks neither which version the text names nor that the last line is empty. A text that is too short to hold the
+/// first and the last of these lines has no fields.
 #[tactic(auto, unfolding(crate::specs::Parts::parts_of))]
 pub fn read_parts(alloc: Global, raw: &[u8]) -> Result<Parts, HeadFault>
     ensures answer { Answers (λ p. p) result (parts_of raw.now) }
@@ -85,7 +85,7 @@ pub fn read_parts(alloc: Global, raw: &[u8]) -> Result<Parts, HeadFault>
     parts_in(fields_of(alloc, body_of(raw))?)
 }
 
-/// The lines between the version line and the empty line.
+/// Returns the lines between the version line and the empty line.
 fn body_of(raw: &[u8]) -> &[u8]
     ensures { result.now ≡ body_of raw.now }
 {
@@ -95,7 +95,7 @@ fn body_of(raw: &[u8]) -> &[u8]
     &raw[VERSION_LINE..raw.len() - 2]
 }
 
-/// What fields say.
+/// Reads the contents of a head from its fields.
 #[tactic(auto, unfolding(crate::specs::Parts::parts_in))]
 fn parts_in(fields: Vec<Field>) -> Result<Parts, HeadFault>
     ensures answer { Answers (λ p. p) result (parts_in fields.items) }
