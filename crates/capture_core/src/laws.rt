@@ -9,7 +9,7 @@ pub fn block_has_one_head()
     ensures front { FrontDecides }
 {}
 
-/// A record has one capture under a name.
+/// A record has at most one capture under a name.
 pub fn record_has_one_capture()
     ensures { OneCapture }
 {}
