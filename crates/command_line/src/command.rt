@@ -1,4 +1,4 @@
-//! clap's command.
+//! The command line as a clap command.
 ghost use Rattle.std.specs.Prelude.{◌≡◌, IfOk, false, [], ◌∷◌, codes};
 ghost use Rattle.clap.specs.Words.{app_of, rule_of, with_subcommand};
 ghost use Rattle.command_line.specs.Clap.{word_rule, names_rule, types_rule, command_with, warcdx};
@@ -9,7 +9,7 @@ use crate::help::{ARCHIVE, CDXJ, OFFSET, Operand, PROGRAM, Page, QUERY_TEXT, SIZ
 use clap::{Arg, Command};
 use std::alloc::{AllocError, Global};
 
-/// The program's command.
+/// Returns the clap command of the program.
 pub fn command_line<'a>(alloc: Global) -> Result<Command<'a>, AllocError>
     ensures { IfOk result (λ command. app_of command ≡ warcdx) }
 {
@@ -31,7 +31,7 @@ pub fn command_line<'a>(alloc: Global) -> Result<Command<'a>, AllocError>
     with_types_and_sizes(get, alloc, "scan", SCAN, ARCHIVE)
 }
 
-/// The command with one more, which takes one operand or more.
+/// Adds a subcommand that takes one or more operands.
 fn with_names<'a>(
     command: Command<'a>,
     alloc: Global,
@@ -50,7 +50,7 @@ fn with_names<'a>(
     )
 }
 
-/// The command with one more, which takes a query and one other operand or more.
+/// Adds a subcommand that takes a query and one or more other operands.
 fn with_query<'a>(
     command: Command<'a>,
     alloc: Global,
@@ -70,7 +70,7 @@ fn with_query<'a>(
     )
 }
 
-/// The command with one more, which takes sizes, a query, and one other operand or more.
+/// Adds a subcommand that takes sizes, a query, and one or more other operands.
 fn with_sizes<'a>(
     command: Command<'a>,
     alloc: Global,
@@ -91,7 +91,7 @@ fn with_sizes<'a>(
     )
 }
 
-/// The command with one more, which takes an offset and another operand.
+/// Adds a subcommand that takes an offset and one other operand.
 fn with_offset<'a>(
     command: Command<'a>,
     alloc: Global,
@@ -111,7 +111,7 @@ fn with_offset<'a>(
     )
 }
 
-/// The command with one more, which takes the option `--types`, and one operand or more.
+/// Adds a subcommand that takes the option `--types` and one or more operands.
 fn with_types<'a>(
     command: Command<'a>,
     alloc: Global,
@@ -131,7 +131,7 @@ fn with_types<'a>(
     )
 }
 
-/// The command with one more, which takes the option `--types`, sizes, a query, and one other operand or more.
+/// Adds a subcommand that takes the option `--types`, sizes, a query, and one or more other operands.
 fn with_types_and_sizes<'a>(
     command: Command<'a>,
     alloc: Global,
@@ -153,7 +153,7 @@ fn with_types_and_sizes<'a>(
     )
 }
 
-/// The option `--types`, with a word.
+/// Returns the option `--types`, which takes a value.
 fn types<'a>(alloc: Global) -> Arg<'a>
     ensures rule { rule_of result ≡ types_rule }
     ensures local { result.global ≡ false }
@@ -164,7 +164,7 @@ fn types<'a>(alloc: Global) -> Arg<'a>
         .help(TYPES.help)
 }
 
-/// One operand or more.
+/// Returns an operand that is given once or more.
 fn names<'a>(alloc: Global, operand: Operand<'a>) -> Arg<'a>
     ensures rule { rule_of result ≡ names_rule }
     ensures local { result.global ≡ false }
@@ -172,7 +172,7 @@ fn names<'a>(alloc: Global, operand: Operand<'a>) -> Arg<'a>
     word(alloc, "names", operand).num_args(1..)
 }
 
-/// One operand.
+/// Returns an operand that is given once.
 fn word<'a>(alloc: Global, id: &'a str, operand: Operand<'a>) -> Arg<'a>
     ensures rule { rule_of result ≡ word_rule id.entry.now }
     ensures local { result.global ≡ false }

@@ -1,18 +1,18 @@
-//! Why words have no task.
+//! Why the arguments give no task.
 ghost use Rattle.std.specs.Prelude.{◌≡◌};
 
 use std::alloc::AllocError;
 use thiserror::Error;
 
-/// Why words have no task.
+/// Why the arguments give no task.
 #[derive(Debug, Drop, Error, PartialEq, Eq)]
 pub enum WordsFault {
     #[error("out of memory")]
     Memory,
-    /// The words ask for help: its text, for standard output.
+    /// The arguments ask for help. Its text is for standard output.
     #[error("{0}")]
     Help(String),
-    /// A usage error: what is wrong, and how the command is used, for standard error.
+    /// A usage error. Its text is for standard error.
     #[error("{0}")]
     Usage(String),
 }

@@ -1,4 +1,4 @@
-//! The texts of help, at most 80 columns wide.
+//! The help texts, at most 80 columns wide.
 pub mod archives;
 pub mod indexes;
 

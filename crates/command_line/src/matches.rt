@@ -1,4 +1,4 @@
-//! The task in clap's matches.
+//! The task that clap's matches give.
 ghost use Rattle.std.specs.Prelude.{◌≡◌, IfOk, Some, option_map, codes, map, string_bytes};
 ghost use Rattle.clap.specs.Words.{all_of, first_of, found_of, rows_of, subcommand_rows_of};
 ghost use Rattle.command_line.specs.Words.{texts};
@@ -12,7 +12,7 @@ use cdxj_places::read_offset;
 use clap::ArgMatches;
 use std::alloc::{AllocError, Global};
 
-/// The task, where there is one.
+/// Returns the task, if the matches give one.
 pub fn task_of(alloc: Global, matches: &ArgMatches) -> Result<Option<Task>, AllocError>
     ensures { IfOk result (λ task. option_map view task ≡ matches_task (subcommand_rows_of matches.now)) }
 {
@@ -22,7 +22,7 @@ pub fn task_of(alloc: Global, matches: &ArgMatches) -> Result<Option<Task>, Allo
     }
 }
 
-/// The word for types, for sizes or for an offset, as it was given.
+/// Returns the value given for types, for sizes or for an offset, as it was given.
 pub fn operand_word<'a>(matches: &ArgMatches<'a>, id: &str) -> Option<&'a str> {
     let (_command, values) = matches.subcommand()?;
     values.get_str(id)
@@ -117,7 +117,7 @@ fn scan_task(alloc: Global, values: &ArgMatches) -> Result<Option<Task>, AllocEr
     }
 }
 
-/// Sizes, a query and names.
+/// Returns the sizes, the query and the names.
 fn sized_query(
     alloc: Global,
     values: &ArgMatches,
@@ -156,7 +156,7 @@ fn get_task(alloc: Global, values: &ArgMatches) -> Result<Option<Task>, AllocErr
     }
 }
 
-/// The types of the option's word, or the usual ones where it isn't given.
+/// Returns the types that the option's value names, or the usual types if the option isn't given.
 fn chosen_types(values: &ArgMatches) -> Option<Types>
     ensures { result ≡ chosen_types (rows_of (found_of values.now)) }
 {

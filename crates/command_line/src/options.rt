@@ -1,9 +1,9 @@
-//! Which words are options.
+//! Which arguments are options.
 ghost use Rattle.std.specs.Prelude.{◌≡◌, ◌&&◌, find, option_map, string_bytes};
 ghost use Rattle.command_line.specs.Words.{texts, is_option, asks_for_help, is_unknown_option};
 ghost use Rattle.command_line.specs.Commands.{chooses_types, is_typed_command, other_words};
 
-/// The words but for a command that takes types and `--types` directly after it.
+/// Returns the arguments without a command that takes types and `--types` directly after it.
 pub fn other_words(words: &[String]) -> &[String]
     ensures { texts result.now ≡ other_words (texts words.now) }
 {
@@ -25,14 +25,14 @@ fn is_typed_command(word: &str) -> bool
     word == "index" || word == "scan"
 }
 
-/// The first word that begins with `-` and neither is `-` alone nor asks for help.
+/// Returns the first argument that begins with `-`, except `-` alone and arguments that ask for help.
 pub fn unknown_option(words: &[String]) -> Option<&String>
     ensures { option_map (λ word. string_bytes word.now) result ≡ find is_unknown_option (texts words.now) }
 {
     words.iter().find(|word| is_unknown_option(word))
 }
 
-/// The first word that asks for help.
+/// Returns the first argument that asks for help.
 pub fn help_option(words: &[String]) -> Option<&String>
     ensures { option_map (λ word. string_bytes word.now) result ≡ find asks_for_help (texts words.now) }
 {

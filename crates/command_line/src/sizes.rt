@@ -6,10 +6,11 @@ ghost use Rattle.command_line.specs.Sizes.{all_sizes, is_comma, size_of, sizes_o
 use cdxj_places::has_digits;
 use std::alloc::{AllocError, Global};
 
-/// The most sizes that a word gives.
+/// The greatest number of sizes in an argument.
 const SIZES_LIMIT: usize = 1_000;
 
-/// The sizes that a word gives, with commas between: 1 to 1,000 numbers from 1 to 1,000,000, each in at most 7 digits.
+/// Reads the sizes in an argument, separated by commas: 1 to 1,000 numbers from 1 to 1,000,000, each of at most 7
+/// digits.
 pub fn read_sizes(alloc: Global, word: &str) -> Result<Option<Vec<u64>>, AllocError>
     ensures { IfOk result (λ sizes. option_map (λ s. s.items) sizes ≡ sizes_of word.now) }
 {

@@ -1,7 +1,7 @@
 //! What the program is asked to do.
 use capture_core::Types;
 
-/// What the program is asked to do. Names are the words as they were given; `-` is standard input.
+/// What the program is asked to do. Names are the arguments as they were given. The archive `-` is standard input.
 #[derive(Debug, Drop, PartialEq, Eq)]
 pub enum Task {
     /// List the records of each archive.
@@ -30,7 +30,7 @@ pub enum Task {
         query: String,
         names: Vec<String>,
     },
-    /// Answer the query over the indexes page by page: so many captures on each page, the last of the sizes repeated.
+    /// Answer the query over the indexes page by page. The sizes are in captures, and the last size is repeated.
     Pages {
         sizes: Vec<u64>,
         query: String,

@@ -1,4 +1,4 @@
-//! What the words of a command line ask for.
+//! Reading the arguments of a command line.
 ghost use Rattle.std.specs.Prelude.{◌≡◌, IfOk, IfErr, true, false, Err, Some, [], ◌∷◌, string_bytes, take};
 ghost use Rattle.std.specs.List.{list_any};
 ghost use Rattle.std.specs.Option.{IfSome, ok_or};
@@ -17,19 +17,20 @@ use clap::error::ErrorKind;
 use clap::{ArgMatches, Error};
 use std::alloc::{AllocError, Global};
 
-/// What the words after the program's name ask for. No words at all are `list -`.
+/// Reads the arguments after the program's name. No arguments at all mean `list -`.
 ///
-/// `-h` and `--help` ask for help: as the first word for the program's, after a command for the command's, whatever the
-/// number of its words. `--types` is an option of `index` and of `scan` alone, and stands directly after the command.
+/// `-h` and `--help` ask for help: as the first argument for the program's help, after a command for the command's
+/// help, whatever the number of its arguments. `--types` is an option of `index` and `scan` only, and stands directly
+/// after the command.
 ///
 /// # Errors
 ///
-/// - `Help` where help is asked for.
-/// - `Usage` for another word that begins with `-` and goes on, wherever it stands; else for a first word that is no
-///   command, for a wrong number of words, for an offset that isn't 1 to 19 digits below 2^63, for sizes that aren't 1 to
-///   1,000 numbers from 1 to 1,000,000, each in at most 7 digits, with commas between, and for types that `Types::read`
-///   doesn't take.
-/// - `Memory` where a growth was refused.
+/// - `Help` if help is asked for.
+/// - `Usage` for another argument that begins with `-`, except `-` alone, wherever it stands. Otherwise for a first
+///   argument that isn't a command, for a wrong number of arguments, for an offset that isn't 1 to 19 digits below
+///   2^63, for sizes that aren't 1 to 1,000 numbers from 1 to 1,000,000, each of at most 7 digits, separated by commas,
+///   and for types that `Types::read` doesn't accept.
+/// - `Memory` if memory could not be allocated.
 pub fn read_words(alloc: Global, words: &[String]) -> Result<Task, WordsFault>
     ensures { Answers (asked (texts words.now)) result }
 {
@@ -49,7 +50,7 @@ pub fn read_words(alloc: Global, words: &[String]) -> Result<Task, WordsFault>
     }
 }
 
-/// clap's answer to words with no option but a choice of types.
+/// Returns clap's result for arguments without options, except a choice of types.
 fn matches_of<'a>(alloc: Global, words: &'a [String]) -> Result<ArgMatches<'a>, Error>
     requires known { list_any is_unknown_option (other_words (texts words.now)) ≡ false }
     requires plain { list_any asks_for_help (other_words (texts words.now)) ≡ false }
@@ -63,7 +64,8 @@ fn matches_of<'a>(alloc: Global, words: &'a [String]) -> Result<ArgMatches<'a>, 
     command_line(alloc)?.try_get_matches_from(words)
 }
 
-/// What clap says of the first word beside one that asks for help. Of all the words it could refuse one too many first.
+/// Returns clap's result for the first argument and the one that asks for help. Given all arguments, clap could first
+/// refuse one too many.
 fn help_fault(alloc: Global, words: &[String], help: &String) -> WordsFault
     requires known { list_any is_unknown_option (take 1 (texts words.now)) ≡ false }
     requires asks { asks_for_help (string_bytes help.now) ≡ true }
@@ -87,7 +89,7 @@ fn help_error(alloc: Global, first: &str, help: &str) -> Error
     }
 }
 
-/// What clap says of words that it refuses.
+/// Returns the fault for clap's error, with its text.
 fn fault_of(alloc: Global, error: &Error) -> WordsFault
     ensures { IfSome (refusal_of result) (λ refusal. refusal_for (kind_of error.now) ≡ Some refusal) }
 {
@@ -101,7 +103,7 @@ fn fault_of(alloc: Global, error: &Error) -> WordsFault
     }
 }
 
-/// clap's own text would advise `-- -x`, which is refused too.
+/// Returns the usage error for an unknown option. clap's own text would suggest `-- -x`, which is refused too.
 fn unexpected(alloc: Global, option: &str) -> WordsFault
     ensures { IsUsage result }
 {
@@ -121,7 +123,8 @@ fn tip_for(option: &str) -> &'static str {
     }
 }
 
-/// clap takes any word for types, for sizes and for an offset; the texts are in its style.
+/// Returns the usage error for types, sizes or an offset. clap accepts any argument for them; the texts are in its
+/// style.
 fn no_task(alloc: Global, matches: &ArgMatches) -> WordsFault
     ensures { IsUsage result }
 {

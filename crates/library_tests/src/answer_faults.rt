@@ -5,7 +5,7 @@ use query_core::{AnswerFault, Query, SliceSource, answer, pages, serve};
 use std::alloc::Global;
 use std::test::Fail;
 
-/// A growth was refused.
+/// Memory could not be allocated.
 #[derive(Debug, Drop)]
 enum Refused {
     Memory,
@@ -14,7 +14,8 @@ enum Refused {
 const INDEX: &[u8] =
     b"a)/ 20160101000000 {\"offset\": 0, \"filename\": \"a\"}\nb)/ 20160101000000 {\"offset\": 1, \"filename\": \"a\"}\nb)/ 20160101000001 {\"offset\": 3, \"filename\": \"a\"}\nc)/ 20160101000000 {\"offset\": 2, \"filename\": \"a\"}\n";
 
-/// The first capture of each key. All its growths, reads and writes are those of a query that collapses nothing, and some more.
+/// Asks for the first capture of each key. It makes all the allocations, reads and writes of a query that collapses
+/// nothing, and some more.
 const QUERY: &str = "key=&matchType=prefix&output=json&fl=urlkey,offset&collapse=urlkey";
 
 /// The page of the query over the index.
@@ -29,7 +30,7 @@ const REPLY: &[u8] =
 const PAGES: &[u8] =
     b"[[\"urlkey\",\"offset\"],\n[\"a)/\",\"0\"],\n[\"b)/\",\"1\"],\n[],\n[\"b%29%2F+20160101000000+a+1\"]]\n[[\"urlkey\",\"offset\"],\n[\"c)/\",\"2\"]]\n";
 
-/// What writes a page, pages of two captures, or a reply.
+/// Calls that write a page, pages of two captures, or a reply.
 #[derive(Clone, Copy)]
 enum Call {
     Answer,
@@ -37,7 +38,7 @@ enum Call {
     Serve,
 }
 
-/// Calls, and how many bytes the source and the output move at once.
+/// Calls, and how many bytes the source and the output transfer at once.
 const CALLS: &[(Call, usize)] = &[
     (Call::Answer, 1),
     (Call::Answer, 2),
@@ -50,7 +51,7 @@ const CALLS: &[(Call, usize)] = &[
     (Call::Serve, 8192),
 ];
 
-/// What is to be written.
+/// Returns what is to be written.
 fn wanted(call: Call) -> &'static [u8] {
     match call {
         Call::Answer => PAGE,
@@ -59,7 +60,7 @@ fn wanted(call: Call) -> &'static [u8] {
     }
 }
 
-/// What is to be written where the source fails: no end of the last page.
+/// Returns what is to be written if the source fails: all but the end of the last page.
 fn unended(call: Call) -> &'static [u8] {
     match call {
         Call::Answer | Call::Serve => without_end(PAGE),
@@ -67,7 +68,7 @@ fn unended(call: Call) -> &'static [u8] {
     }
 }
 
-/// The number of captures in the page, of pages, or of replies.
+/// Makes the call. Returns the number of captures in the page, of pages, or of replies.
 fn called(
     alloc: Global,
     call: Call,
@@ -82,7 +83,7 @@ fn called(
     }
 }
 
-/// What a call did over a source and an output that move so many bytes at once.
+/// The result of a call over a source and an output that transfer this many bytes at once.
 #[derive(Drop)]
 struct Ended {
     answer: Result<u64, AnswerFault>,
@@ -90,7 +91,8 @@ struct Ended {
     out: Fuse<Gather>,
 }
 
-/// The source fails at its call `read`, the output at its call `write`; 0 is never. A refused growth is an error.
+/// Makes the call. The source fails at its call `read`, and the output at its call `write`; 0 means never. A failed
+/// allocation is an error.
 fn run(alloc: Global, call: Call, piece: usize, read: u64, write: u64) -> Result<Ended, Refused> {
     let Ok(query) = Query::read(alloc, QUERY) else {
         return Err(Refused::Memory);
@@ -110,22 +112,22 @@ fn run(alloc: Global, call: Call, piece: usize, read: u64, write: u64) -> Result
     })
 }
 
-/// Whether all was written.
+/// Returns whether everything was written.
 fn is_whole(call: Call, ended: &Ended) -> bool {
     ended.answer.is_ok() && ended.out.device.bytes() == wanted(call)
 }
 
-/// The text without the end of its last page, which has two bytes.
+/// Returns the text without the end of its last page, which has two bytes.
 fn without_end(text: &'static [u8]) -> &'static [u8] {
     text.get(..text.len().saturating_sub(2)).unwrap_or(text)
 }
 
-/// Whether the call ended by a failed read, before the end of the last page.
+/// Returns whether the call ended with a failed read, before the end of the last page.
 fn ends_unread(call: Call, ended: &Ended) -> bool {
     ended.answer == Err(AnswerFault::Read(0)) && unended(call).starts_with(ended.out.device.bytes())
 }
 
-/// The first failed read that doesn't end the call so.
+/// Returns the first failed read that doesn't end the call with this error.
 fn read_let_through(alloc: Global, call: Call, piece: usize) -> Result<Option<u64>, Refused> {
     let whole = run(alloc, call, piece, 0, 0)?;
     for read in 1..whole.reads.saturating_add(1) {
@@ -145,7 +147,8 @@ fn a_page_has_no_end_after_a_failed_read(rt: HostRuntime) -> Result<(), Fail> {
     Ok(())
 }
 
-/// Whether the call ended by this failed write, before all was written; by one byte a call as many bytes were as calls before.
+/// Returns whether the call ended with this failed write, before everything was written. At one byte a call, as many
+/// bytes were written as there were calls before.
 fn ends_unwritten(call: Call, piece: usize, write: u64, ended: &Ended) -> bool {
     let written = ended.out.device.bytes();
     ended.answer == Err(AnswerFault::Write)
@@ -154,7 +157,7 @@ fn ends_unwritten(call: Call, piece: usize, write: u64, ended: &Ended) -> bool {
         && (piece > 1 || written.len() as u64 + 1 == write)
 }
 
-/// The first failed write that doesn't end the call so.
+/// Returns the first failed write that doesn't end the call with this error.
 fn write_let_through(alloc: Global, call: Call, piece: usize) -> Result<Option<u64>, Refused> {
     let whole = run(alloc, call, piece, 0, 0)?;
     for write in 1..whole.out.calls.saturating_add(1) {
@@ -189,7 +192,7 @@ const AT_FAULT: &[(&[u8], AnswerFault)] = &[
     ),
 ];
 
-/// Whether the page over this text ends so, and has no end.
+/// Returns whether the page over this text ends with this fault, and has no end.
 fn ends_open(alloc: Global, text: &[u8], fault: AnswerFault) -> Result<bool, Fail> {
     let query = Query::read(alloc, QUERY)?;
     let mut sources = [SliceSource::new(text)];

@@ -9,7 +9,7 @@ use std::alloc::Global;
 use std::rt::Runtime;
 use std::test::Fail;
 
-/// A query over indexes, the page that answers it, how many captures that has, and whether more follow.
+/// A query over indexes, the page that answers it, the number of its captures, and whether more follow.
 struct Case {
     indexes: &'static [Rows],
     query: &'static str,
@@ -164,7 +164,7 @@ const CASES: &[Case] = &[
     },
 ];
 
-/// Whether the sources answer so.
+/// Returns whether the sources give this answer.
 fn answers<S: Source>(alloc: Global, sources: &mut [S], case: &Case) -> Result<bool, Fail> {
     let query = Query::read(alloc, case.query)?;
     let mut out = Gather::new(alloc);
@@ -198,7 +198,8 @@ const PAGE: &[u8] =
 const IMAGE: &[u8] =
     b"com,example)/ 20160101000000 {\"url\": \"http://x/\", \"mime\": \"image/png\", \"status\": \"200\", \"digest\": \"-\", \"length\": \"1\", \"offset\": \"0\", \"filename\": \"a.warc\"}\n";
 
-/// Of another tool: with a number for its status, and a member more. Its file name has a space, and it has no line feed.
+/// A line of another tool. Its status is a number, and it has one more member. Its file name has a space, and no line
+/// feed follows.
 const FOREIGN: &[u8] =
     b"com,example)/ 20140103030321 {\"url\": \"http://example.com/\", \"mime\": \"text/html\", \"status\": 200, \"digest\": \"B2LTWWPUOYAH7UIPQ7ZUPQ4VMBSVC36A\", \"length\": \"1043\", \"offset\": \"333\", \"filename\": \"example b.warc\", \"source\": \"x\"}";
 
@@ -225,7 +226,7 @@ const TEXTS: &[(&[u8], &[u8], &str, &[u8])] = &[
     ),
 ];
 
-/// The page of a query over these texts.
+/// Returns the page of a query over these texts.
 fn page(alloc: Global, texts: [&[u8]; 2], text: &str) -> Result<Gather, Fail> {
     let query = Query::read(alloc, text)?;
     let mut sources = [SliceSource::new(texts[0]), SliceSource::new(texts[1])];
@@ -245,13 +246,13 @@ fn the_first_line_of_a_place_counts_before_filters_do(rt: HostRuntime) -> Result
     Ok(())
 }
 
-/// What is reported of a query over these sources.
+/// Returns the report of a query over these sources.
 fn report<S: Source>(alloc: Global, sources: &mut [S], text: &str) -> Result<Report, Fail> {
     let query = Query::read(alloc, text)?;
     Ok(in_memory(answer(alloc, sources, &query, &mut Gather::new(alloc)))?)
 }
 
-/// Queries over the letters, and how many lines are given, and at most read.
+/// Queries over the letters, the number of lines in the answer, and the greatest number of lines read.
 const READ_OF_LETTERS: &[(&str, u64, u64)] = &[
     ("key=a)/&fl=offset", 1, 2),
     ("key=c)/&fl=offset", 1, 2),
@@ -286,7 +287,7 @@ fn one_line_of_each_index_is_held_and_those_of_one_pair(rt: HostRuntime) -> Resu
     Ok(())
 }
 
-/// A thousand lines, one each second from the first of 2016 by number.
+/// Returns a thousand lines, whose stamps rise by one from the first of 2016.
 pub fn thousand_lines(alloc: Global) -> Result<Vec<u8>, Fail> {
     let mut text = Vec::new(alloc);
     for number in 0..1_000 {
@@ -320,7 +321,7 @@ fn what_stands_before_a_resume_key_is_not_read(rt: HostRuntime) -> Result<(), Fa
     Ok(())
 }
 
-/// Whether so many empty indexes are too many; then nothing is written.
+/// Returns whether this many empty indexes are too many. Nothing is written then.
 fn are_too_many(alloc: Global, count: usize) -> Result<bool, Fail> {
     let query = Query::read(alloc, "url=example.com&output=json")?;
     let mut sources = empty_sources(alloc, count)?;

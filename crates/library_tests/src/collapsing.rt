@@ -6,7 +6,7 @@ use query_core::{Query, SliceSource, answer, pages};
 use std::alloc::Global;
 use std::test::Fail;
 
-/// Two captures of one day and one of the next, and one of that day with another key.
+/// Two captures of one day, one of the next, and one of that day with another key.
 const DAYS: Rows = &[
     ("com,example)/", FIRST_OF_2016, "a.warc", 0),
     ("com,example)/", "20160101120000", "a.warc", 1),
@@ -14,7 +14,7 @@ const DAYS: Rows = &[
     ("com,example)/b", "20160102000000", "a.warc", 3),
 ];
 
-/// What queries go on with, and what is given of the days.
+/// The rest of queries, and what they write for the days.
 const COLLAPSED: &[(&str, &str)] = &[
     ("collapse=urlkey", "0\n3\n"),
     ("collapse=timestamp:8", "0\n2\n"),
@@ -52,7 +52,7 @@ const COLLAPSED: &[(&str, &str)] = &[
     ("collapse=urlkey&limit=2&showResumeKey=true", "0\n3\n"),
 ];
 
-/// The page of a query over an index.
+/// Returns the page of a query over an index.
 fn page(alloc: Global, index: &[u8], text: &str) -> Result<Gather, Fail> {
     let query = Query::read(alloc, text)?;
     let mut out = Gather::new(alloc);
@@ -93,7 +93,7 @@ fn a_page_goes_on_with_another_part(rt: HostRuntime) -> Result<(), Fail> {
     Ok(())
 }
 
-/// The rows of pages, without their resume keys.
+/// Returns the rows of pages, without their resume keys.
 fn rows(alloc: Global, pages: &[u8]) -> Result<String, Fail> {
     let mut rows = String::new(alloc);
     for line in str::from_utf8(pages)?.split('\n') {
@@ -108,10 +108,10 @@ fn rows(alloc: Global, pages: &[u8]) -> Result<String, Fail> {
 /// One capture of each ten seconds.
 const BY_TEN_SECONDS: &str = "url=example.com&fl=offset&collapse=timestamp:13";
 
-/// Sizes of pages, and how many pages there are.
+/// Sizes of pages, and the number of pages.
 const SIZES: &[(u64, u64)] = &[(1, 100), (2, 50), (7, 15), (1_000, 1)];
 
-/// Whether the pages of this size are so many, and have the captures of one page of all.
+/// Returns whether there are this many pages of this size, and whether they have the captures of one page of all.
 fn are_alike(alloc: Global, index: &[u8], size: u64, wanted: u64) -> Result<bool, Fail> {
     let query = Query::read(alloc, BY_TEN_SECONDS)?;
     let mut out = Gather::new(alloc);

@@ -10,7 +10,8 @@ const FALLING: Rows = &[
     ("a)/", FIRST_OF_2016, "a.warc", 0),
 ];
 
-/// How many lines an input has, and the replies to them. It is read in pieces of so many bytes, and fails at this call.
+/// Returns the number of lines of an input, and the replies to them. The input is read in pieces of this many bytes,
+/// and fails at this call.
 fn replies(
     alloc: Global,
     indexes: &[Rows],
@@ -40,7 +41,8 @@ fn each_line_has_a_reply(rt: HostRuntime) -> Result<(), Fail> {
     Ok(())
 }
 
-/// A line over the limit of a query, one that is no text, an empty one, one at the limit, and one whose index isn't in order.
+/// A line over the limit of a query, one that isn't text, an empty one, one at the limit, and one whose index isn't in
+/// order.
 #[test]
 fn lines_are_refused_by_name(rt: HostRuntime) -> Result<(), Fail> {
     let alloc = rt.alloc();

@@ -1,4 +1,4 @@
-//! Inputs and outputs: what no clause says, and values worked out by hand.
+//! Inputs and outputs: what no clause states, and values worked out by hand.
 use devices::{
     DeviceFault, FromRead, FromWrite, Fuse, Gather, Input, InputLines, Output, Slice, put,
 };
@@ -18,7 +18,7 @@ fn reads_memory(rt: HostRuntime) -> Result<(), Fail> {
     Ok(())
 }
 
-/// Of the fourth line, which is longer, the first five bytes are held.
+/// Of the fourth line, which is longer, only the first five bytes are held.
 #[test]
 fn reads_lines(rt: HostRuntime) -> Result<(), Fail> {
     let lines = [
@@ -65,7 +65,7 @@ fn writes_all_or_a_prefix(rt: HostRuntime) -> Result<(), Fail> {
     Ok(())
 }
 
-/// A fuse blows once, without touching its device, and the device goes on.
+/// A fuse fails once, without calling its device. Later calls reach the device.
 #[test]
 fn fails_at_one_call(rt: HostRuntime) -> Result<(), Fail> {
     let mut input = Fuse::new(Slice::new(b"abcde"), 2, 2);
@@ -79,7 +79,7 @@ fn fails_at_one_call(rt: HostRuntime) -> Result<(), Fail> {
     Ok(())
 }
 
-/// A writer that takes nothing, or says that it failed.
+/// A writer that accepts nothing, or reports a failure.
 #[derive(Drop)]
 struct Full {
     says_so: bool,

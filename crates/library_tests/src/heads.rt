@@ -3,7 +3,7 @@ mod dates;
 use std::alloc::Global;
 use warc_head::{HeadFault, Kind, Parts, read_parts};
 
-/// The head of these lines.
+/// Reads the head of these lines.
 fn read(alloc: Global, lines: &[&str]) -> Result<Parts, HeadFault> {
     let mut raw = Vec::new(alloc);
     raw.extend_from_slice(b"WARC/1.1\r\n")?;
@@ -14,12 +14,12 @@ fn read(alloc: Global, lines: &[&str]) -> Result<Parts, HeadFault> {
     read_parts(alloc, raw.as_slice())
 }
 
-/// The head of the four mandatory fields and these lines.
+/// Reads the head of the four mandatory fields and these lines.
 fn read_more(alloc: Global, lines: &str) -> Result<Parts, HeadFault> {
     read(alloc, &[MANDATORY, lines])
 }
 
-/// Why a head is refused. Memory is an error of the test's.
+/// Returns why a head is refused. Failed allocations are errors of the test.
 fn refusal(head: Result<Parts, HeadFault>) -> Result<Option<HeadFault>, HeadFault> {
     match head {
         Ok(_parts) => Ok(None),

@@ -1,11 +1,11 @@
-//! Calls on indexes whose sources, input or output fail at each of their calls in turn, and go on behind it.
+//! Calls on indexes whose sources, input or output fail at each of their calls in turn, and work again afterwards.
 use crate::small_indexes::{OFFSET_5, OFFSET_10, OFFSET_20, RISEN};
 use devices::{Fuse, Gather, Slice};
 use query_core::{AnswerFault, Query, SliceSource, answer, check, merge, pages, serve};
 use std::alloc::Global;
 use std::test::Fail;
 
-/// Three queries, the last line without its line feed.
+/// Three queries, the last line without a line feed.
 const QUERIES: &[u8] = b"url=example.com&fl=offset\nlimit=0\nkey=x";
 
 /// The replies to the first of them, to the first two, and to all.
@@ -15,7 +15,7 @@ const TWO_REPLIES: &[u8] = b"5\n20\n10\n.\nrefused BadLimit\n.\n";
 
 const REPLIES: &[u8] = b"5\n20\n10\n.\nrefused BadLimit\n.\n.\n";
 
-/// A growth was refused.
+/// Memory could not be allocated.
 #[derive(Debug, Drop)]
 enum Refused {
     Memory,
@@ -30,8 +30,8 @@ enum Call {
     Serve(&'static [u8]),
 }
 
-/// A call, what it writes, and how many first bytes of that stand written at most where a source failed. All captures have one pair, so the
-/// last read comes before the first row of a page, behind its start.
+/// A call, what it writes, and how many bytes of that are written at most if a source failed. All captures have one
+/// pair, so the last read comes before the first row of a page, and after its start.
 struct Row {
     call: Call,
     text: &'static [u8],
@@ -80,12 +80,13 @@ const ROWS: &[Row] = &[
 
 type Failing = Fuse<Fuse<SliceSource<'static>>>;
 
-/// A source that gives 64 bytes a call. Its call `first` fails, and the `second` of those that didn't fail so; 0 is none.
+/// Returns a source that gives 64 bytes a call. Its call `first` fails, and of its other calls the call `second`; 0
+/// means none.
 fn failing(text: &'static [u8], first: u64, second: u64) -> Failing {
     Fuse::new(Fuse::new(SliceSource::new(text), 64, second), 64, first)
 }
 
-/// Sources over the three indexes, of which that with this number fails.
+/// Returns sources over the three indexes, of which the one with this number fails.
 fn sources(number: usize, first: u64, second: u64) -> [Failing; 3] {
     let at = |i: usize, call: u64| if i == number { call } else { 0 };
     [
@@ -125,8 +126,8 @@ fn called(
     Ok(())
 }
 
-/// What a call came to over an output that takes a byte a call and fails at this one: the fault, and whether the written bytes are the
-/// first so many of the row's text, or fewer.
+/// Makes a call over an output that takes one byte a call and fails at this call. Returns the fault, and how many bytes
+/// were written if they are a prefix of the row's text.
 fn ended(
     alloc: Global,
     row: &Row,
@@ -145,20 +146,20 @@ fn ended(
     Ok((answer, is_front.then_some(written.len())))
 }
 
-/// Whether all was written.
+/// Returns whether everything was written.
 fn is_whole(alloc: Global, row: &Row) -> Result<bool, Refused> {
     let (answer, written) = ended(alloc, row, &mut sources(0, 0, 0), 0)?;
     Ok(answer == Ok(()) && written == Some(row.text.len()))
 }
 
-/// How many calls each source has where none fails.
+/// Returns how many calls each source has if none fails.
 fn calls_of(alloc: Global, row: &Row) -> Result<[u64; 3], Refused> {
     let mut sources = sources(0, 0, 0);
     let _ended = ended(alloc, row, &mut sources, 0)?;
     Ok([sources[0].calls, sources[1].calls, sources[2].calls])
 }
 
-/// Whether so many first bytes can stand written where a source failed.
+/// Returns whether this many bytes can be written if a source failed.
 fn is_unended(row: &Row, written: Option<usize>) -> bool {
     match written {
         Some(count) => count <= row.before_reads,
@@ -166,14 +167,14 @@ fn is_unended(row: &Row, written: Option<usize>) -> bool {
     }
 }
 
-/// Whether the call ends where this call of a source fails.
+/// Returns whether the call ends if this call of a source fails.
 fn ends_unread(alloc: Global, row: &Row, number: usize, read: u64) -> Result<bool, Refused> {
     let (answer, written) = ended(alloc, row, &mut sources(number, read, 0), 0)?;
     Ok(answer == Err(AnswerFault::Read(number)) && is_unended(row, written))
 }
 
-/// Whether the calls that follow a failure of the source go on as if none had been, until the source fails again two calls behind the
-/// first, and then write all.
+/// Returns whether the calls after a failure of the source continue as if it hadn't failed, until the source fails
+/// again two calls after the first failure, and then write everything.
 fn goes_on(alloc: Global, row: &Row, number: usize, read: u64) -> Result<bool, Refused> {
     let mut sources = sources(number, read, read.saturating_add(1));
     let mut has_failed = false;
@@ -190,7 +191,7 @@ fn goes_on(alloc: Global, row: &Row, number: usize, read: u64) -> Result<bool, R
     Ok(false)
 }
 
-/// The first source and its first call that fails and doesn't end the call so.
+/// Returns the first source, and its first call, that fails and doesn't end the call.
 fn read_let_through(alloc: Global, row: &Row) -> Result<Option<(usize, u64)>, Refused> {
     for (number, calls) in calls_of(alloc, row)?.iter().enumerate() {
         for read in 1..calls.saturating_add(1) {
@@ -211,7 +212,7 @@ fn a_call_ends_at_a_failed_read_of_any_index(rt: HostRuntime) -> Result<(), Fail
     Ok(())
 }
 
-/// The first write that fails and doesn't end the call, with as many bytes written as writes before.
+/// Returns the first write that fails and doesn't end the call with as many bytes written as there were writes before.
 fn write_let_through(alloc: Global, row: &Row) -> Result<Option<usize>, Refused> {
     for before in 0..row.text.len() {
         let write = before as u64 + 1;
@@ -231,8 +232,8 @@ fn a_call_ends_at_a_failed_write(rt: HostRuntime) -> Result<(), Fail> {
     Ok(())
 }
 
-/// The answer where a read of the lines fails, and what is written: the replies to the lines that were read whole. There are 39 bytes; the
-/// read behind them ends the last line, and the one after it finds no further line.
+/// Returns the result if a read of the lines fails, and what is written: the replies to the lines that were read whole.
+/// There are 39 bytes. The read after them ends the last line, and the next one finds no further line.
 fn served_to(read: u64) -> (Result<u64, AnswerFault>, &'static [u8]) {
     match read {
         1..=26 => (Err(AnswerFault::Input), b""),
@@ -243,7 +244,7 @@ fn served_to(read: u64) -> (Result<u64, AnswerFault>, &'static [u8]) {
     }
 }
 
-/// Whether a conversation ends so whose input gives a byte a call and fails at this one.
+/// Returns whether a conversation ends in this way if its input gives one byte a call and fails at this call.
 fn is_served_to(alloc: Global, read: u64) -> Result<bool, Refused> {
     let mut input = Fuse::new(Slice::new(QUERIES), 1, read);
     let mut out = Gather::new(alloc);
@@ -262,7 +263,8 @@ fn a_conversation_ends_at_a_failed_read_of_its_lines(rt: HostRuntime) -> Result<
     Ok(())
 }
 
-/// Whether the check of an index that fails at this call and at the next one fails twice, and then counts its line.
+/// Returns whether the check of an index that fails at this call and at the next one fails twice, and then counts its
+/// line.
 fn is_checked_again(alloc: Global, read: u64) -> Result<bool, Refused> {
     let mut source = failing(OFFSET_5, read, read);
     for wanted in [Err(AnswerFault::Read(0)), Err(AnswerFault::Read(0)), Ok(1)] {

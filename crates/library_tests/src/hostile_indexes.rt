@@ -1,4 +1,4 @@
-//! Indexes of any bytes: torn, overlong, falling and no text at all.
+//! Indexes of arbitrary bytes: cut off, too long, out of order, or not text.
 use devices::{Gather, Slice};
 use query_core::{
     AnswerFault, FileSource, Query, SliceSource, Source, answer, check, merge, serve,
@@ -7,7 +7,7 @@ use std::alloc::{AllocError, Global};
 use std::fs::{self, File};
 use std::test::Fail;
 
-/// A growth was refused.
+/// Memory could not be allocated.
 #[derive(Debug, Drop)]
 enum Refused {
     Memory,
@@ -19,7 +19,8 @@ impl From<AllocError> for Refused {
     }
 }
 
-/// A good line of 50 bytes, and one behind it that has no entry: because of its bytes, its pair, its object, its file name or its offset.
+/// A good line of 50 bytes, and a line after it that has no entry because of its bytes, its pair, its object, its file
+/// name or its offset.
 const BAD_LINES: &[&[u8]] = &[
     b"a)/ 20160101000000 {\"offset\": 0, \"filename\": \"a\"}\nb\xff)/ 20160101000000 {\"offset\": 1, \"filename\": \"a\"}\n",
     b"a)/ 20160101000000 {\"offset\": 0, \"filename\": \"a\"}\nb)/ 20160101000000 {\"offset\": 1, \"filename\": \"a\", \"url\": \"\xc3(\"}\n",
@@ -53,11 +54,11 @@ const ODD_LINES: &[&[u8]] = &[
     b"a)/ 00000000000000 {\"offset\": 9223372036854775807, \"filename\": \"\\u0000\"}",
 ];
 
-/// An index of a whole line, of 145 bytes, and the first 100 bytes of another.
+/// An index of a whole line of 145 bytes, and the first 100 bytes of another line.
 const TORN: &[u8] =
     b"a)/ 20160101000000 {\"url\": \"http://x/\", \"mime\": \"text/html\", \"status\": \"200\", \"digest\": \"-\", \"length\": \"1\", \"offset\": \"0\", \"filename\": \"a.warc\"}\nb)/ 20160101000000 {\"url\": \"http://x/\", \"mime\": \"text/html\", \"status\": \"200\", \"digest\": \"-\", \"length";
 
-/// What a check answers; a refused growth is an error.
+/// Returns the result of a check. A failed allocation is an error.
 fn checked<S: Source>(alloc: Global, source: &mut S) -> Result<Result<u64, AnswerFault>, Refused> {
     match check(alloc, source) {
         Err(AnswerFault::Memory) => Err(Refused::Memory),
@@ -65,7 +66,7 @@ fn checked<S: Source>(alloc: Global, source: &mut S) -> Result<Result<u64, Answe
     }
 }
 
-/// What a merge answers, and how many bytes it writes.
+/// Returns the result of a merge, and the number of bytes it writes.
 fn merged<S: Source>(
     alloc: Global,
     sources: &mut [S],
@@ -77,7 +78,7 @@ fn merged<S: Source>(
     }
 }
 
-/// What a query answers, the number of captures where it does, and what it writes.
+/// Returns the result of a query, which is the number of captures if it succeeds, and what it writes.
 fn answered<S: Source>(
     alloc: Global,
     sources: &mut [S],
@@ -94,7 +95,7 @@ fn answered<S: Source>(
     }
 }
 
-/// Whether the query has this answer, and writes nothing.
+/// Returns whether the query has this result, and writes nothing.
 fn answers_empty(
     alloc: Global,
     text: &[u8],
@@ -107,7 +108,8 @@ fn answers_empty(
 
 const ALL: &str = "key=&matchType=prefix";
 
-/// Whether the line at this offset is bad to a check, to a merge and to a query of all lines, before anything is written.
+/// Returns whether a check, a merge and a query of all lines report the line at this offset as bad, before anything is
+/// written.
 fn is_bad_at(alloc: Global, text: &[u8], offset: u64) -> Result<bool, Refused> {
     let fault = Err(AnswerFault::BadLine(0, offset));
     Ok(
@@ -117,7 +119,7 @@ fn is_bad_at(alloc: Global, text: &[u8], offset: u64) -> Result<bool, Refused> {
     )
 }
 
-/// Whether the text is an index of one line, which a merge writes with a line feed.
+/// Returns whether the text is an index of one line, which a merge writes with a line feed.
 fn is_one_line(alloc: Global, text: &[u8]) -> Result<bool, Refused> {
     let ended = text.len() + usize::from(!text.ends_with(b"\n"));
     Ok(
@@ -137,7 +139,8 @@ fn lines_without_an_entry_are_bad_wherever_they_are_read(rt: HostRuntime) -> Res
     Ok(())
 }
 
-/// The replies to a query of all lines, as JSON, and to a bad one, over an index whose line at 50 is bad: the page has a start and no end.
+/// The replies to a query of all lines, as JSON, and to a bad query, over an index whose line at 50 is bad. The page
+/// has a start and no end.
 const REPLIES_BEFORE_50: &[u8] = b"[[\"offset\"]\nfault BadLine 0 50\n.\nrefused BadLimit\n.\n";
 
 fn is_served_to_bad_line(alloc: Global, text: &[u8]) -> Result<bool, Refused> {
@@ -157,7 +160,7 @@ fn a_bad_line_ends_its_reply_and_no_other(rt: HostRuntime) -> Result<(), Fail> {
     Ok(())
 }
 
-/// Queries of the torn index, and their answers.
+/// Queries of the torn index, and their results.
 const QUERIES_OF_TORN: &[(&str, Result<u64, AnswerFault>)] = &[
     ("key=a)/", Err(AnswerFault::BadLine(0, 145))),
     ("key=b)/", Err(AnswerFault::BadLine(0, 145))),
@@ -173,7 +176,7 @@ fn a_torn_line_is_bad_where_it_is_reached(rt: HostRuntime) -> Result<(), Fail> {
     Ok(())
 }
 
-/// A line of so many bytes with its line feed, if it has one.
+/// Returns a line of this many bytes, including its line feed, if it has one.
 fn long_line(alloc: Global, length: usize, has_feed: bool) -> Result<Vec<u8>, AllocError> {
     let start = b"a)/ 20160101000000 {\"filename\": \"a.warc\", \"offset\": 0, \"url\": \"";
     let mut line = Vec::new(alloc);
@@ -184,7 +187,7 @@ fn long_line(alloc: Global, length: usize, has_feed: bool) -> Result<Vec<u8>, Al
     Ok(line)
 }
 
-/// How many bytes lines have, whether a line feed is among them, and whether they are good.
+/// Lengths of lines in bytes, whether they include a line feed, and whether the lines are good.
 const LENGTHS: &[(usize, bool, bool)] = &[
     (16_777_215, false, true),
     (16_777_216, true, true),
@@ -218,7 +221,7 @@ fn a_line_has_at_most_16_777_216_bytes_with_its_line_feed(rt: HostRuntime) -> Re
     Ok(())
 }
 
-/// A thousand lines, one each second, the last of them first.
+/// Returns a thousand lines, whose stamps fall by one to the first of 2016.
 fn falling_lines(alloc: Global) -> Result<Vec<u8>, AllocError> {
     let mut text = Vec::new(alloc);
     for number in (0..1_000).rev() {
@@ -230,7 +233,7 @@ fn falling_lines(alloc: Global) -> Result<Vec<u8>, AllocError> {
     Ok(text)
 }
 
-/// Of what a query of the falling lines wrote: whether these are offsets that rise from one above this number on.
+/// Returns whether a query of the falling lines wrote offsets that rise, all of them above this number.
 fn are_rising_offsets(written: &[u8], above: i64) -> bool {
     let mut last = above;
     for line in written.split(|byte| *byte == b'\n') {
@@ -248,8 +251,8 @@ fn are_rising_offsets(written: &[u8], above: i64) -> bool {
     true
 }
 
-/// Whether a query of the falling lines returns, after no more turns of the search than their size allows, with offsets that rise above this
-/// number.
+/// Returns whether a query of the falling lines returns, after no more steps of the search than their size allows, with
+/// offsets that rise above this number.
 fn is_answered_in_part(
     alloc: Global,
     text: &[u8],
@@ -305,7 +308,7 @@ fn falling_lines_are_answered_in_part(rt: HostRuntime) -> Result<(), Fail> {
     Ok(())
 }
 
-/// The reply to a line of this byte alone: a name that is none, no text, or nothing.
+/// Returns the reply to a line of this byte alone: an unknown name, not text, or nothing.
 fn reply_to_byte(byte: u8) -> &'static [u8] {
     match byte {
         b'&' | b'\r' | b'\n' => b"refused NoUrl\n.\n",
@@ -336,7 +339,7 @@ fn each_byte_has_its_reply(rt: HostRuntime) -> Result<(), Fail> {
     Ok(())
 }
 
-/// A file is cut within its second line after its source was made.
+/// A file is cut within its second line after its source was created.
 #[test]
 fn a_file_that_was_cut_cannot_be_read(rt: HostRuntime) -> Result<(), Fail> {
     let read = Err(AnswerFault::Read(0));

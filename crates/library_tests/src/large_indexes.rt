@@ -5,7 +5,7 @@ use query_core::{AnswerFault, Query, SliceSource, answer};
 use std::alloc::Global;
 use std::test::Fail;
 
-/// The text of 100,000 lines of different keys.
+/// Returns the text of 100,000 lines with different keys.
 fn index_text(alloc: Global) -> Result<Vec<u8>, Fail> {
     let mut text = Vec::new(alloc);
     for number in 0..100_000 {
@@ -17,7 +17,8 @@ fn index_text(alloc: Global) -> Result<Vec<u8>, Fail> {
     Ok(text)
 }
 
-/// Whether the exact query for the last line gives its offset, and reads two lines at most; and how many bytes are read.
+/// Returns whether the exact query for the last line gives its offset and reads at most two lines, and how many bytes
+/// are read.
 fn last_line(alloc: Global, text: &[u8]) -> Result<(bool, u64), Fail> {
     let query = Query::read(alloc, "key=com,example)/99999&fl=offset")?;
     let mut sources = [SliceSource::new(text)];
@@ -37,7 +38,7 @@ fn an_exact_query_for_the_last_line_reads_little(rt: HostRuntime) -> Result<(), 
     Ok(())
 }
 
-/// How many bytes are read of the text before a page of all its lines fails at its first write.
+/// Returns how many bytes of the text are read before a page of all its lines fails at its first write.
 fn read_for_one_write(alloc: Global, text: &[u8]) -> Result<u64, Fail> {
     let query = Query::read(alloc, "key=&matchType=prefix")?;
     let mut sources = [SliceSource::new(text)];

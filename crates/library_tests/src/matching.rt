@@ -4,8 +4,8 @@ use query_text::Query;
 use std::alloc::Global;
 use std::test::Fail;
 
-/// The numbers of the lines that the query asks for, each with a space before it. What is said of a kept line has to be
-/// the same.
+/// Returns the numbers of the lines that the query selects, each with a space before it. The result for a kept line
+/// must be the same.
 fn selected(alloc: Global, text: &str, lines: &[&[u8]]) -> Result<String, Fail> {
     let query = Query::read(alloc, text)?;
     let mut numbers = String::new(alloc);
@@ -39,7 +39,7 @@ const LETTERS: &[&[u8]] = &[
     b"c)/ 20160101000000 {\"url\": \"http://x/\", \"mime\": \"text/html\", \"status\": \"200\", \"digest\": \"-\", \"length\": \"1\", \"offset\": \"2\", \"filename\": \"a.warc\"}",
 ];
 
-/// Of another tool: with a number for its status, and a member more.
+/// A line of another tool. Its status is a number, and it has one more member.
 const FOREIGN: &[&[u8]] = &[
     b"com,example)/ 20140103030321 {\"url\": \"http://example.com/\", \"mime\": \"text/html\", \"status\": 200, \"digest\": \"B2LTWWPUOYAH7UIPQ7ZUPQ4VMBSVC36A\", \"length\": \"1043\", \"offset\": \"333\", \"filename\": \"example.warc\", \"source\": \"x\"}\n",
 ];

@@ -1,11 +1,11 @@
-//! The merge of sources.
+//! The merging of sources.
 use crate::small_indexes::{OFFSET_5, OFFSET_10, OFFSET_20, RISEN};
 use devices::{Fuse, Gather};
 use query_core::{AnswerFault, SliceSource, merge};
 use std::alloc::{AllocFailed, Global};
 use std::test::Fail;
 
-/// A growth was refused.
+/// Memory could not be allocated.
 #[derive(Debug, Drop)]
 enum Refused {
     Memory,
@@ -35,7 +35,7 @@ const FALLING: &[u8] =
 const TORN: &[u8] =
     b"a)/ 20160101000000 {\"url\": \"http://x/\", \"mime\": \"text/html\", \"status\": \"200\", \"digest\": \"-\", \"length\": \"1\", \"offset\": \"0\", \"filename\": \"a.warc\"}\nb)/ 20160101000000 {\"url\": \"http://x/\", \"mime\": \"text/html\", \"status\": \"200\", \"digest\"";
 
-/// What the merge of these texts answers, and whether it writes this one; a refused growth is an error.
+/// Returns the result of merging these texts, and whether the merge writes this text. A failed allocation is an error.
 fn merged(
     alloc: Global,
     texts: &[&[u8]],
@@ -52,7 +52,7 @@ fn merged(
     }
 }
 
-/// Texts, how many lines their merge has, and these.
+/// Texts, the number of lines of their merge, and these lines.
 const MERGES: &[(&[&[u8]], u64, &[u8])] = &[
     (&[OFFSET_10, OFFSET_20, OFFSET_5], 3, RISEN),
     (&[LETTERS, b""], 3, WHOLE_LETTERS),
@@ -70,7 +70,7 @@ fn lines_are_written_in_the_order_of_places_each_place_once(rt: HostRuntime) -> 
     Ok(())
 }
 
-/// Texts whose merge ends before it writes a line, and its fault.
+/// Texts whose merge ends before it writes a line, and the fault.
 const AT_FAULT: &[(&[&[u8]], AnswerFault)] = &[
     (&[FALLING], AnswerFault::OutOfOrder(0, 145)),
     (&[b"\n"], AnswerFault::BadLine(0, 0)),
@@ -89,7 +89,8 @@ fn a_line_at_fault_ends_the_merge(rt: HostRuntime) -> Result<(), Fail> {
     Ok(())
 }
 
-/// Whether the merge of a source that fails at this call answers so, after a part of the whole text.
+/// Returns whether the merge of a source that fails at this call reports that, after a prefix of the whole text was
+/// written.
 fn fails_in_part(alloc: Global, piece: usize, at: u64) -> Result<bool, Refused> {
     let mut sources = [Fuse::new(SliceSource::new(LETTERS), piece, at)];
     let mut out = Gather::new(alloc);

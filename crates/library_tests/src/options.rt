@@ -1,4 +1,4 @@
-//! What queries say of their pages.
+//! What queries specify about their pages.
 use cdxj_core::{Field, Place};
 use query_text::{Collapse, OutputFormat, Query};
 use std::test::Fail;
@@ -26,7 +26,7 @@ fn a_query_has_its_defaults(rt: HostRuntime) -> Result<(), Fail> {
 
 const TWO_FIELDS: &[Field] = &[Field::Offset, Field::Filename, Field::Offset];
 
-/// Whether the place is that of the resume key.
+/// Returns whether the place is that of the resume key.
 fn is_resume_place(place: Place<'_>) -> bool {
     place.key == "k=1" && place.filename == "a b.warc" && place.offset == 5
 }

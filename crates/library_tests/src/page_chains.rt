@@ -8,7 +8,7 @@ use std::alloc::Global;
 use std::rt::Runtime;
 use std::test::Fail;
 
-/// A query over indexes and sizes, the pages that answer it, and their number.
+/// A query over indexes, sizes, the pages that answer it, and their number.
 struct Case {
     indexes: &'static [Rows],
     query: &'static str,
@@ -69,7 +69,7 @@ const CASES: &[Case] = &[
     },
 ];
 
-/// Whether the sources answer so.
+/// Returns whether the sources give this answer.
 fn answers<S: Source>(alloc: Global, sources: &mut [S], case: &Case) -> Result<bool, Fail> {
     let query = Query::read(alloc, case.query)?;
     let mut out = Gather::new(alloc);
@@ -96,7 +96,7 @@ fn pages_follow_one_another(rt: HostRuntime) -> Result<(), Fail> {
     Ok(())
 }
 
-/// What follows the rows of a page, and the rows.
+/// Returns the rows of a page, and the resume key that follows them, if there is one.
 fn cut_key(page: &str) -> (&str, Option<&str>) {
     match page.split_once("\n\n") {
         Some((rows, key)) => (rows, Some(key.trim_ascii_end())),
@@ -104,7 +104,7 @@ fn cut_key(page: &str) -> (&str, Option<&str>) {
     }
 }
 
-/// Adds the rows of the page after a resume key to those before it, and answers the next key.
+/// Appends the rows of the page after a resume key to those before it, and returns the next key.
 fn step(
     alloc: Global,
     sources: &mut [SliceSource<'_>],
@@ -129,7 +129,7 @@ fn step(
 
 const ALL_ROWS: &str = "a.warc 0\na.warc 5\na.warc 20\nb.warc 10\na.warc 1\na.warc 3\n";
 
-/// The rows of all pages of so many captures, each of which begins at the key that was printed before it.
+/// Returns the rows of all pages of this many captures. Each page begins at the key that was printed before it.
 fn walked(alloc: Global, limit: u64) -> Result<String, Fail> {
     let texts = index_texts(alloc, &[APART[0], APART[1], APART[2], HOSTS])?;
     let mut sources = slices(alloc, &texts)?;
@@ -152,7 +152,7 @@ fn resume_keys_lead_through_all_captures(rt: HostRuntime) -> Result<(), Fail> {
     Ok(())
 }
 
-/// The fault of pages over so many empty indexes, which leaves nothing written.
+/// Returns the fault of pages over this many empty indexes. Nothing is written then.
 fn early_fault(alloc: Global, count: usize, sizes: &[u64]) -> Result<Option<AnswerFault>, Fail> {
     let query = Query::read(alloc, "url=example.com&output=json")?;
     let mut sources = empty_sources(alloc, count)?;
@@ -164,7 +164,7 @@ fn early_fault(alloc: Global, count: usize, sizes: &[u64]) -> Result<Option<Answ
     }
 }
 
-/// Numbers of indexes, sizes, and the fault of the two.
+/// Numbers of indexes, sizes, and the fault for both.
 const EARLY_FAULTS: &[(usize, &[u64], Option<AnswerFault>)] = &[
     (1, &[], Some(AnswerFault::BadSizes)),
     (1, &[0], Some(AnswerFault::BadSizes)),

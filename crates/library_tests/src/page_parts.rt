@@ -34,7 +34,8 @@ const FORMS: &[(PageForm, &str)] = &[
     ),
 ];
 
-/// The page of a line, with the resume key `k+1`, unless memory is refused: the output fails for nothing else.
+/// Returns the page of a line, with the resume key `k+1`, unless memory can't be allocated. The output fails for no
+/// other reason.
 fn page_of(alloc: Global, form: PageForm<'_>, line: &Line) -> Result<Gather, AllocError> {
     let mut out = Gather::new(alloc);
     let mut page = PageOutput::new(alloc, form);
@@ -74,12 +75,12 @@ fn fields_have_names(rt: HostRuntime) {
     }
 }
 
-/// The lines of the letters.
+/// Returns the lines of the letters.
 fn letters(alloc: Global) -> Result<Vec<u8>, Fail> {
     Ok(index_text(alloc, LETTERS)?)
 }
 
-/// The page of the first two letters, and whether it wants a line more after each of the three.
+/// Returns the page of the first two letters, and whether it wants another line after each of the three.
 fn page_of_two(alloc: Global, text: &[u8], query: &Query) -> Result<(Gather, [bool; 3]), Fail> {
     let mut out = Gather::new(alloc);
     let mut writer = PageWriter::begin(alloc, query, None, Some(2), &mut out).map_err(
@@ -109,7 +110,7 @@ fn a_page_is_full_at_its_limit(rt: HostRuntime) -> Result<(), Fail> {
     Ok(())
 }
 
-/// Starts at which two sources are opened, and how many bytes of the letters lie before them.
+/// Pairs at which two sources are opened, and how many bytes of the letters precede them.
 const STARTS: &[(&str, &str, usize)] = &[
     ("", "00000000000000", 0),
     ("a)/", "20160101000000", 0),
@@ -119,7 +120,7 @@ const STARTS: &[(&str, &str, usize)] = &[
     ("z)/", "00000000000000", 435),
 ];
 
-/// What is merged of the text and an empty one from this pair on, and the turns of the search for it.
+/// Returns the merge of the text and an empty one from this pair on, and the number of steps of the search for it.
 fn merged_from(alloc: Global, text: &[u8], key: &str, stamp: &str) -> Result<(Gather, u64), Fail> {
     let mut sources = [SliceSource::new(text), SliceSource::new(b"")];
     let mut opened = Streams::open_at(alloc, &mut sources, key.as_bytes(), stamp.as_bytes(), &All)?;

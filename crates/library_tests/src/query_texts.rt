@@ -1,9 +1,9 @@
-//! Which query texts are refused, and for what.
+//! Which query texts are refused, and why.
 use query_text::{Query, QueryFault};
 use std::alloc::Global;
 use std::test::Fail;
 
-/// What the text is refused for, if it is. Memory is an error of the test's.
+/// Returns why the text is refused, if it is. Failed allocations are errors of the test.
 fn refusal(alloc: Global, text: &str) -> Result<Option<QueryFault>, QueryFault> {
     match Query::read(alloc, text) {
         Ok(_query) => Ok(None),
@@ -221,7 +221,7 @@ const PATTERNS: &[&str] = &[
     "\\", "^", "$", ".", "|", "?", "*", "%2B", "(", ")", "[", "]", "{", "}",
 ];
 
-/// Accepted, though they look like others that are refused.
+/// Texts that are accepted, though they look like others that are refused.
 const ACCEPTED: &[&str] = &[
     "filter=!statuscode:200&url=a",
     "url=a&is=offset:&is=offset:",
@@ -298,7 +298,7 @@ fn texts_are_accepted(rt: HostRuntime) -> Result<(), Fail> {
     Ok(())
 }
 
-/// The text and so many letters after it.
+/// Returns the text, followed by this many letters.
 fn lengthened(alloc: Global, text: &str, letters: usize) -> Result<String, QueryFault> {
     let mut long = String::from_str(alloc, text)?;
     for _ in 0..letters {

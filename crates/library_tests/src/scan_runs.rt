@@ -11,7 +11,7 @@ use warc_core::Cause;
 /// The name of an archive, and its pieces.
 pub type Archive = (&'static str, &'static [&'static [u8]]);
 
-/// Archives, the sizes of pages and a query; what a scan answers, and what it writes.
+/// Archives, the sizes of pages and a query, with the result of a scan and what it writes.
 #[derive(Drop)]
 pub struct Case {
     pub archives: &'static [Archive],
@@ -21,7 +21,7 @@ pub struct Case {
     pub written: &'static [u8],
 }
 
-/// The bytes of archives.
+/// Returns the bytes of archives.
 fn texts(alloc: Global, archives: &[Archive]) -> Result<Vec<Vec<u8>>, AllocError> {
     let mut texts = Vec::new(alloc);
     for (_name, pieces) in archives {
@@ -34,7 +34,8 @@ fn texts(alloc: Global, archives: &[Archive]) -> Result<Vec<Vec<u8>>, AllocError
     Ok(texts)
 }
 
-/// How many bytes each call of an archive's input moves, and of the output; the call of an archive, and of the output, that fails; 0 is none.
+/// How many bytes each call of an archive's input and of the output transfers, and which call of an archive and of the
+/// output fails; 0 means none.
 #[derive(Clone, Copy)]
 pub struct Devices {
     pub read_at_once: usize,
@@ -53,7 +54,7 @@ pub const SOUND: Devices = Devices {
     failing_write: 0,
 };
 
-/// Archives by name.
+/// Returns archives with their names.
 fn inputs<'a>(
     alloc: Global,
     archives: &[Archive],
@@ -75,7 +76,7 @@ fn inputs<'a>(
     Ok(inputs)
 }
 
-/// A growth was refused, and the fault names what it was for or something else.
+/// Memory could not be allocated. The fault names what the memory was for, or something else.
 #[derive(Debug, Drop)]
 pub enum Refused {
     Memory,
@@ -94,8 +95,8 @@ fn is_memory(fault: ScanFault) -> bool {
     }
 }
 
-/// Whether the fault names what is done where so many of the archives were begun: the query before all, an archive once those before it were
-/// begun and none behind it, the pages after all.
+/// Returns whether the fault names what is done while this many of the archives were begun: the query before all, an
+/// archive once those before it were begun and none after it, the pages after all.
 fn is_named_rightly(fault: ScanFault, begun: usize, count: usize) -> bool {
     match fault {
         ScanFault::Query(_fault) => begun == 0,
@@ -104,12 +105,12 @@ fn is_named_rightly(fault: ScanFault, begun: usize, count: usize) -> bool {
     }
 }
 
-/// How many of the archives were read, or asked for bytes.
+/// Returns how many of the archives were read, or asked for bytes.
 fn begun(inputs: &[Named<Fuse<Slice<'_>>>]) -> usize {
     inputs.iter().filter(|named| named.input.calls > 0).count()
 }
 
-/// The answer of a scan of these archives, unless memory was refused.
+/// Returns the result of a scan of these archives, unless memory could not be allocated.
 pub fn with_memory(
     answer: Result<u64, ScanFault>,
     inputs: &[Named<Fuse<Slice<'_>>>],
@@ -126,7 +127,7 @@ pub fn with_memory(
     }
 }
 
-/// What a scan of the case's archives for these types answers, and its output.
+/// Returns the result of a scan of the case's archives for these types, and its output.
 pub fn scanned(
     alloc: Global,
     case: &Case,

@@ -148,7 +148,7 @@ const CASES: &[Case] = &[
     },
 ];
 
-/// Whether the scan answers and writes as the case says.
+/// Returns whether the scan returns and writes what the case states.
 fn is_scanned(alloc: Global, case: &Case, types: Types) -> Result<bool, Fail> {
     let (answer, out) = scanned(alloc, case, types, SOUND)?;
     Ok(answer == case.answer && out.device.bytes() == case.written)
@@ -172,7 +172,7 @@ const METADATA: &[u8] =
 /// Records of three types.
 const MIXED: &[Archive] = &[("m.warc", &[METADATA, RESOURCE]), ("a.warc", &[RESPONSE])];
 
-/// Texts of types, and what a scan for them writes of these archives.
+/// Texts of types, and what a scan of these archives for them writes.
 const CHOSEN: &[(&str, &[u8])] = &[
     ("metadata", b"m.warc 0\n"),
     ("resource,metadata", b"m.warc 0\nm.warc 184\n"),
@@ -180,7 +180,7 @@ const CHOSEN: &[(&str, &[u8])] = &[
     ("conversion,revisit", b""),
 ];
 
-/// Whether a scan for these types writes so.
+/// Returns whether a scan for these types writes this.
 fn finds(alloc: Global, types: &str, written: &'static [u8]) -> Result<bool, Fail> {
     let Some(types) = Types::read(types) else {
         return Ok(false);
@@ -203,7 +203,7 @@ fn scans_find_records_of_chosen_types(rt: HostRuntime) -> Result<(), Fail> {
     Ok(())
 }
 
-/// Whether the scan ends where an archive fails at this call, before anything is written.
+/// Returns whether the scan ends if an archive fails at this call, before anything is written.
 fn ends_unread(alloc: Global, devices: Devices, offset: u64) -> Result<bool, Fail> {
     let (answer, out) = scanned(alloc, &PAGED, Types::usual(), devices)?;
     let fault = CaptureFault::Archive(Fault {
@@ -214,11 +214,12 @@ fn ends_unread(alloc: Global, devices: Devices, offset: u64) -> Result<bool, Fai
     Ok(is_named && out.device.bytes().is_empty())
 }
 
-/// Of an archive by its number: how many calls its input has by one byte each, the last of which finds its end, and by 100 bytes each.
+/// An archive's number, and how many calls its input has: at one byte each, the last of which finds the end, and at 100
+/// bytes each.
 const READS: &[(usize, u64, u64)] = &[(0, 265, 4), (1, 449, 6)];
 
-/// Where the record begins that is read of at a call that comes behind so many bytes: one begins at 0 and one at 264, and the longer archive
-/// ends at 448.
+/// Returns where the record begins that is read at a call after this many bytes. One begins at 0 and one at 264. The
+/// longer archive ends at 448.
 fn record_behind(bytes: u64) -> u64 {
     match bytes {
         0..=263 => 0,
@@ -227,7 +228,8 @@ fn record_behind(bytes: u64) -> u64 {
     }
 }
 
-/// The first call of the archive's input that fails and doesn't end the scan, of so many that move so many bytes each.
+/// Returns the first call of the archive's input that fails and doesn't end the scan. There are this many calls, each
+/// of this many bytes.
 fn read_let_through(
     alloc: Global,
     archive: usize,
@@ -258,7 +260,7 @@ fn scans_say_which_archive_failed(rt: HostRuntime) -> Result<(), Fail> {
     Ok(())
 }
 
-/// An output of one byte a call, of which this call fails.
+/// Returns devices whose output takes one byte a call and fails at this call.
 fn by_one_byte(failing_write: u64) -> Devices {
     Devices {
         written_at_once: 1,
@@ -267,7 +269,8 @@ fn by_one_byte(failing_write: u64) -> Devices {
     }
 }
 
-/// Whether the scan ends where its output fails at this call, of one byte, with as many bytes written as calls before.
+/// Returns whether the scan ends if its output fails at this call of one byte, with as many bytes written as there were
+/// calls before.
 fn ends_unwritten(alloc: Global, write: usize) -> Result<bool, Fail> {
     let (answer, out) = scanned(alloc, &PAGED, Types::usual(), by_one_byte(write as u64))?;
     let is_named = answer == Err(ScanFault::Answer(AnswerFault::Write));
@@ -285,7 +288,7 @@ fn scans_end_where_their_output_fails(rt: HostRuntime) -> Result<(), Fail> {
     Ok(())
 }
 
-/// Archives of one resource each, whose names are numbers.
+/// Returns archives of one resource each, with numbers as names.
 fn numbered(alloc: Global, count: usize) -> Result<Vec<Named<Fuse<Slice<'static>>>>, Fail> {
     let mut inputs = Vec::new(alloc);
     for i in 0..count {
@@ -297,7 +300,7 @@ fn numbered(alloc: Global, count: usize) -> Result<Vec<Named<Fuse<Slice<'static>
     Ok(inputs)
 }
 
-/// What a scan of so many archives answers, and how many bytes it writes, four for each.
+/// Returns the result of a scan of this many archives, and how many bytes it writes, four for each.
 fn scanned_of(alloc: Global, count: usize) -> Result<(Result<u64, ScanFault>, usize), Fail> {
     let mut inputs = numbered(alloc, count)?;
     let mut out = Gather::new(alloc);

@@ -20,14 +20,14 @@ pub const HOSTS: Rows = &[
     ("com,example:8080)/", FIRST_OF_2016, "a.warc", 3),
 ];
 
-/// Three indexes of one line each, which have one key and stamp.
+/// Three indexes of one line each, with the same key and stamp.
 pub const APART: &[Rows] = &[
     &[("com,example)/", FIRST_OF_2016, "b.warc", 10)],
     &[("com,example)/", FIRST_OF_2016, "a.warc", 20)],
     &[("com,example)/", FIRST_OF_2016, "a.warc", 5)],
 ];
 
-/// The lines of three indexes, which have one key and stamp.
+/// The lines of three indexes, with the same key and stamp.
 pub const OFFSET_10: &[u8] =
     b"com,example)/ 20160101000000 {\"url\": \"http://x/\", \"mime\": \"text/html\", \"status\": \"200\", \"digest\": \"-\", \"length\": \"1\", \"offset\": \"10\", \"filename\": \"b.warc\"}\n";
 
@@ -47,7 +47,8 @@ pub const LETTERS: Rows = &[
     ("c)/", FIRST_OF_2016, "a.warc", 2),
 ];
 
-/// The answer of a call that writes into memory. A growth that is refused there is the output's failure; here it is want of memory.
+/// Returns the result of a call that writes into memory. A failed allocation of the output is a write error there; here
+/// it is lack of memory.
 pub fn in_memory<T>(answer: Result<T, AnswerFault>) -> Result<T, AnswerFault> {
     match answer {
         Err(AnswerFault::Write) => Err(AnswerFault::Memory),
@@ -55,7 +56,7 @@ pub fn in_memory<T>(answer: Result<T, AnswerFault>) -> Result<T, AnswerFault> {
     }
 }
 
-/// The text of an index.
+/// Returns the text of an index.
 pub fn index_text(alloc: Global, rows: &[Row]) -> Result<Vec<u8>, AllocError> {
     let mut text = Vec::new(alloc);
     for (key, stamp, filename, offset) in rows {
@@ -83,7 +84,7 @@ pub fn slices(alloc: Global, texts: &[Vec<u8>]) -> Result<Vec<SliceSource<'_>>, 
     Ok(sources)
 }
 
-/// So many sources without a line.
+/// Returns this many sources without a line.
 pub fn empty_sources(alloc: Global, count: usize) -> Result<Vec<SliceSource<'static>>, AllocError> {
     let mut sources = Vec::new(alloc);
     for _ in 0..count {
@@ -92,7 +93,7 @@ pub fn empty_sources(alloc: Global, count: usize) -> Result<Vec<SliceSource<'sta
     Ok(sources)
 }
 
-/// Sources over files that are written anew.
+/// Returns sources over files that are newly written.
 pub fn files<R: Runtime + AllocGlobal>(
     rt: &R,
     texts: &[Vec<u8>],

@@ -1,4 +1,4 @@
-//! The lines of sources: their checking, and the search in them.
+//! The lines of sources: checking them, and searching in them.
 use devices::Fuse;
 use query_core::{AnswerFault, FileSource, SliceSource, Source, check};
 use source_core::{SearchFault, search};
@@ -9,13 +9,13 @@ use std::test::Fail;
 const LETTERS: &[u8] =
     b"a)/ 20160101000000 {\"url\": \"http://x/\", \"mime\": \"text/html\", \"status\": \"200\", \"digest\": \"-\", \"length\": \"1\", \"offset\": \"0\", \"filename\": \"a.warc\"}\nb)/ 20160101000000 {\"url\": \"http://x/\", \"mime\": \"text/html\", \"status\": \"200\", \"digest\": \"-\", \"length\": \"1\", \"offset\": \"1\", \"filename\": \"a.warc\"}\nc)/ 20160101000000 {\"url\": \"http://x/\", \"mime\": \"text/html\", \"status\": \"200\", \"digest\": \"-\", \"length\": \"1\", \"offset\": \"2\", \"filename\": \"a.warc\"}";
 
-/// A growth was refused.
+/// Memory could not be allocated.
 #[derive(Debug, Drop)]
 enum Refused {
     Memory,
 }
 
-/// What the check of a source answers; a refused growth is an error.
+/// Returns the result of checking a source. A failed allocation is an error.
 fn checked<S: Source>(alloc: Global, source: &mut S) -> Result<Result<u64, AnswerFault>, Refused> {
     match check(alloc, source) {
         Err(AnswerFault::Memory) => Err(Refused::Memory),
@@ -57,7 +57,7 @@ fn an_index_is_counted_or_its_first_line_at_fault_is_named(rt: HostRuntime) -> R
     Ok(())
 }
 
-/// Lines of captures, the stamps of which are 20160101000000 and their number.
+/// Returns lines of captures, whose stamps are 20160101000000 plus their numbers.
 fn stamped_lines(alloc: Global, numbers: &[u64]) -> Result<Vec<u8>, Fail> {
     let mut text = Vec::new(alloc);
     for number in numbers {
@@ -76,7 +76,8 @@ fn the_second_of_falling_lines_is_out_of_order(rt: HostRuntime) -> Result<(), Fa
     Ok(())
 }
 
-/// How often a source over these letters is read in pieces of so many bytes: the check fails at each of these calls.
+/// Returns how often a source over these letters is read in pieces of this many bytes. The check fails at each of these
+/// calls.
 fn calls_of_check(alloc: Global, piece: usize) -> Result<u64, Refused> {
     let mut whole = Fuse::new(SliceSource::new(LETTERS), piece, 0);
     let _count = checked(alloc, &mut whole)?;

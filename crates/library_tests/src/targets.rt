@@ -88,7 +88,7 @@ const TARGETS: &[(&[(&str, &str)], MatchKind)] = &[
     (DOMAIN, MatchKind::Domain),
 ];
 
-/// Whether the query has this target.
+/// Returns whether the query has this target.
 fn has_target(
     alloc: Global,
     text: &str,

@@ -19,20 +19,20 @@ use cdxj_core::Line;
 use source_core::{Cursor, Source};
 use std::cmp::Ordering;
 
-/// How far a source was read.
+/// How far a source has been read.
 #[derive(Clone, Copy, Debug, Drop, PartialEq, Eq)]
 pub enum Progress {
-    /// Its next line is to be read.
+    /// Its next line must be read.
     Due,
-    /// Its next line waits.
+    /// Its next line was read and waits.
     Waiting,
     /// A line past the range was read.
     Past,
-    /// It ended.
+    /// The source ended.
     Ended,
 }
 
-/// What is kept beside a source.
+/// A source's cursor and progress.
 #[derive(Drop)]
 pub struct Feed {
     pub cursor: Cursor,
@@ -42,7 +42,7 @@ pub struct Feed {
 impl Feed {
     ghost use Rattle.merge_core.specs.declared.feed.Progress.TheVariants.{Due};
 
-    /// The line waits, unless its key lies past the range.
+    /// Returns the line, which then waits, unless its key is past the range.
     fn settle<R: Range>(
         &mut self,
         line: Box<Line>,
@@ -63,7 +63,7 @@ impl Feed {
         }
     }
 
-    /// Reads the first line of the source, which is answered where it waits.
+    /// Reads the first line of the source. Returns it if it waits.
     pub fn begin<S: Source, R: Range>(
         &mut self,
         source: &mut S,
@@ -95,8 +95,8 @@ impl Feed {
         }
     }
 
-    /// Takes the further lines of the source that have the pair of this one, and answers the line
-    /// after them, where it waits.
+    /// Reads the further lines of the source that have the pair of this one into `rest`. Returns the line after them if
+    /// it waits.
     pub fn drain<S: Source, R: Range>(
         &mut self,
         source: &mut S,

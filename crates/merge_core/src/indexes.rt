@@ -1,4 +1,4 @@
-//! The merge of whole indexes.
+//! The merging of whole indexes.
 ghost use Rattle.std.specs.Prelude.{◌≡◌, ◌≢◌, ℕ, Option, List, map, Some, IfOk, IfErr, OnOk, OnErr};
 ghost use Rattle.cdxj_core.specs.declared.limit.TheConstants.{LINE_LIMIT};
 ghost use Rattle.cdxj_core.specs.Indexes.{IsIndex};
@@ -20,11 +20,12 @@ use devices::Output;
 use source_core::Source;
 use std::alloc::Global;
 
-/// Writes the collection of indexes: their lines in the order of places, the first line at each place. Answers how many lines
-/// were written.
+/// Writes the collection of the indexes: their lines in the order of places, only the first line at each place. Returns
+/// the number of lines written.
 ///
-/// It holds one line of each source, and the lines of one key and stamp. After a fault, lines that rise by place were written,
-/// the last of them whole or in part; over indexes, they are the first lines of the collection.
+/// One line of each source is held, and the lines of one key and stamp. After an error, lines that rise by place were
+/// written, the last of them in whole or in part. If all sources are indexes, they are the first lines of the
+/// collection.
 pub fn merge_indexes<S: Source, O: Output>(
     alloc: Global,
     sources: &mut [S],

@@ -4,10 +4,10 @@ ghost use Rattle.merge_core.specs.KeyStarts.{IsText, key_words, spelled, words};
 
 use cdxj_places::abbreviated;
 
-/// The first 32 bytes of a key as four numbers, which are in order as the bytes are. Where the key has fewer, zeros follow it.
+/// The first 32 bytes of a key as four numbers, which compare as the bytes do. A shorter key is followed by zeros.
 pub(crate) type KeyStart = [u64; 4];
 
-/// The number that the eight bytes from `at` on spell, the first the highest.
+/// Returns the eight bytes from `at` on as a big-endian number.
 fn word(bytes: &[u8; 32], at: usize) -> u64
     requires { at + 8 ≤ 32 }
     ensures { result ≡ spelled 0 (take 8 (drop at bytes.now)) }
@@ -35,7 +35,7 @@ fn words_of(bytes: &[u8; 32]) -> KeyStart
     ]
 }
 
-/// The start of a key.
+/// Returns the start of a key.
 pub(crate) fn key_start(key: &[u8]) -> KeyStart
     ensures words { result ≡ key_words key.now }
     ensures text { IsText key.now }

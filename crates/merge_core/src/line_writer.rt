@@ -1,4 +1,4 @@
-//! The writing of lines as they stand.
+//! The writing of lines as they stand in their indexes.
 ghost use Rattle.std.specs.Prelude.{◌≡◌, ◌+◌, ◌-◌, ◌^◌, min, OnOk, OnErr};
 ghost use Rattle.std.specs.Io.KnownBytes.{Appends};
 ghost use Rattle.devices.specs.Device.{AppendsPrefix};
@@ -11,10 +11,10 @@ use cdxj_core::Line;
 use devices::{Output, put};
 use std::alloc::{AllocError, Global};
 
-/// Writes each line that it takes, as it stands in its index.
+/// Writes each line that it takes as it stands in its index.
 #[derive(Drop)]
 pub struct LineWriter {
-    /// How many lines were written. It stays at 2^64 - 1.
+    /// The number of lines written. It saturates at 2^64 - 1.
     pub count: u64,
     row: Vec<u8>,
 }
@@ -29,7 +29,7 @@ fn fill_row(row: &mut Vec<u8>, line: &Line) -> Result<(), AllocError>
 }
 
 impl LineWriter {
-    /// A writer that has written nothing.
+    /// Creates a writer that has written nothing.
     pub fn new(alloc: Global) -> LineWriter
         ensures { result.count ≡ 0 }
     {

@@ -1,4 +1,4 @@
-//! The merge of several sources.
+//! The merging of several sources.
 ghost use Rattle.std.specs.Prelude.{◌≡◌, ◌≢◌, ◌⊎◌, ◌+◌, ◌≤◌, ◌++◌, ℕ, Option, List, [], length, map, false, true, Some, IfOk, IfErr, OnOk, OnErr};
 ghost use Rattle.std.specs.List.{AllByRecursion, zip};
 ghost use Rattle.cdxj_core.specs.declared.limit.TheConstants.{LINE_LIMIT};
@@ -26,7 +26,8 @@ use devices::Output;
 use source_core::Source;
 use std::alloc::Global;
 
-/// Hands on the lines of all sources, one pair after another, and says whether all were wanted.
+/// Passes the lines of all sources to the sink, one pair after another. Returns `false` if the sink wanted no more
+/// lines.
 pub fn merge<S: Source, R: Range, K: Sink, O: Output>(
     alloc: Global,
     sources: &mut [S],

@@ -24,7 +24,7 @@ impl Streams {
     ghost use Rattle.merge_core.specs.Feeds.{Fed, Ready, AreSettled, option_list, done};
     ghost use Rattle.merge_core.specs.Gathering.{all_done};
 
-    /// Adds a source, of which the first line after the cursor is read.
+    /// Adds a source, and reads the first line after the cursor.
     pub(crate) fn add<S: Source, R: Range>(
         &mut self,
         source: &mut S,
@@ -66,7 +66,7 @@ impl Streams {
         }
     }
 
-    /// All lines of the sources, of each of which the first is read.
+    /// Opens the sources from their start, and reads the first line of each.
     pub fn open<S: Source, R: Range>(
         alloc: Global,
         sources: &mut [S],

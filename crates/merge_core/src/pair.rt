@@ -6,7 +6,7 @@ ghost use Rattle.cdxj_core.specs.Members.{member_pair};
 use cdxj_core::Line;
 use std::cmp::Ordering;
 
-/// How the pairs of two lines compare.
+/// Compares the pairs of two lines.
 pub fn compare_pairs(line: &Line, other: &Line) -> Ordering
     ensures { result ≡ pair_cmp (member_pair line.now) (member_pair other.now) }
 {

@@ -1,4 +1,4 @@
-//! The lines that wait for their turn.
+//! The queue of the lines that wait to be merged.
 ghost use Rattle.std.specs.Prelude.{◌≡◌, ◌<◌, true, false, [], ◌∷◌, length, slice_index_or, MatchOption, IfSome, OnOk, OnErr};
 ghost use Rattle.std.specs.List.{AllByRecursion};
 ghost use Rattle.std.specs.List.Sorted.{IsPermutation};
@@ -14,7 +14,7 @@ use std::alloc::{AllocError, Global};
 use std::collections::BinaryHeap;
 use std::marker::Model;
 
-/// Lines that wait, of which the first in turn can be taken out.
+/// A priority queue of the lines that wait, from which the first is removed.
 #[derive(Drop)]
 pub struct Queue {
     heap: BinaryHeap<Waiting>,
@@ -33,7 +33,7 @@ impl Model for Queue {
 }
 
 impl Queue {
-    /// A queue in which no line waits.
+    /// Creates an empty queue.
     pub fn new(alloc: Global) -> Queue
         ensures { result ≡ [] }
     {
@@ -42,14 +42,14 @@ impl Queue {
         }
     }
 
-    /// How many lines wait.
+    /// Returns the number of lines that wait.
     pub fn len(&self) -> usize
         ensures { result ≡ length self.now }
     {
         self.heap.len()
     }
 
-    /// Lets a line wait. Without memory the line is lost.
+    /// Adds a line. If memory can't be allocated, the line is lost.
     pub fn push(&mut self, waiting: Waiting) -> Result<(), AllocError>
         ensures ok { OnOk result (IsPermutation (waiting ∷ self.old) self.new) }
         ensures err { OnErr result (self.new ≡ self.old) }
@@ -60,7 +60,7 @@ impl Queue {
         }
     }
 
-    /// Takes out the line whose turn comes first.
+    /// Removes and returns the first line.
     pub fn pop(&mut self) -> Option<Waiting>
         ensures out { MatchOption result ((self.old ≡ []) × (self.new ≡ [])) (λ w. IsPermutation self.old (w ∷ self.new)) }
         ensures first { IfSome result (λ w. AllByRecursion (λ v. is_lt (turn_cmp v w) ≡ false) self.new) }
@@ -69,7 +69,7 @@ impl Queue {
         self.heap.pop()
     }
 
-    /// Whether the line whose turn comes first has the pair of this one.
+    /// Returns whether the first line has the pair of this one.
     fn is_next_at(&self, line: &Line) -> bool
         ensures alike { (d : WaitingLine) → 0 < length self.now → result ≡ true → Alike (waiting_pair (slice_index_or self.now 0 d)) (member_pair line.now) }
         ensures later { AllByRecursion (λ v. Upto (member_pair line.now) (waiting_pair v)) self.now
@@ -81,7 +81,7 @@ impl Queue {
         }
     }
 
-    /// Takes out the line whose turn comes first, where it has the pair of this one.
+    /// Removes and returns the first line, if it has the pair of this one.
     pub fn pop_at(&mut self, line: &Line) -> Option<Waiting>
         requires { AllByRecursion (λ v. Upto (member_pair line.now) (waiting_pair v)) self.old }
         ensures out { MatchOption result ((self.new ≡ self.old) × AllByRecursion (λ v. Below (member_pair line.now) (waiting_pair v)) self.new)

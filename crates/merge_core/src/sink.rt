@@ -1,4 +1,4 @@
-//! What takes the lines of a merge.
+//! The consumers of the lines of a merge.
 ghost use Rattle.std.specs.Prelude.{◌≡◌, ◌≢◌, ◌⊎◌, ◌++◌, ◌∷◌, ℕ, Option, List, map, true, false, IfOk, IfErr, OnOk, OnErr, MatchResult};
 ghost use Rattle.cdxj_places.specs.Places.{place_cmp};
 ghost use Rattle.cdxj_places.specs.Rising.{rising};
@@ -11,21 +11,21 @@ use cdxj_core::{Line, in_order};
 use devices::Output;
 use std::alloc::{AllocError, Global};
 
-/// What takes the lines of a merge.
+/// A consumer of the lines of a merge.
 pub trait Sink {
     ghost use Rattle.cdxj_core.specs.Members.{Member};
 
-    /// What was written of the lines that were taken: by a sink that was the first before them and is the second now, between
-    /// what the output had before them and what it has now.
+    /// What was written of the lines that were taken. The first sink and output are those before the lines, the second
+    /// those after them.
     ghost Wrote: { Self → Self → List Member → Option (List ℕ) → Option (List ℕ) → Type 0 };
 
-    /// What was written where a fault came before the last of these lines was taken.
+    /// What was written if an error came before the last of these lines was taken.
     ghost Broke: { Self → List Member → Option (List ℕ) → Option (List ℕ) → Type 0 };
 
     /// No more lines are wanted.
     ghost Enough: { Self → Type 0 };
 
-    /// Takes lines, in the order of places; false where no more are wanted.
+    /// Takes lines, in the order of places. Returns `false` if no more are wanted.
     fn take<O: Output>(
         &mut self,
         alloc: Global,
@@ -56,7 +56,7 @@ fn references<'a>(
     Ok(lines)
 }
 
-/// The lines in the order of places, the first line at each.
+/// Returns the lines in the order of places, only the first line at each place.
 fn ordered<'a>(alloc: Global, lines: &[&'a Line]) -> Result<Vec<&'a Line>, AllocError>
     ensures { IfOk result (λ v. map (λ l. l.now) v.items ≡ rising member_place place_cmp (map (λ l. l.now) lines.now)) }
 {
@@ -79,7 +79,8 @@ fn in_places<'a>(
     Ok(ordered(alloc, &lines)?)
 }
 
-/// Hands the lines of a pair on, in the order of places and the first line at each; false where no more are wanted.
+/// Passes on the lines of a pair, in the order of places, only the first line at each place. Returns `false` if no more
+/// are wanted.
 #[tactic(auto, using(crate::proofs::WrittenLemmas::grows_not))]
 pub fn hand_on<K: Sink, O: Output>(
     alloc: Global,

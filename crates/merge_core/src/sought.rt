@@ -1,4 +1,4 @@
-//! The opening of sources at the lines from which on they are read.
+//! The opening of sources at a key and stamp.
 ghost use Rattle.std.specs.Prelude.{◌≡◌, ◌≢◌, ◌⊎◌, ◌≤◌, ◌+◌, ◌++◌, ◌∷◌, ℕ, Option, List, [], length, map, Some, MatchOption, IfOk, IfErr, OnOk};
 ghost use Rattle.std.specs.List.{AllByRecursion, zip, sum};
 ghost use Rattle.std.specs.List.Sorted.{IsPermutation};
@@ -23,7 +23,8 @@ use crate::streams::Streams;
 use source_core::{Cursor, SearchFault, Source, search};
 use std::alloc::Global;
 
-/// Where the lines of a source begin whose pairs aren't below this one, and the turns that the search for it took.
+/// Returns a cursor at the first line of a source whose pair isn't below this one, and the number of steps of the
+/// search for it.
 fn find_start<S: Source>(
     alloc: Global,
     source: &mut S,
@@ -59,7 +60,7 @@ fn find_start<S: Source>(
 #[derive(Drop)]
 pub struct Opened {
     pub streams: Streams,
-    /// How many turns the searches took. It stays at 2^64 - 1.
+    /// The number of steps of the searches. It saturates at 2^64 - 1.
     pub probes: u64,
 }
 
@@ -99,7 +100,7 @@ impl Streams {
         Ok(probes)
     }
 
-    /// The lines of the sources whose pairs aren't below this one, of each of which the first is read.
+    /// Opens each source at its first line whose pair isn't below this one, and reads that line.
     pub fn open_at<S: Source, R: Range>(
         alloc: Global,
         sources: &mut [S],

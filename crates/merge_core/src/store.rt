@@ -1,4 +1,4 @@
-//! The reading of lines into buffers that are used again.
+//! The reading of lines into reused buffers.
 ghost use Rattle.std.specs.Prelude.{◌≡◌, ◌≢◌, ◌+◌, ◌<◌, ◌≤◌, ◌++◌, ◌∷◌, ℕ, List, [], length, drop, option_map, Some, None, MatchOption, MatchResult, IfOk, IfErr, OnOk};
 ghost use Rattle.cdxj_core.specs.declared.limit.TheConstants.{LINE_LIMIT};
 ghost use Rattle.cdxj_core.specs.Members.{line_entry};
@@ -24,7 +24,7 @@ fn boxed(alloc: Global, line: Line) -> Result<Box<Line>, LineFault>
     }
 }
 
-/// Reads lines, into the buffers of those that were read and aren't needed any more.
+/// Reads lines into the buffers of lines that aren't needed any more.
 #[derive(Drop)]
 pub struct Store {
     alloc: Global,
@@ -33,7 +33,7 @@ pub struct Store {
 }
 
 impl Store {
-    /// A store without buffers.
+    /// Creates a store without buffers.
     pub fn new(alloc: Global) -> Store {
         Store {
             alloc,
@@ -42,12 +42,12 @@ impl Store {
         }
     }
 
-    /// Keeps the line's buffer, where there is memory for that.
+    /// Keeps the line's buffer, if memory can be allocated for that.
     pub fn put_back(&mut self, line: Box<Line>) {
         let _ = self.spare.push(line);
     }
 
-    /// The line of the bytes that were read last.
+    /// Returns the line of the bytes that were read last.
     #[tactic(auto, using(crate::proofs::FeedLemmas::no_entry))]
     fn line(&mut self) -> Result<Box<Line>, LineFault>
         ensures kept { self.new.bytes ≡ self.old.bytes }
@@ -66,7 +66,7 @@ impl Store {
         }
     }
 
-    /// The next line of a source.
+    /// Reads the next line of a source, if there is one.
     pub fn next_line<S: Source>(
         &mut self,
         source: &mut S,

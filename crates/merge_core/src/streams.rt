@@ -28,7 +28,7 @@ pub struct Streams {
     pub feeds: Vec<Feed>,
     pub waiting: Queue,
     pub store: Store,
-    /// The most lines that were held at once: those that wait, and those of a group. It stays at 2^64 - 1.
+    /// The greatest number of lines held at once: those that wait, and those of a group. It saturates at 2^64 - 1.
     pub held: u64,
 }
 
@@ -46,7 +46,7 @@ impl Streams {
         self.feeds[source].progress = Progress::Due;
     }
 
-    /// Takes the line whose turn comes first.
+    /// Removes and returns the first line that waits.
     fn take_first(&mut self) -> Option<Waiting>
         requires { AllByRecursion (λ w. w.source < length self.old.feeds.items) self.old.waiting }
         ensures out { MatchOption result ((self.old.waiting ≡ []) × (self.new.waiting ≡ [])) (λ w. IsPermutation self.old.waiting (w ∷ self.new.waiting)) }
@@ -64,7 +64,7 @@ impl Streams {
         }
     }
 
-    /// Takes the line whose turn comes first, where it has the pair of this one.
+    /// Removes and returns the first line that waits, if it has the pair of this one.
     fn take_at(&mut self, line: &Line) -> Option<Waiting>
         requires placed { AllByRecursion (λ w. w.source < length self.old.feeds.items) self.old.waiting }
         requires from { AllByRecursion (λ w. Upto (member_pair line.now) (waiting_pair w)) self.old.waiting }
@@ -105,7 +105,7 @@ impl Streams {
         }
     }
 
-    /// Takes the further lines of a source that have the pair of this one.
+    /// Reads the further lines of a source that have the pair of this one into `rest`.
     fn drain<S: Source, R: Range>(
         &mut self,
         sources: &mut [S],
@@ -146,7 +146,7 @@ impl Streams {
         Ok(())
     }
 
-    /// Takes the lines of the least pair from all sources: the first of them, and the others.
+    /// Takes the lines of the least pair from all sources. Returns the first of them, and appends the others to `rest`.
     pub fn gather<S: Source, R: Range>(
         &mut self,
         sources: &mut [S],
@@ -192,7 +192,7 @@ impl Streams {
         }
     }
 
-    /// Counts the lines that are held, and keeps the buffers of those that were handed on.
+    /// Counts the lines that are held, and takes back the buffers of those that were passed on.
     pub fn put_back(&mut self, first: Box<Line>, rest: &mut Vec<Box<Line>>)
         ensures feeds { self.new.feeds.items ≡ self.old.feeds.items }
         ensures waiting { self.new.waiting ≡ self.old.waiting }
@@ -208,7 +208,7 @@ impl Streams {
         }
     }
 
-    /// The number of lines that were read of all sources. It stays at 2^64 - 1.
+    /// Returns the number of lines that were read from all sources. It saturates at 2^64 - 1.
     pub fn lines(&self) -> u64
         ensures { result ≡ min (sum (map (λ f. f.cursor.count) self.now.feeds.items)) (2 ^ 64 - 1) }
     {

@@ -1,4 +1,4 @@
-//! A line that waits for its turn.
+//! A line that waits to be merged.
 ghost use Rattle.std.specs.Prelude.{◌≡◌};
 ghost use Rattle.cdxj_places.specs.Pairs.{pair_cmp};
 ghost use Rattle.std.specs.Cmp.{partial_order_from_agreeing_total, partial_equiv_from_equiv};
@@ -14,11 +14,11 @@ use cdxj_core::Line;
 use std::cmp::Ordering;
 use std::marker::Model;
 
-/// The next line of a source. The greatest is the one whose turn comes first: by pair, then by the
-/// source's number.
+/// The next line of a source. The greatest is merged first: the one with the least pair, and of
+/// equal pairs the one whose source has the least number.
 #[derive(Drop)]
 pub struct Waiting {
-    /// It decides most comparisons without a look at the line.
+    /// Decides most comparisons without access to the line.
     key_start: KeyStart,
     pub line: Box<Line>,
     pub source: usize,
@@ -37,7 +37,7 @@ impl Model for Waiting {
 }
 
 impl Waiting {
-    /// A line of the source with this number.
+    /// Creates the value for a line of the source with this number.
     pub fn new(line: Box<Line>, source: usize) -> Waiting
         ensures { result ≡ record { member = line.value; source = source } }
     {

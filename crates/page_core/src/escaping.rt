@@ -1,4 +1,4 @@
-//! Values of a text page: spaces, controls and the delete are escaped.
+//! The escaping of values in text pages: spaces, control characters and DEL.
 ghost use Rattle.std.specs.Prelude.{◌≡◌, ◌<◌, ◌++◌, not, IfOk};
 ghost use Rattle.std.specs.List.{list_all};
 ghost use Rattle.page_core.specs.Rows.{hex_digit, is_hidden, escaped_byte, escaped};
@@ -46,7 +46,8 @@ fn has_none_hidden(value: &[u8]) -> bool
     good
 }
 
-/// Puts the value behind the text, with each space, control and delete as `%` and two digits.
+/// Appends the value to the text. Each space, control character and DEL is written as `%` and two
+/// hexadecimal digits.
 pub(crate) fn push_escaped(text: &mut Vec<u8>, value: &str) -> Result<(), AllocError>
     ensures { IfOk result (λ _. text.new.items ≡ text.old.items ++ escaped value.now) }
 {

@@ -1,4 +1,4 @@
-//! Why a text could not be written.
+//! Why a text couldn't be written.
 ghost use Rattle.std.specs.Prelude.{◌≡◌};
 ghost use Rattle.page_core.specs.declared.fault.TextFault.TheVariants.{Memory, Write};
 

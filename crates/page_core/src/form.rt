@@ -1,4 +1,4 @@
-//! In which form a page is written.
+//! The form in which a page is written.
 ghost use Rattle.std.specs.Prelude.{◌≡◌, ◌++◌, IfOk, option_map};
 ghost use Rattle.page_core.specs.PageText.{page_start, row_text, page_end};
 ghost use Rattle.page_core.specs.FormView.{form_view};
@@ -11,16 +11,16 @@ use std::alloc::{AllocError, Global};
 /// The output of a query, with the fields that it prints.
 #[derive(Clone, Copy, Debug)]
 pub enum PageForm<'f> {
-    /// The values of these fields, a line for each capture.
+    /// The values of these fields, one line for each capture.
     Text(&'f [Field]),
     /// The lines as they stand in their indexes.
     Cdxj,
-    /// One array of rows, of which the first has the names of these fields.
+    /// One JSON array of rows. The first row has the names of these fields.
     Json(&'f [Field]),
 }
 
 impl PageForm<'_> {
-    /// Puts behind the text what stands before the first capture of a page.
+    /// Appends to the text what precedes the first capture of a page.
     pub(crate) fn push_start(self, text: &mut Vec<u8>, alloc: Global) -> Result<(), AllocError>
         ensures { IfOk result (λ _. text.new.items
             ≡ text.old.items ++ page_start (form_view self.entry)) }
@@ -31,7 +31,7 @@ impl PageForm<'_> {
         }
     }
 
-    /// Puts behind the text what a capture adds to a page.
+    /// Appends to the text what a capture adds to a page.
     pub(crate) fn push_row(
         self,
         text: &mut Vec<u8>,
@@ -54,8 +54,8 @@ impl PageForm<'_> {
         }
     }
 
-    /// Puts behind the text what stands after the last capture of a page, with the resume key where
-    /// there is one.
+    /// Appends to the text what follows the last capture of a page, with the resume key if there is
+    /// one.
     pub(crate) fn push_end(
         self,
         text: &mut Vec<u8>,

@@ -7,7 +7,7 @@ ghost use Rattle.page_core.specs.PageText.{key_rows, later_row};
 use cdxj_core::{Field, LineRef, push_quoted};
 use std::alloc::{AllocError, Global};
 
-/// The name of a field, as queries and JSON pages write it.
+/// Returns the name of a field, as queries and JSON pages write it.
 pub fn field_name(field: Field) -> &'static str
     ensures { result.now ≡ field_name field }
 {
@@ -78,7 +78,7 @@ fn push_single(text: &mut Vec<u8>, alloc: Global, value: &str) -> Result<(), All
     Ok(())
 }
 
-/// Puts the start of the array behind the text, with the row of the names of the fields.
+/// Appends the start of the array to the text, with the row of the names of the fields.
 pub(crate) fn push_json_start(
     text: &mut Vec<u8>,
     alloc: Global,
@@ -91,7 +91,7 @@ pub(crate) fn push_json_start(
     push_names(text, alloc, fields)
 }
 
-/// Puts a further row of the array behind the text, with the values of the fields.
+/// Appends a further row of the array to the text, with the values of the fields.
 pub(crate) fn push_json_row(
     text: &mut Vec<u8>,
     alloc: Global,
@@ -105,7 +105,7 @@ pub(crate) fn push_json_row(
     push_values(text, alloc, fields, line)
 }
 
-/// Puts the rows of the resume key behind the text, where there is a key, and the end of the array.
+/// Appends the rows of the resume key to the text, if there is a key, and the end of the array.
 pub(crate) fn push_json_end(
     text: &mut Vec<u8>,
     alloc: Global,

@@ -13,14 +13,15 @@ pub fn page_is_its_pieces()
     ensures { PageInPieces }
 {}
 
-/// What was written after some captures is the front of each page that begins with them.
+/// What is written after some captures is a prefix of each page that begins with them.
 pub fn begun_page_is_front()
     ensures { BegunIsFront }
 {}
 
-/// The pages of a chain, one after another, are what the list has above the place that the chain
-/// begins at; all but the last are full, and the last has no next. There is one such chain for
-/// positive sizes. What is collapsed goes on from each of its members as it began.
+/// The pages of a chain, one after another, are the part of the list above the place where the
+/// chain begins. All pages but the last are full, and the last has no next place. For positive
+/// sizes there is one such chain. Collapsing that resumes after one of its captures gives the same
+/// later captures.
 pub fn pages_join()
     ensures join { (same : PlaceValue → PlaceValue → Bool) (l : List Member) (rises : Rises member_place place_cmp l) → PagesJoin same l rises }
     ensures one { (same : PlaceValue → PlaceValue → Bool) (l : List Member) (rises : Rises member_place place_cmp l)

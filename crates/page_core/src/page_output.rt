@@ -12,8 +12,8 @@ use devices::{Output, put};
 use std::alloc::Global;
 use std::marker::Model;
 
-/// Writes a page in one form: its start, a row for each capture, and its end. Each piece is made in
-/// one buffer, which is used again, and put whole.
+/// Writes a page in one form: its start, a row for each capture, and its end. Each piece is built
+/// in one buffer, which is reused, and written whole.
 #[derive(Drop)]
 pub struct PageOutput<'f> {
     alloc: Global,
@@ -31,7 +31,7 @@ impl<'f> Model for PageOutput<'f> {
 }
 
 impl<'f> PageOutput<'f> {
-    /// The output of a page in this form, of which nothing was written.
+    /// Creates the output of a page in this form, of which nothing is written yet.
     pub fn new(alloc: Global, form: PageForm<'f>) -> PageOutput<'f>
         ensures { result ≡ form_view form.entry }
     {
@@ -42,7 +42,7 @@ impl<'f> PageOutput<'f> {
         }
     }
 
-    /// Writes what stands before the first capture.
+    /// Writes what precedes the first capture.
     pub fn put_start<O: Output>(&mut self, out: &mut O) -> Result<(), TextFault>
         ensures form { self.new ≡ self.old }
         ensures text { WritesText result (O.written out.old) (O.written out.new) (page_start self.old) }
@@ -54,7 +54,7 @@ impl<'f> PageOutput<'f> {
         Ok(())
     }
 
-    /// Writes what a capture adds.
+    /// Writes the row of a capture.
     pub fn put_row<O: Output>(&mut self, line: &Line, out: &mut O) -> Result<(), TextFault>
         ensures form { self.new ≡ self.old }
         ensures text { WritesText result (O.written out.old) (O.written out.new) (row_text self.old line.now) }
@@ -66,7 +66,7 @@ impl<'f> PageOutput<'f> {
         Ok(())
     }
 
-    /// Writes what stands after the last capture, with the resume key where there is one.
+    /// Writes what follows the last capture, with the resume key if there is one.
     pub fn put_end<O: Output>(&mut self, key: Option<&str>, out: &mut O) -> Result<(), TextFault>
         ensures form { self.new ≡ self.old }
         ensures text { WritesText result (O.written out.old) (O.written out.new)

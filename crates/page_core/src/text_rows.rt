@@ -33,7 +33,7 @@ fn push_text_values(
     Ok(())
 }
 
-/// Puts the values of the fields behind the text, with one space between, and a line feed.
+/// Appends the values of the fields to the text, separated by one space, and a line feed.
 pub(crate) fn push_text_row(
     text: &mut Vec<u8>,
     fields: &[Field],
@@ -46,7 +46,7 @@ pub(crate) fn push_text_row(
     Ok(())
 }
 
-/// Puts the line behind the text as it stands in its index, with a line feed.
+/// Appends the line to the text as it stands in its index, with a line feed.
 pub(crate) fn push_line_row(text: &mut Vec<u8>, line: &Line) -> Result<(), AllocError>
     ensures { IfOk result (λ _. text.new.items ≡ text.old.items ++ line_row line.now) }
 {
@@ -55,7 +55,7 @@ pub(crate) fn push_line_row(text: &mut Vec<u8>, line: &Line) -> Result<(), Alloc
     Ok(())
 }
 
-/// Puts an empty line and the resume key behind the text, where there is a key.
+/// Appends an empty line and the resume key to the text, if there is a key.
 pub(crate) fn push_key_lines(text: &mut Vec<u8>, key: Option<&str>) -> Result<(), AllocError>
     ensures { IfOk result (λ _. text.new.items
         ≡ text.old.items ++ key_lines (option_map (λ k. k.now) key.entry)) }

@@ -27,17 +27,19 @@ use query_text::Query;
 use source_core::Source;
 use std::alloc::Global;
 
-/// Writes the page that the query asks for: the captures that it selects of the collection of the indexes, in the order of
-/// places, after its resume key and up to its limit. The resume key of the next page stands at its end where the query shows it
-/// and a further capture follows. Where the query collapses captures, one is left out whose part is that of the capture before it,
-/// the first after a resume key where its part is that of the key's place.
+/// Writes the page that the query asks for: the captures that it selects from the collection of the indexes, in the
+/// order of places, after its resume key and up to its limit. The page ends with the resume key of the next page if the
+/// query shows it and a further capture follows. If the query collapses captures, a capture is left out whose part is
+/// that of the capture before it. The first capture after a resume key is left out if its part is that of the key's
+/// place.
 ///
-/// `TooManySources` over `SOURCES_LIMIT` indexes comes before anything is read or written. `BadLine` and `OutOfOrder` name a line
-/// by which an index is none; only lines that are read are looked at. After a fault a front of the page was written.
+/// `TooManySources` is returned for more than `SOURCES_LIMIT` indexes, before anything is read or written. `BadLine`
+/// and `OutOfOrder` name a line because of which the text is not an index. Only the lines that are read are checked.
+/// After an error, a prefix of the page was written.
 ///
-/// A binary search finds where the page begins in each index. From there on lines of the target's range are read, up to the key and
-/// stamp of the first capture after the page, and at most one more of each index. Each capture is written before lines of a later
-/// key and stamp are read.
+/// A binary search finds where the page begins in each index. From there on, lines of the target's range are read, up
+/// to the key and stamp of the first capture after the page, and at most one more line of each index. Each capture is
+/// written before lines of a later key and stamp are read.
 pub fn answer<S: Source, O: Output>(
     alloc: Global,
     sources: &mut [S],

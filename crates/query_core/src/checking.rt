@@ -21,10 +21,10 @@ fn falls_after(previous: &Option<Box<Line>>, line: &Line) -> bool
     }
 }
 
-/// Checks an index, and answers how many lines it has.
+/// Checks an index, and returns the number of its lines.
 ///
-/// Each line must have an entry, and its key and stamp must not be below those of the line before it. The first line at fault
-/// is answered, as one of index 0. It holds two lines at most.
+/// Each line must have an entry, and its key and stamp must not be below those of the line before it. The error names
+/// the first line at fault, as a line of index 0. At most two lines are held.
 pub fn check<S: Source>(alloc: Global, source: &mut S) -> Result<u64, AnswerFault>
     ensures text { S.text source.new ≡ S.text source.old }
     ensures checked { (text : List ℕ) → S.text source.old ≡ Some text → IsChecked LINE_LIMIT text result }

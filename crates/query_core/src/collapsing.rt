@@ -1,4 +1,4 @@
-//! The leaving out of captures that have a part in common with the one directly before.
+//! Leaving out captures that have a part in common with the one directly before.
 ghost use Rattle.std.specs.Prelude.{◌≡◌, Some, IfOk, OnOk};
 ghost use Rattle.query_text.specs.Collapses.{part_of};
 ghost use Rattle.query_core.specs.Collapsings.{collapsing_at, has_part};
@@ -9,13 +9,13 @@ use query_text::Collapse;
 use std::alloc::{AllocError, Global};
 use std::marker::Model;
 
-/// By what captures are collapsed, and what is compared of the one directly before.
+/// What captures are collapsed by, and what is compared of the capture directly before.
 #[derive(Debug, Drop)]
 pub(crate) struct Collapsing {
     by: Collapse,
-    /// Its key, where captures are collapsed by that.
+    /// The key of the capture before, if captures are collapsed by key.
     key: String,
-    /// Its stamp, if there was one before.
+    /// The stamp of the capture before, if there was one.
     stamp: Option<[u8; 14]>,
 }
 
@@ -30,7 +30,7 @@ impl Model for Collapsing {
 }
 
 impl Collapsing {
-    /// Begins after a place, if there is one.
+    /// Begins after a place, if there is one. Returns `None` if captures aren't collapsed.
     pub(crate) fn begin(
         alloc: Global,
         by: Option<Collapse>,
@@ -55,7 +55,7 @@ impl Collapsing {
         }
     }
 
-    /// Whether a capture of this key and stamp has its part in common with the one before.
+    /// Returns whether a capture of this key and stamp has its part in common with the one before.
     pub(crate) fn repeats(&self, key: &str, stamp: &[u8; 14]) -> bool
         ensures { result ≡ has_part self.now.part (part_of self.now.by key.now stamp.now) }
     {
@@ -65,7 +65,7 @@ impl Collapsing {
         }
     }
 
-    /// Keeps what is compared of a capture of this key and stamp.
+    /// Stores what is compared of a capture of this key and stamp.
     pub(crate) fn keep(&mut self, key: &str, stamp: [u8; 14]) -> Result<(), AllocError>
         ensures { OnOk result (self.new ≡ record { by = self.old.by; part = Some (part_of self.old.by key.now stamp) }) }
     {

@@ -2,8 +2,8 @@
 // contract.
 ghost use Rattle.query_core.specs.Laws.{PagesRise};
 
-/// The captures of pages that follow one another, whatever the bytes of the sources, rise by place, match the query and stand
-/// above the place after which the first page begins.
+/// The captures of consecutive pages, whatever the bytes of the sources, rise by place, match the query, and are above
+/// the place after which the first page begins.
 pub fn pages_rise()
     ensures { PagesRise }
 {}

@@ -14,7 +14,7 @@ use cdxj_core::Line;
 use merge_core::{FeedFault, Store};
 use source_core::{Cursor, Source};
 
-/// The next line of a source, if there is one.
+/// Reads the next line of a source, if there is one.
 pub(crate) fn next_line<S: Source>(
     store: &mut Store,
     source: &mut S,
@@ -41,7 +41,7 @@ pub(crate) fn next_line<S: Source>(
     }
 }
 
-/// Whether the key and stamp of a line are below those of the line before it.
+/// Returns whether the key and stamp of a line are below those of the line before it.
 pub(crate) fn falls(previous: &Line, line: &Line) -> bool
     ensures { result ≡ is_gt (pair_cmp (member_pair previous.now) (member_pair line.now)) }
 {

@@ -1,4 +1,4 @@
-//! The merge of indexes.
+//! The merging of indexes.
 ghost use Rattle.std.specs.Prelude.{◌≡◌, ◌≢◌, ◌<◌, ◌≤◌, ℕ, List, Option, length, map, Err, IfOk, IfErr, OnOk};
 ghost use Rattle.cdxj_core.specs.declared.limit.TheConstants.{LINE_LIMIT};
 ghost use Rattle.devices.specs.Device.{AppendsPrefix, next_count};
@@ -20,7 +20,7 @@ use merge_core::{FeedFault, MergeFault, merge_indexes};
 use source_core::Source;
 use std::alloc::Global;
 
-/// The most indexes that a call takes.
+/// The greatest number of indexes that a call accepts.
 pub const SOURCES_LIMIT: usize = 1_024;
 
 fn index_fault(index: usize, fault: FeedFault) -> AnswerFault
@@ -53,12 +53,13 @@ pub(crate) fn merge_fault(fault: MergeFault) -> AnswerFault
     }
 }
 
-/// Merges indexes: writes their lines in the order of places, each as it stands in its index, and the first line at each
-/// place. Answers how many lines were written.
+/// Merges indexes: writes their lines in the order of places, each as it stands in its index, only the first line at
+/// each place. Returns the number of lines written.
 ///
-/// `TooManySources` over `SOURCES_LIMIT` indexes comes before anything is read. `BadLine` and `OutOfOrder` name a line by which
-/// an index is none; which of several is met first is not said. After a fault, lines that rise by place were written, the last
-/// of them whole or in part. It holds one line of each index, and the lines of one key and stamp.
+/// `TooManySources` is returned for more than `SOURCES_LIMIT` indexes, before anything is read. `BadLine` and
+/// `OutOfOrder` name a line because of which the text is not an index. If there are several, which one is named is not
+/// specified. After an error, lines that rise by place were written, the last of them in whole or in part. One line of
+/// each index is held, and the lines of one key and stamp.
 pub fn merge<S: Source, O: Output>(
     alloc: Global,
     sources: &mut [S],

@@ -31,15 +31,15 @@ use query_text::Query;
 use source_core::Source;
 use std::alloc::Global;
 
-/// A page that was written, and what it took. Each count stays at 2^64 - 1.
+/// A page that was written, and the cost of writing it. Each count saturates at 2^64 - 1.
 #[derive(Debug, Drop)]
 pub struct WrittenPage {
     pub end: PageEnd,
-    /// How many turns the searches for the first line took.
+    /// The number of steps of the searches for the first line.
     pub probes: u64,
-    /// How many lines were read after the searches.
+    /// The number of lines read after the searches.
     pub lines: u64,
-    /// The most lines that were held at once.
+    /// The greatest number of lines held at once.
     pub held: u64,
 }
 
@@ -56,8 +56,8 @@ fn text_fault(fault: TextFault) -> AnswerFault
     }
 }
 
-/// Writes the page of the query after a place, with this limit, and with its resume key where that is to be shown and a further
-/// capture follows. The page's start is written before an index is read.
+/// Writes the page of the query after a place, with this limit. The page ends with its resume key if that is to be
+/// shown and a further capture follows. The page's start is written before an index is read.
 pub fn write_page<S: Source, O: Output>(
     alloc: Global,
     sources: &mut [S],

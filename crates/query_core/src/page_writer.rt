@@ -1,4 +1,4 @@
-//! A page that is being written.
+//! The writing of a page.
 ghost use Rattle.std.specs.Prelude.{◌≡◌, ◌++◌, ◌∷◌, [], List, Option, None, Some, ℕ, OnOk, IfOk, IfErr, OnErr, option_map, string_bytes};
 ghost use Rattle.cdxj_places.specs.Places.{place_cmp};
 ghost use Rattle.cdxj_places.specs.PlaceViews.{place_view};
@@ -17,7 +17,7 @@ use page_core::{PageForm, PageOutput, TextFault};
 use query_text::{OutputFormat, Query};
 use std::alloc::Global;
 
-/// The form of the query's pages.
+/// Returns the form of the query's pages.
 fn form_of(query: &Query) -> PageForm<'_>
     ensures { form_view result ≡ form_of query.now }
 {
@@ -28,7 +28,7 @@ fn form_of(query: &Query) -> PageForm<'_>
     }
 }
 
-/// The resume key of a place, where it is to be shown and there is one.
+/// Returns the resume key of a place, if it is to be shown and there is one.
 fn key_text(
     alloc: Global,
     shows: bool,
@@ -60,12 +60,12 @@ fn sink_fault(fault: TextFault) -> SinkFault
     }
 }
 
-/// What is known of a page that was written.
+/// The result of writing a page.
 #[derive(Debug, Drop)]
 pub struct PageEnd {
-    /// How many captures it has. It stays at 2^64 - 1.
+    /// The number of its captures. It saturates at 2^64 - 1.
     pub given: u64,
-    /// The place from which the next page goes on, where there is one.
+    /// The place after which the next page begins, if there is one.
     pub next: Option<OwnedPlace>,
 }
 
@@ -81,7 +81,7 @@ pub struct PageWriter<'q> {
     more: bool,
     /// The place of the last capture that the page has room for.
     last: Option<OwnedPlace>,
-    /// What the next line is compared with, where captures are collapsed.
+    /// What the next line is compared with, if captures are collapsed.
     collapsing: Option<Collapsing>,
     pub ghost page_rule: { page ≡ form_of query.now },
 }
@@ -96,7 +96,7 @@ impl<'q> PageWriter<'q> {
     ghost use Rattle.query_core.specs.PageWriting.{is_full, last_after, next_of, FitsWord};
     ghost use Rattle.query_core.specs.WriterView.{stands, Kept, Broke, from_view};
 
-    /// Writes what stands before the first capture of the page after a place, which has at most so many captures.
+    /// Writes what precedes the first capture of the page after a place. The page has at most `limit` captures.
     pub fn begin<O: Output>(
         alloc: Global,
         query: &'q Query,
@@ -133,7 +133,7 @@ impl<'q> PageWriter<'q> {
         }
     }
 
-    /// Whether the line is one of the page's, or of a later one's.
+    /// Returns whether the line belongs to the page or to a later one.
     fn wants(&self, line: &Line) -> Result<bool, TextFault>
         ensures value { IfOk result (λ wanted. wanted ≡ is_wanted self.now.query.now (from_view self.now.from) line.now) }
         ensures memory { IfErr result (λ e. e ≡ TextFault.Memory) }
@@ -144,7 +144,7 @@ impl<'q> PageWriter<'q> {
         }
     }
 
-    /// Whether the line is left out for the capture before it.
+    /// Returns whether the line is left out because of the capture before it.
     fn repeats(&self, line: &Line) -> bool
         ensures { result ≡ repeats_part self.now.collapsing (member_place line.now) }
     {
@@ -157,7 +157,7 @@ impl<'q> PageWriter<'q> {
         }
     }
 
-    /// Keeps what the lines after this one are compared with.
+    /// Stores what the lines after this one are compared with.
     fn keep_part(&mut self, line: &Line) -> Result<(), TextFault>
         ensures part { OnOk result (self.new.collapsing ≡ collapsing_after self.old.collapsing (member_place line.now)) }
         ensures kept { Kept self.old self.new × (self.new.given ≡ self.old.given) × (self.new.more ≡ self.old.more) × (self.new.last ≡ self.old.last) }
@@ -185,7 +185,7 @@ impl<'q> PageWriter<'q> {
         }
     }
 
-    /// Keeps the place of a line that was written, where it is the last that the page has room for.
+    /// Stores the place of a line that was written, if it is the last that the page has room for.
     fn keep_last(&mut self, alloc: Global, line: &Line) -> Result<(), TextFault>
         ensures last { OnOk result (self.new.last ≡ last_after self.old.limit self.old.given self.old.last (member_place line.now)) }
         ensures kept { Kept self.old self.new × (self.new.given ≡ self.old.given) × (self.new.more ≡ self.old.more) × (self.new.collapsing ≡ self.old.collapsing) }
@@ -239,7 +239,7 @@ impl<'q> PageWriter<'q> {
         Ok(())
     }
 
-    /// Writes what stands after the last capture, with the resume key where it is to be shown and there is one.
+    /// Writes what follows the last capture, with the resume key if it is to be shown and there is one.
     pub fn end<O: Output>(
         &mut self,
         alloc: Global,

@@ -32,7 +32,7 @@ fn are_positive(sizes: &[u64]) -> bool
     sizes.iter().all(|&size| size > 0)
 }
 
-/// Whether there are sizes, and none of them is 0.
+/// Returns whether there are sizes, and none of them is 0.
 pub fn are_sizes(sizes: &[u64]) -> bool
     ensures { result ≡ are_sizes sizes.now }
 {
@@ -48,7 +48,7 @@ fn first_size(sizes: &[u64]) -> u64
     }
 }
 
-/// All but the first; the last one is repeated.
+/// Returns all sizes but the first. The last one is repeated.
 fn later_sizes(sizes: &[u64]) -> &[u64]
     ensures { result.now ≡ later_sizes sizes.now }
 {
@@ -66,7 +66,7 @@ fn see_bounds(place: Place<'_>)
     let _filename = place.filename.len();
 }
 
-/// The place after which the query's first page begins, if not at the first capture.
+/// Returns the place after which the query's first page begins, unless it begins at the first capture.
 fn first_place(alloc: Global, query: &Query) -> Result<Option<OwnedPlace>, AnswerFault>
     ensures place { IfOk result (λ from. from ≡ query.now.resume) }
     ensures bounded { IfOk result (λ from. MatchOption from ⊤ IsBounded) }
@@ -82,7 +82,7 @@ fn first_place(alloc: Global, query: &Query) -> Result<Option<OwnedPlace>, Answe
     }
 }
 
-/// The place that is read of a place's resume key, which is that place.
+/// Writes a place as a resume key, and reads it back. The result is that place.
 fn read_key(alloc: Global, place: Place<'_>) -> Result<OwnedPlace, AnswerFault>
     ensures place { IfOk result (λ read. read ≡ place_view place.entry) }
     ensures bounded { IfOk result IsBounded }
@@ -108,12 +108,14 @@ fn borrowed(place: &Option<OwnedPlace>) -> Option<Place<'_>>
     }
 }
 
-/// Writes the pages of a query, each of its size, until one has no successor, and answers how many they are. The last size is
-/// repeated. Each page begins after the place that is read of the resume key before it, the first after the query's own resume
-/// key, if it has one. Each page but the last ends with its resume key. The query's limit isn't used, nor whether it shows a key.
+/// Writes the pages of a query, each of its size, until no page follows, and returns their number. The last size is
+/// repeated. Each page begins after the place that is read from the resume key of the page before. The first begins
+/// after the query's own resume key, if it has one. Each page but the last ends with its resume key. The query's limit
+/// isn't used, nor whether it shows a resume key.
 ///
-/// `BadSizes` where there are no sizes, or one of them is 0; then `TooManySources` over `SOURCES_LIMIT` indexes. Both come before
-/// anything is read or written. The other faults are those of `answer`; after one a front of the pages was written.
+/// `BadSizes` is returned if there are no sizes, or one of them is 0; then `TooManySources` for more than
+/// `SOURCES_LIMIT` indexes. Both come before anything is read or written. The other errors are those of `answer`. After
+/// one, a prefix of the pages was written.
 pub fn pages<S: Source, O: Output>(
     alloc: Global,
     sources: &mut [S],

@@ -1,4 +1,4 @@
-//! The texts of replies that are no pages.
+//! The texts of replies that aren't pages.
 ghost use Rattle.std.specs.Prelude.{◌≡◌, ◌∷◌, ◌++◌, [], IfOk, IfErr, codes};
 ghost use Rattle.devices.specs.Writing.{WritesText};
 ghost use Rattle.query_core.specs.Replies.{refusal_text, fault_line};
@@ -9,7 +9,7 @@ use devices::{Output, put};
 use itoa::Buffer;
 use std::alloc::{AllocError, Global};
 
-/// Writes a text.
+/// Writes a text to the output.
 pub(crate) fn put_text<O: Output>(text: &[u8], out: &mut O) -> Result<(), AnswerFault>
     ensures text { WritesText result (O.written out.old) (O.written out.new) text.now }
     ensures failures { CountsReply result (O.failures out.old) (O.failures out.new) }
@@ -30,7 +30,7 @@ fn refusal(alloc: Global, name: &str) -> Result<Vec<u8>, AllocError>
     Ok(text)
 }
 
-/// Writes that a line was refused, and by which name.
+/// Writes that a line was refused, with the name of the refusal.
 pub(crate) fn put_refusal<O: Output>(
     alloc: Global,
     name: &str,
@@ -59,7 +59,7 @@ fn fault_line(alloc: Global, name: &str, index: usize, offset: u64) -> Result<Ve
     Ok(text)
 }
 
-/// Writes, behind what was written of a page, at which line of which index the fault of this name lies.
+/// Writes, after what was written of a page, the name of a fault, the number of the index, and the offset of the line.
 pub(crate) fn put_fault_line<O: Output>(
     alloc: Global,
     name: &str,

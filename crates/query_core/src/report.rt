@@ -1,16 +1,16 @@
-//! What an answer was, and what it took.
+//! The result of an answer, and its cost.
 
-/// What an answer was, and what it took. Each count stays at 2^64 - 1.
+/// The result of an answer, and its cost. Each count saturates at 2^64 - 1.
 #[derive(Clone, Copy, Debug, Drop, PartialEq, Eq)]
 pub struct Report {
-    /// How many captures were written.
+    /// The number of captures written.
     pub given: u64,
     /// Whether a further capture follows them.
     pub more: bool,
-    /// How many turns the searches for the first line took, in all indexes together.
+    /// The number of steps of the searches for the first line, in all indexes together.
     pub probes: u64,
-    /// How many lines were read after the searches.
+    /// The number of lines read after the searches.
     pub lines: u64,
-    /// The most lines that were held at once.
+    /// The greatest number of lines held at once.
     pub held: u64,
 }

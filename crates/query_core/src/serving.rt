@@ -25,10 +25,11 @@ use query_text::{QUERY_LIMIT, Query, QueryFault};
 use source_core::Source;
 use std::alloc::Global;
 
-/// Bytes of a line that are held. They show that a line is over the limit of a query, whether or not it ends with a carriage return.
+/// The number of bytes of a line that are held. They show that a line exceeds the limit of a query, whether or not it
+/// ends with a carriage return.
 const LINE_HELD: usize = QUERY_LIMIT + 2;
 
-/// Writes the page of a query, and the fault of an index behind what was written.
+/// Writes the page of a query. A fault of an index is written after what was written of the page.
 fn reply_to_query<S: Source, O: Output>(
     alloc: Global,
     sources: &mut [S],
@@ -95,7 +96,7 @@ fn reply_to_line<S: Source, O: Output>(
     }
 }
 
-/// Writes the reply to a line, and the line `.` behind it.
+/// Writes the reply to a line, followed by the line `.`.
 fn reply_and_mark<S: Source, O: Output>(
     alloc: Global,
     sources: &mut [S],
@@ -112,7 +113,7 @@ fn reply_and_mark<S: Source, O: Output>(
     put_text(b".\n", out)
 }
 
-/// Whether the input has a further line, which is then held.
+/// Reads a further line of the input, and holds it. Returns whether there was one.
 fn read_line<I: Input>(lines: &mut InputLines, input: &mut I) -> Result<bool, AnswerFault>
     ensures most { lines.new.most ≡ lines.old.most }
     ensures line { IfOk result (λ found. TakesLine lines.old.most found (prepend_known lines.old.buffer (I.remaining input.old)) (prepend_known lines.new.buffer (I.remaining input.new)) lines.new.line) }
@@ -130,15 +131,16 @@ fn read_line<I: Input>(lines: &mut InputLines, input: &mut I) -> Result<bool, An
     }
 }
 
-/// Answers the queries of an input, each line one, and says how many lines there were.
+/// Answers the queries of an input, one on each line, and returns the number of lines.
 ///
-/// A line ends with a line feed, which the last may lack; a carriage return before it is dropped. The reply to a line is the page of its
-/// query, or `refused` and the name of the refusal, `QueryTooLong` over `QUERY_LIMIT` bytes and `NotText` where the line isn't UTF-8. Where an
-/// index is found to be none, a line feed follows what was written, and `fault` with the name of the fault, the number of the index and the
-/// offset of the line. After each reply comes a line `.`, which is handed to the output in a call of its own.
+/// A line ends with a line feed, which the last line may lack. A carriage return before it is dropped. The reply to a
+/// line is the page of its query, or `refused` and the name of the refusal: `QueryTooLong` for more than `QUERY_LIMIT`
+/// bytes, and `NotText` if the line isn't UTF-8. If a line is found because of which a text is not an index, what was
+/// written is followed by a line feed, and `fault` with the name of the fault, the number of the index and the offset
+/// of the line. Each reply is followed by a line `.`, which is passed to the output in a call of its own.
 ///
-/// `TooManySources` over `SOURCES_LIMIT` indexes comes before anything is read. `Memory`, `Read` of an index, `Write` and `Input`
-/// end the conversation: `Input` also at an input of 2^63 - 1 bytes.
+/// `TooManySources` is returned for more than `SOURCES_LIMIT` indexes, before anything is read. `Memory`, `Read` of an
+/// index, `Write` and `Input` end the conversation. `Input` is also returned for an input of 2^63 - 1 bytes.
 pub fn serve<S: Source, I: Input, O: Output>(
     alloc: Global,
     sources: &mut [S],

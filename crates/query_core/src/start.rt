@@ -8,7 +8,7 @@ ghost use Rattle.query_core.specs.WriterView.{from_view};
 use cdxj_core::Place;
 use query_text::Query;
 
-/// No stamp is below it.
+/// The least stamp.
 const FIRST_STAMP: [u8; 14] = *b"00000000000000";
 
 /// A key and a stamp.
@@ -18,7 +18,7 @@ pub(crate) struct StartPair<'q> {
     pub stamp: [u8; 14],
 }
 
-/// The pair of the place, where it is above this one.
+/// Returns the pair of the place if it is above this one, else this one.
 fn later_pair<'q>(start: StartPair<'q>, place: Place<'q>) -> StartPair<'q>
     ensures { start_view result ≡ later_pair (start_view start.entry) (Some (place_view place.entry)) }
 {
@@ -36,7 +36,7 @@ fn later_pair<'q>(start: StartPair<'q>, place: Place<'q>) -> StartPair<'q>
     }
 }
 
-/// The pair below which no line is of the page after this place.
+/// Returns the pair that no line of the page after this place is below.
 pub(crate) fn start_pair<'q>(query: &'q Query, from: Option<Place<'q>>) -> StartPair<'q>
     ensures { start_view result ≡ start_pair query.now (from_view from.entry) }
 {

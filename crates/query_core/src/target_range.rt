@@ -1,4 +1,4 @@
-//! The range of a query's target, as merges see it.
+//! The range of a query's target, for merges.
 
 use merge_core::Range;
 use query_text::Target;

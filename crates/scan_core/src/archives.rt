@@ -19,7 +19,7 @@ use devices::{Gather, Input};
 use index_core::{IndexFault, Indexer};
 use std::alloc::Global;
 
-/// The index of what an indexer holds.
+/// Returns the index of the captures that an indexer holds.
 fn index_of(alloc: Global, indexer: &Indexer) -> Result<Gather, IndexFault>
     ensures index { IfOk result (λ index. IsIndex LINE_LIMIT (gathered index) (index_members indexer.now.captures)) }
     ensures lines { HaveLines indexer.now.captures }
@@ -57,7 +57,7 @@ fn index_archive<I: Input>(
     index
 }
 
-/// Indexes the archives' records of these types, each archive into an index of its own.
+/// Indexes the archives' records of these types, each archive into its own index.
 pub fn index_archives<I: Input>(
     alloc: Global,
     inputs: &mut [Named<I>],

@@ -1,9 +1,9 @@
 //! Archives and their names.
 
-/// An archive and the name that its captures have.
+/// An archive, and the file name that its captures have.
 #[derive(Drop)]
 pub struct Named<I> {
-    /// 1 to 255 bytes, unlike the names of the other archives.
+    /// 1 to 255 bytes, different from the names of the other archives.
     pub name: String,
     /// The archive's bytes.
     pub input: I,

@@ -21,7 +21,7 @@ use devices::{Gather, Input, Output};
 use query_core::{AnswerFault, Query, SOURCES_LIMIT, SliceSource, are_sizes, pages};
 use std::alloc::{AllocError, Global};
 
-/// The indexes as sources.
+/// Returns the indexes as sources.
 fn sources_of(alloc: Global, indexes: &[Gather]) -> Result<Vec<SliceSource<'_>>, AllocError>
     ensures { IfOk result (λ sources. map slice_text sources.items ≡ map gathered indexes.now) }
 {
@@ -56,15 +56,16 @@ fn write_pages<O: Output>(
     pages(alloc, &mut sources, query, sizes, out)
 }
 
-/// Writes the pages of a query over archives, and answers how many they are. The records of these types of each archive are
-/// indexed in memory, into an index of its own. The captures have the archives' names for file names. The pages are those of
-/// `pages` over these indexes: the sizes are in captures, the last size is repeated, and the query's limit isn't used, nor
-/// whether it shows a key.
+/// Writes the pages of a query over archives, and returns their number. The records of these types are indexed in
+/// memory, each archive into its own index. The captures have the archives' names as file names. The pages are those of
+/// `pages` over these indexes. The sizes are in captures, and the last size is repeated. The query's limit isn't used,
+/// nor whether it shows a resume key.
 ///
-/// Errors, in this order: `Answer(BadSizes)` where there are no sizes, or one of them is 0; `Query` for a text that is refused;
-/// `Answer(TooManySources)` over `SOURCES_LIMIT` archives. Then, archive by archive, `Archive`: `BadName` and `DuplicateName`
-/// before the archive is read, then the fault that its captures end with, and `Memory` for any growth. Up to here nothing was
-/// written. Then `Answer(Memory)`, and `Answer(Write)` at the output's first failure: a front of the pages was written.
+/// Errors, in this order: `Answer(BadSizes)` if there are no sizes, or one of them is 0; `Query` for a text that is
+/// refused; `Answer(TooManySources)` for more than `SOURCES_LIMIT` archives. Then, archive by archive, `Archive`:
+/// `BadName` and `DuplicateName` before the archive is read, then the fault that its captures end with, and `Memory` if
+/// memory could not be allocated. Up to here nothing was written. Then `Answer(Memory)`, and `Answer(Write)` at the
+/// output's first failure: a prefix of the pages was written.
 pub fn scan<I: Input, O: Output>(
     alloc: Global,
     inputs: &mut [Named<I>],

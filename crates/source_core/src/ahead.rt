@@ -1,4 +1,4 @@
-//! What was read of a source and not yet given out.
+//! Bytes of a source that were read ahead.
 ghost use Rattle.std.specs.Prelude.{◌≡◌, ◌+◌, ◌<◌, ◌≤◌, [], length, drop, IfOk, OnOk};
 ghost use Rattle.devices.specs.Device.{CountsFailure};
 ghost use Rattle.source_core.specs.Ahead.{StandsAt};
@@ -8,7 +8,7 @@ use devices::PIECE;
 use std::alloc::{AllocError, Global};
 use std::marker::Model;
 
-/// Bytes of a source that were read and not given out yet, at most [`PIECE`] of them.
+/// Bytes of a source that were read and not yet consumed, at most [`PIECE`] of them.
 #[derive(Drop)]
 pub(crate) struct Ahead {
     bytes: Vec<u8>,
@@ -27,7 +27,7 @@ impl Model for Ahead {
 }
 
 impl Ahead {
-    /// Nothing, with room for [`PIECE`] bytes.
+    /// Creates an empty buffer with room for [`PIECE`] bytes.
     pub fn new(alloc: Global) -> Result<Ahead, AllocError>
         ensures { IfOk result (λ ahead. ahead ≡ []) }
     {
@@ -39,14 +39,14 @@ impl Ahead {
         })
     }
 
-    /// The bytes that are held.
+    /// Returns the bytes that are held.
     pub fn as_slice(&self) -> &[u8]
         ensures { result.now ≡ self.now }
     {
         &self.bytes.as_slice()[self.from..self.to]
     }
 
-    /// Gives out the first `count` bytes.
+    /// Removes the first `count` bytes.
     pub fn consume(&mut self, count: usize)
         requires { count ≤ length self.old }
         ensures { self.new ≡ drop count self.old }
@@ -54,7 +54,7 @@ impl Ahead {
         self.from += count;
     }
 
-    /// Reads once, from the offset `at` on, where nothing is held. Then something is held, except at the source's end.
+    /// Reads once at the offset `at` if no bytes are held. Afterwards bytes are held, except at the source's end.
     pub fn fill<S: Source>(&mut self, source: &mut S, at: u64) -> Result<(), SourceFault>
         requires stands { StandsAt (S.text source.old) (S.extent source.old) at self.old }
         ensures text { S.text source.new ≡ S.text source.old }

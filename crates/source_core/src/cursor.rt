@@ -10,7 +10,7 @@ use cdxj_core::LINE_LIMIT;
 use std::alloc::{AllocError, Global};
 use std::marker::Model;
 
-/// Gives the lines of a source from an offset on. It holds no source: each call is handed it.
+/// Reads the lines of a source from an offset on. It does not hold the source; each call takes it.
 ///
 /// It reads pieces of at most [`PIECE`](devices::PIECE) bytes and holds one of them.
 #[derive(Drop)]
@@ -33,7 +33,7 @@ impl Cursor {
     ghost use Rattle.source_core.specs.IndexLines.{lines, first_length, first_then, line_found};
     ghost use Rattle.source_core.specs.Cursors.{Filled, Stands, reach, CountsLineRead};
 
-    /// A cursor at the offset `start`, in bytes from the source's start, at which a line begins.
+    /// Creates a cursor at the offset `start`, in bytes from the source's start. A line begins there.
     pub fn new(alloc: Global, start: u64) -> Result<Cursor, AllocError>
         ensures stands { IfOk result (λ c. (text : Option (List ℕ)) → (extent : ℕ) → start ≤ extent → Stands text extent c) }
         ensures start { IfOk result (λ c. (c.start ≡ start) × (c.at ≡ start) × (c.count ≡ 0)) }
@@ -47,23 +47,25 @@ impl Cursor {
         })
     }
 
-    /// The offset of the next line, in bytes from the source's start.
+    /// Returns the offset of the next line, in bytes from the source's start.
     pub fn at(&self) -> u64
         ensures { result ≡ self.now.at }
     {
         self.at
     }
 
-    /// How many lines were given.
+    /// Returns the number of lines that were read.
     pub fn count(&self) -> u64
         ensures { result ≡ self.now.count }
     {
         self.count
     }
 
-    /// Reads the next line, with its line feed, into `line`, whose older bytes are dropped. Answers whether there was one.
+    /// Reads the next line, with its line feed, into `line`, whose previous bytes are dropped. Returns whether there
+    /// was one.
     ///
-    /// Of a line that is too long, no more is read than the piece that shows it. After a fault the cursor gives no lines.
+    /// A line that is too long is read only up to the piece that shows it. After an error the cursor must not be used
+    /// again.
     pub fn next<S: Source>(
         &mut self,
         source: &mut S,

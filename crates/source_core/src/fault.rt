@@ -3,14 +3,14 @@ use crate::source::SourceFault;
 use std::alloc::AllocError;
 use thiserror::Error;
 
-/// Why no line could be had.
+/// Why a line couldn't be read.
 #[derive(Clone, Copy, Debug, Drop, PartialEq, Eq, Error)]
 pub enum LineReadFault {
     #[error("out of memory")]
     Memory,
     #[error("the source can't be read")]
     Read,
-    /// The line has more bytes than [`LINE_LIMIT`](cdxj_core::LINE_LIMIT), counted with its line feed, if it has one.
+    /// The line is longer than [`LINE_LIMIT`](cdxj_core::LINE_LIMIT) bytes, including its line feed, if it has one.
     #[error("the line is too long")]
     Long,
 }
@@ -37,7 +37,7 @@ impl From<SourceFault> for LineReadFault {
     }
 }
 
-/// Why a search couldn't be ended.
+/// Why a search couldn't be completed.
 #[derive(Clone, Copy, Debug, Drop, PartialEq, Eq, Error)]
 pub enum SearchFault {
     #[error("out of memory")]

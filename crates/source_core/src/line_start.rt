@@ -6,8 +6,8 @@ ghost use Rattle.source_core.specs.IndexLines.{lines, from_line, longest};
 use crate::source::{Source, SourceFault};
 use memchr::memchr;
 
-/// The offset of the first line that begins at the offset `from` or after it, or the source's size. It reads from the byte
-/// before `from` on, piece by piece.
+/// Returns the offset of the first line that begins at the offset `from` or after it, or the source's size. Reads piece
+/// by piece, from the byte before `from` on.
 pub(crate) fn next_line_start<S: Source>(
     source: &mut S,
     piece: &mut [u8],

@@ -1,4 +1,4 @@
-//! The search for the line from which on an index is read.
+//! The binary search for the line where the reading of an index begins.
 ghost use Rattle.std.specs.Prelude.{◌≡◌, ◌+◌, ◌*◌, ◌<◌, ◌≤◌, ℕ, Option, List, length, drop, false, option_map, is_some, IfOk, OnOk, IfSome, Some};
 ghost use Rattle.cdxj_core.specs.declared.limit.TheConstants.{LINE_LIMIT};
 ghost use Rattle.cdxj_core.specs.Indexes.{IsIndex};
@@ -16,19 +16,19 @@ use crate::source::Source;
 use cdxj_core::{LINE_LIMIT, split_pair};
 use std::alloc::Global;
 
-/// How many bytes the search asks for at once: more than most lines have.
+/// The number of bytes that the search reads at once: more than most lines have.
 const SEARCH_PIECE: usize = 1024;
 
-/// What a search found.
+/// The result of a search.
 #[derive(Clone, Copy, Debug, Drop, PartialEq, Eq)]
 pub struct Found {
-    /// Where the line begins that was looked for, in bytes from the source's start; the source's size where there is none.
+    /// The offset of the line found, in bytes from the source's start; the source's size if there is none.
     pub offset: u64,
-    /// How many turns it took.
+    /// The number of steps of the search.
     pub probes: u64,
 }
 
-/// Whether the pair at the front of a line is below this one, if there is a pair.
+/// Returns whether the pair at the start of a line is below this one, if there is a pair.
 fn front_is_below(front: &[u8], key: &[u8], stamp: &[u8]) -> Option<bool>
     ensures { result ≡ option_map (is_below (key.now, stamp.now)) (pair_of front.now) }
 {
@@ -43,8 +43,8 @@ fn front_is_below(front: &[u8], key: &[u8], stamp: &[u8]) -> Option<bool>
     }
 }
 
-/// Reads on in the line that begins at the offset, of which `front` holds the first bytes, and says whether it ends with those
-/// that are held then.
+/// Reads more of the line that begins at the offset, whose first bytes are in `front`. Returns whether the line ends
+/// with the bytes in `front`.
 fn read_on<S: Source>(
     source: &mut S,
     piece: &mut [u8],
@@ -70,8 +70,8 @@ fn read_on<S: Source>(
     Ok(ends)
 }
 
-/// Reads on in the line that begins at the offset, until `front` holds so many of its bytes, or the line or the source ends. Says
-/// whether the line ends with those that are held then.
+/// Reads more of the line that begins at the offset, until `front` holds `wanted` of its bytes, or the line or the
+/// source ends. Returns whether the line ends with the bytes in `front`.
 fn read_to<S: Source>(
     source: &mut S,
     piece: &mut [u8],
@@ -104,10 +104,10 @@ fn read_to<S: Source>(
     Ok(false)
 }
 
-/// Whether the line that begins at the offset isn't below the pair, or the text ends there. Looks at its first
-/// [`LINE_LIMIT`] bytes; a line that shows no pair in them isn't below.
+/// Returns whether the line that begins at the offset isn't below the pair, or the text ends there. Reads its first
+/// [`LINE_LIMIT`] bytes at most; a line that shows no pair in them isn't below.
 ///
-/// Each look begins at the line's start, so twice as many bytes are read before the next one.
+/// Each comparison begins at the line's start, so twice as many bytes are read before the next one.
 fn stops_at<S: Source>(
     source: &mut S,
     piece: &mut [u8],
@@ -140,7 +140,8 @@ fn stops_at<S: Source>(
     Ok(true)
 }
 
-/// The offset of the first line that begins at `middle` or after it, or the source's size, unless that line is below the pair.
+/// Returns the offset of the first line that begins at `middle` or after it, or the source's size. Returns `None` if
+/// that line is below the pair.
 fn probe<S: Source>(
     source: &mut S,
     piece: &mut [u8],
@@ -167,11 +168,11 @@ fn probe<S: Source>(
     }
 }
 
-/// Finds the first line of an index whose pair isn't below this one, by halving the byte offsets. A turn looks at the first
-/// line that begins in the upper half of those that are left.
+/// Finds the first line of an index whose pair isn't below this one, by a binary search over the byte offsets. A step
+/// reads the first line that begins in the upper half of the offsets that are left.
 ///
-/// Of a line it looks at the first [`LINE_LIMIT`] bytes; one that shows no pair in them isn't below. It reads pieces of at most
-/// 1,024 bytes. Over a text that isn't an index it finds the beginning of some line, or the size.
+/// Of a line it reads the first [`LINE_LIMIT`] bytes at most; a line that shows no pair in them isn't below. It reads
+/// pieces of at most 1,024 bytes. In a text that isn't an index it finds the start of some line, or the size.
 pub fn search<S: Source>(
     alloc: Global,
     source: &mut S,

@@ -12,25 +12,25 @@ pub struct SourceFault;
 
 /// Bytes that can be read at any offset. Their number never changes.
 pub trait Source {
-    /// Its bytes, where they are known.
+    /// Its bytes, if they are known.
     ghost text: { Self → Option (List ℕ) };
 
-    /// How many bytes it has.
+    /// The number of its bytes.
     ghost extent: { Self → ℕ };
 
-    /// How many reads failed.
+    /// The number of reads that failed.
     ghost failures: { Self → ℕ };
 
-    /// How many bytes it gave.
+    /// The number of bytes that were read.
     ghost gave: { Self → ℕ };
 
-    /// How many bytes it has, below 2^63.
+    /// Returns the number of its bytes, which is below 2^63.
     fn size(&self) -> u64
         ensures extent { result ≡ extent self.now }
         ensures told { IfSome (text self.now) (λ t. length t ≡ extent self.now) };
 
-    /// Reads from the offset `at` on, in bytes from the start, into the front of `piece`, and answers how many bytes it gave:
-    /// at least one below the size for a piece that isn't empty, none from the size on. A failed read gives none.
+    /// Reads from the offset `at` on, in bytes from the start, into the first bytes of `piece`. Returns how many bytes
+    /// were read: at least one below the size if `piece` isn't empty, none from the size on. A failed read gives none.
     fn read_at(&mut self, at: u64, piece: &mut [u8]) -> Result<usize, SourceFault>
         ensures text { text self.new ≡ text self.old }
         ensures extent { extent self.new ≡ extent self.old }

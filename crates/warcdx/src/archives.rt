@@ -18,7 +18,7 @@ use warc_core::FromRead;
 /// Standard input, or a file.
 pub type Archive<R> = Either<<R as io::Input>::Reader, <R as Files>::File>;
 
-/// Opens the archive of this name; `-` is standard input. That a file can't be opened is said on standard error.
+/// Opens the archive of this name; `-` is standard input. A file that can't be opened is reported on standard error.
 pub fn open<R: Runtime + AllocGlobal>(rt: &R, name: &str) -> Result<FromRead<Archive<R>>, Outcome>
     ensures { IfErr result IsUnopened }
 {
@@ -28,7 +28,8 @@ pub fn open<R: Runtime + AllocGlobal>(rt: &R, name: &str) -> Result<FromRead<Arc
     Ok(FromRead::new(Either::Right(open_file(rt, name)?)))
 }
 
-/// Opens the index of this name. That its file can't be opened, or its size can't be asked, is said on standard error.
+/// Opens the index of this name. A file that can't be opened, or whose size can't be determined, is reported on
+/// standard error.
 pub fn open_index<R: Runtime + AllocGlobal>(
     rt: &R,
     name: &str,
@@ -44,7 +45,8 @@ pub fn open_index<R: Runtime + AllocGlobal>(
     }
 }
 
-/// The indexes of these names, in their order, or how the first ended that can't be opened.
+/// Opens the indexes of these names, in their order. Returns the outcome of the first that can't be opened, if there is
+/// one.
 pub fn open_indexes<R: Runtime + AllocGlobal>(
     rt: &R,
     names: &[String],
@@ -73,8 +75,8 @@ fn open_file<R: Runtime + AllocGlobal>(rt: &R, name: &str) -> Result<<R as Files
     }
 }
 
-/// Does this with one file after another, and goes on after a file's fault, but not where memory or the output failed.
-/// The answer is the outcome that ended it, or else the worst.
+/// Applies this to each file in turn. Continues after a fault of a file, unless memory or the output failed. Returns
+/// the outcome that ended it, or else the worst.
 pub fn with_each<F: FnMut(&str) -> Outcome>(names: &[String], mut act: F) -> Outcome
     requires { F.IsAlwaysCallable act }
     ensures { GoesThrough F.FnMut Done act (map string_bytes names.now) result }
@@ -90,7 +92,7 @@ pub fn with_each<F: FnMut(&str) -> Outcome>(names: &[String], mut act: F) -> Out
     outcome
 }
 
-/// An archive's name in an index: what stands after the last `/`.
+/// Returns an archive's name in an index: the part after the last `/`.
 pub fn file_name(name: &str) -> &str
     ensures { result.now ≡ file_name name.now }
 {

@@ -14,7 +14,7 @@ use query_core::{AnswerFault, Source, check};
 use std::rt::Runtime;
 use warc_core::{Output, put};
 
-/// Checks each index, and writes how many lines it has. What is at fault of an index is said on standard error.
+/// Checks each index, and writes the number of its lines. Faults of an index are reported on standard error.
 pub fn check_all<R: Runtime + AllocGlobal, O: Output>(
     rt: &R,
     names: &[String],
@@ -26,7 +26,7 @@ pub fn check_all<R: Runtime + AllocGlobal, O: Output>(
     )
 }
 
-/// Checks an index that was opened, or couldn't be.
+/// Checks an index, unless it couldn't be opened.
 fn check_opened<R: Runtime + AllocGlobal, S: Source + Drop, O: Output>(
     rt: &R,
     name: &str,
@@ -58,7 +58,7 @@ fn write_count<O: Output>(name: &str, count: u64, out: &mut O) -> Outcome
     }
 }
 
-/// `NAME COUNT`
+/// Writes `NAME COUNT` and a line feed.
 fn put_count<O: Output>(name: &str, count: u64, out: &mut O) -> Result<(), DeviceFault>
     ensures line { WritesText result (O.written out.old) (O.written out.new) (checked_line name.now count) }
     ensures failures { CountsFailure result (O.failures out.old) (O.failures out.new) }
@@ -69,7 +69,7 @@ fn put_count<O: Output>(name: &str, count: u64, out: &mut O) -> Result<(), Devic
     Ok(())
 }
 
-/// What stands after the name.
+/// Returns what follows the name.
 fn count_text(count: u64) -> ArrayString<32>
     ensures { result.bytes ≡ count_text count }
 {

@@ -9,8 +9,8 @@ use query_core::{Source, serve};
 use std::rt::Runtime;
 use warc_core::{Input, Output};
 
-/// Answers the queries of an input over the indexes of these names, which are all opened before a line is read. What is at fault is
-/// reported on standard error.
+/// Answers the queries of an input over the indexes of these names. All indexes are opened before a line is read.
+/// Faults are reported on standard error.
 pub fn serve_all<R: Runtime + AllocGlobal, I: Input, O: Output>(
     rt: &R,
     names: &[String],

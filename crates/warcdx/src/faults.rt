@@ -1,4 +1,4 @@
-//! The faults of archives and indexes, and what is said of them on standard error.
+//! The faults of archives and indexes, and how they are reported on standard error.
 ghost use Rattle.std.specs.Prelude.{◌≡◌};
 ghost use Rattle.warcdx.specs.Outcome.{outcome_of};
 
@@ -8,7 +8,7 @@ use query_core::{AnswerFault, QueryFault};
 use scan_core::ScanFault;
 use std::rt::Runtime;
 
-/// How a call on the archive of this name ended, whose fault is said on standard error.
+/// Returns the outcome of a call on the archive of this name. A fault is reported on standard error.
 pub fn said_outcome<R: Runtime>(rt: &R, name: &str, answer: Result<u64, IndexFault>) -> Outcome
     ensures { result ≡ outcome_of answer }
 {
@@ -18,7 +18,7 @@ pub fn said_outcome<R: Runtime>(rt: &R, name: &str, answer: Result<u64, IndexFau
     outcome_of(answer)
 }
 
-/// Memory and a failed output are said at the command's end.
+/// Reports a fault of an archive. Memory and a failed output are reported at the command's end.
 fn say_fault<R: Runtime>(rt: &R, name: &str, fault: IndexFault) {
     match fault {
         IndexFault::Capture(fault) => {
@@ -32,7 +32,7 @@ fn say_fault<R: Runtime>(rt: &R, name: &str, fault: IndexFault) {
     }
 }
 
-/// Reports why a query is refused. Memory is said at the command's end.
+/// Reports why a query is refused. Memory is reported at the command's end.
 pub fn say_query_fault<R: Runtime>(rt: &R, fault: QueryFault) {
     if fault != QueryFault::Memory {
         let cause = fault.name();
@@ -40,7 +40,7 @@ pub fn say_query_fault<R: Runtime>(rt: &R, fault: QueryFault) {
     }
 }
 
-/// Reports a fault of several indexes under the name of the one that it names, if it names one.
+/// Reports a fault of a call on several indexes under the name of the index concerned, if there is one.
 pub fn say_source_fault<R: Runtime>(rt: &R, names: &[String], fault: AnswerFault) {
     let source = match fault {
         AnswerFault::Read(source) => source,
@@ -53,7 +53,7 @@ pub fn say_source_fault<R: Runtime>(rt: &R, names: &[String], fault: AnswerFault
     }
 }
 
-/// Says what is at fault of the index of this name. Memory and a failed output are said at the command's end.
+/// Reports a fault of the index of this name. Memory and a failed output are reported at the command's end.
 pub fn say_answer_fault<R: Runtime>(rt: &R, name: &str, fault: AnswerFault) {
     match fault {
         AnswerFault::Read(_source) => {
@@ -69,7 +69,8 @@ pub fn say_answer_fault<R: Runtime>(rt: &R, name: &str, fault: AnswerFault) {
     }
 }
 
-/// Reports why archives of these names couldn't be scanned. What is at fault of all of them is said at the command's end.
+/// Reports why archives of these names couldn't be scanned. A fault of no single archive is reported at the command's
+/// end.
 pub fn say_scan_fault<R: Runtime>(rt: &R, names: &[String], fault: ScanFault) {
     match fault {
         ScanFault::Query(fault) => say_query_fault(rt, fault),

@@ -22,7 +22,7 @@ pub fn fetch<R: Runtime + AllocGlobal, O: Output>(
     fetch_opened(rt, offset, name, open(rt, name), out)
 }
 
-/// Writes the record of an archive that was opened, or couldn't be.
+/// Writes the record of an archive, unless the archive couldn't be opened.
 fn fetch_opened<R: Runtime + AllocGlobal, I: Input + Drop, O: Output>(
     rt: &R,
     offset: u64,

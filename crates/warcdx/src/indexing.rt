@@ -1,4 +1,4 @@
-//! The index of archives.
+//! The indexing of archives.
 ghost use Rattle.std.specs.Prelude.{◌≡◌, true, false, MatchResult};
 ghost use Rattle.index_core.specs.Counting.{CountsWrite};
 ghost use Rattle.warcdx.specs.Indexing.{AddsArchive, WritesIndex};
@@ -13,8 +13,8 @@ use index_core::Indexer;
 use std::rt::Runtime;
 use warc_core::{Input, Output};
 
-/// Writes one index of the archives' records of these types, of archives that can't be read to their end up to the fault. Where
-/// memory failed before, nothing is written.
+/// Writes one index of the archives' records of these types. An archive that can't be read to its end is indexed up to
+/// the fault. If memory failed before the index is written, nothing is written.
 pub fn index_all<R: Runtime + AllocGlobal, O: Output>(
     rt: &R,
     types: Types,
@@ -29,7 +29,7 @@ pub fn index_all<R: Runtime + AllocGlobal, O: Output>(
     write_index(&indexer, added, out)
 }
 
-/// Adds an archive that was opened, or couldn't be, under its file name.
+/// Adds an archive under its file name, unless it couldn't be opened.
 fn add_opened<R: Runtime, I: Input + Drop>(
     rt: &R,
     indexer: &mut Indexer,

@@ -9,7 +9,7 @@ use query_core::{Source, merge};
 use std::rt::Runtime;
 use warc_core::Output;
 
-/// Merges the indexes, which are all opened before the first is read. What is at fault of an index is reported on standard
+/// Merges the indexes. All of them are opened before the first is read. Faults of an index are reported on standard
 /// error.
 pub fn merge_all<R: Runtime + AllocGlobal, O: Output>(
     rt: &R,

@@ -8,9 +8,9 @@ use query_core::{AnswerFault, QueryFault};
 /// How a command ended.
 #[derive(Clone, Copy, Debug, PartialEq, Eq)]
 pub enum Outcome {
-    /// All was done.
+    /// Everything was done.
     Done,
-    /// A block has another digest than its record gives.
+    /// The digest of a block differs from the one that its record gives.
     Differs,
     /// A usage error.
     Usage,
@@ -26,7 +26,7 @@ pub enum Outcome {
     CannotFlush,
 }
 
-/// How a call on an archive ended.
+/// Returns the outcome of a call on an archive.
 pub fn outcome_of(answer: Result<u64, IndexFault>) -> Outcome
     ensures { result ≡ outcome_of answer }
 {
@@ -36,7 +36,7 @@ pub fn outcome_of(answer: Result<u64, IndexFault>) -> Outcome
     }
 }
 
-/// How a verification ended.
+/// Returns the outcome of a verification.
 pub fn verification_outcome(answer: Result<Verified, IndexFault>) -> Outcome
     ensures { result ≡ verification_outcome answer }
 {
@@ -47,7 +47,7 @@ pub fn verification_outcome(answer: Result<Verified, IndexFault>) -> Outcome
     }
 }
 
-/// How a command ends whose output could be flushed, or couldn't be.
+/// Returns the outcome of a command whose output could be flushed, or couldn't be.
 pub fn flushed_outcome(outcome: Outcome, is_flushed: bool) -> Outcome
     ensures { result ≡ flushed_outcome outcome is_flushed }
 {
@@ -64,7 +64,7 @@ pub fn flushed_outcome(outcome: Outcome, is_flushed: bool) -> Outcome
     }
 }
 
-/// What is said at a command's end, where something is.
+/// Returns the message at a command's end, if there is one.
 pub fn message(outcome: Outcome) -> Option<&'static str>
     ensures { option_map (λ text. text.now) result ≡ message_of outcome }
 {

@@ -1,4 +1,4 @@
-//! What the program does with its words and its output.
+//! What the program does with its arguments and its output.
 ghost use Rattle.std.specs.Prelude.{◌≡◌};
 ghost use Rattle.command_line.specs.Commands.{asked};
 ghost use Rattle.command_line.specs.Words.{texts};
@@ -27,7 +27,7 @@ const MEMORY: Outcome = Outcome::Index(IndexFault::Memory);
 // The bytes of output that are written at once.
 const OUTPUT_ROOM: usize = 65_536;
 
-/// Runs the program.
+/// Runs the program, and returns its outcome.
 pub fn run<R: Runtime + AllocGlobal>(rt: &R) -> Outcome {
     match words(rt) {
         Ok(words) => run_words(rt, &words),
@@ -41,7 +41,7 @@ pub fn run<R: Runtime + AllocGlobal>(rt: &R) -> Outcome {
     }
 }
 
-/// The words after the program's name.
+/// Returns the arguments after the program's name.
 fn words<R: Runtime + AllocGlobal>(rt: &R) -> io::Result<Vec<String>> {
     Ok(env::args(rt)?.skip(1).collect(rt.alloc())?)
 }
@@ -60,7 +60,7 @@ fn run_words<R: Runtime + AllocGlobal>(rt: &R, words: &[String]) -> Outcome
     }
 }
 
-/// Says on standard error what failed at a command's end, where something did.
+/// Reports on standard error what failed at a command's end, if anything did. Returns the outcome.
 fn say_outcome<R: Runtime>(rt: &R, outcome: Outcome) -> Outcome
     ensures { result ≡ outcome }
 {
@@ -77,7 +77,7 @@ fn help<R: Runtime>(rt: &R, text: &str) -> Outcome
     say_outcome(rt, flushed_outcome(Outcome::Done, printed.is_ok()))
 }
 
-/// Does the task, with what it writes on standard output.
+/// Performs the task. Its output is standard output.
 fn run_task<R: Runtime + AllocGlobal>(rt: &R, task: &Task) -> Outcome {
     let Ok(mut writer) = BufWriter::with_capacity(rt.alloc(), OUTPUT_ROOM, io::writer(rt)) else {
         return say_outcome(rt, MEMORY);
@@ -90,7 +90,7 @@ fn run_task<R: Runtime + AllocGlobal>(rt: &R, task: &Task) -> Outcome {
     say_outcome(rt, flushed_outcome(outcome, flushed.is_ok()))
 }
 
-/// Does the task.
+/// Performs the task with this output.
 pub fn perform<R: Runtime + AllocGlobal, O: Output>(rt: &R, task: &Task, out: &mut O) -> Outcome {
     match task {
         Task::List { names } => report_on(rt, names, ArchiveReport::Listing, out),

@@ -10,7 +10,7 @@ use std::fs::Files;
 use std::rt::Runtime;
 use warc_core::Output;
 
-/// Writes the page that the query text asks for of the indexes of these names. What is at fault is reported on standard error.
+/// Writes the page that the query text asks for over the indexes of these names. Faults are reported on standard error.
 pub fn answer_query<R: Runtime + AllocGlobal, O: Output>(
     rt: &R,
     query: &str,
@@ -23,7 +23,7 @@ pub fn answer_query<R: Runtime + AllocGlobal, O: Output>(
     }
 }
 
-/// Writes all pages of the query text, each of its size, the last of which is repeated. What is at fault is reported on standard
+/// Writes all pages of the query text, each of its size. The last size is repeated. Faults are reported on standard
 /// error.
 pub fn write_pages<R: Runtime + AllocGlobal, O: Output>(
     rt: &R,
@@ -38,7 +38,7 @@ pub fn write_pages<R: Runtime + AllocGlobal, O: Output>(
     }
 }
 
-/// The query of a text, and then the indexes, or how the command ended at the first that failed.
+/// Reads the query text, and then opens the indexes. Returns the outcome of the first that fails, if there is one.
 fn read_and_open<R: Runtime + AllocGlobal>(
     rt: &R,
     query: &str,
@@ -49,7 +49,7 @@ fn read_and_open<R: Runtime + AllocGlobal>(
     Ok((query, sources))
 }
 
-/// The query of a text. Why it is refused is reported on standard error.
+/// Reads a query text. Why it is refused is reported on standard error.
 pub fn read_query<R: Runtime + AllocGlobal>(rt: &R, text: &str) -> Result<Query, Outcome>
     ensures { ReadsQuery text.now result }
 {

@@ -14,7 +14,7 @@ use std::alloc::Global;
 use std::rt::Runtime;
 use warc_core::{Input, Output, put};
 
-/// What is said of an archive.
+/// The kind of a report on an archive.
 #[derive(Clone, Copy)]
 pub enum ArchiveReport {
     /// A line for each record.
@@ -23,7 +23,7 @@ pub enum ArchiveReport {
     Verdicts,
 }
 
-/// Writes the report on each archive. Of several archives each report stands under the name of its archive.
+/// Writes the report on each archive. If there are several archives, each report stands under the name of its archive.
 pub fn report_on<R: Runtime + AllocGlobal, O: Output>(
     rt: &R,
     names: &[String],
@@ -36,7 +36,7 @@ pub fn report_on<R: Runtime + AllocGlobal, O: Output>(
     )
 }
 
-/// Writes the report on an archive that was opened, or couldn't be; it is one of so many.
+/// Writes the report on an archive, unless it couldn't be opened. `among` is the number of archives.
 fn report_on_opened<I: Input + Drop, O: Output>(
     alloc: Global,
     name: &str,
@@ -77,7 +77,7 @@ fn report_below<I: Input, O: Output>(
     }
 }
 
-/// Writes `NAME:`, where there are several archives.
+/// Writes `NAME:` if there are several archives.
 fn put_heading_among<O: Output>(among: usize, name: &str, out: &mut O) -> Result<(), DeviceFault>
     ensures heading { WritesText result (O.written out.old) (O.written out.new) (heading_among among name.now) }
     ensures failures { CountsFailure result (O.failures out.old) (O.failures out.new) }
@@ -88,7 +88,7 @@ fn put_heading_among<O: Output>(among: usize, name: &str, out: &mut O) -> Result
     Ok(())
 }
 
-/// `NAME:`
+/// Writes `NAME:` and a line feed.
 fn put_heading<O: Output>(name: &str, out: &mut O) -> Result<(), DeviceFault>
     ensures heading { WritesText result (O.written out.old) (O.written out.new) (heading name.now) }
     ensures failures { CountsFailure result (O.failures out.old) (O.failures out.new) }

@@ -15,8 +15,8 @@ use std::alloc::{AllocError, Global};
 use std::rt::Runtime;
 use warc_core::{FromRead, Input, Output};
 
-/// Writes the pages of the query text over the captures of these archives' records of these types. Each page has its size, and
-/// the last size is repeated. What is at fault is reported on standard error.
+/// Writes the pages of the query text over the captures of these archives' records of these types. Each page has its
+/// size, and the last size is repeated. Faults are reported on standard error.
 pub fn scan_all<R: Runtime + AllocGlobal, O: Output>(
     rt: &R,
     types: Types,
@@ -31,7 +31,7 @@ pub fn scan_all<R: Runtime + AllocGlobal, O: Output>(
     }
 }
 
-/// The archives, which are opened once the query was read.
+/// Reads the query text, and then opens the archives.
 fn archives_to_scan<R: Runtime + AllocGlobal>(
     rt: &R,
     query: &str,
@@ -43,7 +43,8 @@ fn archives_to_scan<R: Runtime + AllocGlobal>(
     open_archives(rt, names)
 }
 
-/// The archives of these words, under their file names, or how the first ended that can't be opened.
+/// Opens the archives of these arguments, under their file names. Returns the outcome of the first that can't be
+/// opened, if there is one.
 fn open_archives<R: Runtime + AllocGlobal>(
     rt: &R,
     names: &[String],
@@ -73,7 +74,7 @@ fn push_named<I: Drop>(
     Ok(())
 }
 
-/// Writes the pages over archives that were opened by these words.
+/// Writes the pages over archives that were opened by these arguments.
 fn scan_opened<R: Runtime + AllocGlobal, I: Input, O: Output>(
     rt: &R,
     types: Types,
@@ -92,7 +93,7 @@ fn scan_opened<R: Runtime + AllocGlobal, I: Input, O: Output>(
     scan_outcome(answer)
 }
 
-/// How a scan ended.
+/// Returns the outcome of a scan.
 fn scan_outcome(answer: Result<u64, ScanFault>) -> Outcome
     ensures { result ≡ scan_outcome answer }
 {

@@ -1,4 +1,4 @@
-//! The status of the process, and which outcomes end a command.
+//! The exit status, and which outcomes end a command.
 ghost use Rattle.std.specs.Prelude.{◌≡◌};
 ghost use Rattle.warcdx.specs.Outcome.{status_of, index_status, query_status, answer_status, capture_status, cause_status, is_memory, ends_command, worse_of};
 
@@ -8,8 +8,9 @@ use index_core::IndexFault;
 use query_core::{AnswerFault, QueryFault};
 use warc_core::Cause;
 
-/// The status of the process: 0 where all was done; 1 for a fault in an archive or an index, a refused query or name, a digest that differs,
-/// or an offset where no record begins; 2 for a usage error; 3 where memory, a device or a file failed.
+/// Returns the exit status: 0 if everything was done; 1 for a fault in an archive or an index, a refused query or name,
+/// a digest that differs, or an offset where no record begins; 2 for a usage error; 3 if memory, a device or a file
+/// failed.
 pub fn status(outcome: &Outcome) -> u8
     ensures { result ≡ status_of outcome.now }
 {
@@ -80,7 +81,7 @@ fn cause_status(cause: Cause) -> u8
     }
 }
 
-/// Of two outcomes the one with the greater status, the first where they have one status.
+/// Returns the outcome with the greater status, or the first if both have the same status.
 pub fn worse(first: Outcome, second: Outcome) -> Outcome
     ensures { result ≡ worse_of first second }
 {
@@ -91,7 +92,8 @@ pub fn worse(first: Outcome, second: Outcome) -> Outcome
     }
 }
 
-/// Whether a command ends by this at once, in place of going on with its next file: memory and the output fail so.
+/// Returns whether a command ends at once with this outcome, and doesn't go on to its next file. That is so if memory
+/// or the output failed.
 pub fn ends_command(outcome: &Outcome) -> bool
     ensures { result ≡ ends_command outcome.now }
 {

@@ -1,4 +1,4 @@
-//! What no clause says: that calls succeed, and values from standards or worked out by hand.
+//! What no clause states: that calls succeed, and values from standards or worked out by hand.
 mod archives;
 mod captures;
 mod cdxj;
@@ -34,13 +34,13 @@ const RESPONSE: &[u8] =
 const RESOURCE: &[u8] =
     b"WARC/1.1\r\nWARC-Type: resource\r\nWARC-Record-ID: <urn:x:3>\r\nWARC-Date: 2016-09-19T17:20:24Z\r\nWARC-Target-URI: http://example.com/r\r\nContent-Type: text/plain\r\nContent-Length: 3\r\n\r\nabc\r\n\r\n";
 
-/// A growth was refused.
+/// Memory could not be allocated.
 #[derive(Debug, Drop)]
 enum Refused {
     Memory,
 }
 
-/// The pieces, one after another.
+/// Returns the pieces, one after another.
 fn joined(alloc: Global, pieces: &[&[u8]]) -> Result<Vec<u8>, AllocError> {
     let mut text = Vec::new(alloc);
     for piece in pieces {
@@ -49,7 +49,7 @@ fn joined(alloc: Global, pieces: &[&[u8]]) -> Result<Vec<u8>, AllocError> {
     Ok(text)
 }
 
-/// The part so often.
+/// Returns the part, repeated this many times.
 fn repeated(alloc: Global, part: &[u8], count: usize) -> Result<Vec<u8>, AllocError> {
     let mut text = Vec::new(alloc);
     for _ in 0..count {
@@ -66,12 +66,12 @@ fn owned(alloc: Global, words: &[&str]) -> Result<Vec<String>, AllocError> {
     Ok(owned)
 }
 
-/// The first `length` bytes.
+/// Returns the first `length` bytes.
 fn cut(text: &[u8], length: usize) -> &[u8] {
     text.get(..length).unwrap_or(text)
 }
 
-/// What a report answers; a refused growth, of its output's too, is an error.
+/// Returns the result of a report. A failed allocation, also one of its output, is an error.
 fn settled<A: Copy>(answer: Result<A, IndexFault>) -> Result<Result<A, Fault>, Refused> {
     match answer {
         Ok(value) => Ok(Ok(value)),
@@ -82,7 +82,7 @@ fn settled<A: Copy>(answer: Result<A, IndexFault>) -> Result<Result<A, Fault>, R
     }
 }
 
-/// How the task ends, whose output is a memory and fails at its call `at`.
+/// Returns the outcome of the task, whose output is in memory and fails at its call `at`.
 fn performed<R: Runtime + AllocGlobal>(
     rt: &R,
     task: Result<Task, AllocError>,

@@ -1,4 +1,4 @@
-//! Help on the commands that read archives.
+//! Help for the commands that read archives.
 use super::Page;
 
 pub const LIST: Page = Page {

@@ -1,4 +1,4 @@
-//! Help on the commands that read indexes.
+//! Help for the commands that read indexes.
 use super::Page;
 
 pub const MERGE: Page = Page {

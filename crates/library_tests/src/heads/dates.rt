@@ -2,7 +2,7 @@ use super::read;
 use std::alloc::Global;
 use warc_head::HeadFault;
 
-/// The stamp of a head with this date.
+/// Returns the stamp of a head with this date.
 fn stamp_of(alloc: Global, date: &str) -> Result<[u8; 14], HeadFault> {
     let lines = "WARC-Record-ID: a\r\nContent-Length: 3\r\nWARC-Type: b\r\nWARC-Date: ";
     Ok(read(alloc, &[lines, date])?.stamp())

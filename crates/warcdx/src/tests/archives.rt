@@ -11,7 +11,7 @@ use std::test::Fail;
 use std::{fs, io};
 use warc_core::{Cause, Fault};
 
-/// A resource of 242 bytes whose block has another digest than it says.
+/// A resource of 242 bytes whose block has another digest than the record states.
 const DIFFERING: &[u8] =
     b"WARC/1.1\r\nWARC-Type: resource\r\nWARC-Record-ID: <urn:x:3>\r\nWARC-Date: 2016-09-19T17:20:24Z\r\nWARC-Target-URI: http://example.com/r\r\nContent-Type: text/plain\r\nContent-Length: 3\r\nWARC-Block-Digest: sha1:AGMT4NSHA2AWVOR6EVYXQUGCNSONBWE5\r\n\r\nabc\r\n\r\n";
 
@@ -25,7 +25,7 @@ pub const READ: Outcome = Outcome::Index(IndexFault::Capture(CaptureFault::Archi
     cause: Cause::Read,
 })));
 
-/// Names of archives, what a listing of them writes, and how it ends. There is no `none.warc`, and `.` is a folder.
+/// Names of archives, what a listing of them writes, and its outcome. There is no `none.warc`, and `.` is a directory.
 const LISTINGS: &[(&[&str], &[u8], Outcome)] = &[
     (&["good.warc"], b"0 264 response\n", Outcome::Done),
     (
@@ -56,7 +56,7 @@ const LISTINGS: &[(&[&str], &[u8], Outcome)] = &[
     ),
 ];
 
-/// The same of their digests.
+/// The same for their digests.
 const VERDICTS: &[(&[&str], &[u8], Outcome)] = &[
     (&["good.warc"], b"0 absent\n", Outcome::Done),
     (&["differing.warc"], b"0 differs\n", Outcome::Differs),
@@ -77,7 +77,7 @@ const VERDICTS: &[(&[&str], &[u8], Outcome)] = &[
     ),
 ];
 
-/// What is written of two archives, in six calls, before each of these calls.
+/// What is written for two archives, in six calls, before each of these calls.
 const BEFORE_CALLS: &[(u64, &[u8])] = &[
     (1, b""),
     (2, b"good.warc"),
@@ -87,7 +87,7 @@ const BEFORE_CALLS: &[(u64, &[u8])] = &[
     (6, b"good.warc:\n0 264 response\ngood.warc:\n"),
 ];
 
-/// The same behind an archive that can't be opened.
+/// The same after an archive that can't be opened.
 const BEHIND_NONE: &[(u64, &[u8])] = &[(1, b""), (3, b"good.warc:\n")];
 
 fn write_archives<R: Runtime>(rt: &R) -> io::Result<()> {
@@ -110,7 +110,7 @@ fn task(alloc: Global, report: ArchiveReport, names: &[&str]) -> Result<Task, Al
     }
 }
 
-/// The number of the first of these reports that isn't written so, or ends in another way.
+/// Returns the number of the first of these reports that is written differently, or has another outcome.
 fn first_other<R: Runtime + AllocGlobal>(
     rt: &R,
     report: ArchiveReport,
@@ -125,7 +125,7 @@ fn first_other<R: Runtime + AllocGlobal>(
     Ok(None)
 }
 
-/// The first call at which the output fails, and doesn't end the listing with these lines.
+/// Returns the first call at which the output fails without ending the listing with these lines.
 fn first_not_stopped<R: Runtime + AllocGlobal>(
     rt: &R,
     names: &[&str],

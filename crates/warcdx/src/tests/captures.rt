@@ -18,14 +18,14 @@ const EMPTY: &str = "3I42H3S6NNFQ2MSVX7XZKYAYSCX5QBYJ";
 
 const ABC: &str = "VGMT4NSHA2AWVOR6EVYXQUGCNSONBWE5";
 
-/// The line that marks a record HTTP.
+/// The line that marks a record as HTTP.
 const HTTP: &[u8] = b"Content-Type: application/http; msgtype=response\r\n";
 
 /// The beginning of each record.
 const FRONT: &[u8] =
     b"WARC/1.1\r\nWARC-Record-ID: <urn:x:1>\r\nWARC-Date: 2016-09-19T17:20:24Z\r\n";
 
-/// The text of a record with this type, target, further lines of its head, and block.
+/// Returns the text of a record with this type, target, further lines of its head, and block.
 fn record_text(
     alloc: Global,
     kind: &str,
@@ -43,14 +43,14 @@ fn record_text(
     Ok(text)
 }
 
-/// The two parts, and the end of a line.
+/// Appends the two parts and a line ending.
 fn push_line(text: &mut Vec<u8>, first: &[u8], second: &[u8]) -> Result<(), AllocError> {
     text.extend_from_slice(first)?;
     text.extend_from_slice(second)?;
     text.extend_from_slice(b"\r\n")
 }
 
-/// The capture of the record after those that were read, under a name that isn't empty.
+/// Returns the capture of the record after those that were read, under a name that isn't empty.
 fn next_capture(
     alloc: Global,
     reader: &mut Reader,
@@ -60,7 +60,7 @@ fn next_capture(
     next_among(alloc, reader, input, name, Types::usual())
 }
 
-/// The same, where the record's type is one of these.
+/// Returns the same, if the record's type is one of these.
 fn next_among(
     alloc: Global,
     reader: &mut Reader,
@@ -78,13 +78,13 @@ fn next_among(
     }
 }
 
-/// The capture of the first record.
+/// Returns the capture of the first record.
 fn captured(alloc: Global, archive: &[u8]) -> Result<Option<Entry>, Fail> {
     let mut reader = Reader::new(alloc)?;
     Ok(next_capture(alloc, &mut reader, &mut Slice::new(archive), "a.warc")?)
 }
 
-/// The capture of a record of `http://x/`.
+/// Returns the capture of a record of `http://x/`.
 fn capture_of(
     alloc: Global,
     kind: &str,
@@ -95,7 +95,7 @@ fn capture_of(
     captured(alloc, text.as_slice())
 }
 
-/// The same, where the record's type is one of these.
+/// Returns the same, if the record's type is one of these.
 fn capture_among(
     alloc: Global,
     types: Types,
@@ -109,7 +109,7 @@ fn capture_among(
     Ok(next_among(alloc, &mut reader, &mut input, "a.warc", types)?)
 }
 
-/// Whether the capture has this media type, status and digest.
+/// Returns whether the capture has this media type, status and digest.
 fn says(captured: &Option<Entry>, mime: &str, status: &str, digest: &str) -> bool {
     match captured {
         Some(entry) => {
@@ -121,7 +121,7 @@ fn says(captured: &Option<Entry>, mime: &str, status: &str, digest: &str) -> boo
     }
 }
 
-/// Whether the capture of a record marked HTTP says that its block begins with no HTTP head.
+/// Returns whether the capture of a record marked as HTTP shows that its block doesn't begin with an HTTP head.
 fn says_no_head(captured: &Option<Entry>) -> bool {
     match captured {
         Some(entry) => entry.mime.as_str() == "-" && entry.status.as_str() == "-",

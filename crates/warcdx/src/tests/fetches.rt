@@ -7,7 +7,7 @@ use std::alloc::Global;
 use std::test::Fail;
 use warc_core::{Cause, Fault, Fuse, Gather, Input, Slice};
 
-/// Whether a growth was refused.
+/// Returns whether the fault is a failed allocation.
 fn is_memory(fault: IndexFault) -> bool {
     match fault {
         IndexFault::Capture(CaptureFault::Archive(fault)) => fault.cause == Cause::Memory,
@@ -15,7 +15,7 @@ fn is_memory(fault: IndexFault) -> bool {
     }
 }
 
-/// What `get` writes, and its answer. A refused growth, of the output's too, is an error.
+/// Returns what `get` writes, and its result. A failed allocation, also one of its output, is an error.
 fn fetched<I: Input>(
     alloc: Global,
     offset: u64,
@@ -30,7 +30,7 @@ fn fetched<I: Input>(
     }
 }
 
-/// The record that begins there in a response, a resource and a response, one after another.
+/// Returns the record that begins at the offset in a response, a resource and a response, one after another.
 fn record_at(offset: u64) -> &'static [u8] {
     match offset {
         0 | 448 => RESPONSE,
@@ -39,7 +39,7 @@ fn record_at(offset: u64) -> &'static [u8] {
     }
 }
 
-/// The answer over so many first bytes of these records.
+/// Returns the result for this many first bytes of these records.
 fn wanted(offset: u64, length: usize) -> Result<u64, IndexFault> {
     let size = record_at(offset).len() as u64;
     if size > 0 && offset.saturating_add(size) <= length as u64 {
@@ -53,7 +53,7 @@ fn wanted(offset: u64, length: usize) -> Result<u64, IndexFault> {
     }
 }
 
-/// Whether this may be written with the answer: the record; a part of it where its own fault was met; else nothing.
+/// Returns whether this may be written with the result: the record; a part of it if the fault is its own; else nothing.
 fn may_be_written(text: &[u8], offset: u64, answer: Result<u64, IndexFault>) -> bool {
     match answer {
         Ok(_) => text == record_at(offset),
@@ -74,7 +74,8 @@ fn fetches_from<I: Input>(
     Ok(answer == wanted(offset, length) && may_be_written(out.bytes(), offset, answer))
 }
 
-/// Whether a prefix of these records gives what it should at the offset, read in whole pieces and by one byte a call.
+/// Returns whether a prefix of these records gives what it should at the offset, read in whole pieces and one byte a
+/// call.
 fn fetches(alloc: Global, offset: u64, archive: &[u8]) -> Result<bool, Refused> {
     let length = archive.len();
     let mut by_byte = Fuse::new(Slice::new(archive), 1, 0);
@@ -84,7 +85,7 @@ fn fetches(alloc: Global, offset: u64, archive: &[u8]) -> Result<bool, Refused> 
     )
 }
 
-/// Where records begin, between these places, and behind all.
+/// Offsets where records begin, between them, and after all.
 const OFFSETS: &[u64] = &[0, 1, 264, 447, 448, 449, 712, u64::MAX];
 
 #[test]
@@ -101,7 +102,7 @@ fn fetches_from_every_prefix(rt: HostRuntime) -> Result<(), Fail> {
     Ok(())
 }
 
-/// The answer at 264 where the input's call `at` fails, each giving a byte. None is asked for behind the record.
+/// Returns the result at 264 if the input's call `at` fails, at one byte a call. No byte after the record is asked for.
 fn failed_read_gives(at: u64) -> Result<u64, IndexFault> {
     let read = |offset| {
         Err(IndexFault::Capture(CaptureFault::Archive(Fault {
@@ -121,7 +122,7 @@ fn fetches_to_failed_read(alloc: Global, archive: &[u8], at: u64) -> Result<bool
     Ok(answer == failed_read_gives(at) && may_be_written(out.bytes(), 264, answer))
 }
 
-/// How many bytes are read, one a call, to say that no record begins at 1: those of the first record.
+/// Returns whether only the bytes of the first record are read, one a call, to find that no record begins at 1.
 fn reads_one_record(alloc: Global, archive: &[u8]) -> Result<bool, Refused> {
     let mut input = Fuse::new(Slice::new(archive), 1, 0);
     let (_, answer) = fetched(alloc, 1, &mut input)?;
@@ -141,7 +142,7 @@ fn fetches_up_to_a_failed_read(rt: HostRuntime) -> Result<(), Fail> {
     Ok(())
 }
 
-/// Whether the fetch of the resource, written by one byte a call, ends at the call `at`, which fails.
+/// Returns whether fetching the resource, written one byte a call, ends at the call `at`, which fails.
 fn stops(alloc: Global, archive: &[u8], at: u64) -> Result<bool, Refused> {
     let mut out = Fuse::new(Gather::new(alloc), 1, at);
     let answer = get(alloc, 264, &mut Slice::new(archive), &mut out);

@@ -12,7 +12,7 @@ use warc_core::{Cause, Fault, Fuse, Gather, Input, Slice};
 const AGAIN_LINE: &[u8] =
     b"com,example)/ 20160919172024 {\"url\": \"http://example.com/\", \"mime\": \"text/html\", \"status\": \"200\", \"digest\": \"3I42H3S6NNFQ2MSVX7XZKYAYSCX5QBYJ\", \"length\": \"264\", \"offset\": \"448\", \"filename\": \"b.warc\"}\n";
 
-/// The index of the first so many of the three records.
+/// Returns the index of the first `records` of the three records.
 fn index_of(alloc: Global, records: u64) -> Result<Vec<u8>, AllocError> {
     match records {
         0 => joined(alloc, &[]),
@@ -22,7 +22,7 @@ fn index_of(alloc: Global, records: u64) -> Result<Vec<u8>, AllocError> {
     }
 }
 
-/// How many of the three records end at or before an offset where one of them begins or the last ends.
+/// Returns how many of the three records end at or before this offset, where one of them begins or the last ends.
 fn records_before(offset: u64) -> u64 {
     match offset {
         0 => 0,
@@ -32,8 +32,8 @@ fn records_before(offset: u64) -> u64 {
     }
 }
 
-/// Whether the input, a part of the three records, has this answer or is cut short by a refused growth, and the indexer
-/// then holds the captures of the records before the fault.
+/// Returns whether the input, a part of the three records, has this result or is cut short by a failed allocation, and
+/// the indexer then holds the captures of the records before the fault.
 fn keeps<I: Input>(
     alloc: Global,
     input: &mut I,
@@ -75,7 +75,7 @@ fn an_indexer_keeps_the_whole_records_of_every_prefix(rt: HostRuntime) -> Result
     Ok(())
 }
 
-/// Where the record begins that is being read by one byte a call at this call.
+/// Returns where the record begins that is read at this call, at one byte a call.
 fn record_of_read(call: u64) -> u64 {
     match call {
         0..=264 => 0,
@@ -109,7 +109,7 @@ fn an_indexer_keeps_the_records_before_a_failed_read(rt: HostRuntime) -> Result<
     Ok(())
 }
 
-/// Whether the index, written by one byte a call, ends at each call that fails, and can be written again.
+/// Returns whether the index, written one byte a call, ends at each call that fails, and can be written again.
 fn stops_at_each_write(
     alloc: Global,
     indexer: &Indexer,

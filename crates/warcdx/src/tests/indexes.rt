@@ -17,7 +17,7 @@ fn added(indexer: &mut Indexer, name: &str, archive: &[u8]) -> Result<Result<u64
     settled(indexer.add(name, &mut Slice::new(archive)))
 }
 
-/// Whether this is written, as so many lines.
+/// Returns whether these lines are written, and whether there are this many.
 pub fn writes(
     alloc: Global,
     indexer: &Indexer,
@@ -28,7 +28,7 @@ pub fn writes(
     Ok(settled(indexer.write(&mut out))? == Ok(number) && out.bytes() == lines)
 }
 
-/// Whether the archive has this answer, and its index these lines.
+/// Returns whether the archive has this result, and its index these lines.
 fn indexes(
     alloc: Global,
     archive: &[u8],
@@ -40,7 +40,7 @@ fn indexes(
     Ok(added(&mut indexer, "b.warc", archive)? == answer && writes(alloc, &indexer, lines, number)?)
 }
 
-/// Whether the name is refused so, before anything is read.
+/// Returns whether the name is refused with this fault, before anything is read.
 fn refuses(indexer: &mut Indexer, name: &str, fault: IndexFault) -> bool {
     indexer.add(name, &mut Slice::new(RESPONSE)) == Err(fault)
 }
@@ -83,7 +83,7 @@ fn an_indexer_takes_each_name_once(rt: HostRuntime) -> Result<(), Fail> {
     Ok(())
 }
 
-/// Archives get an index each, and their names stay used.
+/// Each archive gets its own index, and its name stays used.
 #[test]
 fn captures_are_forgotten_and_names_are_not(rt: HostRuntime) -> Result<(), Fail> {
     let alloc = rt.alloc();
@@ -112,7 +112,7 @@ const CHOSEN: &[(&str, &[u8], &[u8])] = &[
     ("metadata", RESPONSE, b""),
 ];
 
-/// Whether the index of this archive for these types has these lines, of which there is one or none.
+/// Returns whether the index of this archive for these types has these lines, of which there is one or none.
 fn indexes_types(
     alloc: Global,
     types: &str,

@@ -5,14 +5,14 @@ use std::alloc::{AllocError, Global};
 use std::test::Fail;
 use warc_core::{Cause, Fault, Fuse, Gather, Input, Slice};
 
-/// What `list` writes, and its answer.
+/// Returns what `list` writes, and its result.
 fn listed<I: Input>(alloc: Global, input: &mut I) -> Result<(Gather, Result<u64, Fault>), Refused> {
     let mut out = Gather::new(alloc);
     let answer = settled(list(alloc, input, &mut out))?;
     Ok((out, answer))
 }
 
-/// Whether the archive is listed so, read in whole pieces and by one byte a call.
+/// Returns whether the listing of the archive is these lines, read in whole pieces and one byte a call.
 fn lists(
     alloc: Global,
     archive: &[u8],
@@ -24,7 +24,7 @@ fn lists(
     Ok(whole.bytes() == lines && count == answer && by_byte.bytes() == lines && again == answer)
 }
 
-/// The answer for one record, or none for its fault.
+/// Returns the result for one record: its fault, if it has one, else that there is one record.
 fn answer(cause: Option<Cause>) -> Result<u64, Fault> {
     match cause {
         Some(cause) => Err(Fault { offset: 0, cause }),
@@ -32,7 +32,7 @@ fn answer(cause: Option<Cause>) -> Result<u64, Fault> {
     }
 }
 
-/// Archives of one record with their lines, and the cause where it can't be read. The block of the first is the beginning
+/// Archives of one record with their lines, and the cause if it can't be read. The block of the first is the beginning
 /// of a record.
 const ARCHIVES: &[(&[u8], &[u8], Option<Cause>)] = &[
     (
@@ -102,7 +102,7 @@ fn lists_archives(rt: HostRuntime) -> Result<(), Fail> {
     Ok(())
 }
 
-/// The lines of the first so many of the three records.
+/// Returns the lines of the first `records` of the three records.
 fn lines_of(records: u64) -> &'static [u8] {
     match records {
         0 => b"",
@@ -112,7 +112,7 @@ fn lines_of(records: u64) -> &'static [u8] {
     }
 }
 
-/// The lines of a listing: those of the records, and the fault's.
+/// Returns the lines of a listing: those of the records, and the fault's.
 fn listing(alloc: Global, records: &[u8], fault: Option<Fault>) -> Result<Vec<u8>, AllocError> {
     let mut text = records.to_vec(alloc)?;
     if let Some(Fault { offset, cause }) = fault {
@@ -148,7 +148,7 @@ fn lists_every_prefix(rt: HostRuntime) -> Result<(), Fail> {
     Ok(())
 }
 
-/// The lines of a response and a resource read by one byte a call, of which the call `at` fails, and the fault.
+/// Returns the lines of a response and a resource read one byte a call, of which the call `at` fails, and the fault.
 fn failed_read_gives(at: u64) -> (&'static [u8], Fault) {
     let cause = Cause::Read;
     match at {

@@ -28,8 +28,8 @@ const SHORT_BLOCK: Outcome = Outcome::Index(IndexFault::Capture(CaptureFault::Ar
     cause: Cause::ShortBlock,
 })));
 
-/// Names of archives, what their index is, and how its writing ends. `whole/b.warc` has the response alone; there is no
-/// `none`, and `whole` is a folder.
+/// Names of archives, their index, and the outcome of writing it. `whole/b.warc` has the response alone; there is no
+/// `none`, and `whole` is a directory.
 const INDEXES: &[(&[&str], &[&[u8]], Outcome)] = &[
     (&["whole/b.warc"], &[RESPONSE_LINE], Outcome::Done),
     (&["b.warc"], &[RESPONSE_LINE, RESOURCE_LINE], SHORT_BLOCK),
@@ -52,7 +52,7 @@ const INDEXES: &[(&[&str], &[&[u8]], Outcome)] = &[
     (&["whole", "./whole/b.warc"], &[RESPONSE_LINE], READ),
 ];
 
-/// Offsets in archives, what is written of them, and how that ends.
+/// Offsets in archives, what is written of the archives, and the outcome.
 const RECORDS: &[(u64, &str, &[u8], Outcome)] = &[
     (0, "whole/b.warc", RESPONSE, Outcome::Done),
     (264, "b.warc", RESOURCE, Outcome::Done),
@@ -63,7 +63,7 @@ const RECORDS: &[(u64, &str, &[u8], Outcome)] = &[
     (0, "whole", b"", READ),
 ];
 
-/// Sizes of pages, queries and names of archives, what is written, and how that ends.
+/// Sizes of pages, queries and names of archives, what is written, and the outcome.
 const SCANS: &[(&[u64], &str, &[&str], &[u8], Outcome)] = &[
     (
         &[1],
@@ -134,7 +134,7 @@ fn scan_of(
     })
 }
 
-/// Whether the task writes these pieces, one after another, and ends so.
+/// Returns whether the task writes these pieces, one after another, and has this outcome.
 fn writes<R: Runtime + AllocGlobal>(
     rt: &R,
     task: Result<Task, AllocError>,
@@ -148,7 +148,7 @@ fn writes<R: Runtime + AllocGlobal>(
     Ok(out.device.bytes() == text.as_slice() && outcome == wanted)
 }
 
-/// Whether the task's first write fails, and ends it.
+/// Returns whether the task's first write fails, and ends it.
 fn stops<R: Runtime + AllocGlobal>(
     rt: &R,
     task: Result<Task, AllocError>,
@@ -157,7 +157,7 @@ fn stops<R: Runtime + AllocGlobal>(
     Ok(out.device.bytes().is_empty() && outcome == WRITE)
 }
 
-/// Whether of the two records the resource alone is indexed and found by a scan.
+/// Returns whether only the resource of the two records is indexed and found by a scan.
 fn takes_resources<R: Runtime + AllocGlobal>(rt: &R) -> Result<bool, Refused> {
     let alloc = rt.alloc();
     let Some(types) = Types::read("resource,metadata") else {
@@ -171,7 +171,7 @@ fn takes_resources<R: Runtime + AllocGlobal>(rt: &R) -> Result<bool, Refused> {
     )
 }
 
-/// Whether a first part of the response is written before its block ends too early.
+/// Returns whether a first part of the response is written before its block ends too early.
 fn writes_in_part<R: Runtime + AllocGlobal>(rt: &R) -> Result<bool, Refused> {
     let (outcome, out) = performed(rt, record_at(rt.alloc(), 448, "b.warc"), 0)?;
     Ok(cut(RESPONSE, 231).starts_with(out.device.bytes()) && outcome == SHORT_BLOCK)

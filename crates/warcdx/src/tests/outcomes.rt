@@ -9,7 +9,7 @@ fn archive(cause: Cause) -> Outcome {
     Outcome::Index(IndexFault::Capture(CaptureFault::Archive(Fault { offset: 0, cause })))
 }
 
-/// Outcomes with their status, and whether they end a command at once.
+/// Outcomes with their exit status, and whether they end a command at once.
 const OUTCOMES: &[(Outcome, u8, bool)] = &[
     (Outcome::Done, 0, false),
     (Outcome::Differs, 1, false),
@@ -44,7 +44,7 @@ const OUTCOMES: &[(Outcome, u8, bool)] = &[
     (Outcome::CannotFlush, 3, false),
 ];
 
-/// The same of the faults of an archive.
+/// The same for the faults of an archive.
 const CAUSES: &[(Cause, u8, bool)] = &[
     (Cause::Memory, 3, true),
     (Cause::Read, 3, false),

@@ -3,12 +3,12 @@ use super::{RESOURCE, RESPONSE, joined};
 use std::alloc::{AllocError, Global};
 use warc_core::{Cause, Fault};
 
-/// 712 bytes: the records begin at 0, 264 and 448.
+/// Returns 712 bytes: the records begin at 0, 264 and 448.
 pub fn three_records(alloc: Global) -> Result<Vec<u8>, AllocError> {
     joined(alloc, &[RESPONSE, RESOURCE, RESPONSE])
 }
 
-/// How many whole records a prefix of these three has, and the fault that follows.
+/// Returns how many whole records a prefix of these three has, and the fault that follows.
 pub fn prefix_gives(length: usize) -> (u64, Option<Fault>) {
     let fault = |offset, cause| Some(Fault { offset, cause });
     match length {

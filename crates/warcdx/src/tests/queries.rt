@@ -23,7 +23,7 @@ const OFFSET_5: &[u8] =
 /// The indexes of one line each, in the order in which they are named.
 const APART: &[&str] = &["10.cdxj", "20.cdxj", "5.cdxj"];
 
-/// Queries over indexes by name, the page that is written, and how that ends. There is no `none`, and `.` is a folder.
+/// Queries over indexes by name, the page that is written, and the outcome. There is no `none`, and `.` is a directory.
 const ANSWERS: &[(&str, &[&str], &[u8], Outcome)] = &[
     (
         "url=example.com&fl=filename,offset",
@@ -59,7 +59,7 @@ const ANSWERS: &[(&str, &[&str], &[u8], Outcome)] = &[
     ),
 ];
 
-/// Sizes and queries over these indexes, the pages that are written, and how that ends.
+/// Sizes and queries over these indexes, the pages that are written, and the outcome.
 const PAGES: &[(&[u64], &str, &[u8], Outcome)] = &[
     (
         &[1, 2],
@@ -76,7 +76,8 @@ const PAGES: &[(&[u64], &str, &[u8], Outcome)] = &[
     (&[1], "url=", b"", Outcome::Query(QueryFault::BadUrl)),
 ];
 
-/// Indexes, the lines of an input whose second read fails where that is said, the replies that are written, and how that ends.
+/// Indexes, the lines of an input, the call of the input that fails, or 0, the replies that are written, and the
+/// outcome.
 const CONVERSATIONS: &[(&[&str], &[u8], u64, &[u8], Outcome)] = &[
     (
         APART,
@@ -119,7 +120,7 @@ fn pages(alloc: Global, sizes: &[u64], text: &str) -> Result<Task, AllocError> {
     })
 }
 
-/// Whether the task writes this, and ends so.
+/// Returns whether the task writes this, and has this outcome.
 fn writes<R: Runtime + AllocGlobal>(
     rt: &R,
     task: Result<Task, AllocError>,
@@ -130,7 +131,7 @@ fn writes<R: Runtime + AllocGlobal>(
     Ok(out.device.bytes() == text && outcome == wanted)
 }
 
-/// Whether these replies are written to the lines, which are read six bytes at a time, and it ends so.
+/// Returns whether these replies are written to the lines, which are read six bytes at a time, with this outcome.
 fn replies<R: Runtime + AllocGlobal>(
     rt: &R,
     names: &[&str],

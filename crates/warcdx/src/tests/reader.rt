@@ -11,7 +11,7 @@ use warc_core::{Cause, Fault, Head, Input, Reader};
 const MANDATORY: &[u8] =
     b"WARC-Record-ID: <urn:x:1>\r\nContent-Length: 3\r\nWARC-Date: 2016\r\nWARC-Type: resource\r\n";
 
-/// How many whole records come, and the fault after them. Memory is an error of the test's.
+/// Returns how many whole records are read, and the fault after them. Failed allocations are errors of the test.
 fn walk<I: Input>(alloc: Global, input: &mut I) -> Result<(u64, Option<Fault>), Fault> {
     let mut reader = Reader::new(alloc)?;
     for count in 0..u64::MAX {

@@ -8,7 +8,7 @@ use warc_core::{Cause, Fault, Fuse, Gather, Input, Slice};
 const RESOURCE: &[u8] =
     b"WARC/1.1\r\nWARC-Type: resource\r\nWARC-Record-ID: <urn:x:3>\r\nWARC-Date: 2016-09-19T17:20:24Z\r\nWARC-Target-URI: http://example.com/r\r\nContent-Type: text/plain\r\nContent-Length: 3\r\n";
 
-/// The fields of a resource whose block is `abc`, and what is said of it.
+/// The fields of a resource whose block is `abc`, and its verdict.
 const FIELDS: &[(&[u8], &[u8])] = &[
     (
         b"WARC-Block-Digest: sha1:VGMT4NSHA2AWVOR6EVYXQUGCNSONBWE5\r\n",
@@ -96,7 +96,7 @@ const FIELDS: &[(&[u8], &[u8])] = &[
     ),
 ];
 
-/// What `verify` writes, and its answer.
+/// Returns what `verify` writes, and its result.
 fn verified<I: Input>(
     alloc: Global,
     input: &mut I,
@@ -106,7 +106,7 @@ fn verified<I: Input>(
     Ok((out, answer))
 }
 
-/// Whether the archive is verified so, read in whole pieces and by one byte a call.
+/// Returns whether the archive is verified with this result, read in whole pieces and one byte a call.
 fn verifies(
     alloc: Global,
     archive: &[u8],
@@ -118,7 +118,7 @@ fn verifies(
     Ok(whole.bytes() == lines && counts == answer && by_byte.bytes() == lines && again == answer)
 }
 
-/// A record's counts, by its line.
+/// Returns a record's counts, by its line.
 fn counts(line: &[u8]) -> Result<Verified, Fault> {
     Ok(Verified {
         records: 1,
@@ -143,11 +143,11 @@ const SAME: &[u8] = b"WARC-Block-Digest: sha1:VGMT4NSHA2AWVOR6EVYXQUGCNSONBWE5\r
 
 const OTHER: &[u8] = b"WARC-Block-Digest: sha1:AGMT4NSHA2AWVOR6EVYXQUGCNSONBWE5\r\n\r\nabc\r\n\r\n";
 
-/// The head of a record whose block is a million letters `a`, with the digest that FIPS 180-4's example has.
+/// The head of a record whose block is a million letters `a`, with the digest of the example in FIPS 180-4.
 const MILLION: &[u8] =
     b"WARC/1.1\r\nWARC-Type: resource\r\nWARC-Record-ID: <urn:x:4>\r\nWARC-Date: 2016\r\nContent-Length: 1000000\r\nWARC-Block-Digest: sha1:GSVJOPGUYTNKJ5Q65MV5XLJHGFSTIALP\r\n\r\n";
 
-/// Whether the archive, read by one byte a call of which the call `at` fails, is verified up to this offset.
+/// Returns whether the archive, read one byte a call, of which the call `at` fails, is verified up to this offset.
 fn verifies_to_failed_read(
     alloc: Global,
     archive: &[u8],
@@ -160,7 +160,7 @@ fn verifies_to_failed_read(
     Ok(out.bytes() == lines && answer == Err(Fault { offset, cause }))
 }
 
-/// Calls that fail, with the lines and the offset that the verifying ends at.
+/// Calls that fail, with the lines and the offset at which the verification ends.
 const FAILED_READS: &[(u64, &[u8], u64)] = &[
     (1, b"fault 0 Read\n", 0),
     (236, b"fault 0 Read\n", 0),

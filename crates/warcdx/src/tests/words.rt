@@ -1,10 +1,11 @@
-//! What words ask for, worked out by hand.
+//! What arguments ask for, worked out by hand.
 use super::owned;
 use capture_core::Types;
 use command_line::{Task, WordsFault, read_words};
 use std::alloc::Global;
 
-/// A task with these names, of an index and a scan with the text of its types before; or a refusal whose text has this piece.
+/// A task with these names, preceded by the text of its types for an index or a scan; or a refusal whose text contains
+/// this piece.
 enum Wanted {
     List(&'static [&'static str]),
     Verify(&'static [&'static str]),
@@ -43,7 +44,7 @@ const WITH_X: Wanted = Wanted::Usage("error: unexpected option '-x'\n");
 
 const TYPES_ELSEWHERE: Wanted = Wanted::Usage("error: unexpected option '--types'\n");
 
-/// The types where none are chosen.
+/// The types if none are chosen.
 const USUAL: &str = "response,resource,revisit";
 
 /// 2^63 - 1.
@@ -204,7 +205,7 @@ const ROWS: &[(&[&str], Wanted)] = &[
     ),
 ];
 
-/// Words with a choice of types.
+/// Arguments with a choice of types.
 const TYPED: &[(&[&str], Wanted)] = &[
     (
         &["index", "--types", "request", "m.warc"],
@@ -261,7 +262,7 @@ const TYPED: &[(&[&str], Wanted)] = &[
     (&["scan", "--types", "metadata", "--help"], SCAN),
 ];
 
-/// Whether the words are answered so.
+/// Returns whether the arguments have this result.
 fn asks(alloc: Global, words: &[&str], wanted: &Wanted) -> Result<bool, WordsFault> {
     match read_words(alloc, owned(alloc, words)?.as_slice()) {
         Ok(task) => Ok(is_task(&task, wanted)),
@@ -320,7 +321,7 @@ fn are(names: &[String], wanted: &[&str]) -> bool {
             .all(|(name, wanted)| name.as_str() == *wanted)
 }
 
-/// No line of help is wider than 80 columns.
+/// Returns whether this is the wanted help. No line of help is wider than 80 columns.
 fn is_help(text: &str, wanted: &Wanted) -> bool {
     match wanted {
         Wanted::Help(piece) => text.contains(*piece) && text.lines().all(|line| line.len() <= 80),

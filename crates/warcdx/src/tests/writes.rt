@@ -10,7 +10,7 @@ const LISTING: &[u8] = b"0 264 response\n264 184 resource\nfault 448 ShortBlock\
 
 const VERDICTS: &[u8] = b"0 absent\n264 absent\nfault 448 ShortBlock\n";
 
-/// The fault of a report on an archive.
+/// Returns the fault of a report on an archive.
 fn report_fault(
     alloc: Global,
     report: ArchiveReport,
@@ -23,8 +23,8 @@ fn report_fault(
     }
 }
 
-/// Whether the report, written by one byte a call, ends at the first of these calls that fails: what was written before
-/// it is there, and no more.
+/// Returns whether the report, written one byte a call, ends at the first of these calls that fails: what was written
+/// before it is there, and no more.
 fn stops_at_each_write(
     alloc: Global,
     report: ArchiveReport,
@@ -44,7 +44,7 @@ fn stops_at_each_write(
     Ok(true)
 }
 
-/// The reports that end for want of memory.
+/// The reports that end for lack of memory.
 const OUT_OF_MEMORY: &[&[u8]] = &[
     b"fault 0 Memory\n",
     b"0 264 response\nfault 264 Memory\n",
@@ -53,7 +53,7 @@ const OUT_OF_MEMORY: &[&[u8]] = &[
     b"0 absent\n264 absent\nfault 448 Memory\n",
 ];
 
-/// Whether this is the beginning of such a report, and of no other.
+/// Returns whether this is the beginning of such a report, and of no other.
 fn is_out_of_memory(text: &[u8], lines: &[u8]) -> bool {
     !lines.starts_with(text) && OUT_OF_MEMORY.iter().any(|report| report.starts_with(text))
 }

@@ -5,19 +5,19 @@ use std::alloc::Global;
 use std::test::Fail;
 use warc_core::{Reader, Slice};
 
-/// A response with its target folded and in brackets, and with a fraction of a second: 11 bytes more.
+/// A response whose target is folded and in brackets, and whose date has a fraction of a second: 11 bytes more.
 const FOLDED: &[u8] =
     b"WARC/1.0\r\nWARC-Type: response\r\nWARC-Record-ID: <urn:x:1>\r\nWARC-Date: 2016-09-19T17:20:24.123456Z\r\nWARC-Target-URI:\r\n <http://example.com/>\r\nContent-Type: application/http; msgtype=response\r\nContent-Length: 59\r\n\r\nHTTP/1.1 200 OK\r\nContent-Type: text/html; charset=utf-8\r\n\r\n\r\n\r\n";
 
-/// One with a year for its date: 16 bytes less.
+/// A response whose date is a year: 16 bytes less.
 const DATED: &[u8] =
     b"WARC/1.1\r\nWARC-Type: response\r\nWARC-Record-ID: <urn:x:1>\r\nWARC-Date: 2016\r\nWARC-Target-URI: http://example.com/\r\nContent-Type: application/http; msgtype=response\r\nContent-Length: 59\r\n\r\nHTTP/1.1 200 OK\r\nContent-Type: text/html; charset=utf-8\r\n\r\n\r\n\r\n";
 
-/// One without an HTTP head: 57 bytes less.
+/// A response without an HTTP head: 57 bytes less.
 const HEADLESS: &[u8] =
     b"WARC/1.1\r\nWARC-Type: response\r\nWARC-Record-ID: <urn:x:1>\r\nWARC-Date: 2016-09-19T17:20:24Z\r\nWARC-Target-URI: http://example.com/\r\nContent-Type: application/http; msgtype=response\r\nContent-Length: 3\r\n\r\nabc\r\n\r\n";
 
-/// One that names its payload's digest: 31 bytes more.
+/// A response that gives its payload's digest: 31 bytes more.
 const DIGESTED: &[u8] =
     b"WARC/1.1\r\nWARC-Type: response\r\nWARC-Record-ID: <urn:x:1>\r\nWARC-Date: 2016-09-19T17:20:24Z\r\nWARC-Target-URI: http://example.com/\r\nContent-Type: application/http; msgtype=response\r\nContent-Length: 59\r\nWARC-Payload-Digest: sha1:ABC\r\n\r\nHTTP/1.1 200 OK\r\nContent-Type: text/html; charset=utf-8\r\n\r\n\r\n\r\n";
 
@@ -53,7 +53,7 @@ const ARCHIVES: &[([&[u8]; 2], &[u8])] = &[
     ),
 ];
 
-/// The lines of the captures of the first two records.
+/// Returns the lines of the captures of the first two records.
 fn lines_of(alloc: Global, archive: &[u8]) -> Result<Vec<u8>, Fail> {
     let mut input = Slice::new(archive);
     let mut reader = Reader::new(alloc)?;
@@ -66,7 +66,7 @@ fn lines_of(alloc: Global, archive: &[u8]) -> Result<Vec<u8>, Fail> {
     Ok(lines)
 }
 
-/// The line of an entry, where it is good.
+/// Appends the line of an entry, if it is good.
 fn push_line(alloc: Global, lines: &mut Vec<u8>, entry: &Entry) -> Result<(), Fail> {
     if entry.good() {
         lines.extend_from_slice(write_line(alloc, entry)?.as_slice())?;

@@ -3,7 +3,7 @@ use cdxj_core::Entry;
 use std::alloc::{AllocError, Global};
 use std::test::Fail;
 
-/// A first part and a part that is repeated, how often, and whether they make a head: of 256 and 257 fields, and of
+/// A first part, a part that is repeated, how often, and whether they make a head: of 256 and 257 fields, and of
 /// 65,536, 65,537 and 100,024 bytes.
 const HEADS: &[(&[u8], &[u8], usize, bool)] = &[
     (b"HTTP/1.1 200 OK", b"\r\na: b", 256, true),
@@ -13,7 +13,7 @@ const HEADS: &[(&[u8], &[u8], usize, bool)] = &[
     (b"HTTP/1.1 200 OK\r\nX: ", b"a", 100_000, false),
 ];
 
-/// The head, and `abc` after it.
+/// Returns the head, followed by `abc`.
 fn block_text(
     alloc: Global,
     first: &[u8],
@@ -28,7 +28,7 @@ fn block_text(
     Ok(block)
 }
 
-/// Whether the capture says so of a head before `abc`.
+/// Returns whether the capture shows that a head before `abc` was found, or not found.
 fn says_head(captured: &Option<Entry>, is_head: bool) -> bool {
     if is_head {
         says(captured, "-", "200", ABC)

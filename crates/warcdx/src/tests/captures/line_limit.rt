@@ -5,7 +5,7 @@ use std::alloc::Global;
 use std::test::Fail;
 use warc_core::{Reader, Slice};
 
-/// Where the line of the first record's capture is too long: the offset that the fault has, and the start of the record
+/// If the line of the first record's capture is too long, returns the offset in the fault, and the start of the record
 /// that is read after it.
 fn too_long(alloc: Global, archive: &[u8], name: &str) -> Result<Option<(u64, u64)>, Fail> {
     let mut input = Slice::new(archive);
@@ -19,7 +19,7 @@ fn too_long(alloc: Global, archive: &[u8], name: &str) -> Result<Option<(u64, u6
     }
 }
 
-/// Under a name of six letters the line has 198 bytes.
+/// Under a name of six letters, the line has 198 bytes.
 #[test]
 fn lines_of_captures_are_limited(rt: HostRuntime) -> Result<(), Fail> {
     let archive = joined(rt.alloc(), &[RESPONSE, RESOURCE])?;

@@ -3,8 +3,8 @@ use super::{ABC, EMPTY, HTTP, capture_of, says};
 use std::alloc::Global;
 use std::test::Fail;
 
-/// A record of `http://x/`: its type, further lines of its head, each with its CR LF, and its block; and what its
-/// capture says: the media type, the status and the digest.
+/// A record of `http://x/`: its type, further lines of its head, each with its CR LF, and its block; and the media
+/// type, the status and the digest of its capture.
 type Sample = (
     &'static str,
     &'static [u8],

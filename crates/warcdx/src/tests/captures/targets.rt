@@ -3,7 +3,7 @@ use cdxj_core::Entry;
 use std::alloc::Global;
 use std::test::Fail;
 
-/// Types and targets, with the URL of the capture where there is one.
+/// Types and targets, with the URL of the capture, if there is one.
 const TARGETS: &[(&str, &[u8], Option<&str>)] = &[
     ("response", b"http://x/", Some("http://x/")),
     ("resource", b"<http://x/>", Some("http://x/")),
@@ -25,7 +25,7 @@ const TARGETS: &[(&str, &[u8], Option<&str>)] = &[
     ("responses", b"http://x/", None),
 ];
 
-/// The capture of a record of this type and target.
+/// Returns the capture of a record of this type and target.
 fn capture_under(alloc: Global, kind: &str, target: &[u8]) -> Result<Option<Entry>, Fail> {
     let text = record_text(alloc, kind, target, b"", b"")?;
     captured(alloc, text.as_slice())

@@ -1,4 +1,4 @@
-//! Sets of types, and the captures of records that aren't of the usual ones.
+//! Sets of types, and the captures of records of types other than the usual ones.
 use super::{ABC, EMPTY, HTTP, capture_among, capture_of, says};
 use capture_core::Types;
 use std::alloc::Global;
@@ -60,7 +60,7 @@ const NO_TYPES: &[&str] = &[
     "response,request",
 ];
 
-/// Whether the text names these types and no others.
+/// Returns whether the text names these types and no others.
 fn names(text: &str, kinds: &[Kind]) -> bool {
     match Types::read(text) {
         Some(types) => KINDS
@@ -88,7 +88,8 @@ const PAGE: &[u8] = b"HTTP/1.1 200 OK\r\nContent-Type: text/html\r\n\r\nabc";
 
 const WHOLE_PAGE: &str = "3VCEUS3XON6CASQCPFYOGDLJAEWJAUIV";
 
-/// Types of records, further lines of their heads and their blocks; and the media type and the digest of their captures. None has a status.
+/// Types of records, further lines of their heads and their blocks; and the media type and the digest of their
+/// captures. None has a status.
 const SAMPLES: &[(&str, &[u8], &[u8], &str, &str)] = &[
     ("metadata", PLAIN, b"abc", "text/plain", ABC),
     ("Metadata", b"", b"", "-", EMPTY),
@@ -105,7 +106,8 @@ const SAMPLES: &[(&str, &[u8], &[u8], &str, &str)] = &[
     ("conversion", HTTP, PAGE, "-", WHOLE_PAGE),
 ];
 
-/// Whether a record is captured so among conversion and metadata records, and not among the usual ones.
+/// Returns whether a record has this capture among conversion and metadata records, and none among records of the usual
+/// types.
 fn is_captured(
     alloc: Global,
     kind: &str,

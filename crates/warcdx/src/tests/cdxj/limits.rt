@@ -14,7 +14,7 @@ fn long_line(alloc: Global, length: usize, feed: bool) -> Result<Vec<u8>, AllocE
     Ok(line)
 }
 
-/// The offset in a line of this length, or none where it is too long. Memory is an error of the test's.
+/// Returns the offset in a line of this length, or `None` if it is too long. Failed allocations are errors of the test.
 fn offset_of(alloc: Global, length: usize, feed: bool) -> Result<Option<u64>, LineFault> {
     let line = long_line(alloc, length, feed)?;
     match LineRef::read(alloc, &line) {
@@ -24,7 +24,7 @@ fn offset_of(alloc: Global, length: usize, feed: bool) -> Result<Option<u64>, Li
     }
 }
 
-/// Lengths of lines, with a line feed as their last byte or none, and whether they are read.
+/// Lengths of lines, whether their last byte is a line feed, and whether they are read.
 const LENGTHS: &[(usize, bool, bool)] = &[
     (1_048_577, true, true),
     (16_777_215, false, true),
@@ -45,7 +45,7 @@ fn a_line_is_read_up_to_the_limit(rt: HostRuntime) -> Result<(), Fail> {
     Ok(())
 }
 
-/// Whether a line of this byte, over the limit, is too long.
+/// Returns whether a line of this byte, over the limit, is too long.
 fn is_too_long(alloc: Global, byte: u8) -> Result<bool, Fail> {
     let mut line = Vec::new(alloc);
     line.resize(16_777_216, byte)?;

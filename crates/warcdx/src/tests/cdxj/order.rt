@@ -78,7 +78,7 @@ const RISING: &[&[&str]] = &[
     &["k"],
 ];
 
-/// Whether entries with these keys, handed over from the last to the first, rise as the keys do.
+/// Returns whether entries with these keys, passed from the last to the first, are sorted as the keys are.
 fn rise(alloc: Global, keys: &[&'static str]) -> Result<bool, Fail> {
     let mut entries = Vec::new(alloc);
     for key in keys.iter().rev() {
@@ -111,7 +111,7 @@ fn lines(alloc: Global) -> Result<Vec<LineRef<'static>>, Fail> {
     Ok(lines)
 }
 
-/// The offset of the line that stands at this index once they are in order.
+/// Returns the offset of the line at this index after sorting.
 fn offset_at(alloc: Global, lines: &[LineRef<'_>], index: usize) -> Result<Option<u64>, Fail> {
     let mut references = Vec::new(alloc);
     for line in lines {

@@ -118,7 +118,7 @@ const RISING: &[&str] = &[
     "com%2Cexample-shop%29%2F+20150101000000+a.warc+0",
 ];
 
-/// Whether the places of these resume keys compare so.
+/// Returns whether the places of these resume keys compare in this order.
 fn compare_as(alloc: Global, left: &str, right: &str, order: Ordering) -> Result<bool, PlaceFault> {
     let left = OwnedPlace::read(alloc, left)?;
     let right = OwnedPlace::read(alloc, right)?;

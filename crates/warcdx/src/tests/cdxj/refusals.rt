@@ -1,7 +1,7 @@
 use cdxj_core::{LineFault, LineRef};
 use std::alloc::Global;
 
-/// Whether the line is refused as bad. Memory is an error of the test's.
+/// Returns whether the line is refused as bad. Failed allocations are errors of the test.
 fn is_bad(alloc: Global, line: &[u8]) -> Result<bool, LineFault> {
     match LineRef::read(alloc, line) {
         Err(LineFault::Memory) => Err(LineFault::Memory),

@@ -61,7 +61,7 @@ pub fn entry(alloc: Global, members: &Members) -> Result<Entry, AllocError> {
     })
 }
 
-/// The values of a line with these members, but for the offset and the length.
+/// Returns whether a line has the values of these members, except for the offset and the length.
 fn has_texts(read: &LineRef<'_>, members: &Members) -> bool {
     read.value(Field::Urlkey) == members.key
         && read.value(Field::Timestamp).as_bytes() == members.stamp.as_slice()
@@ -89,7 +89,7 @@ const WRITTEN: &[(Members, &[u8], &str, &str)] = &[
     (ESCAPED, ESCAPED_LINE, "264", "0"),
 ];
 
-/// Whether the entry is written as this line, and read back.
+/// Returns whether the entry is written as this line, and read back.
 fn is_written(alloc: Global, members: &Members, line: &[u8]) -> Result<bool, Fail> {
     let entry = entry(alloc, members)?;
     if !entry.good() {
@@ -99,7 +99,7 @@ fn is_written(alloc: Global, members: &Members, line: &[u8]) -> Result<bool, Fai
     Ok(written.as_slice() == line && has_texts(&LineRef::read(alloc, line)?, members))
 }
 
-/// Whether the line has this length and offset.
+/// Returns whether the line has this length and offset.
 fn has_numbers(alloc: Global, line: &[u8], length: &str, offset: &str) -> Result<bool, LineFault> {
     let read = LineRef::read(alloc, line)?;
     Ok(read.value(Field::Length) == length && read.value(Field::Offset) == offset)
@@ -200,14 +200,15 @@ fn an_entry_is_good_where_each_member_is(rt: HostRuntime) -> Result<(), Fail> {
     Ok(())
 }
 
-/// The home page's entry with a URL of this many letters.
+/// Returns the home page's entry with a URL of this many letters.
 fn with_long_url(alloc: Global, letters: usize) -> Result<Entry, AllocError> {
     let mut entry = entry(alloc, &HOME)?;
     entry.url = "a".repeat(alloc, letters)?;
     Ok(entry)
 }
 
-/// The length of the line of a good entry with so many letters, or none where it is too long. Memory is an error of the test's.
+/// Returns the length of the line of a good entry with this many letters, or `None` if it is too long. Failed
+/// allocations are errors of the test.
 fn length_of_line(alloc: Global, letters: usize) -> Result<Option<usize>, Fail> {
     let entry = with_long_url(alloc, letters)?;
     if !entry.good() {

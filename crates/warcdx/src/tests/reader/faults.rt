@@ -26,7 +26,7 @@ fn names_causes(rt: HostRuntime) {
     }
 }
 
-/// Archives of one record, and what is wrong with it. Where two things are, the earlier is answered.
+/// Archives of one record, and what is wrong with it. If two things are wrong, the earlier is reported.
 const ONE_RECORD: &[(&str, Cause)] = &[
     ("W", Cause::ShortHead),
     ("WARC/1.", Cause::ShortHead),
@@ -146,7 +146,7 @@ fn accepts_leading_zeros(rt: HostRuntime) -> Result<(), Fail> {
     Ok(())
 }
 
-/// The response and then a head of 99 bytes, whose block has this length.
+/// Returns the response, followed by a head of 99 bytes, whose block has this length.
 fn second_of_length(alloc: Global, digits: &str) -> Result<Vec<u8>, AllocError> {
     let before = b"WARC/1.1\r\nWARC-Record-ID: a\r\nContent-Length: ";
     let behind = b"\r\nWARC-Date: 2016\r\nWARC-Type: b\r\n\r\n";
@@ -172,7 +172,8 @@ fn ends_at_the_greatest_offset(rt: HostRuntime) -> Result<(), Fail> {
     Ok(())
 }
 
-/// How many whole records end before byte `at`, and where the next begins, in the response and then the resource.
+/// Returns how many whole records end before byte `at`, and where the next begins, in the response and then the
+/// resource.
 fn stand_before(at: u64) -> (u64, u64) {
     match at {
         0..=264 => (0, 0),
@@ -181,7 +182,7 @@ fn stand_before(at: u64) -> (u64, u64) {
     }
 }
 
-/// One byte a call, and one of the calls fails.
+/// The input gives one byte a call, and one of the calls fails.
 #[test]
 fn stops_where_its_input_fails(rt: HostRuntime) -> Result<(), Fail> {
     let archive = joined(rt.alloc(), &[RESPONSE, RESOURCE])?;
@@ -200,7 +201,7 @@ fn stops_where_its_input_fails(rt: HostRuntime) -> Result<(), Fail> {
     Ok(())
 }
 
-/// The fault of a call, if it has one. Memory is an error of the test's.
+/// Returns the fault of a call, if it has one. Failed allocations are errors of the test.
 fn fault_of(answer: Result<Option<Head>, Fault>) -> Result<Option<Fault>, Fault> {
     match answer {
         Ok(_head) => Ok(None),
@@ -209,7 +210,7 @@ fn fault_of(answer: Result<Option<Head>, Fault>) -> Result<Option<Fault>, Fault>
     }
 }
 
-/// Whether each call of a reader that failed answers this fault.
+/// Returns whether each call of a reader that failed returns this fault.
 fn repeats<I: Input>(reader: &mut Reader, input: &mut I, fault: Fault) -> bool {
     reader.next(input).err() == Some(fault)
         && reader.finish(input).err() == Some(fault)

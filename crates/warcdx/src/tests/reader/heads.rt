@@ -3,7 +3,7 @@ use std::alloc::{AllocError, Global};
 use std::test::Fail;
 use warc_core::{Cause, Fault, Fuse, HEAD_LIMIT, Head, Input, Reader, Slice};
 
-/// A head of this many bytes, which ends with CR LF CR LF or, where it is open, lacks the last LF.
+/// Returns a head of this many bytes, which ends with CR LF CR LF or, if it is open, lacks the last LF.
 fn head_of(alloc: Global, length: usize, open: bool) -> Result<Vec<u8>, AllocError> {
     let mut head = joined(alloc, &[b"WARC/1.1\r\n", MANDATORY, b"X: "])?;
     let end = if open {
@@ -51,7 +51,7 @@ fn reads_heads_up_to_the_limit(rt: HostRuntime) -> Result<(), Fail> {
     Ok(())
 }
 
-/// A head that is too long is so before a line of it is looked at.
+/// A head that is too long is refused before a line of it is read.
 #[test]
 fn finds_a_long_head_before_its_lines(rt: HostRuntime) -> Result<(), Fail> {
     let filler = head_of(rt.alloc(), 1_100_000, false)?;
@@ -79,7 +79,7 @@ fn is_read<I: Input>(alloc: Global, input: &mut I, length: usize) -> Result<bool
     )
 }
 
-/// The end of the head may stand anywhere in the pieces that it is gathered from.
+/// The end of the head may lie anywhere in the pieces that it is gathered from.
 #[test]
 fn reads_heads_across_pieces(rt: HostRuntime) -> Result<(), Fail> {
     for edge in [1024, 8192] {

@@ -30,7 +30,7 @@ fn gives_a_head(rt: HostRuntime) -> Result<(), Fail> {
 
 const BLOCK: &[u8] = b"HTTP/1.1 200 OK\r\nContent-Type: text/html; charset=utf-8\r\n\r\n";
 
-/// Whether the open record's block is read so: nothing into no bytes, then all of it, then its end.
+/// Returns whether the open record's block is read as expected: nothing into no bytes, then all of it, then its end.
 fn gives_its_block(reader: &mut Reader, input: &mut Slice<'_>) -> Result<bool, Fault> {
     let mut piece = [0; 100];
     let none = reader.block(input, &mut [])?;
