@@ -7,7 +7,7 @@ use crate::source::{Source, SourceFault};
 use memchr::memchr;
 
 /// Returns the offset of the first line that begins at the offset `from` or after it, or the source's size. Reads piece
-/// by piece, from the byte before `from` on.
+/// by piece, from the byte before `from` on, and nothing if `from` is 0.
 pub(crate) fn next_line_start<S: Source>(
     source: &mut S,
     piece: &mut [u8],

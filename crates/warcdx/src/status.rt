@@ -9,8 +9,8 @@ use query_core::{AnswerFault, QueryFault};
 use warc_core::Cause;
 
 /// Returns the exit status: 0 if everything was done; 1 for a fault in an archive or an index, a refused query or name,
-/// a digest that differs, or an offset where no record begins; 2 for a usage error; 3 if memory, a device or a file
-/// failed.
+/// too many indexes or archives, a digest that differs, or an offset where no record begins; 2 for a usage error; 3 if
+/// memory, a device or a file failed.
 pub fn status(outcome: &Outcome) -> u8
     ensures { result ≡ status_of outcome.now }
 {
