@@ -43,7 +43,7 @@ if [ -n "$program" ]; then ln -sf "$program" "$clone/warcdx"; fi
 cd "$clone"
 block './warcdx index' | grep -v '^rt ci$' > "$work/script"
 bash "$work/script"
-grep -aEc '^WARC-Type: (response|resource|revisit)' samples/wget.warc | sed 's/^/wget.cdxj /' > "$work/wanted"
+echo 'wget.cdxj 33' > "$work/wanted" # 31 responses and 2 resources
 ./warcdx check wget.cdxj > "$work/found"
 compare 'the sample is indexed, from source' "$work/wanted" "$work/found"
 
