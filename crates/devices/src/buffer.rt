@@ -1,6 +1,6 @@
 //! Bytes that were read from an input and not yet consumed.
-ghost use Rattle.std.specs.Prelude.{◌≡◌, Option, ℕ, ◌+◌, ◌-◌, ◌<◌, ◌≤◌, List, [], length, drop, take, IfOk, OnOk, MatchResult};
-ghost use Rattle.std.specs.Io.KnownBytes.{Keeps, IsAtEnd, prepend_known};
+ghost use Rattle.std.specs.Prelude.{◌≡◌, Option, ℕ, ◌+◌, ◌-◌, ◌<◌, ◌≤◌, List, [], length, drop, take, min, IfOk, OnOk, MatchResult};
+ghost use Rattle.std.specs.Io.KnownBytes.{Keeps, ConsumesCount, IsAtEnd, prepend_known};
 ghost use Rattle.devices.specs.Device.{CountsFailure};
 
 use crate::device::{DeviceFault, Input};
@@ -69,5 +69,37 @@ impl Buffer {
             self.to = count;
         }
         Ok(())
+    }
+
+    /// Removes the first `count` bytes, or all if there are fewer, and returns their number.
+    fn skip_held(&mut self, count: u64) -> u64
+        ensures count { result ≡ min count (length self.old) }
+        ensures held { self.new ≡ drop result self.old }
+    {
+        let skipped = count.min(self.as_slice().len() as u64);
+        self.consume(skipped as usize);
+        skipped
+    }
+
+    /// Skips up to `count` of the next bytes, and returns their number, which is 0 only for a `count` of 0 and at the end
+    /// of the input. Skips what is held; or else as much as the input skips; or else what one read returns.
+    ///
+    /// The only error is the input's failure.
+    pub fn skip<I: Input>(&mut self, input: &mut I, count: u64) -> Result<u64, DeviceFault>
+        ensures bound { IfOk result (λ n. n ≤ count) }
+        ensures bytes { ConsumesCount (prepend_known self.old (I.remaining input.old)) (prepend_known self.new (I.remaining input.new)) result }
+        ensures end { IfOk result (λ n. n ≡ 0 → 0 < count → IsAtEnd (prepend_known self.new (I.remaining input.new))) }
+        ensures failures { CountsFailure result (I.failures input.old) (I.failures input.new) }
+    {
+        if !self.as_slice().is_empty() {
+            return Ok(self.skip_held(count));
+        }
+        match input.skip(count)? {
+            0 => {
+                self.fill(input)?;
+                Ok(self.skip_held(count))
+            }
+            skipped => Ok(skipped),
+        }
     }
 }

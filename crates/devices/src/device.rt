@@ -1,6 +1,6 @@
 //! Inputs and outputs: devices that count the calls that failed.
 ghost use Rattle.std.specs.Prelude.{Option, ℕ, ◌≤◌, List, length, MatchResult, IfOk, OnOk, OnErr};
-ghost use Rattle.std.specs.Io.KnownBytes.{ReadConsumes, WriteAppends, Appends};
+ghost use Rattle.std.specs.Io.KnownBytes.{ReadConsumes, ConsumesCount, WriteAppends, Appends};
 ghost use Rattle.devices.specs.Device.{CountsFailure, TakesSome, AppendsPrefix};
 
 use thiserror::Error;
@@ -23,6 +23,13 @@ pub trait Input {
     fn read(&mut self, piece: &mut [u8]) -> Result<usize, DeviceFault>
         ensures bound { IfOk result (λ n. n ≤ length piece.new) }
         ensures bytes { ReadConsumes (remaining self.old) (remaining self.new) result piece.new }
+        ensures failures { CountsFailure result (failures self.old) (failures self.new) };
+
+    /// Skips up to `count` of the next bytes, and returns their number. `Ok(0)` does not mean the end of the input: an
+    /// input may skip nothing, and the bytes are then read. A call that returns an error skips no bytes.
+    fn skip(&mut self, count: u64) -> Result<u64, DeviceFault>
+        ensures bound { IfOk result (λ n. n ≤ count) }
+        ensures bytes { ConsumesCount (remaining self.old) (remaining self.new) result }
         ensures failures { CountsFailure result (failures self.old) (failures self.new) };
 }
 

@@ -1,6 +1,6 @@
 //! A device that fails at one of its calls, for tests of failures.
 ghost use Rattle.std.specs.Prelude.{◌≡◌, ◌+◌, ◌-◌, ◌^◌, ◌<◌, ◌≤◌, ◌↔◌, IsTrue, IfOk, MatchResult, length, min};
-ghost use Rattle.std.specs.Io.KnownBytes.{ReadConsumes, WriteAppends};
+ghost use Rattle.std.specs.Io.KnownBytes.{ReadConsumes, ConsumesCount, WriteAppends};
 ghost use Rattle.devices.specs.Device.{CountsFailure, TakesSome};
 
 use crate::device::{DeviceFault, Input, Output};
@@ -65,6 +65,22 @@ impl<D: Input> Input for Fuse<D> {
         if !self.blows() {
             if let Ok(count) = self.device.read(&mut piece[..most]) {
                 return Ok(count);
+            }
+        }
+        self.failures = self.failures.saturating_add(1);
+        Err(DeviceFault)
+    }
+
+    fn skip(&mut self, count: u64) -> Result<u64, DeviceFault>
+        ensures bound { IfOk result (λ n. n ≤ count) }
+        ensures bytes { ConsumesCount (D.remaining self.old.device) (D.remaining self.new.device) result }
+        ensures failures { CountsFailure result self.old.failures self.new.failures }
+        ensures call { IsFusedCall (λ d. D.failures d) self.old self.new result }
+    {
+        let most = count.min(self.piece.max(1) as u64);
+        if !self.blows() {
+            if let Ok(skipped) = self.device.skip(most) {
+                return Ok(skipped);
             }
         }
         self.failures = self.failures.saturating_add(1);

@@ -8,15 +8,18 @@
 
 mod buffer;
 mod device;
+mod file;
 mod fuse;
 mod input_lines;
 mod line_cuts;
 mod memory;
 mod prompt;
 mod standard;
+mod two_inputs;
 
 pub use crate::buffer::{Buffer, PIECE};
 pub use crate::device::{DeviceFault, Input, Output, put};
+pub use crate::file::{FromFile, LEAST_SKIP};
 pub use crate::fuse::Fuse;
 pub use crate::input_lines::{INPUT_LIMIT, InputLineFault, InputLines};
 pub use crate::memory::{Gather, Slice};

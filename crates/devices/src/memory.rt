@@ -1,6 +1,6 @@
 //! Devices over memory.
-ghost use Rattle.std.specs.Prelude.{◌≡◌, ℕ, ◌≤◌, List, [], length, Some, IfOk, IsOk, MatchResult};
-ghost use Rattle.std.specs.Io.KnownBytes.{ReadConsumes};
+ghost use Rattle.std.specs.Prelude.{◌≡◌, ℕ, ◌≤◌, List, [], length, drop, min, Ok, Some, IfOk, IsOk, MatchResult};
+ghost use Rattle.std.specs.Io.KnownBytes.{ReadConsumes, ConsumesCount};
 ghost use Rattle.devices.specs.Device.{CountsFailure};
 
 use crate::device::{DeviceFault, Input, Output};
@@ -44,6 +44,18 @@ impl Input for Slice<'_> {
         piece[..count].copy_from_slice(given);
         self.rest = later;
         Ok(count)
+    }
+
+    /// Skips as many bytes as it can.
+    fn skip(&mut self, count: u64) -> Result<u64, DeviceFault>
+        ensures bound { IfOk result (λ n. n ≤ count) }
+        ensures bytes { ConsumesCount (Some self.old) (Some self.new) result }
+        ensures failures { CountsFailure result 0 0 }
+        ensures skips { result ≡ Ok (min count (length self.old)) }
+    {
+        let skipped = count.min(self.rest.len() as u64);
+        self.rest = &self.rest[skipped as usize..];
+        Ok(skipped)
     }
 }
 

@@ -1,6 +1,6 @@
 //! The readers and writers of `std` as devices.
-ghost use Rattle.std.specs.Prelude.{◌≡◌, ◌≤◌, None, IfOk, MatchResult, length};
-ghost use Rattle.std.specs.Io.KnownBytes.{ReadConsumes, WriteAppends};
+ghost use Rattle.std.specs.Prelude.{◌≡◌, ◌≤◌, Ok, None, IfOk, MatchResult, length};
+ghost use Rattle.std.specs.Io.KnownBytes.{ReadConsumes, ConsumesCount, WriteAppends};
 ghost use Rattle.devices.specs.Device.{CountsFailure, TakesSome};
 
 use crate::device::{DeviceFault, Input, Output};
@@ -49,6 +49,17 @@ impl<R: io::Read> Input for FromRead<R> {
                 Err(DeviceFault)
             }
         }
+    }
+
+    /// Skips nothing.
+    fn skip(&mut self, count: u64) -> Result<u64, DeviceFault>
+        ensures bound { IfOk result (λ n. n ≤ count) }
+        ensures bytes { ConsumesCount None None result }
+        ensures failures { CountsFailure result (read_failures self.old) (read_failures self.new) }
+        ensures none { (result ≡ Ok 0) × (self.new ≡ self.old) }
+    {
+        let _ = count;
+        Ok(0)
     }
 }
 
