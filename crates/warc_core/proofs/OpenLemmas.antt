@@ -1,7 +1,7 @@
 -- Calls in an open record.
 use Rattle.std.proofs.Common.{◌≡◌, ℕ, ◌-◌, ◌<◌, ◌≤◌, List, [], ◌++◌, Option, None, Some, Result, Err, length, drop, refl, sym, ap, ◌∙◌, subst, arith, zero, suc}
 use Rattle.std.proofs.lemmas.List.{drop_all}
-use Rattle.std.specs.Io.KnownBytes.{Consumes}
+use Rattle.std.specs.Io.KnownBytes.{Consumes, IsAtEnd}
 use Rattle.warc_core.specs.declared.fault.Cause.{Cause}
 use Rattle.warc_core.specs.declared.fault.Cause.TheVariants as causes
 use Rattle.warc_core.specs.declared.phase.Phase.{Phase}
@@ -46,11 +46,23 @@ unfolding after_record
 found-of-record c left None after f = tt
 found-of-record c left (Some z) after f = IsFoundIn-bind c (after_block left z) (λ block. after_text closing block.1) f
 
+pub block-part : (n : ℕ) (front w : List ℕ) → length front ≤ n → after_block n (front ++ w) ≡ after_block (n - length front) w
+block-part n front w l =
+    let none : drop (length front) front ≡ [] = drop_all (length front) front (omega arith) in
+    after_block-part n (length front) front w l (omega arith) ∙ ap (λ t. after_block (n - length front) (t ++ w)) none
+
 record-part : (n : ℕ) (front w : List ℕ) → length front ≤ n → after_record n (front ++ w) ≡ after_record (n - length front) w
 unfolding after_record
-record-part n front w l =
-    let none : drop (length front) front ≡ [] = drop_all (length front) front (omega arith) in
-    ap (λ r. r >>= λ block. after_text closing block.1) (after_block-part n (length front) front w l (omega arith) ∙ ap (λ t. after_block (n - length front) (t ++ w)) none)
+record-part n front w l = ap (λ r. r >>= λ block. after_text closing block.1) (block-part n front w l)
+
+-- so many bytes of a block were skipped
+pub GoesOn-skipped : {A : Type 0} (f : List ℕ → Result A Cause) (g : ℕ → List ℕ → Result A Cause) (left n : ℕ) (before now after : Option (List ℕ)) (piece : List ℕ) → ((w : List ℕ) → g left (piece ++ w) ≡ g (left - length piece) w) → GoesOn f (g left) before now → Consumes now after piece → length piece ≡ n → GoesOn f (g (left - n)) before after
+GoesOn-skipped f g left n before now after piece e s k l = subst (λ m. GoesOn f (g (left - m)) before after) l (GoesOn-consumes f (g left) (g (left - length piece)) before now after piece e s k)
+
+-- no known byte is left at the end
+pub end_known : (known : Option (List ℕ)) (w : List ℕ) → IsAtEnd known → known ≡ Some w → w ≡ []
+end_known None w e k = cc
+end_known (Some v) w e k = let f : v ≡ w = cc in sym f ∙ e
 
 pub behind-front : (n : ℕ) (front : List ℕ) (before after : Option (List ℕ)) → length front ≤ n → Consumes before after front → GoesOn (after_record n) (after_record (n - length front)) before after
 behind-front n front before after l c = GoesOn-consumes (after_record n) (after_record n) (after_record (n - length front)) before before after front (λ w. record-part n front w l) (GoesOn-start (after_record n) before) c

@@ -58,14 +58,11 @@ pub fn skip_block<I: Input>(buffer: &mut Buffer, input: &mut I, length: u64) -> 
 {
     let mut left = length;
     while left > 0 {
-        buffer.fill(input)?;
-        let held = buffer.as_slice().len();
-        if held == 0 {
+        let skipped = buffer.skip(input, left)?;
+        if skipped == 0 {
             return Err(Cause::ShortBlock);
         }
-        let count = left.min(held as u64);
-        buffer.consume(count as usize);
-        left -= count;
+        left -= skipped;
     }
     Ok(())
 }

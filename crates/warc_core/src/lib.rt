@@ -21,5 +21,7 @@ pub use crate::head::Head;
 pub use crate::next::HEAD_LIMIT;
 pub use crate::phase::Phase;
 pub use crate::reader::Reader;
-pub use devices::{DeviceFault, FromRead, FromWrite, Fuse, Gather, Input, Output, Slice, put};
+pub use devices::{
+    DeviceFault, FromFile, FromRead, FromWrite, Fuse, Gather, Input, Output, Slice, put,
+};
 pub use warc_head::Kind;
