@@ -1,8 +1,7 @@
 -- The capture of a record, from how its block was read.
-use Rattle.std.proofs.Common.{◌≡◌, ◌≢◌, ℕ, ◌+◌, ◌-◌, ◌≤◌, ◌∙◌, ◌⊎◌, inl, inr, List, [], ◌++◌, Bool, true, false, cond, Option, None, Some, Result, Ok, Err, IfOk, IfErr, IfSome, length, take, drop, min, nat_le, option_map, unwrap_or, refl, sym, ap, subst, arith, append-nil, if◌then◌else◌}
-use Rattle.std.proofs.lemmas.Bool.Decides.{nat_tests}
-use Rattle.std.proofs.Math.Nat.{min-le_left, min-eq_left, min-eq_right}
-use Rattle.std.proofs.Math.Seq.{take-append_seam, drop-append_seam}
+use Rattle.std.proofs.Common.{◌≡◌, ◌≢◌, ℕ, ◌+◌, ◌-◌, ◌≤◌, ◌∙◌, List, ◌++◌, Option, None, Some, Result, Ok, Err, IfOk, IfErr, IfSome, length, take, option_map, unwrap_or, refl, sym, ap, subst, arith}
+use Rattle.std.proofs.lemmas.List.{length-take}
+use Rattle.std.proofs.Math.Nat.{min-le_left}
 use Rattle.std.specs.Io.KnownBytes.{prepend_known, Consumes}
 use Rattle.httparse.specs.Grammar.{ResponseHead}
 use Rattle.sha1.specs.Sha1.{sha1}
@@ -23,13 +22,12 @@ use Rattle.cdxj_core.specs.Entries.{EntryValue, IsGood, line_text}
 use Rattle.capture_core.specs.declared.fault.CaptureFault.{CaptureFault}
 use Rattle.capture_core.specs.declared.fault.CaptureFault.TheVariants.{Archive, LineTooLong, KeyTooLong}
 use Rattle.capture_core.specs.Base32.{base32_of}
-use Rattle.capture_core.specs.HttpHead.{IsHeadOf, then_more}
-use Rattle.capture_core.specs.Indexed.{may_have_head}
+use Rattle.capture_core.specs.HttpHead.{then_more}
 use Rattle.capture_core.specs.Payload.{digest_of_rest}
-use Rattle.capture_core.specs.Capture.{ResponseValue, IsHeadFor, IsCaptureUnder, entry_of, response_of, digest_of, settled_digest, payload_of}
-use Rattle.capture_core.specs.RecordReading.{read_to, reading_of, IsFaultAt, Leaves, ReadsRest, IsFrontOf, front_limit}
-use Rattle.capture_core.specs.CaptureAnswer.{Limits, IsCaptureOf, IsEntryOf, AnswersEntry}
-use Rattle.capture_core.proofs.HeadLemmas.{front_decides, take_past}
+use Rattle.capture_core.specs.Capture.{ResponseValue, IsCaptureUnder, entry_of, response_of, digest_of, settled_digest, payload_of}
+use Rattle.capture_core.specs.RecordReading.{read_to, reading_of, IsFaultAt, Leaves, ReadsRest}
+use Rattle.capture_core.specs.CaptureAnswer.{Limits, IsCaptureOf, IsEntryOf, AnswersEntry, PartsBlock}
+use Rattle.capture_core.proofs.HeadLemmas.{take_past}
 use Rattle.capture_core.proofs.VerdictLemmas.{digest-then, digest-found}
 
 -- a fault that isn't a refused growth ends the reading
@@ -90,34 +88,6 @@ digest-known left start digest (Some z) (Some w) r = (digest-then left start z w
 
 -- ---- what the capture is
 
--- the HTTP head of a block is that of its front
-head-behind : (limit few : ℕ) (front more : List ℕ) (found : Option (ResponseHead × List ℕ)) → (length front ≡ limit) ⊎ (more ≡ []) → IsHeadOf limit few front found → IsHeadOf limit few (front ++ more) (then_more more found)
-head-behind limit few front more found (inl full) e =
-    let front_is : take limit (front ++ more) ≡ front = ap (λ n. take n (front ++ more)) (sym full) ∙ take-append_seam front more in
-    let more_is : drop limit (front ++ more) ≡ more = ap (λ n. drop n (front ++ more)) (sym full) ∙ drop-append_seam front more in
-    subst (λ m. IsHeadOf limit few (front ++ more) (then_more m found)) more_is (front_decides limit few (front ++ more) found (subst (λ f. IsHeadOf limit few f found) (sym front_is) e))
-head-behind limit few front more found (inr none) e =
-    subst (λ m. IsHeadOf limit few (front ++ m) (then_more m found)) (sym none) (subst (λ f. IsHeadOf limit few f (then_more [] found)) (sym (append-nil front)) (subst (IsHeadOf limit few front) (sym (no_more found)) e))
-  where
-    no_more : (f : Option (ResponseHead × List ℕ)) → then_more [] f ≡ f
-    no_more None = refl
-    no_more (Some f) = ap (λ p. Some (f.0, p)) (append-nil f.1)
-
-le-or : (a b : ℕ) (t : Bool) → nat_le a b ≡ t → (a ≤ b) ⊎ (b ≤ a)
-le-or a b true e = inl (grind (arith, nat_tests))
-le-or a b false e = inr (grind (arith, nat_tests))
-
-front-or-all : (len limit n : ℕ) (bytes : List ℕ) → n ≡ min len limit → (n ≡ limit) ⊎ (take (len - n) bytes ≡ [])
-front-or-all len limit n bytes e = elim (le-or limit len (nat_le limit len) refl) [
-  | inl full ↦ inl (e ∙ min-eq_right full)
-  | inr all ↦ inr (let whole : n ≡ len = e ∙ min-eq_left all in let none : len - n ≡ 0 = omega arith in ap (λ k. take k bytes) none)
-]
-
--- found in the front, found in the block
-head-for : (may : Bool) (limit few len : ℕ) (front bytes : List ℕ) (found : Option (ResponseHead × List ℕ)) → length front ≡ min len (if may then limit else 0) → cond may (IsHeadOf limit few front found) (found ≡ None) → cond may (IsHeadOf limit few (front ++ take (len - length front) bytes) (then_more (take (len - length front) bytes) found)) (then_more (take (len - length front) bytes) found ≡ None)
-head-for true limit few len front bytes found l f = head-behind limit few front (take (len - length front) bytes) found (front-or-all len limit (length front) bytes l) f
-head-for false limit few len front bytes found l f = ap (then_more (take (len - length front) bytes)) f
-
 payload-behind : (front more : List ℕ) (found : Option (ResponseHead × List ℕ)) → payload_of (front ++ more) (then_more more found) ≡ payload_of front found ++ more
 payload-behind front more None = refl
 payload-behind front more (Some f) = refl
@@ -126,30 +96,31 @@ same-response : (more : List ℕ) (found : Option (ResponseHead × List ℕ)) �
 same-response more None = refl
 same-response more (Some f) = refl
 
-module _ (limits : Limits) (h : HeadView) (name url front bytes digest : List ℕ) (response : Option ResponseValue) (found : Option (ResponseHead × List ℕ)) where
+module _ (limits : Limits) (h : HeadView) (name url front payload bytes digest : List ℕ) (response : Option ResponseValue) where
   abbrev pub more : List ℕ
   more = take (h.parts.length - length front) bytes
 
   abbrev pub entry : EntryValue
   entry = entry_of h name response digest url
 
-  capture-is : IsFrontOf limits.head h front → IsHeadFor limits.head limits.fields h front found → response ≡ option_map (λ f. response_of f.0) found → digest ≡ digest_of h (payload_of front found ++ more) → IsCaptureUnder (Some url) limits.head limits.fields h (take h.parts.length (front ++ bytes)) name (Some entry)
-  capture-is l f r d =
-      let short : length front ≤ h.parts.length = subst (λ n. n ≤ h.parts.length) (sym l) (min-le_left h.parts.length (front_limit limits.head h)) in
-      let block : take h.parts.length (front ++ bytes) ≡ front ++ more = take_past h.parts.length front bytes short in
+  capture-is : PartsBlock limits h front response payload → digest ≡ digest_of h (payload ++ more) → IsCaptureUnder (Some url) limits.head limits.fields h (take h.parts.length (front ++ bytes)) name (Some entry)
+  capture-is p d =
+      let block : take h.parts.length (front ++ bytes) ≡ front ++ more = take_past h.parts.length front bytes p.within in
+      let few : length more ≤ h.parts.length - length front = subst (λ n. n ≤ h.parts.length - length front) (sym (length-take (h.parts.length - length front) bytes)) (min-le_left (h.parts.length - length front) (length bytes)) in
+      let short = p.within in
       let whole : IsCaptureUnder (Some url) limits.head limits.fields h (front ++ more) name (Some entry) = (
-        then_more more found,
-        head-for (may_have_head h) limits.head limits.fields h.parts.length front bytes found l f,
-        ap Some (ap (λ x. entry_of h name x digest url) (r ∙ sym (same-response more found)) ∙ ap (λ x. entry_of h name (option_map (λ p. response_of p.0) (then_more more found)) x url) (d ∙ ap (digest_of h) (sym (payload-behind front more found)))),
+        then_more more p.found,
+        p.decides more (omega arith),
+        ap Some (ap (λ x. entry_of h name x digest url) (p.response_is ∙ sym (same-response more p.found)) ∙ ap (λ x. entry_of h name (option_map (λ q. response_of q.0) (then_more more p.found)) x url) (d ∙ ap (digest_of h) (ap (λ t. t ++ more) p.payload_is ∙ sym (payload-behind front more p.found)))),
       ) in
       subst (λ b. IsCaptureUnder (Some url) limits.head limits.fields h b name (Some entry)) (sym block) whole
 
   -- what the entry answers is the capture
-  pub capture-known : IsFrontOf limits.head h front → IsHeadFor limits.head limits.fields h front found → response ≡ option_map (λ f. response_of f.0) found → digest ≡ digest_of h (payload_of front found ++ more) → (r : Result (Option EntryValue) CaptureFault) → AnswersEntry limits.line entry r → IsCaptureOf (Some url) limits h name (front ++ bytes) r
-  capture-known l f e d (Ok captured) a = subst (IsCaptureUnder (Some url) limits.head limits.fields h (take h.parts.length (front ++ bytes)) name) (sym a) (capture-is l f e d)
-  capture-known l f e d (Err (Archive x)) a = tt
-  capture-known l f e d (Err (LineTooLong o)) a = (entry, capture-is l f e d, a)
-  capture-known l f e d (Err (KeyTooLong o)) a = tt
+  pub capture-known : PartsBlock limits h front response payload → digest ≡ digest_of h (payload ++ more) → (r : Result (Option EntryValue) CaptureFault) → AnswersEntry limits.line entry r → IsCaptureOf (Some url) limits h name (front ++ bytes) r
+  capture-known p d (Ok captured) a = subst (IsCaptureUnder (Some url) limits.head limits.fields h (take h.parts.length (front ++ bytes)) name) (sym a) (capture-is p d)
+  capture-known p d (Err (Archive x)) a = tt
+  capture-known p d (Err (LineTooLong o)) a = (entry, capture-is p d, a)
+  capture-known p d (Err (KeyTooLong o)) a = tt
 
 -- a digest that is settled is that of any payload
 pub digest-settled : (h : HeadView) (digest payload : List ℕ) → settled_digest h ≡ Some digest → digest ≡ digest_of h payload

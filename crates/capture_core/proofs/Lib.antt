@@ -7,3 +7,4 @@ pub mod ShortLines
 pub mod GoodEntries
 pub mod Captures
 pub mod CaptureLemmas
+pub mod Steps

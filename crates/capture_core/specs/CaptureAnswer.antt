@@ -1,12 +1,14 @@
 -- What a capture answers.
-use Rattle.std.specs.Prelude.{◌≡◌, ℕ, ◌<◌, ◌≤◌, ⊤, List, ◌++◌, length, take, Option, Some, Result, Ok, Err, IfSome}
+use Rattle.std.specs.Prelude.{◌≡◌, ℕ, ◌+◌, ◌<◌, ◌≤◌, ⊤, List, ◌++◌, length, take, Option, Some, Result, Ok, Err, IfSome, option_map}
+use Rattle.httparse.specs.Grammar.{ResponseHead}
 use Rattle.warc_core.specs.HeadView.{HeadView, record_length}
 use Rattle.cdxj_core.specs.Entries.{EntryValue, IsGood, line_text}
 use Rattle.cdxj_core.specs.declared.limit.TheConstants.{LINE_LIMIT}
 use Rattle.capture_core.specs.declared.http_head.TheConstants.{HTTP_HEAD_LIMIT, HTTP_FIELD_LIMIT}
 use Rattle.capture_core.specs.declared.fault.CaptureFault.{CaptureFault}
 use Rattle.capture_core.specs.declared.fault.CaptureFault.TheVariants.{LineTooLong}
-use Rattle.capture_core.specs.Capture.{IsCaptureUnder}
+use Rattle.capture_core.specs.HttpHead.{then_more}
+use Rattle.capture_core.specs.Capture.{ResponseValue, IsHeadFor, IsCaptureUnder, response_of, payload_of}
 
 -- the limits of an HTTP head, in bytes and fields, and that of a line, in bytes
 pub record Limits : Type 0 where
@@ -31,6 +33,15 @@ Captures url limits h name before r = IfSome before (λ bytes. IsCaptureOf url l
 
 abbrev pub usual_limits : Limits
 usual_limits = record { head = HTTP_HEAD_LIMIT; fields = HTTP_FIELD_LIMIT; line = LINE_LIMIT }
+
+-- These first bytes of a record's block are split as the whole block is: the head that was found in them is that of every
+-- block that begins with them and is no longer than the record's.
+pub record PartsBlock (limits : Limits) (h : HeadView) (front : List ℕ) (response : Option ResponseValue) (payload : List ℕ) : Type 0 where
+  pub found : Option (ResponseHead × List ℕ)
+  pub within : length front ≤ h.parts.length
+  pub decides : (more : List ℕ) → length front + length more ≤ h.parts.length → IsHeadFor limits.head limits.fields h (front ++ more) (then_more more found)
+  pub response_is : response ≡ option_map (λ f. response_of f.0) found
+  pub payload_is : payload ≡ payload_of front found
 
 -- An entry of this record under this name, which can be written.
 pub record IsEntryOf (h : HeadView) (name : List ℕ) (limit : ℕ) (e : EntryValue) : Type 0 where

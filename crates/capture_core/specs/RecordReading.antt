@@ -1,5 +1,5 @@
 -- How a capture reads its record.
-use Rattle.std.specs.Prelude.{◌≡◌, ℕ, ◌+◌, List, length, min, Result, Ok, Err, IfErr, if◌then◌else◌}
+use Rattle.std.specs.Prelude.{◌≡◌, ℕ, ◌+◌, min, Result, Ok, Err, IfErr, if◌then◌else◌}
 use Rattle.warc_core.specs.declared.fault.Cause.{Cause}
 use Rattle.warc_core.specs.declared.fault.Cause.TheVariants as causes
 use Rattle.warc_core.specs.declared.phase.Phase.TheVariants.{Between, Open, Failed}
@@ -56,6 +56,6 @@ IsOpenFor h r = (left : ℕ) × StandsAt r h.start (Open left (record_length h))
 abbrev pub front_limit : ℕ → HeadView → ℕ
 front_limit limit h = if may_have_head h then limit else 0
 
--- what is looked at for an HTTP head has this length
-abbrev pub IsFrontOf : ℕ → HeadView → List ℕ → Type 0
-IsFrontOf limit h front = length front ≡ min h.parts.length (front_limit limit h)
+-- the front of a block, which is looked at for an HTTP head, has this length
+abbrev pub front_length : ℕ → HeadView → ℕ
+front_length limit h = min h.parts.length (front_limit limit h)

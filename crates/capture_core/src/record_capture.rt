@@ -1,30 +1,32 @@
 //! The capture of a record.
-ghost use Rattle.std.specs.Prelude.{◌≡◌, ◌<◌, ◌-◌, ℕ, length, Some, IfOk, IfSome, option_map};
+ghost use Rattle.std.specs.Prelude.{◌≡◌, ◌<◌, ◌≤◌, ◌-◌, length, take, Some, IfOk, IfSome, option_map};
 ghost use Rattle.std.specs.Io.KnownBytes.{prepend_known};
 ghost use Rattle.warc_core.specs.HeadView.{record_length};
 ghost use Rattle.warc_core.specs.declared.phase.Phase.TheVariants.{Open};
 ghost use Rattle.warc_core.specs.ReaderView.{IsUnread, StandsAt, state_of};
 ghost use Rattle.capture_core.specs.Indexed.{url_of};
 ghost use Rattle.capture_core.specs.Types.{includes};
-ghost use Rattle.capture_core.specs.Capture.{entry_of};
 ghost use Rattle.capture_core.specs.ResponseView.{response_view};
-ghost use Rattle.capture_core.specs.RecordReading.{ReadsRest, ReadsWhole, IsFrontOf, IsOpenFor};
-ghost use Rattle.capture_core.specs.CaptureAnswer.{Captures, CapturesBehind, IsEntryOf, AnswersEntry, usual_limits};
+ghost use Rattle.capture_core.specs.RecordReading.{ReadsRest, ReadsWhole, front_length};
+ghost use Rattle.capture_core.specs.CaptureAnswer.{Captures, CapturesBehind, IsEntryOf, PartsBlock, usual_limits};
 
 use crate::capture_entry::memory;
 use crate::closing::capture_closed;
 use crate::digest::digest_rest;
 use crate::digest_text::base32;
 use crate::fault::CaptureFault;
-use crate::http_head::{HTTP_HEAD_LIMIT, HttpHead};
+use crate::http_head::HTTP_HEAD_LIMIT;
 use crate::indexed::Indexed;
-use crate::payload::{front_buffer, part};
+use crate::payload::{Parted, front_length, front_with, part};
 use crate::payload_digest::settled_digest;
 use crate::target::url;
 use crate::types::Types;
 use cdxj_core::{Entry, LINE_LIMIT};
 use std::alloc::Global;
 use warc_core::{Head, Input, Reader};
+
+/// The maximum number of bytes of a block that are read before the first search for an HTTP head.
+const FIRST_STEP: usize = 8192;
 
 /// Returns the entry of a record under the archive's name, or `None` if the record isn't indexed. A record is indexed
 /// if it has a target and its type is one of these. The record is read to its end, and its payload is hashed if the
@@ -52,7 +54,7 @@ pub fn capture<I: Input>(
     match url(head, types) {
         Some(url) => {
             let indexed = Indexed { head, name, url };
-            capture_as(alloc, reader, input, indexed)
+            capture_in_steps(alloc, reader, input, indexed)
         }
         None => {
             reader.finish(input)?;
@@ -61,8 +63,9 @@ pub fn capture<I: Input>(
     }
 }
 
-/// Returns the entry of a record that is indexed under this URL.
-fn capture_as<I: Input>(
+/// Returns the entry of a record that is indexed under this URL. The front of its block is read in two steps at most: the
+/// first bytes, and the rest if no HTTP head ends in them.
+fn capture_in_steps<I: Input>(
     alloc: Global,
     reader: &mut Reader,
     input: &mut I,
@@ -77,8 +80,58 @@ fn capture_as<I: Input>(
     ensures capture { Captures (Some indexed.entry.url.now) usual_limits indexed.entry.head.now indexed.entry.name.now (prepend_known reader.old.held (I.remaining input.old)) result }
     ensures entry { IfOk result (λ captured. IfSome captured (IsEntryOf indexed.entry.head.now indexed.entry.name.now LINE_LIMIT)) }
 {
-    match front_buffer(alloc, indexed.head) {
-        Ok(mut front) => { capture_through(alloc, reader, input, indexed, front.as_mut_slice()) }
+    let mut buffer = [0; FIRST_STEP];
+    let first = &mut buffer[..front_length(indexed.head).min(FIRST_STEP)];
+    let count = reader.block(input, first)?;
+    capture_first(alloc, reader, input, indexed, &first[..count])
+}
+
+/// Like `capture_in_steps`, after the first bytes of the front were read.
+fn capture_first<I: Input>(
+    alloc: Global,
+    reader: &mut Reader,
+    input: &mut I,
+    indexed: Indexed<'_>,
+    first: &[u8],
+) -> Result<Option<Entry>, CaptureFault>
+    requires named { 0 < length indexed.name.now }
+    requires target { 0 < length indexed.url.now }
+    requires first { length first.now ≤ front_length HTTP_HEAD_LIMIT indexed.head.now }
+    requires stands { StandsAt reader.old indexed.head.now.start (Open (indexed.head.now.parts.length - length first.now) (record_length indexed.head.now)) }
+    ensures reads { ReadsRest (indexed.entry.head.now.parts.length - length first.now) indexed.entry.head.now
+        (state_of reader.old (I.remaining input.old) (I.failures input.old))
+        (state_of reader.new (I.remaining input.new) (I.failures input.new)) result }
+    ensures capture { CapturesBehind (Some indexed.entry.url.now) usual_limits indexed.entry.head.now indexed.entry.name.now first.now (prepend_known reader.old.held (I.remaining input.old)) result }
+    ensures entry { IfOk result (λ captured. IfSome captured (IsEntryOf indexed.entry.head.now indexed.entry.name.now LINE_LIMIT)) }
+{
+    let parted = part(indexed.head, first);
+    if parted.response.is_some() || first.len() == front_length(indexed.head) {
+        capture_parted(alloc, reader, input, indexed, parted)
+    } else {
+        capture_further(alloc, reader, input, indexed, first)
+    }
+}
+
+/// Like `capture_first`, where these bytes don't decide the HTTP head.
+fn capture_further<I: Input>(
+    alloc: Global,
+    reader: &mut Reader,
+    input: &mut I,
+    indexed: Indexed<'_>,
+    first: &[u8],
+) -> Result<Option<Entry>, CaptureFault>
+    requires named { 0 < length indexed.name.now }
+    requires target { 0 < length indexed.url.now }
+    requires first { length first.now ≤ front_length HTTP_HEAD_LIMIT indexed.head.now }
+    requires stands { StandsAt reader.old indexed.head.now.start (Open (indexed.head.now.parts.length - length first.now) (record_length indexed.head.now)) }
+    ensures reads { ReadsRest (indexed.entry.head.now.parts.length - length first.now) indexed.entry.head.now
+        (state_of reader.old (I.remaining input.old) (I.failures input.old))
+        (state_of reader.new (I.remaining input.new) (I.failures input.new)) result }
+    ensures capture { CapturesBehind (Some indexed.entry.url.now) usual_limits indexed.entry.head.now indexed.entry.name.now first.now (prepend_known reader.old.held (I.remaining input.old)) result }
+    ensures entry { IfOk result (λ captured. IfSome captured (IsEntryOf indexed.entry.head.now indexed.entry.name.now LINE_LIMIT)) }
+{
+    match front_with(alloc, indexed.head, first) {
+        Ok(mut front) => { capture_front(alloc, reader, input, indexed, &mut front, first.len()) }
         Err(_) => {
             reader.finish(input)?;
             Err(memory(indexed.head))
@@ -86,47 +139,49 @@ fn capture_as<I: Input>(
     }
 }
 
-/// Like `capture_as`, with a buffer for the start of the block.
-fn capture_through<I: Input>(
+/// Like `capture_first`, with a buffer for the front of the block, where this many bytes of it were read.
+fn capture_front<I: Input>(
     alloc: Global,
     reader: &mut Reader,
     input: &mut I,
     indexed: Indexed<'_>,
     front: &mut [u8],
+    count: usize,
 ) -> Result<Option<Entry>, CaptureFault>
-    requires unread { IsUnread reader.old indexed.head.now }
     requires named { 0 < length indexed.name.now }
     requires target { 0 < length indexed.url.now }
-    requires front { IsFrontOf HTTP_HEAD_LIMIT indexed.head.now front.old }
-    ensures reads { ReadsWhole indexed.entry.head.now
+    requires front { length front.old ≡ front_length HTTP_HEAD_LIMIT indexed.head.now }
+    requires count { count ≤ length front.old }
+    requires stands { StandsAt reader.old indexed.head.now.start (Open (indexed.head.now.parts.length - count) (record_length indexed.head.now)) }
+    ensures reads { ReadsRest (indexed.entry.head.now.parts.length - count) indexed.entry.head.now
         (state_of reader.old (I.remaining input.old) (I.failures input.old))
         (state_of reader.new (I.remaining input.new) (I.failures input.new)) result }
-    ensures capture { Captures (Some indexed.entry.url.now) usual_limits indexed.entry.head.now indexed.entry.name.now (prepend_known reader.old.held (I.remaining input.old)) result }
+    ensures capture { CapturesBehind (Some indexed.entry.url.now) usual_limits indexed.entry.head.now indexed.entry.name.now (take count front.old) (prepend_known reader.old.held (I.remaining input.old)) result }
     ensures entry { IfOk result (λ captured. IfSome captured (IsEntryOf indexed.entry.head.now indexed.entry.name.now LINE_LIMIT)) }
 {
-    reader.block_exact(input, front)?;
-    capture_behind(alloc, reader, input, indexed, front)
+    reader.block_exact(input, &mut front[count..])?;
+    capture_parted(alloc, reader, input, indexed, part(indexed.head, front))
 }
 
-/// Like `capture_as`, after the start of the block was read.
-fn capture_behind<I: Input>(
+/// Like `capture_in_steps`, after the first bytes of the block were read and split.
+fn capture_parted<I: Input>(
     alloc: Global,
     reader: &mut Reader,
     input: &mut I,
     indexed: Indexed<'_>,
-    front: &[u8],
+    parted: Parted<'_>,
 ) -> Result<Option<Entry>, CaptureFault>
     requires named { 0 < length indexed.name.now }
     requires target { 0 < length indexed.url.now }
-    requires front { IsFrontOf HTTP_HEAD_LIMIT indexed.head.now front.now }
-    requires stands { StandsAt reader.old indexed.head.now.start (Open (indexed.head.now.parts.length - length front.now) (record_length indexed.head.now)) }
-    ensures reads { ReadsRest (indexed.entry.head.now.parts.length - length front.now) indexed.entry.head.now
+    requires parts { PartsBlock usual_limits indexed.head.now parted.bytes.now (option_map response_view parted.response) parted.payload.now }
+    requires code { IfSome parted.response (λ r. r.code < 1000) }
+    requires stands { StandsAt reader.old indexed.head.now.start (Open (indexed.head.now.parts.length - length parted.bytes.now) (record_length indexed.head.now)) }
+    ensures reads { ReadsRest (indexed.entry.head.now.parts.length - length parted.entry.bytes.now) indexed.entry.head.now
         (state_of reader.old (I.remaining input.old) (I.failures input.old))
         (state_of reader.new (I.remaining input.new) (I.failures input.new)) result }
-    ensures capture { CapturesBehind (Some indexed.entry.url.now) usual_limits indexed.entry.head.now indexed.entry.name.now front.now (prepend_known reader.old.held (I.remaining input.old)) result }
+    ensures capture { CapturesBehind (Some indexed.entry.url.now) usual_limits indexed.entry.head.now indexed.entry.name.now parted.entry.bytes.now (prepend_known reader.old.held (I.remaining input.old)) result }
     ensures entry { IfOk result (λ captured. IfSome captured (IsEntryOf indexed.entry.head.now indexed.entry.name.now LINE_LIMIT)) }
 {
-    let parted = part(indexed.head, front);
     match settled_digest(indexed.head) {
         Some(digest) => { capture_closed(alloc, reader, input, indexed, parted.response, digest) }
         None => {
