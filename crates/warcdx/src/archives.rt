@@ -13,19 +13,22 @@ use query_core::{AnswerFault, FileSource};
 use std::fs::{File, Files};
 use std::io::{self, ErrorKind};
 use std::rt::Runtime;
-use warc_core::FromRead;
+use warc_core::{FromFile, FromRead};
 
-/// Standard input, or a file.
-pub type Archive<R> = Either<<R as io::Input>::Reader, <R as Files>::File>;
+/// Standard input, or a file, in which bytes can be skipped.
+pub type Archive<R> = Either<FromRead<<R as io::Input>::Reader>, FromFile<<R as Files>::File>>;
 
 /// Opens the archive of this name; `-` is standard input. A file that can't be opened is reported on standard error.
-pub fn open<R: Runtime + AllocGlobal>(rt: &R, name: &str) -> Result<FromRead<Archive<R>>, Outcome>
+pub fn open<R: Runtime + AllocGlobal>(rt: &R, name: &str) -> Result<Archive<R>, Outcome>
     ensures { IfErr result IsUnopened }
 {
     if name == "-" {
-        return Ok(FromRead::new(Either::Left(rt.reader())));
+        return Ok(Either::Left(FromRead::new(rt.reader())));
     }
-    Ok(FromRead::new(Either::Right(open_file(rt, name)?)))
+    match FromFile::new(open_file(rt, name)?) {
+        Ok(file) => Ok(Either::Right(file)),
+        Err(_fault) => Err(cannot_open(rt, name)),
+    }
 }
 
 /// Opens the index of this name. A file that can't be opened, or whose size can't be determined, is reported on
@@ -68,11 +71,16 @@ fn open_file<R: Runtime + AllocGlobal>(rt: &R, name: &str) -> Result<<R as Files
         Err(error) if error.kind() == ErrorKind::OutOfMemory => {
             Err(Outcome::Index(IndexFault::Memory))
         }
-        Err(_error) => {
-            let _ = eprintln!(rt; "warcdx: {name}: cannot open");
-            Err(Outcome::CannotOpen)
-        }
+        Err(_error) => Err(cannot_open(rt, name)),
     }
+}
+
+/// Reports on standard error that a file can't be opened.
+fn cannot_open<R: Runtime + AllocGlobal>(rt: &R, name: &str) -> Outcome
+    ensures { result ≡ Outcome.CannotOpen }
+{
+    let _ = eprintln!(rt; "warcdx: {name}: cannot open");
+    Outcome::CannotOpen
 }
 
 /// Applies this to each file in turn. Continues after a fault of a file, unless memory or the output failed. Returns

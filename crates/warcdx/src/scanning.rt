@@ -13,7 +13,7 @@ use index_core::IndexFault;
 use scan_core::{Named, ScanFault, scan};
 use std::alloc::{AllocError, Global};
 use std::rt::Runtime;
-use warc_core::{FromRead, Input, Output};
+use warc_core::{Input, Output};
 
 /// Writes the pages of the query text over the captures of these archives' records of these types. Each page has its
 /// size, and the last size is repeated. Faults are reported on standard error.
@@ -36,7 +36,7 @@ fn archives_to_scan<R: Runtime + AllocGlobal>(
     rt: &R,
     query: &str,
     names: &[String],
-) -> Result<Vec<Named<FromRead<Archive<R>>>>, Outcome>
+) -> Result<Vec<Named<Archive<R>>>, Outcome>
     ensures { IfOk result (λ archives. archive_names archives.items ≡ map (λ name. file_name (string_bytes name)) names.now) }
 {
     let _query = read_query(rt, query)?;
@@ -48,7 +48,7 @@ fn archives_to_scan<R: Runtime + AllocGlobal>(
 fn open_archives<R: Runtime + AllocGlobal>(
     rt: &R,
     names: &[String],
-) -> Result<Vec<Named<FromRead<Archive<R>>>>, Outcome>
+) -> Result<Vec<Named<Archive<R>>>, Outcome>
     ensures { IfOk result (λ archives. archive_names archives.items ≡ map (λ name. file_name (string_bytes name)) names.now) }
 {
     let mut archives = Vec::new(rt.alloc());
