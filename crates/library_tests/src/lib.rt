@@ -36,6 +36,8 @@ mod scan_runs;
 #[cfg(test)]
 mod scans;
 #[cfg(test)]
+mod skipping;
+#[cfg(test)]
 mod small_indexes;
 #[cfg(test)]
 mod sources;

@@ -1,0 +1,380 @@
+//! Archives whose blocks are skipped, in memory and in files.
+use capture_core::{CaptureFault, Types};
+use devices::{DeviceFault, FromFile, FromRead, Fuse, Gather, Input, Slice};
+use either::Either;
+use index_core::{IndexFault, Indexer, get, list};
+use std::alloc::{AllocError, Global};
+use std::fs::{self, File};
+use std::io::Cursor;
+use std::test::Fail;
+use warc_core::{Cause, Fault};
+
+/// A resource: a head of 206 bytes, the block `abc` and the closing, 213 in all.
+const SHORT: &[u8] =
+    b"WARC/1.1\r\nWARC-Type: resource\r\nWARC-Record-ID: <urn:x:3>\r\nWARC-Date: 2016-09-19T17:20:24Z\r\nWARC-Target-URI: http://example.com/r\r\nWARC-Payload-Digest: sha1:D\r\nContent-Type: text/plain\r\nContent-Length: 3\r\n\r\nabc\r\n\r\n";
+
+/// The head of a resource with a block of 20,000 bytes: 210 bytes.
+const LONG_HEAD: &[u8] =
+    b"WARC/1.1\r\nWARC-Type: resource\r\nWARC-Record-ID: <urn:x:3>\r\nWARC-Date: 2016-09-19T17:20:24Z\r\nWARC-Target-URI: http://example.com/r\r\nWARC-Payload-Digest: sha1:D\r\nContent-Type: text/plain\r\nContent-Length: 20000\r\n\r\n";
+
+/// The head of a response with a block of 20,000 bytes: 216 bytes.
+const RESPONSE_HEAD: &[u8] =
+    b"WARC/1.1\r\nWARC-Type: response\r\nWARC-Record-ID: <urn:x:3>\r\nWARC-Date: 2016-09-19T17:20:24Z\r\nWARC-Target-URI: http://example.com/r\r\nWARC-Payload-Digest: sha1:D\r\nContent-Type: application/http\r\nContent-Length: 20000\r\n\r\n";
+
+const HTTP_HEAD: &[u8] = b"HTTP/1.1 200 OK\r\nContent-Type: text/html\r\n\r\n";
+
+const CLOSING: &[u8] = b"\r\n\r\n";
+
+/// The lines of the three records' listing.
+const LISTING: [&[u8]; 3] = [
+    b"0 213 resource\n",
+    b"213 20214 resource\n",
+    b"20427 213 resource\n",
+];
+
+/// The lines of the three records' index.
+const INDEX: [&[u8]; 3] = [
+    b"com,example)/r 20160919172024 {\"url\": \"http://example.com/r\", \"mime\": \"text/plain\", \"status\": \"-\", \"digest\": \"D\", \"length\": \"213\", \"offset\": \"0\", \"filename\": \"a.warc\"}\n",
+    b"com,example)/r 20160919172024 {\"url\": \"http://example.com/r\", \"mime\": \"text/plain\", \"status\": \"-\", \"digest\": \"D\", \"length\": \"20214\", \"offset\": \"213\", \"filename\": \"a.warc\"}\n",
+    b"com,example)/r 20160919172024 {\"url\": \"http://example.com/r\", \"mime\": \"text/plain\", \"status\": \"-\", \"digest\": \"D\", \"length\": \"213\", \"offset\": \"20427\", \"filename\": \"a.warc\"}\n",
+];
+
+const RESPONSE_LINE: &[u8] =
+    b"com,example)/r 20160919172024 {\"url\": \"http://example.com/r\", \"mime\": \"text/html\", \"status\": \"200\", \"digest\": \"D\", \"length\": \"20220\", \"offset\": \"0\", \"filename\": \"a.warc\"}\n";
+
+/// Memory could not be allocated.
+#[derive(Debug, Drop)]
+enum Refused {
+    Memory,
+}
+
+/// Returns a record with this head, whose block has 20,000 bytes and begins with these.
+fn long_record(alloc: Global, head: &[u8], block: &[u8]) -> Result<Vec<u8>, AllocError> {
+    let mut record = head.to_vec(alloc)?;
+    record.extend_from_slice(block)?;
+    for _ in block.len()..20_000 {
+        record.extend_from_slice(b"x")?;
+    }
+    record.extend_from_slice(CLOSING)?;
+    Ok(record)
+}
+
+/// Returns 20,640 bytes: the records begin at 0, 213 and 20,427.
+fn three_records(alloc: Global) -> Result<Vec<u8>, AllocError> {
+    let mut archive = SHORT.to_vec(alloc)?;
+    archive.extend_from_slice(long_record(alloc, LONG_HEAD, b"")?.as_slice())?;
+    archive.extend_from_slice(SHORT)?;
+    Ok(archive)
+}
+
+/// An input that counts the bytes that were read and those that were skipped.
+#[derive(Drop)]
+struct Counted<I> {
+    input: I,
+    read: u64,
+    skipped: u64,
+}
+
+impl<I> Counted<I> {
+    fn new(input: I) -> Counted<I> {
+        Counted {
+            input,
+            read: 0,
+            skipped: 0,
+        }
+    }
+}
+
+impl<I: Input> Input for Counted<I> {
+    ghost remaining = { λ c. I.remaining c.input };
+
+    ghost failures = { λ c. I.failures c.input };
+
+    fn read(&mut self, piece: &mut [u8]) -> Result<usize, DeviceFault> {
+        let count = self.input.read(piece)?;
+        self.read = self.read.saturating_add(count as u64);
+        Ok(count)
+    }
+
+    fn skip(&mut self, count: u64) -> Result<u64, DeviceFault> {
+        let skipped = self.input.skip(count)?;
+        self.skipped = self.skipped.saturating_add(skipped);
+        Ok(skipped)
+    }
+}
+
+/// Returns the result of a report. A failed allocation is an error.
+fn settled(answer: Result<u64, IndexFault>) -> Result<Result<u64, Fault>, Refused> {
+    match answer {
+        Ok(count) => Ok(Ok(count)),
+        Err(IndexFault::Capture(CaptureFault::Archive(fault))) if fault.cause != Cause::Memory => {
+            Ok(Err(fault))
+        }
+        Err(_fault) => Err(Refused::Memory),
+    }
+}
+
+/// Returns whether the listing is these lines, with this result.
+fn lists<I: Input>(
+    alloc: Global,
+    input: &mut I,
+    lines: &[u8],
+    wanted: Result<u64, Fault>,
+) -> Result<bool, Refused> {
+    let mut out = Gather::new(alloc);
+    let answer = settled(list(alloc, input, &mut out))?;
+    Ok(answer == wanted && out.bytes() == lines)
+}
+
+/// Returns whether the index is these lines, with this result of reading the archive.
+fn indexes<I: Input>(
+    alloc: Global,
+    input: &mut I,
+    lines: &[u8],
+    wanted: Result<u64, Fault>,
+) -> Result<bool, Refused> {
+    let mut indexer = Indexer::new(alloc, Types::usual());
+    let mut out = Gather::new(alloc);
+    let added = settled(indexer.add("a.warc", input))?;
+    let written = settled(indexer.write(&mut out))?;
+    Ok(added == wanted && written.is_ok() && out.bytes() == lines)
+}
+
+/// Returns the first `count` of these lines.
+fn first_of(alloc: Global, lines: &[&[u8]], count: u64) -> Result<Vec<u8>, AllocError> {
+    let mut text = Vec::new(alloc);
+    for line in lines.iter().take(count as usize) {
+        text.extend_from_slice(line)?;
+    }
+    Ok(text)
+}
+
+/// Returns the listing of the first `records` of the three, with this fault.
+fn listing(alloc: Global, records: u64, fault: Option<Fault>) -> Result<Vec<u8>, AllocError> {
+    let mut listing = first_of(alloc, &LISTING, records)?;
+    if let Some(Fault { offset, cause }) = fault {
+        let name = cause.name();
+        listing.extend_from_slice(format!(in alloc; "fault {offset} {name}\n")?.as_bytes())?;
+    }
+    Ok(listing)
+}
+
+/// Returns whether all three records are listed and indexed, from inputs that this function opens.
+fn reads_all<I: Input + Drop, F: FnMut() -> Result<I, Fail>>(
+    alloc: Global,
+    mut open: F,
+) -> Result<bool, Fail> {
+    let lines = listing(alloc, 3, None)?;
+    let index = first_of(alloc, &INDEX, 3)?;
+    Ok(
+        lists(alloc, &mut open()?, lines.as_slice(), Ok(3))?
+            && indexes(alloc, &mut open()?, index.as_slice(), Ok(3))?,
+    )
+}
+
+#[test]
+fn inputs_skip(rt: HostRuntime) -> Result<(), Fail> {
+    let mut piece = [0; 3];
+    let mut memory = Slice::new(b"abcde");
+    assert!(rt; memory.skip(3)? == 3);
+    assert!(rt; memory.read(&mut piece)? == 2);
+    assert!(rt; piece.as_slice() == b"de\0".as_slice());
+    assert!(rt; memory.skip(1)? == 0);
+    let mut fuse = Fuse::new(Slice::new(b"abcde"), 2, 2);
+    assert!(rt; fuse.skip(5)? == 2);
+    assert!(rt; fuse.skip(5) == Err(DeviceFault));
+    assert!(rt; fuse.skip(5)? == 2);
+    assert!(rt; fuse.read(&mut piece)? == 1);
+    assert!(rt; piece.as_slice() == b"ee\0".as_slice());
+    assert!(rt; fuse.calls == 4);
+    assert!(rt; fuse.failures == 1);
+    assert!(rt; FromRead::new(b"abcde".as_slice()).skip(5)? == 0);
+    let mut either: Either<Slice<'_>, FromRead<&[u8]>> = Either::Left(Slice::new(b"abcde"));
+    assert!(rt; either.skip(3)? == 3);
+    assert!(rt; either.read(&mut piece)? == 2);
+    Ok(())
+}
+
+/// Fewer than 8,192 bytes aren't skipped, and none past the size that the file had when it was opened.
+#[test]
+fn files_skip_within_their_sizes(rt: HostRuntime) -> Result<(), Fail> {
+    fs::write(&rt, "archive.warc", three_records(rt.alloc())?.as_slice())?;
+    let mut file = FromFile::new(File::open(&rt, "archive.warc")?)?;
+    let mut piece = [0; 8];
+    assert!(rt; file.skip(8_191)? == 0);
+    assert!(rt; file.skip(20_427)? == 20_427);
+    assert!(rt; file.read(&mut piece)? == 8);
+    assert!(rt; piece.as_slice() == b"WARC/1.1".as_slice());
+    assert!(rt; file.skip(8_192)? == 0);
+    let mut whole = FromFile::new(File::open(&rt, "archive.warc")?)?;
+    assert!(rt; whole.skip(u64::MAX)? == 20_640);
+    assert!(rt; whole.skip(u64::MAX)? == 0);
+    assert!(rt; whole.read(&mut piece)? == 0);
+    Ok(())
+}
+
+#[test]
+fn an_archive_is_the_same_however_it_is_read(rt: HostRuntime) -> Result<(), Fail> {
+    let alloc = rt.alloc();
+    let archive = three_records(alloc)?;
+    let bytes = archive.as_slice();
+    assert!(rt; reads_all(alloc, || Ok(Slice::new(bytes)))?);
+    assert!(rt; reads_all(alloc, || Ok(FromRead::new(bytes)))?);
+    for piece in [1, 2, 100, 8_192, 20_000] {
+        assert!(rt;
+            reads_all(alloc, || Ok(Fuse::new(Slice::new(bytes), piece, 0)))?,
+            "{piece}"
+        );
+        assert!(rt;
+            reads_all(
+                alloc,
+                || Ok(Fuse::new(FromFile::new(Cursor::new(bytes))?, piece, 0))
+            )?,
+            "{piece}"
+        );
+    }
+    Ok(())
+}
+
+#[test]
+fn the_last_record_is_fetched_from_a_file(rt: HostRuntime) -> Result<(), Fail> {
+    fs::write(&rt, "archive.warc", three_records(rt.alloc())?.as_slice())?;
+    let mut file = FromFile::new(File::open(&rt, "archive.warc")?)?;
+    let mut out = Gather::new(rt.alloc());
+    assert!(rt; settled(get(rt.alloc(), 20_427, &mut file, &mut out))? == Ok(213));
+    assert!(rt; out.bytes() == SHORT);
+    Ok(())
+}
+
+/// The first read returns 8,192 bytes, to 7,769 bytes of the long block. The other 12,231 are skipped. What follows the
+/// block has 217 bytes.
+#[test]
+fn a_long_block_is_not_read(rt: HostRuntime) -> Result<(), Fail> {
+    let alloc = rt.alloc();
+    let archive = three_records(alloc)?;
+    fs::write(&rt, "long.warc", archive.as_slice())?;
+    let lines = listing(alloc, 3, None)?;
+    let index = first_of(alloc, &INDEX, 3)?;
+    let mut memory = Counted::new(Slice::new(archive.as_slice()));
+    assert!(rt; lists(alloc, &mut memory, lines.as_slice(), Ok(3))?);
+    assert!(rt; (memory.read, memory.skipped) == (8_409, 12_231));
+    let mut file = Counted::new(FromFile::new(File::open(&rt, "long.warc")?)?);
+    assert!(rt; lists(alloc, &mut file, lines.as_slice(), Ok(3))?);
+    assert!(rt; (file.read, file.skipped) == (8_409, 12_231));
+    let mut file = Counted::new(FromFile::new(File::open(&rt, "long.warc")?)?);
+    assert!(rt; indexes(alloc, &mut file, index.as_slice(), Ok(3))?);
+    assert!(rt; (file.read, file.skipped) == (8_409, 12_231));
+    Ok(())
+}
+
+/// The first read returns 8,192 bytes, to 7,976 bytes of the block, with the HTTP head. The other 12,024 are skipped.
+#[test]
+fn a_payload_whose_digest_is_given_is_not_read(rt: HostRuntime) -> Result<(), Fail> {
+    let record = long_record(rt.alloc(), RESPONSE_HEAD, HTTP_HEAD)?;
+    let mut input = Counted::new(Slice::new(record.as_slice()));
+    assert!(rt; indexes(rt.alloc(), &mut input, RESPONSE_LINE, Ok(1))?);
+    assert!(rt; (input.read, input.skipped) == (8_196, 12_024));
+    Ok(())
+}
+
+/// Returns how many whole records the first `length` bytes of the three have, and the fault that follows.
+fn cut_gives(length: usize) -> (u64, Option<Fault>) {
+    let fault = |offset, cause| Some(Fault { offset, cause });
+    match length {
+        0 => (0, None),
+        1..=205 => (0, fault(0, Cause::ShortHead)),
+        206..=208 => (0, fault(0, Cause::ShortBlock)),
+        209..=212 => (0, fault(0, Cause::Closing)),
+        213 => (1, None),
+        214..=422 => (1, fault(213, Cause::ShortHead)),
+        423..=20_422 => (1, fault(213, Cause::ShortBlock)),
+        20_423..=20_426 => (1, fault(213, Cause::Closing)),
+        20_427 => (2, None),
+        20_428..=20_632 => (2, fault(20_427, Cause::ShortHead)),
+        20_633..=20_635 => (2, fault(20_427, Cause::ShortBlock)),
+        20_636..=20_639 => (2, fault(20_427, Cause::Closing)),
+        _ => (3, None),
+    }
+}
+
+/// Returns whether the first `length` bytes of the three records are listed and indexed to their end, as a file.
+fn reads_to_cut(alloc: Global, part: &[u8]) -> Result<bool, Fail> {
+    let (records, fault) = cut_gives(part.len());
+    let wanted = fault.map_or(Ok(records), Err);
+    let lines = listing(alloc, records, fault)?;
+    let index = first_of(alloc, &INDEX, records)?;
+    let mut listed = FromFile::new(Cursor::new(part))?;
+    let mut indexed = FromFile::new(Cursor::new(part))?;
+    Ok(
+        lists(alloc, &mut listed, lines.as_slice(), wanted)?
+            && indexes(alloc, &mut indexed, index.as_slice(), wanted)?,
+    )
+}
+
+#[test]
+fn a_file_that_was_cut_at_any_byte_is_read_to_its_cut(rt: HostRuntime) -> Result<(), Fail> {
+    let archive = three_records(rt.alloc())?;
+    for length in 0..20_641 {
+        let part = archive.as_slice().get(..length).unwrap_or(b"");
+        assert!(rt; part.len() == length);
+        assert!(rt; reads_to_cut(rt.alloc(), part)?, "{length}");
+    }
+    Ok(())
+}
+
+/// A skip goes past the cut, and the read after it returns nothing: no closing follows the block.
+#[test]
+fn a_file_that_is_cut_after_it_was_opened_is_damaged(rt: HostRuntime) -> Result<(), Fail> {
+    let alloc = rt.alloc();
+    let archive = three_records(alloc)?;
+    fs::write(&rt, "shrunk.warc", archive.as_slice())?;
+    let mut file = FromFile::new(File::open(&rt, "shrunk.warc")?)?;
+    fs::write(
+        &rt,
+        "shrunk.warc",
+        archive.as_slice().get(..9_000).unwrap_or(b""),
+    )?;
+    let fault = Fault {
+        offset: 213,
+        cause: Cause::Closing,
+    };
+    let lines = b"0 213 resource\nfault 213 Closing\n";
+    assert!(rt; lists(alloc, &mut file, lines, Err(fault))?);
+    Ok(())
+}
+
+/// Returns where the record begins that is read at this call, at 100 bytes a call. Calls 6 to 204 skip 100 bytes of the
+/// long block each, and call 205 its last 23. Call 209 finds the end.
+fn record_of_call(call: u64) -> (u64, u64) {
+    match call {
+        1..=3 => (0, 0),
+        4..=206 => (1, 213),
+        207..=208 => (2, 20_427),
+        _ => (3, 20_640),
+    }
+}
+
+#[test]
+fn a_listing_ends_at_a_failed_read_or_skip(rt: HostRuntime) -> Result<(), Fail> {
+    let alloc = rt.alloc();
+    let archive = three_records(alloc)?;
+    for call in 1..210 {
+        let (records, offset) = record_of_call(call);
+        let fault = Fault {
+            offset,
+            cause: Cause::Read,
+        };
+        let lines = listing(alloc, records, Some(fault))?;
+        let mut input = Fuse::new(Slice::new(archive.as_slice()), 100, call);
+        assert!(rt;
+            lists(alloc, &mut input, lines.as_slice(), Err(fault))?,
+            "{call}"
+        );
+        assert!(rt; input.failures == 1, "{call}");
+    }
+    let mut input = Fuse::new(Slice::new(archive.as_slice()), 100, 210);
+    let lines = listing(alloc, 3, None)?;
+    assert!(rt; lists(alloc, &mut input, lines.as_slice(), Ok(3))?);
+    assert!(rt; input.calls == 209);
+    Ok(())
+}
