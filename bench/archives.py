@@ -2,6 +2,7 @@
 import base64
 import hashlib
 import itertools
+import os
 import random
 
 BATCH = 10_000_000  # bytes, about
@@ -44,6 +45,11 @@ class Archive:
         lines = (f"{start} {length} response\n" for start, length in zip(self.starts(), self.lengths))
         return "".join(lines).encode()
 
+    def last(self):
+        """The offset of the last record, and the record."""
+        length = self.lengths[-1]
+        return sum(self.lengths) - length, self.pieces[-1][-length:]
+
     def verdicts(self):
         return "".join(f"{start} same\n" for start, _ in zip(self.starts(), self.lengths)).encode()
 
@@ -70,6 +76,17 @@ def one_long_record(length):
     yield head(0, zeros(length), length)
     yield from zeros(length)
     yield CLOSING
+
+
+def write_hole(path, length):
+    """Writes an archive of one record, whose block is a hole in the file, and answers its listing. The digest in its head isn't
+    that of the block.
+    """
+    with open(path, "wb") as file:
+        file.write(head(0, [], length))
+        file.seek(length, os.SEEK_CUR)
+        file.write(CLOSING)
+        return f"0 {file.tell()} response\n".encode()
 
 
 def zeros(length):

@@ -1,4 +1,4 @@
-"""Processor time and memory of programs that read an archive from standard input, and how they compare with goals."""
+"""Processor time, memory and reading of programs that read archives, and how they compare with goals."""
 import array
 import fcntl
 import os
@@ -15,6 +15,7 @@ from typing import NamedTuple
 ROOT = pathlib.Path(__file__).resolve().parent.parent
 ROUNDS = 15
 PIECE = 1 << 20  # bytes handed to a pipe at once
+WIDTH = 44  # of a name in a table
 NOWHERE = {"stdin": subprocess.DEVNULL, "stdout": subprocess.DEVNULL}
 
 
@@ -29,14 +30,14 @@ class Figure(NamedTuple):
 
     def __str__(self):
         met = "met" if self.is_met() else "MISSED"
-        return f"{self.name:<34}{self.found:8.2f} {self.unit:<2}  goal {self.goal:<4} {self.unit:<2}  {met}"
+        return f"{self.name:<{WIDTH}}{self.found:8.2f} {self.unit:<2}  goal {self.goal:<4} {self.unit:<2}  {met}"
 
 
-def report(times, figures):
+def report(times, figures, rounds=ROUNDS):
     """Prints the seconds by name, and the figures; answers the status of the script."""
-    print(f"{machine()}; processor times, the least of {ROUNDS} rounds\n")
+    print(f"{machine()}; processor times, the least of {rounds} rounds\n")
     for name, seconds in times.items():
-        print(f"{name:<34}{seconds:8.3f} s")
+        print(f"{name:<{WIDTH}}{seconds:8.3f} s")
     print()
     for figure in figures:
         print(figure)
@@ -69,15 +70,20 @@ def expect(command, path, output):
         sys.exit(f"{command} does not say what stands in {path}")
 
 
+def expect_named(command, output):
+    """The same of a command that names its file, and reads no standard input."""
+    expect(command, os.devnull, output)
+
+
 def processor_time(command, path):
     """The user and system time, in seconds, of one run that reads this file."""
     return seconds(used_by_run(command, path))
 
 
-def least_times(runs):
+def least_times(runs, rounds=ROUNDS):
     """The least time of each run, by name. Each round has every run in turn."""
-    rounds = [[run() for run in runs.values()] for _ in range(ROUNDS)]
-    return {name: min(times) for name, times in zip(runs, zip(*rounds))}
+    times_of_rounds = [[run() for run in runs.values()] for _ in range(rounds)]
+    return {name: min(times) for name, times in zip(runs, zip(*times_of_rounds))}
 
 
 def time_after_input(command, path):
@@ -128,6 +134,18 @@ def seconds(used):
 def run_time(command):
     """The user and system time, in seconds, of one run that reads no standard input."""
     return seconds(used_by(subprocess.Popen(command, **NOWHERE), command))
+
+
+def read_bytes(command):
+    """The number of bytes that such a run has read, by the system's account. The account is opened while the process lives:
+    once it has ended, only root may open it. It is read when the process has ended and before it is waited for.
+    """
+    process = subprocess.Popen(command, **NOWHERE)
+    with open(f"/proc/{process.pid}/io") as io:
+        os.waitid(os.P_PID, process.pid, os.WEXITED | os.WNOWAIT)
+        counts = dict(line.split(": ") for line in io)
+    used_by(process, command)
+    return int(counts["rchar"])
 
 
 def peak(command):
