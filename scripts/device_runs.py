@@ -1,4 +1,6 @@
 """What real_devices.py and scarce_memory.py share: archives and indexes, and runs of each command on them."""
+import contextlib
+import os
 import pathlib
 import subprocess
 import sys
@@ -87,6 +89,15 @@ def ended(process, lines=None):
         process.communicate()
         raise Differs(f"takes over {SECONDS} s") from None
     return process.returncode, output, error
+
+
+def position(process, path):
+    """Where a process stands in a file that it has opened, else 0."""
+    with contextlib.suppress(OSError):
+        for link in pathlib.Path(f"/proc/{process}/fd").iterdir():
+            if os.readlink(link) == str(path):
+                return int(pathlib.Path(f"/proc/{process}/fdinfo/{link.name}").read_text().split()[1])
+    return 0
 
 
 def try_ways(ways, words):

@@ -4,9 +4,10 @@
 usage: fail_devices.py [PROGRAM]      default: the program that the script warcdx at the top of the repository builds
 
 Either one call fails and the device goes on, or every second one from there on does, or each. The error is EIO, or EINTR, after which a
-call may be made again. Each run has to end as without a failure, or with status 3 and a line that names the device: `Read`, `Input`, `Write`
-or `cannot flush`. What it wrote then is the beginning of what it writes otherwise; `index` and `check`, which go on with the next file,
-write some of their lines; and json whose index couldn't be read isn't closed. Then each call moves one byte, or seven: nothing may change.
+call may be made again. Each run has to end as without a failure, or with status 3 and a line that names the device: `Read`, `Input`, `Write`,
+`cannot flush`, or `cannot open` of an archive, as an archive is sought when it is opened. What it wrote then is the beginning of what it
+writes otherwise; `index` and `check`, which go on with the next file, write some of their lines; and json whose index couldn't be read isn't
+closed. Then each call moves one byte, or seven: nothing may change.
 
 Prints a line for each command and way, with the number of runs. The status is 1 where a run ends in another way.
 
@@ -20,7 +21,7 @@ import sys
 from each_command import CASES, Bench, program_of
 
 FAILED = b"failed this call\n"
-ON_ERROR = re.compile(rb"warcdx: (.*: fault [0-9]+ Read|.*: Read|Input|Write|cannot flush)")
+ON_ERROR = re.compile(rb"warcdx: (.*: fault [0-9]+ Read|.*\.warc: cannot open|.*: Read|Input|Write|cannot flush)")
 ON_OUTPUT = re.compile(rb"fault [0-9]+ Read\n\Z")  # of list and verify
 WAYS = {
     "one call fails": {"ERROR": errno.EIO},
@@ -31,6 +32,7 @@ WAYS = {
 }
 MORE = (
     ("list", "response.warc", "damaged.warc", "response.warc"),
+    ("list", "wget.warc"),
     ("verify", "-", "response.warc"),
     ("index", "damaged.warc", "missing.warc", "response.warc"),
     ("query", "key=&matchType=prefix&output=json", "response.cdxj", "wget.cdxj"),

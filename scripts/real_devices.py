@@ -21,7 +21,8 @@ import sys
 import threading
 import time
 
-from device_runs import ASKED, LONG, SECONDS, ended, expect, of_input, try_ways
+from cut_files import a_file_of_long_blocks_that_is_cut
+from device_runs import ASKED, LONG, SECONDS, ended, expect, of_input, position, try_ways
 from each_command import ALL
 
 
@@ -345,15 +346,6 @@ def cut_while_read(place, words):
     return process.wait(SECONDS), output[0], error[0]
 
 
-def position(process, path):
-    """Where a process stands in a file that it has opened, else 0."""
-    with contextlib.suppress(OSError):
-        for link in pathlib.Path(f"/proc/{process}/fd").iterdir():
-            if os.readlink(link) == str(path):
-                return int(pathlib.Path(f"/proc/{process}/fdinfo/{link.name}").read_text().split()[1])
-    return 0
-
-
 WAYS = (
     a_file_that_may_not_grow,
     a_full_disk,
@@ -372,6 +364,7 @@ WAYS = (
     an_input_that_would_block,
     a_run_that_is_stopped,
     a_file_that_is_cut,
+    a_file_of_long_blocks_that_is_cut,
 )
 
 
