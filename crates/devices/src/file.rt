@@ -9,13 +9,18 @@ use std::io::{Read, Seek, SeekFrom};
 /// The least number of bytes that a [`FromFile`] skips. A read of fewer costs no more than a seek.
 pub const LEAST_SKIP: u64 = 8192;
 
+/// The maximum number of bytes of the read after a skip. Most heads fit, and a head is often all that is needed before the next skip.
+const READ_AFTER_SKIP: usize = 2048;
+
 /// A file of `std` as an input, which skips by seeks. Its bytes are not known.
 #[derive(Drop)]
 pub struct FromFile<F> {
     file: F,
     left: u64,
+    next_read: usize,
     failures: u64,
     pub ghost left_rule: { left < 2 ^ 63 },
+    pub ghost next_read_rule: { 0 < next_read },
 }
 
 impl<F: Seek + Drop> FromFile<F> {
@@ -35,6 +40,7 @@ impl<F: Seek + Drop> FromFile<F> {
         Ok(FromFile {
             file,
             left,
+            next_read: usize::MAX,
             failures: 0,
         })
     }
@@ -65,7 +71,7 @@ impl<F: Read + Seek> Input for FromFile<F> {
 
     ghost failures = { file_failures };
 
-    /// Reads as many bytes as the file returns.
+    /// Reads as many bytes as the file returns, but after a skip at most 2,048.
     fn read(&mut self, piece: &mut [u8]) -> Result<usize, DeviceFault>
         ensures bound { IfOk result (λ n. n ≤ length piece.new) }
         ensures bytes { ReadConsumes None None result piece.new }
@@ -73,9 +79,11 @@ impl<F: Read + Seek> Input for FromFile<F> {
         ensures file { ReadConsumes (F.remaining (file_of self.old)) (F.remaining (file_of self.new)) result piece.new }
         ensures left { MatchResult result (λ n. file_left self.new ≡ file_left self.old - n) (λ _. file_left self.new ≡ file_left self.old) }
     {
-        match self.file.read(piece) {
+        let most = piece.len().min(self.next_read);
+        match self.file.read(&mut piece[..most]) {
             Ok(count) => {
                 self.left = self.left.saturating_sub(count as u64);
+                self.next_read = usize::MAX;
                 Ok(count)
             }
             Err(_) => {
@@ -103,6 +111,7 @@ impl<F: Read + Seek> Input for FromFile<F> {
         match self.file.seek(SeekFrom::Current(most as i64)) {
             Ok(_) => {
                 self.left -= most;
+                self.next_read = READ_AFTER_SKIP;
                 Ok(most)
             }
             Err(_) => {
