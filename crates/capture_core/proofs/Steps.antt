@@ -100,6 +100,9 @@ parts-first view limits h front payload (Some x) (Some found) l f r p s = record
   payload_is = p;
 }
 
+pub front-within : (limit : ℕ) (h : HeadView) (front : List ℕ) → length front ≤ front_length limit h → length front ≤ h.parts.length
+front-within limit h front l = let m = min-le_left h.parts.length (if may_have_head h then limit else 0) in omega (arith, l, m)
+
 -- ---- the rest
 
 pub goes-on-to : (n m : ℕ) (front : List ℕ) (before after : Option (List ℕ)) → length front ≤ n → n - length front ≡ m → Consumes before after front → GoesOn (after_record n) (after_record m) before after

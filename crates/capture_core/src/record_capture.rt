@@ -25,7 +25,7 @@ use cdxj_core::{Entry, LINE_LIMIT};
 use std::alloc::Global;
 use warc_core::{Head, Input, Reader};
 
-/// The maximum number of bytes of a block that are read before the first search for an HTTP head.
+/// The maximum number of bytes of a block that are searched for an HTTP head before memory for more is allocated.
 const FIRST_STEP: usize = 8192;
 
 /// Returns the entry of a record under the archive's name, or `None` if the record isn't indexed. A record is indexed
@@ -63,8 +63,9 @@ pub fn capture<I: Input>(
     }
 }
 
-/// Returns the entry of a record that is indexed under this URL. The front of its block is read in two steps at most: the
-/// first bytes, and the rest if no HTTP head ends in them.
+/// Returns the entry of a record that is indexed under this URL. The front of its block is read in three steps at most, and
+/// no further than to the step in which an HTTP head ends: what one call of the reader returns, the first 8,192 bytes, and
+/// the whole front.
 fn capture_in_steps<I: Input>(
     alloc: Global,
     reader: &mut Reader,
@@ -83,7 +84,59 @@ fn capture_in_steps<I: Input>(
     let mut buffer = [0; FIRST_STEP];
     let first = &mut buffer[..front_length(indexed.head).min(FIRST_STEP)];
     let count = reader.block(input, first)?;
-    capture_first(alloc, reader, input, indexed, &first[..count])
+    capture_held(alloc, reader, input, indexed, first, count)
+}
+
+/// Like `capture_in_steps`, with a buffer for the first bytes of the front, where this many of them were read.
+fn capture_held<I: Input>(
+    alloc: Global,
+    reader: &mut Reader,
+    input: &mut I,
+    indexed: Indexed<'_>,
+    first: &mut [u8],
+    count: usize,
+) -> Result<Option<Entry>, CaptureFault>
+    requires named { 0 < length indexed.name.now }
+    requires target { 0 < length indexed.url.now }
+    requires first { length first.old ≤ front_length HTTP_HEAD_LIMIT indexed.head.now }
+    requires count { count ≤ length first.old }
+    requires stands { StandsAt reader.old indexed.head.now.start (Open (indexed.head.now.parts.length - count) (record_length indexed.head.now)) }
+    ensures reads { ReadsRest (indexed.entry.head.now.parts.length - count) indexed.entry.head.now
+        (state_of reader.old (I.remaining input.old) (I.failures input.old))
+        (state_of reader.new (I.remaining input.new) (I.failures input.new)) result }
+    ensures capture { CapturesBehind (Some indexed.entry.url.now) usual_limits indexed.entry.head.now indexed.entry.name.now (take count first.old) (prepend_known reader.old.held (I.remaining input.old)) result }
+    ensures entry { IfOk result (λ captured. IfSome captured (IsEntryOf indexed.entry.head.now indexed.entry.name.now LINE_LIMIT)) }
+{
+    let parted = part(indexed.head, &first[..count]);
+    if parted.response.is_some() {
+        capture_parted(alloc, reader, input, indexed, parted)
+    } else {
+        capture_filled(alloc, reader, input, indexed, first, count)
+    }
+}
+
+/// Like `capture_held`, where no HTTP head ends in what was read: the buffer is filled.
+fn capture_filled<I: Input>(
+    alloc: Global,
+    reader: &mut Reader,
+    input: &mut I,
+    indexed: Indexed<'_>,
+    first: &mut [u8],
+    count: usize,
+) -> Result<Option<Entry>, CaptureFault>
+    requires named { 0 < length indexed.name.now }
+    requires target { 0 < length indexed.url.now }
+    requires first { length first.old ≤ front_length HTTP_HEAD_LIMIT indexed.head.now }
+    requires count { count ≤ length first.old }
+    requires stands { StandsAt reader.old indexed.head.now.start (Open (indexed.head.now.parts.length - count) (record_length indexed.head.now)) }
+    ensures reads { ReadsRest (indexed.entry.head.now.parts.length - count) indexed.entry.head.now
+        (state_of reader.old (I.remaining input.old) (I.failures input.old))
+        (state_of reader.new (I.remaining input.new) (I.failures input.new)) result }
+    ensures capture { CapturesBehind (Some indexed.entry.url.now) usual_limits indexed.entry.head.now indexed.entry.name.now (take count first.old) (prepend_known reader.old.held (I.remaining input.old)) result }
+    ensures entry { IfOk result (λ captured. IfSome captured (IsEntryOf indexed.entry.head.now indexed.entry.name.now LINE_LIMIT)) }
+{
+    reader.block_exact(input, &mut first[count..])?;
+    capture_first(alloc, reader, input, indexed, first)
 }
 
 /// Like `capture_in_steps`, after the first bytes of the front were read.
