@@ -1,4 +1,4 @@
-use Rattle.std.proofs.Common.{Ok, string_bytes}
+use Rattle.std.proofs.Common.{Ok}
 use Rattle.devices.specs.Gathered.{gathered}
 use Rattle.capture_core.specs.Types.{includes}
 use Rattle.scan_core.proofs.AddedArchive.{fault_of, is_new, index_of_added}
