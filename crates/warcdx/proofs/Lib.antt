@@ -1,3 +1,4 @@
 pub mod AddedArchive
 pub mod LastSlash
+pub mod NamedLemmas
 mod WordsLemmas
