@@ -159,16 +159,18 @@ fn listing(alloc: Global, records: u64, fault: Option<Fault>) -> Result<Vec<u8>,
     Ok(listing)
 }
 
-/// Returns whether all three records are listed and indexed, from inputs that this function opens.
+/// Returns whether all three records are listed and indexed, from inputs that this function makes.
 fn reads_all<I: Input + Drop, F: FnMut() -> Result<I, Fail>>(
     alloc: Global,
-    mut open: F,
-) -> Result<bool, Fail> {
+    mut make: F,
+) -> Result<bool, Fail>
+    requires { F.IsAlwaysCallable make }
+{
     let lines = listing(alloc, 3, None)?;
     let index = first_of(alloc, &INDEX, 3)?;
     Ok(
-        lists(alloc, &mut open()?, lines.as_slice(), Ok(3))?
-            && indexes(alloc, &mut open()?, index.as_slice(), Ok(3))?,
+        lists(alloc, &mut make()?, lines.as_slice(), Ok(3))?
+            && indexes(alloc, &mut make()?, index.as_slice(), Ok(3))?,
     )
 }
 
