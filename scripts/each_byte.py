@@ -3,8 +3,8 @@
 
 usage: each_byte.py [PROGRAM]      default: the program that the script warcdx at the top of the repository builds
 
-Each byte is also left out and doubled, and the text is cut before it. `list`, `verify` and `index` read the archives, many in a run, `check`
-the indexes, and `serve` all queries. Prints what was tried. The status is 1 at the first run that differs.
+Each byte is also left out and doubled, and the text is cut before it. An archive with a long block, which the program passes over, is only cut
+before each of its bytes. `list`, `verify` and `index` read the archives, many in a run, `check` the indexes, and `serve` all queries. Prints what was tried. The status is 1 at the first run that differs.
 """
 import collections
 import itertools
@@ -27,6 +27,13 @@ ARCHIVE = (
     b"WARC/1.0\r\ncontent-length:3\r\nWARC-Type: resource\r\nWARC-Record-ID: 2\r\nWARC-Date: 2016-02\r\nWARC-Target-URI: dns:a\r\n"
     b"WARC-Block-Digest: sha1:VGMT4NSHA2AWVOR6EVYXQUGCNSONBWE5\r\n\r\nabc\r\n\r\n"
 )
+LONG_ARCHIVE = (
+    b"WARC/1.1\r\nWARC-Type: resource\r\nWARC-Record-ID: <urn:x:3>\r\nWARC-Date: 2016-09-19T17:20:24Z\r\n"
+    b"WARC-Target-URI: http://example.com/long\r\nWARC-Payload-Digest: sha1:VGMT4NSHA2AWVOR6EVYXQUGCNSONBWE5\r\nContent-Length: 20000\r\n\r\n"
+    + bytes(20_000)
+    + b"\r\n\r\n"
+    + ARCHIVE
+)
 INDEX = (
     b'com,example)/ 20160919172024 {"url": "http://example.com/", "mime": "\xc3\xa9", "offset": "12", "filename": "a.warc"}\n'
     b'com,example)/a 20160101000000 {"status": 200, "filename": "\\u00e9", "offset": 7}\n'
@@ -48,6 +55,10 @@ def changed(text):
         yield text[:at]
 
 
+def cut(text):
+    return (text[:at] for at in range(len(text)))
+
+
 def batches(texts):
     texts = iter(texts)
     while batch := list(itertools.islice(texts, BATCH)):
@@ -62,7 +73,7 @@ def written(trial, texts, ending):
 
 
 def try_archives(trial):
-    for texts in batches(changed(ARCHIVE)):
+    for texts in batches(itertools.chain(cut(LONG_ARCHIVE), changed(ARCHIVE))):
         names, reads = written(trial, texts, "warc"), [plain_records.read(text) for text in texts]
         expect_reports(trial, names, reads)
         an_index(trial, names, reads)
