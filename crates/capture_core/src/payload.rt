@@ -40,7 +40,8 @@ pub(crate) fn front_length(head: &Head) -> usize
     head.length().min(limit) as usize
 }
 
-/// Returns a buffer for the start of the record's block that is searched for an HTTP head, which begins with these bytes.
+/// Returns a buffer for the start of the record's block that is searched for an HTTP head. The buffer begins with these
+/// bytes.
 pub(crate) fn front_with(alloc: Global, head: &Head, first: &[u8]) -> Result<Vec<u8>, AllocError>
     requires { length first.now ≤ front_length HTTP_HEAD_LIMIT head.now }
     ensures size { IfOk result (λ v. length v.items ≡ front_length HTTP_HEAD_LIMIT head.now) }

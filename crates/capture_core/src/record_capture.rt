@@ -63,9 +63,9 @@ pub fn capture<I: Input>(
     }
 }
 
-/// Returns the entry of a record that is indexed under this URL. The front of its block is read in three steps at most, and
-/// no further than to the step in which an HTTP head ends: what one call of the reader returns, the first 8,192 bytes, and
-/// the whole front.
+/// Returns the entry of a record that is indexed under this URL. The front of its block is read in three steps at most,
+/// and no further than to the step in which an HTTP head ends: what one call of the reader returns, the first 8,192
+/// bytes, and the whole front.
 fn capture_in_steps<I: Input>(
     alloc: Global,
     reader: &mut Reader,

@@ -81,8 +81,8 @@ impl Buffer {
         skipped
     }
 
-    /// Skips up to `count` of the next bytes, and returns their number, which is 0 only for a `count` of 0 and at the end
-    /// of the input. Skips what is held; or else as much as the input skips; or else what one read returns.
+    /// Skips up to `count` of the next bytes, and returns their number, which is 0 only for a `count` of 0 and at the
+    /// end of the input. Skips what is held; or else as much as the input skips; or else what one read returns.
     ///
     /// The only error is the input's failure.
     pub fn skip<I: Input>(&mut self, input: &mut I, count: u64) -> Result<u64, DeviceFault>

@@ -9,8 +9,8 @@ use std::io::{Read, Seek, SeekFrom};
 /// The least number of bytes that a [`FromFile`] skips. A read of fewer costs no more than a seek.
 pub const LEAST_SKIP: u64 = 8192;
 
-/// The maximum number of bytes of the read after a skip. Most heads fit, and a head is often all that is needed before the
-/// next skip.
+/// The maximum number of bytes of the read after a skip. Most heads fit, and a head is often all that is needed before
+/// the next skip.
 const READ_AFTER_SKIP: usize = 2048;
 
 /// A file of `std` as an input, which skips by seeks. Its bytes are not known.
@@ -47,8 +47,8 @@ impl<F: Seek + Drop> FromFile<F> {
     }
 }
 
-/// Returns the size of a file, and sets the file to its start. Returns 0 if the file has no end to seek to, or if its size
-/// isn't below 2^63.
+/// Returns the size of a file, and sets the file to its start. Returns 0 if the file has no end to seek to, or if its
+/// size isn't below 2^63.
 fn size_of<F: Seek>(file: &mut F) -> Result<u64, DeviceFault>
     ensures size { (position : ℕ) → (bytes : List ℕ) → F.stream_position file.old ≡ Some position → F.stream_bytes file.old ≡ Some bytes
         → IfOk result (λ size. (size ≡ length bytes) ⊎ (size ≡ 0)) }
