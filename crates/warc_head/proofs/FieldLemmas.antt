@@ -1,13 +1,14 @@
 -- The fields of lines, of which some were read.
-use Rattle.std.proofs.Common.{◌≡◌, ◌∙◌, ℕ, List, [], ◌∷◌, ◌++◌, length, Option, None, Some, Result, Ok, Err, refl, sym, ap, true, false, Bool, append_assoc, arith, if◌then◌else◌}
+use Rattle.std.proofs.Common.{◌≡◌, ◌∙◌, ◌<◌, ℕ, List, [], ◌∷◌, ◌++◌, length, Option, None, Some, Result, Ok, Err, refl, sym, ap, true, false, Bool, append_assoc, arith, if◌then◌else◌}
 use Rattle.std.specs.List.{ends_with, list_all}
 use Rattle.std.specs.Prelude.{nat_eq, ◌&&◌, take, ◌-◌}
 use Rattle.warc_head.specs.declared.fault.HeadFault.{HeadFault}
 use Rattle.warc_head.specs.declared.fault.HeadFault.TheVariants as faults
 use Rattle.warc_head.specs.Answers.{◌>>=◌, IsFound}
-use Rattle.warc_head.specs.Lines.{lines_of, line_content, continues, trim, is_plain, line_end}
+use Rattle.warc_head.specs.Lines.{lines_of, line_content, BeginsWithLine, continues, trim, is_plain, line_end}
 use Rattle.warc_head.specs.Names.{is_name}
 use Rattle.warc_head.specs.Fields.{Field, Given, given_by, fields_of, joined, added, begun, field_in, with_piece, with_field, named, at_colon}
+use Rattle.warc_head.proofs.LineLemmas.{line_first, line_text, concat, concat-lines, IsLine, line_if}
 
 -- a field that goes on
 abbrev pub longer : Field → List ℕ → Field
@@ -136,27 +137,45 @@ pub going-start : (body : List ℕ) → fields_of body ≡ going [] body
 unfolding going fields_of
 going-start body = refl
 
-module _ (seen : List Field) (rest line later : List ℕ) (cut : lines_of rest ≡ line ∷ lines_of later) where
-  pub going-fault : (e : HeadFault) → line_content line ≡ Err e → going seen rest ≡ Err e
-  unfolding going
-  going-fault e h = ap (going_lines seen) cut ∙ line-fault seen line (lines_of later) e h
+content_fault : (line : List ℕ) (t : Bool) → (ends_with nat_eq line line_end && list_all is_plain (take (length line - 2) line)) ≡ t
+    → ((text : List ℕ) → IsLine line text → ⊥) → line_content line ≡ Err faults.FieldLine
+content_fault line true e f = absurd (f (take (length line - 2) line) (line_if line true (take (length line - 2) line) e refl))
+content_fault line false e f = rw e refl
 
-  pub going-unnamed : (text : List ℕ) (e : HeadFault) → line_content line ≡ Ok text → continues text ≡ false → field_in text ≡ Err e → going seen rest ≡ Err e
-  unfolding going
-  going-unnamed text e h c n = ap (going_lines seen) cut ∙ line-unnamed seen line text (lines_of later) e h c n
+unended_lines : (seen : List Field) (text : List ℕ) (lines : List (List ℕ)) → lines_of text ≡ lines → 0 < length text
+    → ((line rest : List ℕ) → BeginsWithLine text line rest → ⊥) → going_lines seen lines ≡ Err faults.FieldLine
+unended_lines seen text [] e h f = absurd (let n : text ≡ [] = sym (concat-lines text) ∙ ap concat e in omega (arith, h, ap length n))
+unended_lines seen text (line ∷ lines) e h f =
+    line-fault seen line lines faults.FieldLine (content_fault line (ends_with nat_eq line line_end && list_all is_plain (take (length line - 2) line)) refl
+    (λ t l. f t (concat lines) (record { spelled = sym (concat-lines text) ∙ (ap concat e ∙ (ap (λ d. d ++ concat lines) l.spelled ∙ append_assoc t line_end (concat lines))); plain = l.plain })))
 
-  pub going-began : (text : List ℕ) (f : Field) → line_content line ≡ Ok text → continues text ≡ false → field_in text ≡ Ok f → going seen rest ≡ going (seen ++ f ∷ []) later
-  unfolding going
-  going-began text f h c n = ap (going_lines seen) cut ∙ line-began seen f line text (lines_of later) h c n
+-- a text that begins with no line
+pub going-fault : (seen : List Field) (text : List ℕ) → 0 < length text → ((line rest : List ℕ) → BeginsWithLine text line rest → ⊥) → going seen text ≡ Err faults.FieldLine
+unfolding going
+going-fault seen text h f = unended_lines seen text (lines_of text) refl h f
 
-module _ (rest line later : List ℕ) (cut : lines_of rest ≡ line ∷ lines_of later) where
-  pub going-first : (text : List ℕ) → line_content line ≡ Ok text → continues text ≡ true → going [] rest ≡ Err faults.FieldLine
-  unfolding going
-  going-first text h c = ap (going_lines []) cut ∙ line-first line text (lines_of later) h c
+module _ (rest text later : List ℕ) (line : BeginsWithLine rest text later) where
+  cut : lines_of rest ≡ (text ++ line_end) ∷ lines_of later
+  cut = ap lines_of line.spelled ∙ line_first text later line.plain
 
-  pub going-continued : (seen : List Field) (f : Field) (text : List ℕ) → line_content line ≡ Ok text → continues text ≡ true → going (seen ++ f ∷ []) rest ≡ going (seen ++ longer f (trim text) ∷ []) later
+  content : line_content (text ++ line_end) ≡ Ok text
+  content = line_text text line.plain
+
+  pub going-unnamed : (seen : List Field) (e : HeadFault) → continues text ≡ false → field_in text ≡ Err e → going seen rest ≡ Err e
   unfolding going
-  going-continued seen f text h c = ap (going_lines (seen ++ f ∷ [])) cut ∙ line-continued seen f line text (lines_of later) h c
+  going-unnamed seen e c n = ap (going_lines seen) cut ∙ line-unnamed seen (text ++ line_end) text (lines_of later) e content c n
+
+  pub going-began : (seen : List Field) (f : Field) → continues text ≡ false → field_in text ≡ Ok f → going seen rest ≡ going (seen ++ f ∷ []) later
+  unfolding going
+  going-began seen f c n = ap (going_lines seen) cut ∙ line-began seen f (text ++ line_end) text (lines_of later) content c n
+
+  pub going-first : continues text ≡ true → going [] rest ≡ Err faults.FieldLine
+  unfolding going
+  going-first c = ap (going_lines []) cut ∙ line-first (text ++ line_end) text (lines_of later) content c
+
+  pub going-continued : (seen : List Field) (f : Field) → continues text ≡ true → going (seen ++ f ∷ []) rest ≡ going (seen ++ longer f (trim text) ∷ []) later
+  unfolding going
+  going-continued seen f c = ap (going_lines (seen ++ f ∷ [])) cut ∙ line-continued seen f (text ++ line_end) text (lines_of later) content c
 
 -- a fault that is passed on
 pub IsFound-of : {A : Type 0} (e : HeadFault) (r : Result A HeadFault) → r ≡ Err e → IsFound e r

@@ -16,7 +16,8 @@ use Rattle.warc_head.specs.Names.{is_name}
 use Rattle.warc_head.specs.Fields.{Field, Given, at_colon, field_in, named, given_by, begun, fields_of, with_field, with_piece, added, joined}
 use Rattle.warc_head.specs.Folding.{Folded, IsContinuation, IsFolded, ended, folded_text, joined_all, unfolded, IsSpelling, FieldsAreSpelled}
 use Rattle.warc_head.proofs.DateLemmas.{and_both, both}
-use Rattle.warc_head.proofs.SpellingLemmas.{line_first, line_text, begins, colon_after, name_bytes, names-plain}
+use Rattle.warc_head.proofs.LineLemmas.{line_first, line_text, concat, concat-lines, IsLine, line_if}
+use Rattle.warc_head.proofs.SpellingLemmas.{begins, colon_after, name_bytes, names-plain}
 
 -- lines that go on with the field before what the later lines give
 abbrev with_pieces : List (List ℕ) → Given → Given
@@ -73,51 +74,6 @@ spelling_read (f ∷ fs) h =
 pub spelled_is_read : (body : List ℕ) (fields : List Field) → IsSpelling body fields → fields_of body ≡ Ok fields
 unfolding fields_of
 spelled_is_read body fields s = rw (s.text, spelling_read s.folded s.each) (ap Ok (sym s.says))
-
-abbrev concat : List (List ℕ) → List ℕ
-concat [] = []
-concat (line ∷ lines) = line ++ concat lines
-
-concat-with_first : (b : ℕ) (lines : List (List ℕ)) → concat (with_first b lines) ≡ b ∷ concat lines
-concat-with_first b [] = refl
-concat-with_first b (line ∷ lines) = refl
-
-concat-if : (t : Bool) (b : ℕ) (lines : List (List ℕ)) → concat (if t then (b ∷ []) ∷ lines else with_first b lines) ≡ b ∷ concat lines
-concat-if true b lines = refl
-concat-if false b lines = concat-with_first b lines
-
--- the lines of a text are the text
-concat-lines : (text : List ℕ) → concat (lines_of text) ≡ text
-unfolding lines_of
-concat-lines [] = refl
-concat-lines (b ∷ bs) = concat-if (b == 10) b (lines_of bs) ∙ ap (λ t. b ∷ t) (concat-lines bs)
-
-same_byte : (a b : ℕ) → nat_eq a b ≡ true → b ≡ a
-same_byte a b h = grind (arith, nat_tests, h)
-
--- a text that matches CR LF byte by byte
-line_end_is : (d : List ℕ) → pointwise nat_eq line_end d ≡ true → d ≡ line_end
-line_end_is [] h = absurd (let e : false ≡ true = h in cc)
-line_end_is (a ∷ []) h = absurd (let e : false ≡ true = (and_both (nat_eq 13 a) false h).1 in cc)
-line_end_is (a ∷ b ∷ []) h =
-    let p = and_both (nat_eq 13 a) (nat_eq 10 b && true) h in
-    let q = and_both (nat_eq 10 b) true p.1 in
-    rw (same_byte 13 a p.0, same_byte 10 b q.0) refl
-line_end_is (a ∷ b ∷ c ∷ d) h = absurd (let e : false ≡ true = (and_both (nat_eq 10 b) false (and_both (nat_eq 13 a) _ h).1).1 in cc)
-
-record IsLine (line text : List ℕ) : Type 0 where
-  spelled : line ≡ ended text
-  plain : list_all is_plain text ≡ true
-
-line_if : (line : List ℕ) (t : Bool) (text : List ℕ) → (ends_with nat_eq line line_end && list_all is_plain (take (length line - 2) line)) ≡ t
-    → (if t then Ok (take (length line - 2) line) else Err faults.FieldLine) ≡ Ok text → IsLine line text
-line_if line false text e h = absurd (let k : ◌≡◌ {A = Result (List ℕ) HeadFault} (Err faults.FieldLine) (Ok text) = h in cc)
-line_if line true text e h =
-    let p = and_both (ends_with nat_eq line line_end) (list_all is_plain (take (length line - 2) line)) e in
-    let k : ◌≡◌ {A = Result (List ℕ) HeadFault} (Ok (take (length line - 2) line)) (Ok text) = h in
-    let same : take (length line - 2) line ≡ text = cc in
-    subst (λ t. IsLine line t) same
-    (record { spelled = sym (take-append-drop (length line - 2) line) ∙ ap (λ d. take (length line - 2) line ++ d) (line_end_is (drop (length line - 2) line) p.0); plain = p.1 })
 
 line_of_text : (line text : List ℕ) → line_content line ≡ Ok text → IsLine line text
 line_of_text line text h = line_if line _ text refl h

@@ -1,4 +1,5 @@
 pub mod LineLemmas
+pub mod NameLemmas
 pub mod FieldLemmas
 pub mod NumberLemmas
 pub mod DayLemmas

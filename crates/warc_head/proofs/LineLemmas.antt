@@ -1,34 +1,23 @@
--- The first line of a text.
-use Rattle.std.proofs.Common.{◌≡◌, ℕ, zero, suc, ◌+◌, ◌<◌, List, [], ◌∷◌, length, take, drop, get_or, refl, sym, ap, arith, true, false, Bool, add-one}
-use Rattle.std.specs.Prelude.{◌==◌, Option, Some, None, is_some, not, ◌&&◌}
-use Rattle.warc_head.specs.Lines.{lines_of, with_first, is_plain}
-use Rattle.warc_head.specs.Fields.{at_colon}
-use Rattle.memchr.specs.Find.{IsFirstByte, is_byte2}
-use Rattle.std.specs.List.{list_all}
+-- The lines of a text.
+use Rattle.std.proofs.Common.{◌≡◌, ◌∙◌, ℕ, zero, suc, ◌+◌, ◌-◌, ◌<◌, ◌≤◌, List, [], ◌∷◌, ◌++◌, length, take, drop, get_or, refl, sym, ap, arith, true, false, Bool, ◌&&◌, add-one, append_assoc, length-append, Result, Ok, Err, nat_eq, subst, if◌then◌else◌}
+use Rattle.std.specs.Prelude.{◌==◌, Option, Some, None, not}
+use Rattle.std.specs.List.{list_all, ends_with}
 use Rattle.std.specs.Option.{option_map}
+use Rattle.std.specs.Cmp.Lexicographic.{pointwise}
+use Rattle.std.proofs.lemmas.Bool.Decides.{nat_tests}
+use Rattle.std.proofs.lemmas.List.{take-append-drop}
+use Rattle.std.proofs.Math.Seq.{take-append_seam, drop-append_seam}
+use Rattle.memchr.specs.Find.{is_byte2}
+use Rattle.warc_head.specs.declared.fault.HeadFault.{HeadFault}
+use Rattle.warc_head.specs.declared.fault.HeadFault.TheVariants as faults
+use Rattle.warc_head.specs.Lines.{lines_of, with_first, line_content, line_end, is_plain, BeginsWithLine}
+use Rattle.warc_head.specs.Fields.{at_colon}
+use Rattle.warc_head.specs.Folding.{ended}
+use Rattle.warc_head.proofs.DateLemmas.{and_both}
 
 false_of : (t : Bool) → (t ≡ true → ⊥) → t ≡ false
 false_of true h = absurd (h refl)
 false_of false h = refl
-
--- a text whose first LF stands at a place
-pub cut_at : (text : List ℕ) (at : ℕ) → at < length text → (get_or text at 0 == 10) ≡ true → ((k : ℕ) → k < at → (get_or text k 0 == 10) ≡ true → ⊥) → lines_of text ≡ take (at + 1) text ∷ lines_of (drop (at + 1) text)
-unfolding lines_of
-cut_at [] at h e f = absurd (omega arith)
-cut_at (b ∷ bs) zero h e f = rw e refl
-cut_at (b ∷ bs) (suc at) h e f =
-    let t : (b == 10) ≡ false = false_of (b == 10) (f 0 (omega arith)) in
-    rw (t, add-one) (ap (with_first b) (rw add-one at (cut_at bs at (omega arith) e (λ k l. f (suc k) (omega arith)))))
-
--- a text without LF is one line
-pub cut_none : (text : List ℕ) → 0 < length text → ((k : ℕ) → k < length text → (get_or text k 0 == 10) ≡ true → ⊥) → lines_of text ≡ text ∷ []
-unfolding lines_of
-cut_none [] h f = absurd (omega arith)
-cut_none (b ∷ []) h f =
-    let t : (b == 10) ≡ false = false_of (b == 10) (f 0 (omega arith)) in rw t refl
-cut_none (b ∷ c ∷ bs) h f =
-    let t : (b == 10) ≡ false = false_of (b == 10) (f 0 (omega arith)) in
-    rw t (ap (with_first b) (cut_none (c ∷ bs) (omega arith) (λ k l. f (suc k) (omega arith))))
 
 -- a text whose first colon stands at a place
 pub colon_at : (text : List ℕ) (at : ℕ) → at < length text → (get_or text at 0 == 58) ≡ true → ((k : ℕ) → k < at → (get_or text k 0 == 58) ≡ true → ⊥) → at_colon text ≡ Some (take at text, drop (at + 1) text)
@@ -46,25 +35,111 @@ colon_none (b ∷ bs) f =
     let t : (b == 58) ≡ false = false_of (b == 58) (f 0 (omega arith)) in
     rw t (ap (option_map (λ p. (b ∷ p.0, p.1))) (colon_none bs (λ k l. f (suc k) (omega arith))))
 
-and_false : (a : Bool) {b : Bool} → b ≡ false → (a && b) ≡ false
-and_false true h = h
-and_false false h = refl
+plain-not_lf : (b : ℕ) → is_plain b ≡ true → (b == 10) ≡ false
+plain-not_lf b h = grind (arith, nat_tests, h)
 
--- a text in which no CR or LF was found
-plain_none : (text : List ℕ) → ((k : ℕ) → k < length text → is_byte2 13 10 (get_or text k 0) ≡ true → ⊥) → list_all is_plain text ≡ true
-plain_none [] f = refl
-plain_none (b ∷ bs) f =
+-- the first line of a text
+pub line_first : (text rest : List ℕ) → list_all is_plain text ≡ true → lines_of (text ++ (line_end ++ rest)) ≡ (text ++ line_end) ∷ lines_of rest
+unfolding lines_of
+line_first [] rest h = refl
+line_first (b ∷ bs) rest h =
+    let p = and_both (is_plain b) (list_all is_plain bs) h in
+    rw (plain-not_lf b p.0) (ap (with_first b) (line_first bs rest p.1))
+
+front : (text : List ℕ) → take (length (text ++ line_end) - 2) (text ++ line_end) ≡ text
+front text =
+    let n : length (text ++ line_end) - 2 ≡ length text = simp length-append (omega arith) in
+    rw n (take-append_seam text line_end)
+
+back : (text : List ℕ) → ends_with nat_eq (text ++ line_end) line_end ≡ true
+back text =
+    let n : length (text ++ line_end) - 2 ≡ length text = simp length-append (omega arith) in
+    rw (n, drop-append_seam text line_end) refl
+
+pub line_text : (text : List ℕ) → list_all is_plain text ≡ true → line_content (text ++ line_end) ≡ Ok text
+line_text text h = rw (back text, front text, h) refl
+
+abbrev pub concat : List (List ℕ) → List ℕ
+concat [] = []
+concat (line ∷ lines) = line ++ concat lines
+
+concat-with_first : (b : ℕ) (lines : List (List ℕ)) → concat (with_first b lines) ≡ b ∷ concat lines
+concat-with_first b [] = refl
+concat-with_first b (line ∷ lines) = refl
+
+concat-if : (t : Bool) (b : ℕ) (lines : List (List ℕ)) → concat (if t then (b ∷ []) ∷ lines else with_first b lines) ≡ b ∷ concat lines
+concat-if true b lines = refl
+concat-if false b lines = concat-with_first b lines
+
+-- the lines of a text are the text
+pub concat-lines : (text : List ℕ) → concat (lines_of text) ≡ text
+unfolding lines_of
+concat-lines [] = refl
+concat-lines (b ∷ bs) = concat-if (b == 10) b (lines_of bs) ∙ ap (λ t. b ∷ t) (concat-lines bs)
+
+same_byte : (a b : ℕ) → nat_eq a b ≡ true → b ≡ a
+same_byte a b h = grind (arith, nat_tests, h)
+
+-- a text that matches CR LF byte by byte
+line_end_is : (d : List ℕ) → pointwise nat_eq line_end d ≡ true → d ≡ line_end
+line_end_is [] h = absurd (let e : false ≡ true = h in cc)
+line_end_is (a ∷ []) h = absurd (let e : false ≡ true = (and_both (nat_eq 13 a) false h).1 in cc)
+line_end_is (a ∷ b ∷ []) h =
+    let p = and_both (nat_eq 13 a) (nat_eq 10 b && true) h in
+    let q = and_both (nat_eq 10 b) true p.1 in
+    rw (same_byte 13 a p.0, same_byte 10 b q.0) refl
+line_end_is (a ∷ b ∷ c ∷ d) h = absurd (let e : false ≡ true = (and_both (nat_eq 10 b) false (and_both (nat_eq 13 a) _ h).1).1 in cc)
+
+pub record IsLine (line text : List ℕ) : Type 0 where
+  pub spelled : line ≡ ended text
+  pub plain : list_all is_plain text ≡ true
+
+pub line_if : (line : List ℕ) (t : Bool) (text : List ℕ) → (ends_with nat_eq line line_end && list_all is_plain (take (length line - 2) line)) ≡ t
+    → (if t then Ok (take (length line - 2) line) else Err faults.FieldLine) ≡ Ok text → IsLine line text
+line_if line false text e h = absurd (let k : ◌≡◌ {A = Result (List ℕ) HeadFault} (Err faults.FieldLine) (Ok text) = h in cc)
+line_if line true text e h =
+    let p = and_both (ends_with nat_eq line line_end) (list_all is_plain (take (length line - 2) line)) e in
+    let k : ◌≡◌ {A = Result (List ℕ) HeadFault} (Ok (take (length line - 2) line)) (Ok text) = h in
+    let same : take (length line - 2) line ≡ text = cc in
+    subst (λ t. IsLine line t) same
+    (record { spelled = sym (take-append-drop (length line - 2) line) ∙ ap (λ d. take (length line - 2) line ++ d) (line_end_is (drop (length line - 2) line) p.0); plain = p.1 })
+
+-- a line without CR and LF has neither at a place
+plain_at : (line : List ℕ) (at : ℕ) → list_all is_plain line ≡ true → at < length line → is_byte2 13 10 (get_or line at 0) ≡ true → ⊥
+plain_at [] at p l h = absurd (omega arith)
+plain_at (b ∷ bs) zero p l h = let k : false ≡ true = ap not (sym h) ∙ (and_both (is_plain b) (list_all is_plain bs) p).0 in cc
+plain_at (b ∷ bs) (suc at) p l h = plain_at bs at (and_both (is_plain b) (list_all is_plain bs) p).1 (omega arith) h
+
+-- where a line stands, the first CR or LF is that at its end
+pub line_end_at : (line rest : List ℕ) (at : ℕ) → list_all is_plain line ≡ true → is_byte2 13 10 (get_or (line ++ 13 ∷ rest) at 0) ≡ true
+    → ((k : ℕ) → k < at → is_byte2 13 10 (get_or (line ++ 13 ∷ rest) k 0) ≡ true → ⊥) → at ≡ length line
+line_end_at [] rest zero p h f = refl
+line_end_at [] rest (suc at) p h f = absurd (f 0 (omega arith) refl)
+line_end_at (b ∷ bs) rest zero p h f = absurd (plain_at (b ∷ bs) 0 p (omega arith) h)
+line_end_at (b ∷ bs) rest (suc at) p h f = ap suc (line_end_at bs rest at (and_both (is_plain b) (list_all is_plain bs) p).1 h (λ k l. f (suc k) (omega arith)))
+
+-- a text that begins so has a CR or LF
+pub line_end_in : (line rest : List ℕ) → ((k : ℕ) → k < length (line ++ 13 ∷ rest) → is_byte2 13 10 (get_or (line ++ 13 ∷ rest) k 0) ≡ true → ⊥) → ⊥
+line_end_in [] rest f = f 0 (omega arith) refl
+line_end_in (b ∷ bs) rest f = line_end_in bs rest (λ k l. f (suc k) (omega arith))
+
+-- the bytes before the first CR or LF
+pub plain_before : (text : List ℕ) (at : ℕ) → ((k : ℕ) → k < at → is_byte2 13 10 (get_or text k 0) ≡ true → ⊥) → at ≤ length text → list_all is_plain (take at text) ≡ true
+plain_before text zero f l = refl
+plain_before [] (suc at) f l = absurd (omega arith)
+plain_before (b ∷ bs) (suc at) f l =
     let t : is_byte2 13 10 b ≡ false = false_of (is_byte2 13 10 b) (f 0 (omega arith)) in
-    rw t (plain_none bs (λ k l. f (suc k) (omega arith)))
+    rw t (plain_before bs at (λ k l. f (suc k) (omega arith)) (omega arith))
 
--- a text in which one was found
-plain_some : (text : List ℕ) (at : ℕ) → at < length text → is_byte2 13 10 (get_or text at 0) ≡ true → list_all is_plain text ≡ false
-plain_some [] at l h = absurd (omega arith)
-plain_some (b ∷ bs) zero l h = rw h refl
-plain_some (b ∷ bs) (suc at) l h = and_false (is_plain b) (plain_some bs at (omega arith) h)
+-- where no CR or LF stands, no line does
+pub unended : (text : List ℕ) → ((k : ℕ) → k < length text → is_byte2 13 10 (get_or text k 0) ≡ true → ⊥) → (line rest : List ℕ) → BeginsWithLine text line rest → ⊥
+unended text f line rest b = line_end_in line (10 ∷ rest) (subst (λ t. (k : ℕ) → k < length t → is_byte2 13 10 (get_or t k 0) ≡ true → ⊥) b.spelled f)
 
-pub plain_found : (text : List ℕ) (r : Option ℕ) (none : Bool) → is_some r ≡ not none → IsFirstByte (is_byte2 13 10) text r → none ≡ list_all is_plain text
-plain_found text None true e f = sym (plain_none text (λ k l. f k (omega arith) l))
-plain_found text None false e f = absurd (let k : false ≡ true = e in cc)
-plain_found text (Some at) true e f = absurd (let k : true ≡ false = e in cc)
-plain_found text (Some at) false e f = sym (plain_some text at f.0.high f.1)
+-- where the first CR or LF begins no CR LF, no line stands
+pub ended_elsewhere : (text : List ℕ) (at : ℕ) → is_byte2 13 10 (get_or text at 0) ≡ true → ((k : ℕ) → k < at → is_byte2 13 10 (get_or text k 0) ≡ true → ⊥)
+    → ((rest : List ℕ) → drop at text ≡ line_end ++ rest → ⊥) → (line rest : List ℕ) → BeginsWithLine text line rest → ⊥
+ended_elsewhere text at h f n line rest b =
+    let e : at ≡ length line =
+    line_end_at line (10 ∷ rest) at b.plain (subst (λ t. is_byte2 13 10 (get_or t at 0) ≡ true) b.spelled h)
+    (subst (λ t. (k : ℕ) → k < at → is_byte2 13 10 (get_or t k 0) ≡ true → ⊥) b.spelled f) in
+    n rest (ap (drop at) b.spelled ∙ (ap (λ n. drop n (line ++ (line_end ++ rest))) e ∙ drop-append_seam line (line_end ++ rest)))

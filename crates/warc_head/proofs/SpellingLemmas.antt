@@ -13,31 +13,8 @@ use Rattle.warc_head.specs.Fields.{Field, at_colon, field_in, given_by, fields_o
 use Rattle.warc_head.specs.Parts.{parts_of, body_of}
 use Rattle.warc_head.specs.Spelling.{IsOneLine, field_text, spelled, SpellingReadsBack}
 use Rattle.warc_head.proofs.DateLemmas.{and_both, both}
+use Rattle.warc_head.proofs.LineLemmas.{line_first, line_text}
 use Rattle.warc_head.proofs.FieldLemmas.{joined-nil}
-
-plain-not_lf : (b : ℕ) → is_plain b ≡ true → (b == 10) ≡ false
-plain-not_lf b h = grind (arith, nat_tests, h)
-
--- the first line of a text
-pub line_first : (text rest : List ℕ) → list_all is_plain text ≡ true → lines_of (text ++ (line_end ++ rest)) ≡ (text ++ line_end) ∷ lines_of rest
-unfolding lines_of
-line_first [] rest h = refl
-line_first (b ∷ bs) rest h =
-    let p = and_both (is_plain b) (list_all is_plain bs) h in
-    rw (plain-not_lf b p.0) (ap (with_first b) (line_first bs rest p.1))
-
-front : (text : List ℕ) → take (length (text ++ line_end) - 2) (text ++ line_end) ≡ text
-front text =
-    let n : length (text ++ line_end) - 2 ≡ length text = simp length-append (omega arith) in
-    rw n (take-append_seam text line_end)
-
-back : (text : List ℕ) → ends_with nat_eq (text ++ line_end) line_end ≡ true
-back text =
-    let n : length (text ++ line_end) - 2 ≡ length text = simp length-append (omega arith) in
-    rw (n, drop-append_seam text line_end) refl
-
-pub line_text : (text : List ℕ) → list_all is_plain text ≡ true → line_content (text ++ line_end) ≡ Ok text
-line_text text h = rw (back text, front text, h) refl
 
 name-not_space : (b : ℕ) → is_name_byte b ≡ true → is_space b ≡ false
 name-not_space b h =

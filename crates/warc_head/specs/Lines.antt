@@ -1,5 +1,5 @@
 -- The lines of a head, each ended by CR LF (ISO 28500:2017, clause 4).
-use Rattle.std.specs.Prelude.{ℕ, ◌-◌, ◌==◌, ◌&&◌, ◌||◌, not, nat_eq, Bool, false, List, [], ◌∷◌, length, take, reverse, Result, Ok, Err, if◌then◌else◌}
+use Rattle.std.specs.Prelude.{◌≡◌, ℕ, ◌-◌, ◌==◌, ◌&&◌, ◌||◌, not, nat_eq, Bool, true, false, List, [], ◌∷◌, ◌++◌, length, take, reverse, Result, Ok, Err, if◌then◌else◌}
 use Rattle.std.specs.List.{ends_with, list_all}
 use Rattle.warc_head.specs.Bytes.{tab, lf, cr, space}
 use Rattle.warc_head.specs.declared.fault.HeadFault.{HeadFault}
@@ -31,6 +31,11 @@ abbrev pub line_content : List ℕ → Result (List ℕ) HeadFault
 line_content line =
     let text = take (length line - 2) line in
     if ends_with nat_eq line line_end && list_all is_plain text then Ok text else Err faults.FieldLine
+
+-- the text begins with this line, in which no CR or LF stands, and goes on behind its CR LF
+pub record BeginsWithLine (text line rest : List ℕ) : Type 0 where
+  pub spelled : text ≡ line ++ (line_end ++ rest)
+  pub plain : list_all is_plain line ≡ true
 
 -- the line goes on with the field before it
 abbrev pub continues : List ℕ → Bool

@@ -5,8 +5,8 @@ ghost use Rattle.warc_head.specs.declared.fault.HeadFault.TheVariants.{Memory};
 ghost use Rattle.warc_head.specs.Fields.{at_colon, field_in, fields_of, value_of};
 
 use crate::fault::HeadFault;
-use crate::lines::{continues, cut_line, line_content, trim};
-use crate::names::is_name;
+use crate::lines::{continues, next_line, trim};
+use crate::names::{is_name, same_name};
 use memchr::memchr;
 use std::alloc::Global;
 use std::marker::Model;
@@ -84,8 +84,9 @@ pub fn fields_of(alloc: Global, body: &[u8]) -> Result<Vec<Field>, HeadFault>
     let mut fields: Vec<Field> = Vec::with_capacity(alloc, USUAL_FIELDS)?;
     let mut rest = body;
     while !rest.is_empty() {
-        let (line, later) = cut_line(rest);
-        let text = line_content(line)?;
+        let Some((text, later)) = next_line(rest) else {
+            return Err(HeadFault::FieldLine);
+        };
         if continues(text) {
             let Some(mut field) = fields.pop() else {
                 return Err(HeadFault::FieldLine);
@@ -131,7 +132,7 @@ pub fn value_of<'a>(fields: &'a [Field], name: &[u8]) -> Option<&'a [u8]>
 {
     let mut rest = fields;
     while let Some((first, later)) = rest.split_first() {
-        if first.name().eq_ignore_ascii_case(name) {
+        if same_name(first.name(), name) {
             return Some(first.value());
         }
         rest = later;

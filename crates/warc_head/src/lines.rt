@@ -1,42 +1,19 @@
 //! The lines of a head.
-ghost use Rattle.std.specs.Prelude.{◌≡◌, ◌<◌, ◌∷◌, length, Ok, Err, MatchResult};
-ghost use Rattle.std.specs.List.{list_all};
-ghost use Rattle.warc_head.specs.Lines.{lines_of, line_content, continues, is_space, is_plain, trim_front, trim_end, trim};
+ghost use Rattle.std.specs.Prelude.{◌≡◌, ℕ, List, MatchOption};
+ghost use Rattle.warc_head.specs.Lines.{BeginsWithLine, continues, is_space, trim_front, trim_end, trim};
 
-use crate::fault::HeadFault;
-use memchr::{memchr, memchr2};
+use memchr::memchr2;
 
-/// Returns the first line, with its LF, and the text that follows it.
-pub fn cut_line(text: &[u8]) -> (&[u8], &[u8])
-    requires { 0 < length text.now }
-    ensures lines { lines_of text.now ≡ result.0.now ∷ lines_of result.1.now }
-    ensures shorter { length result.1.now < length text.now }
+/// Returns the text of the first line, without the CR LF that ends it, and the text that follows the line. Returns `None`
+/// if another CR or LF comes first, or none comes.
+pub fn next_line(text: &[u8]) -> Option<(&[u8], &[u8])>
+    ensures { MatchOption result
+        ((line rest : List ℕ) → ¬ (BeginsWithLine text.now line rest))
+        (λ p. BeginsWithLine text.now p.0.now p.1.now) }
 {
-    match memchr(b'\n', text) {
-        Some(at) => (&text[..at + 1], &text[at + 1..]),
-        None => (text, &[]),
-    }
-}
-
-/// Returns a line without the CR LF that ends it.
-pub fn line_content(line: &[u8]) -> Result<&[u8], HeadFault>
-    ensures { MatchResult result (λ text. line_content line.now ≡ Ok text.now) (λ e. line_content line.now ≡ Err e) }
-{
-    if !line.ends_with(b"\r\n") {
-        return Err(HeadFault::FieldLine);
-    }
-    let text = &line[..line.len() - 2];
-    if !is_plain(text) {
-        return Err(HeadFault::FieldLine);
-    }
-    Ok(text)
-}
-
-/// Returns `true` if the text contains neither CR nor LF.
-fn is_plain(text: &[u8]) -> bool
-    ensures { result ≡ list_all is_plain text.now }
-{
-    memchr2(b'\r', b'\n', text).is_none()
+    let end = memchr2(b'\r', b'\n', text)?;
+    let (line, rest) = text.split_at(end);
+    Some((line, rest.strip_prefix(b"\r\n")?))
 }
 
 fn is_space(byte: u8) -> bool

@@ -1,42 +1,51 @@
 //! The mandatory fields of a record.
-ghost use Rattle.std.specs.Prelude.{◌≡◌, length};
+ghost use Rattle.std.specs.Prelude.{◌≡◌, length, map, nat_lt};
+ghost use Rattle.std.specs.List.{list_all};
 ghost use Rattle.warc_head.specs.Answers.{Answers};
 ghost use Rattle.warc_head.specs.Fields.{values_of};
-ghost use Rattle.warc_head.specs.Mandatory.{mandatory, none_missing, none_repeated, each_once, required};
+ghost use Rattle.warc_head.specs.Mandatory.{mandatory, each_once, required};
 
 use crate::fault::HeadFault;
 use crate::fields::{Field, value_of};
+use crate::names::same_name;
 
 /// Checks that each mandatory field occurs exactly once.
 #[tactic(auto, unfolding(crate::specs::Mandatory::each_once))]
 pub fn each_once(fields: &[Field]) -> Result<(), HeadFault>
     ensures { Answers (λ u. tt) result (each_once fields.now) }
 {
-    if !none_missing(fields) {
+    let counts = counts(fields);
+    if !none_missing(&counts) {
         return Err(HeadFault::Missing);
     }
-    if !none_repeated(fields) {
+    if !none_repeated(&counts) {
         return Err(HeadFault::Repeated);
     }
     Ok(())
 }
 
-fn none_missing(fields: &[Field]) -> bool
-    ensures { result ≡ none_missing mandatory fields.now }
+/// Returns the number of fields of each mandatory name.
+fn counts(fields: &[Field]) -> [usize; 4]
+    ensures { result ≡ map (λ name. length (values_of name fields.now)) mandatory }
 {
-    count(fields, b"WARC-Record-ID") > 0
-        && count(fields, b"Content-Length") > 0
-        && count(fields, b"WARC-Date") > 0
-        && count(fields, b"WARC-Type") > 0
+    [
+        count(fields, b"WARC-Record-ID"),
+        count(fields, b"Content-Length"),
+        count(fields, b"WARC-Date"),
+        count(fields, b"WARC-Type"),
+    ]
 }
 
-fn none_repeated(fields: &[Field]) -> bool
-    ensures { result ≡ none_repeated mandatory fields.now }
+fn none_missing(counts: &[usize; 4]) -> bool
+    ensures { result ≡ list_all (nat_lt 0) counts.now }
 {
-    count(fields, b"WARC-Record-ID") < 2
-        && count(fields, b"Content-Length") < 2
-        && count(fields, b"WARC-Date") < 2
-        && count(fields, b"WARC-Type") < 2
+    counts.iter().all(|count| *count > 0)
+}
+
+fn none_repeated(counts: &[usize; 4]) -> bool
+    ensures { result ≡ list_all (λ count. nat_lt count 2) counts.now }
+{
+    counts.iter().all(|count| *count < 2)
 }
 
 /// Returns the number of fields of this name.
@@ -46,7 +55,7 @@ fn count(fields: &[Field], name: &[u8]) -> usize
     let mut count = 0;
     let mut rest = fields;
     while let Some((first, later)) = rest.split_first() {
-        if first.name().eq_ignore_ascii_case(name) {
+        if same_name(first.name(), name) {
             count += 1;
         }
         rest = later;

@@ -1,0 +1,6 @@
+use Rattle.std.proofs.Common.{◌∙◌, arith}
+use Rattle.warc_head.proofs.NameLemmas.{token_is_name}
+use Rattle.warc_head.proofs.names.is_name.Goals as goal
+
+pub returns : goal.returns
+returns c = c.is_token.ensures ∙ token_is_name c.args.name.now (λ k. omega (arith, c.type_inv.name k))
