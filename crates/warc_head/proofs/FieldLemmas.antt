@@ -1,5 +1,5 @@
 -- The fields of lines, of which some were read.
-use Rattle.std.proofs.Common.{◌≡◌, ◌∙◌, ◌<◌, ℕ, List, [], ◌∷◌, ◌++◌, length, Option, None, Some, Result, Ok, Err, refl, sym, ap, true, false, Bool, append_assoc, arith, if◌then◌else◌}
+use Rattle.std.proofs.Common.{◌≡◌, ◌∙◌, ◌<◌, ℕ, List, [], ◌∷◌, ◌++◌, length, Option, None, Some, Result, Ok, Err, refl, sym, ap, true, false, Bool, append_assoc, arith, ◌⊎◌, inl, inr, if◌then◌else◌}
 use Rattle.std.specs.List.{ends_with, list_all}
 use Rattle.std.specs.Prelude.{nat_eq, ◌&&◌, take, ◌-◌}
 use Rattle.warc_head.specs.declared.fault.HeadFault.{HeadFault}
@@ -7,12 +7,8 @@ use Rattle.warc_head.specs.declared.fault.HeadFault.TheVariants as faults
 use Rattle.warc_head.specs.Answers.{◌>>=◌, IsFound}
 use Rattle.warc_head.specs.Lines.{lines_of, line_content, BeginsWithLine, continues, trim, is_plain, line_end}
 use Rattle.warc_head.specs.Names.{is_name}
-use Rattle.warc_head.specs.Fields.{Field, Given, given_by, fields_of, joined, added, begun, field_in, with_piece, with_field, named, at_colon}
+use Rattle.warc_head.specs.Fields.{Field, Given, given_by, fields_of, joined, longer, added, begun, field_in, with_piece, with_field, named, at_colon}
 use Rattle.warc_head.proofs.LineLemmas.{line_first, line_text, concat, concat-lines, IsLine, line_if}
-
--- a field that goes on
-abbrev pub longer : Field → List ℕ → Field
-longer f more = record { name = f.name; value = joined f.value more }
 
 -- fields that were read, and what the lines after them give
 abbrev pub onto : List Field → Given → Result (List Field) HeadFault
@@ -181,6 +177,11 @@ module _ (rest text later : List ℕ) (line : BeginsWithLine rest text later) wh
 pub IsFound-of : {A : Type 0} (e : HeadFault) (r : Result A HeadFault) → r ≡ Err e → IsFound e r
 IsFound-of faults.Memory r h = tt
 IsFound-of e r h = h
+
+-- a piece that can't go on, or memory that ran out
+pub IsFound-either : {A : Type 0} (e : HeadFault) (r : Result A HeadFault) → (e ≡ faults.Memory) ⊎ (r ≡ Err e) → IsFound e r
+IsFound-either faults.Memory r h = tt
+IsFound-either e r h = elim h [ inl m ↦ absurd cc | inr f ↦ f ]
 
 pub IsFound-then : {A B : Type 0} (e : HeadFault) (r : Result A HeadFault) (s : Result B HeadFault) → (r ≡ Err e → s ≡ Err e) → IsFound e r → IsFound e s
 IsFound-then faults.Memory r s f h = tt

@@ -1,17 +1,15 @@
 -- The fields that are read and the texts that spell them.
-use Rattle.std.proofs.Common.{◌≡◌, ◌∙◌, ℕ, suc, ◌-◌, Bool, true, false, ◌&&◌, List, [], ◌∷◌, ◌++◌, length, take, drop, refl, sym, ap, arith, append_assoc, Option, Some, None, Result, Ok, Err, nat_eq, subst, if◌then◌else◌, map}
+use Rattle.std.proofs.Common.{◌≡◌, ◌∙◌, ℕ, suc, Bool, true, false, List, [], ◌∷◌, ◌++◌, refl, sym, ap, arith, append_assoc, Option, Some, None, Result, Ok, Err, subst, if◌then◌else◌, map}
 use Rattle.std.specs.Prelude.{◌==◌, All}
-use Rattle.std.specs.List.{list_all, flat_map, ends_with}
-use Rattle.std.specs.Cmp.Lexicographic.{pointwise}
+use Rattle.std.specs.List.{list_all, flat_map}
 use Rattle.std.specs.Option.{option_map}
 use Rattle.std.proofs.lemmas.Bool.Decides.{nat_tests}
 use Rattle.std.proofs.lemmas.List.Folds.{list_all-append}
 use Rattle.std.proofs.lemmas.List.Elements.{All-cons, All-nil}
-use Rattle.std.proofs.lemmas.List.{take-append-drop}
 use Rattle.warc_head.specs.declared.fault.HeadFault.{HeadFault}
 use Rattle.warc_head.specs.declared.fault.HeadFault.TheVariants as faults
 use Rattle.warc_head.specs.Answers.{◌>>=◌}
-use Rattle.warc_head.specs.Lines.{lines_of, with_first, line_content, line_end, continues, is_plain, trim}
+use Rattle.warc_head.specs.Lines.{lines_of, line_content, line_end, continues, is_plain, trim}
 use Rattle.warc_head.specs.Names.{is_name}
 use Rattle.warc_head.specs.Fields.{Field, Given, at_colon, field_in, named, given_by, begun, fields_of, with_field, with_piece, added, joined}
 use Rattle.warc_head.specs.Folding.{Folded, IsContinuation, IsFolded, ended, folded_text, joined_all, unfolded, IsSpelling, FieldsAreSpelled}

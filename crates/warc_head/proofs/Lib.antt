@@ -1,6 +1,7 @@
 pub mod LineLemmas
 pub mod NameLemmas
 pub mod FieldLemmas
+pub mod PlaceLemmas
 pub mod NumberLemmas
 pub mod DayLemmas
 pub mod DateLemmas

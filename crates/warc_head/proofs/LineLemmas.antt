@@ -1,6 +1,6 @@
 -- The lines of a text.
-use Rattle.std.proofs.Common.{◌≡◌, ◌∙◌, ℕ, zero, suc, ◌+◌, ◌-◌, ◌<◌, ◌≤◌, List, [], ◌∷◌, ◌++◌, length, take, drop, get_or, refl, sym, ap, arith, true, false, Bool, ◌&&◌, add-one, append_assoc, length-append, Result, Ok, Err, nat_eq, subst, if◌then◌else◌}
-use Rattle.std.specs.Prelude.{◌==◌, Option, Some, None, not}
+use Rattle.std.proofs.Common.{◌≡◌, ◌∙◌, ℕ, zero, suc, ◌+◌, ◌-◌, ◌<◌, ◌≤◌, List, [], ◌∷◌, ◌++◌, length, take, drop, get_or, refl, sym, ap, arith, true, false, Bool, ◌&&◌, add-one, length-append, Result, Ok, Err, nat_eq, subst, if◌then◌else◌}
+use Rattle.std.specs.Prelude.{◌==◌, Some, None, not}
 use Rattle.std.specs.List.{list_all, ends_with}
 use Rattle.std.specs.Option.{option_map}
 use Rattle.std.specs.Cmp.Lexicographic.{pointwise}

@@ -1,13 +1,13 @@
 -- Reading what was spelled.
-use Rattle.std.proofs.Common.{◌≡◌, ◌∙◌, ℕ, suc, ◌-◌, Bool, true, false, ◌&&◌, not, List, [], ◌∷◌, ◌++◌, length, take, drop, refl, ap, arith, append_assoc, length-append, Some, None, Ok, nat_le, nat_eq, subst}
+use Rattle.std.proofs.Common.{◌≡◌, ◌∙◌, ℕ, suc, ◌-◌, Bool, true, false, ◌&&◌, not, List, [], ◌∷◌, ◌++◌, length, drop, refl, ap, arith, append_assoc, length-append, Some, None, Ok, nat_le, subst}
 use Rattle.std.specs.Prelude.{◌==◌, All}
-use Rattle.std.specs.List.{list_all, ends_with}
+use Rattle.std.specs.List.{list_all}
 use Rattle.std.specs.Option.{option_map}
 use Rattle.std.proofs.lemmas.Bool.Decides.{nat_tests}
 use Rattle.std.proofs.lemmas.List.Folds.{list_all-append}
 use Rattle.std.proofs.lemmas.List.{drop_at}
-use Rattle.std.proofs.Math.Seq.{take-append_seam, drop-append_seam}
-use Rattle.warc_head.specs.Lines.{lines_of, with_first, line_content, line_end, continues, is_space, is_plain}
+use Rattle.std.proofs.Math.Seq.{take-append_seam}
+use Rattle.warc_head.specs.Lines.{lines_of, line_end, continues, is_space, is_plain}
 use Rattle.warc_head.specs.Names.{is_name, is_name_byte, is_separator}
 use Rattle.warc_head.specs.Fields.{Field, at_colon, field_in, given_by, fields_of}
 use Rattle.warc_head.specs.Parts.{parts_of, body_of}

@@ -32,6 +32,10 @@ joined [] more = more
 joined (b ∷ bs) [] = b ∷ bs
 joined (b ∷ bs) (c ∷ cs) = (b ∷ bs) ++ (space ∷ c ∷ cs)
 
+-- a field that goes on with a piece
+abbrev pub longer : Field → List ℕ → Field
+longer f piece = record { name = f.name; value = joined f.value piece }
+
 -- What some lines give: the text that they add to the field before the first of them, if they do, and their fields.
 pub record Given : Type 0 where
   pub more : Option (List ℕ)

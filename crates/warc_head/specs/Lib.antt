@@ -9,5 +9,6 @@ pub mod Calendar
 pub mod Date
 pub mod Kind
 pub mod Parts
+pub mod Places
 pub mod Spelling
 pub mod Folding

@@ -1,141 +1,127 @@
 //! The named fields of a head.
-ghost use Rattle.std.specs.Prelude.{◌≡◌, MatchOption, None, Some, IfOk, IfErr};
-ghost use Rattle.warc_head.specs.Answers.{Answers};
-ghost use Rattle.warc_head.specs.declared.fault.HeadFault.TheVariants.{Memory};
-ghost use Rattle.warc_head.specs.Fields.{at_colon, field_in, fields_of, value_of};
+ghost use Rattle.std.specs.Prelude.{◌≡◌, ◌≤◌, ◌++◌, drop, length, OnOk};
+ghost use Rattle.warc_head.specs.Places.{joint};
 
 use crate::fault::HeadFault;
-use crate::lines::{continues, next_line, trim};
-use crate::names::{is_name, same_name};
-use memchr::memchr;
-use std::alloc::Global;
+use crate::places::{Place, count, value_of};
+use std::alloc::{AllocError, Global};
 use std::marker::Model;
 
-/// A name and its value, stored one after the other in one text.
+/// The fields of a head, in the order of their lines. Their names and values stand one after the other in one text.
 #[derive(Drop)]
-pub struct Field {
+pub struct Fields {
     text: Vec<u8>,
-    name_length: usize,
+    places: Vec<Place>,
 }
 
-impl Model for Field {
-    ghost use Rattle.std.specs.Prelude.{take, drop, length, ◌≤◌};
+impl Model for Fields {
+    ghost use Rattle.std.specs.Prelude.{List};
     ghost use Rattle.warc_head.specs.Fields.{Field};
+    ghost use Rattle.warc_head.specs.Places.{ArePlaces, fields_at};
 
-    ghost Value = { Field };
+    ghost Value = { List Field };
 
-    ghost view = { λ f. record { name = take f.name_length f.text.items; value = drop f.name_length f.text.items } };
+    ghost view = { λ f. fields_at f.text.items f.places.items };
 
-    ghost invariant = { λ f. f.name_length ≤ length f.text.items };
-}
-
-impl Field {
-    ghost use Rattle.std.specs.Prelude.{OnOk};
-    ghost use Rattle.warc_head.specs.Fields.{joined};
-
-    fn new(alloc: Global, name: &[u8], value: &[u8]) -> Result<Field, HeadFault>
-        ensures ok { IfOk result (λ f. f ≡ record { name = name.now; value = value.now }) }
-        ensures err { IfErr result (λ e. e ≡ Memory) }
-    {
-        let mut text = Vec::with_capacity(alloc, name.len().saturating_add(value.len()))?;
-        text.extend_from_slice(name)?;
-        text.extend_from_slice(value)?;
-        Ok(Field {
-            text,
-            name_length: name.len(),
-        })
-    }
-
-    pub fn name(&self) -> &[u8]
-        ensures { result.now ≡ self.now.name }
-    {
-        &self.text.as_slice()[..self.name_length]
-    }
-
-    pub fn value(&self) -> &[u8]
-        ensures { result.now ≡ self.now.value }
-    {
-        &self.text.as_slice()[self.name_length..]
-    }
-
-    /// Appends a piece of a continuation line to the value.
-    fn join(&mut self, piece: &[u8]) -> Result<(), HeadFault>
-        ensures ok { OnOk result (self.new ≡ record { name = self.old.name; value = joined self.old.value piece.now }) }
-        ensures err { IfErr result (λ e. e ≡ Memory) }
-    {
-        if piece.is_empty() {
-            return Ok(());
-        }
-        if !self.value().is_empty() {
-            self.text.push(b' ')?;
-        }
-        self.text.extend_from_slice(piece)?;
-        Ok(())
-    }
+    ghost invariant = { λ f. ArePlaces f.text.items f.places.items };
 }
 
 /// The initial capacity of a list of fields, enough for most heads.
 const USUAL_FIELDS: usize = 16;
 
-/// Reads the fields from the lines between the version line and the empty line.
-pub fn fields_of(alloc: Global, body: &[u8]) -> Result<Vec<Field>, HeadFault>
-    ensures { Answers (λ v. v.items) result (fields_of body.now) }
-{
-    let mut fields: Vec<Field> = Vec::with_capacity(alloc, USUAL_FIELDS)?;
-    let mut rest = body;
-    while !rest.is_empty() {
-        let Some((text, later)) = next_line(rest) else {
+impl Fields {
+    ghost use Rattle.std.specs.Prelude.{◌≡◌, ◌⊎◌, ◌++◌, List, [], ◌∷◌, length, MatchOption, None, Some, IfOk, IfErr};
+    ghost use Rattle.warc_head.specs.Answers.{Answers};
+    ghost use Rattle.warc_head.specs.declared.fault.HeadFault.TheVariants.{FieldLine, Memory};
+    ghost use Rattle.warc_head.specs.Fields.{Field, longer, value_of, values_of};
+
+    /// Creates an empty list, with room for names and values of so many bytes in all.
+    pub fn new(alloc: Global, bytes: usize) -> Result<Fields, HeadFault>
+        ensures ok { IfOk result (λ f. f ≡ []) }
+        ensures err { IfErr result (λ e. e ≡ Memory) }
+    {
+        Ok(Fields {
+            text: Vec::with_capacity(alloc, bytes)?,
+            places: Vec::with_capacity(alloc, USUAL_FIELDS)?,
+        })
+    }
+
+    /// Appends a field.
+    pub fn with_field(self, name: &[u8], value: &[u8]) -> Result<Fields, HeadFault>
+        ensures ok { IfOk result (λ f. f ≡ self ++ record { name = name.now; value = value.now } ∷ []) }
+        ensures err { IfErr result (λ e. e ≡ Memory) }
+    {
+        let Fields {
+            mut text,
+            mut places,
+        } = self;
+        let start = text.len();
+        text.extend_from_slice(name)?;
+        let name_end = text.len();
+        text.extend_from_slice(value)?;
+        places.push(Place {
+            start,
+            name_end,
+            end: text.len(),
+        })?;
+        Ok(Fields { text, places })
+    }
+
+    /// Appends a piece of a continuation line to the value of the last field. The error is `FieldLine` if there is no
+    /// field.
+    pub fn with_piece(self, piece: &[u8]) -> Result<Fields, HeadFault>
+        ensures ok { IfOk result (λ f. (before : List Field) × (last : Field)
+            × (self ≡ before ++ last ∷ []) × (f ≡ before ++ longer last piece.now ∷ [])) }
+        ensures err { IfErr result (λ e. (e ≡ Memory) ⊎ ((e ≡ FieldLine) × (self ≡ []))) }
+    {
+        let Fields {
+            mut text,
+            mut places,
+        } = self;
+        let Some(last) = places.pop() else {
             return Err(HeadFault::FieldLine);
         };
-        if continues(text) {
-            let Some(mut field) = fields.pop() else {
-                return Err(HeadFault::FieldLine);
-            };
-            field.join(trim(text))?;
-            fields.push(field)?;
-        } else {
-            fields.push(field_in(alloc, text)?)?;
-        }
-        rest = later;
+        join(&mut text, last.name_end, piece)?;
+        places.push(Place {
+            end: text.len(),
+            ..last
+        })?;
+        Ok(Fields { text, places })
     }
-    Ok(fields)
-}
 
-/// Reads the field that begins on a line.
-#[tactic(auto, unfolding(crate::specs::Fields::field_in))]
-fn field_in(alloc: Global, text: &[u8]) -> Result<Field, HeadFault>
-    ensures { Answers (λ f. f) result (field_in text.now) }
-{
-    let Some((name, rest)) = at_colon(text) else {
-        return Err(HeadFault::FieldLine);
-    };
-    if !is_name(name) {
-        return Err(HeadFault::FieldLine);
+    /// Returns the value of the first field of this name.
+    pub fn value_of(&self, name: &[u8]) -> Option<&[u8]>
+        ensures { MatchOption result (value_of name.now self.now ≡ None) (λ v. value_of name.now self.now ≡ Some v.now) }
+    {
+        value_of(&self.text, &self.places, name)
     }
-    Field::new(alloc, name, trim(rest))
-}
 
-/// Returns the text before the first colon and the text after it.
-fn at_colon(text: &[u8]) -> Option<(&[u8], &[u8])>
-    ensures { MatchOption result (at_colon text.now ≡ None) (λ p. at_colon text.now ≡ Some (p.0.now, p.1.now)) }
-{
-    match memchr(b':', text) {
-        Some(at) => Some((&text[..at], &text[at + 1..])),
-        None => None,
+    /// Returns the number of fields of this name.
+    pub fn count(&self, name: &[u8]) -> usize
+        ensures { result ≡ length (values_of name.now self.now) }
+    {
+        count(&self.text, &self.places, name)
     }
 }
 
-/// Returns the value of the first field of this name.
-#[tactic(auto, unfolding(crate::specs::Fields::value_of))]
-pub fn value_of<'a>(fields: &'a [Field], name: &[u8]) -> Option<&'a [u8]>
-    ensures { MatchOption result (value_of name.now fields.now ≡ None) (λ v. value_of name.now fields.now ≡ Some v.now) }
+/// Appends a piece to a text that ends with a value, which begins at this offset.
+fn join(text: &mut Vec<u8>, value: usize, piece: &[u8]) -> Result<(), AllocError>
+    requires { value ≤ length text.old.items }
+    ensures { OnOk result (text.new.items ≡ text.old.items ++ joint (drop value text.old.items) piece.now) }
 {
-    let mut rest = fields;
-    while let Some((first, later)) = rest.split_first() {
-        if same_name(first.name(), name) {
-            return Some(first.value());
-        }
-        rest = later;
+    let space = space_between(&text[value..], piece);
+    text.extend_from_slice(space)?;
+    text.extend_from_slice(piece)?;
+    Ok(())
+}
+
+/// Returns a space, or nothing if one of both is empty.
+fn space_between(value: &[u8], piece: &[u8]) -> &'static [u8]
+    ensures { result.now ++ piece.now ≡ joint value.now piece.now }
+{
+    if value.is_empty() || piece.is_empty() {
+        b""
+    } else {
+        b" "
     }
-    None
 }

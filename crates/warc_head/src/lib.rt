@@ -6,6 +6,7 @@
 mod calendar;
 mod date;
 mod fault;
+mod field_lines;
 mod fields;
 mod kind;
 mod laws;
@@ -14,6 +15,7 @@ mod lines;
 mod mandatory;
 mod names;
 mod parts;
+mod places;
 
 pub use fault::HeadFault;
 pub use kind::Kind;

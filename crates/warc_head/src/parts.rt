@@ -6,7 +6,8 @@ ghost use Rattle.warc_head.specs.Parts.{parts_of, body_of, parts_in, length_in, 
 
 use crate::date::stamp_of;
 use crate::fault::HeadFault;
-use crate::fields::{Field, fields_of, value_of};
+use crate::field_lines::fields_of;
+use crate::fields::Fields;
 use crate::kind::{Kind, kind_of};
 use crate::length::length_of;
 use crate::mandatory::{each_once, required};
@@ -19,7 +20,7 @@ pub struct Parts {
     kind: Kind,
     stamp: [u8; 14],
     length: u64,
-    fields: Vec<Field>,
+    fields: Fields,
 }
 
 impl Model for Parts {
@@ -29,7 +30,7 @@ impl Model for Parts {
 
     ghost Value = { HeadParts };
 
-    ghost view = { λ p. record { kind = p.kind; stamp = p.stamp; length = p.length; fields = p.fields.items } };
+    ghost view = { λ p. record { kind = p.kind; stamp = p.stamp; length = p.length; fields = p.fields } };
 
     ghost invariant = { λ p. all_digits p.stamp ≡ true };
 }
@@ -65,7 +66,7 @@ impl Parts {
     pub fn field(&self, name: &[u8]) -> Option<&[u8]>
         ensures { MatchOption result (value_of name.now self.now.fields ≡ None) (λ v. value_of name.now self.now.fields ≡ Some v.now) }
     {
-        value_of(self.fields.as_slice(), name)
+        self.fields.value_of(name)
     }
 }
 
@@ -97,15 +98,15 @@ fn body_of(raw: &[u8]) -> &[u8]
 
 /// Reads the contents of a head from its fields.
 #[tactic(auto, unfolding(crate::specs::Parts::parts_in))]
-fn parts_in(fields: Vec<Field>) -> Result<Parts, HeadFault>
-    ensures answer { Answers (λ p. p) result (parts_in fields.items) }
+fn parts_in(fields: Fields) -> Result<Parts, HeadFault>
+    ensures answer { Answers (λ p. p) result (parts_in fields) }
     ensures bound { IfOk result (λ p. p.length ≤ 2 ^ 63 - 1) }
     ensures digits { IfOk result (λ p. all_digits p.stamp ≡ true) }
 {
-    each_once(fields.as_slice())?;
-    let length = length_in(fields.as_slice())?;
-    let stamp = stamp_in(fields.as_slice())?;
-    let kind = kind_in(fields.as_slice())?;
+    each_once(&fields)?;
+    let length = length_in(&fields)?;
+    let stamp = stamp_in(&fields)?;
+    let kind = kind_in(&fields)?;
     Ok(Parts {
         kind,
         stamp,
@@ -115,7 +116,7 @@ fn parts_in(fields: Vec<Field>) -> Result<Parts, HeadFault>
 }
 
 #[tactic(auto, unfolding(crate::specs::Parts::length_in))]
-fn length_in(fields: &[Field]) -> Result<u64, HeadFault>
+fn length_in(fields: &Fields) -> Result<u64, HeadFault>
     ensures answer { Answers (λ n. n) result (length_in fields.now) }
     ensures bound { IfOk result (λ n. n ≤ 2 ^ 63 - 1) }
 {
@@ -123,7 +124,7 @@ fn length_in(fields: &[Field]) -> Result<u64, HeadFault>
 }
 
 #[tactic(auto, unfolding(crate::specs::Parts::stamp_in))]
-fn stamp_in(fields: &[Field]) -> Result<[u8; 14], HeadFault>
+fn stamp_in(fields: &Fields) -> Result<[u8; 14], HeadFault>
     ensures answer { Answers (λ s. s) result (stamp_in fields.now) }
     ensures digits { IfOk result (λ s. all_digits s ≡ true) }
 {
@@ -131,7 +132,7 @@ fn stamp_in(fields: &[Field]) -> Result<[u8; 14], HeadFault>
 }
 
 #[tactic(auto, unfolding(crate::specs::Parts::kind_in))]
-fn kind_in(fields: &[Field]) -> Result<Kind, HeadFault>
+fn kind_in(fields: &Fields) -> Result<Kind, HeadFault>
     ensures { Answers (λ k. k) result (kind_in fields.now) }
 {
     Ok(kind_of(required(fields, b"WARC-Type")?))

@@ -1,7 +1,7 @@
 use Rattle.std.proofs.Common.{arith}
 use Rattle.warc_head.proofs.LineLemmas.{colon_at, colon_none}
 use Rattle.std.proofs.lemmas.List.{take_rest}
-use Rattle.warc_head.proofs.fields.at_colon.Goals as goal
+use Rattle.warc_head.proofs.field_lines.at_colon.Goals as goal
 
 pub returns-in-Some : goal.returns-in-Some
 returns-in-Some c =
