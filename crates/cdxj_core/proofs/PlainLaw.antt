@@ -13,7 +13,7 @@ use Rattle.serde_json.specs.Read.{read}
 use Rattle.cdxj_places.specs.Places.{offset_of, is_offset}
 use Rattle.cdxj_core.specs.Lines.{LineValue, line_value, line_object, line_from, value_text, filename_value, offset_value}
 use Rattle.cdxj_core.specs.Entries.{member_text, object_text}
-use Rattle.cdxj_core.specs.Texts.{TextsValue, or_missing}
+use Rattle.cdxj_core.specs.Texts.{TextsValue, or_missing, text_members}
 use Rattle.cdxj_core.specs.Plain.{ArePlain, plain_text, values_of_texts}
 use Rattle.cdxj_core.proofs.EntryLaw.{Pair, put_all, found_in, get_put_all, read_object}
 use Rattle.cdxj_places.proofs.Offsets.{own}
@@ -143,3 +143,18 @@ steps_of old s = simp append_assoc
 
 pub quoted_plain : (old s : List ℕ) → list_all is_plain s ≡ true → ((old ++ 34 ∷ []) ++ s) ++ 34 ∷ [] ≡ old ++ quoted s
 quoted_plain old s h = steps_of old s ∙ ap (λ e. old ++ 34 ∷ (e ++ 34 ∷ [])) (sym (escape_plain s h))
+
+-- a front and its text, one after another; a front begins with the quote of the text before it
+plain_steps : (old : List ℕ) (t : TextsValue)
+    → (((((((old ++ (codes "{\"url\": \"" ++ t.url)) ++ (codes "\", \"mime\": \"" ++ t.mime)) ++ (codes "\", \"status\": \"" ++ t.status))
+    ++ (codes "\", \"digest\": \"" ++ t.digest)) ++ (codes "\", \"length\": \"" ++ t.length)) ++ (codes "\", \"offset\": \"" ++ t.offset))
+    ++ (codes "\", \"filename\": \"" ++ t.filename)) ++ codes "\"}"
+    ≡ old ++ plain_text t
+plain_steps old t = simp append_assoc
+
+pub plain_object : (old : List ℕ) (t : TextsValue) → ArePlain t
+    → (((((((old ++ (codes "{\"url\": \"" ++ t.url)) ++ (codes "\", \"mime\": \"" ++ t.mime)) ++ (codes "\", \"status\": \"" ++ t.status))
+    ++ (codes "\", \"digest\": \"" ++ t.digest)) ++ (codes "\", \"length\": \"" ++ t.length)) ++ (codes "\", \"offset\": \"" ++ t.offset))
+    ++ (codes "\", \"filename\": \"" ++ t.filename)) ++ codes "\"}"
+    ≡ old ++ object_text (text_members t)
+plain_object old t h = plain_steps old t ∙ ap (λ o. old ++ o) (plain_text_is t h)

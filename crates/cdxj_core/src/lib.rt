@@ -20,6 +20,7 @@ mod offset;
 mod owned_members;
 mod plain;
 mod plain_line;
+mod plain_writing;
 mod unescaped;
 mod values;
 mod writing;

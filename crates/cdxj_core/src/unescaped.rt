@@ -30,18 +30,15 @@ pub(crate) fn is_unescaped_ascii(text: &[u8]) -> bool
     good
 }
 
-#[tactic(auto, using(cdxj_places::proofs::Found::IsFirstByte_absent))]
-fn has_no_quote(text: &[u8]) -> bool
-    ensures { result ≡ list_all is_open text.now }
-{
-    memchr(b'"', text).is_none()
-}
-
-/// Returns `true` if JSON writes the text between quotes without escapes.
+/// Returns `true` if JSON writes the text between quotes without escapes. It is one pass, as above.
 pub(crate) fn is_plain_text(text: &[u8]) -> bool
     ensures { result ≡ list_all is_plain text.now }
 {
-    has_no_quote(text) && is_unescaped(text)
+    let mut good = true;
+    for byte in text {
+        good &= !(*byte == b'"' || *byte == b'\\' || *byte < b' ');
+    }
+    good
 }
 
 /// Returns the text before the first quote, and the text after it.

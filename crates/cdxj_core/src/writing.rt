@@ -11,6 +11,7 @@ use crate::borrowed_members::BorrowedMembers;
 use crate::entry::Entry;
 use crate::fault::LineFault;
 use crate::limit::LINE_LIMIT;
+use crate::plain_writing::{are_plain, push_plain_object};
 use crate::unescaped::is_plain_text;
 use itoa::Buffer;
 use serde_json::Value;
@@ -56,7 +57,7 @@ fn push_later(line: &mut Vec<u8>, alloc: Global, name: &str, value: &str) -> Res
     push_member(line, alloc, name, value)
 }
 
-fn push_object(
+fn push_escaped_object(
     line: &mut Vec<u8>,
     alloc: Global,
     texts: BorrowedMembers<'_>,
@@ -74,6 +75,21 @@ fn push_object(
     push_later(line, alloc, "filename", texts.filename)?;
     line.push(b'}')?;
     Ok(())
+}
+
+fn push_object(
+    line: &mut Vec<u8>,
+    alloc: Global,
+    texts: BorrowedMembers<'_>,
+) -> Result<(), AllocError>
+    ensures { IfOk result (λ _. line.new.items
+        ≡ line.old.items ++ object_text (text_members (borrowed_view texts.entry))) }
+{
+    if are_plain(texts) {
+        push_plain_object(line, texts)
+    } else {
+        push_escaped_object(line, alloc, texts)
+    }
 }
 
 fn push_pair(line: &mut Vec<u8>, entry: &Entry) -> Result<(), AllocError>

@@ -1,7 +1,7 @@
 use Rattle.std.proofs.Common.{codes}
 use Rattle.cdxj_core.specs.MemberViews.{borrowed_view}
 use Rattle.cdxj_core.proofs.EntryWrite.{object_steps}
-use Rattle.cdxj_core.proofs.writing.push_object.Goals as goal
+use Rattle.cdxj_core.proofs.writing.push_escaped_object.Goals as goal
 
 pub returns : goal.returns
 returns c =

@@ -1,0 +1,51 @@
+//! The writing of a plain object: seven members whose texts need no escapes.
+ghost use Rattle.std.specs.Prelude.{◌≡◌, ◌++◌, true, IfOk};
+ghost use Rattle.cdxj_core.specs.Entries.{object_text};
+ghost use Rattle.cdxj_core.specs.MemberViews.{borrowed_view};
+ghost use Rattle.cdxj_core.specs.Plain.{ArePlain};
+ghost use Rattle.cdxj_core.specs.Texts.{text_members};
+
+use crate::borrowed_members::BorrowedMembers;
+use crate::unescaped::is_plain_text;
+use std::alloc::AllocError;
+
+/// Returns `true` if no text needs an escape.
+pub(crate) fn are_plain(texts: BorrowedMembers<'_>) -> bool
+    ensures { result ≡ true → ArePlain (borrowed_view texts.entry) }
+{
+    is_plain_text(texts.url.as_bytes())
+        && is_plain_text(texts.mime.as_bytes())
+        && is_plain_text(texts.status.as_bytes())
+        && is_plain_text(texts.digest.as_bytes())
+        && is_plain_text(texts.length.as_bytes())
+        && is_plain_text(texts.offset.as_bytes())
+        && is_plain_text(texts.filename.as_bytes())
+}
+
+#[inline(always)]
+fn push_after(line: &mut Vec<u8>, front: &[u8], text: &str) -> Result<(), AllocError>
+    ensures { IfOk result (λ _. line.new.items ≡ line.old.items ++ (front.now ++ text.now)) }
+{
+    line.extend_from_slice(front)?;
+    line.extend_from_slice(text.as_bytes())
+}
+
+/// Appends the object of the texts to the line. What stands between two texts is one piece.
+pub(crate) fn push_plain_object(
+    line: &mut Vec<u8>,
+    texts: BorrowedMembers<'_>,
+) -> Result<(), AllocError>
+    requires { ArePlain (borrowed_view texts) }
+    ensures { IfOk result (λ _. line.new.items
+        ≡ line.old.items ++ object_text (text_members (borrowed_view texts.entry))) }
+{
+    push_after(line, b"{\"url\": \"", texts.url)?;
+    push_after(line, b"\", \"mime\": \"", texts.mime)?;
+    push_after(line, b"\", \"status\": \"", texts.status)?;
+    push_after(line, b"\", \"digest\": \"", texts.digest)?;
+    push_after(line, b"\", \"length\": \"", texts.length)?;
+    push_after(line, b"\", \"offset\": \"", texts.offset)?;
+    push_after(line, b"\", \"filename\": \"", texts.filename)?;
+    line.extend_from_slice(b"\"}")?;
+    Ok(())
+}
