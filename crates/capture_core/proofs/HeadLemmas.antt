@@ -1,10 +1,10 @@
 -- A block's head is the only one, and is found in as many of its first bytes as a head may have.
-use Rattle.std.proofs.Common.{◌≡◌, ℕ, ◌+◌, ◌-◌, ◌≤◌, List, ◌++◌, length, take, drop, refl, ap, subst, ◌∙◌, arith, Some, None}
+use Rattle.std.proofs.Common.{◌≡◌, ℕ, ◌+◌, ◌-◌, ◌≤◌, List, ◌++◌, length, length-append, take, drop, refl, ap, subst, ◌∙◌, arith, Some, None}
 use Rattle.std.proofs.lemmas.List.{take-append-drop}
 use Rattle.std.proofs.Math.Seq.{take-append-add}
 use Rattle.httparse.specs.Grammar.{print_response, ReadsResponse}
 use Rattle.httparse.proofs.GrammarLemmas.{response_unique, ReadsResponse-append}
-use Rattle.capture_core.specs.HttpHead.{FrontDecides, OneHead}
+use Rattle.capture_core.specs.HttpHead.{FrontDecides, HasNoHead, OneHead}
 
 pub one_head : OneHead
 one_head bytes fields block None None a b = refl
@@ -31,3 +31,8 @@ front_decides bytes fields block (Some x) h = record {
   short = h.short;
   few = h.few;
 }
+
+-- no head stands in no bytes
+pub no_head_in_nothing : (bytes fields : ℕ) (block : List ℕ) → length block ≡ 0 → HasNoHead bytes fields block
+unfolding print_response
+no_head_in_nothing bytes fields block none = λ head payload begins. let text = ap length begins.reads.1 in absurd (omega (arith, none, text, length-append {A = ℕ}))

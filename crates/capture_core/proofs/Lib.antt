@@ -8,3 +8,4 @@ pub mod GoodEntries
 pub mod Captures
 pub mod CaptureLemmas
 pub mod Steps
+pub mod RestLemmas

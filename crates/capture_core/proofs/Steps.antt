@@ -1,8 +1,8 @@
 -- The front of a block, read in steps.
-use Rattle.std.proofs.Common.{◌≡◌, ℕ, ◌+◌, ◌-◌, ◌≤◌, ◌∙◌, ◌⊎◌, inl, inr, List, [], ◌++◌, Bool, true, false, cond, Option, None, Some, Result, IfSome, length, take, drop, min, nat_le, option_map, is_some, refl, sym, ap, subst, arith, append-nil, append_assoc, if◌then◌else◌}
+use Rattle.std.proofs.Common.{◌≡◌, ℕ, ◌+◌, ◌-◌, ◌≤◌, ◌∙◌, ◌⊎◌, inl, inr, List, [], ◌∷◌, ◌++◌, Bool, true, false, cond, Option, None, Some, Result, IfSome, length, take, drop, min, nat_le, option_map, is_some, refl, sym, ap, subst, arith, append-nil, append_assoc, if◌then◌else◌}
 use Rattle.std.proofs.lemmas.Bool.Decides.{nat_tests}
 use Rattle.std.proofs.lemmas.List.{take_all}
-use Rattle.std.proofs.Math.Nat.{min-le_left, min-eq_left, min-eq_right}
+use Rattle.std.proofs.Math.Nat.{min-le_left, min-le_right, min-eq_left, min-eq_right}
 use Rattle.std.proofs.Math.Seq.{take-append_seam, drop-append_seam}
 use Rattle.std.specs.Io.KnownBytes.{Consumes}
 use borrow.Rule.Slice.PartMut.{put_mid, same_len_mid}
@@ -20,7 +20,7 @@ use Rattle.capture_core.specs.Indexed.{may_have_head}
 use Rattle.capture_core.specs.Capture.{ResponseValue, IsHeadFor, response_of, payload_of}
 use Rattle.capture_core.specs.RecordReading.{front_length}
 use Rattle.capture_core.specs.CaptureAnswer.{Limits, IsCaptureOf, PartsBlock}
-use Rattle.capture_core.proofs.HeadLemmas.{front_decides}
+use Rattle.capture_core.proofs.HeadLemmas.{front_decides, no_head_in_nothing}
 
 -- ---- the buffer
 
@@ -29,7 +29,7 @@ module _ (count : ℕ) (front piece : List ℕ) where
   abbrev pub filled : List ℕ
   filled = put_mid count (length front - count) front piece
 
-  pub filled-long : count ≤ length front → length piece ≡ length front - count → length filled ≡ length front
+  filled-long : count ≤ length front → length piece ≡ length front - count → length filled ≡ length front
   filled-long h l = same_len_mid count (length front - count) front piece (omega (arith, part_long count front))
 
   pub filled-is : count ≤ length front → length piece ≡ length front - count → filled ≡ take count front ++ piece
@@ -76,6 +76,16 @@ front-or-all len limit n more e h = elim (le-or limit len (nat_le limit len) ref
 found-front : (may : Bool) (limit few len : ℕ) (front more : List ℕ) (found : Option (ResponseHead × List ℕ)) → length front ≡ min len (if may then limit else 0) → length front + length more ≤ len → cond may (IsHeadOf limit few front found) (found ≡ None) → cond may (IsHeadOf limit few (front ++ more) (then_more more found)) (then_more more found ≡ None)
 found-front true limit few len front more found l h f = head-behind limit few front more found (front-or-all len limit (length front) more l h) f
 found-front false limit few len front more found l h f = ap (then_more more) f
+
+head-where : (may : Bool) (limit few len : ℕ) (front : List ℕ) (found : Option (ResponseHead × List ℕ)) → length front ≤ min len (if may then limit else 0) → IsHeadOf limit few front found → cond may (IsHeadOf limit few front found) (found ≡ None)
+head-where true limit few len front found l e = e
+head-where false limit few len front None l e = refl
+head-where false limit few len [] (Some f) l e = absurd (no_head_in_nothing limit few [] refl f.0 f.1 e)
+head-where false limit few len (x ∷ front) (Some f) l e = absurd (let m = min-le_right len 0 in omega (arith, l, m))
+
+-- the head in a front of a block is that of the record
+pub head-for : (limit few : ℕ) (h : HeadView) (front : List ℕ) (found : Option (ResponseHead × List ℕ)) → length front ≤ front_length limit h → IsHeadOf limit few front found → IsHeadFor limit few h front found
+head-for limit few h front found l e = head-where (may_have_head h) limit few h.parts.length front found l e
 
 module _ (limits : Limits) (h : HeadView) (front payload : List ℕ) (response : Option ResponseValue) (found : Option (ResponseHead × List ℕ)) where
   -- the whole front parts the block

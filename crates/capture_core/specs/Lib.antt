@@ -11,3 +11,4 @@ pub mod ResponseView
 pub mod Fault
 pub mod RecordReading
 pub mod CaptureAnswer
+pub mod CaptureSteps

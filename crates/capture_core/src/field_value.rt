@@ -2,6 +2,7 @@
 ghost use Rattle.std.specs.Prelude.{◌≡◌, ◌==◌, ◌<◌, length, position, MatchOption, IfSome, Some, None};
 ghost use Rattle.capture_core.specs.FieldValue.{non_empty, without_brackets, before_semicolon, media_type, without_sha1};
 
+use memchr::memchr;
 use warc_head::trim;
 
 /// Returns a value that isn't empty.
@@ -50,9 +51,10 @@ fn before_semicolon(value: &[u8]) -> &[u8]
     }
 }
 
+#[tactic(auto, using(cdxj_places::proofs::Found::IsFirstByte_position))]
 fn semicolon(value: &[u8]) -> Option<usize>
     ensures place { result ≡ position (λ byte. byte == 59) value.now }
     ensures within { IfSome result (λ end. end < length value.now) }
 {
-    value.iter().position(|byte| *byte == b';')
+    memchr(b';', value)
 }

@@ -1,18 +1,21 @@
 //! The HTTP head at the start of a block.
-ghost use Rattle.std.specs.Prelude.{◌≡◌, ℕ, ◌<◌, ◌≤◌, List, length, drop, map, codes, All, IfSome, IfNone, option_map};
+ghost use Rattle.std.specs.Prelude.{◌≡◌, ◌<◌, ◌≤◌, length, map, All, IfOk, IfErr, IfSome, IfNone, option_map};
 ghost use Rattle.std.specs.Str.{str_eq_ignore_ascii_case};
-ghost use Rattle.httparse.specs.Grammar.{ResponseHead, print_response, status_code};
-ghost use Rattle.httparse.specs.Spans.{IsHeaderWithin, header_bytes};
-ghost use Rattle.capture_core.specs.HttpHead.{BeginsWithHead, HasNoHead, field_of, first_value};
+ghost use Rattle.httparse.specs.Spans.{IsHeaderWithin, ResponseOverflows, header_bytes};
+ghost use Rattle.capture_core.specs.HttpHead.{HasNoHead, first_value};
+ghost use Rattle.capture_core.specs.ResponseView.{IsHeadAt};
 
-use httparse::Status;
 use httparse::spans::{EMPTY_HEADER_SPAN, HeaderSpan, parse_response};
+use httparse::{Error, Status};
 
 /// The maximum length of an HTTP head in bytes.
 pub(crate) const HTTP_HEAD_LIMIT: usize = 65_536;
 
 /// The maximum number of fields of an HTTP head.
 pub(crate) const HTTP_FIELD_LIMIT: usize = 256;
+
+/// The maximum number of fields of an HTTP head that is parsed once.
+const USUAL_FIELDS: usize = 64;
 
 /// The parts of an HTTP head that a capture uses.
 #[derive(Clone, Copy)]
@@ -25,25 +28,68 @@ pub(crate) struct HttpHead<'a> {
     pub len: usize,
 }
 
+/// An HTTP head has more fields than it is parsed with.
+#[derive(Clone, Copy)]
+struct TooManyFields;
+
 /// Reads the HTTP head at the start of a block, if there is one. The first 65,536 bytes of the block are enough.
 pub(crate) fn http_head(block: &[u8]) -> Option<HttpHead<'_>>
-    ensures found { IfSome result (λ r. (h : ResponseHead)
-        × BeginsWithHead HTTP_HEAD_LIMIT HTTP_FIELD_LIMIT block.now h (drop r.len block.now)
-        × (r.len ≡ length (print_response h))
-        × (r.code ≡ status_code h)
-        × (option_map (λ v. v.now) r.content_type ≡ field_of (codes "content-type") h)) }
+    ensures found { IfSome result (IsHeadAt block.now) }
     ensures three_digits { IfSome result (λ r. r.code < 1000) }
     ensures within { IfSome result (λ r. r.len ≤ length block.now) }
     ensures none { IfNone result (HasNoHead HTTP_HEAD_LIMIT HTTP_FIELD_LIMIT block.now) }
 {
-    let mut spans = [EMPTY_HEADER_SPAN; HTTP_FIELD_LIMIT];
-    match parse_response(block, &mut spans) {
-        Ok(Status::Complete(head)) if head.len <= HTTP_HEAD_LIMIT => Some(HttpHead {
-            code: head.code,
-            content_type: value_of(block, &spans[..head.headers], b"content-type"),
-            len: head.len,
-        }),
-        _ => None,
+    // The front of a record that isn't marked as HTTP is empty.
+    if block.is_empty() {
+        return None;
+    }
+    match head_within(block, &mut [EMPTY_HEADER_SPAN; USUAL_FIELDS]) {
+        Ok(head) => head,
+        Err(TooManyFields) => head_of_many_fields(block),
+    }
+}
+
+/// Like `http_head`, for a head of more fields than usual.
+fn head_of_many_fields(block: &[u8]) -> Option<HttpHead<'_>>
+    ensures found { IfSome result (IsHeadAt block.now) }
+    ensures three_digits { IfSome result (λ r. r.code < 1000) }
+    ensures within { IfSome result (λ r. r.len ≤ length block.now) }
+    ensures none { IfNone result (HasNoHead HTTP_HEAD_LIMIT HTTP_FIELD_LIMIT block.now) }
+{
+    match head_within(block, &mut [EMPTY_HEADER_SPAN; HTTP_FIELD_LIMIT]) {
+        Ok(head) => head,
+        Err(TooManyFields) => None,
+    }
+}
+
+/// Like `http_head`, with these spans for the fields. The error says that each head at the start of the block has more
+/// fields.
+fn head_within<'a>(
+    block: &'a [u8],
+    spans: &mut [HeaderSpan],
+) -> Result<Option<HttpHead<'a>>, TooManyFields>
+    requires { length spans.old ≤ HTTP_FIELD_LIMIT }
+    ensures found { IfOk result (λ head. IfSome head (IsHeadAt block.now)) }
+    ensures three_digits { IfOk result (λ head. IfSome head (λ r. r.code < 1000)) }
+    ensures within { IfOk result (λ head. IfSome head (λ r. r.len ≤ length block.now)) }
+    ensures none { IfOk result (λ head. IfNone head (HasNoHead HTTP_HEAD_LIMIT HTTP_FIELD_LIMIT block.now)) }
+    ensures many { IfErr result (λ _. ResponseOverflows (length spans.old) block.now) }
+{
+    match parse_response(block, spans) {
+        Ok(Status::Complete(head)) => {
+            if head.len <= HTTP_HEAD_LIMIT {
+                Ok(Some(HttpHead {
+                    code: head.code,
+                    content_type: value_of(block, &spans[..head.headers], b"content-type"),
+                    len: head.len,
+                }))
+            } else {
+                Ok(None)
+            }
+        }
+        Ok(Status::Partial) => Ok(None),
+        Err(Error::TooManyHeaders) => Err(TooManyFields),
+        Err(_) => Ok(None),
     }
 }
 

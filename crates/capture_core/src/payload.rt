@@ -1,10 +1,11 @@
 //! The start of a record's block, split into its HTTP head and the payload.
-ghost use Rattle.std.specs.Prelude.{◌≡◌, ◌<◌, ◌≤◌, ℕ, List, ◌++◌, length, take, drop, Option, option_map, IfOk, IfSome};
+ghost use Rattle.std.specs.Prelude.{◌≡◌, ◌<◌, ◌≤◌, ℕ, List, ◌++◌, length, drop, Option, option_map, IfOk, IfSome, IfNone};
 ghost use Rattle.httparse.specs.Grammar.{ResponseHead};
-ghost use Rattle.capture_core.specs.Capture.{IsHeadFor, response_of, payload_of};
+ghost use Rattle.capture_core.specs.Capture.{response_of, payload_of};
 ghost use Rattle.capture_core.specs.RecordReading.{front_limit, front_length};
-ghost use Rattle.capture_core.specs.HttpHead.{IsHeadOf};
+ghost use Rattle.capture_core.specs.HttpHead.{HasNoHead, IsHeadOf};
 ghost use Rattle.capture_core.specs.ResponseView.{response_view};
+ghost use Rattle.capture_core.specs.CaptureAnswer.{PartsBlock, usual_limits};
 
 use crate::http_head::{HTTP_FIELD_LIMIT, HTTP_HEAD_LIMIT, HttpHead, http_head};
 use crate::http_record::may_have_head;
@@ -40,45 +41,42 @@ pub(crate) fn front_length(head: &Head) -> usize
     head.length().min(limit) as usize
 }
 
-/// Returns a buffer for the start of the record's block that is searched for an HTTP head. The buffer begins with these
-/// bytes.
-pub(crate) fn front_with(alloc: Global, head: &Head, first: &[u8]) -> Result<Vec<u8>, AllocError>
-    requires { length first.now ≤ front_length HTTP_HEAD_LIMIT head.now }
-    ensures size { IfOk result (λ v. length v.items ≡ front_length HTTP_HEAD_LIMIT head.now) }
-    ensures begins { IfOk result (λ v. take (length first.now) v.items ≡ first.now) }
+/// Returns a buffer for the start of the record's block that is searched for an HTTP head.
+pub(crate) fn front_buffer(alloc: Global, head: &Head) -> Result<Vec<u8>, AllocError>
+    ensures { IfOk result (λ v. length v.items ≡ front_length HTTP_HEAD_LIMIT head.now) }
 {
-    let mut front = vec![in alloc; 0; front_length(head)]?;
-    put_first(front.as_mut_slice(), first);
-    Ok(front)
+    vec![in alloc; 0; front_length(head)]
 }
 
-fn put_first(front: &mut [u8], first: &[u8])
+/// Puts these bytes to the start of the front.
+pub(crate) fn put_first(front: &mut [u8], first: &[u8])
     requires { length first.now ≤ length front.old }
     ensures { front.new ≡ first.now ++ drop (length first.now) front.old }
 {
     front[..first.len()].copy_from_slice(first);
 }
 
-/// Splits the first bytes of a record's block.
-pub(crate) fn part<'a>(head: &Head, front: &'a [u8]) -> Parted<'a>
-    ensures parts { (found : Option (ResponseHead × List ℕ)) × IsHeadFor HTTP_HEAD_LIMIT HTTP_FIELD_LIMIT head.now front.now found
-        × (option_map response_view result.response ≡ option_map (λ f. response_of f.0) found)
-        × (result.payload.now ≡ payload_of front.now found) }
-    ensures bytes { result.bytes.now ≡ front.now }
-    ensures code { IfSome result.response (λ r. r.code < 1000) }
+/// Splits the first bytes of a record's block, or returns `None` if no HTTP head ends in them and more bytes may hold
+/// one.
+pub(crate) fn part_decided<'a>(head: &Head, front: &'a [u8]) -> Option<Parted<'a>>
+    requires { length front.now ≤ front_length HTTP_HEAD_LIMIT head.now }
+    ensures parts { IfSome result (λ p.
+        PartsBlock usual_limits head.now p.bytes.now (option_map response_view p.response) p.payload.now) }
+    ensures bytes { IfSome result (λ p. p.bytes.now ≡ front.now) }
+    ensures code { IfSome result (λ p. IfSome p.response (λ r. r.code < 1000)) }
+    ensures open { IfNone result (HasNoHead HTTP_HEAD_LIMIT HTTP_FIELD_LIMIT front.now
+        × (length front.now < front_length HTTP_HEAD_LIMIT head.now)) }
 {
-    if may_have_head(head) {
-        part_http(front)
+    let parted = part(front);
+    if parted.response.is_some() || front.len() == front_length(head) {
+        Some(parted)
     } else {
-        Parted {
-            bytes: front,
-            response: None,
-            payload: front,
-        }
+        None
     }
 }
 
-fn part_http(front: &[u8]) -> Parted<'_>
+/// Splits the first bytes of a record's block.
+pub(crate) fn part(front: &[u8]) -> Parted<'_>
     ensures parts { (found : Option (ResponseHead × List ℕ)) × IsHeadOf HTTP_HEAD_LIMIT HTTP_FIELD_LIMIT front.now found
         × (option_map response_view result.response ≡ option_map (λ f. response_of f.0) found)
         × (result.payload.now ≡ payload_of front.now found) }

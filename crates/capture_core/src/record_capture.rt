@@ -1,14 +1,14 @@
 //! The capture of a record.
-ghost use Rattle.std.specs.Prelude.{◌≡◌, ◌<◌, ◌≤◌, ◌-◌, length, take, Some, IfOk, IfSome, option_map};
+ghost use Rattle.std.specs.Prelude.{◌≡◌, ℕ, ◌<◌, ◌≤◌, ◌-◌, length, Some, IfOk, IfSome, option_map};
 ghost use Rattle.std.specs.Io.KnownBytes.{prepend_known};
-ghost use Rattle.warc_core.specs.HeadView.{record_length};
 ghost use Rattle.warc_core.specs.declared.phase.Phase.TheVariants.{Open};
-ghost use Rattle.warc_core.specs.ReaderView.{IsUnread, StandsAt, state_of};
+ghost use Rattle.warc_core.specs.ReaderView.{HasLeft, IsUnread, state_of};
 ghost use Rattle.capture_core.specs.Indexed.{url_of};
 ghost use Rattle.capture_core.specs.Types.{includes};
 ghost use Rattle.capture_core.specs.ResponseView.{response_view};
-ghost use Rattle.capture_core.specs.RecordReading.{ReadsRest, ReadsWhole, front_length};
-ghost use Rattle.capture_core.specs.CaptureAnswer.{Captures, CapturesBehind, IsEntryOf, PartsBlock, usual_limits};
+ghost use Rattle.capture_core.specs.RecordReading.{ReadsWhole, front_length};
+ghost use Rattle.capture_core.specs.CaptureAnswer.{Captures, IsEntryOf, PartsBlock, usual_limits};
+ghost use Rattle.capture_core.specs.CaptureSteps.{IsReadTo, FillsBehind, CapturesRest};
 
 use crate::capture_entry::memory;
 use crate::closing::capture_closed;
@@ -17,16 +17,19 @@ use crate::digest_text::base32;
 use crate::fault::CaptureFault;
 use crate::http_head::HTTP_HEAD_LIMIT;
 use crate::indexed::Indexed;
-use crate::payload::{Parted, front_length, front_with, part};
+use crate::payload::{Parted, front_buffer, front_length, part, part_decided, put_first};
 use crate::payload_digest::settled_digest;
 use crate::target::url;
 use crate::types::Types;
 use cdxj_core::{Entry, LINE_LIMIT};
 use std::alloc::Global;
-use warc_core::{Head, Input, Reader};
+use warc_core::{Fault, Head, Input, Reader};
 
-/// The maximum number of bytes of a block that are searched for an HTTP head before memory for more is allocated.
-const FIRST_STEP: usize = 8192;
+/// The number of bytes in the first step: after a skip, one call of the reader returns no more.
+const FIRST_STEP: usize = 2048;
+
+/// The number of bytes in the second step, the last that needs no allocation.
+const SECOND_STEP: usize = 8192;
 
 /// Returns the entry of a record under the archive's name, or `None` if the record isn't indexed. A record is indexed
 /// if it has a target and its type is one of these. The record is read to its end, and its payload is hashed if the
@@ -64,8 +67,8 @@ pub fn capture<I: Input>(
 }
 
 /// Returns the entry of a record that is indexed under this URL. The front of its block is read in three steps at most,
-/// and no further than to the step in which an HTTP head ends: what one call of the reader returns, the first 8,192
-/// bytes, and the whole front.
+/// and no further than to the step in which an HTTP head ends: what one call of the reader returns for a piece of 2,048
+/// bytes, the first 8,192 bytes, and the whole front, of at most 65,536 bytes.
 fn capture_in_steps<I: Input>(
     alloc: Global,
     reader: &mut Reader,
@@ -84,59 +87,7 @@ fn capture_in_steps<I: Input>(
     let mut buffer = [0; FIRST_STEP];
     let first = &mut buffer[..front_length(indexed.head).min(FIRST_STEP)];
     let count = reader.block(input, first)?;
-    capture_held(alloc, reader, input, indexed, first, count)
-}
-
-/// Like `capture_in_steps`, with a buffer for the first bytes of the front, where this many of them were read.
-fn capture_held<I: Input>(
-    alloc: Global,
-    reader: &mut Reader,
-    input: &mut I,
-    indexed: Indexed<'_>,
-    first: &mut [u8],
-    count: usize,
-) -> Result<Option<Entry>, CaptureFault>
-    requires named { 0 < length indexed.name.now }
-    requires target { 0 < length indexed.url.now }
-    requires first { length first.old ≤ front_length HTTP_HEAD_LIMIT indexed.head.now }
-    requires count { count ≤ length first.old }
-    requires stands { StandsAt reader.old indexed.head.now.start (Open (indexed.head.now.parts.length - count) (record_length indexed.head.now)) }
-    ensures reads { ReadsRest (indexed.entry.head.now.parts.length - count) indexed.entry.head.now
-        (state_of reader.old (I.remaining input.old) (I.failures input.old))
-        (state_of reader.new (I.remaining input.new) (I.failures input.new)) result }
-    ensures capture { CapturesBehind (Some indexed.entry.url.now) usual_limits indexed.entry.head.now indexed.entry.name.now (take count first.old) (prepend_known reader.old.held (I.remaining input.old)) result }
-    ensures entry { IfOk result (λ captured. IfSome captured (IsEntryOf indexed.entry.head.now indexed.entry.name.now LINE_LIMIT)) }
-{
-    let parted = part(indexed.head, &first[..count]);
-    if parted.response.is_some() {
-        capture_parted(alloc, reader, input, indexed, parted)
-    } else {
-        capture_filled(alloc, reader, input, indexed, first, count)
-    }
-}
-
-/// Like `capture_held`, where no HTTP head ends in what was read: the buffer is filled.
-fn capture_filled<I: Input>(
-    alloc: Global,
-    reader: &mut Reader,
-    input: &mut I,
-    indexed: Indexed<'_>,
-    first: &mut [u8],
-    count: usize,
-) -> Result<Option<Entry>, CaptureFault>
-    requires named { 0 < length indexed.name.now }
-    requires target { 0 < length indexed.url.now }
-    requires first { length first.old ≤ front_length HTTP_HEAD_LIMIT indexed.head.now }
-    requires count { count ≤ length first.old }
-    requires stands { StandsAt reader.old indexed.head.now.start (Open (indexed.head.now.parts.length - count) (record_length indexed.head.now)) }
-    ensures reads { ReadsRest (indexed.entry.head.now.parts.length - count) indexed.entry.head.now
-        (state_of reader.old (I.remaining input.old) (I.failures input.old))
-        (state_of reader.new (I.remaining input.new) (I.failures input.new)) result }
-    ensures capture { CapturesBehind (Some indexed.entry.url.now) usual_limits indexed.entry.head.now indexed.entry.name.now (take count first.old) (prepend_known reader.old.held (I.remaining input.old)) result }
-    ensures entry { IfOk result (λ captured. IfSome captured (IsEntryOf indexed.entry.head.now indexed.entry.name.now LINE_LIMIT)) }
-{
-    reader.block_exact(input, &mut first[count..])?;
-    capture_first(alloc, reader, input, indexed, first)
+    capture_first(alloc, reader, input, indexed, &first[..count])
 }
 
 /// Like `capture_in_steps`, after the first bytes of the front were read.
@@ -147,44 +98,56 @@ fn capture_first<I: Input>(
     indexed: Indexed<'_>,
     first: &[u8],
 ) -> Result<Option<Entry>, CaptureFault>
-    requires named { 0 < length indexed.name.now }
-    requires target { 0 < length indexed.url.now }
-    requires first { length first.now ≤ front_length HTTP_HEAD_LIMIT indexed.head.now }
-    requires stands { StandsAt reader.old indexed.head.now.start (Open (indexed.head.now.parts.length - length first.now) (record_length indexed.head.now)) }
-    ensures reads { ReadsRest (indexed.entry.head.now.parts.length - length first.now) indexed.entry.head.now
+    requires ready { IsReadTo indexed first.now reader.old }
+    requires short { length first.now ≤ SECOND_STEP }
+    ensures { CapturesRest indexed.entry first.now
         (state_of reader.old (I.remaining input.old) (I.failures input.old))
         (state_of reader.new (I.remaining input.new) (I.failures input.new)) result }
-    ensures capture { CapturesBehind (Some indexed.entry.url.now) usual_limits indexed.entry.head.now indexed.entry.name.now first.now (prepend_known reader.old.held (I.remaining input.old)) result }
-    ensures entry { IfOk result (λ captured. IfSome captured (IsEntryOf indexed.entry.head.now indexed.entry.name.now LINE_LIMIT)) }
 {
-    let parted = part(indexed.head, first);
-    if parted.response.is_some() || first.len() == front_length(indexed.head) {
-        capture_parted(alloc, reader, input, indexed, parted)
-    } else {
-        capture_further(alloc, reader, input, indexed, first)
+    match part_decided(indexed.head, first) {
+        Some(parted) => capture_parted(alloc, reader, input, indexed, parted),
+        None => capture_second(alloc, reader, input, indexed, first),
     }
 }
 
-/// Like `capture_first`, where these bytes don't decide the HTTP head.
-fn capture_further<I: Input>(
+/// Like `capture_first`, where these bytes don't decide the HTTP head: the first 8,192 bytes are looked at.
+fn capture_second<I: Input>(
     alloc: Global,
     reader: &mut Reader,
     input: &mut I,
     indexed: Indexed<'_>,
     first: &[u8],
 ) -> Result<Option<Entry>, CaptureFault>
-    requires named { 0 < length indexed.name.now }
-    requires target { 0 < length indexed.url.now }
-    requires first { length first.now ≤ front_length HTTP_HEAD_LIMIT indexed.head.now }
-    requires stands { StandsAt reader.old indexed.head.now.start (Open (indexed.head.now.parts.length - length first.now) (record_length indexed.head.now)) }
-    ensures reads { ReadsRest (indexed.entry.head.now.parts.length - length first.now) indexed.entry.head.now
+    requires ready { IsReadTo indexed first.now reader.old }
+    requires short { length first.now ≤ SECOND_STEP }
+    ensures { CapturesRest indexed.entry first.now
         (state_of reader.old (I.remaining input.old) (I.failures input.old))
         (state_of reader.new (I.remaining input.new) (I.failures input.new)) result }
-    ensures capture { CapturesBehind (Some indexed.entry.url.now) usual_limits indexed.entry.head.now indexed.entry.name.now first.now (prepend_known reader.old.held (I.remaining input.old)) result }
-    ensures entry { IfOk result (λ captured. IfSome captured (IsEntryOf indexed.entry.head.now indexed.entry.name.now LINE_LIMIT)) }
 {
-    match front_with(alloc, indexed.head, first) {
-        Ok(mut front) => { capture_front(alloc, reader, input, indexed, &mut front, first.len()) }
+    let mut buffer = [0; SECOND_STEP];
+    let front = &mut buffer[..front_length(indexed.head).min(SECOND_STEP)];
+    fill_behind(reader, input, front, first)?;
+    match part_decided(indexed.head, front) {
+        Some(parted) => capture_parted(alloc, reader, input, indexed, parted),
+        None => capture_third(alloc, reader, input, indexed, front),
+    }
+}
+
+/// Like `capture_second`, where the first 8,192 bytes don't decide the HTTP head: the whole front is looked at.
+fn capture_third<I: Input>(
+    alloc: Global,
+    reader: &mut Reader,
+    input: &mut I,
+    indexed: Indexed<'_>,
+    first: &[u8],
+) -> Result<Option<Entry>, CaptureFault>
+    requires ready { IsReadTo indexed first.now reader.old }
+    ensures { CapturesRest indexed.entry first.now
+        (state_of reader.old (I.remaining input.old) (I.failures input.old))
+        (state_of reader.new (I.remaining input.new) (I.failures input.new)) result }
+{
+    match front_buffer(alloc, indexed.head) {
+        Ok(mut front) => { capture_front(alloc, reader, input, indexed, &mut front, first) }
         Err(_) => {
             reader.finish(input)?;
             Err(memory(indexed.head))
@@ -192,28 +155,41 @@ fn capture_further<I: Input>(
     }
 }
 
-/// Like `capture_first`, with a buffer for the front of the block, where this many bytes of it were read.
+/// Like `capture_third`, with a buffer for the front of the block.
 fn capture_front<I: Input>(
     alloc: Global,
     reader: &mut Reader,
     input: &mut I,
     indexed: Indexed<'_>,
     front: &mut [u8],
-    count: usize,
+    first: &[u8],
 ) -> Result<Option<Entry>, CaptureFault>
-    requires named { 0 < length indexed.name.now }
-    requires target { 0 < length indexed.url.now }
-    requires front { length front.old ≡ front_length HTTP_HEAD_LIMIT indexed.head.now }
-    requires count { count ≤ length front.old }
-    requires stands { StandsAt reader.old indexed.head.now.start (Open (indexed.head.now.parts.length - count) (record_length indexed.head.now)) }
-    ensures reads { ReadsRest (indexed.entry.head.now.parts.length - count) indexed.entry.head.now
+    requires ready { IsReadTo indexed first.now reader.old }
+    requires whole { length front.old ≡ front_length HTTP_HEAD_LIMIT indexed.head.now }
+    ensures { CapturesRest indexed.entry first.now
         (state_of reader.old (I.remaining input.old) (I.failures input.old))
         (state_of reader.new (I.remaining input.new) (I.failures input.new)) result }
-    ensures capture { CapturesBehind (Some indexed.entry.url.now) usual_limits indexed.entry.head.now indexed.entry.name.now (take count front.old) (prepend_known reader.old.held (I.remaining input.old)) result }
-    ensures entry { IfOk result (λ captured. IfSome captured (IsEntryOf indexed.entry.head.now indexed.entry.name.now LINE_LIMIT)) }
 {
-    reader.block_exact(input, &mut front[count..])?;
-    capture_parted(alloc, reader, input, indexed, part(indexed.head, front))
+    fill_behind(reader, input, front, first)?;
+    capture_parted(alloc, reader, input, indexed, part(front))
+}
+
+/// Puts the first bytes, which were read, to the start of the front, and reads the bytes of the block behind them.
+fn fill_behind<I: Input>(
+    reader: &mut Reader,
+    input: &mut I,
+    front: &mut [u8],
+    first: &[u8],
+) -> Result<(), Fault>
+    requires fits { length first.now ≤ length front.old }
+    requires left { HasLeft (length front.old - length first.now) reader.old.phase }
+    ensures { (left len : ℕ) → reader.old.phase ≡ Open left len →
+        FillsBehind first.now left len
+        (state_of reader.old (I.remaining input.old) (I.failures input.old))
+        (state_of reader.new (I.remaining input.new) (I.failures input.new)) result front.new }
+{
+    put_first(front, first);
+    reader.block_exact(input, &mut front[first.len()..])
 }
 
 /// Like `capture_in_steps`, after the first bytes of the block were read and split.
@@ -224,16 +200,13 @@ fn capture_parted<I: Input>(
     indexed: Indexed<'_>,
     parted: Parted<'_>,
 ) -> Result<Option<Entry>, CaptureFault>
-    requires named { 0 < length indexed.name.now }
-    requires target { 0 < length indexed.url.now }
-    requires parts { PartsBlock usual_limits indexed.head.now parted.bytes.now (option_map response_view parted.response) parted.payload.now }
+    requires ready { IsReadTo indexed parted.bytes.now reader.old }
+    requires parts { PartsBlock usual_limits indexed.head.now parted.bytes.now
+        (option_map response_view parted.response) parted.payload.now }
     requires code { IfSome parted.response (λ r. r.code < 1000) }
-    requires stands { StandsAt reader.old indexed.head.now.start (Open (indexed.head.now.parts.length - length parted.bytes.now) (record_length indexed.head.now)) }
-    ensures reads { ReadsRest (indexed.entry.head.now.parts.length - length parted.entry.bytes.now) indexed.entry.head.now
+    ensures { CapturesRest indexed.entry parted.entry.bytes.now
         (state_of reader.old (I.remaining input.old) (I.failures input.old))
         (state_of reader.new (I.remaining input.new) (I.failures input.new)) result }
-    ensures capture { CapturesBehind (Some indexed.entry.url.now) usual_limits indexed.entry.head.now indexed.entry.name.now parted.entry.bytes.now (prepend_known reader.old.held (I.remaining input.old)) result }
-    ensures entry { IfOk result (λ captured. IfSome captured (IsEntryOf indexed.entry.head.now indexed.entry.name.now LINE_LIMIT)) }
 {
     match settled_digest(indexed.head) {
         Some(digest) => { capture_closed(alloc, reader, input, indexed, parted.response, digest) }

@@ -1,49 +1,26 @@
-use Rattle.std.proofs.Common.{◌≡◌, ◌≤◌, ◌-◌, ◌∙◌, Some, length, take, option_map, ap, subst, sym, arith}
+use Rattle.std.proofs.Common.{◌≡◌, ◌∙◌, length, option_map, arith}
 use Rattle.std.proofs.lemmas.Result.{err_from_is_err_and}
-use Rattle.std.proofs.Math.Nat.{min-le_left}
-use Rattle.warc_core.specs.declared.phase.Phase.TheVariants.{Open}
 use Rattle.warc_core.specs.HeadView.{record_length}
-use Rattle.warc_core.proofs.CauseLemmas.{stops-record}
-use Rattle.warc_core.proofs.FillLemmas.{part_long}
-use Rattle.warc_core.proofs.OpenLemmas.{found-of-record}
+use Rattle.capture_core.specs.declared.http_head.TheConstants.{HTTP_HEAD_LIMIT, HTTP_FIELD_LIMIT}
+use Rattle.capture_core.specs.RecordReading.{front_length}
 use Rattle.capture_core.specs.ResponseView.{response_view}
 use Rattle.capture_core.specs.CaptureAnswer.{usual_limits}
-use Rattle.capture_core.proofs.CaptureLemmas.{rest-failed, rest-behind}
-use Rattle.capture_core.proofs.Steps.{filled, filled-long, filled-is, parts-front, goes-on-to, capture-behind-first}
+use Rattle.capture_core.proofs.RestLemmas.{filled-failed, filled-rest}
+use Rattle.capture_core.proofs.Steps.{head-for, parts-front}
 use Rattle.capture_core.proofs.record_capture.capture_front.Goals as goal
 
-pub returns-in_err-block_exact-clause-reads : goal.returns-in_err-block_exact-clause-reads
-returns-in_err-block_exact-clause-reads g c =
+pub returns-in_err-fill_behind : goal.returns-in_err-fill_behind
+returns-in_err-fill_behind g c =
     let p = err_from_is_err_and c.from_residual.result c.from_residual.ensures.1 in
-    let f = c.in_err-block_exact.ensures _ (record_length c.args.indexed.head.now) c.requires.stands.phase_is in
-    rw (p.1, p.2) (rest-failed _ c.args.indexed.head.now _ _ _ _ _ _ c.in_err-block_exact.field-0.0 (stops-record c.in_err-block_exact.field-0.0.cause f.cause) (found-of-record c.in_err-block_exact.field-0.0.cause (c.args.indexed.head.now.parts.length - c.args.count) _ _ f.given) (rw (← c.requires.stands.offset_is) f.state) f.failures)
+    rw (p.1, p.2) (filled-failed c.args.indexed c.args.first.now _ _ _ _ _ _ _ c.requires.ready c.in_err-fill_behind.field-0.0 (c.in_err-fill_behind.ensures _ (record_length c.args.indexed.head.now) c.requires.ready.stands.phase_is))
 
 pub capture_parted-requires-clause-parts : goal.capture_parted-requires-clause-parts
 capture_parted-requires-clause-parts g c =
     let p = c.part.ensures.parts in
-    let size = c.block_exact.auto.piece ∙ part_long c.args.count c.args.front.now in
-    let long = filled-long c.args.count c.args.front.now c.block_exact.new.piece c.requires.count size in
-    rw c.part.ensures.bytes (parts-front usual_limits c.args.indexed.head.now (filled c.args.count c.args.front.now c.block_exact.new.piece) c.part.result.payload.now (option_map response_view c.part.result.response) p.0 (long ∙ c.requires.front) p.1 p.2 p.3)
+    let whole : length c.fill_behind.new.front ≡ front_length HTTP_HEAD_LIMIT c.args.indexed.head.now = c.fill_behind.auto.front ∙ c.requires.whole in
+    rw c.part.ensures.bytes (parts-front usual_limits c.args.indexed.head.now c.fill_behind.new.front c.part.result.payload.now (option_map response_view c.part.result.response) p.0 whole (head-for HTTP_HEAD_LIMIT HTTP_FIELD_LIMIT c.args.indexed.head.now c.fill_behind.new.front p.0 (omega (arith, whole)) p.1) p.2 p.3)
 
-pub capture_parted-requires-clause-stands : goal.capture_parted-requires-clause-stands
-capture_parted-requires-clause-stands g c =
-    let f = c.in_ok-block_exact.ensures _ (record_length c.args.indexed.head.now) c.requires.stands.phase_is in
-    let size : length c.block_exact.new.piece ≡ length c.args.front.now - c.args.count = c.block_exact.auto.piece ∙ part_long c.args.count c.args.front.now in
-    let long : length c.part.result.bytes.now ≡ length c.args.front.now = ap length c.part.ensures.bytes ∙ filled-long c.args.count c.args.front.now c.block_exact.new.piece c.requires.count size in
-    let count = c.requires.count in
-    record { offset_is = f.state.offset_is ∙ c.requires.stands.offset_is; phase_is = f.state.phase_is ∙ ap (λ n. Open n (record_length c.args.indexed.head.now)) (omega arith) }
-
-pub returns-clause-reads : goal.returns-clause-reads
-returns-clause-reads g c =
-    let f = c.in_ok-block_exact.ensures _ (record_length c.args.indexed.head.now) c.requires.stands.phase_is in
-    let size : length c.block_exact.new.piece ≡ length c.args.front.now - c.args.count = c.block_exact.auto.piece ∙ part_long c.args.count c.args.front.now in
-    let long : length c.part.result.bytes.now ≡ length c.args.front.now = ap length c.part.ensures.bytes ∙ filled-long c.args.count c.args.front.now c.block_exact.new.piece c.requires.count size in
-    let count = c.requires.count in
-    let within : length c.args.front.now ≤ c.args.indexed.head.now.parts.length = subst (λ n. n ≤ c.args.indexed.head.now.parts.length) (sym c.requires.front) (min-le_left c.args.indexed.head.now.parts.length _) in
-    rest-behind _ _ c.args.indexed.head.now _ _ _ _ _ _ _ _ _ _ (goes-on-to (c.args.indexed.head.now.parts.length - c.args.count) (c.args.indexed.head.now.parts.length - length c.part.result.bytes.now) c.block_exact.new.piece _ _ (omega arith) (omega arith) f.given) f.failures c.capture_parted.ensures.reads
-
-pub returns-clause-capture : goal.returns-clause-capture
-returns-clause-capture g c =
-    let f = c.in_ok-block_exact.ensures _ (record_length c.args.indexed.head.now) c.requires.stands.phase_is in
-    let size = c.block_exact.auto.piece ∙ part_long c.args.count c.args.front.now in
-    capture-behind-first (Some c.args.indexed.url.now) usual_limits c.args.indexed.head.now c.args.indexed.name.now (take c.args.count c.args.front.now) c.block_exact.new.piece c.part.result.bytes.now _ _ c.capture_parted.result (c.part.ensures.bytes ∙ filled-is c.args.count c.args.front.now c.block_exact.new.piece c.requires.count size) f.given c.capture_parted.ensures.capture
+pub returns : goal.returns
+returns g c =
+    let whole : length c.fill_behind.new.front ≡ front_length HTTP_HEAD_LIMIT c.args.indexed.head.now = c.fill_behind.auto.front ∙ c.requires.whole in
+    filled-rest c.args.indexed c.args.first.now c.fill_behind.new.front _ _ _ _ _ _ c.requires.ready _ _ _ c.capture_parted.result (omega (arith, whole)) (c.in_ok-fill_behind.ensures _ (record_length c.args.indexed.head.now) c.requires.ready.stands.phase_is) (rw c.part.ensures.bytes at c.capture_parted.ensures)

@@ -1,6 +1,6 @@
 use Rattle.std.proofs.Common.{Some, refl, drop, length-drop, arith}
 use Rattle.std.proofs.lemmas.List.{take_all}
-use Rattle.capture_core.proofs.payload.part_http.Goals as goal
+use Rattle.capture_core.proofs.payload.part.Goals as goal
 
 pub returns-in-Some-clause-parts : goal.returns-in-Some-clause-parts
 returns-in-Some-clause-parts c =
