@@ -1,12 +1,16 @@
 -- Plain bytes are those that are no quote, no backslash and no control.
-use Rattle.std.proofs.Common.{◌≡◌, ℕ, Bool, true, false, not, ◌&&◌, ◌||◌, ◌==◌, nat_lt, nat_le, List, [], ◌∷◌, ◌++◌, refl, sym, ◌∙◌, arith, codes}
+use Rattle.std.proofs.Common.{◌≡◌, ℕ, ◌<◌, ◌^◌, decimal, Bool, true, false, not, ◌&&◌, ◌||◌, ◌==◌, nat_lt, nat_le, List, [], ◌∷◌, ◌++◌, refl, sym, ◌∙◌, arith, codes}
 use Rattle.std.specs.List.{list_all}
+use Rattle.std.specs.Char.{is_ascii_digit}
 use Rattle.std.proofs.lemmas.Bool.{and_parts}
 use Rattle.std.proofs.lemmas.Bool.Decides.{nat_tests}
 use Rattle.std.proofs.lemmas.List.Folds.{list_all-append}
+use Rattle.std.proofs.lemmas.Fmt.{digits_decimal}
 use Rattle.json.specs.Run.{is_plain}
 use Rattle.cdxj_core.specs.Texts.{TextsValue}
 use Rattle.cdxj_core.specs.Plain.{is_open, is_unescaped, AreOpen, ArePlain, after, plain_text}
+use Rattle.cdxj_core.proofs.UnescapedAscii.{weaker}
+use Rattle.cdxj_places.proofs.Offsets.{own}
 use Rattle.cdxj_places.proofs.PlaceLaw.{both}
 
 not_or : (a b : Bool) → not (a || b) ≡ (not a && not b)
@@ -68,3 +72,11 @@ plain_where_unescaped t h k =
       offset = plain_from t.offset h.offset offset.0;
       filename = plain_from t.filename h.filename filename.0;
     }
+
+-- ---- numbers
+
+digit_is_plain : (b : ℕ) → is_ascii_digit b ≡ true → is_plain b ≡ true
+digit_is_plain b h = grind (arith, nat_tests, h)
+
+pub plain_decimal : (n : ℕ) → n < 2 ^ 63 → list_all is_plain (decimal n) ≡ true
+plain_decimal n h = weaker is_ascii_digit is_plain digit_is_plain (decimal n) (digits_decimal own n (omega (arith, h)))

@@ -144,17 +144,15 @@ steps_of old s = simp append_assoc
 pub quoted_plain : (old s : List ℕ) → list_all is_plain s ≡ true → ((old ++ 34 ∷ []) ++ s) ++ 34 ∷ [] ≡ old ++ quoted s
 quoted_plain old s h = steps_of old s ∙ ap (λ e. old ++ 34 ∷ (e ++ 34 ∷ [])) (sym (escape_plain s h))
 
--- a front and its text, one after another; a front begins with the quote of the text before it
-plain_steps : (old : List ℕ) (t : TextsValue)
-    → (((((((old ++ (codes "{\"url\": \"" ++ t.url)) ++ (codes "\", \"mime\": \"" ++ t.mime)) ++ (codes "\", \"status\": \"" ++ t.status))
+-- fronts and texts by turns; each front but the first begins with the quote of the text before it
+abbrev pub in_pieces : List ℕ → TextsValue → List ℕ
+in_pieces old t =
+    (((((((old ++ (codes "{\"url\": \"" ++ t.url)) ++ (codes "\", \"mime\": \"" ++ t.mime)) ++ (codes "\", \"status\": \"" ++ t.status))
     ++ (codes "\", \"digest\": \"" ++ t.digest)) ++ (codes "\", \"length\": \"" ++ t.length)) ++ (codes "\", \"offset\": \"" ++ t.offset))
     ++ (codes "\", \"filename\": \"" ++ t.filename)) ++ codes "\"}"
-    ≡ old ++ plain_text t
-plain_steps old t = simp append_assoc
 
-pub plain_object : (old : List ℕ) (t : TextsValue) → ArePlain t
-    → (((((((old ++ (codes "{\"url\": \"" ++ t.url)) ++ (codes "\", \"mime\": \"" ++ t.mime)) ++ (codes "\", \"status\": \"" ++ t.status))
-    ++ (codes "\", \"digest\": \"" ++ t.digest)) ++ (codes "\", \"length\": \"" ++ t.length)) ++ (codes "\", \"offset\": \"" ++ t.offset))
-    ++ (codes "\", \"filename\": \"" ++ t.filename)) ++ codes "\"}"
-    ≡ old ++ object_text (text_members t)
-plain_object old t h = plain_steps old t ∙ ap (λ o. old ++ o) (plain_text_is t h)
+in_one : (old : List ℕ) (t : TextsValue) → in_pieces old t ≡ old ++ plain_text t
+in_one old t = simp append_assoc
+
+pub plain_object : (old : List ℕ) (t : TextsValue) → ArePlain t → in_pieces old t ≡ old ++ object_text (text_members t)
+plain_object old t h = in_one old t ∙ ap (λ o. old ++ o) (plain_text_is t h)

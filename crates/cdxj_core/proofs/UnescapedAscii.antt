@@ -11,7 +11,7 @@ use Rattle.cdxj_places.proofs.PlaceLaw.{both}
 use Rattle.cdxj_core.specs.Lines.{has_no_feed}
 use Rattle.cdxj_core.specs.Plain.{is_unescaped, is_unescaped_ascii}
 
-weaker : (p q : ℕ → Bool) → ((b : ℕ) → p b ≡ true → q b ≡ true) → (xs : List ℕ) → list_all p xs ≡ true → list_all q xs ≡ true
+pub weaker : (p q : ℕ → Bool) → ((b : ℕ) → p b ≡ true → q b ≡ true) → (xs : List ℕ) → list_all p xs ≡ true → list_all q xs ≡ true
 weaker p q f [] h = refl
 weaker p q f (x ∷ xs) h = let parts = and_parts (p x) (list_all p xs) h in both (q x) (list_all q xs) (f x parts.0) (weaker p q f xs parts.1)
 

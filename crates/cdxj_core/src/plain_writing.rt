@@ -1,27 +1,30 @@
 //! The writing of a plain object: seven members whose texts need no escapes.
-ghost use Rattle.std.specs.Prelude.{◌≡◌, ◌++◌, true, IfOk};
-ghost use Rattle.cdxj_core.specs.Entries.{object_text};
+ghost use Rattle.std.specs.Prelude.{◌≡◌, ◌↔◌, ◌++◌, IfOk, IsTrue};
+ghost use Rattle.cdxj_core.specs.Entries.{IsGood, entry_texts, object_text};
 ghost use Rattle.cdxj_core.specs.MemberViews.{borrowed_view};
 ghost use Rattle.cdxj_core.specs.Plain.{ArePlain};
 ghost use Rattle.cdxj_core.specs.Texts.{text_members};
 
 use crate::borrowed_members::BorrowedMembers;
+use crate::entry::Entry;
 use crate::unescaped::is_plain_text;
 use std::alloc::AllocError;
 
-/// Returns `true` if no text needs an escape.
-pub(crate) fn are_plain(texts: BorrowedMembers<'_>) -> bool
-    ensures { result ≡ true → ArePlain (borrowed_view texts.entry) }
+/// Returns `true` if no text of the entry's line needs an escape. Numbers are digits, which never
+/// need one.
+#[tactic(auto, using(crate::proofs::PlainBytes::plain_decimal))]
+pub(crate) fn has_plain_texts(entry: &Entry) -> bool
+    requires { IsGood entry.now }
+    ensures { IsTrue result ↔ ArePlain (entry_texts entry.now) }
 {
-    is_plain_text(texts.url.as_bytes())
-        && is_plain_text(texts.mime.as_bytes())
-        && is_plain_text(texts.status.as_bytes())
-        && is_plain_text(texts.digest.as_bytes())
-        && is_plain_text(texts.length.as_bytes())
-        && is_plain_text(texts.offset.as_bytes())
-        && is_plain_text(texts.filename.as_bytes())
+    is_plain_text(entry.url.as_bytes())
+        && is_plain_text(entry.mime.as_bytes())
+        && is_plain_text(entry.status.as_bytes())
+        && is_plain_text(entry.digest.as_bytes())
+        && is_plain_text(entry.filename.as_bytes())
 }
 
+// A piece of the frame, and the text that follows it.
 #[inline(always)]
 fn push_after(line: &mut Vec<u8>, front: &[u8], text: &str) -> Result<(), AllocError>
     ensures { IfOk result (λ _. line.new.items ≡ line.old.items ++ (front.now ++ text.now)) }

@@ -3,7 +3,8 @@ ghost use Rattle.std.specs.Prelude.{◌≡◌, ◌≢◌, ◌<◌, ◌≤◌, �
 ghost use Rattle.std.specs.List.{list_all};
 ghost use Rattle.json.specs.Run.{is_plain};
 ghost use Rattle.json.specs.Print.{quoted};
-ghost use Rattle.cdxj_core.specs.Entries.{IsGood, entry_texts, member_text, later_text, object_text, line_text};
+ghost use Rattle.cdxj_core.specs.Entries.{IsGood, entry_texts, members_of, line_text};
+ghost use Rattle.cdxj_core.specs.Entries.{member_text, later_text, object_text};
 ghost use Rattle.cdxj_core.specs.Texts.{text_members};
 ghost use Rattle.cdxj_core.specs.MemberViews.{borrowed_view};
 
@@ -11,7 +12,7 @@ use crate::borrowed_members::BorrowedMembers;
 use crate::entry::Entry;
 use crate::fault::LineFault;
 use crate::limit::LINE_LIMIT;
-use crate::plain_writing::{are_plain, push_plain_object};
+use crate::plain_writing::{has_plain_texts, push_plain_object};
 use crate::unescaped::is_plain_text;
 use itoa::Buffer;
 use serde_json::Value;
@@ -80,12 +81,15 @@ fn push_escaped_object(
 fn push_object(
     line: &mut Vec<u8>,
     alloc: Global,
+    entry: &Entry,
     texts: BorrowedMembers<'_>,
 ) -> Result<(), AllocError>
+    requires good { IsGood entry.now }
+    requires texts { borrowed_view texts ≡ entry_texts entry.now }
     ensures { IfOk result (λ _. line.new.items
-        ≡ line.old.items ++ object_text (text_members (borrowed_view texts.entry))) }
+        ≡ line.old.items ++ object_text (members_of entry.now)) }
 {
-    if are_plain(texts) {
+    if has_plain_texts(entry) {
         push_plain_object(line, texts)
     } else {
         push_escaped_object(line, alloc, texts)
@@ -140,6 +144,7 @@ fn room(alloc: Global, key: &str, texts: &BorrowedMembers<'_>) -> Result<Vec<u8>
 }
 
 fn line_bytes(alloc: Global, entry: &Entry) -> Result<Vec<u8>, AllocError>
+    requires { IsGood entry.now }
     ensures { IfOk result (λ line. line.items ≡ line_text entry.now) }
 {
     let mut length = Buffer::new();
@@ -151,7 +156,7 @@ fn line_bytes(alloc: Global, entry: &Entry) -> Result<Vec<u8>, AllocError>
     );
     let mut line = room(alloc, entry.key.as_str(), &texts)?;
     push_pair(&mut line, entry)?;
-    push_object(&mut line, alloc, texts)?;
+    push_object(&mut line, alloc, entry, texts)?;
     line.push(b'\n')?;
     Ok(line)
 }

@@ -1,17 +1,18 @@
-use Rattle.std.proofs.Common.{◌≡◌, ◌++◌, ◌∷◌, [], decimal, ap, ◌∙◌}
-use Rattle.cdxj_core.specs.MemberViews.{borrowed_view}
-use Rattle.cdxj_core.specs.Texts.{text_members}
+use Rattle.std.proofs.Common.{◌++◌, ◌∷◌, [], decimal, ap, ◌∙◌}
 use Rattle.cdxj_core.specs.Entries.{entry_texts, members_of, object_text}
 use Rattle.cdxj_core.proofs.EntryWrite.{line_steps}
 use Rattle.cdxj_core.proofs.writing.line_bytes.Goals as goal
 
-pub returns : goal.returns
-returns c =
-    let e = c.args.entry.now in
+pub push_object-requires-clause-texts : goal.push_object-requires-clause-texts
+push_object-requires-clause-texts c =
     let seen = c.entry.view_is in
     let size = c.format.ensures.text ∙ ap (λ e. decimal e.length) seen in
     let offset = c.format-2.ensures.text ∙ ap (λ e. decimal e.offset) seen in
-    let texts : borrowed_view c.member_texts-texts.result ≡ entry_texts e = c.member_texts-texts.ensures ∙ (λ i. record (entry_texts e) { length = size i; offset = offset i }) in
+    c.member_texts-texts.ensures ∙ (λ i. record (entry_texts c.args.entry.now) { length = size i; offset = offset i })
+
+pub returns : goal.returns
+returns c =
+    let e = c.args.entry.now in
     let pair = c.in_ok-push_pair.ensures ∙ ap (λ l. l ++ (e.key ++ 32 ∷ (e.stamp ++ 32 ∷ []))) c.in_ok-line.ensures in
-    let object = c.in_ok-push_object.ensures ∙ (λ i. pair i ++ object_text (text_members (texts i))) in
+    let object = c.in_ok-push_object.ensures ∙ ap (λ l. l ++ object_text (members_of e)) pair in
     c.in_ok-push.ensures.items ∙ ap (λ l. l ++ 10 ∷ []) object ∙ line_steps e.key e.stamp (object_text (members_of e))
