@@ -22,9 +22,9 @@ returns-in_err-fields-2 c =
     let p = err_from_is_err_and c.from_residual-in_err-fields-2.result c.from_residual-in_err-fields-2.ensures.1 in
     rw (p.1, p.2) (IsFound-either c.in_err-fields-2.field-0.0 (fields_of c.args.body.now)
     (elim c.in_err-fields-2.ensures.err [
-      inl memory ↦ inl memory
-    | inr first ↦ inr (c.loop-rest.invariant ∙ (ap (λ seen. going seen rest) first.1
-        ∙ (going-first rest c.in-Some.text.now c.in-Some.later.now c.in-Some.ensures (sym c.if-continues.ensures) ∙ ap Err (sym first.0))))
+      | inl memory ↦ inl memory
+      | inr first ↦ inr (c.loop-rest.invariant ∙ (ap (λ seen. going seen rest) first.1
+          ∙ (going-first rest c.in-Some.text.now c.in-Some.later.now c.in-Some.ensures (sym c.if-continues.ensures) ∙ ap Err (sym first.0))))
     ]))
 
 pub returns-in_default-field_in : goal.returns-in_default-field_in
