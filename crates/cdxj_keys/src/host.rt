@@ -1,80 +1,70 @@
 //! The host text of a key: a domain's labels reversed, or an address as URLs write it.
-ghost use Rattle.std.specs.Prelude.{◌≡◌, ◌==◌, map, reverse, IfOk};
+ghost use Rattle.std.specs.Prelude.{◌≡◌, ◌==◌, reverse, IfOk};
 ghost use Rattle.std.specs.List.{slice_split, join_with_byte};
+ghost use Rattle.std.specs.Io.BufRead.{strip_last};
 ghost use Rattle.url.specs.Parts.{host_or_empty};
-ghost use Rattle.cdxj_keys.specs.Key.{is_www, drop_empty_last, drop_www, domain_text, key_host};
+ghost use Rattle.cdxj_keys.specs.Key.{is_www, drop_www, domain_text, key_host};
 
 use cdxj_places::has_digits;
+use memchr::{memchr, memrchr};
 use std::alloc::{AllocError, Global};
 use url::Url;
 
-fn is_www(label: &str) -> bool
+// Room for most keys before they are folded: a key's text goes on after its host.
+const ROOM: usize = 192;
+
+fn is_www(label: &[u8]) -> bool
     ensures { result ≡ is_www label.now }
 {
-    match label.as_bytes() {
+    match label {
         [b'w', b'w', b'w', digits @ ..] => has_digits(digits),
         _ => false,
     }
 }
 
-fn cut_labels(alloc: Global, domain: &str) -> Result<Vec<&str>, AllocError>
-    ensures { IfOk result
-        (λ labels. map (λ x. x.now) labels.items ≡ slice_split (λ b. b == 46) domain.now) }
+fn without_last_dot(domain: &[u8]) -> &[u8]
+    ensures { result.now ≡ strip_last 46 domain.now }
 {
-    domain.split('.').collect(alloc)
+    match domain {
+        [rest @ .., b'.'] => rest,
+        _ => domain,
+    }
 }
 
-// Room for most keys before they are folded: a key's text goes on after its host.
-const ROOM: usize = 192;
+fn without_www(domain: &[u8]) -> &[u8]
+    ensures { slice_split (λ b. b == 46) result.now
+        ≡ drop_www (slice_split (λ b. b == 46) domain.now) }
+{
+    let Some(dot) = memchr(b'.', domain) else {
+        return domain;
+    };
+    if is_www(&domain[..dot]) {
+        &domain[dot + 1..]
+    } else {
+        domain
+    }
+}
 
-fn join_labels(alloc: Global, labels: &[&str]) -> Result<Vec<u8>, AllocError>
-    ensures { IfOk result
-        (λ text. text.items ≡ join_with_byte 44 (map (λ x. x.now) labels.now)) }
+/// Returns the domain's labels, last first, with `,` between them.
+fn reversed(alloc: Global, domain: &[u8]) -> Result<Vec<u8>, AllocError>
+    ensures { IfOk result (λ text. text.items
+        ≡ join_with_byte 44 (reverse (slice_split (λ b. b == 46) domain.now))) }
 {
     let mut text = Vec::with_capacity(alloc, ROOM)?;
-    for (i, label) in labels.iter().enumerate() {
-        if i > 0 {
-            text.push(b',')?;
-        }
-        text.extend_from_slice(label.as_bytes())?;
+    let mut rest = domain;
+    while let Some(dot) = memrchr(b'.', rest) {
+        text.extend_from_slice(&rest[dot + 1..])?;
+        text.push(b',')?;
+        rest = &rest[..dot];
     }
+    text.extend_from_slice(rest)?;
     Ok(text)
 }
 
-fn reversed<'a>(alloc: Global, labels: &[&'a str]) -> Result<Vec<&'a str>, AllocError>
-    ensures { IfOk result (λ found. found.items ≡ reverse labels.now) }
-{
-    labels.iter().rev().copied().collect(alloc)
-}
-
-fn without_empty_last<'a, 'b>(labels: &'b [&'a str]) -> &'b [&'a str]
-    ensures { map (λ x. x.now) result.now ≡ drop_empty_last (map (λ x. x.now) labels.now) }
-{
-    let Some(last) = labels.len().checked_sub(1) else {
-        return labels;
-    };
-    if labels[last].is_empty() {
-        &labels[..last]
-    } else {
-        labels
-    }
-}
-
-fn without_www<'a, 'b>(labels: &'b [&'a str]) -> &'b [&'a str]
-    ensures { map (λ x. x.now) result.now ≡ drop_www (map (λ x. x.now) labels.now) }
-{
-    match labels {
-        [first, rest @ ..] if !rest.is_empty() && is_www(first) => rest,
-        _ => labels,
-    }
-}
-
-fn domain_text(alloc: Global, domain: &str) -> Result<Vec<u8>, AllocError>
+fn domain_text(alloc: Global, domain: &[u8]) -> Result<Vec<u8>, AllocError>
     ensures { IfOk result (λ text. text.items ≡ domain_text domain.now) }
 {
-    let labels = cut_labels(alloc, domain)?;
-    let kept = reversed(alloc, without_www(without_empty_last(&labels)))?;
-    join_labels(alloc, &kept)
+    reversed(alloc, without_www(without_last_dot(domain)))
 }
 
 /// Returns the host text, which is empty if the URL has no host.
@@ -82,7 +72,7 @@ pub(crate) fn host_text(alloc: Global, url: &Url) -> Result<Vec<u8>, AllocError>
     ensures { IfOk result (λ text. text.items ≡ key_host (host_or_empty url.now)) }
 {
     if let Some(domain) = url.domain() {
-        return domain_text(alloc, domain);
+        return domain_text(alloc, domain.as_bytes());
     }
     match url.host_str() {
         Some(address) => Vec::from_slice(alloc, address.as_bytes()),

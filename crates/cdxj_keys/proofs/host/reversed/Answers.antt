@@ -1,0 +1,22 @@
+use Rattle.std.proofs.Common.{◌∙◌, ◌+◌, ◌<◌, ◌++◌, [], ◌∷◌, arith, ap, sym, take, length}
+use Rattle.std.proofs.lemmas.List.{take_rest, length-take-le}
+use Rattle.cdxj_keys.proofs.Labels.{reversed_text, more_text, lone_text}
+use Rattle.cdxj_keys.proofs.host.reversed.Goals as goal
+
+pub loop-dot-preserved : goal.loop-dot-preserved
+loop-dot-preserved c =
+    let text = c.loop-dot.text.items in
+    let rest = c.loop-dot.rest.now in
+    let dot = c.in-Some.dot in
+    let within : dot < length rest = c.in-Some.ensures.0.high in
+    let label = c.in_ok-extend_from_slice.ensures.items ∙ ap (λ l. text ++ l) (take_rest rest (dot + 1)) in
+    let pushed = c.in_ok-push.ensures.items ∙ ap (λ l. l ++ 44 ∷ []) label in
+    record {
+      whole = ap (λ l. l ++ reversed_text (take dot rest)) pushed ∙ more_text text rest dot c.in-Some.ensures ∙ c.loop-dot.invariant.whole;
+      short = omega (arith, length-take-le dot rest (omega (arith, within)), within, c.loop-dot.invariant.short);
+    }
+
+pub returns : goal.returns
+returns c =
+    let text = c.loop-dot.text.items in
+    c.in_ok-extend_from_slice-2.ensures.items ∙ ap (λ l. text ++ l) (sym (lone_text c.loop-dot.rest.now c.in_default.ensures)) ∙ c.loop-dot.invariant.whole
