@@ -59,9 +59,7 @@ fn folded(alloc: Global, bytes: &[u8]) -> Result<String, AllocError>
     ensures { IfOk result (λ text. string_bytes text ≡ folded bytes.now) }
 {
     if is_graphic(bytes) {
-        if let Ok(text) = str::from_utf8(bytes) {
-            return lowered(alloc, text);
-        }
+        return lowered(alloc, unsafe { str::from_utf8_unchecked(bytes) });
     }
     let mut text = String::with_capacity(alloc, bytes.len())?;
     for byte in bytes {
