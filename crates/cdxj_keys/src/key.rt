@@ -9,6 +9,7 @@ ghost use Rattle.cdxj_keys.specs.Key.{port_text, query_text, is_web, web_text, k
 
 use crate::fault::KeyFault;
 use crate::host::host_text;
+use itoa::Buffer;
 use std::alloc::{AllocError, Global};
 use url::{ParseError, Url};
 
@@ -82,13 +83,12 @@ fn is_web(url: &Url) -> bool
     url.scheme() == "http" || url.scheme() == "https"
 }
 
-fn push_port(text: &mut Vec<u8>, alloc: Global, port: Option<u16>) -> Result<(), AllocError>
+fn push_port(text: &mut Vec<u8>, port: Option<u16>) -> Result<(), AllocError>
     ensures { IfOk result (λ _. text.new.items ≡ text.old.items ++ port_text port) }
 {
     if let Some(number) = port {
         text.push(b':')?;
-        let digits = format!(in alloc; "{number}")?;
-        text.extend_from_slice(digits.as_bytes())?;
+        text.extend_from_slice(Buffer::new().format(number).as_bytes())?;
     }
     Ok(())
 }
@@ -110,7 +110,7 @@ fn web_text(alloc: Global, url: &Url) -> Result<Vec<u8>, AllocError>
     ensures { IfOk result (λ text. text.items ≡ web_text url.now) }
 {
     let mut text = host_text(alloc, url)?;
-    push_port(&mut text, alloc, url.port())?;
+    push_port(&mut text, url.port())?;
     text.push(b')')?;
     text.extend_from_slice(url.path().as_bytes())?;
     push_query(&mut text, url.query())?;
