@@ -74,8 +74,9 @@ pub(crate) fn host_text(alloc: Global, url: &Url) -> Result<Vec<u8>, AllocError>
     if let Some(domain) = url.domain() {
         return domain_text(alloc, domain.as_bytes());
     }
-    match url.host_str() {
-        Some(address) => Vec::from_slice(alloc, address.as_bytes()),
-        None => Ok(Vec::new(alloc)),
+    let mut text = Vec::with_capacity(alloc, ROOM)?;
+    if let Some(address) = url.host_str() {
+        text.extend_from_slice(address.as_bytes())?;
     }
+    Ok(text)
 }
