@@ -1,5 +1,5 @@
 //! The host text of a key: a domain's labels reversed, or an address as URLs write it.
-ghost use Rattle.std.specs.Prelude.{◌≡◌, ◌==◌, reverse, IfOk};
+ghost use Rattle.std.specs.Prelude.{◌≡◌, ◌==◌, ◌++◌, reverse, IfOk};
 ghost use Rattle.std.specs.List.{slice_split, join_with_byte};
 ghost use Rattle.std.specs.Io.BufRead.{strip_last};
 ghost use Rattle.url.specs.Parts.{host_or_empty};
@@ -45,37 +45,34 @@ fn without_www(domain: &[u8]) -> &[u8]
     }
 }
 
-/// Returns the domain's labels, last first, with `,` between them.
-fn reversed(alloc: Global, domain: &[u8]) -> Result<Vec<u8>, AllocError>
-    ensures { IfOk result (λ text. text.items
-        ≡ join_with_byte 44 (reverse (slice_split (λ b. b == 46) domain.now))) }
+/// Appends the domain's labels, last first, with `,` between them.
+fn push_reversed(text: &mut Vec<u8>, domain: &[u8]) -> Result<(), AllocError>
+    ensures { IfOk result (λ _. text.new.items
+        ≡ text.old.items ++ join_with_byte 44 (reverse (slice_split (λ b. b == 46) domain.now))) }
 {
-    let mut text = Vec::with_capacity(alloc, ROOM)?;
     let mut rest = domain;
     while let Some(dot) = memrchr(b'.', rest) {
         text.extend_from_slice(&rest[dot + 1..])?;
         text.push(b',')?;
         rest = &rest[..dot];
     }
-    text.extend_from_slice(rest)?;
-    Ok(text)
+    text.extend_from_slice(rest)
 }
 
-fn domain_text(alloc: Global, domain: &[u8]) -> Result<Vec<u8>, AllocError>
-    ensures { IfOk result (λ text. text.items ≡ domain_text domain.now) }
+fn push_domain(text: &mut Vec<u8>, domain: &[u8]) -> Result<(), AllocError>
+    ensures { IfOk result (λ _. text.new.items ≡ text.old.items ++ domain_text domain.now) }
 {
-    reversed(alloc, without_www(without_last_dot(domain)))
+    push_reversed(text, without_www(without_last_dot(domain)))
 }
 
 /// Returns the host text, which is empty if the URL has no host.
 pub(crate) fn host_text(alloc: Global, url: &Url) -> Result<Vec<u8>, AllocError>
     ensures { IfOk result (λ text. text.items ≡ key_host (host_or_empty url.now)) }
 {
-    if let Some(domain) = url.domain() {
-        return domain_text(alloc, domain.as_bytes());
-    }
     let mut text = Vec::with_capacity(alloc, ROOM)?;
-    if let Some(address) = url.host_str() {
+    if let Some(domain) = url.domain() {
+        push_domain(&mut text, domain.as_bytes())?;
+    } else if let Some(address) = url.host_str() {
         text.extend_from_slice(address.as_bytes())?;
     }
     Ok(text)

@@ -1,7 +1,7 @@
-use Rattle.std.proofs.Common.{◌∙◌, ◌+◌, ◌<◌, ◌++◌, [], ◌∷◌, arith, ap, sym, take, length}
+use Rattle.std.proofs.Common.{◌≡◌, ◌∙◌, List, ℕ, Result, Ok, Err, is_ok, cond, IfOk, ◌+◌, ◌<◌, ◌++◌, [], ◌∷◌, arith, ap, sym, take, length}
 use Rattle.std.proofs.lemmas.List.{take_rest, length-take-le}
 use Rattle.cdxj_keys.proofs.Labels.{reversed_text, more_text, lone_text}
-use Rattle.cdxj_keys.proofs.host.reversed.Goals as goal
+use Rattle.cdxj_keys.proofs.host.push_reversed.Goals as goal
 
 pub loop-dot-preserved : goal.loop-dot-preserved
 loop-dot-preserved c =
@@ -16,7 +16,12 @@ loop-dot-preserved c =
       short = omega (arith, length-take-le dot rest (omega (arith, within)), within, c.loop-dot.invariant.short);
     }
 
+at_ok : {A E : Type 0} (r : Result A E) (more same whole new : List ℕ) → new ≡ cond (is_ok r) more same → more ≡ whole → IfOk r (λ _. new ≡ whole)
+at_ok (Ok x) more same whole new is e = is ∙ e
+at_ok (Err x) more same whole new is e = tt
+
 pub returns : goal.returns
 returns c =
     let text = c.loop-dot.text.items in
-    c.in_ok-extend_from_slice-2.ensures.items ∙ ap (λ l. text ++ l) (sym (lone_text c.loop-dot.rest.now c.in_default.ensures)) ∙ c.loop-dot.invariant.whole
+    let whole = ap (λ l. text ++ l) (sym (lone_text c.loop-dot.rest.now c.in_default.ensures)) ∙ c.loop-dot.invariant.whole in
+    at_ok c.extend_from_slice-2.result _ text _ _ c.extend_from_slice-2.ensures.items whole
