@@ -7,3 +7,4 @@ pub mod DayLemmas
 pub mod DateLemmas
 pub mod SpellingLemmas
 pub mod FoldingLemmas
+pub mod TrimLemmas

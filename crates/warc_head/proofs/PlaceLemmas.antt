@@ -1,13 +1,13 @@
--- Fields that are stored one after the other.
-use Rattle.std.proofs.Common.{◌≡◌, ◌∙◌, ℕ, suc, ◌+◌, ◌-◌, ◌≤◌, List, [], ◌∷◌, ◌++◌, length, take, drop, refl, sym, ap, arith, append-nil, append_assoc, length-append, subst, true, false}
+-- Fields that are stored at places in one text.
+use Rattle.std.proofs.Common.{◌≡◌, ◌∙◌, ℕ, suc, ◌+◌, ◌-◌, ◌≤◌, List, [], ◌∷◌, ◌++◌, length, take, drop, refl, sym, ap, subst, arith, append-nil, append_assoc, length-append, true, false}
 use Rattle.std.specs.Prelude.{All}
 use Rattle.std.proofs.lemmas.List.{take-append-le, drop-append-le, map-append, length-drop, take_all}
 use Rattle.std.proofs.lemmas.List.Elements.{All-append, All-cons, All-nil}
-use Rattle.std.proofs.Math.Seq.{take-append_seam, drop-append_seam, take-length}
+use Rattle.std.proofs.Math.Seq.{drop-append_seam}
 use Rattle.warc_head.specs.declared.places.Place.{Place}
 use Rattle.warc_head.specs.Names.{same_name}
-use Rattle.warc_head.specs.Fields.{joined, longer, value_of, values_of}
-use Rattle.warc_head.specs.Places.{IsWithin, field_at, fields_at, end_of, ArePlaces, joint}
+use Rattle.warc_head.specs.Fields.{Field, joined, longer, value_of, values_of}
+use Rattle.warc_head.specs.Places.{IsWithin, between, field_at, fields_at, moved, Continues, joint}
 
 joined_is : (a b : List ℕ) → joined a b ≡ a ++ joint a b
 joined_is [] b = refl
@@ -15,17 +15,21 @@ joined_is (x ∷ a) [] = sym (append-nil (x ∷ a))
 joined_is (x ∷ a) (y ∷ b) = refl
 
 within_more : (n m : ℕ) (p : Place) → n ≤ m → IsWithin n p → IsWithin m p
-within_more n m p l h = record { name = h.name; value = h.value; end = omega (arith, l, h.end) }
+within_more n m p l h = record { name = h.name; order = h.order; value = h.value; end = omega (arith, l, h.end) }
 
 all_within : (n m : ℕ) (places : List Place) → n ≤ m → All (IsWithin n) places → All (IsWithin m) places
 all_within n m places l h = λ k d b. within_more n m _ l (h k d b)
 
-part_more : (text more : List ℕ) (i j : ℕ) → i ≤ j → j ≤ length text → take (j - i) (drop i (text ++ more)) ≡ take (j - i) (drop i text)
-part_more text more i j l m =
+-- bytes that are appended change nothing before them
+between_more : (text more : List ℕ) (i j : ℕ) → i ≤ j → j ≤ length text → between i j (text ++ more) ≡ between i j text
+between_more text more i j l m =
     ap (take (j - i)) (drop-append-le i text more (omega arith)) ∙ take-append-le (j - i) (drop i text) more (simp length-drop (omega arith))
 
 field_more : (text more : List ℕ) (p : Place) → IsWithin (length text) p → field_at (text ++ more) p ≡ field_at text p
-field_more text more p h = λ i. record { name = part_more text more p.start p.name_end h.name (omega (arith, h.value, h.end)) i; value = part_more text more p.name_end p.end h.value h.end i }
+field_more text more p h = λ i. record {
+  name = between_more text more p.name_start p.name_end h.name (omega (arith, h.order, h.end)) i;
+  value = between_more text more p.value_start p.value_end h.value h.end i;
+}
 
 first_of : (P : Place → Type 0) (p : Place) (places : List Place) → All P (p ∷ places) → P p
 first_of P p places h = h 0 p (omega arith)
@@ -45,85 +49,96 @@ fields_more : (text more : List ℕ) (places : List Place) → All (IsWithin (le
 fields_more text more [] h = refl
 fields_more text more (p ∷ places) h = λ i. field_more text more p (first_of (IsWithin (length text)) p places h) i ∷ fields_more text more places (later_of (IsWithin (length text)) p places h) i
 
-end_last : (places : List Place) (p : Place) → end_of (places ++ p ∷ []) ≡ p.end
-end_last [] p = refl
-end_last (q ∷ []) p = refl
-end_last (q ∷ r ∷ places) p = end_last (r ∷ places) p
-
 one : (P : Place → Type 0) (p : Place) → P p → All P (p ∷ [])
 one P p h = All-cons P p [] h (All-nil P)
 
 pub within_later : (size : ℕ) (rest later : List Place) (first : Place) → rest ≡ first ∷ later → All (IsWithin size) rest → All (IsWithin size) later
 within_later size rest later first e h = later_of (IsWithin size) first later (subst (All (IsWithin size)) e h)
 
--- a name and a value that are appended to a text
-module _ (text text' name value : List ℕ) (places : List Place) (p : Place) (old : ArePlaces text places) (new : text' ≡ (text ++ name) ++ value)
-    (at : p.start ≡ length text) (name_end : p.name_end ≡ length (text ++ name)) (end : p.end ≡ length text') where
-  size : length text' ≡ length text + length name + length value
-  size = ap length new ∙ simp length-append (omega arith)
+-- a text behind others
+drop_moved : (front text : List ℕ) (i : ℕ) → drop (length front + i) (front ++ text) ≡ drop i text
+drop_moved [] text i = ap (λ n. drop n text) (omega arith)
+drop_moved (b ∷ front) text i =
+    let e : length (b ∷ front) + i ≡ suc (length front + i) = omega arith in
+    ap (λ n. drop n (b ∷ front ++ text)) e ∙ drop_moved front text i
 
-  name_size : p.name_end ≡ length text + length name
-  name_size = name_end ∙ length-append text name
+between_moved : (front text : List ℕ) (i j : ℕ) → between (length front + i) (length front + j) (front ++ text) ≡ between i j text
+between_moved front text i j =
+    let e : length front + j - (length front + i) ≡ j - i = omega arith in
+    λ k. take (e k) (drop_moved front text i k)
 
-  name_is : take (p.name_end - p.start) (drop p.start text') ≡ name
-  name_is =
-      let n : p.name_end - p.start ≡ length name = omega (arith, name_size, at) in
-      (λ i. take (n i) (drop (at i) ((new ∙ append_assoc text name value) i))) ∙ (ap (take (length name)) (drop-append_seam text (name ++ value)) ∙ take-append_seam name value)
+field_moved : (front text : List ℕ) (p : Place) → field_at (front ++ text) (moved (length front) p) ≡ field_at text p
+field_moved front text p = λ i. record { name = between_moved front text p.name_start p.name_end i; value = between_moved front text p.value_start p.value_end i }
 
-  value_is : take (p.end - p.name_end) (drop p.name_end text') ≡ value
-  value_is =
-      let n : p.end - p.name_end ≡ length value = omega (arith, name_size, end, size) in
-      (λ i. take (n i) (drop (name_end i) (new i))) ∙ (ap (take (length value)) (drop-append_seam (text ++ name) value) ∙ take-length value)
+-- a field of a line that stands in a text
+module _ (text front line back more : List ℕ) (places : List Place) (p : Place) (held : text ≡ (front ++ (line ++ back)) ++ more) (inside : IsWithin (length line) p) where
+  regrouped : text ≡ front ++ (line ++ (back ++ more))
+  regrouped = held ∙ simp append_assoc
 
-  pub field_added : fields_at text' (places ++ p ∷ []) ≡ fields_at text places ++ record { name = name; value = value } ∷ []
-  field_added =
-      map-append (field_at text') places (p ∷ [])
-      ∙ (λ i. (ap (λ t. fields_at t places) (new ∙ append_assoc text name value) ∙ fields_more text (name ++ value) places old.within) i ++ (record { name = name_is i; value = value_is i }) ∷ [])
+  size : length text ≡ length front + length line + length back + length more
+  size = ap length regrouped ∙ simp length-append (omega arith)
 
-  pub place_added : ArePlaces text' (places ++ p ∷ [])
-  place_added = record {
-    within = All-append (IsWithin (length text')) places (p ∷ []) (all_within (length text) (length text') places (omega (arith, size)) old.within)
-        (one (IsWithin (length text')) p (record { name = omega (arith, at, name_size); value = omega (arith, name_size, end, size); end = omega (arith, end) }));
-    end = end_last places p ∙ end;
-  }
+  new_field : field_at text (moved (length front) p) ≡ field_at line p
+  new_field = ap (λ t. field_at t (moved (length front) p)) regrouped ∙ (field_moved front (line ++ (back ++ more)) p ∙ field_more line (back ++ more) p inside)
 
--- a piece that is appended to a text, for the last place in it
-module _ (text text' piece : List ℕ) (before : List Place) (last p : Place) (old : ArePlaces text (before ++ last ∷ [])) (new : text' ≡ text ++ joint (drop last.name_end text) piece)
-    (at : p.start ≡ last.start) (name_end : p.name_end ≡ last.name_end) (end : p.end ≡ length text') where
-  last_end : last.end ≡ length text
-  last_end = sym (end_last before last) ∙ old.end
+  pub field_added : fields_at text (places ++ moved (length front) p ∷ []) ≡ fields_at text places ++ field_at line p ∷ []
+  field_added = map-append (field_at text) places (moved (length front) p ∷ []) ∙ ap (λ f. fields_at text places ++ f ∷ []) new_field
 
+  pub place_added : All (IsWithin (length text)) places → All (IsWithin (length text)) (places ++ moved (length front) p ∷ [])
+  place_added h = All-append (IsWithin (length text)) places (moved (length front) p ∷ []) h
+      (one (IsWithin (length text)) (moved (length front) p)
+      (record { name = omega (arith, inside.name); order = omega (arith, inside.order); value = omega (arith, inside.value); end = omega (arith, inside.end, size) }))
+
+-- the value at the last of some places, at the end of a longer text, and a piece that is appended to it
+module _ (text there text' piece more : List ℕ) (before : List Place) (last p : Place) (old : All (IsWithin (length text)) (before ++ last ∷ [])) (copied : there ≡ text ++ more)
+    (value : drop p.value_start there ≡ (field_at text last).value) (start : p.value_start ≤ length there) (new : text' ≡ there ++ joint (drop p.value_start there) piece)
+    (name : p.name_start ≡ last.name_start) (name_end : p.name_end ≡ last.name_end) (end : p.value_end ≡ length text') where
   last_within : IsWithin (length text) last
-  last_within = last_of (IsWithin (length text)) before last old.within
+  last_within = last_of (IsWithin (length text)) before last old
 
   before_within : All (IsWithin (length text)) before
-  before_within = before_of (IsWithin (length text)) before last old.within
+  before_within = before_of (IsWithin (length text)) before last old
 
-  grown : length text' ≡ length text + length (joint (drop last.name_end text) piece)
-  grown = ap length new ∙ length-append text _
+  whole : text' ≡ text ++ (more ++ joint (drop p.value_start there) piece)
+  whole = new ∙ (ap (λ t. t ++ joint (drop p.value_start there) piece) copied ∙ append_assoc text more _)
 
-  name_same : take (p.name_end - p.start) (drop p.start text') ≡ (field_at text last).name
-  name_same = (λ i. take (name_end i - at i) (drop (at i) (new i))) ∙ part_more text _ last.start last.name_end last_within.name (omega (arith, last_within.value, last_within.end))
+  pub continues : Continues text text'
+  continues = (more ++ joint (drop p.value_start there) piece, whole)
 
-  value_old : (field_at text last).value ≡ drop last.name_end text
-  value_old = take_all (last.end - last.name_end) (drop last.name_end text) (simp length-drop (omega (arith, last_end)))
+  copied_size : length there ≡ length text + length more
+  copied_size = ap length copied ∙ length-append text more
 
-  value_new : take (p.end - p.name_end) (drop p.name_end text') ≡ joined (drop last.name_end text) piece
+  longer_size : length text' ≡ length there + length (joint (drop p.value_start there) piece)
+  longer_size = ap length new ∙ length-append there _
+
+  name_same : between p.name_start p.name_end text' ≡ (field_at text last).name
+  name_same =
+      (λ i. between (name i) (name_end i) (whole i)) ∙ between_more text _ last.name_start last.name_end last_within.name (omega (arith, last_within.order, last_within.end))
+
+  value_new : between p.value_start p.value_end text' ≡ joined (field_at text last).value piece
   value_new =
-      take_all (p.end - p.name_end) (drop p.name_end text') (simp length-drop (omega (arith, end)))
-      ∙ ((λ i. drop (name_end i) (new i)) ∙ (drop-append-le last.name_end text _ (omega (arith, last_within.value, last_within.end)) ∙ sym (joined_is (drop last.name_end text) piece)))
+      take_all (p.value_end - p.value_start) (drop p.value_start text') (simp length-drop (omega (arith, end)))
+      ∙ (ap (drop p.value_start) new ∙ (drop-append-le p.value_start there _ start ∙ (sym (joined_is (drop p.value_start there) piece) ∙ ap (λ v. joined v piece) value)))
 
   pub piece_added : fields_at text' (before ++ p ∷ []) ≡ fields_at text before ++ longer (field_at text last) piece ∷ []
   piece_added =
       map-append (field_at text') before (p ∷ [])
-      ∙ (λ i. (ap (λ t. fields_at t before) new ∙ fields_more text _ before before_within) i ++ (record { name = name_same i; value = (value_new ∙ ap (λ v. joined v piece) (sym value_old)) i }) ∷ [])
+      ∙ (λ i. (ap (λ t. fields_at t before) whole ∙ fields_more text _ before before_within) i ++ (record { name = name_same i; value = value_new i }) ∷ [])
 
-  pub place_longer : ArePlaces text' (before ++ p ∷ [])
-  place_longer = record {
-    within = All-append (IsWithin (length text')) before (p ∷ []) (all_within (length text) (length text') before (omega (arith, grown)) before_within)
-        (one (IsWithin (length text')) p (record { name = omega (arith, at, name_end, last_within.name); value = omega (arith, name_end, end, grown, last_within.value, last_within.end); end = omega (arith, end) }));
-    end = end_last before p ∙ end;
-  }
+  pub place_longer : All (IsWithin (length text')) (before ++ p ∷ [])
+  place_longer = All-append (IsWithin (length text')) before (p ∷ []) (all_within (length text) (length text') before (omega (arith, longer_size, copied_size)) before_within)
+      (one (IsWithin (length text')) p (record {
+        name = omega (arith, name, name_end, last_within.name);
+        order = omega (arith, name_end, end, last_within.order, last_within.end, longer_size, copied_size);
+        value = omega (arith, start, end, longer_size);
+        end = omega (arith, end);
+      }))
+
+pub old_fields : (text : List ℕ) (before : List Place) (last : Place) → fields_at text (before ++ last ∷ []) ≡ fields_at text before ++ field_at text last ∷ []
+old_fields text before last = map-append (field_at text) before (last ∷ [])
+
+pub Continues-trans : (a b c : List ℕ) → Continues a b → Continues b c → Continues a c
+Continues-trans a b c h k = (h.0 ++ k.0, k.1 ∙ (ap (λ t. t ++ k.0) h.1 ∙ append_assoc a h.0 k.0))
 
 -- fields at places, of which the first was looked at
 module _ (text name : List ℕ) (rest later : List Place) (first : Place) (cut : rest ≡ first ∷ later) where

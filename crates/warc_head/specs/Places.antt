@@ -1,32 +1,34 @@
--- Fields that are stored one after the other in one text.
-use Rattle.std.specs.Prelude.{◌≡◌, ℕ, ◌-◌, ◌≤◌, List, [], ◌∷◌, length, take, drop, map, All}
+-- Fields that are stored at places in one text.
+use Rattle.std.specs.Prelude.{◌≡◌, ℕ, ◌+◌, ◌-◌, ◌≤◌, List, [], ◌∷◌, ◌++◌, length, take, drop, map, All}
 use Rattle.warc_head.specs.Bytes.{space}
 use Rattle.warc_head.specs.declared.places.Place.{Place}
 use Rattle.warc_head.specs.Fields.{Field}
 
 -- a place in a text of this length
 pub record IsWithin (size : ℕ) (p : Place) : Type 0 where
-  pub name : p.start ≤ p.name_end
-  pub value : p.name_end ≤ p.end
-  pub end : p.end ≤ size
+  pub name : p.name_start ≤ p.name_end
+  pub order : p.name_end ≤ p.value_end
+  pub value : p.value_start ≤ p.value_end
+  pub end : p.value_end ≤ size
+
+-- the bytes from one offset to another
+abbrev pub between : ℕ → ℕ → List ℕ → List ℕ
+between start end text = take (end - start) (drop start text)
 
 -- the field at a place
 abbrev pub field_at : List ℕ → Place → Field
-field_at text p = record { name = take (p.name_end - p.start) (drop p.start text); value = take (p.end - p.name_end) (drop p.name_end text) }
+field_at text p = record { name = between p.name_start p.name_end text; value = between p.value_start p.value_end text }
 
 abbrev pub fields_at : List ℕ → List Place → List Field
 fields_at text places = map (field_at text) places
 
--- where the last of some places ends
-abbrev pub end_of : List Place → ℕ
-end_of [] = 0
-end_of (p ∷ []) = p.end
-end_of (p ∷ q ∷ places) = end_of (q ∷ places)
+-- a place in a text that begins so many bytes earlier
+abbrev pub moved : ℕ → Place → Place
+moved offset p = record { name_start = offset + p.name_start; name_end = offset + p.name_end; value_start = offset + p.value_start; value_end = offset + p.value_end }
 
--- places in a text that ends with the last of them
-pub record ArePlaces (text : List ℕ) (places : List Place) : Type 0 where
-  pub within : All (IsWithin (length text)) places
-  pub end : end_of places ≡ length text
+-- a text with bytes behind it
+abbrev pub Continues : List ℕ → List ℕ → Type 0
+Continues text longer = (more : List ℕ) × (longer ≡ text ++ more)
 
 -- what a piece adds to a value that it goes on with: one space comes before it, where neither is empty
 abbrev pub joint : List ℕ → List ℕ → List ℕ

@@ -4,6 +4,7 @@
 #![tactic(auto)]
 
 mod calendar;
+mod continuing;
 mod date;
 mod fault;
 mod field_lines;

@@ -39,7 +39,8 @@ pub fn trim(text: &[u8]) -> &[u8]
     trim_end(trim_front(text))
 }
 
-fn trim_front(text: &[u8]) -> &[u8]
+/// Returns the text without the white space at its start.
+pub fn trim_front(text: &[u8]) -> &[u8]
     ensures { result.now ≡ trim_front text.now }
 {
     let mut rest = text;
@@ -52,7 +53,8 @@ fn trim_front(text: &[u8]) -> &[u8]
     rest
 }
 
-fn trim_end(text: &[u8]) -> &[u8]
+/// Returns the text without the white space at its end.
+pub fn trim_end(text: &[u8]) -> &[u8]
     ensures { result.now ≡ trim_end text.now }
 {
     let mut rest = text;

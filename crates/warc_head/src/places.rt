@@ -5,30 +5,45 @@ ghost use Rattle.warc_head.specs.Places.{IsWithin, fields_at};
 
 use crate::names::same_name;
 
-/// The place of a field in a text, in bytes from the text's start. The value follows the name.
+/// The place of a field in a text, in bytes from the text's start.
 #[derive(Clone, Copy)]
 pub struct Place {
-    pub start: usize,
+    pub name_start: usize,
     pub name_end: usize,
-    pub end: usize,
+    pub value_start: usize,
+    pub value_end: usize,
 }
 
 impl Place {
-    ghost use Rattle.std.specs.Prelude.{◌≡◌, length};
-    ghost use Rattle.warc_head.specs.Places.{IsWithin, field_at};
+    ghost use Rattle.std.specs.Prelude.{◌≡◌, ◌+◌, ◌<◌, ◌^◌, length};
+    ghost use Rattle.warc_head.specs.Places.{IsWithin, field_at, moved};
+
+    /// Returns the place in a text that begins `offset` bytes earlier.
+    pub fn moved(self, offset: usize) -> Place
+        requires ordered { IsWithin self.value_end self }
+        requires fits { offset + self.value_end < 2 ^ 64 }
+        ensures { result ≡ moved offset self }
+    {
+        Place {
+            name_start: offset + self.name_start,
+            name_end: offset + self.name_end,
+            value_start: offset + self.value_start,
+            value_end: offset + self.value_end,
+        }
+    }
 
     pub fn name(self, text: &[u8]) -> &[u8]
         requires { IsWithin (length text.now) self }
         ensures { result.now ≡ (field_at text.now self).name }
     {
-        &text[self.start..self.name_end]
+        &text[self.name_start..self.name_end]
     }
 
     pub fn value(self, text: &[u8]) -> &[u8]
         requires { IsWithin (length text.now) self }
         ensures { result.now ≡ (field_at text.now self).value }
     {
-        &text[self.name_end..self.end]
+        &text[self.value_start..self.value_end]
     }
 }
 

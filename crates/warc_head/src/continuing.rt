@@ -1,0 +1,75 @@
+//! Lines that continue the field before them.
+ghost use Rattle.std.specs.Prelude.{◌≡◌, ◌⊎◌, ◌≤◌, ◌++◌, List, [], ◌∷◌, length, drop, All, OnOk, IfOk, IfErr};
+ghost use Rattle.warc_head.specs.declared.fault.HeadFault.TheVariants.{FieldLine, Memory};
+ghost use Rattle.warc_head.specs.Fields.{Field, longer};
+ghost use Rattle.warc_head.specs.Places.{Continues, IsWithin, field_at, fields_at, joint};
+
+use crate::fault::HeadFault;
+use crate::places::Place;
+use std::alloc::AllocError;
+
+/// Appends a piece to the value of the last field. The value is moved to the end of the text first. The error is
+/// `FieldLine` if there is no field.
+pub fn continue_field(
+    text: &mut Vec<u8>,
+    places: &mut Vec<Place>,
+    piece: &[u8],
+) -> Result<(), HeadFault>
+    requires { All (IsWithin (length text.old.items)) places.old.items }
+    ensures text { OnOk result (Continues text.old.items text.new.items) }
+    ensures within { OnOk result (All (IsWithin (length text.new.items)) places.new.items) }
+    ensures fields { OnOk result ((before : List Field) × (last : Field)
+        × (fields_at text.old.items places.old.items ≡ before ++ last ∷ [])
+        × (fields_at text.new.items places.new.items ≡ before ++ longer last piece.now ∷ [])) }
+    ensures err { IfErr result (λ e. (e ≡ Memory) ⊎ ((e ≡ FieldLine) × (places.old.items ≡ []))) }
+{
+    let Some(last) = places.pop() else {
+        return Err(HeadFault::FieldLine);
+    };
+    let value_start = value_at_end(text, last)?;
+    join(text, value_start, piece)?;
+    places.push(Place {
+        value_start,
+        value_end: text.len(),
+        ..last
+    })?;
+    Ok(())
+}
+
+/// Copies the value at a place to the end of the text, if it doesn't stand there yet. Returns the offset at which it
+/// begins there.
+fn value_at_end(text: &mut Vec<u8>, place: Place) -> Result<usize, AllocError>
+    requires { IsWithin (length text.old.items) place }
+    ensures text { OnOk result (Continues text.old.items text.new.items) }
+    ensures within { IfOk result (λ start. start ≤ length text.new.items) }
+    ensures value { IfOk result (λ start. drop start text.new.items ≡ (field_at text.old.items place).value) }
+{
+    if place.value_end == text.len() {
+        return Ok(place.value_start);
+    }
+    let start = text.len();
+    text.extend_from_within(place.value_start..place.value_end)?;
+    Ok(start)
+}
+
+/// Appends a piece to a text that ends with a value, which begins at this offset.
+fn join(text: &mut Vec<u8>, value: usize, piece: &[u8]) -> Result<(), AllocError>
+    requires { value ≤ length text.old.items }
+    ensures { OnOk result (text.new.items ≡ text.old.items ++ joint (drop value text.old.items) piece.now) }
+{
+    let space = space_between(&text[value..], piece);
+    text.extend_from_slice(space)?;
+    text.extend_from_slice(piece)?;
+    Ok(())
+}
+
+/// Returns a space, or nothing if one of both is empty.
+fn space_between(value: &[u8], piece: &[u8]) -> &'static [u8]
+    ensures { result.now ++ piece.now ≡ joint value.now piece.now }
+{
+    if value.is_empty() || piece.is_empty() {
+        b""
+    } else {
+        b" "
+    }
+}
