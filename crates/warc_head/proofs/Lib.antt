@@ -8,3 +8,4 @@ pub mod DateLemmas
 pub mod SpellingLemmas
 pub mod FoldingLemmas
 pub mod TrimLemmas
+pub mod FirstPlace

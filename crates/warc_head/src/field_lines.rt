@@ -1,5 +1,6 @@
 //! The lines of a head's fields.
 ghost use Rattle.std.specs.Prelude.{◌≡◌, length, MatchOption, Some, Ok, Err};
+ghost use Rattle.memchr.specs.Find.{IsFirstByte, is_byte};
 ghost use Rattle.warc_head.specs.Answers.{Answers};
 ghost use Rattle.warc_head.specs.declared.fault.HeadFault.TheVariants.{FieldLine};
 ghost use Rattle.warc_head.specs.Fields.{field_in, fields_of};
@@ -11,7 +12,7 @@ use crate::fields::Fields;
 use crate::lines::{continues, next_line, trim, trim_end, trim_front};
 use crate::names::is_name;
 use crate::places::Place;
-use memchr::memchr;
+use memchr::memchr_iter;
 use std::alloc::Global;
 
 /// The initial capacity of a list of fields, enough for most heads.
@@ -48,7 +49,7 @@ fn field_in(line: &[u8]) -> Option<Place>
         (field_in line.now ≡ Err FieldLine)
         (λ p. IsWithin (length line.now) p × (field_in line.now ≡ Ok (field_at line.now p))) }
 {
-    let name_end = memchr(b':', line)?;
+    let name_end = colon(line)?;
     if !is_name(&line[..name_end]) {
         return None;
     }
@@ -60,4 +61,11 @@ fn field_in(line: &[u8]) -> Option<Place>
         value_start,
         value_end: value_start + trim_end(value).len(),
     })
+}
+
+/// Returns the offset of the first colon. For one that is near, the iterator is faster than `memchr`.
+fn colon(line: &[u8]) -> Option<usize>
+    ensures { IsFirstByte (is_byte 58) line.now result }
+{
+    memchr_iter(b':', line).next()
 }
