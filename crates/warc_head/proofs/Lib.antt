@@ -9,3 +9,4 @@ pub mod SpellingLemmas
 pub mod FoldingLemmas
 pub mod TrimLemmas
 pub mod FirstPlace
+pub mod MandatoryLemmas

@@ -146,8 +146,3 @@ module _ (text name : List ℕ) (rest later : List Place) (first : Place) (cut :
   unfolding value_of
   value_later h = ap (λ places. value_of name (fields_at text places)) cut ∙ rw h refl
 
-  pub values_later : same_name (field_at text first).name name ≡ false → length (values_of name (fields_at text rest)) ≡ length (values_of name (fields_at text later))
-  values_later h = ap (λ places. length (values_of name (fields_at text places))) cut ∙ rw h refl
-
-  pub values_first : same_name (field_at text first).name name ≡ true → length (values_of name (fields_at text rest)) ≡ 1 + length (values_of name (fields_at text later))
-  values_first h = ap (λ places. length (values_of name (fields_at text places))) cut ∙ rw h (omega arith)

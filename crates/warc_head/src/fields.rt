@@ -1,5 +1,7 @@
 //! The named fields of a head.
-use crate::places::{Place, count, value_of};
+use crate::fault::HeadFault;
+use crate::mandatory::{Mandatory, mandatory_values};
+use crate::places::{Place, value_of};
 use std::marker::Model;
 
 /// The fields of a head, in the order of their lines, at places in one text.
@@ -22,8 +24,9 @@ impl Model for Fields {
 }
 
 impl Fields {
-    ghost use Rattle.std.specs.Prelude.{◌≡◌, length, All, MatchOption, None, Some};
-    ghost use Rattle.warc_head.specs.Fields.{value_of, values_of};
+    ghost use Rattle.std.specs.Prelude.{◌≡◌, length, All, MatchOption, None, Some, Ok, Err, IfOk, IfErr, codes};
+    ghost use Rattle.warc_head.specs.Fields.{value_of};
+    ghost use Rattle.warc_head.specs.Mandatory.{each_once, required};
     ghost use Rattle.warc_head.specs.Places.{IsWithin, fields_at};
 
     /// Creates the list of the fields at these places in a text.
@@ -41,10 +44,15 @@ impl Fields {
         value_of(&self.text, &self.places, name)
     }
 
-    /// Returns the number of fields of this name.
-    pub fn count(&self, name: &[u8]) -> usize
-        ensures { result ≡ length (values_of name.now self.now) }
+    /// Returns the values of the mandatory fields. Each must occur exactly once. The errors are `Missing` and, if none
+    /// is missing, `Repeated`.
+    pub fn mandatory(&self) -> Result<Mandatory<'_>, HeadFault>
+        ensures once { IfOk result (λ _. each_once self.now ≡ Ok tt) }
+        ensures length { IfOk result (λ m. required (codes "Content-Length") self.now ≡ Ok m.length.now) }
+        ensures date { IfOk result (λ m. required (codes "WARC-Date") self.now ≡ Ok m.date.now) }
+        ensures kind { IfOk result (λ m. required (codes "WARC-Type") self.now ≡ Ok m.kind.now) }
+        ensures err { IfErr result (λ e. each_once self.now ≡ Err e) }
     {
-        count(&self.text, &self.places, name)
+        mandatory_values(&self.text, &self.places)
     }
 }

@@ -15,6 +15,8 @@ mod length;
 mod lines;
 mod mandatory;
 mod names;
+mod occurrence;
+mod occurrences;
 mod parts;
 mod places;
 

@@ -1,59 +1,41 @@
 //! The mandatory fields of a record.
-ghost use Rattle.std.specs.Prelude.{◌≡◌, length, map, nat_lt};
-ghost use Rattle.std.specs.List.{list_all};
-ghost use Rattle.warc_head.specs.Answers.{Answers};
-ghost use Rattle.warc_head.specs.Fields.{values_of};
-ghost use Rattle.warc_head.specs.Mandatory.{mandatory, each_once, required};
+ghost use Rattle.std.specs.Prelude.{◌≡◌, Ok, Err, IfOk, IfErr, All, codes, length};
+ghost use Rattle.warc_head.specs.Mandatory.{each_once, required};
+ghost use Rattle.warc_head.specs.Places.{IsWithin, fields_at};
 
 use crate::fault::HeadFault;
-use crate::fields::Fields;
+use crate::occurrences::occurrences_in;
+use crate::places::Place;
 
-/// Checks that each mandatory field occurs exactly once.
+/// The values of the mandatory fields, but for the record's identifier.
+#[derive(Clone, Copy)]
+pub struct Mandatory<'a> {
+    pub length: &'a [u8],
+    pub date: &'a [u8],
+    pub kind: &'a [u8],
+}
+
+/// Returns the values of the mandatory fields. Each must occur exactly once. The errors are `Missing` and, if none is
+/// missing, `Repeated`.
 #[tactic(auto, unfolding(crate::specs::Mandatory::each_once))]
-pub fn each_once(fields: &Fields) -> Result<(), HeadFault>
-    ensures { Answers (λ u. tt) result (each_once fields.now) }
+pub fn mandatory_values<'a>(text: &'a [u8], places: &[Place]) -> Result<Mandatory<'a>, HeadFault>
+    requires { All (IsWithin (length text.now)) places.now }
+    ensures once { IfOk result (λ _. each_once (fields_at text.now places.now) ≡ Ok tt) }
+    ensures length { IfOk result (λ m. required (codes "Content-Length") (fields_at text.now places.now) ≡ Ok m.length.now) }
+    ensures date { IfOk result (λ m. required (codes "WARC-Date") (fields_at text.now places.now) ≡ Ok m.date.now) }
+    ensures kind { IfOk result (λ m. required (codes "WARC-Type") (fields_at text.now places.now) ≡ Ok m.kind.now) }
+    ensures err { IfErr result (λ e. each_once (fields_at text.now places.now) ≡ Err e) }
 {
-    let counts = counts(fields);
-    if !none_missing(&counts) {
+    let found = occurrences_in(text, places);
+    if !found.none_missing() {
         return Err(HeadFault::Missing);
     }
-    if !none_repeated(&counts) {
+    if !found.none_repeated() {
         return Err(HeadFault::Repeated);
     }
-    Ok(())
-}
-
-/// Returns the number of fields of each mandatory name.
-fn counts(fields: &Fields) -> [usize; 4]
-    ensures { result ≡ map (λ name. length (values_of name fields.now)) mandatory }
-{
-    [
-        fields.count(b"WARC-Record-ID"),
-        fields.count(b"Content-Length"),
-        fields.count(b"WARC-Date"),
-        fields.count(b"WARC-Type"),
-    ]
-}
-
-fn none_missing(counts: &[usize; 4]) -> bool
-    ensures { result ≡ list_all (nat_lt 0) counts.now }
-{
-    counts.iter().all(|count| *count > 0)
-}
-
-fn none_repeated(counts: &[usize; 4]) -> bool
-    ensures { result ≡ list_all (λ count. nat_lt count 2) counts.now }
-{
-    counts.iter().all(|count| *count < 2)
-}
-
-/// Returns the value of a field that must be present.
-#[tactic(auto, unfolding(crate::specs::Mandatory::required))]
-pub fn required<'a>(fields: &'a Fields, name: &[u8]) -> Result<&'a [u8], HeadFault>
-    ensures { Answers (λ v. v.now) result (required name.now fields.now) }
-{
-    match fields.value_of(name) {
-        Some(value) => Ok(value),
-        None => Err(HeadFault::Missing),
-    }
+    Ok(Mandatory {
+        length: found.length.value(text),
+        date: found.date.value(text),
+        kind: found.kind.value(text),
+    })
 }

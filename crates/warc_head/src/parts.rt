@@ -2,7 +2,7 @@
 ghost use Rattle.std.specs.Prelude.{◌≡◌, ◌≤◌, ◌^◌, ◌-◌, true, IfOk};
 ghost use Rattle.warc_head.specs.Answers.{Answers};
 ghost use Rattle.warc_head.specs.Length.{all_digits};
-ghost use Rattle.warc_head.specs.Parts.{parts_of, body_of, parts_in, length_in, stamp_in, kind_in};
+ghost use Rattle.warc_head.specs.Parts.{parts_of, body_of, parts_in};
 
 use crate::date::stamp_of;
 use crate::fault::HeadFault;
@@ -10,7 +10,6 @@ use crate::field_lines::fields_of;
 use crate::fields::Fields;
 use crate::kind::{Kind, kind_of};
 use crate::length::length_of;
-use crate::mandatory::{each_once, required};
 use std::alloc::Global;
 use std::marker::Model;
 
@@ -103,37 +102,14 @@ fn parts_in(fields: Fields) -> Result<Parts, HeadFault>
     ensures bound { IfOk result (λ p. p.length ≤ 2 ^ 63 - 1) }
     ensures digits { IfOk result (λ p. all_digits p.stamp ≡ true) }
 {
-    each_once(&fields)?;
-    let length = length_in(&fields)?;
-    let stamp = stamp_in(&fields)?;
-    let kind = kind_in(&fields)?;
+    let found = fields.mandatory()?;
+    let length = length_of(found.length)?;
+    let stamp = stamp_of(found.date)?;
+    let kind = kind_of(found.kind);
     Ok(Parts {
         kind,
         stamp,
         length,
         fields,
     })
-}
-
-#[tactic(auto, unfolding(crate::specs::Parts::length_in))]
-fn length_in(fields: &Fields) -> Result<u64, HeadFault>
-    ensures answer { Answers (λ n. n) result (length_in fields.now) }
-    ensures bound { IfOk result (λ n. n ≤ 2 ^ 63 - 1) }
-{
-    length_of(required(fields, b"Content-Length")?)
-}
-
-#[tactic(auto, unfolding(crate::specs::Parts::stamp_in))]
-fn stamp_in(fields: &Fields) -> Result<[u8; 14], HeadFault>
-    ensures answer { Answers (λ s. s) result (stamp_in fields.now) }
-    ensures digits { IfOk result (λ s. all_digits s ≡ true) }
-{
-    stamp_of(required(fields, b"WARC-Date")?)
-}
-
-#[tactic(auto, unfolding(crate::specs::Parts::kind_in))]
-fn kind_in(fields: &Fields) -> Result<Kind, HeadFault>
-    ensures { Answers (λ k. k) result (kind_in fields.now) }
-{
-    Ok(kind_of(required(fields, b"WARC-Type")?))
 }

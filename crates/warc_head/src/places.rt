@@ -1,6 +1,6 @@
 //! Fields at places in one text.
 ghost use Rattle.std.specs.Prelude.{◌≡◌, length, All, MatchOption, None, Some};
-ghost use Rattle.warc_head.specs.Fields.{value_of, values_of};
+ghost use Rattle.warc_head.specs.Fields.{value_of};
 ghost use Rattle.warc_head.specs.Places.{IsWithin, fields_at};
 
 use crate::names::same_name;
@@ -63,20 +63,4 @@ pub fn value_of<'a>(text: &'a [u8], places: &[Place], name: &[u8]) -> Option<&'a
         rest = later;
     }
     None
-}
-
-/// Returns the number of fields of this name.
-pub fn count(text: &[u8], places: &[Place], name: &[u8]) -> usize
-    requires { All (IsWithin (length text.now)) places.now }
-    ensures { result ≡ length (values_of name.now (fields_at text.now places.now)) }
-{
-    let mut count = 0;
-    let mut rest = places;
-    while let Some((first, later)) = rest.split_first() {
-        if same_name(first.name(text), name) {
-            count += 1;
-        }
-        rest = later;
-    }
-    count
 }

@@ -1,0 +1,62 @@
+//! How often a field occurs in a head.
+use crate::names::same_name;
+use crate::places::Place;
+
+/// How often a field of a name occurs in a head, with its place where it occurs once.
+#[derive(Clone, Copy)]
+pub enum Occurrence {
+    Never,
+    Once(Place),
+    Repeated,
+}
+
+impl Occurrence {
+    ghost use Rattle.std.specs.Prelude.{◌≡◌, ◌<◌, ◌++◌, ℕ, List, [], ◌∷◌, length, nat_lt, not};
+    ghost use Rattle.warc_head.specs.Mandatory.{Occurs, values_in};
+    ghost use Rattle.warc_head.specs.Places.{IsWithin, field_at};
+
+    /// Returns the occurrence of the wanted name after the field at this place.
+    pub fn with_field(self, text: &[u8], wanted: &[u8], place: Place) -> Occurrence
+        requires { IsWithin (length text.now) place }
+        ensures { (values : List (List ℕ)) → Occurs text.now values self → Occurs text.now (values ++ values_in wanted.now (field_at text.now place)) result }
+    {
+        if same_name(place.name(text), wanted) {
+            self.with_place(place)
+        } else {
+            self
+        }
+    }
+
+    fn with_place(self, place: Place) -> Occurrence
+        ensures { (text : List ℕ) (values : List (List ℕ)) → IsWithin (length text) place → Occurs text values self
+            → Occurs text (values ++ (field_at text place).value ∷ []) result }
+    {
+        match self {
+            Occurrence::Never => Occurrence::Once(place),
+            _ => Occurrence::Repeated,
+        }
+    }
+
+    pub fn is_some(self) -> bool
+        ensures { (text : List ℕ) (values : List (List ℕ)) → Occurs text values self → result ≡ nat_lt 0 (length values) }
+    {
+        !matches!(self, Occurrence::Never)
+    }
+
+    pub fn is_repeated(self) -> bool
+        ensures { (text : List ℕ) (values : List (List ℕ)) → Occurs text values self → not result ≡ nat_lt (length values) 2 }
+    {
+        matches!(self, Occurrence::Repeated)
+    }
+
+    /// Returns the value of a field that occurs once.
+    pub fn value(self, text: &[u8]) -> &[u8]
+        requires { (values : List (List ℕ)) × Occurs text.now values self }
+        ensures { (values : List (List ℕ)) → Occurs text.now values self → 0 < length values → length values < 2 → values ≡ result.now ∷ [] }
+    {
+        match self {
+            Occurrence::Once(place) => place.value(text),
+            _ => b"",
+        }
+    }
+}

@@ -1,0 +1,79 @@
+//! How often the mandatory fields occur in a head.
+ghost use Rattle.std.specs.Prelude.{length, All};
+ghost use Rattle.warc_head.specs.Mandatory.{AllOccur};
+ghost use Rattle.warc_head.specs.Places.{IsWithin, fields_at};
+
+use crate::occurrence::Occurrence;
+use crate::places::Place;
+
+/// How often each mandatory field occurs.
+#[derive(Clone, Copy)]
+pub struct Occurrences {
+    pub record_id: Occurrence,
+    pub length: Occurrence,
+    pub date: Occurrence,
+    pub kind: Occurrence,
+}
+
+impl Occurrences {
+    ghost use Rattle.std.specs.Prelude.{◌≡◌, ℕ, List, [], ◌∷◌, ◌++◌, length};
+    ghost use Rattle.warc_head.specs.Fields.{Field};
+    ghost use Rattle.warc_head.specs.Mandatory.{AllOccur, mandatory, none_missing, none_repeated};
+    ghost use Rattle.warc_head.specs.Places.{IsWithin, field_at};
+
+    fn none() -> Occurrences
+        ensures { (text : List ℕ) → AllOccur text [] result }
+    {
+        Occurrences {
+            record_id: Occurrence::Never,
+            length: Occurrence::Never,
+            date: Occurrence::Never,
+            kind: Occurrence::Never,
+        }
+    }
+
+    /// Returns the occurrences after the field at this place.
+    fn with_field(self, text: &[u8], place: Place) -> Occurrences
+        requires { IsWithin (length text.now) place }
+        ensures { (fields : List Field) → AllOccur text.now fields self → AllOccur text.now (fields ++ field_at text.now place ∷ []) result }
+    {
+        Occurrences {
+            record_id: self.record_id.with_field(text, b"WARC-Record-ID", place),
+            length: self.length.with_field(text, b"Content-Length", place),
+            date: self.date.with_field(text, b"WARC-Date", place),
+            kind: self.kind.with_field(text, b"WARC-Type", place),
+        }
+    }
+
+    /// Returns `true` if each mandatory field occurs.
+    pub fn none_missing(self) -> bool
+        ensures { (text : List ℕ) (fields : List Field) → AllOccur text fields self → result ≡ none_missing mandatory fields }
+    {
+        self.record_id.is_some()
+            & self.length.is_some()
+            & self.date.is_some()
+            & self.kind.is_some()
+    }
+
+    /// Returns `true` if no mandatory field occurs twice.
+    pub fn none_repeated(self) -> bool
+        ensures { (text : List ℕ) (fields : List Field) → AllOccur text fields self → result ≡ none_repeated mandatory fields }
+    {
+        !self.record_id.is_repeated()
+            & !self.length.is_repeated()
+            & !self.date.is_repeated()
+            & !self.kind.is_repeated()
+    }
+}
+
+/// Returns how often each mandatory field occurs among the fields at these places.
+pub fn occurrences_in(text: &[u8], places: &[Place]) -> Occurrences
+    requires { All (IsWithin (length text.now)) places.now }
+    ensures { AllOccur text.now (fields_at text.now places.now) result }
+{
+    let mut found = Occurrences::none();
+    for place in places {
+        found = found.with_field(text, *place);
+    }
+    found
+}
