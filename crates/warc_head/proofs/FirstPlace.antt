@@ -1,6 +1,6 @@
 -- The first of the places that an iterator gives.
 use Rattle.std.proofs.Common.{◌≡◌, ◌∙◌, ◌⊎◌, inl, inr, ℕ, zero, suc, ◌+◌, ◌-◌, ◌<◌, ◌≤◌, Bool, true, false, List, [], ◌∷◌, length, Option, None, Some, slice_index, refl, sym, ap, subst, arith, if◌then◌else◌}
-use Rattle.memchr.specs.Find.{Passes, Nowhere, NoneBefore, IsFirst, IsFirstByte, places_from, places, TakesFirst}
+use Rattle.memchr.specs.Find.{Passes, Nowhere, IsFirst, IsFirstByte, places_from, places, TakesFirst}
 
 at_or_above : (i k : ℕ) → i ≤ k → (k ≡ i) ⊎ (i + 1 ≤ k)
 at_or_above zero zero l = inl refl

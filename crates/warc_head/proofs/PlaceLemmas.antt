@@ -1,12 +1,11 @@
 -- Fields that are stored at places in one text.
-use Rattle.std.proofs.Common.{◌≡◌, ◌∙◌, ℕ, suc, ◌+◌, ◌-◌, ◌≤◌, List, [], ◌∷◌, ◌++◌, length, take, drop, refl, sym, ap, subst, arith, append-nil, append_assoc, length-append, true, false}
+use Rattle.std.proofs.Common.{◌≡◌, ◌∙◌, ℕ, suc, ◌+◌, ◌-◌, ◌≤◌, List, [], ◌∷◌, ◌++◌, length, take, drop, refl, sym, ap, subst, arith, append-nil, append_assoc, length-append, false}
 use Rattle.std.specs.Prelude.{All}
 use Rattle.std.proofs.lemmas.List.{take-append-le, drop-append-le, map-append, length-drop, take_all}
 use Rattle.std.proofs.lemmas.List.Elements.{All-append, All-cons, All-nil}
-use Rattle.std.proofs.Math.Seq.{drop-append_seam}
 use Rattle.warc_head.specs.declared.places.Place.{Place}
 use Rattle.warc_head.specs.Names.{same_name}
-use Rattle.warc_head.specs.Fields.{Field, joined, longer, value_of, values_of}
+use Rattle.warc_head.specs.Fields.{joined, longer, value_of}
 use Rattle.warc_head.specs.Places.{IsWithin, between, field_at, fields_at, moved, Continues, joint}
 
 joined_is : (a b : List ℕ) → joined a b ≡ a ++ joint a b
@@ -145,4 +144,3 @@ module _ (text name : List ℕ) (rest later : List Place) (first : Place) (cut :
   pub value_later : same_name (field_at text first).name name ≡ false → value_of name (fields_at text rest) ≡ value_of name (fields_at text later)
   unfolding value_of
   value_later h = ap (λ places. value_of name (fields_at text places)) cut ∙ rw h refl
-

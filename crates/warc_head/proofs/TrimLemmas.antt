@@ -2,9 +2,8 @@
 use Rattle.std.proofs.Common.{◌≡◌, ◌∙◌, ℕ, ◌+◌, ◌-◌, ◌≤◌, ◌<◌, Bool, true, false, List, [], ◌∷◌, ◌++◌, length, take, drop, reverse, refl, sym, ap, arith, length-append, append_assoc, if◌then◌else◌}
 use Rattle.std.proofs.lemmas.List.{reverse-append, reverse-reverse, length-drop, take-append-drop}
 use Rattle.std.proofs.Math.Seq.{drop-append_seam, take-append_seam}
-use Rattle.warc_head.specs.declared.places.Place.{Place}
 use Rattle.warc_head.specs.Lines.{is_space, trim_front, trim_end, trim}
-use Rattle.warc_head.specs.Places.{IsWithin, between, field_at}
+use Rattle.warc_head.specs.Places.{between}
 
 front_if : (t : Bool) (b : ℕ) (bs : List ℕ) → (before : List ℕ) × (bs ≡ before ++ trim_front bs) → (before : List ℕ) × (b ∷ bs ≡ before ++ (if t then trim_front bs else b ∷ bs))
 front_if true b bs p = (b ∷ p.0, ap (λ t. b ∷ t) p.1)

@@ -1,5 +1,5 @@
 -- Fields that are stored at places in one text.
-use Rattle.std.specs.Prelude.{◌≡◌, ℕ, ◌+◌, ◌-◌, ◌≤◌, List, [], ◌∷◌, ◌++◌, length, take, drop, map, All}
+use Rattle.std.specs.Prelude.{◌≡◌, ℕ, ◌+◌, ◌-◌, ◌≤◌, List, [], ◌∷◌, ◌++◌, take, drop, map}
 use Rattle.warc_head.specs.Bytes.{space}
 use Rattle.warc_head.specs.declared.places.Place.{Place}
 use Rattle.warc_head.specs.Fields.{Field}

@@ -49,10 +49,7 @@ impl Occurrences {
     pub fn none_missing(self) -> bool
         ensures { (text : List ℕ) (fields : List Field) → AllOccur text fields self → result ≡ none_missing mandatory fields }
     {
-        self.record_id.is_some()
-            & self.length.is_some()
-            & self.date.is_some()
-            & self.kind.is_some()
+        self.record_id.is_some() & self.length.is_some() & self.date.is_some() & self.kind.is_some()
     }
 
     /// Returns `true` if no mandatory field occurs twice.

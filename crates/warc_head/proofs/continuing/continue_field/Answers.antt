@@ -1,4 +1,4 @@
-use Rattle.std.proofs.Common.{◌∙◌, ◌∷◌, [], ap, sym, subst, refl, arith, length}
+use Rattle.std.proofs.Common.{◌∙◌, ap, subst, refl, arith, length}
 use Rattle.std.specs.Prelude.{All}
 use Rattle.warc_head.specs.Places.{IsWithin, field_at, fields_at}
 use Rattle.warc_head.proofs.PlaceLemmas.{piece_added, old_fields}

@@ -1,9 +1,9 @@
-use Rattle.std.proofs.Common.{◌≡◌, ◌∙◌, ◌+◌, ◌-◌, ◌<◌, ◌≤◌, List, ℕ, length, drop, take, true, false, Some, Ok, refl, sym, ap, arith}
+use Rattle.std.proofs.Common.{◌≡◌, ◌∙◌, ◌+◌, ◌-◌, ◌<◌, length, drop, take, true, false, Ok, refl, sym, ap, arith}
 use Rattle.std.proofs.lemmas.List.{take_rest}
 use Rattle.warc_head.specs.Fields.{field_in, named}
 use Rattle.warc_head.specs.Lines.{trim_front, trim_end, trim}
 use Rattle.warc_head.specs.Names.{is_name}
-use Rattle.warc_head.specs.Places.{IsWithin, between}
+use Rattle.warc_head.specs.Places.{between}
 use Rattle.warc_head.proofs.LineLemmas.{colon_at, colon_none}
 use Rattle.warc_head.proofs.TrimLemmas.{front, front_size, end_size, value_is}
 use Rattle.warc_head.proofs.field_lines.field_in.Goals as goal
@@ -37,7 +37,7 @@ returns c =
     let ended : c.trim_end.result.now ≡ trim_end (front line at) = c.trim_end.ensures ∙ ap trim_end same in
     let good : is_name (take at line) ≡ true = sym c.is_name.ensures ∙ c.if-not-is_name.false in
     let value : between (length line - length c.trim_front-value.result.now) (length line - length c.trim_front-value.result.now + length c.trim_end.result.now) line ≡ trim (drop (at + 1) line)
-        = (λ i. between (length line - length (same i)) (length line - length (same i) + length (ended i)) line) ∙ value_is line at in
+    = (λ i. between (length line - length (same i)) (length line - length (same i) + length (ended i)) line) ∙ value_is line at in
     let whole : at ≡ at - 0 = omega arith in (
       record {
         name = omega arith;

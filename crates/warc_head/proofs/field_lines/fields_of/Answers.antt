@@ -1,13 +1,12 @@
-use Rattle.std.proofs.Common.{◌≡◌, ◌∙◌, ◌++◌, ◌∷◌, ◌<◌, ◌+◌, ◌-◌, ℕ, List, [], length, Ok, Err, refl, subst, sym, ap, arith, inl, inr, append-nil, append_assoc, length-append}
+use Rattle.std.proofs.Common.{◌≡◌, ◌∙◌, ◌++◌, ◌∷◌, ◌<◌, ◌-◌, ℕ, List, [], length, Ok, Err, refl, subst, sym, ap, arith, inl, inr, append-nil, append_assoc, length-append}
 use Rattle.std.specs.Prelude.{All}
 use Rattle.std.proofs.lemmas.Result.{err_from_is_err_and}
 use Rattle.std.proofs.lemmas.Bool.Decides.{nat_tests}
 use Rattle.std.proofs.lemmas.List.Elements.{All-nil}
 use Rattle.warc_head.specs.declared.fault.HeadFault.TheVariants as faults
-use Rattle.warc_head.specs.declared.places.Place.{Place}
-use Rattle.warc_head.specs.Fields.{Field, fields_of, longer}
+use Rattle.warc_head.specs.Fields.{fields_of, longer}
 use Rattle.warc_head.specs.Lines.{BeginsWithLine, line_end}
-use Rattle.warc_head.specs.Places.{Continues, IsWithin, field_at, fields_at, moved}
+use Rattle.warc_head.specs.Places.{IsWithin, field_at, fields_at, moved}
 use Rattle.warc_head.proofs.FieldLemmas.{going, going-start, going-end, going-fault, going-first, going-unnamed, going-began, going-continued, IsFound-either, nil_of}
 use Rattle.warc_head.proofs.PlaceLemmas.{field_added, place_added, Continues-trans}
 use Rattle.warc_head.proofs.field_lines.fields_of.Goals as goal
@@ -75,12 +74,12 @@ loop-rest-preserved c =
     let found = c.in-Some-field_in.ensures in
     let place = c.in-Some-field_in.place in
     let held : text ≡ (kept.seen.0 ++ (line ++ (line_end ++ later))) ++ kept.text.0
-        = kept.text.1 ∙ ap (λ t. t ++ kept.text.0) (kept.seen.1 ∙ ap (λ t. kept.seen.0 ++ t) c.in-Some.ensures.spelled) in
+    = kept.text.1 ∙ ap (λ t. t ++ kept.text.0) (kept.seen.1 ∙ ap (λ t. kept.seen.0 ++ t) c.in-Some.ensures.spelled) in
     let offset : length body - length rest ≡ length kept.seen.0 = omega (arith, ap length kept.seen.1, length-append kept.seen.0 rest) in
     let moved_is : c.moved.result ≡ moved (length kept.seen.0) place = c.moved.ensures ∙ ap (λ n. moved n place) offset in
     let pushed : c.push.new.self.items ≡ places ++ moved (length kept.seen.0) place ∷ [] = c.in_ok-push.ensures.items ∙ ap (λ p. places ++ p ∷ []) moved_is in
     let added : fields_at text c.push.new.self.items ≡ fields_at text places ++ field_at line place ∷ []
-        = ap (fields_at text) pushed ∙ field_added text kept.seen.0 line (line_end ++ later) kept.text.0 places place held found.0 in
+    = ap (fields_at text) pushed ∙ field_added text kept.seen.0 line (line_end ++ later) kept.text.0 places place held found.0 in
     record {
       fields = kept.fields ∙ (going-began rest line later c.in-Some.ensures (fields_at text places) (field_at line place) (sym c.if-continues.ensures) found.1
           ∙ ap (λ seen. going seen later) (sym added));

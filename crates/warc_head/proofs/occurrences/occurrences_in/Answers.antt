@@ -1,4 +1,4 @@
-use Rattle.std.proofs.Common.{ℕ, List, [], ◌∷◌, ◌++◌, take, sym, subst, ap, ◌∙◌}
+use Rattle.std.proofs.Common.{List, take, sym, subst, ap, ◌∙◌}
 use Rattle.std.proofs.lemmas.List.{take_more, map-append}
 use Rattle.warc_head.specs.declared.places.Place.{Place}
 use Rattle.warc_head.specs.Fields.{Field}

@@ -1,4 +1,4 @@
-use Rattle.std.proofs.Common.{◌≡◌, Err, refl}
+use Rattle.std.proofs.Common.{refl}
 use Rattle.std.proofs.lemmas.Result.{err_from_is_err_and}
 use Rattle.warc_head.specs.Parts.{parts_in, length_in, stamp_in, kind_in}
 use Rattle.warc_head.specs.Length.{length_of}

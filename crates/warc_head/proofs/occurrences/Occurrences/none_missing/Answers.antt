@@ -1,4 +1,4 @@
-use Rattle.std.proofs.Common.{◌≡◌, ◌∙◌, ◌&&◌, codes}
+use Rattle.std.proofs.Common.{◌∙◌, ◌&&◌, codes}
 use Rattle.warc_head.specs.Fields.{values_of}
 use Rattle.warc_head.proofs.MandatoryLemmas.{missing_regrouped}
 use Rattle.warc_head.proofs.occurrences.Occurrences.none_missing.Goals as goal
