@@ -2,7 +2,7 @@
 ghost use Rattle.std.specs.Prelude.{◌≡◌, ◌==◌, ◌<◌, length, position, MatchOption, IfSome, Some, None};
 ghost use Rattle.capture_core.specs.FieldValue.{non_empty, without_brackets, before_semicolon, media_type, without_sha1};
 
-use memchr::memchr;
+use memchr::memchr_iter;
 use warc_head::trim;
 
 /// Returns a value that isn't empty.
@@ -51,10 +51,10 @@ fn before_semicolon(value: &[u8]) -> &[u8]
     }
 }
 
-#[tactic(auto, using(cdxj_places::proofs::Found::IsFirstByte_position))]
+/// Returns the offset of the first semicolon. For one that is near, the iterator is faster than `memchr`.
 fn semicolon(value: &[u8]) -> Option<usize>
     ensures place { result ≡ position (λ byte. byte == 59) value.now }
     ensures within { IfSome result (λ end. end < length value.now) }
 {
-    memchr(b';', value)
+    memchr_iter(b';', value).next()
 }
