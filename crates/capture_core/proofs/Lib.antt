@@ -1,3 +1,4 @@
+pub mod FirstPlace
 pub mod TypeNames
 pub mod Bits
 pub mod HeadLemmas

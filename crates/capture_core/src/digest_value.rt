@@ -4,6 +4,7 @@ ghost use Rattle.std.specs.List.{list_all};
 ghost use Rattle.capture_core.specs.BlockDigest.{digest_verdict, is_base32_letter, is_base32_text, sha1_text};
 
 use crate::digest_text::base32;
+use crate::field_value::is_sha1;
 use crate::verdict::Verdict;
 
 /// Returns the text of the SHA-1 digest in a value: 32 characters of base 32 after `sha1:`, each in either case.
@@ -12,7 +13,7 @@ pub(crate) fn sha1_text(value: &[u8]) -> Option<&[u8]>
     ensures { MatchOption result (sha1_text value.now ≡ None) (λ text. sha1_text value.now ≡ Some text.now) }
 {
     let (label, text) = value.split_at_checked(5)?;
-    if label.eq_ignore_ascii_case(b"sha1:") && is_base32_text(text) {
+    if is_sha1(label) && is_base32_text(text) {
         Some(text)
     } else {
         None

@@ -1,8 +1,9 @@
 //! The parts of a field's value that an entry contains.
-ghost use Rattle.std.specs.Prelude.{◌≡◌, ◌==◌, ◌<◌, length, position, MatchOption, IfSome, Some, None};
+ghost use Rattle.std.specs.Prelude.{◌≡◌, ◌==◌, ◌<◌, codes, length, position, MatchOption, IfSome, Some, None};
+ghost use Rattle.warc_head.specs.Names.{same_name};
 ghost use Rattle.capture_core.specs.FieldValue.{non_empty, without_brackets, before_semicolon, media_type, without_sha1};
 
-use memchr::memchr;
+use memchr::memchr_iter;
 use warc_head::trim;
 
 /// Returns a value that isn't empty.
@@ -29,9 +30,17 @@ pub(crate) fn without_sha1(value: &[u8]) -> &[u8]
     ensures { result.now ≡ without_sha1 value.now }
 {
     match value.split_at_checked(5) {
-        Some((front, digest)) if front.eq_ignore_ascii_case(b"sha1:") => digest,
+        Some((label, digest)) if is_sha1(label) => digest,
         _ => value,
     }
+}
+
+/// Returns `true` if the label of a digest is `sha1:`, ignoring ASCII case. Most records write it in lower case, which is
+/// the faster test.
+pub(crate) fn is_sha1(label: &[u8]) -> bool
+    ensures { result ≡ same_name label.now (codes "sha1:") }
+{
+    label == b"sha1:".as_slice() || label.eq_ignore_ascii_case(b"sha1:")
 }
 
 /// Returns a media type without its parameters and the white space around it.
@@ -51,10 +60,10 @@ fn before_semicolon(value: &[u8]) -> &[u8]
     }
 }
 
-#[tactic(auto, using(cdxj_places::proofs::Found::IsFirstByte_position))]
+/// Returns the offset of the first semicolon. For one that is near, the iterator is faster than `memchr`.
 fn semicolon(value: &[u8]) -> Option<usize>
     ensures place { result ≡ position (λ byte. byte == 59) value.now }
     ensures within { IfSome result (λ end. end < length value.now) }
 {
-    memchr(b';', value)
+    memchr_iter(b';', value).next()
 }

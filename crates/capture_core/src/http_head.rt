@@ -15,7 +15,7 @@ pub(crate) const HTTP_HEAD_LIMIT: usize = 65_536;
 pub(crate) const HTTP_FIELD_LIMIT: usize = 256;
 
 /// The maximum number of fields of an HTTP head that is parsed once.
-const USUAL_FIELDS: usize = 64;
+const USUAL_FIELDS: usize = 32;
 
 /// The parts of an HTTP head that a capture uses.
 #[derive(Clone, Copy)]

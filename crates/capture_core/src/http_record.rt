@@ -1,5 +1,6 @@
 //! The records that hold HTTP messages.
 ghost use Rattle.std.specs.Prelude.{◌≡◌, codes, option_map};
+ghost use Rattle.warc_head.specs.Names.{same_name};
 ghost use Rattle.capture_core.specs.Indexed.{field, is_marked, holds_response, may_have_head};
 
 use crate::field_value::media_type;
@@ -17,9 +18,17 @@ pub(crate) fn is_marked(head: &Head) -> bool
     ensures { result ≡ is_marked head.now }
 {
     match content_type(head) {
-        Some(value) => media_type(value).eq_ignore_ascii_case(b"application/http"),
+        Some(value) => is_http(media_type(value)),
         None => false,
     }
+}
+
+/// Returns `true` if a media type is `application/http`, ignoring ASCII case. Most records write it in lower case, which
+/// is the faster test.
+fn is_http(media: &[u8]) -> bool
+    ensures { result ≡ same_name media.now (codes "application/http") }
+{
+    media == b"application/http".as_slice() || media.eq_ignore_ascii_case(b"application/http")
 }
 
 fn holds_response(kind: Kind) -> bool
