@@ -1,4 +1,3 @@
-pub mod FirstPlace
 pub mod TypeNames
 pub mod Bits
 pub mod HeadLemmas
