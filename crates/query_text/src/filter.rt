@@ -6,7 +6,6 @@ ghost use Rattle.query_text.specs.Filters.{filter_of, literal_of, is_literal, ba
 use crate::fault::QueryFault;
 use crate::fields::field_named;
 use cdxj_core::{Field, LineRef};
-use memchr::memmem;
 use std::alloc::Global;
 use std::marker::Model;
 
@@ -117,9 +116,8 @@ fn is_literal(text: &[u8]) -> bool
 }
 
 /// Returns `true` if the text occurs in the value.
-#[tactic(auto, using(crate::proofs::Occurs::occurs_found))]
 fn occurs(text: &str, value: &str) -> bool
     ensures { result ≡ occurs text.now value.now }
 {
-    memmem::find(value.as_bytes(), text.as_bytes()).is_some()
+    value.contains(text)
 }
