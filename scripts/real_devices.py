@@ -21,7 +21,7 @@ import sys
 import threading
 import time
 
-from cut_files import a_file_of_long_blocks_that_is_cut
+from cut_files import TRIES, a_file_of_long_blocks_that_is_cut, state
 from device_runs import ASKED, LONG, SECONDS, ended, expect, of_input, position, try_ways
 from each_command import ALL
 
@@ -325,7 +325,15 @@ def a_file_that_is_cut(place):
 
 
 def cut_while_read(place, words):
-    """Stops the program once it has begun to read the file, leaves a part of the file, and lets the program go on."""
+    """How a run ended whose file was cut while it was read. A run that had read the file before is tried again."""
+    runs = (run_and_cut(place, words) for _ in range(TRIES))
+    run = next(filter(None, runs), None)
+    expect(run, words, "has always read the file before it could be cut")
+    return run
+
+
+def run_and_cut(place, words):
+    """How a run ended whose file was cut once it had begun to read, or none if it had read the file before."""
     process = place.start(words, stdin=subprocess.PIPE)
     output, error = [], []
     readers = [
@@ -336,14 +344,26 @@ def cut_while_read(place, words):
         reader.start()
     write_all(process.stdin, ASKED if words[0] == "serve" else b"")
     path = place.folder / words[-1]
-    while not (at := position(process.pid, path)):
-        expect(process.poll() is None, words, "has ended before it was stopped")
-    process.send_signal(signal.SIGSTOP)
-    os.truncate(path, min(at, path.stat().st_size // 2) + 50)
-    process.send_signal(signal.SIGCONT)
+    while process.poll() is None and not position(process.pid, path):
+        pass
+    is_cut = cut_to_half(process, path)
     for reader in readers:
         reader.join()
-    return process.wait(SECONDS), output[0], error[0]
+    status = process.wait(SECONDS)
+    return (status, output[0], error[0]) if is_cut else None
+
+
+def cut_to_half(process, path):
+    """Stops the program, cuts the file near its middle or before unless it has been read, and lets the program go on."""
+    process.send_signal(signal.SIGSTOP)
+    while process.poll() is None and state(process) != "T":
+        time.sleep(0.001)
+    at, size = position(process.pid, path), path.stat().st_size
+    is_read = process.returncode is not None or at >= size
+    if not is_read:
+        os.truncate(path, min(at, size // 2) + 50)
+    process.send_signal(signal.SIGCONT)
+    return not is_read
 
 
 WAYS = (
