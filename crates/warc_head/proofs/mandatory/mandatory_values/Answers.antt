@@ -1,5 +1,5 @@
-use Rattle.std.proofs.Common.{◌≡◌, ◌∙◌, true, false, codes, refl, sym}
-use Rattle.warc_head.specs.Fields.{values_of}
+use Rattle.std.proofs.Common.{◌≡◌, ◌∙◌, List, true, false, codes, refl, sym}
+use Rattle.warc_head.specs.Fields.{Field, values_of}
 use Rattle.warc_head.specs.Mandatory.{each_once, none_missing, none_repeated, mandatory}
 use Rattle.warc_head.specs.Places.{fields_at}
 use Rattle.warc_head.proofs.MandatoryLemmas.{required_is, length_once, date_once, kind_once}
@@ -22,42 +22,32 @@ returns-then-not-none_repeated-clause-err c =
     let repeated : none_repeated mandatory fields ≡ false = sym (c.none_repeated.ensures text fields all) ∙ c.if-not-none_repeated.true in
     rw (some, repeated) refl
 
+-- at the end, none is missing and none is repeated
+module _ (c : goal.After-value-3) where
+  abbrev fields : List Field
+  fields = fields_at c.args.text.now c.args.places.now
+
+  some : none_missing mandatory fields ≡ true
+  some = sym (c.none_missing.ensures c.args.text.now fields c.occurrences_in-found.ensures) ∙ c.if-not-none_missing.false
+
+  single : none_repeated mandatory fields ≡ true
+  single = sym (c.none_repeated.ensures c.args.text.now fields c.occurrences_in-found.ensures) ∙ c.if-not-none_repeated.false
+
 pub returns-clause-once : goal.returns-clause-once
 unfolding each_once
-returns-clause-once c =
-    let text = c.args.text.now in
-    let fields = fields_at text c.args.places.now in
-    let all = c.occurrences_in-found.ensures in
-    let some : none_missing mandatory fields ≡ true = sym (c.none_missing.ensures text fields all) ∙ c.if-not-none_missing.false in
-    let single : none_repeated mandatory fields ≡ true = sym (c.none_repeated.ensures text fields all) ∙ c.if-not-none_repeated.false in
-    rw (some, single) refl
+returns-clause-once c = rw (some c, single c) refl
 
 pub returns-clause-length : goal.returns-clause-length
 returns-clause-length c =
-    let text = c.args.text.now in
-    let fields = fields_at text c.args.places.now in
-    let all = c.occurrences_in-found.ensures in
-    let some : none_missing mandatory fields ≡ true = sym (c.none_missing.ensures text fields all) ∙ c.if-not-none_missing.false in
-    let single : none_repeated mandatory fields ≡ true = sym (c.none_repeated.ensures text fields all) ∙ c.if-not-none_repeated.false in
-    let once = length_once fields some single in
-    required_is (codes "Content-Length") fields c.value.result.now (c.value.ensures (values_of (codes "Content-Length") fields) all.length once.0 once.1)
+    let once = length_once (fields c) (some c) (single c) in
+    required_is (codes "Content-Length") (fields c) c.value.result.now (c.value.ensures (values_of (codes "Content-Length") (fields c)) c.occurrences_in-found.ensures.length once.0 once.1)
 
 pub returns-clause-date : goal.returns-clause-date
 returns-clause-date c =
-    let text = c.args.text.now in
-    let fields = fields_at text c.args.places.now in
-    let all = c.occurrences_in-found.ensures in
-    let some : none_missing mandatory fields ≡ true = sym (c.none_missing.ensures text fields all) ∙ c.if-not-none_missing.false in
-    let single : none_repeated mandatory fields ≡ true = sym (c.none_repeated.ensures text fields all) ∙ c.if-not-none_repeated.false in
-    let once = date_once fields some single in
-    required_is (codes "WARC-Date") fields c.value-2.result.now (c.value-2.ensures (values_of (codes "WARC-Date") fields) all.date once.0 once.1)
+    let once = date_once (fields c) (some c) (single c) in
+    required_is (codes "WARC-Date") (fields c) c.value-2.result.now (c.value-2.ensures (values_of (codes "WARC-Date") (fields c)) c.occurrences_in-found.ensures.date once.0 once.1)
 
 pub returns-clause-kind : goal.returns-clause-kind
 returns-clause-kind c =
-    let text = c.args.text.now in
-    let fields = fields_at text c.args.places.now in
-    let all = c.occurrences_in-found.ensures in
-    let some : none_missing mandatory fields ≡ true = sym (c.none_missing.ensures text fields all) ∙ c.if-not-none_missing.false in
-    let single : none_repeated mandatory fields ≡ true = sym (c.none_repeated.ensures text fields all) ∙ c.if-not-none_repeated.false in
-    let once = kind_once fields some single in
-    required_is (codes "WARC-Type") fields c.value-3.result.now (c.value-3.ensures (values_of (codes "WARC-Type") fields) all.kind once.0 once.1)
+    let once = kind_once (fields c) (some c) (single c) in
+    required_is (codes "WARC-Type") (fields c) c.value-3.result.now (c.value-3.ensures (values_of (codes "WARC-Type") (fields c)) c.occurrences_in-found.ensures.kind once.0 once.1)
