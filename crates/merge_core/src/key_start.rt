@@ -4,15 +4,15 @@ ghost use Rattle.merge_core.specs.KeyStarts.{IsText, key_words, spelled, words};
 
 use cdxj_places::abbreviated;
 
-/// The first 32 bytes of a key as four numbers, which compare as the bytes do. A shorter key is followed by zeros.
-pub(crate) type KeyStart = [u64; 4];
+/// The first 32 bytes of a key as two numbers, which compare as the bytes do. A shorter key is followed by zeros.
+pub(crate) type KeyStart = (u128, u128);
 
-/// Returns the eight bytes from `at` on as a big-endian number.
-fn word(bytes: &[u8; 32], at: usize) -> u64
-    requires { at + 8 ≤ 32 }
-    ensures { result ≡ spelled 0 (take 8 (drop at bytes.now)) }
+/// Returns the sixteen bytes from `at` on as a big-endian number.
+fn word(bytes: &[u8; 32], at: usize) -> u128
+    requires { at + 16 ≤ 32 }
+    ensures { result ≡ spelled 0 (take 16 (drop at bytes.now)) }
 {
-    u64::from_be_bytes([
+    u128::from_be_bytes([
         bytes[at],
         bytes[at + 1],
         bytes[at + 2],
@@ -21,18 +21,21 @@ fn word(bytes: &[u8; 32], at: usize) -> u64
         bytes[at + 5],
         bytes[at + 6],
         bytes[at + 7],
+        bytes[at + 8],
+        bytes[at + 9],
+        bytes[at + 10],
+        bytes[at + 11],
+        bytes[at + 12],
+        bytes[at + 13],
+        bytes[at + 14],
+        bytes[at + 15],
     ])
 }
 
 fn words_of(bytes: &[u8; 32]) -> KeyStart
-    ensures { result ≡ words 4 bytes.now }
+    ensures { result ≡ words bytes.now }
 {
-    [
-        word(bytes, 0),
-        word(bytes, 8),
-        word(bytes, 16),
-        word(bytes, 24),
-    ]
+    (word(bytes, 0), word(bytes, 16))
 }
 
 /// Returns the start of a key.

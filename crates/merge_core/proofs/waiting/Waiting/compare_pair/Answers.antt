@@ -12,5 +12,5 @@ returns-in_default c =
     let other = waiting_pair c.args.other.now in
     let mine = subst (λ w. (c.self.inside.key_start ≡ key_words (waiting_pair w).0) × IsText (waiting_pair w).0) c.self.view_is c.self.invariant in
     let its = subst (λ w. (c.other.inside.key_start ≡ key_words (waiting_pair w).0) × IsText (waiting_pair w).0) c.other.view_is c.other.invariant in
-    let by = starts_decide 4 pair other c.self.inside.key_start c.other.inside.key_start mine.0 its.0 mine.1 its.1 in
+    let by = starts_decide pair other c.self.inside.key_start c.other.inside.key_start mine.0 its.0 mine.1 its.1 in
     decided c.cmp.result (pair_cmp pair other) c.in_default.not-Equal (subst (λ o. ordering_then o (pair_cmp pair other) ≡ pair_cmp pair other) (sym c.cmp.ensures) by)
