@@ -7,6 +7,7 @@ mod fault;
 mod feed;
 mod indexes;
 mod key_start;
+mod keyed_line;
 mod line_writer;
 mod merging;
 mod opening;

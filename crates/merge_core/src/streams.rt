@@ -15,6 +15,7 @@ ghost use Rattle.merge_core.specs.Gathering.{AllTwo};
 
 use crate::fault::{FeedFault, MergeFault};
 use crate::feed::{Feed, Progress};
+use crate::keyed_line::KeyedLine;
 use crate::queue::Queue;
 use crate::range::Range;
 use crate::store::Store;
@@ -65,7 +66,7 @@ impl Streams {
     }
 
     /// Removes and returns the first line that waits, if it has the pair of this one.
-    fn take_at(&mut self, line: &Line) -> Option<Waiting>
+    fn take_at(&mut self, line: &KeyedLine<'_>) -> Option<Waiting>
         requires placed { AllByRecursion (λ w. w.source < length self.old.feeds.items) self.old.waiting }
         requires from { AllByRecursion (λ w. Upto (member_pair line.now) (waiting_pair w)) self.old.waiting }
         ensures out { MatchOption result ((self.new.waiting ≡ self.old.waiting) × AllByRecursion (λ w. Below (member_pair line.now) (waiting_pair w)) self.new.waiting)
@@ -179,9 +180,10 @@ impl Streams {
         };
         let first = next.line;
         let mut i = next.source;
+        let keyed = KeyedLine::new(&first);
         'sources: loop {
             self.drain(sources, i, &first, range, rest)?;
-            let Some(next) = self.take_at(&first) else {
+            let Some(next) = self.take_at(&keyed) else {
                 return Ok(Some(first));
             };
             i = next.source;

@@ -1,15 +1,14 @@
 //! A line that waits to be merged.
 ghost use Rattle.std.specs.Prelude.{◌≡◌};
-ghost use Rattle.cdxj_places.specs.Pairs.{pair_cmp};
 ghost use Rattle.std.specs.Cmp.{partial_order_from_agreeing_total, partial_equiv_from_equiv};
 ghost use Rattle.std.specs.Ordering.{eq_by_cmp, as_partial_cmp};
 ghost use Rattle.std.proofs.Common.{refl};
 ghost use Rattle.std.proofs.lemmas.Cmp.{eq_by_cmp_equiv};
-ghost use Rattle.merge_core.specs.WaitingLines.{WaitingLine, waiting_pair, waiting_cmp};
+ghost use Rattle.merge_core.specs.WaitingLines.{WaitingLine, waiting_cmp};
 ghost use Rattle.merge_core.specs.TurnOrder.{waiting_cmp_total};
 
 use crate::key_start::{KeyStart, key_start};
-use crate::pair::compare_pairs;
+use crate::keyed_line::KeyedLine;
 use cdxj_core::Line;
 use std::cmp::Ordering;
 use std::marker::Model;
@@ -48,12 +47,13 @@ impl Waiting {
         }
     }
 
-    fn compare_pair(&self, other: &Waiting) -> Ordering
-        ensures { result ≡ pair_cmp (waiting_pair self.now) (waiting_pair other.now) }
+    /// Returns the line with the start of its key.
+    pub fn keyed(&self) -> KeyedLine<'_>
+        ensures { result ≡ self.now.member }
     {
-        match self.key_start.cmp(&other.key_start) {
-            Ordering::Equal => compare_pairs(&self.line, &other.line),
-            decided => decided,
+        KeyedLine {
+            key_start: self.key_start,
+            line: &self.line,
         }
     }
 }
@@ -93,7 +93,8 @@ impl Ord for Waiting {
 
     fn cmp(&self, other: &Waiting) -> Ordering {
         other
-            .compare_pair(self)
+            .keyed()
+            .compare_pair(&self.keyed())
             .then_with(|| other.source.cmp(&self.source))
     }
 }

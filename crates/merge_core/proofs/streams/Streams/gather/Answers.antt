@@ -8,12 +8,12 @@ use Rattle.cdxj_places.proofs.PairLemmas.{pair_cmp_total}
 use Rattle.cdxj_places.proofs.RisingLaws.{each_weaker}
 use Rattle.cdxj_core.specs.declared.limit.TheConstants.{LINE_LIMIT}
 use Rattle.cdxj_core.specs.declared.line.Line.{Line}
-use Rattle.cdxj_core.specs.Members.{member_pair}
+use Rattle.cdxj_core.specs.Members.{Member, member_pair}
 use Rattle.merge_core.specs.declared.feed.Feed.{Feed}
-use Rattle.merge_core.specs.PairOrders.{Alike, Below, Upto}
+use Rattle.merge_core.specs.PairOrders.{Alike, Upto}
 use Rattle.merge_core.specs.WaitingLines.{WaitingLine, waiting_pair, turn_cmp}
 use Rattle.merge_core.specs.Feeds.{IsSettled, AreSettled, due}
-use Rattle.merge_core.specs.Gathering.{AllTwo, Gathered, IsFrom, IsDue, WaitsAbove, Drained, all_done, unread}
+use Rattle.merge_core.specs.Gathering.{AllTwo, Gathered, Grouped, IsFrom, IsDue, WaitsAbove, Drained, all_done, unread}
 use Rattle.merge_core.specs.LineFaults.{IsFaultOf}
 use Rattle.merge_core.specs.Spending.{AreReadTo}
 use Rattle.merge_core.proofs.PairOrder.{upto_itself}
@@ -38,8 +38,9 @@ pub sources-init : goal.sources-init
 sources-init g c =
     let past = g.R.Range.past c.args.range.now in
     let ss = c.args.sources.now in let fs = c.args.self.now.feeds.items in let ws = c.args.self.now.waiting in
-    let w : WaitingLine = record { member = c.next.inside.line.value; source = c.next.inside.source } in
-    let is = sym c.next.view_is in
+    let from : Member → WaitingLine = λ m. record { member = m; source = c.next.inside.source } in
+    let w = from c.new-keyed.result in
+    let is = sym c.next.view_is ∙ ap from (sym (c.new-keyed.ensures ∙ c.deref.ensures)) in
     let pair = waiting_pair w in
     let out = subst (λ (v : WaitingLine). IsPermutation ws (v ∷ c.take_first.new.self.waiting)) is c.in-Some.ensures.out in
     let t = taken_next LINE_LIMIT past g.S.Source.text g.S.Source.extent g.S.Source.gave ss fs pair 0 ss fs ws [] (gathers_start LINE_LIMIT past g.S.Source.text g.S.Source.extent g.S.Source.gave ss fs pair ws c.requires.ready)
@@ -68,7 +69,7 @@ sources-init g c =
 
 pub drain-requires-clause-due : goal.drain-requires-clause-due
 drain-requires-clause-due g c = λ a d.
-    subst (λ p. IsDue LINE_LIMIT p (g.S.Source.text (get_or c.sources.sources c.sources.i a)) (get_or c.sources.self.feeds.items c.sources.i d)) (sym (ap member_pair c.deref.ensures)) (c.sources.invariant.due a d)
+    subst (λ p. IsDue LINE_LIMIT p (g.S.Source.text (get_or c.sources.sources c.sources.i a)) (get_or c.sources.self.feeds.items c.sources.i d)) (sym (ap member_pair (c.deref-in-sources.ensures ∙ sym (c.new-keyed.ensures ∙ c.deref.ensures)))) (c.sources.invariant.due a d)
 
 pub returns-in_err-drain-clause-moved : goal.returns-in_err-drain-clause-moved
 returns-in_err-drain-clause-moved g c =
@@ -87,11 +88,10 @@ pub take_at-requires-clause-from : goal.take_at-requires-clause-from
 take_at-requires-clause-from g c =
     let inv = c.sources.invariant in
     let ok = c.in_ok-drain.ensures in
-    let pair = member_pair c.next.inside.line.value in
-    let waits = subst (λ p. WaitsAbove p c.sources.i c.sources.self.waiting c.drain.new.self.waiting) (ap member_pair c.deref.ensures) ok.waits in
-    subst (λ p. AllByRecursion (λ w. Upto p (waiting_pair w)) c.drain.new.self.waiting) (sym (ap member_pair c.deref-in-sources.ensures))
-    (each_weaker (λ (w : WaitingLine) (h : IsFrom pair (c.sources.i + 1) w). h.0) c.drain.new.self.waiting
-    (from_waited pair (c.sources.i + 1) c.sources.i c.sources.self.waiting c.drain.new.self.waiting waits inv.from))
+    let pair = member_pair c.new-keyed.result in
+    let waits = subst (λ p. WaitsAbove p c.sources.i c.sources.self.waiting c.drain.new.self.waiting) (ap member_pair (c.deref-in-sources.ensures ∙ sym (c.new-keyed.ensures ∙ c.deref.ensures))) ok.waits in
+    each_weaker (λ (w : WaitingLine) (h : IsFrom pair (c.sources.i + 1) w). h.0) c.drain.new.self.waiting
+    (from_waited pair (c.sources.i + 1) c.sources.i c.sources.self.waiting c.drain.new.self.waiting waits inv.from)
 
 pub returns-in_default-take_at-clause-moved : goal.returns-in_default-take_at-clause-moved
 returns-in_default-take_at-clause-moved g c =
@@ -99,14 +99,14 @@ returns-in_default-take_at-clause-moved g c =
     let text = g.S.Source.text in let extent = g.S.Source.extent in let gave = g.S.Source.gave in
     let inv = c.sources.invariant in
     let ok = c.in_ok-drain.ensures in
-    let first = c.next.inside.line.value in
+    let first = c.new-keyed.result in
     let pair = member_pair first in
     let values = map (λ (b : Box Line Global). b.value) in
     let ss = c.sources.sources in let fs = c.sources.self.feeds.items in let i = c.sources.i in
     let drained : Gathers LINE_LIMIT past text extent gave c.args.sources.now c.args.self.now.feeds.items pair (i + 1) c.drain.new.sources c.drain.new.self.feeds.items c.drain.new.self.waiting (first ∷ values c.drain.new.rest.items) =
     gathers_drained LINE_LIMIT past text extent gave c.args.sources.now c.args.self.now.feeds.items pair i ss fs c.sources.self.waiting first (values c.sources.rest.items) (values c.drain.new.rest.items) inv.gathers
     ok.drained.0 ok.drained.1 c.drain.new.sources c.drain.new.self.feeds.items c.drain.new.self.waiting ok.drained.0 ok.drained.1 inv.inside ok.ready ok.moved ok.drained.2 ok.drained.3 (ok.drained.4 ok.drained.0)
-    (subst (λ p. Drained LINE_LIMIT p (text (get_or ss i ok.drained.0)) (get_or fs i ok.drained.1) ok.drained.1 (values c.sources.rest.items) (values c.drain.new.rest.items)) (ap member_pair c.deref.ensures) (ok.drained.5 ok.drained.0 ok.drained.1)) in
+    (subst (λ p. Drained LINE_LIMIT p (text (get_or ss i ok.drained.0)) (get_or fs i ok.drained.1) ok.drained.1 (values c.sources.rest.items) (values c.drain.new.rest.items)) (ap member_pair (c.deref-in-sources.ensures ∙ sym (c.new-keyed.ensures ∙ c.deref.ensures))) (ok.drained.5 ok.drained.0 ok.drained.1)) in
     subst (λ (us : List Feed). AllTwo (Move text extent gave) (zip c.args.sources.now c.args.self.now.feeds.items) (zip c.drain.new.sources us)) (sym c.in_default-take_at.ensures.feeds) drained.moved
 
 pub returns-in_default-take_at-clause-group : goal.returns-in_default-take_at-clause-group
@@ -115,33 +115,34 @@ returns-in_default-take_at-clause-group g c =
     let text = g.S.Source.text in let extent = g.S.Source.extent in let gave = g.S.Source.gave in
     let inv = c.sources.invariant in
     let ok = c.in_ok-drain.ensures in
-    let first = c.next.inside.line.value in
+    let first = c.new-keyed.result in
     let pair = member_pair first in
     let values = map (λ (b : Box Line Global). b.value) in
     let ss = c.sources.sources in let fs = c.sources.self.feeds.items in let i = c.sources.i in
     let drained : Gathers LINE_LIMIT past text extent gave c.args.sources.now c.args.self.now.feeds.items pair (i + 1) c.drain.new.sources c.drain.new.self.feeds.items c.drain.new.self.waiting (first ∷ values c.drain.new.rest.items) =
     gathers_drained LINE_LIMIT past text extent gave c.args.sources.now c.args.self.now.feeds.items pair i ss fs c.sources.self.waiting first (values c.sources.rest.items) (values c.drain.new.rest.items) inv.gathers
     ok.drained.0 ok.drained.1 c.drain.new.sources c.drain.new.self.feeds.items c.drain.new.self.waiting ok.drained.0 ok.drained.1 inv.inside ok.ready ok.moved ok.drained.2 ok.drained.3 (ok.drained.4 ok.drained.0)
-    (subst (λ p. Drained LINE_LIMIT p (text (get_or ss i ok.drained.0)) (get_or fs i ok.drained.1) ok.drained.1 (values c.sources.rest.items) (values c.drain.new.rest.items)) (ap member_pair c.deref.ensures) (ok.drained.5 ok.drained.0 ok.drained.1)) in
+    (subst (λ p. Drained LINE_LIMIT p (text (get_or ss i ok.drained.0)) (get_or fs i ok.drained.1) ok.drained.1 (values c.sources.rest.items) (values c.drain.new.rest.items)) (ap member_pair (c.deref-in-sources.ensures ∙ sym (c.new-keyed.ensures ∙ c.deref.ensures))) (ok.drained.5 ok.drained.0 ok.drained.1)) in
     let feeds = c.in_default-take_at.ensures.feeds in
     let out = c.in_default-take_at.ensures.out in
     let alike = subst (λ p. Alike pair p) refl (tied_itself pair_cmp_total pair) in
-    let each = subst (λ p. AreAt p (values c.sources.rest.items) → AreAt p (values c.drain.new.rest.items)) (ap member_pair c.deref.ensures) ok.each in
+    let each = subst (λ p. AreAt p (values c.sources.rest.items) → AreAt p (values c.drain.new.rest.items)) (ap member_pair (c.deref-in-sources.ensures ∙ sym (c.new-keyed.ensures ∙ c.deref.ensures))) ok.each in
     let few = ok.fewer in
     let less = inv.fewer in
     let same = ap (λ (us : List Feed). unread extent c.drain.new.sources us) feeds in
     let long = ap (λ (ws : List WaitingLine). length ws) out.0 in
-    record {
+    subst (λ m. Grouped LINE_LIMIT text extent c.args.sources.now c.args.self.now.feeds.items c.args.self.now.waiting c.drain.new.sources c.take_at.new.self.feeds.items c.take_at.new.self.waiting
+    (member_pair m) (m ∷ values c.drain.new.rest.items)) (c.new-keyed.ensures ∙ c.deref.ensures) (record {
       above = inv.above;
       least = inv.least;
-      later = subst (λ p. AllByRecursion (λ w. Below p (waiting_pair w)) c.take_at.new.self.waiting) (ap member_pair c.deref-in-sources.ensures) out.1;
+      later = out.1;
       each = (alike, each inv.each);
       fewer = omega (arith, few, less, same, long);
       gathered = λ told low.
           subst (λ (us : List Feed). Gathered pair (all_done LINE_LIMIT text c.args.sources.now c.args.self.now.feeds.items) (all_done LINE_LIMIT text c.drain.new.sources us) [] (first ∷ values c.drain.new.rest.items)) (sym feeds)
           (gathers_all LINE_LIMIT past text extent gave c.args.sources.now c.args.self.now.feeds.items pair (i + 1) c.drain.new.sources c.drain.new.self.feeds.items c.drain.new.self.waiting (first ∷ values c.drain.new.rest.items) drained
           c.requires.ready.same (let l = inv.inside in let e = ap length ok.drained.2 in omega (arith, l, e, length-set ss i ok.drained.0)) told low);
-    }
+    })
 
 pub returns-in-Err-clause-moved : goal.returns-in-Err-clause-moved
 returns-in-Err-clause-moved g c =
@@ -149,21 +150,21 @@ returns-in-Err-clause-moved g c =
     let text = g.S.Source.text in let extent = g.S.Source.extent in let gave = g.S.Source.gave in
     let inv = c.sources.invariant in
     let ok = c.in_ok-drain.ensures in
-    let first = c.next.inside.line.value in
+    let first = c.new-keyed.result in
     let pair = member_pair first in
     let values = map (λ (b : Box Line Global). b.value) in
     let ss = c.sources.sources in let fs = c.sources.self.feeds.items in let i = c.sources.i in
     let drained : Gathers LINE_LIMIT past text extent gave c.args.sources.now c.args.self.now.feeds.items pair (i + 1) c.drain.new.sources c.drain.new.self.feeds.items c.drain.new.self.waiting (first ∷ values c.drain.new.rest.items) =
     gathers_drained LINE_LIMIT past text extent gave c.args.sources.now c.args.self.now.feeds.items pair i ss fs c.sources.self.waiting first (values c.sources.rest.items) (values c.drain.new.rest.items) inv.gathers
     ok.drained.0 ok.drained.1 c.drain.new.sources c.drain.new.self.feeds.items c.drain.new.self.waiting ok.drained.0 ok.drained.1 inv.inside ok.ready ok.moved ok.drained.2 ok.drained.3 (ok.drained.4 ok.drained.0)
-    (subst (λ p. Drained LINE_LIMIT p (text (get_or ss i ok.drained.0)) (get_or fs i ok.drained.1) ok.drained.1 (values c.sources.rest.items) (values c.drain.new.rest.items)) (ap member_pair c.deref.ensures) (ok.drained.5 ok.drained.0 ok.drained.1)) in
-    let waits = subst (λ p. WaitsAbove p i c.sources.self.waiting c.drain.new.self.waiting) (ap member_pair c.deref.ensures) ok.waits in
+    (subst (λ p. Drained LINE_LIMIT p (text (get_or ss i ok.drained.0)) (get_or fs i ok.drained.1) ok.drained.1 (values c.sources.rest.items) (values c.drain.new.rest.items)) (ap member_pair (c.deref-in-sources.ensures ∙ sym (c.new-keyed.ensures ∙ c.deref.ensures))) (ok.drained.5 ok.drained.0 ok.drained.1)) in
+    let waits = subst (λ p. WaitsAbove p i c.sources.self.waiting c.drain.new.self.waiting) (ap member_pair (c.deref-in-sources.ensures ∙ sym (c.new-keyed.ensures ∙ c.deref.ensures))) ok.waits in
     let from = from_waited pair (i + 1) i c.sources.self.waiting c.drain.new.self.waiting waits inv.from in
     let w : WaitingLine = record { member = c.next-in-sources.inside.line.value; source = c.next-in-sources.inside.source } in
     let is = sym c.next-in-sources.view_is in
     let took = c.in-Some-take_at.ensures in
     let out = subst (λ (v : WaitingLine). IsPermutation c.drain.new.self.waiting (v ∷ c.take_at.new.self.waiting)) is took.out in
-    let alike = subst (λ p. Alike (waiting_pair w) p) (ap member_pair c.deref-in-sources.ensures) (subst (λ (v : WaitingLine). Alike (waiting_pair v) (member_pair c.deref-in-sources.result.now)) is took.alike) in
+    let alike = subst (λ (v : WaitingLine). Alike (waiting_pair v) pair) is took.alike in
     let mine = (each_permuted (IsFrom pair (i + 1)) c.drain.new.self.waiting (w ∷ c.take_at.new.self.waiting) out from).0 in
     let t = taken_next LINE_LIMIT past text extent gave c.args.sources.now c.args.self.now.feeds.items pair (i + 1) c.drain.new.sources c.drain.new.self.feeds.items c.drain.new.self.waiting (first ∷ values c.drain.new.rest.items) drained
     w c.take_at.new.self.waiting c.take_at.new.self.feeds.items out
@@ -177,21 +178,21 @@ sources-smaller g c =
     let text = g.S.Source.text in let extent = g.S.Source.extent in let gave = g.S.Source.gave in
     let inv = c.sources.invariant in
     let ok = c.in_ok-drain.ensures in
-    let first = c.next.inside.line.value in
+    let first = c.new-keyed.result in
     let pair = member_pair first in
     let values = map (λ (b : Box Line Global). b.value) in
     let ss = c.sources.sources in let fs = c.sources.self.feeds.items in let i = c.sources.i in
     let drained : Gathers LINE_LIMIT past text extent gave c.args.sources.now c.args.self.now.feeds.items pair (i + 1) c.drain.new.sources c.drain.new.self.feeds.items c.drain.new.self.waiting (first ∷ values c.drain.new.rest.items) =
     gathers_drained LINE_LIMIT past text extent gave c.args.sources.now c.args.self.now.feeds.items pair i ss fs c.sources.self.waiting first (values c.sources.rest.items) (values c.drain.new.rest.items) inv.gathers
     ok.drained.0 ok.drained.1 c.drain.new.sources c.drain.new.self.feeds.items c.drain.new.self.waiting ok.drained.0 ok.drained.1 inv.inside ok.ready ok.moved ok.drained.2 ok.drained.3 (ok.drained.4 ok.drained.0)
-    (subst (λ p. Drained LINE_LIMIT p (text (get_or ss i ok.drained.0)) (get_or fs i ok.drained.1) ok.drained.1 (values c.sources.rest.items) (values c.drain.new.rest.items)) (ap member_pair c.deref.ensures) (ok.drained.5 ok.drained.0 ok.drained.1)) in
-    let waits = subst (λ p. WaitsAbove p i c.sources.self.waiting c.drain.new.self.waiting) (ap member_pair c.deref.ensures) ok.waits in
+    (subst (λ p. Drained LINE_LIMIT p (text (get_or ss i ok.drained.0)) (get_or fs i ok.drained.1) ok.drained.1 (values c.sources.rest.items) (values c.drain.new.rest.items)) (ap member_pair (c.deref-in-sources.ensures ∙ sym (c.new-keyed.ensures ∙ c.deref.ensures))) (ok.drained.5 ok.drained.0 ok.drained.1)) in
+    let waits = subst (λ p. WaitsAbove p i c.sources.self.waiting c.drain.new.self.waiting) (ap member_pair (c.deref-in-sources.ensures ∙ sym (c.new-keyed.ensures ∙ c.deref.ensures))) ok.waits in
     let from = from_waited pair (i + 1) i c.sources.self.waiting c.drain.new.self.waiting waits inv.from in
     let w : WaitingLine = record { member = c.next-in-sources.inside.line.value; source = c.next-in-sources.inside.source } in
     let is = sym c.next-in-sources.view_is in
     let took = c.in-Some-take_at.ensures in
     let out = subst (λ (v : WaitingLine). IsPermutation c.drain.new.self.waiting (v ∷ c.take_at.new.self.waiting)) is took.out in
-    let alike = subst (λ p. Alike (waiting_pair w) p) (ap member_pair c.deref-in-sources.ensures) (subst (λ (v : WaitingLine). Alike (waiting_pair v) (member_pair c.deref-in-sources.result.now)) is took.alike) in
+    let alike = subst (λ (v : WaitingLine). Alike (waiting_pair v) pair) is took.alike in
     let mine = (each_permuted (IsFrom pair (i + 1)) c.drain.new.self.waiting (w ∷ c.take_at.new.self.waiting) out from).0 in
     let t = taken_next LINE_LIMIT past text extent gave c.args.sources.now c.args.self.now.feeds.items pair (i + 1) c.drain.new.sources c.drain.new.self.feeds.items c.drain.new.self.waiting (first ∷ values c.drain.new.rest.items) drained
     w c.take_at.new.self.waiting c.take_at.new.self.feeds.items out
@@ -207,27 +208,27 @@ sources-preserved g c =
     let text = g.S.Source.text in let extent = g.S.Source.extent in let gave = g.S.Source.gave in
     let inv = c.sources.invariant in
     let ok = c.in_ok-drain.ensures in
-    let first = c.next.inside.line.value in
+    let first = c.new-keyed.result in
     let pair = member_pair first in
     let values = map (λ (b : Box Line Global). b.value) in
     let ss = c.sources.sources in let fs = c.sources.self.feeds.items in let i = c.sources.i in
     let drained : Gathers LINE_LIMIT past text extent gave c.args.sources.now c.args.self.now.feeds.items pair (i + 1) c.drain.new.sources c.drain.new.self.feeds.items c.drain.new.self.waiting (first ∷ values c.drain.new.rest.items) =
     gathers_drained LINE_LIMIT past text extent gave c.args.sources.now c.args.self.now.feeds.items pair i ss fs c.sources.self.waiting first (values c.sources.rest.items) (values c.drain.new.rest.items) inv.gathers
     ok.drained.0 ok.drained.1 c.drain.new.sources c.drain.new.self.feeds.items c.drain.new.self.waiting ok.drained.0 ok.drained.1 inv.inside ok.ready ok.moved ok.drained.2 ok.drained.3 (ok.drained.4 ok.drained.0)
-    (subst (λ p. Drained LINE_LIMIT p (text (get_or ss i ok.drained.0)) (get_or fs i ok.drained.1) ok.drained.1 (values c.sources.rest.items) (values c.drain.new.rest.items)) (ap member_pair c.deref.ensures) (ok.drained.5 ok.drained.0 ok.drained.1)) in
-    let waits = subst (λ p. WaitsAbove p i c.sources.self.waiting c.drain.new.self.waiting) (ap member_pair c.deref.ensures) ok.waits in
+    (subst (λ p. Drained LINE_LIMIT p (text (get_or ss i ok.drained.0)) (get_or fs i ok.drained.1) ok.drained.1 (values c.sources.rest.items) (values c.drain.new.rest.items)) (ap member_pair (c.deref-in-sources.ensures ∙ sym (c.new-keyed.ensures ∙ c.deref.ensures))) (ok.drained.5 ok.drained.0 ok.drained.1)) in
+    let waits = subst (λ p. WaitsAbove p i c.sources.self.waiting c.drain.new.self.waiting) (ap member_pair (c.deref-in-sources.ensures ∙ sym (c.new-keyed.ensures ∙ c.deref.ensures))) ok.waits in
     let from = from_waited pair (i + 1) i c.sources.self.waiting c.drain.new.self.waiting waits inv.from in
     let w : WaitingLine = record { member = c.next-in-sources.inside.line.value; source = c.next-in-sources.inside.source } in
     let is = sym c.next-in-sources.view_is in
     let took = c.in-Some-take_at.ensures in
     let out = subst (λ (v : WaitingLine). IsPermutation c.drain.new.self.waiting (v ∷ c.take_at.new.self.waiting)) is took.out in
-    let alike = subst (λ p. Alike (waiting_pair w) p) (ap member_pair c.deref-in-sources.ensures) (subst (λ (v : WaitingLine). Alike (waiting_pair v) (member_pair c.deref-in-sources.result.now)) is took.alike) in
+    let alike = subst (λ (v : WaitingLine). Alike (waiting_pair v) pair) is took.alike in
     let mine = (each_permuted (IsFrom pair (i + 1)) c.drain.new.self.waiting (w ∷ c.take_at.new.self.waiting) out from).0 in
     let t = taken_next LINE_LIMIT past text extent gave c.args.sources.now c.args.self.now.feeds.items pair (i + 1) c.drain.new.sources c.drain.new.self.feeds.items c.drain.new.self.waiting (first ∷ values c.drain.new.rest.items) drained
     w c.take_at.new.self.waiting c.take_at.new.self.feeds.items out
     (subst (λ (v : WaitingLine). (d : Feed) → c.take_at.new.self.feeds.items ≡ set c.drain.new.self.feeds.items v.source (due (get_or c.drain.new.self.feeds.items v.source d))) is took.feeds)
     (subst (λ (x : WaitingLine). AllByRecursion (λ v. is_lt (turn_cmp v x) ≡ false) c.take_at.new.self.waiting) is took.first) (mine.1 alike) alike in
-    let each = subst (λ p. AreAt p (values c.sources.rest.items) → AreAt p (values c.drain.new.rest.items)) (ap member_pair c.deref.ensures) ok.each in
+    let each = subst (λ p. AreAt p (values c.sources.rest.items) → AreAt p (values c.drain.new.rest.items)) (ap member_pair (c.deref-in-sources.ensures ∙ sym (c.new-keyed.ensures ∙ c.deref.ensures))) ok.each in
     let pushed : values c.push.new.self.items ≡ values c.drain.new.rest.items ++ w.member ∷ [] = ap values c.in-Ok.ensures.items ∙ map_push (λ (b : Box Line Global). b.value) c.drain.new.rest.items c.next-in-sources.inside.line in
     let fewer = t.fewer in
     let few = ok.fewer in
@@ -274,9 +275,9 @@ returns-in_err-drain-clause-reads g c =
     let past = g.R.Range.past c.args.range.now in
     let text = g.S.Source.text in let extent = g.S.Source.extent in let gave = g.S.Source.gave in
     let inv = c.sources.invariant in
-    let pair = member_pair c.next.inside.line.value in
+    let pair = member_pair c.new-keyed.result in
     let ss = c.sources.sources in let fs = c.sources.self.feeds.items in let i = c.sources.i in
-    let group = c.next.inside.line.value ∷ map (λ (b : Box Line Global). b.value) c.sources.rest.items in
+    let group = c.new-keyed.result ∷ map (λ (b : Box Line Global). b.value) c.sources.rest.items in
     let p = err_from_is_err_and c.from_residual.result c.from_residual.ensures.1 in
     on_err c.from_residual.result p.0 _ p.1 (
       pair,
@@ -284,8 +285,8 @@ returns-in_err-drain-clause-reads g c =
       inv.least,
       λ told low.
           let all = (gathers_all LINE_LIMIT past text extent gave c.args.sources.now c.args.self.now.feeds.items pair (i + 1) ss fs c.sources.self.waiting group inv.gathers c.requires.ready.same (let l = inv.inside in omega arith) told low).upto in
-          subst (λ q. AreReadTo LINE_LIMIT past text (Some q) c.drain.new.sources c.drain.new.self.feeds.items) (ap member_pair c.deref.ensures)
-          (c.drain.ensures.reads (subst (λ q. AllByRecursion (λ m. Upto (member_pair m) q) (all_done LINE_LIMIT text ss fs)) (sym (ap member_pair c.deref.ensures)) all)),
+          subst (λ q. AreReadTo LINE_LIMIT past text (Some q) c.drain.new.sources c.drain.new.self.feeds.items) (ap member_pair (c.deref-in-sources.ensures ∙ sym (c.new-keyed.ensures ∙ c.deref.ensures)))
+          (c.drain.ensures.reads (subst (λ q. AllByRecursion (λ m. Upto (member_pair m) q) (all_done LINE_LIMIT text ss fs)) (sym (ap member_pair (c.deref-in-sources.ensures ∙ sym (c.new-keyed.ensures ∙ c.deref.ensures)))) all)),
     )
 
 pub returns-in-Err-clause-reads : goal.returns-in-Err-clause-reads
@@ -294,10 +295,10 @@ returns-in-Err-clause-reads g c =
     let text = g.S.Source.text in let extent = g.S.Source.extent in let gave = g.S.Source.gave in
     let inv = c.sources.invariant in
     let ok = c.in_ok-drain.ensures in
-    let pair = member_pair c.next.inside.line.value in
+    let pair = member_pair c.new-keyed.result in
     let ss = c.sources.sources in let fs = c.sources.self.feeds.items in let i = c.sources.i in
     let feeds = c.drain.new.self.feeds.items in
-    let group = c.next.inside.line.value ∷ map (λ (b : Box Line Global). b.value) c.sources.rest.items in
+    let group = c.new-keyed.result ∷ map (λ (b : Box Line Global). b.value) c.sources.rest.items in
     let w : WaitingLine = record { member = c.next-in-sources.inside.line.value; source = c.next-in-sources.inside.source } in
     let is = sym c.next-in-sources.view_is in
     let next = (subst (λ (v : WaitingLine). (d : Feed) → c.take_at.new.self.feeds.items ≡ set feeds v.source (due (get_or feeds v.source d))) is c.in-Some-take_at.ensures.feeds) ok.drained.1 in (
@@ -306,7 +307,7 @@ returns-in-Err-clause-reads g c =
       inv.least,
       λ told low.
           let all = (gathers_all LINE_LIMIT past text extent gave c.args.sources.now c.args.self.now.feeds.items pair (i + 1) ss fs c.sources.self.waiting group inv.gathers c.requires.ready.same (let l = inv.inside in omega arith) told low).upto in
-          let here = subst (λ q. AreReadTo LINE_LIMIT past text (Some q) c.drain.new.sources feeds) (ap member_pair c.deref.ensures)
-          (c.drain.ensures.reads (subst (λ q. AllByRecursion (λ m. Upto (member_pair m) q) (all_done LINE_LIMIT text ss fs)) (sym (ap member_pair c.deref.ensures)) all)) in
+          let here = subst (λ q. AreReadTo LINE_LIMIT past text (Some q) c.drain.new.sources feeds) (ap member_pair (c.deref-in-sources.ensures ∙ sym (c.new-keyed.ensures ∙ c.deref.ensures)))
+          (c.drain.ensures.reads (subst (λ q. AllByRecursion (λ m. Upto (member_pair m) q) (all_done LINE_LIMIT text ss fs)) (sym (ap member_pair (c.deref-in-sources.ensures ∙ sym (c.new-keyed.ensures ∙ c.deref.ensures)))) all)) in
           subst (λ (us : List Feed). AreReadTo LINE_LIMIT past text (Some pair) c.drain.new.sources us) (sym next) (due_read LINE_LIMIT past text extent (Some pair) c.drain.new.sources feeds w.source ok.drained.1 here),
     )
