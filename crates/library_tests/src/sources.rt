@@ -99,6 +99,26 @@ fn a_source_that_fails_at_a_read_is_read(rt: HostRuntime) -> Result<(), Fail> {
 }
 
 #[test]
+fn a_file_is_read_at_any_offset(rt: HostRuntime) -> Result<(), Fail> {
+    fs::write(&rt, "offsets.cdxj", LETTERS)?;
+    let mut source = FileSource::new(File::open(&rt, "offsets.cdxj")?)?;
+    for (at, count, first) in &[
+        (290, 144, b'c'),
+        (0, 145, b'a'),
+        (145, 145, b'b'),
+        (145, 145, b'b'),
+        (290, 144, b'c'),
+        (434, 0, 0),
+        (0, 145, b'a'),
+    ] {
+        let mut piece = [0; 145];
+        assert!(rt; source.read_at(*at, &mut piece)? == *count);
+        assert!(rt; piece[0] == *first);
+    }
+    Ok(())
+}
+
+#[test]
 fn a_file_that_was_cut_after_it_was_opened_fails(rt: HostRuntime) -> Result<(), Fail> {
     fs::write(&rt, "letters.cdxj", LETTERS)?;
     let mut whole = FileSource::new(File::open(&rt, "letters.cdxj")?)?;
