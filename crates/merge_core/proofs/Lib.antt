@@ -5,7 +5,6 @@ pub mod FeedLemmas
 pub mod DrainLemmas
 pub mod BadLines
 pub mod HeapLemmas
-pub mod QueueLemmas
 pub mod StreamLemmas
 pub mod Many
 pub mod FailLemmas
