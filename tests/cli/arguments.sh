@@ -1,0 +1,175 @@
+#!/usr/bin/env bash
+# Runs warcdx with arguments that ask for help or are usage errors, and compares what it answers with the tables below: what it prints, what it says on
+# standard error, and its status.
+#
+# usage: arguments.sh [PROGRAM]      default: the script warcdx at the top of the repository
+#
+# Prints a line for each case. The status is 1 where one differs.
+set -euo pipefail
+
+root=$(dirname "$(dirname "$(dirname "$(readlink -f "$0")")")")
+source "$root/tests/cli/cases.sh"
+source "$root/tests/cli/small_files.sh"
+
+refusal() { # ERROR USAGE
+    lines "error: $1" "" "Usage: warcdx $2" "" "For more information, try '--help'."
+}
+
+unknown() { # WORD
+    refusal "unrecognized subcommand '$1'" "[COMMAND]"
+}
+
+no_offset() { # WORD
+    lines "error: invalid value '$1' for '<OFFSET>': an offset is 1 to 19 digits, below 2^63" "" \
+        "For more information, try '--help'."
+}
+
+no_sizes() { # WORD
+    lines "error: invalid value '$1' for '<SIZES>': sizes are 1 to 1,000 numbers from 1 to 1,000,000, with ',' between" "" \
+        "For more information, try '--help'."
+}
+
+no_types() { # WORD
+    lines "error: invalid value '$1' for '--types <TYPES>': types are response, resource, revisit, conversion and metadata, each once at most, with ',' between" "" \
+        "For more information, try '--help'."
+}
+
+unexpected() { # OPTION
+    lines "error: unexpected option '$1'" "" "  tip: a file whose name begins with '-' is written './-name'" "" \
+        "For more information, try '--help'."
+}
+
+misplaced() { # OPTION
+    lines "error: unexpected option '$1'" "" "  tip: '--types TYPES' stands once, directly after 'index' or 'scan'" "" \
+        "For more information, try '--help'."
+}
+
+# check_help CASE LINES WORD..
+# the help that begins with these lines, on standard output alone
+check_help() {
+    local case=$1 lines=$2 status=0
+    shift 2
+    run file "$@" || status=$?
+    if [ "$status" = 0 ] && [[ $(< output) == "$lines"$'\n'* ]] && holds error ""; then
+        echo "ok       $case"
+    else
+        printf 'DIFFERS  %s: status %s, %q, %q\n' "$case" "$status" "$(< output)" "$(< error)"
+        differing=1
+    fi
+}
+
+no_list=$(refusal "the following required arguments were not provided:"$'\n  <WARC>...' "list <WARC>...")
+no_verify=$(refusal "the following required arguments were not provided:"$'\n  <WARC>...' "verify <WARC>...")
+no_index=$(refusal "the following required arguments were not provided:"$'\n  <WARC>...' "index <WARC>...")
+no_check=$(refusal "the following required arguments were not provided:"$'\n  <INDEX>...' "check <INDEX>...")
+no_serve=$(refusal "the following required arguments were not provided:"$'\n  <INDEX>...' "serve <INDEX>...")
+no_query=$(refusal "the following required arguments were not provided:"$'\n  <QUERY>\n  <INDEX>...' "query <QUERY> <INDEX>...")
+no_index_asked=$(refusal "the following required arguments were not provided:"$'\n  <INDEX>...' "query <QUERY> <INDEX>...")
+no_pages=$(refusal "the following required arguments were not provided:"$'\n  <SIZES>\n  <QUERY>\n  <INDEX>...' "pages <SIZES> <QUERY> <INDEX>...")
+no_query_of_pages=$(refusal "the following required arguments were not provided:"$'\n  <QUERY>\n  <INDEX>...' "pages <SIZES> <QUERY> <INDEX>...")
+no_scan=$(refusal "the following required arguments were not provided:"$'\n  <SIZES>\n  <QUERY>\n  <WARC>...' "scan <SIZES> <QUERY> <WARC>...")
+no_get=$(refusal "the following required arguments were not provided:"$'\n  <OFFSET>\n  <WARC>' "get <OFFSET> <WARC>")
+no_archive=$(refusal "the following required arguments were not provided:"$'\n  <WARC>' "get <OFFSET> <WARC>")
+one_too_many=$(refusal "unexpected argument 'q.warc' found" "get <OFFSET> <WARC>")
+misspelt=$(refusal "unrecognized subcommand 'lst'"$'\n\n  tip: a similar subcommand exists: \'list\'' "[COMMAND]")
+no_typed=$(refusal "the following required arguments were not provided:"$'\n  <WARC>...' "index --types <TYPES> <WARC>...")
+no_value=$(lines "error: a value is required for '--types <TYPES>' but none was supplied" "" "For more information, try '--help'.")
+no_text=$(lines "error: a word isn't UTF-8" "" "For more information, try '--help'.")
+
+#     case                              output error           status, words and input
+check "list alone"                      "" "$no_list"                      2 list
+check "verify alone"                    "" "$no_verify"                    2 verify
+check "index alone"                     "" "$no_index"                     2 index
+check "check alone"                     "" "$no_check"                     2 check
+check "query alone"                     "" "$no_query"                     2 query
+check "query without an index"          "" "$no_index_asked"               2 query url=a
+check "query -x"                        "" "$(unexpected -x)"              2 query -x sorted.cdxj
+check "serve alone"                     "" "$no_serve"                     2 serve
+check "serve -x"                        "" "$(unexpected -x)"              2 serve -x
+check "pages alone"                     "" "$no_pages"                     2 pages
+check "pages without a query"           "" "$no_query_of_pages"            2 pages 1
+for sizes in "" 0 1,0 1, ,1 1,,2 +1 1.5 x 1000001 00000001 "1 2" "1;2" "$(printf '1,%.0s' {1..1000})1"; do
+    check "pages $(head --bytes=20 <<< "$sizes")"  "" "$(no_sizes "$sizes")"   2 pages "$sizes" url=a missing
+done
+check "scan alone"                      "" "$no_scan"                      2 scan
+check "scan 0"                          "" "$(no_sizes 0)"                 2 scan 0 url=a missing
+for types in "" , request Response response,response response, ,response "response, resource" warcinfo all; do
+    check "index --types $types"        "" "$(no_types "$types")"          2 index --types "$types" missing
+done
+check "index --types warcinfo, scan"    "" "$(no_types warcinfo)"          2 scan --types warcinfo 1 url=a missing
+check "--types behind a name"           "" "$(misplaced --types)"         2 index m.warc --types metadata
+check "--types twice"                   "" "$(misplaced --types)"         2 index --types metadata --types metadata m.warc
+check "--types before a command"        "" "$(misplaced --types)"         2 --types metadata index m.warc
+check "--types behind sizes"            "" "$(misplaced --types)"         2 scan 1 --types metadata url=a m.warc
+check "--types=metadata"                "" "$(misplaced --types=metadata)" 2 index --types=metadata m.warc
+check "--types of another command"      "" "$(misplaced --types)"         2 list --types metadata m.warc
+check "--types of an option"            "" "$(unexpected -x)"              2 index --types -x m.warc
+check "--types behind -h"               "" "$(misplaced --types)"         2 index -h --types metadata m.warc
+check "--types alone"                   "" "$no_value"                     2 index --types
+check "--types without an archive"      "" "$no_typed"                     2 index --types metadata
+check "get alone"                       "" "$no_get"                       2 get
+check "get without an archive"          "" "$no_archive"                   2 get 0
+check "get of two archives"             "" "$one_too_many"                 2 get 0 r.warc q.warc
+check "get x"                           "" "$(no_offset x)"                2 get x r.warc
+check "get of an empty offset"          "" "$(no_offset "")"               2 get "" r.warc
+check "get +1"                          "" "$(no_offset +1)"               2 get +1 r.warc
+check "get -1"                          "" "$(unexpected -1)"              2 get -1 r.warc
+check "get 0x0"                         "" "$(no_offset 0x0)"              2 get 0x0 r.warc
+check "get 2^63"          "" "$(no_offset 9223372036854775808)"            2 get 9223372036854775808 r.warc
+check "get of twenty digits" "" "$(no_offset 00000000000000000000)"        2 get 00000000000000000000 r.warc
+check "an unknown word"                 "" "$(unknown frob)"               2 frob
+check "a command misspelt"              "" "$misspelt"                     2 lst same.warc
+check "a name in place of a command"    "" "$(unknown same.warc)"          2 same.warc
+check "an empty word"                   "" "$(unknown "")"                 2 ""
+check "help"                            "" "$(unknown help)"               2 help
+check "help list"                       "" "$(unknown help)"               2 help list
+check "a command in capitals"           "" "$(unknown LIST)"               2 LIST same.warc
+check "-x"                              "" "$(unexpected -x)"              2 -x
+check "--"                              "" "$(unexpected --)"              2 --
+check "-V"                              "" "$(unexpected -V)"              2 -V
+check "--version"                       "" "$(unexpected --version)"       2 --version
+check "list -- -x"                      "" "$(unexpected --)"              2 list -- -x
+check "an option after a name"          "" "$(unexpected -dash.warc)"      2 list same.warc -dash.warc
+check "an option before a command"      "" "$(unexpected -x)"              2 -x list same.warc
+check "an option beside -h"             "" "$(unexpected -x)"              2 list -h -x
+check "a word that isn't UTF-8"         "" "$no_text"                      2 $'\xff'
+check "a name that isn't UTF-8"         "" "$no_text"                      2 list same.warc $'\xff'
+
+of_program=$(lines "warcdx 0.1.0: indexes web archives, answers queries, and fetches records" "" "Usage: warcdx [COMMAND]")
+of_list=$(lines "Lists the records of archives" "" "Usage: warcdx list <WARC>...")
+of_index=$(lines "Writes an index of the captures of archives" "" "Usage: warcdx index [OPTIONS] <WARC>...")
+of_get=$(lines "Writes the record at an offset of an archive" "" "Usage: warcdx get <OFFSET> <WARC>")
+of_check=$(lines "Checks that indexes are sorted, and counts their lines" "" "Usage: warcdx check <INDEX>...")
+of_query=$(lines "Writes the captures that a query asks for" "" "Usage: warcdx query <QUERY> <INDEX>...")
+of_pages=$(lines "Writes the captures that a query asks for, page by page" "" "Usage: warcdx pages <SIZES> <QUERY> <INDEX>...")
+of_serve=$(lines "Answers queries line by line" "" "Usage: warcdx serve <INDEX>...")
+of_scan=$(lines "Writes the captures of archives that a query asks for" "" "Usage: warcdx scan [OPTIONS] <SIZES> <QUERY> <WARC>...")
+of_verify=$(lines "Checks the digests of the records of archives" "" "Usage: warcdx verify <WARC>...")
+
+check_help "-h"                         "$of_program" -h
+check_help "--help"                     "$of_program" --help
+check_help "-h list"                    "$of_program" -h list
+check_help "list -h"                    "$of_list"    list -h
+check_help "list NAME -h"               "$of_list"    list same.warc -h
+check_help "list --help NAME"           "$of_list"    list --help missing
+check_help "verify -h"                  "$of_verify"  verify -h
+check_help "verify NAME NAME --help"    "$of_verify"  verify same.warc missing --help
+check_help "index -h"                   "$of_index"   index -h
+check_help "index --types -h"           "$of_index"   index --types -h
+check_help "index --types TYPES -h"     "$of_index"   index --types request missing -h
+check_help "check -h"                   "$of_check"   check -h
+check_help "query --help"               "$of_query"   query --help
+check_help "query NAME -h"              "$of_query"   query missing -h
+check_help "pages -h"                   "$of_pages"   pages 0 -h
+check_help "serve -h"                   "$of_serve"   serve -h
+check_help "serve NAME --help"          "$of_serve"   serve missing --help
+check_help "scan -h"                    "$of_scan"    scan 0 -h
+check_help "scan --types TYPES -h"      "$of_scan"    scan --types metadata -h
+check_help "get --help"                 "$of_get"     get --help
+check_help "get NAME NAME NAME -h"      "$of_get"     get r.warc q.warc missing -h
+
+for way in full closed broken; do
+    check_into $way "$way: -h"             "" "warcdx: cannot flush"         3 -h
+    check_into $way "$way: usage"          "" "$(unknown frob)"              2 frob
+done
+exit "$differing"

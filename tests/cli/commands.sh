@@ -1,0 +1,318 @@
+#!/usr/bin/env bash
+# Runs the commands of warcdx on small archives and indexes, and compares what it answers with the tables below: what it prints, what
+# it says on standard error, and its status. arguments.sh does so with arguments that ask for help or are usage errors.
+#
+# usage: commands.sh [PROGRAM]      default: the script warcdx at the top of the repository
+#
+# Prints a line for each case. The status is 1 where one differs.
+set -euo pipefail
+
+root=$(dirname "$(dirname "$(dirname "$(readlink -f "$0")")")")
+source "$root/tests/cli/cases.sh"
+source "$root/tests/cli/small_files.sh"
+
+one="0 177 resource"
+two=$(lines same.warc: "$one" absent.warc: "0 174 resource")
+twice=$(lines -: "$one" -:)
+cut=$(lines cut.warc: "$one" "fault 177 ShortHead")
+cut_first=$(lines "$cut" same.warc: "$one")
+folder_first=$(lines folder: "fault 0 Read" same.warc: "$one")
+missing="warcdx: missing: cannot open"
+
+#     case                              output           error             status, words and input
+check "no words"                        "$one"           ""                0 < same.warc
+check "-"                               "$one"           ""                0 list - < same.warc
+check "an archive"                      "$one"           ""                0 list same.warc
+check "a name after ./"                 "$one"           ""                0 list ./-dash.warc
+check "two archives"                    "$two"           ""                0 list same.warc absent.warc
+check "- twice"                         "$twice"         ""                0 list - - < same.warc
+check "a missing file"                  ""               "$missing"        3 list missing
+check "a missing file among good ones"  "$two"           "$missing"        3 list same.warc missing absent.warc
+check "two missing files"  "" "$(lines "$missing" "$missing")"             3 list missing missing
+check "an empty name"      "" "warcdx: : cannot open"                      3 list ""
+check "a fault in the first of two"     "$cut_first"     ""                1 list cut.warc same.warc
+check "a fault, and a missing file"     "$cut"           "$missing"        3 list cut.warc missing
+check "a folder"                        "fault 0 Read"   ""                3 list folder
+check "a folder, and a good archive"    "$folder_first"  ""                3 list folder same.warc
+
+check "a head of 1,048,576 bytes"       "0 1048583 resource"  ""           0 list head.warc
+check "a head of 1,048,577 bytes"       "fault 0 HeadTooLong" ""           1 list long_head.warc
+
+each=$(lines "0 same" "177 differs" "354 absent" "528 same" "705 not-sha1" "890 not-sha1")
+differs_first=$(lines differs.warc: "0 differs" same.warc: "0 same")
+cut=$(lines cut.warc: "0 same" "fault 177 ShortHead")
+cut_first=$(lines "$cut" differs.warc: "0 differs")
+
+check "verify: same"                    "0 same"         ""                0 verify same.warc
+check "verify: differs"                 "0 differs"      ""                1 verify differs.warc
+check "verify: absent"                  "0 absent"       ""                0 verify absent.warc
+check "verify: each verdict"            "$each"          ""                1 verify each.warc
+check "verify: -"                       "$each"          ""                1 verify - < each.warc
+check "verify: differs, then same"      "$differs_first" ""                1 verify differs.warc same.warc
+check "verify: a fault, then differs"   "$cut_first"     ""                1 verify cut.warc differs.warc
+check "verify: a fault, then missing"   "$cut"           "$missing"        3 verify cut.warc missing
+check "verify: a missing file"          ""               "$missing"        3 verify missing
+
+of_r=$(capture r 0 r.warc)
+of_both=$(capture q 158 both.warc; capture r 0 both.warc)
+of_two=$(lines "$of_both" "$of_r")
+of_torn=$(capture q 158 torn.warc; capture r 0 torn.warc)
+torn_first=$(capture q 158 torn.warc; capture r 0 r.warc; capture r 0 torn.warc)
+of_input=$(capture r 0 -)
+input_among=$(capture q 158 both.warc; capture r 0 -; capture r 0 both.warc)
+torn="warcdx: torn.warc: fault 316 ShortHead"
+
+check "index: an archive"               "$of_r"          ""                0 index r.warc
+check "index: by keys"                  "$of_both"       ""                0 index both.warc
+check "index: two archives"             "$of_two"        ""                0 index r.warc both.warc
+check "index: no captures"              ""               ""                0 index same.warc empty.warc
+check "index: -"                        "$of_input"      ""                0 index - < r.warc
+check "index: - among others"           "$input_among"   ""                0 index both.warc - < r.warc
+check "index: - twice"    "$of_input"  "warcdx: -: DuplicateName"          1 index - - < r.warc
+check "index: a missing file"           ""               "$missing"        3 index missing
+check "index: a missing file among good ones"  "$of_two" "$missing"        3 index r.warc missing both.warc
+check "index: a fault"                  "$of_torn"       "$torn"           1 index torn.warc
+check "index: a fault in the first of two"  "$torn_first" "$torn"          1 index torn.warc r.warc
+check "index: a fault, then missing" "$of_torn" "$(lines "$torn" "$missing")" 3 index torn.warc missing
+check "index: a file name twice" "$of_r" "warcdx: folder/r.warc: DuplicateName" 1 index r.warc folder/r.warc
+check "index: a damaged archive's name again" "$of_torn" "$(lines "$torn" "warcdx: torn.warc: DuplicateName")" 1 index torn.warc torn.warc
+check "index: a missing file's name again" "$of_r" "warcdx: missing/r.warc: cannot open" 3 index missing/r.warc r.warc
+check "index: a folder"                 ""   "warcdx: folder: fault 0 Read" 3 index folder
+check "index: a folder, and a good archive" "$of_r" "warcdx: folder: fault 0 Read" 3 index folder r.warc
+check "index: a folder without a name"  "$of_r" "warcdx: folder/: BadName" 1 index folder/ r.warc
+check "index: an empty name"            ""      "warcdx: : cannot open"    3 index ""
+
+of_metadata=$(capture r 0 m.warc)
+of_both_types=$(capture r 0 m.warc; capture r 0 r.warc)
+
+check "index: of the usual types"       ""               ""                0 index m.warc
+check "index: --types"                  "$of_metadata"   ""                0 index --types metadata m.warc r.warc
+check "index: --types, two"             "$of_both_types" ""                0 index --types resource,metadata r.warc m.warc
+check "index: --types, others"          ""               ""                0 index --types response,conversion r.warc m.warc
+check "index: --types, a fault"         "$of_torn"       "$torn"           1 index --types revisit,resource torn.warc
+check "index: --types, -"               "$of_input"      ""                0 index --types resource - < r.warc
+check "index: a head of 1,048,577 bytes" "" "warcdx: long_head.warc: fault 0 HeadTooLong" 1 index head.warc long_head.warc
+
+# A record ends with LF, which the comparing adds.
+q=$(< q.warc)
+r=$(< r.warc)
+none="warcdx: r.warc: NoRecord"
+
+check "get: the first record"           "$r"             ""                0 get 0 both.warc
+check "get: the second record"          "$q"             ""                0 get 158 both.warc
+check "get: zeros before the offset"    "$q"             ""                0 get 0000000000000000158 both.warc
+check "get: -"                          "$q"             ""                0 get 158 - < both.warc
+check "get: before a fault"             "$q"             ""                0 get 158 torn.warc
+check "get: inside a record"            ""               "$none"           1 get 1 r.warc
+check "get: at the end"                 ""               "$none"           1 get 158 r.warc
+check "get: behind the end"             ""               "$none"           1 get 9223372036854775807 r.warc
+check "get: of nothing"     "" "warcdx: empty.warc: NoRecord"              1 get 0 empty.warc
+check "get: a fault"                    ""               "$torn"           1 get 316 torn.warc
+check "get: behind a fault"             ""               "$torn"           1 get 400 torn.warc
+check "get: a missing file"             ""               "$missing"        3 get 0 missing
+check "get: a folder"       "" "warcdx: folder: fault 0 Read"              3 get 0 folder
+
+first=$(head --lines=1 bad.cdxj | wc --bytes)
+falling="warcdx: falling.cdxj: OutOfOrder $(head --lines=1 falling.cdxj | wc --bytes)"
+bad="warcdx: bad.cdxj: BadLine $first"
+both_checked=$(lines "sorted.cdxj 2" "unended.cdxj 2")
+
+sorted=$(< sorted.cdxj)
+check "merge: an index"                 "$sorted"        ""                0 merge sorted.cdxj
+check "merge: an index twice"           "$sorted"        ""                0 merge sorted.cdxj unended.cdxj
+check "merge: empty indexes"            ""               ""                0 merge empty.warc empty.warc
+check "merge: out of order"             ""               "$falling"        1 merge falling.cdxj
+check "merge: a missing file"           ""               "$missing"        3 merge sorted.cdxj missing falling.cdxj
+check "merge: a folder"                 "" "warcdx: folder: Read"          3 merge sorted.cdxj folder
+check "merge: - is a file's name"       ""  "warcdx: -: cannot open"       3 merge - < sorted.cdxj
+
+check "check: an index"                 "sorted.cdxj 2"  ""                0 check sorted.cdxj
+check "check: two indexes"              "$both_checked"  ""                0 check sorted.cdxj unended.cdxj
+check "check: an empty index"           "empty.warc 0"   ""                0 check empty.warc
+check "check: out of order"             ""               "$falling"        1 check falling.cdxj
+check "check: a bad line"               ""               "$bad"            1 check bad.cdxj
+check "check: an archive"  "" "warcdx: r.warc: BadLine 0"                  1 check r.warc
+check "check: a fault in the first of two"  "sorted.cdxj 2" "$falling"     1 check falling.cdxj sorted.cdxj
+check "check: two faults"  "" "$(lines "$bad" "$falling")"                 1 check bad.cdxj falling.cdxj
+check "check: a fault, then missing" "" "$(lines "$bad" "$missing")"       3 check bad.cdxj missing
+check "check: a missing file among good ones" "$both_checked" "$missing"   3 check sorted.cdxj missing unended.cdxj
+check "check: a folder"                 ""  "warcdx: folder: Read"         3 check folder
+check "check: a folder, and an index"   "sorted.cdxj 2" "warcdx: folder: Read" 3 check folder sorted.cdxj
+check "check: - is a file's name"       ""  "warcdx: -: cannot open"       3 check - < sorted.cdxj
+check "check: a line of 16,777,216 bytes" "line.cdxj 1"  ""                0 check line.cdxj
+check "check: a line of 16,777,217 bytes" "" "warcdx: long_line.cdxj: BadLine 0"  1 check long_line.cdxj
+check "check: as many without a line feed" "" "warcdx: open_line.cdxj: BadLine 0" 1 check open_line.cdxj
+check "merge: a line of 16,777,217 bytes" "" "warcdx: long_line.cdxj: BadLine 0"  1 merge line.cdxj long_line.cdxj
+check "query: a line of 16,777,216 bytes" 7              ""                0 query "key=k&fl=offset" line.cdxj
+check "query: a line of 16,777,217 bytes" "" "warcdx: long_line.cdxj: BadLine 0"  1 query "key=k&fl=offset" long_line.cdxj
+
+apart="10.cdxj 20.cdxj 5.cdxj" # words
+of_p="url=example.com/p&fl=filename,offset"
+each_p=$(lines "a.warc 5" "a.warc 20" "b.warc 10")
+key_5="com%2Cexample%29%2Fp+20160919172024+a.warc+5"
+key_20="com%2Cexample%29%2Fp+20160919172024+a.warc+20"
+first_p=$(lines "a.warc 5" "" "$key_5")
+json_p=$(lines '[["filename","offset"],' '["a.warc","5"],' '[],' "[\"$key_5\"]]")
+no_rows='[["urlkey","timestamp","original","mimetype","statuscode","digest","length"]]'
+first_of_all=$(head --lines=1 sorted.cdxj)
+usual="com,example)/q 20160919172024 http://example.com/q - - $abc 158"
+too_many=$(repeated 1025 <<< empty.warc)
+at_limit=$(repeated 1024 <<< empty.warc)
+
+check "query: a key"                    "$usual"         ""                0 query url=example.com/q sorted.cdxj
+check "query: a prefix"                 "$sorted"        ""                0 query "url=example.com/*&output=cdxj" sorted.cdxj
+check "query: three indexes"            "$each_p"        ""                0 query "$of_p" $apart
+check "query: a limit"                  "a.warc 5"       ""                0 query "$of_p&limit=1" $apart
+check "query: a resume key"             "$first_p"       ""                0 query "$of_p&limit=1&showResumeKey=true" $apart
+check "query: from a resume key"        "$(lines "a.warc 20" "b.warc 10")" "" 0 query "$of_p&resumeKey=$key_5" $apart
+check "query: json"                     "$json_p"        ""                0 query "$of_p&output=json&limit=1&showResumeKey=true" $apart
+check "query: by key"                   "a.warc 5"       ""                0 query "$of_p&collapse=urlkey" $apart
+check "query: by time, of all keys"     "$first_of_all"  ""                0 query "url=example.com/*&output=cdxj&collapse=timestamp:4" sorted.cdxj
+check "query: by time, from a resume key" ""             ""                0 query "$of_p&collapse=timestamp&resumeKey=$key_5" $apart
+check "query: a bad collapse"   "" "warcdx: query: BadCollapse"            1 query "url=a&collapse=digest" sorted.cdxj
+check "query: nothing"                  ""               ""                0 query url=example.org sorted.cdxj
+check "query: nothing, json"            "$no_rows"       ""                0 query "url=example.org&output=json" sorted.cdxj
+check "query: an index twice"           "$usual"         ""                0 query url=example.com/q sorted.cdxj unended.cdxj
+check "query: an empty index"           ""               ""                0 query url=example.com/q empty.warc
+check "query: 1,024 indexes"            ""               ""                0 query url=example.com/q $at_limit
+check "query: 1,025 indexes"      "" "warcdx: TooManySources"              1 query url=example.com/q $too_many
+check "query: a refused query"    "" "warcdx: query: BadLimit"             1 query "url=a&limit=0" sorted.cdxj
+check "query: an empty query"     "" "warcdx: query: NoUrl"                1 query "" sorted.cdxj
+check "query: refused, and missing" "" "warcdx: query: Unknown"            1 query page=0 missing
+check "query: out of order"             ""               "$falling"        1 query "key=&matchType=prefix" falling.cdxj
+check "query: a bad line"               ""               "$bad"            1 query "key=&matchType=prefix" bad.cdxj
+check "query: a fault in the second"    ""               "$bad"            1 query "url=example.com/*" sorted.cdxj bad.cdxj
+check "query: an archive"  "" "warcdx: r.warc: BadLine 0"                  1 query "key=&matchType=prefix" r.warc
+check "query: a missing file"           ""               "$missing"        3 query "url=example.com/q" sorted.cdxj missing falling.cdxj
+check "query: missing, before too many" ""               "$missing"        3 query url=example.com/q missing $at_limit
+check "query: a folder"    "" "warcdx: folder: Read"                       3 query url=example.com/q sorted.cdxj folder
+check "query: - is a file's name"  "" "warcdx: -: cannot open"             3 query url=example.com/q - < sorted.cdxj
+
+two_pages=$(lines "a.warc 5" "" "$key_5" "a.warc 20" "b.warc 10")
+of_two_and_one=$(lines "a.warc 5" "a.warc 20" "" "$key_20" "b.warc 10")
+json_pages=$(lines '[["offset"],' '["5"],' '["20"],' '[],' "[\"$key_20\"]]" '[["offset"],' '["10"]]')
+
+check "pages: of one and two"           "$two_pages"     ""                0 pages 1,2 "$of_p" $apart
+check "pages: of two"                   "$of_two_and_one" ""               0 pages 2 "$of_p" $apart
+check "pages: one"                      "$each_p"        ""                0 pages 1000000 "$of_p" $apart
+check "pages: a limit isn't used"       "$each_p"        ""                0 pages 0000003 "$of_p&limit=1&showResumeKey=true" $apart
+check "pages: from a resume key"        "b.warc 10"      ""                0 pages 2 "$of_p&resumeKey=$key_20" $apart
+check "pages: by key"                   "a.warc 5"       ""                0 pages 1 "$of_p&collapse=urlkey" $apart
+check "pages: json"                     "$json_pages"    ""                0 pages 2 "url=example.com/p&output=json&fl=offset" $apart
+check "pages: of 1,000 sizes"           "$each_p" "" 0 pages "$(printf '9,%.0s' {1..999})9" "$of_p" $apart
+check "pages: nothing"                  ""               ""                0 pages 1 url=example.org sorted.cdxj
+check "pages: nothing, json"            "$no_rows"       ""                0 pages 1 "url=example.org&output=json" sorted.cdxj
+check "pages: 1,025 indexes"      "" "warcdx: TooManySources"              1 pages 1 url=example.com/q $too_many
+check "pages: a refused query"    "" "warcdx: query: BadUrl"               1 pages 1 "url=" missing
+check "pages: out of order"             ""               "$falling"        1 pages 1 "key=&matchType=prefix" falling.cdxj
+check "pages: a missing file"           ""               "$missing"        3 pages 1 "url=example.com/q" missing sorted.cdxj
+check "pages: a folder"    "" "warcdx: folder: Read"                       3 pages 1 url=example.com/q folder
+
+asked="url=example.com/p&fl=offset" # one key, and captures of it
+all="key=&matchType=prefix&fl=offset"
+replies=$(lines 5 20 10 . "refused BadLimit" . .)
+keyed=$(lines "a.warc 5" "" "$key_5" .)
+falls=$(lines "" "fault OutOfOrder 0 ${falling##* }" .)
+second_bad=$(lines 5 "" "fault BadLine 1 $first" . 5 .)
+second=$(wc --bytes < sorted.cdxj)
+breaks_off=$(lines 0 "" "fault BadLine 0 $second" . '[["offset"],' '["0"]' "fault BadLine 0 $second" . 0 .)
+too_long=$(lines "refused QueryTooLong" . "refused QueryTooLong" . .)
+
+check "serve: a reply to each line"     "$replies"       ""                0 serve $apart < <(printf '%s\nlimit=0\nkey=x' "$asked")
+check "serve: CR LF"                    "$replies"       ""                0 serve $apart < <(printf '%s\r\nlimit=0\r\nkey=x\r' "$asked")
+check "serve: one CR is dropped" "$(lines "refused BadOutput" .)" ""       0 serve $apart <<< $'key=x&output=text\r\r'
+check "serve: no lines"                 ""               ""                0 serve sorted.cdxj < empty.warc
+check "serve: empty lines" "$(lines "refused NoUrl" . "refused NoUrl" .)" "" 0 serve sorted.cdxj < <(printf '\n\n')
+check "serve: a resume key"             "$keyed"         ""                0 serve $apart <<< "$of_p&limit=1&showResumeKey=true"
+check "serve: from a resume key"        "$(lines 20 10 .)" ""              0 serve $apart <<< "$asked&resumeKey=$key_5"
+check "serve: by key" "$(lines 5 . "refused BadCollapse" .)" ""            0 serve $apart < <(printf '%s&collapse=urlkey\nkey=x&collapse=timestamp:15\n' "$asked")
+check "serve: cdxj"                     "$(lines "$sorted" .)" ""          0 serve sorted.cdxj <<< "url=example.com/*&output=cdxj"
+check "serve: json" "$(lines "$json_p" .)" "" 0 serve $apart <<< "$of_p&output=json&limit=1&showResumeKey=true"
+check "serve: nothing, json" "$(lines "$no_rows" .)" "" 0 serve sorted.cdxj <<< "url=example.org&output=json"
+check "serve: an empty index"           .                ""                0 serve empty.warc <<< key=x
+check "serve: 65,536 bytes"             "$(lines "refused Unknown" .)" ""  0 serve sorted.cdxj < <(printf a | repeated 65536)
+check "serve: 65,536 bytes, CR LF"      "$(lines "refused Unknown" .)" ""  0 serve sorted.cdxj < <(printf a | repeated 65536; printf '\r\n')
+check "serve: over 65,536 bytes" "$too_long" "" 0 serve sorted.cdxj < <(printf a | repeated 65537; echo; printf '\xff' | repeated 1000000; printf '\nkey=x\n')
+check "serve: not UTF-8" "$(lines "refused NotText" . .)" ""               0 serve sorted.cdxj < <(printf 'key=\xff\nkey=x\n')
+check "serve: out of order"             "$falls"         ""                0 serve falling.cdxj <<< "$all"
+check "serve: goes on after a fault"    "$second_bad"    ""                0 serve 5.cdxj bad.cdxj < <(lines "$all" "$asked")
+check "serve: what was written stands"  "$breaks_off"    ""                0 serve late.cdxj < <(lines "$all" "$all&output=json" "url=example.com/q&fl=offset")
+check "serve: 1,024 indexes"            .                ""                0 serve $at_limit <<< key=x
+check "serve: 1,025 indexes"      "" "warcdx: TooManySources"              1 serve $too_many
+check "serve: a missing file"           ""               "$missing"        3 serve sorted.cdxj missing
+check "serve: missing, before too many" ""               "$missing"        3 serve missing $at_limit
+check "serve: a folder"    "" "warcdx: folder: Read"                       3 serve sorted.cdxj folder <<< key=x
+check "serve: - is a file's name"  "" "warcdx: -: cannot open"             3 serve - <<< key=x
+check "serve: the input is a folder"  "" "warcdx: Input"                   3 serve sorted.cdxj < folder
+
+of_archives="url=example.com/*&fl=urlkey,filename,offset"
+scanned=$(lines "com,example)/q both.warc 158" "com,example)/r both.warc 0" "com,example)/r r.warc 0")
+key_q="com%2Cexample%29%2Fq+20160919172024+both.warc+158"
+scanned_pages=$(lines "com,example)/q both.warc 158" "" "$key_q" "com,example)/r both.warc 0" "com,example)/r r.warc 0")
+scanned_on=$(lines "com,example)/r both.warc 0" "com,example)/r r.warc 0")
+scanned_keys=$(lines "com,example)/q both.warc 158" "" "$key_q" "com,example)/r both.warc 0")
+scanned_types=$(lines "com,example)/r m.warc 0" "com,example)/r r.warc 0")
+twice_r="warcdx: folder/r.warc: DuplicateName"
+
+check "scan: two archives"              "$scanned"       ""                0 scan 9 "$of_archives" r.warc both.warc
+check "scan: pages"                     "$scanned_pages" ""                0 scan 1,2 "$of_archives" r.warc both.warc
+check "scan: from a resume key"         "$scanned_on"    ""                0 scan 9 "$of_archives&resumeKey=$key_q" r.warc both.warc
+check "scan: by key"                    "$scanned_keys"  ""                0 scan 1 "$of_archives&collapse=urlkey" r.warc both.warc
+check "scan: cdxj"                      "$of_both"       ""                0 scan 9 "url=example.com/*&output=cdxj" both.warc
+check "scan: -"                         "com,example)/r - 0" ""            0 scan 9 "$of_archives" - < r.warc
+check "scan: nothing"                   ""               ""                0 scan 1 url=example.org same.warc empty.warc r.warc
+check "scan: nothing, json"             "$no_rows"       ""                0 scan 1 "url=example.org&output=json" empty.warc
+check "scan: a fault"                   ""               "$torn"           1 scan 1 "$of_archives" r.warc torn.warc
+check "scan: the first fault ends it"   ""               "$torn"           1 scan 1 "$of_archives" torn.warc folder r.warc r.warc
+check "scan: a file name twice"         ""               "$twice_r"        1 scan 1 "$of_archives" r.warc folder/r.warc
+check "scan: - twice"            "" "warcdx: -: DuplicateName"             1 scan 1 "$of_archives" - - < r.warc
+check "scan: a folder"           "" "warcdx: folder: fault 0 Read"         3 scan 1 "$of_archives" r.warc folder
+check "scan: a folder without a name"  "" "warcdx: folder/: BadName"       1 scan 1 "$of_archives" r.warc folder/
+check "scan: 1,024 archives"     "" "warcdx: empty.warc: DuplicateName"    1 scan 1 "$of_archives" $at_limit
+check "scan: 1,025 archives"     "" "warcdx: TooManySources"               1 scan 1 "$of_archives" $too_many
+check "scan: a refused query"    "" "warcdx: query: BadUrl"                1 scan 1 url= missing
+check "scan: a missing file"            ""               "$missing"        3 scan 1 "$of_archives" torn.warc missing
+check "scan: missing, before too many"  ""               "$missing"        3 scan 1 "$of_archives" missing $too_many
+
+check "scan: of the usual types"        ""               ""                0 scan 9 "$of_archives" m.warc
+check "scan: --types"            "com,example)/r m.warc 0" ""              0 scan --types metadata 9 "$of_archives" m.warc r.warc
+check "scan: --types, two"              "$scanned_types" ""                0 scan --types metadata,resource 9 "$of_archives" r.warc m.warc
+check "scan: --types, a refused query"  "" "warcdx: query: BadUrl"         1 scan --types metadata 1 url= missing
+
+flush="warcdx: cannot flush"
+write="warcdx: Write"
+
+for way in full closed broken; do
+    check_into $way "$way: one line"       "" "$flush"                       3 list same.warc
+    check_into $way "$way: many lines"     "" "$write"                       3 list many.warc
+    check_into $way "$way: verify, one"    "" "$flush"                       3 verify same.warc
+    check_into $way "$way: verify, many"   "" "$write"                       3 verify many.warc
+    check_into $way "$way: a fault"        "" "$flush"                       3 list cut.warc
+    check_into $way "$way: differs"        "" "$flush"                       3 verify differs.warc
+    check_into $way "$way: missing first"  "" "$(lines "$missing" "$flush")" 3 list missing same.warc
+    check_into $way "$way: Write ends it"  "" "$write"                       3 list many.warc missing
+    check_into $way "$way: index, one"     "" "$flush"                       3 index r.warc
+    check_into $way "$way: index, many"    "" "$write"                       3 index captures.warc
+    check_into $way "$way: index, a fault" "" "$(lines "$torn" "$flush")"    3 index torn.warc
+    check_into $way "$way: index, none"    "" ""                             0 index same.warc
+    check_into $way "$way: merge"          "" "$flush"                       3 merge sorted.cdxj
+    check_into $way "$way: check, one"     "" "$flush"                       3 check sorted.cdxj
+    check_into $way "$way: check, a fault" "" "$bad"                         1 check bad.cdxj
+    check_into $way "$way: query, short"   "" "$flush"                       3 query "$of_p" $apart
+    check_into $way "$way: query, many"    "" "$write"                       3 query "url=example.com/*" many.cdxj
+    check_into $way "$way: query, refused" "" "warcdx: query: BadUrl"        1 query url= missing
+    check_into $way "$way: query, a fault" "" "$bad"                         1 query "key=&matchType=prefix" bad.cdxj
+    check_into $way "$way: pages, short"   "" "$flush"                       3 pages 1 "$of_p" $apart
+    check_into $way "$way: pages, many"    "" "$write"                       3 pages 10 "url=example.com/*" many.cdxj
+    check_into $way "$way: serve, an empty page" "" "$write"                 3 serve sorted.cdxj <<< key=x
+    check_into $way "$way: serve, refused" "" "$write"                       3 serve sorted.cdxj <<< ""
+    check_into $way "$way: serve, many"    "" "$write"                       3 serve many.cdxj < <(lines "$all" "$all")
+    check_into $way "$way: serve, no lines" "" ""                            0 serve sorted.cdxj < empty.warc
+    check_into $way "$way: scan, short"    "" "$flush"                       3 scan 1 "$of_archives" r.warc
+    check_into $way "$way: scan, many"     "" "$write"                       3 scan 1000 "$of_archives" captures.warc
+    check_into $way "$way: scan, a fault"  "" "$torn"                        1 scan 1 "$of_archives" r.warc torn.warc
+    check_into $way "$way: get, short"     "" "$flush"                       3 get 0 r.warc
+    check_into $way "$way: get, long"      "" "$write"                       3 get 0 large.warc
+    check_into $way "$way: get, none"      "" "$none"                        1 get 1 r.warc
+done
+exit "$differing"
