@@ -1,4 +1,6 @@
 pub mod AddedArchive
+pub mod EachLemmas
 pub mod LastSlash
 pub mod NamedLemmas
+pub mod OpeningLemmas
 mod WordsLemmas

@@ -8,6 +8,8 @@ use Rattle.query_core.specs.declared.fault.AnswerFault.TheVariants as answers
 use Rattle.query_core.specs.Checking.{IsChecked, IsCheckFault}
 use Rattle.warcdx.specs.declared.outcome.Outcome.{Outcome}
 use Rattle.warcdx.specs.declared.outcome.Outcome.TheVariants as outcomes
+use Rattle.warcdx.specs.Each.{GoesOver}
+use Rattle.warcdx.specs.Opening.{IsUnopenedIndex, OpensFirst}
 
 abbrev pub count_text : ℕ → List ℕ
 count_text count = codes " " ++ decimal count ++ codes "\n"
@@ -28,3 +30,12 @@ pub record ChecksIndex (name : List ℕ) (index : Option (List ℕ)) (outcome : 
   pub checked : (text : List ℕ) → index ≡ Some text → IsChecked LINE_LIMIT text answer
   pub fault : IfErr answer IsCheckFault
   pub written : MatchResult answer (λ count. WritesCount name count outcome before after) (λ fault. (outcome ≡ outcomes.Answer fault) × (after ≡ before))
+
+-- the index of this name was checked, unless it couldn't be opened
+abbrev pub ChecksOne : (List ℕ → Option (List ℕ)) → Option (List ℕ) → List ℕ → Outcome → Option (List ℕ) → Type 0
+ChecksOne bytes_of before name outcome after =
+    OpensFirst (IsUnopenedIndex outcome) (after ≡ before) (ChecksIndex name (bytes_of name) outcome before after)
+
+-- the indexes of these names were checked, one after another
+abbrev pub ChecksIndexes : (List ℕ → Option (List ℕ)) → List (List ℕ) → Option (List ℕ) → Option (List ℕ) → Outcome → Type 0
+ChecksIndexes bytes_of names before after outcome = GoesOver (ChecksOne bytes_of) outcomes.Done before names outcome after

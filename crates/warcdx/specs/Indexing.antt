@@ -1,9 +1,10 @@
 -- The name of an archive in an index, its adding, and the writing of an index.
-use Rattle.std.specs.Prelude.{◌≡◌, ◌↔◌, ℕ, List, Option, Bool, true, ◌==◌, Result, Ok, Err, IfErr}
+use Rattle.std.specs.Prelude.{◌≡◌, ◌↔◌, ℕ, List, Option, Bool, true, ◌==◌, Result, Ok, Err, IfErr, MatchBool, []}
 use Rattle.std.specs.List.{after_last}
 use Rattle.devices.specs.Writing.{WritesText}
 use Rattle.warc_core.specs.declared.next.TheConstants.{HEAD_LIMIT}
 use Rattle.capture_core.specs.Types.{includes}
+use Rattle.capture_core.specs.declared.types.Types.{Types}
 use Rattle.capture_core.specs.CaptureAnswer.{usual_limits}
 use Rattle.index_core.specs.declared.fault.IndexFault.{IndexFault}
 use Rattle.index_core.specs.declared.fault.IndexFault.TheVariants as faults
@@ -11,7 +12,9 @@ use Rattle.index_core.specs.Adding.{Adds}
 use Rattle.index_core.specs.Indexing.{Held, IsName, IsWriteFault, index_text, is_among}
 use Rattle.warcdx.specs.declared.outcome.Outcome.{Outcome}
 use Rattle.warcdx.specs.declared.outcome.Outcome.TheVariants as outcomes
-use Rattle.warcdx.specs.Outcome.{outcome_of}
+use Rattle.warcdx.specs.Each.{GoesOver}
+use Rattle.warcdx.specs.Opening.{IsUnopened, OpensFirst}
+use Rattle.warcdx.specs.Outcome.{outcome_of, ends_command}
 
 -- `/`
 abbrev pub is_slash : ℕ → Bool
@@ -39,3 +42,19 @@ abbrev pub WritesIndex : Held → Outcome → Option (List ℕ) → Option (List
 WritesIndex held added before after outcome =
     (answer : Result ℕ IndexFault) × (outcome ≡ unless_refused added answer) × IfErr answer IsWriteFault
     × WritesText answer before after (index_text held.captures)
+
+-- the archive of this name was added, unless it couldn't be opened
+abbrev pub AddsOne : (List ℕ → Option (List ℕ)) → Held → List ℕ → Outcome → Held → Type 0
+AddsOne bytes_of old name outcome new =
+    OpensFirst (IsUnopened outcome) (new ≡ old) (AddsArchive name (bytes_of name) old new outcome)
+
+-- nothing, of these types
+abbrev pub nothing_of : Types → Held
+nothing_of chosen = record { types = chosen; names = []; captures = [] }
+
+-- the archives of these names were added, one after another, and the index of what was added was written, unless adding ended the
+-- command
+abbrev pub IndexesArchives : (List ℕ → Option (List ℕ)) → Types → List (List ℕ) → Option (List ℕ) → Option (List ℕ) → Type 0 → Outcome → Type 0
+IndexesArchives bytes_of types names before after unchanged outcome =
+    (held : Held) × (added : Outcome) × GoesOver (AddsOne bytes_of) outcomes.Done (nothing_of types) names added held
+    × MatchBool (ends_command added) ((outcome ≡ added) × unchanged) (WritesIndex held added before after outcome)

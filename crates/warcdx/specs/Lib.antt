@@ -3,7 +3,9 @@ pub mod Each
 pub mod Fetching
 pub mod Indexing
 pub mod Merging
+pub mod Opening
 pub mod Outcome
+pub mod Performing
 pub mod Queries
 pub mod Reports
 pub mod Scanning

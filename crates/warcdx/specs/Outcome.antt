@@ -1,5 +1,5 @@
 -- How commands end, and the status of the process.
-use Rattle.std.specs.Prelude.{◌≡◌, ℕ, List, ⊤, Bool, true, false, nat_lt, if◌then◌else◌, Option, Some, None, Result, Ok, Err, codes}
+use Rattle.std.specs.Prelude.{ℕ, List, ⊤, Bool, true, false, nat_lt, if◌then◌else◌, Option, Some, None, Result, Ok, Err, codes}
 use Rattle.warc_core.specs.declared.fault.Cause.{Cause}
 use Rattle.warc_core.specs.declared.fault.Cause.TheVariants as causes
 use Rattle.capture_core.specs.declared.fault.CaptureFault.{CaptureFault}
@@ -116,17 +116,6 @@ message_of (outcomes.Answer answers.TooManySources) = Some (codes "TooManySource
 message_of (outcomes.Answer answers.Input) = Some (codes "Input")
 message_of outcomes.CannotFlush = Some (codes "cannot flush")
 message_of outcome = None
-
--- a file isn't opened for want of memory, or where it can't be
-abbrev pub IsUnopened : Outcome → Type 0
-IsUnopened (outcomes.Index faults.Memory) = ⊤
-IsUnopened outcomes.CannotOpen = ⊤
-IsUnopened outcome = ⊥
-
--- nor an index whose size can't be asked
-abbrev pub IsUnopenedIndex : Outcome → Type 0
-IsUnopenedIndex (outcomes.Answer (answers.Read i)) = i ≡ 0
-IsUnopenedIndex outcome = IsUnopened outcome
 
 -- help was printed, or couldn't be
 abbrev pub IsHelpOutcome : Outcome → Type 0

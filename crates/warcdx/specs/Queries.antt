@@ -1,5 +1,5 @@
 -- The reading of a query text by a command, the answers that it writes, and the replies to lines of queries.
-use Rattle.std.specs.Prelude.{◌≡◌, ◌≢◌, ℕ, true, List, Option, Result, Ok, Err, IfOk, IfErr}
+use Rattle.std.specs.Prelude.{◌≡◌, ◌≢◌, ◌⊎◌, ℕ, true, List, Option, Result, Ok, Err, IfOk, IfErr}
 use Rattle.devices.specs.Device.{AppendsPrefix}
 use Rattle.cdxj_core.specs.declared.limit.TheConstants.{LINE_LIMIT}
 use Rattle.cdxj_core.specs.Indexes.{IsIndex}
@@ -25,6 +25,11 @@ abbrev pub ReadsQuery : List ℕ → Result QueryValue Outcome → Type 0
 ReadsQuery text (Ok query) = query_of QUERY_LIMIT text ≡ Ok query
 ReadsQuery text (Err (outcomes.Query fault)) = fault ≢ queries.Memory → query_of QUERY_LIMIT text ≡ Err fault
 ReadsQuery text (Err outcome) = ⊥
+
+-- the query text was read and this was done with the query, or it is refused and nothing was written
+abbrev pub ReadsFirst : List ℕ → Outcome → Type 0 → (QueryValue → Type 0) → Type 0
+ReadsFirst text outcome unchanged Done =
+    ((query : QueryValue) × (query_of QUERY_LIMIT text ≡ Ok query) × Done query) ⊎ (ReadsQuery text (Err outcome) × unchanged)
 
 -- how a call on indexes ended
 abbrev pub answered_outcome : {A : Type 0} → Result A AnswerFault → Outcome

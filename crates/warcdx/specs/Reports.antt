@@ -1,5 +1,5 @@
 -- The reports on archives that a command writes.
-use Rattle.std.specs.Prelude.{◌≡◌, ◌⊎◌, ℕ, List, [], ◌++◌, Option, Result, codes, nat_lt, if◌then◌else◌}
+use Rattle.std.specs.Prelude.{◌≡◌, ◌⊎◌, ℕ, List, [], ◌++◌, length, Option, Result, codes, nat_lt, if◌then◌else◌}
 use Rattle.std.specs.Io.KnownBytes.{Appends}
 use Rattle.devices.specs.Device.{AppendsPrefix}
 use Rattle.warc_core.specs.declared.next.TheConstants.{HEAD_LIMIT}
@@ -12,6 +12,8 @@ use Rattle.warcdx.specs.declared.outcome.Outcome.{Outcome}
 use Rattle.warcdx.specs.declared.outcome.Outcome.TheVariants as outcomes
 use Rattle.warcdx.specs.declared.reports.ArchiveReport.{ArchiveReport}
 use Rattle.warcdx.specs.declared.reports.ArchiveReport.TheVariants as reports
+use Rattle.warcdx.specs.Each.{GoesOver}
+use Rattle.warcdx.specs.Opening.{IsUnopened, OpensFirst}
 use Rattle.warcdx.specs.Outcome.{outcome_of, verification_outcome}
 
 -- `NAME:`
@@ -34,3 +36,13 @@ abbrev pub WritesBelow : List ℕ → ArchiveReport → Option (List ℕ) → Ou
 WritesBelow heading report archive outcome before after =
     ((headed : Option (List ℕ)) × Appends before headed heading × WritesReport report archive outcome headed after)
     ⊎ ((outcome ≡ outcomes.Index faults.Write) × AppendsPrefix before after heading)
+
+-- the report on the archive of this name, which is one of so many, was written, unless it couldn't be opened
+abbrev pub ReportsOnOne : (List ℕ → Option (List ℕ)) → ArchiveReport → ℕ → Option (List ℕ) → List ℕ → Outcome → Option (List ℕ) → Type 0
+ReportsOnOne bytes_of report count before name outcome after =
+    OpensFirst (IsUnopened outcome) (after ≡ before) (WritesBelow (heading_among count name) report (bytes_of name) outcome before after)
+
+-- the reports on the archives of these names were written, one after another
+abbrev pub ReportsOn : (List ℕ → Option (List ℕ)) → ArchiveReport → List (List ℕ) → Option (List ℕ) → Option (List ℕ) → Outcome → Type 0
+ReportsOn bytes_of report names before after outcome =
+    GoesOver (ReportsOnOne bytes_of report (length names)) outcomes.Done before names outcome after

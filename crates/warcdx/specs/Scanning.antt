@@ -5,12 +5,24 @@ use Rattle.scan_core.specs.declared.fault.ScanFault.{ScanFault}
 use Rattle.scan_core.specs.declared.fault.ScanFault.TheVariants as scans
 use Rattle.scan_core.specs.declared.named.Named.{Named}
 use Rattle.scan_core.specs.Scanning.{Scanned, ScannedInPart, IsScanFault, IsEarly}
+use Rattle.warcdx.specs.Indexing.{file_name}
+use Rattle.warcdx.specs.Opening.{IsUnopened, OpensFirst}
+use Rattle.warcdx.specs.Queries.{ReadsFirst}
 use Rattle.warcdx.specs.declared.outcome.Outcome.{Outcome}
 use Rattle.warcdx.specs.declared.outcome.Outcome.TheVariants as outcomes
 
 -- the names under which archives are scanned
 abbrev pub archive_names : {I : Type 0} → List (Named I) → List (List ℕ)
 archive_names archives = map (λ archive. string_bytes archive.name) archives
+
+-- the archives that are scanned
+abbrev pub inputs : {I : Type 0} → List (Named I) → List I
+inputs archives = map (λ archive. archive.input) archives
+
+-- archives of these names were opened: each stands under its file name and has its bytes
+pub record AreOpened {I : Type 0} (remaining : I → Option (List ℕ)) (bytes_of : List ℕ → Option (List ℕ)) (names : List (List ℕ)) (archives : List (Named I)) : Type 0 where
+  pub named : archive_names archives ≡ map file_name names
+  pub bytes : map (λ archive. remaining archive.input) archives ≡ map bytes_of names
 
 -- how a scan ended
 abbrev pub scan_outcome : {A : Type 0} → Result A ScanFault → Outcome
@@ -27,3 +39,10 @@ pub record ScansArchives (types : Kind → Bool) (names : List (List ℕ)) (inpu
   pub fault : IfErr answer (IsScanFault types names inputs sizes query)
   pub part : IfErr answer (λ fault. (IsEarly fault → ⊥) → ScannedInPart types names inputs sizes query before after)
   pub unwritten : IfErr answer (λ fault. IsEarly fault → after ≡ before)
+
+-- the query text was read, the archives of these names were opened, and then they were scanned under their file names; or nothing was
+-- written, as the query is refused or an archive can't be opened
+abbrev pub ScansNamed : (List ℕ → Option (List ℕ)) → (Kind → Bool) → List ℕ → List ℕ → List (List ℕ) → Option (List ℕ) → Option (List ℕ) → Type 0 → Outcome → Type 0
+ScansNamed bytes_of types sizes query names before after unchanged outcome = ReadsFirst query outcome unchanged (λ _.
+    OpensFirst (IsUnopened outcome) unchanged
+    (ScansArchives types (map file_name names) (map bytes_of names) sizes query before after outcome))

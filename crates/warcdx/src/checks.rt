@@ -2,10 +2,12 @@
 ghost use Rattle.std.specs.Prelude.{◌≡◌, ◌++◌, MatchResult};
 ghost use Rattle.devices.specs.Device.{CountsFailure};
 ghost use Rattle.devices.specs.Writing.{WritesText};
-ghost use Rattle.warcdx.specs.Checks.{ChecksIndex, WritesCount, checked_line, count_text};
+ghost use Rattle.command_line.specs.Words.{texts};
+ghost use Rattle.warcdx.specs.Checks.{ChecksIndex, ChecksIndexes, ChecksOne, WritesCount, checked_line, count_text};
 
-use crate::archives::{open_index, with_each};
+use crate::each::with_each;
 use crate::faults::say_answer_fault;
+use crate::opening::Opener;
 use crate::outcome::Outcome;
 use arrayvec::ArrayString;
 use devices::DeviceFault;
@@ -15,14 +17,20 @@ use std::rt::Runtime;
 use warc_core::{Output, put};
 
 /// Checks each index, and writes the number of its lines. Faults of an index are reported on standard error.
-pub fn check_all<R: Runtime + AllocGlobal, O: Output>(
+pub fn check_all<R: Runtime + AllocGlobal, F: Opener, O: Output>(
     rt: &R,
+    files: &F,
     names: &[String],
     out: &mut O,
-) -> Outcome {
+) -> Outcome
+    ensures { ChecksIndexes (F.index_bytes files.now) (texts names.now) (O.written out.old) (O.written out.new) result }
+{
     with_each(
         names,
-        |name| check_opened(rt, name, open_index(rt, name), out),
+        out,
+        |out, name|
+            ensures { ChecksOne (F.index_bytes files.entry.now) (O.written out.old) name.now result (O.written out.new) }
+        { check_opened(rt, name, files.open_index(name), out) },
     )
 }
 

@@ -1,9 +1,11 @@
 //! Conversations over indexes.
-ghost use Rattle.std.specs.Prelude.{map};
+ghost use Rattle.std.specs.Prelude.{◌≡◌, map};
+ghost use Rattle.command_line.specs.Words.{texts};
+ghost use Rattle.warcdx.specs.Opening.{OpensFirst, AreUnopenedIndexes};
 ghost use Rattle.warcdx.specs.Queries.{AnswersLines};
 
-use crate::archives::open_indexes;
 use crate::faults::say_source_fault;
+use crate::opening::{Opener, open_indexes};
 use crate::outcome::Outcome;
 use query_core::{Source, serve};
 use std::rt::Runtime;
@@ -11,14 +13,19 @@ use warc_core::{Input, Output};
 
 /// Answers the queries of an input over the indexes of these names. All indexes are opened before a line is read.
 /// Faults are reported on standard error.
-pub fn serve_all<R: Runtime + AllocGlobal, I: Input, O: Output>(
+pub fn serve_all<R: Runtime + AllocGlobal, F: Opener, I: Input, O: Output>(
     rt: &R,
+    files: &F,
     names: &[String],
     input: &mut I,
     out: &mut O,
-) -> Outcome {
-    match open_indexes(rt, names) {
-        Ok(mut sources) => serve_opened(rt, names, &mut sources, input, out),
+) -> Outcome
+    ensures { OpensFirst (AreUnopenedIndexes result) (out.new ≡ out.old)
+        (AnswersLines (map (F.index_bytes files.now) (texts names.now)) (I.remaining input.old)
+        (O.written out.old) (O.written out.new) result) }
+{
+    match open_indexes(rt.alloc(), files, names) {
+        Ok(mut indexes) => serve_opened(rt, names, &mut indexes, input, out),
         Err(outcome) => outcome,
     }
 }

@@ -3,23 +3,28 @@ ghost use Rattle.std.specs.Prelude.{◌≡◌, IfErr, MatchResult};
 ghost use Rattle.index_core.specs.Fetching.{IsMetBefore};
 ghost use Rattle.index_core.specs.Counting.{CountsWrite};
 ghost use Rattle.warcdx.specs.Fetching.{WritesRecord};
+ghost use Rattle.warcdx.specs.Opening.{IsUnopened, OpensFirst};
 ghost use Rattle.warcdx.specs.Outcome.{answer_of};
 
-use crate::archives::open;
 use crate::faults::said_outcome;
+use crate::opening::Opener;
 use crate::outcome::Outcome;
 use index_core::get;
 use std::rt::Runtime;
 use warc_core::{Input, Output};
 
 /// Writes the record that begins at the offset of the archive of this name; `-` is standard input.
-pub fn fetch<R: Runtime + AllocGlobal, O: Output>(
+pub fn fetch<R: Runtime + AllocGlobal, F: Opener, O: Output>(
     rt: &R,
+    files: &F,
     offset: u64,
     name: &str,
     out: &mut O,
-) -> Outcome {
-    fetch_opened(rt, offset, name, open(rt, name), out)
+) -> Outcome
+    ensures { OpensFirst (IsUnopened result) (out.new ≡ out.old)
+        (WritesRecord offset (F.archive_bytes files.now name.now) result (O.written out.old) (O.written out.new)) }
+{
+    fetch_opened(rt, offset, name, files.open_archive(name), out)
 }
 
 /// Writes the record of an archive, unless the archive couldn't be opened.

@@ -1,11 +1,14 @@
 //! The indexing of archives.
 ghost use Rattle.std.specs.Prelude.{◌≡◌, true, false, MatchResult};
 ghost use Rattle.index_core.specs.Counting.{CountsWrite};
-ghost use Rattle.warcdx.specs.Indexing.{AddsArchive, WritesIndex};
+ghost use Rattle.command_line.specs.Words.{texts};
+ghost use Rattle.warcdx.specs.Indexing.{AddsArchive, AddsOne, IndexesArchives, WritesIndex};
 ghost use Rattle.warcdx.specs.Outcome.{answer_of, ends_command};
 
-use crate::archives::{file_name, open, with_each};
+use crate::archive_names::file_name;
+use crate::each::with_each;
 use crate::faults::said_outcome;
+use crate::opening::Opener;
 use crate::outcome::Outcome;
 use crate::status::ends_command;
 use capture_core::Types;
@@ -15,16 +18,23 @@ use warc_core::{Input, Output};
 
 /// Writes one index of the archives' records of these types. An archive that can't be read to its end is indexed up to
 /// the fault. If memory failed before the index is written, nothing is written.
-pub fn index_all<R: Runtime + AllocGlobal, O: Output>(
+pub fn index_all<R: Runtime + AllocGlobal, F: Opener, O: Output>(
     rt: &R,
+    files: &F,
     types: Types,
     names: &[String],
     out: &mut O,
-) -> Outcome {
+) -> Outcome
+    ensures { IndexesArchives (F.archive_bytes files.now) types (texts names.now)
+        (O.written out.old) (O.written out.new) (out.new ≡ out.old) result }
+{
     let mut indexer = Indexer::new(rt.alloc(), types);
     let added = with_each(
         names,
-        |name| add_opened(rt, &mut indexer, name, open(rt, name)),
+        &mut indexer,
+        |indexer, name|
+            ensures { AddsOne (F.archive_bytes files.entry.now) indexer.old name.now result indexer.new }
+        { add_opened(rt, indexer, name, files.open_archive(name)) },
     );
     write_index(&indexer, added, out)
 }

@@ -3,13 +3,15 @@
 //! The definitions begin in `specs/Outcome.antt`: how a command ends, and its exit status.
 #![tactic(auto)]
 
-mod archives;
+mod archive_names;
 mod checks;
 mod conversing;
+mod each;
 mod faults;
 mod fetching;
 mod indexing;
 mod merging;
+mod opening;
 mod outcome;
 mod program;
 mod queries;

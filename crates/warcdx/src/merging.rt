@@ -1,9 +1,11 @@
 //! The merging of indexes.
-ghost use Rattle.std.specs.Prelude.{map};
+ghost use Rattle.std.specs.Prelude.{◌≡◌, map};
+ghost use Rattle.command_line.specs.Words.{texts};
 ghost use Rattle.warcdx.specs.Merging.{MergesIndexes};
+ghost use Rattle.warcdx.specs.Opening.{OpensFirst, AreUnopenedIndexes};
 
-use crate::archives::open_indexes;
 use crate::faults::say_source_fault;
+use crate::opening::{Opener, open_indexes};
 use crate::outcome::Outcome;
 use query_core::{Source, merge};
 use std::rt::Runtime;
@@ -11,13 +13,17 @@ use warc_core::Output;
 
 /// Merges the indexes. All of them are opened before the first is read. Faults of an index are reported on standard
 /// error.
-pub fn merge_all<R: Runtime + AllocGlobal, O: Output>(
+pub fn merge_all<R: Runtime + AllocGlobal, F: Opener, O: Output>(
     rt: &R,
+    files: &F,
     names: &[String],
     out: &mut O,
-) -> Outcome {
-    match open_indexes(rt, names) {
-        Ok(mut sources) => merge_opened(rt, names, &mut sources, out),
+) -> Outcome
+    ensures { OpensFirst (AreUnopenedIndexes result) (out.new ≡ out.old)
+        (MergesIndexes (map (F.index_bytes files.now) (texts names.now)) (O.written out.old) (O.written out.new) result) }
+{
+    match open_indexes(rt.alloc(), files, names) {
+        Ok(mut indexes) => merge_opened(rt, names, &mut indexes, out),
         Err(outcome) => outcome,
     }
 }

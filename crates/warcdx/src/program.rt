@@ -1,8 +1,9 @@
 //! What the program does with its arguments and its output.
 ghost use Rattle.std.specs.Prelude.{◌≡◌};
-ghost use Rattle.command_line.specs.Commands.{asked};
+ghost use Rattle.command_line.specs.Commands.{asked, view};
 ghost use Rattle.command_line.specs.Words.{texts};
 ghost use Rattle.warcdx.specs.Outcome.{IsHelpOutcome};
+ghost use Rattle.warcdx.specs.Performing.{Performs};
 ghost use Rattle.warcdx.specs.Words.{EndsWords};
 
 use crate::checks::check_all;
@@ -10,6 +11,7 @@ use crate::conversing::serve_all;
 use crate::fetching::fetch;
 use crate::indexing::index_all;
 use crate::merging::merge_all;
+use crate::opening::{Opener, System};
 use crate::outcome::{Outcome, flushed_outcome, message};
 use crate::queries::{answer_query, write_pages};
 use crate::reports::{ArchiveReport, report_on};
@@ -20,7 +22,7 @@ use index_core::IndexFault;
 use std::env;
 use std::io::{self, BufWriter, ErrorKind, Write};
 use std::rt::Runtime;
-use warc_core::{FromRead, FromWrite, Output};
+use warc_core::{FromWrite, Output};
 
 const MEMORY: Outcome = Outcome::Index(IndexFault::Memory);
 
@@ -83,34 +85,42 @@ fn run_task<R: Runtime + AllocGlobal>(rt: &R, task: &Task) -> Outcome {
         return say_outcome(rt, MEMORY);
     };
     let outcome = match task {
-        Task::Serve { .. } => perform(rt, task, &mut Prompt::new(&mut writer)),
-        _ => perform(rt, task, &mut FromWrite::new(&mut writer)),
+        Task::Serve { .. } => perform(rt, &System::new(rt), task, &mut Prompt::new(&mut writer)),
+        _ => perform(rt, &System::new(rt), task, &mut FromWrite::new(&mut writer)),
     };
     let flushed = writer.flush();
     say_outcome(rt, flushed_outcome(outcome, flushed.is_ok()))
 }
 
 /// Performs the task with this output.
-pub fn perform<R: Runtime + AllocGlobal, O: Output>(rt: &R, task: &Task, out: &mut O) -> Outcome {
+pub fn perform<R: Runtime + AllocGlobal, F: Opener, O: Output>(
+    rt: &R,
+    files: &F,
+    task: &Task,
+    out: &mut O,
+) -> Outcome
+    ensures { Performs (F.archive_bytes files.now) (F.index_bytes files.now) (F.input_bytes files.now)
+        (O.written out.old) (O.written out.new) (out.new ≡ out.old) result (view task.now) }
+{
     match task {
-        Task::List { names } => report_on(rt, names, ArchiveReport::Listing, out),
-        Task::Verify { names } => report_on(rt, names, ArchiveReport::Verdicts, out),
-        Task::Index { types, names } => index_all(rt, *types, names, out),
-        Task::Merge { names } => merge_all(rt, names, out),
-        Task::Check { names } => check_all(rt, names, out),
-        Task::Query { query, names } => answer_query(rt, query, names, out),
+        Task::List { names } => report_on(rt, files, names, ArchiveReport::Listing, out),
+        Task::Verify { names } => report_on(rt, files, names, ArchiveReport::Verdicts, out),
+        Task::Index { types, names } => index_all(rt, files, *types, names, out),
+        Task::Merge { names } => merge_all(rt, files, names, out),
+        Task::Check { names } => check_all(rt, files, names, out),
+        Task::Query { query, names } => answer_query(rt, files, query, names, out),
         Task::Pages {
             sizes,
             query,
             names,
-        } => write_pages(rt, sizes, query, names, out),
-        Task::Serve { names } => serve_all(rt, names, &mut FromRead::new(rt.reader()), out),
-        Task::Get { offset, name } => fetch(rt, *offset, name, out),
+        } => write_pages(rt, files, sizes, query, names, out),
+        Task::Serve { names } => serve_all(rt, files, names, &mut files.input(), out),
+        Task::Get { offset, name } => fetch(rt, files, *offset, name, out),
         Task::Scan {
             types,
             sizes,
             query,
             names,
-        } => scan_all(rt, *types, sizes, query, names, out),
+        } => scan_all(rt, files, *types, sizes, query, names, out),
     }
 }

@@ -1,52 +1,91 @@
 //! The answers to queries.
-ghost use Rattle.std.specs.Prelude.{map};
-ghost use Rattle.warcdx.specs.Queries.{AnswersPages, AnswersQuery, ReadsQuery};
+ghost use Rattle.std.specs.Prelude.{◌≡◌, map};
+ghost use Rattle.command_line.specs.Words.{texts};
+ghost use Rattle.warcdx.specs.Opening.{OpensFirst, AreUnopenedIndexes};
+ghost use Rattle.warcdx.specs.Queries.{AnswersPages, AnswersQuery, ReadsFirst, ReadsQuery};
 
-use crate::archives::open_indexes;
 use crate::faults::{say_query_fault, say_source_fault};
+use crate::opening::{Opener, open_indexes};
 use crate::outcome::Outcome;
-use query_core::{FileSource, Query, Source, answer, pages};
-use std::fs::Files;
+use query_core::{Query, Source, answer, pages};
 use std::rt::Runtime;
 use warc_core::Output;
 
 /// Writes the page that the query text asks for over the indexes of these names. Faults are reported on standard error.
-pub fn answer_query<R: Runtime + AllocGlobal, O: Output>(
+pub fn answer_query<R: Runtime + AllocGlobal, F: Opener, O: Output>(
     rt: &R,
+    files: &F,
     query: &str,
     names: &[String],
     out: &mut O,
-) -> Outcome {
-    match read_and_open(rt, query, names) {
-        Ok((query, mut sources)) => answer_opened(rt, &query, names, &mut sources, out),
+) -> Outcome
+    ensures { ReadsFirst query.now result (out.new ≡ out.old) (λ query.
+        OpensFirst (AreUnopenedIndexes result) (out.new ≡ out.old)
+        (AnswersQuery query (map (F.index_bytes files.now) (texts names.now))
+        (O.written out.old) (O.written out.new) result)) }
+{
+    match read_query(rt, query) {
+        Ok(query) => open_and_answer(rt, files, &query, names, out),
+        Err(outcome) => outcome,
+    }
+}
+
+/// Opens the indexes of these names, and writes the page of the query.
+fn open_and_answer<R: Runtime + AllocGlobal, F: Opener, O: Output>(
+    rt: &R,
+    files: &F,
+    query: &Query,
+    names: &[String],
+    out: &mut O,
+) -> Outcome
+    ensures { OpensFirst (AreUnopenedIndexes result) (out.new ≡ out.old)
+        (AnswersQuery query.now (map (F.index_bytes files.now) (texts names.now))
+        (O.written out.old) (O.written out.new) result) }
+{
+    match open_indexes(rt.alloc(), files, names) {
+        Ok(mut indexes) => answer_opened(rt, query, names, &mut indexes, out),
         Err(outcome) => outcome,
     }
 }
 
 /// Writes all pages of the query text, each of its size. The last size is repeated. Faults are reported on standard
 /// error.
-pub fn write_pages<R: Runtime + AllocGlobal, O: Output>(
+pub fn write_pages<R: Runtime + AllocGlobal, F: Opener, O: Output>(
     rt: &R,
+    files: &F,
     sizes: &[u64],
     query: &str,
     names: &[String],
     out: &mut O,
-) -> Outcome {
-    match read_and_open(rt, query, names) {
-        Ok((query, mut sources)) => pages_opened(rt, sizes, &query, names, &mut sources, out),
+) -> Outcome
+    ensures { ReadsFirst query.now result (out.new ≡ out.old) (λ query.
+        OpensFirst (AreUnopenedIndexes result) (out.new ≡ out.old)
+        (AnswersPages query sizes.now (map (F.index_bytes files.now) (texts names.now))
+        (O.written out.old) (O.written out.new) result)) }
+{
+    match read_query(rt, query) {
+        Ok(query) => open_and_write_pages(rt, files, sizes, &query, names, out),
         Err(outcome) => outcome,
     }
 }
 
-/// Reads the query text, and then opens the indexes. Returns the outcome of the first that fails, if there is one.
-fn read_and_open<R: Runtime + AllocGlobal>(
+/// Opens the indexes of these names, and writes the pages of the query.
+fn open_and_write_pages<R: Runtime + AllocGlobal, F: Opener, O: Output>(
     rt: &R,
-    query: &str,
+    files: &F,
+    sizes: &[u64],
+    query: &Query,
     names: &[String],
-) -> Result<(Query, Vec<FileSource<<R as Files>::File>>), Outcome> {
-    let query = read_query(rt, query)?;
-    let sources = open_indexes(rt, names)?;
-    Ok((query, sources))
+    out: &mut O,
+) -> Outcome
+    ensures { OpensFirst (AreUnopenedIndexes result) (out.new ≡ out.old)
+        (AnswersPages query.now sizes.now (map (F.index_bytes files.now) (texts names.now))
+        (O.written out.old) (O.written out.new) result) }
+{
+    match open_indexes(rt.alloc(), files, names) {
+        Ok(mut indexes) => pages_opened(rt, sizes, query, names, &mut indexes, out),
+        Err(outcome) => outcome,
+    }
 }
 
 /// Reads a query text. Why it is refused is reported on standard error.

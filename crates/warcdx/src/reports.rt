@@ -3,10 +3,12 @@ ghost use Rattle.std.specs.Prelude.{◌≡◌, MatchResult};
 ghost use Rattle.devices.specs.Device.{CountsFailure};
 ghost use Rattle.devices.specs.Writing.{WritesText};
 ghost use Rattle.index_core.specs.Counting.{CountsWrite, CountsInput};
+ghost use Rattle.command_line.specs.Words.{texts};
 ghost use Rattle.warcdx.specs.Outcome.{answer_of};
-ghost use Rattle.warcdx.specs.Reports.{WritesReport, WritesBelow, heading, heading_among};
+ghost use Rattle.warcdx.specs.Reports.{ReportsOn, ReportsOnOne, WritesReport, WritesBelow, heading, heading_among};
 
-use crate::archives::{open, with_each};
+use crate::each::with_each;
+use crate::opening::Opener;
 use crate::outcome::{Outcome, outcome_of, verification_outcome};
 use devices::DeviceFault;
 use index_core::{IndexFault, list, verify};
@@ -24,15 +26,32 @@ pub enum ArchiveReport {
 }
 
 /// Writes the report on each archive. If there are several archives, each report stands under the name of its archive.
-pub fn report_on<R: Runtime + AllocGlobal, O: Output>(
+pub fn report_on<R: Runtime + AllocGlobal, F: Opener, O: Output>(
     rt: &R,
+    files: &F,
     names: &[String],
     report: ArchiveReport,
     out: &mut O,
-) -> Outcome {
+) -> Outcome
+    ensures { ReportsOn (F.archive_bytes files.now) report (texts names.now) (O.written out.old) (O.written out.new) result }
+{
+    let among = names.len();
     with_each(
         names,
-        |name| report_on_opened(rt.alloc(), name, names.len(), report, open(rt, name), out),
+        out,
+        |out, name|
+            ensures { ReportsOnOne (F.archive_bytes files.entry.now) report among
+                (O.written out.old) name.now result (O.written out.new) }
+        {
+            report_on_opened(
+                rt.alloc(),
+                name,
+                among,
+                report,
+                files.open_archive(name),
+                out,
+            )
+        },
     )
 }
 

@@ -1,11 +1,14 @@
 //! Queries over archives.
-ghost use Rattle.std.specs.Prelude.{◌≡◌, ◌∷◌, ◌++◌, [], IfOk, map, string_bytes};
+ghost use Rattle.std.specs.Prelude.{◌≡◌, ◌∷◌, ◌++◌, [], IfOk, MatchResult, map};
 ghost use Rattle.capture_core.specs.Types.{includes};
+ghost use Rattle.command_line.specs.Words.{texts};
 ghost use Rattle.warcdx.specs.Indexing.{file_name};
-ghost use Rattle.warcdx.specs.Scanning.{ScansArchives, archive_names, scan_outcome};
+ghost use Rattle.warcdx.specs.Opening.{IsUnopened, OpensFirst};
+ghost use Rattle.warcdx.specs.Scanning.{AreOpened, ScansArchives, ScansNamed, archive_names, inputs, scan_outcome};
 
-use crate::archives::{Archive, file_name, open};
+use crate::archive_names::file_name;
 use crate::faults::say_scan_fault;
+use crate::opening::Opener;
 use crate::outcome::Outcome;
 use crate::queries::read_query;
 use capture_core::Types;
@@ -17,44 +20,60 @@ use warc_core::{Input, Output};
 
 /// Writes the pages of the query text over the captures of these archives' records of these types. Each page has its
 /// size, and the last size is repeated. Faults are reported on standard error.
-pub fn scan_all<R: Runtime + AllocGlobal, O: Output>(
+pub fn scan_all<R: Runtime + AllocGlobal, F: Opener, O: Output>(
     rt: &R,
+    files: &F,
     types: Types,
     sizes: &[u64],
     query: &str,
     names: &[String],
     out: &mut O,
-) -> Outcome {
-    match archives_to_scan(rt, query, names) {
+) -> Outcome
+    ensures { ScansNamed (F.archive_bytes files.now) (includes types) sizes.now query.now (texts names.now)
+        (O.written out.old) (O.written out.new) (out.new ≡ out.old) result }
+{
+    match read_query(rt, query) {
+        Ok(_query) => open_and_scan(rt, files, types, sizes, query, names, out),
+        Err(outcome) => outcome,
+    }
+}
+
+/// Opens the archives of these names, and writes the pages of the query over them.
+fn open_and_scan<R: Runtime + AllocGlobal, F: Opener, O: Output>(
+    rt: &R,
+    files: &F,
+    types: Types,
+    sizes: &[u64],
+    query: &str,
+    names: &[String],
+    out: &mut O,
+) -> Outcome
+    ensures { OpensFirst (IsUnopened result) (out.new ≡ out.old)
+        (ScansArchives (includes types) (map file_name (texts names.now))
+        (map (F.archive_bytes files.now) (texts names.now)) sizes.now query.now
+        (O.written out.old) (O.written out.new) result) }
+{
+    match open_archives(rt.alloc(), files, names) {
         Ok(mut archives) => scan_opened(rt, types, sizes, query, names, &mut archives, out),
         Err(outcome) => outcome,
     }
 }
 
-/// Reads the query text, and then opens the archives.
-fn archives_to_scan<R: Runtime + AllocGlobal>(
-    rt: &R,
-    query: &str,
-    names: &[String],
-) -> Result<Vec<Named<Archive<R>>>, Outcome>
-    ensures { IfOk result (λ archives. archive_names archives.items ≡ map (λ name. file_name (string_bytes name)) names.now) }
-{
-    let _query = read_query(rt, query)?;
-    open_archives(rt, names)
-}
-
 /// Opens the archives of these arguments, under their file names. Returns the outcome of the first that can't be
 /// opened, if there is one.
-fn open_archives<R: Runtime + AllocGlobal>(
-    rt: &R,
+fn open_archives<F: Opener>(
+    alloc: Global,
+    files: &F,
     names: &[String],
-) -> Result<Vec<Named<Archive<R>>>, Outcome>
-    ensures { IfOk result (λ archives. archive_names archives.items ≡ map (λ name. file_name (string_bytes name)) names.now) }
+) -> Result<Vec<Named<F::Archive>>, Outcome>
+    ensures { MatchResult result
+        (λ archives. AreOpened F.Archive.remaining (F.archive_bytes files.now) (texts names.now) archives.items)
+        IsUnopened }
 {
-    let mut archives = Vec::new(rt.alloc());
+    let mut archives = Vec::new(alloc);
     for name in names {
-        let input = open(rt, name)?;
-        if push_named(rt.alloc(), &mut archives, file_name(name), input).is_err() {
+        let input = files.open_archive(name)?;
+        if push_named(alloc, &mut archives, file_name(name), input).is_err() {
             return Err(Outcome::Index(IndexFault::Memory));
         }
     }
@@ -67,7 +86,9 @@ fn push_named<I: Drop>(
     name: &str,
     input: I,
 ) -> Result<(), AllocError>
-    ensures { IfOk result (λ _. archive_names archives.new.items ≡ archive_names archives.old.items ++ name.now ∷ []) }
+    ensures names { IfOk result (λ _.
+        archive_names archives.new.items ≡ archive_names archives.old.items ++ name.now ∷ []) }
+    ensures inputs { IfOk result (λ _. inputs archives.new.items ≡ inputs archives.old.items ++ input ∷ []) }
 {
     let name = String::from_str(alloc, name)?;
     archives.push(Named { name, input })?;

@@ -12,10 +12,12 @@ mod outcomes;
 mod prefixes;
 mod queries;
 mod reader;
+mod tasks;
 mod verdicts;
 mod words;
 mod writes;
 
+use crate::opening::System;
 use crate::outcome::Outcome;
 use crate::program::perform;
 use crate::status::ends_command;
@@ -92,7 +94,7 @@ fn performed<R: Runtime + AllocGlobal>(
         return Err(Refused::Memory);
     };
     let mut out = Fuse::new(Gather::new(rt.alloc()), usize::MAX, at);
-    let outcome = perform(rt, &task, &mut out);
+    let outcome = perform(rt, &System::new(rt), &task, &mut out);
     if ends_command(&outcome) && (outcome != Outcome::Index(IndexFault::Write) || out.calls != at) {
         return Err(Refused::Memory);
     }

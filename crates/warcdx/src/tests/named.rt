@@ -2,7 +2,7 @@
 use super::archives::READ;
 use super::indexes::{RESOURCE_LINE, RESPONSE_LINE};
 use super::{RESOURCE, RESPONSE, Refused, cut, joined, owned, performed};
-use crate::archives::file_name;
+use crate::archive_names::file_name;
 use crate::outcome::Outcome;
 use capture_core::{CaptureFault, Types};
 use command_line::Task;

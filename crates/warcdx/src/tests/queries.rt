@@ -1,6 +1,7 @@
 //! Queries over indexes by name.
 use super::{Refused, owned, performed};
 use crate::conversing::serve_all;
+use crate::opening::System;
 use crate::outcome::Outcome;
 use crate::status::ends_command;
 use command_line::Task;
@@ -145,7 +146,7 @@ fn replies<R: Runtime + AllocGlobal>(
     };
     let mut input = Fuse::new(Slice::new(lines), 6, at);
     let mut out = Gather::new(rt.alloc());
-    let outcome = serve_all(rt, &names, &mut input, &mut out);
+    let outcome = serve_all(rt, &System::new(rt), &names, &mut input, &mut out);
     if ends_command(&outcome) {
         return Err(Refused::Memory);
     }

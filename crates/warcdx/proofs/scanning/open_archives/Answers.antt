@@ -1,11 +1,16 @@
-use Rattle.std.proofs.Common.{◌++◌, ◌∷◌, [], ◌∙◌, ap, sym, take, map, string_bytes}
+use Rattle.std.proofs.Common.{sym, ◌∙◌, ap, string_bytes}
 use Rattle.warcdx.specs.Indexing.{file_name}
-use Rattle.warcdx.proofs.NamedLemmas.{map-more, of_ok}
+use Rattle.warcdx.proofs.NamedLemmas.{map-more, of_ok, opened-more}
 use Rattle.warcdx.proofs.scanning.open_archives.Goals as goal
 
 pub loop-name-preserved : goal.loop-name-preserved
 loop-name-preserved g c =
-    let added = of_ok c.push_named.result (sym c.is_err.ensures.value ∙ c.if-is_err.false) c.push_named.ensures in
-    let named = ap file_name c.deref-in-loop-name.ensures in
-    added ∙ (ap (λ names. names ++ c.file_name.result.now ∷ []) c.loop-name.invariant ∙ (ap (λ name. map (λ name. file_name (string_bytes name)) (take c.loop-name.name-index c.args.names.now) ++ name ∷ []) (c.file_name.ensures ∙ named)
-    ∙ sym (map-more (λ name. file_name (string_bytes name)) c.args.names.now c.loop-name.name-index c.name-item.result c.loop-name-test.true (sym c.name-item.is))))
+    let pushed = sym c.is_err.ensures.value ∙ c.if-is_err.false in
+    let bytes_of = g.F.Opener.archive_bytes c.args.files.now in
+    opened-more g.F.Archive.Input.remaining bytes_of _ _ _ _ c.in_ok-input.input _ _
+    (map-more string_bytes c.args.names.now c.loop-name.name-index c.name-item.result c.loop-name-test.true (sym c.name-item.is))
+    (c.file_name.ensures ∙ ap file_name c.deref-in-loop-name.ensures)
+    (c.in_ok-input.ensures ∙ ap bytes_of c.deref.ensures)
+    (of_ok c.push_named.result pushed c.push_named.ensures.names)
+    (of_ok c.push_named.result pushed c.push_named.ensures.inputs)
+    c.loop-name.invariant

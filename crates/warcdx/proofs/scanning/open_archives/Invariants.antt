@@ -1,7 +1,8 @@
-use Rattle.std.proofs.Common.{◌≡◌, take, map, string_bytes}
-use Rattle.warcdx.specs.Indexing.{file_name}
-use Rattle.warcdx.specs.Scanning.{archive_names}
+use Rattle.std.proofs.Common.{take}
+use Rattle.command_line.specs.Words.{texts}
+use Rattle.warcdx.specs.Scanning.{AreOpened}
 use Rattle.warcdx.proofs.scanning.open_archives.Given as goal
 
 abbrev pub invariant-loop-name : goal.invariant-loop-name
-invariant-loop-name g l = archive_names l.archives.items ≡ map (λ name. file_name (string_bytes name)) (take l.name-index l.names)
+invariant-loop-name g l =
+    AreOpened g.F.Archive.Input.remaining (g.F.Opener.archive_bytes l.files) (texts (take l.name-index l.names)) l.archives.items
