@@ -1,3 +1,4 @@
+//! Outcomes, their exit status, and the worse of two.
 use crate::outcome::Outcome;
 use crate::status::{ends_command, status, worse};
 use capture_core::CaptureFault;
@@ -92,21 +93,5 @@ fn of_two_outcomes_the_worse_is_taken(rt: HostRuntime) {
         ),
     ] {
         assert!(rt; worse(first, second) == wanted);
-    }
-}
-
-#[test]
-fn faults_of_captures_have_an_offset_and_a_name(rt: HostRuntime) {
-    let damage = CaptureFault::from(Fault {
-        offset: 448,
-        cause: Cause::ShortBlock,
-    });
-    for (fault, offset, name) in [
-        (damage, 448, "ShortBlock"),
-        (CaptureFault::LineTooLong(7), 7, "LineTooLong"),
-        (CaptureFault::KeyTooLong(9), 9, "KeyTooLong"),
-    ] {
-        assert!(rt; fault.offset() == offset);
-        assert!(rt; fault.name() == name);
     }
 }
