@@ -7,8 +7,9 @@ use devices::{DeviceFault, FromFile, FromRead, Fuse, Gather, Input, Slice};
 use fixtures::{Refused, joined, repeated};
 use index_core::{Indexer, get, list};
 use std::alloc::{AllocError, Global};
-use std::fs::{self, File};
+use std::fs::{self, File, Files};
 use std::io::Cursor;
+use std::rt::Runtime;
 use std::test::Fail;
 use warc_core::Fault;
 
@@ -153,6 +154,17 @@ fn reads_all<I: Input + Drop, F: FnMut() -> Result<I, Fail>>(
     )
 }
 
+/// Returns whether this holds of inputs that give at most this many bytes a call.
+fn reads_all_in_pieces(alloc: Global, bytes: &[u8], most: usize) -> Result<bool, Fail> {
+    Ok(
+        reads_all(alloc, || Ok(Fuse::new(Slice::new(bytes), most, 0)))?
+            && reads_all(
+                alloc,
+                || Ok(Fuse::new(FromFile::new(Cursor::new(bytes))?, most, 0)),
+            )?,
+    )
+}
+
 #[test]
 fn an_archive_is_the_same_however_it_is_read(rt: HostRuntime) -> Result<(), Fail> {
     let alloc = rt.alloc();
@@ -160,30 +172,66 @@ fn an_archive_is_the_same_however_it_is_read(rt: HostRuntime) -> Result<(), Fail
     let bytes = archive.as_slice();
     assert!(rt; reads_all(alloc, || Ok(Slice::new(bytes)))?);
     assert!(rt; reads_all(alloc, || Ok(FromRead::new(bytes)))?);
-    for piece in [1, 2, 100, 8_192, 20_000] {
-        assert!(rt;
-            reads_all(alloc, || Ok(Fuse::new(Slice::new(bytes), piece, 0)))?,
-            "{piece}"
-        );
-        assert!(rt;
-            reads_all(
-                alloc,
-                || Ok(Fuse::new(FromFile::new(Cursor::new(bytes))?, piece, 0))
-            )?,
-            "{piece}"
-        );
+    for most in &[1, 2, 100, 8_192, 20_000] {
+        assert!(rt; reads_all_in_pieces(alloc, bytes, *most)?, "{most}");
     }
     Ok(())
 }
 
+/// Writes an archive to a file, and returns the file as an input.
+fn written<R: Runtime>(
+    rt: &R,
+    name: &str,
+    archive: &[u8],
+) -> Result<FromFile<<R as Files>::File>, Fail> {
+    fs::write(rt, name, archive)?;
+    Ok(FromFile::new(File::open(rt, name)?)?)
+}
+
+/// Returns whether the record at this offset is written.
+fn fetches<I: Input>(
+    alloc: Global,
+    offset: u64,
+    input: &mut I,
+    record: &[u8],
+) -> Result<bool, Refused> {
+    let mut out = Gather::new(alloc);
+    let answer = settled(get(alloc, offset, input, &mut out))?;
+    Ok(answer == Ok(record.len() as u64) && out.bytes() == record)
+}
+
 #[test]
 fn the_last_record_is_fetched_from_a_file(rt: HostRuntime) -> Result<(), Fail> {
-    fs::write(&rt, "archive.warc", long_archive(rt.alloc())?.as_slice())?;
-    let mut file = FromFile::new(File::open(&rt, "archive.warc")?)?;
-    let mut out = Gather::new(rt.alloc());
-    assert!(rt; settled(get(rt.alloc(), 20_427, &mut file, &mut out))? == Ok(213));
-    assert!(rt; out.bytes() == SHORT);
+    let mut file = written(&rt, "archive.warc", &long_archive(rt.alloc())?)?;
+    assert!(rt; fetches(rt.alloc(), 20_427, &mut file, SHORT)?);
     Ok(())
+}
+
+/// Returns whether so many bytes of an input are read, and so many skipped, while its three records are listed.
+fn lists_by_skips<I: Input>(alloc: Global, input: I, read: u64, skipped: u64) -> Result<bool, Fail>
+where
+    I: Drop,
+{
+    let lines = listing(alloc, 3, None)?;
+    let mut counted = Counted::new(input);
+    let is_listed = lists(alloc, &mut counted, &lines, Ok(3))?;
+    Ok(is_listed && counted.read == read && counted.skipped == skipped)
+}
+
+/// The same while so many records are indexed.
+fn indexes_by_skips<I: Input>(
+    alloc: Global,
+    input: I,
+    index: &[u8],
+    records: u64,
+    (read, skipped): (u64, u64),
+) -> Result<bool, Refused>
+where
+    I: Drop,
+{
+    let mut counted = Counted::new(input);
+    let is_indexed = indexes(alloc, &mut counted, index, Ok(records))?;
+    Ok(is_indexed && counted.read == read && counted.skipped == skipped)
 }
 
 /// The first read returns 8,192 bytes, to 7,769 bytes of the long block. The other 12,231 are skipped. What follows the
@@ -192,18 +240,12 @@ fn the_last_record_is_fetched_from_a_file(rt: HostRuntime) -> Result<(), Fail> {
 fn a_long_block_is_not_read(rt: HostRuntime) -> Result<(), Fail> {
     let alloc = rt.alloc();
     let archive = long_archive(alloc)?;
-    fs::write(&rt, "long.warc", archive.as_slice())?;
-    let lines = listing(alloc, 3, None)?;
     let index = first_of(alloc, &INDEX, 3)?;
-    let mut memory = Counted::new(Slice::new(archive.as_slice()));
-    assert!(rt; lists(alloc, &mut memory, lines.as_slice(), Ok(3))?);
-    assert!(rt; (memory.read, memory.skipped) == (8_409, 12_231));
-    let mut file = Counted::new(FromFile::new(File::open(&rt, "long.warc")?)?);
-    assert!(rt; lists(alloc, &mut file, lines.as_slice(), Ok(3))?);
-    assert!(rt; (file.read, file.skipped) == (8_409, 12_231));
-    let mut file = Counted::new(FromFile::new(File::open(&rt, "long.warc")?)?);
-    assert!(rt; indexes(alloc, &mut file, index.as_slice(), Ok(3))?);
-    assert!(rt; (file.read, file.skipped) == (8_409, 12_231));
+    assert!(rt; lists_by_skips(alloc, Slice::new(&archive), 8_409, 12_231)?);
+    let file = written(&rt, "long.warc", &archive)?;
+    assert!(rt; lists_by_skips(alloc, file, 8_409, 12_231)?);
+    let file = written(&rt, "long.warc", &archive)?;
+    assert!(rt; indexes_by_skips(alloc, file, &index, 3, (8_409, 12_231))?);
     Ok(())
 }
 
@@ -211,8 +253,7 @@ fn a_long_block_is_not_read(rt: HostRuntime) -> Result<(), Fail> {
 #[test]
 fn a_payload_whose_digest_is_given_is_not_read(rt: HostRuntime) -> Result<(), Fail> {
     let record = long_record(rt.alloc(), RESPONSE_HEAD, HTTP_HEAD)?;
-    let mut input = Counted::new(Slice::new(record.as_slice()));
-    assert!(rt; indexes(rt.alloc(), &mut input, RESPONSE_LINE, Ok(1))?);
-    assert!(rt; (input.read, input.skipped) == (8_196, 12_024));
+    let counts = (8_196, 12_024);
+    assert!(rt; indexes_by_skips(rt.alloc(), Slice::new(&record), RESPONSE_LINE, 1, counts)?);
     Ok(())
 }

@@ -15,17 +15,12 @@ fn read(alloc: Global, lines: &[&str]) -> Result<Parts, HeadFault> {
     read_parts(alloc, raw.as_slice())
 }
 
-/// Reads the head of the four mandatory fields and these lines.
-fn read_more(alloc: Global, lines: &str) -> Result<Parts, HeadFault> {
-    read(alloc, &[MANDATORY, lines])
-}
-
-/// Returns why a head is refused. Failed allocations are errors of the test.
-fn refusal(head: Result<Parts, HeadFault>) -> Result<Option<HeadFault>, HeadFault> {
+/// Returns whether a head is refused for this reason. Failed allocations are errors of the test.
+fn is_refused(head: Result<Parts, HeadFault>, wanted: HeadFault) -> Result<bool, HeadFault> {
     match head {
-        Ok(_parts) => Ok(None),
+        Ok(_parts) => Ok(false),
         Err(HeadFault::Memory) => Err(HeadFault::Memory),
-        Err(fault) => Ok(Some(fault)),
+        Err(fault) => Ok(fault == wanted),
     }
 }
 
@@ -122,15 +117,23 @@ const ORDERS: &[(&str, HeadFault)] = &[
 
 const WITHOUT_FIELDS: &[&[u8]] = &[b"", b"WARC/1.", b"WARC/1.1\r\n", b"WARC/1.1\r\n\r\n"];
 
+/// Returns whether the head of these lines is refused for this reason.
+fn are_refused(alloc: Global, lines: &[&str], wanted: HeadFault) -> Result<bool, HeadFault> {
+    is_refused(read(alloc, lines), wanted)
+}
+
+/// Returns whether this text of a head is refused for this reason.
+fn is_raw_refused(alloc: Global, raw: &[u8], wanted: HeadFault) -> Result<bool, HeadFault> {
+    is_refused(read_parts(alloc, raw), wanted)
+}
+
 #[test]
 fn the_first_fault_of_a_head_is_reported(rt: HostRuntime) -> Result<(), HeadFault> {
-    for (lines, want) in ORDERS {
-        let found = refusal(read(rt.alloc(), &[*lines]))?;
-        assert!(rt; found == Some(*want), "{lines}");
+    for (lines, fault) in ORDERS {
+        assert!(rt; are_refused(rt.alloc(), &[*lines], *fault)?, "{lines}");
     }
     for raw in WITHOUT_FIELDS {
-        let found = refusal(read_parts(rt.alloc(), raw))?;
-        assert!(rt; found == Some(HeadFault::Missing));
+        assert!(rt; is_raw_refused(rt.alloc(), raw, HeadFault::Missing)?);
     }
     Ok(())
 }
@@ -172,17 +175,20 @@ const CUT_HEADS: &[&[u8]] = &[
     b"WARC/1.1\r\nA: b\r\n",
 ];
 
+/// Returns whether a head with this line behind the mandatory fields is refused for it.
+fn is_no_field(alloc: Global, line: &str) -> Result<bool, HeadFault> {
+    are_refused(alloc, &[MANDATORY, line], HeadFault::FieldLine)
+}
+
 #[test]
 fn lines_that_are_no_fields_are_refused(rt: HostRuntime) -> Result<(), HeadFault> {
     for line in BAD_LINES {
-        let found = refusal(read_more(rt.alloc(), line))?;
-        assert!(rt; found == Some(HeadFault::FieldLine), "{line}");
+        assert!(rt; is_no_field(rt.alloc(), line)?, "{line}");
     }
-    let continuation_first = refusal(read(rt.alloc(), &[" folded\r\n", MANDATORY, "A: b"]))?;
-    assert!(rt; continuation_first == Some(HeadFault::FieldLine));
-    for cut in CUT_HEADS {
-        let found = refusal(read_parts(rt.alloc(), cut))?;
-        assert!(rt; found == Some(HeadFault::FieldLine));
+    let continued_first = [" folded\r\n", MANDATORY, "A: b"];
+    assert!(rt; are_refused(rt.alloc(), &continued_first, HeadFault::FieldLine)?);
+    for raw in CUT_HEADS {
+        assert!(rt; is_raw_refused(rt.alloc(), raw, HeadFault::FieldLine)?);
     }
     Ok(())
 }
@@ -218,12 +224,24 @@ const VALUES: &[(&str, &str, Option<&str>)] = &[
     ("AA: b", "A", None),
 ];
 
+/// Returns whether the first field of this name has this value.
+fn has_value(head: &Parts, name: &str, value: Option<&str>) -> bool {
+    match (head.field(name.as_bytes()), value) {
+        (Some(found), Some(value)) => found == value.as_bytes(),
+        (None, None) => true,
+        _ => false,
+    }
+}
+
+/// Returns whether a head with these lines behind the mandatory fields has this value of this name.
+fn say(alloc: Global, lines: &str, name: &str, value: Option<&str>) -> Result<bool, HeadFault> {
+    Ok(has_value(&read(alloc, &[MANDATORY, lines])?, name, value))
+}
+
 #[test]
 fn fields_have_their_values(rt: HostRuntime) -> Result<(), HeadFault> {
-    for (lines, name, want) in VALUES {
-        let head = read_more(rt.alloc(), lines)?;
-        let found = head.field(name.as_bytes());
-        assert!(rt; found == want.map(str::as_bytes), "{lines}");
+    for (lines, name, value) in VALUES {
+        assert!(rt; say(rt.alloc(), lines, name, *value)?, "{lines}");
     }
     Ok(())
 }
@@ -249,20 +267,22 @@ const LENGTHS: &[(&str, Option<u64>)] = &[
     ("3 \r\n\t", Some(3)),
 ];
 
+/// Returns whether this text is read as this length, or refused.
+fn is_length(alloc: Global, text: &str, length: Option<u64>) -> Result<bool, HeadFault> {
+    let lines = [
+        "WARC-Record-ID: a\r\nWARC-Date: 2016\r\nWARC-Type: b\r\nContent-Length:",
+        text,
+    ];
+    match length {
+        Some(length) => Ok(read(alloc, &lines)?.length() == length),
+        None => are_refused(alloc, &lines, HeadFault::BadLength),
+    }
+}
+
 #[test]
 fn lengths_below_2_63_are_read(rt: HostRuntime) -> Result<(), HeadFault> {
-    for (value, want) in LENGTHS {
-        let lines = [
-            "WARC-Record-ID: a\r\nWARC-Date: 2016\r\nWARC-Type: b\r\nContent-Length:",
-            *value,
-        ];
-        match want {
-            Some(length) => assert!(rt; read(rt.alloc(), &lines)?.length() == *length, "{value}"),
-            None => {
-                let found = refusal(read(rt.alloc(), &lines))?;
-                assert!(rt; found == Some(HeadFault::BadLength), "{value}");
-            }
-        }
+    for (text, length) in LENGTHS {
+        assert!(rt; is_length(rt.alloc(), text, *length)?, "{text}");
     }
     Ok(())
 }
@@ -283,16 +303,20 @@ const KINDS: &[(&str, Kind, &str)] = &[
     ("re\r\n visit", Kind::Other, "other"),
 ];
 
+/// Returns whether this text is read as this type of record, which has this name.
+fn is_kind(alloc: Global, text: &str, kind: Kind, name: &str) -> Result<bool, HeadFault> {
+    let lines = [
+        "WARC-Record-ID: a\r\nContent-Length: 0\r\nWARC-Date: 2016\r\nWARC-Type: ",
+        text,
+    ];
+    let found = read(alloc, &lines)?.kind();
+    Ok(found == kind && found.name() == name)
+}
+
 #[test]
 fn types_are_told_in_any_case(rt: HostRuntime) -> Result<(), HeadFault> {
-    for (value, kind, name) in KINDS {
-        let lines = [
-            "WARC-Record-ID: a\r\nContent-Length: 0\r\nWARC-Date: 2016\r\nWARC-Type: ",
-            *value,
-        ];
-        let found = read(rt.alloc(), &lines)?.kind();
-        assert!(rt; found == *kind, "{value}");
-        assert!(rt; found.name() == *name, "{value}");
+    for (text, kind, name) in KINDS {
+        assert!(rt; is_kind(rt.alloc(), text, *kind, name)?, "{text}");
     }
     Ok(())
 }
@@ -306,17 +330,22 @@ const FIELDS: &[(&str, Option<&str>)] = &[
     ("WARC-Block-Digest", None),
 ];
 
+fn is_of_response(head: &Parts) -> bool {
+    head.kind() == Kind::Response && head.stamp() == *b"20160919172024" && head.length() == 59
+}
+
+fn has_message(alloc: Global, fault: HeadFault, text: &str) -> Result<bool, HeadFault> {
+    Ok(fault.to_string(alloc)?.as_str() == text)
+}
+
 #[test]
 fn a_head_has_what_its_fields_say(rt: HostRuntime) -> Result<(), HeadFault> {
     let head = read_parts(rt.alloc(), RESPONSE)?;
-    assert!(rt; head.kind() == Kind::Response);
-    assert!(rt; head.stamp() == *b"20160919172024");
-    assert!(rt; head.length() == 59);
-    for (name, want) in FIELDS {
-        let found = head.field(name.as_bytes());
-        assert!(rt; found == want.map(str::as_bytes), "{name}");
+    assert!(rt; is_of_response(&head));
+    for (name, value) in FIELDS {
+        assert!(rt; has_value(&head, name, *value), "{name}");
     }
-    let message = HeadFault::Missing.to_string(rt.alloc())?;
-    assert!(rt; message.as_str() == "a mandatory field is missing");
+    let message = "a mandatory field is missing";
+    assert!(rt; has_message(rt.alloc(), HeadFault::Missing, message)?);
     Ok(())
 }

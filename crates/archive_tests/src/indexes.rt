@@ -45,26 +45,21 @@ fn refuses(indexer: &mut Indexer, name: &str, fault: IndexFault) -> bool {
     indexer.add(name, &mut Slice::new(RESPONSE)) == Err(fault)
 }
 
+/// Returns whether the damaged archive, followed by this, has the captures of its two whole records, and this fault.
+fn indexes_to_fault(alloc: Global, behind: &[u8], cause: Cause) -> Result<bool, Refused> {
+    let archive = joined(alloc, &[&damaged_archive(alloc)?, behind])?;
+    let lines = joined(alloc, &[RESPONSE_LINE, RESOURCE_LINE])?;
+    let fault = Fault { offset: 448, cause };
+    indexes(alloc, &archive, Err(fault), &lines, 2)
+}
+
 #[test]
-fn indexes_have_the_captures_of_whole_records(rt: HostRuntime) -> Result<(), Fail> {
+fn indexes_have_the_captures_of_whole_records(rt: HostRuntime) -> Result<(), Refused> {
     let alloc = rt.alloc();
-    let damaged = damaged_archive(alloc)?;
-    let longer = joined(alloc, &[damaged.as_slice(), RESOURCE])?;
-    let both = joined(alloc, &[RESPONSE_LINE, RESOURCE_LINE])?;
-    let fault = |cause| Err(Fault { offset: 448, cause });
-    for (archive, answer, lines, number) in [
-        (b"".as_slice(), Ok(0), b"".as_slice(), 0),
-        (RESPONSE, Ok(1), RESPONSE_LINE, 1),
-        (
-            damaged.as_slice(),
-            fault(Cause::ShortBlock),
-            both.as_slice(),
-            2,
-        ),
-        (longer.as_slice(), fault(Cause::Closing), both.as_slice(), 2),
-    ] {
-        assert!(rt; indexes(alloc, archive, answer, lines, number)?);
-    }
+    assert!(rt; indexes(alloc, b"", Ok(0), b"", 0)?);
+    assert!(rt; indexes(alloc, RESPONSE, Ok(1), RESPONSE_LINE, 1)?);
+    assert!(rt; indexes_to_fault(alloc, b"", Cause::ShortBlock)?);
+    assert!(rt; indexes_to_fault(alloc, RESOURCE, Cause::Closing)?);
     Ok(())
 }
 

@@ -1,6 +1,6 @@
 //! The keys of targets and of hosts.
-use cdxj_core::{host_key, url_key};
-use std::test::Fail;
+use cdxj_core::{KeyFault, host_key, url_key};
+use std::alloc::Global;
 
 const LABELS_AND_PORTS: &[(&str, &str)] = &[
     ("http://www.Example.com:80/A?b=C#d", "com,example)/a?b=c"),
@@ -117,44 +117,48 @@ const TARGETS: &[&[(&str, &str)]] = &[
     OTHER_SCHEMES,
 ];
 
-// The URL's parts by the URL Standard, the key by the rules of docs/CDXJ.md.
+fn has_key(alloc: Global, target: &str, key: &str) -> Result<bool, KeyFault> {
+    Ok(url_key(alloc, target)?.as_str() == key)
+}
+
+/// The URL's parts by the URL Standard, the key by the rules of docs/CDXJ.md.
 #[test]
-fn targets_have_keys(rt: HostRuntime) -> Result<(), Fail> {
+fn targets_have_keys(rt: HostRuntime) -> Result<(), KeyFault> {
     for table in TARGETS {
-        for (target, key) in table.iter() {
-            let found = url_key(rt.alloc(), target)?;
-            assert!(rt; found.as_str() == *key, "at {target}");
+        for (target, key) in *table {
+            assert!(rt; has_key(rt.alloc(), target, key)?, "{target}");
         }
     }
     Ok(())
 }
 
-const HOST_KEYS: &[(&str, &str)] = &[
-    ("https://example.com:8080/", "com,example"),
-    ("http://www.Example.com:80/A?b=C#d", "com,example"),
-    ("http://www/", "www"),
-    ("http://b\u{fc}cher.example/", "example,xn--bcher-kva"),
-    ("http://192.0.2.7/x", "192.0.2.7"),
-    ("http://[2001:DB8::1]:81/", "[2001:db8::1]"),
+/// Targets, and the keys of their hosts. Only web URLs have one.
+const HOSTS: &[(&str, Option<&str>)] = &[
+    ("https://example.com:8080/", Some("com,example")),
+    ("http://www.Example.com:80/A?b=C#d", Some("com,example")),
+    ("http://www/", Some("www")),
+    ("http://b\u{fc}cher.example/", Some("example,xn--bcher-kva")),
+    ("http://192.0.2.7/x", Some("192.0.2.7")),
+    ("http://[2001:DB8::1]:81/", Some("[2001:db8::1]")),
+    ("dns:Example.com", None),
+    ("ftp://example.com/", None),
+    ("not a url", None),
+    ("http://", None),
+    ("", None),
 ];
 
-const NO_HOST_KEYS: &[&str] = &[
-    "dns:Example.com",
-    "ftp://example.com/",
-    "not a url",
-    "http://",
-    "",
-];
+fn has_host_key(alloc: Global, target: &str, key: Option<&str>) -> Result<bool, KeyFault> {
+    match (host_key(alloc, target)?, key) {
+        (Some(found), Some(key)) => Ok(found.as_str() == key),
+        (None, None) => Ok(true),
+        _ => Ok(false),
+    }
+}
 
 #[test]
-fn web_urls_have_host_keys(rt: HostRuntime) -> Result<(), Fail> {
-    for (target, key) in HOST_KEYS {
-        let found = host_key(rt.alloc(), target)?;
-        let found = found.as_ref().map(|host| host.as_str());
-        assert!(rt; found == Some(*key), "at {target}");
-    }
-    for target in NO_HOST_KEYS {
-        assert!(rt; host_key(rt.alloc(), target)?.is_none(), "at {target}");
+fn web_urls_have_host_keys(rt: HostRuntime) -> Result<(), KeyFault> {
+    for (target, key) in HOSTS {
+        assert!(rt; has_host_key(rt.alloc(), target, *key)?, "{target}");
     }
     Ok(())
 }

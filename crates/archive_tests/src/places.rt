@@ -1,26 +1,37 @@
 //! Places, their resume keys and their order.
-use cdxj_core::{OwnedPlace, PlaceFault, resume_text};
+use cdxj_core::{OwnedPlace, Place, PlaceFault, resume_text};
 use std::alloc::Global;
 use std::cmp::Ordering;
-use std::test::Fail;
+
+/// Returns whether this resume key is written for the place.
+fn is_written(alloc: Global, place: Place<'_>, text: &str) -> Result<bool, PlaceFault> {
+    Ok(resume_text(alloc, place)?.as_str() == text)
+}
+
+/// Returns whether the place is the same when it is kept.
+fn is_kept(alloc: Global, place: Place<'_>) -> Result<bool, PlaceFault> {
+    Ok(OwnedPlace::new(alloc, place)?.place() == place)
+}
+
+const HOME: &str = "com%2Cexample%29%2F+20160101000000+a+b.warc+5";
+
+fn is_home(place: Place<'_>) -> bool {
+    place.key == "com,example)/"
+        && place.stamp == *b"20160101000000"
+        && place.filename == "a b.warc"
+        && place.offset == 5
+}
 
 #[test]
-fn resume_keys_name_places(rt: HostRuntime) -> Result<(), Fail> {
-    let alloc = rt.alloc();
-    let text = "com%2Cexample%29%2F+20160101000000+a+b.warc+5";
-    let kept = OwnedPlace::read(alloc, text)?;
-    let place = kept.place();
-    assert!(rt; place.key == "com,example)/");
-    assert!(rt; place.stamp == *b"20160101000000");
-    assert!(rt; place.filename == "a b.warc");
-    assert!(rt; place.offset == 5);
-    let again = OwnedPlace::new(alloc, place)?;
-    assert!(rt; again.place() == place);
-    let back = resume_text(alloc, again.place())?;
-    assert!(rt; back.as_str() == text);
+fn resume_keys_name_places(rt: HostRuntime) -> Result<(), PlaceFault> {
+    let kept = OwnedPlace::read(rt.alloc(), HOME)?;
+    assert!(rt; is_home(kept.place()));
+    assert!(rt; is_kept(rt.alloc(), kept.place())?);
+    assert!(rt; is_written(rt.alloc(), kept.place(), HOME)?);
     Ok(())
 }
 
+/// Resume keys, the file name and the offset of their places, and the resume keys that are written for these.
 const RESUME_KEYS: &[(&str, &str, u64, &str)] = &[
     ("k 20160101000000 f 0", "f", 0, "k+20160101000000+f+0"),
     (
@@ -57,16 +68,27 @@ const RESUME_KEYS: &[(&str, &str, u64, &str)] = &[
     ),
 ];
 
-// The form encoding is that of the URL Standard, section 5.
+/// Returns whether the resume key names a place with this file name and offset, for which this resume key is written.
+fn names(
+    alloc: Global,
+    text: &str,
+    filename: &str,
+    offset: u64,
+    written: &str,
+) -> Result<bool, PlaceFault> {
+    let kept = OwnedPlace::read(alloc, text)?;
+    let place = kept.place();
+    Ok(place.filename == filename && place.offset == offset && is_written(alloc, place, written)?)
+}
+
+/// The form encoding is that of the URL Standard, section 5.
 #[test]
-fn resume_keys_are_form_encoded(rt: HostRuntime) -> Result<(), Fail> {
-    let alloc = rt.alloc();
+fn resume_keys_are_form_encoded(rt: HostRuntime) -> Result<(), PlaceFault> {
     for (text, filename, offset, written) in RESUME_KEYS {
-        let kept = OwnedPlace::read(alloc, text)?;
-        let back = resume_text(alloc, kept.place())?;
-        assert!(rt; kept.place().filename == *filename, "at {text}");
-        assert!(rt; kept.place().offset == *offset, "at {text}");
-        assert!(rt; back.as_str() == *written, "at {text}");
+        assert!(rt;
+            names(rt.alloc(), text, filename, *offset, written)?,
+            "{text}"
+        );
     }
     Ok(())
 }
@@ -92,14 +114,18 @@ const NO_RESUME_KEYS: &[&str] = &[
     "k%20x+20160101000000+f+1",
 ];
 
+fn is_refused(alloc: Global, text: &str) -> Result<bool, PlaceFault> {
+    match OwnedPlace::read(alloc, text) {
+        Err(PlaceFault::Memory) => Err(PlaceFault::Memory),
+        Err(PlaceFault::BadResume) => Ok(true),
+        Ok(_kept) => Ok(false),
+    }
+}
+
 #[test]
-fn other_texts_are_no_resume_keys(rt: HostRuntime) -> Result<(), Fail> {
+fn other_texts_are_no_resume_keys(rt: HostRuntime) -> Result<(), PlaceFault> {
     for text in NO_RESUME_KEYS {
-        let refused = OwnedPlace::read(rt.alloc(), text).err();
-        if refused == Some(PlaceFault::Memory) {
-            return Err(PlaceFault::Memory)?;
-        }
-        assert!(rt; refused == Some(PlaceFault::BadResume), "at {text}");
+        assert!(rt; is_refused(rt.alloc(), text)?, "{text}");
     }
     Ok(())
 }
@@ -119,20 +145,30 @@ const RISING: &[&str] = &[
     "com%2Cexample-shop%29%2F+20150101000000+a.warc+0",
 ];
 
-/// Returns whether the places of these resume keys compare in this order.
-fn compare_as(alloc: Global, left: &str, right: &str, order: Ordering) -> Result<bool, PlaceFault> {
+/// Returns whether two places compare in this order.
+fn are_ordered(left: Place<'_>, right: Place<'_>, order: Ordering) -> bool {
+    left.cmp(&right) == order && (left == right) == order.is_eq()
+}
+
+/// Returns whether the places of these resume keys compare as their numbers do.
+fn compare_as(
+    alloc: Global,
+    (i, left): (usize, &str),
+    (j, right): (usize, &str),
+) -> Result<bool, PlaceFault> {
     let left = OwnedPlace::read(alloc, left)?;
     let right = OwnedPlace::read(alloc, right)?;
-    let is_same = left.place() == right.place();
-    Ok(left.place().cmp(&right.place()) == order && is_same == order.is_eq())
+    Ok(are_ordered(left.place(), right.place(), i.cmp(&j)))
 }
 
 #[test]
-fn places_compare_part_by_part(rt: HostRuntime) -> Result<(), Fail> {
+fn places_compare_part_by_part(rt: HostRuntime) -> Result<(), PlaceFault> {
     for (i, left) in RISING.iter().enumerate() {
         for (j, right) in RISING.iter().enumerate() {
-            let is_ordered = compare_as(rt.alloc(), left, right, i.cmp(&j))?;
-            assert!(rt; is_ordered, "at {i} and {j}");
+            assert!(rt;
+                compare_as(rt.alloc(), (i, *left), (j, *right))?,
+                "{i} and {j}"
+            );
         }
     }
     Ok(())

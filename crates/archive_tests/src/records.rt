@@ -5,7 +5,7 @@ pub mod prefixes;
 mod reading;
 
 use std::alloc::Global;
-use warc_core::{Cause, Fault, Head, Input, Reader};
+use warc_core::{Cause, Fault, Fuse, Head, Input, Reader, Slice};
 
 /// The lines of the four mandatory fields, for a block of three bytes.
 const MANDATORY: &[u8] =
@@ -29,4 +29,16 @@ fn next_whole<I: Input>(reader: &mut Reader, input: &mut I) -> Result<Option<Hea
     let head = reader.next(input)?;
     reader.finish(input)?;
     Ok(head)
+}
+
+/// Returns whether this many whole records are read, and then this fault, from an input that gives at most `most` bytes
+/// a call and fails at its call `at`.
+fn walks(
+    alloc: Global,
+    input: (&[u8], usize, u64),
+    records: u64,
+    fault: Option<Fault>,
+) -> Result<bool, Fault> {
+    let (text, most, at) = input;
+    Ok(walk(alloc, &mut Fuse::new(Slice::new(text), most, at))? == (records, fault))
 }

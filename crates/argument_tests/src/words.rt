@@ -338,16 +338,16 @@ fn is_usage(text: &str, wanted: &Wanted) -> bool {
 
 #[test]
 fn words_ask_for_a_task_or_are_refused(rt: HostRuntime) -> Result<(), WordsFault> {
-    for (words, wanted) in ROWS {
-        assert!(rt; asks(rt.alloc(), words, wanted)?, "{words:?}");
+    for (number, (words, wanted)) in ROWS.iter().enumerate() {
+        assert!(rt; asks(rt.alloc(), words, wanted)?, "row {number}");
     }
     Ok(())
 }
 
 #[test]
 fn types_are_chosen_behind_the_command_or_refused(rt: HostRuntime) -> Result<(), WordsFault> {
-    for (words, wanted) in TYPED {
-        assert!(rt; asks(rt.alloc(), words, wanted)?, "{words:?}");
+    for (number, (words, wanted)) in TYPED.iter().enumerate() {
+        assert!(rt; asks(rt.alloc(), words, wanted)?, "row {number}");
     }
     Ok(())
 }

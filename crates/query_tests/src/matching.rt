@@ -1,8 +1,8 @@
 //! Which lines queries select.
-use crate::small_indexes::{HOSTS, LETTERS, Rows};
+use crate::small_indexes::{HOSTS, LETTER_ROWS, Rows};
 use cdxj_core::{Line, LineRef};
 use fixtures::{FOREIGN, index_lines};
-use query_text::Query;
+use query_text::{Query, QueryFault};
 use std::alloc::Global;
 use std::test::Fail;
 
@@ -105,7 +105,7 @@ const IN_LETTERS: &[(&str, &str)] = &[
 #[test]
 fn a_key_is_taken_as_it_stands(rt: HostRuntime) -> Result<(), Fail> {
     for (text, wanted) in IN_LETTERS {
-        assert!(rt; asks_for(rt.alloc(), text, LETTERS, wanted)?, "{text}");
+        assert!(rt; asks_for(rt.alloc(), text, LETTER_ROWS, wanted)?, "{text}");
     }
     Ok(())
 }
@@ -155,11 +155,22 @@ const FILTERED: &[(&str, &str)] = &[
 #[test]
 fn all_filters_have_to_hold(rt: HostRuntime) -> Result<(), Fail> {
     for (text, wanted) in FILTERED {
-        assert!(rt; asks_for(rt.alloc(), text, LETTERS, wanted)?, "{text}");
+        assert!(rt; asks_for(rt.alloc(), text, LETTER_ROWS, wanted)?, "{text}");
     }
     Ok(())
 }
 
+/// Returns whether the key is past the range of a query.
+fn is_past(alloc: Global, text: &str, key: &str) -> Result<bool, QueryFault> {
+    Ok(Query::read(alloc, text)?.target().is_past(key))
+}
+
+/// Returns whether the key is in the range of a query.
+fn covers(alloc: Global, text: &str, key: &str) -> Result<bool, QueryFault> {
+    Ok(Query::read(alloc, text)?.target().covers(key))
+}
+
+/// Queries, keys, and whether these are past the range.
 const PAST: &[(&str, &str, bool)] = &[
     ("url=*.example.com", "com,a)/", false),
     ("url=*.example.com", "com,example", false),
@@ -175,14 +186,14 @@ const PAST: &[(&str, &str, bool)] = &[
 ];
 
 #[test]
-fn keys_past_the_range_end_it(rt: HostRuntime) -> Result<(), Fail> {
-    for (text, key, is_past) in PAST {
-        let query = Query::read(rt.alloc(), text)?;
-        assert!(rt; query.target().is_past(key) == *is_past, "{text} {key}");
+fn keys_past_the_range_end_it(rt: HostRuntime) -> Result<(), QueryFault> {
+    for (text, key, wanted) in PAST {
+        assert!(rt; is_past(rt.alloc(), text, key)? == *wanted, "{text} {key}");
     }
     Ok(())
 }
 
+/// Queries, keys, and whether these are in the range.
 const COVERED: &[(&str, &str, bool)] = &[
     ("key=a)/", "a)/", true),
     ("key=a)/", "a)/b", false),
@@ -192,20 +203,27 @@ const COVERED: &[(&str, &str, bool)] = &[
 ];
 
 #[test]
-fn ranges_begin_with_their_target(rt: HostRuntime) -> Result<(), Fail> {
-    for (text, key, is_covered) in COVERED {
-        let query = Query::read(rt.alloc(), text)?;
-        assert!(rt; query.target().covers(key) == *is_covered, "{text} {key}");
+fn ranges_begin_with_their_target(rt: HostRuntime) -> Result<(), QueryFault> {
+    for (text, key, wanted) in COVERED {
+        assert!(rt; covers(rt.alloc(), text, key)? == *wanted, "{text} {key}");
     }
     Ok(())
+}
+
+/// Returns whether each of these lines is matched or not, without memory. The lines themselves take some.
+fn matches_without_memory(alloc: Global, query: &Query, rows: Rows) -> Result<bool, Fail> {
+    for line in &index_lines(alloc, rows)? {
+        let kept = Line::read(alloc, line)?;
+        if query.matches_kept(&kept).is_err() {
+            return Ok(false);
+        }
+    }
+    Ok(true)
 }
 
 #[test]
 fn a_query_without_filters_takes_no_memory(rt: HostRuntime) -> Result<(), Fail> {
     let query = Query::read(rt.alloc(), "key=a)/&matchType=prefix&from=2016")?;
-    for line in &index_lines(rt.alloc(), LETTERS)? {
-        let kept = Line::read(rt.alloc(), line)?;
-        assert!(rt; query.matches_kept(&kept).is_ok());
-    }
+    assert!(rt; matches_without_memory(rt.alloc(), &query, LETTER_ROWS)?);
     Ok(())
 }

@@ -1,30 +1,35 @@
 //! The merging of sources.
+use crate::small_indexes::empty_sources;
 use devices::{Fuse, Gather};
 use fixtures::{
-    IMAGE, LETTERS, OFFSET_5, OFFSET_10, OFFSET_20, PAGE, RISEN, Refused, TORN, UNENDED_LETTERS,
+    FALLING, IMAGE, LETTERS, OFFSET_5, OFFSET_10, OFFSET_20, PAGE, RISEN, Refused, TORN,
+    UNENDED_LETTERS,
 };
 use query_core::{AnswerFault, SliceSource, merge};
 use std::alloc::Global;
-use std::test::Fail;
 
-const FALLING: &[u8] =
-    b"b)/ 20160101000000 {\"url\": \"http://x/\", \"mime\": \"text/html\", \"status\": \"200\", \"digest\": \"-\", \"length\": \"1\", \"offset\": \"0\", \"filename\": \"a.warc\"}\na)/ 20160101000000 {\"url\": \"http://x/\", \"mime\": \"text/html\", \"status\": \"200\", \"digest\": \"-\", \"length\": \"1\", \"offset\": \"0\", \"filename\": \"a.warc\"}\n";
-
-/// Returns the result of merging these texts, and whether the merge writes this text. A failed allocation is an error.
-fn merged(
+/// Returns whether merging these texts has this result, and writes this text. A failed allocation is an error.
+fn is_merged(
     alloc: Global,
     texts: &[&[u8]],
-    wanted: &[u8],
-) -> Result<(Result<u64, AnswerFault>, bool), Refused> {
+    wanted: Result<u64, AnswerFault>,
+    text: &[u8],
+) -> Result<bool, Refused> {
+    let mut sources = slices(alloc, texts)?;
+    let mut out = Gather::new(alloc);
+    match merge(alloc, &mut sources, &mut out) {
+        Err(AnswerFault::Memory | AnswerFault::Write) => Err(Refused::Memory),
+        answer => Ok(answer == wanted && out.bytes() == text),
+    }
+}
+
+/// Returns sources over these texts.
+fn slices<'a>(alloc: Global, texts: &[&'a [u8]]) -> Result<Vec<SliceSource<'a>>, Refused> {
     let mut sources = Vec::new(alloc);
     for text in texts {
         sources.push(SliceSource::new(text))?;
     }
-    let mut out = Gather::new(alloc);
-    match merge(alloc, &mut sources, &mut out) {
-        Err(AnswerFault::Memory | AnswerFault::Write) => Err(Refused::Memory),
-        answer => Ok((answer, out.bytes() == wanted)),
-    }
+    Ok(sources)
 }
 
 /// Texts, the number of lines of their merge, and these lines.
@@ -38,9 +43,14 @@ const MERGES: &[(&[&[u8]], u64, &[u8])] = &[
 ];
 
 #[test]
-fn lines_are_written_in_the_order_of_places_each_place_once(rt: HostRuntime) -> Result<(), Fail> {
-    for (texts, count, wanted) in MERGES {
-        assert!(rt; merged(rt.alloc(), texts, wanted)? == (Ok(*count), true));
+fn lines_are_written_in_the_order_of_places_each_place_once(
+    rt: HostRuntime,
+) -> Result<(), Refused> {
+    for (number, (texts, count, text)) in MERGES.iter().enumerate() {
+        assert!(rt;
+            is_merged(rt.alloc(), texts, Ok(*count), text)?,
+            "row {number}"
+        );
     }
     Ok(())
 }
@@ -54,11 +64,11 @@ const AT_FAULT: &[(&[&[u8]], AnswerFault)] = &[
 ];
 
 #[test]
-fn a_line_at_fault_ends_the_merge(rt: HostRuntime) -> Result<(), Fail> {
-    for (texts, fault) in AT_FAULT {
+fn a_line_at_fault_ends_the_merge(rt: HostRuntime) -> Result<(), Refused> {
+    for (number, (texts, fault)) in AT_FAULT.iter().enumerate() {
         assert!(rt;
-            merged(rt.alloc(), texts, b"")? == (Err(*fault), true),
-            "{fault:?}"
+            is_merged(rt.alloc(), texts, Err(*fault), b"")?,
+            "row {number}"
         );
     }
     Ok(())
@@ -76,25 +86,42 @@ fn fails_in_part(alloc: Global, piece: usize, at: u64) -> Result<bool, Refused> 
     }
 }
 
-#[test]
-fn a_source_that_fails_ends_the_merge(rt: HostRuntime) -> Result<(), Fail> {
-    for piece in [1, 2, 8192] {
-        for at in 0..440 {
-            assert!(rt; fails_in_part(rt.alloc(), piece, at)?, "{piece}, {at}");
+/// Returns whether that holds of each call, and of none.
+fn fails_in_part_at_each_call(alloc: Global, piece: usize) -> Result<bool, Refused> {
+    for at in 0..440 {
+        if !fails_in_part(alloc, piece, at)? {
+            return Ok(false);
         }
+    }
+    Ok(true)
+}
+
+#[test]
+fn a_source_that_fails_ends_the_merge(rt: HostRuntime) -> Result<(), Refused> {
+    for piece in &[1, 2, 8192] {
+        assert!(rt; fails_in_part_at_each_call(rt.alloc(), *piece)?, "{piece}");
     }
     Ok(())
 }
 
-#[test]
-fn at_most_1024_sources_are_merged(rt: HostRuntime) -> Result<(), Fail> {
-    let alloc = rt.alloc();
-    let mut texts = Vec::new(alloc);
-    for _ in 0..1024 {
-        texts.push(b"".as_slice())?;
+/// Returns whether merging so many empty texts has this result.
+fn is_merged_of(
+    alloc: Global,
+    count: usize,
+    wanted: Result<u64, AnswerFault>,
+) -> Result<bool, Refused> {
+    let mut sources = empty_sources(alloc, count)?;
+    let mut out = Gather::new(alloc);
+    match merge(alloc, &mut sources, &mut out) {
+        Err(AnswerFault::Memory | AnswerFault::Write) => Err(Refused::Memory),
+        answer => Ok(answer == wanted && out.bytes().is_empty()),
     }
-    assert!(rt; merged(alloc, &texts, b"")? == (Ok(0), true));
-    texts.push(b"".as_slice())?;
-    assert!(rt; merged(alloc, &texts, b"")? == (Err(AnswerFault::TooManySources), true));
+}
+
+#[test]
+fn at_most_1024_sources_are_merged(rt: HostRuntime) -> Result<(), Refused> {
+    let too_many = Err(AnswerFault::TooManySources);
+    assert!(rt; is_merged_of(rt.alloc(), 1_024, Ok(0))?);
+    assert!(rt; is_merged_of(rt.alloc(), 1_025, too_many)?);
     Ok(())
 }

@@ -25,7 +25,7 @@ pub const APART: &[Rows] = &[
 ];
 
 /// Three keys.
-pub const LETTERS: Rows = &[
+pub const LETTER_ROWS: Rows = &[
     ("a)/", FIRST_OF_2016, "a.warc", 0),
     ("b)/", FIRST_OF_2016, "a.warc", 1),
     ("c)/", FIRST_OF_2016, "a.warc", 2),

@@ -1,9 +1,9 @@
 //! Archives with a long block that are cut, or whose input fails.
-use super::{INDEX, first_of, indexes, listing, lists, long_archive};
-use devices::{FromFile, Fuse, Slice};
-use fixtures::cut;
+use super::{INDEX, first_of, indexes, listing, lists, long_archive, written};
+use devices::{FromFile, Fuse, Input, Slice};
+use fixtures::{Refused, cut};
 use std::alloc::Global;
-use std::fs::{self, File};
+use std::fs;
 use std::io::Cursor;
 use std::test::Fail;
 use warc_core::{Cause, Fault};
@@ -45,28 +45,33 @@ fn reads_to_cut(alloc: Global, part: &[u8]) -> Result<bool, Fail> {
 #[test]
 fn a_file_that_was_cut_at_any_byte_is_read_to_its_cut(rt: HostRuntime) -> Result<(), Fail> {
     let archive = long_archive(rt.alloc())?;
+    assert!(rt; archive.len() == 20_640);
     for length in 0..20_641 {
-        let part = cut(archive.as_slice(), length);
-        assert!(rt; part.len() == length);
-        assert!(rt; reads_to_cut(rt.alloc(), part)?, "{length}");
+        assert!(rt;
+            reads_to_cut(rt.alloc(), cut(&archive, length))?,
+            "{length}"
+        );
     }
     Ok(())
 }
 
-/// A skip goes past the cut, and the read after it returns nothing: no closing follows the block.
-#[test]
-fn a_file_that_is_cut_after_it_was_opened_is_damaged(rt: HostRuntime) -> Result<(), Fail> {
-    let alloc = rt.alloc();
-    let archive = long_archive(alloc)?;
-    fs::write(&rt, "shrunk.warc", archive.as_slice())?;
-    let mut file = FromFile::new(File::open(&rt, "shrunk.warc")?)?;
-    fs::write(&rt, "shrunk.warc", cut(archive.as_slice(), 9_000))?;
+/// Returns whether the second record has no closing.
+fn lacks_closing<I: Input>(alloc: Global, input: &mut I) -> Result<bool, Refused> {
     let fault = Fault {
         offset: 213,
         cause: Cause::Closing,
     };
     let lines = b"0 213 resource\nfault 213 Closing\n";
-    assert!(rt; lists(alloc, &mut file, lines, Err(fault))?);
+    lists(alloc, input, lines, Err(fault))
+}
+
+/// A skip goes past the cut, and the read after it returns nothing: no closing follows the block.
+#[test]
+fn a_file_that_is_cut_after_it_was_opened_is_damaged(rt: HostRuntime) -> Result<(), Fail> {
+    let archive = long_archive(rt.alloc())?;
+    let mut file = written(&rt, "shrunk.warc", &archive)?;
+    fs::write(&rt, "shrunk.warc", cut(&archive, 9_000))?;
+    assert!(rt; lacks_closing(rt.alloc(), &mut file)?);
     Ok(())
 }
 
@@ -81,27 +86,29 @@ fn record_of_call(call: u64) -> (u64, u64) {
     }
 }
 
+/// Returns whether a listing ends at this call, which fails.
+fn ends_at_failed_call(alloc: Global, archive: &[u8], call: u64) -> Result<bool, Fail> {
+    let (records, offset) = record_of_call(call);
+    let cause = Cause::Read;
+    let fault = Fault { offset, cause };
+    let lines = listing(alloc, records, Some(fault))?;
+    let mut input = Fuse::new(Slice::new(archive), 100, call);
+    Ok(lists(alloc, &mut input, &lines, Err(fault))? && input.failures == 1)
+}
+
+/// Returns whether no call fails, and there are so many.
+fn is_listed_in(alloc: Global, archive: &[u8], calls: u64) -> Result<bool, Fail> {
+    let lines = listing(alloc, 3, None)?;
+    let mut input = Fuse::new(Slice::new(archive), 100, calls.saturating_add(1));
+    Ok(lists(alloc, &mut input, &lines, Ok(3))? && input.calls == calls)
+}
+
 #[test]
 fn a_listing_ends_at_a_failed_read_or_skip(rt: HostRuntime) -> Result<(), Fail> {
-    let alloc = rt.alloc();
-    let archive = long_archive(alloc)?;
+    let archive = long_archive(rt.alloc())?;
     for call in 1..210 {
-        let (records, offset) = record_of_call(call);
-        let fault = Fault {
-            offset,
-            cause: Cause::Read,
-        };
-        let lines = listing(alloc, records, Some(fault))?;
-        let mut input = Fuse::new(Slice::new(archive.as_slice()), 100, call);
-        assert!(rt;
-            lists(alloc, &mut input, lines.as_slice(), Err(fault))?,
-            "{call}"
-        );
-        assert!(rt; input.failures == 1, "{call}");
+        assert!(rt; ends_at_failed_call(rt.alloc(), &archive, call)?, "{call}");
     }
-    let mut input = Fuse::new(Slice::new(archive.as_slice()), 100, 210);
-    let lines = listing(alloc, 3, None)?;
-    assert!(rt; lists(alloc, &mut input, lines.as_slice(), Ok(3))?);
-    assert!(rt; input.calls == 209);
+    assert!(rt; is_listed_in(rt.alloc(), &archive, 209)?);
     Ok(())
 }

@@ -290,11 +290,16 @@ fn is_captured(alloc: Global, sample: Sample) -> Result<bool, Fail> {
 
 #[test]
 fn captures_say_what_the_records_say(rt: HostRuntime) -> Result<(), Fail> {
-    for sample in CONTENTS {
-        assert!(rt; is_captured(rt.alloc(), *sample)?, "{sample:?}");
+    for (number, sample) in CONTENTS.iter().enumerate() {
+        assert!(rt; is_captured(rt.alloc(), *sample)?, "row {number}");
     }
-    for sample in DIGESTS {
-        assert!(rt; is_captured(rt.alloc(), *sample)?, "{sample:?}");
+    Ok(())
+}
+
+#[test]
+fn captures_have_the_digest_of_the_payload(rt: HostRuntime) -> Result<(), Fail> {
+    for (number, sample) in DIGESTS.iter().enumerate() {
+        assert!(rt; is_captured(rt.alloc(), *sample)?, "row {number}");
     }
     Ok(())
 }

@@ -137,14 +137,19 @@ fn has_no_head(alloc: Global, block: &[u8]) -> Result<bool, Fail> {
 
 #[test]
 fn http_heads_are_found(rt: HostRuntime) -> Result<(), Fail> {
-    for (head, status, mime) in HEADS {
-        assert!(rt; has_head(rt.alloc(), head, status, mime)?, "{head:?}");
+    for (number, (head, status, mime)) in HEADS.iter().enumerate() {
+        assert!(rt; has_head(rt.alloc(), head, status, mime)?, "row {number}");
     }
-    for block in NO_STATUS {
-        assert!(rt; has_no_head(rt.alloc(), block)?, "{block:?}");
+    Ok(())
+}
+
+#[test]
+fn other_blocks_have_no_http_head(rt: HostRuntime) -> Result<(), Fail> {
+    for (number, block) in NO_STATUS.iter().enumerate() {
+        assert!(rt; has_no_head(rt.alloc(), block)?, "row {number}");
     }
-    for block in NO_FIELDS {
-        assert!(rt; has_no_head(rt.alloc(), block)?, "{block:?}");
+    for (number, block) in NO_FIELDS.iter().enumerate() {
+        assert!(rt; has_no_head(rt.alloc(), block)?, "row {number}");
     }
     Ok(())
 }

@@ -1,7 +1,8 @@
 //! How long the HTTP head of a block is, and how many fields it has.
 use super::{ABC, HTTP, capture_of, says, says_no_head};
 use cdxj_core::Entry;
-use std::alloc::{AllocError, Global};
+use fixtures::{joined, repeated};
+use std::alloc::Global;
 use std::test::Fail;
 
 /// A first part, a part that is repeated, how often, and whether they make a head: of 256 and 257 fields, and of
@@ -14,21 +15,6 @@ const HEADS: &[(&[u8], &[u8], usize, bool)] = &[
     (b"HTTP/1.1 200 OK\r\nX: ", b"a", 100_000, false),
 ];
 
-/// Returns the head, followed by `abc`.
-fn block_text(
-    alloc: Global,
-    first: &[u8],
-    part: &[u8],
-    count: usize,
-) -> Result<Vec<u8>, AllocError> {
-    let mut block = first.to_vec(alloc)?;
-    for _ in 0..count {
-        block.extend_from_slice(part)?;
-    }
-    block.extend_from_slice(b"\r\n\r\nabc")?;
-    Ok(block)
-}
-
 /// Returns whether the capture shows that a head before `abc` was found, or not found.
 fn says_head(captured: &Option<Entry>, is_head: bool) -> bool {
     if is_head {
@@ -38,12 +24,17 @@ fn says_head(captured: &Option<Entry>, is_head: bool) -> bool {
     }
 }
 
+/// Returns whether a head of these parts is found, or not found, before `abc`.
+fn is_limited(alloc: Global, first: &[u8], parts: &[u8], is_head: bool) -> Result<bool, Fail> {
+    let block = joined(alloc, &[first, parts, b"\r\n\r\nabc"])?;
+    Ok(says_head(&capture_of(alloc, "response", HTTP, &block)?, is_head))
+}
+
 #[test]
 fn http_heads_are_limited(rt: HostRuntime) -> Result<(), Fail> {
     for (first, part, count, is_head) in HEADS {
-        let block = block_text(rt.alloc(), first, part, *count)?;
-        let captured = capture_of(rt.alloc(), "response", HTTP, block.as_slice())?;
-        assert!(rt; says_head(&captured, *is_head), "{count}");
+        let parts = repeated(rt.alloc(), part, *count)?;
+        assert!(rt; is_limited(rt.alloc(), first, &parts, *is_head)?, "{count}");
     }
     Ok(())
 }

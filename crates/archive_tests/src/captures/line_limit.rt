@@ -20,19 +20,36 @@ fn too_long(alloc: Global, archive: &[u8], name: &str) -> Result<Option<(u64, u6
     }
 }
 
+/// How many letters a name has, and whether the line is then too long.
+const LENGTHS: &[(usize, bool)] = &[
+    (1_048_576, false),
+    (16_777_024, false),
+    (16_777_025, true),
+    (16_777_216, true),
+];
+
+/// Returns whether the line of the first record's capture is too long under a name of so many letters, and the second
+/// record can then be read.
+fn is_limited(
+    alloc: Global,
+    archive: &[u8],
+    letters: usize,
+    is_too_long: bool,
+) -> Result<bool, Fail> {
+    let name = "a".repeat(alloc, letters)?;
+    let found = too_long(alloc, archive, name.as_str())?;
+    Ok(found == is_too_long.then_some((0, 264)))
+}
+
 /// Under a name of six letters, the line has 198 bytes.
 #[test]
 fn lines_of_captures_are_limited(rt: HostRuntime) -> Result<(), Fail> {
     let archive = joined(rt.alloc(), &[RESPONSE, RESOURCE])?;
-    for (count, wanted) in [
-        (1_048_576, None),
-        (16_777_024, None),
-        (16_777_025, Some((0, 264))),
-        (16_777_216, Some((0, 264))),
-    ] {
-        let name = "a".repeat(rt.alloc(), count)?;
-        let found = too_long(rt.alloc(), archive.as_slice(), name.as_str())?;
-        assert!(rt; found == wanted, "{count}");
+    for (letters, is_too_long) in LENGTHS {
+        assert!(rt;
+            is_limited(rt.alloc(), &archive, *letters, *is_too_long)?,
+            "{letters}"
+        );
     }
     Ok(())
 }

@@ -26,24 +26,23 @@ const TARGETS: &[(&str, &[u8], Option<&str>)] = &[
     ("responses", b"http://x/", None),
 ];
 
-/// Returns the capture of a record of this type and target.
-fn capture_under(alloc: Global, kind: &str, target: &[u8]) -> Result<Option<Entry>, Fail> {
-    let text = record_text(alloc, kind, target, b"", b"")?;
-    captured(alloc, text.as_slice())
-}
-
 fn has_url(captured: &Option<Entry>, wanted: Option<&str>) -> bool {
     match captured {
-        Some(entry) => wanted == Some(entry.url.as_str()),
+        Some(entry) => wanted.is_some_and(|url| url == entry.url.as_str()),
         None => wanted.is_none(),
     }
 }
 
+/// Returns whether a record of this type and target has a capture with this URL, or none.
+fn is_under(alloc: Global, kind: &str, target: &[u8], url: Option<&str>) -> Result<bool, Fail> {
+    let text = record_text(alloc, kind, target, b"", b"")?;
+    Ok(has_url(&captured(alloc, &text)?, url))
+}
+
 #[test]
 fn captures_are_under_their_targets(rt: HostRuntime) -> Result<(), Fail> {
-    for (kind, target, wanted) in TARGETS {
-        let captured = capture_under(rt.alloc(), kind, target)?;
-        assert!(rt; has_url(&captured, *wanted), "{kind} {target:?}");
+    for (number, (kind, target, url)) in TARGETS.iter().enumerate() {
+        assert!(rt; is_under(rt.alloc(), kind, target, *url)?, "row {number}");
     }
     Ok(())
 }

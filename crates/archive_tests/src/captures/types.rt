@@ -70,15 +70,29 @@ fn names(text: &str, kinds: &[Kind]) -> bool {
     }
 }
 
+fn is_no_set(text: &str) -> bool {
+    Types::read(text).is_none()
+}
+
+const USUAL: &[Kind] = &[Kind::Response, Kind::Resource, Kind::Revisit];
+
+/// Returns whether these types are the usual ones.
+fn are_usual(kinds: &[Kind]) -> bool {
+    let usual = Types::usual();
+    KINDS
+        .iter()
+        .all(|kind| usual.includes(*kind) == kinds.contains(kind))
+}
+
 #[test]
 fn types_are_read_from_their_names(rt: HostRuntime) {
     for (text, kinds) in TEXTS {
         assert!(rt; names(text, kinds), "{text}");
     }
     for text in NO_TYPES {
-        assert!(rt; Types::read(text).is_none(), "{text}");
+        assert!(rt; is_no_set(text), "{text}");
     }
-    assert!(rt; Types::read("revisit,resource,response") == Some(Types::usual()));
+    assert!(rt; names("revisit,resource,response", USUAL) && are_usual(USUAL));
 }
 
 const PLAIN: &[u8] = b"Content-Type: text/plain; charset=utf-8\r\n";
@@ -147,7 +161,7 @@ fn is_left_out(alloc: Global, kind: &str) -> Result<bool, Fail> {
 
 #[test]
 fn other_types_are_left_out(rt: HostRuntime) -> Result<(), Fail> {
-    for kind in [
+    for kind in &[
         "response", "resource", "revisit", "warcinfo", "request", "x",
     ] {
         assert!(rt; is_left_out(rt.alloc(), kind)?, "{kind}");

@@ -5,7 +5,6 @@ use capture_core::{CaptureFault, Types};
 use fixtures::{RESOURCE_LINE, RESPONSE_LINE, Refused, cut, joined, three_records};
 use index_core::{IndexFault, Indexer};
 use std::alloc::{AllocError, Global};
-use std::test::Fail;
 use warc_core::{Cause, Fault, Fuse, Gather, Input, Slice};
 
 /// The second response's line.
@@ -62,11 +61,11 @@ fn keeps_of_prefix(alloc: Global, archive: &[u8]) -> Result<bool, Refused> {
 }
 
 #[test]
-fn an_indexer_keeps_the_whole_records_of_every_prefix(rt: HostRuntime) -> Result<(), Fail> {
+fn an_indexer_keeps_the_whole_records_of_every_prefix(rt: HostRuntime) -> Result<(), Refused> {
     let archive = three_records(rt.alloc())?;
     for length in 0..713 {
         assert!(rt;
-            keeps_of_prefix(rt.alloc(), cut(archive.as_slice(), length))?,
+            keeps_of_prefix(rt.alloc(), cut(&archive, length))?,
             "{length}"
         );
     }
@@ -96,13 +95,10 @@ fn keeps_to_failed_read(alloc: Global, archive: &[u8], call: u64) -> Result<bool
 }
 
 #[test]
-fn an_indexer_keeps_the_records_before_a_failed_read(rt: HostRuntime) -> Result<(), Fail> {
+fn an_indexer_keeps_the_records_before_a_failed_read(rt: HostRuntime) -> Result<(), Refused> {
     let archive = three_records(rt.alloc())?;
     for call in 1..714 {
-        assert!(rt;
-            keeps_to_failed_read(rt.alloc(), archive.as_slice(), call)?,
-            "{call}"
-        );
+        assert!(rt; keeps_to_failed_read(rt.alloc(), &archive, call)?, "{call}");
     }
     Ok(())
 }
@@ -127,15 +123,19 @@ fn stops_at_each_write(
     writes(alloc, indexer, index, number)
 }
 
-#[test]
-fn an_index_stops_at_a_failed_write(rt: HostRuntime) -> Result<(), Fail> {
-    let alloc = rt.alloc();
-    let archive = three_records(alloc)?;
+/// Returns whether all records of the archive are indexed, and their index stops at each write that fails.
+fn stops(alloc: Global, archive: &[u8]) -> Result<bool, Refused> {
     let index = index_of(alloc, 3)?;
     let mut indexer = Indexer::new(alloc, Types::usual());
-    if indexer.add("b.warc", &mut Slice::new(archive.as_slice())) != Ok(3) {
-        return Err(Refused::Memory)?;
+    if indexer.add("b.warc", &mut Slice::new(archive)) != Ok(3) {
+        return Err(Refused::Memory);
     }
-    assert!(rt; stops_at_each_write(alloc, &indexer, index.as_slice(), 3)?);
+    stops_at_each_write(alloc, &indexer, &index, 3)
+}
+
+#[test]
+fn an_index_stops_at_a_failed_write(rt: HostRuntime) -> Result<(), Refused> {
+    let archive = three_records(rt.alloc())?;
+    assert!(rt; stops(rt.alloc(), &archive)?);
     Ok(())
 }

@@ -1,27 +1,29 @@
+//! How long lines are, and the pairs that they begin with.
 use cdxj_core::{LINE_LIMIT, LineFault, LineRef, split_pair};
+use fixtures::padded;
 use std::alloc::{AllocError, Global};
-use std::test::Fail;
 
 const FRONT: &[u8] = b"k 20160101000000 {\"offset\": \"7\", \"filename\": \"f\", \"a\": \"";
 
-// A line of `length` bytes, with a line feed as its last or none.
+/// Returns a line of this length, whose last byte is a line feed or not.
 fn long_line(alloc: Global, length: usize, feed: bool) -> Result<Vec<u8>, AllocError> {
     let end: &[u8] = if feed { b"\"}\n" } else { b"\"}" };
-    let mut line = Vec::new(alloc);
-    line.extend_from_slice(FRONT)?;
-    line.resize(length.saturating_sub(end.len()), b'a')?;
-    line.extend_from_slice(end)?;
-    Ok(line)
+    padded(alloc, FRONT, b'a', end, length)
 }
 
-/// Returns the offset in a line of this length, or `None` if it is too long. Failed allocations are errors of the test.
-fn offset_of(alloc: Global, length: usize, feed: bool) -> Result<Option<u64>, LineFault> {
-    let line = long_line(alloc, length, feed)?;
-    match LineRef::read(alloc, &line) {
+/// Returns the offset in a line, or `None` if it is too long. Other faults are errors of the test.
+fn offset_of(alloc: Global, line: &[u8]) -> Result<Option<u64>, LineFault> {
+    match LineRef::read(alloc, line) {
         Ok(read) => Ok(Some(read.place().offset)),
         Err(LineFault::LineTooLong) => Ok(None),
         Err(fault) => Err(fault),
     }
+}
+
+/// Returns whether a line of this length is read, or is too long.
+fn is_limited(alloc: Global, length: usize, feed: bool, is_read: bool) -> Result<bool, LineFault> {
+    let line = long_line(alloc, length, feed)?;
+    Ok(offset_of(alloc, &line)? == is_read.then_some(7))
 }
 
 /// Lengths of lines, whether their last byte is a line feed, and whether they are read.
@@ -34,29 +36,29 @@ const LENGTHS: &[(usize, bool, bool)] = &[
     (16_777_217, false, false),
 ];
 
-// The limit counts a line feed, whether it is there or not.
+/// The limit counts a line feed, whether it is there or not.
 #[test]
-fn a_line_is_read_up_to_the_limit(rt: HostRuntime) -> Result<(), Fail> {
+fn a_line_is_read_up_to_the_limit(rt: HostRuntime) -> Result<(), LineFault> {
     assert!(rt; LINE_LIMIT == 16_777_216);
     for (length, feed, is_read) in LENGTHS {
-        let offset = offset_of(rt.alloc(), *length, *feed)?;
-        assert!(rt; offset == is_read.then_some(7), "{length}, {feed}");
+        assert!(rt;
+            is_limited(rt.alloc(), *length, *feed, *is_read)?,
+            "{length}, {feed}"
+        );
     }
     Ok(())
 }
 
 /// Returns whether a line of this byte, over the limit, is too long.
-fn is_too_long(alloc: Global, byte: u8) -> Result<bool, Fail> {
-    let mut line = Vec::new(alloc);
-    line.resize(16_777_216, byte)?;
-    line.push(b'x')?;
-    Ok(matches!(LineRef::read(alloc, &line), Err(LineFault::LineTooLong)))
+fn is_too_long(alloc: Global, byte: u8) -> Result<bool, LineFault> {
+    let line = padded(alloc, b"", byte, b"x", 16_777_217)?;
+    Ok(offset_of(alloc, &line)?.is_none())
 }
 
 #[test]
-fn a_line_over_the_limit_is_too_long_before_all_else(rt: HostRuntime) -> Result<(), Fail> {
-    for byte in *b"\xff\n \0" {
-        assert!(rt; is_too_long(rt.alloc(), byte)?, "{byte}");
+fn a_line_over_the_limit_is_too_long_before_all_else(rt: HostRuntime) -> Result<(), LineFault> {
+    for byte in b"\xff\n \0" {
+        assert!(rt; is_too_long(rt.alloc(), *byte)?, "{byte}");
     }
     Ok(())
 }
@@ -86,11 +88,16 @@ const WITHOUT_PAIR: &[&[u8]] = &[
     b"k 20160101000000\n",
 ];
 
-fn has_pair(line: &[u8], key: &[u8]) -> bool {
+/// Returns whether the line begins with this key and the first stamp of 2016.
+pub fn has_pair(line: &[u8], key: &[u8]) -> bool {
     match split_pair(line) {
         Some((found, stamp)) => found == key && stamp == b"20160101000000".as_slice(),
         None => false,
     }
+}
+
+fn has_no_pair(line: &[u8]) -> bool {
+    split_pair(line).is_none()
 }
 
 #[test]
@@ -99,6 +106,6 @@ fn pairs_stand_in_front(rt: HostRuntime) {
         assert!(rt; has_pair(line, key));
     }
     for line in WITHOUT_PAIR {
-        assert!(rt; split_pair(line).is_none());
+        assert!(rt; has_no_pair(line));
     }
 }

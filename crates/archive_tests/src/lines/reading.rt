@@ -1,11 +1,7 @@
+//! What lines say.
 use cdxj_core::{Field, Line, LineFault, LineRef, split_pair};
-use std::alloc::Global;
-use std::process::Abort;
-use std::test::Fail;
-
-// A line as another program writes it, with a number and a further member.
-pub const FOREIGN: &[u8] =
-    b"com,example)/ 20140103030321 {\"url\": \"http://example.com/\", \"mime\": \"text/html\", \"status\": 200, \"digest\": \"B2LTWWPUOYAH7UIPQ7ZUPQ4VMBSVC36A\", \"length\": \"1043\", \"offset\": \"333\", \"filename\": \"example.warc\", \"source\": \"x\"}";
+use fixtures::{FOREIGN, cut};
+use std::alloc::{AllocError, Global};
 
 const FOREIGN_VALUES: &[(Field, &str)] = &[
     (Field::Urlkey, "com,example)/"),
@@ -31,40 +27,43 @@ fn has_foreign_pair(read: &LineRef<'_>) -> bool {
 }
 
 #[test]
-fn a_foreign_line_is_read(rt: HostRuntime) -> Result<(), Fail> {
+fn a_foreign_line_is_read(rt: HostRuntime) -> Result<(), LineFault> {
     let read = LineRef::read(rt.alloc(), FOREIGN)?;
     assert!(rt; has_foreign_values(&read));
     assert!(rt; has_foreign_pair(&read) && read.line() == FOREIGN);
     Ok(())
 }
 
-// The values of the members url, mime, status, digest, length, offset and filename, which stand in
-// the line by RFC 8259 and the rules of docs/CDXJ.md, with `|` between.
-fn has_values(
-    rt: &impl Abort,
-    alloc: Global,
-    name: &str,
-    line: &str,
-    values: &str,
-) -> Result<(), Fail> {
-    let read = LineRef::read(alloc, line.as_bytes())?;
-    let found = format!(in alloc;
-        "{}|{}|{}|{}|{}|{}|{}",
-        read.value(Field::Original),
-        read.value(Field::Mimetype),
-        read.value(Field::Statuscode),
-        read.value(Field::Digest),
-        read.value(Field::Length),
-        read.value(Field::Offset),
-        read.value(Field::Filename)
-    )?;
-    assert!(rt; found.as_str() == values, "of {name}");
-    let end = line.strip_suffix('\n').unwrap_or(line);
-    assert!(rt; read.line() == end.as_bytes(), "of {name}");
-    assert!(rt; split_pair(line.as_bytes()).is_some(), "of {name}");
-    Ok(())
+const FIELDS: &[Field] = &[
+    Field::Original,
+    Field::Mimetype,
+    Field::Statuscode,
+    Field::Digest,
+    Field::Length,
+    Field::Offset,
+    Field::Filename,
+];
+
+/// Returns whether the line has these values of the fields, with `|` between.
+fn has_values(read: &LineRef<'_>, values: &str) -> bool {
+    FIELDS
+        .iter()
+        .zip(values.split('|'))
+        .all(|(field, value)| read.value(*field) == value)
 }
 
+/// Returns whether the line is read with these values.
+fn is_read(alloc: Global, line: &str, values: &str) -> Result<bool, LineFault> {
+    let read = LineRef::read(alloc, line.as_bytes())?;
+    let end = line.strip_suffix('\n').unwrap_or(line);
+    Ok(
+        has_values(&read, values)
+            && read.line() == end.as_bytes()
+            && split_pair(line.as_bytes()).is_some(),
+    )
+}
+
+/// Lines by RFC 8259 and the rules of docs/CDXJ.md, with their values.
 const ENTRIES: &[(&str, &str, &str)] = &[
     (
         "as a line is written",
@@ -217,34 +216,69 @@ const OFFSETS: &[(&str, &str, &str)] = &[
 ];
 
 #[test]
-fn lines_have_their_values(rt: HostRuntime) -> Result<(), Fail> {
+fn lines_have_their_values(rt: HostRuntime) -> Result<(), LineFault> {
     for table in [ENTRIES, OFFSETS] {
         for (name, line, values) in table.iter() {
-            has_values(&rt, rt.alloc(), name, line, values)?;
+            assert!(rt; is_read(rt.alloc(), line, values)?, "{name}");
         }
     }
     Ok(())
 }
 
+/// A line whose file name is escaped, so that it doesn't stand in the line as it is.
 const ESCAPED: &[u8] = b"k 20160101000000 {\"offset\": 7, \"filename\": \"\\u00e9.warc\"}\n";
 
-// A file name that is escaped does not stand in the line as it is.
+/// Returns whether a kept line is this one, with this pair and at this place.
+fn keeps(kept: &Line, line: &[u8], key: &str, stamp: &[u8; 14], filename: &str, at: u64) -> bool {
+    let place = kept.place();
+    kept.line() == line
+        && place.key == key
+        && place.stamp == *stamp
+        && place.filename == filename
+        && place.offset == at
+}
+
+fn keeps_foreign(kept: &Line) -> bool {
+    keeps(
+        kept,
+        FOREIGN,
+        "com,example)/",
+        b"20140103030321",
+        "example.warc",
+        333,
+    )
+}
+
+fn keeps_escaped(kept: &Line) -> bool {
+    let line = cut(ESCAPED, ESCAPED.len().saturating_sub(1));
+    keeps(kept, line, "k", b"20160101000000", "\u{e9}.warc", 7)
+}
+
+/// Returns whether a kept line has this value of a field.
+pub fn has_member(kept: &Line, field: Field, value: &str) -> Result<bool, AllocError> {
+    Ok(kept.values()?.value(field) == value)
+}
+
+/// Returns whether a text without a pair is refused.
+fn refuses_key_alone(kept: &mut Line) -> Result<bool, LineFault> {
+    match kept.refill(b"k") {
+        Err(LineFault::Memory) => Err(LineFault::Memory),
+        Err(LineFault::BadLine) => Ok(true),
+        _ => Ok(false),
+    }
+}
+
 #[test]
-fn a_kept_line_is_refilled(rt: HostRuntime) -> Result<(), Fail> {
+fn a_kept_line_is_refilled(rt: HostRuntime) -> Result<(), LineFault> {
     let alloc = rt.alloc();
     let mut kept = Line::new(alloc, &LineRef::read(alloc, FOREIGN)?)?;
-    assert!(rt; kept.line() == FOREIGN);
-    assert!(rt; kept.pair().0 == "com,example)/");
-    assert!(rt; kept.place().filename == "example.warc");
-    assert!(rt; kept.place().offset == 333);
-    assert!(rt; kept.values()?.value(Field::Statuscode) == "200");
+    assert!(rt; keeps_foreign(&kept));
+    assert!(rt; has_member(&kept, Field::Statuscode, "200")?);
     kept.refill(ESCAPED)?;
-    assert!(rt; kept.line() == ESCAPED.strip_suffix(b"\n").unwrap_or(ESCAPED));
-    assert!(rt; kept.pair().1 == *b"20160101000000");
-    assert!(rt; kept.place().filename == "\u{e9}.warc");
-    assert!(rt; kept.values()?.value(Field::Original) == "-");
-    assert!(rt; kept.refill(b"k").err() == Some(LineFault::BadLine));
-    assert!(rt; kept.place().offset == 7);
-    assert!(rt; Line::read(alloc, ESCAPED)?.place() == kept.place());
+    assert!(rt; keeps_escaped(&kept));
+    assert!(rt; has_member(&kept, Field::Original, "-")?);
+    assert!(rt; refuses_key_alone(&mut kept)?);
+    assert!(rt; keeps_escaped(&kept));
+    assert!(rt; keeps_escaped(&Line::read(alloc, ESCAPED)?));
     Ok(())
 }

@@ -1,3 +1,4 @@
+//! Lines that are refused.
 use cdxj_core::{LineFault, LineRef};
 use std::alloc::Global;
 
@@ -5,8 +6,8 @@ use std::alloc::Global;
 fn is_bad(alloc: Global, line: &[u8]) -> Result<bool, LineFault> {
     match LineRef::read(alloc, line) {
         Err(LineFault::Memory) => Err(LineFault::Memory),
-        Err(fault) => Ok(fault == LineFault::BadLine),
-        Ok(_read) => Ok(false),
+        Err(LineFault::BadLine) => Ok(true),
+        _ => Ok(false),
     }
 }
 
@@ -249,7 +250,7 @@ const WITHOUT_AN_OBJECT: &[(&str, &str)] = &[
     ),
 ];
 
-// In a text, in the key, and the bytes of a surrogate.
+/// In a text, in the key, and the bytes of a surrogate.
 const NO_UTF8: &[&[u8]] = &[
     b"k 20160101000000 {\"a\": \"\xff\", \"offset\": \"7\", \"filename\": \"f\"}",
     b"\xc0\x80 20160101000000 {\"offset\": \"7\", \"filename\": \"f\"}",
@@ -260,7 +261,7 @@ const NO_UTF8: &[&[u8]] = &[
 fn bad_lines_are_refused(rt: HostRuntime) -> Result<(), LineFault> {
     for table in [WITHOUT_A_PLACE, WITHOUT_AN_OBJECT] {
         for (name, line) in table.iter() {
-            assert!(rt; is_bad(rt.alloc(), line.as_bytes())?, "of {name}");
+            assert!(rt; is_bad(rt.alloc(), line.as_bytes())?, "{name}");
         }
     }
     for line in NO_UTF8 {

@@ -1,3 +1,4 @@
+//! The lines that are written for entries.
 use cdxj_core::{Entry, Field, LineFault, LineRef, push_quoted, write_line};
 use std::alloc::{AllocError, Global};
 use std::test::Fail;
@@ -61,15 +62,27 @@ pub fn entry(alloc: Global, members: &Members) -> Result<Entry, AllocError> {
     })
 }
 
-/// Returns whether a line has the values of these members, except for the offset and the length.
+const TEXTS: &[Field] = &[
+    Field::Urlkey,
+    Field::Original,
+    Field::Mimetype,
+    Field::Statuscode,
+    Field::Digest,
+    Field::Filename,
+];
+
+/// Returns whether a line has the texts and the stamp of these members.
 fn has_texts(read: &LineRef<'_>, members: &Members) -> bool {
-    read.value(Field::Urlkey) == members.key
-        && read.value(Field::Timestamp).as_bytes() == members.stamp.as_slice()
-        && read.value(Field::Original) == members.url
-        && read.value(Field::Mimetype) == members.mime
-        && read.value(Field::Statuscode) == members.status
-        && read.value(Field::Digest) == members.digest
-        && read.value(Field::Filename) == members.filename
+    let texts = [
+        members.key,
+        members.url,
+        members.mime,
+        members.status,
+        members.digest,
+        members.filename,
+    ];
+    let mut fields = TEXTS.iter().zip(&texts);
+    fields.all(|(field, text)| read.value(*field) == *text) && read.pair().1 == *members.stamp
 }
 
 const HOME_LINE: &[u8] =

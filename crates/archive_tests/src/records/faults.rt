@@ -1,5 +1,5 @@
 //! Why records are refused, and where reading ends.
-use super::walk;
+use super::walks;
 use fixtures::{RESOURCE, RESPONSE, joined};
 use std::alloc::{AllocError, Global};
 use std::test::Fail;
@@ -116,35 +116,27 @@ const ONE_RECORD: &[(&str, Cause)] = &[
     ),
 ];
 
+fn is_refused(alloc: Global, text: &str, cause: Cause) -> Result<bool, Fault> {
+    let fault = Some(Fault { offset: 0, cause });
+    Ok(
+        walks(alloc, (text.as_bytes(), 1, 0), 0, fault)?
+            && walks(alloc, (text.as_bytes(), 8192, 0), 0, fault)?,
+    )
+}
+
 #[test]
-fn the_first_fault_of_a_record_is_reported(rt: HostRuntime) -> Result<(), Fail> {
+fn the_first_fault_of_a_record_is_reported(rt: HostRuntime) -> Result<(), Fault> {
     for (text, cause) in ONE_RECORD {
-        for most in [1, 8192] {
-            let found = walk(
-                rt.alloc(),
-                &mut Fuse::new(Slice::new(text.as_bytes()), most, 0),
-            )?;
-            assert!(rt;
-                found
-                    == (
-                        0,
-                        Some(Fault {
-                            offset: 0,
-                            cause: *cause
-                        })
-                    ),
-                "{most} of {text}"
-            );
-        }
+        assert!(rt; is_refused(rt.alloc(), text, *cause)?, "{text}");
     }
     Ok(())
 }
 
 #[test]
-fn a_length_may_have_leading_zeros(rt: HostRuntime) -> Result<(), Fail> {
+fn a_length_may_have_leading_zeros(rt: HostRuntime) -> Result<(), Fault> {
     let text =
         b"WARC/1.0\r\nWARC-Record-ID: a\r\ncontent-length: 0000000000000000003\r\nWARC-Date: 2016\r\nWARC-Type: b\r\n\r\nabc\r\n\r\n";
-    assert!(rt; walk(rt.alloc(), &mut Slice::new(text))? == (1, None));
+    assert!(rt; walks(rt.alloc(), (text, 8192, 0), 1, None)?);
     Ok(())
 }
 
@@ -155,22 +147,19 @@ fn second_of_length(alloc: Global, digits: &str) -> Result<Vec<u8>, AllocError> 
     joined(alloc, &[RESPONSE, before, digits.as_bytes(), behind])
 }
 
+/// Returns whether a second record of this length has this fault, behind its head.
+fn is_second_refused(alloc: Global, digits: &str, cause: Cause) -> Result<bool, Fail> {
+    let fault = Fault { offset: 264, cause };
+    let text = second_of_length(alloc, digits)?;
+    Ok(text.len() == 264 + 99 && walks(alloc, (&text, 8192, 0), 1, Some(fault))?)
+}
+
 /// 264 bytes, a head of 99, the block and a closing of 4 end at 2^63 - 1 = 9223372036854775807, or one past it.
 #[test]
 fn a_record_ends_at_the_greatest_offset_at_most(rt: HostRuntime) -> Result<(), Fail> {
-    let last = second_of_length(rt.alloc(), "9223372036854775440")?;
-    assert!(rt; last.len() == 264 + 99);
-    let short = Fault {
-        offset: 264,
-        cause: Cause::ShortBlock,
-    };
-    assert!(rt; walk(rt.alloc(), &mut Slice::new(last.as_slice()))? == (1, Some(short)));
-    let past = second_of_length(rt.alloc(), "9223372036854775441")?;
-    let far = Fault {
-        offset: 264,
-        cause: Cause::TooFar,
-    };
-    assert!(rt; walk(rt.alloc(), &mut Slice::new(past.as_slice()))? == (1, Some(far)));
+    let alloc = rt.alloc();
+    assert!(rt; is_second_refused(alloc, "9223372036854775440", Cause::ShortBlock)?);
+    assert!(rt; is_second_refused(alloc, "9223372036854775441", Cause::TooFar)?);
     Ok(())
 }
 
@@ -184,31 +173,33 @@ fn stand_before(at: u64) -> (u64, u64) {
     }
 }
 
-/// The input gives one byte a call, and one of the calls fails.
+/// Returns whether reading ends at the call `at`, which fails, if the input gives one byte a call.
+fn ends_at_failed_read(alloc: Global, archive: &[u8], at: u64) -> Result<bool, Fault> {
+    let (records, offset) = stand_before(at);
+    let cause = Cause::Read;
+    walks(
+        alloc,
+        (archive, 1, at),
+        records,
+        Some(Fault { offset, cause }),
+    )
+}
+
 #[test]
 fn reading_ends_at_the_record_whose_read_fails(rt: HostRuntime) -> Result<(), Fail> {
     let archive = joined(rt.alloc(), &[RESPONSE, RESOURCE])?;
     for at in 1..450 {
-        let (records, offset) = stand_before(at);
-        let fault = Fault {
-            offset,
-            cause: Cause::Read,
-        };
-        let mut input = Fuse::new(Slice::new(archive.as_slice()), 1, at);
-        assert!(rt;
-            walk(rt.alloc(), &mut input)? == (records, Some(fault)),
-            "at {at}"
-        );
+        assert!(rt; ends_at_failed_read(rt.alloc(), &archive, at)?, "{at}");
     }
     Ok(())
 }
 
-/// Returns the fault of a call, if it has one. Failed allocations are errors of the test.
-fn fault_of(answer: Result<Option<Head>, Fault>) -> Result<Option<Fault>, Fault> {
+/// Returns whether the reader has this fault. A failed allocation is an error of the test.
+fn fails(answer: Result<Option<Head>, Fault>, fault: Fault) -> Result<bool, Fault> {
     match answer {
-        Ok(_head) => Ok(None),
-        Err(fault) if fault.cause == Cause::Memory => Err(fault),
-        Err(fault) => Ok(Some(fault)),
+        Ok(_head) => Ok(false),
+        Err(found) if found.cause == Cause::Memory => Err(found),
+        Err(found) => Ok(found == fault),
     }
 }
 
@@ -219,16 +210,21 @@ fn repeats<I: Input>(reader: &mut Reader, input: &mut I, fault: Fault) -> bool {
         && reader.block(input, &mut [0; 10]).err() == Some(fault)
 }
 
+/// Returns whether a reader of this text fails, and then repeats its fault without reading.
+fn fails_for_good(alloc: Global, text: &[u8], fault: Fault) -> Result<bool, Fault> {
+    let mut input = Fuse::new(Slice::new(text), 8192, 0);
+    let mut reader = Reader::new(alloc)?;
+    let has_failed = fails(reader.next(&mut input), fault)?;
+    let calls = input.calls;
+    Ok(has_failed && repeats(&mut reader, &mut input, fault) && input.calls == calls)
+}
+
 #[test]
-fn a_reader_that_failed_repeats_its_fault(rt: HostRuntime) -> Result<(), Fail> {
+fn a_reader_that_failed_repeats_its_fault(rt: HostRuntime) -> Result<(), Fault> {
     let fault = Fault {
         offset: 0,
         cause: Cause::Version,
     };
-    let mut input = Fuse::new(Slice::new(b"no version line"), 8192, 0);
-    let mut reader = Reader::new(rt.alloc())?;
-    assert!(rt; fault_of(reader.next(&mut input))? == Some(fault));
-    let calls = input.calls;
-    assert!(rt; repeats(&mut reader, &mut input, fault) && input.calls == calls);
+    assert!(rt; fails_for_good(rt.alloc(), b"no version line", fault)?);
     Ok(())
 }

@@ -1,7 +1,6 @@
 //! A record's head, its block and its length.
 use fixtures::RESPONSE;
 use std::alloc::Global;
-use std::test::Fail;
 use warc_core::{Fault, Head, Kind, Reader, Slice};
 
 fn is_of_response(head: &Head) -> bool {
@@ -20,12 +19,10 @@ fn has_fields_of_response(head: &Head) -> bool {
 }
 
 #[test]
-fn a_record_has_a_head(rt: HostRuntime) -> Result<(), Fail> {
-    let head = Reader::new(rt.alloc())?
-        .next(&mut Slice::new(RESPONSE))?
-        .ok_or("a record")?;
-    assert!(rt; is_of_response(&head));
-    assert!(rt; has_fields_of_response(&head));
+fn a_record_has_a_head(rt: HostRuntime) -> Result<(), Fault> {
+    let head = Reader::new(rt.alloc())?.next(&mut Slice::new(RESPONSE))?;
+    assert!(rt; head.as_ref().is_some_and(is_of_response));
+    assert!(rt; head.as_ref().is_some_and(has_fields_of_response));
     Ok(())
 }
 
@@ -48,24 +45,31 @@ fn opens(alloc: Global, input: &mut Slice<'_>) -> Result<(Reader, bool), Fault> 
     Ok((reader, is_open && is_given))
 }
 
+/// Returns whether the first call of `finish` returns the length of the record, and the second nothing.
+fn is_finished_once(reader: &mut Reader, input: &mut Slice<'_>) -> Result<bool, Fault> {
+    Ok(reader.finish(input)? == 264 && reader.finish(input)? == 0)
+}
+
 #[test]
-fn a_record_has_a_block_and_a_length(rt: HostRuntime) -> Result<(), Fail> {
+fn a_record_has_a_block_and_a_length(rt: HostRuntime) -> Result<(), Fault> {
     let mut input = Slice::new(RESPONSE);
     let (mut reader, is_given) = opens(rt.alloc(), &mut input)?;
     assert!(rt; is_given);
-    assert!(rt; reader.finish(&mut input)? == 264);
-    assert!(rt; reader.finish(&mut input)? == 0);
+    assert!(rt; is_finished_once(&mut reader, &mut input)?);
     Ok(())
+}
+
+/// Returns whether there is no record and no block, however often they are asked for.
+fn is_at_end(alloc: Global, input: &mut Slice<'_>) -> Result<bool, Fault> {
+    let mut reader = Reader::new(alloc)?;
+    let is_end = reader.next(input)?.is_none();
+    Ok(is_end && reader.next(input)?.is_none() && reader.block(input, &mut [0; 10])? == 0)
 }
 
 #[test]
 fn an_input_without_bytes_has_no_record_however_often_it_is_read(
     rt: HostRuntime,
-) -> Result<(), Fail> {
-    let mut input = Slice::new(b"");
-    let mut reader = Reader::new(rt.alloc())?;
-    assert!(rt; reader.next(&mut input)?.is_none());
-    assert!(rt; reader.next(&mut input)?.is_none());
-    assert!(rt; reader.block(&mut input, &mut [0; 10])? == 0);
+) -> Result<(), Fault> {
+    assert!(rt; is_at_end(rt.alloc(), &mut Slice::new(b""))?);
     Ok(())
 }

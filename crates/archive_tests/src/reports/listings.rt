@@ -4,7 +4,6 @@ use crate::records::prefixes::prefix_gives;
 use fixtures::{RESOURCE, RESPONSE, Refused, cut, joined, three_records};
 use index_core::list;
 use std::alloc::{AllocError, Global};
-use std::test::Fail;
 use warc_core::{Cause, Fault, Fuse, Gather, Input, Slice};
 
 /// Returns what `list` writes, and its result.
@@ -94,11 +93,11 @@ const ARCHIVES: &[(&[u8], &[u8], Option<Cause>)] = &[
 ];
 
 #[test]
-fn a_listing_has_a_line_for_each_record_and_for_the_fault(rt: HostRuntime) -> Result<(), Fail> {
-    for (archive, lines, cause) in ARCHIVES {
+fn a_listing_has_a_line_for_each_record_and_for_the_fault(rt: HostRuntime) -> Result<(), Refused> {
+    for (number, (archive, lines, cause)) in ARCHIVES.iter().enumerate() {
         assert!(rt;
             lists(rt.alloc(), archive, lines, answer(*cause))?,
-            "{lines:?}"
+            "row {number}"
         );
     }
     Ok(())
@@ -136,12 +135,12 @@ fn lists_prefix(alloc: Global, archive: &[u8]) -> Result<bool, Refused> {
 }
 
 #[test]
-fn every_prefix_of_an_archive_is_listed_to_its_end(rt: HostRuntime) -> Result<(), Fail> {
+fn every_prefix_of_an_archive_is_listed_to_its_end(rt: HostRuntime) -> Result<(), Refused> {
     let archive = three_records(rt.alloc())?;
     assert!(rt; archive.len() == 712);
     for length in 0..713 {
         assert!(rt;
-            lists_prefix(rt.alloc(), cut(archive.as_slice(), length))?,
+            lists_prefix(rt.alloc(), cut(&archive, length))?,
             "{length}"
         );
     }
@@ -171,13 +170,10 @@ fn lists_to_failed_read(alloc: Global, archive: &[u8], at: u64) -> Result<bool, 
 }
 
 #[test]
-fn a_listing_ends_at_a_failed_read(rt: HostRuntime) -> Result<(), Fail> {
+fn a_listing_ends_at_a_failed_read(rt: HostRuntime) -> Result<(), Refused> {
     let archive = joined(rt.alloc(), &[RESPONSE, RESOURCE])?;
     for at in 1..450 {
-        assert!(rt;
-            lists_to_failed_read(rt.alloc(), archive.as_slice(), at)?,
-            "at {at}"
-        );
+        assert!(rt; lists_to_failed_read(rt.alloc(), &archive, at)?, "{at}");
     }
     Ok(())
 }

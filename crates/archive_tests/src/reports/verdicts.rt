@@ -1,9 +1,8 @@
 //! Verdicts on the blocks of archives.
 use super::settled;
-use fixtures::{RESPONSE, Refused, cut, joined, repeated};
+use fixtures::{RESPONSE, Refused, joined, padded};
 use index_core::{Verified, verify};
 use std::alloc::Global;
-use std::test::Fail;
 use warc_core::{Cause, Fault, Fuse, Gather, Input, Slice};
 
 /// The head of a resource up to its last field, for a block of three bytes.
@@ -128,14 +127,16 @@ fn counts(line: &[u8]) -> Result<Verified, Fault> {
     })
 }
 
+/// Returns whether a resource with these fields, whose block is `abc`, has this verdict.
+fn has_verdict(alloc: Global, fields: &[u8], line: &[u8]) -> Result<bool, Refused> {
+    let archive = joined(alloc, &[RESOURCE, fields, b"\r\nabc\r\n\r\n"])?;
+    verifies(alloc, &archive, line, counts(line))
+}
+
 #[test]
-fn a_block_is_compared_with_the_digest_of_its_field(rt: HostRuntime) -> Result<(), Fail> {
-    for (fields, line) in FIELDS {
-        let archive = joined(rt.alloc(), &[RESOURCE, *fields, b"\r\nabc\r\n\r\n"])?;
-        assert!(rt;
-            verifies(rt.alloc(), archive.as_slice(), line, counts(line))?,
-            "{fields:?}"
-        );
+fn a_block_is_compared_with_the_digest_of_its_field(rt: HostRuntime) -> Result<(), Refused> {
+    for (number, (fields, line)) in FIELDS.iter().enumerate() {
+        assert!(rt; has_verdict(rt.alloc(), fields, line)?, "row {number}");
     }
     Ok(())
 }
@@ -173,75 +174,93 @@ const FAILED_READS: &[(u64, &[u8], u64)] = &[
 ];
 
 #[test]
-fn a_verification_ends_at_a_failed_read(rt: HostRuntime) -> Result<(), Fail> {
+fn a_verification_ends_at_a_failed_read(rt: HostRuntime) -> Result<(), Refused> {
     let archive = joined(rt.alloc(), &[RESOURCE, OTHER, RESPONSE])?;
     for (at, lines, offset) in FAILED_READS {
         assert!(rt;
-            verifies_to_failed_read(rt.alloc(), archive.as_slice(), *at, lines, *offset)?,
-            "at {at}"
+            verifies_to_failed_read(rt.alloc(), &archive, *at, lines, *offset)?,
+            "{at}"
         );
     }
     Ok(())
 }
 
+/// The digest of `abc`, before a block that is cut off, and before a closing that is.
+const SHORT_BLOCK: &[u8] = b"WARC-Block-Digest: sha1:VGMT4NSHA2AWVOR6EVYXQUGCNSONBWE5\r\n\r\nab";
+
+const CUT_CLOSING: &[u8] =
+    b"WARC-Block-Digest: sha1:VGMT4NSHA2AWVOR6EVYXQUGCNSONBWE5\r\n\r\nabc\r\n\r";
+
+/// The pieces of archives, the lines of their verification, and its result.
+const ARCHIVES: &[(&[&[u8]], &[u8], Result<Verified, Fault>)] = &[
+    (
+        &[RESOURCE, OTHER, RESOURCE, SAME, RESPONSE],
+        b"0 differs\n242 same\n484 absent\n",
+        Ok(Verified {
+            records: 3,
+            differing: 1,
+        }),
+    ),
+    (
+        &[RESOURCE, OTHER, RESOURCE, OTHER, b"WARC"],
+        b"0 differs\n242 differs\nfault 484 ShortHead\n",
+        Err(Fault {
+            offset: 484,
+            cause: Cause::ShortHead,
+        }),
+    ),
+    (
+        &[RESOURCE, SHORT_BLOCK],
+        b"fault 0 ShortBlock\n",
+        Err(Fault {
+            offset: 0,
+            cause: Cause::ShortBlock,
+        }),
+    ),
+    (
+        &[RESOURCE, CUT_CLOSING],
+        b"fault 0 Closing\n",
+        Err(Fault {
+            offset: 0,
+            cause: Cause::Closing,
+        }),
+    ),
+    (
+        &[],
+        b"",
+        Ok(Verified {
+            records: 0,
+            differing: 0,
+        }),
+    ),
+];
+
+fn verifies_pieces(
+    alloc: Global,
+    pieces: &[&[u8]],
+    lines: &[u8],
+    answer: Result<Verified, Fault>,
+) -> Result<bool, Refused> {
+    verifies(alloc, &joined(alloc, pieces)?, lines, answer)
+}
+
 #[test]
-fn each_record_of_an_archive_has_a_verdict(rt: HostRuntime) -> Result<(), Fail> {
-    let letters = repeated(rt.alloc(), b"a", 1_000_000)?;
-    for (pieces, lines, answer) in [
-        (
-            [RESOURCE, OTHER, RESOURCE, SAME, RESPONSE],
-            b"0 differs\n242 same\n484 absent\n".as_slice(),
-            Ok(Verified {
-                records: 3,
-                differing: 1,
-            }),
-        ),
-        (
-            [RESOURCE, OTHER, RESOURCE, OTHER, b"WARC"],
-            b"0 differs\n242 differs\nfault 484 ShortHead\n",
-            Err(Fault {
-                offset: 484,
-                cause: Cause::ShortHead,
-            }),
-        ),
-        (
-            [MILLION, letters.as_slice(), b"\r\n\r\n", b"", b""],
-            b"0 same\n",
-            Ok(Verified {
-                records: 1,
-                differing: 0,
-            }),
-        ),
-        (
-            [RESOURCE, cut(OTHER, 62), b"", b"", b""],
-            b"fault 0 ShortBlock\n",
-            Err(Fault {
-                offset: 0,
-                cause: Cause::ShortBlock,
-            }),
-        ),
-        (
-            [RESOURCE, cut(SAME, 66), b"", b"", b""],
-            b"fault 0 Closing\n",
-            Err(Fault {
-                offset: 0,
-                cause: Cause::Closing,
-            }),
-        ),
-        (
-            [b"", b"", b"", b"", b""],
-            b"",
-            Ok(Verified {
-                records: 0,
-                differing: 0,
-            }),
-        ),
-    ] {
-        let archive = joined(rt.alloc(), &pieces)?;
+fn each_record_of_an_archive_has_a_verdict(rt: HostRuntime) -> Result<(), Refused> {
+    for (number, (pieces, lines, answer)) in ARCHIVES.iter().enumerate() {
         assert!(rt;
-            verifies(rt.alloc(), archive.as_slice(), lines, answer)?,
-            "{lines:?}"
+            verifies_pieces(rt.alloc(), pieces, lines, *answer)?,
+            "row {number}"
         );
     }
+    Ok(())
+}
+
+/// The example of FIPS 180-4: a block of a million letters `a`.
+#[test]
+fn a_long_block_has_a_verdict(rt: HostRuntime) -> Result<(), Refused> {
+    let letters = padded(rt.alloc(), b"", b'a', b"", 1_000_000)?;
+    let pieces = [MILLION, letters.as_slice(), b"\r\n\r\n"];
+    let line = b"0 same\n";
+    assert!(rt; verifies_pieces(rt.alloc(), &pieces, line, counts(line))?);
     Ok(())
 }

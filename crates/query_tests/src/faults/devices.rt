@@ -3,7 +3,6 @@ use devices::{Fuse, Gather, Slice};
 use fixtures::{OFFSET_5, OFFSET_10, OFFSET_20, RISEN, Refused};
 use query_core::{AnswerFault, Query, SliceSource, answer, check, merge, pages, serve};
 use std::alloc::Global;
-use std::test::Fail;
 
 /// Three queries, the last line without a line feed.
 const QUERIES: &[u8] = b"url=example.com&fl=offset\nlimit=0\nkey=x";
@@ -185,43 +184,51 @@ fn goes_on(alloc: Global, row: &Row, number: usize, read: u64) -> Result<bool, R
     Ok(false)
 }
 
-/// Returns the first source, and its first call, that fails and doesn't end the call.
-fn read_let_through(alloc: Global, row: &Row) -> Result<Option<(usize, u64)>, Refused> {
-    for (number, calls) in calls_of(alloc, row)?.iter().enumerate() {
-        for read in 1..calls.saturating_add(1) {
-            if !ends_unread(alloc, row, number, read)? || !goes_on(alloc, row, number, read)? {
-                return Ok(Some((number, read)));
-            }
+/// Returns whether each of so many reads of this source ends the call if it fails.
+fn ends_at_reads_of(alloc: Global, row: &Row, number: usize, calls: u64) -> Result<bool, Refused> {
+    for read in 1..calls.saturating_add(1) {
+        if !ends_unread(alloc, row, number, read)? || !goes_on(alloc, row, number, read)? {
+            return Ok(false);
         }
     }
-    Ok(None)
+    Ok(true)
+}
+
+/// Returns whether each read of each source ends the call if it fails.
+fn ends_at_each_read(alloc: Global, row: &Row) -> Result<bool, Refused> {
+    let [first, second, third] = calls_of(alloc, row)?;
+    Ok(
+        ends_at_reads_of(alloc, row, 0, first)?
+            && ends_at_reads_of(alloc, row, 1, second)?
+            && ends_at_reads_of(alloc, row, 2, third)?,
+    )
 }
 
 #[test]
-fn a_call_ends_at_a_failed_read_of_any_index(rt: HostRuntime) -> Result<(), Fail> {
+fn a_call_ends_at_a_failed_read_of_any_index(rt: HostRuntime) -> Result<(), Refused> {
     for (number, row) in ROWS.iter().enumerate() {
         assert!(rt; is_whole(rt.alloc(), row)?, "row {number}");
-        assert!(rt; read_let_through(rt.alloc(), row)? == None, "row {number}");
+        assert!(rt; ends_at_each_read(rt.alloc(), row)?, "row {number}");
     }
     Ok(())
 }
 
-/// Returns the first write that fails and doesn't end the call with as many bytes written as there were writes before.
-fn write_let_through(alloc: Global, row: &Row) -> Result<Option<usize>, Refused> {
+/// Returns whether each write ends the call if it fails, with as many bytes written as there were writes before.
+fn ends_at_each_write(alloc: Global, row: &Row) -> Result<bool, Refused> {
     for before in 0..row.text.len() {
         let write = before as u64 + 1;
         let (answer, written) = ended(alloc, row, &mut sources(0, 0, 0), write)?;
         if answer != Err(AnswerFault::Write) || written != Some(before) {
-            return Ok(Some(before));
+            return Ok(false);
         }
     }
-    Ok(None)
+    Ok(true)
 }
 
 #[test]
-fn a_call_ends_at_a_failed_write(rt: HostRuntime) -> Result<(), Fail> {
+fn a_call_ends_at_a_failed_write(rt: HostRuntime) -> Result<(), Refused> {
     for (number, row) in ROWS.iter().enumerate() {
-        assert!(rt; write_let_through(rt.alloc(), row)? == None, "row {number}");
+        assert!(rt; ends_at_each_write(rt.alloc(), row)?, "row {number}");
     }
     Ok(())
 }
@@ -238,6 +245,14 @@ fn served_to(read: u64) -> (Result<u64, AnswerFault>, &'static [u8]) {
     }
 }
 
+fn is_served_so(
+    answer: Result<u64, AnswerFault>,
+    written: &[u8],
+    wanted: (Result<u64, AnswerFault>, &[u8]),
+) -> bool {
+    answer == wanted.0 && written == wanted.1
+}
+
 /// Returns whether a conversation ends in this way if its input gives one byte a call and fails at this call.
 fn is_served_to(alloc: Global, read: u64) -> Result<bool, Refused> {
     let mut input = Fuse::new(Slice::new(QUERIES), 1, read);
@@ -245,34 +260,44 @@ fn is_served_to(alloc: Global, read: u64) -> Result<bool, Refused> {
     let answer = serve(alloc, &mut sources(0, 0, 0), &mut input, &mut out);
     match answer {
         Err(AnswerFault::Memory | AnswerFault::Write) => Err(Refused::Memory),
-        answer => Ok((answer, out.bytes()) == served_to(read)),
+        answer => Ok(is_served_so(answer, out.bytes(), served_to(read))),
     }
 }
 
 #[test]
-fn a_conversation_ends_at_a_failed_read_of_its_lines(rt: HostRuntime) -> Result<(), Fail> {
+fn a_conversation_ends_at_a_failed_read_of_its_lines(rt: HostRuntime) -> Result<(), Refused> {
     for read in 1..43 {
         assert!(rt; is_served_to(rt.alloc(), read)?, "{read}");
     }
     Ok(())
 }
 
+/// Returns whether checking the index has this result.
+fn is_checked(
+    alloc: Global,
+    source: &mut Failing,
+    wanted: Result<u64, AnswerFault>,
+) -> Result<bool, Refused> {
+    match check(alloc, source) {
+        Err(AnswerFault::Memory) => Err(Refused::Memory),
+        answer => Ok(answer == wanted),
+    }
+}
+
 /// Returns whether the check of an index that fails at this call and at the next one fails twice, and then counts its
 /// line.
 fn is_checked_again(alloc: Global, read: u64) -> Result<bool, Refused> {
     let mut source = failing(OFFSET_5, read, read);
-    for wanted in [Err(AnswerFault::Read(0)), Err(AnswerFault::Read(0)), Ok(1)] {
-        match check(alloc, &mut source) {
-            Err(AnswerFault::Memory) => return Err(Refused::Memory),
-            answer if answer != wanted => return Ok(false),
-            _answer => {}
-        }
-    }
-    Ok(true)
+    let fault = Err(AnswerFault::Read(0));
+    Ok(
+        is_checked(alloc, &mut source, fault)?
+            && is_checked(alloc, &mut source, fault)?
+            && is_checked(alloc, &mut source, Ok(1))?,
+    )
 }
 
 #[test]
-fn an_index_that_failed_is_checked_again(rt: HostRuntime) -> Result<(), Fail> {
+fn an_index_that_failed_is_checked_again(rt: HostRuntime) -> Result<(), Refused> {
     for read in 1..4 {
         assert!(rt; is_checked_again(rt.alloc(), read)?, "{read}");
     }

@@ -1,6 +1,6 @@
 //! Indexes of arbitrary bytes: cut off, too long, out of order, or not text.
 use devices::{Gather, Slice};
-use fixtures::{Refused, TORN, cut, falling_lines};
+use fixtures::{Refused, TORN, cut, falling_lines, padded};
 use query_core::{
     AnswerFault, FileSource, Query, SliceSource, Source, answer, check, merge, serve,
 };
@@ -43,51 +43,54 @@ const ODD_LINES: &[&[u8]] = &[
     b"a)/ 00000000000000 {\"offset\": 9223372036854775807, \"filename\": \"\\u0000\"}",
 ];
 
-/// Returns the result of a check. A failed allocation is an error.
-fn checked<S: Source>(alloc: Global, source: &mut S) -> Result<Result<u64, AnswerFault>, Refused> {
-    match check(alloc, source) {
+/// Returns whether a check has this result. A failed allocation is an error.
+fn is_checked(
+    alloc: Global,
+    text: &[u8],
+    wanted: Result<u64, AnswerFault>,
+) -> Result<bool, Refused> {
+    match check(alloc, &mut SliceSource::new(text)) {
         Err(AnswerFault::Memory) => Err(Refused::Memory),
-        answer => Ok(answer),
+        answer => Ok(answer == wanted),
     }
 }
 
-/// Returns the result of a merge, and the number of bytes it writes.
-fn merged<S: Source>(
+/// Returns whether a merge has this result, and writes so many bytes.
+fn is_merged<S: Source>(
     alloc: Global,
-    sources: &mut [S],
-) -> Result<(Result<u64, AnswerFault>, usize), Refused> {
+    source: S,
+    wanted: Result<u64, AnswerFault>,
+    length: usize,
+) -> Result<bool, Refused>
+where
+    S: Drop,
+{
     let mut out = Gather::new(alloc);
-    match merge(alloc, sources, &mut out) {
+    match merge(alloc, &mut [source], &mut out) {
         Err(AnswerFault::Memory | AnswerFault::Write) => Err(Refused::Memory),
-        answer => Ok((answer, out.bytes().len())),
+        answer => Ok(answer == wanted && out.bytes().len() == length),
     }
 }
 
-/// Returns the result of a query, which is the number of captures if it succeeds, and what it writes.
-fn answered<S: Source>(
+/// Returns whether the query has this result, the number of captures if it succeeds, and writes nothing.
+fn answers_empty<S: Source>(
     alloc: Global,
-    sources: &mut [S],
-    text: &str,
-) -> Result<(Result<u64, AnswerFault>, Gather), Refused> {
-    let Ok(query) = Query::read(alloc, text) else {
+    source: S,
+    query: &str,
+    wanted: Result<u64, AnswerFault>,
+) -> Result<bool, Refused>
+where
+    S: Drop,
+{
+    let Ok(query) = Query::read(alloc, query) else {
         return Err(Refused::Memory);
     };
     let mut out = Gather::new(alloc);
-    match answer(alloc, sources, &query, &mut out) {
-        Err(AnswerFault::Memory | AnswerFault::Write) => Err(Refused::Memory),
-        Err(fault) => Ok((Err(fault), out)),
-        Ok(report) => Ok((Ok(report.given), out)),
-    }
-}
-
-/// Returns whether the query has this result, and writes nothing.
-fn answers_empty(
-    alloc: Global,
-    text: &[u8],
-    query: &str,
-    wanted: Result<u64, AnswerFault>,
-) -> Result<bool, Refused> {
-    let (answer, out) = answered(alloc, &mut [SliceSource::new(text)], query)?;
+    let answer = match answer(alloc, &mut [source], &query, &mut out) {
+        Err(AnswerFault::Memory | AnswerFault::Write) => return Err(Refused::Memory),
+        Err(fault) => Err(fault),
+        Ok(report) => Ok(report.given),
+    };
     Ok(answer == wanted && out.bytes().is_empty())
 }
 
@@ -98,23 +101,20 @@ const ALL: &str = "key=&matchType=prefix";
 fn is_bad_at(alloc: Global, text: &[u8], offset: u64) -> Result<bool, Refused> {
     let fault = Err(AnswerFault::BadLine(0, offset));
     Ok(
-        checked(alloc, &mut SliceSource::new(text))? == fault
-            && merged(alloc, &mut [SliceSource::new(text)])? == (fault, 0)
-            && answers_empty(alloc, text, ALL, fault)?,
+        is_checked(alloc, text, fault)?
+            && is_merged(alloc, SliceSource::new(text), fault, 0)?
+            && answers_empty(alloc, SliceSource::new(text), ALL, fault)?,
     )
 }
 
 /// Returns whether the text is an index of one line, which a merge writes with a line feed.
 fn is_one_line(alloc: Global, text: &[u8]) -> Result<bool, Refused> {
     let ended = text.len() + usize::from(!text.ends_with(b"\n"));
-    Ok(
-        checked(alloc, &mut SliceSource::new(text))? == Ok(1)
-            && merged(alloc, &mut [SliceSource::new(text)])? == (Ok(1), ended),
-    )
+    Ok(is_checked(alloc, text, Ok(1))? && is_merged(alloc, SliceSource::new(text), Ok(1), ended)?)
 }
 
 #[test]
-fn lines_without_an_entry_are_bad_wherever_they_are_read(rt: HostRuntime) -> Result<(), Fail> {
+fn lines_without_an_entry_are_bad_wherever_they_are_read(rt: HostRuntime) -> Result<(), Refused> {
     for (number, text) in BAD_LINES.iter().enumerate() {
         assert!(rt; is_bad_at(rt.alloc(), text, 50)?, "line {number}");
     }
@@ -138,7 +138,7 @@ fn is_served_to_bad_line(alloc: Global, text: &[u8]) -> Result<bool, Refused> {
 }
 
 #[test]
-fn a_bad_line_ends_its_reply_and_no_other(rt: HostRuntime) -> Result<(), Fail> {
+fn a_bad_line_ends_its_reply_and_no_other(rt: HostRuntime) -> Result<(), Refused> {
     for (number, text) in BAD_LINES.iter().enumerate() {
         assert!(rt; is_served_to_bad_line(rt.alloc(), text)?, "line {number}");
     }
@@ -153,10 +153,14 @@ const QUERIES_OF_TORN: &[(&str, Result<u64, AnswerFault>)] = &[
 ];
 
 #[test]
-fn a_torn_line_is_bad_where_it_is_reached(rt: HostRuntime) -> Result<(), Fail> {
+fn a_torn_line_is_bad_where_it_is_reached(rt: HostRuntime) -> Result<(), Refused> {
     assert!(rt; is_bad_at(rt.alloc(), TORN, 145)?);
     for (query, wanted) in QUERIES_OF_TORN {
-        assert!(rt; answers_empty(rt.alloc(), TORN, query, *wanted)?, "{query}");
+        let source = SliceSource::new(TORN);
+        assert!(rt;
+            answers_empty(rt.alloc(), source, query, *wanted)?,
+            "{query}"
+        );
     }
     Ok(())
 }
@@ -164,12 +168,8 @@ fn a_torn_line_is_bad_where_it_is_reached(rt: HostRuntime) -> Result<(), Fail> {
 /// Returns a line of this many bytes, including its line feed, if it has one.
 fn long_line(alloc: Global, length: usize, has_feed: bool) -> Result<Vec<u8>, AllocError> {
     let start = b"a)/ 20160101000000 {\"filename\": \"a.warc\", \"offset\": 0, \"url\": \"";
-    let mut line = Vec::new(alloc);
-    line.extend_from_slice(start)?;
     let end: &[u8] = if has_feed { b"\"}\n" } else { b"\"}" };
-    line.resize(length.saturating_sub(end.len()), b'x')?;
-    line.extend_from_slice(end)?;
-    Ok(line)
+    padded(alloc, start, b'x', end, length)
 }
 
 /// Lengths of lines in bytes, whether they include a line feed, and whether the lines are good.
@@ -196,7 +196,7 @@ fn is_read_or_bad(
 }
 
 #[test]
-fn a_line_has_at_most_16_777_216_bytes_with_its_line_feed(rt: HostRuntime) -> Result<(), Fail> {
+fn a_line_has_at_most_16_777_216_bytes_with_its_line_feed(rt: HostRuntime) -> Result<(), Refused> {
     for (length, has_feed, is_good) in LENGTHS {
         assert!(rt;
             is_read_or_bad(rt.alloc(), *length, *has_feed, *is_good)?,
@@ -267,11 +267,11 @@ const QUERIES_OF_FALLING: &[(&str, i64)] = &[
 ];
 
 #[test]
-fn falling_lines_are_answered_in_part(rt: HostRuntime) -> Result<(), Fail> {
+fn falling_lines_are_answered_in_part(rt: HostRuntime) -> Result<(), Refused> {
     let text = falling_lines(rt.alloc(), 1_000)?;
-    let out_of_order = Err(AnswerFault::OutOfOrder(0, 157));
-    assert!(rt; checked(rt.alloc(), &mut SliceSource::new(&text))? == out_of_order);
-    assert!(rt; merged(rt.alloc(), &mut [SliceSource::new(&text)])? == (out_of_order, 0));
+    let fault = Err(AnswerFault::OutOfOrder(0, 157));
+    assert!(rt; is_checked(rt.alloc(), &text, fault)?);
+    assert!(rt; is_merged(rt.alloc(), SliceSource::new(&text), fault, 0)?);
     for (query, above) in QUERIES_OF_FALLING {
         assert!(rt;
             is_answered_in_part(rt.alloc(), &text, query, *above)?,
@@ -305,14 +305,14 @@ fn is_replied_to(alloc: Global, byte: u8) -> Result<bool, Refused> {
 }
 
 #[test]
-fn each_byte_has_its_reply(rt: HostRuntime) -> Result<(), Fail> {
+fn each_byte_has_its_reply(rt: HostRuntime) -> Result<(), Refused> {
     for byte in 0..=u8::MAX {
         assert!(rt; is_replied_to(rt.alloc(), byte)?, "{byte}");
     }
     Ok(())
 }
 
-/// A file is cut within its second line after its source was created.
+/// A file is cut within its second line after its sources were created.
 #[test]
 fn a_file_that_was_cut_cannot_be_read(rt: HostRuntime) -> Result<(), Fail> {
     let read = Err(AnswerFault::Read(0));
@@ -320,8 +320,7 @@ fn a_file_that_was_cut_cannot_be_read(rt: HostRuntime) -> Result<(), Fail> {
     let to_merge = FileSource::new(File::open(&rt, "cut.cdxj")?)?;
     let to_ask = FileSource::new(File::open(&rt, "cut.cdxj")?)?;
     fs::write(&rt, "cut.cdxj", cut(BAD_LINES[0], 60))?;
-    assert!(rt; merged(rt.alloc(), &mut [to_merge])? == (read, 0));
-    let (answer, out) = answered(rt.alloc(), &mut [to_ask], ALL)?;
-    assert!(rt; answer == read && out.bytes().is_empty());
+    assert!(rt; is_merged(rt.alloc(), to_merge, read, 0)?);
+    assert!(rt; answers_empty(rt.alloc(), to_ask, ALL, read)?);
     Ok(fs::remove_file(&rt, "cut.cdxj")?)
 }

@@ -1,5 +1,4 @@
 //! Answers whose source or output fails, or whose lines are at fault.
-use crate::small_indexes::in_memory;
 use devices::{Fuse, Gather, Slice};
 use fixtures::{Refused, cut};
 use query_core::{AnswerFault, Query, SliceSource, answer, pages, serve};
@@ -122,22 +121,27 @@ fn ends_unread(call: Call, ended: &Ended) -> bool {
     ended.answer == Err(AnswerFault::Read(0)) && unended(call).starts_with(ended.out.device.bytes())
 }
 
-/// Returns the first failed read that doesn't end the call with this error.
-fn read_let_through(alloc: Global, call: Call, piece: usize) -> Result<Option<u64>, Refused> {
+/// Returns whether everything is written if no call fails, and each failed read ends the call with this error.
+fn ends_at_each_read(alloc: Global, call: Call, piece: usize) -> Result<bool, Refused> {
     let whole = run(alloc, call, piece, 0, 0)?;
+    if !is_whole(call, &whole) {
+        return Ok(false);
+    }
     for read in 1..whole.reads.saturating_add(1) {
         if !ends_unread(call, &run(alloc, call, piece, read, 0)?) {
-            return Ok(Some(read));
+            return Ok(false);
         }
     }
-    Ok(None)
+    Ok(true)
 }
 
 #[test]
-fn a_page_has_no_end_after_a_failed_read(rt: HostRuntime) -> Result<(), Fail> {
-    for (call, piece) in CALLS {
-        assert!(rt; is_whole(*call, &run(rt.alloc(), *call, *piece, 0, 0)?));
-        assert!(rt; read_let_through(rt.alloc(), *call, *piece)? == None);
+fn a_page_has_no_end_after_a_failed_read(rt: HostRuntime) -> Result<(), Refused> {
+    for (number, (call, piece)) in CALLS.iter().enumerate() {
+        assert!(rt;
+            ends_at_each_read(rt.alloc(), *call, *piece)?,
+            "row {number}"
+        );
     }
     Ok(())
 }
@@ -152,21 +156,24 @@ fn ends_unwritten(call: Call, piece: usize, write: u64, ended: &Ended) -> bool {
         && (piece > 1 || written.len() as u64 + 1 == write)
 }
 
-/// Returns the first failed write that doesn't end the call with this error.
-fn write_let_through(alloc: Global, call: Call, piece: usize) -> Result<Option<u64>, Refused> {
+/// Returns whether each failed write ends the call with this error.
+fn ends_at_each_write(alloc: Global, call: Call, piece: usize) -> Result<bool, Refused> {
     let whole = run(alloc, call, piece, 0, 0)?;
     for write in 1..whole.out.calls.saturating_add(1) {
         if !ends_unwritten(call, piece, write, &run(alloc, call, piece, 0, write)?) {
-            return Ok(Some(write));
+            return Ok(false);
         }
     }
-    Ok(None)
+    Ok(true)
 }
 
 #[test]
-fn a_page_ends_at_a_failed_write(rt: HostRuntime) -> Result<(), Fail> {
-    for (call, piece) in CALLS {
-        assert!(rt; write_let_through(rt.alloc(), *call, *piece)? == None);
+fn a_page_ends_at_a_failed_write(rt: HostRuntime) -> Result<(), Refused> {
+    for (number, (call, piece)) in CALLS.iter().enumerate() {
+        assert!(rt;
+            ends_at_each_write(rt.alloc(), *call, *piece)?,
+            "row {number}"
+        );
     }
     Ok(())
 }
@@ -192,8 +199,8 @@ fn ends_open(alloc: Global, text: &[u8], fault: AnswerFault) -> Result<bool, Fai
     let query = Query::read(alloc, QUERY)?;
     let mut sources = [SliceSource::new(text)];
     let mut out = Gather::new(alloc);
-    match in_memory(answer(alloc, &mut sources, &query, &mut out)) {
-        Err(AnswerFault::Memory) => Err(Fail::from(AnswerFault::Memory)),
+    match answer(alloc, &mut sources, &query, &mut out) {
+        Err(AnswerFault::Memory | AnswerFault::Write) => Err(Refused::Memory)?,
         Err(found) => Ok(found == fault && !out.bytes().ends_with(b"]\n")),
         Ok(_report) => Ok(false),
     }
@@ -201,8 +208,8 @@ fn ends_open(alloc: Global, text: &[u8], fault: AnswerFault) -> Result<bool, Fai
 
 #[test]
 fn a_line_at_fault_ends_the_page(rt: HostRuntime) -> Result<(), Fail> {
-    for (text, fault) in AT_FAULT {
-        assert!(rt; ends_open(rt.alloc(), text, *fault)?, "{fault:?}");
+    for (number, (text, fault)) in AT_FAULT.iter().enumerate() {
+        assert!(rt; ends_open(rt.alloc(), text, *fault)?, "row {number}");
     }
     Ok(())
 }

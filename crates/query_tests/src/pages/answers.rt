@@ -1,9 +1,9 @@
 //! Answers to queries over indexes.
 use crate::small_indexes::{
-    APART, HOSTS, LETTERS, Rows, empty_sources, files, in_memory, index_texts, slices,
+    APART, HOSTS, LETTER_ROWS, Rows, empty_sources, files, in_memory, index_texts, slices,
 };
 use devices::Gather;
-use fixtures::{FIRST_OF_2016, IMAGE, PAGE, rising_lines};
+use fixtures::{FIRST_OF_2016, IMAGE, LETTERS, PAGE, rising_lines};
 use query_core::{AnswerFault, Query, Report, SliceSource, Source, answer};
 use std::alloc::Global;
 use std::rt::Runtime;
@@ -114,42 +114,42 @@ const CASES: &[Case] = &[
         more: true,
     },
     Case {
-        indexes: &[LETTERS],
+        indexes: &[LETTER_ROWS],
         query: "key=a)/&fl=offset",
         page: "0\n",
         given: 1,
         more: false,
     },
     Case {
-        indexes: &[LETTERS],
+        indexes: &[LETTER_ROWS],
         query: "key=c)/&fl=offset,offset",
         page: "2 2\n",
         given: 1,
         more: false,
     },
     Case {
-        indexes: &[LETTERS, LETTERS],
+        indexes: &[LETTER_ROWS, LETTER_ROWS],
         query: "key=&matchType=prefix&output=json&fl=urlkey,mimetype",
         page: "[[\"urlkey\",\"mimetype\"],\n[\"a)/\",\"text/html\"],\n[\"b)/\",\"text/html\"],\n[\"c)/\",\"text/html\"]]\n",
         given: 3,
         more: false,
     },
     Case {
-        indexes: &[LETTERS],
+        indexes: &[LETTER_ROWS],
         query: "key=0",
         page: "",
         given: 0,
         more: false,
     },
     Case {
-        indexes: &[LETTERS],
+        indexes: &[LETTER_ROWS],
         query: "key=z)/",
         page: "",
         given: 0,
         more: false,
     },
     Case {
-        indexes: &[&[], LETTERS],
+        indexes: &[&[], LETTER_ROWS],
         query: "key=bb)/&output=json&showResumeKey=true",
         page: "[[\"urlkey\",\"timestamp\",\"original\",\"mimetype\",\"statuscode\",\"digest\",\"length\"]]\n",
         given: 0,
@@ -169,8 +169,11 @@ fn answers<S: Source>(alloc: Global, sources: &mut [S], case: &Case) -> Result<b
     let query = Query::read(alloc, case.query)?;
     let mut out = Gather::new(alloc);
     let report = in_memory(answer(alloc, sources, &query, &mut out))?;
-    let counts = (report.given, report.more) == (case.given, case.more);
-    Ok(counts && out.bytes() == case.page.as_bytes())
+    Ok(
+        report.given == case.given
+            && report.more == case.more
+            && out.bytes() == case.page.as_bytes(),
+    )
 }
 
 fn answers_from_memory(alloc: Global, case: &Case) -> Result<bool, Fail> {
@@ -185,9 +188,9 @@ fn answers_from_files<R: Runtime + AllocGlobal>(rt: &R, case: &Case) -> Result<b
 
 #[test]
 fn a_query_is_answered_by_its_page(rt: HostRuntime) -> Result<(), Fail> {
-    for case in CASES {
-        assert!(rt; answers_from_memory(rt.alloc(), case)?, "{}", case.query);
-        assert!(rt; answers_from_files(&rt, case)?, "{} of files", case.query);
+    for (number, case) in CASES.iter().enumerate() {
+        assert!(rt; answers_from_memory(rt.alloc(), case)?, "row {number}");
+        assert!(rt; answers_from_files(&rt, case)?, "row {number} of files");
     }
     Ok(())
 }
@@ -220,20 +223,26 @@ const TEXTS: &[(&[u8], &[u8], &str, &[u8])] = &[
     ),
 ];
 
-/// Returns the page of a query over these texts.
-fn page(alloc: Global, texts: [&[u8]; 2], text: &str) -> Result<Gather, Fail> {
+/// Returns whether this page answers a query over these texts.
+fn is_page(
+    alloc: Global,
+    first: &[u8],
+    second: &[u8],
+    text: &str,
+    page: &[u8],
+) -> Result<bool, Fail> {
     let query = Query::read(alloc, text)?;
-    let mut sources = [SliceSource::new(texts[0]), SliceSource::new(texts[1])];
+    let mut sources = [SliceSource::new(first), SliceSource::new(second)];
     let mut out = Gather::new(alloc);
     let _report = in_memory(answer(alloc, &mut sources, &query, &mut out))?;
-    Ok(out)
+    Ok(out.bytes() == page)
 }
 
 #[test]
 fn the_first_line_of_a_place_counts_before_filters_do(rt: HostRuntime) -> Result<(), Fail> {
     for (first, second, query, wanted) in TEXTS {
         assert!(rt;
-            page(rt.alloc(), [first, second], query)?.bytes() == *wanted,
+            is_page(rt.alloc(), first, second, query, wanted)?,
             "{query}"
         );
     }
@@ -254,30 +263,31 @@ const READ_OF_LETTERS: &[(&str, u64, u64)] = &[
     ("key=z)/", 0, 1),
 ];
 
+/// Returns whether the query has so many captures, and reads no more lines of the letters than this.
+fn reads_little(alloc: Global, query: &str, given: u64, lines: u64) -> Result<bool, Fail> {
+    let report = report(alloc, &mut [SliceSource::new(LETTERS)], query)?;
+    Ok(report.given == given && report.lines <= lines && report.probes <= 10)
+}
+
 #[test]
 fn little_is_read_of_an_index(rt: HostRuntime) -> Result<(), Fail> {
-    let texts = index_texts(rt.alloc(), &[LETTERS])?;
     for (query, given, lines) in READ_OF_LETTERS {
-        let report = report(rt.alloc(), &mut slices(rt.alloc(), &texts)?, query)?;
-        assert!(rt;
-            report.given == *given && report.lines <= *lines && report.probes <= 10,
-            "{query}"
-        );
+        assert!(rt; reads_little(rt.alloc(), query, *given, *lines)?, "{query}");
     }
     Ok(())
 }
 
+/// Returns whether one capture is given, more follow, and three lines are read and held.
+fn holds_three(alloc: Global, indexes: &[Rows]) -> Result<bool, Fail> {
+    let texts = index_texts(alloc, indexes)?;
+    let query = "url=example.com&fl=offset&limit=1";
+    let report = report(alloc, &mut slices(alloc, &texts)?, query)?;
+    Ok(report.given == 1 && report.more && report.lines == 3 && report.held == 3)
+}
+
 #[test]
 fn one_line_of_each_index_is_held_and_those_of_one_pair(rt: HostRuntime) -> Result<(), Fail> {
-    let texts = index_texts(rt.alloc(), APART)?;
-    let mut sources = slices(rt.alloc(), &texts)?;
-    let report = report(
-        rt.alloc(),
-        &mut sources,
-        "url=example.com&fl=offset&limit=1",
-    )?;
-    assert!(rt; report.given == 1 && report.more);
-    assert!(rt; report.lines == 3 && report.held == 3);
+    assert!(rt; holds_three(rt.alloc(), APART)?);
     Ok(())
 }
 
@@ -290,16 +300,20 @@ const FROM_500: &str =
 #[test]
 fn a_page_begins_where_its_resume_key_says(rt: HostRuntime) -> Result<(), Fail> {
     let text = rising_lines(rt.alloc(), 1_000)?;
-    let page = page(rt.alloc(), [&text, b""], AFTER_499)?;
-    assert!(rt; page.bytes() == FROM_500.as_bytes());
+    assert!(rt; is_page(rt.alloc(), &text, b"", AFTER_499, FROM_500.as_bytes())?);
     Ok(())
+}
+
+/// Returns whether little more is read than the ten lines of the page.
+fn reads_the_page(alloc: Global, text: &[u8]) -> Result<bool, Fail> {
+    let report = report(alloc, &mut [SliceSource::new(text)], AFTER_499)?;
+    Ok(report.lines >= 10 && report.lines <= 13 && report.held <= 2)
 }
 
 #[test]
 fn what_stands_before_a_resume_key_is_not_read(rt: HostRuntime) -> Result<(), Fail> {
     let text = rising_lines(rt.alloc(), 1_000)?;
-    let report = report(rt.alloc(), &mut [SliceSource::new(&text)], AFTER_499)?;
-    assert!(rt; report.lines >= 10 && report.lines <= 13 && report.held <= 2);
+    assert!(rt; reads_the_page(rt.alloc(), &text)?);
     Ok(())
 }
 

@@ -1,8 +1,9 @@
 //! The pages of queries, one after another.
 use crate::small_indexes::{
-    APART, HOSTS, LETTERS, Rows, empty_sources, files, in_memory, index_texts, slices,
+    APART, HOSTS, LETTER_ROWS, Rows, empty_sources, files, in_memory, index_texts, slices,
 };
 use devices::Gather;
+use fixtures::Refused;
 use query_core::{AnswerFault, Query, SliceSource, Source, answer, pages};
 use std::alloc::Global;
 use std::rt::Runtime;
@@ -54,14 +55,14 @@ const CASES: &[Case] = &[
         count: 2,
     },
     Case {
-        indexes: &[LETTERS],
+        indexes: &[LETTER_ROWS],
         query: "key=z)/&output=json&fl=offset",
         sizes: &[1_000_000],
         pages: "[[\"offset\"]]\n",
         count: 1,
     },
     Case {
-        indexes: &[LETTERS, HOSTS],
+        indexes: &[LETTER_ROWS, HOSTS],
         query: "key=z)/",
         sizes: &[1],
         pages: "",
@@ -89,9 +90,9 @@ fn answers_from_files<R: Runtime + AllocGlobal>(rt: &R, case: &Case) -> Result<b
 
 #[test]
 fn pages_follow_one_another(rt: HostRuntime) -> Result<(), Fail> {
-    for case in CASES {
-        assert!(rt; answers_from_memory(rt.alloc(), case)?, "{}", case.query);
-        assert!(rt; answers_from_files(&rt, case)?, "{} of files", case.query);
+    for (number, case) in CASES.iter().enumerate() {
+        assert!(rt; answers_from_memory(rt.alloc(), case)?, "row {number}");
+        assert!(rt; answers_from_files(&rt, case)?, "row {number} of files");
     }
     Ok(())
 }
@@ -144,23 +145,32 @@ fn walked(alloc: Global, limit: u64) -> Result<String, Fail> {
     Ok(rows)
 }
 
+fn is_walked(alloc: Global, limit: u64) -> Result<bool, Fail> {
+    Ok(walked(alloc, limit)?.as_str() == ALL_ROWS)
+}
+
 #[test]
 fn resume_keys_lead_through_all_captures(rt: HostRuntime) -> Result<(), Fail> {
     for limit in 1..8 {
-        assert!(rt; walked(rt.alloc(), limit)?.as_str() == ALL_ROWS, "{limit}");
+        assert!(rt; is_walked(rt.alloc(), limit)?, "{limit}");
     }
     Ok(())
 }
 
-/// Returns the fault of pages over this many empty indexes. Nothing is written then.
-fn early_fault(alloc: Global, count: usize, sizes: &[u64]) -> Result<Option<AnswerFault>, Fail> {
+/// Returns whether pages over this many empty indexes have this fault, with nothing written, or none.
+fn is_early(
+    alloc: Global,
+    count: usize,
+    sizes: &[u64],
+    wanted: Option<AnswerFault>,
+) -> Result<bool, Fail> {
     let query = Query::read(alloc, "url=example.com&output=json")?;
     let mut sources = empty_sources(alloc, count)?;
     let mut out = Gather::new(alloc);
-    match in_memory(pages(alloc, &mut sources, &query, sizes, &mut out)) {
-        Err(AnswerFault::Memory) => Err(Fail::from(AnswerFault::Memory)),
-        Err(fault) if out.bytes().is_empty() => Ok(Some(fault)),
-        _ => Ok(None),
+    match pages(alloc, &mut sources, &query, sizes, &mut out) {
+        Err(AnswerFault::Memory | AnswerFault::Write) => Err(Refused::Memory)?,
+        Err(fault) => Ok(wanted == Some(fault) && out.bytes().is_empty()),
+        Ok(_count) => Ok(wanted.is_none()),
     }
 }
 
@@ -176,10 +186,10 @@ const EARLY_FAULTS: &[(usize, &[u64], Option<AnswerFault>)] = &[
 
 #[test]
 fn sizes_are_looked_at_before_the_number_of_indexes(rt: HostRuntime) -> Result<(), Fail> {
-    for (count, sizes, fault) in EARLY_FAULTS {
+    for (number, (count, sizes, fault)) in EARLY_FAULTS.iter().enumerate() {
         assert!(rt;
-            early_fault(rt.alloc(), *count, sizes)? == *fault,
-            "{count}"
+            is_early(rt.alloc(), *count, sizes, *fault)?,
+            "row {number}"
         );
     }
     Ok(())

@@ -60,15 +60,17 @@ fn page(alloc: Global, index: &[u8], text: &str) -> Result<Gather, Fail> {
     Ok(out)
 }
 
+/// Returns whether this page answers a query with this rest.
+fn is_collapsed(alloc: Global, index: &[u8], rest: &str, wanted: &str) -> Result<bool, Fail> {
+    let query = format!(in alloc; "url=example.com&matchType=prefix&fl=offset&{rest}")?;
+    Ok(page(alloc, index, query.as_str())?.bytes() == wanted.as_bytes())
+}
+
 #[test]
 fn the_first_of_those_with_a_part_in_common_is_given(rt: HostRuntime) -> Result<(), Fail> {
     let index = index_text(rt.alloc(), DAYS)?;
     for (rest, wanted) in COLLAPSED {
-        let query = format!(in rt.alloc(); "url=example.com&matchType=prefix&fl=offset&{rest}")?;
-        assert!(rt;
-            page(rt.alloc(), &index, query.as_str())?.bytes() == wanted.as_bytes(),
-            "{rest}"
-        );
+        assert!(rt; is_collapsed(rt.alloc(), &index, rest, wanted)?, "{rest}");
     }
     Ok(())
 }
@@ -77,18 +79,19 @@ const BY_DAY: &str = "url=example.com&matchType=prefix&fl=offset&collapse=timest
 
 const PAGES_BY_DAY: &str = "0\n\ncom%2Cexample%29%2F+20160101000000+a.warc+0\n2\n";
 
+/// Returns the pages of a query over an index, and their number.
+fn pages_of(alloc: Global, index: &[u8], text: &str, size: u64) -> Result<(u64, Gather), Fail> {
+    let query = Query::read(alloc, text)?;
+    let mut out = Gather::new(alloc);
+    let mut sources = [SliceSource::new(index)];
+    let count = in_memory(pages(alloc, &mut sources, &query, &[size], &mut out))?;
+    Ok((count, out))
+}
+
 #[test]
 fn a_page_goes_on_with_another_part(rt: HostRuntime) -> Result<(), Fail> {
     let index = index_text(rt.alloc(), DAYS)?;
-    let query = Query::read(rt.alloc(), BY_DAY)?;
-    let mut out = Gather::new(rt.alloc());
-    let count = in_memory(pages(
-        rt.alloc(),
-        &mut [SliceSource::new(&index)],
-        &query,
-        &[1],
-        &mut out,
-    ))?;
+    let (count, out) = pages_of(rt.alloc(), &index, BY_DAY, 1)?;
     assert!(rt; count == 2 && out.bytes() == PAGES_BY_DAY.as_bytes());
     Ok(())
 }
@@ -113,15 +116,7 @@ const SIZES: &[(u64, u64)] = &[(1, 100), (2, 50), (7, 15), (1_000, 1)];
 
 /// Returns whether there are this many pages of this size, and whether they have the captures of one page of all.
 fn are_alike(alloc: Global, index: &[u8], size: u64, wanted: u64) -> Result<bool, Fail> {
-    let query = Query::read(alloc, BY_TEN_SECONDS)?;
-    let mut out = Gather::new(alloc);
-    let count = in_memory(pages(
-        alloc,
-        &mut [SliceSource::new(index)],
-        &query,
-        &[size],
-        &mut out,
-    ))?;
+    let (count, out) = pages_of(alloc, index, BY_TEN_SECONDS, size)?;
     let whole = page(alloc, index, BY_TEN_SECONDS)?;
     Ok(count == wanted && rows(alloc, out.bytes())?.as_bytes() == whole.bytes())
 }

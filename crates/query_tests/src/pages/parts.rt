@@ -46,12 +46,15 @@ fn page_of(alloc: Global, form: PageForm<'_>, line: &Line) -> Result<Gather, All
     Ok(out)
 }
 
+fn is_page(alloc: Global, form: PageForm<'_>, line: &Line, page: &str) -> Result<bool, AllocError> {
+    Ok(page_of(alloc, form, line)?.bytes() == page.as_bytes())
+}
+
 #[test]
 fn a_page_is_written_in_its_form(rt: HostRuntime) -> Result<(), Fail> {
     let line = Line::read(rt.alloc(), LINE)?;
-    for (form, wanted) in FORMS {
-        let page = page_of(rt.alloc(), *form, &line)?;
-        assert!(rt; page.bytes() == wanted.as_bytes());
+    for (number, (form, page)) in FORMS.iter().enumerate() {
+        assert!(rt; is_page(rt.alloc(), *form, &line, page)?, "row {number}");
     }
     Ok(())
 }
@@ -68,10 +71,14 @@ const NAMES: &[(Field, &str)] = &[
     (Field::Filename, "filename"),
 ];
 
+fn has_name(field: Field, name: &str) -> bool {
+    field_name(field) == name
+}
+
 #[test]
 fn fields_have_names(rt: HostRuntime) {
     for (field, name) in NAMES {
-        assert!(rt; field_name(*field) == *name);
+        assert!(rt; has_name(*field, name));
     }
 }
 
@@ -132,12 +139,22 @@ fn merged_from(alloc: Global, text: &[u8], key: &str, stamp: &str) -> Result<(Ga
     Ok((out, opened.probes))
 }
 
+/// Returns whether the merge from this pair on has all lines of the letters but so many bytes, after few steps.
+fn begins_at(alloc: Global, key: &str, stamp: &str, before: usize) -> Result<bool, Fail> {
+    let (out, probes) = merged_from(alloc, LETTERS, key, stamp)?;
+    Ok(
+        LETTERS
+            .get(before..)
+            .is_some_and(|rest| rest == out.bytes())
+            && probes <= 9,
+    )
+}
+
 #[test]
 fn sources_are_opened_at_a_pair(rt: HostRuntime) -> Result<(), Fail> {
     for (key, stamp, before) in STARTS {
-        let (out, probes) = merged_from(rt.alloc(), LETTERS, key, stamp)?;
         assert!(rt;
-            LETTERS.get(*before..) == Some(out.bytes()) && probes <= 9,
+            begins_at(rt.alloc(), key, stamp, *before)?,
             "{key} {stamp}"
         );
     }

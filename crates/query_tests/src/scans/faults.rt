@@ -35,14 +35,14 @@ fn record_behind(bytes: u64) -> u64 {
     }
 }
 
-/// Returns the first call of the archive's input that fails and doesn't end the scan. There are this many calls, each
-/// of this many bytes.
-fn read_let_through(
+/// Returns whether each call of the archive's input ends the scan if it fails. There are this many calls, each of this
+/// many bytes.
+fn ends_at_each_read(
     alloc: Global,
     archive: usize,
     read_at_once: usize,
     calls: u64,
-) -> Result<Option<u64>, Fail> {
+) -> Result<bool, Fail> {
     for failing_read in 1..calls.saturating_add(1) {
         let devices = Devices {
             read_at_once,
@@ -52,17 +52,23 @@ fn read_let_through(
         };
         let offset = record_behind((failing_read - 1).saturating_mul(read_at_once as u64));
         if !ends_unread(alloc, devices, offset)? {
-            return Ok(Some(failing_read));
+            return Ok(false);
         }
     }
-    Ok(None)
+    Ok(true)
 }
 
 #[test]
 fn scans_say_which_archive_failed(rt: HostRuntime) -> Result<(), Fail> {
     for (archive, by_one, by_hundred) in READS {
-        assert!(rt; read_let_through(rt.alloc(), *archive, 1, *by_one)? == None);
-        assert!(rt; read_let_through(rt.alloc(), *archive, 100, *by_hundred)? == None);
+        assert!(rt;
+            ends_at_each_read(rt.alloc(), *archive, 1, *by_one)?,
+            "{archive}"
+        );
+        assert!(rt;
+            ends_at_each_read(rt.alloc(), *archive, 100, *by_hundred)?,
+            "{archive}"
+        );
     }
     Ok(())
 }
@@ -84,14 +90,19 @@ fn ends_unwritten(alloc: Global, write: usize) -> Result<bool, Fail> {
     Ok(is_named && PAGES.get(..write.saturating_sub(1)) == Some(out.device.bytes()))
 }
 
+/// Returns whether the pages are written in so many calls of one byte.
+fn is_written_in(alloc: Global, calls: u64) -> Result<bool, Fail> {
+    let devices = by_one_byte(calls.saturating_add(1));
+    let (answer, out) = scanned(alloc, &PAGED, Types::usual(), devices)?;
+    Ok(answer == Ok(2) && out.device.bytes() == PAGES && out.calls == calls)
+}
+
 #[test]
 fn scans_end_where_their_output_fails(rt: HostRuntime) -> Result<(), Fail> {
-    assert!(rt; PAGES.len() == 117);
     for write in 1..118 {
         assert!(rt; ends_unwritten(rt.alloc(), write)?, "{write}");
     }
-    let (answer, out) = scanned(rt.alloc(), &PAGED, Types::usual(), by_one_byte(118))?;
-    assert!(rt; answer == Ok(2) && out.device.bytes() == PAGES);
+    assert!(rt; is_written_in(rt.alloc(), 117)?);
     Ok(())
 }
 
@@ -107,29 +118,28 @@ fn numbered(alloc: Global, count: usize) -> Result<Vec<Named<Fuse<Slice<'static>
     Ok(inputs)
 }
 
-/// Returns the result of a scan of this many archives, and how many bytes it writes, four for each.
-fn scanned_of(alloc: Global, count: usize) -> Result<(Result<u64, ScanFault>, usize), Fail> {
+/// Returns whether a scan of this many archives has this result, and writes this many bytes, four for each.
+fn is_scanned_of(
+    alloc: Global,
+    count: usize,
+    wanted: Result<u64, ScanFault>,
+    length: usize,
+) -> Result<bool, Fail> {
     let mut inputs = numbered(alloc, count)?;
     let mut out = Gather::new(alloc);
     let query = "key=com,example)/r&fl=length";
-    let answer = scan(
-        alloc,
-        &mut inputs,
-        Types::usual(),
-        &[5_000],
-        query,
-        &mut out,
-    );
+    let types = Types::usual();
+    let answer = scan(alloc, &mut inputs, types, &[5_000], query, &mut out);
     if answer == Err(ScanFault::Answer(AnswerFault::Write)) {
         return Err(Refused::Memory)?;
     }
-    Ok((with_memory(answer, &inputs)?, out.bytes().len()))
+    Ok(with_memory(answer, &inputs)? == wanted && out.bytes().len() == length)
 }
 
 #[test]
 fn scans_take_1024_archives(rt: HostRuntime) -> Result<(), Fail> {
     let too_many = Err(ScanFault::Answer(AnswerFault::TooManySources));
-    assert!(rt; scanned_of(rt.alloc(), 1_025)? == (too_many, 0));
-    assert!(rt; scanned_of(rt.alloc(), 1_024)? == (Ok(1), 4_096));
+    assert!(rt; is_scanned_of(rt.alloc(), 1_025, too_many, 0)?);
+    assert!(rt; is_scanned_of(rt.alloc(), 1_024, Ok(1), 4_096)?);
     Ok(())
 }

@@ -1,6 +1,8 @@
 //! What queries specify about their pages.
 use cdxj_core::{Field, Place};
-use query_text::{Collapse, OutputFormat, Query};
+use fixtures::{joined, repeated};
+use query_text::{Collapse, OutputFormat, Query, QueryFault};
+use std::alloc::Global;
 use std::test::Fail;
 
 const USUAL_FIELDS: &[Field] = &[
@@ -13,14 +15,17 @@ const USUAL_FIELDS: &[Field] = &[
     Field::Length,
 ];
 
+fn has_defaults(query: &Query) -> bool {
+    query.limit().is_none()
+        && query.resume().is_none()
+        && !query.shows_resume_key()
+        && query.output() == OutputFormat::Text
+        && query.fields() == USUAL_FIELDS
+}
+
 #[test]
-fn a_query_has_its_defaults(rt: HostRuntime) -> Result<(), Fail> {
-    let query = Query::read(rt.alloc(), "key=k")?;
-    assert!(rt; query.limit() == None);
-    assert!(rt; query.resume().is_none());
-    assert!(rt; !query.shows_resume_key());
-    assert!(rt; query.output() == OutputFormat::Text);
-    assert!(rt; query.fields() == USUAL_FIELDS);
+fn a_query_has_its_defaults(rt: HostRuntime) -> Result<(), QueryFault> {
+    assert!(rt; has_defaults(&Query::read(rt.alloc(), "key=k")?));
     Ok(())
 }
 
@@ -31,17 +36,21 @@ fn is_resume_place(place: Place<'_>) -> bool {
     place.key == "k=1" && place.filename == "a b.warc" && place.offset == 5
 }
 
+fn has_options(query: &Query) -> bool {
+    query.limit() == Some(7)
+        && query.shows_resume_key()
+        && query.output() == OutputFormat::Json
+        && query.fields() == TWO_FIELDS
+        && query.resume().is_some_and(is_resume_place)
+}
+
 #[test]
-fn a_query_has_what_its_text_says(rt: HostRuntime) -> Result<(), Fail> {
+fn a_query_has_what_its_text_says(rt: HostRuntime) -> Result<(), QueryFault> {
     let query = Query::read(
         rt.alloc(),
         "key=k&resumeKey=k=1+20160101000000+a+b.warc+5&output=json&showResumeKey=true&limit=007&fl=offset,filename,offset",
     )?;
-    assert!(rt; query.limit() == Some(7));
-    assert!(rt; query.shows_resume_key());
-    assert!(rt; query.output() == OutputFormat::Json);
-    assert!(rt; query.fields() == TWO_FIELDS);
-    assert!(rt; query.resume().is_some_and(is_resume_place));
+    assert!(rt; has_options(&query));
     Ok(())
 }
 
@@ -51,16 +60,24 @@ const LIMITS: &[(&str, u64)] = &[
     ("key=k&limit=1000000", 1_000_000),
 ];
 
+fn has_limit(alloc: Global, text: &str, limit: u64) -> Result<bool, QueryFault> {
+    Ok(Query::read(alloc, text)?.limit() == Some(limit))
+}
+
+/// Returns whether the query has this output, and doesn't show the resume key.
+fn has_output(alloc: Global, text: &str, output: OutputFormat) -> Result<bool, QueryFault> {
+    let query = Query::read(alloc, text)?;
+    Ok(query.output() == output && !query.shows_resume_key())
+}
+
 #[test]
-fn numbers_flags_and_outputs_are_read(rt: HostRuntime) -> Result<(), Fail> {
+fn numbers_flags_and_outputs_are_read(rt: HostRuntime) -> Result<(), QueryFault> {
     for (text, limit) in LIMITS {
-        assert!(rt; Query::read(rt.alloc(), text)?.limit() == Some(*limit));
+        assert!(rt; has_limit(rt.alloc(), text, *limit)?, "{text}");
     }
-    let cdxj = Query::read(rt.alloc(), "key=k&output=cdxj&showResumeKey=false")?;
-    assert!(rt; cdxj.output() == OutputFormat::Cdxj);
-    assert!(rt; !cdxj.shows_resume_key());
-    let text = Query::read(rt.alloc(), "key=k&output=text")?;
-    assert!(rt; text.output() == OutputFormat::Text);
+    let cdxj = "key=k&output=cdxj&showResumeKey=false";
+    assert!(rt; has_output(rt.alloc(), cdxj, OutputFormat::Cdxj)?);
+    assert!(rt; has_output(rt.alloc(), "key=k&output=text", OutputFormat::Text)?);
     Ok(())
 }
 
@@ -71,24 +88,28 @@ const COLLAPSES: &[(&str, Option<Collapse>)] = &[
     ("key=k&collapse=timestamp:01", Some(Collapse::Timestamp(1))),
 ];
 
+fn has_collapse(alloc: Global, text: &str, collapse: Option<Collapse>) -> Result<bool, QueryFault> {
+    Ok(Query::read(alloc, text)?.collapse() == collapse)
+}
+
 #[test]
-fn captures_are_collapsed_by_key_or_stamp(rt: HostRuntime) -> Result<(), Fail> {
+fn captures_are_collapsed_by_key_or_stamp(rt: HostRuntime) -> Result<(), QueryFault> {
     for (text, collapse) in COLLAPSES {
-        assert!(rt;
-            Query::read(rt.alloc(), text)?.collapse() == *collapse,
-            "{text}"
-        );
+        assert!(rt; has_collapse(rt.alloc(), text, *collapse)?, "{text}");
     }
     Ok(())
 }
 
+/// Returns whether a query may have so many fields.
+fn has_fields(alloc: Global, count: usize) -> Result<bool, Fail> {
+    let fields = repeated(alloc, b",offset", count.saturating_sub(1))?;
+    let text = joined(alloc, &[b"key=k&fl=offset", &fields])?;
+    let query = Query::read(alloc, str::from_utf8(&text)?)?;
+    Ok(query.fields().len() == count)
+}
+
 #[test]
 fn a_field_may_stand_9000_times(rt: HostRuntime) -> Result<(), Fail> {
-    let mut text = String::from_str(rt.alloc(), "key=k&fl=offset")?;
-    for _ in 1..9_000 {
-        text.push_str(",offset")?;
-    }
-    let query = Query::read(rt.alloc(), text.as_str())?;
-    assert!(rt; query.fields().len() == 9_000);
+    assert!(rt; has_fields(rt.alloc(), 9_000)?);
     Ok(())
 }

@@ -1,14 +1,24 @@
 //! Which query texts are refused, and why.
+use fixtures::padded;
 use query_text::{Query, QueryFault};
 use std::alloc::Global;
 use std::test::Fail;
 
-/// Returns why the text is refused, if it is. Failed allocations are errors of the test.
-fn refusal(alloc: Global, text: &str) -> Result<Option<QueryFault>, QueryFault> {
+/// Returns whether the text is refused for this reason. Failed allocations are errors of the test.
+fn is_refused(alloc: Global, text: &str, wanted: QueryFault) -> Result<bool, QueryFault> {
     match Query::read(alloc, text) {
-        Ok(_query) => Ok(None),
+        Ok(_query) => Ok(false),
         Err(QueryFault::Memory) => Err(QueryFault::Memory),
-        Err(fault) => Ok(Some(fault)),
+        Err(fault) => Ok(fault == wanted),
+    }
+}
+
+/// Returns whether the text is accepted.
+fn is_accepted(alloc: Global, text: &str) -> Result<bool, QueryFault> {
+    match Query::read(alloc, text) {
+        Ok(_query) => Ok(true),
+        Err(QueryFault::Memory) => Err(QueryFault::Memory),
+        Err(_fault) => Ok(false),
     }
 }
 
@@ -245,10 +255,10 @@ const ACCEPTED: &[&str] = &[
 const REFUSED: &[&[(&str, QueryFault)]] = &[VALUES, EMPTY_VALUES, TWO_FAULTS, WITHOUT_A_TARGET];
 
 #[test]
-fn texts_are_refused_for_their_first_fault(rt: HostRuntime) -> Result<(), Fail> {
+fn texts_are_refused_for_their_first_fault(rt: HostRuntime) -> Result<(), QueryFault> {
     for table in REFUSED {
         for (text, fault) in *table {
-            assert!(rt; refusal(rt.alloc(), text)? == Some(*fault), "{text}");
+            assert!(rt; is_refused(rt.alloc(), text, *fault)?, "{text}");
         }
     }
     Ok(())
@@ -261,50 +271,49 @@ const REFUSED_ALIKE: &[(&[&str], QueryFault)] = &[
 ];
 
 #[test]
-fn parameters_are_unknown_repeated_or_no_places(rt: HostRuntime) -> Result<(), Fail> {
+fn parameters_are_unknown_repeated_or_no_places(rt: HostRuntime) -> Result<(), QueryFault> {
     for (table, fault) in REFUSED_ALIKE {
         for text in *table {
-            assert!(rt; refusal(rt.alloc(), text)? == Some(*fault), "{text}");
+            assert!(rt; is_refused(rt.alloc(), text, *fault)?, "{text}");
         }
     }
     Ok(())
 }
 
+/// Returns the pattern between two texts.
+fn around(alloc: Global, front: &str, pattern: &str, end: &str) -> Result<String, QueryFault> {
+    let mut text = String::from_str(alloc, front)?;
+    text.push_str(pattern)?;
+    text.push_str(end)?;
+    Ok(text)
+}
+
+/// Returns whether a filter with this pattern is refused, or accepted.
+fn is_no_literal(alloc: Global, pattern: &str) -> Result<bool, QueryFault> {
+    let filter = around(alloc, "url=a&filter=original:x", pattern, "y")?;
+    let not = around(alloc, "url=a&filter=!original:", pattern, "")?;
+    let is = around(alloc, "url=a&is=original:x", pattern, "y")?;
+    Ok(
+        is_refused(alloc, filter.as_str(), QueryFault::NotLiteral)?
+            && is_refused(alloc, not.as_str(), QueryFault::NotLiteral)?
+            && is_accepted(alloc, is.as_str())?,
+    )
+}
+
 #[test]
-fn patterns_are_refused_in_filter_alone(rt: HostRuntime) -> Result<(), Fail> {
-    let alloc = rt.alloc();
+fn patterns_are_refused_in_filter_alone(rt: HostRuntime) -> Result<(), QueryFault> {
     for pattern in PATTERNS {
-        let filter = format!(in alloc; "url=a&filter=original:x{pattern}y")?;
-        assert!(rt;
-            refusal(alloc, filter.as_str())? == Some(QueryFault::NotLiteral),
-            "{filter}"
-        );
-        let not = format!(in alloc; "url=a&filter=!original:{pattern}")?;
-        assert!(rt;
-            refusal(alloc, not.as_str())? == Some(QueryFault::NotLiteral),
-            "{not}"
-        );
-        let is = format!(in alloc; "url=a&is=original:x{pattern}y")?;
-        assert!(rt; refusal(alloc, is.as_str())? == None, "{is}");
+        assert!(rt; is_no_literal(rt.alloc(), pattern)?, "{pattern}");
     }
     Ok(())
 }
 
 #[test]
-fn texts_are_accepted(rt: HostRuntime) -> Result<(), Fail> {
+fn texts_are_accepted(rt: HostRuntime) -> Result<(), QueryFault> {
     for text in ACCEPTED {
-        assert!(rt; refusal(rt.alloc(), text)? == None, "{text}");
+        assert!(rt; is_accepted(rt.alloc(), text)?, "{text}");
     }
     Ok(())
-}
-
-/// Returns the text, followed by this many letters.
-fn lengthened(alloc: Global, text: &str, letters: usize) -> Result<String, QueryFault> {
-    let mut long = String::from_str(alloc, text)?;
-    for _ in 0..letters {
-        long.push('a')?;
-    }
-    Ok(long)
 }
 
 const LENGTHS: &[(&str, usize, Option<QueryFault>)] = &[
@@ -315,11 +324,34 @@ const LENGTHS: &[(&str, usize, Option<QueryFault>)] = &[
     ("key=", 65_533, Some(QueryFault::QueryTooLong)),
 ];
 
+/// Returns whether the text, followed by so many letters, is refused for this reason, or accepted.
+fn is_limited(
+    alloc: Global,
+    text: &str,
+    letters: usize,
+    fault: Option<QueryFault>,
+) -> Result<bool, Fail> {
+    let long = padded(
+        alloc,
+        text.as_bytes(),
+        b'a',
+        b"",
+        text.len().saturating_add(letters),
+    )?;
+    let long = str::from_utf8(&long)?;
+    match fault {
+        Some(fault) => Ok(is_refused(alloc, long, fault)?),
+        None => Ok(is_accepted(alloc, long)?),
+    }
+}
+
 #[test]
 fn texts_have_at_most_65536_bytes(rt: HostRuntime) -> Result<(), Fail> {
-    for (text, letters, wanted) in LENGTHS {
-        let long = lengthened(rt.alloc(), text, *letters)?;
-        assert!(rt; refusal(rt.alloc(), long.as_str())? == *wanted);
+    for (text, letters, fault) in LENGTHS {
+        assert!(rt;
+            is_limited(rt.alloc(), text, *letters, *fault)?,
+            "{letters}"
+        );
     }
     Ok(())
 }

@@ -1,7 +1,6 @@
 //! The targets of query texts.
 use query_text::{MatchKind, Query, QueryFault};
 use std::alloc::Global;
-use std::test::Fail;
 
 const EXACT: &[(&str, &str)] = &[
     ("url=example.com", "com,example)/"),
@@ -101,7 +100,7 @@ fn has_target(
 }
 
 #[test]
-fn targets_are_those_of_the_url_or_the_key(rt: HostRuntime) -> Result<(), Fail> {
+fn targets_are_those_of_the_url_or_the_key(rt: HostRuntime) -> Result<(), QueryFault> {
     for (table, kind) in TARGETS {
         for (text, target) in *table {
             assert!(rt; has_target(rt.alloc(), text, target, *kind)?, "{text}");

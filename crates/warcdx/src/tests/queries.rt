@@ -171,10 +171,10 @@ fn indexes_are_asked_by_name(rt: HostRuntime) -> Result<(), Fail> {
             "{text}"
         );
     }
-    for (names, lines, at, text, wanted) in CONVERSATIONS {
+    for (number, (names, lines, at, text, wanted)) in CONVERSATIONS.iter().enumerate() {
         assert!(rt;
             replies(&rt, names, lines, *at, text, *wanted)?,
-            "{names:?}"
+            "row {number}"
         );
     }
     Ok(remove_indexes(&rt)?)
