@@ -1,9 +1,10 @@
 //! Tasks on archives by name.
-use super::{RESPONSE, Refused, cut, owned, performed};
+use super::performed;
 use crate::outcome::Outcome;
 use crate::reports::ArchiveReport;
 use capture_core::CaptureFault;
 use command_line::Task;
+use fixtures::{RESPONSE, Refused, cut, owned};
 use index_core::IndexFault;
 use std::alloc::{AllocError, Global};
 use std::rt::Runtime;

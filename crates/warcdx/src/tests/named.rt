@@ -1,11 +1,13 @@
 //! Indexes of archives by name, and their records.
 use super::archives::READ;
-use super::indexes::{RESOURCE_LINE, RESPONSE_LINE};
-use super::{RESOURCE, RESPONSE, Refused, cut, joined, owned, performed};
+use super::performed;
 use crate::archive_names::file_name;
 use crate::outcome::Outcome;
 use capture_core::{CaptureFault, Types};
 use command_line::Task;
+use fixtures::{
+    RESOURCE, RESOURCE_LINE, RESPONSE, RESPONSE_LINE, Refused, cut, damaged_archive, joined, owned,
+};
 use index_core::IndexFault;
 use query_core::{AnswerFault, QueryFault};
 use std::alloc::{AllocError, Global};
@@ -141,9 +143,7 @@ fn writes<R: Runtime + AllocGlobal>(
     pieces: &[&[u8]],
     wanted: Outcome,
 ) -> Result<bool, Refused> {
-    let Ok(text) = joined(rt.alloc(), pieces) else {
-        return Err(Refused::Memory);
-    };
+    let text = joined(rt.alloc(), pieces)?;
     let (outcome, out) = performed(rt, task, 0)?;
     Ok(out.device.bytes() == text.as_slice() && outcome == wanted)
 }
@@ -178,7 +178,7 @@ fn writes_in_part<R: Runtime + AllocGlobal>(rt: &R) -> Result<bool, Refused> {
 }
 
 fn write_archives<R: Runtime + AllocGlobal>(rt: &R) -> Result<(), Fail> {
-    let damaged = joined(rt.alloc(), &[RESPONSE, RESOURCE, cut(RESPONSE, 231)])?;
+    let damaged = damaged_archive(rt.alloc())?;
     fs::create_dir_all(rt, "whole")?;
     fs::write(rt, "whole/b.warc", RESPONSE)?;
     Ok(fs::write(rt, "b.warc", damaged.as_slice())?)
@@ -194,10 +194,10 @@ fn remove_archives<R: Runtime>(rt: &R) -> io::Result<()> {
 fn archives_are_indexed_and_read_by_name(rt: HostRuntime) -> Result<(), Fail> {
     let alloc = rt.alloc();
     write_archives(&rt)?;
-    for (names, lines, wanted) in INDEXES {
+    for (number, (names, lines, wanted)) in INDEXES.iter().enumerate() {
         assert!(rt;
             writes(&rt, index(alloc, names), lines, *wanted)?,
-            "{names:?}"
+            "row {number}"
         );
     }
     for (offset, name, record, wanted) in RECORDS {
@@ -206,10 +206,10 @@ fn archives_are_indexed_and_read_by_name(rt: HostRuntime) -> Result<(), Fail> {
             "{offset} {name}"
         );
     }
-    for (sizes, query, names, text, wanted) in SCANS {
+    for (number, (sizes, query, names, text, wanted)) in SCANS.iter().enumerate() {
         assert!(rt;
             writes(&rt, scan(alloc, sizes, query, names), &[text], *wanted)?,
-            "{names:?}"
+            "row {number}"
         );
     }
     assert!(rt; takes_resources(&rt)?);
@@ -228,9 +228,13 @@ const FILE_NAMES: &[(&str, &str)] = &[
     ("é/ü", "ü"),
 ];
 
+fn has_file_name(name: &str, wanted: &str) -> bool {
+    file_name(name) == wanted
+}
+
 #[test]
 fn a_file_name_stands_after_the_last_slash(rt: HostRuntime) {
     for (name, wanted) in FILE_NAMES {
-        assert!(rt; file_name(name) == *wanted);
+        assert!(rt; has_file_name(name, wanted), "{name}");
     }
 }

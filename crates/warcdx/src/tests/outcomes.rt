@@ -1,3 +1,4 @@
+//! Outcomes, their exit status, and the worse of two.
 use crate::outcome::Outcome;
 use crate::status::{ends_command, status, worse};
 use capture_core::CaptureFault;
@@ -61,52 +62,51 @@ const CAUSES: &[(Cause, u8, bool)] = &[
     (Cause::TooFar, 1, false),
 ];
 
+/// Returns whether an outcome has this exit status, and ends a command at once or not.
+fn has_status(outcome: &Outcome, wanted: u8, ends: bool) -> bool {
+    status(outcome) == wanted && ends_command(outcome) == ends
+}
+
 #[test]
 fn outcomes_have_their_status(rt: HostRuntime) {
-    for (outcome, wanted, ends) in OUTCOMES {
-        assert!(rt; status(outcome) == *wanted, "{outcome:?}");
-        assert!(rt; ends_command(outcome) == *ends, "{outcome:?}");
+    for (number, (outcome, wanted, ends)) in OUTCOMES.iter().enumerate() {
+        assert!(rt; has_status(outcome, *wanted, *ends), "row {number}");
     }
-    for (cause, wanted, ends) in CAUSES {
-        assert!(rt; status(&archive(*cause)) == *wanted, "{cause:?}");
-        assert!(rt; ends_command(&archive(*cause)) == *ends, "{cause:?}");
+    for (number, (cause, wanted, ends)) in CAUSES.iter().enumerate() {
+        assert!(rt;
+            has_status(&archive(*cause), *wanted, *ends),
+            "row {number}"
+        );
     }
+}
+
+const CLOSING: Outcome = Outcome::Index(IndexFault::Capture(CaptureFault::Archive(Fault {
+    offset: 0,
+    cause: Cause::Closing,
+})));
+
+const READ: Outcome = Outcome::Index(IndexFault::Capture(CaptureFault::Archive(Fault {
+    offset: 0,
+    cause: Cause::Read,
+})));
+
+/// Two outcomes, and the worse.
+const PAIRS: &[(Outcome, Outcome, Outcome)] = &[
+    (Outcome::Done, Outcome::Done, Outcome::Done),
+    (Outcome::Done, Outcome::Differs, Outcome::Differs),
+    (Outcome::Differs, Outcome::Done, Outcome::Differs),
+    (Outcome::Differs, CLOSING, Outcome::Differs),
+    (CLOSING, Outcome::CannotOpen, Outcome::CannotOpen),
+    (READ, Outcome::CannotOpen, READ),
+];
+
+fn is_worse(first: Outcome, second: Outcome, wanted: Outcome) -> bool {
+    worse(first, second) == wanted
 }
 
 #[test]
 fn of_two_outcomes_the_worse_is_taken(rt: HostRuntime) {
-    for (first, second, wanted) in [
-        (Outcome::Done, Outcome::Done, Outcome::Done),
-        (Outcome::Done, Outcome::Differs, Outcome::Differs),
-        (Outcome::Differs, Outcome::Done, Outcome::Differs),
-        (Outcome::Differs, archive(Cause::Closing), Outcome::Differs),
-        (
-            archive(Cause::Closing),
-            Outcome::CannotOpen,
-            Outcome::CannotOpen,
-        ),
-        (
-            archive(Cause::Read),
-            Outcome::CannotOpen,
-            archive(Cause::Read),
-        ),
-    ] {
-        assert!(rt; worse(first, second) == wanted);
-    }
-}
-
-#[test]
-fn faults_of_captures_have_an_offset_and_a_name(rt: HostRuntime) {
-    let damage = CaptureFault::from(Fault {
-        offset: 448,
-        cause: Cause::ShortBlock,
-    });
-    for (fault, offset, name) in [
-        (damage, 448, "ShortBlock"),
-        (CaptureFault::LineTooLong(7), 7, "LineTooLong"),
-        (CaptureFault::KeyTooLong(9), 9, "KeyTooLong"),
-    ] {
-        assert!(rt; fault.offset() == offset);
-        assert!(rt; fault.name() == name);
+    for (number, (first, second, wanted)) in PAIRS.iter().enumerate() {
+        assert!(rt; is_worse(*first, *second, *wanted), "row {number}");
     }
 }

@@ -1,25 +1,17 @@
 //! Queries over indexes by name.
-use super::{Refused, owned, performed};
+use super::performed;
 use crate::conversing::serve_all;
 use crate::opening::System;
 use crate::outcome::Outcome;
 use crate::status::ends_command;
 use command_line::Task;
+use fixtures::{OFFSET_5, OFFSET_10, OFFSET_20, Refused, owned};
 use query_core::{AnswerFault, QueryFault};
 use std::alloc::{AllocError, Global};
 use std::rt::Runtime;
 use std::test::Fail;
 use std::{fs, io};
 use warc_core::{Fuse, Gather, Slice};
-
-const OFFSET_10: &[u8] =
-    b"com,example)/ 20160101000000 {\"url\": \"http://x/\", \"mime\": \"text/html\", \"status\": \"200\", \"digest\": \"-\", \"length\": \"1\", \"offset\": \"10\", \"filename\": \"b.warc\"}\n";
-
-const OFFSET_20: &[u8] =
-    b"com,example)/ 20160101000000 {\"url\": \"http://x/\", \"mime\": \"text/html\", \"status\": \"200\", \"digest\": \"-\", \"length\": \"1\", \"offset\": \"20\", \"filename\": \"a.warc\"}\n";
-
-const OFFSET_5: &[u8] =
-    b"com,example)/ 20160101000000 {\"url\": \"http://x/\", \"mime\": \"text/html\", \"status\": \"200\", \"digest\": \"-\", \"length\": \"1\", \"offset\": \"5\", \"filename\": \"a.warc\"}\n";
 
 /// The indexes of one line each, in the order in which they are named.
 const APART: &[&str] = &["10.cdxj", "20.cdxj", "5.cdxj"];
@@ -141,9 +133,7 @@ fn replies<R: Runtime + AllocGlobal>(
     text: &[u8],
     wanted: Outcome,
 ) -> Result<bool, Refused> {
-    let Ok(names) = owned(rt.alloc(), names) else {
-        return Err(Refused::Memory);
-    };
+    let names = owned(rt.alloc(), names)?;
     let mut input = Fuse::new(Slice::new(lines), 6, at);
     let mut out = Gather::new(rt.alloc());
     let outcome = serve_all(rt, &System::new(rt), &names, &mut input, &mut out);
@@ -182,10 +172,10 @@ fn indexes_are_asked_by_name(rt: HostRuntime) -> Result<(), Fail> {
             "{text}"
         );
     }
-    for (names, lines, at, text, wanted) in CONVERSATIONS {
+    for (number, (names, lines, at, text, wanted)) in CONVERSATIONS.iter().enumerate() {
         assert!(rt;
             replies(&rt, names, lines, *at, text, *wanted)?,
-            "{names:?}"
+            "row {number}"
         );
     }
     Ok(remove_indexes(&rt)?)

@@ -1,9 +1,9 @@
 //! Each of the ten tasks, over the same files.
-use super::indexes::RESPONSE_LINE;
-use super::{RESPONSE, Refused, owned, performed};
+use super::performed;
 use crate::outcome::Outcome;
 use capture_core::Types;
 use command_line::Task;
+use fixtures::{RESPONSE, RESPONSE_LINE, Refused, owned};
 use query_core::AnswerFault;
 use std::alloc::{AllocError, Global};
 use std::rt::Runtime;

@@ -1,0 +1,7 @@
+//! Lines of indexes.
+mod limits;
+mod memory;
+mod order;
+mod reading;
+mod refusals;
+mod writing;

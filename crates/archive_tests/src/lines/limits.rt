@@ -1,0 +1,111 @@
+//! How long lines are, and the pairs that they begin with.
+use cdxj_core::{LINE_LIMIT, LineFault, LineRef, split_pair};
+use fixtures::padded;
+use std::alloc::{AllocError, Global};
+
+const FRONT: &[u8] = b"k 20160101000000 {\"offset\": \"7\", \"filename\": \"f\", \"a\": \"";
+
+/// Returns a line of this length, whose last byte is a line feed or not.
+fn long_line(alloc: Global, length: usize, feed: bool) -> Result<Vec<u8>, AllocError> {
+    let end: &[u8] = if feed { b"\"}\n" } else { b"\"}" };
+    padded(alloc, FRONT, b'a', end, length)
+}
+
+/// Returns the offset in a line, or `None` if it is too long. Other faults are errors of the test.
+fn offset_of(alloc: Global, line: &[u8]) -> Result<Option<u64>, LineFault> {
+    match LineRef::read(alloc, line) {
+        Ok(read) => Ok(Some(read.place().offset)),
+        Err(LineFault::LineTooLong) => Ok(None),
+        Err(fault) => Err(fault),
+    }
+}
+
+/// Returns whether a line of this length is read, or is too long.
+fn is_limited(alloc: Global, length: usize, feed: bool, is_read: bool) -> Result<bool, LineFault> {
+    let line = long_line(alloc, length, feed)?;
+    Ok(offset_of(alloc, &line)? == is_read.then_some(7))
+}
+
+/// Lengths of lines, whether their last byte is a line feed, and whether they are read.
+const LENGTHS: &[(usize, bool, bool)] = &[
+    (1_048_577, true, true),
+    (16_777_215, false, true),
+    (16_777_216, true, true),
+    (16_777_216, false, false),
+    (16_777_217, true, false),
+    (16_777_217, false, false),
+];
+
+/// The limit counts a line feed, whether it is there or not.
+#[test]
+fn a_line_is_read_up_to_the_limit(rt: HostRuntime) -> Result<(), LineFault> {
+    assert!(rt; LINE_LIMIT == 16_777_216);
+    for (length, feed, is_read) in LENGTHS {
+        assert!(rt;
+            is_limited(rt.alloc(), *length, *feed, *is_read)?,
+            "{length}, {feed}"
+        );
+    }
+    Ok(())
+}
+
+/// Returns whether a line of this byte, over the limit, is too long.
+fn is_too_long(alloc: Global, byte: u8) -> Result<bool, LineFault> {
+    let line = padded(alloc, b"", byte, b"x", 16_777_217)?;
+    Ok(offset_of(alloc, &line)?.is_none())
+}
+
+#[test]
+fn a_line_over_the_limit_is_too_long_before_all_else(rt: HostRuntime) -> Result<(), LineFault> {
+    for byte in b"\xff\n \0" {
+        assert!(rt; is_too_long(rt.alloc(), *byte)?, "{byte}");
+    }
+    Ok(())
+}
+
+/// Lines that begin with a pair, whose stamp is the first of 2016, and its key.
+const PAIRS: &[(&[u8], &[u8])] = &[
+    (b"a)/ 20160101000000 {\"url\": \"http://x/\"}\n", b"a)/"),
+    (b"b)/ 20160101000000 ", b"b)/"),
+    (b"c)/ 20160101000000 \xff\n\n", b"c)/"),
+    (b"! 20160101000000 x", b"!"),
+    (b"\xff 20160101000000 x", b"\xff"),
+    (b"k 20160101000000  x", b"k"),
+];
+
+const WITHOUT_PAIR: &[&[u8]] = &[
+    b"",
+    b"\n",
+    b" 20160101000000 x",
+    b"k 20160101000000",
+    b"k 2016010100000 x",
+    b"k 201601010000000 x",
+    b"k 2016010100000x x",
+    b"k  20160101000000 x",
+    b"k\t20160101000000 x",
+    b"a\tb 20160101000000 x",
+    b"a\x7f 20160101000000 x",
+    b"k 20160101000000\n",
+];
+
+/// Returns whether the line begins with this key and the first stamp of 2016.
+pub fn has_pair(line: &[u8], key: &[u8]) -> bool {
+    match split_pair(line) {
+        Some((found, stamp)) => found == key && stamp == b"20160101000000".as_slice(),
+        None => false,
+    }
+}
+
+fn has_no_pair(line: &[u8]) -> bool {
+    split_pair(line).is_none()
+}
+
+#[test]
+fn pairs_stand_in_front(rt: HostRuntime) {
+    for (line, key) in PAIRS {
+        assert!(rt; has_pair(line, key));
+    }
+    for line in WITHOUT_PAIR {
+        assert!(rt; has_no_pair(line));
+    }
+}

@@ -1,0 +1,37 @@
+//! Lines that are read without memory: these tests pass whichever allocation is refused after the first line was read.
+use super::limits::has_pair;
+use super::reading::has_member;
+use cdxj_core::{Field, Line, LineRef};
+use fixtures::FOREIGN;
+use std::test::Fail;
+
+const PLAIN: &[u8] =
+    b"k 20160101000000 {\"url\": \"http://x/\", \"mime\": \"text/html\", \"status\": \"200\", \"digest\": \"-\", \"length\": \"1\", \"offset\": \"0\", \"filename\": \"a.warc\"}\n";
+
+/// Returns whether the line has the URL and the file name of the plain line.
+fn is_plain(read: &LineRef<'_>) -> bool {
+    read.value(Field::Original) == "http://x/" && read.value(Field::Filename) == "a.warc"
+}
+
+#[test]
+fn a_plain_line_takes_no_memory(rt: HostRuntime) -> Result<(), Fail> {
+    let read = LineRef::read(rt.alloc(), PLAIN)?;
+    assert!(rt; is_plain(&read));
+    assert!(rt; has_pair(PLAIN, b"k"));
+    Ok(())
+}
+
+/// Returns whether the plain line is read in place of the line that was held.
+fn becomes_plain(kept: &mut Line) -> bool {
+    kept.refill(PLAIN).is_ok()
+        && kept.place().filename == "a.warc"
+        && has_member(kept, Field::Original, "http://x/").unwrap_or(false)
+}
+
+#[test]
+fn a_warm_line_takes_no_memory(rt: HostRuntime) -> Result<(), Fail> {
+    let mut kept = Line::read(rt.alloc(), FOREIGN)?;
+    assert!(rt; kept.line() == FOREIGN);
+    assert!(rt; becomes_plain(&mut kept));
+    Ok(())
+}

@@ -1,0 +1,4 @@
+//! Devices that fail, and indexes at fault.
+mod devices;
+mod lines;
+mod one_index;

@@ -1,0 +1,326 @@
+//! Indexes of arbitrary bytes: cut off, too long, out of order, or not text.
+use devices::{Gather, Slice};
+use fixtures::{Refused, TORN, cut, falling_lines, padded};
+use query_core::{
+    AnswerFault, FileSource, Query, SliceSource, Source, answer, check, merge, serve,
+};
+use std::alloc::{AllocError, Global};
+use std::fs::{self, File};
+use std::test::Fail;
+
+/// A good line of 50 bytes, and a line after it that has no entry because of its bytes, its pair, its object, its file
+/// name or its offset.
+const BAD_LINES: &[&[u8]] = &[
+    b"a)/ 20160101000000 {\"offset\": 0, \"filename\": \"a\"}\nb\xff)/ 20160101000000 {\"offset\": 1, \"filename\": \"a\"}\n",
+    b"a)/ 20160101000000 {\"offset\": 0, \"filename\": \"a\"}\nb)/ 20160101000000 {\"offset\": 1, \"filename\": \"a\", \"url\": \"\xc3(\"}\n",
+    b"a)/ 20160101000000 {\"offset\": 0, \"filename\": \"a\"}\n\n",
+    b"a)/ 20160101000000 {\"offset\": 0, \"filename\": \"a\"}\n\x0d\n",
+    b"a)/ 20160101000000 {\"offset\": 0, \"filename\": \"a\"}\n \n",
+    b"a)/ 20160101000000 {\"offset\": 0, \"filename\": \"a\"}\nb\x00)/ 20160101000000 {\"offset\": 1, \"filename\": \"a\"}\n",
+    b"a)/ 20160101000000 {\"offset\": 0, \"filename\": \"a\"}\nb\x09 20160101000000 {\"offset\": 1, \"filename\": \"a\"}\n",
+    b"a)/ 20160101000000 {\"offset\": 0, \"filename\": \"a\"}\nb)/ 2016010100000 {\"offset\": 1, \"filename\": \"a\"}\n",
+    b"a)/ 20160101000000 {\"offset\": 0, \"filename\": \"a\"}\nb)/ 201601010000000 {\"offset\": 1, \"filename\": \"a\"}\n",
+    b"a)/ 20160101000000 {\"offset\": 0, \"filename\": \"a\"}\nb)/ 20160101000000\n",
+    b"a)/ 20160101000000 {\"offset\": 0, \"filename\": \"a\"}\nb)/ 20160101000000 [1]\n",
+    b"a)/ 20160101000000 {\"offset\": 0, \"filename\": \"a\"}\nb)/ 20160101000000 {\"offset\": 1, \"filename\": \"a\"} {}\n",
+    b"a)/ 20160101000000 {\"offset\": 0, \"filename\": \"a\"}\nb)/ 20160101000000 {\"offset\": 1, \"filename\": \"a\"\n",
+    b"a)/ 20160101000000 {\"offset\": 0, \"filename\": \"a\"}\nb)/ 20160101000000 {\"offset\": 1}\n",
+    b"a)/ 20160101000000 {\"offset\": 0, \"filename\": \"a\"}\nb)/ 20160101000000 {\"filename\": \"a\"}\n",
+    b"a)/ 20160101000000 {\"offset\": 0, \"filename\": \"a\"}\nb)/ 20160101000000 {\"offset\": 1, \"filename\": \"\"}\n",
+    b"a)/ 20160101000000 {\"offset\": 0, \"filename\": \"a\"}\nb)/ 20160101000000 {\"offset\": -1, \"filename\": \"a\"}\n",
+    b"a)/ 20160101000000 {\"offset\": 0, \"filename\": \"a\"}\nb)/ 20160101000000 {\"offset\": 1.0, \"filename\": \"a\"}\n",
+    b"a)/ 20160101000000 {\"offset\": 0, \"filename\": \"a\"}\nb)/ 20160101000000 {\"offset\": 9223372036854775808, \"filename\": \"a\"}\n",
+    b"a)/ 20160101000000 {\"offset\": 0, \"filename\": \"a\"}\nb)/ 20160101000000 {\"offset\": \"00000000000000000001\", \"filename\": \"a\"}\n",
+    b"a)/ 20160101000000 {\"offset\": 0, \"filename\": \"a\"}\nb)/ 20160101000000 {\"offset\": 1, \"filename\": \"\\ud800\"}\n",
+    b"a)/ 20160101000000 {\"offset\": 0, \"filename\": \"a\"}\nb)/ 20160101000000 {\"offset\": 1, \"filename\": \"a\x01\"}\n",
+];
+
+/// A line with an entry, as another tool might write it.
+const ODD_LINES: &[&[u8]] = &[
+    b"\xef\xbb\xbfa)/ 20160101000000 {\"offset\": 0, \"filename\": \"a\"}\n",
+    b"!a 20160101000000 {\"offset\": 0, \"filename\": \"a\"}\x0d\n",
+    b"a)/ 99999999999999  \x09{\"filename\": \"a\", \"x\": [null, {}], \"offset\": \"0000000000000000001\"} ",
+    b"a)/ 00000000000000 {\"offset\": 9223372036854775807, \"filename\": \"\\u0000\"}",
+];
+
+/// Returns whether a check has this result. A failed allocation is an error.
+fn is_checked(
+    alloc: Global,
+    text: &[u8],
+    wanted: Result<u64, AnswerFault>,
+) -> Result<bool, Refused> {
+    match check(alloc, &mut SliceSource::new(text)) {
+        Err(AnswerFault::Memory) => Err(Refused::Memory),
+        answer => Ok(answer == wanted),
+    }
+}
+
+/// Returns whether a merge has this result, and writes so many bytes.
+fn is_merged<S: Source>(
+    alloc: Global,
+    source: S,
+    wanted: Result<u64, AnswerFault>,
+    length: usize,
+) -> Result<bool, Refused>
+where
+    S: Drop,
+{
+    let mut out = Gather::new(alloc);
+    match merge(alloc, &mut [source], &mut out) {
+        Err(AnswerFault::Memory | AnswerFault::Write) => Err(Refused::Memory),
+        answer => Ok(answer == wanted && out.bytes().len() == length),
+    }
+}
+
+/// Returns whether the query has this result, the number of captures if it succeeds, and writes nothing.
+fn answers_empty<S: Source>(
+    alloc: Global,
+    source: S,
+    query: &str,
+    wanted: Result<u64, AnswerFault>,
+) -> Result<bool, Refused>
+where
+    S: Drop,
+{
+    let Ok(query) = Query::read(alloc, query) else {
+        return Err(Refused::Memory);
+    };
+    let mut out = Gather::new(alloc);
+    let answer = match answer(alloc, &mut [source], &query, &mut out) {
+        Err(AnswerFault::Memory | AnswerFault::Write) => return Err(Refused::Memory),
+        Err(fault) => Err(fault),
+        Ok(report) => Ok(report.given),
+    };
+    Ok(answer == wanted && out.bytes().is_empty())
+}
+
+const ALL: &str = "key=&matchType=prefix";
+
+/// Returns whether a check, a merge and a query of all lines report the line at this offset as bad, before anything is
+/// written.
+fn is_bad_at(alloc: Global, text: &[u8], offset: u64) -> Result<bool, Refused> {
+    let fault = Err(AnswerFault::BadLine(0, offset));
+    Ok(
+        is_checked(alloc, text, fault)?
+            && is_merged(alloc, SliceSource::new(text), fault, 0)?
+            && answers_empty(alloc, SliceSource::new(text), ALL, fault)?,
+    )
+}
+
+/// Returns whether the text is an index of one line, which a merge writes with a line feed.
+fn is_one_line(alloc: Global, text: &[u8]) -> Result<bool, Refused> {
+    let ended = text.len() + usize::from(!text.ends_with(b"\n"));
+    Ok(is_checked(alloc, text, Ok(1))? && is_merged(alloc, SliceSource::new(text), Ok(1), ended)?)
+}
+
+#[test]
+fn lines_without_an_entry_are_bad_wherever_they_are_read(rt: HostRuntime) -> Result<(), Refused> {
+    for (number, text) in BAD_LINES.iter().enumerate() {
+        assert!(rt; is_bad_at(rt.alloc(), text, 50)?, "line {number}");
+    }
+    for (number, text) in ODD_LINES.iter().enumerate() {
+        assert!(rt; is_one_line(rt.alloc(), text)?, "line {number}");
+    }
+    Ok(())
+}
+
+/// The replies to a query of all lines, as JSON, and to a bad query, over an index whose line at 50 is bad. The page
+/// has a start and no end.
+const REPLIES_BEFORE_50: &[u8] = b"[[\"offset\"]\nfault BadLine 0 50\n.\nrefused BadLimit\n.\n";
+
+fn is_served_to_bad_line(alloc: Global, text: &[u8]) -> Result<bool, Refused> {
+    let mut lines = Slice::new(b"key=&matchType=prefix&output=json&fl=offset\nlimit=0\n");
+    let mut out = Gather::new(alloc);
+    match serve(alloc, &mut [SliceSource::new(text)], &mut lines, &mut out) {
+        Err(AnswerFault::Memory | AnswerFault::Write) => Err(Refused::Memory),
+        answer => Ok(answer == Ok(2) && out.bytes() == REPLIES_BEFORE_50),
+    }
+}
+
+#[test]
+fn a_bad_line_ends_its_reply_and_no_other(rt: HostRuntime) -> Result<(), Refused> {
+    for (number, text) in BAD_LINES.iter().enumerate() {
+        assert!(rt; is_served_to_bad_line(rt.alloc(), text)?, "line {number}");
+    }
+    Ok(())
+}
+
+/// Queries of the torn index, and their results.
+const QUERIES_OF_TORN: &[(&str, Result<u64, AnswerFault>)] = &[
+    ("key=a)/", Err(AnswerFault::BadLine(0, 145))),
+    ("key=b)/", Err(AnswerFault::BadLine(0, 145))),
+    ("key=0", Ok(0)),
+];
+
+#[test]
+fn a_torn_line_is_bad_where_it_is_reached(rt: HostRuntime) -> Result<(), Refused> {
+    assert!(rt; is_bad_at(rt.alloc(), TORN, 145)?);
+    for (query, wanted) in QUERIES_OF_TORN {
+        let source = SliceSource::new(TORN);
+        assert!(rt;
+            answers_empty(rt.alloc(), source, query, *wanted)?,
+            "{query}"
+        );
+    }
+    Ok(())
+}
+
+/// Returns a line of this many bytes, including its line feed, if it has one.
+fn long_line(alloc: Global, length: usize, has_feed: bool) -> Result<Vec<u8>, AllocError> {
+    let start = b"a)/ 20160101000000 {\"filename\": \"a.warc\", \"offset\": 0, \"url\": \"";
+    let end: &[u8] = if has_feed { b"\"}\n" } else { b"\"}" };
+    padded(alloc, start, b'x', end, length)
+}
+
+/// Lengths of lines in bytes, whether they include a line feed, and whether the lines are good.
+const LENGTHS: &[(usize, bool, bool)] = &[
+    (16_777_215, false, true),
+    (16_777_216, true, true),
+    (16_777_216, false, false),
+    (16_777_217, true, false),
+    (20_000_000, true, false),
+];
+
+fn is_read_or_bad(
+    alloc: Global,
+    length: usize,
+    has_feed: bool,
+    is_good: bool,
+) -> Result<bool, Refused> {
+    let line = long_line(alloc, length, has_feed)?;
+    if is_good {
+        is_one_line(alloc, &line)
+    } else {
+        is_bad_at(alloc, &line, 0)
+    }
+}
+
+#[test]
+fn a_line_has_at_most_16_777_216_bytes_with_its_line_feed(rt: HostRuntime) -> Result<(), Refused> {
+    for (length, has_feed, is_good) in LENGTHS {
+        assert!(rt;
+            is_read_or_bad(rt.alloc(), *length, *has_feed, *is_good)?,
+            "{length}"
+        );
+    }
+    Ok(())
+}
+
+/// Returns whether a query of the falling lines wrote offsets that rise, all of them above this number.
+fn are_rising_offsets(written: &[u8], above: i64) -> bool {
+    let mut last = above;
+    for line in written.split(|byte| *byte == b'\n') {
+        let Ok(text) = str::from_utf8(line) else {
+            return false;
+        };
+        if text.is_empty() {
+            continue;
+        }
+        match text.parse::<i64>() {
+            Ok(number) if number > last && number < 1_000 => last = number,
+            _ => return false,
+        }
+    }
+    true
+}
+
+/// Returns whether a query of the falling lines returns, after no more steps of the search than their size allows, with
+/// offsets that rise above this number.
+fn is_answered_in_part(
+    alloc: Global,
+    text: &[u8],
+    query: &str,
+    above: i64,
+) -> Result<bool, Refused> {
+    let Ok(query) = Query::read(alloc, query) else {
+        return Err(Refused::Memory);
+    };
+    let mut out = Gather::new(alloc);
+    let is_bounded = match answer(alloc, &mut [SliceSource::new(text)], &query, &mut out) {
+        Err(AnswerFault::Memory | AnswerFault::Write) => return Err(Refused::Memory),
+        Err(fault) => matches!(fault, AnswerFault::OutOfOrder(0, _)),
+        Ok(report) => report.probes <= 19,
+    };
+    Ok(is_bounded && are_rising_offsets(out.bytes(), above))
+}
+
+/// Queries of the falling lines, and the number above which captures are asked for.
+const QUERIES_OF_FALLING: &[(&str, i64)] = &[
+    ("url=example.com&fl=offset", -1),
+    ("url=example.com&fl=offset&limit=1", -1),
+    (
+        "url=example.com&fl=offset&resumeKey=com%2Cexample%29%2F+20160101000000+a.warc+0",
+        0,
+    ),
+    (
+        "url=example.com&fl=offset&resumeKey=com%2Cexample%29%2F+20160101000499+a.warc+499",
+        499,
+    ),
+    (
+        "url=example.com&fl=offset&resumeKey=com%2Cexample%29%2F+20160101000998+a.warc+998",
+        998,
+    ),
+    (
+        "url=example.com&fl=offset&resumeKey=com%2Cexample%29%2F+20160101000999+a.warc+999",
+        999,
+    ),
+];
+
+#[test]
+fn falling_lines_are_answered_in_part(rt: HostRuntime) -> Result<(), Refused> {
+    let text = falling_lines(rt.alloc(), 1_000)?;
+    let fault = Err(AnswerFault::OutOfOrder(0, 157));
+    assert!(rt; is_checked(rt.alloc(), &text, fault)?);
+    assert!(rt; is_merged(rt.alloc(), SliceSource::new(&text), fault, 0)?);
+    for (query, above) in QUERIES_OF_FALLING {
+        assert!(rt;
+            is_answered_in_part(rt.alloc(), &text, query, *above)?,
+            "{query}"
+        );
+    }
+    Ok(())
+}
+
+/// Returns the reply to a line of this byte alone: an unknown name, not text, or nothing.
+fn reply_to_byte(byte: u8) -> &'static [u8] {
+    match byte {
+        b'&' | b'\r' | b'\n' => b"refused NoUrl\n.\n",
+        0x80.. => b"refused NotText\n.\n",
+        _ => b"refused Unknown\n.\n",
+    }
+}
+
+fn is_replied_to(alloc: Global, byte: u8) -> Result<bool, Refused> {
+    let line = [byte];
+    let mut out = Gather::new(alloc);
+    match serve(
+        alloc,
+        &mut [SliceSource::new(TORN)],
+        &mut Slice::new(&line),
+        &mut out,
+    ) {
+        Err(AnswerFault::Memory | AnswerFault::Write) => Err(Refused::Memory),
+        answer => Ok(answer == Ok(1) && out.bytes() == reply_to_byte(byte)),
+    }
+}
+
+#[test]
+fn each_byte_has_its_reply(rt: HostRuntime) -> Result<(), Refused> {
+    for byte in 0..=u8::MAX {
+        assert!(rt; is_replied_to(rt.alloc(), byte)?, "{byte}");
+    }
+    Ok(())
+}
+
+/// A file is cut within its second line after its sources were created.
+#[test]
+fn a_file_that_was_cut_cannot_be_read(rt: HostRuntime) -> Result<(), Fail> {
+    let read = Err(AnswerFault::Read(0));
+    fs::write(&rt, "cut.cdxj", BAD_LINES[0])?;
+    let to_merge = FileSource::new(File::open(&rt, "cut.cdxj")?)?;
+    let to_ask = FileSource::new(File::open(&rt, "cut.cdxj")?)?;
+    fs::write(&rt, "cut.cdxj", cut(BAD_LINES[0], 60))?;
+    assert!(rt; is_merged(rt.alloc(), to_merge, read, 0)?);
+    assert!(rt; answers_empty(rt.alloc(), to_ask, ALL, read)?);
+    Ok(fs::remove_file(&rt, "cut.cdxj")?)
+}

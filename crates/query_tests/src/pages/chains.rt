@@ -1,0 +1,196 @@
+//! The pages of queries, one after another.
+use crate::small_indexes::{
+    APART, HOSTS, LETTER_ROWS, Rows, empty_sources, files, in_memory, index_texts, slices,
+};
+use devices::Gather;
+use fixtures::Refused;
+use query_core::{AnswerFault, Query, SliceSource, Source, answer, pages};
+use std::alloc::Global;
+use std::rt::Runtime;
+use std::test::Fail;
+
+/// A query over indexes, sizes, the pages that answer it, and their number.
+struct Case {
+    indexes: &'static [Rows],
+    query: &'static str,
+    sizes: &'static [u64],
+    pages: &'static str,
+    count: u64,
+}
+
+const CASES: &[Case] = &[
+    Case {
+        indexes: APART,
+        query: "url=example.com&fl=filename,offset",
+        sizes: &[1, 2],
+        pages: "a.warc 5\n\ncom%2Cexample%29%2F+20160101000000+a.warc+5\na.warc 20\nb.warc 10\n",
+        count: 2,
+    },
+    Case {
+        indexes: APART,
+        query: "url=example.com&fl=filename,offset&limit=1&showResumeKey=false",
+        sizes: &[2],
+        pages: "a.warc 5\na.warc 20\n\ncom%2Cexample%29%2F+20160101000000+a.warc+20\nb.warc 10\n",
+        count: 2,
+    },
+    Case {
+        indexes: APART,
+        query: "url=example.com&fl=offset",
+        sizes: &[1],
+        pages: "5\n\ncom%2Cexample%29%2F+20160101000000+a.warc+5\n20\n\ncom%2Cexample%29%2F+20160101000000+a.warc+20\n10\n",
+        count: 3,
+    },
+    Case {
+        indexes: APART,
+        query: "url=example.com&fl=offset&resumeKey=com%2Cexample%29%2F+20160101000000+a.warc+5",
+        sizes: &[2],
+        pages: "20\n10\n",
+        count: 1,
+    },
+    Case {
+        indexes: APART,
+        query: "url=example.com&fl=offset&output=json",
+        sizes: &[2],
+        pages: "[[\"offset\"],\n[\"5\"],\n[\"20\"],\n[],\n[\"com%2Cexample%29%2F+20160101000000+a.warc+20\"]]\n[[\"offset\"],\n[\"10\"]]\n",
+        count: 2,
+    },
+    Case {
+        indexes: &[LETTER_ROWS],
+        query: "key=z)/&output=json&fl=offset",
+        sizes: &[1_000_000],
+        pages: "[[\"offset\"]]\n",
+        count: 1,
+    },
+    Case {
+        indexes: &[LETTER_ROWS, HOSTS],
+        query: "key=z)/",
+        sizes: &[1],
+        pages: "",
+        count: 1,
+    },
+];
+
+/// Returns whether the sources give this answer.
+fn answers<S: Source>(alloc: Global, sources: &mut [S], case: &Case) -> Result<bool, Fail> {
+    let query = Query::read(alloc, case.query)?;
+    let mut out = Gather::new(alloc);
+    let count = in_memory(pages(alloc, sources, &query, case.sizes, &mut out))?;
+    Ok(count == case.count && out.bytes() == case.pages.as_bytes())
+}
+
+fn answers_from_memory(alloc: Global, case: &Case) -> Result<bool, Fail> {
+    let texts = index_texts(alloc, case.indexes)?;
+    answers(alloc, &mut slices(alloc, &texts)?, case)
+}
+
+fn answers_from_files<R: Runtime + AllocGlobal>(rt: &R, case: &Case) -> Result<bool, Fail> {
+    let texts = index_texts(rt.alloc(), case.indexes)?;
+    answers(rt.alloc(), &mut files(rt, &texts)?, case)
+}
+
+#[test]
+fn pages_follow_one_another(rt: HostRuntime) -> Result<(), Fail> {
+    for (number, case) in CASES.iter().enumerate() {
+        assert!(rt; answers_from_memory(rt.alloc(), case)?, "row {number}");
+        assert!(rt; answers_from_files(&rt, case)?, "row {number} of files");
+    }
+    Ok(())
+}
+
+/// Returns the rows of a page, and the resume key that follows them, if there is one.
+fn cut_key(page: &str) -> (&str, Option<&str>) {
+    match page.split_once("\n\n") {
+        Some((rows, key)) => (rows, Some(key.trim_ascii_end())),
+        None => (page.trim_ascii_end(), None),
+    }
+}
+
+/// Appends the rows of the page after a resume key to those before it, and returns the next key.
+fn step(
+    alloc: Global,
+    sources: &mut [SliceSource<'_>],
+    limit: u64,
+    key: &str,
+    rows: &mut String,
+) -> Result<Option<String>, Fail> {
+    let text = format!(in alloc;
+        "url=*.example.com&fl=filename,offset&showResumeKey=true&limit={limit}{key}"
+    )?;
+    let query = Query::read(alloc, text.as_str())?;
+    let mut out = Gather::new(alloc);
+    let _report = in_memory(answer(alloc, sources, &query, &mut out))?;
+    let (page, next) = cut_key(str::from_utf8(out.bytes())?);
+    rows.push_str(page)?;
+    rows.push_str("\n")?;
+    match next {
+        Some(next) => Ok(Some(format!(in alloc; "&resumeKey={next}")?)),
+        None => Ok(None),
+    }
+}
+
+const ALL_ROWS: &str = "a.warc 0\na.warc 5\na.warc 20\nb.warc 10\na.warc 1\na.warc 3\n";
+
+/// Returns the rows of all pages of this many captures. Each page begins at the key that was printed before it.
+fn walked(alloc: Global, limit: u64) -> Result<String, Fail> {
+    let texts = index_texts(alloc, &[APART[0], APART[1], APART[2], HOSTS])?;
+    let mut sources = slices(alloc, &texts)?;
+    let mut rows = String::new(alloc);
+    let mut key = String::new(alloc);
+    for _ in 0..10 {
+        match step(alloc, &mut sources, limit, key.as_str(), &mut rows)? {
+            Some(next) => key = next,
+            None => return Ok(rows),
+        }
+    }
+    Ok(rows)
+}
+
+fn is_walked(alloc: Global, limit: u64) -> Result<bool, Fail> {
+    Ok(walked(alloc, limit)?.as_str() == ALL_ROWS)
+}
+
+#[test]
+fn resume_keys_lead_through_all_captures(rt: HostRuntime) -> Result<(), Fail> {
+    for limit in 1..8 {
+        assert!(rt; is_walked(rt.alloc(), limit)?, "{limit}");
+    }
+    Ok(())
+}
+
+/// Returns whether pages over this many empty indexes have this fault, with nothing written, or none.
+fn is_early(
+    alloc: Global,
+    count: usize,
+    sizes: &[u64],
+    wanted: Option<AnswerFault>,
+) -> Result<bool, Fail> {
+    let query = Query::read(alloc, "url=example.com&output=json")?;
+    let mut sources = empty_sources(alloc, count)?;
+    let mut out = Gather::new(alloc);
+    match pages(alloc, &mut sources, &query, sizes, &mut out) {
+        Err(AnswerFault::Memory | AnswerFault::Write) => Err(Refused::Memory)?,
+        Err(fault) => Ok(wanted == Some(fault) && out.bytes().is_empty()),
+        Ok(_count) => Ok(wanted.is_none()),
+    }
+}
+
+/// Numbers of indexes, sizes, and the fault for both.
+const EARLY_FAULTS: &[(usize, &[u64], Option<AnswerFault>)] = &[
+    (1, &[], Some(AnswerFault::BadSizes)),
+    (1, &[0], Some(AnswerFault::BadSizes)),
+    (1, &[1, 0], Some(AnswerFault::BadSizes)),
+    (1_024, &[1], None),
+    (1_025, &[], Some(AnswerFault::BadSizes)),
+    (1_025, &[1], Some(AnswerFault::TooManySources)),
+];
+
+#[test]
+fn sizes_are_looked_at_before_the_number_of_indexes(rt: HostRuntime) -> Result<(), Fail> {
+    for (number, (count, sizes, fault)) in EARLY_FAULTS.iter().enumerate() {
+        assert!(rt;
+            is_early(rt.alloc(), *count, sizes, *fault)?,
+            "row {number}"
+        );
+    }
+    Ok(())
+}

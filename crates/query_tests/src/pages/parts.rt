@@ -1,0 +1,162 @@
+//! The parts of pages, and the opening of sources at a pair.
+use cdxj_core::{Field, Line};
+use devices::Gather;
+use fixtures::LETTERS;
+use merge_core::{All, LineWriter, Sink, Streams, merge};
+use page_core::{PageForm, PageOutput, field_name};
+use query_core::{PageWriter, Query, SliceSource};
+use std::alloc::{AllocError, Global};
+use std::test::Fail;
+
+const LINE: &[u8] =
+    b"com,example)/ 20160101000000 {\"url\": \"http://x/ \\\"\\u00e9\\t\", \"status\": 200, \"offset\": \"007\", \"filename\": \"a b.warc\"}";
+
+const FIELDS: &[Field] = &[
+    Field::Original,
+    Field::Mimetype,
+    Field::Statuscode,
+    Field::Offset,
+];
+
+/// Forms of a page, and the page of that line with a resume key.
+const FORMS: &[(PageForm, &str)] = &[
+    (
+        PageForm::Text(FIELDS),
+        "http://x/%20\"é%09 - 200 7\n\nk+1\n",
+    ),
+    (
+        PageForm::Json(FIELDS),
+        "[[\"original\",\"mimetype\",\"statuscode\",\"offset\"],\n[\"http://x/ \\\"é\\t\",\"-\",\"200\",\"7\"],\n[],\n[\"k+1\"]]\n",
+    ),
+    (
+        PageForm::Cdxj,
+        "com,example)/ 20160101000000 {\"url\": \"http://x/ \\\"\\u00e9\\t\", \"status\": 200, \"offset\": \"007\", \"filename\": \"a b.warc\"}\n\nk+1\n",
+    ),
+];
+
+/// Returns the page of a line, with the resume key `k+1`, unless memory can't be allocated. The output fails for no
+/// other reason.
+fn page_of(alloc: Global, form: PageForm<'_>, line: &Line) -> Result<Gather, AllocError> {
+    let mut out = Gather::new(alloc);
+    let mut page = PageOutput::new(alloc, form);
+    page.put_start(&mut out).map_err(|_fault| AllocError)?;
+    page.put_row(line, &mut out).map_err(|_fault| AllocError)?;
+    page.put_end(Some("k+1"), &mut out)
+        .map_err(|_fault| AllocError)?;
+    Ok(out)
+}
+
+fn is_page(alloc: Global, form: PageForm<'_>, line: &Line, page: &str) -> Result<bool, AllocError> {
+    Ok(page_of(alloc, form, line)?.bytes() == page.as_bytes())
+}
+
+#[test]
+fn a_page_is_written_in_its_form(rt: HostRuntime) -> Result<(), Fail> {
+    let line = Line::read(rt.alloc(), LINE)?;
+    for (number, (form, page)) in FORMS.iter().enumerate() {
+        assert!(rt; is_page(rt.alloc(), *form, &line, page)?, "row {number}");
+    }
+    Ok(())
+}
+
+const NAMES: &[(Field, &str)] = &[
+    (Field::Urlkey, "urlkey"),
+    (Field::Timestamp, "timestamp"),
+    (Field::Original, "original"),
+    (Field::Mimetype, "mimetype"),
+    (Field::Statuscode, "statuscode"),
+    (Field::Digest, "digest"),
+    (Field::Length, "length"),
+    (Field::Offset, "offset"),
+    (Field::Filename, "filename"),
+];
+
+fn has_name(field: Field, name: &str) -> bool {
+    field_name(field) == name
+}
+
+#[test]
+fn fields_have_names(rt: HostRuntime) {
+    for (field, name) in NAMES {
+        assert!(rt; has_name(*field, name));
+    }
+}
+
+/// Returns the page of the first two letters, and whether it wants another line after each of the three.
+fn page_of_two(alloc: Global, text: &[u8], query: &Query) -> Result<(Gather, [bool; 3]), Fail> {
+    let mut out = Gather::new(alloc);
+    let mut writer = PageWriter::begin(alloc, query, None, Some(2), &mut out).map_err(
+        |_| AllocError,
+    )?;
+    let mut wants = [false; 3];
+    for (number, want) in wants.iter_mut().enumerate() {
+        let line = Line::read(
+            alloc,
+            text.get(145 * number..145 * number + 144).unwrap_or(b""),
+        )?;
+        *want = writer
+            .take(alloc, &[&line], &mut out)
+            .map_err(|_| AllocError)?;
+    }
+    let _end = writer.end(alloc, true, &mut out).map_err(|_| AllocError)?;
+    Ok((out, wants))
+}
+
+#[test]
+fn a_page_is_full_at_its_limit(rt: HostRuntime) -> Result<(), Fail> {
+    let query = Query::read(rt.alloc(), "key=&matchType=prefix&fl=offset")?;
+    let (page, wants) = page_of_two(rt.alloc(), LETTERS, &query)?;
+    assert!(rt; wants == [true, true, false]);
+    assert!(rt; page.bytes() == b"0\n1\n\nb%29%2F+20160101000000+a.warc+1\n".as_slice());
+    Ok(())
+}
+
+/// Pairs at which two sources are opened, and how many bytes of the letters precede them.
+const STARTS: &[(&str, &str, usize)] = &[
+    ("", "00000000000000", 0),
+    ("a)/", "20160101000000", 0),
+    ("a)/", "20160101000001", 145),
+    ("b)/", "00000000000000", 145),
+    ("bb)/", "00000000000000", 290),
+    ("z)/", "00000000000000", 435),
+];
+
+/// Returns the merge of the text and an empty one from this pair on, and the number of steps of the search for it.
+fn merged_from(alloc: Global, text: &[u8], key: &str, stamp: &str) -> Result<(Gather, u64), Fail> {
+    let mut sources = [SliceSource::new(text), SliceSource::new(b"")];
+    let mut opened = Streams::open_at(alloc, &mut sources, key.as_bytes(), stamp.as_bytes(), &All)?;
+    let mut writer = LineWriter::new(alloc);
+    let mut out = Gather::new(alloc);
+    let _all = merge(
+        alloc,
+        &mut sources,
+        &mut opened.streams,
+        &All,
+        &mut writer,
+        &mut out,
+    )
+    .map_err(|_fault| AllocError)?;
+    Ok((out, opened.probes))
+}
+
+/// Returns whether the merge from this pair on has all lines of the letters but so many bytes, after few steps.
+fn begins_at(alloc: Global, key: &str, stamp: &str, before: usize) -> Result<bool, Fail> {
+    let (out, probes) = merged_from(alloc, LETTERS, key, stamp)?;
+    Ok(
+        LETTERS
+            .get(before..)
+            .is_some_and(|rest| rest == out.bytes())
+            && probes <= 9,
+    )
+}
+
+#[test]
+fn sources_are_opened_at_a_pair(rt: HostRuntime) -> Result<(), Fail> {
+    for (key, stamp, before) in STARTS {
+        assert!(rt;
+            begins_at(rt.alloc(), key, stamp, *before)?,
+            "{key} {stamp}"
+        );
+    }
+    Ok(())
+}

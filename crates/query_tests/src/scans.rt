@@ -1,0 +1,4 @@
+//! Scans of archives.
+mod faults;
+mod pages;
+mod runs;

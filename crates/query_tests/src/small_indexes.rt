@@ -1,0 +1,82 @@
+//! Small indexes, and sources over them.
+use fixtures::{FIRST_OF_2016, Row, index_text};
+use query_core::{AnswerFault, FileSource, SliceSource};
+use std::alloc::{AllocError, Global};
+use std::fs::{self, File, Files};
+use std::rt::Runtime;
+use std::test::Fail;
+
+/// The lines of an index.
+pub type Rows = &'static [Row];
+
+/// Hosts of one domain, and one of another.
+pub const HOSTS: Rows = &[
+    ("com,example)/", FIRST_OF_2016, "a.warc", 0),
+    ("com,example,a)/", FIRST_OF_2016, "a.warc", 1),
+    ("com,example-shop)/", FIRST_OF_2016, "a.warc", 2),
+    ("com,example:8080)/", FIRST_OF_2016, "a.warc", 3),
+];
+
+/// Three indexes of one line each, with the same key and stamp.
+pub const APART: &[Rows] = &[
+    &[("com,example)/", FIRST_OF_2016, "b.warc", 10)],
+    &[("com,example)/", FIRST_OF_2016, "a.warc", 20)],
+    &[("com,example)/", FIRST_OF_2016, "a.warc", 5)],
+];
+
+/// Three keys.
+pub const LETTER_ROWS: Rows = &[
+    ("a)/", FIRST_OF_2016, "a.warc", 0),
+    ("b)/", FIRST_OF_2016, "a.warc", 1),
+    ("c)/", FIRST_OF_2016, "a.warc", 2),
+];
+
+/// Returns the result of a call that writes into memory. A failed allocation of the output is a write error there; here
+/// it is lack of memory.
+pub fn in_memory<T>(answer: Result<T, AnswerFault>) -> Result<T, AnswerFault> {
+    match answer {
+        Err(AnswerFault::Write) => Err(AnswerFault::Memory),
+        answer => answer,
+    }
+}
+
+/// Returns the texts of indexes.
+pub fn index_texts(alloc: Global, indexes: &[Rows]) -> Result<Vec<Vec<u8>>, Fail> {
+    let mut texts = Vec::new(alloc);
+    for rows in indexes {
+        texts.push(index_text(alloc, rows)?)?;
+    }
+    Ok(texts)
+}
+
+/// Returns sources over these texts.
+pub fn slices(alloc: Global, texts: &[Vec<u8>]) -> Result<Vec<SliceSource<'_>>, Fail> {
+    let mut sources = Vec::new(alloc);
+    for text in texts {
+        sources.push(SliceSource::new(text))?;
+    }
+    Ok(sources)
+}
+
+/// Returns this many sources without a line.
+pub fn empty_sources(alloc: Global, count: usize) -> Result<Vec<SliceSource<'static>>, AllocError> {
+    let mut sources = Vec::new(alloc);
+    for _ in 0..count {
+        sources.push(SliceSource::new(b""))?;
+    }
+    Ok(sources)
+}
+
+/// Returns sources over files that are newly written.
+pub fn files<R: Runtime + AllocGlobal>(
+    rt: &R,
+    texts: &[Vec<u8>],
+) -> Result<Vec<FileSource<<R as Files>::File>>, Fail> {
+    let mut sources = Vec::new(rt.alloc());
+    for (number, text) in texts.iter().enumerate() {
+        let name = format!(in rt.alloc(); "{number}.cdxj")?;
+        fs::write(rt, name.as_str(), text.as_slice())?;
+        sources.push(FileSource::new(File::open(rt, name.as_str())?)?)?;
+    }
+    Ok(sources)
+}

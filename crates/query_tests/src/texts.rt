@@ -1,0 +1,4 @@
+//! The texts of queries.
+mod options;
+mod refusals;
+mod targets;
