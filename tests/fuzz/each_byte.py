@@ -14,9 +14,9 @@ import tempfile
 
 sys.path.insert(0, str(pathlib.Path(__file__).resolve().parents[1]))
 
-from fuzz_archives import an_index, expect_reports
-from fuzz_indexes import expect_checks
-from fuzz_run import Trial, Wrong
+from archive_trials import an_index, expect_reports
+from index_trials import expect_checks
+from trial import Trial, Wrong
 from plain import lines as plain_lines
 from plain import queries as plain_queries
 from plain import records as plain_records

@@ -31,9 +31,9 @@ import traceback
 
 sys.path.insert(0, str(pathlib.Path(__file__).resolve().parents[1]))
 
-from fuzz_archives import try_archives
-from fuzz_indexes import try_indexes, try_parts, try_queries
-from fuzz_run import Trial
+from archive_trials import try_archives
+from index_trials import try_indexes, try_parts, try_queries
+from trial import Trial
 from program import program_of
 
 KINDS = {"archives": (try_archives, 40), "indexes": (try_indexes, 30), "parts": (try_parts, 10), "queries": (try_queries, 20)}

@@ -2,9 +2,9 @@
 import json
 from urllib.parse import unquote_plus
 
-import mutations
+import random_inputs as mutations
 from plain import lines as plain
-from fuzz_run import OF_INDEX, Wrong
+from trial import OF_INDEX, Wrong
 
 LINE_CHANGES = (mutations.change_lines, mutations.change_lines, mutations.change_number)
 QUERY_LIMIT = 65_536

@@ -1,7 +1,7 @@
 """What fuzz.py holds warcdx to on archives: the commands agree with the archive's bytes and with each other."""
 import json
 
-import mutations
+import random_inputs as mutations
 from plain import lines as plain_lines
 from plain import records as plain
 
