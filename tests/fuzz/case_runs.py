@@ -1,8 +1,8 @@
 """Runs the cases of a fuzzer in several jobs, and prints what was tried and what differs."""
 import argparse
 import collections
+import concurrent.futures
 import itertools
-import multiprocessing
 import os
 import pathlib
 import random
@@ -54,7 +54,7 @@ def numbers_of(words: argparse.Namespace, job: int) -> Iterable[int]:
     return itertools.count(job, words.jobs)
 
 
-def work(words: argparse.Namespace, try_case: Callable[[Trial, int], None], job: int, results: "multiprocessing.Queue[JobEnd]") -> None:
+def work(words: argparse.Namespace, try_case: Callable[[Trial, int], None], job: int) -> JobEnd:
     """Tries the cases of a job until the time is over. The files of the first that differs stay in their folder."""
     tally: collections.Counter[str] = collections.Counter()
     differences: list[Difference] = []
@@ -72,7 +72,7 @@ def work(words: argparse.Namespace, try_case: Callable[[Trial, int], None], job:
         for path in folder.iterdir():
             path.unlink()
     shutil.rmtree(folder)
-    results.put(JobEnd(tally, differences))
+    return JobEnd(tally, differences)
 
 
 def run_cases(description: str, cases: int, try_case: Callable[[Trial, int], None]) -> int:
@@ -80,10 +80,10 @@ def run_cases(description: str, cases: int, try_case: Callable[[Trial, int], Non
     words = read_words(description, cases)
     words.program = str(program_of([words.program] if words.program else []))
     start = time.monotonic()
-    results: multiprocessing.Queue[JobEnd] = multiprocessing.Queue()
-    for job in range(words.jobs):
-        multiprocessing.Process(target=work, args=(words, try_case, job, results)).start()
-    return report(words, [results.get() for _ in range(words.jobs)], time.monotonic() - start)
+    with concurrent.futures.ProcessPoolExecutor(words.jobs) as pool:
+        jobs = [pool.submit(work, words, try_case, job) for job in range(words.jobs)]
+        ends = [job.result() for job in jobs]
+    return report(words, ends, time.monotonic() - start)
 
 
 def report(words: argparse.Namespace, ends: Iterable[JobEnd], seconds: float) -> int:

@@ -27,6 +27,7 @@ OUTPUTS = ("text", "json", "cdxj")
 PATTERN_SIGNS = set("\\^$.|?*+()[]{}")
 FOLLOWS = {"exact": (b"",), "host": (b")", b":"), "domain": (b")", b",", b":")}
 Part = Callable[[Place], bytes]  # of a place, by which captures are collapsed
+Page = tuple[list[Line], Optional[Place]]  # with the place from which the next page goes on, where there is one
 Condition = Callable[[dict[str, str]], bool]  # on the values of a line
 
 
@@ -234,9 +235,6 @@ def collapsed(lines: list[Line], place: Optional[Place], part: Part) -> list[Lin
     """The lines whose part differs from that of the line before, the first from that of the place."""
     before = [place, *(line.place for line in lines)]
     return [line for line, place in zip(lines, before) if place is None or part(line.place) != part(place)]
-
-
-Page = tuple[list[Line], Optional[Place]]  # with the place from which the next page goes on, where there is one
 
 
 def page_after(query: Query, selected: list[Line], place: Optional[Place], limit: Optional[int]) -> Page:

@@ -17,8 +17,6 @@ USUAL = INDEXABLE[:3]
 NAME = re.compile(rb"[!#$%&'*+.0-9A-Z^_`a-z|~-]+")
 DATE = re.compile(rb"(\d{4})(?:-(\d\d)(?:-(\d\d)(?:T(\d\d):(\d\d)(?::(\d\d)(?:\.\d{1,9})?)?Z)?)?)?")
 DIGEST = re.compile(rb"sha1:([a-z2-7]{32})", re.IGNORECASE)
-
-
 Fault = tuple[int, str]  # the offset of a record that can't be read, and the cause
 
 
