@@ -4,7 +4,7 @@
 usage: against_plain.py [--cases N | --seconds N | --case NUMBER] [--seed N] [--jobs N] [PROGRAM]
 
 A case is one to four indexes, a query and sizes of pages. The indexes share places, have lines of equal keys and stamps in any order, and lines
-in other spellings than warcdx writes. One query in ten or so is refused. `query` and `pages` have to write the same bytes as the plain program,
+in other spellings than warcdx writes. One query in five or so is refused. `query` and `pages` have to write the same bytes as the plain program,
 or be refused in the same way, and `serve` has to reply with either. What `query` writes page by page, with the resume keys as they were
 printed, has to be what `pages` writes.
 

@@ -17,6 +17,7 @@ HOST_KEYS = (
     "com,example,a:81)/x",
     "com,example-shop)/",
     "com,examples)/",
+    "com,example2:81)/",
     "com,example",
     "com,exampl)/",
     "com)/",

@@ -29,6 +29,7 @@ ADDRESSES = (
     "256.1.1.1",
     "",
 )
+HOSTS = ("com,example", "com,example", "com,example", "com,example,a", "com,exampl", "com")
 STARS = (("", ""), ("", ""), ("", "*"), ("", "/*"), ("*.", ""), ("*.", ""), ("*.", "/a"), ("", "?*"), ("*", ""))
 FAULTS = (
     "limit=0",
@@ -97,16 +98,16 @@ def query(choice: random.Random, lines: Sequence[Line]) -> str:
 def target(choice: random.Random, lines: Sequence[Line]) -> list[str]:
     way = choice.random()
     match = mostly(choice, 0.4, [], [f"matchType={choice.choice(queries.MATCHES)}"])
-    if way < 0.25:
+    if way < 0.2:
         return ["key=&matchType=prefix"]
-    if way < 0.6:
+    if way < 0.5:
         before, after = choice.choice(STARS)
         return [f"{url_name(choice)}={encoded(choice, before + choice.choice(ADDRESSES) + after)}", *match]
     key = choice.choice([line.values["urlkey"] for line in lines] or KEYS)
-    if way < 0.75:
+    if way < 0.65:
         return [f"key={encoded(choice, start_of(choice, key))}", "matchType=prefix"]
     if way < 0.85:
-        return ["key=com,example", f"matchType={choice.choice(('host', 'domain'))}"]
+        return [f"key={choice.choice(HOSTS)}", f"matchType={choice.choice(('host', 'domain', 'domain'))}"]
     return [f"key={encoded(choice, mostly(choice, 0.7, key, choice.choice(HOST_KEYS)))}", *match]
 
 

@@ -1,11 +1,11 @@
 #!/usr/bin/env python3
 """Answers queries in the plainest way: reads all lines, orders them, selects, cuts pages and prints them, as docs/QUERY.md says.
 
-usage: queries.py query QUERY INDEX..
-       queries.py pages SIZES QUERY INDEX..
+usage: queries.py [--pages SIZES] QUERY INDEX..
 
-Each line of the indexes has to be one of a capture.
+It needs Python 3.9. Each line of the indexes has to be one of a capture. The status is 1 if the query is refused.
 """
+import argparse
 import itertools
 import json
 import pathlib
@@ -300,13 +300,22 @@ def select(query: Query, lines: list[Line]) -> list[Line]:
     return [line for line in collected(lines) if query.asks_for(line)]
 
 
-def main(command: str, *words: str) -> None:
-    sizes = [int(size) for size in words[0].split(",")] if command == "pages" else []
-    text, *names = words[1:] if sizes else words
-    query = read_query(text)
-    lines = read_lines(pathlib.Path(name).read_bytes() for name in names)
+def main() -> int:
+    parser = argparse.ArgumentParser(description=__doc__, formatter_class=argparse.RawDescriptionHelpFormatter)
+    parser.add_argument("--pages", metavar="SIZES", help="write page by page, of these sizes, such as 2,3")
+    parser.add_argument("query", metavar="QUERY")
+    parser.add_argument("indexes", nargs="+", metavar="INDEX")
+    words = parser.parse_args()
+    lines = read_lines(pathlib.Path(name).read_bytes() for name in words.indexes)
+    try:
+        query = read_query(words.query)
+    except Refused as refusal:
+        print(f"refused {refusal}", file=sys.stderr)
+        return 1
+    sizes = [int(size) for size in words.pages.split(",")] if words.pages else []
     sys.stdout.buffer.write(pages(query, sizes, lines) if sizes else answer(query, lines))
+    return 0
 
 
 if __name__ == "__main__":
-    main(*sys.argv[1:])
+    sys.exit(main())
