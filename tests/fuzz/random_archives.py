@@ -40,8 +40,7 @@ TYPES = (
 DIGESTS = ("sha1:ABC", "SHA1:abc", "Sha1:sha1:A", "sha1:", "sha1", "md5:00", "", "sha1: a", "x\xff")
 MANDATORY = ("WARC-Type", "WARC-Record-ID", "WARC-Date", "Content-Length")
 BAD_LINES = ("no colon", ": no name", "a b: c", "a(: b", "a\xe9: b", "a: b\rc", "a: b\nc", "a :b", " \x00")
-# The later ones are seen only where the earlier ones aren't, so there are more of them.
-FAULTS = ("version", "line", "missing", "missing", "repeated", "repeated", *5 * ("length", "date"), "far", "short", "short", "closing")
+FAULTS = ("version", "line", "missing", "repeated", "length", "date", "far", "short", "closing")  # the first that applies is reported
 Field = tuple[str, str]
 
 
@@ -52,12 +51,12 @@ def record(choice: random.Random) -> bytes:
 
 
 def record_at_fault(choice: random.Random) -> bytes:
-    """A record with two or three faults, which are mostly in its head."""
+    """A record with two faults or more. Often these are two of which one is reported directly before the other."""
     text = block(choice)
     given = fields(choice, text)
     closing, version = CLOSING, "WARC/1.1"
-    for fault in some(choice, FAULTS, 2, 3):
-        name = choice.choice(MANDATORY)
+    gone, twice = choice.sample(MANDATORY, 2)
+    for fault in some_faults(choice):
         if fault == "length":
             given = changed(given, "Content-Length", choice.choice(BAD_LENGTHS))
         elif fault == "date":
@@ -67,9 +66,9 @@ def record_at_fault(choice: random.Random) -> bytes:
         elif fault == "short":
             given = changed(given, "Content-Length", str(max(0, near(choice, len(text), 5))))
         elif fault == "missing":
-            given = [field for field in given if field[0] != name]
+            given = [field for field in given if field[0] != gone]
         elif fault == "repeated":
-            given.insert(choice.randint(0, len(given)), (name, choice.choice(("3", "response", "2016"))))
+            given.insert(choice.randint(0, len(given)), (twice, choice.choice(("3", "response", "2016"))))
         elif fault == "line":
             given.insert(choice.randint(0, len(given)), ("", choice.choice(BAD_LINES)))
         elif fault == "closing":
@@ -77,6 +76,12 @@ def record_at_fault(choice: random.Random) -> bytes:
         else:
             version = choice.choice(("WARC/1.2", "warc/1.1", "WARC/1.1 ", "WARC/1.10", "WARC/1"))
     return head(choice, given, version) + text + closing
+
+
+def some_faults(choice: random.Random) -> list[str]:
+    at = choice.randrange(len(FAULTS) - 1)
+    pair = list(FAULTS[at : at + 2])
+    return mostly(choice, 0.6, choice.sample(pair, 2), some(choice, FAULTS, 2, 3))
 
 
 def changed(given: list[Field], name: str, value: str) -> list[Field]:
