@@ -4,7 +4,6 @@ import random
 from collections.abc import Iterable, Sequence
 from typing import Optional
 
-from archive_trials import option
 from choices import mostly, some
 from page_reader import Pages, Row, parameters, read_page, read_pages, without
 from plain import keys, lines, queries
@@ -227,7 +226,7 @@ def try_parts(trial: Trial) -> None:
 
 def bodies_of_captures(trial: Trial) -> list[bytes]:
     trial.write([archive(trial.choice, 20)], "warc")
-    return trial.run("index", *option(None), "a.warc").output.splitlines()
+    return trial.run("index", "a.warc").output.splitlines()
 
 
 def bodies_of_lines(choice: random.Random) -> list[bytes]:
