@@ -13,6 +13,7 @@ HOST_KEYS = (
     "com,example)/ab",
     "com,example)/a?b=c",
     "com,example:8080)/",
+    "com,example:81)/b",
     "com,example,a)/",
     "com,example,a:81)/x",
     "com,example-shop)/",
@@ -54,7 +55,7 @@ class Values(NamedTuple):
 
 
 def few_values(choice: random.Random) -> Values:
-    keys = some(choice, HOST_KEYS, 1, 5) + some(choice, OTHER_KEYS, 0, 2)
+    keys = some(choice, HOST_KEYS, 2, 6) + some(choice, OTHER_KEYS, 0, 2)
     return Values(keys, some(choice, STAMPS, 1, 5), some(choice, FILES, 1, 3), some(choice, OFFSETS, 1, 5))
 
 

@@ -121,14 +121,14 @@ def options(choice: random.Random, lines: Sequence[Line]) -> list[tuple[str, str
     widths = (f"timestamp:{choice.randint(1, 14)}", f"timestamp:{choice.randint(1, 9):02}", "timestamp:8", "timestamp:4")
     shares = (
         (0.25, "from", bound(choice, choice.choice(stamps))),
-        (0.25, "to", bound(choice, choice.choice(stamps))),
+        (0.3, "to", bound(choice, choice.choice(stamps))),
         (0.6, "showResumeKey", choice.choice(("true", "true", "false"))),
         (0.5, "fl", ",".join(choice.choices(queries.FIELDS, k=choice.randint(1, 5)))),
         (0.7, "output", choice.choice(queries.OUTPUTS)),
         (0.4, "collapse", choice.choice(("urlkey", "timestamp", *widths))),
     )
     chosen = [(name, encoded(choice, value)) for share, name, value in shares if choice.random() < share]
-    chosen += [condition(choice, lines) for _ in range(choice.choice((0, 0, 0, 0, 1, 1, 2)))]
+    chosen += [condition(choice, lines) for _ in range(choice.choice((0, 0, 0, 1, 1, 2)))]
     if choice.random() < 0.3:
         chosen.append(("resumeKey", resume_key(choice, lines)))
     return chosen
