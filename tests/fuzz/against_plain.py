@@ -9,7 +9,7 @@ or be refused in the same way, and `serve` has to reply with either. What `query
 printed, has to be what `pages` writes.
 
 Every third case is one to three archives, a choice of types, a query and sizes. The records are responses with HTTP heads of all kinds, and
-others; one archive in three has a record with several faults at once. `list` and `verify` have to report what the plain reader does, `index`
+others; two archives in five have a record at fault, often in several ways. `list` and `verify` have to report what the plain reader does, `index`
 has to write the plain index, and `scan` the pages of its lines.
 
 It needs Python 3.9, and writes in the system's temporary folder. It prints what was tried, then the numbers of the cases that differ and what
@@ -138,7 +138,7 @@ def expect_walk(trial: Trial, asked: Asked, asked_query: queries.Query, all_line
 
 def try_archives(trial: Trial) -> None:
     choice = trial.choice
-    texts = [archive(choice, 8, share_at_fault=0.35) for _ in range(choice.randint(1, 3))]
+    texts = [archive(choice, 8, share_at_fault=0.4) for _ in range(choice.randint(1, 3))]
     names = trial.write(texts, "warc")
     reads = read_all(trial, texts)
     types = some_types(choice)

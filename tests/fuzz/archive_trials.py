@@ -44,7 +44,7 @@ def try_archives(trial: Trial) -> None:
 def changed_archive(choice: random.Random) -> bytes:
     if choice.random() < 0.003:
         return mutated(choice, b"".join(archive(choice) for _ in range(500)))
-    if choice.random() < 0.4:
+    if choice.random() < 0.5:
         return archive(choice, 4, share_at_fault=0.8)
     parts = [mutated(choice, archive(choice)) for _ in range(choice.choice((1, 1, 2)))]
     return archive(choice, 3) + b"".join(parts)

@@ -40,7 +40,8 @@ TYPES = (
 DIGESTS = ("sha1:ABC", "SHA1:abc", "Sha1:sha1:A", "sha1:", "sha1", "md5:00", "", "sha1: a", "x\xff")
 MANDATORY = ("WARC-Type", "WARC-Record-ID", "WARC-Date", "Content-Length")
 BAD_LINES = ("no colon", ": no name", "a b: c", "a(: b", "a\xe9: b", "a: b\rc", "a: b\nc", "a :b", " \x00")
-FAULTS = ("version", "line", "missing", "repeated", "length", "date", "far", "short", "closing")  # the first that applies is reported
+# In the order in which they are reported.
+FAULTS = ("version", "line", "missing", "repeated", "length", "date", "far", "short", "closing")
 Field = tuple[str, str]
 
 
@@ -51,7 +52,7 @@ def record(choice: random.Random) -> bytes:
 
 
 def record_at_fault(choice: random.Random) -> bytes:
-    """A record with two faults or more. Often these are two of which one is reported directly before the other."""
+    """A record with one fault, or with several of which the first is reported."""
     text = block(choice)
     given = fields(choice, text)
     closing, version = CLOSING, "WARC/1.1"
@@ -79,9 +80,10 @@ def record_at_fault(choice: random.Random) -> bytes:
 
 
 def some_faults(choice: random.Random) -> list[str]:
+    """Often one fault, or two of which one is reported directly before the other."""
     at = choice.randrange(len(FAULTS) - 1)
     pair = list(FAULTS[at : at + 2])
-    return mostly(choice, 0.6, choice.sample(pair, 2), some(choice, FAULTS, 2, 3))
+    return mostly(choice, 0.4, choice.sample(pair, 2), some(choice, FAULTS, 1, 3))
 
 
 def changed(given: list[Field], name: str, value: str) -> list[Field]:
@@ -122,8 +124,11 @@ def head(choice: random.Random, given: list[Field], version: str = "") -> bytes:
 
 
 def line_of(choice: random.Random, name: str, value: str) -> str:
-    if choice.random() < 0.95:
+    if choice.random() < 0.92:
         return f"{name}: {value}"
+    if name not in MANDATORY and choice.random() < 0.5:
+        at = choice.randint(0, len(value))
+        return f"{name}: {value[:at]}\r\n\t {value[at:]}"
     return choice.choice((f"{name.lower()}:{value}\t", f"{name}:\r\n\t {value} ", f"{name}: {value}\r\n \t", f"{name.upper()}:\r\n \r\n {value}"))
 
 

@@ -33,7 +33,8 @@ TYPES = (
 ODD_VALUES = (b" \x01", b" a\x7f", b" a\rb", b" a\x00")
 FOLDS = (b"\r\n folded", b"\r\n\ttext/css", b"\n ;x")
 BODIES = (b"", b"abc", b"abc", b"3\r\nabc\r\n0\r\n\r\n", b"\r\n\r\nabc", b"\r\n\r\nWARC/1.1\r\n", b"\nContent-Type: a/b\r\n\r\n", b"HTTP/1.1 200 OK\r\n\r\nabc")
-STEPS = (2048, 8192, LENGTH_LIMIT)  # lengths at which a reader may read on
+FIELD_COUNTS = (32, FIELD_LIMIT, FIELD_LIMIT)
+LENGTHS = (2048, 8192, LENGTH_LIMIT, LENGTH_LIMIT)  # the limit, and where a reader may read on
 
 
 def block(choice: random.Random) -> bytes:
@@ -45,11 +46,11 @@ def block(choice: random.Random) -> bytes:
 def head(choice: random.Random) -> bytes:
     end = mostly(choice, 0.9, b"\r\n", b"\n")
     lines = [status_line(choice), *(field(choice) for _ in range(choice.choice((0, 1, 1, 2, 2, 3, 5))))]
-    if choice.random() < 0.02:
-        lines += [b"X: a"] * near(choice, choice.choice((32, FIELD_LIMIT)))
+    if choice.random() < 0.04:
+        lines += [b"X: a"] * (near(choice, choice.choice(FIELD_COUNTS), 1) - len(lines) + 1)
     text = b"".join(line + mostly(choice, 0.97, end, b"\n") for line in lines)
-    if choice.random() < 0.03:
-        text += b"X: " + b"a" * max(0, near(choice, choice.choice(STEPS), 6) - len(text) - 7) + b"\r\n"
+    if choice.random() < 0.04:
+        text += b"X: " + b"a" * max(0, near(choice, choice.choice(LENGTHS), 1) - len(text) - 7) + b"\r\n"
     before = mostly(choice, 0.97, b"", choice.choice((b"\r\n", b"\n\r\n", b"\r", b" ")))
     return before + text + mostly(choice, 0.96, end, choice.choice((b"", b"\r", b"\n", b" \r\n")))
 

@@ -12,6 +12,8 @@ HOST_KEYS = (
     "com,example)/a",
     "com,example)/ab",
     "com,example)/a?b=c",
+    "com,example)/a?b=d",
+    "com,example)/?",
     "com,example:8080)/",
     "com,example:81)/b",
     "com,example,a)/",

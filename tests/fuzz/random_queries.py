@@ -125,7 +125,7 @@ def options(choice: random.Random, lines: Sequence[Line]) -> list[tuple[str, str
         (0.6, "showResumeKey", choice.choice(("true", "true", "false"))),
         (0.5, "fl", ",".join(choice.choices(queries.FIELDS, k=choice.randint(1, 5)))),
         (0.7, "output", choice.choice(queries.OUTPUTS)),
-        (0.4, "collapse", choice.choice(("urlkey", "timestamp", *widths))),
+        (0.4, "collapse", choice.choice(("urlkey", "urlkey", "timestamp", "timestamp", *widths))),
     )
     chosen = [(name, encoded(choice, value)) for share, name, value in shares if choice.random() < share]
     chosen += [condition(choice, lines) for _ in range(choice.choice((0, 0, 0, 1, 1, 2)))]
