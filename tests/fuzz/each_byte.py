@@ -31,7 +31,7 @@ from trial import Trial, Wrong
 
 ARCHIVE = (
     b"WARC/1.1\r\nWARC-Type: response\r\nWARC-Record-ID: <urn:x:1>\r\nWARC-Date: 2016-09-19T17:20:24Z\r\n"
-    b"WARC-Target-URI: http://www.Example.com:81/a/../B?c=D#e\r\nContent-Type: application/http;\r\n msgtype=response\r\nContent-Length: 70\r\n\r\n"
+    b"WARC-Target-URI: http://www.Example.com:81/a/../B?c=D#e\r\nContent-Type: application/http;\r\n msgtype=response\r\nContent-Length: 67\r\n\r\n"
     b"HTTP/1.1 200 OK\r\nContent-Type: text/html;a\r\ncontent-type: b/c\n\r\nabc\r\n\r\n"
     b"WARC/1.0\r\ncontent-length:3\r\nWARC-Type: resource\r\nWARC-Record-ID: 2\r\nWARC-Date: 2016-02\r\nWARC-Target-URI: dns:a\r\n"
     b"WARC-Block-Digest: sha1:VGMT4NSHA2AWVOR6EVYXQUGCNSONBWE5\r\n\r\nabc\r\n\r\n"
