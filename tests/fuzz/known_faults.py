@@ -1,5 +1,5 @@
 #!/usr/bin/env python3
-"""Runs warcdx on fixed cases, of each of which a wrong program is known that fails it.
+"""Runs warcdx on small fixed cases, each of which a plausible wrong program fails.
 
 usage: known_faults.py [PROGRAM]
 
