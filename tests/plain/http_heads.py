@@ -1,8 +1,8 @@
 """Reads the HTTP head at the start of a block, as docs/CDXJ.md says ("Captures").
 
 A response head is a status line, lines of fields and an empty line (RFC 9112). As the kit's `httparse` reads it with its usual settings, a line
-may end with LF alone, empty lines may precede the head, and the space before the reason may be missing with the reason. A field that is
-continued on the next line isn't read, and neither is the head that has it.
+may end with LF alone, empty lines may precede the head, and a status line without a reason may lack the space before it. A text with a
+folded field isn't a head.
 """
 import re
 from typing import NamedTuple, Optional
