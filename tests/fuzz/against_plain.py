@@ -9,8 +9,8 @@ or be refused in the same way, and `serve` has to reply with either. What `query
 printed, has to be what `pages` writes.
 
 Every third case is one to three archives, a choice of types, a query and sizes. The records are responses with HTTP heads of all kinds, and
-others; two archives in five have a record at fault, often in several ways. `list` and `verify` have to report what the plain reader does, `index`
-has to write the plain index, and `scan` the pages of its lines.
+others; two archives in five have a record at fault, often in several ways, and with them come six that have nothing else. `list` and `verify`
+have to report what the plain reader does, `index` has to write the plain index, and `scan` the pages of its lines.
 
 It needs Python 3.9, and writes in the system's temporary folder. It prints what was tried, then the numbers of the cases that differ and what
 is wrong in the first, whose files it keeps, then `N cases, M differ`. The status is 1 if one differs.
@@ -29,7 +29,7 @@ from plain import captures, keys, lines, queries
 from plain.captures import Capture
 from plain.lines import Line
 from plain.records import USUAL
-from random_archives import archive
+from random_archives import archive, record_at_fault
 from random_indexes import dealt, few_values, line
 from random_queries import query
 from trial import Done, Trial, Wrong
@@ -138,6 +138,8 @@ def expect_walk(trial: Trial, asked: Asked, asked_query: queries.Query, all_line
 
 def try_archives(trial: Trial) -> None:
     choice = trial.choice
+    faults = [record_at_fault(choice) for _ in range(6)]
+    expect_reports(trial, trial.write(faults, "fault"), read_all(trial, faults))
     texts = [archive(choice, 8, share_at_fault=0.4) for _ in range(choice.randint(1, 3))]
     names = trial.write(texts, "warc")
     reads = read_all(trial, texts)
