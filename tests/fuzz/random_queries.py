@@ -1,4 +1,5 @@
 """Makes query texts by chance, of the keys, stamps, values and places that some lines have, with limits near the number of captures."""
+import os.path
 import random
 from collections.abc import Sequence
 from urllib.parse import quote_plus
@@ -83,16 +84,39 @@ FAULTS = (
 
 
 def query(choice: random.Random, lines: Sequence[Line]) -> str:
-    pieces = target(choice, lines)
-    pieces += [f"{mostly(choice, 0.93, name, with_escape(choice, name))}={value}" for name, value in options(choice, lines)]
-    if choice.random() < 0.1:
+    pieces = selecting(choice, lines)
+    if choice.random() < 0.15:
         pieces += choice.sample(FAULTS, choice.choice((1, 1, 2)))
     if choice.random() < 0.02:
         pieces.pop(0)
     if choice.random() < 0.5:
-        pieces.append(f"limit={limit(choice, pieces, lines)}")
+        pieces.append(f"limit={limit(choice, count_of(pieces, lines))}")
     choice.shuffle(pieces)
     return choice.choice(("&", "&", "&&")).join(pieces)
+
+
+def selecting(choice: random.Random, lines: Sequence[Line]) -> list[str]:
+    """The parameters of a query but for its limit. Of those that select less than two captures, most are made anew."""
+    pieces = parameters(choice, lines)
+    for _ in range(4):
+        if count_of(pieces, lines) > 1 or choice.random() < 0.1:
+            break
+        pieces = parameters(choice, lines)
+    return pieces
+
+
+def parameters(choice: random.Random, lines: Sequence[Line]) -> list[str]:
+    named = [f"{mostly(choice, 0.93, name, with_escape(choice, name))}={value}" for name, value in options(choice, lines)]
+    return target(choice, lines) + named
+
+
+def count_of(pieces: Sequence[str], lines: Sequence[Line]) -> int:
+    """The number of captures that a query without a limit gives."""
+    try:
+        asked = queries.read_query("&".join(pieces))
+    except (queries.Refused, keys.Unknown):
+        return 0
+    return len(queries.page_after(asked, queries.select(asked, list(lines)), asked.resume, None)[0])
 
 
 def target(choice: random.Random, lines: Sequence[Line]) -> list[str]:
@@ -118,14 +142,13 @@ def url_name(choice: random.Random) -> str:
 def options(choice: random.Random, lines: Sequence[Line]) -> list[tuple[str, str]]:
     """Names of parameters with their values, as they are in a query text."""
     stamps = [line.values["timestamp"] for line in lines] or STAMPS
-    widths = (f"timestamp:{choice.randint(1, 14)}", f"timestamp:{choice.randint(1, 9):02}", "timestamp:8", "timestamp:4")
     shares = (
         (0.25, "from", bound(choice, choice.choice(stamps))),
         (0.3, "to", bound(choice, choice.choice(stamps))),
         (0.6, "showResumeKey", choice.choice(("true", "true", "false"))),
         (0.5, "fl", ",".join(choice.choices(queries.FIELDS, k=choice.randint(1, 5)))),
         (0.7, "output", choice.choice(queries.OUTPUTS)),
-        (0.4, "collapse", choice.choice(("urlkey", "urlkey", "timestamp", "timestamp", *widths))),
+        (0.4, "collapse", collapse(choice, stamps)),
     )
     chosen = [(name, encoded(choice, value)) for share, name, value in shares if choice.random() < share]
     chosen += [condition(choice, lines) for _ in range(choice.choice((0, 0, 0, 1, 1, 2)))]
@@ -141,8 +164,22 @@ def bound(choice: random.Random, stamp: str) -> str:
     return f"{number:0{len(digits)}}"[: len(digits)]
 
 
+def collapse(choice: random.Random, stamps: Sequence[str]) -> str:
+    """A value of `collapse`. Its number of digits is mostly near that of those which two neighbouring stamps have in common."""
+    way = choice.random()
+    if way < 0.35:
+        return "urlkey"
+    if way < 0.45:
+        return "timestamp"
+    rising = sorted(set(stamps))
+    at = choice.randrange(max(1, len(rising) - 1))
+    shared = len(os.path.commonprefix(rising[at : at + 2]))
+    width = max(1, min(14, shared + choice.choice((-1, 0, 0, 0, 1))))
+    return f"timestamp:{mostly(choice, 0.8, str(width), f'{width:02}')}"
+
+
 def condition(choice: random.Random, lines: Sequence[Line]) -> tuple[str, str]:
-    name, field = choice.choice(list(queries.CONDITIONS)), choice.choice(queries.FIELDS)
+    name, field = choice.choice((*queries.CONDITIONS, "isnot", "isnot")), choice.choice(queries.FIELDS)
     value = choice.choice([line.values[field] for line in lines] or ["-"])
     value = choice.choice((value, value, value[:2], value[1:], value.upper(), ""))
     negated = choice.choice(("", "!")) if name == "filter" else ""
@@ -158,15 +195,10 @@ def resume_key(choice: random.Random, lines: Sequence[Line]) -> str:
     return queries.key_text(place._replace(offset=max(0, place.offset - choice.choice((0, 0, 0, 1)))))
 
 
-def limit(choice: random.Random, pieces: Sequence[str], lines: Sequence[Line]) -> str:
-    """A number near that of the captures which the rest of the query selects."""
+def limit(choice: random.Random, count: int) -> str:
+    """A limit, often near the number of captures."""
     if choice.random() < 0.1:
         return choice.choice(("007", "1000000", "0000001"))
-    try:
-        asked = queries.read_query("&".join(pieces))
-    except (queries.Refused, keys.Unknown):
-        return "3"
-    count = len(queries.page_after(asked, queries.select(asked, lines), asked.resume, None)[0])
     return str(max(1, near(choice, count, 1) if choice.random() < 0.6 else choice.randint(1, 8)))
 
 
