@@ -122,16 +122,16 @@ def count_of(pieces: Sequence[str], lines: Sequence[Line]) -> int:
 def target(choice: random.Random, lines: Sequence[Line]) -> list[str]:
     way = choice.random()
     match = mostly(choice, 0.4, [], [f"matchType={choice.choice(queries.MATCHES)}"])
-    if way < 0.2:
+    if way < 0.15:
         return ["key=&matchType=prefix"]
-    if way < 0.5:
+    if way < 0.45:
         before, after = choice.choice(STARS)
         return [f"{url_name(choice)}={encoded(choice, before + choice.choice(ADDRESSES) + after)}", *match]
     key = choice.choice([line.values["urlkey"] for line in lines] or KEYS)
-    if way < 0.65:
+    if way < 0.6:
         return [f"key={encoded(choice, start_of(choice, key))}", "matchType=prefix"]
     if way < 0.85:
-        return [f"key={choice.choice(HOSTS)}", f"matchType={choice.choice(('host', 'domain', 'domain'))}"]
+        return [f"key={choice.choice(HOSTS)}", f"matchType={choice.choice(('host', 'host', 'domain', 'domain', 'domain'))}"]
     return [f"key={encoded(choice, mostly(choice, 0.7, key, choice.choice(HOST_KEYS)))}", *match]
 
 
