@@ -1,65 +1,38 @@
 #!/usr/bin/env python3
 """Answers queries in the plainest way: reads all lines, orders them, selects, cuts pages and prints them, as docs/QUERY.md says.
 
-usage: plain_queries.py query QUERY INDEX..
-       plain_queries.py pages SIZES QUERY INDEX..
+usage: queries.py [--pages SIZES] QUERY INDEX..
 
-against_plain.py compares warcdx with it. Indexes have to be in order, and addresses are read by urllib: it knows plain ones of
-http and https alone.
+It needs Python 3.9. Each line of the indexes has to be one of a capture. The status is 1 if the query is refused.
 """
+import argparse
 import itertools
 import json
+import pathlib
 import re
 import sys
-from typing import Callable, NamedTuple, Optional
-from urllib.parse import quote_plus, unquote_to_bytes, urlsplit
+from collections.abc import Collection, Iterable, Iterator
+from typing import Any, Callable, NamedTuple, Optional
+from urllib.parse import quote_plus, unquote_to_bytes
+
+sys.path.insert(0, str(pathlib.Path(__file__).resolve().parents[1]))
+
+from plain import keys
+from plain.lines import Line, Place, collected, read_lines
 
 FIELDS = ("urlkey", "timestamp", "original", "mimetype", "statuscode", "digest", "length", "offset", "filename")
 USUAL_FIELDS = FIELDS[:7]
-MEMBERS = {
-    "original": "url",
-    "mimetype": "mime",
-    "statuscode": "status",
-    "digest": "digest",
-    "length": "length",
-    "filename": "filename",
-}
 MATCHES = ("exact", "prefix", "host", "domain")
 OUTPUTS = ("text", "json", "cdxj")
 PATTERN_SIGNS = set("\\^$.|?*+()[]{}")
 FOLLOWS = {"exact": (b"",), "host": (b")", b":"), "domain": (b")", b",", b":")}
-USUAL_PORTS = {"http": 80, "https": 443}
+Part = Callable[[Place], bytes]  # of a place, by which captures are collapsed
+Page = tuple[list[Line], Optional[Place]]  # with the place from which the next page goes on, where there is one
+Condition = Callable[[dict[str, str]], bool]  # on the values of a line
 
 
 class Refused(Exception):
     """A query text that means nothing, with the name of its refusal."""
-
-
-class Place(NamedTuple):
-    key: bytes
-    stamp: bytes
-    filename: bytes
-    offset: int
-
-
-class Line:
-    """A line of an index, without its line feed."""
-
-    def __init__(self, body):
-        key, stamp, members = body.split(b" ", 2)
-        self.body = body
-        said = json.loads(members)
-        self.place = Place(key, stamp, said["filename"].encode(), int(said["offset"]))
-        self.values = {"urlkey": key.decode(), "timestamp": stamp.decode(), "offset": str(self.place.offset)}
-        self.values |= {field: value_of(said.get(member)) for field, member in MEMBERS.items()}
-
-
-def value_of(member):
-    if isinstance(member, str):
-        return member or "-"
-    if isinstance(member, int) and not isinstance(member, bool) and 0 <= member < 1 << 64:
-        return str(member)
-    return "-"
 
 
 class Query(NamedTuple):
@@ -67,15 +40,15 @@ class Query(NamedTuple):
     target: bytes
     first: str  # digits with which a stamp may begin
     last: str
-    conditions: list
+    conditions: list[Condition]
     limit: Optional[int]
     resume: Optional[Place]
     shows_key: bool
-    fields: tuple
+    fields: tuple[str, ...]
     output: str
-    part: Optional[Callable]  # of a place, by which captures are collapsed
+    part: Optional[Part]
 
-    def asks_for(self, line):
+    def asks_for(self, line: Line) -> bool:
         stamp = line.values["timestamp"]
         return (
             covers(self.match, self.target, line.place.key)
@@ -85,7 +58,7 @@ class Query(NamedTuple):
         )
 
 
-def covers(match, target, key):
+def covers(match: str, target: bytes, key: bytes) -> bool:
     if not key.startswith(target):
         return False
     return match == "prefix" or key[len(target) :][:1] in FOLLOWS[match]
@@ -94,16 +67,16 @@ def covers(match, target, key):
 # ---- the text of a query
 
 
-def decoded(text):
+def decoded(text: str) -> str:
     return unquote_to_bytes(text.replace("+", " ")).decode(errors="replace")
 
 
-def is_digits(text, most):
+def is_digits(text: str, most: int) -> bool:
     return text.isascii() and text.isdigit() and len(text) <= most
 
 
-def one_of(names, refusal):
-    def read(text):
+def one_of(names: Collection[str], refusal: str) -> Callable[[str], str]:
+    def read(text: str) -> str:
         if text not in names:
             raise Refused(refusal)
         return text
@@ -111,35 +84,36 @@ def one_of(names, refusal):
     return read
 
 
-def read_stamp(text):
+def read_stamp(text: str) -> str:
     if not is_digits(text, 14):
         raise Refused("BadStamp")
     return text
 
 
-def read_limit(text):
+def read_limit(text: str) -> int:
     if not is_digits(text, 7) or not 1 <= int(text) <= 1_000_000:
         raise Refused("BadLimit")
     return int(text)
 
 
-def read_fields(text):
+def read_fields(text: str) -> tuple[str, ...]:
     fields = tuple(text.split(","))
     if not set(fields) <= set(FIELDS):
         raise Refused("BadField")
     return fields
 
 
-def read_collapse(text):
+def read_collapse(text: str) -> Part:
     name, colon, digits = text.partition(":")
     if text == "urlkey":
         return lambda place: place.key
     if name != "timestamp" or colon and not (is_digits(digits, 2) and 1 <= int(digits) <= 14):
         raise Refused("BadCollapse")
-    return lambda place: place.stamp[: int(digits or 14)]
+    width = int(digits or 14)
+    return lambda place: place.stamp[:width]
 
 
-def read_place(text):
+def read_place(text: str) -> Place:
     key, _, later = decoded(text).partition(" ")
     stamp, _, later = later.partition(" ")
     filename, _, offset = later.rpartition(" ")
@@ -148,16 +122,16 @@ def read_place(text):
     return Place(key.encode(), stamp.encode(), filename.encode(), int(offset))
 
 
-def is_key(text):
+def is_key(text: str) -> bool:
     return text != "" and all(sign > " " and sign != "\x7f" for sign in text)
 
 
-def is_offset(text):
+def is_offset(text: str) -> bool:
     return is_digits(text, 19) and int(text) < 1 << 63
 
 
-def condition(test) -> Callable:
-    def read(text):
+def condition(test: Callable[[str, str], bool]) -> Callable[[str], Condition]:
+    def read(text: str) -> Condition:
         field, colon, wanted = text.partition(":")
         if not colon or field not in FIELDS:
             raise Refused("BadFilter")
@@ -166,7 +140,7 @@ def condition(test) -> Callable:
     return read
 
 
-def read_filter(text):
+def read_filter(text: str) -> Condition:
     negated = text.startswith("!")
     holds = condition(lambda value, wanted: (value == wanted) != negated)(text[negated:])
     if PATTERN_SIGNS & set(text.partition(":")[2]):
@@ -181,7 +155,7 @@ CONDITIONS = {
     "has": condition(lambda value, wanted: wanted in value),
     "hasnot": condition(lambda value, wanted: wanted not in value),
 }
-READERS = {
+READERS: dict[str, Callable[[str], Any]] = {
     "url": str,
     "key": str,
     "matchType": one_of(MATCHES, "BadMatch"),
@@ -197,10 +171,11 @@ READERS = {
 }
 
 
-def read_query(text):
+def read_query(text: str) -> Query:
     if len(text.encode()) > 65_536:
         raise Refused("QueryTooLong")
-    given, conditions = {}, []
+    given: dict[str, Any] = {}
+    conditions: list[Condition] = []
     for piece in filter(None, text.split("&")):
         name, _, value = piece.partition("=")
         name = decoded(name)
@@ -233,7 +208,7 @@ def read_query(text):
     )
 
 
-def target_of(given):
+def target_of(given: dict[str, Any]) -> tuple[str, bytes]:
     match = given.get("matchType")
     if "key" in given:
         return match or "exact", given["key"].encode()
@@ -245,55 +220,25 @@ def target_of(given):
     match = match or "exact"
     if not re.match("[A-Za-z][A-Za-z0-9+.-]*://", address):
         address = "http://" + address
-    host, rest = key_parts(address)
-    return match, folded(host if match in ("host", "domain") else host + rest)
-
-
-def key_parts(address):
-    """The text of the host, and the rest of the key."""
-    try:
-        parts = urlsplit(address)
-        host, port = parts.hostname, parts.port
-    except ValueError:
-        host, port = None, None
-    if not host:
+    if not keys.is_url(address):
         raise Refused("BadUrl")
-    labels = host.removesuffix(".").split(".")
-    if len(labels) > 1 and re.fullmatch(r"www\d*", labels[0]):
-        labels = labels[1:]
-    port = f":{port}" if port not in (None, USUAL_PORTS.get(parts.scheme)) else ""
-    return ",".join(reversed(labels)), f"{port}){parts.path or '/'}" + (f"?{parts.query}" if parts.query else "")
-
-
-def folded(text):
-    signs = text.encode().lower()
-    return b"".join(b"%c" % sign if 0x21 <= sign <= 0x7E else b"%%%02x" % sign for sign in signs)
+    target = keys.host_key_of(address) if match in ("host", "domain") else keys.key_of(address)
+    if target is None:
+        raise Refused("BadUrl")
+    return match, target.encode()
 
 
 # ---- what is selected, and its pages
 
 
-def read_lines(texts):
-    """All lines of the indexes."""
-    return [Line(body) for text in texts for body in text.removesuffix(b"\n").split(b"\n") if text]
-
-
-def collected(lines):
-    """The lines in the order of places, of each place the first."""
-    collection = {}
-    for line in lines:
-        collection.setdefault(line.place, line)
-    return [line for _, line in sorted(collection.items())]
-
-
-def collapsed(lines, place, part):
+def collapsed(lines: list[Line], place: Optional[Place], part: Part) -> list[Line]:
     """The lines whose part differs from that of the line before, the first from that of the place."""
     before = [place, *(line.place for line in lines)]
     return [line for line, place in zip(lines, before) if place is None or part(line.place) != part(place)]
 
 
-def page_after(query, selected, place, limit):
-    """The first lines above the place, and the place from which the next page goes on, where there is one."""
+def page_after(query: Query, selected: list[Line], place: Optional[Place], limit: Optional[int]) -> Page:
+    """The first lines above the place."""
     later = [line for line in selected if place is None or line.place > place]
     if query.part:
         later = collapsed(later, place, query.part)
@@ -301,7 +246,7 @@ def page_after(query, selected, place, limit):
     return page, page[-1].place if len(later) > len(page) else None
 
 
-def chain(query, selected, sizes):
+def chain(query: Query, selected: list[Line], sizes: list[int]) -> Iterator[Page]:
     """The pages from the query's place on, the last of the sizes repeated."""
     place = query.resume
     for size in itertools.chain(sizes, itertools.repeat(sizes[-1])):
@@ -314,20 +259,20 @@ def chain(query, selected, sizes):
 # ---- the text of a page
 
 
-def key_text(place):
+def key_text(place: Place) -> str:
     text = b" ".join((place.key, place.stamp, place.filename, b"%d" % place.offset))
     return quote_plus(text, safe="*").replace("~", "%7E")
 
 
-def escaped(value):
+def escaped(value: str) -> str:
     return re.sub("[\x00-\x20\x7f]", lambda sign: f"%{ord(sign[0]):02X}", value)
 
 
-def row(values):
+def row(values: Iterable[str]) -> str:
     return "[" + ",".join(json.dumps(value, ensure_ascii=False) for value in values) + "]"
 
 
-def page_text(query, page, place):
+def page_text(query: Query, page: list[Line], place: Optional[Place]) -> bytes:
     if query.output == "json":
         rows = [row(query.fields), *(row(line.values[field] for field in query.fields) for line in page)]
         if place:
@@ -342,25 +287,35 @@ def page_text(query, page, place):
     return b"".join(line + b"\n" for line in lines)
 
 
-def answer(query, lines):
+def answer(query: Query, lines: list[Line]) -> bytes:
     page, place = page_after(query, select(query, lines), query.resume, query.limit)
     return page_text(query, page, place if query.shows_key else None)
 
 
-def pages(query, sizes, lines):
+def pages(query: Query, sizes: list[int], lines: list[Line]) -> bytes:
     return b"".join(page_text(query, page, place) for page, place in chain(query, select(query, lines), sizes))
 
 
-def select(query, lines):
+def select(query: Query, lines: list[Line]) -> list[Line]:
     return [line for line in collected(lines) if query.asks_for(line)]
 
 
-def main(command, *words):
-    sizes, (text, *names) = ([int(size) for size in words[0].split(",")], words[1:]) if command == "pages" else (None, words)
-    query = read_query(text)
-    lines = read_lines(open(name, "rb").read() for name in names)
+def main() -> int:
+    parser = argparse.ArgumentParser(description=__doc__, formatter_class=argparse.RawDescriptionHelpFormatter)
+    parser.add_argument("--pages", metavar="SIZES", help="write page by page, of these sizes, such as 2,3")
+    parser.add_argument("query", metavar="QUERY")
+    parser.add_argument("indexes", nargs="+", metavar="INDEX")
+    words = parser.parse_args()
+    lines = read_lines(pathlib.Path(name).read_bytes() for name in words.indexes)
+    try:
+        query = read_query(words.query)
+    except Refused as refusal:
+        print(f"refused {refusal}", file=sys.stderr)
+        return 1
+    sizes = [int(size) for size in words.pages.split(",")] if words.pages else []
     sys.stdout.buffer.write(pages(query, sizes, lines) if sizes else answer(query, lines))
+    return 0
 
 
 if __name__ == "__main__":
-    main(*sys.argv[1:])
+    sys.exit(main())

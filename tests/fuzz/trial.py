@@ -1,9 +1,13 @@
-"""One case of fuzz.py: its folder, its choices, and runs of the program that have to end as docs/COMMANDS.md says."""
+"""One case of a fuzzer: its folder, its choices, and runs of the program that have to end as docs/COMMANDS.md says."""
+import collections
+import pathlib
+import random
 import re
 import signal
 import string
 import subprocess
-from typing import NamedTuple
+from collections.abc import Iterable
+from typing import NamedTuple, Union
 
 SECONDS = 20
 CAUSES = (
@@ -19,13 +23,14 @@ ON_ERROR = re.compile(
     rf"query: ({REFUSALS})|TooManySources|Input|Write|Memory|cannot flush)\n)*".encode(),
 )
 OF_INDEX = re.compile(rb"warcdx: (.*): (BadLine|OutOfOrder) ([0-9]+)\n")
+Word = Union[str, bytes]
 
 
 class Wrong(Exception):
     """What the program did that it mustn't."""
 
 
-def be_late(_signal, _frame):
+def be_late(_signal: int, _frame: object) -> None:
     raise TimeoutError
 
 
@@ -41,42 +46,42 @@ class Done(NamedTuple):
 
 
 class Trial:
-    def __init__(self, program, folder, choice, tally):
+    def __init__(self, program: str, folder: pathlib.Path, choice: random.Random, tally: collections.Counter[str]) -> None:
         self.program = program
         self.folder = folder
         self.choice = choice
         self.tally = tally
 
-    def write(self, texts, ending):
+    def write(self, texts: Iterable[bytes], ending: str) -> list[str]:
         """Files with these texts. Their names."""
         names = [f"{letter}.{ending}" for letter, _ in zip(string.ascii_lowercase, texts)]
         for name, text in zip(names, texts):
             (self.folder / name).write_bytes(text)
         return names
 
-    def run(self, *words, lines=b""):
+    def run(self, *words: Word, lines: bytes = b"") -> Done:
         self.tally["runs"] += 1
         try:
-            done = Done(*self.ended((self.program, *words), lines))
+            done = self.ended((self.program, *words), lines)
         except TimeoutError:
             raise Wrong(f"{words} takes over {SECONDS} s") from None
         if done.status not in (0, 1, 3) or bool(done.error) > bool(done.status) or not ON_ERROR.fullmatch(done.error):
             raise Wrong(f"{words} ends with {done}")
         return done
 
-    def ended(self, words, lines=b""):
+    def ended(self, words: Iterable[Word], lines: bytes = b"") -> Done:
         signal.alarm(SECONDS)  # cheaper than the timeout of subprocess, which looks again and again
         try:
-            done = subprocess.run(words, input=lines, stdout=subprocess.PIPE, stderr=subprocess.PIPE, cwd=self.folder)
+            done = subprocess.run(tuple(words), input=lines, stdout=subprocess.PIPE, stderr=subprocess.PIPE, cwd=self.folder, check=False)
         finally:
             signal.alarm(0)
-        return done.returncode, done.stdout, done.stderr
+        return Done(done.returncode, done.stdout, done.stderr)
 
-    def expect(self, status, output, error, *words, lines=b""):
+    def expect(self, status: int, output: bytes, error: bytes, *words: Word, lines: bytes = b"") -> None:
         found, wanted = self.run(*words, lines=lines), Done(status, output, error)
         if found != wanted:
             raise Wrong(f"{words}\nwanted {wanted}\nfound  {found}")
 
-    def check(self, holds, what):
+    def check(self, holds: object, what: str) -> None:
         if not holds:
             raise Wrong(what)
