@@ -13,7 +13,7 @@ import shutil
 import subprocess
 import sys
 from collections.abc import Sequence
-from typing import Optional
+from typing import NoReturn, Optional
 
 ROOT = pathlib.Path(__file__).resolve().parents[1]
 BUILT = ROOT / "crates/warcdx/out/warcdx"
@@ -65,7 +65,7 @@ def need(*commands: str) -> None:
             stop_without(name, package or name)
 
 
-def stop_without(name: str, package: str) -> None:
+def stop_without(name: str, package: str) -> NoReturn:
     """Ends the script because of something that a Debian package has."""
     print(f"{os.path.basename(sys.argv[0])}: {name} is missing (Debian's package {package})", file=sys.stderr)
     sys.exit(MISSING)
