@@ -63,6 +63,18 @@ expect_file() {
     if differences=$(diff "$2" "$3"); then say_ok "$1"; else say_differs "$1" $'\n'"$differences"; fi
 }
 
+# check_command CASE COMMAND..: runs a command, which has to succeed. The last line that it prints is printed with the case.
+check_command() {
+    local case=$1 output
+    shift
+    if output=$("$@" 2>&1); then
+        output=${output##*$'\n'}
+        say_ok "$case${output:+: $output}"
+    else
+        say_differs "$case" "$output"
+    fi
+}
+
 # end_script: prints the counts, and exits.
 end_script() {
     echo "$ok ok, $differing differ"
