@@ -27,6 +27,7 @@ sys.path.insert(0, str(pathlib.Path(__file__).resolve().parents[1] / "tests"))
 from program import ROOT, USAGE, Report, need, parser_of
 
 KINDS = ("shell", "python", "usage")
+SECONDS = 20
 # The wrapper passes all arguments to the program, and the others take none.
 WITHOUT_USAGE = ("warcdx", ".ci/run", "samples/make.py")
 
@@ -62,13 +63,18 @@ def fault_of_python(path: pathlib.Path) -> Optional[str]:
 
 
 def fault_of_usage(path: pathlib.Path) -> Optional[str]:
-    if not os.access(path, os.X_OK):
-        return None
-    asked = subprocess.run((path, "-h"), stdin=subprocess.DEVNULL, stdout=subprocess.PIPE, stderr=subprocess.STDOUT, text=True)
-    if asked.returncode or f"usage: {path.name}" not in asked.stdout:
-        return f"-h ends with status {asked.returncode} and prints {asked.stdout[:200]!r}"
-    refused = subprocess.run((path, "--no-such-option"), stdin=subprocess.DEVNULL, stdout=subprocess.PIPE, stderr=subprocess.STDOUT)
-    return None if refused.returncode == USAGE else f"an unknown option ends with status {refused.returncode}"
+    for option, wanted in (("-h", 0), ("--no-such-option", USAGE)):
+        try:
+            done = subprocess.run(
+                (path, option), stdin=subprocess.DEVNULL, stdout=subprocess.PIPE, stderr=subprocess.STDOUT, timeout=SECONDS
+            )
+        except subprocess.TimeoutExpired:
+            return f"{option} takes more than {SECONDS} s"
+        if done.returncode != wanted:
+            return f"{option} ends with exit status {done.returncode}"
+        if option == "-h" and f"usage: {path.name}".encode() not in done.stdout:
+            return "-h prints no usage"
+    return None
 
 
 def main() -> int:
@@ -87,7 +93,7 @@ def main() -> int:
             checks.append(("shell", fault_of_shell))
         if "python" in kinds and language == "python3":
             checks.append(("python", fault_of_python))
-        if "usage" in kinds and name not in WITHOUT_USAGE:
+        if "usage" in kinds and name not in WITHOUT_USAGE and os.access(path, os.X_OK):
             checks.append(("usage", fault_of_usage))
         for kind, check in checks:
             fault = check(path)

@@ -4,7 +4,7 @@
 usage: scarce_memory.py [PROGRAM]
 
 Under each limit a run has to end as without one, or with exit status 3 and a line that says `Memory`. What it wrote then is a prefix of what it writes
-otherwise. Then an input of 100 MB, as one head, one block or one line, is read in little more than the least memory.
+otherwise. Then an input of 100 MB, as one head, one block or one line, is read with 8 MB more than the least memory: what a head at its limit takes.
 
 Prints a line for each command, with the number of limits, and the counts. The exit status is 0, or 1 if a run ends in another way.
 """
@@ -22,6 +22,8 @@ sys.path.insert(0, str(pathlib.Path(__file__).resolve().parents[1]))
 from device_runs import LONG, RECORD, SECONDS, Place, ended, expect, of_input, try_ways
 from preloaded_runs import ALL, Ended
 
+HEAD_MEMORY = 8_000_000  # bytes, for a head at its limit of 1,048,576 bytes
+
 
 def memory_that_ends(place: Place) -> Iterator[str]:
     """Under each limit on its memory the program succeeds, or reports that memory could not be allocated."""
@@ -32,7 +34,7 @@ def memory_that_ends(place: Place) -> Iterator[str]:
         "merge of long lines": ("merge", "wide.cdxj", "many.cdxj"),
         "query of one key and stamp": ("query", f"{ALL}&output=json", "one-pair.cdxj"),
         "query of long lines": ("query", f"{ALL}&output=cdxj", "wide.cdxj"),
-        "pages": ("pages", "100", ALL, "one-pair.cdxj"),
+        "pages": ("pages", "1000", ALL, "one-pair.cdxj"),
         "scan": LONG["scan"],
         "serve": ("serve", "one-pair.cdxj", "wide.cdxj"),
         "check": ("check", "wide.cdxj"),
@@ -77,7 +79,7 @@ def an_input_that_is_long(place: Place) -> Iterator[str]:
 def fed(place: Place, words: Sequence[str], text: tuple[bytes, int, bytes], least: int) -> tuple[int, bytes, bytes]:
     """Returns how a run ends that reads a front, so many letters and a back from a pipe."""
     front, size, back = text
-    process = place.start(words, stdin=subprocess.PIPE, preexec_fn=limit_memory(least + (1 << 20)))
+    process = place.start(words, stdin=subprocess.PIPE, preexec_fn=limit_memory(least + HEAD_MEMORY))
 
     def feed() -> None:
         with contextlib.suppress(BrokenPipeError), process.stdin as pipe:
