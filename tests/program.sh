@@ -54,7 +54,7 @@ say_differs() { # CASE WHAT
 
 # expect CASE WANTED FOUND: compares two texts.
 expect() {
-    if [ "$2" = "$3" ]; then say_ok "$1"; else say_differs "$1" "$(printf '%q for %q' "$3" "$2")"; fi
+    if [ "$2" = "$3" ]; then say_ok "$1"; else say_differs "$1" "$(printf 'found %q, wanted %q' "$3" "$2")"; fi
 }
 
 # expect_file CASE WANTED FOUND: compares two files.

@@ -31,8 +31,8 @@ check_into() {
     if [ "$status" = "$want_status" ] && holds output "$want_output" && holds error "$want_error"; then
         say_ok "$case"
     else
-        say_differs "$case" "$(printf 'status %s for %s, %q for %q, %q for %q' "$status" "$want_status" \
-            "$(< output)" "$want_output" "$(< error)" "$want_error")"
+        say_differs "$case" "$(printf 'found status %s, %q, %q; wanted status %s, %q, %q' "$status" "$(< output)" "$(< error)" \
+            "$want_status" "$want_output" "$want_error")"
     fi
 }
 
