@@ -62,12 +62,12 @@ def need(*commands: str) -> None:
     for command in commands:
         name, _, package = command.partition(":")
         if shutil.which(name) is None:
-            stop_without(name, package or name)
+            stop_without(name, f"Debian's package {package or name}")
 
 
-def stop_without(name: str, package: str) -> NoReturn:
-    """Ends the script because of something that a Debian package has."""
-    print(f"{os.path.basename(sys.argv[0])}: {name} is missing (Debian's package {package})", file=sys.stderr)
+def stop_without(name: str, source: str) -> NoReturn:
+    """Ends the script because something is missing, and says where it comes from."""
+    print(f"{os.path.basename(sys.argv[0])}: {name} is missing ({source})", file=sys.stderr)
     sys.exit(MISSING)
 
 

@@ -180,7 +180,7 @@ def main() -> int:
     add_program(parser)
     program = find_program(parser.parse_args().program)
     if importlib.util.find_spec("distributed") is None:
-        stop_without("the module distributed", "python3-distributed")
+        stop_without("the module distributed", "Debian's package python3-distributed")
     for case in CASES:
         title = case.__name__.replace("_", " ")
         with tempfile.TemporaryDirectory() as name:

@@ -86,4 +86,4 @@ def c_compiler() -> str:
     if compiler is None and shutil.which("rt"):
         kit = pathlib.Path(subprocess.run(("rt", "doc"), stdout=subprocess.PIPE, check=True, text=True).stdout.strip()).parent
         compiler = shutil.which(kit / "toolchain/bin/clang")
-    return compiler or stop_without("a C compiler", "gcc")
+    return compiler or stop_without("a C compiler", "Debian's package gcc")

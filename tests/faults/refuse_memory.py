@@ -105,7 +105,7 @@ def build_tests(crate: str) -> pathlib.Path:
         command = ("rt", "test")
         built = subprocess.run(command, cwd=ROOT / "crates" / crate, stdin=subprocess.DEVNULL, stdout=subprocess.PIPE, stderr=subprocess.STDOUT)
     except FileNotFoundError:
-        stop_without("rt", "none: it is part of the Rattle kit")
+        stop_without("rt", "a command of the Rattle kit")
     if built.returncode:
         sys.exit(f"{built.stdout.decode(errors='replace')}\n{crate}: its tests don't pass without refusals")
     return ROOT / "crates" / crate / "out" / f"{crate}_tests"
