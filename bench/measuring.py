@@ -1,4 +1,4 @@
-"""Processor time, memory and reading of programs that read archives, and how they compare with goals."""
+"""Measures processor time, memory and reading of programs, and compares figures with goals. The scripts of this folder import this file."""
 import array
 import fcntl
 import os
@@ -10,9 +10,12 @@ import subprocess
 import sys
 import termios
 import time
-from typing import NamedTuple
+from typing import NamedTuple, Optional
 
-ROOT = pathlib.Path(__file__).resolve().parent.parent
+sys.path.insert(0, str(pathlib.Path(__file__).resolve().parents[1] / "tests"))
+
+from program import add_program, find_program, parser_of
+
 ROUNDS = 15
 PIECE = 1 << 20  # bytes handed to a pipe at once
 WIDTH = 44  # of a name in a table
@@ -34,7 +37,7 @@ class Figure(NamedTuple):
 
 
 def report(times, figures, rounds=ROUNDS):
-    """Prints the seconds by name, and the figures; answers the status of the script."""
+    """Prints the seconds by name, and the figures. Returns the exit status of the script."""
     print(f"{machine()}; processor times, the least of {rounds} rounds\n")
     for name, seconds in times.items():
         print(f"{name:<{WIDTH}}{seconds:8.3f} s")
@@ -49,12 +52,11 @@ def machine():
     return f"{models[0].split(':')[1].strip()}, {len(models)} processors, Linux {platform.release()}"
 
 
-def program_of(words):
-    """The program that the caller names, or else the one of the repository, built where that is needed."""
-    if words:
-        return pathlib.Path(words[0]).resolve()
-    subprocess.run([ROOT / "warcdx", "--help"], stdout=subprocess.DEVNULL, check=True)
-    return ROOT / "crates/warcdx/out/warcdx"
+def read_program(header: Optional[str]) -> pathlib.Path:
+    """Returns the program that the arguments of the script name, or that of the repository, which is built if necessary."""
+    parser = parser_of(header)
+    add_program(parser)
+    return find_program(parser.parse_args().program)
 
 
 def write_archive(archive, path):
@@ -63,7 +65,7 @@ def write_archive(archive, path):
 
 
 def expect(command, path, output):
-    """Ends the script where the command writes anything else on this file."""
+    """Ends the script if the command writes anything else on this file."""
     with open(path, "rb") as file:
         written = subprocess.run(command, stdin=file, stdout=subprocess.PIPE, check=True).stdout
     if written != output:
@@ -163,7 +165,7 @@ def peak(command):
 
 
 def peak_of_run(command, path):
-    """The most memory, in bytes, that one run has held. It has to be more than this process has ever held, as wait4 answers
+    """The most memory, in bytes, that one run has held. It has to be more than this process has ever held, as wait4 returns
     the greater of the two.
     """
     peak, own = used_by_run(command, path).ru_maxrss, resource.getrusage(resource.RUSAGE_SELF).ru_maxrss

@@ -1,9 +1,9 @@
 #!/usr/bin/env python3
-"""Drives http_server.py by curl, by urllib and by plain sockets, and compares its answers with those of `warcdx query`.
+"""Sends requests to http_server.py by curl, by urllib and by plain sockets, and compares its responses with the pages of `warcdx query`.
 
-usage: test_http_server.py [PROGRAM]      default: the script warcdx at the top of the repository
+usage: test_http_server.py [PROGRAM]
 
-Prints a line for each case. The status is 1 where one differs.
+Prints a line for each case, and the counts. The exit status is 0, or 1 if a case differs. Needs curl.
 """
 import contextlib
 import json
@@ -16,8 +16,13 @@ import tempfile
 import threading
 import urllib.error
 import urllib.request
+from collections.abc import Iterator
 
 HERE = pathlib.Path(__file__).resolve().parent
+sys.path.insert(0, str(HERE.parent / "tests"))
+
+from program import Report, add_program, find_program, need, parser_of
+
 TEXT = "text/plain; charset=utf-8"
 JSON = "application/json"
 LINE = (
@@ -49,13 +54,13 @@ REFUSED = (
 )
 
 
-def index():
+def index() -> str:
     values = ((".", "."), ("refused", "NoUrl"), ("refused", "BadLimit"), ("text/html", "."), ("fault", "refused"))
     return "".join(LINE % (name, name, mime, digest, number) for number, (name, (mime, digest)) in enumerate(zip("abcde", values)))
 
 
-def large():
-    """An index whose page is longer than what a socket holds."""
+def large() -> str:
+    """Returns an index whose page is longer than what a socket holds."""
     return "".join(LINE % (f"{number:06}", "x" * 500, "text/html", "-", number) for number in range(20_000))
 
 
@@ -63,14 +68,14 @@ class Differs(Exception):
     """What differs."""
 
 
-def expect(case, found, wanted):
+def expect(case: str, found: object, wanted: object) -> None:
     if found != wanted:
         raise Differs(f"{case}: wanted {wanted!r:.1000}, found {found!r:.1000}")
 
 
 @contextlib.contextmanager
-def served(program, *indexes):
-    """The URL of a server over these indexes."""
+def served(program: pathlib.Path, *indexes: pathlib.Path) -> Iterator[str]:
+    """Yields the URL of a server over these indexes."""
     words = (sys.executable, HERE / "http_server.py", "--port", "0", "--warcdx", program, *indexes)
     with subprocess.Popen(words, stdout=subprocess.PIPE, stderr=subprocess.DEVNULL, text=True) as server:
         try:
@@ -79,8 +84,8 @@ def served(program, *indexes):
             server.terminate()
 
 
-def asked(url, query):
-    """The status, the type and the text that urllib gets."""
+def asked(url: str, query: str) -> tuple[int, str, str]:
+    """Returns the status, the type and the text that urllib gets."""
     try:
         with urllib.request.urlopen(f"{url}?{query}", timeout=20) as answer:
             return answer.status, answer.headers["Content-Type"], answer.read().decode()
@@ -89,8 +94,8 @@ def asked(url, query):
             return answer.code, answer.headers["Content-Type"], answer.read().decode()
 
 
-def curled(*words):
-    """The same of what curl gets."""
+def curled(*words: str) -> tuple[int, str, str]:
+    """Returns the same of what curl gets."""
     done = subprocess.run(
         ("curl", "--silent", "--max-time", "20", "--write-out", r"\n%{http_code} %{content_type}", *words), stdout=subprocess.PIPE, check=True
     )
@@ -99,24 +104,24 @@ def curled(*words):
     return int(status), kind, text
 
 
-def sent(url, request):
-    """What a socket gets for these bytes."""
+def sent(url: str, request: bytes) -> bytes:
+    """Returns what a socket gets for these bytes."""
     with socket.create_connection(address_of(url), timeout=20) as client:
         client.sendall(request)
         client.shutdown(socket.SHUT_WR)
         return b"".join(iter(lambda: client.recv(65_536), b""))
 
 
-def address_of(url):
+def address_of(url: str) -> tuple[str, int]:
     host, _, port = url.removeprefix("http://").removesuffix("/cdx").partition(":")
     return host, int(port)
 
 
-def page(program, query, *indexes):
+def page(program: pathlib.Path, query: str, *indexes: pathlib.Path) -> str:
     return subprocess.run((program, "query", query, *indexes), stdout=subprocess.PIPE, check=True).stdout.decode()
 
 
-def pages_are_those_of_query(program, folder):
+def pages_are_those_of_query(program: pathlib.Path, folder: pathlib.Path) -> None:
     with served(program, folder / "index") as url:
         for query, kind in PAGES:
             wanted = (200, kind, page(program, query, folder / "index"))
@@ -126,20 +131,20 @@ def pages_are_those_of_query(program, folder):
                 json.loads(wanted[2])
 
 
-def curl_encodes_the_query(program, folder):
+def curl_encodes_the_query(program: pathlib.Path, folder: pathlib.Path) -> None:
     with served(program, folder / "index") as url:
         found = curled("--get", url, "--data-urlencode", "url=example.com/*", "--data-urlencode", "has=digest:refused", "--data", "fl=urlkey")
         expect("curl --data-urlencode", found, (200, TEXT, "com,example)/e\n"))
 
 
-def a_refused_query_is_a_bad_request(program, folder):
+def a_refused_query_is_a_bad_request(program: pathlib.Path, folder: pathlib.Path) -> None:
     with served(program, folder / "index") as url:
         for query, name in REFUSED:
             expect(query, asked(url, query), (400, TEXT, f"refused {name}\n"))
         expect("no ?", curled(url), (400, TEXT, "refused NoUrl\n"))
 
 
-def a_line_at_fault_is_a_fault_of_the_server(program, folder):
+def a_line_at_fault_is_a_fault_of_the_server(program: pathlib.Path, folder: pathlib.Path) -> None:
     with served(program, folder / "falling") as url:
         for output in ("text", "json", "cdxj"):
             found = asked(url, f"key=&matchType=prefix&output={output}")
@@ -147,7 +152,7 @@ def a_line_at_fault_is_a_fault_of_the_server(program, folder):
         expect("another query", asked(url, "key=a"), (200, TEXT, ""))
 
 
-def bad_requests_are_refused(program, folder):
+def bad_requests_are_refused(program: pathlib.Path, folder: pathlib.Path) -> None:
     with served(program, folder / "index") as url:
         expect("another path", asked(url.removesuffix("cdx"), "url=a")[0], 404)
         expect("another method", curled("--request", "DELETE", url)[0], 501)
@@ -165,7 +170,7 @@ def bad_requests_are_refused(program, folder):
         expect("afterwards", asked(url, "key=x"), (200, TEXT, ""))
 
 
-def clients_may_leave(program, folder):
+def clients_may_leave(program: pathlib.Path, folder: pathlib.Path) -> None:
     """In the middle of a request, and in the middle of an answer, with and without a word."""
     wanted = page(program, "url=example.com/*", folder / "large")
     with served(program, folder / "large") as url:
@@ -179,12 +184,12 @@ def clients_may_leave(program, folder):
         expect("afterwards", asked(url, "url=example.com/*"), (200, TEXT, wanted))
 
 
-def clients_may_come_together(program, folder):
+def clients_may_come_together(program: pathlib.Path, folder: pathlib.Path) -> None:
     wanted = [page(program, f"url=example.com/{name}", folder / "index") for name in "abcde"]
     found = []
     with served(program, folder / "index") as url:
 
-        def client(number):
+        def client(number: int) -> None:
             found.extend((n % 5, asked(url, f"url=example.com/{'abcde'[n % 5]}")) for n in range(number, number + 40))
 
         threads = [threading.Thread(target=client, args=(number,)) for number in range(8)]
@@ -197,7 +202,7 @@ def clients_may_come_together(program, folder):
         expect(f"page {number}", answer, (200, TEXT, wanted[number]))
 
 
-def a_program_that_ends_is_started_again(program, folder):
+def a_program_that_ends_is_started_again(program: pathlib.Path, folder: pathlib.Path) -> None:
     """An index that has become shorter ends it."""
     text = (folder / "index").read_bytes()
     shortened = folder / "shortened"
@@ -222,10 +227,11 @@ CASES = (
 )
 
 
-def main(program=HERE.parent / "warcdx"):
-    program = pathlib.Path(program).resolve()
-    subprocess.run((program, "--help"), stdout=subprocess.DEVNULL, check=True)  # builds it, where it has to be
-    differing = 0
+def main() -> int:
+    parser, report = parser_of(__doc__), Report()
+    add_program(parser)
+    program = find_program(parser.parse_args().program)
+    need("curl")
     with tempfile.TemporaryDirectory() as name:
         folder = pathlib.Path(name)
         (folder / "index").write_text(index())
@@ -235,12 +241,11 @@ def main(program=HERE.parent / "warcdx"):
             title = case.__name__.replace("_", " ")
             try:
                 case(program, folder)
-                print(f"ok       {title}", flush=True)
+                report.add_ok(title)
             except Differs as difference:
-                print(f"DIFFERS  {title}: {difference}")
-                differing = 1
-    return differing
+                report.add_difference(title, difference)
+    return report.end()
 
 
 if __name__ == "__main__":
-    sys.exit(main(*sys.argv[1:]))
+    sys.exit(main())

@@ -1,14 +1,102 @@
-"""The program that the tests run."""
+#!/usr/bin/env python3
+"""Prints the path of the program that the tests run.
+
+usage: program.py [PROGRAM]
+
+Without PROGRAM it is the program of this repository, crates/warcdx/out/warcdx, which is built first if it is missing or older than a source.
+Other scripts import this file for what all of them share: their arguments, the program, and the lines that they print.
+"""
+import argparse
+import os
 import pathlib
+import shutil
 import subprocess
+import sys
 from collections.abc import Sequence
+from typing import NoReturn, Optional
 
 ROOT = pathlib.Path(__file__).resolve().parents[1]
+BUILT = ROOT / "crates/warcdx/out/warcdx"
+USAGE = 2  # the exit status after a usage error
+MISSING = 77  # the exit status if a package is missing, as in GNU Automake
+
+
+def parser_of(header: Optional[str]) -> argparse.ArgumentParser:
+    """Returns a parser whose help begins with the header of the script, which has the usage line."""
+    return argparse.ArgumentParser(usage=argparse.SUPPRESS, description=header, formatter_class=argparse.RawDescriptionHelpFormatter)
+
+
+def add_program(parser: argparse.ArgumentParser) -> None:
+    """Adds the argument PROGRAM, which is None if it isn't given."""
+    parser.add_argument("program", metavar="PROGRAM", nargs="?", help="default: the program of this repository, built if necessary")
+
+
+def find_program(name: Optional[str]) -> pathlib.Path:
+    """Returns the program of this name, or that of this repository, which is built if necessary."""
+    if name is None:
+        if not is_current():
+            subprocess.run([ROOT / "warcdx", "--help"], stdout=subprocess.DEVNULL, check=True)
+        return BUILT
+    path = shutil.which(os.path.abspath(name))
+    if path is None:
+        print(f"{name}: not a program", file=sys.stderr)
+        sys.exit(USAGE)
+    return pathlib.Path(path).resolve()
 
 
 def program_of(arguments: Sequence[str]) -> pathlib.Path:
     """Returns the program that the first argument names, or that of this repository, which is built if necessary."""
-    if arguments:
-        return pathlib.Path(arguments[0]).resolve()
-    subprocess.run([ROOT / "warcdx", "--help"], stdout=subprocess.DEVNULL, check=True)
-    return ROOT / "crates/warcdx/out/warcdx"
+    return find_program(arguments[0] if arguments else None)
+
+
+def is_current() -> bool:
+    """Returns whether the program of this repository is newer than all of its sources."""
+    sources = [ROOT / "crates.txt"]
+    for folder in ("src", "specs", "proofs"):
+        sources += ROOT.glob(f"crates/*/{folder}/**/*")
+    return os.access(BUILT, os.X_OK) and BUILT.stat().st_mtime > max(source.stat().st_mtime for source in sources)
+
+
+def need(*commands: str) -> None:
+    """Ends the script if a command is missing. Each is given as NAME, or as NAME:PACKAGE if Debian's package has another name."""
+    for command in commands:
+        name, _, package = command.partition(":")
+        if shutil.which(name) is None:
+            stop_without(name, f"Debian's package {package or name}")
+
+
+def stop_without(name: str, source: str) -> NoReturn:
+    """Ends the script because something is missing, and says where it comes from."""
+    print(f"{os.path.basename(sys.argv[0])}: {name} is missing ({source})", file=sys.stderr)
+    sys.exit(MISSING)
+
+
+class Report:
+    """The lines that a script prints: one for each case, and the counts."""
+
+    def __init__(self) -> None:
+        self.ok = 0
+        self.differing = 0
+
+    def add_ok(self, case: str) -> None:
+        self.ok += 1
+        print(f"ok       {case}", flush=True)
+
+    def add_difference(self, case: str, what: object) -> None:
+        self.differing += 1
+        print(f"DIFFERS  {case}: {what}", flush=True)
+
+    def end(self) -> int:
+        """Prints the counts, and returns the exit status of the script."""
+        print(f"{self.ok} ok, {self.differing} differ")
+        return 1 if self.differing else 0
+
+
+def main() -> None:
+    parser = parser_of(__doc__)
+    add_program(parser)
+    print(find_program(parser.parse_args().program))
+
+
+if __name__ == "__main__":
+    main()

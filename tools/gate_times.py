@@ -1,29 +1,37 @@
 #!/usr/bin/env python3
-"""Runs a command, by default `rt ci`, and prints where its processor time went: a line for each crate, with the time of its
-proofs, of its proofs with tests, and of its must-fail edits, in seconds.
+"""Runs a command, by default `rt ci`, and prints where its processor time went.
 
-    tools/gate_times.py [COMMAND ARG..]
+usage: gate_times.py [COMMAND ARGUMENT..]
 
-Linux only: it reads /proc twice a second, so what ends within half a second is counted in part."""
+Prints a line for each crate, with the seconds of its proofs, of its proofs with tests, and of its must-fail edits. The exit status is that of the command.
+Linux only: the script reads /proc twice a second. Of a process that ends within half a second only a part is counted.
+"""
+import argparse
 import collections
 import os
 import resource
+import shutil
 import subprocess
 import sys
 import threading
 import time
+from collections.abc import Iterator
+
+sys.path.insert(0, os.path.join(os.path.dirname(os.path.dirname(os.path.abspath(__file__))), "tests"))
+
+from program import parser_of
 
 TICKS = os.sysconf("SC_CLK_TCK")
 
 
-def status_of(pid):
-    """The fields of the process's status that follow its name."""
+def status_of(pid: int) -> list[str]:
+    """Returns the fields of the process's status that follow its name."""
     with open(f"/proc/{pid}/stat") as file:
         return file.read().rsplit(")", 1)[1].split()
 
 
-def is_ours(pid):
-    """Whether this script has started the process, or one that has."""
+def is_ours(pid: int) -> bool:
+    """Returns whether this script has started the process, or one that has."""
     while pid > 1:
         if pid == os.getpid():
             return True
@@ -31,8 +39,8 @@ def is_ours(pid):
     return False
 
 
-def checks():
-    """(process, crate, kind, processor seconds) of each check that runs now."""
+def checks() -> Iterator[tuple[str, str, str, float]]:
+    """Yields process, crate, kind and processor seconds of each check that runs now."""
     for pid in filter(str.isdigit, os.listdir("/proc")):
         try:
             with open(f"/proc/{pid}/cmdline", "rb") as file:
@@ -53,19 +61,24 @@ def checks():
         yield pid, crate, kind, (int(fields[11]) + int(fields[12])) / TICKS
 
 
-def watch(times, ended):
+def watch(times: dict[tuple[str, str, str], float], ended: threading.Event) -> None:
     while not ended.wait(0.5):
         for pid, crate, kind, seconds in checks():
             times[pid, crate, kind] = seconds
 
 
-def main():
-    times = {}
+def main() -> int:
+    parser = parser_of(__doc__)
+    parser.add_argument("command", metavar="COMMAND", nargs=argparse.REMAINDER, help="the command and its arguments (default: rt ci)")
+    command = parser.parse_args().command or ["rt", "ci"]
+    if shutil.which(command[0]) is None:
+        parser.error(f"{command[0]}: no such command")
+    times: dict[tuple[str, str, str], float] = {}
     ended = threading.Event()
     watcher = threading.Thread(target=watch, args=(times, ended))
     begin = time.time()
     watcher.start()
-    status = subprocess.run(sys.argv[1:] or ["rt", "ci"]).returncode
+    status = subprocess.run(command).returncode
     wall = time.time() - begin
     ended.set()
     watcher.join()

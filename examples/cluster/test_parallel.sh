@@ -1,24 +1,23 @@
 #!/usr/bin/env bash
 # Runs the lines of README.md that index archives by GNU parallel over ssh, and compares their index with that of all archives.
 #
-# usage: test_parallel.sh [PROGRAM]      default: the script warcdx at the top of the repository
+# usage: test_parallel.sh [PROGRAM]
 #
-# Needs Debian's packages parallel, openssh-client and openssh-server. The machines are two names of this one, reached by an ssh
-# server that listens at 127.0.0.1 on a free port with keys made for it, and is ended with the test. The status is 1 where
-# something differs.
+# The machines are two names of this one. They are reached by an SSH server that listens at 127.0.0.1 on a free port with keys of its own, and
+# ends with the test.
+#
+# Prints a line for each case, and the counts. The exit status is 0, or 1 if a case differs. Needs Debian's packages openssh-client,
+# openssh-server and parallel.
 set -euo pipefail
+source "$(dirname "$0")/../../tests/program.sh"
+read_program "$@"
+PATH=$PATH:/usr/sbin
+need parallel ssh:openssh-client sshd:openssh-server
 
 here=$(dirname "$(readlink -f "$0")")
-root=$(dirname "$(dirname "$here")")
-program=$(readlink -f "${1:-$root/warcdx}")
 work=$(mktemp -d)
-"$program" --help > /dev/null # builds it, where it has to be
 
-end() {
-    if [ -f "$work/sshd.pid" ]; then kill "$(< "$work/sshd.pid")"; fi
-    rm -rf "$work"
-}
-trap end EXIT
+trap 'if [ -f "$work/sshd.pid" ]; then kill "$(< "$work/sshd.pid")"; fi; rm -rf "$work"' EXIT
 
 make_archives() {
     local number
@@ -31,7 +30,7 @@ make_archives() {
     touch "$work/data/unread.warc"
 }
 
-# The program, under the name that the lines have. It can't read one of the archives.
+# The program, under the name that the lines use. It can't read one of the archives.
 make_program() {
     mkdir "$work/bin"
     cat > "$work/bin/warcdx" << END
@@ -52,7 +51,7 @@ start_server() {
     port=$(free_port)
     ssh-keygen -q -t ed25519 -N "" -f "$work/host"
     ssh-keygen -q -t ed25519 -N "" -f "$work/user"
-    mkdir -p /run/sshd # sshd wants it
+    if [ "$(id -u)" = 0 ]; then mkdir -p /run/sshd; fi # sshd needs it as root
     cat > "$work/sshd.conf" << END
 ListenAddress 127.0.0.1:$port
 HostKey $work/host
@@ -62,35 +61,30 @@ StrictModes no
 UsePAM no
 SetEnv PATH=$work/bin:/usr/bin:/bin
 END
-    "$(type -P sshd || echo /usr/sbin/sshd)" -f "$work/sshd.conf" -E "$work/sshd.log"
+    "$(type -P sshd)" -f "$work/sshd.conf" -E "$work/sshd.log"
     options="-p $port -i $work/user -o StrictHostKeyChecking=no -o UserKnownHostsFile=$work/known -o LogLevel=ERROR"
     for name in 127.0.0.1 localhost; do echo "2/ssh $options $name"; done > "$work/machines"
 }
 
 take_lines() { # the three of the page, on the folder of this test
     grep --extended-regexp '^    (parallel --sshloginfile|awk|warcdx merge) ' "$here/README.md" | sed "s:/data:$work/data:g" > "$work/lines"
-    [ "$(wc -l < "$work/lines")" = 3 ] || differs "lines of README.md"
 }
 
 run_lines() {
     (cd "$work" && PATH=$work/bin:$PATH bash lines)
 }
 
-differs() {
-    echo "DIFFERS  $1"
-    exit 1
-}
-
 make_archives
 make_program
 take_lines
+expect "number of lines of README.md" 3 "$(wc -l < "$work/lines")"
 start_server
-run_lines > "$work/faulty" 2> "$work/said" || differs "status: $(< "$work/said")"
-[ "$(cut -f 7 "$work/faulty" | sort | paste -sd' ')" = "1 3" ] || differs "report: $(< "$work/faulty")"
-[ "$(grep -c '^unread.warc ' "$work/calls")" = 3 ] || differs "tries of an archive that can't be read"
-[ "$(grep -c ' 127.0.0.1 ' "$work/calls")" = 16 ] || differs "calls by ssh: $(< "$work/calls")"
-[ ! -e "$work/data/unread.warc.cdxj" ] || differs "a part of an archive that can't be read"
+run_lines > "$work/faulty" 2> "$work/errors" || say_differs "exit status of the lines" "$(< "$work/errors")"
+expect "exit statuses of archives that failed" "1 3" "$(cut -f 7 "$work/faulty" | sort | paste -sd' ')"
+expect "tries of an archive that can't be read" 3 "$(grep -c '^unread.warc ' "$work/calls")"
+expect "calls on a machine" 16 "$(grep -c ' 127.0.0.1 ' "$work/calls")"
+expect "parts of an archive that can't be read" "" "$(cd "$work/data" && find . -name 'unread.warc.cdxj')"
 rm "$work/data/unread.warc"
-"$program" index "$work"/data/*.warc > "$work/wanted.cdxj" 2> "$work/said" || [ $? = 1 ] # one is damaged
-cmp "$work/wanted.cdxj" "$work/all.cdxj" || differs "index"
-echo "ok       README.md's lines"
+"$program" index "$work"/data/*.warc > "$work/wanted.cdxj" 2> "$work/errors" || [ $? = 1 ] # one is damaged
+check_command "index" cmp "$work/wanted.cdxj" "$work/all.cdxj"
+end_script

@@ -1,14 +1,14 @@
 #!/usr/bin/env bash
-# Runs warcdx with arguments that ask for help or are usage errors, and compares what it answers with the tables below: what it prints, what it says on
-# standard error, and its status.
+# Runs warcdx with arguments that ask for help or are usage errors, and compares what it prints and its exit status with the tables in this file.
 #
-# usage: arguments.sh [PROGRAM]      default: the script warcdx at the top of the repository
+# usage: arguments.sh [PROGRAM]
 #
-# Prints a line for each case. The status is 1 where one differs.
+# Prints a line for each case, and the counts. The exit status is 0, or 1 if a case differs. Needs python3.
 set -euo pipefail
 
-root=$(dirname "$(dirname "$(dirname "$(readlink -f "$0")")")")
-source "$root/tests/cli/cases.sh"
+source "$(dirname "$0")/../program.sh"
+read_program "$@"
+source "$(dirname "$0")/check_functions.sh"
 source "$root/tests/cli/small_files.sh"
 
 refusal() { # ERROR USAGE
@@ -44,17 +44,16 @@ misplaced() { # OPTION
         "For more information, try '--help'."
 }
 
-# check_help CASE LINES WORD..
-# the help that begins with these lines, on standard output alone
+# check_help CASE LINES ARGUMENT..
+# Expects help that begins with these lines, and nothing on standard error.
 check_help() {
     local case=$1 lines=$2 status=0
     shift 2
     run file "$@" || status=$?
     if [ "$status" = 0 ] && [[ $(< output) == "$lines"$'\n'* ]] && holds error ""; then
-        echo "ok       $case"
+        say_ok "$case"
     else
-        printf 'DIFFERS  %s: status %s, %q, %q\n' "$case" "$status" "$(< output)" "$(< error)"
-        differing=1
+        say_differs "$case" "$(printf 'status %s, %q, %q' "$status" "$(< output)" "$(< error)")"
     fi
 }
 
@@ -76,7 +75,7 @@ no_typed=$(refusal "the following required arguments were not provided:"$'\n  <W
 no_value=$(lines "error: a value is required for '--types <TYPES>' but none was supplied" "" "For more information, try '--help'.")
 no_text=$(lines "error: a word isn't UTF-8" "" "For more information, try '--help'.")
 
-#     case                              output error           status, words and input
+#     case                              output error           status, arguments and input
 check "list alone"                      "" "$no_list"                      2 list
 check "verify alone"                    "" "$no_verify"                    2 verify
 check "index alone"                     "" "$no_index"                     2 index
@@ -88,12 +87,12 @@ check "serve alone"                     "" "$no_serve"                     2 ser
 check "serve -x"                        "" "$(unexpected -x)"              2 serve -x
 check "pages alone"                     "" "$no_pages"                     2 pages
 check "pages without a query"           "" "$no_query_of_pages"            2 pages 1
-for sizes in "" 0 1,0 1, ,1 1,,2 +1 1.5 x 1000001 00000001 "1 2" "1;2" "$(printf '1,%.0s' {1..1000})1"; do
+for sizes in "" 0 1,0 "1," ,1 1,,2 +1 1.5 x 1000001 00000001 "1 2" "1;2" "$(printf '1,%.0s' {1..1000})1"; do
     check "pages $(head --bytes=20 <<< "$sizes")"  "" "$(no_sizes "$sizes")"   2 pages "$sizes" url=a missing
 done
 check "scan alone"                      "" "$no_scan"                      2 scan
 check "scan 0"                          "" "$(no_sizes 0)"                 2 scan 0 url=a missing
-for types in "" , request Response response,response response, ,response "response, resource" warcinfo all; do
+for types in "" "," request Response response,response "response," ,response "response, resource" warcinfo all; do
     check "index --types $types"        "" "$(no_types "$types")"          2 index --types "$types" missing
 done
 check "index --types warcinfo, scan"    "" "$(no_types warcinfo)"          2 scan --types warcinfo 1 url=a missing
@@ -172,4 +171,4 @@ for way in full closed broken; do
     check_into $way "$way: -h"             "" "warcdx: cannot flush"         3 -h
     check_into $way "$way: usage"          "" "$(unknown frob)"              2 frob
 done
-exit "$differing"
+end_script

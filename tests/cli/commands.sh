@@ -1,14 +1,14 @@
 #!/usr/bin/env bash
-# Runs the commands of warcdx on small archives and indexes, and compares what it answers with the tables below: what it prints, what
-# it says on standard error, and its status. arguments.sh does so with arguments that ask for help or are usage errors.
+# Runs the commands of warcdx on small archives and indexes, and compares what they print and their exit status with the tables in this file.
 #
-# usage: commands.sh [PROGRAM]      default: the script warcdx at the top of the repository
+# usage: commands.sh [PROGRAM]
 #
-# Prints a line for each case. The status is 1 where one differs.
+# Prints a line for each case, and the counts. The exit status is 0, or 1 if a case differs. arguments.sh tests help and usage errors. Needs python3.
 set -euo pipefail
 
-root=$(dirname "$(dirname "$(dirname "$(readlink -f "$0")")")")
-source "$root/tests/cli/cases.sh"
+source "$(dirname "$0")/../program.sh"
+read_program "$@"
+source "$(dirname "$0")/check_functions.sh"
 source "$root/tests/cli/small_files.sh"
 
 one="0 177 resource"
@@ -19,8 +19,8 @@ cut_first=$(lines "$cut" same.warc: "$one")
 folder_first=$(lines folder: "fault 0 Read" same.warc: "$one")
 missing="warcdx: missing: cannot open"
 
-#     case                              output           error             status, words and input
-check "no words"                        "$one"           ""                0 < same.warc
+#     case                              output           error             status, arguments and input
+check "no arguments"                    "$one"           ""                0 < same.warc
 check "-"                               "$one"           ""                0 list - < same.warc
 check "an archive"                      "$one"           ""                0 list same.warc
 check "a name after ./"                 "$one"           ""                0 list ./-dash.warc
@@ -146,7 +146,7 @@ check "merge: a line of 16,777,217 bytes" "" "warcdx: long_line.cdxj: BadLine 0"
 check "query: a line of 16,777,216 bytes" 7              ""                0 query "key=k&fl=offset" line.cdxj
 check "query: a line of 16,777,217 bytes" "" "warcdx: long_line.cdxj: BadLine 0"  1 query "key=k&fl=offset" long_line.cdxj
 
-apart="10.cdxj 20.cdxj 5.cdxj" # words
+apart=(10.cdxj 20.cdxj 5.cdxj)
 of_p="url=example.com/p&fl=filename,offset"
 each_p=$(lines "a.warc 5" "a.warc 20" "b.warc 10")
 key_5="com%2Cexample%29%2Fp+20160919172024+a.warc+5"
@@ -156,26 +156,26 @@ json_p=$(lines '[["filename","offset"],' '["a.warc","5"],' '[],' "[\"$key_5\"]]"
 no_rows='[["urlkey","timestamp","original","mimetype","statuscode","digest","length"]]'
 first_of_all=$(head --lines=1 sorted.cdxj)
 usual="com,example)/q 20160919172024 http://example.com/q - - $abc 158"
-too_many=$(repeated 1025 <<< empty.warc)
-at_limit=$(repeated 1024 <<< empty.warc)
+mapfile -t too_many < <(repeated 1025 <<< empty.warc)
+at_limit=("${too_many[@]:1}")
 
 check "query: a key"                    "$usual"         ""                0 query url=example.com/q sorted.cdxj
 check "query: a prefix"                 "$sorted"        ""                0 query "url=example.com/*&output=cdxj" sorted.cdxj
-check "query: three indexes"            "$each_p"        ""                0 query "$of_p" $apart
-check "query: a limit"                  "a.warc 5"       ""                0 query "$of_p&limit=1" $apart
-check "query: a resume key"             "$first_p"       ""                0 query "$of_p&limit=1&showResumeKey=true" $apart
-check "query: from a resume key"        "$(lines "a.warc 20" "b.warc 10")" "" 0 query "$of_p&resumeKey=$key_5" $apart
-check "query: json"                     "$json_p"        ""                0 query "$of_p&output=json&limit=1&showResumeKey=true" $apart
-check "query: by key"                   "a.warc 5"       ""                0 query "$of_p&collapse=urlkey" $apart
+check "query: three indexes"            "$each_p"        ""                0 query "$of_p" "${apart[@]}"
+check "query: a limit"                  "a.warc 5"       ""                0 query "$of_p&limit=1" "${apart[@]}"
+check "query: a resume key"             "$first_p"       ""                0 query "$of_p&limit=1&showResumeKey=true" "${apart[@]}"
+check "query: from a resume key"        "$(lines "a.warc 20" "b.warc 10")" "" 0 query "$of_p&resumeKey=$key_5" "${apart[@]}"
+check "query: json"                     "$json_p"        ""                0 query "$of_p&output=json&limit=1&showResumeKey=true" "${apart[@]}"
+check "query: by key"                   "a.warc 5"       ""                0 query "$of_p&collapse=urlkey" "${apart[@]}"
 check "query: by time, of all keys"     "$first_of_all"  ""                0 query "url=example.com/*&output=cdxj&collapse=timestamp:4" sorted.cdxj
-check "query: by time, from a resume key" ""             ""                0 query "$of_p&collapse=timestamp&resumeKey=$key_5" $apart
+check "query: by time, from a resume key" ""             ""                0 query "$of_p&collapse=timestamp&resumeKey=$key_5" "${apart[@]}"
 check "query: a bad collapse"   "" "warcdx: query: BadCollapse"            1 query "url=a&collapse=digest" sorted.cdxj
 check "query: nothing"                  ""               ""                0 query url=example.org sorted.cdxj
 check "query: nothing, json"            "$no_rows"       ""                0 query "url=example.org&output=json" sorted.cdxj
 check "query: an index twice"           "$usual"         ""                0 query url=example.com/q sorted.cdxj unended.cdxj
 check "query: an empty index"           ""               ""                0 query url=example.com/q empty.warc
-check "query: 1,024 indexes"            ""               ""                0 query url=example.com/q $at_limit
-check "query: 1,025 indexes"      "" "warcdx: TooManySources"              1 query url=example.com/q $too_many
+check "query: 1,024 indexes"            ""               ""                0 query url=example.com/q "${at_limit[@]}"
+check "query: 1,025 indexes"      "" "warcdx: TooManySources"              1 query url=example.com/q "${too_many[@]}"
 check "query: a refused query"    "" "warcdx: query: BadLimit"             1 query "url=a&limit=0" sorted.cdxj
 check "query: an empty query"     "" "warcdx: query: NoUrl"                1 query "" sorted.cdxj
 check "query: refused, and missing" "" "warcdx: query: Unknown"            1 query page=0 missing
@@ -184,7 +184,7 @@ check "query: a bad line"               ""               "$bad"            1 que
 check "query: a fault in the second"    ""               "$bad"            1 query "url=example.com/*" sorted.cdxj bad.cdxj
 check "query: an archive"  "" "warcdx: r.warc: BadLine 0"                  1 query "key=&matchType=prefix" r.warc
 check "query: a missing file"           ""               "$missing"        3 query "url=example.com/q" sorted.cdxj missing falling.cdxj
-check "query: missing, before too many" ""               "$missing"        3 query url=example.com/q missing $at_limit
+check "query: missing, before too many" ""               "$missing"        3 query url=example.com/q missing "${at_limit[@]}"
 check "query: a folder"    "" "warcdx: folder: Read"                       3 query url=example.com/q sorted.cdxj folder
 check "query: - is a file's name"  "" "warcdx: -: cannot open"             3 query url=example.com/q - < sorted.cdxj
 
@@ -192,17 +192,17 @@ two_pages=$(lines "a.warc 5" "" "$key_5" "a.warc 20" "b.warc 10")
 of_two_and_one=$(lines "a.warc 5" "a.warc 20" "" "$key_20" "b.warc 10")
 json_pages=$(lines '[["offset"],' '["5"],' '["20"],' '[],' "[\"$key_20\"]]" '[["offset"],' '["10"]]')
 
-check "pages: of one and two"           "$two_pages"     ""                0 pages 1,2 "$of_p" $apart
-check "pages: of two"                   "$of_two_and_one" ""               0 pages 2 "$of_p" $apart
-check "pages: one"                      "$each_p"        ""                0 pages 1000000 "$of_p" $apart
-check "pages: a limit isn't used"       "$each_p"        ""                0 pages 0000003 "$of_p&limit=1&showResumeKey=true" $apart
-check "pages: from a resume key"        "b.warc 10"      ""                0 pages 2 "$of_p&resumeKey=$key_20" $apart
-check "pages: by key"                   "a.warc 5"       ""                0 pages 1 "$of_p&collapse=urlkey" $apart
-check "pages: json"                     "$json_pages"    ""                0 pages 2 "url=example.com/p&output=json&fl=offset" $apart
-check "pages: of 1,000 sizes"           "$each_p" "" 0 pages "$(printf '9,%.0s' {1..999})9" "$of_p" $apart
+check "pages: of one and two"           "$two_pages"     ""                0 pages 1,2 "$of_p" "${apart[@]}"
+check "pages: of two"                   "$of_two_and_one" ""               0 pages 2 "$of_p" "${apart[@]}"
+check "pages: one"                      "$each_p"        ""                0 pages 1000000 "$of_p" "${apart[@]}"
+check "pages: a limit isn't used"       "$each_p"        ""                0 pages 0000003 "$of_p&limit=1&showResumeKey=true" "${apart[@]}"
+check "pages: from a resume key"        "b.warc 10"      ""                0 pages 2 "$of_p&resumeKey=$key_20" "${apart[@]}"
+check "pages: by key"                   "a.warc 5"       ""                0 pages 1 "$of_p&collapse=urlkey" "${apart[@]}"
+check "pages: json"                     "$json_pages"    ""                0 pages 2 "url=example.com/p&output=json&fl=offset" "${apart[@]}"
+check "pages: of 1,000 sizes"           "$each_p" "" 0 pages "$(printf '9,%.0s' {1..999})9" "$of_p" "${apart[@]}"
 check "pages: nothing"                  ""               ""                0 pages 1 url=example.org sorted.cdxj
 check "pages: nothing, json"            "$no_rows"       ""                0 pages 1 "url=example.org&output=json" sorted.cdxj
-check "pages: 1,025 indexes"      "" "warcdx: TooManySources"              1 pages 1 url=example.com/q $too_many
+check "pages: 1,025 indexes"      "" "warcdx: TooManySources"              1 pages 1 url=example.com/q "${too_many[@]}"
 check "pages: a refused query"    "" "warcdx: query: BadUrl"               1 pages 1 "url=" missing
 check "pages: out of order"             ""               "$falling"        1 pages 1 "key=&matchType=prefix" falling.cdxj
 check "pages: a missing file"           ""               "$missing"        3 pages 1 "url=example.com/q" missing sorted.cdxj
@@ -218,16 +218,16 @@ second=$(wc --bytes < sorted.cdxj)
 breaks_off=$(lines 0 "" "fault BadLine 0 $second" . '[["offset"],' '["0"]' "fault BadLine 0 $second" . 0 .)
 too_long=$(lines "refused QueryTooLong" . "refused QueryTooLong" . .)
 
-check "serve: a reply to each line"     "$replies"       ""                0 serve $apart < <(printf '%s\nlimit=0\nkey=x' "$asked")
-check "serve: CR LF"                    "$replies"       ""                0 serve $apart < <(printf '%s\r\nlimit=0\r\nkey=x\r' "$asked")
-check "serve: one CR is dropped" "$(lines "refused BadOutput" .)" ""       0 serve $apart <<< $'key=x&output=text\r\r'
+check "serve: a reply to each line"     "$replies"       ""                0 serve "${apart[@]}" < <(printf '%s\nlimit=0\nkey=x' "$asked")
+check "serve: CR LF"                    "$replies"       ""                0 serve "${apart[@]}" < <(printf '%s\r\nlimit=0\r\nkey=x\r' "$asked")
+check "serve: one CR is dropped" "$(lines "refused BadOutput" .)" ""       0 serve "${apart[@]}" <<< $'key=x&output=text\r\r'
 check "serve: no lines"                 ""               ""                0 serve sorted.cdxj < empty.warc
 check "serve: empty lines" "$(lines "refused NoUrl" . "refused NoUrl" .)" "" 0 serve sorted.cdxj < <(printf '\n\n')
-check "serve: a resume key"             "$keyed"         ""                0 serve $apart <<< "$of_p&limit=1&showResumeKey=true"
-check "serve: from a resume key"        "$(lines 20 10 .)" ""              0 serve $apart <<< "$asked&resumeKey=$key_5"
-check "serve: by key" "$(lines 5 . "refused BadCollapse" .)" ""            0 serve $apart < <(printf '%s&collapse=urlkey\nkey=x&collapse=timestamp:15\n' "$asked")
+check "serve: a resume key"             "$keyed"         ""                0 serve "${apart[@]}" <<< "$of_p&limit=1&showResumeKey=true"
+check "serve: from a resume key"        "$(lines 20 10 .)" ""              0 serve "${apart[@]}" <<< "$asked&resumeKey=$key_5"
+check "serve: by key" "$(lines 5 . "refused BadCollapse" .)" ""            0 serve "${apart[@]}" < <(printf '%s&collapse=urlkey\nkey=x&collapse=timestamp:15\n' "$asked")
 check "serve: cdxj"                     "$(lines "$sorted" .)" ""          0 serve sorted.cdxj <<< "url=example.com/*&output=cdxj"
-check "serve: json" "$(lines "$json_p" .)" "" 0 serve $apart <<< "$of_p&output=json&limit=1&showResumeKey=true"
+check "serve: json" "$(lines "$json_p" .)" "" 0 serve "${apart[@]}" <<< "$of_p&output=json&limit=1&showResumeKey=true"
 check "serve: nothing, json" "$(lines "$no_rows" .)" "" 0 serve sorted.cdxj <<< "url=example.org&output=json"
 check "serve: an empty index"           .                ""                0 serve empty.warc <<< key=x
 check "serve: 65,536 bytes"             "$(lines "refused Unknown" .)" ""  0 serve sorted.cdxj < <(printf a | repeated 65536)
@@ -237,10 +237,10 @@ check "serve: not UTF-8" "$(lines "refused NotText" . .)" ""               0 ser
 check "serve: out of order"             "$falls"         ""                0 serve falling.cdxj <<< "$all"
 check "serve: goes on after a fault"    "$second_bad"    ""                0 serve 5.cdxj bad.cdxj < <(lines "$all" "$asked")
 check "serve: what was written stands"  "$breaks_off"    ""                0 serve late.cdxj < <(lines "$all" "$all&output=json" "url=example.com/q&fl=offset")
-check "serve: 1,024 indexes"            .                ""                0 serve $at_limit <<< key=x
-check "serve: 1,025 indexes"      "" "warcdx: TooManySources"              1 serve $too_many
+check "serve: 1,024 indexes"            .                ""                0 serve "${at_limit[@]}" <<< key=x
+check "serve: 1,025 indexes"      "" "warcdx: TooManySources"              1 serve "${too_many[@]}"
 check "serve: a missing file"           ""               "$missing"        3 serve sorted.cdxj missing
-check "serve: missing, before too many" ""               "$missing"        3 serve missing $at_limit
+check "serve: missing, before too many" ""               "$missing"        3 serve missing "${at_limit[@]}"
 check "serve: a folder"    "" "warcdx: folder: Read"                       3 serve sorted.cdxj folder <<< key=x
 check "serve: - is a file's name"  "" "warcdx: -: cannot open"             3 serve - <<< key=x
 check "serve: the input is a folder"  "" "warcdx: Input"                   3 serve sorted.cdxj < folder
@@ -268,11 +268,11 @@ check "scan: a file name twice"         ""               "$twice_r"        1 sca
 check "scan: - twice"            "" "warcdx: -: DuplicateName"             1 scan 1 "$of_archives" - - < r.warc
 check "scan: a folder"           "" "warcdx: folder: fault 0 Read"         3 scan 1 "$of_archives" r.warc folder
 check "scan: a folder without a name"  "" "warcdx: folder/: BadName"       1 scan 1 "$of_archives" r.warc folder/
-check "scan: 1,024 archives"     "" "warcdx: empty.warc: DuplicateName"    1 scan 1 "$of_archives" $at_limit
-check "scan: 1,025 archives"     "" "warcdx: TooManySources"               1 scan 1 "$of_archives" $too_many
+check "scan: 1,024 archives"     "" "warcdx: empty.warc: DuplicateName"    1 scan 1 "$of_archives" "${at_limit[@]}"
+check "scan: 1,025 archives"     "" "warcdx: TooManySources"               1 scan 1 "$of_archives" "${too_many[@]}"
 check "scan: a refused query"    "" "warcdx: query: BadUrl"                1 scan 1 url= missing
 check "scan: a missing file"            ""               "$missing"        3 scan 1 "$of_archives" torn.warc missing
-check "scan: missing, before too many"  ""               "$missing"        3 scan 1 "$of_archives" missing $too_many
+check "scan: missing, before too many"  ""               "$missing"        3 scan 1 "$of_archives" missing "${too_many[@]}"
 
 check "scan: of the usual types"        ""               ""                0 scan 9 "$of_archives" m.warc
 check "scan: --types"            "com,example)/r m.warc 0" ""              0 scan --types metadata 9 "$of_archives" m.warc r.warc
@@ -298,11 +298,11 @@ for way in full closed broken; do
     check_into $way "$way: merge"          "" "$flush"                       3 merge sorted.cdxj
     check_into $way "$way: check, one"     "" "$flush"                       3 check sorted.cdxj
     check_into $way "$way: check, a fault" "" "$bad"                         1 check bad.cdxj
-    check_into $way "$way: query, short"   "" "$flush"                       3 query "$of_p" $apart
+    check_into $way "$way: query, short"   "" "$flush"                       3 query "$of_p" "${apart[@]}"
     check_into $way "$way: query, many"    "" "$write"                       3 query "url=example.com/*" many.cdxj
     check_into $way "$way: query, refused" "" "warcdx: query: BadUrl"        1 query url= missing
     check_into $way "$way: query, a fault" "" "$bad"                         1 query "key=&matchType=prefix" bad.cdxj
-    check_into $way "$way: pages, short"   "" "$flush"                       3 pages 1 "$of_p" $apart
+    check_into $way "$way: pages, short"   "" "$flush"                       3 pages 1 "$of_p" "${apart[@]}"
     check_into $way "$way: pages, many"    "" "$write"                       3 pages 10 "url=example.com/*" many.cdxj
     check_into $way "$way: serve, an empty page" "" "$write"                 3 serve sorted.cdxj <<< key=x
     check_into $way "$way: serve, refused" "" "$write"                       3 serve sorted.cdxj <<< ""
@@ -315,4 +315,4 @@ for way in full closed broken; do
     check_into $way "$way: get, long"      "" "$write"                       3 get 0 large.warc
     check_into $way "$way: get, none"      "" "$none"                        1 get 1 r.warc
 done
-exit "$differing"
+end_script

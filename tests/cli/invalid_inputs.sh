@@ -1,13 +1,14 @@
 #!/usr/bin/env bash
-# Runs warcdx on inputs that are no good, and compares what it answers with the table below.
+# Runs warcdx on invalid inputs, and compares what it prints and its exit status with the table in this file.
 #
-# usage: invalid_inputs.sh [PROGRAM]      default: the script warcdx at the top of the repository
+# usage: invalid_inputs.sh [PROGRAM]
 #
-# Prints a line for each case. The status is 1 where one differs.
+# Prints a line for each case, and the counts. The exit status is 0, or 1 if a case differs. Needs python3.
 set -euo pipefail
 
-root=$(dirname "$(dirname "$(dirname "$(readlink -f "$0")")")")
-source "$root/tests/cli/cases.sh"
+source "$(dirname "$0")/../program.sh"
+read_program "$@"
+source "$(dirname "$0")/check_functions.sh"
 samples=$root/samples
 
 make_inputs() {
@@ -24,7 +25,7 @@ make_inputs
 records=$'0 264 response\n264 184 resource\nfault 448 ShortBlock'
 verdicts=$'0 absent\n264 absent\nfault 448 ShortBlock'
 
-#     case                                  output               error  status, words and input
+#     case                                  output               error  status, arguments and input
 check "an empty input"                      ""                   ""     0 < empty
 check "a damaged archive"                   "$records"           ""     1 < "$samples/damaged.warc"
 check "random bytes"                        "fault 0 Version"    ""     1 < random
@@ -40,4 +41,4 @@ check "verify: a gzip file"                 "fault 0 Version"    ""     1 verify
 check "verify: an end in the version line"  "fault 0 ShortHead"  ""     1 verify - < version
 check "verify: a folder"                    "fault 0 Read"       ""     3 verify - < folder
 check "verify: a closed input"              "fault 0 Read"       ""     3 verify - <&-
-exit "$differing"
+end_script

@@ -1,4 +1,5 @@
-# Small archives and indexes. commands.sh and arguments.sh source it behind cases.sh; it makes the files in their folder.
+# Small archives and indexes. commands.sh and arguments.sh source this file after check_functions.sh; it makes the files in the folder of that one.
+# shellcheck shell=bash
 
 # SHA-1 of "abc" (FIPS 180-4) and of the empty text, in base 32.
 abc=VGMT4NSHA2AWVOR6EVYXQUGCNSONBWE5

@@ -1,12 +1,17 @@
-"""The case of real_devices.py in which an archive of long blocks is cut while it is read: the program leaves out what it passes over."""
+"""The case of real_devices.py in which an archive of long blocks, which the program passes over, is cut while it is read."""
 import os
 import re
 import signal
+import subprocess
 import time
+from collections.abc import Callable, Iterator, Sequence
 from pathlib import Path
-from typing import NamedTuple
+from typing import NamedTuple, Optional
 
-from device_runs import ended, expect, position
+from device_runs import Place, ended, expect, position
+from preloaded_runs import Ended
+
+Process = subprocess.Popen  # of bytes
 
 RECORDS = 8_000  # their listing is longer than a pipe and the program's buffer hold
 BLOCK = 200_000
@@ -20,7 +25,7 @@ CLOSING = b"\r\n\r\n"
 HEAD_LENGTH = len(HEAD % 0)
 LENGTH = HEAD_LENGTH + BLOCK + len(CLOSING)
 FAULT = re.compile(rb"^(?:warcdx: cut: )?fault (\d+) (?:ShortHead|ShortBlock|Closing)\n\Z", re.MULTILINE)
-# Where the file is cut, from the place to which it was read.
+# Where the file is cut, from the position to which it was read.
 CUTS = {
     "to nothing": lambda at: 0,
     "in the first half": lambda at: at // 2,
@@ -39,8 +44,8 @@ CUTS = {
 }
 
 
-def later(at):
-    """The start of a record that hasn't been read."""
+def later(at: int) -> int:
+    """Returns the start of a record that hasn't been read."""
     return (at // LENGTH + 99) * LENGTH
 
 
@@ -51,7 +56,7 @@ class Cut(NamedTuple):
     size: int
 
 
-def a_file_of_long_blocks_that_is_cut(place):
+def a_file_of_long_blocks_that_is_cut(place: Place) -> Iterator[str]:
     """The lines are those of the records that were in the file, or had been read before. The next record is at fault, unless the file
     ends before it. `list` is cut while its output is full, `index` while it reads.
     """
@@ -68,8 +73,8 @@ def a_file_of_long_blocks_that_is_cut(place):
         yield words[0]
 
 
-def run_and_cut(place, words, is_midway, size_of):
-    """How a run ended and where its file was cut, or none if it had read the file before."""
+def run_and_cut(place: Place, words: Sequence[str], is_midway: Callable[[Process, Path], bool], size_of: Callable[[int], int]) -> Optional[tuple[Ended, Cut]]:
+    """Returns how a run ended and where its file was cut, or none if it had read the file before."""
     path = place.folder / words[-1]
     write_archive(path)
     process = place.start(words)
@@ -80,7 +85,7 @@ def run_and_cut(place, words, is_midway, size_of):
     return (found, cut) if cut else None
 
 
-def write_archive(path):
+def write_archive(path: Path) -> None:
     """Writes the file anew. Its blocks are holes in it."""
     path.unlink(missing_ok=True)  # cut to nothing instead, it would be written to the disk at once
     with open(path, "wb") as file:
@@ -91,21 +96,21 @@ def write_archive(path):
             file.write(CLOSING)
 
 
-def has_begun(process, path):
+def has_begun(process: Process, path: Path) -> bool:
     """Asking for the size leads to the end and back, before anything is read."""
     return 100 * LENGTH < position(process.pid, path) < RECORDS * LENGTH
 
 
-def is_writing(process, path):
+def is_writing(process: Process, path: Path) -> bool:
     """Its output is full, and it waits."""
     return position(process.pid, path) > 0 and state(process) == "S"
 
 
-def state(process):
+def state(process: Process) -> str:
     return Path(f"/proc/{process.pid}/stat").read_text().rpartition(") ")[2][0]
 
 
-def cut_file(process, path, size_of):
+def cut_file(process: Process, path: Path, size_of: Callable[[int], int]) -> Optional[Cut]:
     """Stops the program, cuts the file unless it has been read, and lets the program go on."""
     process.send_signal(signal.SIGSTOP)
     while process.poll() is None and state(process) != "T":
@@ -117,7 +122,7 @@ def cut_file(process, path, size_of):
     return None if is_read else Cut(at, size_of(at))
 
 
-def expect_lines(found, cut, usual, name):
+def expect_lines(found: Ended, cut: Cut, usual: Sequence[bytes], name: str) -> None:
     status, output, error = found
     fault = FAULT.search(error or output)
     written = output[: fault.start()] if fault and not error else output

@@ -1,13 +1,14 @@
-"""What real_devices.py and scarce_memory.py share: archives and indexes, and runs of each command on them."""
+"""Runs of each command on archives and indexes, with given devices. real_devices.py, cut_files.py and scarce_memory.py import this file."""
 import contextlib
 import os
 import pathlib
 import subprocess
-import sys
 import tempfile
+from collections.abc import Callable, Iterator, Sequence
+from typing import Any, Optional
 
-from each_command import ALL
-from program import program_of
+from preloaded_runs import ALL, Ended
+from program import Report, add_program, find_program, parser_of
 
 SECONDS = 60
 RECORD = (
@@ -18,7 +19,7 @@ LINE = b'com,example)/%07d 20160919172024 {"url": "http://example.com/%07d", "of
 SAME = b'com,example)/ 20160919172024 {"url": "http://example.com/", "mime": "%b", "offset": "%d", "filename": "a.warc"}\n'
 ASKED = f"{ALL}&fl=urlkey,offset,filename\n".encode()
 MANY = 20_000
-# Of each command a run that writes more than any buffer and any pipe holds.
+# For each command a run that writes more than any buffer and any pipe holds.
 LONG = {
     "list": ("list", "many.warc"),
     "verify": ("verify", "many.warc"),
@@ -33,8 +34,8 @@ LONG = {
 }
 
 
-def of_input(name):
-    """The commands that read archives, of one of this name, and those that read indexes, of one of this name."""
+def of_input(name: str) -> tuple[tuple[tuple[str, ...], ...], tuple[tuple[str, ...], ...]]:
+    """Returns the commands that read archives, with one of this name, and those that read indexes, with one of this name."""
     archives = (("list", name), ("verify", name), ("index", name), ("get", "0", name), ("scan", "9", ALL, name))
     indexes = (("merge", name), ("check", name), ("query", ALL, name), ("pages", "9", ALL, name), ("serve", name))
     return archives, indexes
@@ -44,7 +45,7 @@ class Differs(Exception):
     """What differs."""
 
 
-def expect(holds, *what):
+def expect(holds: object, *what: object) -> None:
     if not holds:
         raise Differs(" ".join(f"{each!r:.600}" for each in what))
 
@@ -52,7 +53,7 @@ def expect(holds, *what):
 class Place:
     """The program, and a folder with archives and indexes."""
 
-    def __init__(self, program, folder):
+    def __init__(self, program: pathlib.Path, folder: str) -> None:
         self.program = program
         self.folder = pathlib.Path(folder)
         (self.folder / "many.warc").write_bytes(b"".join(RECORD % (number, 3, b"abc") for number in range(MANY)))
@@ -64,36 +65,35 @@ class Place:
         (self.folder / "wide.cdxj").write_bytes(b"".join(SAME % (b"a" * 1_000_000, number) for number in range(9)))
         (self.folder / "empty").write_bytes(b"")
 
-    def start(self, words, **devices):
+    def start(self, words: Sequence[str], **devices: Any) -> "subprocess.Popen[bytes]":
         pipes = {"stdin": subprocess.DEVNULL, "stdout": subprocess.PIPE, "stderr": subprocess.PIPE}
         return subprocess.Popen((self.program, *words), cwd=self.folder, **{**pipes, **devices})
 
-    def run(self, words, lines=None, **devices):
-        """The status of a run, its output, and what it says on standard error."""
+    def run(self, words: Sequence[str], lines: Optional[bytes] = None, **devices: Any) -> Ended:
         if words[0] == "serve" and lines is None:
             lines = ASKED
         if lines is not None:
             devices["stdin"] = subprocess.PIPE
         return ended(self.start(words, **devices), lines)
 
-    def usual(self, words):
+    def usual(self, words: Sequence[str]) -> bytes:
         status, output, error = self.run(words)
         expect((status, error) == (0, b""), words, status, error)
         return output
 
 
-def ended(process, lines=None):
+def ended(process: "subprocess.Popen[bytes]", lines: Optional[bytes] = None) -> Ended:
     try:
         output, error = process.communicate(lines, timeout=SECONDS)
     except subprocess.TimeoutExpired:
         process.kill()
         process.communicate()
         raise Differs(f"takes over {SECONDS} s") from None
-    return process.returncode, output, error
+    return Ended(process.returncode, output, error)
 
 
-def position(process, path):
-    """Where a process stands in a file that it has opened, else 0."""
+def position(process: int, path: pathlib.Path) -> int:
+    """Returns the position of a process in a file that it has opened, or else 0."""
     with contextlib.suppress(OSError):
         for link in pathlib.Path(f"/proc/{process}/fd").iterdir():
             if os.readlink(link) == str(path):
@@ -101,17 +101,21 @@ def position(process, path):
     return 0
 
 
-def try_ways(ways, words):
-    """Prints a line for each case of each way. The status of the script."""
-    program, failing = program_of(words), 0
+Way = Callable[[Place], Iterator[str]]
+
+
+def try_ways(header: Optional[str], ways: Sequence[Way]) -> int:
+    """Reads the arguments of a script, and prints a line for each case of each way, and the counts. Returns the exit status of the script."""
+    parser, report = parser_of(header), Report()
+    add_program(parser)
+    program = find_program(parser.parse_args().program)
     with tempfile.TemporaryDirectory() as folder:
         place = Place(program, folder)
         for way in ways:
             name = way.__name__.replace("_", " ")
             try:
                 for case in way(place):
-                    print(f"ok       {name}: {case}", flush=True)
+                    report.add_ok(f"{name}: {case}")
             except Differs as difference:
-                print(f"DIFFERS  {name}: {difference}", flush=True)
-                failing = 1
-    return failing
+                report.add_difference(name, difference)
+    return report.end()

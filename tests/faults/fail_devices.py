@@ -1,28 +1,29 @@
 #!/usr/bin/env python3
-"""Runs each command of warcdx with its first read, write or seek failing, then its second, until a run had none to fail.
+"""Runs each command of warcdx with its first read, write or seek failing, then its second, until a run has none to fail.
 
-usage: fail_devices.py [PROGRAM]      default: the program that the script warcdx at the top of the repository builds
+usage: fail_devices.py [PROGRAM]
 
-Either one call fails and the device goes on, or every second one from there on does, or each. The error is EIO, or EINTR, after which a
-call may be made again. Each run has to end as without a failure, or with status 3 and a line that names the device: `Read`, `Input`, `Write`,
-`cannot flush`, or `cannot open` of an archive, as an archive is sought when it is opened. What it wrote then is the beginning of what it
-writes otherwise; `index` and `check`, which go on with the next file, write some of their lines; and json whose index couldn't be read isn't
-closed. Then each call moves one byte, or seven: nothing may change.
+Either one call fails and the device works again, or every second call from there on fails, or each. The error is EIO, or EINTR, after which a
+call may be made again. Each run has to end as without a failure, or with exit status 3 and a line that names the device: `Read`, `Input`, `Write`,
+`cannot flush`, or `cannot open` of an archive, because an archive is sought when it is opened. What it wrote then is a prefix of what it
+writes otherwise. `index` and `check`, which continue with the next file, write some of their lines. JSON is not closed if an index couldn't be
+read. Then each call moves one byte, or seven, which must change nothing.
 
-Prints a line for each command and way, with the number of runs. The status is 1 where a run ends in another way.
-
-It needs a C compiler, $CC or cc.
+Prints a line for each command and way, with the number of runs, and the counts. The exit status is 0, or 1 if a run ends in another way.
+Needs a C compiler: $CC, cc, or that of the Rattle kit.
 """
 import errno
 import json
 import pathlib
 import re
 import sys
+from collections.abc import Mapping, Sequence
+from typing import Optional
 
 sys.path.insert(0, str(pathlib.Path(__file__).resolve().parents[1]))
 
-from each_command import CASES, Bench
-from program import program_of
+from preloaded_runs import CASES, Ended, Runs
+from program import Report, add_program, find_program, parser_of
 
 FAILED = b"failed this call\n"
 ON_ERROR = re.compile(rb"warcdx: (.*: fault [0-9]+ Read|.*\.warc: cannot open|.*: Read|Input|Write|cannot flush)")
@@ -46,18 +47,17 @@ MORE = (
 )
 
 
-def is_answer(words, found, usual):
-    """Whether a run with a failure, which ends otherwise than without, has ended as it may."""
-    status, output, error = found
-    lines = error.splitlines()
-    said = [line for line in lines if line not in usual[2].splitlines()]
-    named = all(map(ON_ERROR.fullmatch, said)) and (said or b" Read\n" in output)
-    closed = words[0] == "query" and "output=json" in words[1] and error.endswith(b": Read\n") and is_json(output)
-    return status == 3 and named and not closed and is_front(words[0], output, usual[1])
+def may_end(arguments: Sequence[str], found: Ended, usual: Ended) -> bool:
+    """Returns whether a run with a failure, which ends otherwise than without, may end so."""
+    lines = found.error.splitlines()
+    added = [line for line in lines if line not in usual.error.splitlines()]
+    is_named = all(map(ON_ERROR.fullmatch, added)) and (bool(added) or b" Read\n" in found.output)
+    is_closed = arguments[0] == "query" and "output=json" in arguments[1] and found.error.endswith(b": Read\n") and is_json(found.output)
+    return found.status == 3 and is_named and not is_closed and is_front(arguments[0], found.output, usual.output)
 
 
-def is_front(command, output, usual):
-    """Whether the output is a beginning of the usual one; of reports and lines that go on with the next file, some of each."""
+def is_front(command: str, output: bytes, usual: bytes) -> bool:
+    """Returns whether the output is a prefix of the usual one, or, of commands that continue with the next file, some of its lines."""
     if command not in ("list", "verify", "index", "check"):
         return usual.startswith(output)
     *whole, last = re.sub(rb"^fault [0-9]+ Read\n", b"", output, flags=re.MULTILINE).split(b"\n")
@@ -65,7 +65,7 @@ def is_front(command, output, usual):
     return all(line in lines for line in whole) and any(line.startswith(last) for line in (b"", b"fault ", *lines))
 
 
-def is_json(text):
+def is_json(text: bytes) -> bool:
     try:
         json.loads(text)
     except ValueError:
@@ -73,43 +73,49 @@ def is_json(text):
     return True
 
 
-def fail_in_turn(bench, words, way):
-    """The number of runs, of those that end as without a failure, and the first that ends as it mustn't."""
-    usual = bench.usual(words)
+Result = tuple[int, int, Optional[Ended]]
+
+
+def fail_in_turn(runs: Runs, arguments: Sequence[str], way: Mapping[str, int]) -> Result:
+    """Returns the number of runs, of those that end as without a failure, and the first that ends as it may not."""
+    usual = runs.usual(arguments)
     number, same = 0, 0
     while True:
         number += 1
-        status, output, error = bench.preloaded(words, FAIL=str(number), **{name: str(value) for name, value in way.items()})
-        if FAILED not in error:
+        found = runs.preloaded(arguments, FAIL=str(number), **{name: str(value) for name, value in way.items()})
+        if FAILED not in found.error:
             return number - 1, same, None
-        found = status, output, error.replace(FAILED, b"")
+        found = found._replace(error=found.error.replace(FAILED, b""))
         same += found == usual
-        if found != usual and not is_answer(words, found, usual):
+        if found != usual and not may_end(arguments, found, usual):
             return number, same, found
 
 
-def in_pieces(bench, words):
-    """The same of runs whose calls move few bytes, which have to end as without."""
-    usual = bench.usual(words)
+def run_in_pieces(runs: Runs, arguments: Sequence[str]) -> Result:
+    """Returns the same of runs whose calls move few bytes. They have to end as usual."""
+    usual = runs.usual(arguments)
     for number, piece in enumerate((1, 7), 1):
-        found = bench.preloaded(words, PIECE=str(piece))
+        found = runs.preloaded(arguments, PIECE=str(piece))
         if found != usual:
             return number, number - 1, found
     return number, number, None
 
 
-def main(words):
-    bench = Bench(program_of(words), "fail_calls.c")
-    failing = 0
+def main() -> int:
+    parser = parser_of(__doc__)
+    add_program(parser)
+    runs, report = Runs(find_program(parser.parse_args().program), "fail_calls.c"), Report()
     for case in CASES + MORE:
-        ways = {name: fail_in_turn(bench, case, way) for name, way in WAYS.items()}
-        ways["calls move few bytes"] = in_pieces(bench, case)
-        for name, (number, same, found) in ways.items():
-            runs = f"{number} runs, {same} as usual{f', then {found}' if found else ''}"
-            print(f"{'DIFFERS' if found else 'ok':<9}{' '.join(case)}: {name}, {runs}", flush=True)
-            failing |= found is not None
-    return failing
+        results = {name: fail_in_turn(runs, case, way) for name, way in WAYS.items()}
+        results["calls move few bytes"] = run_in_pieces(runs, case)
+        for name, (number, same, found) in results.items():
+            title = f"{' '.join(case)}: {name}"
+            if found is None:
+                report.add_ok(f"{title}, {number} runs, {same} as usual")
+            else:
+                report.add_difference(title, f"run {number}: {found}")
+    return report.end()
 
 
 if __name__ == "__main__":
-    sys.exit(main(sys.argv[1:]))
+    sys.exit(main())

@@ -1,13 +1,13 @@
 #!/usr/bin/env python3
 """Runs each command of warcdx on devices that fail: full disks, readers that leave, pipes and sockets, files that are cut.
 
-usage: real_devices.py [PROGRAM]      default: the program that the script warcdx at the top of the repository builds
+usage: real_devices.py [PROGRAM]
 
-Each run ends by itself within 60 s, with a status and the line on standard error that docs/COMMANDS.md gives, and what it has written is the
-beginning of what it writes otherwise: an index that broke off is none for `check`, unless it ends with a whole line. A full disk is a small
-tmpfs, where one can be mounted.
+Each run has to end within 60 s, with an exit status and the line on standard error that docs/COMMANDS.md gives. What it wrote is a prefix of what
+it writes otherwise. An index that was broken off is refused by `check`, unless it ends with a whole line. A full disk is a small tmpfs, if the
+script may mount one.
 
-Prints a line for each case. The status is 1 where one differs.
+Prints a line for each case, and the counts. The exit status is 0, or 1 if a case differs.
 """
 import contextlib
 import os
@@ -20,23 +20,25 @@ import subprocess
 import sys
 import threading
 import time
+from collections.abc import Callable, Iterator, Sequence
+from typing import BinaryIO, Optional
 
 sys.path.insert(0, str(pathlib.Path(__file__).resolve().parents[1]))
 
 from cut_files import TRIES, a_file_of_long_blocks_that_is_cut, state
-from device_runs import ASKED, LONG, SECONDS, ended, expect, of_input, position, try_ways
-from each_command import ALL
+from device_runs import ASKED, LONG, SECONDS, Place, ended, expect, of_input, position, try_ways
+from preloaded_runs import ALL
 
 
-def expect_failed_output(place, words, written, status, error, usual):
-    """The output failed, and what it took is the beginning of the usual one."""
+def expect_failed_output(place: Place, words: Sequence[str], written: bytes, status: int, error: bytes, usual: bytes) -> None:
+    """The output failed, and what it took is a prefix of the usual one."""
     expect(status == 3 and error in (b"warcdx: Write\n", b"warcdx: cannot flush\n"), status, error)
     expect(usual.startswith(written), "wrote", written[-300:])
     if words[0] in ("index", "merge") or "output=cdxj" in words[1]:
         expect_broken_index(place, written)
 
 
-def expect_broken_index(place, written):
+def expect_broken_index(place: Place, written: bytes) -> None:
     """`check` counts the whole lines, or refuses the last."""
     (place.folder / "written").write_bytes(written)
     status, output, error = place.run(("check", "written"))
@@ -51,15 +53,15 @@ def expect_broken_index(place, written):
 # ---- outputs
 
 
-def limit_files(size):
-    def limit():
+def limit_files(size: int) -> Callable[[], None]:
+    def limit() -> None:
         resource.setrlimit(resource.RLIMIT_FSIZE, (size, size))
 
     return limit
 
 
-def a_file_that_may_not_grow(place):
-    """All up to the limit is written. Python ignores SIGXFSZ, and with `restore_signals=False` so does the program."""
+def a_file_that_may_not_grow(place: Place) -> Iterator[str]:
+    """Everything up to the limit is written. Python ignores SIGXFSZ, and with `restore_signals=False` so does the program."""
     for name, words in LONG.items():
         usual = place.usual(words)
         for size in (0, 1, 4096, 70_000, len(usual) - 1):
@@ -72,7 +74,7 @@ def a_file_that_may_not_grow(place):
         yield name
 
 
-def a_full_disk(place):
+def a_full_disk(place: Place) -> Iterator[str]:
     disk = place.folder / "disk"
     disk.mkdir()
     if subprocess.run(("mount", "-t", "tmpfs", "-o", "size=64k", "tmpfs", disk), stderr=subprocess.DEVNULL, check=False).returncode:
@@ -91,7 +93,7 @@ def a_full_disk(place):
         subprocess.run(("umount", disk), check=True)
 
 
-def a_reader_that_leaves(place):
+def a_reader_that_leaves(place: Place) -> Iterator[str]:
     """Like `head -c 1`."""
     for name, words in LONG.items():
         usual = place.usual(words)
@@ -106,13 +108,13 @@ def a_reader_that_leaves(place):
         yield name
 
 
-def write_all(pipe, lines):
+def write_all(pipe: BinaryIO, lines: bytes) -> None:
     with contextlib.suppress(BrokenPipeError), pipe:
         pipe.write(lines)
 
 
-def an_output_that_would_block(place):
-    """A pipe that is full, and takes nothing more just now."""
+def an_output_that_would_block(place: Place) -> Iterator[str]:
+    """A pipe that is full."""
     for name, words in LONG.items():
         usual = place.usual(words)
         reader, writer = os.pipe()
@@ -125,7 +127,7 @@ def an_output_that_would_block(place):
         yield name
 
 
-def an_output_that_is_the_input(place):
+def an_output_that_is_the_input(place: Place) -> Iterator[str]:
     """The file grows while it is read. Of an index nothing behind its size at first is read, and a report is no record."""
     for name, words in LONG.items():
         usual = place.usual(words)
@@ -143,8 +145,8 @@ def an_output_that_is_the_input(place):
         yield name
 
 
-def no_standard_error(place):
-    """What would be said is lost, and the status stays."""
+def no_standard_error(place: Place) -> Iterator[str]:
+    """The messages are lost, and the exit status stays."""
     archives, indexes = of_input("missing")
     for words in archives + indexes:
         status, output, _ = place.run(words, preexec_fn=lambda: os.close(2))
@@ -152,8 +154,8 @@ def no_standard_error(place):
         yield words[0]
 
 
-def neither_input_nor_output(place):
-    def close():
+def neither_input_nor_output(place: Place) -> Iterator[str]:
+    def close() -> None:
         os.close(0)
         os.close(1)
 
@@ -164,7 +166,7 @@ def neither_input_nor_output(place):
         yield words[0]
 
 
-def nothing_open(place):
+def nothing_open(place: Place) -> Iterator[str]:
     """Files are opened under the numbers of standard input, output and error, and are not written."""
     for words in of_input("one.warc")[0] + of_input("one.cdxj")[1][:4]:
         before = (place.folder / words[-1]).read_bytes()
@@ -176,15 +178,15 @@ def nothing_open(place):
 # ---- inputs
 
 
-def no_input(place):
-    """It isn't missed where no word names it."""
+def no_input(place: Place) -> Iterator[str]:
+    """It is of no account if no argument names it."""
     for words in of_input("one.warc")[0] + of_input("one.cdxj")[1][:4]:
         found = place.run(words, preexec_fn=lambda: os.close(0))
         expect(found == (0, place.usual(words), b""), words, found)
         yield words[0]
 
 
-def a_fifo(place):
+def a_fifo(place: Place) -> Iterator[str]:
     """An archive is read from it. An index can't be sought in it."""
     os.mkfifo(place.folder / "fifo")
     archive = (place.folder / "one.warc").read_bytes()
@@ -208,7 +210,7 @@ def a_fifo(place):
     os.close(both)
 
 
-def a_socket(place):
+def a_socket(place: Place) -> Iterator[str]:
     """One in the file system can't be opened. One that is standard input is read."""
     listener = socket.socket(socket.AF_UNIX)
     listener.bind(str(place.folder / "socket"))
@@ -227,7 +229,7 @@ def a_socket(place):
         yield f"{words[0]} -"
 
 
-def a_file_that_may_not_be_read(place):
+def a_file_that_may_not_be_read(place: Place) -> Iterator[str]:
     if os.getuid():
         yield "only root may give up its rights: left out"
         return
@@ -241,7 +243,7 @@ def a_file_that_may_not_be_read(place):
         yield words[0]
 
 
-def few_open_files(place):
+def few_open_files(place: Place) -> Iterator[str]:
     """A file is closed before the next is opened, but for the commands that read all of them at once."""
     for words in (*of_input("one.warc")[0][:2], ("check", "one.cdxj")):
         many = (words[0], *words[1:] * 50)
@@ -255,11 +257,11 @@ def few_open_files(place):
         yield f"{name}, all at once"
 
 
-def limit_open_files():
+def limit_open_files() -> None:
     resource.setrlimit(resource.RLIMIT_NOFILE, (16, 16))
 
 
-def a_loop_of_links(place):
+def a_loop_of_links(place: Place) -> Iterator[str]:
     (place.folder / "loop").symlink_to("loop")
     archives, indexes = of_input("loop")
     for words in archives + indexes:
@@ -268,8 +270,8 @@ def a_loop_of_links(place):
         yield words[0]
 
 
-def an_input_that_would_block(place):
-    """A pipe in which nothing stands just now."""
+def an_input_that_would_block(place: Place) -> Iterator[str]:
+    """A pipe that is empty."""
     reader, writer = os.pipe()
     os.set_blocking(reader, False)
     for words in of_input("-")[0]:
@@ -284,8 +286,8 @@ def an_input_that_would_block(place):
     yield "serve"
 
 
-def a_run_that_is_stopped(place):
-    """It goes on where it stood."""
+def a_run_that_is_stopped(place: Place) -> Iterator[str]:
+    """It continues where it was stopped."""
     for words in (*of_input("-")[0], ("serve", "one.cdxj")):
         lines = ASKED if words[0] == "serve" else (place.folder / "one.warc").read_bytes()
         process = place.start(words, stdin=subprocess.PIPE)
@@ -300,7 +302,7 @@ def a_run_that_is_stopped(place):
         yield words[0]
 
 
-def a_file_that_is_cut(place):
+def a_file_that_is_cut(place: Place) -> Iterator[str]:
     """It is cut while it is read: an archive ends early, and an index can't be read."""
     text = (place.folder / "many.warc").read_bytes()
     lines = (place.folder / "many.cdxj").read_bytes()
@@ -326,16 +328,16 @@ def a_file_that_is_cut(place):
         yield words[0]
 
 
-def cut_while_read(place, words):
-    """How a run ended whose file was cut while it was read. A run that had read the file before is tried again."""
+def cut_while_read(place: Place, words: Sequence[str]) -> tuple[int, bytes, bytes]:
+    """Returns how a run ended whose file was cut while it was read. A run that had read the file before is tried again."""
     runs = (run_and_cut(place, words) for _ in range(TRIES))
     run = next(filter(None, runs), None)
     expect(run, words, "has always read the file before it could be cut")
     return run
 
 
-def run_and_cut(place, words):
-    """How a run ended whose file was cut once it had begun to read, or none if it had read the file before."""
+def run_and_cut(place: Place, words: Sequence[str]) -> Optional[tuple[int, bytes, bytes]]:
+    """Returns how a run ended whose file was cut once it had begun to read, or none if it had read the file before."""
     process = place.start(words, stdin=subprocess.PIPE)
     output, error = [], []
     readers = [
@@ -355,7 +357,7 @@ def run_and_cut(place, words):
     return (status, output[0], error[0]) if is_cut else None
 
 
-def cut_to_half(process, path):
+def cut_to_half(process: "subprocess.Popen[bytes]", path: pathlib.Path) -> bool:
     """Stops the program, cuts the file near its middle or before unless it has been read, and lets the program go on."""
     process.send_signal(signal.SIGSTOP)
     while process.poll() is None and state(process) != "T":
@@ -391,4 +393,4 @@ WAYS = (
 
 
 if __name__ == "__main__":
-    sys.exit(try_ways(WAYS, sys.argv[1:]))
+    sys.exit(try_ways(__doc__, WAYS))

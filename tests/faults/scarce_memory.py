@@ -1,12 +1,12 @@
 #!/usr/bin/env python3
 """Runs commands of warcdx under limits on their memory, from the least under which the program starts to one that suffices.
 
-usage: scarce_memory.py [PROGRAM]      default: the program that the script warcdx at the top of the repository builds
+usage: scarce_memory.py [PROGRAM]
 
-Under each limit a run answers as it does without one, or ends with status 3 and a line that says `Memory`, where what it wrote is the
-beginning of what it writes otherwise. Then an input of 100 MB, as one head, one block or one line, is read in little more than the least memory.
+Under each limit a run has to end as without one, or with exit status 3 and a line that says `Memory`. What it wrote then is a prefix of what it writes
+otherwise. Then an input of 100 MB, as one head, one block or one line, is read with 8 MB more than the least memory: what a head at its limit takes.
 
-Prints a line for each command, with the number of limits. The status is 1 where a run ends in another way.
+Prints a line for each command, with the number of limits, and the counts. The exit status is 0, or 1 if a run ends in another way.
 """
 import contextlib
 import pathlib
@@ -15,15 +15,18 @@ import resource
 import subprocess
 import sys
 import threading
+from collections.abc import Callable, Iterator, Sequence
 
 sys.path.insert(0, str(pathlib.Path(__file__).resolve().parents[1]))
 
-from device_runs import LONG, RECORD, SECONDS, ended, expect, of_input, try_ways
-from each_command import ALL
+from device_runs import LONG, RECORD, SECONDS, Place, ended, expect, of_input, try_ways
+from preloaded_runs import ALL, Ended
+
+HEAD_MEMORY = 8_000_000  # bytes, for a head at its limit of 1,048,576 bytes
 
 
-def memory_that_ends(place):
-    """Under each limit on its memory the program answers, or says that memory is refused."""
+def memory_that_ends(place: Place) -> Iterator[str]:
+    """Under each limit on its memory the program succeeds, or reports that memory could not be allocated."""
     least = least_memory(place)
     runs = {
         "index": LONG["index"],
@@ -31,7 +34,7 @@ def memory_that_ends(place):
         "merge of long lines": ("merge", "wide.cdxj", "many.cdxj"),
         "query of one key and stamp": ("query", f"{ALL}&output=json", "one-pair.cdxj"),
         "query of long lines": ("query", f"{ALL}&output=cdxj", "wide.cdxj"),
-        "pages": ("pages", "100", ALL, "one-pair.cdxj"),
+        "pages": ("pages", "1000", ALL, "one-pair.cdxj"),
         "scan": LONG["scan"],
         "serve": ("serve", "one-pair.cdxj", "wide.cdxj"),
         "check": ("check", "wide.cdxj"),
@@ -51,8 +54,8 @@ def memory_that_ends(place):
         yield f"{name}, {refused} limits from {least >> 10} to {size >> 10} kB"
 
 
-def an_input_that_is_long(place):
-    """Nothing of 100 MB is held whole."""
+def an_input_that_is_long(place: Place) -> Iterator[str]:
+    """Nothing of 100 MB is held in memory as a whole."""
     size, least = 100_000_000, least_memory(place)
     front, _, back = (RECORD % (0, size, b"|")).partition(b"|")
     whole = len(front) + size + len(back)
@@ -73,12 +76,12 @@ def an_input_that_is_long(place):
         yield f"{words[0]}, a block"
 
 
-def fed(place, words, text, least):
-    """How a run ends that reads a front, so many letters and a back from a pipe."""
+def fed(place: Place, words: Sequence[str], text: tuple[bytes, int, bytes], least: int) -> tuple[int, bytes, bytes]:
+    """Returns how a run ends that reads a front, so many letters and a back from a pipe."""
     front, size, back = text
-    process = place.start(words, stdin=subprocess.PIPE, preexec_fn=limit_memory(least + (1 << 20)))
+    process = place.start(words, stdin=subprocess.PIPE, preexec_fn=limit_memory(least + HEAD_MEMORY))
 
-    def feed():
+    def feed() -> None:
         with contextlib.suppress(BrokenPipeError), process.stdin as pipe:
             pipe.write(front)
             for _ in range(size // 100_000):
@@ -94,27 +97,27 @@ def fed(place, words, text, least):
     return process.wait(), output, error
 
 
-def least_memory(place):
-    """The least limit, in steps of 64 kB, under which the program starts."""
+def least_memory(place: Place) -> int:
+    """Returns the least limit, in steps of 64 kB, under which the program starts."""
     return next(size for size in range(1 << 20, 1 << 26, 1 << 16) if starts(place, size))
 
 
-def limit_memory(size):
-    def limit():
+def limit_memory(size: int) -> Callable[[], None]:
+    def limit() -> None:
         resource.setrlimit(resource.RLIMIT_AS, (size, size))
         resource.setrlimit(resource.RLIMIT_CORE, (0, 0))
 
     return limit
 
 
-def starts(place, size):
+def starts(place: Place, size: int) -> bool:
     try:
         return ended(place.start(("--help",), preexec_fn=limit_memory(size)))[0] == 0
     except (OSError, subprocess.SubprocessError):
         return False
 
 
-def expect_no_memory(words, size, found, usual):
+def expect_no_memory(words: Sequence[str], size: int, found: Ended, usual: bytes) -> None:
     status, output, error = found
     said = re.fullmatch(rb"warcdx: (.*: fault \d+ )?Memory\n", error) or not error and re.search(rb"fault \d+ Memory\n\Z", output)
     front = re.sub(rb"fault \d+ Memory\n\Z", b"", output)
@@ -123,4 +126,4 @@ def expect_no_memory(words, size, found, usual):
 
 
 if __name__ == "__main__":
-    sys.exit(try_ways((memory_that_ends, an_input_that_is_long), sys.argv[1:]))
+    sys.exit(try_ways(__doc__, (memory_that_ends, an_input_that_is_long)))

@@ -1,32 +1,33 @@
 #!/usr/bin/env python3
-"""Gets some of the records that an index lists, and compares each with the bytes of its archive.
+"""Gets records that an index has, and compares each with the bytes of its archive.
 
-usage: check_get.py INDEX FOLDER [PROGRAM]      FOLDER holds the archives; default: the script warcdx of the repository
+usage: check_get.py [--program PROGRAM] INDEX FOLDER
 
-Takes at most 100 lines of the index, evenly spaced, the first and the last among them. For each `PROGRAM get OFFSET ARCHIVE`
-has to write exactly the bytes from the line's offset on, as many as its length says, and they have to begin with WARC/ and
-to end with an empty line. Prints the number of records, and the lines that fail. The status is 1 where one fails.
+FOLDER contains the archives. At most 100 lines of the index are taken, evenly spaced, the first and the last among them. For each line
+`PROGRAM get OFFSET ARCHIVE` has to write exactly the bytes from the line's offset on, as many as its length says. They have to begin with WARC/ and to end
+with an empty line. Prints the lines that differ, and the counts. The exit status is 0, or 1 if a record differs.
 """
 import json
 import pathlib
 import subprocess
 import sys
+from collections.abc import Sequence
 
 sys.path.insert(0, str(pathlib.Path(__file__).resolve().parents[1]))
 
-from program import ROOT
+from program import Report, find_program, parser_of
 
 MOST = 100
 
 
-def sample(lines):
-    """Evenly spaced ones, with both ends."""
+def sample(lines: Sequence[str]) -> list[str]:
+    """Returns evenly spaced lines, with the first and the last."""
     count = min(len(lines), MOST)
     return [lines[number * (len(lines) - 1) // max(count - 1, 1)] for number in range(count)]
 
 
-def is_record(program, folder, line):
-    """Whether the program gets the record of this line."""
+def is_record(program: pathlib.Path, folder: pathlib.Path, line: str) -> bool:
+    """Returns whether the program writes the record of this line."""
     members = json.loads(line.split(" ", 2)[2])
     path, offset, length = folder / members["filename"], int(members["offset"]), int(members["length"])
     with open(path, "rb") as archive:
@@ -42,16 +43,20 @@ def is_record(program, folder, line):
     )
 
 
-def main(words):
-    if len(words) not in (2, 3):
-        sys.exit(__doc__)
-    index, folder, program = *map(pathlib.Path, words[:2]), pathlib.Path(*words[2:] or [ROOT / "warcdx"]).resolve()
-    lines = sample(index.read_text(encoding="utf-8").splitlines())
-    failing = [line for line in lines if not is_record(program, folder, line)]
-    print(f"{len(lines) - len(failing)} of {len(lines)} records")
-    for line in failing:
-        print(line)
-    return 1 if failing else 0
+def main() -> int:
+    parser, report = parser_of(__doc__), Report()
+    parser.add_argument("--program", metavar="PROGRAM", help="default: the program of this repository, built if necessary")
+    parser.add_argument("index", metavar="INDEX", type=pathlib.Path, help="the index")
+    parser.add_argument("folder", metavar="FOLDER", type=pathlib.Path, help="the folder of the archives")
+    arguments = parser.parse_args()
+    program = find_program(arguments.program)
+    for line in sample(arguments.index.read_text(encoding="utf-8").splitlines()):
+        if is_record(program, arguments.folder, line):
+            report.ok += 1
+        else:
+            report.add_difference("record", line)
+    return report.end()
 
 
-sys.exit(main(sys.argv[1:]))
+if __name__ == "__main__":
+    sys.exit(main())

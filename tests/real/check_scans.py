@@ -1,26 +1,32 @@
 #!/usr/bin/env python3
 """Scans archives, and compares the pages with those of the index that warcdx wrote of them.
 
-usage: check_scans.py INDEX PROGRAM WARC..
+usage: check_scans.py [--program PROGRAM] INDEX WARC..
 
-All captures are asked for, and those of queries for five keys of the index, evenly spaced, by each match type, some by their times and
-values. In cdxj each scan has to give byte for byte what `query` gives, and in pages of 7 what `pages` gives. Prints the number of queries,
-and the first that differs. The status is 1 where there is one.
+The queries are that for all captures, and those for five keys of the index, evenly spaced, by each match type, some with times and values. As cdxj
+each scan has to write what `query` writes, and in pages of 7 what `pages` writes. Prints the queries that differ, and the counts. The exit status is 0, or 1
+if a query differs.
 """
 import itertools
+import pathlib
 import subprocess
 import sys
+from collections.abc import Iterator
 from urllib.parse import quote_plus
+
+sys.path.insert(0, str(pathlib.Path(__file__).resolve().parents[1]))
+
+from program import Report, find_program, parser_of
 
 WHOLE = "1000000"
 ALL = "key=&matchType=prefix"
 KEYS = 5
-# One for each match type, with what else is asked.
+# For each match type what else is queried.
 MATCHES = ("exact", "prefix&is=statuscode:200", "host&to=2026", "domain&isnot=mimetype:text/html")
 
 
-def queries(index):
-    """The query for all captures, and those for some keys."""
+def queries(index: str) -> Iterator[str]:
+    """Yields the query for all captures, and those for some keys."""
     with open(index, "rb") as file:
         keys = sorted({line.partition(b" ")[0] for line in file})
     chosen = keys[:: max(len(keys) // KEYS, 1)][:KEYS]
@@ -31,23 +37,27 @@ def queries(index):
         yield f"key={quote_plus(target)}&matchType={match}"
 
 
-def written(*words):
+def written(*words: str) -> bytes:
     done = subprocess.run(words, stdout=subprocess.PIPE, check=False)
     return done.stdout if done.returncode == 0 else b"status %d" % done.returncode
 
 
-def main(index, program, *archives):
-    count = 0
+def main() -> int:
+    parser, report = parser_of(__doc__), Report()
+    parser.add_argument("--program", metavar="PROGRAM", help="default: the program of this repository, built if necessary")
+    parser.add_argument("index", metavar="INDEX", help="the index")
+    parser.add_argument("archives", metavar="WARC", nargs="+", help="an archive")
+    arguments = parser.parse_args()
+    index, archives, program = arguments.index, arguments.archives, str(find_program(arguments.program))
     for query in queries(index):
-        whole = written(program, "scan", WHOLE, f"{query}&output=cdxj", *archives)
-        if whole != written(program, "query", f"{query}&output=cdxj", index):
-            sys.exit(f"{query}: another page than that of the index")
-        if written(program, "scan", "7", query, *archives) != written(program, "pages", "7", query, index):
-            sys.exit(f"{query}: other pages than those of the index")
-        count += 1
-    print(f"{count} queries")
+        if written(program, "scan", WHOLE, f"{query}&output=cdxj", *archives) != written(program, "query", f"{query}&output=cdxj", index):
+            report.add_difference(query, "another page than that of the index")
+        elif written(program, "scan", "7", query, *archives) != written(program, "pages", "7", query, index):
+            report.add_difference(query, "other pages than those of the index")
+        else:
+            report.ok += 1
+    return report.end()
 
 
-if len(sys.argv) < 4:
-    sys.exit(__doc__)
-main(*sys.argv[1:])
+if __name__ == "__main__":
+    sys.exit(main())

@@ -1,5 +1,19 @@
-"""Index lines made by chance, but the same each time: lines as the indexer writes them, of a thousand hosts or so many."""
+#!/usr/bin/env python3
+"""Makes index lines at random, but the same each time: lines as the indexer writes them, of a thousand hosts.
+
+usage: make_indexes.py KIND FOLDER LINES
+
+KIND is merge, query or serve: the indexes that measure_merge.py, measure_query.py or measure_serve.py measures are written to FOLDER. These scripts
+run this one as a process of its own, because what it holds would count as their memory.
+"""
+import pathlib
 import random
+import sys
+from collections.abc import Sequence
+
+sys.path.insert(0, str(pathlib.Path(__file__).resolve().parents[1] / "tests"))
+
+from program import parser_of
 
 HOSTS = 1000
 LETTERS = "abcdefghijklmnopqrstuvwxyz"
@@ -11,8 +25,8 @@ LINE = (
 )
 
 
-def lines(count, host_count=HOSTS):
-    """So many lines of different captures, in the order of places."""
+def lines(count: int, host_count: int = HOSTS) -> list[bytes]:
+    """Returns lines of different captures, in the order of places."""
     choice = random.Random(count)
     hosts = ["".join(choice.choices(LETTERS, k=choice.randint(4, 12))) for _ in range(host_count)]
     made = []
@@ -30,8 +44,8 @@ def lines(count, host_count=HOSTS):
     return [line for _, line in made]
 
 
-def deal(ordered, count, folder, name):
-    """Writes the lines into so many files, each of them sorted; one line in ten stands in two of them. Answers the files."""
+def deal(ordered: Sequence[bytes], count: int, folder: pathlib.Path, name: str) -> None:
+    """Writes the lines to so many files, each of them sorted. One line in ten is in two files."""
     choice = random.Random(count)
     dealt = [[] for _ in range(count)]
     for line in ordered:
@@ -42,14 +56,13 @@ def deal(ordered, count, folder, name):
     files = [folder / f"{name}-{number:04}.cdxj" for number in range(count)]
     for path, its in zip(files, dealt):
         path.write_bytes(b"".join(its))
-    return files
 
 
-def write_whole(ordered, folder, name="whole"):
+def write_whole(ordered: Sequence[bytes], folder: pathlib.Path, name: str = "whole") -> None:
     (folder / name).write_bytes(b"".join(ordered))
 
 
-def for_merge(folder, count):
+def for_merge(folder: pathlib.Path, count: int) -> None:
     half = lines(count // 2)
     write_whole(half, folder, "half")
     deal(half, 4, folder, "half-4")
@@ -59,7 +72,7 @@ def for_merge(folder, count):
         deal(whole, files, folder, f"whole-{files}")
 
 
-def for_query(folder, count):
+def for_query(folder: pathlib.Path, count: int) -> None:
     write_whole(lines(count // 10), folder, "tenth")
     write_whole(lines(count, HOSTS // 10), folder, "hosts")
     whole = lines(count)
@@ -68,17 +81,20 @@ def for_query(folder, count):
         deal(whole, files, folder, f"whole-{files}")
 
 
-def for_serve(folder, count):
+def for_serve(folder: pathlib.Path, count: int) -> None:
     write_whole(lines(count), folder)
 
 
-def main():
-    """Writes the indexes that bench/merge, bench/query or bench/serve measures into a folder; in a process of its own, as its memory counts there."""
-    import pathlib
-    import sys
+MAKERS = {"merge": for_merge, "query": for_query, "serve": for_serve}
 
-    makers = {"merge": for_merge, "query": for_query, "serve": for_serve}
-    makers[sys.argv[1]](pathlib.Path(sys.argv[2]), int(sys.argv[3]))
+
+def main() -> None:
+    parser = parser_of(__doc__)
+    parser.add_argument("kind", metavar="KIND", choices=sorted(MAKERS), help="merge, query or serve")
+    parser.add_argument("folder", metavar="FOLDER", type=pathlib.Path, help="the folder of the indexes")
+    parser.add_argument("lines", metavar="LINES", type=int, help="the number of lines of the largest index")
+    arguments = parser.parse_args()
+    MAKERS[arguments.kind](arguments.folder, arguments.lines)
 
 
 if __name__ == "__main__":

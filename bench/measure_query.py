@@ -1,10 +1,9 @@
 #!/usr/bin/env python3
-"""Measures queries over indexes and compares them with the goals; README.md beside this script says what and how.
+"""Measures the queries over indexes and compares the figures with the goals of README.md in this folder.
 
-usage: query [PROGRAM]      default: the program that the script warcdx at the top of the repository builds
+usage: measure_query.py [PROGRAM]
 
-Makes indexes of 1,000,000 lines in a temporary folder (TMPDIR, 2 GB) and prints a table. The status is 1 where a goal is
-missed.
+Makes indexes of 1,000,000 lines in a temporary folder (TMPDIR, 2 GB) and prints a table. The exit status is 0, or 1 if a goal is missed.
 """
 import filecmp
 import pathlib
@@ -13,7 +12,7 @@ import sys
 import tempfile
 from urllib.parse import quote_plus
 
-from measuring import Figure, least_times, peak, program_of, report, run_time
+from measuring import Figure, least_times, peak, read_program, report, run_time
 
 LINES = 1_000_000
 RUNS = 20  # of a query that takes a millisecond
@@ -42,14 +41,14 @@ def asked(program, query, files):
 
 
 def expect_line(program, line, files):
-    """Ends the script where the exact query doesn't give this line, and lines of its key alone."""
+    """Ends the script if the exact query doesn't give this line, and lines of its key alone."""
     found = asked(program, exact_query(line) + "&output=cdxj", files).splitlines(keepends=True)
     if line not in found or not all(other.startswith(key_of(line) + b" ") for other in found):
         sys.exit(f"the query for {line} doesn't give it")
 
 
 def expect_all(program, files, wanted, folder):
-    """Ends the script where the query for all lines of these files doesn't give the wanted ones."""
+    """Ends the script if the query for all lines of these files doesn't give the wanted ones."""
     written = folder / "asked"
     with open(written, "wb") as out:
         subprocess.run([program, "query", ALL + "&output=cdxj", *files], stdout=out, check=True)
@@ -77,11 +76,11 @@ def small_time(program, queries, files):
     return 1000 * sum(runs) / len(runs)
 
 
-def main():
-    program = program_of(sys.argv[1:])
+def main() -> int:
+    program = read_program(__doc__)
     with tempfile.TemporaryDirectory() as name:
         folder = pathlib.Path(name)
-        subprocess.run([sys.executable, pathlib.Path(__file__).with_name("indexes.py"), "query", folder, str(LINES)], check=True)
+        subprocess.run([sys.executable, pathlib.Path(__file__).with_name("make_indexes.py"), "query", folder, str(LINES)], check=True)
         whole, tenth, hosts = folder / "whole", folder / "tenth", folder / "hosts"
         parts = {count: sorted(folder.glob(f"whole-{count}-*")) for count in (4, 64, 1024)}
         sought = [line_at(whole, share) for share in (0, 0.5, 1)]

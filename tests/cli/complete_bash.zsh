@@ -1,8 +1,8 @@
-# Prints the words that bash offers behind a line, one a line.
+# Prints the completions that bash offers after the start of a command line, one per line. completions.sh runs it.
 #
 # usage: zsh complete_bash.zsh FILE LINE      FILE has the completion function _warcdx
 #
-# The line is typed into a bash of its own, at a pseudo-terminal, which zsh makes. There the function's answer is printed.
+# The line is typed into a bash at a pseudo-terminal, which zsh opens. There the answer of the function is printed.
 zmodload zsh/zpty
 setup=$(mktemp)
 trap 'rm -f $setup' EXIT

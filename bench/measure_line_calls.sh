@@ -1,13 +1,26 @@
-#!/bin/bash
-# Times keys and lines against the crates that they stand on, on the same 100,000 lines in one process, and exits 1 where a
-# ratio passes its limit. The small program is written into a copy of the workspace in a temporary folder.
+#!/usr/bin/env bash
+# Measures the calls that make keys and read and write index lines, and compares them with calls of the crates that they use.
+#
+# usage: measure_line_calls.sh
+#
+# The same 100,000 lines are used in one process, which a small program makes. It is proved and built in a copy of the crates in a temporary folder.
+# Prints nanoseconds and ratios. The exit status is 0, or 1 if a ratio exceeds its goal:
 #
 #   reading a line as it is written, over serde_json's reading of its object      at most 0.30
 #   reading a line with a number for its status, over the same                    at most 1.60
 #   write_line, over serde_json's writing of its seven texts                      at most 1.20
 #   url_key, over Url::parse                                                      at most 1.50
+#
+# Needs the Rattle kit, with its rt on the PATH.
 set -euo pipefail
-root=$(cd "$(dirname "$0")/.." && pwd)
+source "$(dirname "$0")/../tests/program.sh"
+read_help "$@"
+if [ $# -gt 0 ]; then stop_usage "unexpected argument '$1'"; fi
+if ! type -P rt > /dev/null; then
+    echo "$script: rt is not on the PATH" >&2
+    exit 77
+fi
+
 copy=$(mktemp -d)
 trap 'rm -rf "$copy"' EXIT
 mkdir -p "$copy/crates/bench_lines/src"

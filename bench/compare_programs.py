@@ -1,10 +1,10 @@
 #!/usr/bin/env python3
-"""Measures two programs side by side, where nothing is left out of an archive or an index; README.md beside this script says what and how.
+"""Compares the processor time of two programs on runs that read an archive or an index as a whole. README.md in this folder describes the figures.
 
-usage: beside BEFORE AFTER [ROUNDS]      default: 15 rounds
+usage: compare_programs.py [--rounds N] BEFORE AFTER
 
-Makes archives of 1.5 GB in a temporary folder (TMPDIR) and prints a table. The status is 1 where the second program takes more
-than 1.03 times the processor time of the first.
+Makes archives of 1.5 GB in a temporary folder (TMPDIR) and prints a table. The exit status is 0, or 1 if AFTER takes more than 1.03 times the
+processor time of BEFORE.
 """
 import os
 import pathlib
@@ -13,16 +13,17 @@ import sys
 import tempfile
 from functools import partial
 
-from archives import Archive
-from crawls import Crawl
+from make_archives import Archive
+from make_crawls import Crawl
 from measuring import ROUNDS, Figure, least_times, processor_time, report, write_archive
+from program import find_program, parser_of
 
 GOAL = 1.03
 LINES = 200_000
 
 
 def expect_same(before, after, words, source):
-    """Ends the script where the two programs write different things."""
+    """Ends the script if the two programs write different things."""
     written = []
     for program in (before, after):
         with open(source, "rb") as file:
@@ -37,7 +38,7 @@ def runs_of(folder):
     write_archive(Archive(20_000, 50), records)
     write_archive(Crawl(25_000, 19_300), given)
     write_archive(Crawl(25_000, 19_300, "X-No-Payload-Digest"), made)
-    subprocess.run([sys.executable, pathlib.Path(__file__).with_name("indexes.py"), "merge", folder, str(LINES)], check=True)
+    subprocess.run([sys.executable, pathlib.Path(__file__).with_name("make_indexes.py"), "merge", folder, str(LINES)], check=True)
     whole, parts = folder / "whole", sorted(folder.glob("whole-4-*"))
     return {
         "list -": (("list", "-"), records),
@@ -51,11 +52,13 @@ def runs_of(folder):
     }
 
 
-def main(words):
-    if len(words) not in (2, 3):
-        sys.exit("usage: beside BEFORE AFTER [ROUNDS]")
-    before, after = (pathlib.Path(word).resolve() for word in words[:2])
-    rounds = int(words[2]) if len(words) == 3 else ROUNDS
+def main() -> int:
+    parser = parser_of(__doc__)
+    parser.add_argument("--rounds", metavar="N", type=int, default=ROUNDS, help=f"how often each run is measured (default: {ROUNDS})")
+    parser.add_argument("before", metavar="BEFORE", help="the program to compare with")
+    parser.add_argument("after", metavar="AFTER", help="the program to measure")
+    arguments = parser.parse_args()
+    before, after, rounds = find_program(arguments.before), find_program(arguments.after), arguments.rounds
 
     with tempfile.TemporaryDirectory(prefix="warcdx-bench-") as folder:
         runs, timed = runs_of(pathlib.Path(folder)), {}
@@ -69,4 +72,5 @@ def main(words):
     return report(times, figures, rounds)
 
 
-sys.exit(main(sys.argv[1:]))
+if __name__ == "__main__":
+    sys.exit(main())

@@ -1,10 +1,9 @@
 #!/usr/bin/env python3
-"""Measures the replies to queries and compares them with the goals; README.md beside this script says what and how.
+"""Measures the replies to queries and compares the figures with the goals of README.md in this folder.
 
-usage: serve [PROGRAM]      default: the program that the script warcdx at the top of the repository builds
+usage: measure_serve.py [PROGRAM]
 
-Makes an index of 1,000,000 lines in a temporary folder (TMPDIR, 500 MB) and prints a table. The status is 1 where a goal is
-missed.
+Makes an index of 1,000,000 lines in a temporary folder (TMPDIR, 500 MB) and prints a table. The exit status is 0, or 1 if a goal is missed.
 """
 import collections
 import pathlib
@@ -15,7 +14,7 @@ import tempfile
 import time
 from urllib.parse import quote_plus
 
-from measuring import Figure, ROUNDS, least_times, peak_memory, processor_time, program_of, report
+from measuring import Figure, ROUNDS, least_times, peak_memory, processor_time, read_program, report
 
 LINES = 1_000_000
 QUERIES = 10_000
@@ -37,7 +36,7 @@ def exact_query(key):
 
 
 def expect_replies(program, index, queries, pages):
-    """Ends the script where the replies to these queries aren't these pages."""
+    """Ends the script if the replies to these queries aren't these pages."""
     asked = b"".join(query + b"&output=cdxj\n" for query in queries)
     found = subprocess.run([program, "serve", index], input=asked, stdout=subprocess.PIPE, check=True).stdout
     if found != b"".join(page + MARK for page in pages):
@@ -67,11 +66,11 @@ def longest_wait(program, index, queries):
     return 1000 * max(map(min, zip(*rounds)))
 
 
-def main():
-    program = program_of(sys.argv[1:])
+def main() -> int:
+    program = read_program(__doc__)
     with tempfile.TemporaryDirectory() as name:
         folder = pathlib.Path(name)
-        subprocess.run([sys.executable, pathlib.Path(__file__).with_name("indexes.py"), "serve", folder, str(LINES)], check=True)
+        subprocess.run([sys.executable, pathlib.Path(__file__).with_name("make_indexes.py"), "serve", folder, str(LINES)], check=True)
         index = folder / "whole"
         lines = by_key(index)
         keys = random.Random(1).choices(list(lines), k=QUERIES)

@@ -1,4 +1,4 @@
-"""Archives made by chance, but the same each time: records as crawlers write them, with blocks of random bytes."""
+"""Makes archives at random, but the same each time: records as crawlers write them, with blocks of random bytes. The scripts of this folder import this file."""
 import base64
 import hashlib
 import itertools
@@ -79,7 +79,7 @@ def one_long_record(length):
 
 
 def write_hole(path, length):
-    """Writes an archive of one record, whose block is a hole in the file, and answers its listing. The digest in its head isn't
+    """Writes an archive of one record, whose block is a hole in the file, and returns its listing. The digest in its head isn't
     that of the block.
     """
     with open(path, "wb") as file:

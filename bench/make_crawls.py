@@ -1,9 +1,9 @@
-"""Archives of many pages, made by chance but the same each time, and the lines of their indexes."""
+"""Makes crawls of many pages at random, but the same each time, and the lines of their indexes. The scripts of this folder import this file."""
 import itertools
 import random
 from typing import NamedTuple
 
-from archives import CLOSING, digest_of
+from make_archives import CLOSING, digest_of
 
 PAGES = 500
 RECORD_HEAD = """\

@@ -1,13 +1,10 @@
 #!/usr/bin/env python3
-"""Measures the indexing of archives and compares it with the goals; README.md beside this script says what and how.
+"""Measures the indexing of archives and compares the figures with the goals of README.md in this folder.
 
-usage: index [PROGRAM]      default: the program that the script warcdx at the top of the repository builds
+usage: measure_index.py [PROGRAM]
 
-Makes archives of 2.8 GB and their lines in a temporary folder (TMPDIR) and prints a table. The status is 1 where a goal is
-missed.
-
-Sorting and writing is the processor time from when the program has read its input, a pipe, and waits for the end of it,
-until it has ended. So the freeing of all captures counts too, against the program.
+Makes archives of 2.8 GB and their lines in a temporary folder (TMPDIR) and prints a table. Sorting and writing is the processor time from when the
+program has read its input, a pipe, and waits for the end of it, until it has ended. So the freeing of all captures is included. The exit status is 0, or 1 if a goal is missed.
 """
 import filecmp
 import os
@@ -17,14 +14,14 @@ import sys
 import tempfile
 from functools import partial
 
-from crawls import Crawl
+from make_crawls import Crawl
 from measuring import (
     Figure,
     least_times,
     peak_of_run,
     processor_time,
-    program_of,
     read_bytes,
+    read_program,
     report,
     run_time,
     time_after_input,
@@ -36,7 +33,7 @@ SORT = ("env", "LC_ALL=C", "sort", "--parallel=1")
 
 
 def expect_index(indexing, source, lines):
-    """Ends the script where the index that this command writes isn't these lines, sorted. Its standard input is the source."""
+    """Ends the script if the index that this command writes isn't these lines, sorted. Its standard input is the source."""
     index, wanted = lines.with_suffix(".index"), lines.with_suffix(".wanted")
     with open(source, "rb") as archive, open(index, "wb") as target:
         subprocess.run(indexing, stdin=archive, stdout=target, check=True)
@@ -48,7 +45,7 @@ def expect_index(indexing, source, lines):
 
 
 def write_lines(crawl, archive, filename):
-    """Writes the lines of the index under this file name, as the records stand, and answers where they are."""
+    """Writes the lines of the index under this file name, as the records stand, and returns where they are."""
     lines = archive.with_suffix(".lines")
     with open(lines, "wb") as file:
         file.writelines(crawl.index(filename))
@@ -56,7 +53,7 @@ def write_lines(crawl, archive, filename):
 
 
 def write_crawl(crawl, indexing, archive):
-    """Writes the archive and the lines of its index, and answers where the lines are. What the program makes of the archive has
+    """Writes the archive and the lines of its index, and returns where the lines are. What the program makes of the archive has
     to be these lines, sorted.
     """
     write_archive(crawl, archive)
@@ -66,12 +63,12 @@ def write_crawl(crawl, indexing, archive):
 
 
 def expect_named(crawl, indexing, archive):
-    """Ends the script where the program makes another index of this archive, which the command names."""
+    """Ends the script if the program makes another index of this archive, which the command names."""
     expect_index(indexing, os.devnull, write_lines(crawl, archive, archive.name))
 
 
-def main(words):
-    program = program_of(words)
+def main() -> int:
+    program = read_program(__doc__)
     indexing = [program, "index", "-"]
     pages, large_pages = Crawl(25_000, 19_300), Crawl(2_500, 199_300)
 
@@ -118,4 +115,5 @@ def main(words):
     return report(times, figures)
 
 
-sys.exit(main(sys.argv[1:]))
+if __name__ == "__main__":
+    sys.exit(main())

@@ -1,16 +1,16 @@
 #!/usr/bin/env python3
-"""Measures the listing of archives and compares it with the goals; README.md beside this script says what and how.
+"""Measures the listing of archives, and the speed of `get`, and compares the figures with the goals of README.md in this folder.
 
-usage: list [PROGRAM]      default: the program that the script warcdx at the top of the repository builds
+usage: measure_list.py [PROGRAM]
 
-Makes archives of 2.5 GB in a temporary folder (TMPDIR) and prints a table. The status is 1 where a goal is missed.
+Makes archives of 2.5 GB in a temporary folder (TMPDIR) and prints a table. The exit status is 0, or 1 if a goal is missed.
 """
 import pathlib
 import sys
 import tempfile
 from functools import partial
 
-from archives import Archive, one_long_record, write_hole
+from make_archives import Archive, one_long_record, write_hole
 from measuring import (
     Figure,
     expect,
@@ -18,7 +18,7 @@ from measuring import (
     least_times,
     memory_figures,
     processor_time,
-    program_of,
+    read_program,
     report,
     run_time,
     write_archive,
@@ -33,8 +33,8 @@ def expect_record(getting, archive, path):
     return command
 
 
-def main(words):
-    program = program_of(words)
+def main() -> int:
+    program = read_program(__doc__)
     listing, getting = [program, "list"], [program, "get"]
     long, short, twice, large = Archive(20_000, 50), Archive(1_000, 50), Archive(20_000, 100), Archive(200_000, 50)
 
@@ -84,4 +84,5 @@ def main(words):
     return report(times, figures + memory_figures([*listing, "-"], archives, 8))
 
 
-sys.exit(main(sys.argv[1:]))
+if __name__ == "__main__":
+    sys.exit(main())

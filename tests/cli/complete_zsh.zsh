@@ -1,8 +1,8 @@
-# Prints the words that zsh offers behind a line, one a line.
+# Prints the completions that zsh offers after the start of a command line, one per line. completions.sh runs it.
 #
-# usage: zsh complete_zsh.zsh FOLDER LINE      FOLDER holds the completion _warcdx
+# usage: zsh complete_zsh.zsh FOLDER LINE      FOLDER contains the completion _warcdx
 #
-# The line is typed into a zsh of its own, at a pseudo-terminal. There each call of the builtin compadd prints its matches.
+# The line is typed into a zsh at a pseudo-terminal. There each call of the builtin compadd prints its matches.
 zmodload zsh/zpty
 setup=$(mktemp)
 trap 'rm -f $setup' EXIT

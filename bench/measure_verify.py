@@ -1,21 +1,21 @@
 #!/usr/bin/env python3
-"""Measures the verifying of archives and compares it with the goals; README.md beside this script says what and how.
+"""Measures the verification of archives and compares the figures with the goals of README.md in this folder.
 
-usage: verify [PROGRAM]      default: the program that the script warcdx at the top of the repository builds
+usage: measure_verify.py [PROGRAM]
 
-Makes archives of 1 GB in a temporary folder (TMPDIR) and prints a table. The status is 1 where a goal is missed.
+Makes archives of 1 GB in a temporary folder (TMPDIR) and prints a table. The exit status is 0, or 1 if a goal is missed.
 """
 import pathlib
 import sys
 import tempfile
 from functools import partial
 
-from archives import Archive, one_long_record
-from measuring import Figure, expect, least_times, memory_figures, processor_time, program_of, report, write_archive
+from make_archives import Archive, one_long_record
+from measuring import Figure, expect, least_times, memory_figures, processor_time, read_program, report, write_archive
 
 
-def main(words):
-    verifying = [program_of(words), "verify", "-"]
+def main() -> int:
+    verifying = [read_program(__doc__), "verify", "-"]
     long, short = Archive(20_000, 50), Archive(1_000, 50)
 
     with tempfile.TemporaryDirectory(prefix="warcdx-bench-") as folder:
@@ -45,4 +45,5 @@ def main(words):
     return report(times, figures + memory_figures(verifying, archives, 8))
 
 
-sys.exit(main(sys.argv[1:]))
+if __name__ == "__main__":
+    sys.exit(main())

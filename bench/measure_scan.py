@@ -1,9 +1,9 @@
 #!/usr/bin/env python3
-"""Measures queries over archives and compares them with the goals; README.md beside this script says what and how.
+"""Measures the queries over archives and compares the figures with the goals of README.md in this folder.
 
-usage: scan [PROGRAM]      default: the program that the script warcdx at the top of the repository builds
+usage: measure_scan.py [PROGRAM]
 
-Makes archives of 900 MB in a temporary folder (TMPDIR) and prints a table. The status is 1 where a goal is missed.
+Makes archives of 900 MB in a temporary folder (TMPDIR) and prints a table. The exit status is 0, or 1 if a goal is missed.
 """
 import filecmp
 import pathlib
@@ -11,8 +11,8 @@ import subprocess
 import sys
 import tempfile
 
-from crawls import Crawl
-from measuring import Figure, least_times, peak_of_run, program_of, report, run_time, write_archive
+from make_crawls import Crawl
+from measuring import Figure, least_times, peak_of_run, read_program, report, run_time, write_archive
 
 CAPTURES = 500_000
 PAGES = ("1000", "key=&matchType=prefix")
@@ -25,8 +25,8 @@ def written(command, path):
     return path
 
 
-def main():
-    program = program_of(sys.argv[1:])
+def main() -> int:
+    program = read_program(__doc__)
     with tempfile.TemporaryDirectory(prefix="warcdx-bench-") as name:
         folder = pathlib.Path(name)
         large, many, index = folder / "large.warc", folder / "many.warc", folder / "index"

@@ -1,10 +1,9 @@
 #!/usr/bin/env python3
-"""Measures merging and checking of indexes and compares them with the goals; README.md beside this script says what and how.
+"""Measures the merging and checking of indexes and compares the figures with the goals of README.md in this folder.
 
-usage: merge [PROGRAM]      default: the program that the script warcdx at the top of the repository builds
+usage: measure_merge.py [PROGRAM]
 
-Makes indexes of 1,000,000 lines in a temporary folder (TMPDIR, 2 GB) and prints a table. The status is 1 where a goal is
-missed.
+Makes indexes of 1,000,000 lines in a temporary folder (TMPDIR, 2 GB) and prints a table. The exit status is 0, or 1 if a goal is missed.
 """
 import filecmp
 import pathlib
@@ -12,14 +11,14 @@ import subprocess
 import sys
 import tempfile
 
-from measuring import Figure, least_times, peak, program_of, report, run_time
+from measuring import Figure, least_times, peak, read_program, report, run_time
 
 LINES = 1_000_000
 SORT = ("env", "LC_ALL=C", "sort", "-s", "-k1,2")
 
 
 def expect_merge(merging, files, wanted, folder):
-    """Ends the script where the merge of these files isn't the wanted one."""
+    """Ends the script if the merge of these files isn't the wanted one."""
     written = folder / "merged"
     with open(written, "wb") as out:
         subprocess.run([*merging, *files], stdout=out, check=True)
@@ -29,17 +28,17 @@ def expect_merge(merging, files, wanted, folder):
 
 
 def expect_check(checking, path):
-    """Ends the script where the index isn't found to be good."""
+    """Ends the script if the index isn't found to be good."""
     said = subprocess.run([*checking, path], stdout=subprocess.PIPE, check=True).stdout
     if said != f"{path} {LINES}\n".encode():
         sys.exit(f"check says {said} of {path}")
 
 
-def main():
-    program = program_of(sys.argv[1:])
+def main() -> int:
+    program = read_program(__doc__)
     with tempfile.TemporaryDirectory() as name:
         folder = pathlib.Path(name)
-        subprocess.run([sys.executable, pathlib.Path(__file__).with_name("indexes.py"), "merge", folder, str(LINES)], check=True)
+        subprocess.run([sys.executable, pathlib.Path(__file__).with_name("make_indexes.py"), "merge", folder, str(LINES)], check=True)
         merging, checking = [program, "merge"], [program, "check"]
         half = sorted(folder.glob("half-4-*"))
         parts = {count: sorted(folder.glob(f"whole-{count}-*")) for count in (1, 4, 64, 1024)}

@@ -1,12 +1,25 @@
-#!/bin/bash
-# Times queries against the crates that they stand on, in one process, and exits 1 where a ratio passes its limit. The small
-# program is written into a copy of the workspace in a temporary folder.
+#!/usr/bin/env bash
+# Measures the calls that read queries and match lines, and compares them with calls of the crates that they use.
+#
+# usage: measure_query_calls.sh
+#
+# A small program makes the measurements in one process. It is proved and built in a copy of the crates in a temporary folder.
+# Prints nanoseconds and ratios. The exit status is 0, or 1 if a ratio exceeds its goal:
 #
 #   reading a query of 200 bytes, over Url::parse of its target                   at most 3
 #   matching 100,000 lines that are held, over the reading of those lines         at most 0.50
 #     each with an exact and with a prefix query, of lines that were read and of kept lines
+#
+# Needs the Rattle kit, with its rt on the PATH.
 set -euo pipefail
-root=$(cd "$(dirname "$0")/.." && pwd)
+source "$(dirname "$0")/../tests/program.sh"
+read_help "$@"
+if [ $# -gt 0 ]; then stop_usage "unexpected argument '$1'"; fi
+if ! type -P rt > /dev/null; then
+    echo "$script: rt is not on the PATH" >&2
+    exit 77
+fi
+
 copy=$(mktemp -d)
 trap 'rm -rf "$copy"' EXIT
 mkdir -p "$copy/crates/bench_queries/src"

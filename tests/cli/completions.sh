@@ -1,0 +1,81 @@
+#!/usr/bin/env bash
+# Asks a shell for the completions of command lines of warcdx, and compares them with the table in this file.
+#
+# usage: completions.sh SHELL [PROGRAM]      SHELL is bash, zsh or fish
+#
+# The names of the commands are those that `PROGRAM --help` prints. Prints a line for each case, and the counts. The exit status is 0, or 1
+# if a case differs. Needs Debian's packages zsh, also for bash, and fish.
+set -euo pipefail
+source "$(dirname "$0")/../program.sh"
+read_help "$@"
+shell=${1-}
+case $shell in
+    bash | zsh) need zsh ;;
+    fish) need fish ;;
+    *) stop_usage "'$shell' isn't bash, zsh or fish" ;;
+esac
+read_program "${@:2}"
+
+completions=$root/completions
+work=$(mktemp -d)
+trap 'rm -rf "$work"' EXIT
+
+sorted() {
+    LC_ALL=C sort | paste --serial --delimiters=' '
+}
+
+# shellcheck disable=SC2016 # fish expands it
+fish_offers='source $argv[1]; complete -C $argv[2] | cut -f 1'
+
+offered_after() { # LINE: the completions that the shell offers, in order
+    case $shell in
+        bash) zsh "$root/tests/cli/complete_bash.zsh" "$completions/warcdx.bash" "$1" ;;
+        zsh) zsh "$root/tests/cli/complete_zsh.zsh" "$completions" "$1" ;;
+        fish) fish --no-config -c "$fish_offers" "$completions/warcdx.fish" "$1" ;;
+    esac < /dev/null | sorted
+}
+
+expect_offers() { # on standard input lines, each with the completions that are wanted after it
+    local line wanted
+    while IFS='|' read -r line wanted; do
+        expect "'$line'" "$wanted" "$(offered_after "$line")"
+    done
+}
+
+# The shell finds the program, and neither reads nor writes the files of the user.
+mkdir "$work/bin" "$work/home" "$work/archives" "$work/indexes"
+ln -s "$program" "$work/bin/warcdx"
+export PATH=$work/bin:$PATH HOME=$work/home
+unset XDG_CONFIG_HOME XDG_DATA_HOME XDG_CACHE_HOME ZDOTDIR
+commands=$(warcdx --help | sed -n '/^Commands:/,/^$/s/^  \([a-z]*\) .*/\1/p' | sorted)
+
+touch "$work/archives/a.warc" "$work/indexes/a.cdxj"
+cd "$work/archives"
+expect_offers << END
+warcdx |$commands
+warcdx se|serve
+warcdx list --h|--help
+warcdx list --t|
+warcdx index --t|--types
+warcdx index --types re|resource response revisit
+warcdx scan --types response,re|response,resource response,revisit
+warcdx scan --types resource |
+warcdx scan --types resource 5 url=x |a.warc
+warcdx list |a.warc
+warcdx verify |a.warc
+warcdx index |a.warc
+warcdx scan 5 url=x |a.warc
+warcdx get 0 |a.warc
+warcdx get |
+warcdx query |key= url=
+END
+cd "$work/indexes"
+expect_offers << END
+warcdx merge |a.cdxj
+warcdx check |a.cdxj
+warcdx serve |a.cdxj
+warcdx query url=x |a.cdxj
+warcdx pages 5 url=x |a.cdxj
+warcdx pages 5 url=x a.cdxj |a.cdxj
+END
+end_script

@@ -1,0 +1,60 @@
+#!/usr/bin/env bash
+# Checks the manual page docs/warcdx.1: its form, and that it has what the program's help and the other pages have.
+#
+# usage: manual.sh [PROGRAM]
+#
+# `mandoc -T lint -W warning` has to be silent. The page has to have the program's version; a synopsis and a section for each command that the help
+# lists; each exit status; each line of standard error of docs/COMMANDS.md; and each cause of docs/RECORDS.md and docs/QUERY.md.
+#
+# Prints a line for each check, and the counts. The exit status is 0, or 1 if a check fails. Needs Debian's packages mandoc and bsdextrautils.
+set -euo pipefail
+source "$(dirname "$0")/../program.sh"
+read_program "$@"
+need mandoc col:bsdextrautils
+
+page=$root/docs/warcdx.1
+work=$(mktemp -d)
+trap 'rm -rf "$work"' EXIT
+
+# In wide lines, so that none is cut.
+mandoc -T utf8 -O width=200 "$page" | col -bx > "$work/page"
+"$program" --help > "$work/help"
+
+in_a_line() {
+    LC_ALL=C sort | paste --serial --delimiters=' '
+}
+
+commands_between() { # START END INDENT: the commands that begin lines with this indent, from START to END
+    sed -n "/^$1/,/^$2/s/^$3\([a-z]*\).*/\1/p" "$work/page" | grep -v '^$' | in_a_line
+}
+
+expect_on_page() { # CASE: the lines on standard input, each of which has to begin a line of the page
+    local line missing="" count=0
+    while read -r line; do
+        count=$((count + 1))
+        grep --quiet -- "^ *$line" "$work/page" || missing+=" '$line'"
+    done
+    if [ "$count" = 0 ]; then missing=" any"; fi
+    expect "$1, $count" "" "$missing"
+}
+
+diagnostics() { # of docs/COMMANDS.md
+    grep --only-matching "\`warcdx: [^\`]*\`" "$root/docs/COMMANDS.md" | tr --delete "\`"
+}
+
+causes() { # in the tables of docs/RECORDS.md and docs/QUERY.md
+    {
+        grep --no-filename --only-matching "^|[ 0-9]*|\{0,1\} *\`[A-Z][^|]*\` |" "$root"/docs/{RECORDS,QUERY}.md
+        grep --only-matching "\`refused [A-Z][A-Za-z]*\`" "$root/docs/QUERY.md" | sed 's/refused //'
+    } | grep --only-matching "\`[A-Z][a-z][A-Za-z]*\`" | tr --delete "\`"
+}
+
+commands=$(sed -n '/^Commands:/,/^$/s/^  \([a-z]*\) .*/\1/p' "$work/help" | in_a_line)
+expect "mandoc -T lint" "" "$(mandoc -T lint -W warning "$page")"
+expect "version" "$(sed -n '1s/^warcdx \([0-9.]*\).*/version \1/p' "$work/help")" "$(grep --only-matching 'version [0-9.]*[0-9]' "$work/page" | tail --lines=1)"
+expect "synopses" "$commands" "$(commands_between SYNOPSIS DESCRIPTION ' *warcdx ')"
+expect "sections" "$commands" "$(commands_between DESCRIPTION QUERIES '   ')"
+expect "exit statuses" "0 1 2 3" "$(sed -n '/^EXIT STATUS/,/^EXAMPLES/s/^ *\([0-9]\) .*/\1/p' "$work/page" | in_a_line)"
+expect_on_page "lines of standard error" < <(diagnostics)
+expect_on_page "causes" < <(causes)
+end_script
