@@ -162,23 +162,22 @@ fn tasks_on_indexes_do_what_they_say(rt: HostRuntime) -> Result<(), Fail> {
     Ok(remove_files(&rt)?)
 }
 
-/// `.` is a directory, whose size is known and whose bytes can't be read.
+/// `.` is a directory, which can't be read, and there is no `none`.
 #[test]
-fn tasks_on_a_directory_say_that_it_cannot_be_read(rt: HostRuntime) -> Result<(), Fail> {
+fn tasks_on_indexes_report_files_that_fail(rt: HostRuntime) -> Result<(), Fail> {
     let alloc = rt.alloc();
-    let folder = |alloc| owned(alloc, &["."]);
+    let merge = Task::Merge {
+        names: owned(alloc, &["."])?,
+    };
+    let check = Task::Check {
+        names: owned(alloc, &["."])?,
+    };
+    let serve = Task::Serve {
+        names: owned(alloc, &["none"])?,
+    };
     let read = Outcome::Answer(AnswerFault::Read(0));
-    let merge = || Ok(Task::Merge {
-        names: folder(alloc)?,
-    });
-    let check = || Ok(Task::Check {
-        names: folder(alloc)?,
-    });
-    let serve = || Ok(Task::Serve {
-        names: folder(alloc)?,
-    });
-    assert!(rt; fails(&rt, merge(), read)?);
-    assert!(rt; fails(&rt, check(), read)?);
-    assert!(rt; fails(&rt, serve(), read)?);
+    assert!(rt; fails(&rt, Ok(merge), read)?);
+    assert!(rt; fails(&rt, Ok(check), read)?);
+    assert!(rt; fails(&rt, Ok(serve), Outcome::CannotOpen)?);
     Ok(())
 }
