@@ -1,4 +1,4 @@
 //! Devices that fail, and indexes at fault.
-mod devices;
+mod failing_devices;
 mod lines;
 mod one_index;
