@@ -1,22 +1,24 @@
 #!/usr/bin/env python3
-"""Proves and builds the program, with crates side by side where neither stands on the other.
+"""Proves and builds the program, crates side by side where none of them stands on another.
 
-usage: build.py [-h] [--processors N]
+usage: build.py [--processors N]
 
-The toolchain's rt works on one crate of a checkout at a time. So each crate is proved in a room of its own, a folder with its
-sources and with those of the crates below it, and what was made there is then moved into the crate's folder. A crate is proved
-as soon as the crates below it are. What is already proved isn't proved again.
+rt works on one crate of a checkout at a time. So each crate is proved in a folder of its own, with its sources and those of the crates below it. What was made
+there is then moved into the crate's folder. A crate is begun as soon as the crates below it are proved. A crate that is proved already isn't proved again.
 
-Prints a line on standard error for each crate as it begins and as it ends, with its time. What rt printed for a crate is in
-crates/NAME/out/build.log. At the first crate that isn't proved, it prints the end of that log; the exit status is then 1.
-Needs rt on the PATH.
+Prints a line on standard error when a crate begins and when it ends. The file crates/NAME/out/build.log contains what rt printed for a crate. If a crate
+isn't proved, the script ends the others and prints the last lines of that file. The exit status is 0, 1 if a crate isn't proved, or 2 after a usage error.
+
+Needs rt on the PATH, and 4 GB of memory for each processor that it uses.
 """
 import argparse
 import os
+import re
 import shutil
 import subprocess
 import sys
 import time
+from collections.abc import Iterator
 from concurrent.futures import FIRST_COMPLETED, Future, ThreadPoolExecutor, wait
 from pathlib import Path
 from typing import NamedTuple
@@ -24,20 +26,22 @@ from typing import NamedTuple
 ROOT = Path(__file__).resolve().parents[1]
 CRATES = ROOT / "crates"
 PROGRAM = "warcdx"
-ROOMS = CRATES / PROGRAM / "out" / "rooms"
+ROOMS = CRATES / PROGRAM / "out/rooms"
 SOURCES = ("src", "specs", "proofs")
-MEMORY = 4 << 30  # bytes that a crate may need while it is proved
+MEMORY = 4 << 30  # bytes, for each processor
 LAST_LINES = 30
 
 
 class NotProved(Exception):
-    """A crate wasn't proved; its log says why."""
+    """A crate isn't proved."""
 
 
 class Crate(NamedTuple):
+    """A crate, all crates below it, and the lines of its sources, proofs included."""
+
     name: str
     below: frozenset[str]
-    lines: int  # of its sources, proofs included
+    lines: int
 
     @property
     def folder(self) -> Path:
@@ -45,7 +49,7 @@ class Crate(NamedTuple):
 
     @property
     def log(self) -> Path:
-        return self.folder / "out" / "build.log"
+        return self.folder / "out/build.log"
 
 
 def say(text: str) -> None:
@@ -53,34 +57,34 @@ def say(text: str) -> None:
 
 
 def direct_dependencies() -> dict[str, list[str]]:
-    """Returns the crates of crates.txt, each with the crates of this repository that it names."""
+    """Returns the crates of crates.txt, each with the crates of this repository that its line names."""
     lines = (line.partition("#")[0].partition(":") for line in (ROOT / "crates.txt").read_text().splitlines())
-    named = {name.strip(): words.split() for name, colon, words in lines if colon}
-    return {name: [word for word in words if word in named] for name, words in named.items()}
+    named = {name.strip(): names.split() for name, colon, names in lines if colon}
+    return {name: [other for other in names if other in named] for name, names in named.items()}
 
 
-def lines_in(crate: str) -> int:
+def lines_of(crate: str) -> int:
     files = (file for part in SOURCES for file in (CRATES / crate / part).rglob("*") if file.is_file())
     return sum(file.read_bytes().count(b"\n") for file in files)
 
 
 def crates_of_program() -> list[Crate]:
-    """Returns the program's crate and those below it, each after the crates that it stands on."""
+    """Returns the crate of the program and those below it, each after the crates that it stands on."""
     direct = direct_dependencies()
     found: dict[str, Crate] = {}
 
     def find(name: str) -> frozenset[str]:
         if name not in found:
             below = frozenset(direct[name]).union(*map(find, direct[name]))
-            found[name] = Crate(name, below, lines_in(name))
-        return found[name].below
+            found[name] = Crate(name, below, lines_of(name))
+        return found[name].below | {name}
 
     find(PROGRAM)
     return list(found.values())
 
 
 def chain_lengths(crates: list[Crate]) -> dict[str, int]:
-    """Returns for each crate the lines of the longest chain of crates that it begins, each standing on the one before."""
+    """Returns for each crate the lines of the longest chain of crates that begins with it, each standing on the one before."""
     lengths: dict[str, int] = {}
     for crate in reversed(crates):
         above = (lengths[other.name] for other in crates if crate.name in other.below)
@@ -89,18 +93,18 @@ def chain_lengths(crates: list[Crate]) -> dict[str, int]:
 
 
 def make_room(crate: Crate) -> Path:
-    """Makes a checkout of the crate and of those below it, whose built libraries are links to the files of this one."""
+    """Makes a checkout of the crate and of those below it. What was built of them before is there by links."""
     room = ROOMS / crate.name
     shutil.rmtree(room, ignore_errors=True)
     for name in (crate.name, *crate.below):
         for part in SOURCES:
             if (CRATES / name / part).is_dir():
                 shutil.copytree(CRATES / name / part, room / "crates" / name / part)
-        built = CRATES / name / "out"
-        for part in ("rlib", "incremental"):
-            if (built / part).is_dir() and (part == "rlib" or name == crate.name):
-                shutil.copytree(built / part, room / "crates" / name / "out" / part, copy_function=os.link)
-    shutil.copy(ROOT / "crates.txt", room)
+        for part in ("rlib", "incremental") if name == crate.name else ("rlib",):
+            if (CRATES / name / "out" / part).is_dir():
+                shutil.copytree(CRATES / name / "out" / part, room / "crates" / name / "out" / part, copy_function=os.link)
+    lines = (line for line in (ROOT / "crates.txt").read_text().splitlines() if line.partition(":")[0].strip() in {crate.name, *crate.below})
+    (room / "crates.txt").write_text("\n".join([*lines, ""]))
     return room
 
 
@@ -113,73 +117,95 @@ def keep(room: Path, crate: Crate) -> None:
             made.rename(kept)
 
 
-def call_rt(arguments: list[str], folder: Path, log: Path) -> None:
-    with log.open("wb") as output:
-        done = subprocess.run(["rt", *arguments], cwd=folder, stdin=subprocess.DEVNULL, stdout=output, stderr=subprocess.STDOUT)
-    if done.returncode:
-        raise NotProved
+class Builder:
+    """The runs of rt."""
+
+    def __init__(self) -> None:
+        self.running: set[subprocess.Popen[bytes]] = set()
+        self.is_ended = False
+
+    def prove(self, crate: Crate, jobs: int) -> float:
+        """Proves the crate, or builds the program. Returns the seconds that it took."""
+        began = time.monotonic()
+        crate.log.parent.mkdir(parents=True, exist_ok=True)
+        if crate.name == PROGRAM:
+            self.call_rt(["run", "--jobs", str(jobs)], crate.folder, crate.log)
+        else:
+            room = make_room(crate)
+            try:
+                self.call_rt(["lib", "--jobs", str(jobs)], room / "crates" / crate.name, crate.log)
+                keep(room, crate)
+            finally:
+                shutil.rmtree(room, ignore_errors=True)
+        return time.monotonic() - began
+
+    def call_rt(self, arguments: list[str], folder: Path, log: Path) -> None:
+        streams = {"stdin": subprocess.DEVNULL, "stderr": subprocess.STDOUT}
+        with log.open("wb") as output, subprocess.Popen(["rt", *arguments], cwd=folder, stdout=output, **streams) as process:
+            self.running.add(process)
+            if self.is_ended:
+                process.terminate()
+            status = process.wait()
+            self.running.discard(process)
+        if status:
+            raise NotProved
+
+    def end(self) -> None:
+        """Ends the runs of rt, and those that begin later."""
+        self.is_ended = True
+        for process in list(self.running):
+            process.terminate()
 
 
-def prove(crate: Crate, jobs: int) -> None:
-    crate.log.parent.mkdir(parents=True, exist_ok=True)
-    if crate.name == PROGRAM:
-        call_rt(["run", "--jobs", str(jobs)], crate.folder, crate.log)
-        return
-    room = make_room(crate)
-    try:
-        call_rt(["lib", "--jobs", str(jobs)], room / "crates" / crate.name, crate.log)
-        keep(room, crate)
-    finally:
-        shutil.rmtree(room, ignore_errors=True)
+def free_memory() -> int:
+    """Returns the memory that is free or can be freed, in bytes."""
+    found = re.search(r"MemAvailable:\s+(\d+) kB", Path("/proc/meminfo").read_text())
+    return int(found[1]) << 10 if found else MEMORY
 
 
-def timed(crate: Crate, jobs: int) -> float:
-    began = time.monotonic()
-    prove(crate, jobs)
-    return time.monotonic() - began
-
-
-def memory() -> int:
-    """Returns the free memory of the machine, in bytes."""
-    return os.sysconf("SC_AVPHYS_PAGES") * os.sysconf("SC_PAGE_SIZE")
+def shares(processors: int, crates: list[Crate]) -> Iterator[tuple[Crate, int]]:
+    """Divides the processors among the crates. The first ones get more if there are more processors than crates."""
+    chosen = crates[:processors]
+    for position, crate in enumerate(chosen):
+        share = -(-processors // (len(chosen) - position))
+        processors -= share
+        yield crate, share
 
 
 def build(crates: list[Crate], processors: int) -> None:
-    """Proves the crates, those that begin the longest chains first."""
+    """Proves the crates; of those that can begin, the ones with the longest chains above them come first."""
     lengths = chain_lengths(crates)
     waiting = sorted(crates, key=lambda crate: -lengths[crate.name])
-    done: set[str] = set()
+    proved: set[str] = set()
     running: dict[Future[float], tuple[Crate, int]] = {}
-    most = max(1, min(processors, memory() // MEMORY))
+    builder = Builder()
     with ThreadPoolExecutor(processors) as pool:
         while waiting or running:
-            ready = [crate for crate in waiting if crate.below <= done]
-            idle = most - sum(jobs for _, jobs in running.values())
-            for number, crate in enumerate(ready[:idle]):
-                jobs = max(1, idle // (min(len(ready), idle) - number))
-                idle -= jobs
-                say(f"proving {crate.name}, {len(done) + len(running) + 1} of {len(crates)}; log: {crate.log.relative_to(ROOT)}")
+            idle = processors - sum(share for _, share in running.values())
+            for crate, share in shares(idle, [crate for crate in waiting if crate.below <= proved]):
                 waiting.remove(crate)
-                running[pool.submit(timed, crate, jobs)] = crate, jobs
+                say(f"{crate.name} begins; its log is {crate.log.relative_to(ROOT)}")
+                running[pool.submit(builder.prove, crate, share)] = crate, share
             for ended in wait(running, return_when=FIRST_COMPLETED).done:
                 crate, _ = running.pop(ended)
                 try:
-                    say(f"{crate.name} is proved; {ended.result():.0f} s")
+                    seconds = ended.result()
                 except NotProved:
+                    builder.end()
                     sys.stderr.writelines(crate.log.read_text(errors="replace").splitlines(keepends=True)[-LAST_LINES:])
                     say(f"{crate.name} isn't proved; all that rt printed is in {crate.log.relative_to(ROOT)}")
-                    for other in running:
-                        other.cancel()
                     raise
-                done.add(crate.name)
+                proved.add(crate.name)
+                say(f"{crate.name} is proved, {len(proved)} of {len(crates)}; {seconds:.0f} s")
 
 
 def main() -> int:
-    parser = argparse.ArgumentParser(description=__doc__, formatter_class=argparse.RawDescriptionHelpFormatter)
+    parser = argparse.ArgumentParser(description=__doc__, usage=argparse.SUPPRESS, formatter_class=argparse.RawDescriptionHelpFormatter)
     parser.add_argument("--processors", type=int, default=len(os.sched_getaffinity(0)), metavar="N", help="use at most N processors")
     arguments = parser.parse_args()
+    processors = max(1, min(arguments.processors, free_memory() // MEMORY))
     try:
-        build(crates_of_program(), max(1, arguments.processors))
+        build(crates_of_program(), processors)
     except NotProved:
         return 1
     return 0
