@@ -58,15 +58,12 @@ fn is_checked(
 /// Returns whether a merge has this result, and writes so many bytes.
 fn is_merged<S: Source>(
     alloc: Global,
-    source: S,
+    sources: &mut [S],
     wanted: Result<u64, AnswerFault>,
     length: usize,
-) -> Result<bool, Refused>
-where
-    S: Drop,
-{
+) -> Result<bool, Refused> {
     let mut out = Gather::new(alloc);
-    match merge(alloc, &mut [source], &mut out) {
+    match merge(alloc, sources, &mut out) {
         Err(AnswerFault::Memory | AnswerFault::Write) => Err(Refused::Memory),
         answer => Ok(answer == wanted && out.bytes().len() == length),
     }
@@ -75,18 +72,15 @@ where
 /// Returns whether the query has this result, the number of captures if it succeeds, and writes nothing.
 fn answers_empty<S: Source>(
     alloc: Global,
-    source: S,
+    sources: &mut [S],
     query: &str,
     wanted: Result<u64, AnswerFault>,
-) -> Result<bool, Refused>
-where
-    S: Drop,
-{
+) -> Result<bool, Refused> {
     let Ok(query) = Query::read(alloc, query) else {
         return Err(Refused::Memory);
     };
     let mut out = Gather::new(alloc);
-    let answer = match answer(alloc, &mut [source], &query, &mut out) {
+    let answer = match answer(alloc, sources, &query, &mut out) {
         Err(AnswerFault::Memory | AnswerFault::Write) => return Err(Refused::Memory),
         Err(fault) => Err(fault),
         Ok(report) => Ok(report.given),
@@ -102,15 +96,18 @@ fn is_bad_at(alloc: Global, text: &[u8], offset: u64) -> Result<bool, Refused> {
     let fault = Err(AnswerFault::BadLine(0, offset));
     Ok(
         is_checked(alloc, text, fault)?
-            && is_merged(alloc, SliceSource::new(text), fault, 0)?
-            && answers_empty(alloc, SliceSource::new(text), ALL, fault)?,
+            && is_merged(alloc, &mut [SliceSource::new(text)], fault, 0)?
+            && answers_empty(alloc, &mut [SliceSource::new(text)], ALL, fault)?,
     )
 }
 
 /// Returns whether the text is an index of one line, which a merge writes with a line feed.
 fn is_one_line(alloc: Global, text: &[u8]) -> Result<bool, Refused> {
     let ended = text.len() + usize::from(!text.ends_with(b"\n"));
-    Ok(is_checked(alloc, text, Ok(1))? && is_merged(alloc, SliceSource::new(text), Ok(1), ended)?)
+    Ok(
+        is_checked(alloc, text, Ok(1))?
+            && is_merged(alloc, &mut [SliceSource::new(text)], Ok(1), ended)?,
+    )
 }
 
 #[test]
@@ -271,7 +268,7 @@ fn falling_lines_are_answered_in_part(rt: HostRuntime) -> Result<(), Refused> {
     let text = falling_lines(rt.alloc(), 1_000)?;
     let fault = Err(AnswerFault::OutOfOrder(0, 157));
     assert!(rt; is_checked(rt.alloc(), &text, fault)?);
-    assert!(rt; is_merged(rt.alloc(), SliceSource::new(&text), fault, 0)?);
+    assert!(rt; is_merged(rt.alloc(), &mut [SliceSource::new(&text)], fault, 0)?);
     for (query, above) in QUERIES_OF_FALLING {
         assert!(rt;
             is_answered_in_part(rt.alloc(), &text, query, *above)?,
@@ -320,7 +317,7 @@ fn a_file_that_was_cut_cannot_be_read(rt: HostRuntime) -> Result<(), Fail> {
     let to_merge = FileSource::new(File::open(&rt, "cut.cdxj")?)?;
     let to_ask = FileSource::new(File::open(&rt, "cut.cdxj")?)?;
     fs::write(&rt, "cut.cdxj", cut(BAD_LINES[0], 60))?;
-    assert!(rt; is_merged(rt.alloc(), to_merge, read, 0)?);
-    assert!(rt; answers_empty(rt.alloc(), to_ask, ALL, read)?);
+    assert!(rt; is_merged(rt.alloc(), &mut [to_merge], read, 0)?);
+    assert!(rt; answers_empty(rt.alloc(), &mut [to_ask], ALL, read)?);
     Ok(fs::remove_file(&rt, "cut.cdxj")?)
 }
