@@ -153,9 +153,9 @@ const QUERIES_OF_TORN: &[(&str, Result<u64, AnswerFault>)] = &[
 fn a_torn_line_is_bad_where_it_is_reached(rt: HostRuntime) -> Result<(), Refused> {
     assert!(rt; is_bad_at(rt.alloc(), TORN, 145)?);
     for (query, wanted) in QUERIES_OF_TORN {
-        let source = SliceSource::new(TORN);
+        let sources = &mut [SliceSource::new(TORN)];
         assert!(rt;
-            answers_empty(rt.alloc(), source, query, *wanted)?,
+            answers_empty(rt.alloc(), sources, query, *wanted)?,
             "{query}"
         );
     }
