@@ -23,13 +23,15 @@ pub fn check_all<R: Runtime + AllocGlobal, F: Opener, O: Output>(
     names: &[String],
     out: &mut O,
 ) -> Outcome
-    ensures { ChecksIndexes (F.index_bytes files.now) (texts names.now) (O.written out.old) (O.written out.new) result }
+    ensures { ChecksIndexes (F.index_bytes files.now) (texts names.now)
+        (O.written out.old) (O.written out.new) result }
 {
     with_each(
         names,
         out,
         |out, name|
-            ensures { ChecksOne (F.index_bytes files.entry.now) (O.written out.old) name.now result (O.written out.new) }
+            ensures { ChecksOne (F.index_bytes files.entry.now)
+                (O.written out.old) name.now result (O.written out.new) }
         { check_opened(rt, name, files.open_index(name), out) },
     )
 }

@@ -14,7 +14,8 @@ pub fn with_each<S, F: Fn(&mut S, &str) -> Outcome>(
     act: F,
 ) -> Outcome
     requires { F.IsAlwaysCallable act }
-    ensures { GoesOver (ReturnsWithState F.Fn act) Done state.old (texts names.now) result state.new }
+    ensures { GoesOver (ReturnsWithState F.Fn act) Done
+        state.old (texts names.now) result state.new }
 {
     let mut outcome = Outcome::Done;
     for name in names {

@@ -22,7 +22,8 @@ pub fn fetch<R: Runtime + AllocGlobal, F: Opener, O: Output>(
     out: &mut O,
 ) -> Outcome
     ensures { OpensFirst (IsUnopened result) (out.new ≡ out.old)
-        (WritesRecord offset (F.archive_bytes files.now name.now) result (O.written out.old) (O.written out.new)) }
+        (WritesRecord offset (F.archive_bytes files.now name.now) result
+        (O.written out.old) (O.written out.new)) }
 {
     fetch_opened(rt, offset, name, files.open_archive(name), out)
 }

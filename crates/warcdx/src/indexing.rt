@@ -33,7 +33,8 @@ pub fn index_all<R: Runtime + AllocGlobal, F: Opener, O: Output>(
         names,
         &mut indexer,
         |indexer, name|
-            ensures { AddsOne (F.archive_bytes files.entry.now) indexer.old name.now result indexer.new }
+            ensures { AddsOne (F.archive_bytes files.entry.now)
+                indexer.old name.now result indexer.new }
         { add_opened(rt, indexer, name, files.open_archive(name)) },
     );
     write_index(&indexer, added, out)

@@ -20,7 +20,8 @@ pub fn merge_all<R: Runtime + AllocGlobal, F: Opener, O: Output>(
     out: &mut O,
 ) -> Outcome
     ensures { OpensFirst (AreUnopenedIndexes result) (out.new ≡ out.old)
-        (MergesIndexes (map (F.index_bytes files.now) (texts names.now)) (O.written out.old) (O.written out.new) result) }
+        (MergesIndexes (map (F.index_bytes files.now) (texts names.now))
+        (O.written out.old) (O.written out.new) result) }
 {
     match open_indexes(rt.alloc(), files, names) {
         Ok(mut indexes) => merge_opened(rt, names, &mut indexes, out),

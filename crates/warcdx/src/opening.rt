@@ -110,7 +110,8 @@ pub fn open_indexes<F: Opener>(
     names: &[String],
 ) -> Result<Vec<F::Index>, Outcome>
     ensures { MatchResult result
-        (λ indexes. map F.Index.text indexes.items ≡ map (F.index_bytes files.now) (texts names.now))
+        (λ indexes.
+        map F.Index.text indexes.items ≡ map (F.index_bytes files.now) (texts names.now))
         AreUnopenedIndexes }
 {
     let mut indexes = Vec::new(alloc);

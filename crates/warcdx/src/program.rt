@@ -99,7 +99,8 @@ pub fn perform<R: Runtime + AllocGlobal, F: Opener, O: Output>(
     task: &Task,
     out: &mut O,
 ) -> Outcome
-    ensures { Performs (F.archive_bytes files.now) (F.index_bytes files.now) (F.input_bytes files.now)
+    ensures { Performs
+        (F.archive_bytes files.now) (F.index_bytes files.now) (F.input_bytes files.now)
         (O.written out.old) (O.written out.new) (out.new ≡ out.old) result (view task.now) }
 {
     match task {

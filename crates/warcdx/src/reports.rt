@@ -33,7 +33,8 @@ pub fn report_on<R: Runtime + AllocGlobal, F: Opener, O: Output>(
     report: ArchiveReport,
     out: &mut O,
 ) -> Outcome
-    ensures { ReportsOn (F.archive_bytes files.now) report (texts names.now) (O.written out.old) (O.written out.new) result }
+    ensures { ReportsOn (F.archive_bytes files.now) report (texts names.now)
+        (O.written out.old) (O.written out.new) result }
 {
     let among = names.len();
     with_each(

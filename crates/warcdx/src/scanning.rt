@@ -29,7 +29,8 @@ pub fn scan_all<R: Runtime + AllocGlobal, F: Opener, O: Output>(
     names: &[String],
     out: &mut O,
 ) -> Outcome
-    ensures { ScansNamed (F.archive_bytes files.now) (includes types) sizes.now query.now (texts names.now)
+    ensures { ScansNamed (F.archive_bytes files.now) (includes types)
+        sizes.now query.now (texts names.now)
         (O.written out.old) (O.written out.new) (out.new ≡ out.old) result }
 {
     match read_query(rt, query) {
@@ -67,7 +68,8 @@ fn open_archives<F: Opener>(
     names: &[String],
 ) -> Result<Vec<Named<F::Archive>>, Outcome>
     ensures { MatchResult result
-        (λ archives. AreOpened F.Archive.remaining (F.archive_bytes files.now) (texts names.now) archives.items)
+        (λ archives. AreOpened F.Archive.remaining (F.archive_bytes files.now)
+        (texts names.now) archives.items)
         IsUnopened }
 {
     let mut archives = Vec::new(alloc);
@@ -88,7 +90,8 @@ fn push_named<I: Drop>(
 ) -> Result<(), AllocError>
     ensures names { IfOk result (λ _.
         archive_names archives.new.items ≡ archive_names archives.old.items ++ name.now ∷ []) }
-    ensures inputs { IfOk result (λ _. inputs archives.new.items ≡ inputs archives.old.items ++ input ∷ []) }
+    ensures inputs { IfOk result (λ _.
+        inputs archives.new.items ≡ inputs archives.old.items ++ input ∷ []) }
 {
     let name = String::from_str(alloc, name)?;
     archives.push(Named { name, input })?;
