@@ -1,5 +1,5 @@
 //! Records by their offsets.
-use crate::records::prefixes::prefix_gives;
+use crate::prefixes::prefix_gives;
 use capture_core::CaptureFault;
 use fixtures::{RESOURCE, RESPONSE, Refused, cut, three_records};
 use index_core::{IndexFault, get};

@@ -1,7 +1,7 @@
 //! Conversations: the replies to the lines of an input.
-use crate::small_indexes::{APART, Rows, index_texts, slices};
+use crate::small_indexes::{APART, index_texts, slices};
 use devices::{Fuse, Gather, Slice};
-use fixtures::{FIRST_OF_2016, Refused, joined, padded};
+use fixtures::{FIRST_OF_2016, Refused, Rows, joined, padded};
 use query_core::{AnswerFault, serve};
 use std::alloc::{AllocError, Global};
 use std::test::Fail;

@@ -1,34 +1,16 @@
 //! Small indexes, and sources over them.
-use fixtures::{FIRST_OF_2016, Row, index_text};
+use fixtures::{FIRST_OF_2016, Rows, index_text};
 use query_core::{AnswerFault, FileSource, SliceSource};
 use std::alloc::{AllocError, Global};
 use std::fs::{self, File, Files};
 use std::rt::Runtime;
 use std::test::Fail;
 
-/// The lines of an index.
-pub type Rows = &'static [Row];
-
-/// Hosts of one domain, and one of another.
-pub const HOSTS: Rows = &[
-    ("com,example)/", FIRST_OF_2016, "a.warc", 0),
-    ("com,example,a)/", FIRST_OF_2016, "a.warc", 1),
-    ("com,example-shop)/", FIRST_OF_2016, "a.warc", 2),
-    ("com,example:8080)/", FIRST_OF_2016, "a.warc", 3),
-];
-
 /// Three indexes of one line each, with the same key and stamp.
 pub const APART: &[Rows] = &[
     &[("com,example)/", FIRST_OF_2016, "b.warc", 10)],
     &[("com,example)/", FIRST_OF_2016, "a.warc", 20)],
     &[("com,example)/", FIRST_OF_2016, "a.warc", 5)],
-];
-
-/// Three keys.
-pub const LETTER_ROWS: Rows = &[
-    ("a)/", FIRST_OF_2016, "a.warc", 0),
-    ("b)/", FIRST_OF_2016, "a.warc", 1),
-    ("c)/", FIRST_OF_2016, "a.warc", 2),
 ];
 
 /// Returns the result of a call that writes into memory. A failed allocation of the output is a write error there; here

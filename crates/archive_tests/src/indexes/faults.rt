@@ -1,6 +1,6 @@
 //! What an indexer holds, and writes, after faults.
 use super::writes;
-use crate::records::prefixes::prefix_gives;
+use crate::prefixes::prefix_gives;
 use capture_core::{CaptureFault, Types};
 use fixtures::{RESOURCE_LINE, RESPONSE_LINE, Refused, cut, joined, three_records};
 use index_core::{IndexFault, Indexer};

@@ -1,6 +1,6 @@
 //! Listings of archives.
 use super::settled;
-use crate::records::prefixes::prefix_gives;
+use crate::prefixes::prefix_gives;
 use fixtures::{RESOURCE, RESPONSE, Refused, cut, joined, three_records};
 use index_core::list;
 use std::alloc::{AllocError, Global};

@@ -1,9 +1,7 @@
 //! Answers to queries over indexes.
-use crate::small_indexes::{
-    APART, HOSTS, LETTER_ROWS, Rows, empty_sources, files, in_memory, index_texts, slices,
-};
+use crate::small_indexes::{APART, empty_sources, files, in_memory, index_texts, slices};
 use devices::Gather;
-use fixtures::{FIRST_OF_2016, IMAGE, LETTERS, PAGE, rising_lines};
+use fixtures::{FIRST_OF_2016, HOSTS, IMAGE, LETTER_ROWS, LETTERS, PAGE, Rows, rising_lines};
 use query_core::{AnswerFault, Query, Report, SliceSource, Source, answer};
 use std::alloc::Global;
 use std::rt::Runtime;

@@ -1,9 +1,7 @@
 //! The pages of queries, one after another.
-use crate::small_indexes::{
-    APART, HOSTS, LETTER_ROWS, Rows, empty_sources, files, in_memory, index_texts, slices,
-};
+use crate::small_indexes::{APART, empty_sources, files, in_memory, index_texts, slices};
 use devices::Gather;
-use fixtures::Refused;
+use fixtures::{HOSTS, LETTER_ROWS, Refused, Rows};
 use query_core::{AnswerFault, Query, SliceSource, Source, answer, pages};
 use std::alloc::Global;
 use std::rt::Runtime;

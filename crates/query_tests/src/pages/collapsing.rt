@@ -1,7 +1,7 @@
 //! Queries that collapse captures with a part in common.
-use crate::small_indexes::{Rows, in_memory};
+use crate::small_indexes::in_memory;
 use devices::Gather;
-use fixtures::{FIRST_OF_2016, index_text, rising_lines};
+use fixtures::{FIRST_OF_2016, Rows, index_text, rising_lines};
 use query_core::{Query, SliceSource, answer, pages};
 use std::alloc::Global;
 use std::test::Fail;

@@ -1,7 +1,6 @@
 //! Which lines queries select.
-use crate::small_indexes::{HOSTS, LETTER_ROWS, Rows};
 use cdxj_core::{Line, LineRef};
-use fixtures::{FOREIGN, index_lines};
+use fixtures::{FOREIGN, HOSTS, LETTER_ROWS, Rows, index_lines};
 use query_text::{Query, QueryFault};
 use std::alloc::Global;
 use std::test::Fail;

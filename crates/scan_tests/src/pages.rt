@@ -1,5 +1,5 @@
 //! What scans write, and which they refuse.
-use super::runs::{ARCHIVES, Archive, Case, PAGED, PAGES, QUERY, SOUND, scanned};
+use crate::runs::{ARCHIVES, Archive, Case, PAGED, PAGES, QUERY, SOUND, scanned};
 use capture_core::{CaptureFault, Types};
 use fixtures::{METADATA, RESOURCE, RESPONSE};
 use index_core::IndexFault;

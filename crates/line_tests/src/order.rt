@@ -1,5 +1,5 @@
 //! The order of entries and of lines.
-use super::writing::{HOME, Members, entry};
+use crate::writing::{HOME, Members, entry};
 use cdxj_core::{Entry, LineFault, LineRef, in_order};
 use std::alloc::{AllocError, Global};
 

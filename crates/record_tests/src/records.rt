@@ -1,7 +1,6 @@
 //! Records, their heads and their faults.
 mod faults;
 mod head_limits;
-pub mod prefixes;
 mod reading;
 
 use std::alloc::Global;

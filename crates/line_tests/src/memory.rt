@@ -1,6 +1,6 @@
 //! Lines that are read without memory: these tests pass whichever allocation is refused after the first line was read.
-use super::limits::has_pair;
-use super::reading::has_member;
+use crate::limits::has_pair;
+use crate::reading::has_member;
 use cdxj_core::{Field, Line, LineRef};
 use fixtures::FOREIGN;
 use std::test::Fail;

@@ -1,5 +1,5 @@
 //! Scans whose archives or output fail, and those of many archives.
-use super::runs::{Devices, PAGED, PAGES, SOUND, scanned, with_memory};
+use crate::runs::{Devices, PAGED, PAGES, SOUND, scanned, with_memory};
 use capture_core::{CaptureFault, Types};
 use devices::{Fuse, Gather, Slice};
 use fixtures::{RESOURCE, Refused};

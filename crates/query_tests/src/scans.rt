@@ -1,4 +1,0 @@
-//! Scans of archives.
-mod faults;
-mod pages;
-mod runs;

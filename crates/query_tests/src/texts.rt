@@ -1,4 +1,0 @@
-//! The texts of queries.
-mod options;
-mod refusals;
-mod targets;

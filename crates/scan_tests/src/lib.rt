@@ -1,0 +1,9 @@
+//! Tests of queries over archives that have no index: what no clause states, and values from standards or worked out by hand.
+#![tactic(auto)]
+
+#[cfg(test)]
+mod faults;
+#[cfg(test)]
+mod pages;
+#[cfg(test)]
+mod runs;
