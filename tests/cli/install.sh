@@ -20,6 +20,7 @@ trap 'rm -rf "$work"' EXIT
 release=$work/release
 home="$work/a home"
 page=$root/docs/INSTALL.md
+version=$(< "$root/VERSION")
 listed='0 264 response'
 
 run_blocks() { # START..: runs these blocks of the page in one shell, in the folder of the release
@@ -34,16 +35,17 @@ files_of() { # FOLDER
 
 mkdir "$home" "$work/local"
 "$root/tools/release" --output "$release" "$program" > "$work/output"
-expect "the checksums" $'warcdx-'"$(< "$root/VERSION")"$'-x86_64-linux.tar.gz: OK\nwarcdx_'"$(< "$root/VERSION")"$'_amd64.deb: OK' \
-    "$(run_blocks 'sha256sum --check --ignore-missing')"
+printf '%s: OK\n' "warcdx-$version-x86_64-linux.tar.gz" "warcdx_${version}_amd64.deb" > "$work/wanted"
+run_blocks 'sha256sum --check --ignore-missing' > "$work/found"
+expect_file "the checksums" "$work/wanted" "$work/found"
 
 expect "for one user, in an empty home" "$listed" "$(run_blocks 'mkdir -p ~/.local' 'warcdx list ~/.local')"
 expect "its manual page" "$home/.local/share/man/man1/warcdx.1" \
     "$(env --ignore-environment HOME="$home" PATH="$home/.local/bin:/usr/bin:/bin" man -w warcdx)"
 expect "the checksums of its files" "" "$(cd "$home/.local" && sha256sum --quiet --check share/doc/warcdx/SHA256SUMS 2>&1)"
-chmod 700 "$home/.local"
+chmod 700 "$home/.local/share"
 run_blocks 'mkdir -p ~/.local' > "$work/output"
-expect "the mode of a folder that was there" 700 "$(stat --format=%a "$home/.local")"
+expect "the mode of a folder that was there" 700 "$(stat --format=%a "$home/.local/share")"
 expect "what is removed" "" "$(run_blocks 'cd ~/.local')"
 expect "what is left of it" "" "$(files_of "$home")"
 
