@@ -34,7 +34,7 @@ fi
 
 cache=${XDG_CACHE_HOME:-$HOME/.cache}/warcdx/bookworm
 work=$(mktemp -d)
-trap 'rm -rf "$work"' EXIT
+trap 'rm -rf --one-file-system "$work"' EXIT
 system=$work/system
 home=/home/user
 listed='0 264 response'
@@ -42,7 +42,7 @@ listed='0 264 response'
 make_system() {
     if [ ! -d "$cache" ]; then
         mkdir -p "${cache%/*}"
-        rm -rf "$cache.new"
+        rm -rf --one-file-system "$cache.new"
         debootstrap --variant=minbase bookworm "$cache.new" > "$work/log" || {
             cat "$work/log"
             echo "$script: debootstrap has failed, so nothing was checked" >&2
