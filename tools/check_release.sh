@@ -62,6 +62,15 @@ differing_files() { # those that differ from the file of this repository, each a
     done
 }
 
+absent_scripts() { # that the pages of the examples and samples name, and that aren't beside these pages
+    local page name
+    for page in "$doc"/{examples,examples/cluster,samples}/README.md; do
+        grep --only-matching --extended-regexp "\`[a-z_/]+\.(py|sh)\`" "$page" | tr --delete "\`" | while read -r name; do
+            if [ ! -f "${page%/*}/$name" ]; then echo "$name"; fi
+        done
+    done
+}
+
 in_a_line() {
     paste --serial --delimiters=' '
 }
@@ -90,6 +99,7 @@ END
 )"
     expect "licence" "" "$(diff /usr/share/common-licenses/Apache-2.0 "$doc/LICENSE" 2>&1)"
     expect "version in CHANGELOG.md" "## [$version]" "$(grep --only-matching --fixed-strings "## [$version]" "$doc/CHANGELOG.md")"
+    expect "scripts that its examples name" "" "$(absent_scripts)"
     check_command "links of its pages" "$root/tools/check_links.py" "$doc"
 }
 
