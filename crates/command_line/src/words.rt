@@ -118,6 +118,8 @@ fn unexpected(alloc: Global, option: &str) -> WordsFault
 fn tip_for(option: &str) -> &'static str {
     if option.starts_with("--types") {
         "'--types TYPES' stands once, directly after 'index' or 'scan'"
+    } else if option == "--version" || option == "-V" {
+        "the first line of 'warcdx --help' has the version"
     } else {
         "a file whose name begins with '-' is written './-name'"
     }

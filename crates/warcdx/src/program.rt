@@ -19,7 +19,7 @@ use crate::scanning::scan_all;
 use command_line::{Task, WordsFault, read_words};
 use devices::Prompt;
 use index_core::IndexFault;
-use std::env;
+use std::env::{self, Env, FillError};
 use std::io::{self, BufWriter, ErrorKind, Write};
 use std::rt::Runtime;
 use warc_core::{FromWrite, Output};
@@ -29,18 +29,46 @@ const MEMORY: Outcome = Outcome::Index(IndexFault::Memory);
 // The bytes of output that are written at once.
 const OUTPUT_ROOM: usize = 65_536;
 
+// The bytes of an argument that are looked at: Linux has no longer file names.
+const ARGUMENT_ROOM: usize = 4_096;
+
 /// Runs the program, and returns its outcome.
 pub fn run<R: Runtime + AllocGlobal>(rt: &R) -> Outcome {
     match words(rt) {
         Ok(words) => run_words(rt, &words),
         Err(error) if error.kind() == ErrorKind::OutOfMemory => say_outcome(rt, MEMORY),
         Err(_error) => {
-            let _ = eprintln!(rt;
-                "error: a word isn't UTF-8\n\nFor more information, try '--help'."
-            );
+            say_not_utf8(rt);
             Outcome::Usage
         }
     }
+}
+
+/// Reports on standard error that an argument isn't UTF-8.
+fn say_not_utf8<R: Runtime>(rt: &R) {
+    let _ = match first_not_utf8(rt) {
+        Some(number) => eprint!(rt; "error: argument {number} isn't UTF-8"),
+        None => eprint!(rt; "error: an argument isn't UTF-8"),
+    };
+    let _ = eprintln!(rt; "\n\nFor more information, try '--help'.");
+}
+
+/// Returns the number of the first argument that isn't UTF-8, counted from 1. Arguments longer than the buffer are
+/// passed over.
+fn first_not_utf8<R: Runtime>(rt: &R) -> Option<usize> {
+    let mut buffer = [0; ARGUMENT_ROOM];
+    for number in 1..usize::MAX {
+        match rt.arg(number, &mut buffer) {
+            Ok(length) if !is_utf8(&buffer, length) => return Some(number),
+            Err(FillError::NotPresent) => return None,
+            _ => {}
+        }
+    }
+    None
+}
+
+fn is_utf8(buffer: &[u8], length: usize) -> bool {
+    str::from_utf8(buffer.get(..length).unwrap_or(buffer)).is_ok()
 }
 
 /// Returns the arguments after the program's name.

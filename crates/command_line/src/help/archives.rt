@@ -117,7 +117,7 @@ Examples:
   warcdx index crawl.warc > crawl.cdxj
   warcdx index crawl-1.warc crawl-2.warc > crawl.cdxj
   warcdx index --types response,metadata crawl.warc > crawl.cdxj
-  gunzip -c crawl.warc.gz | warcdx index - > crawl.cdxj
+  gunzip --keep crawl.warc.gz && warcdx index crawl.warc > crawl.cdxj
 
 Exit status:
   0  everything was indexed
@@ -180,9 +180,10 @@ written before all archives are indexed:
   warcdx: NAME: DuplicateName
   warcdx: NAME: fault OFFSET CAUSE
 
-An archive's file name is the part of its argument after the last /, 1 to 255
-bytes that no earlier archive has; - is the file name of standard input. OFFSET
-is where the record at fault begins, in bytes.
+'warcdx query --help' lists the causes for queries, and 'warcdx list --help'
+those for archives. OFFSET is where the record at fault begins, in bytes. An
+archive's file name is the part of its argument after the last /, 1 to 255 bytes
+that no earlier archive has; - is the file name of standard input.
 
 Examples:
   warcdx scan 100 'url=example.com/*' crawl-1.warc crawl-2.warc

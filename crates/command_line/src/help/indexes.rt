@@ -115,6 +115,26 @@ written before it stands:
   warcdx: NAME: OutOfOrder OFFSET
   warcdx: TooManySources
 
+CAUSE is one of these:
+
+  QueryTooLong       the query has more than 65,536 bytes
+  Unknown            a parameter has another name: write url= before an address
+  RepeatedParameter  only filter, is, isnot, has and hasnot can be repeated
+  BadMatch           matchType has another value
+  BadStamp           from or to isn't 1 to 14 digits
+  BadFilter          a filter has no colon, or an unknown field before it
+  NotLiteral         filter takes no patterns: write is= or has= for the TEXT
+  BadLimit           limit isn't a number from 1 to 1,000,000
+  BadResume          resumeKey isn't a printed key: copy it unchanged
+  BadFlag            showResumeKey isn't true or false
+  BadField           fl has an unknown field, or an empty one
+  BadOutput          output has another value
+  BadCollapse        collapse has another value, or N isn't 1 to 14
+  NoUrl              give url or key
+  UrlAndKey          give url or key, not both
+  BadUrl             url isn't a URL, or has to be one of http or https for
+                     matchType host and domain
+
 Examples:
   warcdx query 'url=example.com' crawl.cdxj
   warcdx query 'url=*.example.com&filter=statuscode:200&output=json' *.cdxj
@@ -138,7 +158,7 @@ repeated. Each page but the last ends with the resume key of the next one.
 The query's limit and showResumeKey aren't used; its resumeKey is where the
 first page begins.
 
-'warcdx query --help' explains queries, and what is reported.
+'warcdx query --help' explains queries, what is reported, and what to do.
 
 Examples:
   warcdx pages 100 'url=example.com/*' crawl.cdxj
@@ -163,8 +183,8 @@ The reply to a query that is refused is
 
   refused CAUSE
 
-with the cause QueryTooLong for one of more than 65,536 bytes, and NotText for
-one that isn't UTF-8.
+with a cause that 'warcdx query --help' lists, or NotText for a query that isn't
+UTF-8.
 Where an index has a bad line, or one out of order, what was written of the page
 is followed by a line feed and
 
