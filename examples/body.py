@@ -1,13 +1,14 @@
 #!/usr/bin/env python3
-"""Writes the body of a captured page as a browser gets it: without its transfer and content codings.
+"""Writes the body of a captured page without its transfer and content codings.
 
 usage: body.py < RECORD > BODY
 
-RECORD is one response, resource or revisit record, as `warcdx get` writes it. Of a record that is marked as HTTP, the body
-is what follows the HTTP head in the block. Chunks, gzip and deflate are undone. Of any other record, the body is the block.
+RECORD is one record, as `warcdx get` writes it. If its type of content is application/http, the
+body is what follows the HTTP head in the block, and chunks, gzip and deflate are undone. Of any
+other record, the body is the block.
 
-Record and body are held in memory. The exit status is 0; 1 if the record or a coding can't be read, and then nothing is
-written; or 2 after a usage error.
+Record and body are held in memory. The exit status is 0; 1 if the record or a coding can't be read,
+and then nothing is written; or 2 after a usage error.
 """
 import argparse
 import re
@@ -29,8 +30,8 @@ class Unreadable(Exception):
 
 def field(head: bytes, name: bytes) -> bytes:
     """Returns the values of a field in lower case, joined by commas."""
-    lines = (line.partition(b":") for line in head.split(b"\n"))
-    return b",".join(value.strip().lower() for found, _, value in lines if found.strip().lower() == name)
+    lines = (line.lower().partition(b":") for line in head.split(b"\n"))
+    return b",".join(value.strip() for found, _, value in lines if found.strip() == name)
 
 
 def codings(head: bytes, name: bytes) -> list[bytes]:
@@ -99,9 +100,8 @@ def inflated(body: bytes, window: int) -> bytes:
 
 
 def main() -> int:
-    parser = argparse.ArgumentParser(
-        usage=argparse.SUPPRESS, description=__doc__, formatter_class=argparse.RawDescriptionHelpFormatter
-    )
+    parser = argparse.ArgumentParser(usage=argparse.SUPPRESS, description=__doc__)
+    parser.formatter_class = argparse.RawDescriptionHelpFormatter
     parser.parse_args()
     try:
         body = body_of(sys.stdin.buffer.read())

@@ -3,11 +3,12 @@
 
 usage: surt_keys.py < INDEX | LC_ALL=C sort > NEW
 
-Of a line whose `url` is that of a web page (http: or https:), the key is replaced by surt.surt(url). All other bytes of the
-line, and all other lines, are written as they are. The new keys may have another order, so the output has to be sorted.
+If the `url` of a line begins with http:// or https://, the key is replaced by surt.surt(url). All
+other bytes of the line, and all other lines, are written as they are. The new keys may have another
+order, so the output has to be sorted.
 
-Needs the package surt. The exit status is 0; 1 if a line isn't that of a capture; 2 after a usage error; or 77 if the
-package is missing.
+Needs the package surt. The exit status is 0; 1 if a line isn't that of a capture; 2 after a usage
+error; or 77 if the package is missing.
 """
 import argparse
 import json
@@ -40,9 +41,8 @@ def find_surt() -> Optional[Callable[[str], str]]:
 
 
 def main() -> int:
-    parser = argparse.ArgumentParser(
-        usage=argparse.SUPPRESS, description=__doc__, formatter_class=argparse.RawDescriptionHelpFormatter
-    )
+    parser = argparse.ArgumentParser(usage=argparse.SUPPRESS, description=__doc__)
+    parser.formatter_class = argparse.RawDescriptionHelpFormatter
     parser.parse_args()
     key_of = find_surt()
     if key_of is None:

@@ -3,8 +3,8 @@
 
 usage: test_surt_keys.py [PROGRAM]
 
-A stand-in for the package surt makes the keys, so that it is known what they are. If the package is installed, a key that it
-makes is checked too; otherwise a line says that it is missing.
+A stand-in for the package surt makes the keys, so that it is known what they are. If the package is
+installed, a key that it makes is checked too; otherwise a line says that it is missing.
 
 Prints a line for each case, and the counts. The exit status is 0, or 1 if a case differs.
 """
@@ -23,13 +23,16 @@ from program import ROOT, Report, add_program, find_program, parser_of
 
 # The key of an address is its characters without a closing slash, in reverse order.
 STAND_IN = "def surt(url):\n    return url.rstrip('/')[::-1]\n"
+GONE = "http://127.0.0.1:8000/odd/gone"
 NO_PACKAGE = "raise ImportError\n"
-LINE = 'com,example)/goo/ 20160101000000 {"url": %s, "offset": "7", "filename": "a.warc"}\n'
+KEY = "com,example)/goo/"
+LINE = KEY + ' 20160101000000 {"url": %s, "offset": "7", "filename": "a.warc"}\n'
 
 
 def changed(lines: str, environment: Mapping[str, str]) -> tuple[int, str, str]:
     """Returns the exit status, the output and the errors."""
-    done = subprocess.run((HERE / "surt_keys.py",), input=lines, stdout=subprocess.PIPE, stderr=subprocess.PIPE, text=True, env=environment)
+    script = HERE / "surt_keys.py"
+    done = subprocess.run((script,), input=lines, capture_output=True, text=True, env=environment)
     return done.returncode, done.stdout, done.stderr
 
 
@@ -50,12 +53,14 @@ def check(report: Report, case: str, wanted: object, found: object) -> None:
 def check_stand_in(report: Report, work: pathlib.Path) -> None:
     environment = with_module(STAND_IN, work / "stand-in")
     web = LINE % '"http://a/\\u00e9 b/"'
-    check(report, "a new key", (0, web.replace("com,example)/goo/", "b%20é/a//:ptth"), ""), changed(web, environment))
+    wanted = web.replace(KEY, "b%20é/a//:ptth")
+    check(report, "a new key", (0, wanted, ""), changed(web, environment))
     others = "".join(LINE % url for url in ('"dns:example.com"', "null", "7", '""'))
-    check(report, "addresses of other schemes, and none", (0, others, ""), changed(others, environment))
+    check(report, "other addresses, and none", (0, others, ""), changed(others, environment))
     check(report, "no line", (0, "", ""), changed("", environment))
     open_line = LINE.rstrip("\n") % '"HTTPS://a"'
-    check(report, "no line feed", (0, open_line.replace("com,example)/goo/", "a//:SPTTH"), ""), changed(open_line, environment))
+    wanted = open_line.replace(KEY, "a//:SPTTH")
+    check(report, "no line feed", (0, wanted, ""), changed(open_line, environment))
     for bad in ("no line\n", "k 20160101000000 []\n", "k 20160101000000 {\n"):
         status, output, errors = changed(web + bad + web, environment)
         found = (status, output.count("\n"), errors.partition(": line ")[0], errors.count("\n"))
@@ -65,15 +70,17 @@ def check_stand_in(report: Report, work: pathlib.Path) -> None:
 def check_sorted(report: Report, work: pathlib.Path, program: pathlib.Path) -> None:
     """Checks that the program reads the sorted lines, and finds a capture by its new key."""
     environment = with_module(STAND_IN, work / "sorted")
-    index = subprocess.run((program, "index", ROOT / "samples/wget.warc"), stdout=subprocess.PIPE, text=True).stdout
+    archive = ROOT / "samples/wget.warc"
+    index = subprocess.run((program, "index", archive), capture_output=True, text=True).stdout
     status, lines, errors = changed(index, environment)
     path = work / "new.cdxj"
     path.write_bytes(b"".join(sorted(line.encode() + b"\n" for line in lines.splitlines())))
-    checked = subprocess.run((program, "check", path), stdout=subprocess.PIPE, text=True)
-    check(report, "an index in order", (0, "", f"{path} {index.count(chr(10))}\n"), (status, errors, checked.stdout))
-    query = ("key=" + "http://127.0.0.1:8000/odd/gone"[::-1] + "&fl=original", path)
-    found = subprocess.run((program, "query", *query), stdout=subprocess.PIPE, text=True).stdout
-    check(report, "a query by a new key", "http://127.0.0.1:8000/odd/gone\n", found)
+    checked = subprocess.run((program, "check", path), capture_output=True, text=True).stdout
+    wanted = f"{path} {len(index.splitlines())}\n"
+    check(report, "an index in order", (0, "", wanted), (status, errors, checked))
+    query = f"key={GONE[::-1]}&fl=original"
+    found = subprocess.run((program, "query", query, path), capture_output=True, text=True).stdout
+    check(report, "a query by a new key", f"{GONE}\n", found)
 
 
 def check_package(report: Report, work: pathlib.Path) -> None:
@@ -84,7 +91,7 @@ def check_package(report: Report, work: pathlib.Path) -> None:
         print("skipped  the keys of the package surt, which is missing")
         return
     line = LINE % '"http://www.example.com/Goo/?b=1&a=2"'
-    wanted_line = line.replace("com,example)/goo/", "com,example)/goo?a=2&b=1")
+    wanted_line = line.replace(KEY, "com,example)/goo?a=2&b=1")
     check(report, "the package", (0, wanted_line, ""), changed(line, os.environ))
 
 

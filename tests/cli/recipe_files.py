@@ -3,10 +3,11 @@
 
 usage: recipe_files.py FOLDER
 
-years.cdxj  an index of three years of crawls of one site, with 1 to 20,000 captures in a month, and three months
-            without any. From the second year on, a capture of a page that hasn't changed is a revisit.
-dedup.warc  a crawl as wget writes it with --warc-dedup: its revisit records have the digest of an empty block. One
-            of its responses has a block that isn't that of its digest.
+years.cdxj  an index of three years of crawls of one site, with 1 to 20,000 captures in a month, and
+            three months without any. From the second year on, a capture of a page that hasn't
+            changed is a revisit.
+dedup.warc  a crawl as wget writes it with --warc-dedup: its revisit records have the digest of an
+            empty block. One of its responses has a block that isn't that of its digest.
 
 The same files are written each time. FOLDER has to exist.
 """
@@ -40,7 +41,7 @@ def digest_of(text: bytes) -> str:
 
 
 def stamps(month: int) -> Iterator[str]:
-    """Yields the stamps of a month, in order. There are more of them in its first days than in its last."""
+    """Yields the stamps of a month, in order, more of them in its first days than in its last."""
     year, number = FIRST_YEAR + month // 12, month % 12 + 1
     first = datetime.datetime(year, number, 1)
     seconds = calendar.monthrange(year, number)[1] * 86400

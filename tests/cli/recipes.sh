@@ -3,18 +3,18 @@
 #
 # usage: recipes.sh [--print RECIPE] [PROGRAM]
 #
-# A recipe is a section of a page. One bash runs its blocks that begin with ```sh, one after another. What
-# each of them prints, on standard output and standard error together, has to be in the block that begins
-# with ```text and follows it; without such a block, nothing. Each recipe runs in a folder of its own that
-# contains the archives of samples/, with the scripts of examples/ on the PATH. If the recipe names a file
-# that recipe_files.py writes, the folder contains that too.
+# A recipe is a section of a page. One bash runs its blocks that begin with ```sh, one after
+# another. The block that begins with ```text and follows one of them contains what that one prints,
+# errors included; without such a block it prints nothing. Each recipe runs in a folder of its own
+# that contains the archives of samples/, with the scripts of examples/ on the PATH. If the recipe
+# names a file that recipe_files.py writes, the folder contains that too. If Python's package surt
+# is missing, a stand-in takes its place.
 #
-# If Python's package surt is missing, a stand-in takes its place. Then the contents of docs/RECIPES.md are
-# compared with the headings of the pages.
+# Then the contents in docs/RECIPES.md are compared with the headings of the pages.
 #
-# Prints a line for each recipe, with the differences if there are any, and the counts. The exit status is 0,
-# or 1 if a recipe differs. With --print only what RECIPE prints is printed. Needs Debian's packages
-# gnuplot-nox, gzip, jq, parallel, pv, sqlite3 and xxd.
+# Prints a line for each recipe, with the differences if there are any, and the counts. The exit
+# status is 0, or 1 if a recipe differs. With --print it prints only what RECIPE prints. Needs
+# Debian's packages gnuplot-nox, gzip, jq, parallel, pv, sqlite3 and xxd.
 set -euo pipefail
 source "$(dirname "$0")/../program.sh"
 chosen=
@@ -31,17 +31,30 @@ work=$(mktemp -d)
 trap 'rm -rf "$work"' EXIT
 
 lines_of() { # RECIPE
-    awk -v "heading=## $1" 'FNR == 1 { inside = 0 } /^## / { inside = $0 == heading } inside' "${pages[@]}"
+    awk -v "heading=## $1" '
+        FNR == 1 { inside = 0 }
+        /^## / { inside = $0 == heading }
+        inside
+    ' "${pages[@]}"
 }
 
-# Prints what the blocks of a recipe print, as its page shows it, with a line before the output of each block.
+# Prints what the page shows as the output of the blocks, with a line before that of each block.
 wanted_of() {
-    awk '/^```sh$/ { print "-- block " ++number } /^```$/ { inside = 0 } inside; /^```text$/ { inside = 1 }'
+    awk '
+        /^```sh$/ { print "-- block " ++number }
+        /^```$/ { inside = 0 }
+        inside
+        /^```text$/ { inside = 1 }
+    '
 }
 
 # Makes a script of the blocks of a recipe. It prints the same lines before the blocks.
 script_of() {
-    awk '/^```$/ { inside = 0 } inside; /^```sh$/ { inside = 1; print "echo \"-- block " ++number "\"" }'
+    awk '
+        /^```$/ { inside = 0 }
+        inside
+        /^```sh$/ { inside = 1; print "echo \"-- block " ++number "\"" }
+    '
 }
 
 run() { # RECIPE: prints what its blocks print
@@ -61,8 +74,8 @@ recipes() { # their names
     sed -n 's/^## //p' "${pages[@]}"
 }
 
-# Prints what the contents have to be: for each page and each recipe a link, with the anchor that GitHub makes
-# of the heading.
+# Prints what the contents have to be: for each page and each recipe a link, with the anchor that
+# GitHub makes of the heading.
 wanted_contents() {
     local page recipe anchor
     for page in "${pages[@]}"; do
