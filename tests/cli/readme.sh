@@ -1,58 +1,77 @@
 #!/usr/bin/env bash
-# Runs the commands of README.md in a clean clone of this repository, and compares what they print with what the page shows.
+# Runs the commands of README.md as a new user does, and compares what they print with the page.
 #
 # usage: readme.sh [PROGRAM]
 #
-# Without PROGRAM the clone builds its own, which takes some 15 minutes. Everything is run but the test command. The clone contains what is
-# committed. The page's port 8000 is replaced by a free one. Times, identifiers, digests, lengths and offsets differ from crawl to crawl, and
-# aren't compared.
+# The commands run in a clean clone of this repository, which contains what is committed, and in a
+# release that tools/release makes there. Both are in a folder with a space in its name. Another
+# server has port 8000. tools/check_package.sh runs the commands for the package, and the test
+# command isn't run. Without PROGRAM the clone builds its own, as README.md says.
 #
-# Prints a line for each block of commands, with the differences if there are any, and the counts. The exit status is 0, or 1 if one differs.
-# Needs git, jq, python3, wget and Debian's package binutils.
+# Times, identifiers, ports and offsets differ from crawl to crawl, and aren't compared.
+#
+# Prints a line for each block of commands, with the differences if there are any, and the counts.
+# The exit status is 0, or 1 if one differs. Needs git, python3, wget, zsh and Debian's packages
+# binutils and dpkg.
 set -euo pipefail
 source "$(dirname "$0")/../program.sh"
+source "$root/tests/cli/pages.sh"
 if [ $# -gt 0 ]; then read_program "$@"; else program=; fi
-need git jq python3 strip:binutils wget
+need dpkg-deb:dpkg git objdump:binutils python3 strip:binutils wget zsh
 
 work=$(mktemp -d)
-trap 'rm -rf "$work"' EXIT
-clone=$work/warcdx
+clone="$work/a folder/warcdx"
+release="$work/a folder/release"
+server=
+trap 'kill "$server" 2> /dev/null || true; rm -rf "$work"' EXIT
 
-block() { # START: the indented block of the page whose first line begins with START
-    awk -v "start=    $1" '
-        /^    / { if (!inside) chosen = index($0, start) == 1; inside = 1; if (chosen) print substr($0, 5); next }
-        { inside = 0 }
-    ' "$clone/README.md"
+block() { # START
+    block_of "$clone/README.md" "$1"
+}
+
+take_port_8000() { # unless another program has it
+    python3 -c 'import signal, socket; taken = socket.create_server(("127.0.0.1", 8000)); signal.pause()' 2> /dev/null &
+    server=$!
+}
+
+put_program() { # into the clone, as a build does
+    install -D "$program" "$clone/crates/warcdx/out/warcdx"
+    touch "$clone/crates/warcdx/out/warcdx.stamp"
 }
 
 masked() { # without what differs from crawl to crawl
-    sed -E -e 's/ [0-9]{14} / TIME /' -e 's/urn:uuid:[0-9a-f-]+/IDENTIFIER/' -e 's/"digest": "[A-Z2-7]{32}"/"digest"/' \
-        -e 's/"(length|offset)": "[0-9]+"/"\1"/g' -e 's/\r$//'
+    sed -E -e 's/127\.0\.0\.1:[0-9]+/HOST/' -e 's/ [0-9]{14} [0-9]+$/ TIME OFFSET/' \
+        -e 's/urn:uuid:[0-9a-f-]+/IDENTIFIER/' -e 's/\r$//'
 }
 
-free_port() {
-    python3 -c 'import socket; s = socket.socket(); s.bind(("127.0.0.1", 0)); print(s.getsockname()[1])'
+check_first_answer() { # CASE FOLDER COMMAND..
+    local case=$1
+    shift
+    # shellcheck disable=SC2016 # the text of the page
+    block 'PATH=$PWD' | run_block "$@" | masked > "$work/found"
+    expect_file "a first answer, $case" "$work/wanted" "$work/found"
 }
 
 git clone --quiet "$root" "$clone"
-if [ -n "$program" ]; then ln -sf "$program" "$clone/warcdx"; fi
+if [ -n "$program" ]; then put_program; fi
+take_port_8000
+listed='0 264 response'
 
-cd "$clone"
-block './warcdx index' | grep '^\./warcdx ' > "$work/script" # not the test command
-bash "$work/script"
-./warcdx check wget.cdxj > "$work/found"
-expect 'the sample is indexed, from source' 'wget.cdxj 33' "$(< "$work/found")" # 31 responses and 2 resources
+expect 'a sample is listed, from source' "$listed" "$(block './warcdx list' | run_block "$clone" PATH="$PATH" bash)"
+(cd "$clone" && tools/release --output "$release" > "$work/output")
+expect 'a sample is listed, from a release' "$listed" "$(block 'tar -xzf' | run_block "$release" bash)"
 
-tools/release --output "$work/release" ${program:+"$program"} > "$work/output"
-mkdir "$work/unpacked"
-block 'tar -xzf' > "$work/script"
-(cd "$work/unpacked" && ln -s "$work"/release/*.tar.gz . && env -i PATH=/usr/bin:/bin bash "$work/script" > "$work/found")
-expect_file 'the sample is indexed, from a release' wget.cdxj "$work/found"
-
-port=$(free_port)
-# shellcheck disable=SC2016 # the text of the page
-block 'warcdx=$PWD' | sed "s/8000/$port/g" > "$work/script"
-block '127.0.0.1:8000)' | sed "s/127.0.0.1:8000/127.0.0.1:$port/g" | masked > "$work/wanted"
-TMPDIR=$work bash "$work/script" 2>&1 | masked > "$work/found"
-expect_file 'from a crawl to a record' "$work/wanted" "$work/found"
+unpacked=$(echo "$release"/*/)
+installed="$work/a folder/installed"
+mkdir "$installed" "$work/bin"
+ln -s "$unpacked/bin/warcdx" "$work/bin/warcdx"
+block 'http://127.0.0.1:' | masked > "$work/wanted"
+for shell in bash zsh; do
+    check_first_answer "in a checkout, by $shell" "$clone" PATH="$PATH" "$shell"
+    check_first_answer "in a release, by $shell" "$unpacked" "$shell"
+    check_first_answer "with warcdx on the PATH, by $shell" "$installed" PATH="$work/bin:/usr/bin:/bin" "$shell"
+done
+expect 'files that were left in the checkout' "" "$(git -C "$clone" status --porcelain)"
+expect 'files that were left in the release' "$(tar --list --file "$release"/*.tar.gz | grep -c '[^/]$')" \
+    "$(find "$unpacked" -type f | wc -l)"
 end_script

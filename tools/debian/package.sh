@@ -1,0 +1,70 @@
+# The Debian package of a release. tools/release sources this file after tests/program.sh.
+# shellcheck shell=bash disable=SC2154 # read_program and tools/release set the other variables
+
+# make_package TREE FILE: makes the package FILE of the files of a release, which are below TREE.
+make_package() {
+    local folder=$work/debian
+    mkdir "$folder"
+    cp --recursive "$1" "$folder/usr"
+    move_to_debian_places "$folder/usr"
+    put_metadata "$folder"
+    chmod --recursive u=rwX,go=rX "$folder"
+    SOURCE_DATE_EPOCH=$time dpkg-deb --root-owner-group -Zxz --build "$folder" "$2" > "$work/output"
+}
+
+move_to_debian_places() { # PREFIX
+    local documents=$1/share/doc/warcdx
+    gzip --no-name -9 "$1/share/man/man1/warcdx.1"
+    mv "$1/share/zsh/site-functions" "$1/share/zsh/vendor-completions"
+    ln --symbolic --force ../../common-licenses/Apache-2.0 "$documents/LICENSE"
+    cp "$root/tools/debian/copyright" "$documents/copyright"
+    print_changelog | gzip --no-name -9 > "$documents/changelog.gz"
+}
+
+put_metadata() { # FOLDER
+    mkdir "$1/DEBIAN"
+    (cd "$1" && find usr -type f -print0 | LC_ALL=C sort --zero-terminated | xargs -0 md5sum) > "$1/DEBIAN/md5sums"
+    print_control "$1" > "$1/DEBIAN/control"
+}
+
+print_changelog() {
+    cat << END
+warcdx ($version) unstable; urgency=medium
+
+  * Version $version. CHANGELOG.md in this folder lists the changes.
+
+ -- $(maintainer)  $(LC_ALL=C date --utc --rfc-email --date="@$time")
+END
+}
+
+print_control() { # FOLDER
+    cat << END
+Package: warcdx
+Version: $version
+Architecture: amd64
+Maintainer: $(maintainer)
+Installed-Size: $(installed_size "$1")
+Depends: libc6 (>= $(c_library_version "$1/usr/bin/warcdx"))
+Section: web
+Priority: optional
+Description: indexer of web archives, with queries over the indexes
+ warcdx indexes web archives in WARC files (ISO 28500), and answers queries
+ over the indexes, which are in the format CDXJ.
+ .
+ It lists and verifies the records of archives, reports where they are damaged,
+ makes, merges and checks indexes, and answers queries in the manner of the
+ Wayback CDX Server API, page by page. It fetches records from their offsets.
+END
+}
+
+maintainer() { # whose commit it is
+    git -C "$root" log -1 --format='%an <%ae>'
+}
+
+installed_size() { # FOLDER: in kB, as dpkg-gencontrol counts, whatever the file system
+    find "$1/usr" -printf '%y %s\n' | awk '{ size += $1 == "f" ? int(($2 + 1023) / 1024) : 1 } END { print size }'
+}
+
+c_library_version() { # PROGRAM: the latest version of the C library of which it needs a symbol
+    objdump -T "$1" | grep --only-matching 'GLIBC_[0-9.]*' | sort --version-sort | sed -n '$s/GLIBC_//p'
+}
