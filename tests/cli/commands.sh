@@ -10,6 +10,7 @@ source "$(dirname "$0")/../program.sh"
 read_program "$@"
 source "$(dirname "$0")/check_functions.sh"
 source "$root/tests/cli/small_files.sh"
+ulimit -S -n 4096 # some cases have more indexes than the 1,024 files that are usual
 
 one="0 177 resource"
 two=$(lines same.warc: "$one" absent.warc: "0 174 resource")

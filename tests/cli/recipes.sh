@@ -1,55 +1,121 @@
 #!/usr/bin/env bash
-# Runs the recipes of docs/RECIPES.md, and compares what they print with what the page shows.
+# Runs the recipes of docs/recipes/, and compares what they print with what the pages show.
 #
-# usage: recipes.sh [PROGRAM]
+# usage: recipes.sh [--print RECIPE] [PROGRAM]
 #
-# A recipe is a section of the page. Its indented lines that begin with "$ " are commands, those that begin with "> " continue a command, and
-# all others are what the commands print, on standard output and standard error together. Each recipe runs in a shell of its own, in a folder
-# with the three archives of samples/.
+# A recipe is a section of a page. One bash runs its blocks that begin with ```sh, one after
+# another. The block that begins with ```text and follows one of them contains what that one prints,
+# errors included; without such a block it prints nothing. Each recipe runs in a folder of its own
+# that contains the archives of samples/, with the scripts of examples/ on the PATH. If the recipe
+# names a file that recipe_files.py writes, the folder contains that too. If Python's package surt
+# is missing, a stand-in takes its place.
 #
-# Prints a line for each recipe, with the differences if there are any, and the counts. The exit status is 0, or 1 if a recipe differs.
-# Needs Debian's packages gnuplot-nox, gzip, jq, parallel and pv.
+# Then the contents in docs/RECIPES.md are compared with the headings of the pages.
+#
+# Prints a line for each recipe, with the differences if there are any, and the counts. The exit
+# status is 0, or 1 if a recipe differs. With --print it prints only what RECIPE prints. Needs
+# Debian's packages gnuplot-nox, gzip, jq, parallel, pv, sqlite3 and xxd.
 set -euo pipefail
 source "$(dirname "$0")/../program.sh"
+chosen=
+if [ "${1-}" = --print ]; then
+    if [ $# -lt 2 ]; then stop_usage "--print needs a recipe"; fi
+    chosen=$2
+    shift 2
+fi
 read_program "$@"
-need gnuplot:gnuplot-nox gzip jq parallel pv
+need gnuplot:gnuplot-nox gzip jq parallel pv sqlite3 xxd
 
-page=$root/docs/RECIPES.md
+pages=("$root"/docs/recipes/{indexes,records,queries,counts,other-programs}.md)
 work=$(mktemp -d)
 trap 'rm -rf "$work"' EXIT
 
-lines_of() { # RECIPE: its indented lines
-    awk -v "recipe=## $1" '/^## / { inside = $0 == recipe } inside && sub(/^    /, "")' "$page"
+lines_of() { # RECIPE
+    awk -v "heading=## $1" '
+        FNR == 1 { inside = 0 }
+        /^## / { inside = $0 == heading }
+        inside
+    ' "${pages[@]}"
 }
 
-# Makes a script of the lines of a recipe. The script prints each command before it runs it, and keeps $? for it.
-script_of() {
+# Prints what the page shows as the output of the blocks, with a line before that of each block.
+wanted_of() {
     awk '
-        function end() {
-            if (shown) printf "kept=$?; cat << \"END-OF-COMMAND\"\n%s\nEND-OF-COMMAND\n(exit $kept)\n%s\n", shown, command
-            shown = ""
-        }
-        /^\$ / { end(); shown = $0; command = substr($0, 3); next }
-        /^> / && shown { shown = shown "\n" $0; command = command "\n" substr($0, 3); next }
-        { end() }
-        END { end() }
+        /^```sh$/ { print "-- block " ++number }
+        /^```$/ { inside = 0 }
+        inside
+        /^```text$/ { inside = 1 }
     '
 }
 
-run() { # RECIPE: prints the commands and what they print
-    local folder
-    folder=$(mktemp -d -p "$work")
-    cp "$root"/samples/*.warc "$folder"
-    lines_of "$1" | script_of > "$work/script"
-    (cd "$folder" && env HOME="$folder" LC_ALL=C.UTF-8 PATH="$work/bin:$PATH" bash "$work/script" 2>&1 < /dev/null)
+# Makes a script of the blocks of a recipe. It prints the same lines before the blocks.
+script_of() {
+    awk '
+        /^```$/ { inside = 0 }
+        inside
+        /^```sh$/ { inside = 1; print "echo \"-- block " ++number "\"" }
+    '
 }
 
-mkdir "$work/bin"
+run() { # RECIPE: prints what its blocks print
+    local folder file
+    folder=$(mktemp -d -p "$work")
+    cp "$root"/samples/*.warc "$folder"
+    for file in "$work"/files/*; do
+        if lines_of "$1" | grep --quiet --fixed-strings "${file##*/}"; then ln "$file" "$folder"; fi
+    done
+    lines_of "$1" | script_of > "$work/script"
+    # The exit status is that of the last command, and may be any.
+    (cd "$folder" && env HOME="$folder" LC_ALL=C.UTF-8 PATH="$work/bin:$root/examples:$PATH" \
+        bash "$work/script" 2>&1 < /dev/null) || true
+}
+
+recipes() { # their names
+    sed -n 's/^## //p' "${pages[@]}"
+}
+
+# Prints what the contents have to be: for each page and each recipe a link, with the anchor that
+# GitHub makes of the heading.
+wanted_contents() {
+    local page recipe anchor
+    for page in "${pages[@]}"; do
+        echo "recipes/${page##*/}"
+        while IFS= read -r recipe; do
+            anchor=$(tr '[:upper:] ' '[:lower:]-' <<< "$recipe" | tr --delete "',.")
+            echo "- [$recipe](recipes/${page##*/}#$anchor)"
+        done < <(sed -n 's/^## //p' "$page")
+    done
+}
+
+contents() {
+    sed -n -e '/^- /p' -e 's/^\*\*.*(\(.*\))\*\*$/\1/p' "$root/docs/RECIPES.md"
+}
+
+make_stand_in() { # a module surt
+    mkdir "$work/python"
+    printf '%s\n' 'def surt(url):' '    host, _, path = url.partition("//")[2].partition("/")' \
+        '    return f"{host})/{path.lower()}".rstrip("/")' > "$work/python/surt.py"
+    export PYTHONPATH=$work/python
+}
+
+mkdir "$work/bin" "$work/files"
 ln -s "$program" "$work/bin/warcdx"
+"$root/tests/cli/recipe_files.py" "$work/files"
+if ! python3 -c 'import surt' 2> /dev/null; then make_stand_in; fi
+if [ -n "$chosen" ]; then
+    run "$chosen"
+    exit
+fi
+
 while IFS= read -r recipe; do
-    lines_of "$recipe" > "$work/wanted"
-    if [ ! -s "$work/wanted" ]; then continue; fi
-    run "$recipe" > "$work/found" || true # the status is that of the last command, and may be any
-    expect_file "$recipe" "$work/wanted" "$work/found"
-done < <(sed -n 's/^## //p' "$page")
+    lines_of "$recipe" | wanted_of > "$work/wanted"
+    if [ -s "$work/wanted" ]; then
+        run "$recipe" > "$work/found"
+        expect_file "$recipe" "$work/wanted" "$work/found"
+    fi
+done < <(recipes)
+
+wanted_contents > "$work/wanted"
+contents > "$work/found"
+expect_file "the contents" "$work/wanted" "$work/found"
 end_script
