@@ -1,16 +1,20 @@
 #!/usr/bin/env python3
-"""Looks up each clause that the tables of docs/PROVED.md name in the contract of its call.
+"""Compares the clauses that the tables of docs/PROVED.md name with the contracts of the calls.
 
 usage: check_proved.py
 
-Prints a line for each clause, and the counts. The exit status is 0, or 1 if a call doesn't exist, or a clause isn't in its contract.
+Each clause that a table names for a call has to be in its contract. If the tables name a clause of a
+call, they have to name all of them. A call without a clause stands for its whole contract.
+
+Prints a line for each clause, and the counts. The exit status is 0, or 1 if a call or a clause
+doesn't exist, or a clause isn't named.
 """
 import re
 import sys
 from collections import defaultdict
 from collections.abc import Iterator
 from pathlib import Path
-from typing import Optional
+from typing import NamedTuple, Optional
 
 sys.path.insert(0, str(Path(__file__).resolve().parents[1] / "tests"))
 
@@ -21,13 +25,27 @@ FUNCTION = re.compile(r"\s*(?:pub )?fn (\w+)")
 CLAUSE = re.compile(r"\s*(ensures|requires)\s+(\w*)")
 DERIVED = ("cmp",)  # calls that a derive makes, which have no text in the sources
 
+UNNAMED = {"ensures", "requires"}  # clauses of contracts that have one
+
 Owner = Optional[str]
 
 
-def contracts() -> dict[tuple[Owner, str], set[str]]:
-    """Returns the clauses of each call, by its owner (a type, a trait or none) and its name."""
-    found = defaultdict(set)
+class Call(NamedTuple):
+    """A call. Its owner is a type, a trait or none."""
+
+    crate: str
+    owner: Owner
+    name: str
+
+
+Contracts = dict[Call, set[str]]
+
+
+def contracts() -> Contracts:
+    """Returns the clauses of each call."""
+    found: Contracts = defaultdict(set)
     for source in sorted(ROOT.glob("crates/*/src/**/*.rt")):
+        crate = source.relative_to(ROOT / "crates").parts[0]
         owner, clauses = None, set()
         for line in source.read_text().splitlines():
             if line.startswith("}"):
@@ -35,7 +53,7 @@ def contracts() -> dict[tuple[Owner, str], set[str]]:
             elif of := OWNER.match(line):
                 owner = of[1]
             elif function := FUNCTION.match(line):
-                clauses = found[owner, function[1]]
+                clauses = found[Call(crate, owner, function[1])]
             elif clause := CLAUSE.match(line):
                 clauses.add(clause[2] or clause[1])
     return found
@@ -73,23 +91,46 @@ def claims() -> Iterator[tuple[list[tuple[Owner, str]], list[str]]]:
             yield [call], [clause for cell in cells for clause in names(cell)]
 
 
-def main() -> int:
-    parser_of(__doc__).parse_args()
-    found, report = contracts(), Report()
-    owners = {owner for owner, _ in found}
+def is_meant(call: Call, owner: Owner, name: str) -> bool:
+    return call.name == name and (owner is None or call.owner in (owner, None))
+
+
+def check_claims(report: Report, found: Contracts) -> Contracts:
+    """Looks up each clause that is named. Returns those that are named of each call."""
+    owners = {call.owner for call in found}
+    named: Contracts = defaultdict(set)
     for calls_of, clauses in claims():
-        here: set[str] = set()
         title = ", ".join(f"{owner}::{name}" if owner else name for owner, name in calls_of)
+        here: set[str] = set()
         for owner, name in calls_of:
-            matching = [clauses_of for (of, call), clauses_of in found.items() if call == name and (owner is None or of in (owner, None))]
-            if not matching and name not in owners and name not in DERIVED:
+            meant = [call for call in found if is_meant(call, owner, name)]
+            if not meant and name not in owners and name not in DERIVED:
                 report.add_difference(title, f"no call {name}")
-            here = here.union(*matching)
+            for call in meant:
+                named[call] |= found[call].intersection(clauses)
+                here |= found[call]
         for clause in clauses:
             if clause in here:
                 report.add_ok(f"{title}: {clause}")
             else:
                 report.add_difference(title, f"no clause {clause}")
+    return named
+
+
+def check_whole(report: Report, found: Contracts, named: Contracts) -> None:
+    """Looks for clauses that aren't named, of calls of which another clause is. Of several calls with one name, one is meant."""
+    unnamed = {call: found[call] - clauses - UNNAMED for call, clauses in named.items() if clauses - UNNAMED}
+    whole = {(call.owner, call.name) for call, clauses in unnamed.items() if not clauses}
+    for call, clauses in sorted(unnamed.items(), key=str):
+        for clause in sorted(clauses):
+            if (call.owner, call.name) not in whole:
+                report.add_difference("::".join(filter(None, call)), f"the clause {clause} isn't named")
+
+
+def main() -> int:
+    parser_of(__doc__).parse_args()
+    found, report = contracts(), Report()
+    check_whole(report, found, check_claims(report, found))
     return report.end()
 
 
