@@ -12,7 +12,6 @@ import pathlib
 import shutil
 import subprocess
 import sys
-from collections.abc import Sequence
 from typing import NoReturn, Optional
 
 ROOT = pathlib.Path(__file__).resolve().parents[1]
@@ -42,11 +41,6 @@ def find_program(name: Optional[str]) -> pathlib.Path:
         print(f"{name}: not a program", file=sys.stderr)
         sys.exit(USAGE)
     return pathlib.Path(path).resolve()
-
-
-def program_of(arguments: Sequence[str]) -> pathlib.Path:
-    """Returns the program that the first argument names, or that of this repository, which is built if necessary."""
-    return find_program(arguments[0] if arguments else None)
 
 
 def is_current() -> bool:

@@ -12,8 +12,9 @@ Every third case is one to three archives, a choice of types, a query and sizes.
 others; two archives in five have a record at fault, often in several ways, and with them come six that have nothing else. `list` and `verify`
 have to report what the plain reader does, `index` has to write the plain index, and `scan` the pages of its lines.
 
-It needs Python 3.9, and writes in the system's temporary folder. It prints what was tried, then the numbers of the cases that differ and what
-is wrong in the first, whose files it keeps, then `N cases, M differ`. The status is 1 if one differs.
+Prints what was tried, the numbers of the cases that differ, what is wrong in the first of them, and
+the counts. The files of the first are kept in the system's temporary folder. The exit status is 0,
+or 1 if a case differs.
 """
 import pathlib
 import random

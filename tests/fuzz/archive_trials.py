@@ -152,16 +152,16 @@ def expect_record(trial: Trial, name: str, text: bytes, read: Read) -> None:
     lengths = {record.offset: record.length for record in read.records}
     offsets = some(choice, sorted(lengths), 1, 1) + [choice.choice((choice.randint(0, len(text)), fault[0] if fault else 1))]
     for offset in offsets:
-        words = ("get", str(offset), name)
+        arguments = ("get", str(offset), name)
         if offset in lengths:
-            trial.expect(0, text[offset : offset + lengths[offset]], b"", *words)
+            trial.expect(0, text[offset : offset + lengths[offset]], b"", *arguments)
         elif not fault or offset < fault[0]:
-            trial.expect(1, b"", f"warcdx: {name}: NoRecord\n".encode(), *words)
+            trial.expect(1, b"", f"warcdx: {name}: NoRecord\n".encode(), *arguments)
         else:
-            done = trial.run(*words)
+            done = trial.run(*arguments)
             is_said = done.status == 1 and done.error == b"".join(faults_said([name], [read]))
             front = text[offset:] if offset == fault[0] else b""
-            trial.check(is_said and front.startswith(done.output), f"{words}: {done}")
+            trial.check(is_said and front.startswith(done.output), f"{arguments}: {done}")
 
 
 def expect_scan(trial: Trial, names: Sequence[str], reads: Sequence[Read], types: Optional[Sequence[str]]) -> None:

@@ -6,10 +6,9 @@ usage: each_byte.py [PROGRAM]
 Each byte is also left out and doubled, and the text is cut before it. An archive with a long block, which the program passes over, is only cut
 before each of its bytes. `list`, `verify` and `index` read the archives, `check` the indexes, and `serve` all queries.
 
-A case is a run over 500 texts at most. The script needs Python 3.9, and takes minutes. It prints what is wrong in a case that differs, what was
-tried, and `N cases, M differ`. The status is 1 if one differs.
+A case is a run over 500 texts at most. Prints what is wrong in each case that differs, what was
+tried, and the counts. The exit status is 0, or 1 if a case differs.
 """
-import argparse
 import collections
 import itertools
 import pathlib
@@ -26,7 +25,7 @@ from plain import lines as plain_lines
 from plain import queries as plain_queries
 from plain import records as plain_records
 from plain.lines import Line
-from program import program_of
+from program import add_program, find_program, parser_of
 from trial import Trial, Wrong
 
 ARCHIVE = (
@@ -137,12 +136,12 @@ def differing(trial: Trial, try_texts: Callable[[Trial, list[bytes]], None], tex
 
 
 def main() -> int:
-    parser = argparse.ArgumentParser(description=__doc__, formatter_class=argparse.RawDescriptionHelpFormatter)
-    parser.add_argument("program", nargs="?", metavar="PROGRAM", help="the program; that of this repository, built if necessary")
-    words = parser.parse_args()
+    parser = parser_of(__doc__)
+    add_program(parser)
+    program = find_program(parser.parse_args().program)
     tally: collections.Counter[str] = collections.Counter()
     with tempfile.TemporaryDirectory() as folder:
-        trial = Trial(str(program_of([words.program] if words.program else [])), pathlib.Path(folder), random.Random(1), tally)
+        trial = Trial(str(program), pathlib.Path(folder), random.Random(1), tally)
         count = differing(trial, try_queries, changed(QUERY))
         count += differing(trial, try_indexes, changed(INDEX))
         count += differing(trial, try_archives, itertools.chain(cut(LONG_ARCHIVE), changed(ARCHIVE)))

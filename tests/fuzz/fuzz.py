@@ -13,8 +13,9 @@ A case is one of four kinds:
   queries   six lines of queries: `serve` replies to each as `query` answers it, which is the plain answer
 No run may end by a signal, with a status or a line on standard error that docs/COMMANDS.md doesn't name, or after 20 s.
 
-It needs Python 3.9, and writes in the system's temporary folder. It prints what was tried, then the numbers of the cases that differ and what
-is wrong in the first, whose files it keeps, then `N cases, M differ`. The status is 1 if one differs.
+Prints what was tried, the numbers of the cases that differ, what is wrong in the first of them, and
+the counts. The files of the first are kept in the system's temporary folder. The exit status is 0,
+or 1 if a case differs.
 """
 import pathlib
 import sys

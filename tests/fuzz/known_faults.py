@@ -3,48 +3,45 @@
 
 usage: known_faults.py [PROGRAM]
 
-Each folder in cases/ is a case, and is named for what it shows. Its file `words` has the words of a command, one on each line, and `output` what
-the command has to write to standard output; both were written by hand. `status` has the exit status, if it isn't 0. The other files are
-the archives and indexes that the words name. The command is run in the folder.
+Each folder in cases/ is a case, and is named for what it shows. Its file `arguments` has the
+arguments of a run, one on each line. The run has to write the file `output` to standard output, and
+to end with the exit status in the file `status`, or 0 without one. All of these were written by
+hand. The other files are the archives and indexes that the arguments name. The program runs in the
+folder of the case.
 
-It needs Python 3.9. It prints `ok  NAME` or `DIFFERS NAME: ..` for each case, then `N cases, M differ`. The status is 1 if one differs.
+Prints a line for each case, and the counts. The exit status is 0, or 1 if a case differs.
 """
-import argparse
 import pathlib
 import subprocess
 import sys
 
 sys.path.insert(0, str(pathlib.Path(__file__).resolve().parents[1]))
 
-from program import program_of
+from program import Report, add_program, find_program, parser_of
 
 CASES = pathlib.Path(__file__).resolve().parent / "cases"
 
 
-def difference(program: pathlib.Path, case: pathlib.Path) -> str:
-    """What differs in a case, or nothing."""
-    words = (case / "words").read_text(encoding="utf-8").splitlines()
-    status = int((case / "status").read_text(encoding="utf-8")) if (case / "status").exists() else 0
+def check_case(report: Report, program: pathlib.Path, case: pathlib.Path) -> None:
+    arguments = (case / "arguments").read_text().splitlines()
+    status = int((case / "status").read_text()) if (case / "status").exists() else 0
     output = (case / "output").read_bytes()
-    done = subprocess.run((program, *words), stdin=subprocess.DEVNULL, stdout=subprocess.PIPE, stderr=subprocess.PIPE, cwd=case, check=False)
+    command = (program, *arguments)
+    done = subprocess.run(command, cwd=case, stdin=subprocess.DEVNULL, stdout=subprocess.PIPE, stderr=subprocess.PIPE)
     if (done.returncode, done.stdout) == (status, output):
-        return ""
-    return f"wanted {status} {output!r}, found {done.returncode} {done.stdout!r} {done.stderr!r}"
+        report.add_ok(case.name)
+    else:
+        found = f"found {done.returncode} {done.stdout!r} {done.stderr!r}"
+        report.add_difference(case.name, f"wanted {status} {output!r}, {found}")
 
 
 def main() -> int:
-    parser = argparse.ArgumentParser(description=__doc__, formatter_class=argparse.RawDescriptionHelpFormatter)
-    parser.add_argument("program", nargs="?", metavar="PROGRAM", help="the program; that of this repository, built if necessary")
-    words = parser.parse_args()
-    program = program_of([words.program] if words.program else [])
-    cases = sorted(CASES.iterdir())
-    differing = 0
-    for case in cases:
-        wrong = difference(program, case)
-        print(f"DIFFERS {case.name}: {wrong}" if wrong else f"ok  {case.name}")
-        differing += bool(wrong)
-    print(f"{len(cases)} cases, {differing} differ")
-    return int(differing > 0)
+    parser, report = parser_of(__doc__), Report()
+    add_program(parser)
+    program = find_program(parser.parse_args().program)
+    for case in sorted(CASES.iterdir()):
+        check_case(report, program, case)
+    return report.end()
 
 
 if __name__ == "__main__":

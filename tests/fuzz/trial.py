@@ -23,7 +23,7 @@ ON_ERROR = re.compile(
     rf"query: ({REFUSALS})|TooManySources|Input|Write|Memory|cannot flush)\n)*".encode(),
 )
 OF_INDEX = re.compile(rb"warcdx: (.*): (BadLine|OutOfOrder) ([0-9]+)\n")
-Word = Union[str, bytes]
+Argument = Union[str, bytes]
 
 
 class Wrong(Exception):
@@ -59,28 +59,28 @@ class Trial:
             (self.folder / name).write_bytes(text)
         return names
 
-    def run(self, *words: Word, lines: bytes = b"") -> Done:
+    def run(self, *arguments: Argument, lines: bytes = b"") -> Done:
         self.tally["runs"] += 1
         try:
-            done = self.ended((self.program, *words), lines)
+            done = self.ended((self.program, *arguments), lines)
         except TimeoutError:
-            raise Wrong(f"{words} takes over {SECONDS} s") from None
+            raise Wrong(f"{arguments} takes over {SECONDS} s") from None
         if done.status not in (0, 1, 3) or bool(done.error) > bool(done.status) or not ON_ERROR.fullmatch(done.error):
-            raise Wrong(f"{words} ends with {done}")
+            raise Wrong(f"{arguments} ends with {done}")
         return done
 
-    def ended(self, words: Iterable[Word], lines: bytes = b"") -> Done:
+    def ended(self, arguments: Iterable[Argument], lines: bytes = b"") -> Done:
         signal.alarm(SECONDS)  # cheaper than the timeout of subprocess, which looks again and again
         try:
-            done = subprocess.run(tuple(words), input=lines, stdout=subprocess.PIPE, stderr=subprocess.PIPE, cwd=self.folder, check=False)
+            done = subprocess.run(tuple(arguments), input=lines, stdout=subprocess.PIPE, stderr=subprocess.PIPE, cwd=self.folder, check=False)
         finally:
             signal.alarm(0)
         return Done(done.returncode, done.stdout, done.stderr)
 
-    def expect(self, status: int, output: bytes, error: bytes, *words: Word, lines: bytes = b"") -> None:
-        found, wanted = self.run(*words, lines=lines), Done(status, output, error)
+    def expect(self, status: int, output: bytes, error: bytes, *arguments: Argument, lines: bytes = b"") -> None:
+        found, wanted = self.run(*arguments, lines=lines), Done(status, output, error)
         if found != wanted:
-            raise Wrong(f"{words}\nwanted {wanted}\nfound  {found}")
+            raise Wrong(f"{arguments}\nwanted {wanted}\nfound  {found}")
 
     def check(self, holds: object, what: str) -> None:
         if not holds:

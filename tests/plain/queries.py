@@ -3,9 +3,8 @@
 
 usage: queries.py [--pages SIZES] QUERY INDEX..
 
-It needs Python 3.9. Each line of the indexes has to be one of a capture. The status is 1 if the query is refused.
+Each line of the indexes has to be one of a capture. The exit status is 0, or 1 if the query is refused.
 """
-import argparse
 import itertools
 import json
 import pathlib
@@ -19,6 +18,7 @@ sys.path.insert(0, str(pathlib.Path(__file__).resolve().parents[1]))
 
 from plain import keys
 from plain.lines import Line, Place, collected, read_lines
+from program import parser_of
 
 FIELDS = ("urlkey", "timestamp", "original", "mimetype", "statuscode", "digest", "length", "offset", "filename")
 USUAL_FIELDS = FIELDS[:7]
@@ -301,18 +301,18 @@ def select(query: Query, lines: list[Line]) -> list[Line]:
 
 
 def main() -> int:
-    parser = argparse.ArgumentParser(description=__doc__, formatter_class=argparse.RawDescriptionHelpFormatter)
+    parser = parser_of(__doc__)
     parser.add_argument("--pages", metavar="SIZES", help="write page by page, of these sizes, such as 2,3")
     parser.add_argument("query", metavar="QUERY")
     parser.add_argument("indexes", nargs="+", metavar="INDEX")
-    words = parser.parse_args()
-    lines = read_lines(pathlib.Path(name).read_bytes() for name in words.indexes)
+    arguments = parser.parse_args()
+    lines = read_lines(pathlib.Path(name).read_bytes() for name in arguments.indexes)
     try:
-        query = read_query(words.query)
+        query = read_query(arguments.query)
     except Refused as refusal:
         print(f"refused {refusal}", file=sys.stderr)
         return 1
-    sizes = [int(size) for size in words.pages.split(",")] if words.pages else []
+    sizes = [int(size) for size in arguments.pages.split(",")] if arguments.pages else []
     sys.stdout.buffer.write(pages(query, sizes, lines) if sizes else answer(query, lines))
     return 0
 
