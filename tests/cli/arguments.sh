@@ -39,6 +39,15 @@ unexpected() { # OPTION
         "For more information, try '--help'."
 }
 
+no_version() { # OPTION
+    lines "error: unexpected option '$1'" "" "  tip: the first line of 'warcdx --help' has the version" "" \
+        "For more information, try '--help'."
+}
+
+not_utf8() { # ARGUMENT
+    lines "error: $1 isn't UTF-8" "" "For more information, try '--help'."
+}
+
 misplaced() { # OPTION
     lines "error: unexpected option '$1'" "" "  tip: '--types TYPES' stands once, directly after 'index' or 'scan'" "" \
         "For more information, try '--help'."
@@ -73,7 +82,7 @@ one_too_many=$(refusal "unexpected argument 'q.warc' found" "get <OFFSET> <WARC>
 misspelt=$(refusal "unrecognized subcommand 'lst'"$'\n\n  tip: a similar subcommand exists: \'list\'' "[COMMAND]")
 no_typed=$(refusal "the following required arguments were not provided:"$'\n  <WARC>...' "index --types <TYPES> <WARC>...")
 no_value=$(lines "error: a value is required for '--types <TYPES>' but none was supplied" "" "For more information, try '--help'.")
-no_text=$(lines "error: a word isn't UTF-8" "" "For more information, try '--help'.")
+long_name=$(printf '%04096d' 0)
 
 #     case                              output error           status, arguments and input
 check "list alone"                      "" "$no_list"                      2 list
@@ -125,14 +134,17 @@ check "help list"                       "" "$(unknown help)"               2 hel
 check "a command in capitals"           "" "$(unknown LIST)"               2 LIST same.warc
 check "-x"                              "" "$(unexpected -x)"              2 -x
 check "--"                              "" "$(unexpected --)"              2 --
-check "-V"                              "" "$(unexpected -V)"              2 -V
-check "--version"                       "" "$(unexpected --version)"       2 --version
+check "-V"                              "" "$(no_version -V)"              2 -V
+check "--version"                       "" "$(no_version --version)"       2 --version
 check "list -- -x"                      "" "$(unexpected --)"              2 list -- -x
 check "an option after a name"          "" "$(unexpected -dash.warc)"      2 list same.warc -dash.warc
 check "an option before a command"      "" "$(unexpected -x)"              2 -x list same.warc
 check "an option beside -h"             "" "$(unexpected -x)"              2 list -h -x
-check "a word that isn't UTF-8"         "" "$no_text"                      2 $'\xff'
-check "a name that isn't UTF-8"         "" "$no_text"                      2 list same.warc $'\xff'
+check "a word that isn't UTF-8"         "" "$(not_utf8 "argument 1")"      2 $'\xff'
+check "a name that isn't UTF-8"         "" "$(not_utf8 "argument 3")"      2 list same.warc $'\xff' $'\xfe'
+check "one in front of a valid one"     "" "$(not_utf8 "argument 2")"      2 list $'a\xc3' same.warc
+check "behind one of 4,096 bytes"       "" "$(not_utf8 "argument 3")"      2 list "$long_name" $'\xff'
+check "of more than 4,096 bytes"        "" "$(not_utf8 "an argument")"     2 list "$long_name"$'\xff'
 
 of_program=$(lines "warcdx 0.1.0: indexes web archives, answers queries, and fetches records" "" "Usage: warcdx [COMMAND]")
 of_list=$(lines "Lists the records of archives" "" "Usage: warcdx list <WARC>...")
