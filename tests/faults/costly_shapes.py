@@ -145,8 +145,8 @@ SHAPES = (
     Shape("pages over many indexes", pages_over_many_indexes, 16, bytes_read),
     Shape("a scan in pages of one capture, all of one key and stamp", scan_of_one_pair, 250, seconds),
     Shape("an index of many archives", many_archives, 5000, seconds),
-    Shape("host labels of many letters", labels_of_many_letters, 160, seconds),
-    Shape("folders and as many steps up", many_folders_up, 20_000, seconds),
+    Shape("host labels of many letters", labels_of_many_letters, 80, seconds),
+    Shape("folders and as many steps up", many_folders_up, 10_000, seconds),
     Shape("a line of nested objects", nested_objects, 800, seconds),
     Shape("a line of members of one name", members_of_one_name, 100_000, seconds),
 )
@@ -164,7 +164,7 @@ def costs_of(program: pathlib.Path, shape: Shape, scale: int) -> list[float]:
 
 def run(program: pathlib.Path, folder: pathlib.Path, words: Sequence[str]) -> Costs:
     costs = measure(program, folder, words)
-    if costs.status not in (0, 1):
+    if costs.status != 0 and b": BadLine " not in costs.error:
         sys.exit(f"costly_shapes.py: {words[0]} ended with status {costs.status}: {costs.error[:200]!r}")
     return costs
 
