@@ -31,7 +31,7 @@ LEAST_SECONDS = 0.02  # what is shorter can't be measured
 RUNS = 3
 MEGABYTE = 1 << 20
 
-# What the shapes cost that are known to be costly; README.md says so too ("Limits").
+# What the shapes cost that are known to be costly; docs/COSTS.md says so too.
 KNOWN = {
     "a query of a file without line feeds": "reads 26 times the file of 64 MiB",
     "a query of good lines and a hole behind them": "reads 9 times the file of 128 MiB",

@@ -5,9 +5,9 @@ usage: input_memory.py [--size BYTES] [PROGRAM]
 
 Each input is made of one piece, which is repeated until the input has BYTES bytes (default: 1,048,576), or more if less
 memory than this script holds itself can't be measured. The memory is that of the run at its peak. For each byte of the
-input it has to be what README.md says ("Limits"): at most a tenth more than the figure in INPUTS, and at least two
-thirds of it, so that a figure that is too high is noticed too. A line of an index has at most 16,777,216 bytes;
-`--size 16777216` needs 3 GB of memory.
+input it has to be what docs/COSTS.md says: at most a tenth more than the figure in INPUTS, and at least two thirds of
+it, so that a figure that is too high is noticed too. A line of an index has at most 16,777,216 bytes; `--size 16777216`
+needs 3 GB of memory.
 
 Prints a line for each input and command, and the counts. The exit status is 0, or 1 if a figure isn't as stated.
 """
