@@ -9,8 +9,8 @@ error. What it wrote then is a prefix of what it writes otherwise. `list`, `veri
 with the next file, write some of their lines. A run that is killed has written a prefix. With --all more command lines
 are run, with more errors, and runs that write more than a buffer are killed at each write.
 
-fail_devices.py fails several calls of a run, and lets calls move few bytes. It sees neither the calls that the C library
-makes for itself, nor those that open and close. refuse_memory.py refuses memory.
+fail_devices.py fails several calls of a run, and lets calls move few bytes; it leaves alone those that open and close.
+refuse_memory.py refuses memory.
 
 Prints a line for each command and call, with the number of runs, and the counts. The exit status is 0, or 1 if a run
 ends in another way. Needs Debian's package strace.
