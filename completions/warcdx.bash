@@ -4,7 +4,7 @@ _warcdx() {
     local word=${COMP_WORDS[COMP_CWORD]} command=${COMP_WORDS[1]} operand=$((COMP_CWORD - 1))
     COMPREPLY=()
     if ((COMP_CWORD == 1)) && [[ $word != -* ]]; then
-        _warcdx_offer "list verify index merge check query pages serve get scan"
+        _warcdx_offer list verify index merge check query pages serve get scan
         return
     fi
     if [[ $command == index || $command == scan ]] && [[ ${COMP_WORDS[2]} == --types ]] && ((COMP_CWORD > 2)); then
@@ -15,7 +15,7 @@ _warcdx() {
         operand=$((operand - 2))
     fi
     if [[ $word == -* ]]; then
-        _warcdx_offer "-h --help"
+        _warcdx_offer -h --help
         if [[ $command:$COMP_CWORD == index:2 || $command:$COMP_CWORD == scan:2 ]]; then _warcdx_offer --types; fi
         return
     fi
@@ -28,15 +28,19 @@ _warcdx() {
     esac
 }
 
-_warcdx_offer() { # WORDS
+# Those that begin with the word. `compgen -W` would expand it, and so run what it substitutes.
+_warcdx_offer() { # OFFERED..
     local offered
-    while read -r offered; do COMPREPLY+=("$offered"); done < <(compgen -W "$1" -- "$word")
+    for offered; do
+        if [[ $offered == "$word"* ]]; then COMPREPLY+=("$offered"); fi
+    done
 }
 
-# Types behind those that stand in the word, none of them twice.
+# Types behind those that stand in the word, none of them twice. Nothing behind what isn't types.
 _warcdx_types() {
     local given='' type
     if [[ $word == *,* ]]; then given=${word%,*},; fi
+    if [[ $given == *[!a-z,]* ]]; then return; fi
     for type in response resource revisit conversion metadata; do
         if [[ ,$given != *,$type,* ]]; then _warcdx_offer "$given$type"; fi
     done
@@ -44,7 +48,7 @@ _warcdx_types() {
 }
 
 _warcdx_query() {
-    _warcdx_offer "url= key="
+    _warcdx_offer url= key=
     compopt -o nospace
 }
 

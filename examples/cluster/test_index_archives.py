@@ -9,13 +9,14 @@ Python, for which it is made.
 import contextlib
 import importlib.util
 import json
+import os
 import pathlib
 import shutil
 import subprocess
 import sys
 import tempfile
 import time
-from collections.abc import Callable, Iterator
+from collections.abc import Callable, Iterator, Sequence
 from typing import Any
 
 HERE = pathlib.Path(__file__).resolve().parent
@@ -28,6 +29,11 @@ WAIT = 120  # seconds for what takes a few
 SLOW = """#!/bin/sh
 echo "$PPID ${2##*/}" >> "%(folder)s/begun"
 [ "$1" = merge ] || sleep 1
+exec "%(program)s" "$@"
+"""
+# Notes the same, and takes no longer than the program.
+FAST = """#!/bin/sh
+echo "$PPID ${2##*/}" >> "%(folder)s/begun"
 exec "%(program)s" "$@"
 """
 # Fails as on a machine that can't reach a file.
@@ -57,6 +63,10 @@ def until(name: str, holds: Callable[[], Any]) -> Any:
     raise Differs(f"{name}: not within {WAIT} s")
 
 
+def index_of(program: pathlib.Path, archives: Sequence[pathlib.Path]) -> bytes:
+    return subprocess.run((program, "index", *archives), stdout=subprocess.PIPE, stderr=subprocess.PIPE).stdout
+
+
 class Trial:
     """A folder with archives, one of them damaged, a program, and what index_archives.py makes of them."""
 
@@ -72,7 +82,7 @@ class Trial:
         self.wanted = self.index(program, "*.warc")
 
     def index(self, program: pathlib.Path, names: str) -> bytes:
-        return subprocess.run((program, "index", *sorted(self.archives.glob(names))), stdout=subprocess.PIPE, stderr=subprocess.PIPE).stdout
+        return index_of(program, sorted(self.archives.glob(names)))
 
     def start(self, *words: str) -> "subprocess.Popen[bytes]":
         command = (HERE / "index_archives.py", "--warcdx", self.program, *words, self.archives, self.results)
@@ -92,10 +102,11 @@ class Trial:
         return len(parts) >= 2 and mine and f"{mine[-1]}.cdxj" not in parts and mine[-1]
 
     def expect_results(self, faulty: set[tuple[str, int]], wanted: bytes) -> None:
-        expect("archives", (self.results / "archives").read_text().split(), [str(archive) for archive in sorted(self.archives.iterdir())])
+        archives = [str(archive) for archive in sorted(self.archives.rglob("*.warc"))]
+        expect("archives", json.loads((self.results / "archives.json").read_text()), archives)
         report = json.loads((self.results / "report.json").read_text())
-        expect("report", {(pathlib.Path(entry["archive"]).name, entry["status"]) for entry in report}, faulty)
-        expect("what is in the way", list(self.results.glob("parts/.*")), [])
+        expect("report", {(entry["archive"].rpartition("/")[2], entry["status"]) for entry in report}, faulty)
+        expect("folders", [path.name for path in self.results.iterdir() if path.is_dir()], ["parts"])
         expect("index", (self.results / "index.cdxj").read_bytes() == wanted, True)
 
 
@@ -150,7 +161,60 @@ def results_are_not_written_over(program: pathlib.Path, folder: pathlib.Path) ->
     trial = Trial(program, folder, SLOW)
     trial.results.mkdir()
     expect("status", trial.start().wait(WAIT), 2)
+    expect("status with --add", trial.start("--add").wait(WAIT), 2)
     expect("results", list(trial.results.iterdir()), [])
+
+
+def a_file_may_have_any_name(program: pathlib.Path, folder: pathlib.Path) -> None:
+    """Only one that isn't UTF-8 can't be indexed, as `warcdx` takes no such argument. Each archive has one line, which a terminal shows as it is."""
+    trial = Trial(program, folder, FAST)
+    good = ("-x.warc", ".hidden.warc", ".warc", "a b.warc", "a\nb.warc", "\x1b[31m.warc", "*.warc", "$(false).warc", f"{'n' * 250}.warc")
+    for name in (*good, os.fsdecode(b"\xff.warc")):
+        shutil.copy(ROOT / "samples/response.warc", trial.archives / name)
+    (trial.archives / "folder.warc").mkdir()
+    os.mkfifo(trial.archives / "pipe.warc")
+    archives = sorted(path for path in trial.archives.iterdir() if path.is_file() and path.name.isascii())
+    expect("status", trial.start("--workers", "2").wait(WAIT), 3)
+    (trial.archives / "folder.warc").rmdir()
+    faulty = {("07.warc", 1), ("pipe.warc", 3), (os.fsdecode(b"\xff.warc"), 3)}
+    trial.expect_results(faulty, index_of(program, archives))
+    said = (folder / "said").read_text()
+    expect("lines", sum(": status " in line for line in said.splitlines()), len(archives) + 2)
+    expect("characters", [each for each in set(said) - {"\n"} if not each.isprintable()], [])
+
+
+def files_have_the_modes_of_the_umask(program: pathlib.Path, folder: pathlib.Path) -> None:
+    trial, usual = Trial(program, folder, FAST), os.umask(0o027)
+    try:
+        expect("status", trial.start("--workers", "1").wait(WAIT), 1)
+    finally:
+        os.umask(usual)
+    expect("modes", {oct(path.stat().st_mode & 0o777) for path in trial.results.rglob("*.*")}, {"0o640"})
+
+
+def folders_below_are_read_if_they_are_to_be(program: pathlib.Path, folder: pathlib.Path) -> None:
+    """Of two archives with one file name the first is indexed, as by `warcdx index`."""
+    trial = Trial(program, folder, FAST)
+    below = trial.archives / "a" / "b"
+    below.mkdir(parents=True)
+    for name in ("00.warc", "below.warc"):
+        shutil.copy(ROOT / "samples/wget.warc", below / name)
+    expect("status", trial.start("--workers", "2", "--recursive").wait(WAIT), 1)
+    trial.expect_results({("00.warc", 1), ("07.warc", 1)}, index_of(program, sorted(trial.archives.rglob("*.warc"))))
+
+
+def a_further_run_indexes_what_is_new(program: pathlib.Path, folder: pathlib.Path) -> None:
+    """That is a new archive, one that was changed, and one that wasn't indexed completely."""
+    trial = Trial(program, folder, FAST)
+    expect("status", trial.start("--workers", "2").wait(WAIT), 1)
+    (trial.archives / "03.warc").unlink()
+    for name in ("05.warc", "new.warc"):
+        shutil.copy(ROOT / "samples/response.warc", trial.archives / name)
+    (folder / "begun").unlink()
+    expect("status", trial.start("--workers", "2", "--add").wait(WAIT), 1)
+    begun = {name for _, name in trial.begun() if name.endswith(".warc")}
+    expect("archives", begun, {"05.warc", "07.warc", "new.warc"})
+    trial.expect_results({("07.warc", 1)}, trial.index(program, "*.warc"))
 
 
 def more_indexes_are_merged_in_groups(program: pathlib.Path, folder: pathlib.Path) -> None:
@@ -170,6 +234,10 @@ CASES = (
     a_worker_is_killed_in_the_middle,
     a_cluster_is_made_where_none_is_named,
     an_archive_that_fails_is_tried_again_and_reported,
+    a_file_may_have_any_name,
+    files_have_the_modes_of_the_umask,
+    folders_below_are_read_if_they_are_to_be,
+    a_further_run_indexes_what_is_new,
     results_are_not_written_over,
     more_indexes_are_merged_in_groups,
 )

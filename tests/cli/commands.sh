@@ -283,6 +283,21 @@ check "scan: --types, a refused query"  "" "warcdx: query: BadUrl"         1 sca
 flush="warcdx: cannot flush"
 write="warcdx: Write"
 
+# What can reach a terminal, as docs/COMMANDS.md says: the name of a file, C1 controls, bidirectional marks, and DEL but in text.
+forged=$'a 5\nforged.cdxj'
+: > "$forged"
+of_controls=$(printf 'http://example.com/\xc2\x9b7m\xe2\x80\xae')
+delete=$'\x7f'
+printf 'com,example)/ 20160919172024 {"url": "%s\\u001b%s",\t"offset": "0", "filename": "a.warc"}\r\n' "$of_controls" "$delete" > controls.cdxj
+printf 'com,example)/ 20160919172024 {"url": "\x1b", "offset": "0", "filename": "a.warc"}\n' > escape.cdxj
+check "a line feed in a name"           "$forged 0"      ""                0 check "$forged"
+check "controls in a name"    "" "warcdx: "$'\e[31m: cannot open'          3 list $'\e[31m'
+check "controls in an index, text" "$of_controls%1B%7F" ""                 0 query "url=example.com&fl=original" controls.cdxj
+check "controls in an index, json" "$(lines '[["original"],' "[\"$of_controls\\u001b$delete\"]]")" "" 0 query "url=example.com&fl=original&output=json" controls.cdxj
+check "controls in an index, cdxj" "$(< controls.cdxj)" ""                 0 query "url=example.com&output=cdxj" controls.cdxj
+check "controls in an index, merge" "$(< controls.cdxj)" ""                0 merge controls.cdxj
+check "a control that isn't escaped" "" "warcdx: escape.cdxj: BadLine 0"   1 check escape.cdxj
+
 for way in full closed broken; do
     check_into $way "$way: one line"       "" "$flush"                       3 list same.warc
     check_into $way "$way: many lines"     "" "$write"                       3 list many.warc

@@ -78,4 +78,26 @@ warcdx query url=x |a.cdxj
 warcdx pages 5 url=x |a.cdxj
 warcdx pages 5 url=x a.cdxj |a.cdxj
 END
+
+expect_none_run() { # on standard input lines with a command that would make the file `run`
+    local line
+    while read -r line; do
+        offered_after "$line" > /dev/null
+        expect "what is run by '$line'" "" "$(find "$work" -name run -delete -print)"
+    done
+}
+
+expect_none_run << 'END'
+warcdx index --types '$(touch run)',
+warcdx scan --types resource,\`touch\ run\`,re
+warcdx list '$(touch run)'
+warcdx list \`touch\ run\`/
+warcdx query 'url=$(touch run)'
+END
+if [ "$shell" != zsh ]; then # zsh itself expands a word that isn't quoted, or is so in double quotes
+    expect_none_run << 'END'
+warcdx index --types "$(touch run),
+warcdx scan --types "resource,`touch run`,re
+END
+fi
 end_script

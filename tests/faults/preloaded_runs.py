@@ -1,11 +1,12 @@
-"""Runs of each command on the samples, with a small C library that is preloaded. fail_devices.py and refuse_memory.py import this file."""
+"""Runs of each command on the samples, by themselves, with a small C library that is preloaded, or below another program.
+fail_devices.py, fail_syscalls.py and refuse_memory.py import this file."""
 import os
 import pathlib
 import shutil
 import subprocess
 import tempfile
 from collections.abc import Mapping, Sequence
-from typing import NamedTuple
+from typing import NamedTuple, Optional
 
 from program import ROOT, stop_without
 
@@ -34,8 +35,6 @@ CASES = (
 )
 
 
-
-
 class Ended(NamedTuple):
     """How a run ended."""
 
@@ -45,9 +44,9 @@ class Ended(NamedTuple):
 
 
 class Runs:
-    """Runs of the program in a folder with the samples, their indexes, and the library made of a C source of tests/faults."""
+    """Runs of the program in a folder with the samples, their indexes, and the library made of a C source of tests/faults, if one is named."""
 
-    def __init__(self, program: pathlib.Path, source: str) -> None:
+    def __init__(self, program: pathlib.Path, source: Optional[str] = None) -> None:
         self.program = program
         self.temporary = tempfile.TemporaryDirectory()
         self.folder = pathlib.Path(self.temporary.name)
@@ -55,7 +54,7 @@ class Runs:
             (self.folder / archive.name).write_bytes(archive.read_bytes())
             index = subprocess.run((program, "index", archive), stdout=subprocess.PIPE, stderr=subprocess.DEVNULL).stdout
             (self.folder / archive.name).with_suffix(".cdxj").write_bytes(index)
-        self.library = make_library(source, self.folder)
+        self.library = make_library(source, self.folder) if source else None
 
     def usual(self, arguments: Sequence[str]) -> Ended:
         """Runs the program without the library."""
@@ -64,8 +63,12 @@ class Runs:
     def preloaded(self, arguments: Sequence[str], **more: str) -> Ended:
         return self.run(arguments, {**more, "LD_PRELOAD": str(self.library)})
 
-    def run(self, arguments: Sequence[str], more: Mapping[str, str]) -> Ended:
-        command, environment = (self.program, *arguments), {**os.environ, **more}
+    def below(self, command: Sequence[str], arguments: Sequence[str]) -> Ended:
+        """Runs the program by this command."""
+        return self.run(arguments, {}, command)
+
+    def run(self, arguments: Sequence[str], more: Mapping[str, str], before: Sequence[str] = ()) -> Ended:
+        command, environment = (*before, self.program, *arguments), {**os.environ, **more}
         done = subprocess.run(
             command, input=LINES, stdout=subprocess.PIPE, stderr=subprocess.PIPE, cwd=self.folder, env=environment, timeout=60
         )
