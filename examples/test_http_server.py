@@ -111,7 +111,8 @@ def sent(url: str, request: bytes) -> bytes:
     """Returns what a socket gets for these bytes."""
     with socket.create_connection(address_of(url), timeout=20) as client:
         client.sendall(request)
-        client.shutdown(socket.SHUT_WR)
+        with contextlib.suppress(OSError):  # the server may have closed the connection
+            client.shutdown(socket.SHUT_WR)
         return b"".join(iter(lambda: client.recv(65_536), b""))
 
 
