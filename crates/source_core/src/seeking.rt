@@ -93,7 +93,8 @@ fn read_to<S: Source>(
     ensures reads { (t : List ℕ) → S.text source.old ≡ Some t → BeginsWith t offset front.old.items
         → IfOk result (λ ends. ReadsOn t offset front.new.items ends) }
     ensures gave { (t : List ℕ) → S.text source.old ≡ Some t → BeginsWith t offset front.old.items
-        → S.gave source.new + length front.old.items ≤ S.gave source.old + longest (lines t) + length piece.old }
+        → S.gave source.new + length front.old.items
+        ≤ S.gave source.old + longest (lines t) + length piece.old }
     ensures bound { S.gave source.new + length front.old.items ≤ S.gave source.old + wanted }
     ensures held { IfOk result (λ ends. ends ≡ false
         → S.gave source.new + length front.old.items ≤ S.gave source.old + length front.new.items) }
@@ -154,7 +155,7 @@ fn stops_at<S: Source>(
 struct Probed {
     /// Where it begins, in bytes from the source's start.
     offset: u64,
-    /// Whether it isn't below the pair, or the source ends there.
+    /// Whether it isn't below the pair.
     stops: bool,
 }
 
@@ -179,7 +180,8 @@ fn probe<S: Source>(
     ensures line { (t : List ℕ) → S.text source.old ≡ Some t
         → IfOk result (λ found. IfSome found (λ line. drop line.offset t ≡ from_line middle t)) }
     ensures begins { (t : List ℕ) → S.text source.old ≡ Some t
-        → IfOk result (λ found. IfSome found (λ line. drop line.offset t ≡ from_line line.offset t)) }
+        → IfOk result (λ found. IfSome found (λ line.
+        drop line.offset t ≡ from_line line.offset t)) }
     ensures stops { (t : List ℕ) → S.text source.old ≡ Some t
         → IfOk result (λ found. IfSome found (λ line.
         line.stops ≡ stops (line_below LINE_LIMIT (key.now, stamp.now)) middle t)) }
@@ -203,10 +205,10 @@ fn probe<S: Source>(
 /// looks at the first line that begins in the upper half of the offsets that are left.
 ///
 /// Of a line it reads the first [`LINE_LIMIT`] bytes at most; a line that shows no pair in them isn't below. It looks
-/// for the end of a line in as many bytes at most. If there is none, the line is too long, and isn't below. It reads
-/// pieces of at most 1,024 bytes.
+/// through as many bytes at most for the end of a line. If they have no line feed, the line is too long, and what
+/// follows it counts as not below. It reads pieces of at most 1,024 bytes.
 ///
-/// In a text that isn't an index it finds the start of some line, which is too long or isn't below, or the size.
+/// In a text that isn't an index it finds the start of some line that isn't below or is too long, or the size.
 pub fn search<S: Source>(
     alloc: Global,
     source: &mut S,
@@ -219,8 +221,10 @@ pub fn search<S: Source>(
     ensures begins { (t : List ℕ) → S.text source.old ≡ Some t
         → IfOk result (λ found. (before : List (List ℕ)) × BeginsAfter t found.offset before) }
     ensures stops { (t : List ℕ) → S.text source.old ≡ Some t
-        → IfOk result (λ found. IsStop LINE_LIMIT (key.now, stamp.now) (lines (drop found.offset t))) }
-    ensures cut { (t : List ℕ) → (members : List Member) → S.text source.old ≡ Some t → IsIndex LINE_LIMIT t members
+        → IfOk result (λ found.
+        IsStop LINE_LIMIT (key.now, stamp.now) (lines (drop found.offset t))) }
+    ensures cut { (t : List ℕ) → (members : List Member)
+        → S.text source.old ≡ Some t → IsIndex LINE_LIMIT t members
         → IfOk result (λ found. IsCut (key.now, stamp.now) t members found.offset) }
     ensures probes { IfOk result (λ found. found.probes ≤ digits (S.extent source.old)) }
     ensures gave { (t : List ℕ) → S.text source.old ≡ Some t → S.gave source.new
@@ -233,7 +237,7 @@ pub fn search<S: Source>(
     let mut front = Vec::new(alloc);
     let mut low = 0;
     let mut high = source.size();
-    // the first line at or after `high`, unless it is too long
+    // where the first line from `high` on begins, unless a line that is too long hides it
     let mut line = Some(high);
     let mut probes = 0;
     while low < high {
@@ -255,7 +259,7 @@ pub fn search<S: Source>(
             }
         }
     }
-    // a line that is too long is the last one that was below
+    // the line that is too long is the last one that was below
     let offset = match line {
         Some(offset) => offset,
         None => low - 1,

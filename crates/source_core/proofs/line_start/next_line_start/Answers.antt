@@ -1,4 +1,4 @@
-use Rattle.std.proofs.Common.{◌≡◌, ◌+◌, ◌-◌, ◌<◌, ◌≤◌, ◌++◌, ℕ, Option, Some, List, length, take, drop, arith, ◌∙◌, subst, length-take, length-drop, length-append}
+use Rattle.std.proofs.Common.{◌≡◌, ◌-◌, ◌<◌, ◌≤◌, ◌++◌, ℕ, Option, Some, List, length, drop, arith, ◌∙◌, subst, length-take, length-drop, length-append}
 use Rattle.std.proofs.lemmas.List.{take-append-le}
 use Rattle.source_core.specs.Device.{HoldsPart}
 use Rattle.source_core.proofs.Pieces.{nowhere_in, found_in, begins_in}
