@@ -2,7 +2,7 @@
 use devices::Fuse;
 use fixtures::{
     FALLING, FIRST_OF_2016, LETTERS, Refused, Row, TORN, UNENDED_LETTERS, cut, falling_lines,
-    index_text, joined, keyed_lines,
+    index_text, joined, keyed_lines, padded,
 };
 use query_core::{AnswerFault, FileSource, SliceSource, Source, check};
 use source_core::{SearchFault, search};
@@ -200,5 +200,55 @@ fn the_search_for_the_last_of_100_000_lines_reads_less_than_a_hundredth(
 ) -> Result<(), Fail> {
     let text = keyed_lines(rt.alloc(), 100_000)?;
     assert!(rt; is_last_found(rt.alloc(), &text)?);
+    Ok(())
+}
+
+/// The number of bytes in a source's longest good line.
+const LINE: u64 = 16_777_216;
+
+/// Returns whether a line of 40 MB is bad, and no more of it is read than a good line has and a piece of 8,192 bytes.
+fn is_read_up_to_the_limit(alloc: Global) -> Result<bool, Refused> {
+    let line = padded(alloc, cut(LETTERS, 100), b'x', b"\n", 40_000_000)?;
+    let mut source = SliceSource::new(&line);
+    let is_bad = is_checked(alloc, &mut source, Err(AnswerFault::BadLine(0, 0)))?;
+    Ok(is_bad && source.gave() > LINE - 8_192 && source.gave() <= LINE + 8_192)
+}
+
+#[test]
+fn a_line_that_is_too_long_is_read_up_to_the_limit(rt: HostRuntime) -> Result<(), Refused> {
+    assert!(rt; is_read_up_to_the_limit(rt.alloc())?);
+    Ok(())
+}
+
+/// Returns the offset that the search for `c)/` finds in this text, and the number of bytes that it read.
+fn found_in(alloc: Global, text: &[u8]) -> Result<(u64, u64), SearchFault> {
+    let mut source = SliceSource::new(text);
+    let found = search(alloc, &mut source, b"c)/", b"00000000000000")?;
+    Ok((found.offset, source.gave()))
+}
+
+/// Fronts of texts that go on with zeros, and the offset that the search for `c)/` finds there.
+const FRONTS: &[(&[u8], u64)] = &[(b"", 0), (LETTERS, 290)];
+
+#[test]
+fn a_search_in_zeros_reads_no_more_than_them_and_a_line(
+    rt: HostRuntime,
+) -> Result<(), SearchFault> {
+    for (front, wanted) in FRONTS {
+        let text = padded(rt.alloc(), front, 0, b"", 64_000_000)?;
+        let (offset, gave) = found_in(rt.alloc(), &text)?;
+        assert!(rt; offset == *wanted && gave <= 64_000_000 + LINE, "{offset} {gave}");
+    }
+    Ok(())
+}
+
+#[test]
+fn a_search_ends_at_a_line_that_is_too_long_to_be_looked_through(
+    rt: HostRuntime,
+) -> Result<(), SearchFault> {
+    let alloc = rt.alloc();
+    let text = padded(alloc, cut(LETTERS, 200), b'x', LETTERS, 40_000_000)?;
+    let (offset, _gave) = found_in(alloc, &text)?;
+    assert!(rt; offset == 145, "{offset}");
     Ok(())
 }

@@ -13,7 +13,7 @@ use Rattle.cdxj_places.specs.Pair.{pair_of}
 use Rattle.cdxj_places.specs.Pairs.{Pair, pair_cmp}
 use Rattle.cdxj_places.specs.Rising.{NeverFalls}
 use Rattle.cdxj_places.proofs.PairLemmas.{pair_cmp_total}
-use Rattle.source_core.specs.IndexLines.{lines, from_line, BeginsAfter}
+use Rattle.source_core.specs.IndexLines.{lines, from_line, longest, BeginsAfter}
 use Rattle.source_core.specs.Search.{is_below, is_some_below, line_below, IsCut}
 use Rattle.source_core.specs.Halving.{stops}
 use Rattle.source_core.proofs.Seeks.{from_line_rest, sought, BelowFirst}
@@ -83,6 +83,18 @@ module _ (limit : ℕ) (start : Pair) where
 
   same_tail : (l : List ℕ) (ls : List (List ℕ)) (m : Member) (ms : List Member) → HaveEntries (l ∷ ls) (m ∷ ms) → HaveEntries ls ms
   same_tail l ls m ms h = cc
+
+  entries_short : (ls : List (List ℕ)) (ms : List Member) → HaveEntries ls ms → longest ls ≤ limit
+  entries_short [] ms h = omega arith
+  entries_short (l ∷ ls) [] h = absurd (cc)
+  entries_short (l ∷ ls) (m ∷ ms) h =
+      let ih = entries_short ls ms (same_tail l ls m ms h) in
+      let short = entry_is_short limit l m (same_head l ls m ms h) in
+      let long : length l ≤ length (body_of l) + 1 = body_length _ l in
+      omega arith
+
+  pub lines_are_short : (t : List ℕ) (ms : List Member) → IsIndex limit t ms → longest (lines t) ≤ limit
+  lines_are_short t ms index = entries_short (lines t) ms index.entries
 
   later_high : (m : Member) (ls : List (List ℕ)) (ms : List Member) → HaveEntries ls ms → AllByRecursion (λ k. is_gt (pair_cmp (member_pair m) (member_pair k)) ≡ false) ms
       → is_below start (member_pair m) ≡ false → AllByRecursion (λ k. line_below limit start k ≡ false) ls

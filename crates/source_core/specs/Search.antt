@@ -1,12 +1,13 @@
 -- What the search for the first line at or above a pair finds in an index.
-use Rattle.std.specs.Prelude.{◌≡◌, ℕ, List, ◌++◌, length, take, Bool, true, false, Option, Some, None, Result, Err}
+use Rattle.std.specs.Prelude.{◌≡◌, ℕ, ◌<◌, ◌⊎◌, List, ◌++◌, length, take, Bool, true, false, Option, Some, None, Result, Err}
 use Rattle.std.specs.List.{AllByRecursion}
 use Rattle.std.specs.Ordering.{is_lt}
 use Rattle.cdxj_core.specs.Members.{Member, member_pair}
 use Rattle.cdxj_places.specs.Pair.{pair_of}
 use Rattle.cdxj_places.specs.Pairs.{Pair, pair_cmp}
 use Rattle.devices.specs.Device.{next_count}
-use Rattle.source_core.specs.IndexLines.{BeginsAfter}
+use Rattle.source_core.specs.Halving.{stops_lines}
+use Rattle.source_core.specs.IndexLines.{BeginsAfter, first_length}
 use Rattle.source_core.specs.declared.fault.SearchFault.{SearchFault}
 use Rattle.source_core.specs.declared.fault.SearchFault.TheVariants as fault
 
@@ -21,6 +22,10 @@ is_some_below start (Some pair) = is_below start pair
 -- the line begins, within its first `limit` bytes, with a pair below the start
 unfoldable pub line_below : ℕ → Pair → List ℕ → Bool
 line_below limit start line = is_some_below start (pair_of (take limit line))
+
+-- No line is left, or the first one isn't below the start, or it is longer than the limit
+abbrev pub IsStop : ℕ → Pair → List (List ℕ) → Type 0
+IsStop limit start ls = (stops_lines (line_below limit start) ls ≡ true) ⊎ (limit < first_length ls)
 
 -- An index is cut at the offset: the lines before it are those whose pairs are below the start
 pub record IsCut (start : Pair) (text : List ℕ) (members : List Member) (offset : ℕ) : Type 0 where

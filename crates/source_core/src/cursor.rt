@@ -35,7 +35,8 @@ impl Cursor {
 
     /// Creates a cursor at the offset `start`, in bytes from the source's start. A line begins there.
     pub fn new(alloc: Global, start: u64) -> Result<Cursor, AllocError>
-        ensures stands { IfOk result (λ c. (text : Option (List ℕ)) → (extent : ℕ) → start ≤ extent → Stands text extent c) }
+        ensures stands { IfOk result (λ c.
+            (text : Option (List ℕ)) → (extent : ℕ) → start ≤ extent → Stands text extent c) }
         ensures start { IfOk result (λ c. (c.start ≡ start) × (c.at ≡ start) × (c.count ≡ 0)) }
         ensures ahead { IfOk result (λ c. reach c ≡ start) }
     {
@@ -64,8 +65,8 @@ impl Cursor {
     /// Reads the next line, with its line feed, into `line`, whose previous bytes are dropped. Returns whether there
     /// was one.
     ///
-    /// A line that is too long is read only up to the piece that shows it. After an error the cursor must not be used
-    /// again.
+    /// Whatever is returned, `line` holds at most [`LINE_LIMIT`] bytes, and at most 8,192 more were read for it. After an
+    /// error the cursor must not be used again.
     pub fn next<S: Source>(
         &mut self,
         source: &mut S,
@@ -77,13 +78,22 @@ impl Cursor {
         ensures stands { OnOk result (Stands (S.text source.new) (S.extent source.new) self.new) }
         ensures filled { Filled (S.text source.new) (S.extent source.new) self.new }
         ensures start { self.new.start ≡ self.old.start }
-        ensures count { IfOk result (λ found. MatchOption (line_found found line.new.items) (self.new.count ≡ self.old.count) (λ _. self.new.count ≡ self.old.count + 1)) }
-        ensures there { IfOk result (λ found. MatchOption (line_found found line.new.items) (self.new.at ≡ S.extent source.old) (λ l. self.new.at ≡ self.old.at + length l)) }
-        ensures some { IfOk result (λ found. IfSome (line_found found line.new.items) (λ l. 0 < length l)) }
-        ensures given { (t : List ℕ) → S.text source.old ≡ Some t → IfOk result (λ found. lines (drop self.old.at t) ≡ first_then (line_found found line.new.items) (lines (drop self.new.at t))) }
-        ensures long { (t : List ℕ) → S.text source.old ≡ Some t → IfErr result (λ e. e ≡ LineReadFault.Long → LINE_LIMIT < first_length (lines (drop self.old.at t))) }
-        ensures most { (t : List ℕ) → S.text source.old ≡ Some t → self.new.at ≤ self.old.at + first_length (lines (drop self.old.at t)) }
+        ensures count { IfOk result (λ found. MatchOption (line_found found line.new.items)
+            (self.new.count ≡ self.old.count) (λ _. self.new.count ≡ self.old.count + 1)) }
+        ensures there { IfOk result (λ found. MatchOption (line_found found line.new.items)
+            (self.new.at ≡ S.extent source.old) (λ l. self.new.at ≡ self.old.at + length l)) }
+        ensures some { IfOk result (λ found.
+            IfSome (line_found found line.new.items) (λ l. 0 < length l)) }
+        ensures short { length line.new.items ≤ LINE_LIMIT }
+        ensures given { (t : List ℕ) → S.text source.old ≡ Some t → IfOk result (λ found.
+            lines (drop self.old.at t)
+            ≡ first_then (line_found found line.new.items) (lines (drop self.new.at t))) }
+        ensures long { (t : List ℕ) → S.text source.old ≡ Some t → IfErr result (λ e.
+            e ≡ LineReadFault.Long → LINE_LIMIT < first_length (lines (drop self.old.at t))) }
+        ensures most { (t : List ℕ) → S.text source.old ≡ Some t
+            → self.new.at ≤ self.old.at + first_length (lines (drop self.old.at t)) }
         ensures gave { S.gave source.new + reach self.old ≤ S.gave source.old + reach self.new }
+        ensures bound { S.gave source.new ≤ S.gave source.old + LINE_LIMIT + 8192 }
         ensures failures { CountsLineRead result (S.failures source.old) (S.failures source.new) }
     {
         line.clear();

@@ -1,39 +1,51 @@
 //! Where lines begin.
-ghost use Rattle.std.specs.Prelude.{◌≡◌, ◌+◌, ◌<◌, ◌≤◌, ℕ, List, length, drop, IfOk, Some};
+ghost use Rattle.std.specs.Prelude.{◌≡◌, ◌+◌, ◌<◌, ◌≤◌, ℕ, List, length, drop, IfOk, IfSome, IfNone, Some};
 ghost use Rattle.devices.specs.Device.{CountsFailure};
 ghost use Rattle.source_core.specs.IndexLines.{lines, from_line, longest};
 
 use crate::source::{Source, SourceFault};
 use memchr::memchr;
 
-/// Returns the offset of the first line that begins at the offset `from` or after it, or the source's size. Reads piece
-/// by piece, from the byte before `from` on, and nothing if `from` is 0.
+/// Returns the offset of the first line that begins at the offset `from` or after it, if it begins before `until`.
+/// Reads piece by piece, from the byte before `from` on, and nothing if `from` is 0.
 pub(crate) fn next_line_start<S: Source>(
     source: &mut S,
     piece: &mut [u8],
     from: u64,
-) -> Result<u64, SourceFault>
+    until: u64,
+) -> Result<Option<u64>, SourceFault>
     requires room { 0 < length piece.old }
-    requires inside { from ≤ S.extent source.old }
+    requires some { from < until }
+    requires inside { until ≤ S.extent source.old }
     ensures text { S.text source.new ≡ S.text source.old }
     ensures extent { S.extent source.new ≡ S.extent source.old }
-    ensures within { IfOk result (λ r. r ≤ S.extent source.old) }
-    ensures after { IfOk result (λ r. from ≤ r) }
-    ensures line { (t : List ℕ) → S.text source.old ≡ Some t → IfOk result (λ r. drop r t ≡ from_line from t) }
-    ensures gave { (t : List ℕ) → S.text source.old ≡ Some t → S.gave source.new ≤ S.gave source.old + longest (lines t) + length piece.old }
+    ensures after { IfOk result (λ found. IfSome found (λ offset. from ≤ offset)) }
+    ensures within { IfOk result (λ found. IfSome found (λ offset. offset < until)) }
+    ensures later { IfOk result (λ found. IfNone found (0 < from)) }
+    ensures line { (t : List ℕ) → S.text source.old ≡ Some t
+        → IfOk result (λ found. IfSome found (λ offset. drop offset t ≡ from_line from t)) }
+    ensures begins { (t : List ℕ) → S.text source.old ≡ Some t
+        → IfOk result (λ found. IfSome found (λ offset. drop offset t ≡ from_line offset t)) }
+    ensures none { (t : List ℕ) → S.text source.old ≡ Some t
+        → IfOk result (λ found. IfNone found (from_line until t ≡ from_line from t)) }
+    ensures gave { (t : List ℕ) → S.text source.old ≡ Some t
+        → S.gave source.new ≤ S.gave source.old + longest (lines t) + length piece.old }
+    ensures bound { S.gave source.new + from ≤ S.gave source.old + until }
     ensures failures { CountsFailure result (S.failures source.old) (S.failures source.new) }
 {
     if from == 0 {
-        return Ok(0);
+        return Ok(Some(0));
     }
-    let size = source.size();
+    let _size = source.size();
+    let end = until - 1;
     let mut at = from - 1;
-    while at < size {
-        let count = source.read_at(at, piece)?;
+    while at < end {
+        let most = piece.len().min((end - at) as usize);
+        let count = source.read_at(at, &mut piece[..most])?;
         match memchr(b'\n', &piece[..count]) {
-            Some(feed) => return Ok(at + feed as u64 + 1),
+            Some(feed) => return Ok(Some(at + feed as u64 + 1)),
             None => at += count as u64,
         }
     }
-    Ok(size)
+    Ok(None)
 }
