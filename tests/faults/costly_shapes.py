@@ -33,8 +33,6 @@ MEGABYTE = 1 << 20
 
 # What the shapes cost that are known to be costly; docs/COSTS.md says so too.
 KNOWN = {
-    "a query of a file without line feeds": "reads 26 times the file of 64 MiB",
-    "a query of good lines and a hole behind them": "reads 8 times the file of 64 MiB",
     "pages of a group of one key and stamp": "read the whole group for each page",
     "pages over many indexes": "search all indexes again for each page",
     "a scan in pages of one capture, all of one key and stamp": "goes through the whole group for each page",
@@ -137,8 +135,8 @@ class Shape(NamedTuple):
 
 
 SHAPES = (
-    Shape("a query of a file without line feeds", no_line_feeds, 8, bytes_read, FLAT),
-    Shape("a query of good lines and a hole behind them", good_lines_and_a_hole, 8, bytes_read, FLAT),
+    Shape("a query of a file without line feeds", no_line_feeds, 64, bytes_read, FLAT),
+    Shape("a query of good lines and a hole behind them", good_lines_and_a_hole, 64, bytes_read, FLAT),
     Shape("pages of a group of one key and stamp", pages_of_one_pair, 1250, bytes_read),
     Shape("a page of a group of one key and stamp", page_of_one_pair, 1250, bytes_read),
     Shape("pages of one line, of rising keys", pages_of_rising_keys, 250, bytes_read),
