@@ -13,3 +13,6 @@ pub mod PlainCuts
 pub mod PlainLaw
 pub mod UnescapedAscii
 pub mod PlainPlaces
+pub mod NumberTexts
+pub mod JsonReading
+pub mod FoundLaw

@@ -2,6 +2,8 @@ pub mod Entries
 pub mod Texts
 pub mod Lines
 pub mod Plain
+pub mod FoundMembers
+pub mod FoundViews
 pub mod MemberViews
 pub mod ValuesView
 pub mod Members

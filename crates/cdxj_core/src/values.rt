@@ -3,13 +3,13 @@ ghost use Rattle.std.specs.Prelude.{◌≡◌, ◌<◌, ◌^◌, length, decimal
 ghost use Rattle.cdxj_core.specs.MemberViews.{members_view};
 
 use crate::fault::LineFault;
+use crate::found_members::FoundMembers;
 use crate::line_members::LineMembers;
 use crate::member_values::{filename_value, offset_value, value_text};
 use crate::owned_members::OwnedMembers;
 use crate::plain::{plain_offset, plain_texts};
 use cdxj_places::{is_key, is_stamp};
-use serde_json::Value;
-use serde_json::error::Category;
+use json::Scratch;
 use std::alloc::Global;
 
 #[derive(Debug, Drop)]
@@ -78,25 +78,22 @@ impl<'a> Values<'a> {
             → line_object key.now stamp.now object.now ≡ None)
             × (fault ≢ LineFault.LineTooLong)) }
     {
-        let value = match Value::from_str(alloc, object) {
-            Ok(value) => value,
-            Err(e) if e.classify() == Category::Memory => return Err(LineFault::Memory),
-            Err(_) => return Err(LineFault::BadLine),
-        };
-        let Some(filename) = filename_value(value.get("filename")) else {
+        let mut scratch = Scratch::new(alloc);
+        let found = FoundMembers::of_text(object, &mut scratch)?;
+        let Some(filename) = filename_value(found.filename) else {
             return Err(LineFault::BadLine);
         };
-        let Some(offset) = offset_value(value.get("offset")) else {
+        let Some(offset) = offset_value(found.offset) else {
             return Err(LineFault::BadLine);
         };
         Ok(Values {
             offset,
             members: LineMembers::Owned(OwnedMembers {
-                url: value_text(alloc, value.get("url"))?,
-                mime: value_text(alloc, value.get("mime"))?,
-                status: value_text(alloc, value.get("status"))?,
-                digest: value_text(alloc, value.get("digest"))?,
-                length: value_text(alloc, value.get("length"))?,
+                url: value_text(alloc, found.url)?,
+                mime: value_text(alloc, found.mime)?,
+                status: value_text(alloc, found.status)?,
+                digest: value_text(alloc, found.digest)?,
+                length: value_text(alloc, found.length)?,
                 offset: format!(in alloc; "{offset}")?,
                 filename: String::from_str(alloc, filename)?,
             }),

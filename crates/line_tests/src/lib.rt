@@ -2,6 +2,8 @@
 #![tactic(auto)]
 
 #[cfg(test)]
+mod foreign;
+#[cfg(test)]
 mod keys;
 #[cfg(test)]
 mod limits;

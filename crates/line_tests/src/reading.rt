@@ -53,7 +53,7 @@ fn has_values(read: &LineRef<'_>, values: &str) -> bool {
 }
 
 /// Returns whether the line is read with these values.
-fn is_read(alloc: Global, line: &str, values: &str) -> Result<bool, LineFault> {
+pub fn is_read(alloc: Global, line: &str, values: &str) -> Result<bool, LineFault> {
     let read = LineRef::read(alloc, line.as_bytes())?;
     let end = line.strip_suffix('\n').unwrap_or(line);
     Ok(

@@ -3,7 +3,7 @@ use cdxj_core::{LineFault, LineRef};
 use std::alloc::Global;
 
 /// Returns whether the line is refused as bad. Failed allocations are errors of the test.
-fn is_bad(alloc: Global, line: &[u8]) -> Result<bool, LineFault> {
+pub fn is_bad(alloc: Global, line: &[u8]) -> Result<bool, LineFault> {
     match LineRef::read(alloc, line) {
         Err(LineFault::Memory) => Err(LineFault::Memory),
         Err(LineFault::BadLine) => Ok(true),
