@@ -113,14 +113,8 @@ const REFUSALS: &[(&str, &str)] = &[
         "the place within an array",
         "k 20160101000000 [{\"offset\": \"7\", \"filename\": \"f\"}]\n",
     ),
-    (
-        "null",
-        "k 20160101000000 null\n",
-    ),
-    (
-        "true",
-        "k 20160101000000 true\n",
-    ),
+    ("null", "k 20160101000000 null\n"),
+    ("true", "k 20160101000000 true\n"),
     (
         "a number alone that is too large",
         "k 20160101000000 1e999\n",

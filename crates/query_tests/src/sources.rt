@@ -237,7 +237,10 @@ fn a_search_in_zeros_reads_no_more_than_them_and_a_line(
     for (front, wanted) in FRONTS {
         let text = padded(rt.alloc(), front, 0, b"", 64_000_000)?;
         let (offset, gave) = found_in(rt.alloc(), &text)?;
-        assert!(rt; offset == *wanted && gave <= 64_000_000 + LINE, "{offset} {gave}");
+        assert!(rt;
+            offset == *wanted && gave <= 64_000_000 + LINE,
+            "{offset} {gave}"
+        );
     }
     Ok(())
 }
