@@ -3,11 +3,10 @@
 
 usage: input_memory.py [--size BYTES] [PROGRAM]
 
-Each input is made of one piece, which is repeated until the input has BYTES bytes (default: 1,048,576), or more if less
-memory than this script holds itself can't be measured. The memory is that of the run at its peak. For each byte of the
+Each input is made of one piece, which is repeated until the input has BYTES bytes (default: 16,777,216, the limit of a line of an index).
+Of less than 8,000,000, the memory that this script holds itself would be measured. The memory is that of the run at its peak. For each byte of the
 input it has to be what docs/COSTS.md says: at most a tenth more than the figure in INPUTS, and at least two thirds of
-it, so that a figure that is too high is noticed too. A line of an index has at most 16,777,216 bytes; `--size 16777216`
-needs 3 GB of memory.
+it, so that a figure that is too high is noticed too.
 
 Prints a line for each input and command, and the counts. The exit status is 0, or 1 if a figure isn't as stated.
 """
@@ -34,9 +33,7 @@ class Input(NamedTuple):
     before: str
     piece: str
     behind: str
-    commands: Sequence[Sequence[str]]
-    figure: float  # the memory for each byte
-    least: int = 0  # bytes
+    figures: Sequence[tuple[Sequence[str], float]]  # commands, and the memory of each for each byte
 
 
 FRONT, BACK = RECORD.split("%s")
@@ -45,15 +42,13 @@ ARRAY_END = "0], " + MEMBERS % ("", 0, "a")
 OBJECTS = '{"":' * DEEP + "0" + "}" * DEEP + ","
 ARRAYS = "[" * DEEP + "]" * DEEP + ","
 TARGET = FRONT + "\x01" * 1_000_000 + BACK  # not a URL: each byte is escaped, and is in the key and in the line
-CHECKED = (("check",), ("merge",), ("query", ALL))
-LARGE = 1 << 23
+OF_LINES = ((("check",), 2.2), (("merge",), 4.2), (("query", ALL), 3.3))
 INPUTS = (
-    Input("a line with nested objects", f'{OBJECT}"a": [', OBJECTS, ARRAY_END, CHECKED, 175),
-    Input("a line with small objects", f'{OBJECT}"a": [', '{"":0},', ARRAY_END, CHECKED, 130),
-    Input("a line with nested arrays", f'{OBJECT}"a": [', ARRAYS, ARRAY_END, CHECKED, 73),
-    Input("a line with a long URL", f'{OBJECT}"url": "', "a", '", "offset": "0", "filename": "a"}\n', (("query", ALL),), 5.2, LARGE),
-    Input("targets of control characters", "", TARGET, "", (("index",),), 11, LARGE),
-    Input("targets of control characters", "", TARGET, "", (("scan", "1", ALL),), 22, LARGE),
+    Input("a line with nested objects", f'{OBJECT}"a": [', OBJECTS, ARRAY_END, OF_LINES),
+    Input("a line with small objects", f'{OBJECT}"a": [', '{"":0},', ARRAY_END, OF_LINES),
+    Input("a line with nested arrays", f'{OBJECT}"a": [', ARRAYS, ARRAY_END, OF_LINES),
+    Input("a line with a long URL", f'{OBJECT}"url": "', "a", '", "offset": "0", "filename": "a"}\n', ((("query", ALL), 5.2),)),
+    Input("targets of control characters", "", TARGET, "", ((("index",), 11), (("scan", "1", ALL), 22))),
 )
 
 
@@ -70,7 +65,7 @@ def texts_of(made: Input, size: int) -> Iterator[str]:
 
 def main() -> int:
     parser, report = parser_of(__doc__), Report()
-    parser.add_argument("--size", metavar="BYTES", type=int, default=1 << 20, help="of an input (default: 1048576)")
+    parser.add_argument("--size", metavar="BYTES", type=int, default=1 << 24, help="of an input (default: 16777216)")
     add_program(parser)
     arguments = parser.parse_args()
     program = find_program(arguments.program)
@@ -78,16 +73,16 @@ def main() -> int:
         folder = pathlib.Path(name)
         for made in INPUTS:
             with open(folder / "input", "w") as file:
-                file.writelines(texts_of(made, max(arguments.size, made.least)))
+                file.writelines(texts_of(made, arguments.size))
             size = (folder / "input").stat().st_size
-            for command in made.commands:
+            for command, figure in made.figures:
                 costs = measure(program, folder, (*command, "input"))
                 ratio = costs.memory / size
                 title = f"{made.name}: {command[0]} of {size:,} bytes holds {costs.memory:,}, {ratio:.1f} a byte"
-                if costs.status == 0 and made.figure / 1.5 <= ratio <= made.figure * 1.1:
+                if costs.status == 0 and figure / 1.5 <= ratio <= figure * 1.1:
                     report.add_ok(title)
                 else:
-                    report.add_difference(title, f"status {costs.status}, {costs.error[:200]!r}, stated is {made.figure}")
+                    report.add_difference(title, f"status {costs.status}, {costs.error[:200]!r}, stated is {figure}")
     return report.end()
 
 
