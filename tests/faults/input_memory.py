@@ -3,10 +3,11 @@
 
 usage: input_memory.py [--size BYTES] [PROGRAM]
 
-Each input is made of one piece, which is repeated until the input has BYTES bytes (default: 16,777,216, the limit of a line of an index).
-Of less than 8,000,000, the memory that this script holds itself would be measured. The memory is that of the run at its peak. For each byte of the
-input it has to be what docs/COSTS.md says: at most a tenth more than the figure in INPUTS, and at least two thirds of
-it, so that a figure that is too high is noticed too.
+Each input is made of one piece, which is repeated until the input has BYTES bytes (default:
+16,777,216, the limit of a line of an index). Of less than 8,000,000, the memory that this script
+holds itself would be measured. The memory is that of the run at its peak. For each byte of the input
+it has to be what docs/COSTS.md says: at most a tenth more than the figure in INPUTS, and at least
+two thirds of it, so that a figure that is too high is noticed too.
 
 Prints a line for each input and command, and the counts. The exit status is 0, or 1 if a figure isn't as stated.
 """
