@@ -1,4 +1,5 @@
-//! Tests of captures, and of the reports on archives and the indexes of them: what no clause states, and values from standards or worked out by hand.
+//! Tests of captures, and of the reports on archives and the indexes of them: what no clause
+//! states, and values from standards or worked out by hand.
 #![tactic(auto)]
 
 #[cfg(test)]

@@ -1,4 +1,5 @@
-//! Tests of keys, places, and the lines of indexes: what no clause states, and values from standards or worked out by hand.
+//! Tests of keys, places, and the lines of indexes: what no clause states, and values from
+//! standards or worked out by hand.
 #![tactic(auto)]
 
 #[cfg(test)]

@@ -1,4 +1,5 @@
-//! Tests of merges, and of the pages that answer queries: what no clause states, and values from standards or worked out by hand.
+//! Tests of merges, and of the pages that answer queries: what no clause states, and values from
+//! standards or worked out by hand.
 #![tactic(auto)]
 
 #[cfg(test)]

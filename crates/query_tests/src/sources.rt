@@ -206,7 +206,8 @@ fn the_search_for_the_last_of_100_000_lines_reads_less_than_a_hundredth(
 /// The number of bytes in a source's longest good line.
 const LINE: u64 = 16_777_216;
 
-/// Returns whether a line of 40 MB is bad, and no more of it is read than a good line has and a piece of 8,192 bytes.
+/// Returns whether a line of 40 MB is bad, and no more of it is read than a good line has and a
+/// piece of 8,192 bytes.
 fn is_read_up_to_the_limit(alloc: Global) -> Result<bool, Refused> {
     let line = padded(alloc, cut(LETTERS, 100), b'x', b"\n", 40_000_000)?;
     let mut source = SliceSource::new(&line);
@@ -220,7 +221,8 @@ fn a_line_that_is_too_long_is_read_up_to_the_limit(rt: HostRuntime) -> Result<()
     Ok(())
 }
 
-/// Returns the offset that the search for `c)/` finds in this text, and the number of bytes that it read.
+/// Returns the offset that the search for `c)/` finds in this text, and the number of bytes that it
+/// read.
 fn found_in(alloc: Global, text: &[u8]) -> Result<(u64, u64), SearchFault> {
     let mut source = SliceSource::new(text);
     let found = search(alloc, &mut source, b"c)/", b"00000000000000")?;

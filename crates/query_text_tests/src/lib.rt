@@ -1,4 +1,5 @@
-//! Tests of the texts of queries, and of the lines that they select: what no clause states, and values from standards or worked out by hand.
+//! Tests of the texts of queries, and of the lines that they select: what no clause states, and
+//! values from standards or worked out by hand.
 #![tactic(auto)]
 
 #[cfg(test)]

@@ -1,4 +1,5 @@
-//! Tests of inputs, outputs, and the records of archives: what no clause states, and values from standards or worked out by hand.
+//! Tests of inputs, outputs, and the records of archives: what no clause states, and values from
+//! standards or worked out by hand.
 #![tactic(auto)]
 
 #[cfg(test)]

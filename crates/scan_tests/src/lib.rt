@@ -1,4 +1,5 @@
-//! Tests of queries over archives that have no index: what no clause states, and values from standards or worked out by hand.
+//! Tests of queries over archives that have no index: what no clause states, and values from
+//! standards or worked out by hand.
 #![tactic(auto)]
 
 #[cfg(test)]
