@@ -4,6 +4,7 @@ pub mod VerdictLemmas
 mod IndexLemmas
 mod AddingLemmas
 mod SpellingLemmas
+mod NameLemmas
 pub mod SoundLemmas
 mod OneIndexLemmas
 mod WholeLemmas
@@ -11,3 +12,4 @@ mod CopyLemmas
 mod FetchLemmas
 mod OffsetLemmas
 pub mod LimitLemmas
+mod AcceptedWhole

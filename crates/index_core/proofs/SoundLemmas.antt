@@ -6,6 +6,7 @@ use Rattle.std.specs.FinMap.{slice_cmp-IsAntisymmetric, nat_cmp-IsAntisymmetric}
 use Rattle.std.specs.Str.{bytes_eq}
 use Rattle.std.specs.declared.cmp.Ordering.{Ordering}
 use Rattle.std.specs.declared.cmp.Ordering.TheVariants.{Less, Equal, Greater}
+use Rattle.std.proofs.lemmas.List.Folds.{list_any-append}
 use Rattle.std.proofs.lemmas.Slice.Eq.{bytes_eq-Decides}
 use Rattle.warc_core.specs.HeadView.{HeadView}
 use Rattle.cdxj_core.specs.Entries.{EntryValue, entry_place, HasLine}
@@ -66,16 +67,13 @@ sound_step limit names name o h xs (Some x) used at e before s = record {
 -- ---- names
 
 pub among_more : (names more : List (List ℕ)) (name : List ℕ) → is_among names name ≡ true → is_among (names ++ more) name ≡ true
-among_more [] more name h = cc
-among_more (n ∷ names) more name h =
-    elim (bytes_eq n name) as (λ b. (b || is_among names name) ≡ true → (b || is_among (names ++ more) name) ≡ true) [
-      | true ↦ λ _. refl
-      | false ↦ λ k. among_more names more name k
-    ] h
+among_more names more name h = list_any-append (bytes_eq name) names more ∙ ap (λ b. b || is_among more name) h
 
 pub among_last : (names : List (List ℕ)) (name : List ℕ) → is_among (names ++ name ∷ []) name ≡ true
-among_last [] name = ap (λ b. b || false) ((bytes_eq-Decides name name).1 refl)
-among_last (n ∷ names) name = elim (bytes_eq n name) as (λ b. (b || is_among (names ++ name ∷ []) name) ≡ true) [ true ↦ refl | false ↦ among_last names name ]
+among_last names name =
+    list_any-append (bytes_eq name) names (name ∷ [])
+    ∙ ap (λ b. is_among names name || (b || false)) ((bytes_eq-Decides name name).1 refl)
+    ∙ elim (is_among names name) as (λ b. (b || true) ≡ true) [ true ↦ refl | false ↦ refl ]
 
 -- a name that is kept is among the names
 pub is_among_kept : (names new : List (List ℕ)) (name : List ℕ) → new ≡ names ++ name ∷ [] → is_among new name ≡ true

@@ -1,6 +1,6 @@
 -- What an indexer holds, and the index that it writes.
-use Rattle.std.specs.Prelude.{◌≡◌, ℕ, ◌<◌, ◌≤◌, ◌||◌, Bool, true, false, List, [], ◌∷◌, ⊤, length, flat_map}
-use Rattle.std.specs.List.{AllByRecursion}
+use Rattle.std.specs.Prelude.{◌≡◌, ℕ, ◌<◌, ◌≤◌, Bool, true, List, [], ◌∷◌, ⊤, length, flat_map}
+use Rattle.std.specs.List.{AllByRecursion, list_any}
 use Rattle.std.specs.Str.{bytes_eq}
 use Rattle.std.specs.declared.cmp.Ordering.TheVariants.{Equal}
 use Rattle.capture_core.specs.declared.types.Types.{Types}
@@ -22,8 +22,7 @@ IsName name = (0 < length name) × (length name ≤ 255)
 
 -- the name is among these
 abbrev pub is_among : List (List ℕ) → List ℕ → Bool
-is_among [] name = false
-is_among (n ∷ names) name = bytes_eq n name || is_among names name
+is_among names name = list_any (bytes_eq name) names
 
 -- the captures in the order of places
 abbrev pub in_places : List EntryValue → List EntryValue

@@ -33,6 +33,11 @@ abbrev pub WholeIsNotRefused : Type 0
 WholeIsNotRefused = (types : Kind → Bool) (limits : Limits) (limit : ℕ) (name archive : List ℕ) (gained : List EntryValue) (fault : CaptureFault)
     → IsAcceptedWhole types limits limit name archive → Gains types limits limit name (Some archive) gained (Err fault) → IsNoFaultOfArchive fault
 
+-- an archive that is accepted with captures is accepted whole
+abbrev pub AcceptedIsWhole : Type 0
+AcceptedIsWhole = (types : Kind → Bool) (limits : Limits) (limit : ℕ) (name archive : List ℕ) (captures : List EntryValue)
+    → IsAccepted types limits limit name archive captures → IsAcceptedWhole types limits limit name archive
+
 -- one thing stands at an offset of an archive
 abbrev pub OneStands : Type 0
 OneStands = (limit offset : ℕ) (archive : List ℕ) (this that : Result (List ℕ) IndexFault) → StandsIn limit archive offset this → StandsIn limit archive offset that → this ≡ that

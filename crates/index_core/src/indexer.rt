@@ -3,7 +3,7 @@ use crate::captures::add_captures;
 use crate::fault::IndexFault;
 use crate::held_line::HeldLine;
 use crate::index_lines::put_index;
-use crate::names::{is_among, is_name, keep_name};
+use crate::names::{Names, is_name};
 use capture_core::Types;
 use std::alloc::Global;
 use std::marker::Model;
@@ -14,21 +14,19 @@ use warc_core::{Input, Output};
 pub struct Indexer {
     alloc: Global,
     types: Types,
-    names: Vec<String>,
+    names: Names,
     captures: Vec<HeldLine>,
 }
 
 impl Model for Indexer {
-    ghost use Rattle.std.specs.Prelude.{map};
-    ghost use Rattle.std.specs.String.{string_bytes};
     ghost use Rattle.cdxj_core.specs.declared.limit.TheConstants.{LINE_LIMIT};
     ghost use Rattle.index_core.specs.Indexing.{Held, AreSound};
 
     ghost Value = { Held };
 
-    ghost view = { λ i. record { types = i.types; names = map string_bytes i.names.items; captures = i.captures.items } };
+    ghost view = { λ i. record { types = i.types; names = i.names; captures = i.captures.items } };
 
-    ghost invariant = { λ i. AreSound LINE_LIMIT (map string_bytes i.names.items) i.captures.items };
+    ghost invariant = { λ i. AreSound LINE_LIMIT i.names i.captures.items };
 }
 
 impl Indexer {
@@ -51,7 +49,7 @@ impl Indexer {
         Indexer {
             alloc,
             types,
-            names: Vec::new(alloc),
+            names: Names::new(alloc),
             captures: Vec::new(alloc),
         }
     }
@@ -74,10 +72,10 @@ impl Indexer {
         if !is_name(name) {
             return Err(IndexFault::BadName);
         }
-        if is_among(&self.names, name) {
+        if self.names.contains(name) {
             return Err(IndexFault::DuplicateName);
         }
-        match keep_name(self.alloc, &mut self.names, name) {
+        match self.names.add(self.alloc, name) {
             Ok(()) => {}
             Err(_) => return Err(IndexFault::Memory),
         }

@@ -23,7 +23,7 @@ pub use crate::fault::IndexFault;
 pub use crate::fetching::get;
 pub use crate::indexer::Indexer;
 pub use crate::laws::{
-    accepted_archive_is_not_refused, accepted_archive_stays_accepted,
+    accepted_archive_is_not_refused, accepted_archive_is_whole, accepted_archive_stays_accepted,
     archive_has_one_list_of_captures, one_thing_stands_at_an_offset,
 };
 pub use crate::listing::list;
