@@ -1,29 +1,39 @@
-use Rattle.std.proofs.Common.{◌≡◌, ◌<◌, ◌++◌, ◌∷◌, length, take, get_or, sym, ap, ◌∙◌, arith, eqb-true}
-use Rattle.std.specs.List.{list_all}
-use Rattle.std.proofs.lemmas.Str.{IsCharBoundary-after_ascii}
-use Rattle.memchr.specs.Find.{is_byte}
+use Rattle.std.proofs.Common.{◌≡◌, ◌++◌, ◌∷◌, take, get_or, sym, ap, ◌∙◌, arith, eqb-true}
+use Rattle.std.specs.List.{list_all, prefix_len}
+use Rattle.std.proofs.lemmas.Bool.{not-false}
+use Rattle.std.proofs.lemmas.List.Sums.{prefix_len_stops}
+use Rattle.std.proofs.lemmas.Str.{IsCharBoundary-after_ascii, IsCharBoundary-before_ascii}
 use Rattle.cdxj_core.specs.Plain.{is_open}
-use Rattle.cdxj_core.proofs.PlainCuts.{cut_at}
-use Rattle.cdxj_places.proofs.Found.{none_before}
+use Rattle.cdxj_core.proofs.PlainCuts.{cut_at, front_passes}
 use Rattle.cdxj_core.proofs.unescaped.quoted_part.Goals as goal
+use Rattle.cdxj_core.proofs.unescaped.quoted_part.Goals.{Then-end-text}
+
+open_text : (c : Then-end-text) → c.open_length-end.result ≡ prefix_len is_open c.args.text.now
+open_text c = c.open_length-end.ensures ∙ ap (prefix_len is_open) c.as_bytes.ensures.value
+
+quote : (c : Then-end-text) → get_or c.args.text.now c.open_length-end.result 0 ≡ 34
+quote c =
+    let text = c.args.text.now in
+    ap (λ n. get_or text n 0) (open_text c)
+    ∙ eqb-true _ _ (not-false _ (prefix_len_stops is_open text 0 (omega (arith, open_text c, c.if-end-text.true))))
+
+pub range-requires-clause-end_boundary : goal.range-requires-clause-end_boundary
+range-requires-clause-end_boundary c =
+    let here = (goal.at.range-requires-clause-end_boundary c).Then-end-text in
+    IsCharBoundary-before_ascii c.args.text.now c.open_length-end.result c.if-end-text.true (omega (arith, quote here))
 
 pub range_from-requires : goal.range_from-requires
 range_from-requires c =
-    let end = c.in_ok-end.end in
-    let within : end < length c.args.text.now = omega (arith, c.in_ok-end.ensures.0.high, ap length c.as_bytes.ensures.value) in
-    let quote : get_or c.args.text.now end 0 ≡ 34 = ap (λ t. get_or t end 0) (sym c.as_bytes.ensures.value) ∙ eqb-true _ _ c.in_ok-end.ensures.1 in
-    λ some. IsCharBoundary-after_ascii c.args.text.now end c.utf8.text within (omega (arith, quote))
+    let here = (goal.at.range_from-requires c).Then-end-text in
+    λ some. IsCharBoundary-after_ascii c.args.text.now c.open_length-end.result c.utf8.text c.if-end-text.true (omega (arith, quote here))
 
-pub returns : goal.returns
-returns c =
+pub returns-then-end-text : goal.returns-then-end-text
+returns-then-end-text c =
+    let here = (goal.at.returns-then-end-text c).Then-end-text in
     let text = c.args.text.now in
-    let end = c.in_ok-end.end in
-    let same = c.as_bytes.ensures.value in
-    let within : end < length text = omega (arith, c.in_ok-end.ensures.0.high, ap length same) in
-    let quote : get_or text end 0 ≡ 34 = ap (λ t. get_or t end 0) (sym same) ∙ eqb-true _ _ c.in_ok-end.ensures.1 in
+    let end = c.open_length-end.result in
     let front : c.range.result.now ≡ take end text = c.range.ensures.value ∙ ap (λ n. take n text) (omega arith) in
     let back = c.range_from.ensures.value in (
-      cut_at text end within ∙ (λ i. sym front i ++ quote i ∷ sym back i),
-      ap (list_all is_open) front
-          ∙ none_before (is_byte 34) text end (omega arith) (λ k low h. c.in_ok-end.ensures.0.before k (omega arith) low (ap (λ t. is_byte 34 (get_or t k 0)) same ∙ h)),
+      cut_at text end c.if-end-text.true ∙ (λ i. sym front i ++ quote here i ∷ sym back i),
+      ap (list_all is_open) (front ∙ ap (λ n. take n text) (open_text here)) ∙ front_passes is_open text,
     )
