@@ -9,6 +9,7 @@ pub mod EntryWrite
 pub mod EntryRead
 pub mod EntryLaw
 pub mod PlainBytes
+mod LaneLemmas
 pub mod PlainCuts
 pub mod PlainLaw
 pub mod UnescapedAscii

@@ -4,9 +4,13 @@ use Rattle.std.specs.List.{list_all}
 use Rattle.json.specs.Run.{is_plain}
 use Rattle.cdxj_core.specs.Texts.{TextsValue, or_missing}
 
+-- another byte
+abbrev pub is_other : ℕ → ℕ → Bool
+is_other byte b = not (b == byte)
+
 -- no quote
 abbrev pub is_open : ℕ → Bool
-is_open b = not (b == 34)
+is_open = is_other 34
 
 -- no control and no backslash
 abbrev pub is_unescaped : ℕ → Bool

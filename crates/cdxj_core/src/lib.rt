@@ -10,6 +10,7 @@ mod fault;
 mod field;
 mod found_members;
 mod json_values;
+mod lanes;
 mod laws;
 mod limit;
 mod line;

@@ -109,6 +109,7 @@ impl<'a> Parts<'a> {
 }
 
 // Room for a text of this length.
+#[inline(always)]
 fn make_room(buffer: &mut String, length: usize) -> Result<(), AllocError>
     ensures bytes { string_bytes buffer.new ≡ string_bytes buffer.old }
     ensures room { OnOk result (length ≤ string_capacity buffer.new) }
@@ -116,6 +117,7 @@ fn make_room(buffer: &mut String, length: usize) -> Result<(), AllocError>
     buffer.reserve(length.saturating_sub(buffer.len()))
 }
 
+#[inline(always)]
 fn fill(buffer: &mut String, text: &str)
     requires { length text.now ≤ string_capacity buffer.old }
     ensures { string_bytes buffer.new ≡ text.now }
@@ -193,6 +195,7 @@ impl Line {
         }
     }
 
+    #[inline(always)]
     fn keep(&mut self, parts: Parts<'_>) -> Result<(), AllocError>
         ensures ok { OnOk result (self.new ≡ parts.entry) }
         ensures err { OnErr result (self.new ≡ self.old) }

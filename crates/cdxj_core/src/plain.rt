@@ -1,22 +1,59 @@
 //! Plain objects: seven members in the order and the spelling of a written line, whose texts need
 //! no escapes.
-ghost use Rattle.std.specs.Prelude.{◌≡◌, ◌<◌, ◌^◌, ◌∷◌, ◌++◌, length, true, codes, decimal, IfSome, Some};
+ghost use Rattle.std.specs.Prelude.{◌≡◌, ◌≤◌, ◌<◌, ◌^◌, ◌∷◌, ◌++◌, length, take, true, codes, decimal, IfSome, Some};
 ghost use Rattle.std.specs.List.{list_all};
 ghost use Rattle.cdxj_core.specs.Plain.{is_open, is_unescaped, plain_text, ArePlain, AreOpen};
 ghost use Rattle.cdxj_core.specs.MemberViews.{borrowed_view};
 ghost use Rattle.cdxj_places.specs.Places.{offset_of};
 
 use crate::borrowed_members::BorrowedMembers;
+use crate::lanes::{Front, without_front};
 use crate::offset::canonical_offset;
 use crate::unescaped::{is_unescaped, quoted_part};
 
-// The text after the front, up to its quote, and what follows that quote.
+const URL: Front = Front {
+    bytes: *b"{\"url\": \"       ",
+    length: 9,
+};
+
+const MIME: Front = Front {
+    bytes: *b", \"mime\": \"     ",
+    length: 11,
+};
+
+const STATUS: Front = Front {
+    bytes: *b", \"status\": \"   ",
+    length: 13,
+};
+
+const DIGEST: Front = Front {
+    bytes: *b", \"digest\": \"   ",
+    length: 13,
+};
+
+const LENGTH: Front = Front {
+    bytes: *b", \"length\": \"   ",
+    length: 13,
+};
+
+const OFFSET: Front = Front {
+    bytes: *b", \"offset\": \"   ",
+    length: 13,
+};
+
+const FILENAME: Front = Front {
+    bytes: *b", \"filename\": \" ",
+    length: 15,
+};
+
+/// Returns the text after the front, up to its quote, and what follows that quote.
 #[inline(always)]
-fn text_after<'a>(text: &'a str, front: &str) -> Option<(&'a str, &'a str)>
-    ensures { IfSome result (λ p. (text.now ≡ front.now ++ (p.0.now ++ 34 ∷ p.1.now))
+fn text_after(text: &str, front: Front) -> Option<(&str, &str)>
+    requires { front.length ≤ 16 }
+    ensures { IfSome result (λ p. (text.now ≡ take front.length front.bytes ++ (p.0.now ++ 34 ∷ p.1.now))
         × (list_all is_open p.0.now ≡ true)) }
 {
-    quoted_part(text.strip_prefix(front)?)
+    quoted_part(without_front(text, front)?)
 }
 
 #[inline(always)]
@@ -30,13 +67,13 @@ fn is_closed(rest: &str) -> bool
 fn open_texts(object: &str) -> Option<BorrowedMembers<'_>>
     ensures { IfSome result (λ t. (object.now ≡ plain_text (borrowed_view t)) × AreOpen (borrowed_view t)) }
 {
-    let (url, rest) = text_after(object, "{\"url\": \"")?;
-    let (mime, rest) = text_after(rest, ", \"mime\": \"")?;
-    let (status, rest) = text_after(rest, ", \"status\": \"")?;
-    let (digest, rest) = text_after(rest, ", \"digest\": \"")?;
-    let (length, rest) = text_after(rest, ", \"length\": \"")?;
-    let (offset, rest) = text_after(rest, ", \"offset\": \"")?;
-    let (filename, rest) = text_after(rest, ", \"filename\": \"")?;
+    let (url, rest) = text_after(object, URL)?;
+    let (mime, rest) = text_after(rest, MIME)?;
+    let (status, rest) = text_after(rest, STATUS)?;
+    let (digest, rest) = text_after(rest, DIGEST)?;
+    let (length, rest) = text_after(rest, LENGTH)?;
+    let (offset, rest) = text_after(rest, OFFSET)?;
+    let (filename, rest) = text_after(rest, FILENAME)?;
     if is_closed(rest) {
         Some(BorrowedMembers {
             url,

@@ -1,5 +1,5 @@
 //! Lines whose objects are plain.
-ghost use Rattle.std.specs.Prelude.{◌≡◌, ◌<◌, ◌^◌, ◌∷◌, ◌++◌, length, decimal, Some, true};
+ghost use Rattle.std.specs.Prelude.{◌≡◌, ◌<◌, ◌^◌, ◌∷◌, ◌++◌, length, decimal, Some, IfSome, true};
 ghost use Rattle.std.specs.List.{list_all};
 ghost use Rattle.cdxj_core.specs.declared.limit.TheConstants.{LINE_LIMIT};
 ghost use Rattle.cdxj_places.specs.Pair.{is_key, is_stamp};
@@ -12,6 +12,20 @@ use crate::body::{body_of, unescaped_text};
 use crate::borrowed_members::BorrowedMembers;
 use crate::plain::{plain_offset, unescaped_texts};
 use cdxj_places::{cut_first, is_key, is_stamp};
+
+/// Returns the stamp that begins a text, and what follows the space behind it.
+#[inline(always)]
+fn cut_stamp(text: &str) -> Option<(&str, &str)>
+    ensures { IfSome result (λ p. (text.now ≡ p.0.now ++ 32 ∷ p.1.now) × (is_stamp p.0.now ≡ true)) }
+{
+    let (stamp, rest) = text.split_at_checked(14)?;
+    let object = rest.strip_prefix(" ")?;
+    if is_stamp(stamp.as_bytes()) {
+        Some((stamp, object))
+    } else {
+        None
+    }
+}
 
 /// A line of ASCII whose object is plain, split into its texts.
 #[derive(Drop)]
@@ -46,10 +60,10 @@ impl<'a> PlainLine<'a> {
         let body = body_of(line);
         let text = unescaped_text(body)?;
         let (key, rest) = cut_first(text);
-        let (stamp, object) = cut_first(rest);
-        if !is_key(key.as_bytes()) || !is_stamp(stamp.as_bytes()) {
+        if !is_key(key.as_bytes()) {
             return None;
         }
+        let (stamp, object) = cut_stamp(rest)?;
         let texts = unescaped_texts(object)?;
         let offset = plain_offset(texts)?;
         let Ok(digits) = <[u8; 14]>::try_from(stamp.as_bytes()) else {

@@ -8,10 +8,10 @@ use Rattle.cdxj_core.proofs.PlainCuts.{cut_at, front_passes}
 use Rattle.cdxj_core.proofs.unescaped.quoted_part.Goals as goal
 use Rattle.cdxj_core.proofs.unescaped.quoted_part.Goals.{Then-end-text}
 
-open_text : (c : Then-end-text) → c.open_length-end.result ≡ prefix_len is_open c.args.text.now
-open_text c = c.open_length-end.ensures ∙ ap (prefix_len is_open) c.as_bytes.ensures.value
+open_text : (c : Then-end-text) → c.length_before-end.result ≡ prefix_len is_open c.args.text.now
+open_text c = c.length_before-end.ensures ∙ ap (prefix_len is_open) c.as_bytes.ensures.value
 
-quote : (c : Then-end-text) → get_or c.args.text.now c.open_length-end.result 0 ≡ 34
+quote : (c : Then-end-text) → get_or c.args.text.now c.length_before-end.result 0 ≡ 34
 quote c =
     let text = c.args.text.now in
     ap (λ n. get_or text n 0) (open_text c)
@@ -20,18 +20,18 @@ quote c =
 pub range-requires-clause-end_boundary : goal.range-requires-clause-end_boundary
 range-requires-clause-end_boundary c =
     let here = (goal.at.range-requires-clause-end_boundary c).Then-end-text in
-    IsCharBoundary-before_ascii c.args.text.now c.open_length-end.result c.if-end-text.true (omega (arith, quote here))
+    IsCharBoundary-before_ascii c.args.text.now c.length_before-end.result c.if-end-text.true (omega (arith, quote here))
 
 pub range_from-requires : goal.range_from-requires
 range_from-requires c =
     let here = (goal.at.range_from-requires c).Then-end-text in
-    λ some. IsCharBoundary-after_ascii c.args.text.now c.open_length-end.result c.utf8.text c.if-end-text.true (omega (arith, quote here))
+    λ some. IsCharBoundary-after_ascii c.args.text.now c.length_before-end.result c.utf8.text c.if-end-text.true (omega (arith, quote here))
 
 pub returns-then-end-text : goal.returns-then-end-text
 returns-then-end-text c =
     let here = (goal.at.returns-then-end-text c).Then-end-text in
     let text = c.args.text.now in
-    let end = c.open_length-end.result in
+    let end = c.length_before-end.result in
     let front : c.range.result.now ≡ take end text = c.range.ensures.value ∙ ap (λ n. take n text) (omega arith) in
     let back = c.range_from.ensures.value in (
       cut_at text end c.if-end-text.true ∙ (λ i. sym front i ++ quote here i ∷ sym back i),

@@ -5,16 +5,17 @@ use lib.Lanes.{chunk}
 use Rattle.std.proofs.lemmas.List.Folds.{prefix_len-append}
 use Rattle.std.proofs.lemmas.List.Sums.{prefix_len-le-length}
 use Rattle.std.proofs.lemmas.Simd.{chunk-drop, length-chunk}
-use Rattle.cdxj_core.specs.Plain.{is_open}
-use Rattle.cdxj_core.proofs.unescaped.open_length.Goals as goal
+use Rattle.cdxj_core.specs.Plain.{is_other}
+use Rattle.cdxj_core.proofs.lanes.length_before.Goals as goal
 
 pub by_lanes-preserved : goal.by_lanes-preserved
 by_lanes-preserved c =
     let bytes = c.args.bytes.now in
+    let other = is_other c.args.byte in
     let end = c.by_lanes.end in
     let lanes = chunk end 16 bytes in
     let room : end + 16 ≤ length bytes = omega (arith, c.by_lanes.invariant.0, c.by_lanes-test.true) in
     let all = length-chunk end 16 bytes room in
-    let whole : prefix_len is_open lanes ≡ length lanes = omega (arith, c.open_run-run.ensures, c.if-run-lt16.false, prefix_len-le-length is_open lanes, all) in
-    let cut = ap (prefix_len is_open) (chunk-drop end 16 bytes) ∙ prefix_len-append is_open lanes (drop (end + 16) bytes) ∙ cond-true _ _ _ (eq-eqb _ _ whole) in
+    let whole : prefix_len other lanes ≡ length lanes = omega (arith, c.run_before-run.ensures, c.if-run-lt-LANES.false, prefix_len-le-length other lanes, all) in
+    let cut = ap (prefix_len other) (chunk-drop end 16 bytes) ∙ prefix_len-append other lanes (drop (end + 16) bytes) ∙ cond-true _ _ _ (eq-eqb _ _ whole) in
     (room, omega (arith, cut, all, c.by_lanes.invariant.1))

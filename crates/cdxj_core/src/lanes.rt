@@ -1,0 +1,82 @@
+//! Tests of 16 bytes at a time.
+ghost use Rattle.std.specs.Prelude.{◌≡◌, ◌≤◌, ◌+◌, ◌==◌, ◌++◌, true, if◌then◌else◌, drop, length, take, IfSome};
+ghost use Rattle.std.specs.Int.{trailing_zeros, w64};
+ghost use Rattle.std.specs.List.{prefix_len};
+ghost use Rattle.cdxj_core.specs.Plain.{is_other};
+
+use std::simd::prelude::*;
+
+const LANES: usize = 16;
+
+/// Returns the place of the lowest bit of the mask that is set, or 16.
+#[inline(always)]
+fn first_set(mask: u64) -> usize
+    ensures { result ≡ if mask == 0 then LANES else trailing_zeros w64 mask }
+{
+    if mask == 0 {
+        LANES
+    } else {
+        mask.trailing_zeros() as usize
+    }
+}
+
+/// Returns how many of the 16 bytes from `at` on stand before the first of these bytes.
+#[inline(always)]
+fn run_before(bytes: &[u8], at: usize, byte: u8) -> usize
+    requires { at + LANES ≤ length bytes.now }
+    ensures { result ≡ prefix_len (is_other byte) (take LANES (drop at bytes.now)) }
+{
+    let found = u8x16::from_slice(&bytes[at..]).simd_eq(u8x16::splat(byte));
+    first_set(found.to_bitmask())
+}
+
+/// Returns how many bytes stand before the first of these bytes.
+#[inline(always)]
+pub(crate) fn length_before(bytes: &[u8], byte: u8) -> usize
+    ensures { result ≡ prefix_len (is_other byte) bytes.now }
+{
+    let mut end = 0;
+    'by_lanes: while bytes.len() - end >= LANES {
+        let run = run_before(bytes, end, byte);
+        if run < LANES {
+            return end + run;
+        }
+        end += LANES;
+    }
+    'by_bytes: while end < bytes.len() && bytes[end] != byte {
+        end += 1;
+    }
+    end
+}
+
+/// A text of `length` bytes, filled up to 16 bytes.
+#[derive(Copy, Clone)]
+pub(crate) struct Front {
+    pub bytes: [u8; LANES],
+    pub length: usize,
+}
+
+/// Returns `true` if the bytes begin with the front.
+#[inline(always)]
+fn begins(bytes: &[u8], front: Front) -> bool
+    requires long { LANES ≤ length bytes.now }
+    requires short { front.length ≤ LANES }
+    ensures { result ≡ true → take front.length bytes.now ≡ take front.length front.bytes }
+{
+    let other = u8x16::from_slice(bytes).simd_ne(u8x16::from_slice(&front.bytes));
+    first_set(other.to_bitmask()) >= front.length
+}
+
+/// Returns the text behind the front, if it begins with it. It declines a text of fewer than 16
+/// bytes.
+#[inline(always)]
+pub(crate) fn without_front(text: &str, front: Front) -> Option<&str>
+    requires { front.length ≤ LANES }
+    ensures { IfSome result (λ rest. text.now ≡ take front.length front.bytes ++ rest.now) }
+{
+    if text.len() >= LANES && begins(text.as_bytes(), front) {
+        text.get(front.length..)
+    } else {
+        None
+    }
+}
