@@ -1,8 +1,8 @@
 //! Tests of 16 bytes at a time.
-ghost use Rattle.std.specs.Prelude.{◌≡◌, ◌≤◌, ◌+◌, ◌==◌, ◌++◌, true, if◌then◌else◌, drop, length, take, IfSome};
+ghost use Rattle.std.specs.Prelude.{◌≡◌, ◌≤◌, ◌<◌, ◌+◌, ◌==◌, ◌++◌, true, if◌then◌else◌, drop, length, take, IfSome};
 ghost use Rattle.std.specs.Int.{trailing_zeros, w64};
 ghost use Rattle.std.specs.List.{prefix_len};
-ghost use Rattle.cdxj_core.specs.Plain.{is_other};
+ghost use Rattle.cdxj_core.specs.Plain.{is_other, IsCutAt};
 
 use std::simd::prelude::*;
 
@@ -32,7 +32,7 @@ fn run_before(bytes: &[u8], at: usize, byte: u8) -> usize
 
 /// Returns how many bytes stand before the first of these bytes.
 #[inline(always)]
-pub(crate) fn length_before(bytes: &[u8], byte: u8) -> usize
+fn length_before(bytes: &[u8], byte: u8) -> usize
     ensures { result ≡ prefix_len (is_other byte) bytes.now }
 {
     let mut end = 0;
@@ -47,6 +47,20 @@ pub(crate) fn length_before(bytes: &[u8], byte: u8) -> usize
         end += 1;
     }
     end
+}
+
+/// Returns the text before the first of these bytes, and the text after it.
+#[inline(always)]
+pub(crate) fn cut_at(text: &str, byte: u8) -> Option<(&str, &str)>
+    requires { byte < 128 }
+    ensures { IfSome result (λ p. IsCutAt byte text.now p.0.now p.1.now) }
+{
+    let end = length_before(text.as_bytes(), byte);
+    if end < text.len() {
+        Some((&text[..end], &text[end + 1..]))
+    } else {
+        None
+    }
 }
 
 /// A text of `length` bytes, filled up to 16 bytes.

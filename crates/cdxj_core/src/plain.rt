@@ -7,9 +7,9 @@ ghost use Rattle.cdxj_core.specs.MemberViews.{borrowed_view};
 ghost use Rattle.cdxj_places.specs.Places.{offset_of};
 
 use crate::borrowed_members::BorrowedMembers;
-use crate::lanes::{Front, without_front};
+use crate::lanes::{Front, cut_at, without_front};
 use crate::offset::canonical_offset;
-use crate::unescaped::{is_unescaped, quoted_part};
+use crate::unescaped::is_unescaped;
 
 const URL: Front = Front {
     bytes: *b"{\"url\": \"       ",
@@ -53,7 +53,7 @@ fn text_after(text: &str, front: Front) -> Option<(&str, &str)>
     ensures { IfSome result (λ p. (text.now ≡ take front.length front.bytes ++ (p.0.now ++ 34 ∷ p.1.now))
         × (list_all is_open p.0.now ≡ true)) }
 {
-    quoted_part(without_front(text, front)?)
+    cut_at(without_front(text, front)?, b'"')
 }
 
 #[inline(always)]

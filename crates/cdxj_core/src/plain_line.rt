@@ -10,8 +10,9 @@ ghost use Rattle.cdxj_core.specs.Plain.{is_unescaped_ascii, plain_text, values_o
 
 use crate::body::{body_of, unescaped_text};
 use crate::borrowed_members::BorrowedMembers;
+use crate::lanes::cut_at;
 use crate::plain::{plain_offset, unescaped_texts};
-use cdxj_places::{cut_first, is_key, is_stamp};
+use cdxj_places::{is_key, is_stamp};
 
 /// Returns the stamp that begins a text, and what follows the space behind it.
 #[inline(always)]
@@ -59,7 +60,7 @@ impl<'a> PlainLine<'a> {
     {
         let body = body_of(line);
         let text = unescaped_text(body)?;
-        let (key, rest) = cut_first(text);
+        let (key, rest) = cut_at(text, b' ')?;
         if !is_key(key.as_bytes()) {
             return None;
         }

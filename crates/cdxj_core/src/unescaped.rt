@@ -1,10 +1,8 @@
 //! Texts that need no escapes between their quotes: no quote, no backslash, no control.
-ghost use Rattle.std.specs.Prelude.{◌≡◌, ◌∷◌, ◌++◌, true, IfSome};
+ghost use Rattle.std.specs.Prelude.{◌≡◌};
 ghost use Rattle.std.specs.List.{list_all};
 ghost use Rattle.json.specs.Run.{is_plain};
-ghost use Rattle.cdxj_core.specs.Plain.{is_open, is_unescaped, is_unescaped_ascii};
-
-use crate::lanes::length_before;
+ghost use Rattle.cdxj_core.specs.Plain.{is_unescaped, is_unescaped_ascii};
 
 /// Returns `true` if no byte is a control or a backslash. It is one pass without an early exit,
 /// which compiles to vector tests.
@@ -39,18 +37,4 @@ pub(crate) fn is_plain_text(text: &[u8]) -> bool
         good &= !(*byte == b'"' || *byte == b'\\' || *byte < b' ');
     }
     good
-}
-
-/// Returns the text before the first quote, and the text after it.
-#[inline(always)]
-pub(crate) fn quoted_part(text: &str) -> Option<(&str, &str)>
-    ensures { IfSome result
-        (λ p. (text.now ≡ p.0.now ++ 34 ∷ p.1.now) × (list_all is_open p.0.now ≡ true)) }
-{
-    let end = length_before(text.as_bytes(), b'"');
-    if end < text.len() {
-        Some((&text[..end], &text[end + 1..]))
-    } else {
-        None
-    }
 }
