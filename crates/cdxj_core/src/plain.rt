@@ -60,7 +60,7 @@ fn text_after(text: &str, front: Front) -> Option<(&str, &str)>
 fn is_closed(rest: &str) -> bool
     ensures { result ≡ true → rest.now ≡ codes "}" }
 {
-    rest == "}"
+    matches!(rest.as_bytes(), [b'}'])
 }
 
 #[inline(always)]

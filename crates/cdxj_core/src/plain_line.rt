@@ -1,5 +1,5 @@
 //! Lines whose objects are plain.
-ghost use Rattle.std.specs.Prelude.{◌≡◌, ◌<◌, ◌^◌, ◌∷◌, ◌++◌, length, decimal, Some, IfSome, true};
+ghost use Rattle.std.specs.Prelude.{◌≡◌, ◌<◌, ◌^◌, ◌∷◌, ◌++◌, length, codes, decimal, Some, IfSome, true};
 ghost use Rattle.std.specs.List.{list_all};
 ghost use Rattle.cdxj_core.specs.declared.limit.TheConstants.{LINE_LIMIT};
 ghost use Rattle.cdxj_places.specs.Pair.{is_key, is_stamp};
@@ -14,14 +14,21 @@ use crate::lanes::cut_at;
 use crate::plain::{plain_offset, unescaped_texts};
 use cdxj_places::{is_key, is_stamp};
 
+#[inline(always)]
+fn is_space(text: &str) -> bool
+    ensures { result ≡ true → text.now ≡ codes " " }
+{
+    matches!(text.as_bytes(), [b' '])
+}
+
 /// Returns the stamp that begins a text, and what follows the space behind it.
 #[inline(always)]
 fn cut_stamp(text: &str) -> Option<(&str, &str)>
     ensures { IfSome result (λ p. (text.now ≡ p.0.now ++ 32 ∷ p.1.now) × (is_stamp p.0.now ≡ true)) }
 {
     let (stamp, rest) = text.split_at_checked(14)?;
-    let object = rest.strip_prefix(" ")?;
-    if is_stamp(stamp.as_bytes()) {
+    let (space, object) = rest.split_at_checked(1)?;
+    if is_stamp(stamp.as_bytes()) && is_space(space) {
         Some((stamp, object))
     } else {
         None
