@@ -65,6 +65,15 @@ fn push_domain(text: &mut Vec<u8>, domain: &[u8]) -> Result<(), AllocError>
     push_reversed(text, without_www(without_last_dot(domain)))
 }
 
+/// Returns the text of a domain, with room for a key.
+pub(crate) fn domain_text(alloc: Global, domain: &[u8]) -> Result<Vec<u8>, AllocError>
+    ensures { IfOk result (λ text. text.items ≡ domain_text domain.now) }
+{
+    let mut text = Vec::with_capacity(alloc, ROOM)?;
+    push_domain(&mut text, domain)?;
+    Ok(text)
+}
+
 /// Returns the host text, which is empty if the URL has no host.
 pub(crate) fn host_text(alloc: Global, url: &Url) -> Result<Vec<u8>, AllocError>
     ensures { IfOk result (λ text. text.items ≡ key_host (host_or_empty url.now)) }

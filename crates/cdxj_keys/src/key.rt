@@ -5,10 +5,12 @@ ghost use Rattle.std.specs.Char.{digit_char};
 ghost use Rattle.std.specs.List.{list_all};
 ghost use Rattle.url.specs.Parser.{parse_url};
 ghost use Rattle.cdxj_places.specs.Pair.{is_key};
+ghost use Rattle.cdxj_keys.specs.PlainUrls.{plain_text};
 ghost use Rattle.cdxj_keys.specs.Key.{port_text, query_text, is_web, web_text, key_text, is_graphic, key_byte, folded, key_of, host_key_of};
 
 use crate::fault::KeyFault;
-use crate::host::host_text;
+use crate::host::{domain_text, host_text};
+use crate::plain_url::{PlainUrl, plain_url};
 use itoa::Buffer;
 use std::alloc::{AllocError, Global};
 use url::{ParseError, Url};
@@ -77,6 +79,17 @@ fn key_from(alloc: Global, text: &[u8]) -> Result<String, AllocError>
     folded(alloc, text)
 }
 
+/// Returns the key of a URL that the parser leaves as it is.
+fn plain_key(alloc: Global, url: PlainUrl<'_>) -> Result<String, AllocError>
+    ensures value { IfOk result (λ key. string_bytes key ≡ folded (plain_text url.entry.host.now url.entry.tail.now)) }
+    ensures key { IfOk result (λ key. is_key (string_bytes key) ≡ true) }
+{
+    let mut text = domain_text(alloc, url.host.as_bytes())?;
+    text.push(b')')?;
+    text.extend_from_slice(url.tail.as_bytes())?;
+    key_from(alloc, &text)
+}
+
 fn is_web(url: &Url) -> bool
     ensures { result ≡ is_web url.now }
 {
@@ -138,8 +151,19 @@ pub fn parsed_url_key(alloc: Global, url: &Url, target: &str) -> Result<String, 
 /// and two hexadecimal digits. The key of a target that isn't empty is valid as the key of a line.
 ///
 /// Returns `TooLong` only if the URL parser has no room for the URL.
-#[tactic(auto, unfolding(crate::specs::Key::key_of))]
 pub fn url_key(alloc: Global, target: &str) -> Result<String, KeyFault>
+    ensures value { IfOk result (λ key. string_bytes key ≡ key_of target.now) }
+    ensures key { IfOk result (λ key. 0 < length target.now → is_key (string_bytes key) ≡ true) }
+{
+    match plain_url(target) {
+        Some(url) => Ok(plain_key(alloc, url)?),
+        None => any_url_key(alloc, target),
+    }
+}
+
+/// Returns the key of a target, as the URL parser reads it.
+#[tactic(auto, unfolding(crate::specs::Key::key_of))]
+fn any_url_key(alloc: Global, target: &str) -> Result<String, KeyFault>
     ensures value { IfOk result (λ key. string_bytes key ≡ key_of target.now) }
     ensures key { IfOk result (λ key. 0 < length target.now → is_key (string_bytes key) ≡ true) }
 {

@@ -7,6 +7,7 @@ mod fault;
 mod host;
 mod key;
 mod laws;
+mod plain_url;
 
 pub use crate::fault::KeyFault;
 pub use crate::key::{host_key, parsed_url_key, url_key};

@@ -1,0 +1,43 @@
+-- The last label of a host.
+use Rattle.std.proofs.Common.{◌≡◌, ℕ, suc, ◌+◌, ◌<◌, ◌==◌, true, false, if◌then◌else◌, List, [], ◌∷◌, ◌++◌, Some, None, length, take, drop, get_or, refl, sym, ap, ◌∙◌, arith}
+use Rattle.std.proofs.lemmas.Bool.{cond-false, eqb-true, ne_eqb}
+use Rattle.std.proofs.lemmas.List.{get_or-drop, length-drop}
+use Rattle.memchr.specs.Find.{IsLastByte, is_byte}
+use Rattle.url.specs.Input.{rsplit_once, rsplit_step}
+use Rattle.url.specs.Ipv4.{last_label, last_label_of}
+use Rattle.cdxj_keys.proofs.Labels.{cut_at, untrue}
+
+abbrev has_no_dot : List ℕ → Type 0
+has_no_dot [] = Unit {0}
+has_no_dot (b ∷ bytes) = ((b == 46) ≡ false) × has_no_dot bytes
+
+no_dot : (bytes : List ℕ) → ((k : ℕ) → k < length bytes → (get_or bytes k 0 == 46) ≡ true → ⊥) → has_no_dot bytes
+no_dot [] h = tt
+no_dot (b ∷ bytes) h = (untrue (b == 46) (h 0 (omega arith)), no_dot bytes (λ k low. h (suc k) (omega arith)))
+
+split_none : (bytes : List ℕ) → has_no_dot bytes → rsplit_once 46 bytes ≡ (None, bytes)
+unfolding rsplit_once
+split_none [] h = refl
+split_none (b ∷ bytes) h =
+    ap (λ r. rsplit_step 46 b r.0 r.1) (split_none bytes h.1) ∙ ap (λ dot. if dot then (Some [], bytes) else (None, b ∷ bytes)) h.0
+
+split_at : (front last : List ℕ) → has_no_dot last → rsplit_once 46 (front ++ 46 ∷ last) ≡ (Some front, last)
+unfolding rsplit_once
+split_at [] last h = ap (λ r. rsplit_step 46 46 r.0 r.1) (split_none last h)
+split_at (b ∷ front) last h = ap (λ r. rsplit_step 46 b r.0 r.1) (split_at front last h)
+
+behind : (front last : List ℕ) → has_no_dot last → 0 < length last → last_label (front ++ 46 ∷ last) ≡ last
+behind front [] h some = absurd (omega arith)
+behind front (b ∷ last) h some = ap (λ r. last_label_of r.0 r.1) (split_at front (b ∷ last) h) ∙ cond-false _ _ _ (ne_eqb (length (b ∷ last)) 0 (λ e. omega arith))
+
+-- a host without a dot is its last label
+pub lone_label : (host : List ℕ) → IsLastByte (is_byte 46) host None → host ≡ last_label host
+lone_label host none = sym (ap (λ r. last_label_of r.0 r.1) (split_none host (no_dot host (λ k low. none k (omega arith) low))))
+
+-- what follows the last dot is the last label
+pub label_behind : (host : List ℕ) (dot : ℕ) → IsLastByte (is_byte 46) host (Some dot) → 0 < length (drop (dot + 1) host) → drop (dot + 1) host ≡ last_label host
+label_behind host dot found some =
+    let last = drop (dot + 1) host in
+    let free : has_no_dot last =
+    no_dot last (λ k low here. found.0.after (dot + 1 + k) (omega arith) (omega (arith, low, length-drop (dot + 1) host)) (ap (λ b. b == 46) (sym (get_or-drop (dot + 1) host k 0)) ∙ here)) in
+    sym (ap last_label (cut_at host dot found.0.high (eqb-true _ _ found.1)) ∙ behind (take dot host) last free some)

@@ -1,0 +1,73 @@
+-- Web URLs that the URL parser leaves as they are.
+use Rattle.std.specs.Prelude.{◌≡◌, ℕ, ◌&&◌, ◌||◌, ◌==◌, ◌<◌, ◌⊎◌, Bool, true, not, List, [], ◌∷◌, ◌++◌, codes, drop, length, slice_index, zip, Option, Some, None, IfSome}
+use Rattle.std.specs.List.{list_all, list_any}
+use Rattle.std.specs.Char.{is_ascii_lowercase, is_ascii_digit}
+use Rattle.url.specs.declared.host.Host.TheVariants.{Domain}
+use Rattle.url.specs.Ipv4.{last_label}
+use Rattle.url.specs.Parts.{Parts}
+use Rattle.cdxj_keys.specs.Key.{domain_text, is_graphic, query_text}
+
+-- a letter in lower case, a digit, `-` or `.`
+abbrev pub is_domain_byte : ℕ → Bool
+is_domain_byte b = is_graphic b && (is_ascii_lowercase b || is_ascii_digit b || b == 45 || b == 46)
+
+-- a byte that neither a path nor a query escapes, and that no path reads as `/`
+abbrev pub is_plain_byte : ℕ → Bool
+is_plain_byte b = is_graphic b && not (list_any (λ c. c == b) (codes "\"#'<>\\^`{}"))
+
+-- such a byte, but not the one that ends a path
+abbrev pub is_path_byte : ℕ → Bool
+is_path_byte b = is_plain_byte b && not (b == 63)
+
+-- a segment that begins with `.` or an escape may not be left as it is
+abbrev pub begins_plain : ℕ → ℕ → Bool
+begins_plain before b = not (before == 47 && (b == 46 || b == 37))
+
+-- a path that is left as it is
+pub record IsPlainPath (path : List ℕ) : Type 0 where
+  pub bytes : list_all is_path_byte path ≡ true
+  pub segments : list_all (λ p. begins_plain p.0 p.1) (zip path (drop 1 path)) ≡ true
+
+-- a host that is left as it is, and isn't an address
+pub record IsPlainHost (host : List ℕ) : Type 0 where
+  pub bytes : list_all is_domain_byte host ≡ true
+  pub letter : is_ascii_lowercase (slice_index (last_label host) 0) ≡ true
+
+-- the parts of a web URL with this scheme, host, path behind its first `/`, and query
+abbrev pub plain_parts : List ℕ → List ℕ → List ℕ → Option (List ℕ) → Parts
+plain_parts scheme host path query = record {
+  scheme = scheme;
+  username = [];
+  password = [];
+  host = Some (Domain host);
+  port = None;
+  path = 47 ∷ path;
+  query = query;
+  fragment = None;
+}
+
+-- a query that is left as it is, and isn't empty
+abbrev pub IsPlainQuery : List ℕ → Type 0
+IsPlainQuery query = (0 < length query) × (list_all is_plain_byte query ≡ true)
+
+-- A path, and `?` and a query if there is one, are left as they are.
+pub record IsPlainTail (tail : List ℕ) : Type 0 where
+  pub path : List ℕ
+  pub query : Option (List ℕ)
+  pub cut : tail ≡ 47 ∷ (path ++ query_text query)
+  pub plain_path : IsPlainPath (47 ∷ path)
+  pub plain_query : IfSome query IsPlainQuery
+
+-- the text behind `http://` or `https://`
+abbrev pub IsBehindScheme : List ℕ → List ℕ → Type 0
+IsBehindScheme target rest = (target ≡ codes "http" ++ (codes "://" ++ rest)) ⊎ (target ≡ codes "https" ++ (codes "://" ++ rest))
+
+-- A target is a web URL that is left as it is, with this host, and this path and query in one text.
+pub record IsPlainUrl (target host tail : List ℕ) : Type 0 where
+  pub cut : IsBehindScheme target (host ++ tail)
+  pub plain_host : IsPlainHost host
+  pub plain_tail : IsPlainTail tail
+
+-- the key text of a URL that is left as it is
+abbrev pub plain_text : List ℕ → List ℕ → List ℕ
+plain_text host tail = domain_text host ++ (codes ")" ++ tail)

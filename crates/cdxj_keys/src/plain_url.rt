@@ -1,0 +1,155 @@
+//! Web URLs that the URL parser leaves as they are.
+ghost use Rattle.std.specs.Prelude.{◌≡◌, ◌<◌, drop, length, slice_index, true, zip, IfSome};
+ghost use Rattle.std.specs.Char.{is_ascii_lowercase};
+ghost use Rattle.std.specs.List.{list_all};
+ghost use Rattle.url.specs.Ipv4.{last_label};
+ghost use Rattle.cdxj_keys.specs.PlainUrls.{begins_plain, is_domain_byte, is_path_byte, is_plain_byte, IsBehindScheme, IsPlainHost, IsPlainPath, IsPlainQuery, IsPlainTail, IsPlainUrl};
+
+use memchr::{memchr, memrchr};
+
+/// A web URL that the URL parser leaves as it is.
+#[derive(Copy, Clone)]
+pub(crate) struct PlainUrl<'a> {
+    pub host: &'a str,
+    /// The path, and `?` and the query if there is one.
+    pub tail: &'a str,
+}
+
+fn is_domain_byte(byte: u8) -> bool
+    ensures { result ≡ is_domain_byte byte }
+{
+    byte.is_ascii_lowercase() || byte.is_ascii_digit() || byte == b'-' || byte == b'.'
+}
+
+fn has_domain_bytes(host: &[u8]) -> bool
+    ensures { result ≡ list_all is_domain_byte host.now }
+{
+    host.iter().all(|byte| is_domain_byte(*byte))
+}
+
+/// Returns what follows the last dot, or the whole host if there is none.
+fn last_label(host: &[u8]) -> &[u8]
+    ensures { 0 < length result.now → result.now ≡ last_label host.now }
+{
+    match memrchr(b'.', host) {
+        Some(dot) => &host[dot + 1..],
+        None => host,
+    }
+}
+
+fn begins_with_letter(label: &[u8]) -> bool
+    ensures { result ≡ is_ascii_lowercase (slice_index label.now 0) }
+{
+    match label {
+        [first, ..] => first.is_ascii_lowercase(),
+        [] => false,
+    }
+}
+
+fn is_plain_host(host: &[u8]) -> bool
+    ensures { result ≡ true → IsPlainHost host.now }
+{
+    has_domain_bytes(host) && begins_with_letter(last_label(host))
+}
+
+fn is_plain_byte(byte: u8) -> bool
+    ensures { result ≡ is_plain_byte byte }
+{
+    byte.is_ascii_graphic()
+        && !matches!(
+            byte,
+            b'"' | b'#' | b'\'' | b'<' | b'>' | b'\\' | b'^' | b'`' | b'{' | b'}'
+        )
+}
+
+/// Returns `true` if a query escapes none of these bytes.
+fn has_plain_bytes(bytes: &[u8]) -> bool
+    ensures { result ≡ list_all is_plain_byte bytes.now }
+{
+    bytes.iter().all(|byte| is_plain_byte(*byte))
+}
+
+fn is_path_byte(byte: u8) -> bool
+    ensures { result ≡ is_path_byte byte }
+{
+    is_plain_byte(byte) && byte != b'?'
+}
+
+/// Returns `true` if a path escapes none of these bytes and ends at none.
+fn has_path_bytes(path: &[u8]) -> bool
+    ensures { result ≡ list_all is_path_byte path.now }
+{
+    path.iter().all(|byte| is_path_byte(*byte))
+}
+
+fn begins_plain(before: u8, byte: u8) -> bool
+    ensures { result ≡ begins_plain before byte }
+{
+    !(before == b'/' && (byte == b'.' || byte == b'%'))
+}
+
+fn each_begins_plain(path: &[u8], later: &[u8]) -> bool
+    ensures { result ≡ list_all (λ p. begins_plain p.0 p.1) (zip path.now later.now) }
+{
+    path.iter()
+        .zip(later)
+        .all(|(before, byte)| begins_plain(*before, *byte))
+}
+
+/// Returns `true` if no segment begins with `.` or `%`.
+fn has_plain_segments(path: &[u8]) -> bool
+    ensures { result ≡ list_all (λ p. begins_plain p.0 p.1) (zip path.now (drop 1 path.now)) }
+{
+    match path {
+        [_, later @ ..] => each_begins_plain(path, later),
+        [] => true,
+    }
+}
+
+fn is_plain_path(path: &[u8]) -> bool
+    ensures { result ≡ true → IsPlainPath path.now }
+{
+    has_path_bytes(path) && has_plain_segments(path)
+}
+
+fn is_plain_query(query: &[u8]) -> bool
+    ensures { result ≡ true → IsPlainQuery query.now }
+{
+    !query.is_empty() && has_plain_bytes(query)
+}
+
+/// Returns `true` if the path, and the query that follows it if there is one, are left as they are.
+fn is_plain_tail(tail: &[u8]) -> bool
+    requires { slice_index tail.now 0 ≡ 47 }
+    ensures { result ≡ true → IsPlainTail tail.now }
+{
+    match memchr(b'?', tail) {
+        Some(at) => is_plain_path(&tail[..at]) && is_plain_query(&tail[at + 1..]),
+        None => is_plain_path(tail),
+    }
+}
+
+/// Returns the text behind the scheme and `://`, if the target is a web URL.
+fn without_scheme(target: &str) -> Option<&str>
+    ensures { IfSome result (λ rest. IsBehindScheme target.now rest.now) }
+{
+    match target.strip_prefix("http://") {
+        Some(rest) => Some(rest),
+        None => target.strip_prefix("https://"),
+    }
+}
+
+/// Returns the host of the target, and the path and query that follow it, if the URL parser leaves the target as it is.
+/// It may decline any target.
+pub(crate) fn plain_url(target: &str) -> Option<PlainUrl<'_>>
+    ensures { IfSome result (λ url. IsPlainUrl target.now url.host.now url.tail.now) }
+{
+    let rest = without_scheme(target)?;
+    let slash = memchr(b'/', rest.as_bytes())?;
+    let (host, tail) = rest.split_at_checked(slash)?;
+    if is_plain_host(host.as_bytes()) && is_plain_tail(tail.as_bytes()) {
+        Some(PlainUrl { host, tail })
+    } else {
+        None
+    }
+}
