@@ -95,6 +95,8 @@ share/doc/warcdx/README.md:README.md
 share/doc/warcdx/docs/COMMANDS.md:docs/COMMANDS.md
 share/doc/warcdx/samples/wget.warc:samples/wget.warc
 share/doc/warcdx/examples/http_server.py:examples/http_server.py
+share/doc/warcdx/python/VERSION:VERSION
+share/doc/warcdx/python/warcdx/index.py:python/warcdx/index.py
 END
 )"
     expect "licence" "" "$(diff /usr/share/common-licenses/Apache-2.0 "$doc/LICENSE" 2>&1)"
@@ -112,6 +114,7 @@ check_program() {
     expect "version of the C library" GLIBC_2.34 "$(library_versions | tail --lines=1)" # as docs/INSTALL.md says
     expect "version in the help" "warcdx $version" "$(installed warcdx --help | head --lines=1 | grep --only-matching '^warcdx [0-9.]*')"
     expect "manual page" "$prefix/share/man/man1/warcdx.1" "$(installed MANPATH="$prefix/share/man" man -w warcdx)"
+    expect "Python package of the tar file" "1 gone" "$(installed warcdx get 11387 "$doc/samples/wget.warc" | "$doc/examples/body.py" | sed 's/^/1 /')"
     installed warcdx index "$doc/samples/wget.warc" > "$found"
     expect "index of a sample" "$found 33" "$(installed warcdx check "$found")"
     expect "query on it" "http://127.0.0.1:8000/odd/gone 410" \
@@ -129,6 +132,11 @@ Only in debian/usr/share/doc/warcdx: changelog.gz
 Only in debian/usr/share/doc/warcdx: copyright
 Only in debian/usr/share/man/man1: warcdx.1.gz
 Only in debian/usr/share/zsh: vendor-completions
+Only in debian/usr: lib
+Only in tar/share/doc/warcdx/python: LICENSE
+Only in tar/share/doc/warcdx/python: VERSION
+Only in tar/share/doc/warcdx/python: pyproject.toml
+Only in tar/share/doc/warcdx/python: warcdx
 Only in tar/share/doc/warcdx: SHA256SUMS
 Only in tar/share/man/man1: warcdx.1
 Only in tar/share/zsh: site-functions
@@ -138,10 +146,13 @@ END
 check_debian_package() {
     expect "package: name, version, architecture" "warcdx $version amd64" "$(field Package) $(field Version) $(field Architecture)"
     expect "package: depends" "libc6 (>= $(library_versions | sed -n '$s/GLIBC_//p'))" "$(field Depends)"
-    expect "package: scripts of its own" "control md5sums" "$(dpkg-deb --ctrl-tarfile "$package" | tar --list | sed -n 's:^\./\(.\):\1:p' | in_a_line)"
+    expect "package: scripts of its own" "control md5sums postinst prerm" "$(dpkg-deb --ctrl-tarfile "$package" | tar --list | sed -n 's:^\./\(.\):\1:p' | in_a_line)"
     expect "package: modes" "" "$(other_modes "$debian")"
     expect "package: owners" "" "$(dpkg-deb --contents "$package" | other_owners)"
     expect "package: files" "$(wanted_package_differences)" "$(package_differences)"
+    expect "package: Python package" "" "$(diff --recursive "$doc/python/warcdx" "$debian/usr/lib/python3/dist-packages/warcdx" 2>&1)"
+    expect "package: version of the Python package" "$version" "$(PYTHONPATH=$debian/usr/lib/python3/dist-packages PYTHONDONTWRITEBYTECODE=1 \
+        /usr/bin/python3 -c 'import importlib.metadata; print(importlib.metadata.version("warcdx"))')"
     expect "package: manual page" "" "$(zcat "$debian/usr/share/man/man1/warcdx.1.gz" | diff "$root/docs/warcdx.1" - 2>&1)"
     expect "package: completion for zsh" "" "$(diff "$root/completions/_warcdx" "$debian/usr/share/zsh/vendor-completions/_warcdx" 2>&1)"
     expect "package: terms" "" "$(diff "$root/tools/debian/copyright" "$debian/usr/share/doc/warcdx/copyright" 2>&1)"
