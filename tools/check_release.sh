@@ -35,7 +35,7 @@ doc=$prefix/share/doc/warcdx
 debian=$work/debian
 
 installed() { # ARGUMENT..: runs a command as a user runs it who has the release and nothing else of this repository
-    env --ignore-environment HOME="$work" PATH="$prefix/bin:/usr/bin:/bin" "$@" 2>&1
+    env --ignore-environment HOME="$work" PATH="$prefix/bin:/usr/bin:/bin" PYTHONDONTWRITEBYTECODE=1 "$@" 2>&1
 }
 
 libraries() {
@@ -48,7 +48,7 @@ library_versions() {
 
 other_modes() { # FOLDER: files of other modes than 644, programs and folders of others than 755
     find "$1" ! -type l ! -perm 755 ! \( -type f -perm 644 \) -printf '%m %P\n'
-    find "$1" -type f -perm 755 ! -name warcdx ! -name '*.py' -printf '%m %P\n'
+    find "$1" -type f -perm 755 ! -name warcdx ! -name warcdx-gz ! -name '*.py' -printf '%m %P\n'
 }
 
 other_owners() { # on standard input, as `tar --verbose` prints the files
@@ -86,7 +86,9 @@ check_tar_file() {
     expect "checksums of the contents" "" "$(cd "$prefix" && sha256sum --quiet --check share/doc/warcdx/SHA256SUMS 2>&1)"
     expect "number of checksums" "$(find "$prefix" -type f ! -name SHA256SUMS | wc -l)" "$(wc -l < "$doc/SHA256SUMS")"
     expect "files of the repository" "" "$(differing_files << END
+bin/warcdx-gz:python/bin/warcdx-gz
 share/man/man1/warcdx.1:docs/warcdx.1
+share/man/man1/warcdx-gz.1:docs/warcdx-gz.1
 share/bash-completion/completions/warcdx:completions/warcdx.bash
 share/zsh/site-functions/_warcdx:completions/_warcdx
 share/fish/vendor_completions.d/warcdx.fish:completions/warcdx.fish
@@ -115,6 +117,8 @@ check_program() {
     expect "version in the help" "warcdx $version" "$(installed warcdx --help | head --lines=1 | grep --only-matching '^warcdx [0-9.]*')"
     expect "manual page" "$prefix/share/man/man1/warcdx.1" "$(installed MANPATH="$prefix/share/man" man -w warcdx)"
     expect "Python package of the tar file" "1 gone" "$(installed warcdx get 11387 "$doc/samples/wget.warc" | "$doc/examples/body.py" | sed 's/^/1 /')"
+    gzip --stdout "$doc/samples/response.warc" > "$work/response.warc.gz"
+    expect "warcdx-gz of the tar file" "0 $(stat --format=%s "$work/response.warc.gz") response" "$(installed warcdx-gz list "$work/response.warc.gz")"
     installed warcdx index "$doc/samples/wget.warc" > "$found"
     expect "index of a sample" "$found 33" "$(installed warcdx check "$found")"
     expect "query on it" "http://127.0.0.1:8000/odd/gone 410" \
@@ -130,6 +134,7 @@ wanted_package_differences() {
     cat << 'END'
 Only in debian/usr/share/doc/warcdx: changelog.gz
 Only in debian/usr/share/doc/warcdx: copyright
+Only in debian/usr/share/man/man1: warcdx-gz.1.gz
 Only in debian/usr/share/man/man1: warcdx.1.gz
 Only in debian/usr/share/zsh: vendor-completions
 Only in debian/usr: lib
@@ -138,6 +143,7 @@ Only in tar/share/doc/warcdx/python: VERSION
 Only in tar/share/doc/warcdx/python: pyproject.toml
 Only in tar/share/doc/warcdx/python: warcdx
 Only in tar/share/doc/warcdx: SHA256SUMS
+Only in tar/share/man/man1: warcdx-gz.1
 Only in tar/share/man/man1: warcdx.1
 Only in tar/share/zsh: site-functions
 END

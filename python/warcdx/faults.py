@@ -102,6 +102,33 @@ class Memory(Fault):
     """Memory could not be allocated."""
 
 
+# Those of compressed archives. Their offset is where the member begins in the file.
+
+
+class NotCompressed(Fault):
+    """The file doesn't begin with a member of gzip."""
+
+
+class NoMember(Fault):
+    """The bytes after a member aren't a member of gzip."""
+
+
+class BadMember(Fault):
+    """The member can't be decompressed, or its checksum differs."""
+
+
+class CutMember(Fault):
+    """The file ends in the member."""
+
+
+class SeveralRecords(Fault):
+    """The member holds more than one record."""
+
+
+class SeveralMembers(Fault):
+    """The record goes on in the next member."""
+
+
 BY_NAME: dict[str, type[Fault]] = {
     each.__name__: each
     for each in (
@@ -130,5 +157,11 @@ BY_NAME: dict[str, type[Fault]] = {
         Write,
         CannotFlush,
         Memory,
+        NotCompressed,
+        NoMember,
+        BadMember,
+        CutMember,
+        SeveralRecords,
+        SeveralMembers,
     )
 }

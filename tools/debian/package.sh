@@ -14,7 +14,7 @@ make_package() {
 
 move_to_debian_places() { # PREFIX
     local documents=$1/share/doc/warcdx
-    gzip --no-name -9 "$1/share/man/man1/warcdx.1"
+    gzip --no-name -9 "$1"/share/man/man1/*.1
     mv "$1/share/zsh/site-functions" "$1/share/zsh/vendor-completions"
     ln --symbolic --force ../../common-licenses/Apache-2.0 "$documents/LICENSE"
     cp "$root/tools/debian/copyright" "$documents/copyright"
@@ -65,7 +65,8 @@ Description: indexer of web archives, with queries over the indexes
  It lists and verifies the records of archives, reports where they are damaged,
  makes, merges and checks indexes, and answers queries in the manner of the
  Wayback CDX Server API, page by page. It fetches records from their offsets.
- A Python package does the same from programs.
+ The command warcdx-gz does the same for compressed archives, and a Python
+ package from programs.
 END
 }
 
