@@ -55,8 +55,7 @@ Architecture: amd64
 Maintainer: $(maintainer)
 Installed-Size: $(installed_size "$1")
 Depends: libc6 (>= $(c_library_version "$1/usr/bin/warcdx"))
-Recommends: python3 (>= 3.9)
-Suggests: python3-matplotlib
+Suggests: python3 (>= 3.9), python3-matplotlib
 Section: web
 Priority: optional
 Description: indexer of web archives, with queries over the indexes
