@@ -137,7 +137,7 @@ class Bad(Gz):
 
     def test_a_whole_archive_in_one_member_is_refused(self) -> None:
         """It doesn't wait for ever, whatever the pipes hold."""
-        archive = self.archive(packed(b"".join(map(resource, range(60_000)))))
+        archive = self.archive(packed(b"".join(map(resource, range(20_000)))))
         self.assertEqual(([], "SeveralRecords", 0), self.index(archive))
         self.assertEqual(([], "SeveralRecords", 0), self.listed(archive))
         self.raises(faults.SeveralRecords, list, archive.verify())
@@ -269,8 +269,8 @@ class Commands(Gz):
             self.assertEqual(3, process.returncode)
 
     def test_memory_is_bounded(self) -> None:
-        """A member of 400 MB, which is packed into 400 kB, and 100,000 small ones."""
-        self.archive([*packed(resource(0, bytes(400_000_000))), *packed(*map(resource, range(100_000)))])
+        """A member of 200 MB, which is packed into 200 kB, and 50,000 small ones."""
+        self.archive([*packed(resource(0, bytes(200_000_000))), *packed(*map(resource, range(50_000)))])
         pid = os.fork()
         if not pid:
             with open(os.devnull, "wb") as null:

@@ -89,6 +89,7 @@ def count_hosts(index: Index, query: str, most: int, **parameters: Value) -> lis
     schemes: dict[str, Host] = {}
     others = Host(OTHERS, 0, 0)
     largest: list[tuple[int, int, Host]] = []
+    # The schemes are complete only after the last row, which is when their values are first read.
     for number, host in enumerate(itertools.chain(_hosts(rows, schemes), _later(schemes))):
         heapq.heappush(largest, (host.bytes, -number, host))
         if len(largest) > most:

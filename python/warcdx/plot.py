@@ -56,7 +56,10 @@ def months(index: Index, query: str) -> Table:
     counts = counting.count_months(index, query)
     rows = [(month, counts.captures[month]) for month in counts.dated]
     return Table(
-        ("month", "captures"), rows + undated(counts), lambda figure, axes: draw_months(axes, rows, "captures"), note_on(counts)
+        ("month", "captures"),
+        rows + undated(counts),
+        lambda figure, axes: draw_months(axes, rows, "captures"),
+        note_on(counts),
     )
 
 

@@ -11,7 +11,8 @@ from .program import end_of, start
 
 MARK = b".\n"
 PATIENCE = 10  # seconds for the program to end
-# The reply to an empty line, after the mark of the reply before it. No page has these three lines: one with a line `.` has no spaces.
+# The reply to an empty line, after the mark of the reply before it. No page has these three lines: one with
+# a line `.` has no spaces.
 END = [MARK, b"refused NoUrl\n", MARK]
 # A query with this condition selects nothing, and is refused if the query without it is.
 NOTHING = b"&hasnot=urlkey:"
