@@ -36,9 +36,9 @@ class Figure(NamedTuple):
         return f"{self.name:<{WIDTH}}{self.found:8.2f} {self.unit:<2}  goal {self.goal:<4} {self.unit:<2}  {met}"
 
 
-def report(times, figures, rounds=ROUNDS):
+def report(times, figures, rounds=ROUNDS, kind="processor"):
     """Prints the seconds by name, and the figures. Returns the exit status of the script."""
-    print(f"{machine()}; processor times, the least of {rounds} rounds\n")
+    print(f"{machine()}; {kind} times, the least of {rounds} rounds\n")
     for name, seconds in times.items():
         print(f"{name:<{WIDTH}}{seconds:8.3f} s")
     print()

@@ -7,89 +7,42 @@ GET /cdx?QUERY is answered by one `warcdx serve INDEX..`, one query at a time: 2
 and `refused CAUSE`; 500 and `fault CAUSE NUMBER OFFSET`, or 500 if the program has ended, which is
 started anew for the next query. A page is held in memory until it is sent.
 
+Stands on the Python package of this repository.
+
 The exit status is 1 if the server can't listen at the address or the program can't read the indexes,
 or 2 after a usage error.
 """
 import argparse
 import contextlib
 import http.server
-import re
-import subprocess
+import pathlib
 import sys
-import threading
-from collections.abc import Sequence
 from http import HTTPStatus
-from typing import Optional
 from urllib.parse import parse_qsl
 
-MARK = b".\n"
-# The reply to an empty line, behind the mark of the reply before it. No page has these three lines: one with a line `.` has no spaces.
-END = [MARK, b"refused NoUrl\n", MARK]
-# The query of this and another one selects nothing, and is refused where the other is.
-NOTHING = b"&hasnot=urlkey:"
-FAULT = re.compile(rb"(?:\A|\n)\n?(fault [A-Za-z]+ [0-9]+ [0-9]+\n)\Z")
-FAULT_BELOW_TEXT = re.compile(rb"(?:\A|\n)\n(fault [A-Za-z]+ [0-9]+ [0-9]+\n)\Z")
+sys.path.insert(0, str(pathlib.Path(__file__).resolve().parents[1] / "python"))
+
+from warcdx import Error, Fault, Index, Refused
+
 TEXT = "text/plain; charset=utf-8"
 JSON = "application/json"
 PIECE = 1 << 16  # bytes that are sent at once
 
-Process = subprocess.Popen  # of bytes
 Answer = tuple[HTTPStatus, str, bytes]
 
 
-class Ended(Exception):
-    """`warcdx serve` has ended, and has said why on standard error."""
-
-
-class Serve:
-    """A `warcdx serve`. Threads ask it in turn."""
-
-    def __init__(self, program: str, indexes: Sequence[str]) -> None:
-        self.command = (program, "serve", *indexes)
-        self.turn = threading.Lock()
-        self.process: Optional[Process] = None
-
-    def answer(self, query: bytes) -> Answer:
-        """Returns the status, the type and the text of the answer to a query, which has no line break."""
-        output = dict(parse_qsl(query.decode("latin-1"), keep_blank_values=True)).get("output", "text")
-        with self.turn:
-            reply = self.reply(query)
-            if reply.startswith(b"refused ") and self.reply(query + NOTHING) == reply:
-                return HTTPStatus.BAD_REQUEST, TEXT, reply
-        fault = (FAULT if output == "json" else FAULT_BELOW_TEXT).search(reply)
-        if fault:
-            return HTTPStatus.INTERNAL_SERVER_ERROR, TEXT, fault[1]
-        return HTTPStatus.OK, JSON if output == "json" else TEXT, reply
-
-    def reply(self, query: bytes) -> bytes:
-        """Returns the reply to a query, without its mark.
-
-        There is no process while a reply is read. So if anything fails meanwhile, the next query has a process of its own,
-        which has nothing of this reply.
-        """
-        process, self.process = self.process, None
-        if process is None or process.poll() is not None:
-            process = subprocess.Popen(self.command, stdin=subprocess.PIPE, stdout=subprocess.PIPE)
-        try:
-            reply = read_reply(process, query)
-        except BaseException:
-            process.kill()
-            process.wait()
+def answer(index: Index, query: str) -> Answer:
+    """Returns the status, the type and the text of the answer to a query."""
+    try:
+        page = index.text(query)
+    except Refused as refusal:
+        return HTTPStatus.BAD_REQUEST, TEXT, f"refused {refusal.name}\n".encode()
+    except Fault as fault:
+        if fault.number is None:  # the program has ended
             raise
-        self.process = process
-        return reply
-
-
-def read_reply(process: Process, query: bytes) -> bytes:
-    with contextlib.suppress(BrokenPipeError):
-        process.stdin.write(query + b"\n\n")
-        process.stdin.flush()
-    lines: list[bytes] = []
-    while lines[-3:] != END:
-        lines.append(process.stdout.readline())
-        if not lines[-1]:
-            raise Ended
-    return b"".join(lines[:-3])
+        return HTTPStatus.INTERNAL_SERVER_ERROR, TEXT, f"fault {fault.name} {fault.number} {fault.offset}\n".encode()
+    output = dict(parse_qsl(query, keep_blank_values=True)).get("output")
+    return HTTPStatus.OK, JSON if output == "json" else TEXT, page
 
 
 class Handler(http.server.BaseHTTPRequestHandler):
@@ -107,8 +60,9 @@ class Handler(http.server.BaseHTTPRequestHandler):
             self.send_error(HTTPStatus.NOT_FOUND)
             return
         try:
-            self.send_text(*self.server.serve.answer(query.encode("latin-1")))
-        except Ended:
+            self.send_text(*answer(self.server.index, query.encode("latin-1").decode(errors="surrogateescape")))
+        except Error as error:
+            self.log_error("%s", error)
             self.send_error(HTTPStatus.INTERNAL_SERVER_ERROR, "warcdx has ended")
 
     def send_text(self, status: HTTPStatus, kind: str, text: bytes) -> None:
@@ -121,9 +75,9 @@ class Handler(http.server.BaseHTTPRequestHandler):
 
 
 class Server(http.server.ThreadingHTTPServer):
-    def __init__(self, address: tuple[str, int], serve: Serve) -> None:
+    def __init__(self, address: tuple[str, int], index: Index) -> None:
         super().__init__(address, Handler)
-        self.serve = serve
+        self.index = index
 
 
 def read_arguments() -> argparse.Namespace:
@@ -139,16 +93,15 @@ def read_arguments() -> argparse.Namespace:
 
 def main() -> int:
     given = read_arguments()
-    serve = Serve(given.warcdx, given.indexes)
     try:
-        serve.reply(b"")
-        server = Server((given.bind, given.port), serve)
-    except Ended:
-        return 1  # warcdx has said why
-    except (OSError, OverflowError) as error:
+        index = Index(given.indexes, program=given.warcdx)
+        with contextlib.suppress(Refused):
+            index.text("")  # which opens the indexes
+        server = Server((given.bind, given.port), index)
+    except (Error, OSError, OverflowError) as error:
         print(f"http_server.py: can't answer at {given.bind}:{given.port} by {given.warcdx}: {error}", file=sys.stderr)
         return 1
-    with server:
+    with index, server:
         print(f"http://{given.bind}:{server.server_port}/cdx", flush=True)
         try:
             server.serve_forever()

@@ -18,7 +18,6 @@ import time
 import urllib.error
 import urllib.request
 from collections.abc import Iterator
-from typing import BinaryIO
 
 HERE = pathlib.Path(__file__).resolve().parent
 sys.path.insert(0, str(HERE.parent / "tests"))
@@ -219,45 +218,18 @@ def a_program_that_ends_is_started_again(program: pathlib.Path, folder: pathlib.
         expect("whole again", asked(url, "url=example.com/a"), (200, TEXT, page(program, "url=example.com/a", folder / "index")))
 
 
-class Failing:
-    """An output of the program whose second line can't be read, as if there were no memory for it."""
-
-    def __init__(self, output: BinaryIO) -> None:
-        self.output, self.lines = output, 0
-
-    def readline(self) -> bytes:
-        self.lines += 1
-        if self.lines == 2:
-            raise MemoryError
-        return self.output.readline()
-
-
-def a_reply_that_fails_is_not_in_the_next(program: pathlib.Path, folder: pathlib.Path) -> None:
-    serve = http_server.Serve(str(program), [str(folder / "index")])
-    wanted = (200, TEXT, page(program, "url=example.com/a", folder / "index").encode())
-    expect("before", serve.answer(b"url=example.com/a"), wanted)
-    serve.process.stdout = Failing(serve.process.stdout)
-    try:
-        expect("a page that fails", serve.answer(b"url=example.com/*"), None)
-    except MemoryError:
-        pass
-    for number in range(3):
-        expect(f"afterwards, {number}", serve.answer(b"url=example.com/a"), wanted)
-    serve.process.kill()
-
-
 def a_client_may_read_slowly(program: pathlib.Path, folder: pathlib.Path) -> None:
     """All of a page may take longer than the time for which a client may be silent."""
     usual, http_server.Handler.timeout = http_server.Handler.timeout, 2
     wanted = page(program, "url=example.com/*", folder / "large").encode()
     try:
-        with http_server.Server(("127.0.0.1", 0), http_server.Serve(str(program), [str(folder / "large")])) as server:
+        with http_server.Server(("127.0.0.1", 0), http_server.Index(folder / "large", program=str(program))) as server:
             threading.Thread(target=server.serve_forever).start()
             with socket.create_connection(server.server_address) as client:
                 client.sendall(b"GET /cdx?url=example.com/* HTTP/1.0\r\n\r\n")
                 found = b"".join(slowly_read(client, len(wanted) // 50))
             server.shutdown()
-            server.serve.process.kill()
+            server.index.close()
     finally:
         http_server.Handler.timeout = usual
     expect("bytes", (len(wanted) > 1 << 23, len(found.partition(b"\r\n\r\n")[2])), (True, len(wanted)))
@@ -276,8 +248,8 @@ def a_server_that_can_not_start_says_so(program: pathlib.Path, folder: pathlib.P
     with socket.create_server(("127.0.0.1", 0)) as other:
         port = str(other.getsockname()[1])
         for said, words in (
-            ("warcdx: nosuch: cannot open", ("--port", "0", "--warcdx", program, "nosuch")),
-            ("No such file", ("--port", "0", "--warcdx", folder / "nosuch", index)),
+            ("nosuch: CannotOpen", ("--port", "0", "--warcdx", program, "nosuch")),
+            ("no such program", ("--port", "0", "--warcdx", folder / "nosuch", index)),
             ("in use", ("--port", port, "--warcdx", program, index)),
             ("port must be", ("--port", "65536", "--warcdx", program, index)),
         ):
@@ -296,7 +268,6 @@ CASES = (
     clients_may_leave,
     clients_may_come_together,
     a_program_that_ends_is_started_again,
-    a_reply_that_fails_is_not_in_the_next,
     a_client_may_read_slowly,
     a_server_that_can_not_start_says_so,
 )

@@ -35,7 +35,7 @@ doc=$prefix/share/doc/warcdx
 debian=$work/debian
 
 installed() { # ARGUMENT..: runs a command as a user runs it who has the release and nothing else of this repository
-    env --ignore-environment HOME="$work" PATH="$prefix/bin:/usr/bin:/bin" "$@" 2>&1
+    env --ignore-environment HOME="$work" PATH="$prefix/bin:/usr/bin:/bin" PYTHONDONTWRITEBYTECODE=1 "$@" 2>&1
 }
 
 libraries() {
@@ -48,7 +48,7 @@ library_versions() {
 
 other_modes() { # FOLDER: files of other modes than 644, programs and folders of others than 755
     find "$1" ! -type l ! -perm 755 ! \( -type f -perm 644 \) -printf '%m %P\n'
-    find "$1" -type f -perm 755 ! -name warcdx ! -name '*.py' -printf '%m %P\n'
+    find "$1" -type f -perm 755 ! -name warcdx ! -name warcdx-gz ! -name '*.py' -printf '%m %P\n'
 }
 
 other_owners() { # on standard input, as `tar --verbose` prints the files
@@ -86,7 +86,9 @@ check_tar_file() {
     expect "checksums of the contents" "" "$(cd "$prefix" && sha256sum --quiet --check share/doc/warcdx/SHA256SUMS 2>&1)"
     expect "number of checksums" "$(find "$prefix" -type f ! -name SHA256SUMS | wc -l)" "$(wc -l < "$doc/SHA256SUMS")"
     expect "files of the repository" "" "$(differing_files << END
+bin/warcdx-gz:python/bin/warcdx-gz
 share/man/man1/warcdx.1:docs/warcdx.1
+share/man/man1/warcdx-gz.1:docs/warcdx-gz.1
 share/bash-completion/completions/warcdx:completions/warcdx.bash
 share/zsh/site-functions/_warcdx:completions/_warcdx
 share/fish/vendor_completions.d/warcdx.fish:completions/warcdx.fish
@@ -95,6 +97,8 @@ share/doc/warcdx/README.md:README.md
 share/doc/warcdx/docs/COMMANDS.md:docs/COMMANDS.md
 share/doc/warcdx/samples/wget.warc:samples/wget.warc
 share/doc/warcdx/examples/http_server.py:examples/http_server.py
+share/doc/warcdx/python/VERSION:VERSION
+share/doc/warcdx/python/warcdx/index.py:python/warcdx/index.py
 END
 )"
     expect "licence" "" "$(diff /usr/share/common-licenses/Apache-2.0 "$doc/LICENSE" 2>&1)"
@@ -112,6 +116,9 @@ check_program() {
     expect "version of the C library" GLIBC_2.34 "$(library_versions | tail --lines=1)" # as docs/INSTALL.md says
     expect "version in the help" "warcdx $version" "$(installed warcdx --help | head --lines=1 | grep --only-matching '^warcdx [0-9.]*')"
     expect "manual page" "$prefix/share/man/man1/warcdx.1" "$(installed MANPATH="$prefix/share/man" man -w warcdx)"
+    expect "Python package of the tar file" "1 gone" "$(installed warcdx get 11387 "$doc/samples/wget.warc" | "$doc/examples/body.py" | sed 's/^/1 /')"
+    gzip --stdout "$doc/samples/response.warc" > "$work/response.warc.gz"
+    expect "warcdx-gz of the tar file" "0 $(stat --format=%s "$work/response.warc.gz") response" "$(installed warcdx-gz list "$work/response.warc.gz")"
     installed warcdx index "$doc/samples/wget.warc" > "$found"
     expect "index of a sample" "$found 33" "$(installed warcdx check "$found")"
     expect "query on it" "http://127.0.0.1:8000/odd/gone 410" \
@@ -127,9 +134,16 @@ wanted_package_differences() {
     cat << 'END'
 Only in debian/usr/share/doc/warcdx: changelog.gz
 Only in debian/usr/share/doc/warcdx: copyright
+Only in debian/usr/share/man/man1: warcdx-gz.1.gz
 Only in debian/usr/share/man/man1: warcdx.1.gz
 Only in debian/usr/share/zsh: vendor-completions
+Only in debian/usr: lib
+Only in tar/share/doc/warcdx/python: LICENSE
+Only in tar/share/doc/warcdx/python: VERSION
+Only in tar/share/doc/warcdx/python: pyproject.toml
+Only in tar/share/doc/warcdx/python: warcdx
 Only in tar/share/doc/warcdx: SHA256SUMS
+Only in tar/share/man/man1: warcdx-gz.1
 Only in tar/share/man/man1: warcdx.1
 Only in tar/share/zsh: site-functions
 END
@@ -138,10 +152,13 @@ END
 check_debian_package() {
     expect "package: name, version, architecture" "warcdx $version amd64" "$(field Package) $(field Version) $(field Architecture)"
     expect "package: depends" "libc6 (>= $(library_versions | sed -n '$s/GLIBC_//p'))" "$(field Depends)"
-    expect "package: scripts of its own" "control md5sums" "$(dpkg-deb --ctrl-tarfile "$package" | tar --list | sed -n 's:^\./\(.\):\1:p' | in_a_line)"
+    expect "package: scripts of its own" "control md5sums postinst prerm" "$(dpkg-deb --ctrl-tarfile "$package" | tar --list | sed -n 's:^\./\(.\):\1:p' | in_a_line)"
     expect "package: modes" "" "$(other_modes "$debian")"
     expect "package: owners" "" "$(dpkg-deb --contents "$package" | other_owners)"
     expect "package: files" "$(wanted_package_differences)" "$(package_differences)"
+    expect "package: Python package" "" "$(diff --recursive "$doc/python/warcdx" "$debian/usr/lib/python3/dist-packages/warcdx" 2>&1)"
+    expect "package: version of the Python package" "$version" "$(PYTHONPATH=$debian/usr/lib/python3/dist-packages PYTHONDONTWRITEBYTECODE=1 \
+        /usr/bin/python3 -c 'import importlib.metadata; print(importlib.metadata.version("warcdx"))')"
     expect "package: manual page" "" "$(zcat "$debian/usr/share/man/man1/warcdx.1.gz" | diff "$root/docs/warcdx.1" - 2>&1)"
     expect "package: completion for zsh" "" "$(diff "$root/completions/_warcdx" "$debian/usr/share/zsh/vendor-completions/_warcdx" 2>&1)"
     expect "package: terms" "" "$(diff "$root/tools/debian/copyright" "$debian/usr/share/doc/warcdx/copyright" 2>&1)"

@@ -1,162 +1,132 @@
 #!/usr/bin/python3
 """Indexes a folder of archives on a Dask cluster, and merges the indexes into one.
 
-usage: index_archives.py [--scheduler ADDRESS] [--workers NUMBER] [--warcdx PROGRAM] [--retries NUMBER]
-                         [--recursive] [--add] ARCHIVES RESULTS
+usage: index_archives.py [--scheduler ADDRESS | --workers NUMBER] [--dashboard ADDRESS] [--warcdx PROGRAM]
+                         [--warcdx-gz PROGRAM] [--retries NUMBER] [--recursive] [--add] ARCHIVES RESULTS
 
-ARCHIVES is a folder with files *.warc, and RESULTS a folder that is created. Both have the same names
-on every machine. Without --scheduler a cluster of processes on this machine is started, and ended
-after the work.
+ARCHIVES is a folder with files *.warc and *.warc.gz, and RESULTS a folder that is created. Both have the
+same names on every machine. Without --scheduler a cluster of processes on this machine is started, and
+ended after the work. With --add RESULTS may be those of an earlier run, also of one that was broken off:
+only archives that are new or changed are indexed.
 
-RESULTS gets archives.json (the names of the archives), parts/ (an index of each), index.cdxj (all of
-them, merged) and report.json (each archive that wasn't indexed completely: its status, and what was
-reported about it). The exit status is the largest of theirs, that of the merge, or 2 after a usage
-error.
+RESULTS gets archives.json (the names of the archives), parts/ (an index of each), log.jsonl (which part is
+of which archive), index.cdxj (all of them, merged) and report.json (each archive that wasn't indexed
+completely: its status, and what was reported about it). In an index and in these files an archive has
+the name of its path below ARCHIVES. The exit status is the largest of the archives', that of the merge,
+or 2 after a usage error.
 
-Needs Debian's package python3-distributed.
+Needs Debian's package python3-distributed, and stands on the Python package of this repository.
 """
 import argparse
 import contextlib
+import fcntl
 import json
 import os
 import pathlib
 import shutil
-import subprocess
 import sys
-import tempfile
 import uuid
 from collections.abc import Iterator, Sequence
-from typing import Any, NamedTuple, NoReturn, Union
+from typing import Any, NoReturn, Optional, TextIO
 
 try:
     import distributed
 except ImportError:
     distributed = None
 
-ENDING = ".warc"
-MERGED_AT_ONCE = 1000  # warcdx takes 1,024
-FAULT = 1  # the status of warcdx after a damaged archive or a refused name
+sys.path.insert(0, str(pathlib.Path(__file__).resolve().parents[2] / "python"))
+
+from log import Archive, Done, Log, Report
+from warcdx import Error, Fault
+from warcdx.merging import merge
+from worker import index
+
+PLAIN, COMPRESSED = ".warc", ".warc.gz"
+FAULT = 1  # the status of warcdx after a damaged archive
 FAILED = 3  # the status of warcdx if a file, memory, an input or an output failed
 
-Command = Sequence[Union[str, pathlib.Path]]
 
-
-class Report(NamedTuple):
-    """What became of an archive."""
-
-    archive: str
-    status: int
-    said: str
-
-
-class Task(NamedTuple):
-    """An archive that is to be indexed, and where its index is put."""
-
-    archive: pathlib.Path
-    part: pathlib.Path
-
-
-# ---- on a worker
-
-
-def write_by(command: Command, result: pathlib.Path, unfinished: pathlib.Path) -> tuple[int, str]:
-    """Runs a command that writes a file, which gets its name once it is complete. Returns the status and what was
-    reported. The file has a short name until then, because that of the result may be as long as a name can be.
-    """
-    written = unfinished / uuid.uuid4().hex
-    with open(written, "xb") as output:
-        done = subprocess.run(command, stdin=subprocess.DEVNULL, stdout=output, stderr=subprocess.PIPE)
-    if done.returncode in (0, FAULT):
-        os.replace(written, result)
-    else:
-        os.remove(written)
-    return done.returncode, done.stderr.decode(errors="replace")
-
-
-def index(program: str, archive: pathlib.Path, part: pathlib.Path, unfinished: pathlib.Path) -> tuple[int, str]:
-    """Indexes an archive. Fails if another worker may do better. What is begun twice writes the same index twice.
-
-    The index of an archive that was indexed completely gets the archive's time, by which --add knows it.
-    """
-    if not archive.is_file():
-        raise OSError("no file that can be read")
-    time = archive.stat().st_mtime_ns
-    status, said = write_by((program, "index", archive), part, unfinished)
-    if status not in (0, FAULT):
-        raise OSError(f"status {status}: {said}")
-    if status == 0:
-        os.utime(part, ns=(time, time))
-    return status, said
-
-
-# ---- on the machine of the caller
-
-
-def archives_of(folder: pathlib.Path, recursive: bool) -> list[pathlib.Path]:
-    """Returns the archives in a folder, and with `recursive` those in the folders below it, in order."""
+def archives_of(folder: pathlib.Path, recursive: bool) -> list[str]:
+    """Returns the paths of the archives below a folder, in order."""
 
     def fail(error: OSError) -> NoReturn:
         raise error
 
     found = []
-    for parent, _, names in os.walk(folder, onerror=fail):
-        found += [pathlib.Path(parent, name) for name in names if name.endswith(ENDING)]
+    for parent, folders, names in os.walk(folder, onerror=fail):
+        below = pathlib.Path(parent).relative_to(folder)
+        found += [str(below / name) for name in names if name.endswith((PLAIN, COMPRESSED))]
         if not recursive:
-            break
+            folders.clear()
     return sorted(found)
 
 
-def tasks_of(archives: Sequence[pathlib.Path], results: pathlib.Path) -> tuple[list[Task], list[Report]]:
-    """Returns a task for the first archive of each file name, and a report on each other one. An index names an archive
-    by its file name, so `warcdx index` refuses a second one of the same name too.
-    """
-    tasks: dict[str, Task] = {}
-    refused = []
-    for archive in archives:
-        if archive.name in tasks:
-            refused.append(Report(str(archive), FAULT, f"DuplicateName: as {tasks[archive.name].archive}"))
-        else:
-            part = results / "parts" / (archive.name[: -len(ENDING)] + ".cdxj")
-            tasks[archive.name] = Task(archive, part)
-    return list(tasks.values()), refused
+class Run:
+    """A run of this program: its arguments, the folder of results and the log in it."""
 
+    def __init__(self, given: argparse.Namespace, log: Log) -> None:
+        self.given = given
+        self.archives = given.archives.resolve()
+        self.results = given.results.resolve()
+        self.unfinished = self.results / "unfinished"
+        self.log = log
 
-def is_current(task: Task) -> bool:
-    """Returns whether an earlier run has indexed the archive completely, as it is now."""
-    try:
-        return task.part.stat().st_mtime_ns == task.archive.stat().st_mtime_ns
-    except OSError:
-        return False
+    def prepare(self) -> None:
+        """Makes the folders. What a worker of an earlier run still writes is in a folder that is no more."""
+        with contextlib.suppress(FileNotFoundError):
+            shutil.rmtree(self.unfinished)
+        (self.results / "parts").mkdir(exist_ok=True)
+        self.unfinished.mkdir()
 
+    def index(self, client: Any, archives: Sequence[Archive]) -> Iterator[Report]:
+        """Yields a report on each archive as it is indexed, or given up."""
+        runs = {self.submit(client, archive): archive for archive in archives}
+        for run in distributed.as_completed(runs):
+            archive, error = runs[run], run.exception()
+            if error is None:
+                try:
+                    yield self.keep(archive, *run.result())
+                    continue
+                except OSError as failure:
+                    error = failure
+            yield Report(archive.name, FAILED, f"{type(error).__name__}: {error}")
 
-def index_all(client: Any, given: argparse.Namespace, tasks: Sequence[Task]) -> Iterator[tuple[Task, Report]]:
-    """Yields a report on each archive as it is indexed, or given up."""
-    unfinished = given.results.resolve() / "unfinished"
-    runs = {
-        client.submit(index, given.warcdx, *task, unfinished, pure=False, retries=given.retries): task for task in tasks
-    }
-    for run in distributed.as_completed(runs):
-        error = run.exception()
-        status, said = run.result() if error is None else (FAILED, f"{type(error).__name__}: {error}")
-        yield runs[run], Report(str(runs[run].archive), status, said)
+    def submit(self, client: Any, archive: Archive) -> Any:
+        """Submits an archive, under a name that Dask's pages show."""
+        program = (self.given.warcdx,)
+        if archive.name.endswith(COMPRESSED):
+            program = (self.given.warcdx_gz, "--warcdx", self.given.warcdx)
+        key = f"index-{archive.name!a}-{uuid.uuid4().hex}"
+        path = str(self.archives / archive.name)
+        return client.submit(
+            index, program, path, archive.name, str(self.unfinished), key=key, pure=False, retries=self.given.retries
+        )
 
+    def keep(self, archive: Archive, status: int, said: str, written: str, size: int, time: int) -> Report:
+        """Makes what a worker has written the part of an archive. Only here is anything put into the folder of parts."""
+        os.replace(written, self.part(archive.name))
+        self.log.add(Done(archive.name, size, time, status, said))
+        return Report(archive.name, status, said)
 
-def merge(program: str, indexes: Sequence[pathlib.Path], result: pathlib.Path) -> tuple[int, str]:
-    """Merges any number of indexes: groups of them, then the indexes of the groups."""
-    if not indexes:
-        result.write_bytes(b"")
+    def part(self, name: str) -> pathlib.Path:
+        return self.results / "parts" / Log.part_of(name)
+
+    def is_current(self, archive: Archive) -> bool:
+        """Returns whether an earlier run has indexed the archive as it is now."""
+        done = self.log.done.get(archive.name)
+        return done is not None and (done.size, done.time) == (archive.size, archive.time) and self.part(archive.name).is_file()
+
+    def merge(self, names: Sequence[str]) -> tuple[int, str]:
+        """Merges the parts of archives. The index gets its name once it is complete."""
+        written = self.unfinished / "merged"
+        try:
+            with open(written, "xb") as output:
+                merge([self.part(name) for name in names], output, program=self.given.warcdx)
+            os.replace(written, self.results / "index.cdxj")
+        except (Error, OSError) as error:
+            status = FAULT if isinstance(error, Fault) and error.offset is not None else FAILED
+            return status, f"index.cdxj wasn't written: {error}"
         return 0, ""
-    with tempfile.TemporaryDirectory(dir=result.parent) as name:
-        folder = pathlib.Path(name)
-        if len(indexes) <= MERGED_AT_ONCE:
-            return write_by((program, "merge", *indexes), result, folder)
-        merged = []
-        for start in range(0, len(indexes), MERGED_AT_ONCE):
-            merged.append(folder / str(start))
-            status, said = merge(program, indexes[start : start + MERGED_AT_ONCE], merged[-1])
-            if status:
-                return status, said
-        return merge(program, merged, result)
 
 
 def printable(text: str) -> str:
@@ -165,7 +135,7 @@ def printable(text: str) -> str:
 
 
 def say(text: str) -> None:
-    print(text, file=sys.stderr)
+    print(text, file=sys.stderr, flush=True)
 
 
 def read_arguments() -> argparse.Namespace:
@@ -174,7 +144,9 @@ def read_arguments() -> argparse.Namespace:
     )
     parser.add_argument("--scheduler", metavar="ADDRESS", help="that of a cluster's scheduler (default: a cluster on this machine)")
     parser.add_argument("--workers", type=int, default=os.cpu_count(), metavar="NUMBER", help="processes on this machine (%(default)s)")
+    parser.add_argument("--dashboard", metavar="ADDRESS", help="where the cluster on this machine serves Dask's pages, such as 127.0.0.1:8787 (default: nowhere)")
     parser.add_argument("--warcdx", default="warcdx", metavar="PROGRAM", help="the program (%(default)s)")
+    parser.add_argument("--warcdx-gz", default="warcdx-gz", metavar="PROGRAM", help="the program for compressed archives (%(default)s)")
     parser.add_argument("--retries", type=int, default=2, metavar="NUMBER", help="further tries of an archive (%(default)s)")
     parser.add_argument("--recursive", action="store_true", help="index the archives in the folders below ARCHIVES too")
     parser.add_argument("--add", action="store_true", help="keep what an earlier run left in RESULTS of archives that are unchanged")
@@ -187,70 +159,95 @@ def read_arguments() -> argparse.Namespace:
         parser.error(f"{given.warcdx} is no program")
     if not given.archives.is_dir():
         parser.error(f"{given.archives} is no folder")
-    if given.results.exists() and not (given.add and (given.results / "archives.json").is_file()):
+    if given.results.exists() and not (given.add and (given.results / "log.jsonl").is_file()):
         parser.error(f"{given.results} exists" + (", and isn't a folder of results" if given.add else ""))
-    if os.sep in given.warcdx:
-        given.warcdx = os.path.abspath(given.warcdx)  # workers run in other folders
+    for name in ("warcdx", "warcdx_gz"):
+        if os.sep in getattr(given, name):
+            setattr(given, name, os.path.abspath(getattr(given, name)))  # workers run in other folders
     return given
 
 
 @contextlib.contextmanager
 def connected(given: argparse.Namespace) -> Iterator[Any]:
     """Yields a client of the cluster."""
-    if given.scheduler:
-        with distributed.Client(given.scheduler) as client:
-            yield client
-        return
-    with distributed.LocalCluster(n_workers=given.workers, threads_per_worker=1, dashboard_address=None) as cluster:
-        with distributed.Client(cluster) as client:
-            yield client
+    with contextlib.ExitStack() as stack:
+        address = given.scheduler
+        if not address:
+            cluster = distributed.LocalCluster(
+                n_workers=given.workers, threads_per_worker=1, dashboard_address=given.dashboard
+            )
+            address = stack.enter_context(cluster)
+        client = stack.enter_context(distributed.Client(address))
+        if given.dashboard:
+            say(f"Dask's pages: {client.dashboard_link.replace('/status', '/info/main/workers.html')}")
+        yield client
 
 
 def write_json(file: pathlib.Path, values: Sequence[Any]) -> None:
     """Writes values in ASCII. A byte of a name that isn't UTF-8 is a lone surrogate, as Python has it."""
-    file.write_text(json.dumps(values, indent=2) + "\n")
+    file.with_suffix(".tmp").write_text(json.dumps(values, indent=2) + "\n")
+    os.replace(file.with_suffix(".tmp"), file)
 
 
-def index_new(given: argparse.Namespace, tasks: Sequence[Task], reports: list[Report]) -> list[pathlib.Path]:
-    """Indexes the archives, but for those that an earlier run has indexed. Adds the reports, and returns the indexes."""
-    parts, new = [], []
-    for task in tasks:
-        if given.add and is_current(task):
-            parts.append(task.part)
-        else:
-            new.append(task)
-    if parts:
-        say(f"{len(parts)} of {len(tasks)} are unchanged")
-    with connected(given) as client:
-        for number, (task, report) in enumerate(index_all(client, given, new), 1):
-            say(f"{number} of {len(new)}: {printable(report.archive)}: status {report.status}")
-            reports.append(report)
-            if report.status in (0, FAULT):
-                parts.append(task.part)
-    return sorted(parts)
+def progress(number: int, new: Sequence[Archive], bytes_done: int, report: Report) -> str:
+    percent = 100 * bytes_done // max(1, sum(archive.size for archive in new))
+    return f"{number} of {len(new)}, {percent} %: {printable(report.archive)}: status {report.status}"
+
+
+def work(run: Run) -> int:
+    """Indexes what is new, merges all, and returns the exit status."""
+    run.prepare()
+    names = archives_of(run.archives, run.given.recursive)
+    write_json(run.results / "archives.json", names)
+    archives = [Archive.of(run.archives, name) for name in names]
+    new = [archive for archive in archives if not run.is_current(archive)]
+    run.log.start({archive.name for archive in archives} - {archive.name for archive in new})
+    if len(new) < len(archives):
+        say(f"{len(archives) - len(new)} of {len(archives)} are unchanged")
+    reports = [Report(done.archive, done.status, done.said) for done in run.log.done.values()]
+    sizes, bytes_done = {archive.name: archive.size for archive in new}, 0
+    if new:
+        with connected(run.given) as client:
+            for number, report in enumerate(run.index(client, new), 1):
+                bytes_done += sizes[report.archive]
+                say(progress(number, new, bytes_done, report))
+                reports.append(report)
+    write_json(run.results / "report.json", [report._asdict() for report in sorted(reports) if report.status])
+    status, said = run.merge(sorted(report.archive for report in reports if report.status in (0, FAULT)))
+    if said:
+        say(printable(said))
+    shutil.rmtree(run.unfinished)
+    for wanted, what in ((FAULT, "damaged, and indexed up to the damage"), (FAILED, "not in the index")):
+        count = sum(report.status == wanted for report in reports)
+        if count:
+            say(f"{count} of {len(reports)} are {what}; see report.json")
+    return max([status, *(report.status for report in reports)])
+
+
+def locked(path: pathlib.Path) -> Optional[TextIO]:
+    """Opens the log, or returns None if another run holds it."""
+    file = open(path, "a+")
+    try:
+        fcntl.flock(file, fcntl.LOCK_EX | fcntl.LOCK_NB)
+    except BlockingIOError:
+        file.close()
+        return None
+    return file
 
 
 def main() -> int:
     given = read_arguments()
-    results = given.results.resolve()
     try:
-        archives = archives_of(given.archives.resolve(), given.recursive)
+        given.results.mkdir(parents=True, exist_ok=True)
+        file = locked(given.results / "log.jsonl")
+        if file is None:
+            say("index_archives.py: another run is at work on these results")
+            return FAILED
+        with file:
+            return work(Run(given, Log(file)))
     except OSError as error:
         say(f"index_archives.py: {printable(str(error))}")
         return FAILED
-    for folder in ("parts", "unfinished"):
-        (results / folder).mkdir(parents=True, exist_ok=True)
-    write_json(results / "archives.json", [str(archive) for archive in archives])
-    tasks, reports = tasks_of(archives, results)
-    for report in reports:
-        say(f"{printable(report.archive)}: {printable(report.said)}")
-    parts = index_new(given, tasks, reports)
-    write_json(results / "report.json", [report._asdict() for report in sorted(reports) if report.status])
-    shutil.rmtree(results / "unfinished")
-    status, said = merge(given.warcdx, parts, results / "index.cdxj")
-    if said:
-        say(printable(said.rstrip("\n")))
-    return max([status, *(report.status for report in reports)])
 
 
 if __name__ == "__main__":

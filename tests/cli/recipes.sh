@@ -66,7 +66,8 @@ run() { # RECIPE: prints what its blocks print
     done
     lines_of "$1" | script_of > "$work/script"
     # The exit status is that of the last command, and may be any.
-    (cd "$folder" && env HOME="$folder" LC_ALL=C.UTF-8 PATH="$work/bin:$root/examples:$PATH" \
+    (cd "$folder" && env HOME="$folder" LC_ALL=C.UTF-8 PYTHONPATH="$root/python${PYTHONPATH:+:$PYTHONPATH}" \
+        PATH="$work/bin:$root/examples:$root/python/bin:$PATH" \
         bash "$work/script" 2>&1 < /dev/null) || true
 }
 

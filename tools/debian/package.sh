@@ -14,15 +14,25 @@ make_package() {
 
 move_to_debian_places() { # PREFIX
     local documents=$1/share/doc/warcdx
-    gzip --no-name -9 "$1/share/man/man1/warcdx.1"
+    gzip --no-name -9 "$1"/share/man/man1/*.1
     mv "$1/share/zsh/site-functions" "$1/share/zsh/vendor-completions"
     ln --symbolic --force ../../common-licenses/Apache-2.0 "$documents/LICENSE"
     cp "$root/tools/debian/copyright" "$documents/copyright"
+    move_python_package "$documents/python" "$1/lib/python3/dist-packages"
     print_changelog | gzip --no-name -9 > "$documents/changelog.gz"
+}
+
+# move_python_package FOLDER MODULES: moves the Python package to Debian's modules, with what tells other programs its version.
+move_python_package() {
+    mkdir --parents "$2"
+    mv "$1/warcdx" "$2"
+    rm "$1"/{LICENSE,VERSION,pyproject.toml}
+    printf '%s\n' "Metadata-Version: 2.1" "Name: warcdx" "Version: $version" > "$2/warcdx-$version.egg-info"
 }
 
 put_metadata() { # FOLDER
     mkdir "$1/DEBIAN"
+    install --mode=755 "$root"/tools/debian/{postinst,prerm} "$1/DEBIAN"
     (cd "$1" && find usr -type f -print0 | LC_ALL=C sort --zero-terminated | xargs -0 md5sum) > "$1/DEBIAN/md5sums"
     print_control "$1" > "$1/DEBIAN/control"
 }
@@ -45,6 +55,7 @@ Architecture: amd64
 Maintainer: $(maintainer)
 Installed-Size: $(installed_size "$1")
 Depends: libc6 (>= $(c_library_version "$1/usr/bin/warcdx"))
+Suggests: python3 (>= 3.9), python3-matplotlib
 Section: web
 Priority: optional
 Description: indexer of web archives, with queries over the indexes
@@ -54,6 +65,8 @@ Description: indexer of web archives, with queries over the indexes
  It lists and verifies the records of archives, reports where they are damaged,
  makes, merges and checks indexes, and answers queries in the manner of the
  Wayback CDX Server API, page by page. It fetches records from their offsets.
+ The command warcdx-gz does the same for compressed archives, and a Python
+ package from programs.
 END
 }
 

@@ -1,0 +1,60 @@
+"""What the tests share. They run the program that the variable WARCDX names, or else `warcdx` of the PATH."""
+import os
+import pathlib
+import tempfile
+import unittest
+from collections.abc import Callable
+from typing import Any
+
+from warcdx import Index
+
+PROGRAM = os.environ.get("WARCDX", "warcdx")
+SAMPLES = pathlib.Path(__file__).resolve().parents[2] / "samples"
+WAIT = 30  # seconds for what takes a few milliseconds
+ALL = "key=&matchType=prefix"
+LINE = (
+    'com,example)/%s 20160101000000 {"url": "http://example.com/%s", "mime": "text/html", "status": "200", '
+    '"digest": "-", "length": "%d", "offset": "%d", "filename": "a.warc"}\n'
+)
+
+
+def lines(count: int) -> str:
+    """Returns an index of so many captures, each of another page."""
+    return "".join(LINE % (f"{number:07}", f"{number:07}", number + 1, number) for number in range(count))
+
+
+class Case(unittest.TestCase):
+    """A test with a temporary folder."""
+
+    def setUp(self) -> None:
+        folder = tempfile.TemporaryDirectory()
+        self.addCleanup(folder.cleanup)
+        self.folder = pathlib.Path(folder.name)
+
+    def put(self, text: str, name: str = "index") -> pathlib.Path:
+        path = self.folder / name
+        path.write_text(text)
+        return path
+
+    def script(self, text: str) -> str:
+        """Returns a program that this text of sh is."""
+        path = self.put(f"#!/bin/sh\n{text}\n", "program")
+        path.chmod(0o755)
+        return str(path)
+
+    def open(self, *paths: pathlib.Path, **arguments: Any) -> Index:
+        index = Index(paths, **{"program": PROGRAM, **arguments})
+        self.addCleanup(index.close)
+        return index
+
+    def raises(self, kind: type[BaseException], call: Callable[..., object], *arguments: Any, **named: Any) -> Any:
+        """Returns the exception of a call."""
+        with self.assertRaises(kind) as caught:
+            call(*arguments, **named)
+        self.assertIs(type(caught.exception), kind)
+        return caught.exception
+
+
+def processes_of(index: Index) -> list[int]:
+    """Returns the process IDs of an index that is idle."""
+    return [serve._process.pid for serve in list(index._idle.queue) if serve._process is not None]

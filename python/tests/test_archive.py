@@ -1,0 +1,115 @@
+"""Archives and records."""
+import gzip
+import hashlib
+import os
+import subprocess
+import unittest
+import zlib
+
+from warcdx import Archive, Listed, ProgramEnded, Record, Unreadable, Verified, faults, payload
+
+from .support import PROGRAM, SAMPLES, Case
+
+HEAD = b"WARC/1.0\r\nWARC-Type: response\r\nX: a\r\n  b\r\nContent-Type: application/http; msgtype=response\r\n\r\n"
+
+
+def response(fields: bytes, body: bytes) -> bytes:
+    return HEAD + b"HTTP/1.1 200 OK\r\n" + fields + b"\r\n" + body + b"\r\n\r\n"
+
+
+class Archives(Case):
+    def test_list_and_verify_have_the_lines_of_the_program(self) -> None:
+        archive = Archive(SAMPLES / "wget.warc", program=PROGRAM)
+        for command, found in (
+            ("list", [f"{each.offset} {each.length} {each.kind}" for each in archive.list()]),
+            ("verify", [f"{each.offset} {each.verdict}" for each in archive.verify()]),
+        ):
+            done = subprocess.run((PROGRAM, command, SAMPLES / "wget.warc"), stdout=subprocess.PIPE, check=True)
+            self.assertEqual(done.stdout.decode().splitlines(), found)
+
+    def test_what_is_before_damage_is_given(self) -> None:
+        archive = Archive(SAMPLES / "damaged.warc", program=PROGRAM)
+        listed, verified = archive.list(), archive.verify()
+        self.assertEqual([Listed(0, 264, "response"), Listed(264, 184, "resource")], [next(listed), next(listed)])
+        self.assertEqual([Verified(0, "absent"), Verified(264, "absent")], [next(verified), next(verified)])
+        for iterator in (listed, verified):
+            found = self.raises(faults.ShortBlock, next, iterator)
+            self.assertEqual((str(SAMPLES / "damaged.warc"), 448), (found.file, found.offset))
+
+    def test_a_digest_that_differs_is_a_verdict(self) -> None:
+        path = self.folder / "changed.warc"
+        path.write_bytes((SAMPLES / "wget.warc").read_bytes().replace(b"gone\n", b"Gone\n", 1))
+        found = [each.verdict for each in Archive(path, program=PROGRAM).verify()]
+        self.assertEqual((1, 67), (found.count("differs"), found.count("same")))
+
+    def test_get_returns_the_record(self) -> None:
+        archive = Archive(SAMPLES / "wget.warc", program=PROGRAM)
+        record = archive.get(11387)
+        self.assertEqual(("response", "http://127.0.0.1:8000/odd/gone"), (record.kind, str(record.field("warc-target-uri")).strip("<>")))
+        self.assertEqual(b"gone\n", payload(record))
+        self.raises(faults.NoRecord, archive.get, 11388)
+        self.assertEqual(448, self.raises(faults.ShortBlock, Archive(SAMPLES / "damaged.warc", program=PROGRAM).get, 448).offset)
+
+    def test_files_that_are_no_archives_are_named(self) -> None:
+        self.raises(faults.CannotOpen, list, Archive(self.folder / "nosuch", program=PROGRAM).list())
+        self.raises(faults.CannotOpen, Archive(self.folder / "nosuch", program=PROGRAM).get, 0)
+        self.raises(faults.Read, list, Archive(self.folder, program=PROGRAM).list())
+        self.raises(faults.Version, list, Archive(self.put("x" * 20), program=PROGRAM).verify())
+        self.assertEqual([], list(Archive(self.put("", "empty"), program=PROGRAM).list()))
+        self.assertEqual(2, self.raises(ProgramEnded, list, Archive(os.fsdecode(b"\xff"), program=PROGRAM).list()).status)
+
+    def test_a_program_that_is_killed_has_ended(self) -> None:
+        text = f'[ "$1" = list ] || exec "{PROGRAM}" "$@"\nprintf "0 264 response\\n264 18"; kill -9 $$'
+        listed = Archive("any", program=self.script(text)).list()
+        self.assertEqual(Listed(0, 264, "response"), next(listed))
+        self.assertEqual(-9, self.raises(ProgramEnded, next, listed).status)
+
+    def test_an_iterator_that_is_left_ends_the_program(self) -> None:
+        text = f'[ "$1" = list ] || exec "{PROGRAM}" "$@"\necho $$ > "$0.pid"; echo 0 264 response; exec sleep 60'
+        listed = Archive("any", program=self.script(text)).list()
+        next(listed)
+        listed.close()  # type: ignore[attr-defined]
+        process = int((self.folder / "program.pid").read_text())
+        self.assertRaises(ProcessLookupError, os.kill, process, 0)
+
+
+class Records(Case):
+    def test_a_field_may_be_continued(self) -> None:
+        record = Record.read(response(b"", b"body"))
+        self.assertEqual(("a b", None, "response"), (record.field("x"), record.field("y"), record.kind))
+
+    def test_codings_are_undone(self) -> None:
+        body = bytes(range(256)) * 99
+        deflater = zlib.compressobj(wbits=-15)
+        alone = deflater.compress(body) + deflater.flush()
+        chunked = b"10;x=y\r\n" + body[:16] + b"\r\n" + b"%x\r\n" % (len(body) - 16) + body[16:] + b"\r\n0\r\n\r\n"
+        packed = gzip.compress(body)
+        for fields, stored in (
+            (b"", body),
+            (b"Transfer-Encoding: chunked\r\n", chunked),
+            (b"Content-Encoding: gzip\r\n", packed),
+            (b"content-encoding:X-GZIP\r\n", gzip.compress(body[:99]) + gzip.compress(body[99:])),
+            (b"Content-Encoding: deflate\r\n", zlib.compress(body)),
+            (b"Content-Encoding: deflate\r\n", alone),
+            (b"Content-Encoding: identity\r\n", body),
+            (b"Content-Encoding: deflate, gzip\r\n", gzip.compress(alone)),
+            (b"Transfer-Encoding: chunked\r\nContent-Encoding: gzip\r\n", b"%x\r\n%s\r\n0\r\n\r\n" % (len(packed), packed)),
+        ):
+            self.assertEqual(hashlib.sha1(body).digest(), hashlib.sha1(payload(response(fields, stored))).digest(), fields)
+
+    def test_what_can_not_be_read_is_refused(self) -> None:
+        for record in (
+            b"",
+            b"WARC/1.0\r\n\r\n",
+            response(b"Transfer-Encoding: chunked\r\n", b"5\r\nabc"),
+            response(b"Transfer-Encoding: chunked\r\n", b"-5\r\nabc"),
+            response(b"Content-Encoding: gzip\r\n", gzip.compress(b"body")[:-1]),
+            response(b"Content-Encoding: gzip\r\n", b"plain text"),
+            response(b"Content-Encoding: br\r\n", b"\x8b"),
+            HEAD + b"no head\r\n\r\n",
+        ):
+            self.raises(Unreadable, payload, record)
+
+
+if __name__ == "__main__":
+    unittest.main()

@@ -1,0 +1,32 @@
+"""The examples of docs/PYTHON.md."""
+import doctest
+import os
+import pathlib
+import shutil
+import subprocess
+import unittest
+
+from .support import PROGRAM, SAMPLES, Case
+
+PAGE = pathlib.Path(__file__).resolve().parents[2] / "docs/PYTHON.md"
+
+
+class Pages(Case):
+    def test_the_examples_print_what_the_page_says(self) -> None:
+        for sample in SAMPLES.glob("*.warc"):
+            shutil.copy(sample, self.folder)
+        with open(self.folder / "wget.cdxj", "wb") as output:
+            subprocess.run((PROGRAM, "index", self.folder / "wget.warc"), stdout=output, check=True)
+        folder, path = os.getcwd(), os.environ["PATH"]
+        self.addCleanup(os.chdir, folder)
+        self.addCleanup(os.environ.__setitem__, "PATH", path)
+        os.chdir(self.folder)
+        os.environ["PATH"] = f"{self.folder}:{path}"
+        os.symlink(os.path.abspath(shutil.which(PROGRAM) or PROGRAM), "warcdx")
+        found = doctest.testfile(str(PAGE), module_relative=False)
+        self.assertEqual(0, found.failed)
+        self.assertGreater(found.attempted, 15)
+
+
+if __name__ == "__main__":
+    unittest.main()

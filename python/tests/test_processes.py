@@ -1,0 +1,153 @@
+"""Programs that end, threads, and clients that take their time."""
+import os
+import signal
+import threading
+import time
+import unittest
+from typing import Any
+
+from warcdx import Index, ProgramEnded, ProgramMissing, ProgramTooOld
+
+from .support import ALL, PROGRAM, WAIT, Case, lines, processes_of
+
+
+class Programs(Case):
+    def test_a_missing_program_is_named(self) -> None:
+        for name in (str(self.folder / "nosuch"), "warcdx-nosuch", str(self.folder)):
+            self.assertIn(name, str(self.raises(ProgramMissing, Index, "index", program=name)))
+
+    def test_another_program_is_not_taken(self) -> None:
+        for text in ("echo another 1.0.0", "exit 1", "echo xwarcdx 1.0.0"):
+            self.raises(ProgramMissing, Index, "index", program=self.script(text))
+
+    def test_a_program_that_can_not_run_is_named(self) -> None:
+        path = self.script("")
+        with open(path, "w") as file:
+            file.write("#!/nosuch\n")
+        self.raises(ProgramMissing, Index, "index", program=path)
+
+    def test_an_old_program_is_named(self) -> None:
+        path = self.script("echo 'warcdx 0.0.9: of old'")
+        self.assertIn("0.0.9", str(self.raises(ProgramTooOld, Index, "index", program=path)))
+        newer = self.script(f'exec "{PROGRAM}" "$@"')
+        self.assertEqual(0, len(processes_of(self.open(self.put(""), program=newer))))
+
+    def test_a_program_that_is_killed_while_idle_is_started_again(self) -> None:
+        index = self.open(self.put(lines(3)))
+        self.assertEqual(3, index.count(ALL))
+        for _ in range(3):
+            os.kill(processes_of(index)[0], signal.SIGKILL)
+            time.sleep(0.05)
+            self.assertEqual(3, index.count(ALL))
+
+    def test_a_program_that_is_killed_in_a_reply_has_ended(self) -> None:
+        """The program writes a part of a page, and waits."""
+        text = '[ "$1" = serve ] || exec "%s" "$@"\nread query\nprintf \'[["offset"],\\n["1"],\\n["2\'\nkill -9 $$'
+        index = self.open(self.put(lines(3)), program=self.script(text % PROGRAM))
+        for _ in range(3):
+            self.assertEqual(-signal.SIGKILL, self.raises(ProgramEnded, index.count, ALL).status)
+
+    def test_a_program_that_closes_its_pipes_has_ended(self) -> None:
+        for closed in ("exec <&-; sleep 0.1; exit 7", "exec >&-; cat > /dev/null; exit 7", "exit 7"):
+            text = f'[ "$1" = serve ] || exec "{PROGRAM}" "$@"\n{closed}'
+            index = self.open(self.put(lines(3)), program=self.script(text))
+            self.assertEqual(7, self.raises(ProgramEnded, index.count, ALL).status)
+
+    def test_what_an_ended_program_has_said_is_kept(self) -> None:
+        text = f'[ "$1" = serve ] || exec "{PROGRAM}" "$@"\nhead -c 200000 /dev/zero | tr "\\0" x >&2; exit 4'
+        index = self.open(self.put(lines(3)), program=self.script(text))
+        self.assertEqual("x" * 200_000, self.raises(ProgramEnded, index.count, ALL).said)
+
+    def test_an_interrupted_reply_is_not_in_the_next(self) -> None:
+        index = self.open(self.put(lines(3)))
+        self.assertEqual(3, index.count(ALL))
+        serve: Any = index._idle.queue[0]
+
+        class Failing:
+            """An output whose second line can't be read, as if there were no memory for it."""
+
+            def __init__(self, output: Any) -> None:
+                self.output, self.lines = output, 0
+
+            def readline(self) -> bytes:
+                self.lines += 1
+                if self.lines == 2:
+                    raise KeyboardInterrupt
+                return bytes(self.output.readline())
+
+            def close(self) -> None:
+                self.output.close()
+
+        serve._process.stdout = Failing(serve._process.stdout)
+        self.raises(KeyboardInterrupt, index.count, ALL)
+        self.assertEqual([0, 1, 2], [capture.offset for capture in index.captures(ALL)])
+
+    def test_a_closed_index_is_refused(self) -> None:
+        with Index(self.put(lines(3)), program=PROGRAM) as index:
+            self.assertEqual(3, index.count(ALL))
+            process = processes_of(index)[0]
+        self.raises(ValueError, index.count, ALL)
+        self.assertRaises(ProcessLookupError, os.kill, process, 0)
+        index.close()
+
+    def test_arguments_are_checked(self) -> None:
+        self.raises(ValueError, Index, [], program=PROGRAM)
+        self.raises(ValueError, Index, "index", program=PROGRAM, processes=0)
+
+
+class Threads(Case):
+    def test_threads_get_their_own_replies(self) -> None:
+        for processes in (1, 3):
+            index = self.open(self.put(lines(500)), processes=processes)
+            found: list[tuple[int, int]] = []
+
+            def ask(first: int) -> None:
+                for number in range(first, 500, 8):
+                    (capture,) = index.captures(url=f"example.com/{number:07}")
+                    found.append((number, capture.offset))
+
+            threads = [threading.Thread(target=ask, args=(first,)) for first in range(8)]
+            for thread in threads:
+                thread.start()
+            for thread in threads:
+                thread.join(WAIT)
+            self.assertEqual([(number, number) for number in range(500)], sorted(found))
+            self.assertLessEqual(len(processes_of(index)), processes)
+
+    def test_a_pool_answers_while_a_reply_is_read(self) -> None:
+        """Of the two programs one waits until the other has answered."""
+        text = f'[ "$1" = serve ] || exec "{PROGRAM}" "$@"\n' + (
+            'mkdir "$0.first" 2> /dev/null && { read query; while [ ! -e "$0.done" ]; do sleep 0.01; done; }\n'
+            f'[ -e "$0.done" ] && {{ echo "[[]]"; echo .; }}\nexec "{PROGRAM}" "$@"'
+        )
+        index = self.open(self.put(lines(3)), program=self.script(text), processes=2)
+        slow: list[int] = []
+        thread = threading.Thread(target=lambda: slow.append(index.count(ALL)))
+        thread.start()
+        end = time.monotonic() + WAIT
+        while not (self.folder / "program.first").exists() and time.monotonic() < end:
+            time.sleep(0.01)
+        self.assertEqual(3, index.count(ALL))
+        self.assertEqual([], slow)
+        (self.folder / "program.done").touch()
+        thread.join(WAIT)
+        self.assertEqual([0], slow)
+
+    def test_a_slow_reader_delays_no_other(self) -> None:
+        """One that has taken a capture, and stops, holds no process."""
+        index = self.open(self.put(lines(20_000)))
+        slow = index.captures(ALL)
+        self.assertEqual(0, next(slow).offset)
+        self.assertEqual(20_000, index.count(ALL))
+        self.assertEqual(1, next(slow).offset)
+        self.assertEqual(19_998, sum(1 for _ in slow))
+
+    def test_an_iterator_may_be_left(self) -> None:
+        index = self.open(self.put(lines(20_000)))
+        for _ in range(50):
+            next(index.captures(ALL))
+        self.assertEqual(1, len(processes_of(index)))
+
+
+if __name__ == "__main__":
+    unittest.main()

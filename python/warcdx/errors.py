@@ -1,0 +1,108 @@
+"""What can go wrong: the program can't be run, a query is refused, or a file is at fault."""
+import re
+from typing import Optional
+
+
+class Error(Exception):
+    """The base of all exceptions of this package."""
+
+
+class ProgramError(Error):
+    """The program can't be run, or has ended without the result."""
+
+
+class ProgramMissing(ProgramError):
+    """There is no such program, or it isn't warcdx."""
+
+
+class ProgramTooOld(ProgramError):
+    """The program is older than this package needs."""
+
+
+class ProgramEnded(ProgramError):
+    """The program has ended before its output was complete.
+
+    `status` is its exit status, or the negative number of the signal that ended it. `said` is what it
+    wrote to standard error.
+    """
+
+    def __init__(self, status: int, said: str) -> None:
+        super().__init__(status, said)
+        self.status = status
+        self.said = said
+
+    def __str__(self) -> str:
+        how = f"signal {-self.status}" if self.status < 0 else f"exit status {self.status}"
+        return f"warcdx has ended with {how}" + (f": {self.said.strip()}" if self.said else "")
+
+
+class Refused(Error):
+    """A query is refused. The classes of the module `refusals` are named as the program names the causes."""
+
+    def __init__(self, name: str) -> None:
+        super().__init__(name)
+        self.name = name
+
+    def __str__(self) -> str:
+        return f"the query is refused: {self.name}"
+
+
+class Fault(Error):
+    """A file is at fault. The classes of the module `faults` are named as the program names the causes.
+
+    `file` is the path of the archive or index as it was given, and `offset` the offset in bytes at which
+    the record or line at fault begins. `number` is that of the index in the order in which they were
+    given, from 0, if a reply has named it. Each is None if the program doesn't name it.
+    """
+
+    def __init__(
+        self, name: str, file: Optional[str] = None, offset: Optional[int] = None, number: Optional[int] = None
+    ) -> None:
+        super().__init__(name, file, offset, number)
+        self.name = name
+        self.file = file
+        self.offset = offset
+        self.number = number
+
+    def __str__(self) -> str:
+        place = "" if self.offset is None else f" at {self.offset}"
+        return f"{self.file}: {self.name}{place}" if self.file is not None else self.name + place
+
+
+_FAULT_AT = re.compile(r"warcdx: (.*): fault ([0-9]+) ([A-Za-z0-9]+)\n?", re.DOTALL)
+_LINE_AT = re.compile(r"warcdx: (.*): (BadLine|OutOfOrder) ([0-9]+)\n?", re.DOTALL)
+_QUERY = re.compile(r"warcdx: query: ([A-Za-z0-9]+)\n?")
+_FILE = re.compile(r"warcdx: (.*): ([A-Za-z0-9]+|cannot open)\n?", re.DOTALL)
+_ALONE = re.compile(r"warcdx: ([A-Za-z0-9]+|cannot flush)\n?")
+_NAMES = {"cannot open": "CannotOpen", "cannot flush": "CannotFlush"}
+
+
+def refused(name: str) -> Refused:
+    """Returns the refusal of this name."""
+    from . import refusals
+
+    return refusals.BY_NAME.get(name, Refused)(name)
+
+
+def fault(
+    name: str, file: Optional[str] = None, offset: Optional[int] = None, number: Optional[int] = None
+) -> Fault:
+    """Returns the fault of this name."""
+    from . import faults
+
+    return faults.BY_NAME.get(name, Fault)(name, file, offset, number)
+
+
+def error_of(status: int, said: str) -> Error:
+    """Returns what the program has reported on standard error before it ended."""
+    if found := _FAULT_AT.fullmatch(said):
+        return fault(found[3], found[1], int(found[2]))
+    if found := _LINE_AT.fullmatch(said):
+        return fault(found[2], found[1], int(found[3]))
+    if found := _QUERY.fullmatch(said):
+        return refused(found[1])
+    if found := _FILE.fullmatch(said):
+        return fault(_NAMES.get(found[2], found[2]), found[1])
+    if found := _ALONE.fullmatch(said):
+        return fault(_NAMES.get(found[1], found[1]))
+    return ProgramEnded(status, said)

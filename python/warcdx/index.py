@@ -1,0 +1,140 @@
+"""Queries over indexes, by runs of `warcdx serve` that are kept."""
+import contextlib
+import os
+import queue
+from collections.abc import Iterator, Sequence
+from types import TracebackType
+from typing import Optional, Union
+
+from .program import Path, find_program, operand
+from .query import FIELDS, Capture, Page, Query, Value, one_line
+from .serve import Serve
+
+PAGE_SIZE = 5000  # captures that an iterator holds at a time
+
+
+class Index:
+    """One or more indexes, which are queried as one.
+
+    A query is a query text of docs/QUERY.md, or its parameters as keyword arguments, or both. The names
+    of parameters are those of the program; one that is a word of Python is written `from_` or `is_`. A
+    parameter that may be repeated takes a list:
+
+        with Index("all.cdxj") as index:
+            for capture in index.captures(url="*.example.com", from_=2016, filter=["statuscode:200"]):
+                print(capture.timestamp, capture.original)
+
+    A query that the program refuses raises the class of `warcdx.refusals` that is named as the program
+    names the cause, an index that is at fault one of `warcdx.faults`, and a program that has ended
+    ProgramEnded. After each of these the next query is answered as usual.
+
+    Threads may share an Index. `processes` is how many queries are answered at a time. A process is
+    started when it is first needed. Other processes need an Index of their own.
+    """
+
+    def __init__(
+        self, paths: Union[Path, Sequence[Path]], *, program: str = "warcdx", processes: int = 1
+    ) -> None:
+        if processes < 1:
+            raise ValueError("processes has to be 1 or more")
+        if isinstance(paths, (str, os.PathLike)):
+            paths = [paths]
+        if not paths:
+            raise ValueError("no index is given")
+        names = tuple(operand(path) for path in paths)
+        found = find_program(program)
+        self._processes = processes
+        self._is_closed = False
+        # The last one that was used is used next, so that no more are started than are needed.
+        self._idle: queue.LifoQueue[Serve] = queue.LifoQueue()
+        for _ in range(processes):
+            self._idle.put(Serve(found, names))
+
+    def captures(
+        self, query: Optional[str] = None, *, page_size: int = PAGE_SIZE, **parameters: Value
+    ) -> Iterator[Capture]:
+        """Yields the captures that a query selects, in order: as many as its `limit`, or all.
+
+        They are read page by page, and `page_size` of them are held at a time. Other queries are
+        answered meanwhile, however slowly the captures are taken.
+        """
+        for row in self.rows(FIELDS, query, page_size=page_size, **parameters):
+            yield Capture.of(row)
+
+    def rows(
+        self, fields: Sequence[str], query: Optional[str] = None, *, page_size: int = PAGE_SIZE, **parameters: Value
+    ) -> Iterator[list[str]]:
+        """Yields the values of these fields of each capture that a query selects, as `captures` does."""
+        left, asked = Query.of(query, parameters).take_limit()
+        key: Optional[str] = ""
+        while key is not None:
+            size = page_size if left is None else min(left, page_size)
+            rows, key = self._page(asked, fields, size)
+            yield from rows
+            if left is not None:
+                left -= len(rows)
+                if not left:
+                    return
+            if key is not None:
+                asked = asked.take("resumeKey")[1].with_parameters(resumeKey=key)
+
+    def page(self, query: Optional[str] = None, **parameters: Value) -> Page:
+        """Returns one page: the captures that a query selects, and the resume key of the next page.
+
+        The key is the parameter `resumeKey` of the query for that page.
+        """
+        limit, asked = Query.of(query, parameters).take_limit()
+        rows, key = self._page(asked, FIELDS, limit)
+        return Page(tuple(map(Capture.of, rows)), key)
+
+    def count(self, query: Optional[str] = None, **parameters: Value) -> int:
+        """Returns how many captures a query selects, up to its `limit`."""
+        return sum(1 for _ in self.rows(("offset",), query, page_size=PAGE_SIZE, **parameters))
+
+    def text(self, query: str) -> bytes:
+        """Returns a page as `warcdx query` writes it."""
+        line = one_line(query)
+        is_json = Query.of(line, {}).has("output", "json")
+        with self._serve() as serve:
+            return serve.text(line.encode(errors="surrogateescape"), is_json)
+
+    def close(self) -> None:
+        """Ends the processes, after the queries that are being answered. A second call does nothing."""
+        if not self._is_closed:
+            self._is_closed = True
+            serves = [self._idle.get() for _ in range(self._processes)]
+            for serve in serves:
+                serve.end()
+                self._idle.put(serve)
+
+    def __enter__(self) -> "Index":
+        return self
+
+    def __exit__(
+        self, kind: Optional[type[BaseException]], error: Optional[BaseException], trace: Optional[TracebackType]
+    ) -> None:
+        self.close()
+
+    def _page(self, query: Query, fields: Sequence[str], size: Optional[int]) -> tuple[list[list[str]], Optional[str]]:
+        """Returns the rows of a page of at most `size` captures, and the resume key of the next."""
+        asked = query.with_parameters(output="json", fl=",".join(fields), showResumeKey=True)
+        if size is not None:
+            asked = asked.with_parameters(limit=size)
+        with self._serve() as serve:
+            rows = serve.rows(str(asked).encode(errors="surrogateescape"))
+        key = None
+        if len(rows) > 2 and not rows[-2]:
+            key = rows.pop()[0]
+            rows.pop()
+        return rows[1:], key
+
+    @contextlib.contextmanager
+    def _serve(self) -> Iterator[Serve]:
+        """Takes a process that is idle, and waits for one if necessary."""
+        serve = self._idle.get()
+        try:
+            if self._is_closed:
+                raise ValueError("the Index is closed")
+            yield serve
+        finally:
+            self._idle.put(serve)

@@ -1,0 +1,32 @@
+"""Merges any number of indexes by `warcdx merge`."""
+import pathlib
+import tempfile
+from collections.abc import Sequence
+from typing import IO
+
+from .program import Path, find_program, operand, running
+
+MOST = 1000  # indexes that are merged at a time: the program takes 1,024, and many systems as many open files
+_PIECE = 1 << 20
+
+
+def merge(indexes: Sequence[Path], output: IO[bytes], *, program: str = "warcdx") -> None:
+    """Writes one index of the lines of several. More than 1,000 are merged in groups first, in temporary files."""
+    if len(indexes) <= MOST:
+        if indexes:
+            write_output(output, find_program(program), "merge", *map(operand, indexes))
+        return
+    with tempfile.TemporaryDirectory() as name:
+        groups = []
+        for start in range(0, len(indexes), MOST):
+            groups.append(pathlib.Path(name, str(start)))
+            with open(groups[-1], "wb") as group:
+                merge(indexes[start : start + MOST], group, program=program)
+        merge(groups, output, program=program)
+
+
+def write_output(output: IO[bytes], *command: str) -> None:
+    """Runs the program, and writes what it prints to an output."""
+    with running(*command) as pipe:
+        while piece := pipe.read(_PIECE):
+            output.write(piece)

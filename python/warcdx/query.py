@@ -1,0 +1,105 @@
+"""Query texts, and the captures that a query selects."""
+import re
+from collections.abc import Iterable, Sequence
+from dataclasses import dataclass
+from typing import Optional, Union
+from urllib.parse import quote_plus, unquote_plus
+
+Value = Union[str, int, bool, Iterable[str]]
+
+FIELDS = ("urlkey", "timestamp", "original", "mimetype", "statuscode", "digest", "length", "offset", "filename")
+_LIMIT = re.compile("[0-9]{1,7}")
+_MOST_DIGITS = 20
+
+
+@dataclass(frozen=True)
+class Capture:
+    """A line of an index, by the names of the fields of a query. What a line doesn't have is `-`.
+
+    `offset` is in bytes from the start of the archive `filename`. `length` is the record's length in
+    bytes, or None if the line has no such number.
+    """
+
+    urlkey: str
+    timestamp: str
+    original: str
+    mimetype: str
+    statuscode: str
+    digest: str
+    length: Optional[int]
+    offset: int
+    filename: str
+
+    @classmethod
+    def of(cls, row: Sequence[str]) -> "Capture":
+        """Returns the capture with these values of all fields, in the order of FIELDS."""
+        key, stamp, url, mime, status, digest, length, offset, name = row
+        is_number = length.isascii() and length.isdigit() and len(length) <= _MOST_DIGITS
+        return cls(key, stamp, url, mime, status, digest, int(length) if is_number else None, int(offset), name)
+
+
+@dataclass(frozen=True)
+class Page:
+    """The captures of a page, and the resume key of the next page, or None if there is none."""
+
+    captures: tuple[Capture, ...]
+    resume_key: Optional[str]
+
+
+@dataclass(frozen=True)
+class Query:
+    """The pieces of a query text, each `name=value`, encoded."""
+
+    pieces: tuple[str, ...]
+
+    @classmethod
+    def of(cls, text: Optional[str], parameters: dict[str, Value]) -> "Query":
+        """Returns the query of a text and of further parameters."""
+        pieces = [piece for piece in one_line(text or "").split("&") if piece]
+        for name, value in parameters.items():
+            pieces += encoded(name.rstrip("_"), value)
+        return cls(tuple(pieces))
+
+    def take(self, name: str) -> tuple[Optional[str], "Query"]:
+        """Returns the value of the first parameter of this name, as it is written, and the query without it."""
+        for number, piece in enumerate(self.pieces):
+            found, _, value = piece.partition("=")
+            if unquote_plus(found) == name:
+                return value, Query(self.pieces[:number] + self.pieces[number + 1 :])
+        return None, self
+
+    def has(self, name: str, value: str) -> bool:
+        found = self.take(name)[0]
+        return found is not None and unquote_plus(found) == value
+
+    def take_limit(self) -> tuple[Optional[int], "Query"]:
+        """Returns the limit, and the query without it. A limit that is to be refused stays in the query."""
+        value, rest = self.take("limit")
+        digits = unquote_plus(value or "")
+        if not _LIMIT.fullmatch(digits) or not 1 <= int(digits) <= 1_000_000:
+            return None, self
+        return int(digits), rest
+
+    def with_parameters(self, **parameters: Value) -> "Query":
+        return Query((*self.pieces, *Query.of(None, parameters).pieces))
+
+    def __str__(self) -> str:
+        return "&".join(self.pieces)
+
+
+def one_line(text: str) -> str:
+    """Returns a query text without line breaks, which means the same."""
+    return text.replace("\r", "%0D").replace("\n", "%0A")
+
+
+def encoded(name: str, value: Value) -> list[str]:
+    """Returns a piece for each value. A resume key is encoded already."""
+    if name == "resumeKey" and isinstance(value, str):
+        return [f"resumeKey={one_line(value)}"]
+    if isinstance(value, bool):
+        values: Iterable[str] = ("true" if value else "false",)
+    elif isinstance(value, (int, str)):
+        values = (str(value),)
+    else:
+        values = value
+    return [f"{quote_plus(name)}={quote_plus(each, errors='surrogateescape')}" for each in values]

@@ -1,0 +1,94 @@
+"""Why a query is refused, by the names that docs/QUERY.md has."""
+from .errors import Refused
+
+
+class QueryTooLong(Refused):
+    """The text has more than 65,536 bytes."""
+
+
+class NotText(Refused):
+    """The text isn't UTF-8."""
+
+
+class Unknown(Refused):
+    """A name isn't that of a parameter."""
+
+
+class RepeatedParameter(Refused):
+    """A parameter that may occur once is given twice."""
+
+
+class BadMatch(Refused):
+    """A match type isn't one of the four."""
+
+
+class BadStamp(Refused):
+    """`from` or `to` isn't 1 to 14 digits."""
+
+
+class BadFilter(Refused):
+    """A condition has no `:`, or is on an unknown field."""
+
+
+class NotLiteral(Refused):
+    """The text of a `filter` has a character of a pattern."""
+
+
+class BadLimit(Refused):
+    """A limit isn't a number from 1 to 1,000,000."""
+
+
+class BadResume(Refused):
+    """A resume key isn't that of a place."""
+
+
+class BadFlag(Refused):
+    """A flag is neither `true` nor `false`."""
+
+
+class BadField(Refused):
+    """`fl` has an unknown field, or an empty one."""
+
+
+class BadOutput(Refused):
+    """An output isn't `text`, `json` or `cdxj`."""
+
+
+class BadCollapse(Refused):
+    """A value of `collapse` isn't one of the three."""
+
+
+class NoUrl(Refused):
+    """There is neither `url` nor `key`."""
+
+
+class UrlAndKey(Refused):
+    """There are both `url` and `key`."""
+
+
+class BadUrl(Refused):
+    """An address is refused by the URL Standard, or isn't a web address where it has to be."""
+
+
+BY_NAME: dict[str, type[Refused]] = {
+    each.__name__: each
+    for each in (
+        QueryTooLong,
+        NotText,
+        Unknown,
+        RepeatedParameter,
+        BadMatch,
+        BadStamp,
+        BadFilter,
+        NotLiteral,
+        BadLimit,
+        BadResume,
+        BadFlag,
+        BadField,
+        BadOutput,
+        BadCollapse,
+        NoUrl,
+        UrlAndKey,
+        BadUrl,
+    )
+}
