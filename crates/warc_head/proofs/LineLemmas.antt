@@ -15,7 +15,7 @@ use Rattle.warc_head.specs.Fields.{at_colon}
 use Rattle.warc_head.specs.Folding.{ended}
 use Rattle.warc_head.proofs.DateLemmas.{and_both}
 
-false_of : (t : Bool) → (t ≡ true → ⊥) → t ≡ false
+pub false_of : (t : Bool) → (t ≡ true → ⊥) → t ≡ false
 false_of true h = absurd (h refl)
 false_of false h = refl
 

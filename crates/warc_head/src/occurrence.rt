@@ -15,15 +15,15 @@ impl Occurrence {
     ghost use Rattle.warc_head.specs.Mandatory.{Occurs, values_in};
     ghost use Rattle.warc_head.specs.Places.{IsWithin, field_at};
 
-    /// Returns the occurrence of the wanted name after the field at this place.
-    pub fn with_field(self, text: &[u8], wanted: &[u8], place: Place) -> Occurrence
+    /// Counts the field at this place, if it has the wanted name.
+    #[inline(always)]
+    pub fn count(&mut self, text: &[u8], wanted: &[u8], place: Place)
         requires { IsWithin (length text.now) place }
-        ensures { (values : List (List ℕ)) → Occurs text.now values self → Occurs text.now (values ++ values_in wanted.now (field_at text.now place)) result }
+        ensures { (values : List (List ℕ)) → Occurs text.now values self.old
+            → Occurs text.now (values ++ values_in wanted.now (field_at text.now place)) self.new }
     {
         if same_name(place.name(text), wanted) {
-            self.with_place(place)
-        } else {
-            self
+            *self = self.with_place(place);
         }
     }
 

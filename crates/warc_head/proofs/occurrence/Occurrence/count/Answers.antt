@@ -1,7 +1,7 @@
 use Rattle.std.proofs.Common.{◌≡◌, ◌∙◌, true, sym, ap}
 use Rattle.warc_head.specs.Names.{same_name}
 use Rattle.warc_head.specs.Places.{field_at}
-use Rattle.warc_head.proofs.occurrence.Occurrence.with_field.Goals as goal
+use Rattle.warc_head.proofs.occurrence.Occurrence.count.Goals as goal
 
 pub returns-then-same_name : goal.returns-then-same_name
 returns-then-same_name c =
