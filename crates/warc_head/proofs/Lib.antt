@@ -10,3 +10,4 @@ pub mod FoldingLemmas
 pub mod TrimLemmas
 pub mod FirstPlace
 pub mod MandatoryLemmas
+pub mod LaneLemmas
