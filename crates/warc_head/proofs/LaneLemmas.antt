@@ -1,11 +1,11 @@
 -- The lanes at which two loads have a byte.
 use Rattle.std.proofs.Common.{◌≡◌, ◌∙◌, ℕ, ◌+◌, ◌%◌, ◌^◌, ◌<◌, ◌≤◌, eqb, cond, bit_and, Bool, true, false, not, ◌&&◌, List, [], ◌∷◌, map, length, get_or, replicate, refl, sym, ap, arith}
-use Rattle.std.specs.Int.{w64, trailing_zeros}
 use Rattle.std.specs.List.{prefix_len}
 use Rattle.std.proofs.lemmas.Bool.{eq-eqb, not-true}
 use Rattle.std.proofs.lemmas.List.{map-id}
 use Rattle.std.proofs.lemmas.List.Sums.{prefix_len-le-length, prefix_len_passes}
 use Rattle.std.proofs.lemmas.Simd.{zip2_splat, length-chunk, get_or-chunk, get_or-zip2, length-zip2, mask_l-mod, first_set_mask_l}
+use Rattle.httparse.specs.Pieces.{first_set}
 use lib.Lanes.{chunk, zip2, mask_l, top}
 
 -- the lanes of a vector that have a byte: 255, and 0 elsewhere
@@ -54,13 +54,13 @@ module _ (text : List ℕ) (i j y r : ℕ) (first : i + 32 ≤ length text) (sec
       ap (λ l. mask_l l % 2 ^ 64) ((λ k. map (top 7) (zip2 bit_and (zip2_splat has_byte v 32 y long_v k) (zip2_splat has_byte w 32 y long_w k))) ∙ both_tops y v w)
       ∙ mask_l-mod both 64 (omega (arith, long)) ∙ ap mask_l (sym (map-id both))
 
-  counted : r ≡ cond (eqb mask 0) 32 (trailing_zeros w64 mask) → r ≡ prefix_len (λ b. not b) both
-  counted found = found ∙ (ap (λ m. cond (eqb m 0) 32 (trailing_zeros w64 m)) mask_is ∙ first_set_mask_l (λ b. b) both 32 long (omega arith))
+  counted : r ≡ first_set mask 32 → r ≡ prefix_len (λ b. not b) both
+  counted found = found ∙ (ap (λ m. first_set m 32) mask_is ∙ first_set_mask_l (λ b. b) both 32 long (omega arith))
 
-  pub both_bound : r ≡ cond (eqb mask 0) 32 (trailing_zeros w64 mask) → r ≤ 32
+  pub both_bound : r ≡ first_set mask 32 → r ≤ 32
   both_bound found = omega (arith, counted found, long, prefix_len-le-length (λ b. not b) both)
 
-  pub both_none : r ≡ cond (eqb mask 0) 32 (trailing_zeros w64 mask) → (k : ℕ) → k < r → get_or text (i + k) 0 ≡ y → get_or text (j + k) 0 ≡ y → ⊥
+  pub both_none : r ≡ first_set mask 32 → (k : ℕ) → k < r → get_or text (i + k) 0 ≡ y → get_or text (j + k) 0 ≡ y → ⊥
   both_none found k below p q =
       let inside : k < 32 = omega (arith, both_bound found) in
       let none : get_or both k false ≡ false = not-true _ (prefix_len_passes (λ b. not b) both k false (omega (arith, counted found))) in

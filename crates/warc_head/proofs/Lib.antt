@@ -11,3 +11,4 @@ pub mod TrimLemmas
 pub mod FirstPlace
 pub mod MandatoryLemmas
 pub mod LaneLemmas
+pub mod ReadLemmas

@@ -8,7 +8,6 @@ mod continuing;
 mod date;
 mod fault;
 mod field_lines;
-mod fields;
 mod kind;
 mod lanes;
 mod laws;
