@@ -67,8 +67,10 @@ pub fn capture<I: Input>(
     ensures reads { ReadsWhole head.now
         (state_of reader.old (I.remaining input.old) (I.failures input.old))
         (state_of reader.new (I.remaining input.new) (I.failures input.new)) result }
-    ensures capture { Captures (url_of (includes types) head.now) usual_limits head.now name.now (prepend_known reader.old.held (I.remaining input.old)) result }
-    ensures entry { IfOk result (λ captured. IfSome captured (IsEntryOf head.now name.now LINE_LIMIT)) }
+    ensures capture { Captures (url_of (includes types) head.now) usual_limits head.now name.now
+        (prepend_known reader.old.held (I.remaining input.old)) result }
+    ensures entry { IfOk result (λ captured. IfSome captured
+        (IsEntryOf head.now name.now LINE_LIMIT)) }
 {
     let mut front = Front::new(alloc);
     capture_with(alloc, &mut front, reader, input, head, name, types)
@@ -90,8 +92,10 @@ pub fn capture_with<I: Input>(
     ensures reads { ReadsWhole head.now
         (state_of reader.old (I.remaining input.old) (I.failures input.old))
         (state_of reader.new (I.remaining input.new) (I.failures input.new)) result }
-    ensures capture { Captures (url_of (includes types) head.now) usual_limits head.now name.now (prepend_known reader.old.held (I.remaining input.old)) result }
-    ensures entry { IfOk result (λ captured. IfSome captured (IsEntryOf head.now name.now LINE_LIMIT)) }
+    ensures capture { Captures (url_of (includes types) head.now) usual_limits head.now name.now
+        (prepend_known reader.old.held (I.remaining input.old)) result }
+    ensures entry { IfOk result (λ captured. IfSome captured
+        (IsEntryOf head.now name.now LINE_LIMIT)) }
 {
     match url(head, types) {
         Some(url) => {
@@ -191,7 +195,8 @@ fn step_after(filled: usize) -> usize
 /// Makes room for this many bytes, and keeps those that are there.
 fn make_room(front: &mut Vec<u8>, size: usize) -> Result<(), AllocError>
     ensures room { OnOk result (size ≤ length front.new.items) }
-    ensures kept { OnOk result ((n : ℕ) → n ≤ length front.old.items → take n front.new.items ≡ take n front.old.items) }
+    ensures kept { OnOk result ((n : ℕ) → n ≤ length front.old.items → take n front.new.items
+        ≡ take n front.old.items) }
 {
     if front.len() < size {
         front.resize(size, 0)?;

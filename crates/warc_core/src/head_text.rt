@@ -79,8 +79,11 @@ pub fn read_head_text<I: Input>(
     requires { 10 ≤ limit }
     ensures cause { IfErr result StopsHead }
     ensures found { IfOk result (λ v. IsFoundHead limit v.items) }
-    ensures bytes { Reads (head_text limit) (seen_as (λ v. v.items) result) (prepend_known buffer.old (I.remaining input.old)) (prepend_known buffer.new (I.remaining input.new)) }
-    ensures failures { CountsRead (seen_as (λ v. v.items) result) (I.failures input.old) (I.failures input.new) }
+    ensures bytes { Reads (head_text limit) (seen_as (λ v. v.items) result)
+        (prepend_known buffer.old (I.remaining input.old))
+        (prepend_known buffer.new (I.remaining input.new)) }
+    ensures failures { CountsRead (seen_as (λ v. v.items) result) (I.failures input.old)
+        (I.failures input.new) }
 {
     let mut head = Vec::new(alloc);
     while head.len() < limit {

@@ -28,7 +28,9 @@ fn read_head<I: Input>(
     start: u64,
 ) -> Result<Head, Cause>
     requires { start ≤ 2 ^ 63 - 1 }
-    ensures bytes { Reads (head_at HEAD_LIMIT start) result (prepend_known buffer.old (I.remaining input.old)) (prepend_known buffer.new (I.remaining input.new)) }
+    ensures bytes { Reads (head_at HEAD_LIMIT start) result
+        (prepend_known buffer.old (I.remaining input.old))
+        (prepend_known buffer.new (I.remaining input.new)) }
     ensures cause { IfErr result StopsHead }
     ensures begins { IfOk result (BeginsAt start) }
     ensures failures { CountsRead result (I.failures input.old) (I.failures input.new) }
@@ -52,7 +54,9 @@ pub fn read_next<I: Input>(
     requires { start ≤ 2 ^ 63 - 1 }
     ensures cause { IfErr result StopsHead }
     ensures begins { IfOk result (λ o. IfSome o (BeginsAt start)) }
-    ensures bytes { Reads (next_at HEAD_LIMIT start) result (prepend_known buffer.old (I.remaining input.old)) (prepend_known buffer.new (I.remaining input.new)) }
+    ensures bytes { Reads (next_at HEAD_LIMIT start) result
+        (prepend_known buffer.old (I.remaining input.old))
+        (prepend_known buffer.new (I.remaining input.new)) }
     ensures failures { CountsRead result (I.failures input.old) (I.failures input.new) }
 {
     buffer.fill(input)?;

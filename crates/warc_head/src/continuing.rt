@@ -49,7 +49,8 @@ fn value_at_end(text: &mut Vec<u8>, place: Place) -> Result<usize, AllocError>
     requires { IsWithin (length text.old.items) place }
     ensures text { OnOk result (Continues text.old.items text.new.items) }
     ensures within { IfOk result (λ start. start ≤ length text.new.items) }
-    ensures value { IfOk result (λ start. drop start text.new.items ≡ (field_at text.old.items place).value) }
+    ensures value { IfOk result (λ start. drop start text.new.items ≡
+        (field_at text.old.items place).value) }
 {
     if place.value_end == text.len() {
         return Ok(place.value_start);

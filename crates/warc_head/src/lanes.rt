@@ -73,7 +73,8 @@ pub(crate) fn run_to_colon_half(text: &[u8], at: usize) -> usize
 pub fn run_to_closing(text: &[u8], at: usize) -> usize
     requires { at + LANES + 3 ≤ length text.now }
     ensures bound { result ≤ LANES }
-    ensures none { (k : ℕ) → k < result → slice_index text.now (at + k + 1) ≡ lf → slice_index text.now (at + k + 3) ≡ lf → ⊥ }
+    ensures none { (k : ℕ) → k < result → slice_index text.now (at + k + 1) ≡ lf
+        → slice_index text.now (at + k + 3) ≡ lf → ⊥ }
 {
     let second = u8x32::from_slice(&text[at + 1..]).simd_eq(u8x32::splat(b'\n'));
     let fourth = u8x32::from_slice(&text[at + 3..]).simd_eq(u8x32::splat(b'\n'));

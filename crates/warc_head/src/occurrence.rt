@@ -38,13 +38,15 @@ impl Occurrence {
     }
 
     pub fn is_some(self) -> bool
-        ensures { (text : List ℕ) (values : List (List ℕ)) → Occurs text values self → result ≡ nat_lt 0 (length values) }
+        ensures { (text : List ℕ) (values : List (List ℕ)) → Occurs text values self → result
+            ≡ nat_lt 0 (length values) }
     {
         !matches!(self, Occurrence::Never)
     }
 
     pub fn is_repeated(self) -> bool
-        ensures { (text : List ℕ) (values : List (List ℕ)) → Occurs text values self → not result ≡ nat_lt (length values) 2 }
+        ensures { (text : List ℕ) (values : List (List ℕ)) → Occurs text values self → not result
+            ≡ nat_lt (length values) 2 }
     {
         matches!(self, Occurrence::Repeated)
     }
@@ -52,7 +54,8 @@ impl Occurrence {
     /// Returns the value of a field that occurs once.
     pub fn value(self, text: &[u8]) -> &[u8]
         requires { (values : List (List ℕ)) × Occurs text.now values self }
-        ensures { (values : List (List ℕ)) → Occurs text.now values self → 0 < length values → length values < 2 → values ≡ result.now ∷ [] }
+        ensures { (values : List (List ℕ)) → Occurs text.now values self → 0 < length values
+            → length values < 2 → values ≡ result.now ∷ [] }
     {
         match self {
             Occurrence::Once(place) => place.value(text),

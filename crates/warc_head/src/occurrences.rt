@@ -50,14 +50,16 @@ impl Occurrences {
 
     /// Returns `true` if each mandatory field occurs.
     pub fn none_missing(self) -> bool
-        ensures { (text : List ℕ) (fields : List Field) → AllOccur text fields self → result ≡ none_missing mandatory fields }
+        ensures { (text : List ℕ) (fields : List Field) → AllOccur text fields self → result
+            ≡ none_missing mandatory fields }
     {
         self.record_id.is_some() & self.length.is_some() & self.date.is_some() & self.kind.is_some()
     }
 
     /// Returns `true` if no mandatory field occurs twice.
     pub fn none_repeated(self) -> bool
-        ensures { (text : List ℕ) (fields : List Field) → AllOccur text fields self → result ≡ none_repeated mandatory fields }
+        ensures { (text : List ℕ) (fields : List Field) → AllOccur text fields self → result
+            ≡ none_repeated mandatory fields }
     {
         !self.record_id.is_repeated()
             & !self.length.is_repeated()
