@@ -3,6 +3,7 @@ mod base32;
 mod contents;
 mod entries;
 mod faults;
+mod fronts;
 mod http_blocks;
 mod http_limits;
 mod line_limit;

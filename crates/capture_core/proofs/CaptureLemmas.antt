@@ -120,7 +120,7 @@ module _ (limits : Limits) (h : HeadView) (name url front payload bytes digest :
   capture-known p d (Ok captured) a = subst (IsCaptureUnder (Some url) limits.head limits.fields h (take h.parts.length (front ++ bytes)) name) (sym a) (capture-is p d)
   capture-known p d (Err (Archive x)) a = tt
   capture-known p d (Err (LineTooLong o)) a = (entry, capture-is p d, a)
-  capture-known p d (Err (KeyTooLong o)) a = tt
+  capture-known p d (Err (KeyTooLong o)) a = refl
 
 -- a digest that is settled is that of any payload
 pub digest-settled : (h : HeadView) (digest payload : List ℕ) → settled_digest h ≡ Some digest → digest ≡ digest_of h payload

@@ -1,5 +1,5 @@
 -- The rest of a capture, from how it goes on.
-use Rattle.std.proofs.Common.{◌≡◌, ℕ, ◌+◌, ◌-◌, ◌≤◌, ◌∙◌, List, Option, Some, Result, Ok, Err, length, length-append, ap, subst, arith}
+use Rattle.std.proofs.Common.{◌≡◌, ℕ, ◌+◌, ◌-◌, ◌≤◌, ◌∙◌, List, [], Option, Some, Result, Ok, Err, length, take, length-append, refl, sym, ap, subst, arith}
 use Rattle.std.specs.Io.KnownBytes.{prepend_known}
 use Rattle.warc_core.specs.declared.fault.Fault.{Fault}
 use Rattle.warc_core.specs.HeadView.{record_length}
@@ -7,7 +7,10 @@ use Rattle.warc_core.specs.Answers.{CountsRead}
 use Rattle.warc_core.specs.Cause.{StopsRecord}
 use Rattle.warc_core.specs.Reading.{Reads}
 use Rattle.warc_core.specs.Record.{after_record}
-use Rattle.warc_core.specs.ReaderView.{ReaderView, FailedBy, state_of}
+use Rattle.warc_core.specs.ReaderView.{ReaderView, ReaderState, StandsAt, FailedBy, state_of}
+use Rattle.warc_core.specs.Calls.{GivesBlock, Fills}
+use Rattle.warc_core.specs.declared.phase.Phase.TheVariants.{Open}
+use Rattle.std.proofs.lemmas.List.{length-take-le}
 use Rattle.warc_core.proofs.CauseLemmas.{stops-record}
 use Rattle.warc_core.proofs.OpenLemmas.{found-of-record}
 use Rattle.cdxj_core.specs.Entries.{EntryValue}
@@ -48,3 +51,33 @@ module _ (indexed : Indexed) (first front : List ℕ) (old mid : ReaderView) (be
         capture = capture-behind-first (Some indexed.url.now) usual_limits indexed.head.now indexed.name.now first fills.0 front _ _ r fills.1 fills.2.given rest.capture;
         entry = rest.entry;
       }
+
+  -- then the reader stands behind the front
+  pub filled-ready : length front ≤ front_length HTTP_HEAD_LIMIT indexed.head.now → FillsFront (Ok tt) → IsReadTo indexed front mid
+  filled-ready within fills =
+      let long : length front ≡ length first + length fills.0 = ap length fills.1 ∙ length-append first fills.0 in
+      let left : indexed.head.now.parts.length - length first - length fills.0 ≡ indexed.head.now.parts.length - length front = omega (arith, long) in
+      record {
+        named = ready.named;
+        target = ready.target;
+        within = within;
+        stands = record {
+          offset_is = fills.2.state.offset_is ∙ ready.stands.offset_is;
+          phase_is = fills.2.state.phase_is ∙ ap (λ n. Open n (record_length indexed.head.now)) left;
+        };
+      }
+
+-- what one call gave of a block was filled
+pub given-fills : (left len n : ℕ) (old new : ReaderState) (piece : List ℕ) → GivesBlock left len old new (Ok n) piece → Fills left len old new (Ok tt) (take n piece)
+given-fills left len n old new piece b =
+    let size : length (take n piece) ≡ n = length-take-le n piece b.bound.1 in
+    record {
+      given = b.bytes;
+      state = subst (λ m. StandsAt new.reader old.reader.offset (Open (left - m) len)) (sym size) b.state;
+      cause = tt;
+      failures = b.failures;
+    }
+
+-- what the first call gave is the front
+pub given-behind : (left len n : ℕ) (old new : ReaderState) (piece front : List ℕ) → take n piece ≡ front → GivesBlock left len old new (Ok n) piece → FillsBehind [] left len old new (Ok tt) front
+given-behind left len n old new piece front same b = (front, refl, subst (Fills left len old new (Ok tt)) same (given-fills left len n old new piece b))

@@ -1,12 +1,12 @@
 -- What a capture answers.
-use Rattle.std.specs.Prelude.{◌≡◌, ℕ, ◌+◌, ◌<◌, ◌≤◌, ⊤, List, ◌++◌, length, take, Option, Some, Result, Ok, Err, IfSome, option_map}
+use Rattle.std.specs.Prelude.{◌≡◌, ℕ, ◌+◌, ◌<◌, ◌≤◌, ⊤, List, ◌++◌, length, take, Option, Some, Result, Ok, Err, IfSome, IsSome, option_map}
 use Rattle.httparse.specs.Grammar.{ResponseHead}
 use Rattle.warc_core.specs.HeadView.{HeadView, record_length}
 use Rattle.cdxj_core.specs.Entries.{EntryValue, IsGood, line_text}
 use Rattle.cdxj_core.specs.declared.limit.TheConstants.{LINE_LIMIT}
 use Rattle.capture_core.specs.declared.http_head.TheConstants.{HTTP_HEAD_LIMIT, HTTP_FIELD_LIMIT}
 use Rattle.capture_core.specs.declared.fault.CaptureFault.{CaptureFault}
-use Rattle.capture_core.specs.declared.fault.CaptureFault.TheVariants.{LineTooLong}
+use Rattle.capture_core.specs.declared.fault.CaptureFault.TheVariants.{LineTooLong, KeyTooLong}
 use Rattle.capture_core.specs.HttpHead.{then_more}
 use Rattle.capture_core.specs.Capture.{ResponseValue, IsHeadFor, IsCaptureUnder, response_of, payload_of}
 
@@ -17,11 +17,12 @@ pub record Limits : Type 0 where
   pub line : ℕ
 
 -- The answer is the capture, under this URL, of the record that begins the bytes, within the limit of a line, or says that its
--- line is too long.
+-- line is too long. That a key is too long is said only of a record that is indexed.
 abbrev pub IsCaptureOf : Option (List ℕ) → Limits → HeadView → List ℕ → List ℕ → Result (Option EntryValue) CaptureFault → Type 0
 IsCaptureOf url limits h name bytes (Ok captured) = IsCaptureUnder url limits.head limits.fields h (take h.parts.length bytes) name captured
 IsCaptureOf url limits h name bytes (Err (LineTooLong o)) =
     (entry : EntryValue) × IsCaptureUnder url limits.head limits.fields h (take h.parts.length bytes) name (Some entry) × (limits.line < length (line_text entry))
+IsCaptureOf url limits h name bytes (Err (KeyTooLong o)) = IsSome url
 IsCaptureOf url limits h name bytes (Err other) = ⊤
 
 -- the same, where these bytes come after the front of the block

@@ -1,5 +1,5 @@
 -- Sets of record types (ISO 28500:2017, clause 6), and their texts.
-use Rattle.std.specs.Prelude.{ℕ, ◌==◌, Bool, true, false, List, [], ◌∷◌, Option, None, Some, option_and_then, if◌then◌else◌, find, bytes_eq}
+use Rattle.std.specs.Prelude.{◌≡◌, ℕ, ◌==◌, Bool, true, false, List, [], ◌∷◌, Option, None, Some, option_and_then, if◌then◌else◌, find, bytes_eq}
 use Rattle.std.specs.List.{slice_split}
 use Rattle.warc_core.specs.Kind.{Kind, kind_name}
 use Rattle.warc_core.specs.Kind.kinds
@@ -13,6 +13,10 @@ includes types kinds.Revisit = types.revisit
 includes types kinds.Conversion = types.conversion
 includes types kinds.Metadata = types.metadata
 includes types kind = false
+
+-- the set has one type or more
+abbrev pub HasType : Types → Type 0
+HasType types = (kind : Kind) × (includes types kind ≡ true)
 
 abbrev pub no_types : Types
 no_types = record { response = false; resource = false; revisit = false; conversion = false; metadata = false }

@@ -17,7 +17,8 @@ use warc_core::{Cause, Fault, Head};
 
 /// Returns the fault for memory that the capture itself could not allocate.
 pub(crate) fn memory(head: &Head) -> CaptureFault
-    ensures { result ≡ CaptureFault.Archive (record { offset = head.now.start; cause = Cause.Memory }) }
+    ensures { result ≡ CaptureFault.Archive
+        (record { offset = head.now.start; cause = Cause.Memory }) }
 {
     CaptureFault::Archive(Fault {
         offset: head.start(),
@@ -38,8 +39,10 @@ pub(crate) fn capture_entry(
     requires named { 0 < length indexed.name.now }
     requires target { 0 < length indexed.url.now }
     requires digested { 0 < length digest.now }
-    ensures ok { IfOk result (λ e. e ≡ entry_of indexed.entry.head.now indexed.entry.name.now (option_map response_view response.entry) digest.now indexed.entry.url.now) }
-    ensures entry { IfOk result (IsEntryOf indexed.entry.head.now indexed.entry.name.now LINE_LIMIT) }
+    ensures ok { IfOk result (λ e. e ≡ entry_of indexed.entry.head.now indexed.entry.name.now
+        (option_map response_view response.entry) digest.now indexed.entry.url.now) }
+    ensures entry { IfOk result
+        (IsEntryOf indexed.entry.head.now indexed.entry.name.now LINE_LIMIT) }
     ensures long { result ≡ Err (CaptureFault.LineTooLong indexed.entry.head.now.start) →
         LINE_LIMIT < length (line_text (entry_of indexed.entry.head.now indexed.entry.name.now (option_map response_view response.entry) digest.now indexed.entry.url.now)) }
     ensures fault { IfErr result (IsFaultAt indexed.entry.head.now.start) }
@@ -55,7 +58,8 @@ pub(crate) fn capture_entry(
 fn within_limit(alloc: Global, head: &Head, entry: Entry) -> Result<Entry, CaptureFault>
     requires { IsGood entry }
     ensures ok { IfOk result (λ e. (e ≡ entry) × (length (line_text e) ≤ LINE_LIMIT)) }
-    ensures long { result ≡ Err (CaptureFault.LineTooLong head.now.start) → LINE_LIMIT < length (line_text entry) }
+    ensures long { result ≡ Err (CaptureFault.LineTooLong head.now.start) → LINE_LIMIT < length
+        (line_text entry) }
     ensures fault { IfErr result (IsFaultAt head.now.start) }
     ensures own { reading_of result ≡ Ok tt }
 {

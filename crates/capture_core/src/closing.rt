@@ -33,8 +33,11 @@ pub(crate) fn capture_closed<I: Input>(
         ReadsRest left indexed.entry.head.now
         (state_of reader.old (I.remaining input.old) (I.failures input.old))
         (state_of reader.new (I.remaining input.new) (I.failures input.new)) result }
-    ensures entry { IfOk result (λ captured. IfSome captured (IsEntryOf indexed.entry.head.now indexed.entry.name.now LINE_LIMIT)) }
-    ensures answers { AnswersEntry LINE_LIMIT (entry_of indexed.entry.head.now indexed.entry.name.now (option_map response_view response.entry) digest.now indexed.entry.url.now) result }
+    ensures entry { IfOk result (λ captured. IfSome captured
+        (IsEntryOf indexed.entry.head.now indexed.entry.name.now LINE_LIMIT)) }
+    ensures answers { AnswersEntry LINE_LIMIT
+        (entry_of indexed.entry.head.now indexed.entry.name.now
+        (option_map response_view response.entry) digest.now indexed.entry.url.now) result }
 {
     reader.finish(input)?;
     match capture_entry(alloc, indexed, response, digest) {

@@ -10,7 +10,8 @@ use crate::verdict::Verdict;
 /// Returns the text of the SHA-1 digest in a value: 32 characters of base 32 after `sha1:`, each in either case.
 #[tactic(auto, unfolding(crate::specs::BlockDigest::sha1_text))]
 pub(crate) fn sha1_text(value: &[u8]) -> Option<&[u8]>
-    ensures { MatchOption result (sha1_text value.now ≡ None) (λ text. sha1_text value.now ≡ Some text.now) }
+    ensures { MatchOption result (sha1_text value.now ≡ None)
+        (λ text. sha1_text value.now ≡ Some text.now) }
 {
     let (label, text) = value.split_at_checked(5)?;
     if is_sha1(label) && is_base32_text(text) {

@@ -24,7 +24,8 @@ pub(crate) fn entry(
     requires named { 0 < length indexed.name.now }
     requires digested { 0 < length digest.now }
     requires targeted { 0 < length indexed.url.now }
-    ensures value { IfOk result (λ e. e ≡ entry_of indexed.entry.head.now indexed.entry.name.now (option_map response_view response.entry) digest.now indexed.entry.url.now) }
+    ensures value { IfOk result (λ e. e ≡ entry_of indexed.entry.head.now indexed.entry.name.now
+        (option_map response_view response.entry) digest.now indexed.entry.url.now) }
     ensures good { IfOk result IsGood }
 {
     let url = utf8_text(alloc, indexed.url)?;

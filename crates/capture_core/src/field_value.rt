@@ -8,7 +8,8 @@ use warc_head::trim;
 
 /// Returns a value that isn't empty.
 pub(crate) fn non_empty(value: &[u8]) -> Option<&[u8]>
-    ensures { MatchOption result (non_empty value.now ≡ None) (λ v. non_empty value.now ≡ Some v.now) }
+    ensures { MatchOption result (non_empty value.now ≡ None)
+        (λ v. non_empty value.now ≡ Some v.now) }
 {
     if value.is_empty() { None } else { Some(value) }
 }

@@ -72,7 +72,8 @@ fn head_within<'a>(
     ensures found { IfOk result (λ head. IfSome head (IsHeadAt block.now)) }
     ensures three_digits { IfOk result (λ head. IfSome head (λ r. r.code < 1000)) }
     ensures within { IfOk result (λ head. IfSome head (λ r. r.len ≤ length block.now)) }
-    ensures none { IfOk result (λ head. IfNone head (HasNoHead HTTP_HEAD_LIMIT HTTP_FIELD_LIMIT block.now)) }
+    ensures none { IfOk result (λ head. IfNone head
+        (HasNoHead HTTP_HEAD_LIMIT HTTP_FIELD_LIMIT block.now)) }
     ensures many { IfErr result (λ _. ResponseOverflows (length spans.old) block.now) }
 {
     match parse_response(block, spans) {
@@ -96,7 +97,8 @@ fn head_within<'a>(
 /// Returns the value of the first field of this name, ignoring ASCII case.
 fn value_of<'a>(bytes: &'a [u8], fields: &[HeaderSpan], name: &[u8]) -> Option<&'a [u8]>
     requires { All (IsHeaderWithin (length bytes.now)) fields.now }
-    ensures { option_map (λ v. v.now) result ≡ first_value name.now (map (header_bytes bytes.now) fields.now) }
+    ensures { option_map (λ v. v.now) result ≡ first_value name.now
+        (map (header_bytes bytes.now) fields.now) }
 {
     for field in fields {
         if is_named(field.name.of(bytes), name) {

@@ -31,6 +31,6 @@ pub use crate::block_check::block_digest;
 pub use crate::digest_text::base32;
 pub use crate::fault::CaptureFault;
 pub use crate::laws::{block_has_one_head, record_has_one_capture};
-pub use crate::record_capture::capture;
+pub use crate::record_capture::{Front, capture, capture_with};
 pub use crate::types::Types;
 pub use crate::verdict::Verdict;

@@ -9,7 +9,6 @@ ghost use Rattle.capture_core.specs.CaptureAnswer.{PartsBlock, usual_limits};
 
 use crate::http_head::{HTTP_FIELD_LIMIT, HTTP_HEAD_LIMIT, HttpHead, http_head};
 use crate::http_record::may_have_head;
-use std::alloc::{AllocError, Global};
 use warc_core::Head;
 
 /// The first bytes of a record's block, with the HTTP head, if there is one, and the start of the payload in them.
@@ -41,34 +40,20 @@ pub(crate) fn front_length(head: &Head) -> usize
     head.length().min(limit) as usize
 }
 
-/// Returns a buffer for the start of the record's block that is searched for an HTTP head.
-pub(crate) fn front_buffer(alloc: Global, head: &Head) -> Result<Vec<u8>, AllocError>
-    ensures { IfOk result (λ v. length v.items ≡ front_length HTTP_HEAD_LIMIT head.now) }
-{
-    vec![in alloc; 0; front_length(head)]
-}
-
-/// Puts these bytes to the start of the front.
-pub(crate) fn put_first(front: &mut [u8], first: &[u8])
-    requires { length first.now ≤ length front.old }
-    ensures { front.new ≡ first.now ++ drop (length first.now) front.old }
-{
-    front[..first.len()].copy_from_slice(first);
-}
-
-/// Splits the first bytes of a record's block, or returns `None` if no HTTP head ends in them and more bytes may hold
-/// one.
-pub(crate) fn part_decided<'a>(head: &Head, front: &'a [u8]) -> Option<Parted<'a>>
-    requires { length front.now ≤ front_length HTTP_HEAD_LIMIT head.now }
+/// Splits the first bytes of a record's block, or returns `None` if no HTTP head ends in them and more bytes, up to
+/// `whole` in all, may hold one.
+pub(crate) fn part_decided<'a>(head: &Head, front: &'a [u8], whole: usize) -> Option<Parted<'a>>
+    requires whole { whole ≡ front_length HTTP_HEAD_LIMIT head.now }
+    requires front { length front.now ≤ whole }
     ensures parts { IfSome result (λ p.
         PartsBlock usual_limits head.now p.bytes.now (option_map response_view p.response) p.payload.now) }
     ensures bytes { IfSome result (λ p. p.bytes.now ≡ front.now) }
     ensures code { IfSome result (λ p. IfSome p.response (λ r. r.code < 1000)) }
-    ensures open { IfNone result (HasNoHead HTTP_HEAD_LIMIT HTTP_FIELD_LIMIT front.now
-        × (length front.now < front_length HTTP_HEAD_LIMIT head.now)) }
+    ensures open { IfNone result (length front.now < whole) }
 {
+    let _head = head;
     let parted = part(front);
-    if parted.response.is_some() || front.len() == front_length(head) {
+    if parted.response.is_some() || front.len() == whole {
         Some(parted)
     } else {
         None
@@ -76,7 +61,7 @@ pub(crate) fn part_decided<'a>(head: &Head, front: &'a [u8]) -> Option<Parted<'a
 }
 
 /// Splits the first bytes of a record's block.
-pub(crate) fn part(front: &[u8]) -> Parted<'_>
+fn part(front: &[u8]) -> Parted<'_>
     ensures parts { (found : Option (ResponseHead × List ℕ)) × IsHeadOf HTTP_HEAD_LIMIT HTTP_FIELD_LIMIT front.now found
         × (option_map response_view result.response ≡ option_map (λ f. response_of f.0) found)
         × (result.payload.now ≡ payload_of front.now found) }

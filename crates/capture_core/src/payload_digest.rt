@@ -9,7 +9,8 @@ use warc_core::{Head, Kind};
 /// Returns the value of `WARC-Payload-Digest` without a leading `sha1:`, or `None` if nothing is
 /// left.
 fn given_digest(head: &Head) -> Option<&[u8]>
-    ensures { MatchOption result (given_digest head.now ≡ None) (λ d. given_digest head.now ≡ Some d.now) }
+    ensures { MatchOption result (given_digest head.now ≡ None)
+        (λ d. given_digest head.now ≡ Some d.now) }
 {
     match head.field(b"WARC-Payload-Digest") {
         Some(value) => non_empty(without_sha1(value)),

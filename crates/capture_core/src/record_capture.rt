@@ -1,12 +1,13 @@
 //! The capture of a record.
-ghost use Rattle.std.specs.Prelude.{◌≡◌, ℕ, ◌<◌, ◌≤◌, ◌-◌, length, Some, IfOk, IfSome, option_map};
+ghost use Rattle.std.specs.Prelude.{◌≡◌, ℕ, ◌-◌, ◌<◌, ◌≤◌, List, [], length, take, IfOk, IfSome, OnOk, option_map};
 ghost use Rattle.std.specs.Io.KnownBytes.{prepend_known};
+ghost use Rattle.warc_core.specs.Calls.{GivesBlock};
 ghost use Rattle.warc_core.specs.declared.phase.Phase.TheVariants.{Open};
 ghost use Rattle.warc_core.specs.ReaderView.{HasLeft, IsUnread, state_of};
 ghost use Rattle.capture_core.specs.Indexed.{url_of};
 ghost use Rattle.capture_core.specs.Types.{includes};
 ghost use Rattle.capture_core.specs.ResponseView.{response_view};
-ghost use Rattle.capture_core.specs.RecordReading.{ReadsWhole, front_length};
+ghost use Rattle.capture_core.specs.RecordReading.{ReadsWhole};
 ghost use Rattle.capture_core.specs.CaptureAnswer.{Captures, IsEntryOf, PartsBlock, usual_limits};
 ghost use Rattle.capture_core.specs.CaptureSteps.{IsReadTo, FillsBehind, CapturesRest};
 
@@ -17,19 +18,34 @@ use crate::digest_text::base32;
 use crate::fault::CaptureFault;
 use crate::http_head::HTTP_HEAD_LIMIT;
 use crate::indexed::Indexed;
-use crate::payload::{Parted, front_buffer, front_length, part, part_decided, put_first};
+use crate::payload::{Parted, front_length, part_decided};
 use crate::payload_digest::settled_digest;
 use crate::target::url;
 use crate::types::Types;
 use cdxj_core::{Entry, LINE_LIMIT};
-use std::alloc::Global;
+use std::alloc::{AllocError, Global};
 use warc_core::{Fault, Head, Input, Reader};
 
 /// The number of bytes in the first step: after a skip, one call of the reader returns no more.
 const FIRST_STEP: usize = 2048;
 
-/// The number of bytes in the second step, the last that needs no allocation.
+/// The number of bytes in the second step.
 const SECOND_STEP: usize = 8192;
+
+/// A buffer for the start of a block, which serves one record after another.
+#[derive(Drop)]
+pub struct Front {
+    bytes: Vec<u8>,
+}
+
+impl Front {
+    /// Creates an empty buffer. It takes no memory.
+    pub fn new(alloc: Global) -> Front {
+        Front {
+            bytes: Vec::new(alloc),
+        }
+    }
+}
 
 /// Returns the entry of a record under the archive's name, or `None` if the record isn't indexed. A record is indexed
 /// if it has a target and its type is one of these. The record is read to its end, and its payload is hashed if the
@@ -51,13 +67,40 @@ pub fn capture<I: Input>(
     ensures reads { ReadsWhole head.now
         (state_of reader.old (I.remaining input.old) (I.failures input.old))
         (state_of reader.new (I.remaining input.new) (I.failures input.new)) result }
-    ensures capture { Captures (url_of (includes types) head.now) usual_limits head.now name.now (prepend_known reader.old.held (I.remaining input.old)) result }
-    ensures entry { IfOk result (λ captured. IfSome captured (IsEntryOf head.now name.now LINE_LIMIT)) }
+    ensures capture { Captures (url_of (includes types) head.now) usual_limits head.now name.now
+        (prepend_known reader.old.held (I.remaining input.old)) result }
+    ensures entry { IfOk result (λ captured. IfSome captured
+        (IsEntryOf head.now name.now LINE_LIMIT)) }
+{
+    let mut front = Front::new(alloc);
+    capture_with(alloc, &mut front, reader, input, head, name, types)
+}
+
+/// Like `capture`, with a buffer for the start of the block that serves one record after another. A usual record takes no
+/// memory for it.
+pub fn capture_with<I: Input>(
+    alloc: Global,
+    front: &mut Front,
+    reader: &mut Reader,
+    input: &mut I,
+    head: &Head,
+    name: &str,
+    types: Types,
+) -> Result<Option<Entry>, CaptureFault>
+    requires unread { IsUnread reader.old head.now }
+    requires named { 0 < length name.now }
+    ensures reads { ReadsWhole head.now
+        (state_of reader.old (I.remaining input.old) (I.failures input.old))
+        (state_of reader.new (I.remaining input.new) (I.failures input.new)) result }
+    ensures capture { Captures (url_of (includes types) head.now) usual_limits head.now name.now
+        (prepend_known reader.old.held (I.remaining input.old)) result }
+    ensures entry { IfOk result (λ captured. IfSome captured
+        (IsEntryOf head.now name.now LINE_LIMIT)) }
 {
     match url(head, types) {
         Some(url) => {
             let indexed = Indexed { head, name, url };
-            capture_in_steps(alloc, reader, input, indexed)
+            capture_indexed(alloc, &mut front.bytes, reader, input, indexed)
         }
         None => {
             reader.finish(input)?;
@@ -66,133 +109,117 @@ pub fn capture<I: Input>(
     }
 }
 
-/// Returns the entry of a record that is indexed under this URL. The front of its block is read in three steps at most,
-/// and no further than to the step in which an HTTP head ends: what one call of the reader returns for a piece of 2,048
-/// bytes, the first 8,192 bytes, and the whole front, of at most 65,536 bytes.
-fn capture_in_steps<I: Input>(
+/// Returns the entry of a record that is indexed. The front of its block is read in three steps at most, and no further
+/// than to the step in which an HTTP head ends: what one call of the reader returns for a piece of 2,048 bytes, the first
+/// 8,192 bytes, and the whole front, of at most 65,536 bytes.
+fn capture_indexed<I: Input>(
     alloc: Global,
+    front: &mut Vec<u8>,
     reader: &mut Reader,
     input: &mut I,
     indexed: Indexed<'_>,
 ) -> Result<Option<Entry>, CaptureFault>
-    requires unread { IsUnread reader.old indexed.head.now }
-    requires named { 0 < length indexed.name.now }
-    requires target { 0 < length indexed.url.now }
-    ensures reads { ReadsWhole indexed.entry.head.now
-        (state_of reader.old (I.remaining input.old) (I.failures input.old))
-        (state_of reader.new (I.remaining input.new) (I.failures input.new)) result }
-    ensures capture { Captures (Some indexed.entry.url.now) usual_limits indexed.entry.head.now indexed.entry.name.now (prepend_known reader.old.held (I.remaining input.old)) result }
-    ensures entry { IfOk result (λ captured. IfSome captured (IsEntryOf indexed.entry.head.now indexed.entry.name.now LINE_LIMIT)) }
-{
-    let mut buffer = [0; FIRST_STEP];
-    let first = &mut buffer[..front_length(indexed.head).min(FIRST_STEP)];
-    let count = reader.block(input, first)?;
-    capture_first(alloc, reader, input, indexed, &first[..count])
-}
-
-/// Like `capture_in_steps`, after the first bytes of the front were read.
-fn capture_first<I: Input>(
-    alloc: Global,
-    reader: &mut Reader,
-    input: &mut I,
-    indexed: Indexed<'_>,
-    first: &[u8],
-) -> Result<Option<Entry>, CaptureFault>
-    requires ready { IsReadTo indexed first.now reader.old }
-    requires short { length first.now ≤ SECOND_STEP }
-    ensures { CapturesRest indexed.entry first.now
+    requires { IsReadTo indexed [] reader.old }
+    ensures { CapturesRest indexed.entry []
         (state_of reader.old (I.remaining input.old) (I.failures input.old))
         (state_of reader.new (I.remaining input.new) (I.failures input.new)) result }
 {
-    match part_decided(indexed.head, first) {
-        Some(parted) => capture_parted(alloc, reader, input, indexed, parted),
-        None => capture_second(alloc, reader, input, indexed, first),
+    let whole = front_length(indexed.head);
+    let first = whole.min(FIRST_STEP);
+    match make_room(front, first) {
+        Ok(()) => {}
+        Err(_) => return refuse(reader, input, indexed),
     }
-}
-
-/// Like `capture_first`, where these bytes don't decide the HTTP head: the first 8,192 bytes are looked at.
-fn capture_second<I: Input>(
-    alloc: Global,
-    reader: &mut Reader,
-    input: &mut I,
-    indexed: Indexed<'_>,
-    first: &[u8],
-) -> Result<Option<Entry>, CaptureFault>
-    requires ready { IsReadTo indexed first.now reader.old }
-    requires short { length first.now ≤ SECOND_STEP }
-    ensures { CapturesRest indexed.entry first.now
-        (state_of reader.old (I.remaining input.old) (I.failures input.old))
-        (state_of reader.new (I.remaining input.new) (I.failures input.new)) result }
-{
-    let mut buffer = [0; SECOND_STEP];
-    let front = &mut buffer[..front_length(indexed.head).min(SECOND_STEP)];
-    fill_behind(reader, input, front, first)?;
-    match part_decided(indexed.head, front) {
-        Some(parted) => capture_parted(alloc, reader, input, indexed, parted),
-        None => capture_third(alloc, reader, input, indexed, front),
-    }
-}
-
-/// Like `capture_second`, where the first 8,192 bytes don't decide the HTTP head: the whole front is looked at.
-fn capture_third<I: Input>(
-    alloc: Global,
-    reader: &mut Reader,
-    input: &mut I,
-    indexed: Indexed<'_>,
-    first: &[u8],
-) -> Result<Option<Entry>, CaptureFault>
-    requires ready { IsReadTo indexed first.now reader.old }
-    ensures { CapturesRest indexed.entry first.now
-        (state_of reader.old (I.remaining input.old) (I.failures input.old))
-        (state_of reader.new (I.remaining input.new) (I.failures input.new)) result }
-{
-    match front_buffer(alloc, indexed.head) {
-        Ok(mut front) => { capture_front(alloc, reader, input, indexed, &mut front, first) }
-        Err(_) => {
-            reader.finish(input)?;
-            Err(memory(indexed.head))
+    let mut filled = read_first(reader, input, front, first)?;
+    'steps: loop {
+        match part_decided(indexed.head, &front[..filled], whole) {
+            Some(parted) => return capture_parted(alloc, reader, input, indexed, parted),
+            None => {}
         }
+        let goal = whole.min(step_after(filled));
+        match make_room(front, goal) {
+            Ok(()) => {}
+            Err(_) => return refuse(reader, input, indexed),
+        }
+        read_behind(reader, input, front, filled, goal)?;
+        filled = goal;
     }
 }
 
-/// Like `capture_third`, with a buffer for the front of the block.
-fn capture_front<I: Input>(
-    alloc: Global,
+/// Reads the first bytes of the block into the front, as many as one call of the reader returns for this many.
+fn read_first<I: Input>(
+    reader: &mut Reader,
+    input: &mut I,
+    front: &mut [u8],
+    first: usize,
+) -> Result<usize, Fault>
+    requires { first ≤ length front.old }
+    ensures { (left len : ℕ) → reader.old.phase ≡ Open left len → GivesBlock left len
+        (state_of reader.old (I.remaining input.old) (I.failures input.old))
+        (state_of reader.new (I.remaining input.new) (I.failures input.new)) result (take first front.new) }
+{
+    reader.block(input, &mut front[..first])
+}
+
+/// Reads the next bytes of the block behind the first of the front, up to `goal` bytes in all.
+fn read_behind<I: Input>(
+    reader: &mut Reader,
+    input: &mut I,
+    front: &mut [u8],
+    filled: usize,
+    goal: usize,
+) -> Result<(), Fault>
+    requires order { filled ≤ goal }
+    requires within { goal ≤ length front.old }
+    requires left { HasLeft (goal - filled) reader.old.phase }
+    ensures { (left len : ℕ) → reader.old.phase ≡ Open left len →
+        FillsBehind (take filled front.old) left len
+        (state_of reader.old (I.remaining input.old) (I.failures input.old))
+        (state_of reader.new (I.remaining input.new) (I.failures input.new)) result (take goal front.new) }
+{
+    reader.block_exact(input, &mut front[filled..goal])
+}
+
+/// Returns how many bytes of the front the next step looks at, after one that looked at this many.
+fn step_after(filled: usize) -> usize
+    ensures more { filled < HTTP_HEAD_LIMIT → filled < result }
+    ensures last { SECOND_STEP ≤ filled → result ≡ HTTP_HEAD_LIMIT }
+{
+    if filled < SECOND_STEP {
+        SECOND_STEP
+    } else {
+        HTTP_HEAD_LIMIT
+    }
+}
+
+/// Makes room for this many bytes, and keeps those that are there.
+fn make_room(front: &mut Vec<u8>, size: usize) -> Result<(), AllocError>
+    ensures room { OnOk result (size ≤ length front.new.items) }
+    ensures kept { OnOk result ((n : ℕ) → n ≤ length front.old.items → take n front.new.items
+        ≡ take n front.old.items) }
+{
+    if front.len() < size {
+        front.resize(size, 0)?;
+    }
+    Ok(())
+}
+
+/// Reads the rest of the open record, and returns that memory could not be allocated.
+fn refuse<I: Input>(
     reader: &mut Reader,
     input: &mut I,
     indexed: Indexed<'_>,
-    front: &mut [u8],
-    first: &[u8],
 ) -> Result<Option<Entry>, CaptureFault>
-    requires ready { IsReadTo indexed first.now reader.old }
-    requires whole { length front.old ≡ front_length HTTP_HEAD_LIMIT indexed.head.now }
-    ensures { CapturesRest indexed.entry first.now
+    requires { HasLeft 0 reader.old.phase }
+    ensures { (first : List ℕ) → IsReadTo indexed.entry first reader.old → CapturesRest indexed.entry first
         (state_of reader.old (I.remaining input.old) (I.failures input.old))
         (state_of reader.new (I.remaining input.new) (I.failures input.new)) result }
 {
-    fill_behind(reader, input, front, first)?;
-    capture_parted(alloc, reader, input, indexed, part(front))
+    reader.finish(input)?;
+    Err(memory(indexed.head))
 }
 
-/// Puts the first bytes, which were read, to the start of the front, and reads the bytes of the block behind them.
-fn fill_behind<I: Input>(
-    reader: &mut Reader,
-    input: &mut I,
-    front: &mut [u8],
-    first: &[u8],
-) -> Result<(), Fault>
-    requires fits { length first.now ≤ length front.old }
-    requires left { HasLeft (length front.old - length first.now) reader.old.phase }
-    ensures { (left len : ℕ) → reader.old.phase ≡ Open left len →
-        FillsBehind first.now left len
-        (state_of reader.old (I.remaining input.old) (I.failures input.old))
-        (state_of reader.new (I.remaining input.new) (I.failures input.new)) result front.new }
-{
-    put_first(front, first);
-    reader.block_exact(input, &mut front[first.len()..])
-}
-
-/// Like `capture_in_steps`, after the first bytes of the block were read and split.
+/// Returns the entry of a record that is indexed, after the first bytes of its block were read and split.
 fn capture_parted<I: Input>(
     alloc: Global,
     reader: &mut Reader,

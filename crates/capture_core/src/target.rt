@@ -10,7 +10,8 @@ use warc_core::Head;
 /// Returns the value of `WARC-Target-URI` without one enclosing pair of `<` and `>`, or `None` if
 /// nothing is left.
 fn target(head: &Head) -> Option<&[u8]>
-    ensures { MatchOption result (target_of head.now ≡ None) (λ t. target_of head.now ≡ Some t.now) }
+    ensures { MatchOption result (target_of head.now ≡ None)
+        (λ t. target_of head.now ≡ Some t.now) }
 {
     match head.field(b"WARC-Target-URI") {
         Some(value) => non_empty(without_brackets(value)),

@@ -13,9 +13,9 @@ pub struct Types {
 }
 
 impl Types {
-    ghost use Rattle.std.specs.Prelude.{◌≡◌};
+    ghost use Rattle.std.specs.Prelude.{◌≡◌, IfSome};
     ghost use Rattle.std.specs.List.{slice_split};
-    ghost use Rattle.capture_core.specs.Types.{includes, is_comma, no_types, types_of, usual_types, with_kind, with_name, with_names};
+    ghost use Rattle.capture_core.specs.Types.{HasType, includes, is_comma, no_types, types_of, usual_types, with_kind, with_name, with_names};
 
     /// Returns the set of response, resource and revisit: the types that are indexed by default.
     pub fn usual() -> Types
@@ -32,7 +32,8 @@ impl Types {
     /// Reads the names of one or more types, in lower case, separated by commas, with no type twice. Returns `None` for
     /// any other text.
     pub fn read(text: &str) -> Option<Types>
-        ensures { result ≡ types_of text.now }
+        ensures value { result ≡ types_of text.now }
+        ensures some { IfSome result HasType }
     {
         Types::none().with_names(text)
     }

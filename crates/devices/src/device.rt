@@ -26,11 +26,16 @@ pub trait Input {
         ensures failures { CountsFailure result (failures self.old) (failures self.new) };
 
     /// Skips up to `count` of the next bytes, and returns their number. `Ok(0)` does not mean the end of the input: an
-    /// input may skip nothing, and the bytes are then read. A call that returns an error skips no bytes.
+    /// input may skip nothing, and the bytes are then read. A call that returns an error skips no bytes. An input with no
+    /// `skip` of its own skips nothing.
     fn skip(&mut self, count: u64) -> Result<u64, DeviceFault>
         ensures bound { IfOk result (λ n. n ≤ count) }
         ensures bytes { ConsumesCount (remaining self.old) (remaining self.new) result }
-        ensures failures { CountsFailure result (failures self.old) (failures self.new) };
+        ensures failures { CountsFailure result (failures self.old) (failures self.new) }
+    {
+        let _ = count;
+        Ok(0)
+    }
 }
 
 /// A destination of bytes.

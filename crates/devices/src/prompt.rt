@@ -1,8 +1,8 @@
 //! An output for a client that waits for each reply.
-ghost use Rattle.std.specs.Prelude.{◌≡◌, ◌≤◌, None, IfOk, length};
-ghost use Rattle.std.specs.Io.KnownBytes.{WriteAppends};
+ghost use Rattle.std.specs.Prelude.{◌≡◌, ◌≤◌, None, IfOk, length, take};
+ghost use Rattle.std.specs.Io.KnownBytes.{Appends, WriteAppends};
 ghost use Rattle.devices.specs.Device.{CountsFailure, TakesSome};
-ghost use Rattle.devices.specs.Prompted.{prompt_failures};
+ghost use Rattle.devices.specs.Prompted.{prompt_failures, prompt_writer};
 
 use crate::device::{DeviceFault, Output};
 use std::io;
@@ -22,7 +22,8 @@ pub struct Prompt<W> {
 impl<W> Prompt<W> {
     /// Creates an output over a writer.
     pub fn new(writer: W) -> Prompt<W>
-        ensures { prompt_failures result ≡ 0 }
+        ensures writer { prompt_writer result ≡ writer }
+        ensures failures { prompt_failures result ≡ 0 }
     {
         Prompt {
             writer,
@@ -40,7 +41,8 @@ fn ends_reply(piece: &[u8]) -> bool {
 
 /// Writes a piece, and flushes the writer if the piece was taken whole and ends a reply.
 fn write_promptly<W: io::Write>(writer: &mut W, piece: &[u8]) -> Result<usize, io::Error>
-    ensures { IfOk result (λ n. n ≤ length piece.now) }
+    ensures bound { IfOk result (λ n. n ≤ length piece.now) }
+    ensures writes { IfOk result (λ n. Appends (W.contents writer.old) (W.contents writer.new) (take n piece.now)) }
 {
     let count = writer.write(piece)?;
     if count == piece.len() && ends_reply(piece) {
@@ -59,6 +61,8 @@ impl<W: io::Write> Output for Prompt<W> {
         ensures some { IfOk result (TakesSome piece.now) }
         ensures bytes { WriteAppends None None result piece.now }
         ensures failures { CountsFailure result (prompt_failures self.old) (prompt_failures self.new) }
+        ensures writer { IfOk result (λ n.
+            Appends (W.contents (prompt_writer self.old)) (W.contents (prompt_writer self.new)) (take n piece.now)) }
     {
         match write_promptly(&mut self.writer, piece) {
             Ok(count) if count > 0 || piece.is_empty() => Ok(count),

@@ -13,7 +13,7 @@ ghost use Rattle.index_core.specs.Counting.{CountsCapture};
 ghost use Rattle.index_core.specs.Captures.{StandBefore, TakesNext};
 
 use crate::held_line::HeldLine;
-use capture_core::{CaptureFault, Types, capture};
+use capture_core::{CaptureFault, Front, Types, capture_with};
 use cdxj_core::Entry;
 use std::alloc::{AllocError, Global};
 use warc_core::{Cause, Fault, Head, Input, Reader};
@@ -21,6 +21,7 @@ use warc_core::{Cause, Fault, Head, Input, Reader};
 /// Reads the next whole record to its end, and returns its head and its capture under the archive's name.
 fn next_capture<I: Input>(
     alloc: Global,
+    front: &mut Front,
     reader: &mut Reader,
     input: &mut I,
     name: &str,
@@ -34,7 +35,7 @@ fn next_capture<I: Input>(
     match reader.next(input)? {
         None => Ok(None),
         Some(head) => {
-            let captured = capture(alloc, reader, input, &head, name, types)?;
+            let captured = capture_with(alloc, front, reader, input, &head, name, types)?;
             Ok(Some((head, captured)))
         }
     }
@@ -70,6 +71,7 @@ fn keep(
 /// Adds the captures of an archive's records of these types under its name, and returns their number.
 pub fn add_captures<I: Input>(
     alloc: Global,
+    front: &mut Front,
     captures: &mut Vec<HeldLine>,
     name: &str,
     types: Types,
@@ -84,7 +86,7 @@ pub fn add_captures<I: Input>(
     let held = captures.len();
     let mut reader = Reader::new(alloc)?;
     loop {
-        match next_capture(alloc, &mut reader, input, name, types) {
+        match next_capture(alloc, front, &mut reader, input, name, types) {
             Ok(None) => return Ok((captures.len() - held) as u64),
             Ok(Some((head, captured))) => match keep(alloc, captures, captured) {
                 Ok(()) => {}

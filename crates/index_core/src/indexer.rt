@@ -4,7 +4,7 @@ use crate::fault::IndexFault;
 use crate::held_line::HeldLine;
 use crate::index_lines::put_index;
 use crate::names::{Names, is_name};
-use capture_core::Types;
+use capture_core::{Front, Types};
 use std::alloc::Global;
 use std::marker::Model;
 use warc_core::{Input, Output};
@@ -16,6 +16,8 @@ pub struct Indexer {
     types: Types,
     names: Names,
     captures: Vec<HeldLine>,
+    /// The buffer for the start of a block, which serves all records.
+    front: Front,
 }
 
 impl Model for Indexer {
@@ -51,6 +53,7 @@ impl Indexer {
             types,
             names: Names::new(alloc),
             captures: Vec::new(alloc),
+            front: Front::new(alloc),
         }
     }
 
@@ -79,7 +82,14 @@ impl Indexer {
             Ok(()) => {}
             Err(_) => return Err(IndexFault::Memory),
         }
-        Ok(add_captures(self.alloc, &mut self.captures, name, self.types, input)?)
+        Ok(add_captures(
+            self.alloc,
+            &mut self.front,
+            &mut self.captures,
+            name,
+            self.types,
+            input,
+        )?)
     }
 
     /// Forgets the captures that are held. Names that were added stay in use.

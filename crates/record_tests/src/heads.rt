@@ -12,7 +12,7 @@ fn read(alloc: Global, lines: &[&str]) -> Result<Parts, HeadFault> {
         raw.extend_from_slice(text.as_bytes())?;
     }
     raw.extend_from_slice(b"\r\n\r\n")?;
-    read_parts(alloc, raw.as_slice())
+    read_parts(alloc, raw)
 }
 
 /// Returns whether a head is refused for this reason. Failed allocations are errors of the test.
@@ -124,7 +124,7 @@ fn are_refused(alloc: Global, lines: &[&str], wanted: HeadFault) -> Result<bool,
 
 /// Returns whether this text of a head is refused for this reason.
 fn is_raw_refused(alloc: Global, raw: &[u8], wanted: HeadFault) -> Result<bool, HeadFault> {
-    is_refused(read_parts(alloc, raw), wanted)
+    is_refused(read_parts(alloc, Vec::from_slice(alloc, raw)?), wanted)
 }
 
 #[test]
@@ -340,7 +340,8 @@ fn has_message(alloc: Global, fault: HeadFault, text: &str) -> Result<bool, Head
 
 #[test]
 fn a_head_has_what_its_fields_say(rt: HostRuntime) -> Result<(), HeadFault> {
-    let head = read_parts(rt.alloc(), RESPONSE)?;
+    let head = read_parts(rt.alloc(), Vec::from_slice(rt.alloc(), RESPONSE)?)?;
+    assert!(rt; head.raw() == RESPONSE);
     assert!(rt; is_of_response(&head));
     for (name, value) in FIELDS {
         assert!(rt; has_value(&head, name, *value), "{name}");

@@ -1,6 +1,7 @@
 -- The first CR LF CR LF.
-use Rattle.std.proofs.Common.{◌≡◌, ◌∙◌, ℕ, ◌+◌, ◌-◌, ◌<◌, ◌≤◌, true, false, nat_eq, List, [], ◌∷◌, length, take, drop, get_or, refl, sym, ap, arith, length-drop, inl, inr, lit<}
-use Rattle.std.proofs.lemmas.List.{get_or-drop, get_or-take, length-take-le}
+use Rattle.std.proofs.Common.{◌≡◌, ◌∙◌, ℕ, ◌+◌, ◌-◌, ◌<◌, ◌≤◌, true, false, nat_eq, List, [], ◌∷◌, length, take, drop, get_or, refl, sym, ap, arith, length-drop, inl, inr, lit<, ◌++◌, length-append, subst}
+use Rattle.std.proofs.lemmas.List.{get_or-drop, get_or-take, length-take-le, take-append-drop, get_or_append_left}
+use Rattle.std.proofs.lemmas.Bool.{cases_eq, cases_lt}
 use Rattle.std.proofs.lemmas.Bool.Decides.{nat_tests}
 use Rattle.std.specs.Cmp.Lexicographic.{pointwise}
 use Rattle.memchr.specs.Find.{OccursAt}
@@ -66,34 +67,71 @@ occurs-behind xs from k l h = record {
   reads = λ j m. get_or-drop from xs (k + j) 0 ∙ (ap (λ n. get_or xs n 0) (let e : from + (k + j) ≡ from + k + j = omega arith in e) ∙ h.reads j m);
 }
 
-occurs-before : (xs : List ℕ) (from k : ℕ) → from ≤ length xs → OccursAt (drop from xs) closing k → OccursAt xs closing (from + k)
+pub occurs-before : (xs : List ℕ) (from k : ℕ) → from ≤ length xs → OccursAt (drop from xs) closing k → OccursAt xs closing (from + k)
 occurs-before xs from k l h = record {
   fits = omega (arith, length-drop from xs, h.fits, l);
   reads = λ j m. ap (λ n. get_or xs n 0) (let e : from + k + j ≡ from + (k + j) = omega arith in e) ∙ (sym (get_or-drop from xs (k + j) 0) ∙ h.reads j m);
 }
 
+-- a text that begins with it from a place on
+pub begins-occurs : (xs : List ℕ) (at : ℕ) → at ≤ length xs → drop at xs ≡ closing ++ drop 4 (drop at xs) → OccursAt xs closing at
+begins-occurs xs at l e = record {
+  fits = (let n : length (closing ++ drop 4 (drop at xs)) ≡ 4 + length (drop 4 (drop at xs)) = length-append closing (drop 4 (drop at xs)) in
+      omega (arith, n, ap length e, length-drop at xs, l));
+  reads = λ j k. sym (get_or-drop at xs j 0) ∙ (ap (λ d. get_or d j 0) e ∙ get_or_append_left closing (drop 4 (drop at xs)) 0 j k);
+}
+
+pub occurs-begins : (xs : List ℕ) (at : ℕ) → OccursAt xs closing at → drop at xs ≡ closing ++ drop 4 (drop at xs)
+occurs-begins xs at h =
+    let d = drop at xs in
+    let long : 4 ≤ length d = omega (arith, length-drop at xs, h.fits) in
+    let byte : (j : ℕ) → j < 4 → get_or (take 4 d) j 0 ≡ get_or closing j 0 = λ j l. get_or-take 4 d j 0 l ∙ (get_or-drop at xs j 0 ∙ h.reads j l) in
+    let front : take 4 d ≡ closing = four (take 4 d) (length-take-le 4 d long) (byte 0 (lit< tt)) (byte 1 (lit< tt)) (byte 2 (lit< tt)) (byte 3 (lit< tt)) in
+    sym (take-append-drop 4 d) ∙ ap (λ f. f ++ drop 4 d) front
+
 -- where nothing was found below a place, no front ends there
-open-below : (xs : List ℕ) (before from at : ℕ) → from ≡ before - 3 → before ≤ length xs → ((k : ℕ) → k < at → OccursAt (drop from xs) closing k → ⊥)
-    → (n : ℕ) → before < n → n ≤ length xs → n < from + at + 4 → is_closed (take n xs) ≡ false
-open-below xs before from at e l none n b w u =
+open-below : (xs : List ℕ) (before at : ℕ) → ((k : ℕ) → before - 3 ≤ k → k < at → OccursAt xs closing k → ⊥)
+    → (n : ℕ) → before < n → n ≤ length xs → n < at + 4 → is_closed (take n xs) ≡ false
+open-below xs before at none n b w u =
     elim (which (is_closed (take n xs))) [
-      | inl t ↦ absurd (
-          let p = closed-occurs xs n w t in
-          let k = n - 4 - from in
-          let q : from + k ≡ n - 4 = omega (arith, e, b, p.0) in
-          none k (omega (arith, q, u, p.0, b, e)) (occurs-behind xs from k (omega (arith, e, l)) (rw q p.1)))
+      | inl t ↦ absurd (let p = closed-occurs xs n w t in none (n - 4) (omega (arith, b)) (omega (arith, u, p.0)) p.1)
       | inr f ↦ f
     ]
 
-pub found-first : (xs : List ℕ) (before from at : ℕ) → from ≡ before - 3 → before ≤ length xs → ((k : ℕ) → k < at → OccursAt (drop from xs) closing k → ⊥) → OccursAt (drop from xs) closing at → ClosesFirst xs before (from + at + 4)
-found-first xs before from at e l none h =
-    let o = occurs-before xs from at (omega (arith, e, l)) h in
-    record {
-      longer = omega (arith, e);
-      within = o.fits;
-      closed = occurs-closed xs (from + at) o;
-      first = λ n b u. open-below xs before from at e l none n b (let w : from + at + 4 ≤ length xs = o.fits in omega (arith, w, u)) u;
-    }
+pub found-first : (xs : List ℕ) (before at : ℕ) → before - 3 ≤ at → ((k : ℕ) → before - 3 ≤ k → k < at → OccursAt xs closing k → ⊥) → OccursAt xs closing at → ClosesFirst xs before (at + 4)
+found-first xs before at from none h = record {
+  longer = omega (arith, from);
+  within = h.fits;
+  closed = occurs-closed xs at h;
+  first = λ n b u. open-below xs before at none n b (let w : at + 4 ≤ length xs = h.fits in omega (arith, w, u)) u;
+}
 
-pub found-none : (xs : List ℕ) (before from : ℕ) → from ≡ before - 3 → before ≤ length xs → ((k : ℕ) → k < length (drop from xs) + 1 → OccursAt (drop from xs) closing k → ⊥) → IsOpenAfter xs before
-found-none xs before from e l none n b w = open-below xs before from (length (drop from xs) + 1) e l none n b w (omega (arith, length-drop from xs, w, e, l))
+pub found-none : (xs : List ℕ) (before : ℕ) → ((k : ℕ) → before - 3 ≤ k → OccursAt xs closing k → ⊥) → IsOpenAfter xs before
+found-none xs before none n b w = open-below xs before (length xs) (λ k from below. none k from) n b w (omega (arith, w))
+
+-- places that were looked at, and those of the text behind them
+pub none-behind : (xs : List ℕ) (before at end : ℕ) → at ≤ length xs → ((k : ℕ) → before - 3 ≤ k → k < at → OccursAt xs closing k → ⊥)
+    → ((k : ℕ) → k < end → OccursAt (drop at xs) closing k → ⊥) → (k : ℕ) → before - 3 ≤ k → k < at + end → OccursAt xs closing k → ⊥
+none-behind xs before at end l early late k from below h =
+    elim (cases_lt k at) [
+      | inl e ↦ early k from e h
+      | inr e ↦ (let same : at + (k - at) ≡ k = omega (arith, e) in late (k - at) (omega (arith, e, below)) (occurs-behind xs at (k - at) l (subst (λ n. OccursAt xs closing n) (sym same) h)))
+    ]
+
+-- no CR LF CR LF begins at the places that a step passes over
+pub none-in-run : (xs : List ℕ) (before at run : ℕ) → ((k : ℕ) → before - 3 ≤ k → k < at → OccursAt xs closing k → ⊥)
+    → ((k : ℕ) → k < run → get_or xs (at + k + 1) 0 ≡ 10 → get_or xs (at + k + 3) 0 ≡ 10 → ⊥) → (k : ℕ) → before - 3 ≤ k → k < at + run → OccursAt xs closing k → ⊥
+none-in-run xs before at run early late k from below h =
+    elim (cases_lt k at) [
+      | inl e ↦ early k from e h
+      | inr e ↦ (
+          let same : (j : ℕ) → at + (k - at) + j ≡ k + j = λ j. omega (arith, e) in
+          let byte : (j : ℕ) → j < 4 → get_or xs (at + (k - at) + j) 0 ≡ get_or closing j 0 = λ j l. ap (λ n. get_or xs n 0) (same j) ∙ h.reads j l in
+          late (k - at) (omega (arith, e, below)) (byte 1 (lit< tt)) (byte 3 (lit< tt)))
+    ]
+
+-- nor at the place after them
+pub none-at : (xs : List ℕ) (before at : ℕ) → ((k : ℕ) → before - 3 ≤ k → k < at → OccursAt xs closing k → ⊥) → (OccursAt xs closing at → ⊥)
+    → (k : ℕ) → before - 3 ≤ k → k < at + 1 → OccursAt xs closing k → ⊥
+none-at xs before at early here k from below h =
+    elim (cases_eq k at) [ inl e ↦ here (subst (λ n. OccursAt xs closing n) e h) | inr other ↦ early k from (omega (arith, below, other)) h ]

@@ -32,6 +32,13 @@ agrees-nil : (xs : List ℕ) → agrees xs [] ≡ true
 agrees-nil [] = refl
 agrees-nil (x ∷ xs) = refl
 
+-- a text that begins with a version line
+pub begins_1_1 : (text rest : List ℕ) → text ≡ version_1_1 ++ rest → has_version text ≡ true
+begins_1_1 text rest e = ap has_version e ∙ ap (λ t. t || agrees (version_1_1 ++ rest) version_1_0) (agrees-nil rest)
+
+pub begins_1_0 : (text rest : List ℕ) → text ≡ version_1_0 ++ rest → has_version text ≡ true
+begins_1_0 text rest e = ap has_version e ∙ ap (λ t. agrees (version_1_0 ++ rest) version_1_1 || t) (agrees-nil rest)
+
 -- a text that agrees to the other's end does so however it goes on
 pub agrees-whole : (xs more ys : List ℕ) → agrees xs ys ≡ true → length ys ≤ length xs → agrees (xs ++ more) ys ≡ true
 agrees-whole [] more [] h l = agrees-nil more

@@ -6,7 +6,7 @@ use Rattle.warc_core.specs.declared.fault.Cause.{Cause}
 use Rattle.warc_core.specs.declared.fault.Cause.TheVariants as causes
 use Rattle.warc_core.specs.Reading.{Reads, IsFoundAt, first_of}
 use Rattle.warc_core.proofs.ReadingLemmas.{GoesOn, first-is, first-none, GoesOn-fault, was_read}
-use Rattle.std.specs.Io.KnownBytes.{Consumes, IsAtEnd}
+use Rattle.std.specs.Io.KnownBytes.{Consumes, IsAtEnd, prepend_known}
 use Rattle.warc_core.specs.Record.{after_block, after_text, closing}
 
 pub after_block-zero : (w : List ℕ) → after_block 0 w ≡ Ok (tt, w)
@@ -46,6 +46,12 @@ after_text-end c text w h = rw h refl
 pub after_text-here : (c : ℕ) (text w : List ℕ) → after_text (c ∷ text) (c ∷ w) ≡ after_text text w
 unfolding after_text
 after_text-here c text w = grind (arith, nat_tests)
+
+-- a closing that stands whole in front of what is known
+pub closing-held : (held left : List ℕ) (known : Option (List ℕ)) → held ≡ closing ++ drop 4 held → left ≡ drop 4 held → Reads (after_text closing) (Ok tt) (prepend_known held known) (prepend_known left known)
+unfolding after_text
+closing-held held left None h l = tt
+closing-held held left (Some w) h l = ap (λ t. after_text closing (t ++ w)) h ∙ ap (λ t. Ok (tt, t ++ w)) (sym l)
 
 pub after_text-done : (w : List ℕ) → after_text [] w ≡ Ok (tt, w)
 unfolding after_text

@@ -30,8 +30,3 @@ abbrev pub IsFoundPurely : {A : Type 0} → Cause → Result A Cause → Type 0
 IsFoundPurely causes.Memory read = ⊤
 IsFoundPurely causes.Read read = ⊥
 IsFoundPurely c read = read ≡ Err c
-
--- The answer of a call that has no input is what reading gives, or Memory.
-abbrev pub Gives : {X A : Type 0} → (X → A) → Result X Cause → Result A Cause → Type 0
-Gives view (Ok x) read = read ≡ Ok (view x)
-Gives view (Err c) read = IsFoundPurely c read

@@ -1,6 +1,6 @@
 -- What contracts see of a head.
 use Rattle.std.specs.Prelude.{◌≡◌, ℕ, ◌+◌, ◌-◌, ◌^◌, ◌≤◌, List, length, take, drop}
-use Rattle.warc_head.specs.Parts.{HeadParts}
+use Rattle.warc_head.specs.Parts.{HeadParts, HeadRead}
 
 pub record HeadView : Type 0 where
   -- where the record begins
@@ -8,6 +8,10 @@ pub record HeadView : Type 0 where
   -- the head as stored
   pub raw : List ℕ
   pub parts : HeadParts
+
+-- a head whose text was read, at this offset
+abbrev pub head_view : ℕ → HeadRead → HeadView
+head_view start head = record { start = start; raw = head.raw; parts = head.parts }
 
 -- how long a record with this head is
 abbrev pub record_length : HeadView → ℕ

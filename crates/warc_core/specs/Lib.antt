@@ -23,3 +23,4 @@ pub use Rattle.devices.specs.Writing
 pub use Rattle.devices.specs.Gathered
 pub use Rattle.devices.specs.FromStd
 pub use Rattle.devices.specs.Fused
+pub use Rattle.devices.specs.Files

@@ -14,7 +14,8 @@ use devices::{Buffer, Input};
 fn give<I: Input>(buffer: &mut Buffer, input: &mut I, piece: &mut [u8]) -> Result<usize, Cause>
     ensures bound { IfOk result (λ n. n ≤ length piece.new) }
     ensures cause { IfErr result (λ c. c ≡ Cause.Read) }
-    ensures bytes { ReadConsumes (prepend_known buffer.old (I.remaining input.old)) (prepend_known buffer.new (I.remaining input.new)) result piece.new }
+    ensures bytes { ReadConsumes (prepend_known buffer.old (I.remaining input.old))
+        (prepend_known buffer.new (I.remaining input.new)) result piece.new }
     ensures failures { CountsRead result (I.failures input.old) (I.failures input.new) }
 {
     buffer.fill(input)?;
@@ -33,7 +34,8 @@ pub fn give_block<I: Input>(
     left: u64,
 ) -> Result<usize, Cause>
     ensures cause { IfErr result StopsBlock }
-    ensures count { IfOk result (λ n. (n ≤ left) × (n ≤ length piece.new) × (0 < left → 0 < length piece.new → 0 < n)) }
+    ensures count { IfOk result (λ n. (n ≤ left) × (n ≤ length piece.new) ×
+        (0 < left → 0 < length piece.new → 0 < n)) }
     ensures bytes { MatchResult result
         (λ n. Consumes (prepend_known buffer.old (I.remaining input.old)) (prepend_known buffer.new (I.remaining input.new)) (take n piece.new))
         (λ c. IsFoundAt (after_block left) c (prepend_known buffer.old (I.remaining input.old))) }
@@ -52,7 +54,9 @@ pub fn give_block<I: Input>(
 
 /// Skips the `length` bytes of a block.
 pub fn skip_block<I: Input>(buffer: &mut Buffer, input: &mut I, length: u64) -> Result<(), Cause>
-    ensures bytes { Reads (after_block length) result (prepend_known buffer.old (I.remaining input.old)) (prepend_known buffer.new (I.remaining input.new)) }
+    ensures bytes { Reads (after_block length) result
+        (prepend_known buffer.old (I.remaining input.old))
+        (prepend_known buffer.new (I.remaining input.new)) }
     ensures cause { IfErr result StopsBlock }
     ensures failures { CountsRead result (I.failures input.old) (I.failures input.new) }
 {

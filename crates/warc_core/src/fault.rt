@@ -1,10 +1,12 @@
 //! Why an archive can't be read further.
 ghost use Rattle.std.specs.Prelude.{◌≡◌};
 ghost use Rattle.warc_core.specs.declared.fault.Cause.TheVariants.{Memory, Read};
+ghost use Rattle.warc_core.specs.Head.{cause_of};
 
 use devices::DeviceFault;
 use std::alloc::{AllocError, AllocFailed};
 use thiserror::Error;
+use warc_head::HeadFault;
 
 /// What is wrong with a record.
 ///
@@ -85,6 +87,21 @@ pub struct Fault {
     /// The offset of the record at fault, in bytes from the archive's start.
     pub offset: u64,
     pub cause: Cause,
+}
+
+impl From<HeadFault> for Cause {
+    ghost from_gives = { λ fault e. e ≡ cause_of fault };
+
+    fn from(fault: HeadFault) -> Cause {
+        match fault {
+            HeadFault::Memory => Cause::Memory,
+            HeadFault::FieldLine => Cause::FieldLine,
+            HeadFault::Missing => Cause::Missing,
+            HeadFault::Repeated => Cause::Repeated,
+            HeadFault::BadLength => Cause::BadLength,
+            HeadFault::BadDate => Cause::BadDate,
+        }
+    }
 }
 
 impl From<DeviceFault> for Cause {

@@ -1,32 +1,26 @@
 //! The head of a record.
-ghost use Rattle.std.specs.Prelude.{◌≡◌, IfErr};
-ghost use Rattle.warc_core.specs.Answers.{Gives};
-ghost use Rattle.warc_core.specs.Head.{parts_of, cause_of};
-ghost use Rattle.warc_core.specs.Cause.{StopsHead};
+ghost use Rattle.std.specs.Prelude.{◌≡◌};
 
-use crate::fault::Cause;
-use std::alloc::Global;
 use std::marker::Model;
-use warc_head::{HeadFault, Kind, Parts, read_parts};
+use warc_head::{Kind, Parts};
 
 /// A record's head, with the record's offset in its archive.
 #[derive(Drop)]
 pub struct Head {
     start: u64,
-    raw: Vec<u8>,
     parts: Parts,
 }
 
 impl Model for Head {
     ghost use Rattle.warc_core.specs.declared.next.TheConstants.{HEAD_LIMIT};
-    ghost use Rattle.warc_core.specs.HeadView.{HeadView};
+    ghost use Rattle.warc_core.specs.HeadView.{HeadView, head_view};
     ghost use Rattle.warc_core.specs.RecordText.{IsHead};
 
     ghost Value = { HeadView };
 
-    ghost view = { λ h. record { start = h.start; raw = h.raw.items; parts = h.parts } };
+    ghost view = { λ h. head_view h.start h.parts };
 
-    ghost invariant = { λ h. IsHead HEAD_LIMIT (record { start = h.start; raw = h.raw.items; parts = h.parts }) };
+    ghost invariant = { λ h. IsHead HEAD_LIMIT (head_view h.start h.parts) };
 }
 
 impl Head {
@@ -34,14 +28,14 @@ impl Head {
     ghost use Rattle.warc_head.specs.Fields.{value_of};
     ghost use Rattle.warc_head.specs.Length.{all_digits};
     ghost use Rattle.warc_core.specs.declared.next.TheConstants.{HEAD_LIMIT};
-    ghost use Rattle.warc_core.specs.HeadView.{record_length, IsWithinOffsets};
+    ghost use Rattle.warc_core.specs.HeadView.{head_view, record_length, IsWithinOffsets};
     ghost use Rattle.warc_core.specs.RecordText.{IsHead};
 
-    pub(crate) fn from_parts(start: u64, raw: Vec<u8>, parts: Parts) -> Head
-        requires { IsHead HEAD_LIMIT (record { start = start; raw = raw.items; parts = parts }) }
-        ensures { result ≡ record { start = start; raw = raw.items; parts = parts } }
+    pub(crate) fn from_parts(start: u64, parts: Parts) -> Head
+        requires { IsHead HEAD_LIMIT (head_view start parts) }
+        ensures { result ≡ head_view start parts }
     {
-        Head { start, raw, parts }
+        Head { start, parts }
     }
 
     /// Returns the offset of the record, in bytes from the archive's start.
@@ -70,7 +64,7 @@ impl Head {
         ensures value { result ≡ record_length self.now }
         ensures within { IsWithinOffsets self.now }
     {
-        self.raw.len() as u64 + self.parts.length() + 4
+        self.raw().len() as u64 + self.parts.length() + 4
     }
 
     /// Returns the time at which the record was made, as 14 digits (ISO 28500:2017, WARC-Date).
@@ -83,7 +77,9 @@ impl Head {
 
     /// Returns the value of the first field of this name, ignoring ASCII case.
     pub fn field(&self, name: &[u8]) -> Option<&[u8]>
-        ensures { MatchOption result (value_of name.now self.now.parts.fields ≡ None) (λ v. value_of name.now self.now.parts.fields ≡ Some v.now) }
+        ensures { MatchOption result
+            (value_of name.now self.now.parts.fields ≡ None)
+            (λ v. value_of name.now self.now.parts.fields ≡ Some v.now) }
     {
         self.parts.field(name)
     }
@@ -93,31 +89,6 @@ impl Head {
         ensures value { result.now ≡ self.now.raw }
         ensures said { IsHead HEAD_LIMIT self.now }
     {
-        self.raw.as_slice()
-    }
-}
-
-/// Reads the text of a head.
-pub fn parts_of(alloc: Global, raw: &[u8]) -> Result<Parts, Cause>
-    ensures answer { Gives (λ p. p) result (parts_of raw.now) }
-    ensures cause { IfErr result StopsHead }
-{
-    match read_parts(alloc, raw) {
-        Ok(parts) => Ok(parts),
-        Err(fault) => Err(cause_of(fault)),
-    }
-}
-
-fn cause_of(fault: HeadFault) -> Cause
-    ensures value { result ≡ cause_of fault }
-    ensures cause { StopsHead result }
-{
-    match fault {
-        HeadFault::Memory => Cause::Memory,
-        HeadFault::FieldLine => Cause::FieldLine,
-        HeadFault::Missing => Cause::Missing,
-        HeadFault::Repeated => Cause::Repeated,
-        HeadFault::BadLength => Cause::BadLength,
-        HeadFault::BadDate => Cause::BadDate,
+        self.parts.raw()
     }
 }

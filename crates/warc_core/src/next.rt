@@ -9,10 +9,11 @@ ghost use Rattle.warc_core.specs.HeadView.{BeginsAt};
 ghost use Rattle.warc_core.specs.Cause.{StopsHead};
 
 use crate::fault::Cause;
-use crate::head::{Head, parts_of};
+use crate::head::Head;
 use crate::head_text::read_head_text;
 use devices::{Buffer, Input};
 use std::alloc::Global;
+use warc_head::read_parts;
 
 /// The maximum length of a head in bytes.
 pub const HEAD_LIMIT: usize = 1_048_576;
@@ -27,18 +28,20 @@ fn read_head<I: Input>(
     start: u64,
 ) -> Result<Head, Cause>
     requires { start ≤ 2 ^ 63 - 1 }
-    ensures bytes { Reads (head_at HEAD_LIMIT start) result (prepend_known buffer.old (I.remaining input.old)) (prepend_known buffer.new (I.remaining input.new)) }
+    ensures bytes { Reads (head_at HEAD_LIMIT start) result
+        (prepend_known buffer.old (I.remaining input.old))
+        (prepend_known buffer.new (I.remaining input.new)) }
     ensures cause { IfErr result StopsHead }
     ensures begins { IfOk result (BeginsAt start) }
     ensures failures { CountsRead result (I.failures input.old) (I.failures input.new) }
 {
     let raw = read_head_text(alloc, buffer, input, HEAD_LIMIT)?;
-    let parts = parts_of(alloc, raw.as_slice())?;
-    let end = u128::from(start) + raw.len() as u128 + u128::from(parts.length()) + 4;
+    let parts = read_parts(alloc, raw)?;
+    let end = u128::from(start) + parts.raw().len() as u128 + u128::from(parts.length()) + 4;
     if end > GREATEST_OFFSET {
         return Err(Cause::TooFar);
     }
-    Ok(Head::from_parts(start, raw, parts))
+    Ok(Head::from_parts(start, parts))
 }
 
 /// Reads the head of the record that starts at this offset, if a byte follows.
@@ -51,7 +54,9 @@ pub fn read_next<I: Input>(
     requires { start ≤ 2 ^ 63 - 1 }
     ensures cause { IfErr result StopsHead }
     ensures begins { IfOk result (λ o. IfSome o (BeginsAt start)) }
-    ensures bytes { Reads (next_at HEAD_LIMIT start) result (prepend_known buffer.old (I.remaining input.old)) (prepend_known buffer.new (I.remaining input.new)) }
+    ensures bytes { Reads (next_at HEAD_LIMIT start) result
+        (prepend_known buffer.old (I.remaining input.old))
+        (prepend_known buffer.new (I.remaining input.new)) }
     ensures failures { CountsRead result (I.failures input.old) (I.failures input.new) }
 {
     buffer.fill(input)?;

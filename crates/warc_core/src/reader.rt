@@ -43,7 +43,8 @@ impl Reader {
     ///
     /// The only error is `Memory`, at offset 0.
     pub fn new(alloc: Global) -> Result<Reader, Fault>
-        ensures start { IfOk result (λ r. r ≡ record { offset = 0; phase = Phase.Between; held = [] }) }
+        ensures start { IfOk result
+            (λ r. r ≡ record { offset = 0; phase = Phase.Between; held = [] }) }
         ensures memory { IfErr result (λ f. f ≡ record { offset = 0; cause = Cause.Memory }) }
     {
         match Buffer::new(alloc) {

@@ -1,5 +1,7 @@
 -- The forms of a date.
-use Rattle.std.proofs.Common.{◌≡◌, ℕ, ◌<◌, ◌≤◌, Bool, true, false, ◌&&◌, List, [], ◌∷◌, length, take, drop, refl, sym, arith, length-take, ◌⊎◌, inl, inr, Option, Some, None, if◌then◌else◌, nat_le, codes, zero, suc, ◌+◌, ◌++◌, get_or, subst, lit≤, append-nil}
+use Rattle.std.proofs.Common.{◌≡◌, ℕ, ◌<◌, ◌≤◌, Bool, true, false, ◌&&◌, List, [], ◌∷◌, length, take, drop, refl, sym, arith, length-take, ◌⊎◌, inl, inr, Option, Some, None, if◌then◌else◌, nat_le, codes, zero, suc, ◌+◌, ◌++◌, get_or, subst, lit≤, append-nil, ap, ◌∙◌}
+use Rattle.std.specs.List.{list_all, zip}
+use Rattle.std.specs.Prelude.{◌==◌}
 use Rattle.std.proofs.lemmas.Bool.Decides.{nat_tests}
 use Rattle.warc_head.specs.Length.{is_digit, all_digits}
 use Rattle.warc_head.specs.Date.{fits, fits_byte, two, digits_of, full_date, date_length, has_fraction, to_the_second, is_fraction}
@@ -11,6 +13,14 @@ which false = inr refl
 pub and_both : (t a : Bool) → (t && a) ≡ true → (t ≡ true) × (a ≡ true)
 and_both true a h = (refl, h)
 and_both false a h = absurd (let e : false ≡ true = h in cc)
+
+suc_same : (m n : ℕ) → (suc m == suc n) ≡ (m == n)
+suc_same m n = grind (arith, nat_tests)
+
+in_front : (t a b : Bool) → (t && (a && b)) ≡ (a && (t && b))
+in_front true a b = refl
+in_front false true b = refl
+in_front false false b = refl
 
 pub fits_long : (p t : List ℕ) → fits p t ≡ true → length p ≡ length t
 unfolding fits
@@ -24,6 +34,14 @@ long_fraction t h =
     let e : length to_the_second ≡ length (take 19 t) = fits_long to_the_second (take 19 t) (and_both (fits to_the_second (take 19 t)) (is_fraction (drop 19 t)) h).0 in
     let l : length to_the_second ≡ 19 = refl in
     omega (arith, e, l, length-take 19 t)
+
+-- a text has a form if it has its length and agrees with it byte by byte
+pub fits_by_zip : (p t : List ℕ) → ((length p == length t) && list_all (λ q. fits_byte q.0 q.1) (zip p t)) ≡ fits p t
+unfolding fits
+fits_by_zip [] [] = refl
+fits_by_zip [] (b ∷ bs) = grind (arith, nat_tests)
+fits_by_zip (p ∷ ps) [] = grind (arith, nat_tests)
+fits_by_zip (p ∷ ps) (b ∷ bs) = rw (suc_same (length ps) (length bs)) (in_front (length ps == length bs) (fits_byte p b) _ ∙ ap (λ r. fits_byte p b && r) (fits_by_zip ps bs))
 
 pub short_fraction : (t : List ℕ) → length t < 19 → has_fraction t ≡ false
 short_fraction t l =

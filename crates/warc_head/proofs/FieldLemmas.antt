@@ -1,7 +1,10 @@
 -- The fields of lines, of which some were read.
-use Rattle.std.proofs.Common.{◌≡◌, ◌∙◌, ◌<◌, ℕ, List, [], ◌∷◌, ◌++◌, length, Option, None, Some, Result, Ok, Err, refl, sym, ap, true, false, Bool, append_assoc, arith, ◌⊎◌, inl, inr, if◌then◌else◌}
+use Rattle.std.proofs.Common.{◌≡◌, ◌∙◌, ◌<◌, ℕ, List, [], ◌∷◌, ◌++◌, length, Option, None, Some, Result, Ok, Err, refl, sym, ap, true, false, Bool, append_assoc, arith, ◌⊎◌, inl, inr, length-take, if◌then◌else◌}
 use Rattle.std.specs.List.{ends_with, list_all}
-use Rattle.std.specs.Prelude.{nat_eq, ◌&&◌, take, ◌-◌}
+use Rattle.std.specs.Prelude.{nat_eq, ◌&&◌, take, drop, ◌-◌, ◌+◌}
+use Rattle.std.proofs.lemmas.Bool.{cases_lt}
+use Rattle.std.proofs.lemmas.List.{drop-take, drop_all}
+use Rattle.warc_head.specs.Parts.{body_of}
 use Rattle.warc_head.specs.declared.fault.HeadFault.{HeadFault}
 use Rattle.warc_head.specs.declared.fault.HeadFault.TheVariants as faults
 use Rattle.warc_head.specs.Answers.{◌>>=◌, IsFound}
@@ -190,3 +193,15 @@ IsFound-then e r s f h = f h
 pub nil_of : {A : Type 0} (xs : List A) → length xs ≡ 0 → xs ≡ []
 nil_of [] h = refl
 nil_of (x ∷ xs) h = absurd (omega arith)
+
+-- the lines between the version line and the empty line
+pub body_is : (raw : List ℕ) → body_of raw ≡ drop 10 (take (length raw - 2) raw)
+body_is raw =
+    elim (cases_lt (length raw - 2) 10) [
+      | inl short ↦ (
+          let none : length raw - 2 - 10 ≡ 0 = omega (arith, short) in
+          ap (λ n. take n (drop 10 raw)) none ∙ sym (drop_all 10 (take (length raw - 2) raw) (omega (arith, length-take (length raw - 2) raw, short))))
+      | inr long ↦ (
+          let whole : 10 + (length raw - 2 - 10) ≡ length raw - 2 = omega (arith, long) in
+          sym (drop-take 10 (length raw - 2 - 10) raw) ∙ ap (λ n. drop 10 (take n raw)) whole)
+    ]

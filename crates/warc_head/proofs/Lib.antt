@@ -10,3 +10,5 @@ pub mod FoldingLemmas
 pub mod TrimLemmas
 pub mod FirstPlace
 pub mod MandatoryLemmas
+pub mod LaneLemmas
+pub mod ReadLemmas

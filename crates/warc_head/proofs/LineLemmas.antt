@@ -1,21 +1,23 @@
 -- The lines of a text.
-use Rattle.std.proofs.Common.{◌≡◌, ◌∙◌, ℕ, zero, suc, ◌+◌, ◌-◌, ◌<◌, ◌≤◌, List, [], ◌∷◌, ◌++◌, length, take, drop, get_or, refl, sym, ap, arith, true, false, Bool, ◌&&◌, add-one, length-append, Result, Ok, Err, nat_eq, subst, if◌then◌else◌}
+use Rattle.std.proofs.Common.{◌≡◌, ◌∙◌, ℕ, zero, suc, ◌+◌, ◌-◌, ◌<◌, ◌≤◌, List, [], ◌∷◌, ◌++◌, length, take, drop, get_or, refl, sym, ap, arith, true, false, Bool, ◌&&◌, add-one, length-append, length-drop, inl, inr, Result, Ok, Err, nat_eq, subst, if◌then◌else◌}
 use Rattle.std.specs.Prelude.{◌==◌, Some, None, not}
 use Rattle.std.specs.List.{list_all, ends_with}
 use Rattle.std.specs.Option.{option_map}
 use Rattle.std.specs.Cmp.Lexicographic.{pointwise}
+use Rattle.std.proofs.lemmas.Bool.{cases_lt, not-false}
+use Rattle.httparse.specs.Pieces.{IsRunAt}
 use Rattle.std.proofs.lemmas.Bool.Decides.{nat_tests}
-use Rattle.std.proofs.lemmas.List.{take-append-drop}
+use Rattle.std.proofs.lemmas.List.{take-append-drop, drop-drop, get_or-drop}
 use Rattle.std.proofs.Math.Seq.{take-append_seam, drop-append_seam}
 use Rattle.memchr.specs.Find.{is_byte2}
 use Rattle.warc_head.specs.declared.fault.HeadFault.{HeadFault}
 use Rattle.warc_head.specs.declared.fault.HeadFault.TheVariants as faults
-use Rattle.warc_head.specs.Lines.{lines_of, with_first, line_content, line_end, is_plain, BeginsWithLine}
+use Rattle.warc_head.specs.Lines.{lines_of, with_first, line_content, line_end, is_plain, BeginsWithLine, EndsLine}
 use Rattle.warc_head.specs.Fields.{at_colon}
 use Rattle.warc_head.specs.Folding.{ended}
 use Rattle.warc_head.proofs.DateLemmas.{and_both}
 
-false_of : (t : Bool) → (t ≡ true → ⊥) → t ≡ false
+pub false_of : (t : Bool) → (t ≡ true → ⊥) → t ≡ false
 false_of true h = absurd (h refl)
 false_of false h = refl
 
@@ -143,3 +145,37 @@ ended_elsewhere text at h f n line rest b =
     line_end_at line (10 ∷ rest) at b.plain (subst (λ t. is_byte2 13 10 (get_or t at 0) ≡ true) b.spelled h)
     (subst (λ t. (k : ℕ) → k < at → is_byte2 13 10 (get_or t k 0) ≡ true → ⊥) b.spelled f) in
     n rest (ap (drop at) b.spelled ∙ (ap (λ n. drop n (line ++ (line_end ++ rest))) e ∙ drop-append_seam line (line_end ++ rest)))
+
+-- a run of bytes that are no CR and no LF, from one offset to another
+module _ (text : List ℕ) (at end : ℕ) (run : IsRunAt is_plain text at end) where
+  no_break : (k : ℕ) → k < end - at → is_byte2 13 10 (get_or (drop at text) k 0) ≡ true → ⊥
+  no_break k l h =
+      let plain : is_plain (get_or (drop at text) k 0) ≡ true = ap is_plain (get_or-drop at text k 0) ∙ run.pass (at + k) (omega arith) (omega (arith, l)) in
+      let e : false ≡ true = sym (ap not h) ∙ plain in cc
+
+  behind : drop (end - at) (drop at text) ≡ drop end text
+  behind = let same : at + (end - at) ≡ end = omega (arith, run.ordered) in drop-drop (end - at) at text ∙ ap (λ n. drop n text) same
+
+  pub ends_line : drop end text ≡ line_end ++ drop 2 (drop end text) → EndsLine text at end
+  ends_line e =
+      let size : length (drop end text) ≡ 2 + length (drop 2 (drop end text)) = ap length e ∙ length-append line_end (drop 2 (drop end text)) in
+      record {
+        order = run.ordered;
+        within = omega (arith, size, length-drop end text);
+        line = record {
+          spelled = sym (take-append-drop (end - at) (drop at text)) ∙ ap (λ t. take (end - at) (drop at text) ++ t) (behind ∙ (e ∙ ap (λ t. line_end ++ t) (drop-drop 2 end text)));
+          plain = plain_before (drop at text) (end - at) no_break (omega (arith, run.in_range, length-drop at text));
+        };
+      }
+
+  broken : end < length text → is_byte2 13 10 (get_or (drop at text) (end - at) 0) ≡ true
+  broken inside =
+      let same : at + (end - at) ≡ end = omega (arith, run.ordered) in
+      not-false _ (ap is_plain (get_or-drop at text (end - at) 0 ∙ ap (λ n. get_or text n 0) same) ∙ run.stops inside)
+
+  pub ends_no_line : ((more : List ℕ) → drop end text ≡ line_end ++ more → ⊥) → (line rest : List ℕ) → BeginsWithLine (drop at text) line rest → ⊥
+  ends_no_line other line rest b =
+      elim (cases_lt end (length text)) [
+        | inl inside ↦ ended_elsewhere (drop at text) (end - at) (broken inside) no_break (λ more e. other more (sym behind ∙ e)) line rest b
+        | inr whole ↦ unended (drop at text) (λ k l h. no_break k (omega (arith, l, whole, length-drop at text)) h) line rest b
+      ]

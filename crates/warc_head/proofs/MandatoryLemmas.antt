@@ -1,9 +1,20 @@
 -- The values of a name among fields, of which the last was looked at.
-use Rattle.std.proofs.Common.{◌≡◌, ◌<◌, ℕ, Bool, true, false, ◌&&◌, nat_lt, List, [], ◌∷◌, ◌++◌, length, codes, Ok, refl, ap, arith}
+use Rattle.std.proofs.Common.{◌≡◌, ◌<◌, ℕ, Bool, true, false, ◌&&◌, nat_lt, List, [], ◌∷◌, ◌++◌, length, codes, Ok, refl, sym, ap, ◌∙◌, append-nil, arith}
 use Rattle.std.proofs.lemmas.Bool.Decides.{nat_tests}
+use Rattle.std.proofs.lemmas.List.{length-map}
+use Rattle.std.proofs.lemmas.Slice.Eq.{bytes_eq-Decides}
+use Rattle.std.specs.Char.{to_ascii_lowercase}
+use Rattle.std.specs.Str.{str_to_ascii_lowercase}
+use Rattle.warc_head.proofs.LineLemmas.{false_of}
 use Rattle.warc_head.specs.Fields.{Field, first_value, value_of, values_of}
 use Rattle.warc_head.specs.Names.{same_name}
 use Rattle.warc_head.specs.Mandatory.{found, mandatory, none_missing, none_repeated, required, values_in}
+
+-- names of different lengths aren't the same
+other_length : (name wanted : List ℕ) → (length name ≡ length wanted → ⊥) → same_name name wanted ≡ false
+other_length name wanted other = false_of _ (λ same. other
+    (sym (length-map name to_ascii_lowercase)
+    ∙ (ap length ((bytes_eq-Decides (str_to_ascii_lowercase name) (str_to_ascii_lowercase wanted)).0 same) ∙ length-map wanted to_ascii_lowercase)))
 
 module _ (wanted : List ℕ) (last : Field) where
   last_is : (t : Bool) → same_name last.name wanted ≡ t → values_of wanted (last ∷ []) ≡ values_in wanted last
@@ -18,6 +29,10 @@ module _ (wanted : List ℕ) (last : Field) where
   pub values_more : (fields : List Field) → values_of wanted (fields ++ last ∷ []) ≡ values_of wanted fields ++ values_in wanted last
   values_more [] = last_is (same_name last.name wanted) refl
   values_more (first ∷ fields) = first_is (same_name first.name wanted) first fields (last ∷ []) refl (values_more fields)
+
+  -- a field of a name of another length adds none
+  pub values_same : (fields : List Field) → (length last.name ≡ length wanted → ⊥) → values_of wanted (fields ++ last ∷ []) ≡ values_of wanted fields
+  values_same fields other = values_more fields ∙ rw (other_length last.name wanted other) (append-nil (values_of wanted fields))
 
 -- the value of a field that occurs once is the one that is required
 pub required_is : (name : List ℕ) (fields : List Field) (value : List ℕ) → values_of name fields ≡ value ∷ [] → required name fields ≡ Ok value

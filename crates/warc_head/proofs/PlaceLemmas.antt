@@ -20,7 +20,7 @@ all_within : (n m : ℕ) (places : List Place) → n ≤ m → All (IsWithin n) 
 all_within n m places l h = λ k d b. within_more n m _ l (h k d b)
 
 -- bytes that are appended change nothing before them
-between_more : (text more : List ℕ) (i j : ℕ) → i ≤ j → j ≤ length text → between i j (text ++ more) ≡ between i j text
+pub between_more : (text more : List ℕ) (i j : ℕ) → i ≤ j → j ≤ length text → between i j (text ++ more) ≡ between i j text
 between_more text more i j l m =
     ap (take (j - i)) (drop-append-le i text more (omega arith)) ∙ take-append-le (j - i) (drop i text) more (simp length-drop (omega arith))
 
@@ -70,15 +70,12 @@ field_moved : (front text : List ℕ) (p : Place) → field_at (front ++ text) (
 field_moved front text p = λ i. record { name = between_moved front text p.name_start p.name_end i; value = between_moved front text p.value_start p.value_end i }
 
 -- a field of a line that stands in a text
-module _ (text front line back more : List ℕ) (places : List Place) (p : Place) (held : text ≡ (front ++ (line ++ back)) ++ more) (inside : IsWithin (length line) p) where
-  regrouped : text ≡ front ++ (line ++ (back ++ more))
-  regrouped = held ∙ simp append_assoc
-
-  size : length text ≡ length front + length line + length back + length more
-  size = ap length regrouped ∙ simp length-append (omega arith)
+module _ (text front line back : List ℕ) (places : List Place) (p : Place) (held : text ≡ front ++ (line ++ back)) (inside : IsWithin (length line) p) where
+  size : length text ≡ length front + length line + length back
+  size = ap length held ∙ simp length-append (omega arith)
 
   new_field : field_at text (moved (length front) p) ≡ field_at line p
-  new_field = ap (λ t. field_at t (moved (length front) p)) regrouped ∙ (field_moved front (line ++ (back ++ more)) p ∙ field_more line (back ++ more) p inside)
+  new_field = ap (λ t. field_at t (moved (length front) p)) held ∙ (field_moved front (line ++ back) p ∙ field_more line back p inside)
 
   pub field_added : fields_at text (places ++ moved (length front) p ∷ []) ≡ fields_at text places ++ field_at line p ∷ []
   field_added = map-append (field_at text) places (moved (length front) p ∷ []) ∙ ap (λ f. fields_at text places ++ f ∷ []) new_field

@@ -1,9 +1,9 @@
 -- White space at the ends of a text, and the place of the text between it.
-use Rattle.std.proofs.Common.{◌≡◌, ◌∙◌, ℕ, ◌+◌, ◌-◌, ◌≤◌, ◌<◌, Bool, true, false, List, [], ◌∷◌, ◌++◌, length, take, drop, reverse, refl, sym, ap, arith, length-append, append_assoc, if◌then◌else◌}
-use Rattle.std.proofs.lemmas.List.{reverse-append, reverse-reverse, length-drop, take-append-drop}
+use Rattle.std.proofs.Common.{◌≡◌, ◌∙◌, ℕ, ◌+◌, ◌-◌, ◌≤◌, Bool, true, false, List, [], ◌∷◌, ◌++◌, length, take, drop, reverse, refl, sym, ap, arith, length-append, append_assoc, if◌then◌else◌, subst}
+use Rattle.std.proofs.lemmas.List.{reverse-append, reverse-reverse, length-drop, take-append-drop, drop-drop, length-take-le}
 use Rattle.std.proofs.Math.Seq.{drop-append_seam, take-append_seam}
-use Rattle.warc_head.specs.Lines.{is_space, trim_front, trim_end, trim}
-use Rattle.warc_head.specs.Places.{between}
+use Rattle.warc_head.specs.Lines.{is_space, trim_front, trim_end}
+use Rattle.warc_head.specs.Places.{between, IsTrimmed}
 
 front_if : (t : Bool) (b : ℕ) (bs : List ℕ) → (before : List ℕ) × (bs ≡ before ++ trim_front bs) → (before : List ℕ) × (b ∷ bs ≡ before ++ (if t then trim_front bs else b ∷ bs))
 front_if true b bs p = (b ∷ p.0, ap (λ t. b ∷ t) p.1)
@@ -18,38 +18,53 @@ trimmed_end bs =
     let p = trimmed_front (reverse bs) in
     (reverse p.0, sym (reverse-reverse bs) ∙ (ap reverse p.1 ∙ reverse-append p.0 (trim_front (reverse bs))))
 
--- a text behind a first part of a line
-module _ (line : List ℕ) (at : ℕ) where
-  abbrev pub later : List ℕ
-  later = drop (at + 1) line
+-- the bytes between two offsets, of which some in front and some behind are left out
+between_part : (text : List ℕ) (from to : ℕ) (before middle after : List ℕ) → between from to text ≡ before ++ (middle ++ after)
+    → between (from + length before) (from + length before + length middle) text ≡ middle
+between_part text from to before middle after e =
+    let rest = drop (to - from) (drop from text) in
+    let size : from + length before + length middle - (from + length before) ≡ length middle = omega arith in
+    let whole : drop from text ≡ before ++ (middle ++ (after ++ rest)) =
+    sym (take-append-drop (to - from) (drop from text)) ∙ (ap (λ t. t ++ rest) e ∙ simp append_assoc) in
+    let behind : drop (from + length before) text ≡ middle ++ (after ++ rest) =
+    sym (drop-drop (length before) from text) ∙ (ap (drop (length before)) whole ∙ drop-append_seam before (middle ++ (after ++ rest))) in
+    (λ i. take (size i) (behind i)) ∙ take-append_seam middle (after ++ rest)
 
-  abbrev pub front : List ℕ
-  front = trim_front later
+-- where the bytes between two offsets stand without the white space at both ends
+module _ (text : List ℕ) (from to : ℕ) (order : from ≤ to) (within : to ≤ length text)
+    (front end : List ℕ) (front_is : front ≡ trim_front (between from to text)) (end_is : end ≡ trim_end front) where
+  abbrev bytes : List ℕ
+  bytes = between from to text
 
   abbrev before : List ℕ
-  before = take (at + 1) line ++ (trimmed_front later).0
+  before = (trimmed_front bytes).0
 
-  line_is : line ≡ before ++ front
-  line_is = sym (take-append-drop (at + 1) line) ∙ (ap (λ t. take (at + 1) line ++ t) (trimmed_front later).1 ∙ sym (append_assoc (take (at + 1) line) (trimmed_front later).0 front))
+  abbrev after : List ℕ
+  after = (trimmed_end front).0
 
-  front_is : front ≡ trim_end front ++ (trimmed_end front).0
-  front_is = (trimmed_end front).1
+  front_whole : front ≡ end ++ after
+  front_whole = (trimmed_end front).1 ∙ ap (λ t. t ++ after) (sym end_is)
 
-  later_size : length later ≡ length (trimmed_front later).0 + length front
-  later_size = ap length (trimmed_front later).1 ∙ length-append _ front
+  whole : bytes ≡ before ++ front
+  whole = (trimmed_front bytes).1 ∙ ap (λ t. before ++ t) (sym front_is)
 
-  pub front_size : at < length line → length front + at + 1 ≤ length line
-  front_size below = omega (arith, later_size, length-drop (at + 1) line)
+  size : to - from ≡ length before + length front
+  size = sym (length-take-le (to - from) (drop from text) (omega (arith, order, within, length-drop from text))) ∙ (ap length whole ∙ length-append before front)
 
-  pub end_size : length (trim_end front) ≤ length front
-  end_size = omega (arith, ap length front_is, length-append (trim_end front) (trimmed_end front).0)
+  end_size : length front ≡ length end + length after
+  end_size = ap length front_whole ∙ length-append end after
 
-  drop_front : drop (length line - length front) line ≡ front
-  drop_front =
-      let e : length line - length front ≡ length before = omega (arith, ap length line_is, length-append before front) in
-      (λ i. drop (e i) (line_is i)) ∙ drop-append_seam before front
+  pub front_fits : length front ≤ to
+  front_fits = omega (arith, size)
 
-  pub value_is : between (length line - length front) (length line - length front + length (trim_end front)) line ≡ trim later
-  value_is =
-      let e : length line - length front + length (trim_end front) - (length line - length front) ≡ length (trim_end front) = omega arith in
-      (λ i. take (e i) (drop_front i)) ∙ (ap (take (length (trim_end front))) front_is ∙ take-append_seam (trim_end front) (trimmed_end front).0)
+  pub is_trimmed : IsTrimmed text from to (to - length front) (to - length front + length end)
+  is_trimmed =
+      let start : from + length before ≡ to - length front = omega (arith, size, order) in
+      record {
+        low = omega (arith, size, order);
+        order = omega arith;
+        high = omega (arith, size, order, end_size);
+        value = subst (λ n. between n (n + length end) text ≡ end) start
+            (between_part text from to before end after (whole ∙ ap (λ t. before ++ t) front_whole))
+            ∙ (end_is ∙ ap trim_end front_is);
+      }

@@ -1,6 +1,6 @@
 -- The named fields of a head (ISO 28500:2017, clauses 4 and 5).
 use Rattle.std.specs.Option.{option_map}
-use Rattle.std.specs.Prelude.{ℕ, ◌==◌, List, [], ◌∷◌, ◌++◌, filter, map, Option, None, Some, Result, Ok, Err, if◌then◌else◌}
+use Rattle.std.specs.Prelude.{ℕ, ◌==◌, Bool, not, List, [], ◌∷◌, ◌++◌, filter, map, Option, None, Some, Result, Ok, Err, if◌then◌else◌}
 use Rattle.warc_head.specs.Bytes.{space, colon}
 use Rattle.warc_head.specs.declared.fault.HeadFault.{HeadFault}
 use Rattle.warc_head.specs.declared.fault.HeadFault.TheVariants as faults
@@ -11,6 +11,9 @@ use Rattle.warc_head.specs.Names.{is_name, same_name}
 pub record Field : Type 0 where
   pub name : List ℕ
   pub value : List ℕ
+
+abbrev pub is_no_colon : ℕ → Bool
+is_no_colon b = not (b == colon)
 
 -- the text before the first colon, and the text after it
 unfoldable pub at_colon : List ℕ → Option (List ℕ × List ℕ)

@@ -10,5 +10,6 @@ pub mod Date
 pub mod Kind
 pub mod Parts
 pub mod Places
+pub mod Said
 pub mod Spelling
 pub mod Folding

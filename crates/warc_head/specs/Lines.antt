@@ -1,5 +1,5 @@
 -- The lines of a head, each ended by CR LF (ISO 28500:2017, clause 4).
-use Rattle.std.specs.Prelude.{◌≡◌, ℕ, ◌-◌, ◌==◌, ◌&&◌, ◌||◌, not, nat_eq, Bool, true, false, List, [], ◌∷◌, ◌++◌, length, take, reverse, Result, Ok, Err, if◌then◌else◌}
+use Rattle.std.specs.Prelude.{◌≡◌, ℕ, ◌+◌, ◌-◌, ◌≤◌, ◌==◌, ◌&&◌, ◌||◌, not, nat_eq, Bool, true, false, List, [], ◌∷◌, ◌++◌, length, take, drop, reverse, Result, Ok, Err, if◌then◌else◌}
 use Rattle.std.specs.List.{ends_with, list_all}
 use Rattle.warc_head.specs.Bytes.{tab, lf, cr, space}
 use Rattle.warc_head.specs.declared.fault.HeadFault.{HeadFault}
@@ -36,6 +36,12 @@ line_content line =
 pub record BeginsWithLine (text line rest : List ℕ) : Type 0 where
   pub spelled : text ≡ line ++ (line_end ++ rest)
   pub plain : list_all is_plain line ≡ true
+
+-- the line from this offset on ends with the CR LF at another
+pub record EndsLine (text : List ℕ) (at end : ℕ) : Type 0 where
+  pub order : at ≤ end
+  pub within : end + 2 ≤ length text
+  pub line : BeginsWithLine (drop at text) (take (end - at) (drop at text)) (drop (end + 2) text)
 
 -- the line goes on with the field before it
 abbrev pub continues : List ℕ → Bool

@@ -18,6 +18,11 @@ pub record HeadParts : Type 0 where
   -- in the order of their lines
   pub fields : List Field
 
+-- a head's text, and what it says
+pub record HeadRead : Type 0 where
+  pub raw : List ℕ
+  pub parts : HeadParts
+
 unfoldable pub length_in : List Field → Result ℕ HeadFault
 length_in fields = required (codes "Content-Length") fields >>= length_of
 

@@ -3,6 +3,7 @@ use Rattle.std.specs.Prelude.{◌≡◌, ℕ, ◌+◌, ◌-◌, ◌≤◌, List,
 use Rattle.warc_head.specs.Bytes.{space}
 use Rattle.warc_head.specs.declared.places.Place.{Place}
 use Rattle.warc_head.specs.Fields.{Field}
+use Rattle.warc_head.specs.Lines.{trim}
 
 -- a place in a text of this length
 pub record IsWithin (size : ℕ) (p : Place) : Type 0 where
@@ -21,6 +22,13 @@ field_at text p = record { name = between p.name_start p.name_end text; value = 
 
 abbrev pub fields_at : List ℕ → List Place → List Field
 fields_at text places = map (field_at text) places
+
+-- from one offset to another the bytes stand that are left of those between two offsets without the white space at both ends
+pub record IsTrimmed (text : List ℕ) (from to start end : ℕ) : Type 0 where
+  pub low : from ≤ start
+  pub order : start ≤ end
+  pub high : end ≤ to
+  pub value : between start end text ≡ trim (between from to text)
 
 -- a place in a text that begins so many bytes earlier
 abbrev pub moved : ℕ → Place → Place

@@ -2,32 +2,39 @@
 ghost use Rattle.std.specs.Prelude.{◌≡◌, ◌⊎◌, ◌≤◌, ◌++◌, List, [], ◌∷◌, length, drop, All, OnOk, IfOk, IfErr};
 ghost use Rattle.warc_head.specs.declared.fault.HeadFault.TheVariants.{FieldLine, Memory};
 ghost use Rattle.warc_head.specs.Fields.{Field, longer};
-ghost use Rattle.warc_head.specs.Places.{Continues, IsWithin, field_at, fields_at, joint};
+ghost use Rattle.warc_head.specs.Lines.{trim};
+ghost use Rattle.warc_head.specs.Places.{Continues, IsWithin, between, field_at, fields_at, joint};
 
 use crate::fault::HeadFault;
+use crate::lines::trimmed;
 use crate::places::Place;
 use std::alloc::AllocError;
 
-/// Appends a piece to the value of the last field. The value is moved to the end of the text first. The error is
-/// `FieldLine` if there is no field.
+/// Appends the line between two offsets, without the white space at its ends, to the value of the last field. The value
+/// is moved to the end of the text first. The error is `FieldLine` if there is no field.
 pub fn continue_field(
     text: &mut Vec<u8>,
     places: &mut Vec<Place>,
-    piece: &[u8],
+    from: usize,
+    to: usize,
 ) -> Result<(), HeadFault>
-    requires { All (IsWithin (length text.old.items)) places.old.items }
+    requires order { from ≤ to }
+    requires line { to ≤ length text.old.items }
+    requires places { All (IsWithin (length text.old.items)) places.old.items }
     ensures text { OnOk result (Continues text.old.items text.new.items) }
     ensures within { OnOk result (All (IsWithin (length text.new.items)) places.new.items) }
     ensures fields { OnOk result ((before : List Field) × (last : Field)
         × (fields_at text.old.items places.old.items ≡ before ++ last ∷ [])
-        × (fields_at text.new.items places.new.items ≡ before ++ longer last piece.now ∷ [])) }
+        × (fields_at text.new.items places.new.items
+        ≡ before ++ longer last (trim (between from to text.old.items)) ∷ [])) }
     ensures err { IfErr result (λ e. (e ≡ Memory) ⊎ ((e ≡ FieldLine) × (places.old.items ≡ []))) }
 {
     let Some(last) = places.pop() else {
         return Err(HeadFault::FieldLine);
     };
+    let (start, end) = trimmed(text, from, to);
     let value_start = value_at_end(text, last)?;
-    join(text, value_start, piece)?;
+    join(text, value_start, start, end)?;
     places.push(Place {
         value_start,
         value_end: text.len(),
@@ -42,7 +49,8 @@ fn value_at_end(text: &mut Vec<u8>, place: Place) -> Result<usize, AllocError>
     requires { IsWithin (length text.old.items) place }
     ensures text { OnOk result (Continues text.old.items text.new.items) }
     ensures within { IfOk result (λ start. start ≤ length text.new.items) }
-    ensures value { IfOk result (λ start. drop start text.new.items ≡ (field_at text.old.items place).value) }
+    ensures value { IfOk result (λ start. drop start text.new.items ≡
+        (field_at text.old.items place).value) }
 {
     if place.value_end == text.len() {
         return Ok(place.value_start);
@@ -52,14 +60,17 @@ fn value_at_end(text: &mut Vec<u8>, place: Place) -> Result<usize, AllocError>
     Ok(start)
 }
 
-/// Appends a piece to a text that ends with a value, which begins at this offset.
-fn join(text: &mut Vec<u8>, value: usize, piece: &[u8]) -> Result<(), AllocError>
-    requires { value ≤ length text.old.items }
-    ensures { OnOk result (text.new.items ≡ text.old.items ++ joint (drop value text.old.items) piece.now) }
+/// Appends the piece between two offsets to a text that ends with a value, which begins at this offset.
+fn join(text: &mut Vec<u8>, value: usize, start: usize, end: usize) -> Result<(), AllocError>
+    requires value { value ≤ length text.old.items }
+    requires order { start ≤ end }
+    requires piece { end ≤ length text.old.items }
+    ensures { OnOk result (text.new.items
+        ≡ text.old.items ++ joint (drop value text.old.items) (between start end text.old.items)) }
 {
-    let space = space_between(&text[value..], piece);
+    let space = space_between(&text[value..], &text[start..end]);
     text.extend_from_slice(space)?;
-    text.extend_from_slice(piece)?;
+    text.extend_from_within(start..end)?;
     Ok(())
 }
 

@@ -1,8 +1,9 @@
 //! The date of a record, and its stamp.
+ghost use Rattle.std.specs.List.{list_all, zip};
 ghost use Rattle.std.specs.Prelude.{◌≡◌, ⊤, ◌≤◌, ◌<◌, ◌+◌, length, MatchOption, true, IfOk};
 ghost use Rattle.warc_head.specs.Answers.{Answers};
 ghost use Rattle.warc_head.specs.Length.{all_digits};
-ghost use Rattle.warc_head.specs.Date.{fits, is_fraction, has_fraction, date_length, full_date, two, to_the_second, is_moment, digits_of, stamp_of};
+ghost use Rattle.warc_head.specs.Date.{fits, fits_byte, is_fraction, has_fraction, date_length, full_date, two, to_the_second, is_moment, digits_of, stamp_of};
 
 use crate::calendar::date_exists;
 use crate::fault::HeadFault;
@@ -48,29 +49,30 @@ fn date_length(text: &[u8]) -> Option<usize>
 }
 
 /// Returns `true` if the text has the form, in which 0 stands for any digit.
-#[tactic(auto, unfolding(crate::specs::Date::fits))]
+#[tactic(auto, using(crate::proofs::DateLemmas::fits_by_zip))]
 fn fits(form: &[u8], text: &[u8]) -> bool
     ensures { result ≡ fits form.now text.now }
 {
-    let mut left = form;
-    let mut rest = text;
-    loop {
-        let Some((first, more)) = left.split_first() else {
-            return rest.is_empty();
-        };
-        let Some((byte, later)) = rest.split_first() else {
-            return false;
-        };
-        let same = if *first == b'0' {
-            byte.is_ascii_digit()
-        } else {
-            *byte == *first
-        };
-        if !same {
-            return false;
-        }
-        left = more;
-        rest = later;
+    form.len() == text.len() && agrees(form, text)
+}
+
+/// Returns `true` if the text has the form as far as both go.
+fn agrees(form: &[u8], text: &[u8]) -> bool
+    ensures { result ≡ list_all (λ p. fits_byte p.0 p.1) (zip form.now text.now) }
+{
+    form.iter()
+        .zip(text)
+        .all(|(first, byte)| fits_byte(*first, *byte))
+}
+
+/// Returns `true` if the byte is one that the form has here.
+fn fits_byte(form: u8, byte: u8) -> bool
+    ensures { result ≡ fits_byte form byte }
+{
+    if form == b'0' {
+        byte.is_ascii_digit()
+    } else {
+        byte == form
     }
 }
 

@@ -1,45 +1,56 @@
 //! The lines of a head's fields.
-ghost use Rattle.std.specs.Prelude.{◌≡◌, length, MatchOption, Some, Ok, Err};
+ghost use Rattle.std.specs.Prelude.{◌≡◌, length, All, MatchOption, Some, IfOk, OnOk, Ok, Err};
 ghost use Rattle.memchr.specs.Find.{IsFirstByte, is_byte};
 ghost use Rattle.warc_head.specs.Answers.{Answers};
 ghost use Rattle.warc_head.specs.declared.fault.HeadFault.TheVariants.{FieldLine};
 ghost use Rattle.warc_head.specs.Fields.{field_in, fields_of};
-ghost use Rattle.warc_head.specs.Places.{IsWithin, field_at};
+ghost use Rattle.warc_head.specs.Parts.{body_of};
+ghost use Rattle.warc_head.specs.Places.{Continues, IsWithin, field_at, fields_at};
 
 use crate::continuing::continue_field;
 use crate::fault::HeadFault;
-use crate::fields::Fields;
-use crate::lines::{continues, next_line, trim, trim_end, trim_front};
+use crate::lanes::{HALF_LANES, LANES, run_to_colon, run_to_colon_half};
+use crate::lines::{continues, line_end, trimmed};
 use crate::names::is_name;
 use crate::places::Place;
 use memchr::memchr_iter;
 use std::alloc::Global;
 
+/// The length of a version line in bytes: `WARC/1.1` or `WARC/1.0`, and CR LF.
+const VERSION_LINE: usize = 10;
+
+/// The length of the empty line in bytes.
+const EMPTY_LINE: usize = 2;
+
 /// The initial capacity of a list of fields, enough for most heads.
 const USUAL_FIELDS: usize = 16;
 
-/// Reads the fields from the lines between the version line and the empty line.
-pub fn fields_of(alloc: Global, body: &[u8]) -> Result<Fields, HeadFault>
-    ensures { Answers (λ f. f) result (fields_of body.now) }
+/// Returns the places of the fields on the lines between the version line and the empty line of a head's text. The value
+/// of a field that takes several lines is appended to the text.
+pub fn read_fields(alloc: Global, text: &mut Vec<u8>) -> Result<Vec<Place>, HeadFault>
+    ensures answer { Answers (λ places. fields_at text.new.items places.items) result
+        (fields_of (body_of text.old.items)) }
+    ensures text { OnOk result (Continues text.old.items text.new.items) }
+    ensures within { IfOk result (λ places. All (IsWithin (length text.new.items)) places.items) }
 {
-    let mut text = Vec::from_slice(alloc, body)?;
     let mut places = Vec::with_capacity(alloc, USUAL_FIELDS)?;
-    let mut rest = body;
-    while !rest.is_empty() {
-        let Some((line, later)) = next_line(rest) else {
+    let end = text.len().saturating_sub(EMPTY_LINE);
+    let mut at = VERSION_LINE;
+    'lines: while at < end {
+        let Some(stop) = line_end(&text[..end], at) else {
             return Err(HeadFault::FieldLine);
         };
-        if continues(line) {
-            continue_field(&mut text, &mut places, trim(line))?;
+        if continues(&text[at..stop]) {
+            continue_field(text, &mut places, at, stop)?;
         } else {
-            let Some(place) = field_in(line) else {
+            let Some(place) = field_in(&text[at..stop]) else {
                 return Err(HeadFault::FieldLine);
             };
-            places.push(place.moved(body.len() - rest.len()))?;
+            places.push(place.moved(at))?;
         }
-        rest = later;
+        at = stop + 2;
     }
-    Ok(Fields::new(text, places))
+    Ok(places)
 }
 
 /// Returns the place of the field that begins on a line.
@@ -53,19 +64,29 @@ fn field_in(line: &[u8]) -> Option<Place>
     if !is_name(&line[..name_end]) {
         return None;
     }
-    let value = trim_front(&line[name_end + 1..]);
-    let value_start = line.len() - value.len();
+    let (value_start, value_end) = trimmed(line, name_end + 1, line.len());
     Some(Place {
         name_start: 0,
         name_end,
         value_start,
-        value_end: value_start + trim_end(value).len(),
+        value_end,
     })
 }
 
-/// Returns the offset of the first colon. For one that is near, the iterator is faster than `memchr`.
+/// Returns the offset of the first colon. Most stand among the first bytes.
 fn colon(line: &[u8]) -> Option<usize>
     ensures { IsFirstByte (is_byte 58) line.now result }
 {
+    if line.len() >= LANES {
+        let run = run_to_colon(line, 0);
+        if run < LANES {
+            return Some(run);
+        }
+    } else if line.len() >= HALF_LANES {
+        let run = run_to_colon_half(line, 0);
+        if run < HALF_LANES {
+            return Some(run);
+        }
+    }
     memchr_iter(b':', line).next()
 }

@@ -8,8 +8,8 @@ mod continuing;
 mod date;
 mod fault;
 mod field_lines;
-mod fields;
 mod kind;
+mod lanes;
 mod laws;
 mod length;
 mod lines;
@@ -22,6 +22,7 @@ mod places;
 
 pub use fault::HeadFault;
 pub use kind::Kind;
+pub use lanes::{LANES, run_to_closing};
 pub use laws::{fields_are_spelled, spelling_reads_back};
 pub use lines::trim;
 pub use parts::{Parts, read_parts};

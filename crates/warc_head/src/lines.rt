@@ -1,27 +1,57 @@
 //! The lines of a head.
-ghost use Rattle.std.specs.Prelude.{◌≡◌, ℕ, List, MatchOption};
-ghost use Rattle.memchr.specs.Find.{IsFirstByte, is_byte2};
-ghost use Rattle.warc_head.specs.Lines.{BeginsWithLine, continues, is_space, trim_front, trim_end, trim};
+ghost use Rattle.std.specs.Prelude.{◌≡◌, ◌≤◌, ℕ, List, MatchOption, length, drop};
+ghost use Rattle.httparse.specs.Pieces.{IsRunAt};
+ghost use Rattle.warc_head.specs.Lines.{BeginsWithLine, EndsLine, continues, is_plain, is_space, trim_front, trim_end, trim};
+ghost use Rattle.warc_head.specs.Places.{IsTrimmed};
 
-use memchr::memchr2_iter;
+use crate::lanes::{HALF_LANES, LANES, run_to_break, run_to_break_half};
 
-/// Returns the text of the first line, without the CR LF that ends it, and the text that follows the line. Returns `None`
-/// if another CR or LF comes first, or none comes.
-pub fn next_line(text: &[u8]) -> Option<(&[u8], &[u8])>
+/// Returns the offset of the CR LF that ends the line from `at` on. Returns `None` if another CR or LF comes first, or
+/// none comes.
+pub fn line_end(text: &[u8], at: usize) -> Option<usize>
+    requires { at ≤ length text.now }
     ensures { MatchOption result
-        ((line rest : List ℕ) → ¬ (BeginsWithLine text.now line rest))
-        (λ p. BeginsWithLine text.now p.0.now p.1.now) }
+        ((line rest : List ℕ) → ¬ (BeginsWithLine (drop at text.now) line rest))
+        (EndsLine text.now at) }
 {
-    let end = line_break(text)?;
-    let (line, rest) = text.split_at(end);
-    Some((line, rest.strip_prefix(b"\r\n")?))
+    let end = plain_end(text, at);
+    if text[end..].starts_with(b"\r\n") {
+        Some(end)
+    } else {
+        None
+    }
 }
 
-/// Returns the offset of the first CR or LF. For one that is near, the iterator is faster than `memchr2`.
-fn line_break(text: &[u8]) -> Option<usize>
-    ensures { IsFirstByte (is_byte2 13 10) text.now result }
+/// Returns the offset of the first CR or LF from `from` on, or the text's length.
+fn plain_end(text: &[u8], from: usize) -> usize
+    requires { from ≤ length text.now }
+    ensures { IsRunAt is_plain text.now from result }
 {
-    memchr2_iter(b'\r', b'\n', text).next()
+    let mut at = from;
+    'wide: while text.len() - at >= LANES {
+        let run = run_to_break(text, at);
+        if run < LANES {
+            return at + run;
+        }
+        at += LANES;
+    }
+    'narrow: while text.len() - at >= HALF_LANES {
+        let run = run_to_break_half(text, at);
+        if run < HALF_LANES {
+            return at + run;
+        }
+        at += HALF_LANES;
+    }
+    'bytes: while at < text.len() && is_plain(text[at]) {
+        at += 1;
+    }
+    at
+}
+
+fn is_plain(byte: u8) -> bool
+    ensures { result ≡ is_plain byte }
+{
+    !(byte == b'\r' || byte == b'\n')
 }
 
 fn is_space(byte: u8) -> bool
@@ -45,6 +75,17 @@ pub fn trim(text: &[u8]) -> &[u8]
     ensures { result.now ≡ trim text.now }
 {
     trim_end(trim_front(text))
+}
+
+/// Returns the offsets between which the bytes from one offset to another stand without the white space at both ends.
+pub fn trimmed(text: &[u8], from: usize, to: usize) -> (usize, usize)
+    requires order { from ≤ to }
+    requires within { to ≤ length text.now }
+    ensures { IsTrimmed text.now from to result.0 result.1 }
+{
+    let front = trim_front(&text[from..to]);
+    let start = to - front.len();
+    (start, start + trim_end(front).len())
 }
 
 /// Returns the text without the white space at its start.

@@ -21,9 +21,12 @@ pub struct Mandatory<'a> {
 pub fn mandatory_values<'a>(text: &'a [u8], places: &[Place]) -> Result<Mandatory<'a>, HeadFault>
     requires { All (IsWithin (length text.now)) places.now }
     ensures once { IfOk result (λ _. each_once (fields_at text.now places.now) ≡ Ok tt) }
-    ensures length { IfOk result (λ m. required (codes "Content-Length") (fields_at text.now places.now) ≡ Ok m.length.now) }
-    ensures date { IfOk result (λ m. required (codes "WARC-Date") (fields_at text.now places.now) ≡ Ok m.date.now) }
-    ensures kind { IfOk result (λ m. required (codes "WARC-Type") (fields_at text.now places.now) ≡ Ok m.kind.now) }
+    ensures length { IfOk result (λ m. required (codes "Content-Length")
+        (fields_at text.now places.now) ≡ Ok m.length.now) }
+    ensures date { IfOk result (λ m. required (codes "WARC-Date") (fields_at text.now places.now)
+        ≡ Ok m.date.now) }
+    ensures kind { IfOk result (λ m. required (codes "WARC-Type") (fields_at text.now places.now)
+        ≡ Ok m.kind.now) }
     ensures err { IfErr result (λ e. each_once (fields_at text.now places.now) ≡ Err e) }
 {
     let found = occurrences_in(text, places);

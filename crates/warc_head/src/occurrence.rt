@@ -15,15 +15,15 @@ impl Occurrence {
     ghost use Rattle.warc_head.specs.Mandatory.{Occurs, values_in};
     ghost use Rattle.warc_head.specs.Places.{IsWithin, field_at};
 
-    /// Returns the occurrence of the wanted name after the field at this place.
-    pub fn with_field(self, text: &[u8], wanted: &[u8], place: Place) -> Occurrence
+    /// Counts the field at this place, if it has the wanted name.
+    #[inline(always)]
+    pub fn count(&mut self, text: &[u8], wanted: &[u8], place: Place)
         requires { IsWithin (length text.now) place }
-        ensures { (values : List (List ℕ)) → Occurs text.now values self → Occurs text.now (values ++ values_in wanted.now (field_at text.now place)) result }
+        ensures { (values : List (List ℕ)) → Occurs text.now values self.old
+            → Occurs text.now (values ++ values_in wanted.now (field_at text.now place)) self.new }
     {
         if same_name(place.name(text), wanted) {
-            self.with_place(place)
-        } else {
-            self
+            *self = self.with_place(place);
         }
     }
 
@@ -38,13 +38,15 @@ impl Occurrence {
     }
 
     pub fn is_some(self) -> bool
-        ensures { (text : List ℕ) (values : List (List ℕ)) → Occurs text values self → result ≡ nat_lt 0 (length values) }
+        ensures { (text : List ℕ) (values : List (List ℕ)) → Occurs text values self → result
+            ≡ nat_lt 0 (length values) }
     {
         !matches!(self, Occurrence::Never)
     }
 
     pub fn is_repeated(self) -> bool
-        ensures { (text : List ℕ) (values : List (List ℕ)) → Occurs text values self → not result ≡ nat_lt (length values) 2 }
+        ensures { (text : List ℕ) (values : List (List ℕ)) → Occurs text values self → not result
+            ≡ nat_lt (length values) 2 }
     {
         matches!(self, Occurrence::Repeated)
     }
@@ -52,7 +54,8 @@ impl Occurrence {
     /// Returns the value of a field that occurs once.
     pub fn value(self, text: &[u8]) -> &[u8]
         requires { (values : List (List ℕ)) × Occurs text.now values self }
-        ensures { (values : List (List ℕ)) → Occurs text.now values self → 0 < length values → length values < 2 → values ≡ result.now ∷ [] }
+        ensures { (values : List (List ℕ)) → Occurs text.now values self → 0 < length values
+            → length values < 2 → values ≡ result.now ∷ [] }
     {
         match self {
             Occurrence::Once(place) => place.value(text),

@@ -32,29 +32,34 @@ impl Occurrences {
         }
     }
 
-    /// Returns the occurrences after the field at this place.
-    fn with_field(self, text: &[u8], place: Place) -> Occurrences
+    /// Counts the field at this place. Only names of the length of its own are compared with it.
+    fn count(&mut self, text: &[u8], place: Place)
         requires { IsWithin (length text.now) place }
-        ensures { (fields : List Field) → AllOccur text.now fields self → AllOccur text.now (fields ++ field_at text.now place ∷ []) result }
+        ensures { (fields : List Field) → AllOccur text.now fields self.old
+            → AllOccur text.now (fields ++ field_at text.now place ∷ []) self.new }
     {
-        Occurrences {
-            record_id: self.record_id.with_field(text, b"WARC-Record-ID", place),
-            length: self.length.with_field(text, b"Content-Length", place),
-            date: self.date.with_field(text, b"WARC-Date", place),
-            kind: self.kind.with_field(text, b"WARC-Type", place),
+        let size = place.name(text).len();
+        if size == 9 {
+            self.date.count(text, b"WARC-Date", place);
+            self.kind.count(text, b"WARC-Type", place);
+        } else if size == 14 {
+            self.record_id.count(text, b"WARC-Record-ID", place);
+            self.length.count(text, b"Content-Length", place);
         }
     }
 
     /// Returns `true` if each mandatory field occurs.
     pub fn none_missing(self) -> bool
-        ensures { (text : List ℕ) (fields : List Field) → AllOccur text fields self → result ≡ none_missing mandatory fields }
+        ensures { (text : List ℕ) (fields : List Field) → AllOccur text fields self → result
+            ≡ none_missing mandatory fields }
     {
         self.record_id.is_some() & self.length.is_some() & self.date.is_some() & self.kind.is_some()
     }
 
     /// Returns `true` if no mandatory field occurs twice.
     pub fn none_repeated(self) -> bool
-        ensures { (text : List ℕ) (fields : List Field) → AllOccur text fields self → result ≡ none_repeated mandatory fields }
+        ensures { (text : List ℕ) (fields : List Field) → AllOccur text fields self → result
+            ≡ none_repeated mandatory fields }
     {
         !self.record_id.is_repeated()
             & !self.length.is_repeated()
@@ -70,7 +75,7 @@ pub fn occurrences_in(text: &[u8], places: &[Place]) -> Occurrences
 {
     let mut found = Occurrences::none();
     for place in places {
-        found = found.with_field(text, *place);
+        found.count(text, *place);
     }
     found
 }

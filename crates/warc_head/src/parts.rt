@@ -1,115 +1,141 @@
 //! The contents of a record's head.
-ghost use Rattle.std.specs.Prelude.{◌≡◌, ◌≤◌, ◌^◌, ◌-◌, true, IfOk};
+ghost use Rattle.std.specs.Prelude.{◌≡◌, ◌≤◌, ◌^◌, ◌-◌, true, length, All, IfOk};
 ghost use Rattle.warc_head.specs.Answers.{Answers};
 ghost use Rattle.warc_head.specs.Length.{all_digits};
-ghost use Rattle.warc_head.specs.Parts.{parts_of, body_of, parts_in};
+ghost use Rattle.warc_head.specs.Parts.{parts_in, parts_of};
+ghost use Rattle.warc_head.specs.Places.{IsWithin, fields_at};
+ghost use Rattle.warc_head.specs.Said.{said_of};
 
 use crate::date::stamp_of;
 use crate::fault::HeadFault;
-use crate::field_lines::fields_of;
-use crate::fields::Fields;
+use crate::field_lines::read_fields;
 use crate::kind::{Kind, kind_of};
 use crate::length::length_of;
+use crate::mandatory::mandatory_values;
+use crate::places::{Place, value_of};
 use std::alloc::Global;
 use std::marker::Model;
 
-/// The contents of a record's head.
+/// The text of a record's head, and what it says.
 #[derive(Drop)]
 pub struct Parts {
+    /// The head's text, and behind it the values of the fields that take several lines.
+    text: Vec<u8>,
+    /// The length of the head's text in bytes.
+    size: usize,
+    places: Vec<Place>,
+    said: Said,
+}
+
+/// What the mandatory fields of a head say.
+#[derive(Clone, Copy)]
+struct Said {
     kind: Kind,
     stamp: [u8; 14],
     length: u64,
-    fields: Fields,
 }
 
 impl Model for Parts {
-    ghost use Rattle.std.specs.Prelude.{◌≡◌, true};
+    ghost use Rattle.std.specs.Prelude.{◌≡◌, ◌≤◌, All, length, take, true};
     ghost use Rattle.warc_head.specs.Length.{all_digits};
-    ghost use Rattle.warc_head.specs.Parts.{HeadParts};
+    ghost use Rattle.warc_head.specs.Parts.{HeadRead};
+    ghost use Rattle.warc_head.specs.Said.{said_of};
+    ghost use Rattle.warc_head.specs.Places.{IsWithin, fields_at};
 
-    ghost Value = { HeadParts };
+    ghost Value = { HeadRead };
 
-    ghost view = { λ p. record { kind = p.kind; stamp = p.stamp; length = p.length; fields = p.fields } };
+    ghost view = { λ p. record {
+      raw = take p.size p.text.items;
+      parts = said_of p.said (fields_at p.text.items p.places.items);
+    } };
 
-    ghost invariant = { λ p. all_digits p.stamp ≡ true };
+    ghost invariant = { λ p. (all_digits p.said.stamp ≡ true)
+        × (p.size ≤ length p.text.items) × All (IsWithin (length p.text.items)) p.places.items };
 }
 
 impl Parts {
     ghost use Rattle.std.specs.Prelude.{MatchOption, None, Some};
     ghost use Rattle.warc_head.specs.Fields.{value_of};
 
+    /// Returns the head's text, from the version line to the empty line.
+    pub fn raw(&self) -> &[u8]
+        ensures { result.now ≡ self.now.raw }
+    {
+        &self.text[..self.size]
+    }
+
     /// Returns the type of the record, from `WARC-Type`, ignoring case.
     pub fn kind(&self) -> Kind
-        ensures { result ≡ self.now.kind }
+        ensures { result ≡ self.now.parts.kind }
     {
-        self.kind
+        self.said.kind
     }
 
     /// Returns the digits of year, month, day, hour, minute and second of `WARC-Date`. An absent month or day is 01; an
     /// absent hour, minute or second is 00. A fraction of the second is dropped.
     pub fn stamp(&self) -> [u8; 14]
-        ensures value { result ≡ self.now.stamp }
+        ensures value { result ≡ self.now.parts.stamp }
         ensures digits { all_digits result ≡ true }
     {
-        self.stamp
+        self.said.stamp
     }
 
     /// Returns the length of the block in bytes, at most 2^63 - 1, from `Content-Length`.
     pub fn length(&self) -> u64
-        ensures { result ≡ self.now.length }
+        ensures { result ≡ self.now.parts.length }
     {
-        self.length
+        self.said.length
     }
 
     /// Returns the value of the first field of this name, ignoring ASCII case.
     pub fn field(&self, name: &[u8]) -> Option<&[u8]>
-        ensures { MatchOption result (value_of name.now self.now.fields ≡ None) (λ v. value_of name.now self.now.fields ≡ Some v.now) }
+        ensures { MatchOption result
+            (value_of name.now self.now.parts.fields ≡ None)
+            (λ v. value_of name.now self.now.parts.fields ≡ Some v.now) }
     {
-        self.fields.value_of(name)
+        value_of(&self.text, &self.places, name)
     }
 }
-
-/// The length of a version line in bytes: `WARC/1.1` or `WARC/1.0`, and CR LF.
-const VERSION_LINE: usize = 10;
 
 /// Reads the text of a head: the version line, the lines of the fields and an empty line, each with its CR LF.
 ///
 /// It checks neither which version the text names nor that the last line is empty. A text that is too short to hold the
 /// first and the last of these lines has no fields.
 #[tactic(auto, unfolding(crate::specs::Parts::parts_of))]
-pub fn read_parts(alloc: Global, raw: &[u8]) -> Result<Parts, HeadFault>
-    ensures answer { Answers (λ p. p) result (parts_of raw.now) }
-    ensures bound { IfOk result (λ p. p.length ≤ 2 ^ 63 - 1) }
-    ensures digits { IfOk result (λ p. all_digits p.stamp ≡ true) }
+pub fn read_parts(alloc: Global, raw: Vec<u8>) -> Result<Parts, HeadFault>
+    ensures answer { Answers (λ p. p.parts) result (parts_of raw.items) }
+    ensures raw { IfOk result (λ p. p.raw ≡ raw.items) }
+    ensures bound { IfOk result (λ p. p.parts.length ≤ 2 ^ 63 - 1) }
+    ensures digits { IfOk result (λ p. all_digits p.parts.stamp ≡ true) }
 {
-    parts_in(fields_of(alloc, body_of(raw))?)
+    let size = raw.len();
+    let mut text = raw;
+    let places = read_fields(alloc, &mut text)?;
+    let said = said_in(&text, &places)?;
+    Ok(Parts {
+        text,
+        size,
+        places,
+        said,
+    })
 }
 
-/// Returns the lines between the version line and the empty line.
-fn body_of(raw: &[u8]) -> &[u8]
-    ensures { result.now ≡ body_of raw.now }
-{
-    if raw.len() < VERSION_LINE + 2 {
-        return &[];
-    }
-    &raw[VERSION_LINE..raw.len() - 2]
-}
-
-/// Reads the contents of a head from its fields.
+/// Returns what the mandatory fields among the fields at these places say.
 #[tactic(auto, unfolding(crate::specs::Parts::parts_in))]
-fn parts_in(fields: Fields) -> Result<Parts, HeadFault>
-    ensures answer { Answers (λ p. p) result (parts_in fields) }
-    ensures bound { IfOk result (λ p. p.length ≤ 2 ^ 63 - 1) }
-    ensures digits { IfOk result (λ p. all_digits p.stamp ≡ true) }
+fn said_in(text: &[u8], places: &[Place]) -> Result<Said, HeadFault>
+    requires { All (IsWithin (length text.now)) places.now }
+    ensures answer { Answers (λ s. said_of s (fields_at text.now places.now)) result
+        (parts_in (fields_at text.now places.now)) }
+    ensures bound { IfOk result (λ s. s.length ≤ 2 ^ 63 - 1) }
+    ensures digits { IfOk result (λ s. all_digits s.stamp ≡ true) }
 {
-    let found = fields.mandatory()?;
+    let found = mandatory_values(text, places)?;
     let length = length_of(found.length)?;
     let stamp = stamp_of(found.date)?;
     let kind = kind_of(found.kind);
-    Ok(Parts {
+    Ok(Said {
         kind,
         stamp,
         length,
-        fields,
     })
 }

@@ -1,7 +1,7 @@
-use Rattle.std.proofs.Common.{◌≡◌, [], ◌∙◌, arith}
+use Rattle.std.proofs.Common.{◌≡◌, [], ◌++◌, ◌∙◌, drop, sym, ap, arith}
 use Rattle.warc_core.specs.Record.{after_text, closing}
 use Rattle.warc_core.proofs.ReadingLemmas.{GoesOn-done}
-use Rattle.warc_core.proofs.RecordLemmas.{closing-more, closing-other, closing-end, after_text-done}
+use Rattle.warc_core.proofs.RecordLemmas.{closing-held, closing-more, closing-other, closing-end, after_text-done}
 use Rattle.warc_core.proofs.closing.expect_closing.Goals as goal
 
 pub returns-in_default-clause-bytes : goal.returns-in_default-clause-bytes
@@ -23,3 +23,8 @@ returns-clause-bytes g c =
     let all : c.loop-expected.expected-index ≡ 4 = omega arith in
     let P = rw all at c.loop-expected.invariant.same in
     GoesOn-done (after_text closing) (after_text []) tt _ _ P after_text-done
+
+pub returns-then-begins_with_closing-clause-bytes : goal.returns-then-begins_with_closing-clause-bytes
+returns-then-begins_with_closing-clause-bytes g c =
+    let begins = c.begins_with_closing.ensures.begins c.if-begins_with_closing.true in
+    closing-held c.args.buffer.now _ (g.I.Input.remaining c.args.input.now) (sym c.as_slice.ensures ∙ (begins ∙ ap (λ held. closing ++ drop 4 held) c.as_slice.ensures)) c.consume.ensures

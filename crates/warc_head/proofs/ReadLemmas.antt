@@ -1,0 +1,38 @@
+-- A line of a text that begins with the lines of a head.
+use Rattle.std.proofs.Common.{◌≡◌, ◌∙◌, ℕ, ◌+◌, ◌-◌, ◌<◌, ◌≤◌, List, ◌++◌, length, take, drop, sym, ap, subst, arith, length-drop, length-append}
+use Rattle.std.proofs.lemmas.List.{take-append-le, take-append-drop, drop-drop, length-take-le}
+use Rattle.warc_head.specs.Lines.{EndsLine}
+use Rattle.warc_head.specs.Places.{Continues, between}
+use Rattle.warc_head.proofs.PlaceLemmas.{between_more}
+
+module _ (raw text : List ℕ) (held : Continues raw text) (end at : ℕ) (inside : end ≤ length raw) where
+  pub size : length (take end raw) ≡ end
+  size = length-take-le end raw inside
+
+  pub lines_held : take end text ≡ take end raw
+  lines_held = ap (take end) held.1 ∙ take-append-le end raw held.0 inside
+
+  pub filled : at < end → 0 < length (drop at (take end raw))
+  filled below = omega (arith, below, size, length-drop at (take end raw))
+
+  module _ (stop : ℕ) (ends : EndsLine (take end text) at stop) where
+    pub ended : EndsLine (take end raw) at stop
+    ended = subst (λ t. EndsLine t at stop) lines_held ends
+
+    pub line_is : between at stop text ≡ between at stop (take end raw)
+    line_is =
+        ap (between at stop) (sym (take-append-drop end text) ∙ ap (λ t. t ++ drop end text) lines_held)
+        ∙ between_more (take end raw) (drop end text) at stop ended.order (omega (arith, ended.within))
+
+    pub line_held : text ≡ take at text ++ (between at stop text ++ drop stop text)
+    line_held =
+        let next : at + (stop - at) ≡ stop = omega (arith, ended.order) in
+        sym (take-append-drop at text) ∙ ap (λ t. take at text ++ t)
+        (sym (take-append-drop (stop - at) (drop at text)) ∙ ap (λ t. between at stop text ++ t) (drop-drop (stop - at) at text ∙ ap (λ n. drop n text) next))
+
+    -- what follows the line
+    pub shorter : length text ≡ length raw + length held.0
+    shorter = ap length held.1 ∙ length-append raw held.0
+
+    pub inside_text : stop ≤ length text
+    inside_text = omega (arith, ended.within, size, shorter, inside)
