@@ -33,9 +33,6 @@ MEGABYTE = 1 << 20
 
 # What the shapes cost that are known to be costly; docs/COSTS.md says so too.
 KNOWN = {
-    "pages of a group of one key and stamp": "read the whole group for each page",
-    "pages over many indexes": "search all indexes again for each page",
-    "a scan in pages of one capture, all of one key and stamp": "goes through the whole group for each page",
     "an index of many archives": "compares each file name with all before it",
 }
 
