@@ -5,13 +5,11 @@ usage: costly_shapes.py [--scale N] [PROGRAM]
 
 Each size is twice the one before. The cost is the number of bytes that are read, or the time of the processor: the
 least of three runs, and 20 ms. A shape is costly if the last doubling costs more than 2.5 times as much, or more than
-1.5 times if nothing that is added needs to be read. The shapes that are known to be costly are in KNOWN. Such a shape
-is reported as a difference if it is no longer costly, so that it is removed there and on the page.
+1.5 times if nothing that is added needs to be read.
 
 With --scale all sizes are N times those of the script.
 
-Prints a line for each shape, with its costs, and the counts. The exit status is 0, or 1 if a shape is costly that isn't
-known to be, or is no longer costly.
+Prints a line for each shape, with its costs, and the counts. The exit status is 0, or 1 if a shape is costly.
 """
 import pathlib
 import sys
@@ -30,13 +28,6 @@ FLAT = 1.5  # the same, of an input of which no more needs to be read
 LEAST_SECONDS = 0.02  # what is shorter can't be measured
 RUNS = 3
 MEGABYTE = 1 << 20
-
-# What the shapes cost that are known to be costly; docs/COSTS.md says so too.
-KNOWN = {
-    "pages of a group of one key and stamp": "read the whole group for each page",
-    "pages over many indexes": "search all indexes again for each page",
-    "a scan in pages of one capture, all of one key and stamp": "goes through the whole group for each page",
-}
 
 
 def bytes_read(costs: Costs) -> float:
@@ -177,11 +168,8 @@ def main() -> int:
         ratio = costs[-1] / costs[-2]
         figures = ", ".join(f"{cost:,.3f} s" if shape.cost is seconds else f"{cost:,} bytes" for cost in costs)
         title = f"{shape.name}: {figures}; doubling costs {ratio:.2f}"
-        known = KNOWN.get(shape.name)
-        if (ratio > shape.most) == (known is not None):
-            report.add_ok(f"{title}, known: {known}" if known else title)
-        elif known:
-            report.add_difference(title, "no longer costly: remove it from KNOWN and from the page")
+        if ratio <= shape.most:
+            report.add_ok(title)
         else:
             report.add_difference(title, f"more than {shape.most}")
     return report.end()

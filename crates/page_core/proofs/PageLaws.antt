@@ -117,7 +117,7 @@ module _ {X P : Type 0} (place : X → P) (R : P → P → Ordering) (same : P �
   all_taken (suc (suc n)) (x ∷ xs) z h = ap (λ t. x ∷ t) (all_taken (suc n) xs (omega arith) h)
 
   -- where one follows, it is that of a member, the page is full, and the members above it are the rest
-  split_there : (n : ℕ) (c : List X) (q : P) → Rises place R c → next_after place n c ≡ Some q
+  pub split_there : (n : ℕ) (c : List X) (q : P) → Rises place R c → next_after place n c ≡ Some q
       → (m : X) × IsIn m c × (place m ≡ q) × (length (take n c) ≡ n) × (filter (is_above place R (Some (place m))) c ≡ drop n c)
   split_there zero c q r h = cc
   split_there (suc n) [] q r h = cc

@@ -23,13 +23,12 @@ use Rattle.devices.proofs.WritingLemmas.{prefix_longer}
 use Rattle.query_core.specs.declared.page_writer.PageEnd.{PageEnd}
 use Rattle.query_core.specs.declared.report.Report.{Report}
 use Rattle.query_core.specs.Answering.{Answered}
-use Rattle.query_core.specs.Collapsings.{CollapsingValue}
 use Rattle.query_core.specs.QueryPages.{form_of, shown_key, query_page}
 use Rattle.query_core.specs.PageWriting.{is_wanted, captures_over, page_over, next_of, PageStands}
 use Rattle.query_core.specs.PageAsked.{asked_page, asked_text, WrotePage}
 use Rattle.query_core.proofs.WriterLemmas.{page, decided, next_is, page_front}
 
-filter_and : (f g : Member → Bool) (xs : List Member) → filter g (filter f xs) ≡ filter (λ m. f m && g m) xs
+pub filter_and : (f g : Member → Bool) (xs : List Member) → filter g (filter f xs) ≡ filter (λ m. f m && g m) xs
 filter_and f g [] = refl
 filter_and f g (x ∷ xs) =
     let ih = filter_and f g xs in
@@ -67,7 +66,7 @@ module _ (q : QueryValue) (from : Option PlaceValue) (limit : Option ℕ) (shows
   page_settled false more rest first ended enough is =
       asked_is q from limit all ∙ ap (page limit) first ∙ decided limit (captures_over q from taken) rest (sym is ∙ enough refl)
 
-  module _ (start mid new : Option (List ℕ)) (given : ℕ) (more : Bool) (last : Option PlaceValue) (collapsing : Option CollapsingValue) (s : PageStands q from limit taken start mid given more last collapsing) (same : asked_page q from limit all ≡ page_over q from limit taken) where
+  module _ (start mid new : Option (List ℕ)) (given : ℕ) (more : Bool) (last : Option PlaceValue) (s : PageStands (form_of q) limit (captures_over q from taken) start mid given more last) (same : asked_page q from limit all ≡ page_over q from limit taken) where
     next_same : next_of more last ≡ (asked_page q from limit all).next
     next_same = next_is limit (captures_over q from taken) more last s.more_is s.last_is ∙ ap (λ (p : Page Member PlaceValue). p.next) (sym same)
 

@@ -1,5 +1,5 @@
 -- The captures of lines, which are collapsed, and what the next line is compared with.
-use Rattle.std.proofs.Common.{◌≡◌, List, [], ◌∷◌, ◌++◌, refl, sym, ap, ◌∙◌, Option, Some, None, true, false, filter, append-nil}
+use Rattle.std.proofs.Common.{◌≡◌, Bool, List, [], ◌∷◌, ◌++◌, refl, sym, ap, ◌∙◌, Option, Some, None, true, false, filter, append-nil}
 use Rattle.std.proofs.lemmas.Bool.{cond-true, cond-false, true≢false}
 use Rattle.std.proofs.lemmas.List.Elements.{filter-append}
 use Rattle.std.proofs.lemmas.Slice.Eq.{bytes_eq-Decides}
@@ -11,7 +11,7 @@ use Rattle.query_text.specs.Collapses.{same_part}
 use Rattle.query_text.specs.Queries.{QueryValue}
 use Rattle.page_core.specs.Pages.{repeats, kept, end_place}
 use Rattle.page_core.proofs.PageLaws.{kept_append}
-use Rattle.query_core.specs.Collapsings.{place_part, collapsing_at, collapsing_after, repeats_part}
+use Rattle.query_core.specs.Collapsings.{CollapsingValue, place_part, collapsing_at, collapsing_after, repeats_part}
 use Rattle.query_core.specs.PageWriting.{is_wanted, captures_over, place_before}
 
 -- ---- what the next line is compared with
@@ -79,3 +79,34 @@ module _ (q : QueryValue) (from : Option PlaceValue) where
     captures_joined h r =
         captures_split (taken ++ m ∷ []) taken (m ∷ []) (joined h)
         ∙ ap (λ l. captures_over q from taken ++ l) (cond-false (repeats member_place (same_part q.collapse) (place_before q from taken) m) [] (m ∷ []) r)
+
+-- ---- what a selection takes
+
+-- what the next line is compared with after these
+abbrev ComparesAfter : QueryValue → Option PlaceValue → Option CollapsingValue → List Member → Type 0
+ComparesAfter q from c taken = c ≡ collapsing_at q.collapse (place_before q from taken)
+
+module _ (q : QueryValue) (from : Option PlaceValue) (c : Option CollapsingValue) (taken : List Member) (m : Member) (s : ComparesAfter q from c taken) where
+  -- a line that isn't wanted
+  pub passed_compares : is_wanted q from m ≡ false → ComparesAfter q from c (taken ++ m ∷ [])
+  passed_compares h = s ∙ ap (collapsing_at q.collapse) (sym (place_passed q from taken m h))
+
+  repeats_told : (b : Bool) → repeats_part c (member_place m) ≡ b → repeats member_place (same_part q.collapse) (place_before q from taken) m ≡ b
+  repeats_told b r = sym (repeats_is q.collapse (place_before q from taken) m) ∙ ap (λ c. repeats_part c (member_place m)) (sym s) ∙ r
+
+  -- one that repeats the part of the one before
+  pub repeated_compares : is_wanted q from m ≡ true → repeats_part c (member_place m) ≡ true → ComparesAfter q from c (taken ++ m ∷ [])
+  repeated_compares w r =
+      s ∙ same_part_after q.collapse (place_before q from taken) m (repeats_told true r) ∙ ap (collapsing_at q.collapse) (sym (place_joined q from taken m w))
+
+  pub repeated_is_none : is_wanted q from m ≡ true → repeats_part c (member_place m) ≡ true → captures_over q from (taken ++ m ∷ []) ≡ captures_over q from taken ++ []
+  repeated_is_none w r = captures_repeated q from taken m w (repeats_told true r) ∙ sym (append-nil (captures_over q from taken))
+
+  -- a capture
+  pub capture_compares : (d : Option CollapsingValue) → is_wanted q from m ≡ true → d ≡ collapsing_after c (member_place m) → ComparesAfter q from d (taken ++ m ∷ [])
+  capture_compares d w next =
+      next ∙ ap (λ c. collapsing_after c (member_place m)) s ∙ part_after q.collapse (place_before q from taken) (member_place m)
+      ∙ ap (collapsing_at q.collapse) (sym (place_joined q from taken m w))
+
+  pub capture_is_one : is_wanted q from m ≡ true → repeats_part c (member_place m) ≡ false → captures_over q from (taken ++ m ∷ []) ≡ captures_over q from taken ++ m ∷ []
+  capture_is_one w r = captures_joined q from taken m w (repeats_told false r)

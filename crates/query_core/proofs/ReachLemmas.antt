@@ -1,9 +1,6 @@
 -- What was read of indexes, beside the reach of a page.
-use Rattle.std.proofs.Common.{◌≡◌, ℕ, zero, suc, ◌+◌, ◌<◌, ◌≤◌, List, [], ◌∷◌, ◌++◌, length, take, map, filter, zip, Bool, true, false, not, ◌&&◌, cond, Option, None, Some, refl, sym, ap, ◌∙◌, subst, arith, append_assoc, append-nil, length-append, length-take, Ordering, Less, Equal, Greater, nat_cmp, is_gt, is_lt}
+use Rattle.std.proofs.Common.{◌≡◌, ℕ, zero, suc, ◌+◌, ◌<◌, ◌≤◌, List, [], ◌∷◌, ◌++◌, length, map, filter, zip, Bool, true, false, not, ◌&&◌, cond, Option, None, Some, refl, sym, ap, ◌∙◌, subst, arith, append_assoc, append-nil, Ordering, Less, Equal, Greater, nat_cmp, is_gt, is_lt}
 use Rattle.std.specs.List.{AllByRecursion, sum}
-use Rattle.std.specs.Io.KnownBytes.{Appends}
-use Rattle.std.specs.Option.{is_some}
-use Rattle.std.proofs.Math.Seq.{take-append_seam}
 use Rattle.std.specs.Ordering.{ordering_then, ordering_reverse}
 use Rattle.std.specs.Cmp.Lexicographic.{slice_cmp}
 use Rattle.std.proofs.lemmas.Bool.{false_from_ne_true, eq-eqb}
@@ -25,11 +22,7 @@ use Rattle.query_text.specs.Targets.{TargetValue}
 use Rattle.query_text.specs.Matching.{begins, kind_covers, covers, is_past}
 use Rattle.query_text.specs.declared.target.MatchKind.{MatchKind}
 use Rattle.query_text.specs.declared.target.MatchKind.TheVariants.{Exact, Prefix, Host, Domain}
-use Rattle.page_core.specs.Form.{Form}
-use Rattle.page_core.specs.Pages.{Page}
-use Rattle.page_core.specs.PageText.{begun}
 use Rattle.page_core.proofs.PageLaws.{each_kept}
-use Rattle.devices.proofs.DeviceLemmas.{Appends-none}
 use Rattle.source_core.specs.Search.{IsCut}
 use Rattle.merge_core.specs.declared.feed.Feed.{Feed}
 use Rattle.merge_core.specs.PairOrders.{Alike, Below, IsAbove, IsUpto, Upto, is_low}
@@ -37,26 +30,22 @@ use Rattle.merge_core.specs.WaitingLines.{WaitingLine, waiting_pair}
 use Rattle.merge_core.specs.Collections.{Known, all_lines, collection}
 use Rattle.merge_core.specs.Gathering.{AllTwo}
 use Rattle.merge_core.specs.Openings.{IsCutAt}
-use Rattle.merge_core.specs.Reached.{Grows, Reached}
+use Rattle.merge_core.specs.Reached.{Reached}
 use Rattle.merge_core.specs.Spending.{AllGaveWithin, AreReadTo, CameWithin, OpenedWithin}
 use Rattle.merge_core.proofs.CountLemmas.{lines_most}
 use Rattle.merge_core.proofs.FeedLemmas.{each_join}
 use Rattle.merge_core.proofs.Filters.{each_filter}
 use Rattle.merge_core.proofs.ByteLemmas.{gave_most, tell_both}
 use Rattle.merge_core.proofs.Many.{Move, length_zip, two_each, two_same}
-use Rattle.merge_core.proofs.WrittenLemmas.{grows_by, grows_on}
 use Rattle.merge_core.proofs.PairOrder.{below_below, below_upto, from_not_below, not_below_itself, same_from, upto_upto}
 use Rattle.merge_core.proofs.MergeLemmas.{is_less}
 use Rattle.merge_core.proofs.WholeLemmas.{told_known}
-use Rattle.query_core.specs.PageAsked.{asked_page}
-use Rattle.query_core.specs.QueryPages.{form_of}
-use Rattle.query_core.specs.PageWriting.{is_wanted, captures_over, place_before, page_over}
-use Rattle.query_core.specs.Reach.{pair_after, follower, is_within, in_reach, captures_text, GaveInReach, WroteFront}
+use Rattle.query_core.specs.PageWriting.{is_wanted, captures_over, place_before}
+use Rattle.query_core.specs.Reach.{pair_after, follower, is_within, in_reach}
+use Rattle.query_core.specs.Passes.{IsWithin}
 use Rattle.query_core.specs.Starts.{first_stamp, later_pair, start_pair}
 use Rattle.query_core.proofs.CaptureLemmas.{kept_after, captures_append}
 use Rattle.query_core.proofs.PageOfIndexes.{wanted_before, wanted_first, wanted_whole}
-use Rattle.query_core.proofs.AskedLemmas.{asked_is}
-use Rattle.query_core.proofs.WriterLemmas.{page, next_none, page_front}
 
 -- ---- the range
 
@@ -143,30 +132,11 @@ past_front (suc n) [] (v ∷ vs) x h k = past_front n [] vs x (omega arith) k.1
 past_front zero (c ∷ cs) vs x h k = absurd (omega arith)
 past_front (suc n) (c ∷ cs) vs x h k = past_front n cs vs x (omega arith) k
 
--- an empty page has none
-pub none_follows : (limit : Option ℕ) → is_some (page limit []).next ≡ false
-none_follows None = refl
-none_follows (Some zero) = refl
-none_follows (Some (suc n)) = refl
-
--- these captures don't pass the page, and what is wanted beside them isn't below a pair
-pub within_follower : (q : QueryValue) (from : Option PlaceValue) (limit : Option ℕ) (lines c vs : List Member) → captures_over q from lines ≡ c ++ vs → (limit ≡ Some 0 → ⊥) → is_some (page limit c).next ≡ false
+-- these captures don't pass the limit, and what is wanted beside them isn't below a pair
+pub within_follower : (q : QueryValue) (from : Option PlaceValue) (limit : Option ℕ) (lines c vs : List Member) → captures_over q from lines ≡ c ++ vs → IsWithin limit c
     → (x : Pair) → AllByRecursion (λ v. Upto x (member_pair v)) vs → is_within (follower q from limit lines) x ≡ true
-within_follower q from None lines c vs split some none x k = refl
-within_follower q from (Some zero) lines c vs split some none x k = absurd (some refl)
-within_follower q from (Some (suc n)) lines c vs split some none x k =
-    ap (λ ms. is_within (pair_after (suc n) ms) x) split ∙ past_front (suc n) c vs x (next_none (suc n) c (omega arith) none) k
-
--- a page has at least the captures that don't pass it
-has_all : (limit : Option ℕ) (c tail : List Member) → (limit ≡ Some 0 → ⊥) → is_some (page limit c).next ≡ false → length c ≤ length (page limit (c ++ tail)).members
-has_all None c tail some none = omega (arith, length-append c tail)
-has_all (Some zero) c tail some none = absurd (some refl)
-has_all (Some (suc n)) c tail some none = let h = next_none (suc n) c (omega arith) none in omega (arith, length-take (suc n) (c ++ tail), length-append c tail)
-
--- where a page is written at least so far
-front_written : (form : Form) (ms : List Member) (old middle new : Option (List ℕ)) → Appends old middle (begun form ms) → Grows middle new → WroteFront old new (captures_text form ms)
-front_written form [] old middle new a g = record { middle = old; front = Appends-none old; grows = grows_on old middle new (grows_by old middle (begun form []) a) g }
-front_written form (m ∷ ms) old middle new a g = record { middle = middle; front = a; grows = g }
+within_follower q from None lines c vs split most x k = refl
+within_follower q from (Some n) lines c vs split most x k = ap (λ ms. is_within (pair_after n ms) x) split ∙ past_front n c vs x most k
 
 firsts : {X Y : Type 0} (xs : List X) (ys : List Y) → length (zip xs ys) ≡ length xs → map (λ (x : X × Y). x.0) (zip xs ys) ≡ xs
 firsts [] ys h = refl
@@ -186,121 +156,86 @@ as_many R [] (y ∷ ys) h = absurd h
 as_many R (x ∷ xs) [] h = absurd h
 as_many R (x ∷ xs) (y ∷ ys) h = ap suc (as_many R xs ys h.1)
 
--- Of a page that has so many captures at most, these lines were taken of indexes that were read from where the search for its start ended
-module _ {S : Type 0} (text : S → Option (List ℕ)) (extent gave : S → ℕ) (q : QueryValue) (from : Option PlaceValue) (limit : Option ℕ) (some : limit ≡ Some 0 → ⊥) (ss0 : List S) (fs0 : List Feed) (ss : List S) (fs : List Feed)
+-- These lines were taken of indexes that were read from where the search for the page's start ended
+module _ {S : Type 0} (text : S → Option (List ℕ)) (extent gave : S → ℕ) (q : QueryValue) (from : Option PlaceValue) (ss0 : List S) (fs0 : List Feed) (ss : List S) (fs : List Feed)
     (ws : List WaitingLine) (b : Option Pair) (taken : List Member) (same : length ss0 ≡ length fs0) (reached : Reached LINE_LIMIT text (is_past q.target) extent gave ss0 fs0 ss fs ws b taken)
     (cut : AllByRecursion (λ x. IsCutAt LINE_LIMIT (start_pair q from) (text x.0) x.1.cursor) (zip ss0 fs0))
     (texts : List (List ℕ)) (indexes : List (List Member)) (known : Known (map text ss0) texts) (are : AllTwo (IsIndex LINE_LIMIT) texts indexes) where
   abbrev wanted : List Member → List Member
   wanted lines = captures_over q from lines
 
-  -- the pair of the lines that were taken last, where those before them didn't pass the page
-  pub record Last : Type 0 where
-    pub pair : Pair
-    pub earlier : List Member
-    pub group : List Member
-    pub bound : b ≡ Some pair
-    pub parts : taken ≡ earlier ++ group
-    pub alike : AllByRecursion (λ m. Alike (member_pair m) pair) group
-    pub room : is_some (page_over q from limit earlier).next ≡ false
-
-  -- what is wanted, cut after captures that don't pass the page; nothing up to the bound stands above those behind the cut
-  pub record Cut : Type 0 where
-    pub front : List Member
+  -- what is wanted, cut behind the captures of these lines; nothing up to the bound stands above those behind the cut
+  pub record Cut (bound : Option Pair) (earlier : List Member) : Type 0 where
     pub back : List Member
-    pub tail : List Member
-    pub whole : wanted (collection indexes) ≡ front ++ back
-    pub of_taken : wanted taken ≡ front ++ tail
-    pub room : is_some (page limit front).next ≡ false
-    pub later : (m : Member) → IsUpto b (member_pair m) → AllByRecursion (λ v. Upto (member_pair m) (member_pair v)) back
+    pub whole : wanted (collection indexes) ≡ wanted earlier ++ back
+    pub later : (m : Member) → IsUpto bound (member_pair m) → AllByRecursion (λ v. Upto (member_pair m) (member_pair v)) back
 
-  -- all was read, or the page was passed by the last pair
-  pub cut_of : (all : Bool) → (all ≡ true → ws ≡ []) → (all ≡ true → is_some (page_over q from limit taken).next ≡ false) → (all ≡ false → Last) → Cut
-  cut_of true none room last = record {
-    front = wanted taken;
+  -- all was read
+  pub cut_all : ws ≡ [] → Cut b taken
+  cut_all none = record {
     back = [];
-    tail = [];
-    whole = wanted_whole text extent gave q from ss0 fs0 ss fs ws b taken same reached cut texts indexes known are (none refl) ∙ sym (append-nil (wanted taken));
-    of_taken = sym (append-nil (wanted taken));
-    room = room refl;
+    whole = wanted_whole text extent gave q from ss0 fs0 ss fs ws b taken same reached cut texts indexes known are none ∙ sym (append-nil (wanted taken));
     later = λ m upto. tt;
   }
-  cut_of false none room last =
-      let l = last refl in
+
+  -- behind the lines before the pair that was taken last
+  pub cut_last : (pair : Pair) (earlier others : List Member) → b ≡ Some pair → taken ≡ earlier ++ others → AllByRecursion (λ m. Alike (member_pair m) pair) others → Cut b earlier
+  cut_last pair earlier others bound parts alike =
       let first = wanted_first text extent gave q from ss0 fs0 ss fs ws b taken same reached cut texts indexes known are in
-      let group = filter (is_wanted q from) l.group in
-      let p = place_before q from l.earlier in
-      let both_parts : wanted taken ≡ wanted l.earlier ++ kept_after q from p group = ap wanted l.parts ∙ captures_append q from l.earlier l.group in
+      let group = filter (is_wanted q from) others in
+      let p = place_before q from earlier in
       record {
-        front = wanted l.earlier;
         back = kept_after q from p group ++ first.0;
-        tail = kept_after q from p group;
-        whole = first.1 ∙ ap (λ ms. ms ++ first.0) both_parts ∙ append_assoc (wanted l.earlier) (kept_after q from p group) first.0;
-        of_taken = both_parts;
-        room = l.room;
+        whole = first.1 ∙ ap (λ ms. ms ++ first.0) (ap wanted parts ∙ captures_append q from earlier others) ∙ append_assoc (wanted earlier) (kept_after q from p group) first.0;
         later = λ m upto.
-            let low : Upto (member_pair m) l.pair = subst (λ o. IsUpto o (member_pair m)) l.bound upto in
+            let low : Upto (member_pair m) pair = subst (λ o. IsUpto o (member_pair m)) bound upto in
             each_join (λ v. Upto (member_pair m) (member_pair v)) (kept_after q from p group) first.0
             (each_kept member_place place_cmp (same_part q.collapse) place_cmp_total (λ v. Upto (member_pair m) (member_pair v)) p group
-            (each_weaker (λ (v : Member) (h : Alike (member_pair v) l.pair × (is_wanted q from v ≡ true)). upto_upto (member_pair m) l.pair (member_pair v) low (same_from (member_pair v) l.pair h.0)) group
-            (each_filter (λ v. Alike (member_pair v) l.pair) (is_wanted q from) l.group l.alike)))
-            (each_weaker (λ (v : Member) (h : IsAbove b (member_pair v)). upto_upto (member_pair m) l.pair (member_pair v) low (below_upto l.pair (member_pair v) (subst (λ o. IsAbove o (member_pair v)) l.bound h))) first.0 first.2);
+            (each_weaker (λ (v : Member) (h : Alike (member_pair v) pair × (is_wanted q from v ≡ true)). upto_upto (member_pair m) pair (member_pair v) low (same_from (member_pair v) pair h.0)) group
+            (each_filter (λ v. Alike (member_pair v) pair) (is_wanted q from) others alike)))
+            (each_weaker (λ (v : Member) (h : IsAbove b (member_pair v)). upto_upto (member_pair m) pair (member_pair v) low (below_upto pair (member_pair v) (subst (λ o. IsAbove o (member_pair v)) bound h))) first.0 first.2);
       }
 
-  -- no more lines were read than the page reaches, and one of each index
-  pub lines_within : Known (map text ss) texts → Cut → sum (map (λ (f : Feed). f.cursor.count) fs) ≤ length (filter (in_reach q from limit (collection indexes)) (all_lines indexes)) + length ss0
-  lines_within known_now c =
-      let bound = λ (m : Member) (upto : IsUpto b (member_pair m)). within_follower q from limit (collection indexes) c.front c.back c.whole some c.room (member_pair m) (c.later m upto) in
-      let h = lines_most LINE_LIMIT (is_past q.target) (start_pair q from) b (in_reach q from limit (collection indexes)) (reach_passes q from limit (collection indexes) b bound) text extent ws 0 ss fs texts indexes reached.ready.same
+  -- before a pair whose lines couldn't be had or handed on
+  pub cut_before : (next : Pair) → IsAbove b next → AllByRecursion (λ w. Upto next (waiting_pair w)) ws → Cut (Some next) taken
+  cut_before next above least =
+      let before = wanted_before text extent gave q from ss0 fs0 ss fs ws b taken same reached cut texts indexes known are next above least in
+      record {
+        back = before.0;
+        whole = before.1;
+        later = λ m upto. each_weaker (λ (v : Member) (h : Upto next (member_pair v)). upto_upto (member_pair m) next (member_pair v) upto h) before.0 before.2;
+      }
+
+  module _ (bound : Option Pair) (earlier : List Member) (c : Cut bound earlier) (limit : Option ℕ) (most : IsWithin limit (wanted earlier)) where
+    in_bound : (m : Member) → IsUpto bound (member_pair m) → is_within (follower q from limit (collection indexes)) (member_pair m) ≡ true
+    in_bound m upto = within_follower q from limit (collection indexes) (wanted earlier) c.back c.whole most (member_pair m) (c.later m upto)
+
+    passes : (m : Member) → is_past q.target m.values.key ≡ false → is_low (start_pair q from) m ≡ false → IsUpto bound (member_pair m) → in_reach q from limit (collection indexes) m ≡ true
+    passes = reach_passes q from limit (collection indexes) bound in_bound
+
+    -- what sources gave that were read up to the bound
+    pub gave_within : (olds news : List S) (feeds : List Feed) → Known (map text olds) texts → AllTwo (λ x y. CameWithin (text x) (extent x) (gave x) (gave y.0) y.1.cursor) olds (zip ss0 fs0)
+        → AllTwo (Move text extent gave) (zip ss0 fs0) (zip news feeds) → length news ≡ length ss0 → AreReadTo LINE_LIMIT (is_past q.target) text bound news feeds
+        → AllGaveWithin extent gave (in_reach q from limit (collection indexes)) texts indexes olds news
+    gave_within olds news feeds known_old came moved long reads =
+        let test = in_reach q from limit (collection indexes) in
+        let all = as_many (Move text extent gave) (zip ss0 fs0) (zip news feeds) moved in
+        subst (λ ys. AllGaveWithin extent gave test texts indexes olds ys) (firsts news feeds (omega (arith, all, long, length_zip ss0 fs0 same)))
+        (gave_most LINE_LIMIT (is_past q.target) (start_pair q from) bound test passes text extent gave olds (zip ss0 fs0) (zip news feeds) texts indexes known_old
+        (tell_both LINE_LIMIT (is_past q.target) (start_pair q from) bound test passes text extent gave ss0 fs0 texts same known) are came moved cut reads)
+
+  -- no more lines were read than are in reach, and one of each index
+  pub lines_within : Known (map text ss) texts → (earlier : List Member) → Cut b earlier → (limit : Option ℕ) → IsWithin limit (wanted earlier)
+      → sum (map (λ (f : Feed). f.cursor.count) fs) ≤ length (filter (in_reach q from limit (collection indexes)) (all_lines indexes)) + length ss0
+  lines_within known_now earlier c limit most =
+      let h = lines_most LINE_LIMIT (is_past q.target) (start_pair q from) b (in_reach q from limit (collection indexes)) (passes b earlier c limit most) text extent ws 0 ss fs texts indexes reached.ready.same
       known_now are
       (two_each (Move text extent gave) (λ (x : S × Feed). IsCutAt LINE_LIMIT (start_pair q from) (text x.0) x.1.cursor) (λ (x : S × Feed). IsCutAt LINE_LIMIT (start_pair q from) (text x.0) x.1.cursor)
       (λ x y m c. λ t members e i. subst (λ n. IsCut (start_pair q from) t members n) (sym m.start_kept) (c t members (sym m.text_kept ∙ e) i)) (zip ss0 fs0) (zip ss fs) reached.moved cut)
       reached.ready.fed (reached.handed.told (told_known text ss0 texts known)).1 in
       omega (arith, h, as_many (IsIndex LINE_LIMIT) texts indexes are, as_many (λ told t. told ≡ Some t) (map text ss0) texts known, length-map ss0 text)
 
-  -- what was written of the page before, and what sources gave that were read up to a bound
-  module _ (olds news : List S) (feeds : List Feed) (old middle new : Option (List ℕ)) (front : Appends old middle (begun (form_of q) (page_over q from limit taken).members)) (grows : Grows middle new)
-      (known_old : Known (map text olds) texts) (came : AllTwo (λ x y. CameWithin (text x) (extent x) (gave x) (gave y.0) y.1.cursor) olds (zip ss0 fs0)) (moved : AllTwo (Move text extent gave) (zip ss0 fs0) (zip news feeds))
-      (long : length news ≡ length ss0) where
-    abbrev many : ℕ
-    many = length (page_over q from limit taken).members
-
-    given : (rest : List Member) → wanted (collection indexes) ≡ wanted taken ++ rest → (bound : Option Pair) → ((m : Member) → IsUpto bound (member_pair m) → is_within (follower q from (Some many) (collection indexes)) (member_pair m) ≡ true)
-        → AreReadTo LINE_LIMIT (is_past q.target) text bound news feeds → GaveInReach extent gave q from limit texts indexes old new olds news
-    given rest split bound within reads =
-        let later = page_front limit (wanted taken) rest in
-        let members : (asked_page q from limit (collection indexes)).members ≡ (page_over q from limit taken).members ++ later.0 =
-        ap (λ (p : Page Member PlaceValue). p.members) (asked_is q from limit (collection indexes) ∙ ap (page limit) split) ∙ later.1 in
-        let test = in_reach q from (Some many) (collection indexes) in
-        let passes = reach_passes q from (Some many) (collection indexes) bound within in
-        let all = as_many (Move text extent gave) (zip ss0 fs0) (zip news feeds) moved in
-        record {
-          whole = many;
-          most = omega (arith, ap length members, length-append (page_over q from limit taken).members later.0);
-          wrote = subst (λ ms. WroteFront old new (captures_text (form_of q) ms)) (sym (ap (take many) members ∙ take-append_seam (page_over q from limit taken).members later.0))
-              (front_written (form_of q) (page_over q from limit taken).members old middle new front grows);
-          within = subst (λ ys. AllGaveWithin extent gave test texts indexes olds ys) (firsts news feeds (omega (arith, all, long, length_zip ss0 fs0 same)))
-              (gave_most LINE_LIMIT (is_past q.target) (start_pair q from) bound test passes text extent gave olds (zip ss0 fs0) (zip news feeds) texts indexes known_old
-              (tell_both LINE_LIMIT (is_past q.target) (start_pair q from) bound test passes text extent gave ss0 fs0 texts same known) are came moved cut reads);
-        }
-
-    -- after all that the page asked for
-    pub gave_whole : Cut → AreReadTo LINE_LIMIT (is_past q.target) text b news feeds → GaveInReach extent gave q from limit texts indexes old new olds news
-    gave_whole c reads =
-        let first = wanted_first text extent gave q from ss0 fs0 ss fs ws b taken same reached cut texts indexes known are in
-        given first.0 first.1 b (λ m upto. ap (λ ms. is_within (pair_after many ms) (member_pair m)) c.whole
-        ∙ past_front many c.front c.back (member_pair m) (subst (λ ms. length c.front ≤ length (page limit ms).members) (sym c.of_taken) (has_all limit c.front c.tail some c.room)) (c.later m upto)) reads
-
-    -- after a pair whose lines couldn't be had or handed on
-    pub gave_halted : (next : Pair) → IsAbove b next → AllByRecursion (λ w. Upto next (waiting_pair w)) ws → is_some (page_over q from limit taken).next ≡ false → AreReadTo LINE_LIMIT (is_past q.target) text (Some next) news feeds
-        → GaveInReach extent gave q from limit texts indexes old new olds news
-    gave_halted next above least room reads =
-        let before = wanted_before text extent gave q from ss0 fs0 ss fs ws b taken same reached cut texts indexes known are next above least in
-        let size : length (wanted taken) ≤ many = subst (λ ms. length (wanted taken) ≤ length (page limit ms).members) (append-nil (wanted taken)) (has_all limit (wanted taken) [] some room) in
-        given before.0 before.1 (Some next) (λ m upto. ap (λ ms. is_within (pair_after many ms) (member_pair m)) before.1
-        ∙ past_front many (wanted taken) before.0 (member_pair m) size (each_weaker (λ (v : Member) (h : Upto next (member_pair v)). upto_upto (member_pair m) next (member_pair v) upto h) before.0 before.2)) reads
-
-within_opening : {S : Type 0} (text : S → Option (List ℕ)) (extent gave : S → ℕ) (test : Member → Bool) (texts : List (List ℕ)) (indexes : List (List Member)) (olds news : List S) → Known (map text olds) texts → AllTwo (IsIndex LINE_LIMIT) texts indexes
+pub within_opening : {S : Type 0} (text : S → Option (List ℕ)) (extent gave : S → ℕ) (test : Member → Bool) (texts : List (List ℕ)) (indexes : List (List Member)) (olds news : List S) → Known (map text olds) texts → AllTwo (IsIndex LINE_LIMIT) texts indexes
     → AllTwo (λ x y. OpenedWithin (text x) (extent x) (gave x) (gave y)) olds news → AllGaveWithin extent gave test texts indexes olds news
 within_opening text extent gave test [] [] [] [] known are opened = tt
 within_opening text extent gave test [] [] [] (y ∷ ys) known are opened = absurd opened
@@ -310,17 +245,6 @@ within_opening text extent gave test (t ∷ ts) [] xs ys known are opened = absu
 within_opening text extent gave test (t ∷ ts) (i ∷ is) [] ys known are opened = absurd known
 within_opening text extent gave test (t ∷ ts) (i ∷ is) (x ∷ xs) [] known are opened = absurd opened
 within_opening text extent gave test (t ∷ ts) (i ∷ is) (x ∷ xs) (y ∷ ys) known are opened = (let h = opened.0 t known.0 in omega (arith, h), within_opening text extent gave test ts is xs ys known.1 are.1 opened.1)
-
--- nothing was read but what the opening takes, and no capture was written
-pub gave_opened : {S : Type 0} (text : S → Option (List ℕ)) (extent gave : S → ℕ) (q : QueryValue) (from : Option PlaceValue) (limit : Option ℕ) (texts : List (List ℕ)) (indexes : List (List Member)) (old new : Option (List ℕ)) (olds news : List S)
-    → Known (map text olds) texts → AllTwo (IsIndex LINE_LIMIT) texts indexes → Grows old new → AllTwo (λ x y. OpenedWithin (text x) (extent x) (gave x) (gave y)) olds news
-    → GaveInReach extent gave q from limit texts indexes old new olds news
-gave_opened text extent gave q from limit texts indexes old new olds news known are grows opened = record {
-  whole = 0;
-  most = omega arith;
-  wrote = record { middle = old; front = Appends-none old; grows = grows };
-  within = within_opening text extent gave (in_reach q from (Some 0) (collection indexes)) texts indexes olds news known are opened;
-}
 
 -- nothing was read at all
 pub opened_not : {S : Type 0} (text : S → Option (List ℕ)) (extent gave : S → ℕ) (xs : List S) → AllTwo (λ x y. OpenedWithin (text x) (extent x) (gave x) (gave y)) xs xs

@@ -1,24 +1,22 @@
 -- A page by the lines that were taken for it.
-use Rattle.std.proofs.Common.{Result, Ok, Err, MatchResult, OnErr, flat_map, append_assoc, ◌≡◌, ℕ, zero, suc, ◌+◌, ◌-◌, ◌^◌, ◌<◌, ◌≤◌, List, [], ◌∷◌, ◌++◌, refl, sym, ap, ◌∙◌, subst, arith, Option, Some, None, Bool, true, false, filter, length, take, min, cond, append-nil, length-append, length-take, eqb, eqb-true, option_map, ◌⊎◌, inl, inr}
+use Rattle.std.proofs.Common.{Result, Ok, Err, MatchResult, OnErr, flat_map, append_assoc, ◌≡◌, ℕ, zero, suc, ◌+◌, ◌-◌, ◌^◌, ◌<◌, ◌≤◌, List, [], ◌∷◌, ◌++◌, refl, sym, ap, ◌∙◌, subst, arith, Option, Some, None, Bool, true, false, filter, length, take, min, cond, append-nil, length-append, length-take, eqb, eqb-true, ◌⊎◌, inl, inr}
 use Rattle.std.specs.Option.{is_some}
 use Rattle.std.specs.Io.KnownBytes.{Appends}
 use Rattle.std.proofs.lemmas.Bool.{true≢false, eqb-false}
 use Rattle.std.proofs.lemmas.List.{take_all}
 use Rattle.cdxj_places.specs.Places.{PlaceValue}
-use Rattle.query_text.specs.Collapses.{same_part}
 use Rattle.query_text.specs.Queries.{QueryValue}
 use Rattle.cdxj_core.specs.Members.{Member, member_place}
-use Rattle.page_core.specs.Pages.{Page, repeats, at_most, next_after}
+use Rattle.page_core.specs.Pages.{Page, at_most, next_after}
 use Rattle.page_core.specs.PageText.{begun, page_start, row_text}
 use Rattle.page_core.specs.Form.{Form}
 use Rattle.page_core.proofs.PageLemmas.{written-start, written-more, begun-more}
 use Rattle.devices.proofs.WritingLemmas.{prefix_after, prefix_longer, prefix_whole}
 use Rattle.devices.specs.Device.{AppendsPrefix}
 use Rattle.std.proofs.lemmas.List.Concat.{flat_map-append}
-use Rattle.query_core.specs.Collapsings.{CollapsingValue, collapsing_at, collapsing_after, repeats_part}
 use Rattle.query_core.specs.QueryPages.{form_of}
 use Rattle.query_core.specs.PageWriting.{is_wanted, captures_over, place_before, page_over, place_at, last_place, is_full, last_after, FitsWord, next_of, PageStands}
-use Rattle.query_core.proofs.CaptureLemmas.{repeats_is, same_part_after, part_after, kept_after, captures_append, captures_passed, place_passed, place_joined, captures_repeated, captures_joined}
+use Rattle.query_core.proofs.CaptureLemmas.{kept_after, captures_append}
 
 abbrev next : ℕ → List Member → Option PlaceValue
 next = next_after member_place
@@ -91,61 +89,29 @@ take_same (suc n) (x ∷ xs) vs h = ap (λ l. x ∷ l) (take_same n xs vs (omega
 
 -- ---- one line more
 
-module _ (q : QueryValue) (from : Option PlaceValue) (limit : Option ℕ) (taken : List Member) (start now : Option (List ℕ)) (given : ℕ) (more : Bool) (last : Option PlaceValue) where
-  -- other lines with the same page
-  same_page : (lines : List Member) (c d : Option CollapsingValue) → page limit (captures_over q from lines) ≡ page limit (captures_over q from taken)
-      → last_place limit (captures_over q from lines) ≡ last_place limit (captures_over q from taken) → (more ≡ false → d ≡ collapsing_at q.collapse (place_before q from lines))
-      → PageStands q from limit taken start now given more last c → PageStands q from limit lines start now given more last d
-  same_page lines c d e f next s = record {
-    text = subst (λ (p : Page Member PlaceValue). Appends start now (begun (form_of q) p.members)) (sym e) s.text;
+module _ (form : Form) (limit : Option ℕ) (c : List Member) (start now : Option (List ℕ)) (given : ℕ) (more : Bool) (last : Option PlaceValue) where
+  abbrev Stands : List Member → Option (List ℕ) → ℕ → Bool → Option PlaceValue → Type 0
+  Stands d now given more last = PageStands form limit d start now given more last
+
+  -- other captures with the same page
+  same_page : (d : List Member) → page limit d ≡ page limit c → last_place limit d ≡ last_place limit c → Stands c now given more last → Stands d now given more last
+  same_page d e f s = record {
+    text = subst (λ (p : Page Member PlaceValue). Appends start now (begun form p.members)) (sym e) s.text;
     given_is = s.given_is ∙ ap (λ (p : Page Member PlaceValue). min (length p.members) (2 ^ 64 - 1)) (sym e);
     more_is = s.more_is ∙ ap (λ (p : Page Member PlaceValue). is_some p.next) (sym e);
     last_is = s.last_is ∙ sym f;
-    collapsing_is = next;
   }
-
-  -- a line that isn't wanted
-  pub passed_over : (m : Member) (c : Option CollapsingValue) → is_wanted q from m ≡ false → PageStands q from limit taken start now given more last c
-      → PageStands q from limit (taken ++ m ∷ []) start now given more last c
-  passed_over m c h s =
-      same_page (taken ++ m ∷ []) c c (ap (page limit) (captures_passed q from taken m h)) (ap (last_place limit) (captures_passed q from taken m h))
-      (λ e. s.collapsing_is e ∙ ap (collapsing_at q.collapse) (sym (place_passed q from taken m h))) s
-
-  -- whether a line has its part in common with the one before
-  pub repeats_told : (m : Member) (c : Option CollapsingValue) (b : Bool) → more ≡ false → repeats_part c (member_place m) ≡ b → PageStands q from limit taken start now given more last c
-      → repeats member_place (same_part q.collapse) (place_before q from taken) m ≡ b
-  repeats_told m c b h r s =
-      sym (repeats_is q.collapse (place_before q from taken) m) ∙ ap (λ c. repeats_part c (member_place m)) (sym (s.collapsing_is h)) ∙ r
-
-  -- a line that has
-  pub left_out : (m : Member) (c : Option CollapsingValue) → more ≡ false → is_wanted q from m ≡ true → repeats_part c (member_place m) ≡ true → PageStands q from limit taken start now given more last c
-      → PageStands q from limit (taken ++ m ∷ []) start now given more last c
-  left_out m c h w r s =
-      let told = repeats_told m c true h r s in
-      let same = captures_repeated q from taken m w told in
-      same_page (taken ++ m ∷ []) c c (ap (page limit) same) (ap (last_place limit) same)
-      (λ e. s.collapsing_is e ∙ same_part_after q.collapse (place_before q from taken) m told ∙ ap (collapsing_at q.collapse) (sym (place_joined q from taken m w))) s
-
--- what is kept of a line that is wanted
-kept_part : (q : QueryValue) (from : Option PlaceValue) (taken : List Member) (m : Member) (c d : Option CollapsingValue) → is_wanted q from m ≡ true → c ≡ collapsing_at q.collapse (place_before q from taken)
-    → d ≡ collapsing_after c (member_place m) → d ≡ collapsing_at q.collapse (place_before q from (taken ++ m ∷ []))
-kept_part q from taken m c d w is next =
-    next ∙ ap (λ c. collapsing_after c (member_place m)) is ∙ part_after q.collapse (place_before q from taken) (member_place m) ∙ ap (collapsing_at q.collapse) (sym (place_joined q from taken m w))
 
 at_end : (n : ℕ) (c vs : List Member) → n < length c → page (Some n) (c ++ vs) ≡ page (Some n) c
 at_end n c vs h = (λ i. record { members = take_same n c vs (omega (arith, h)) i; next = next_same n c vs h i })
 
--- a line after a page that has its next
-pub after_end : (q : QueryValue) (from : Option PlaceValue) (limit : Option ℕ) (taken : List Member) (m : Member) (start now : Option (List ℕ)) (given : ℕ) (more : Bool) (last : Option PlaceValue) (c : Option CollapsingValue)
-    → more ≡ true → PageStands q from limit taken start now given more last c → PageStands q from limit (taken ++ m ∷ []) start now given more last c
-after_end q from None taken m start now given more last c h s = absurd (true≢false (sym h ∙ s.more_is))
-after_end q from (Some n) taken m start now given more last c h s =
-    let beyond : n < length (captures_over q from taken) = next_some n (captures_over q from taken) (sym s.more_is ∙ h) in
-    let later = kept_after q from (place_before q from taken) (filter (is_wanted q from) (m ∷ [])) in
-    same_page q from (Some n) taken start now given more last (taken ++ m ∷ []) c c
-    (ap (page (Some n)) (captures_append q from taken (m ∷ [])) ∙ at_end n (captures_over q from taken) later beyond)
-    (ap (place_at n) (captures_append q from taken (m ∷ [])) ∙ place_same n (captures_over q from taken) later (omega (arith, beyond)))
-    (λ e. absurd (true≢false (sym h ∙ e))) s
+-- captures after a page that has its next
+pub after_end : (form : Form) (limit : Option ℕ) (c later : List Member) (start now : Option (List ℕ)) (given : ℕ) (more : Bool) (last : Option PlaceValue)
+    → more ≡ true → PageStands form limit c start now given more last → PageStands form limit (c ++ later) start now given more last
+after_end form None c later start now given more last h s = absurd (true≢false (sym h ∙ s.more_is))
+after_end form (Some n) c later start now given more last h s =
+    let beyond : n < length c = next_some n c (sym s.more_is ∙ h) in
+    same_page form (Some n) c start now given more last (c ++ later) (at_end n c later beyond) (place_same n c later (omega (arith, beyond))) s
 
 -- where a page is full and has no next yet, its last is the n-th
 full_is : (n : ℕ) (c : List Member) (given : ℕ) → is_full (Some n) given ≡ true → given ≡ min (length (take n c)) (2 ^ 64 - 1) → is_some (next n c) ≡ false → (n ≡ 0) ⊎ (length c ≡ n)
@@ -156,34 +122,30 @@ full_is (suc n) c given f g h =
     let t = length-take (suc n) c in
     inr (omega (arith, e, g, short, t))
 
--- the line after a full page
-pub at_limit : (q : QueryValue) (from : Option PlaceValue) (limit : Option ℕ) (taken : List Member) (m : Member) (start now : Option (List ℕ)) (given : ℕ) (more : Bool) (last : Option PlaceValue) (b d : Option CollapsingValue)
-    → more ≡ false → is_wanted q from m ≡ true → repeats_part b (member_place m) ≡ false → d ≡ collapsing_after b (member_place m) → is_full limit given ≡ true
-    → PageStands q from limit taken start now given more last b → PageStands q from limit (taken ++ m ∷ []) start now given (is_some last) last d
-at_limit q from None taken m start now given more last b d h w r k f s = absurd (true≢false (sym f))
-at_limit q from (Some n) taken m start now given more last b d h w r k f s =
-    let c = captures_over q from taken in
-    let one = captures_joined q from taken m w (repeats_told q from (Some n) taken start now given more last m b false h r s) in
+-- the capture after a full page
+pub at_limit : (form : Form) (limit : Option ℕ) (c : List Member) (m : Member) (start now : Option (List ℕ)) (given : ℕ) (more : Bool) (last : Option PlaceValue)
+    → more ≡ false → is_full limit given ≡ true
+    → PageStands form limit c start now given more last → PageStands form limit (c ++ m ∷ []) start now given (is_some last) last
+at_limit form None c m start now given more last h f s = absurd (true≢false (sym f))
+at_limit form (Some n) c m start now given more last h f s =
     elim (full_is n c given f s.given_is (sym s.more_is ∙ h)) [
       | inl z ↦ (
-          let members : take n (captures_over q from (taken ++ m ∷ [])) ≡ take n c = ap (λ k. take k (captures_over q from (taken ++ m ∷ []))) z ∙ sym (ap (λ k. take k c) z) in
-          let place : place_at n (captures_over q from (taken ++ m ∷ [])) ≡ place_at n c = ap (λ k. place_at k (captures_over q from (taken ++ m ∷ []))) z ∙ sym (ap (λ k. place_at k c) z) in
+          let members : take n (c ++ m ∷ []) ≡ take n c = ap (λ k. take k (c ++ m ∷ [])) z ∙ sym (ap (λ k. take k c) z) in
+          let place : place_at n (c ++ m ∷ []) ≡ place_at n c = ap (λ k. place_at k (c ++ m ∷ [])) z ∙ sym (ap (λ k. place_at k c) z) in
           let none : last ≡ None = s.last_is ∙ ap (λ k. place_at k c) z in
           record {
-            text = subst (λ l. Appends start now (begun (form_of q) l)) (sym members) s.text;
+            text = subst (λ l. Appends start now (begun form l)) (sym members) s.text;
             given_is = s.given_is ∙ ap (λ l. min (length l) (2 ^ 64 - 1)) (sym members);
-            more_is = ap is_some none ∙ sym (ap (λ k. is_some (next k (captures_over q from (taken ++ m ∷ [])))) z);
+            more_is = ap is_some none ∙ sym (ap (λ k. is_some (next k (c ++ m ∷ []))) z);
             last_is = s.last_is ∙ sym place;
-            collapsing_is = λ e. kept_part q from taken m b d w (s.collapsing_is h) k;
           })
       | inr e ↦ (
-          let members : take n (captures_over q from (taken ++ m ∷ [])) ≡ take n c = ap (take n) one ∙ take_same n c (m ∷ []) (omega (arith, e)) in
+          let members : take n (c ++ m ∷ []) ≡ take n c = take_same n c (m ∷ []) (omega (arith, e)) in
           record {
-            text = subst (λ l. Appends start now (begun (form_of q) l)) (sym members) s.text;
+            text = subst (λ l. Appends start now (begun form l)) (sym members) s.text;
             given_is = s.given_is ∙ ap (λ l. min (length l) (2 ^ 64 - 1)) (sym members);
-            more_is = ap is_some (s.last_is ∙ sym (next_full n c m e) ∙ sym (ap (next n) one));
-            last_is = s.last_is ∙ sym (ap (place_at n) one ∙ place_same n c (m ∷ []) (omega (arith, e)));
-            collapsing_is = λ e. kept_part q from taken m b d w (s.collapsing_is h) k;
+            more_is = ap is_some (s.last_is ∙ sym (next_full n c m e));
+            last_is = s.last_is ∙ sym (place_same n c (m ∷ []) (omega (arith, e)));
           })
     ]
 
@@ -223,83 +185,67 @@ last_of n given c m last l room g k =
     further (suc n) (suc k) j e h f =
         let ih = further n k (k + 1) refl (omega arith) (λ p. f (omega (arith, p))) in omega (arith, ih, e)
 
--- a line that was written
-pub written_one : (q : QueryValue) (from : Option PlaceValue) (limit : Option ℕ) (taken : List Member) (m : Member) (start now new : Option (List ℕ)) (given given' : ℕ) (more : Bool) (last last' : Option PlaceValue) (b d : Option CollapsingValue)
-    → more ≡ false → is_wanted q from m ≡ true → repeats_part b (member_place m) ≡ false → d ≡ collapsing_after b (member_place m) → is_full limit given ≡ false → FitsWord limit → given' ≡ min (given + 1) (2 ^ 64 - 1)
-    → last' ≡ last_after limit given' last (member_place m) → Appends now new (row_text (form_of q) m)
-    → PageStands q from limit taken start now given more last b → PageStands q from limit (taken ++ m ∷ []) start new given' more last' d
-written_one q from None taken m start now new given given' more last last' b d h w r kd f l g k a s =
-    let c = captures_over q from taken in
-    let one = captures_joined q from taken m w (repeats_told q from None taken start now given more last m b false h r s) in
+-- a capture that was written
+pub written_one : (form : Form) (limit : Option ℕ) (c : List Member) (m : Member) (start now new : Option (List ℕ)) (given given' : ℕ) (more : Bool) (last last' : Option PlaceValue)
+    → more ≡ false → is_full limit given ≡ false → FitsWord limit → given' ≡ min (given + 1) (2 ^ 64 - 1)
+    → last' ≡ last_after limit given' last (member_place m) → Appends now new (row_text form m)
+    → PageStands form limit c start now given more last → PageStands form limit (c ++ m ∷ []) start new given' more last'
+written_one form None c m start now new given given' more last last' h f l g k a s =
     record {
-      text = subst (λ l. Appends start new (begun (form_of q) l)) (sym one) (written-more start now new (form_of q) c m s.text a);
-      given_is = (let n = ap length one in let t = length-append c (m ∷ []) in let u = s.given_is in omega (arith, g, n, t, u));
+      text = written-more start now new form c m s.text a;
+      given_is = (let t = length-append c (m ∷ []) in let u = s.given_is in omega (arith, g, t, u));
       more_is = h;
       last_is = k ∙ s.last_is;
-      collapsing_is = λ e. kept_part q from taken m b d w (s.collapsing_is h) kd;
     }
-written_one q from (Some n) taken m start now new given given' more last last' b d h w r kd f l g k a s =
-    let c = captures_over q from taken in
-    let one = captures_joined q from taken m w (repeats_told q from (Some n) taken start now given more last m b false h r s) in
+written_one form (Some n) c m start now new given given' more last last' h f l g k a s =
     let room = room_is n c given l f s.given_is (sym s.more_is ∙ h) in
     let all : take n c ≡ c = take_all n c (omega (arith, room)) in
     let len : length (c ++ m ∷ []) ≡ length c + 1 = length-append c (m ∷ []) in
-    let members : take n (captures_over q from (taken ++ m ∷ [])) ≡ c ++ m ∷ [] = ap (take n) one ∙ take_all n (c ++ m ∷ []) (omega (arith, room, len)) in
+    let members : take n (c ++ m ∷ []) ≡ c ++ m ∷ [] = take_all n (c ++ m ∷ []) (omega (arith, room, len)) in
     let was : given ≡ min (length c) (2 ^ 64 - 1) = s.given_is ∙ ap (λ l. min (length l) (2 ^ 64 - 1)) all in
     let count : given' ≡ min (length c + 1) (2 ^ 64 - 1) = omega (arith, g, was) in
     record {
-      text = subst (λ l. Appends start new (begun (form_of q) l)) (sym members) (written-more start now new (form_of q) c m (subst (λ l. Appends start now (begun (form_of q) l)) all s.text) a);
+      text = subst (λ l. Appends start new (begun form l)) (sym members) (written-more start now new form c m (subst (λ l. Appends start now (begun form l)) all s.text) a);
       given_is = count ∙ ap (λ k. min k (2 ^ 64 - 1)) (sym len) ∙ ap (λ l. min (length l) (2 ^ 64 - 1)) (sym members);
-      more_is = h ∙ sym (ap is_some (ap (next n) one ∙ next_short n (c ++ m ∷ []) (omega (arith, room, len))));
-      last_is = k ∙ last_of n given' c m last l room count s.last_is ∙ sym (ap (place_at n) one);
-      collapsing_is = λ e. kept_part q from taken m b d w (s.collapsing_is h) kd;
+      more_is = h ∙ sym (ap is_some (next_short n (c ++ m ∷ []) (omega (arith, room, len))));
+      last_is = k ∙ last_of n given' c m last l room count s.last_is;
     }
 
--- before the first line
-pub nothing_taken : (q : QueryValue) (from : Option PlaceValue) (limit : Option ℕ) (start now : Option (List ℕ)) (c : Option CollapsingValue) → c ≡ collapsing_at q.collapse from
-    → Appends start now (page_start (form_of q)) → PageStands q from limit [] start now 0 false None c
-nothing_taken q from None start now c e a = record { text = written-start start now (form_of q) a; given_is = omega arith; more_is = refl; last_is = refl; collapsing_is = λ h. e }
-nothing_taken q from (Some zero) start now c e a = record { text = written-start start now (form_of q) a; given_is = omega arith; more_is = refl; last_is = refl; collapsing_is = λ h. e }
-nothing_taken q from (Some (suc n)) start now c e a = record { text = written-start start now (form_of q) a; given_is = omega arith; more_is = refl; last_is = refl; collapsing_is = λ h. e }
-
-pub is_some-map : {A B : Type 0} (f : A → B) (o : Option A) → is_some o ≡ is_some (option_map f o)
-is_some-map f None = refl
-is_some-map f (Some x) = refl
+-- before the first capture
+pub nothing_taken : (form : Form) (limit : Option ℕ) (start now : Option (List ℕ)) → Appends start now (page_start form) → PageStands form limit [] start now 0 false None
+nothing_taken form None start now a = record { text = written-start start now form a; given_is = omega arith; more_is = refl; last_is = refl }
+nothing_taken form (Some zero) start now a = record { text = written-start start now form a; given_is = omega arith; more_is = refl; last_is = refl }
+nothing_taken form (Some (suc n)) start now a = record { text = written-start start now form a; given_is = omega arith; more_is = refl; last_is = refl }
 
 -- the same, of a writer that kept these
-pub as_kept : (q q' : QueryValue) (from from' : Option PlaceValue) (limit limit' : Option ℕ) (taken : List Member) (start now : Option (List ℕ)) (given given' : ℕ) (more more' : Bool) (last last' : Option PlaceValue) (k k' : Option CollapsingValue)
-    → q' ≡ q → from' ≡ from → limit' ≡ limit → given' ≡ given → more' ≡ more → last' ≡ last → k' ≡ k → PageStands q from limit taken start now given more last k → PageStands q' from' limit' taken start now given' more' last' k'
-as_kept q q' from from' limit limit' taken start now given given' more more' last last' k k' a b c d e f h s =
-    subst (λ x. PageStands x from' limit' taken start now given' more' last' k') (sym a)
-    (subst (λ x. PageStands q x limit' taken start now given' more' last' k') (sym b)
-    (subst (λ x. PageStands q from x taken start now given' more' last' k') (sym c)
-    (subst (λ x. PageStands q from limit taken start now x more' last' k') (sym d)
-    (subst (λ x. PageStands q from limit taken start now given x last' k') (sym e)
-    (subst (λ x. PageStands q from limit taken start now given more x k') (sym f)
-    (subst (λ x. PageStands q from limit taken start now given more last x) (sym h) s))))))
+pub as_kept : (form form' : Form) (limit limit' : Option ℕ) (c c' : List Member) (start now : Option (List ℕ)) (given given' : ℕ) (more more' : Bool) (last last' : Option PlaceValue)
+    → form' ≡ form → limit' ≡ limit → c' ≡ c → given' ≡ given → more' ≡ more → last' ≡ last → PageStands form limit c start now given more last → PageStands form' limit' c' start now given' more' last'
+as_kept form form' limit limit' c c' start now given given' more more' last last' a b d e f h s =
+    subst (λ x. PageStands x limit' c' start now given' more' last') (sym a)
+    (subst (λ x. PageStands form x c' start now given' more' last') (sym b)
+    (subst (λ x. PageStands form limit x start now given' more' last') (sym d)
+    (subst (λ x. PageStands form limit c start now x more' last') (sym e)
+    (subst (λ x. PageStands form limit c start now given x last') (sym f)
+    (subst (λ x. PageStands form limit c start now given more x) (sym h) s)))))
 
 -- ---- after a fault
 
--- the page has one capture more
-members_one : (q : QueryValue) (from : Option PlaceValue) (limit : Option ℕ) (taken : List Member) (m : Member) (start now : Option (List ℕ)) (given : ℕ) (more : Bool) (last : Option PlaceValue) (b : Option CollapsingValue)
-    → more ≡ false → is_wanted q from m ≡ true → repeats_part b (member_place m) ≡ false → is_full limit given ≡ false → FitsWord limit
-    → PageStands q from limit taken start now given more last b → (page_over q from limit (taken ++ m ∷ [])).members ≡ (page_over q from limit taken).members ++ m ∷ []
-members_one q from None taken m start now given more last b h w r f l s = captures_joined q from taken m w (repeats_told q from None taken start now given more last m b false h r s)
-members_one q from (Some n) taken m start now given more last b h w r f l s =
-    let c = captures_over q from taken in
-    let one = captures_joined q from taken m w (repeats_told q from (Some n) taken start now given more last m b false h r s) in
-    let room = room_is n c given l f s.given_is (sym s.more_is ∙ h) in
-    let len : length (c ++ m ∷ []) ≡ length c + 1 = length-append c (m ∷ []) in
-    ap (take n) one ∙ take_all n (c ++ m ∷ []) (omega (arith, room, len)) ∙ ap (λ l. l ++ m ∷ []) (sym (take_all n c (omega (arith, room))))
-
--- in its row, or after it
-pub broke_row : (q : QueryValue) (from : Option PlaceValue) (limit : Option ℕ) (taken : List Member) (m : Member) (start now new : Option (List ℕ)) (given : ℕ) (more : Bool) (last : Option PlaceValue) (b : Option CollapsingValue)
-    → more ≡ false → is_wanted q from m ≡ true → repeats_part b (member_place m) ≡ false → is_full limit given ≡ false → FitsWord limit → AppendsPrefix now new (row_text (form_of q) m)
-    → PageStands q from limit taken start now given more last b → AppendsPrefix start new (begun (form_of q) (page_over q from limit (taken ++ m ∷ [])).members)
-broke_row q from limit taken m start now new given more last b h w r f l p s =
-    subst (λ ms. AppendsPrefix start new (begun (form_of q) ms)) (sym (members_one q from limit taken m start now given more last b h w r f l s))
-    (subst (AppendsPrefix start new) (sym (begun-more (form_of q) (page_over q from limit taken).members m))
-    (prefix_after start now new (begun (form_of q) (page_over q from limit taken).members) (row_text (form_of q) m) s.text p))
+-- in the row of a capture more, or after it
+pub broke_row : (form : Form) (limit : Option ℕ) (c : List Member) (m : Member) (start now new : Option (List ℕ)) (given : ℕ) (more : Bool) (last : Option PlaceValue)
+    → more ≡ false → is_full limit given ≡ false → FitsWord limit → AppendsPrefix now new (row_text form m)
+    → PageStands form limit c start now given more last → AppendsPrefix start new (begun form (page limit (c ++ m ∷ [])).members)
+broke_row form limit c m start now new given more last h f l p s =
+    subst (λ ms. AppendsPrefix start new (begun form ms)) (sym (members_one limit f l (sym s.more_is ∙ h) s.given_is))
+    (subst (AppendsPrefix start new) (sym (begun-more form (page limit c).members m))
+    (prefix_after start now new (begun form (page limit c).members) (row_text form m) s.text p))
+  where
+    members_one : (limit : Option ℕ) → is_full limit given ≡ false → FitsWord limit → is_some (page limit c).next ≡ false → given ≡ min (length (page limit c).members) (2 ^ 64 - 1)
+        → (page limit (c ++ m ∷ [])).members ≡ (page limit c).members ++ m ∷ []
+    members_one None f l none g = refl
+    members_one (Some n) f l none g =
+        let room = room_is n c given l f g none in
+        let len : length (c ++ m ∷ []) ≡ length c + 1 = length-append c (m ∷ []) in
+        take_all n (c ++ m ∷ []) (omega (arith, room, len)) ∙ ap (λ l. l ++ m ∷ []) (sym (take_all n c (omega (arith, room))))
 
 pub whole_prefix : (old new : Option (List ℕ)) (text : List ℕ) → Appends old new text → AppendsPrefix old new text
 whole_prefix old new text a = subst (AppendsPrefix old new) (append-nil text) (prefix_whole old new text [] a)

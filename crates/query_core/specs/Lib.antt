@@ -4,6 +4,8 @@ pub mod Collections
 pub mod QueryPages
 pub mod Collapsings
 pub mod PageWriting
+pub mod PagesWriting
+pub mod Passes
 pub mod WriterView
 pub mod PageAsked
 pub mod PageParts
@@ -13,7 +15,6 @@ pub mod Merging
 pub mod Starts
 pub mod StartViews
 pub mod Paging
-pub mod PlaceBounds
 pub mod Laws
 pub mod Replies
 pub mod Conversations

@@ -10,8 +10,7 @@ use Rattle.query_text.specs.Collapses.{same_part}
 use Rattle.cdxj_core.specs.Members.{Member, member_place}
 use Rattle.page_core.specs.Pages.{Page, is_above, end_place, kept, at_most}
 use Rattle.page_core.specs.PageText.{begun}
-use Rattle.query_core.specs.Collapsings.{CollapsingValue, collapsing_at}
-use Rattle.query_core.specs.QueryPages.{form_of}
+use Rattle.page_core.specs.Form.{Form}
 
 -- the line matches the query and stands above the place
 abbrev pub is_wanted : QueryValue → Option PlaceValue → Member → Bool
@@ -41,14 +40,14 @@ abbrev pub last_place : Option ℕ → List Member → Option PlaceValue
 last_place None ms = None
 last_place (Some n) ms = place_at n ms
 
--- what stands written of the page, how many captures it has, whether a further one follows, the place of the last that it has room
--- for, and, while no further one follows, the part by which the next line is compared
-pub record PageStands (q : QueryValue) (from : Option PlaceValue) (limit : Option ℕ) (taken : List Member) (start now : Option (List ℕ)) (given : ℕ) (more : Bool) (last : Option PlaceValue) (collapsing : Option CollapsingValue) : Type 0 where
-  pub text : Appends start now (begun (form_of q) (page_over q from limit taken).members)
-  pub given_is : given ≡ min (length (page_over q from limit taken).members) (2 ^ 64 - 1)
-  pub more_is : more ≡ is_some (page_over q from limit taken).next
-  pub last_is : last ≡ last_place limit (captures_over q from taken)
-  pub collapsing_is : more ≡ false → collapsing ≡ collapsing_at q.collapse (place_before q from taken)
+-- What stands written of the page of these captures, how many it has, whether a further one follows, and the place of the last that
+-- it has room for
+pub record PageStands (form : Form) (limit : Option ℕ) (captures : List Member) (start now : Option (List ℕ)) (given : ℕ) (more : Bool)
+    (last : Option PlaceValue) : Type 0 where
+  pub text : Appends start now (begun form (at_most member_place limit captures).members)
+  pub given_is : given ≡ min (length (at_most member_place limit captures).members) (2 ^ 64 - 1)
+  pub more_is : more ≡ is_some (at_most member_place limit captures).next
+  pub last_is : last ≡ last_place limit captures
 
 -- the page has as many as its limit
 abbrev pub is_full : Option ℕ → ℕ → Bool

@@ -1,17 +1,19 @@
 -- What a call that writes the pages of a query owes.
-use Rattle.std.specs.Prelude.{◌≡◌, ◌⊎◌, ℕ, ⊤, ◌-◌, ◌^◌, List, [], ◌∷◌, length, flat_map, min, Bool, ◌&&◌, nat_lt, Option, Some, MatchOption}
+use Rattle.std.specs.Prelude.{◌≡◌, ◌⊎◌, ℕ, ◌-◌, ◌^◌, List, length, flat_map, min, Bool, ◌&&◌, nat_lt, true, Option}
 use Rattle.std.specs.List.{list_all}
 use Rattle.std.specs.Io.KnownBytes.{Appends}
 use Rattle.cdxj_places.specs.Places.{PlaceValue}
 use Rattle.cdxj_core.specs.Members.{Member}
 use Rattle.devices.specs.Device.{AppendsPrefix}
 use Rattle.query_text.specs.Queries.{QueryValue}
-use Rattle.page_core.specs.Pages.{Page, first_size, later_sizes}
+use Rattle.page_core.specs.Pages.{Page}
 use Rattle.query_core.specs.declared.fault.AnswerFault.{AnswerFault}
 use Rattle.query_core.specs.declared.fault.AnswerFault.TheVariants.{TooManySources, BadSizes}
-use Rattle.query_core.specs.PageAsked.{asked_page}
+use Rattle.query_text.specs.Matching.{is_past}
+use Rattle.merge_core.specs.Collections.{collection}
+use Rattle.merge_core.specs.Gathering.{AllTwo}
+use Rattle.merge_core.specs.Runs.{IsPart}
 use Rattle.query_core.specs.QueryPages.{IsQueryChain, chain_text}
-use Rattle.merge_core.specs.SourceLines.{AreLinesOf}
 
 -- one or more sizes, none of them 0
 abbrev pub are_sizes : List ℕ → Bool
@@ -36,14 +38,9 @@ pub record WrotePages (q : QueryValue) (lines : List Member) (sizes : List ℕ) 
 abbrev pub WrotePagesInPart : QueryValue → List Member → List ℕ → Option (List ℕ) → Option (List ℕ) → Type 0
 WrotePagesInPart q lines sizes old new = (pages : List (Page Member PlaceValue)) × IsQueryChain q lines sizes pages × AppendsPrefix old new (pages_text q pages)
 
--- Sources of any bytes; the limit of a line, in bytes
-module _ (limit : ℕ) (q : QueryValue) (sources : List (Option (List ℕ))) where
-  -- the page of such a size after the place, of lines of the sources
-  abbrev pub IsPageOf : Option PlaceValue → ℕ → Page Member PlaceValue → Type 0
-  IsPageOf from size page = (lines : List Member) × AreLinesOf limit sources lines × (page ≡ asked_page q from (Some size) lines)
-
-  -- the first pages of these sizes, each of lines of the sources, and after the place that the one before gives
-  abbrev pub ArePagesOf : Option PlaceValue → List ℕ → List (Page Member PlaceValue) → Type 0
-  ArePagesOf from sizes [] = ⊤
-  ArePagesOf from sizes (page ∷ rest) =
-      IsPageOf from (first_size sizes) page × MatchOption page.next (rest ≡ []) (λ next. ArePagesOf (Some next) (later_sizes sizes) rest)
+-- Of each source consecutive lines were read, which are an index by themselves: all of the query's range. The pages are those of these
+-- lines.
+pub record WrotePagesOfParts (limit : ℕ) (q : QueryValue) (texts : List (List ℕ)) (sizes : List ℕ) (old new : Option (List ℕ)) (number : ℕ) : Type 0 where
+  pub parts : List (List Member)
+  pub each : AllTwo (IsPart limit (is_past q.target) true) texts parts
+  pub wrote : WrotePages q (collection parts) sizes old new number

@@ -19,13 +19,10 @@ ghost use Rattle.query_core.specs.Reach.{GaveInReach, in_reach};
 ghost use Rattle.query_core.specs.WriterView.{from_view};
 
 use crate::fault::AnswerFault;
-use crate::merging::merge_fault;
 use crate::page_writer::{PageEnd, PageWriter};
-use crate::start::start_pair;
-use crate::target_range::TargetRange;
+use crate::pass::read_lines;
 use cdxj_core::Place;
 use devices::Output;
-use merge_core::{Streams, merge};
 use page_core::TextFault;
 use query_text::Query;
 use source_core::Source;
@@ -43,7 +40,7 @@ pub struct WrittenPage {
     pub held: u64,
 }
 
-fn text_fault(fault: TextFault) -> AnswerFault
+pub(crate) fn text_fault(fault: TextFault) -> AnswerFault
     ensures read { (i : ℕ) → result ≡ AnswerFault.Read i → ⊥ }
     ensures write { result ≡ AnswerFault.Write → fault ≡ TextFault.Write }
     ensures is_write { fault ≡ TextFault.Write → result ≡ AnswerFault.Write }
@@ -90,7 +87,6 @@ pub fn write_page<S: Source, O: Output>(
         → IfOk result (λ page. page.lines ≤ length (filter (in_reach query.now (from_view from.entry) limit (collection indexes)) (all_lines indexes)) + length sources.old) }
     ensures bytes { (texts : List (List ℕ)) → (indexes : List (List Member)) → Known (map S.text sources.old) texts → AllTwo (IsIndex LINE_LIMIT) texts indexes → (limit ≡ Some 0 → ⊥)
         → GaveInReach S.extent S.gave query.now (from_view from.entry) limit texts indexes (O.written out.old) (O.written out.new) sources.old sources.new }
-    ensures above { IfOk result (λ page. IfSome page.end.next (λ next. StandsAfter (from_view from.entry) next)) }
     ensures held { (texts : List (List ℕ)) → (indexes : List (List Member)) → (most : ℕ) → Known (map S.text sources.old) texts → AllTwo (IsIndex LINE_LIMIT) texts indexes
         → ShareAtMost most (all_lines indexes) → IfOk result (λ page. page.held ≤ length sources.old + most) }
 {
@@ -98,30 +94,9 @@ pub fn write_page<S: Source, O: Output>(
         Ok(writer) => writer,
         Err(fault) => return Err(text_fault(fault)),
     };
-    let range = TargetRange {
-        target: query.target(),
-    };
-    let start = start_pair(query, from);
-    let mut opened = match Streams::open_at(
-        alloc,
-        sources,
-        start.key.as_bytes(),
-        &start.stamp,
-        &range,
-    ) {
-        Ok(opened) => opened,
-        Err(fault) => return Err(merge_fault(fault)),
-    };
-    let _all = match merge(
-        alloc,
-        sources,
-        &mut opened.streams,
-        &range,
-        &mut writer,
-        out,
-    ) {
-        Ok(all) => all,
-        Err(fault) => return Err(merge_fault(fault)),
+    let pass = match read_lines(alloc, sources, query, from, &mut writer, out) {
+        Ok(pass) => pass,
+        Err(fault) => return Err(fault),
     };
     let end = match writer.end(alloc, shows, out) {
         Ok(end) => end,
@@ -129,8 +104,8 @@ pub fn write_page<S: Source, O: Output>(
     };
     Ok(WrittenPage {
         end,
-        probes: opened.probes,
-        lines: opened.streams.lines(),
-        held: opened.streams.held,
+        probes: pass.probes,
+        lines: pass.lines,
+        held: pass.held,
     })
 }

@@ -1,15 +1,14 @@
 //! The writing of a page.
 ghost use Rattle.std.specs.Prelude.{◌≡◌, ◌++◌, ◌∷◌, [], List, Option, None, Some, ℕ, OnOk, IfOk, IfErr, OnErr, option_map, string_bytes};
-ghost use Rattle.cdxj_places.specs.Places.{place_cmp};
 ghost use Rattle.cdxj_places.specs.PlaceViews.{place_view};
 ghost use Rattle.cdxj_core.specs.Members.{Member, member_place};
-ghost use Rattle.page_core.specs.Pages.{is_above};
 ghost use Rattle.page_core.specs.FormView.{form_view};
 ghost use Rattle.page_core.specs.Faults.{CountsWrite};
+ghost use Rattle.page_core.specs.PageText.{page_end};
+ghost use Rattle.devices.specs.Writing.{WritesText};
 ghost use Rattle.query_core.specs.QueryPages.{form_of, shown_key};
-ghost use Rattle.query_core.specs.PageWriting.{is_wanted};
 
-use crate::collapsing::Collapsing;
+use crate::selection::Selection;
 use cdxj_core::{HasPlace, Line, OwnedPlace, Place, resume_text};
 use devices::Output;
 use merge_core::{Sink, SinkFault};
@@ -18,7 +17,7 @@ use query_text::{OutputFormat, Query};
 use std::alloc::Global;
 
 /// Returns the form of the query's pages.
-fn form_of(query: &Query) -> PageForm<'_>
+pub(crate) fn form_of(query: &Query) -> PageForm<'_>
     ensures { form_view result ≡ form_of query.now }
 {
     match query.output() {
@@ -29,7 +28,7 @@ fn form_of(query: &Query) -> PageForm<'_>
 }
 
 /// Returns the resume key of a place, if it is to be shown and there is one.
-fn key_text(
+pub(crate) fn key_text(
     alloc: Global,
     shows: bool,
     next: Option<&OwnedPlace>,
@@ -50,7 +49,26 @@ fn key_text(
     }
 }
 
-fn sink_fault(fault: TextFault) -> SinkFault
+/// Writes what follows the last capture of a page, with the resume key of this place if it is to be shown and there is
+/// one.
+pub(crate) fn put_end<O: Output>(
+    alloc: Global,
+    output: &mut PageOutput<'_>,
+    shows: bool,
+    next: Option<&OwnedPlace>,
+    out: &mut O,
+) -> Result<(), TextFault>
+    ensures form { output.new ≡ output.old }
+    ensures text { WritesText result (O.written out.old) (O.written out.new)
+        (page_end output.old (shown_key shows (option_map (λ p. p.now) next.entry))) }
+    ensures failures { CountsWrite result (O.failures out.old) (O.failures out.new) }
+{
+    let key = key_text(alloc, shows, next)?;
+    output.put_end(key.as_deref(), out)?;
+    Ok(())
+}
+
+pub(crate) fn sink_fault(fault: TextFault) -> SinkFault
     ensures memory { fault ≡ TextFault.Memory → result ≡ SinkFault.Memory }
     ensures write { fault ≡ TextFault.Write → result ≡ SinkFault.Write }
 {
@@ -72,8 +90,7 @@ pub struct PageEnd {
 /// Writes a page of a query from the lines that it takes, in the order of places.
 #[derive(Drop)]
 pub struct PageWriter<'q> {
-    query: &'q Query,
-    from: Option<Place<'q>>,
+    selection: Selection<'q>,
     limit: Option<u64>,
     page: PageOutput<'q>,
     given: u64,
@@ -81,18 +98,15 @@ pub struct PageWriter<'q> {
     more: bool,
     /// The place of the last capture that the page has room for.
     last: Option<OwnedPlace>,
-    /// What the next line is compared with, if captures are collapsed.
-    collapsing: Option<Collapsing>,
-    pub ghost page_rule: { page ≡ form_of query.now },
+    pub ghost page_rule: { page ≡ form_of selection.query.now },
 }
 
 impl<'q> PageWriter<'q> {
     ghost use Rattle.std.specs.Prelude.{◌+◌, ◌-◌, ◌^◌, min, true, false};
+    ghost use Rattle.std.specs.Io.KnownBytes.{Appends};
     ghost use Rattle.devices.specs.Device.{AppendsPrefix};
-    ghost use Rattle.devices.specs.Writing.{WritesText};
     ghost use Rattle.merge_core.specs.Reached.{Grows};
-    ghost use Rattle.page_core.specs.PageText.{page_start, page_end};
-    ghost use Rattle.query_core.specs.Collapsings.{collapsing_after, repeats_part};
+    ghost use Rattle.page_core.specs.PageText.{page_start, row_text};
     ghost use Rattle.query_core.specs.PageWriting.{is_full, last_after, next_of, FitsWord};
     ghost use Rattle.query_core.specs.WriterView.{stands, Kept, Broke, from_view};
 
@@ -105,74 +119,21 @@ impl<'q> PageWriter<'q> {
         out: &mut O,
     ) -> Result<PageWriter<'q>, TextFault>
         ensures stands { IfOk result (λ writer. stands writer [] (O.written out.old) (O.written out.new)) }
-        ensures query { IfOk result (λ writer. (writer.query.now ≡ query.now) × (writer.from ≡ from.entry) × (writer.limit ≡ limit)) }
+        ensures query { IfOk result (λ writer. (writer.selection.query.now ≡ query.now) × (writer.selection.from ≡ from.entry) × (writer.limit ≡ limit)) }
         ensures front { OnErr result (AppendsPrefix (O.written out.old) (O.written out.new) (page_start (form_of query.now))) }
         ensures failures { CountsWrite result (O.failures out.old) (O.failures out.new) }
     {
-        let collapsing = Collapsing::begin(alloc, query.collapse(), from)?;
+        let selection = Selection::begin(alloc, query, from)?;
         let mut page = PageOutput::new(alloc, form_of(query));
         page.put_start(out)?;
         Ok(PageWriter {
-            query,
-            from,
+            selection,
             limit,
             page,
             given: 0,
             more: false,
             last: None,
-            collapsing,
         })
-    }
-
-    fn is_above(&self, line: &Line) -> bool
-        ensures { result ≡ is_above member_place place_cmp (from_view self.now.from) line.now }
-    {
-        match self.from {
-            Some(place) => line.place().compare_place(&place).is_gt(),
-            None => true,
-        }
-    }
-
-    /// Returns whether the line belongs to the page or to a later one.
-    fn wants(&self, line: &Line) -> Result<bool, TextFault>
-        ensures value { IfOk result (λ wanted. wanted ≡ is_wanted self.now.query.now (from_view self.now.from) line.now) }
-        ensures memory { IfErr result (λ e. e ≡ TextFault.Memory) }
-    {
-        match self.query.matches_kept(line) {
-            Ok(matches) => Ok(matches && self.is_above(line)),
-            Err(_) => Err(TextFault::Memory),
-        }
-    }
-
-    /// Returns whether the line is left out because of the capture before it.
-    fn repeats(&self, line: &Line) -> bool
-        ensures { result ≡ repeats_part self.now.collapsing (member_place line.now) }
-    {
-        match &self.collapsing {
-            Some(collapsing) => {
-                let (key, stamp) = line.pair();
-                collapsing.repeats(key, &stamp)
-            }
-            None => false,
-        }
-    }
-
-    /// Stores what the lines after this one are compared with.
-    fn keep_part(&mut self, line: &Line) -> Result<(), TextFault>
-        ensures part { OnOk result (self.new.collapsing ≡ collapsing_after self.old.collapsing (member_place line.now)) }
-        ensures kept { Kept self.old self.new × (self.new.given ≡ self.old.given) × (self.new.more ≡ self.old.more) × (self.new.last ≡ self.old.last) }
-        ensures memory { IfErr result (λ e. e ≡ TextFault.Memory) }
-    {
-        match &mut self.collapsing {
-            Some(collapsing) => {
-                let (key, stamp) = line.pair();
-                match collapsing.keep(key, stamp) {
-                    Ok(()) => Ok(()),
-                    Err(_) => Err(TextFault::Memory),
-                }
-            }
-            None => Ok(()),
-        }
     }
 
     fn is_full(&self) -> bool
@@ -188,7 +149,7 @@ impl<'q> PageWriter<'q> {
     /// Stores the place of a line that was written, if it is the last that the page has room for.
     fn keep_last(&mut self, alloc: Global, line: &Line) -> Result<(), TextFault>
         ensures last { OnOk result (self.new.last ≡ last_after self.old.limit self.old.given self.old.last (member_place line.now)) }
-        ensures kept { Kept self.old self.new × (self.new.given ≡ self.old.given) × (self.new.more ≡ self.old.more) × (self.new.collapsing ≡ self.old.collapsing) }
+        ensures kept { (self.new.selection ≡ self.old.selection) × (self.new.limit ≡ self.old.limit) × (self.new.given ≡ self.old.given) × (self.new.more ≡ self.old.more) }
         ensures memory { IfErr result (λ e. e ≡ TextFault.Memory) }
     {
         if !self.is_full() {
@@ -201,6 +162,25 @@ impl<'q> PageWriter<'q> {
             }
             Err(_) => Err(TextFault::Memory),
         }
+    }
+
+    fn put_capture<O: Output>(
+        &mut self,
+        alloc: Global,
+        line: &Line,
+        out: &mut O,
+    ) -> Result<(), TextFault>
+        ensures text { OnOk result (Appends (O.written out.old) (O.written out.new) (row_text (form_of self.old.selection.query.now) line.now)) }
+        ensures part { OnErr result (AppendsPrefix (O.written out.old) (O.written out.new) (row_text (form_of self.old.selection.query.now) line.now)) }
+        ensures kept { (self.new.selection ≡ self.old.selection) × (self.new.limit ≡ self.old.limit) × (self.new.more ≡ self.old.more) }
+        ensures given { OnOk result (self.new.given ≡ min (self.old.given + 1) (2 ^ 64 - 1)) }
+        ensures last { OnOk result (self.new.last ≡ last_after self.old.limit self.new.given self.old.last (member_place line.now)) }
+        ensures failures { CountsWrite result (O.failures out.old) (O.failures out.new) }
+    {
+        self.page.put_row(line, out)?;
+        self.given = self.given.saturating_add(1);
+        self.keep_last(alloc, line)?;
+        Ok(())
     }
 
     /// Takes one more line.
@@ -222,21 +202,22 @@ impl<'q> PageWriter<'q> {
         if self.more {
             return Ok(());
         }
-        if !self.wants(line)? {
-            return Ok(());
+        match self.selection.takes(line) {
+            Ok(is_capture) => {
+                if !is_capture {
+                    return Ok(());
+                }
+            }
+            Err(fault) => return Err(fault),
         }
-        if self.repeats(line) {
-            return Ok(());
-        }
-        self.keep_part(line)?;
         if self.is_full() {
             self.more = self.last.is_some();
             return Ok(());
         }
-        self.page.put_row(line, out)?;
-        self.given = self.given.saturating_add(1);
-        self.keep_last(alloc, line)?;
-        Ok(())
+        match self.put_capture(alloc, line, out) {
+            Ok(()) => Ok(()),
+            Err(fault) => Err(fault),
+        }
     }
 
     /// Writes what follows the last capture, with the resume key if it is to be shown and there is one.
@@ -247,13 +228,12 @@ impl<'q> PageWriter<'q> {
         out: &mut O,
     ) -> Result<PageEnd, TextFault>
         ensures text { WritesText result (O.written out.old) (O.written out.new)
-            (page_end (form_of self.old.query.now) (shown_key shows (next_of self.old.more self.old.last))) }
+            (page_end (form_of self.old.selection.query.now) (shown_key shows (next_of self.old.more self.old.last))) }
         ensures end { IfOk result (λ end. (end.given ≡ self.old.given) × (end.next ≡ next_of self.old.more self.old.last)) }
         ensures failures { CountsWrite result (O.failures out.old) (O.failures out.new) }
     {
         let next = self.take_next();
-        let key = key_text(alloc, shows, next.as_ref())?;
-        self.page.put_end(key.as_deref(), out)?;
+        put_end(alloc, &mut self.page, shows, next.as_ref(), out)?;
         Ok(PageEnd {
             given: self.given,
             next,
@@ -262,7 +242,7 @@ impl<'q> PageWriter<'q> {
 
     fn take_next(&mut self) -> Option<OwnedPlace>
         ensures next { result ≡ next_of self.old.more self.old.last }
-        ensures kept { (self.new.query ≡ self.old.query) × (self.new.given ≡ self.old.given) }
+        ensures kept { (self.new.selection ≡ self.old.selection) × (self.new.given ≡ self.old.given) }
     {
         if self.more { self.last.take() } else { None }
     }

@@ -12,7 +12,7 @@ use Rattle.query_text.specs.Matching.{matches}
 use Rattle.page_core.proofs.PageLaws.{chain_law, rises_filter, each_filter}
 use Rattle.query_core.specs.Collections.{selected}
 use Rattle.query_core.specs.Paging.{WrotePages, WrotePagesInPart}
-use Rattle.query_core.proofs.PageSteps.{all_positive}
+use Rattle.query_core.proofs.PagesLemmas.{all_positive}
 use Rattle.scan_core.specs.Archives.{AreIndexed, index_members}
 use Rattle.scan_core.specs.Captures.{captured_lines}
 use Rattle.scan_core.specs.Scanning.{IsAsked, Scanned, ScannedInPart}

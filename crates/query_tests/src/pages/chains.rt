@@ -95,6 +95,33 @@ fn pages_follow_one_another(rt: HostRuntime) -> Result<(), Fail> {
     Ok(())
 }
 
+fn all_gave(sources: &[SliceSource<'_>]) -> u64 {
+    let mut gave = 0u64;
+    for source in sources {
+        gave = gave.saturating_add(source.gave());
+    }
+    gave
+}
+
+/// Returns whether pages of one capture read as many bytes as one page of all captures.
+fn reads_once(alloc: Global, text: &str) -> Result<bool, Fail> {
+    let texts = index_texts(alloc, &[APART[0], APART[1], APART[2], HOSTS])?;
+    let query = Query::read(alloc, text)?;
+    let mut paged = slices(alloc, &texts)?;
+    let mut whole = slices(alloc, &texts)?;
+    let _count = in_memory(pages(alloc, &mut paged, &query, &[1], &mut Gather::new(alloc)))?;
+    let _report = in_memory(answer(alloc, &mut whole, &query, &mut Gather::new(alloc)))?;
+    Ok(all_gave(&paged) == all_gave(&whole))
+}
+
+#[test]
+fn pages_read_what_one_page_reads(rt: HostRuntime) -> Result<(), Fail> {
+    for text in ["url=*.example.com", "url=com,example", "key=z)/"] {
+        assert!(rt; reads_once(rt.alloc(), text)?, "{text}");
+    }
+    Ok(())
+}
+
 /// Returns the rows of a page, and the resume key that follows them, if there is one.
 fn cut_key(page: &str) -> (&str, Option<&str>) {
     match page.split_once("\n\n") {

@@ -2,9 +2,9 @@
 use cdxj_core::{Field, Line};
 use devices::Gather;
 use fixtures::LETTERS;
-use merge_core::{All, LineWriter, Sink, Streams, merge};
+use merge_core::{All, LineWriter, Streams, merge};
 use page_core::{PageForm, PageOutput, field_name};
-use query_core::{PageWriter, Query, SliceSource};
+use query_core::SliceSource;
 use std::alloc::{AllocError, Global};
 use std::test::Fail;
 
@@ -80,35 +80,6 @@ fn fields_have_names(rt: HostRuntime) {
     for (field, name) in NAMES {
         assert!(rt; has_name(*field, name));
     }
-}
-
-/// Returns the page of the first two letters, and whether it wants another line after each of the three.
-fn page_of_two(alloc: Global, text: &[u8], query: &Query) -> Result<(Gather, [bool; 3]), Fail> {
-    let mut out = Gather::new(alloc);
-    let mut writer = PageWriter::begin(alloc, query, None, Some(2), &mut out).map_err(
-        |_| AllocError,
-    )?;
-    let mut wants = [false; 3];
-    for (number, want) in wants.iter_mut().enumerate() {
-        let line = Line::read(
-            alloc,
-            text.get(145 * number..145 * number + 144).unwrap_or(b""),
-        )?;
-        *want = writer
-            .take(alloc, &[&line], &mut out)
-            .map_err(|_| AllocError)?;
-    }
-    let _end = writer.end(alloc, true, &mut out).map_err(|_| AllocError)?;
-    Ok((out, wants))
-}
-
-#[test]
-fn a_page_is_full_at_its_limit(rt: HostRuntime) -> Result<(), Fail> {
-    let query = Query::read(rt.alloc(), "key=&matchType=prefix&fl=offset")?;
-    let (page, wants) = page_of_two(rt.alloc(), LETTERS, &query)?;
-    assert!(rt; wants == [true, true, false]);
-    assert!(rt; page.bytes() == b"0\n1\n\nb%29%2F+20160101000000+a.warc+1\n".as_slice());
-    Ok(())
 }
 
 /// Pairs at which two sources are opened, and how many bytes of the letters precede them.

@@ -9,7 +9,7 @@ use Rattle.query_core.specs.WriterView.{from_view}
 use Rattle.query_core.proofs.AskedLemmas.{answered}
 use Rattle.merge_core.proofs.WrittenLemmas.{grows_not}
 use Rattle.query_core.proofs.FewerLines.{page_fewer}
-use Rattle.query_core.proofs.ReachLemmas.{gave_opened, opened_not}
+use Rattle.query_core.proofs.PageReach.{page_not_reached}
 use Rattle.query_core.proofs.answering.answer.Goals as goal
 
 pub returns-then-sources-gt-SOURCES_LIMIT-clause-rising : goal.returns-then-sources-gt-SOURCES_LIMIT-clause-rising
@@ -20,8 +20,8 @@ returns-then-sources-gt-SOURCES_LIMIT-clause-part g c = λ texts indexes known a
 
 pub returns-then-sources-gt-SOURCES_LIMIT-clause-bytes : goal.returns-then-sources-gt-SOURCES_LIMIT-clause-bytes
 returns-then-sources-gt-SOURCES_LIMIT-clause-bytes g c = λ texts indexes known are.
-    gave_opened g.S.Source.text g.S.Source.extent g.S.Source.gave c.args.query.now c.args.query.now.resume c.args.query.now.limit texts indexes (g.O.Output.written c.args.out.now) (g.O.Output.written c.args.out.now) c.args.sources.now c.args.sources.now
-    known are (grows_not _) (opened_not g.S.Source.text g.S.Source.extent g.S.Source.gave c.args.sources.now)
+    page_not_reached g.S.Source.text g.S.Source.extent g.S.Source.gave c.args.query.now c.args.query.now.resume c.args.query.now.limit texts indexes (g.O.Output.written c.args.out.now) (g.O.Output.written c.args.out.now) c.args.sources.now
+    known are (grows_not _)
 
 pub returns-clause-written : goal.returns-clause-written
 returns-clause-written g c =

@@ -1,137 +1,214 @@
-use Rattle.std.proofs.Common.{rules, ◌≡◌, Some, map, refl, sym, ap, ◌∙◌, subst}
-use Rattle.std.proofs.lemmas.Result.{err_from_is_err_and}
+use Rattle.std.proofs.Common.{rules, ◌≡◌, ℕ, List, [], Bool, append-nil, true, refl, sym, map, subst, Option, None}
+use Rattle.cdxj_places.specs.Places.{place_cmp}
+use Rattle.cdxj_places.specs.Rising.{Rises}
+use Rattle.cdxj_places.proofs.PlaceOrder.{place_cmp_total}
+use Rattle.cdxj_places.proofs.RisingLaws.{rises_rising}
 use Rattle.cdxj_core.specs.declared.limit.TheConstants.{LINE_LIMIT}
-use Rattle.devices.proofs.WritingLemmas.{wrote_nothing}
-use Rattle.merge_core.specs.Collections.{Known}
-use Rattle.merge_core.proofs.FailLemmas.{if_err, raised_from}
-use Rattle.page_core.specs.Pages.{AllPositive}
-use Rattle.query_core.specs.Paging.{ArePagesOf}
-use Rattle.query_core.proofs.Ranks.{rank_falls}
-use Rattle.query_core.proofs.NextPlaces.{after_is}
-use Rattle.query_core.proofs.PagesWritten.{WrittenTo, none_written}
-use Rattle.query_core.proofs.PageSteps.{Chain, there, all_positive, later_positive}
-use Rattle.query_core.proofs.PagesReached.{risen_front, risen_whole, risen_next, chained_front, chained_whole, chained_last, chained_next}
+use Rattle.cdxj_core.specs.Members.{Member, member_place}
+use Rattle.merge_core.specs.Collections.{all_lines, collection}
+use Rattle.merge_core.specs.SourceLines.{AreLinesOf}
+use Rattle.merge_core.specs.Spending.{AllGaveWithin}
+use Rattle.query_core.specs.PageWriting.{captures_over}
+use Rattle.query_core.specs.Paging.{are_sizes}
+use Rattle.query_core.specs.Passes.{AreFirst, OverIndexes}
+use Rattle.query_core.specs.Reach.{in_reach}
+use Rattle.query_core.proofs.PageChains.{in_whole, wrote_front, wrote_most, wrote_none, wrote_whole}
+use Rattle.query_core.proofs.PagesExits.{all_ended, any_front, at_end, not_false}
+use Rattle.query_core.proofs.PagesLemmas.{all_positive, start_front}
+use Rattle.query_core.proofs.ReachLemmas.{opened_not, within_opening}
 use Rattle.query_core.proofs.paging.pages.Goals as goal
 
-pub returns-in_err-page-clause-read : goal.returns-in_err-page-clause-read
-returns-in_err-page-clause-read g c =
-    let f = g.S.Source.failures in
-    let p = err_from_is_err_and c.from_residual-in_err-page.result c.from_residual-in_err-page.ensures.1 in
-    let q : p.0 ≡ c.in_err-page.field-0.0 = p.2 in
-    if_err c.from_residual-in_err-page.result p.0 _ p.1 (λ i h.
-    raised_from i (map f c.args.sources.now) (map f c.pages.sources) (map f c.write_page.new.sources) c.pages.invariant.sources (c.in_err-page.ensures.read i (sym q ∙ h)))
+no_lines : (texts : List (Option (List ℕ))) → AreLinesOf LINE_LIMIT texts []
+no_lines texts = record { rise = tt; each = tt }
 
-pub pages-smaller : goal.pages-smaller
-pages-smaller g c =
-    let after = after_is c.in_ok-page.page.end.next c.in-Some.next c.in_ok-read_key.field-0 _ c.pages.from c.in_ok-page.ensures.above c.in-Some.is
-    (c.in_ok-read_key.ensures.place ∙ c.place.ensures ∙ c.in-Some.next-is) c.borrowed.ensures in
-    rank_falls c.pages.from c.in_ok-read_key.field-0 c.pages.invariant.bounded c.in_ok-read_key.ensures.bounded after
+-- nothing was read
+unread : {S : Type 0} (text : S → Option (List ℕ)) (extent gave : S → ℕ) (test : Member → Bool) (sources : List S)
+    → OverIndexes (map text sources) (λ texts indexes. AllGaveWithin extent gave test texts indexes sources sources)
+unread text extent gave test sources texts indexes known are = within_opening text extent gave test texts indexes sources sources known are (opened_not text extent gave sources)
 
--- ---- nothing was written
+collection_rises : (indexes : List (List Member)) → Rises member_place place_cmp (collection indexes)
+collection_rises indexes = rises_rising member_place place_cmp place_cmp_total (all_lines indexes)
+
+-- ---- before anything was read
+
+pub returns-then-not-are_sizes-clause-bytes : goal.returns-then-not-are_sizes-clause-bytes
+returns-then-not-are_sizes-clause-bytes g c = λ texts indexes. unread g.S.Source.text g.S.Source.extent g.S.Source.gave (in_reach c.args.query.now c.args.query.now.resume None (collection indexes)) c.args.sources.now texts indexes
+
+pub returns-then-sources-gt-SOURCES_LIMIT-clause-bytes : goal.returns-then-sources-gt-SOURCES_LIMIT-clause-bytes
+returns-then-sources-gt-SOURCES_LIMIT-clause-bytes g c = λ texts indexes. unread g.S.Source.text g.S.Source.extent g.S.Source.gave (in_reach c.args.query.now c.args.query.now.resume None (collection indexes)) c.args.sources.now texts indexes
+
+pub returns-then-sources-gt-SOURCES_LIMIT-clause-rising : goal.returns-then-sources-gt-SOURCES_LIMIT-clause-rising
+returns-then-sources-gt-SOURCES_LIMIT-clause-rising g c = λ sized.
+    ([], no_lines (map g.S.Source.text c.args.sources.now), wrote_none c.args.query.now c.args.sizes.now (all_positive c.args.sizes.now sized) [] tt (g.O.Output.written c.args.out.now))
 
 pub returns-then-sources-gt-SOURCES_LIMIT-clause-part : goal.returns-then-sources-gt-SOURCES_LIMIT-clause-part
-returns-then-sources-gt-SOURCES_LIMIT-clause-part g c = λ texts indexes known are sized.
-    let t = there c.args.query.now indexes c.args.query.now.resume c.args.sizes.now (all_positive c.args.sizes.now sized) in (t.0, t.1, wrote_nothing _ _)
+returns-then-sources-gt-SOURCES_LIMIT-clause-part g c = λ sized texts indexes known are.
+    wrote_none c.args.query.now c.args.sizes.now (all_positive c.args.sizes.now sized) (collection indexes) (collection_rises indexes) (g.O.Output.written c.args.out.now)
 
-pub returns-in_err-from-clause-part : goal.returns-in_err-from-clause-part
-returns-in_err-from-clause-part g c = λ texts indexes known are sized.
-    let t = there c.args.query.now indexes c.args.query.now.resume c.args.sizes.now (all_positive c.args.sizes.now sized) in (t.0, t.1, wrote_nothing _ _)
+pub returns-in-Err-clause-fault : goal.returns-in-Err-clause-fault
+returns-in-Err-clause-fault g c = c.text_fault.ensures.line (map g.S.Source.text c.args.sources.now)
 
-pub pages-init : goal.pages-init
-pages-init g c =
+pub returns-in-Err-clause-bytes : goal.returns-in-Err-clause-bytes
+returns-in-Err-clause-bytes g c = λ texts indexes. unread g.S.Source.text g.S.Source.extent g.S.Source.gave (in_reach c.args.query.now c.args.query.now.resume None (collection indexes)) c.args.sources.now texts indexes
+
+pub returns-in-Err-clause-rising : goal.returns-in-Err-clause-rising
+returns-in-Err-clause-rising g c = λ sized.
     let q = c.args.query.now in
-    let out = g.O.Output.written c.args.out.now in
-    let first = c.in_ok-from.ensures.place in
-    record {
-      texts = refl;
-      sources = refl;
-      out = refl;
-      bounded = c.in_ok-from.ensures.bounded;
-      positive = all_positive c.args.sizes.now (search rules);
-      risen = subst (λ from. WrittenTo q (ArePagesOf LINE_LIMIT q (map g.S.Source.text c.args.sources.now)) q.resume c.args.sizes.now from c.args.sizes.now 0 out out) (sym first)
-          (none_written q (ArePagesOf LINE_LIMIT q (map g.S.Source.text c.args.sources.now)) q.resume c.args.sizes.now out);
-      chained = λ texts indexes known are.
-          subst (λ from. WrittenTo q (Chain q indexes) q.resume c.args.sizes.now from c.args.sizes.now 0 out out) (sym first) (none_written q (Chain q indexes) q.resume c.args.sizes.now out);
-    }
+    let positive = all_positive c.args.sizes.now sized in
+    let old = g.O.Output.written c.args.out.now in
+    let new = g.O.Output.written c.begin.new.out in
+    ([], no_lines (map g.S.Source.text c.args.sources.now), wrote_front q c.args.sizes.now positive [] tt [] old new [] refl (start_front q c.args.sizes.now old new positive c.in-Err.ensures.front))
 
--- ---- a page fails
+pub returns-in-Err-clause-part : goal.returns-in-Err-clause-part
+returns-in-Err-clause-part g c = λ sized texts indexes known are.
+    let q = c.args.query.now in
+    let positive = all_positive c.args.sizes.now sized in
+    let old = g.O.Output.written c.args.out.now in
+    let new = g.O.Output.written c.begin.new.out in
+    wrote_front q c.args.sizes.now positive (collection indexes) (collection_rises indexes) [] old new (captures_over q q.resume (collection indexes)) refl
+    (start_front q c.args.sizes.now old new positive c.in-Err.ensures.front)
 
-pub returns-in_err-page-clause-rising : goal.returns-in_err-page-clause-rising
-returns-in_err-page-clause-rising g c =
-    let inv = c.pages.invariant in
-    risen_front c.args.query.now c.args.sizes.now c.pages.left.now _ c.pages.from c.first_size.result c.pages.count c.borrowed.ensures c.first_size.ensures
-    (g.O.Output.written c.args.out.now) (g.O.Output.written c.pages.out) (g.O.Output.written c.write_page.new.out)
-    LINE_LIMIT (map g.S.Source.text c.pages.sources) (map g.S.Source.text c.args.sources.now) inv.texts inv.risen c.in_err-page.ensures.rising
+-- ---- lines couldn't be read or written
 
-pub returns-in_err-page-clause-part : goal.returns-in_err-page-clause-part
-returns-in_err-page-clause-part g c = λ texts indexes known are sized.
-    let inv = c.pages.invariant in
-    chained_front c.args.query.now c.args.sizes.now c.pages.left.now _ c.pages.from c.first_size.result c.pages.count c.borrowed.ensures c.first_size.ensures
-    (g.O.Output.written c.args.out.now) (g.O.Output.written c.pages.out) (g.O.Output.written c.write_page.new.out)
-    indexes inv.positive (inv.chained texts indexes known are) (c.in_err-page.ensures.part texts indexes (subst (λ l. Known l texts) (sym inv.texts) known) are)
-
--- ---- a page is written
-
-pub returns-in_err-read_key-clause-rising : goal.returns-in_err-read_key-clause-rising
-returns-in_err-read_key-clause-rising g c =
-    let inv = c.pages.invariant in
-    risen_whole c.args.query.now c.args.sizes.now c.pages.left.now _ c.pages.from c.first_size.result c.pages.count c.borrowed.ensures c.first_size.ensures
-    (g.O.Output.written c.args.out.now) (g.O.Output.written c.pages.out) (g.O.Output.written c.write_page.new.out)
-    LINE_LIMIT (map g.S.Source.text c.pages.sources) (map g.S.Source.text c.args.sources.now) inv.texts inv.risen c.in_ok-page.page.end c.in_ok-page.ensures.written
-
-pub returns-in_err-read_key-clause-part : goal.returns-in_err-read_key-clause-part
-returns-in_err-read_key-clause-part g c = λ texts indexes known are sized.
-    let inv = c.pages.invariant in
-    chained_whole c.args.query.now c.args.sizes.now c.pages.left.now _ c.pages.from c.first_size.result c.pages.count c.borrowed.ensures c.first_size.ensures
-    (g.O.Output.written c.args.out.now) (g.O.Output.written c.pages.out) (g.O.Output.written c.write_page.new.out)
-    indexes inv.positive (inv.chained texts indexes known are) c.in_ok-page.page.end (c.in_ok-page.ensures.page texts indexes (subst (λ l. Known l texts) (sym inv.texts) known) are)
-
-pub returns-in-None-clause-rising : goal.returns-in-None-clause-rising
-returns-in-None-clause-rising g c =
-    let inv = c.pages.invariant in
-    risen_whole c.args.query.now c.args.sizes.now c.pages.left.now _ c.pages.from c.first_size.result c.pages.count c.borrowed.ensures c.first_size.ensures
-    (g.O.Output.written c.args.out.now) (g.O.Output.written c.pages.out) (g.O.Output.written c.write_page.new.out)
-    LINE_LIMIT (map g.S.Source.text c.pages.sources) (map g.S.Source.text c.args.sources.now) inv.texts inv.risen c.in_ok-page.page.end c.in_ok-page.ensures.written
-
-pub returns-in-None-clause-pages : goal.returns-in-None-clause-pages
-returns-in-None-clause-pages g c = λ texts indexes known are.
-    let inv = c.pages.invariant in
-    chained_last c.args.query.now c.args.sizes.now c.pages.left.now _ c.pages.from c.first_size.result c.pages.count c.borrowed.ensures c.first_size.ensures
-    (g.O.Output.written c.args.out.now) (g.O.Output.written c.pages.out) (g.O.Output.written c.write_page.new.out)
-    indexes inv.positive (inv.chained texts indexes known are) c.in_ok-page.page.end (c.in_ok-page.ensures.page texts indexes (subst (λ l. Known l texts) (sym inv.texts) known) are)
-    c.saturating_add-count.result c.in-None.is c.saturating_add-count.ensures
-
-pub returns-in-None-clause-part : goal.returns-in-None-clause-part
-returns-in-None-clause-part g c = λ texts indexes known are sized.
-    let inv = c.pages.invariant in
-    chained_whole c.args.query.now c.args.sizes.now c.pages.left.now _ c.pages.from c.first_size.result c.pages.count c.borrowed.ensures c.first_size.ensures
-    (g.O.Output.written c.args.out.now) (g.O.Output.written c.pages.out) (g.O.Output.written c.write_page.new.out)
-    indexes inv.positive (inv.chained texts indexes known are) c.in_ok-page.page.end (c.in_ok-page.ensures.page texts indexes (subst (λ l. Known l texts) (sym inv.texts) known) are)
-
-pub pages-preserved : goal.pages-preserved
-pages-preserved g c =
-    let inv = c.pages.invariant in
+pub returns-in-Err-read_lines-clause-rising : goal.returns-in-Err-read_lines-clause-rising
+returns-in-Err-read_lines-clause-rising g c = λ sized.
     let q = c.args.query.now in
     let sizes = c.args.sizes.now in
-    let out = g.O.Output.written c.args.out.now in
-    let now = g.O.Output.written c.pages.out in
-    let new = g.O.Output.written c.write_page.new.out in
-    let next = c.in_ok-read_key.field-0 in
-    let read : next ≡ c.in-Some.next = c.in_ok-read_key.ensures.place ∙ c.place.ensures ∙ c.in-Some.next-is in
-    let is : c.in_ok-page.page.end.next ≡ Some next = c.in-Some.is ∙ ap Some (sym read) in
-    let later = c.later_sizes-left.ensures in
+    let positive = all_positive sizes sized in
+    let start = g.O.Output.written c.args.out.now in
+    let new = g.O.Output.written c.read_lines.new.out in
+    let writer = c.in-Ok.writer in
+    let is = c.in-Ok.ensures.query in
+    let broke = c.in-Err-read_lines.ensures.broke in
+    let front = any_front writer q sizes is.0 is.1 is.2 broke.0 start new (broke.1 writer start ((refl, refl), c.in-Ok.ensures.stands positive)) in
+    (broke.0, broke.2.lines, wrote_front q sizes positive broke.0 broke.2.lines.rise (captures_over q q.resume broke.0) start new [] (sym (append-nil (captures_over q q.resume broke.0))) front)
+
+pub returns-in-Err-read_lines-clause-part : goal.returns-in-Err-read_lines-clause-part
+returns-in-Err-read_lines-clause-part g c = λ sized texts indexes known are.
+    let q = c.args.query.now in
+    let sizes = c.args.sizes.now in
+    let positive = all_positive sizes sized in
+    let start = g.O.Output.written c.args.out.now in
+    let new = g.O.Output.written c.read_lines.new.out in
+    let writer = c.in-Ok.writer in
+    let is = c.in-Ok.ensures.query in
+    let broke = c.in-Err-read_lines.ensures.broke in
+    let first = subst (λ from. AreFirst q from (collection indexes) broke.0) c.resume.ensures (broke.2.first texts indexes known are) in
+    wrote_front q sizes positive (collection indexes) (collection_rises indexes) (captures_over q q.resume broke.0) start new first.0 first.1
+    (any_front writer q sizes is.0 is.1 is.2 broke.0 start new (broke.1 writer start ((refl, refl), c.in-Ok.ensures.stands positive)))
+
+pub returns-in-Err-read_lines-clause-bytes : goal.returns-in-Err-read_lines-clause-bytes
+returns-in-Err-read_lines-clause-bytes g c = λ texts indexes known are.
+    subst (λ from. AllGaveWithin g.S.Source.extent g.S.Source.gave (in_reach c.args.query.now from None (collection indexes)) texts indexes c.args.sources.now c.read_lines.new.sources) c.resume.ensures
+    (c.in-Err-read_lines.ensures.halted.7 texts indexes known are None tt)
+
+-- ---- all lines were read
+
+pub returns-in-Ok-end-clause-bytes : goal.returns-in-Ok-end-clause-bytes
+returns-in-Ok-end-clause-bytes g c = λ texts indexes known are.
+    subst (λ from. AllGaveWithin g.S.Source.extent g.S.Source.gave (in_reach c.args.query.now from None (collection indexes)) texts indexes c.args.sources.now c.read_lines.new.sources) c.resume.ensures
+    (c.in-Ok-read_lines.ensures.took.5.8 texts indexes known are None tt)
+
+pub returns-clause-bytes : goal.returns-clause-bytes
+returns-clause-bytes g c = λ texts indexes known are.
+    subst (λ from. AllGaveWithin g.S.Source.extent g.S.Source.gave (in_reach c.args.query.now from None (collection indexes)) texts indexes c.args.sources.now c.read_lines.new.sources) c.resume.ensures
+    (c.in-Ok-read_lines.ensures.took.5.8 texts indexes known are None tt)
+
+pub returns-clause-fault : goal.returns-clause-fault
+returns-clause-fault g c = c.text_fault-in-Err-end.ensures.line (map g.S.Source.text c.args.sources.now)
+
+pub returns-clause-rising : goal.returns-clause-rising
+returns-clause-rising g c = λ sized.
+    let q = c.args.query.now in
+    let sizes = c.args.sizes.now in
+    let positive = all_positive sizes sized in
+    let start = g.O.Output.written c.args.out.now in
+    let mid = g.O.Output.written c.read_lines.new.out in
+    let new = g.O.Output.written c.end.new.out in
+    let writer = c.in-Ok.writer in
+    let is = c.in-Ok.ensures.query in
+    let took = c.in-Ok-read_lines.ensures.took in
+    let found = at_end writer q sizes is.0 is.1 is.2 c.read_lines.new.sink took.0 start mid (took.1 writer start ((refl, refl), c.in-Ok.ensures.stands positive)) new c.in-Err-end.ensures.text in
+    (took.0, took.2.lines, wrote_most q sizes positive took.0 took.2.lines.rise (captures_over q q.resume took.0) start new refl found)
+
+pub returns-clause-part : goal.returns-clause-part
+returns-clause-part g c = λ sized texts indexes known are.
+    let q = c.args.query.now in
+    let sizes = c.args.sizes.now in
+    let positive = all_positive sizes sized in
+    let start = g.O.Output.written c.args.out.now in
+    let mid = g.O.Output.written c.read_lines.new.out in
+    let new = g.O.Output.written c.end.new.out in
+    let writer = c.in-Ok.writer in
+    let is = c.in-Ok.ensures.query in
+    let took = c.in-Ok-read_lines.ensures.took in
+    let whole = not_false c.in-Ok-read_lines._pass.all (λ e. c.in-Ok-read_lines.ensures.enough e) in
+    let all = subst (λ from. captures_over q from (collection indexes) ≡ captures_over q from took.0) c.resume.ensures (took.3 whole texts indexes known are) in
+    let found = at_end writer q sizes is.0 is.1 is.2 c.read_lines.new.sink took.0 start mid (took.1 writer start ((refl, refl), c.in-Ok.ensures.stands positive)) new c.in-Err-end.ensures.text in
+    wrote_most q sizes positive (collection indexes) (collection_rises indexes) (captures_over q q.resume took.0) start new all found
+
+-- ---- all pages were written
+
+pub returns-in-Ok-end-clause-written : goal.returns-in-Ok-end-clause-written
+returns-in-Ok-end-clause-written g c =
+    let q = c.args.query.now in
+    let sizes = c.args.sizes.now in
+    let sized : are_sizes sizes ≡ true = search rules in
+    let positive = all_positive sizes sized in
+    let start = g.O.Output.written c.args.out.now in
+    let mid = g.O.Output.written c.read_lines.new.out in
+    let new = g.O.Output.written c.end.new.out in
+    let writer = c.in-Ok.writer in
+    let is = c.in-Ok.ensures.query in
+    let took = c.in-Ok-read_lines.ensures.took in
+    let number = c.in-Ok-end.count in
+    let found = all_ended writer q sizes is.0 is.1 is.2 c.read_lines.new.sink took.0 start mid (took.1 writer start ((refl, refl), c.in-Ok.ensures.stands positive)) new number c.in-Ok-end.ensures.text c.in-Ok-end.ensures.count in
+    (took.0, took.2.lines, wrote_whole q sizes positive took.0 took.2.lines.rise (captures_over q q.resume took.0) start new refl number found)
+
+pub returns-in-Ok-end-clause-rising : goal.returns-in-Ok-end-clause-rising
+returns-in-Ok-end-clause-rising g c = λ sized. let w = returns-in-Ok-end-clause-written g c in (w.0, w.1, in_whole c.args.query.now w.0 c.args.sizes.now _ _ c.in-Ok-end.count w.2)
+
+pub returns-in-Ok-end-clause-parts : goal.returns-in-Ok-end-clause-parts
+returns-in-Ok-end-clause-parts g c = λ texts known.
+    let q = c.args.query.now in
+    let sizes = c.args.sizes.now in
+    let sized : are_sizes sizes ≡ true = search rules in
+    let positive = all_positive sizes sized in
+    let start = g.O.Output.written c.args.out.now in
+    let mid = g.O.Output.written c.read_lines.new.out in
+    let new = g.O.Output.written c.end.new.out in
+    let writer = c.in-Ok.writer in
+    let is = c.in-Ok.ensures.query in
+    let took = c.in-Ok-read_lines.ensures.took in
+    let number = c.in-Ok-end.count in
+    let found = all_ended writer q sizes is.0 is.1 is.2 c.read_lines.new.sink took.0 start mid (took.1 writer start ((refl, refl), c.in-Ok.ensures.stands positive)) new number c.in-Ok-end.ensures.text c.in-Ok-end.ensures.count in
+    let whole = not_false c.in-Ok-read_lines._pass.all (λ e. c.in-Ok-read_lines.ensures.enough e) in
+    let read = took.4 texts known in
+    let all = subst (λ from. captures_over q from (collection read.parts) ≡ captures_over q from took.0) c.resume.ensures (read.ended whole) in
     record {
-      texts = c.in_ok-page.ensures.texts ∙ inv.texts;
-      sources = c.in_ok-page.ensures.worked.0 ∙ inv.sources;
-      out = c.in_ok-page.ensures.worked.1 ∙ inv.out;
-      bounded = c.in_ok-read_key.ensures.bounded;
-      positive = subst AllPositive (sym later) (later_positive c.pages.left.now inv.positive);
-      risen = subst (λ left. WrittenTo q (ArePagesOf LINE_LIMIT q (map g.S.Source.text c.args.sources.now)) q.resume sizes (Some next) left c.saturating_add-count.result out new) (sym later)
-          (risen_next q sizes c.pages.left.now _ c.pages.from c.first_size.result c.pages.count c.borrowed.ensures c.first_size.ensures out now new
-          LINE_LIMIT (map g.S.Source.text c.pages.sources) (map g.S.Source.text c.args.sources.now) inv.texts inv.risen c.in_ok-page.page.end c.in_ok-page.ensures.written next c.saturating_add-count.result is c.saturating_add-count.ensures);
-      chained = λ texts indexes known are.
-          subst (λ left. WrittenTo q (Chain q indexes) q.resume sizes (Some next) left c.saturating_add-count.result out new) (sym later)
-          (chained_next q sizes c.pages.left.now _ c.pages.from c.first_size.result c.pages.count c.borrowed.ensures c.first_size.ensures out now new
-          indexes inv.positive (inv.chained texts indexes known are) c.in_ok-page.page.end (c.in_ok-page.ensures.page texts indexes (subst (λ l. Known l texts) (sym inv.texts) known) are)
-          next c.saturating_add-count.result is c.saturating_add-count.ensures);
+      parts = read.parts;
+      each = read.each true (λ e. whole);
+      wrote = wrote_whole q sizes positive (collection read.parts) (collection_rises read.parts) (captures_over q q.resume took.0) start new all number found;
     }
+
+pub returns-in-Ok-end-clause-pages : goal.returns-in-Ok-end-clause-pages
+returns-in-Ok-end-clause-pages g c = λ texts indexes known are.
+    let q = c.args.query.now in
+    let sizes = c.args.sizes.now in
+    let sized : are_sizes sizes ≡ true = search rules in
+    let positive = all_positive sizes sized in
+    let start = g.O.Output.written c.args.out.now in
+    let mid = g.O.Output.written c.read_lines.new.out in
+    let new = g.O.Output.written c.end.new.out in
+    let writer = c.in-Ok.writer in
+    let is = c.in-Ok.ensures.query in
+    let took = c.in-Ok-read_lines.ensures.took in
+    let number = c.in-Ok-end.count in
+    let found = all_ended writer q sizes is.0 is.1 is.2 c.read_lines.new.sink took.0 start mid (took.1 writer start ((refl, refl), c.in-Ok.ensures.stands positive)) new number c.in-Ok-end.ensures.text c.in-Ok-end.ensures.count in
+    let whole = not_false c.in-Ok-read_lines._pass.all (λ e. c.in-Ok-read_lines.ensures.enough e) in
+    let all = subst (λ from. captures_over q from (collection indexes) ≡ captures_over q from took.0) c.resume.ensures (took.3 whole texts indexes known are) in
+    wrote_whole q sizes positive (collection indexes) (collection_rises indexes) (captures_over q q.resume took.0) start new all number found
+
+pub returns-in-Ok-end-clause-part : goal.returns-in-Ok-end-clause-part
+returns-in-Ok-end-clause-part g c = λ sized texts indexes known are.
+    in_whole c.args.query.now (collection indexes) c.args.sizes.now _ _ c.in-Ok-end.count (returns-in-Ok-end-clause-pages g c texts indexes known are)

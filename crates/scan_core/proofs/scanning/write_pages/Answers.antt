@@ -1,15 +1,21 @@
 use Rattle.std.proofs.Common.{◌≤◌, length, map, Some, ap, ◌∙◌, arith}
 use Rattle.devices.specs.Gathered.{gathered}
-use Rattle.devices.proofs.WritingLemmas.{wrote_nothing}
+use Rattle.cdxj_places.specs.Places.{place_cmp}
+use Rattle.cdxj_places.proofs.PlaceOrder.{place_cmp_total}
+use Rattle.cdxj_places.proofs.RisingLaws.{rises_rising}
+use Rattle.cdxj_core.specs.Members.{member_place}
+use Rattle.merge_core.specs.Collections.{all_lines, collection}
 use Rattle.source_core.specs.Slices.{slice_text}
 use Rattle.query_core.specs.declared.merging.TheConstants.{SOURCES_LIMIT}
-use Rattle.query_core.proofs.PageSteps.{there, all_positive}
+use Rattle.query_core.proofs.PageChains.{wrote_none}
+use Rattle.query_core.proofs.PagesLemmas.{all_positive}
 use Rattle.scan_core.proofs.PageLemmas.{known_texts, same_length, pages_fault}
 use Rattle.scan_core.proofs.scanning.write_pages.Goals as goal
 
 pub returns-in-Err-clause-part : goal.returns-in-Err-clause-part
 returns-in-Err-clause-part g c = λ members are.
-    let t = there c.args.query.now members c.args.query.now.resume c.args.sizes.now (all_positive c.args.sizes.now c.requires.sizes) in (t.0, t.1, wrote_nothing _ _)
+    wrote_none c.args.query.now c.args.sizes.now (all_positive c.args.sizes.now c.requires.sizes) (collection members)
+    (rises_rising member_place place_cmp place_cmp_total (all_lines members)) (g.O.Output.written c.args.out.now)
 
 pub returns-clause-pages : goal.returns-clause-pages
 returns-clause-pages g c = λ members are.
@@ -18,8 +24,8 @@ returns-clause-pages g c = λ members are.
 
 pub returns-clause-part : goal.returns-clause-part
 returns-clause-part g c = λ members are.
-    c.pages.ensures.part (map gathered c.args.indexes.now) members
-    (known_texts slice_text c.deref_mut.result.now (map gathered c.args.indexes.now) (ap (map slice_text) c.deref_mut.ensures.value ∙ c.in-Ok.ensures)) are c.requires.sizes
+    c.pages.ensures.part c.requires.sizes (map gathered c.args.indexes.now) members
+    (known_texts slice_text c.deref_mut.result.now (map gathered c.args.indexes.now) (ap (map slice_text) c.deref_mut.ensures.value ∙ c.in-Ok.ensures)) are
 
 pub returns-clause-refusals : goal.returns-clause-refusals
 returns-clause-refusals g c = λ members are.

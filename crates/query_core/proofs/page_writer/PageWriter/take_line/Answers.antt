@@ -1,120 +1,106 @@
-use Rattle.std.proofs.Common.{rules, ◌≡◌, ◌++◌, ◌∷◌, ◌+◌, ◌-◌, ◌^◌, [], min, true, false, refl, sym, ap, ap₂, ◌∙◌, subst, is_some}
-use Rattle.std.specs.Io.KnownBytes.{Appends}
-use Rattle.cdxj_core.specs.Members.{member_place}
-use Rattle.page_core.specs.PageText.{begun, row_text}
-use Rattle.std.proofs.lemmas.Result.{err_from_is_err_and}
+use Rattle.std.proofs.Common.{rules, ◌≡◌, ◌++◌, ◌∷◌, [], true, false, cond, refl, sym, ap, ap₂, ◌∙◌, subst, append-nil, filter}
+use Rattle.std.proofs.lemmas.Bool.{true≢false}
 use Rattle.devices.specs.Device.{AppendsPrefix}
-use Rattle.query_core.specs.Collapsings.{repeats_part}
-use Rattle.query_core.specs.PageWriting.{is_wanted, is_full, last_after, page_over, FitsWord}
+use Rattle.std.specs.Io.KnownBytes.{Appends}
+use Rattle.page_core.specs.PageText.{begun, row_text}
+use Rattle.query_core.specs.PageWriting.{PageStands, captures_over, page_over, place_before, is_full, is_wanted}
 use Rattle.query_core.specs.QueryPages.{form_of}
-use Rattle.query_core.specs.WriterView.{from_view}
-use Rattle.query_core.proofs.WriterLemmas.{after_end, left_out, at_limit, written_one, as_kept, broke_row, broke_longer, whole_prefix, on_err}
+use Rattle.query_core.specs.WriterView.{Selects, captures_of, from_view}
+use Rattle.query_core.proofs.CaptureLemmas.{captures_append, kept_after}
+use Rattle.query_core.proofs.WriterLemmas.{page, after_end, at_limit, written_one, as_kept, broke_row, broke_longer, whole_prefix}
 use Rattle.query_core.proofs.page_writer.PageWriter.take_line.Goals as goal
 
 pub returns-then-self-clause-stands : goal.returns-then-self-clause-stands
 returns-then-self-clause-stands g c = λ taken start s.
     let w = c.args.self.now in
-    after_end w.query.now (from_view w.from) w.limit taken c.args.line.now start (g.O.Output.written c.args.out.now) w.given w.more w.last w.collapsing c.if-self.true s
-
-pub returns-then-repeats-clause-stands : goal.returns-then-repeats-clause-stands
-returns-then-repeats-clause-stands g c = λ taken start s.
-    let w = c.args.self.now in
+    let q = w.selection.query.now in
+    let from = from_view w.selection.from in
     let m = c.args.line.now in
-    let wanted : is_wanted w.query.now (from_view w.from) m ≡ true = search rules in
-    let again : repeats_part w.collapsing (member_place m) ≡ true = search rules in
-    left_out w.query.now (from_view w.from) w.limit taken start (g.O.Output.written c.args.out.now) w.given w.more w.last m w.collapsing c.if-self.false wanted again s
+    let now = g.O.Output.written c.args.out.now in
+    let later = kept_after q from (place_before q from taken) (filter (is_wanted q from) (m ∷ [])) in (
+      subst (λ l. PageStands (form_of q) w.limit l start now w.given w.more w.last) (sym (captures_append q from taken (m ∷ [])))
+          (after_end (form_of q) w.limit (captures_of w.selection taken) later start now w.given w.more w.last c.if-self.true s.0),
+      λ e. absurd (true≢false (sym c.if-self.true ∙ e)),
+    )
+
+pub returns-then-not-is_capture-clause-stands : goal.returns-then-not-is_capture-clause-stands
+returns-then-not-is_capture-clause-stands g c = λ taken start s.
+    let w = c.args.self.now in
+    let k = c.takes.new.self in
+    let m = c.args.line.now in
+    let selects = s.1 c.if-self.false in
+    let none : c.in-Ok.is_capture ≡ false = search rules in
+    let same = c.takes.ensures.same in
+    let captures : captures_of k (taken ++ m ∷ []) ≡ captures_of w.selection taken =
+    ap₂ (λ q from. captures_over q from (taken ++ m ∷ [])) (ap (λ r. r.now) same.0) (ap from_view same.1) ∙ c.in-Ok.ensures.capture taken selects
+    ∙ ap (λ b. captures_of w.selection taken ++ cond b (m ∷ []) []) none ∙ append-nil (captures_of w.selection taken) in (
+      as_kept (form_of w.selection.query.now) (form_of k.query.now) w.limit w.limit (captures_of w.selection taken) (captures_of k (taken ++ m ∷ [])) start (g.O.Output.written c.args.out.now)
+          w.given w.given w.more w.more w.last w.last (ap (λ r. form_of r.now) same.0) refl captures refl refl refl s.0,
+      λ e. c.in-Ok.ensures.selects taken selects,
+    )
 
 pub returns-then-is_full-clause-stands : goal.returns-then-is_full-clause-stands
 returns-then-is_full-clause-stands g c = λ taken start s.
     let w = c.args.self.now in
-    let k = c.keep_part.new.self in
+    let k = c.takes.new.self in
     let m = c.args.line.now in
-    let out = g.O.Output.written c.args.out.now in
-    let wanted : is_wanted w.query.now (from_view w.from) m ≡ true = search rules in
-    let other : repeats_part w.collapsing (member_place m) ≡ false = search rules in
-    let full : is_full k.limit k.given ≡ true = search rules in
-    let kept = c.in_ok-keep_part.ensures.kept in
-    as_kept w.query.now k.query.now (from_view w.from) (from_view k.from) w.limit k.limit (taken ++ m ∷ []) start out w.given k.given (is_some w.last) c.is_some-self.result w.last k.last k.collapsing k.collapsing
-    (ap (λ r. r.now) kept.0.0) (ap from_view kept.0.1) kept.0.2 kept.1 (c.is_some-self.ensures ∙ ap is_some kept.3) kept.3 refl
-    (at_limit w.query.now (from_view w.from) w.limit taken m start out w.given w.more w.last w.collapsing k.collapsing c.if-self.false wanted other c.in_ok-keep_part.ensures.part
-    (ap₂ is_full (sym kept.0.2) (sym kept.1) ∙ full) s)
-
-pub returns-clause-stands : goal.returns-clause-stands
-returns-clause-stands g c = λ taken start s.
-    let w = c.args.self.now in
-    let k = c.keep_part.new.self in
-    let now = c.keep_last.new.self in
-    let m = c.args.line.now in
-    let q = w.query.now in
-    let before = g.O.Output.written c.args.out.now in
-    let after = g.O.Output.written c.put_row.new.out in
-    let wanted : is_wanted q (from_view w.from) m ≡ true = search rules in
-    let other : repeats_part w.collapsing (member_place m) ≡ false = search rules in
-    let room : is_full k.limit k.given ≡ false = search rules in
-    let kept = c.in_ok-keep_part.ensures.kept in
-    let last = c.in_ok-keep_last.ensures.kept in
-    let row : Appends before after (row_text (form_of q) m) =
-    subst (λ form. Appends before after (row_text form m)) (k.page_rule ∙ ap form_of (ap (λ r. r.now) kept.0.0)) c.in_ok-put_row.ensures.text in
-    as_kept q now.query.now (from_view w.from) (from_view now.from) w.limit now.limit (taken ++ m ∷ []) start after c.saturating_add-self.result now.given w.more now.more now.last now.last k.collapsing now.collapsing
-    (ap (λ r. r.now) (last.0.0 ∙ kept.0.0)) (ap from_view (last.0.1 ∙ kept.0.1)) (last.0.2 ∙ kept.0.2) last.1 (last.2 ∙ kept.2) refl last.3
-    (written_one q (from_view w.from) w.limit taken m start before after w.given c.saturating_add-self.result w.more w.last now.last w.collapsing k.collapsing c.if-self.false wanted other
-    c.in_ok-keep_part.ensures.part (ap₂ is_full (sym kept.0.2) (sym kept.1) ∙ room) (subst FitsWord kept.0.2 c.is_full.ensures.fits)
-    (c.saturating_add-self.ensures ∙ ap (λ n. min (n + 1) (2 ^ 64 - 1)) kept.1)
-    (c.in_ok-keep_last.ensures.last ∙ ap₂ (λ l p. last_after l c.saturating_add-self.result p (member_place m)) kept.0.2 kept.3) row s)
-
-pub returns-in_err-put_row-clause-broke : goal.returns-in_err-put_row-clause-broke
-returns-in_err-put_row-clause-broke g c = λ taken start s.
-    let w = c.args.self.now in
-    let k = c.keep_part.new.self in
-    let m = c.args.line.now in
-    let q = w.query.now in
-    let before = g.O.Output.written c.args.out.now in
-    let after = g.O.Output.written c.put_row.new.out in
-    let wanted : is_wanted q (from_view w.from) m ≡ true = search rules in
-    let other : repeats_part w.collapsing (member_place m) ≡ false = search rules in
-    let room : is_full k.limit k.given ≡ false = search rules in
-    let kept = c.in_ok-keep_part.ensures.kept in
-    let row : AppendsPrefix before after (row_text (form_of q) m) =
-    subst (λ form. AppendsPrefix before after (row_text form m)) (k.page_rule ∙ ap form_of (ap (λ r. r.now) kept.0.0)) c.in_err-put_row.ensures.text in
-    let p = err_from_is_err_and c.from_residual-in_err-put_row.result c.from_residual-in_err-put_row.ensures.1 in
-    on_err c.from_residual-in_err-put_row.result p.0 _ p.1
-    (broke_row q (from_view w.from) w.limit taken m start before after w.given w.more w.last w.collapsing
-    c.if-self.false wanted other (ap₂ is_full (sym kept.0.2) (sym kept.1) ∙ room) (subst FitsWord kept.0.2 c.is_full.ensures.fits) row s)
-
-pub returns-in_err-keep_last-clause-broke : goal.returns-in_err-keep_last-clause-broke
-returns-in_err-keep_last-clause-broke g c = λ taken start s.
-    let w = c.args.self.now in
-    let k = c.keep_part.new.self in
-    let m = c.args.line.now in
-    let q = w.query.now in
-    let before = g.O.Output.written c.args.out.now in
-    let after = g.O.Output.written c.put_row.new.out in
-    let wanted : is_wanted q (from_view w.from) m ≡ true = search rules in
-    let other : repeats_part w.collapsing (member_place m) ≡ false = search rules in
-    let room : is_full k.limit k.given ≡ false = search rules in
-    let kept = c.in_ok-keep_part.ensures.kept in
-    let row : AppendsPrefix before after (row_text (form_of q) m) =
-    whole_prefix before after (row_text (form_of q) m)
-    (subst (λ form. Appends before after (row_text form m)) (k.page_rule ∙ ap form_of (ap (λ r. r.now) kept.0.0)) c.in_ok-put_row.ensures.text) in
-    let p = err_from_is_err_and c.from_residual-in_err-keep_last.result c.from_residual-in_err-keep_last.ensures.1 in
-    on_err c.from_residual-in_err-keep_last.result p.0 _ p.1
-    (broke_row q (from_view w.from) w.limit taken m start before after w.given w.more w.last w.collapsing
-    c.if-self.false wanted other (ap₂ is_full (sym kept.0.2) (sym kept.1) ∙ room) (subst FitsWord kept.0.2 c.is_full.ensures.fits) row s)
-
-pub returns-in_err-wants-clause-broke : goal.returns-in_err-wants-clause-broke
-returns-in_err-wants-clause-broke g c = λ taken start s.
-    let w = c.args.self.now in
-    let q = w.query.now in
     let now = g.O.Output.written c.args.out.now in
-    let p = err_from_is_err_and c.from_residual.result c.from_residual.ensures.1 in
-    on_err c.from_residual.result p.0 _ p.1
-    (broke_longer q (from_view w.from) w.limit taken (c.args.line.now ∷ []) start now (whole_prefix start now (begun (form_of q) (page_over q (from_view w.from) w.limit taken).members) s.text))
+    let selects = s.1 c.if-self.false in
+    let is : c.in-Ok.is_capture ≡ true = search rules in
+    let full : is_full w.limit w.given ≡ true = search rules in
+    let same = c.takes.ensures.same in
+    let captures : captures_of k (taken ++ m ∷ []) ≡ captures_of w.selection taken ++ m ∷ [] =
+    ap₂ (λ q from. captures_over q from (taken ++ m ∷ [])) (ap (λ r. r.now) same.0) (ap from_view same.1) ∙ c.in-Ok.ensures.capture taken selects
+    ∙ ap (λ b. captures_of w.selection taken ++ cond b (m ∷ []) []) is in (
+      as_kept (form_of w.selection.query.now) (form_of k.query.now) w.limit w.limit (captures_of w.selection taken ++ m ∷ []) (captures_of k (taken ++ m ∷ [])) start now
+          w.given w.given _ c.is_some-self.result w.last w.last (ap (λ r. form_of r.now) same.0) refl captures refl c.is_some-self.ensures refl
+          (at_limit (form_of w.selection.query.now) w.limit (captures_of w.selection taken) m start now w.given w.more w.last c.if-self.false full s.0),
+      λ e. c.in-Ok.ensures.selects taken selects,
+    )
 
-pub returns-in_err-keep_part-clause-broke : goal.returns-in_err-keep_part-clause-broke
-returns-in_err-keep_part-clause-broke g c = λ taken start s.
+pub returns-in-Ok-put_capture-clause-stands : goal.returns-in-Ok-put_capture-clause-stands
+returns-in-Ok-put_capture-clause-stands g c = λ taken start s.
     let w = c.args.self.now in
-    let q = w.query.now in
+    let k = c.put_capture.new.self in
+    let m = c.args.line.now in
+    let old = g.O.Output.written c.args.out.now in
+    let new = g.O.Output.written c.put_capture.new.out in
+    let selects = s.1 c.if-self.false in
+    let is : c.in-Ok.is_capture ≡ true = search rules in
+    let room : is_full w.limit w.given ≡ false = search rules in
+    let same = c.takes.ensures.same in
+    let kept = c.put_capture.ensures.kept in
+    let put = c.in-Ok-put_capture.ensures in
+    let form = ap (λ r. form_of r.now) same.0 in
+    let captures : captures_of k.selection (taken ++ m ∷ []) ≡ captures_of w.selection taken ++ m ∷ [] =
+    ap₂ (λ q from. captures_over q from (taken ++ m ∷ [])) (ap (λ s. s.query.now) kept.0 ∙ ap (λ r. r.now) same.0) (ap (λ s. from_view s.from) kept.0 ∙ ap from_view same.1)
+    ∙ c.in-Ok.ensures.capture taken selects ∙ ap (λ b. captures_of w.selection taken ++ cond b (m ∷ []) []) is in (
+      as_kept (form_of w.selection.query.now) (form_of k.selection.query.now) w.limit k.limit (captures_of w.selection taken ++ m ∷ []) (captures_of k.selection (taken ++ m ∷ [])) start new
+          k.given k.given w.more k.more k.last k.last (ap (λ s. form_of s.query.now) kept.0 ∙ form) kept.1 captures refl kept.2 refl
+          (written_one (form_of w.selection.query.now) w.limit (captures_of w.selection taken) m start old new w.given k.given w.more w.last k.last c.if-self.false room c.is_full.ensures.fits
+          put.given put.last (subst (λ form. Appends old new (row_text form m)) form put.text) s.0),
+      λ e. subst (λ s. Selects s (taken ++ m ∷ [])) (sym kept.0) (c.in-Ok.ensures.selects taken selects),
+    )
+
+pub returns-in-Err-clause-broke : goal.returns-in-Err-clause-broke
+returns-in-Err-clause-broke g c = λ taken start s.
+    let w = c.args.self.now in
+    let q = w.selection.query.now in
+    let from = from_view w.selection.from in
     let now = g.O.Output.written c.args.out.now in
-    let p = err_from_is_err_and c.from_residual-in_err-keep_part.result c.from_residual-in_err-keep_part.ensures.1 in
-    on_err c.from_residual-in_err-keep_part.result p.0 _ p.1
-    (broke_longer q (from_view w.from) w.limit taken (c.args.line.now ∷ []) start now (whole_prefix start now (begun (form_of q) (page_over q (from_view w.from) w.limit taken).members) s.text))
+    broke_longer q from w.limit taken (c.args.line.now ∷ []) start now (whole_prefix start now (begun (form_of q) (page_over q from w.limit taken).members) s.0.text)
+
+pub returns-in-Err-put_capture-clause-broke : goal.returns-in-Err-put_capture-clause-broke
+returns-in-Err-put_capture-clause-broke g c = λ taken start s.
+    let w = c.args.self.now in
+    let m = c.args.line.now in
+    let old = g.O.Output.written c.args.out.now in
+    let new = g.O.Output.written c.put_capture.new.out in
+    let selects = s.1 c.if-self.false in
+    let is : c.in-Ok.is_capture ≡ true = search rules in
+    let room : is_full w.limit w.given ≡ false = search rules in
+    let form = ap (λ r. form_of r.now) c.takes.ensures.same.0 in
+    subst (λ l. AppendsPrefix start new (begun (form_of w.selection.query.now) (page w.limit l).members))
+    (sym (c.in-Ok.ensures.capture taken selects ∙ ap (λ b. captures_of w.selection taken ++ cond b (m ∷ []) []) is))
+    (broke_row (form_of w.selection.query.now) w.limit (captures_of w.selection taken) m start old new w.given w.more w.last c.if-self.false room c.is_full.ensures.fits
+    (subst (λ form. AppendsPrefix old new (row_text form m)) form c.in-Err-put_capture.ensures.part) s.0)

@@ -1,0 +1,83 @@
+-- What was read for a page, beside its reach.
+use Rattle.std.proofs.Common.{◌≡◌, ℕ, zero, suc, ◌≤◌, List, [], ◌∷◌, ◌++◌, length, take, map, Bool, true, false, not, Option, None, Some, refl, sym, ap, ◌∙◌, subst, arith, length-append, length-take}
+use Rattle.std.specs.Io.KnownBytes.{Appends}
+use Rattle.std.specs.Option.{is_some}
+use Rattle.std.proofs.lemmas.Bool.{true≢false}
+use Rattle.std.proofs.Math.Seq.{take-append_seam}
+use Rattle.cdxj_places.specs.Places.{PlaceValue}
+use Rattle.cdxj_core.specs.Members.{Member}
+use Rattle.devices.proofs.DeviceLemmas.{Appends-none}
+use Rattle.query_text.specs.Queries.{QueryValue}
+use Rattle.page_core.specs.Form.{Form}
+use Rattle.page_core.specs.Pages.{Page}
+use Rattle.page_core.specs.PageText.{begun}
+use Rattle.cdxj_core.specs.declared.limit.TheConstants.{LINE_LIMIT}
+use Rattle.cdxj_core.specs.Indexes.{IsIndex}
+use Rattle.merge_core.specs.Collections.{Known, collection}
+use Rattle.merge_core.specs.Gathering.{AllTwo}
+use Rattle.merge_core.specs.Reached.{Grows}
+use Rattle.merge_core.specs.Spending.{AllGaveWithin}
+use Rattle.merge_core.proofs.WrittenLemmas.{grows_by, grows_on}
+use Rattle.query_core.specs.PageAsked.{asked_page}
+use Rattle.query_core.specs.PageWriting.{captures_over, page_over}
+use Rattle.query_core.specs.Passes.{IsWithin}
+use Rattle.query_core.specs.QueryPages.{form_of}
+use Rattle.query_core.specs.Reach.{in_reach, captures_text, GaveInReach, WroteFront}
+use Rattle.query_core.proofs.AskedLemmas.{asked_is}
+use Rattle.query_core.proofs.ReachLemmas.{opened_not, within_opening}
+use Rattle.query_core.proofs.WriterLemmas.{page, next_none, page_front}
+
+-- an empty page has none
+pub none_follows : (limit : Option ℕ) → is_some (page limit []).next ≡ false
+none_follows None = refl
+none_follows (Some zero) = refl
+none_follows (Some (suc n)) = refl
+
+-- captures that don't pass the page are within its limit
+pub within_page : (limit : Option ℕ) (c : List Member) → (limit ≡ Some 0 → ⊥) → is_some (page limit c).next ≡ false → IsWithin limit c
+within_page None c some none = tt
+within_page (Some zero) c some none = absurd (some refl)
+within_page (Some (suc n)) c some none = next_none (suc n) c (omega arith) none
+
+-- a page has at least the captures that don't pass it
+has_all : (limit : Option ℕ) (c tail : List Member) → IsWithin limit c → length c ≤ length (page limit (c ++ tail)).members
+has_all None c tail most = omega (arith, length-append c tail)
+has_all (Some n) c tail most = omega (arith, most, length-take n (c ++ tail), length-append c tail)
+
+-- where a page is written at least so far
+front_written : (form : Form) (ms : List Member) (old middle new : Option (List ℕ)) → Appends old middle (begun form ms) → Grows middle new → WroteFront old new (captures_text form ms)
+front_written form [] old middle new a g = record { middle = old; front = Appends-none old; grows = grows_on old middle new (grows_by old middle (begun form []) a) g }
+front_written form (m ∷ ms) old middle new a g = record { middle = middle; front = a; grows = g }
+
+-- What was written of the page of these lines, which come first, and what sources gave for the captures of the earlier of them
+pub page_reached : {S : Type 0} (extent gave : S → ℕ) (q : QueryValue) (from : Option PlaceValue) (limit : Option ℕ) (texts : List (List ℕ)) (indexes : List (List Member)) (old middle new : Option (List ℕ)) (olds news : List S)
+    (taken rest c tail : List Member) → captures_over q from (collection indexes) ≡ captures_over q from taken ++ rest → captures_over q from taken ≡ c ++ tail → IsWithin limit c
+    → Appends old middle (begun (form_of q) (page_over q from limit taken).members) → Grows middle new
+    → ((n : ℕ) → length c ≤ n → AllGaveWithin extent gave (in_reach q from (Some n) (collection indexes)) texts indexes olds news)
+    → GaveInReach extent gave q from limit texts indexes old new olds news
+page_reached extent gave q from limit texts indexes old middle new olds news taken rest c tail split of_taken most front grows within =
+    let mine = (page_over q from limit taken).members in
+    let later = page_front limit (captures_over q from taken) rest in
+    let members : (asked_page q from limit (collection indexes)).members ≡ mine ++ later.0 =
+    ap (λ (p : Page Member PlaceValue). p.members) (asked_is q from limit (collection indexes) ∙ ap (page limit) split) ∙ later.1 in
+    record {
+      whole = length mine;
+      most = omega (arith, ap length members, length-append mine later.0);
+      wrote = subst (λ ms. WroteFront old new (captures_text (form_of q) ms)) (sym (ap (take (length mine)) members ∙ take-append_seam mine later.0)) (front_written (form_of q) mine old middle new front grows);
+      within = within (length mine) (subst (λ ms. length c ≤ length (page limit ms).members) (sym of_taken) (has_all limit c tail most));
+    }
+
+-- nothing was read at all, and no capture was written
+pub page_not_reached : {S : Type 0} (text : S → Option (List ℕ)) (extent gave : S → ℕ) (q : QueryValue) (from : Option PlaceValue) (limit : Option ℕ) (texts : List (List ℕ)) (indexes : List (List Member)) (old new : Option (List ℕ)) (sources : List S)
+    → Known (map text sources) texts → AllTwo (IsIndex LINE_LIMIT) texts indexes → Grows old new → GaveInReach extent gave q from limit texts indexes old new sources sources
+page_not_reached text extent gave q from limit texts indexes old new sources known are grows = record {
+  whole = 0;
+  most = omega arith;
+  wrote = record { middle = old; front = Appends-none old; grows = grows };
+  within = within_opening text extent gave (in_reach q from (Some 0) (collection indexes)) texts indexes sources sources known are (opened_not text extent gave sources);
+}
+
+-- where no capture follows the page, all lines were read
+pub all_read : (all more : Bool) (next found : Option PlaceValue) → more ≡ is_some found → next ≡ found → (all ≡ false → more ≡ true) → not (is_some next) ≡ true → all ≡ true
+all_read true more next found a b enough e = refl
+all_read false more next found a b enough e = absurd (true≢false (sym (sym (ap not (ap is_some b ∙ sym a ∙ enough refl)) ∙ e)))
