@@ -26,7 +26,7 @@ mod target_range;
 pub use crate::answering::answer;
 pub use crate::checking::check;
 pub use crate::fault::AnswerFault;
-pub use crate::laws::pages_rise;
+pub use crate::laws::{pages_are_selected, pages_rise};
 pub use crate::merging::{SOURCES_LIMIT, merge};
 pub use crate::paging::pages;
 pub use crate::report::Report;
