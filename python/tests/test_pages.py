@@ -1,4 +1,4 @@
-"""The examples of docs/PYTHON.md."""
+"""The examples of docs/PYTHON.md, and the files that the package has of the repository."""
 import doctest
 import os
 import pathlib
@@ -8,7 +8,8 @@ import unittest
 
 from .support import PROGRAM, SAMPLES, Case
 
-PAGE = pathlib.Path(__file__).resolve().parents[2] / "docs/PYTHON.md"
+PYTHON = pathlib.Path(__file__).resolve().parents[1]
+PAGE = PYTHON.parent / "docs/PYTHON.md"
 
 
 class Pages(Case):
@@ -26,6 +27,10 @@ class Pages(Case):
         found = doctest.testfile(str(PAGE), module_relative=False)
         self.assertEqual(0, found.failed)
         self.assertGreater(found.attempted, 15)
+
+    def test_licence_and_version_are_those_of_the_repository(self) -> None:
+        for name in ("LICENSE", "VERSION"):
+            self.assertEqual((PYTHON.parent / name).read_bytes(), (PYTHON / name).read_bytes(), name)
 
 
 if __name__ == "__main__":
