@@ -52,6 +52,14 @@ class Plots(Case):
 
 
 class Counts(Plots):
+    def test_a_reader_that_has_left_is_reported_once(self) -> None:
+        command = (sys.executable, "-m", "warcdx.plot", "--warcdx", PROGRAM, "months", str(self.put_rows(SEVERAL)))
+        with subprocess.Popen(command, cwd=ROOT / "python", stdout=subprocess.PIPE, stderr=subprocess.PIPE) as process:
+            assert process.stdout is not None and process.stderr is not None
+            process.stdout.close()
+            said = process.stderr.read()
+        self.assertEqual((3, b"warcdx.plot: Write: Broken pipe\n"), (process.returncode, said))
+
     def test_months(self) -> None:
         wanted = [["2016-01", "2"], ["2017-02", "1"], ["2017-03", "2"], ["no date", "2"]]
         self.assertEqual(wanted, self.counts("months", self.put_rows(SEVERAL)))

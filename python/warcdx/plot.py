@@ -19,7 +19,9 @@ after a usage error; or 3 if a file can't be written, or the program failed.
 Only --output needs matplotlib (Debian's package python3-matplotlib).
 """
 import argparse
+import contextlib
 import datetime
+import os
 import sys
 from collections import Counter
 from collections.abc import Callable, Sequence
@@ -312,6 +314,11 @@ def main(arguments: Optional[Sequence[str]] = None) -> int:
     given = read_arguments(arguments)
     try:
         return run(given)
+    except BrokenPipeError as error:
+        with contextlib.suppress(OSError):  # standard output, which would be flushed again at the end
+            os.dup2(os.open(os.devnull, os.O_WRONLY), 1)
+        print(f"warcdx.plot: Write: {error.strerror}", file=sys.stderr)
+        return 3
     except (Error, OSError) as error:
         print(f"warcdx.plot: {error}", file=sys.stderr)
         return 1 if isinstance(error, Refused) or isinstance(error, Fault) and error.offset is not None else 3

@@ -2,8 +2,8 @@
 use super::{ABC, HTTP, record_text, says};
 use capture_core::{CaptureFault, Front, Types, capture_with};
 use cdxj_core::Entry;
-use fixtures::{joined, repeated};
-use std::alloc::Global;
+use fixtures::repeated;
+use std::alloc::{AllocError, Global};
 use std::test::Fail;
 use warc_core::{Cause, Reader, Slice};
 
@@ -16,12 +16,20 @@ const RECORDS: &[(&[u8], usize, &str)] = &[
     (b"HTTP/1.1 203 OK\r\nX: ", 10, "203"),
 ];
 
-fn archive(alloc: Global) -> Result<Vec<u8>, Fail> {
+/// Returns a block with an HTTP head, whose last value has this length, and the payload `abc`.
+fn block(alloc: Global, first: &[u8], count: usize) -> Result<Vec<u8>, AllocError> {
+    let mut block = first.to_vec(alloc)?;
+    let value = repeated(alloc, b"a", count)?;
+    block.extend_from_slice(value.as_slice())?;
+    block.extend_from_slice(b"\r\n\r\nabc")?;
+    Ok(block)
+}
+
+fn archive(alloc: Global) -> Result<Vec<u8>, AllocError> {
     let mut archive = Vec::new(alloc);
     for (first, count, _status) in RECORDS {
-        let value = repeated(alloc, b"a", *count)?;
-        let block = joined(alloc, &[first, &value, b"\r\n\r\nabc"])?;
-        let text = record_text(alloc, "response", b"http://x/", HTTP, &block)?;
+        let block = block(alloc, first, *count)?;
+        let text = record_text(alloc, "response", b"http://x/", HTTP, block.as_slice())?;
         archive.extend_from_slice(text.as_slice())?;
     }
     Ok(archive)
