@@ -18,7 +18,6 @@ import shutil
 import subprocess
 import sys
 import time
-from collections.abc import Iterator
 from concurrent.futures import FIRST_COMPLETED, Future, ThreadPoolExecutor, wait
 from pathlib import Path
 from typing import NamedTuple
@@ -163,13 +162,14 @@ def free_memory() -> int:
     return int(found[1]) << 10 if found else MEMORY
 
 
-def shares(processors: int, crates: list[Crate]) -> Iterator[tuple[Crate, int]]:
-    """Divides the processors among the crates. The first ones get more if there are more processors than crates."""
-    chosen = crates[:processors]
-    for position, crate in enumerate(chosen):
-        share = -(-processors // (len(chosen) - position))
-        processors -= share
-        yield crate, share
+def shares(idle: int, least: list[tuple[Crate, int]]) -> list[tuple[Crate, int]]:
+    """Divides the idle processors among the crates, each with the least that it is to get. The first ones get more if there are more processors."""
+    chosen: list[tuple[Crate, int]] = []
+    for crate, share in least:
+        if share := min(share, idle):
+            chosen.append((crate, share))
+            idle -= share
+    return [(crate, share + (idle + len(chosen) - 1 - position) // len(chosen)) for position, (crate, share) in enumerate(chosen)]
 
 
 def build(crates: list[Crate], processors: int) -> None:
@@ -182,7 +182,10 @@ def build(crates: list[Crate], processors: int) -> None:
     with ThreadPoolExecutor(processors) as pool:
         while waiting or running:
             idle = processors - sum(share for _, share in running.values())
-            for crate, share in shares(idle, [crate for crate in waiting if crate.below <= proved]):
+            ready = [crate for crate in waiting if crate.below <= proved]
+            longest = max(lengths[crate.name] for crate in (*ready, *(crate for crate, _ in running.values())))
+            # The build waits for the longest chain, so the crate that begins it gets half of all processors.
+            for crate, share in shares(idle, [(crate, max(1, processors // 2) if lengths[crate.name] == longest else 1) for crate in ready]):
                 waiting.remove(crate)
                 say(f"{crate.name} begins; its log is {crate.log.relative_to(ROOT)}")
                 running[pool.submit(builder.prove, crate, share)] = crate, share

@@ -18,7 +18,7 @@ use Rattle.warc_core.specs.Calls.{Finishes}
 use Rattle.warc_core.specs.Record.{after_record}
 use Rattle.warc_core.specs.Cause.{StopsRecord}
 use Rattle.warc_core.proofs.CauseLemmas.{not-memory}
-use Rattle.cdxj_core.specs.Entries.{EntryValue, IsGood, line_text}
+use Rattle.cdxj_core.specs.Entries.{EntryValue, HasLine, line_text}
 use Rattle.capture_core.specs.declared.fault.CaptureFault.{CaptureFault}
 use Rattle.capture_core.specs.declared.fault.CaptureFault.TheVariants.{Archive, LineTooLong, KeyTooLong}
 use Rattle.capture_core.specs.Base32.{base32_of}
@@ -136,14 +136,13 @@ capture-behind url limits h name front (Some z) None r c t = absurd c
 capture-behind url limits h name front (Some z) (Some w) r c t = subst (λ b. IsCaptureOf url limits h name b r) (sym c) t
 
 -- an entry whose line is within the limit
-pub entry-fits : (h : HeadView) (name : List ℕ) (limit : ℕ) (response : Option ResponseValue) (digest url : List ℕ) (e : EntryValue) (r : Result EntryValue CaptureFault) → IsGood e → e ≡ entry_of h name response digest url → IfOk r (λ x. (x ≡ e) × (length (line_text x) ≤ limit)) → IfOk r (IsEntryOf h name limit)
-entry-fits h name limit response digest url e (Err f) g v k = tt
-entry-fits h name limit response digest url e (Ok x) g v k = record {
-  good = subst IsGood (sym k.0) g;
-  filename = ap (λ y. y.filename) (k.0 ∙ v);
-  offset = ap (λ y. y.offset) (k.0 ∙ v);
-  size = ap (λ y. y.length) (k.0 ∙ v);
-  fits = k.1;
+pub entry-fits : (h : HeadView) (name : List ℕ) (limit : ℕ) (response : Option ResponseValue) (digest url : List ℕ) (e : EntryValue) → e ≡ entry_of h name response digest url → HasLine limit e → IsEntryOf h name limit e
+entry-fits h name limit response digest url e v l = record {
+  good = l.0;
+  filename = ap (λ y. y.filename) v;
+  offset = ap (λ y. y.offset) v;
+  size = ap (λ y. y.length) v;
+  fits = l.1;
 }
 
 pub some-always : {A : Type 0} (o : Option A) (P : A → Type 0) → ((x : A) → P x) → IfSome o P

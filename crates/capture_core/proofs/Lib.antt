@@ -3,7 +3,7 @@ pub mod Bits
 pub mod HeadLemmas
 pub mod DigestLemmas
 pub mod VerdictLemmas
-pub mod ShortLines
+pub mod SpellingLemmas
 pub mod GoodEntries
 pub mod Captures
 pub mod CaptureLemmas

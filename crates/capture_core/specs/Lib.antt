@@ -12,3 +12,4 @@ pub mod Fault
 pub mod RecordReading
 pub mod CaptureAnswer
 pub mod CaptureSteps
+pub mod Spelling

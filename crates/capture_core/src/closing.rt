@@ -1,4 +1,4 @@
-//! The end of a capture: the rest of its record is read, and its entry is made.
+//! The end of a capture: the rest of its record is read, and its line is written.
 ghost use Rattle.std.specs.Prelude.{◌≡◌, ◌<◌, ℕ, length, IfOk, IfSome, option_map};
 ghost use Rattle.warc_core.specs.declared.phase.Phase.TheVariants.{Open};
 ghost use Rattle.warc_core.specs.ReaderView.{state_of};
@@ -7,11 +7,12 @@ ghost use Rattle.capture_core.specs.CaptureAnswer.{IsEntryOf, AnswersEntry};
 ghost use Rattle.capture_core.specs.RecordReading.{ReadsRest, IsOpenFor};
 ghost use Rattle.capture_core.specs.ResponseView.{response_view};
 
-use crate::capture_entry::capture_entry;
+use crate::capture_line::capture_line;
 use crate::fault::CaptureFault;
+use crate::held_line::HeldLine;
 use crate::http_head::HttpHead;
 use crate::indexed::Indexed;
-use cdxj_core::{Entry, LINE_LIMIT};
+use cdxj_core::LINE_LIMIT;
 use std::alloc::Global;
 use warc_core::{Input, Reader};
 
@@ -23,7 +24,7 @@ pub(crate) fn capture_closed<I: Input>(
     indexed: Indexed<'_>,
     response: Option<HttpHead<'_>>,
     digest: &[u8],
-) -> Result<Option<Entry>, CaptureFault>
+) -> Result<Option<HeldLine>, CaptureFault>
     requires code { IfSome response (λ r. r.code < 1000) }
     requires named { 0 < length indexed.name.now }
     requires target { 0 < length indexed.url.now }
@@ -40,8 +41,8 @@ pub(crate) fn capture_closed<I: Input>(
         (option_map response_view response.entry) digest.now indexed.entry.url.now) result }
 {
     reader.finish(input)?;
-    match capture_entry(alloc, indexed, response, digest) {
-        Ok(entry) => Ok(Some(entry)),
+    match capture_line(alloc, indexed, response, digest) {
+        Ok(line) => Ok(Some(line)),
         Err(fault) => Err(fault),
     }
 }

@@ -10,3 +10,14 @@ pub(crate) struct Indexed<'a> {
     /// The URL under which the record is indexed, which isn't empty.
     pub url: &'a [u8],
 }
+
+impl<'a> Indexed<'a> {
+    ghost use Rattle.std.specs.Prelude.{◌≡◌};
+
+    /// Returns the archive's name.
+    pub(crate) fn name(self) -> &'a str
+        ensures { result.now ≡ self.entry.name.now }
+    {
+        self.name
+    }
+}

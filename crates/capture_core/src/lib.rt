@@ -4,19 +4,19 @@
 #![tactic(auto)]
 
 mod block_check;
-mod capture_entry;
+mod capture_line;
 mod closing;
 mod digest;
 mod digest_text;
 mod digest_value;
-mod entry;
+mod entry_line;
 mod fault;
 mod field_value;
+mod held_line;
 mod http_head;
 mod http_record;
 mod indexed;
 mod laws;
-mod line;
 mod mime;
 mod payload;
 mod payload_digest;
@@ -30,7 +30,8 @@ mod verdict;
 pub use crate::block_check::block_digest;
 pub use crate::digest_text::base32;
 pub use crate::fault::CaptureFault;
+pub use crate::held_line::HeldLine;
 pub use crate::laws::{block_has_one_head, record_has_one_capture};
-pub use crate::record_capture::{Front, capture, capture_with};
+pub use crate::record_capture::{Front, capture, held_capture};
 pub use crate::types::Types;
 pub use crate::verdict::Verdict;

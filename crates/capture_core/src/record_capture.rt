@@ -11,11 +11,12 @@ ghost use Rattle.capture_core.specs.RecordReading.{ReadsWhole};
 ghost use Rattle.capture_core.specs.CaptureAnswer.{Captures, IsEntryOf, PartsBlock, usual_limits};
 ghost use Rattle.capture_core.specs.CaptureSteps.{IsReadTo, FillsBehind, CapturesRest};
 
-use crate::capture_entry::memory;
+use crate::capture_line::memory;
 use crate::closing::capture_closed;
 use crate::digest::digest_rest;
 use crate::digest_text::base32;
 use crate::fault::CaptureFault;
+use crate::held_line::HeldLine;
 use crate::http_head::HTTP_HEAD_LIMIT;
 use crate::indexed::Indexed;
 use crate::payload::{Parted, front_length, part_decided};
@@ -73,12 +74,18 @@ pub fn capture<I: Input>(
         (IsEntryOf head.now name.now LINE_LIMIT)) }
 {
     let mut front = Front::new(alloc);
-    capture_with(alloc, &mut front, reader, input, head, name, types)
+    match held_capture(alloc, &mut front, reader, input, head, name, types)? {
+        Some(line) => match line.entry(alloc, head.record_length()) {
+            Ok(entry) => Ok(Some(entry)),
+            Err(_) => Err(memory(head)),
+        },
+        None => Ok(None),
+    }
 }
 
-/// Like `capture`, with a buffer for the start of the block that serves one record after another. A usual record takes no
-/// memory for it.
-pub fn capture_with<I: Input>(
+/// Like `capture`, with the capture as its line, and with a buffer for the start of the block that serves one record
+/// after another. Of a usual record, only the line takes memory.
+pub fn held_capture<I: Input>(
     alloc: Global,
     front: &mut Front,
     reader: &mut Reader,
@@ -86,7 +93,7 @@ pub fn capture_with<I: Input>(
     head: &Head,
     name: &str,
     types: Types,
-) -> Result<Option<Entry>, CaptureFault>
+) -> Result<Option<HeldLine>, CaptureFault>
     requires unread { IsUnread reader.old head.now }
     requires named { 0 < length name.now }
     ensures reads { ReadsWhole head.now
@@ -109,7 +116,7 @@ pub fn capture_with<I: Input>(
     }
 }
 
-/// Returns the entry of a record that is indexed. The front of its block is read in three steps at most, and no further
+/// Returns the line of a record that is indexed. The front of its block is read in three steps at most, and no further
 /// than to the step in which an HTTP head ends: what one call of the reader returns for a piece of 2,048 bytes, the first
 /// 8,192 bytes, and the whole front, of at most 65,536 bytes.
 fn capture_indexed<I: Input>(
@@ -118,7 +125,7 @@ fn capture_indexed<I: Input>(
     reader: &mut Reader,
     input: &mut I,
     indexed: Indexed<'_>,
-) -> Result<Option<Entry>, CaptureFault>
+) -> Result<Option<HeldLine>, CaptureFault>
     requires { IsReadTo indexed [] reader.old }
     ensures { CapturesRest indexed.entry []
         (state_of reader.old (I.remaining input.old) (I.failures input.old))
@@ -209,7 +216,7 @@ fn refuse<I: Input>(
     reader: &mut Reader,
     input: &mut I,
     indexed: Indexed<'_>,
-) -> Result<Option<Entry>, CaptureFault>
+) -> Result<Option<HeldLine>, CaptureFault>
     requires { HasLeft 0 reader.old.phase }
     ensures { (first : List ℕ) → IsReadTo indexed.entry first reader.old → CapturesRest indexed.entry first
         (state_of reader.old (I.remaining input.old) (I.failures input.old))
@@ -219,14 +226,14 @@ fn refuse<I: Input>(
     Err(memory(indexed.head))
 }
 
-/// Returns the entry of a record that is indexed, after the first bytes of its block were read and split.
+/// Returns the line of a record that is indexed, after the first bytes of its block were read and split.
 fn capture_parted<I: Input>(
     alloc: Global,
     reader: &mut Reader,
     input: &mut I,
     indexed: Indexed<'_>,
     parted: Parted<'_>,
-) -> Result<Option<Entry>, CaptureFault>
+) -> Result<Option<HeldLine>, CaptureFault>
     requires ready { IsReadTo indexed parted.bytes.now reader.old }
     requires parts { PartsBlock usual_limits indexed.head.now parted.bytes.now
         (option_map response_view parted.response) parted.payload.now }

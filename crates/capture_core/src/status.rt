@@ -1,10 +1,13 @@
 //! The status of a capture.
-ghost use Rattle.std.specs.Prelude.{◌≡◌, ◌+◌, ◌<◌, IfOk, IfSome, option_map, string_bytes};
+ghost use Rattle.std.specs.Prelude.{◌≡◌, ◌+◌, ◌<◌, IfSome, option_map};
 ghost use Rattle.capture_core.specs.Capture.{status_of, three_digits};
 ghost use Rattle.capture_core.specs.ResponseView.{response_view};
 
 use crate::http_head::HttpHead;
-use std::alloc::{AllocError, Global};
+use arrayvec::ArrayString;
+
+/// The text of a status: three digits, or `-`.
+pub(crate) type Status = ArrayString<3>;
 
 fn digit(value: u16) -> char
     requires { value < 10 }
@@ -14,25 +17,28 @@ fn digit(value: u16) -> char
     (b'0' + value as u8) as char
 }
 
-fn three_digits(alloc: Global, code: u16) -> Result<String, AllocError>
+fn three_digits(code: u16) -> Status
     requires { code < 1000 }
-    ensures { IfOk result (λ text. string_bytes text ≡ three_digits code) }
+    ensures { result.bytes ≡ three_digits code }
 {
-    let mut text = String::with_capacity(alloc, 3)?;
-    text.push(digit(code / 100))?;
-    text.push(digit(code / 10 % 10))?;
-    text.push(digit(code % 10))?;
-    Ok(text)
+    let mut text = Status::new();
+    text.push(digit(code / 100));
+    text.push(digit(code / 10 % 10));
+    text.push(digit(code % 10));
+    text
 }
 
 /// Returns the HTTP head's status code in three digits, or `-` if there is no HTTP head.
-pub(crate) fn status(alloc: Global, response: Option<HttpHead<'_>>) -> Result<String, AllocError>
+pub(crate) fn status(response: Option<HttpHead<'_>>) -> Status
     requires { IfSome response (λ r. r.code < 1000) }
-    ensures { IfOk result (λ text. string_bytes text
-        ≡ status_of (option_map response_view response.entry)) }
+    ensures { result.bytes ≡ status_of (option_map response_view response.entry) }
 {
     match response {
-        Some(response) => three_digits(alloc, response.code),
-        None => String::from_str(alloc, "-"),
+        Some(response) => three_digits(response.code),
+        None => {
+            let mut text = Status::new();
+            text.push_str("-");
+            text
+        }
     }
 }

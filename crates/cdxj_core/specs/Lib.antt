@@ -5,6 +5,7 @@ pub mod Plain
 pub mod FoundMembers
 pub mod FoundViews
 pub mod MemberViews
+pub mod EntryView
 pub mod ValuesView
 pub mod Members
 pub mod PlainPlaces

@@ -1,4 +1,5 @@
 //! The entry of a capture in an index.
+use crate::entry_ref::EntryRef;
 use cdxj_places::{HasPlace, is_key, is_stamp};
 use std::cmp::Ordering;
 use std::marker::Model;
@@ -41,8 +42,9 @@ impl Model for Entry {
 }
 
 impl Entry {
-    ghost use Rattle.std.specs.Prelude.{◌↔◌, IsTrue, IsUtf8};
+    ghost use Rattle.std.specs.Prelude.{◌≡◌, ◌↔◌, IsTrue, IsUtf8};
     ghost use Rattle.cdxj_core.specs.Entries.{IsGood};
+    ghost use Rattle.cdxj_core.specs.EntryView.{entry_view};
 
     /// Returns `true` if the entry can be written: the key is a key, the stamp is 14 digits, no
     /// text is empty, and length and offset are below 2^63.
@@ -59,6 +61,23 @@ impl Entry {
             && self.length < 1 << 63
             && self.offset < 1 << 63
             && !self.filename.is_empty()
+    }
+
+    /// Returns the entry with its texts borrowed.
+    pub fn borrowed(&self) -> EntryRef<'_>
+        ensures { entry_view result ≡ self.now }
+    {
+        EntryRef {
+            key: self.key.as_str(),
+            stamp: self.stamp,
+            url: self.url.as_str(),
+            mime: self.mime.as_str(),
+            status: self.status.as_str(),
+            digest: self.digest.as_str(),
+            length: self.length,
+            offset: self.offset,
+            filename: self.filename.as_str(),
+        }
     }
 
     // Strings are UTF-8.

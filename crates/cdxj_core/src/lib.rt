@@ -6,6 +6,7 @@
 mod body;
 mod borrowed_members;
 mod entry;
+mod entry_ref;
 mod fault;
 mod field;
 mod found_members;
@@ -30,6 +31,7 @@ mod values;
 mod writing;
 
 pub use crate::entry::Entry;
+pub use crate::entry_ref::EntryRef;
 pub use crate::fault::LineFault;
 pub use crate::field::Field;
 pub use crate::laws::{
@@ -40,7 +42,7 @@ pub use crate::laws::{
 pub use crate::limit::LINE_LIMIT;
 pub use crate::line::Line;
 pub use crate::line_ref::LineRef;
-pub use crate::writing::{push_quoted, write_line};
+pub use crate::writing::{push_quoted, write_entry, write_line};
 pub use cdxj_keys::{KeyFault, host_key, host_key_begins_key, parsed_url_key, url_key};
 pub use cdxj_places::{
     HasPlace, OwnedPlace, Place, PlaceFault, in_order, longer_text_has_the_pair, pairs_are_ordered,

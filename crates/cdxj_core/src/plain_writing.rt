@@ -1,21 +1,22 @@
 //! The writing of a plain object: seven members whose texts need no escapes.
 ghost use Rattle.std.specs.Prelude.{◌≡◌, ◌↔◌, ◌++◌, IfOk, IsTrue};
 ghost use Rattle.cdxj_core.specs.Entries.{IsGood, entry_texts, object_text};
+ghost use Rattle.cdxj_core.specs.EntryView.{entry_view};
 ghost use Rattle.cdxj_core.specs.MemberViews.{borrowed_view};
 ghost use Rattle.cdxj_core.specs.Plain.{ArePlain};
 ghost use Rattle.cdxj_core.specs.Texts.{text_members};
 
 use crate::borrowed_members::BorrowedMembers;
-use crate::entry::Entry;
+use crate::entry_ref::EntryRef;
 use crate::unescaped::is_plain_text;
 use std::alloc::AllocError;
 
 /// Returns `true` if no text of the entry's line needs an escape. Numbers are digits, which never
 /// need one.
 #[tactic(auto, using(crate::proofs::PlainBytes::plain_decimal))]
-pub(crate) fn has_plain_texts(entry: &Entry) -> bool
-    requires { IsGood entry.now }
-    ensures { IsTrue result ↔ ArePlain (entry_texts entry.now) }
+pub(crate) fn has_plain_texts(entry: EntryRef<'_>) -> bool
+    requires { IsGood (entry_view entry) }
+    ensures { IsTrue result ↔ ArePlain (entry_texts (entry_view entry.entry)) }
 {
     is_plain_text(entry.url.as_bytes())
         && is_plain_text(entry.mime.as_bytes())

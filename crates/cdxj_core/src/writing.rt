@@ -6,10 +6,12 @@ ghost use Rattle.json.specs.Print.{quoted};
 ghost use Rattle.cdxj_core.specs.Entries.{IsGood, entry_texts, members_of, line_text};
 ghost use Rattle.cdxj_core.specs.Entries.{member_text, later_text, object_text};
 ghost use Rattle.cdxj_core.specs.Texts.{text_members};
+ghost use Rattle.cdxj_core.specs.EntryView.{entry_view};
 ghost use Rattle.cdxj_core.specs.MemberViews.{borrowed_view};
 
 use crate::borrowed_members::BorrowedMembers;
 use crate::entry::Entry;
+use crate::entry_ref::EntryRef;
 use crate::fault::LineFault;
 use crate::limit::LINE_LIMIT;
 use crate::plain_writing::{has_plain_texts, push_plain_object};
@@ -81,13 +83,13 @@ fn push_escaped_object(
 fn push_object(
     line: &mut Vec<u8>,
     alloc: Global,
-    entry: &Entry,
+    entry: EntryRef<'_>,
     texts: BorrowedMembers<'_>,
 ) -> Result<(), AllocError>
-    requires good { IsGood entry.now }
-    requires texts { borrowed_view texts ≡ entry_texts entry.now }
+    requires good { IsGood (entry_view entry) }
+    requires texts { borrowed_view texts ≡ entry_texts (entry_view entry) }
     ensures { IfOk result (λ _. line.new.items
-        ≡ line.old.items ++ object_text (members_of entry.now)) }
+        ≡ line.old.items ++ object_text (members_of (entry_view entry.entry))) }
 {
     if has_plain_texts(entry) {
         push_plain_object(line, texts)
@@ -96,31 +98,15 @@ fn push_object(
     }
 }
 
-fn push_pair(line: &mut Vec<u8>, entry: &Entry) -> Result<(), AllocError>
+fn push_pair(line: &mut Vec<u8>, key: &str, stamp: &[u8; 14]) -> Result<(), AllocError>
     ensures { IfOk result (λ _. line.new.items
-        ≡ line.old.items ++ (entry.now.key ++ 32 ∷ (entry.now.stamp ++ 32 ∷ []))) }
+        ≡ line.old.items ++ (key.now ++ 32 ∷ (stamp.now ++ 32 ∷ []))) }
 {
-    line.extend_from_slice(entry.key.as_bytes())?;
+    line.extend_from_slice(key.as_bytes())?;
     line.push(b' ')?;
-    line.extend_from_slice(&entry.stamp)?;
+    line.extend_from_slice(stamp)?;
     line.push(b' ')?;
     Ok(())
-}
-
-// The texts of the entry's members, its numbers as they are given.
-fn member_texts<'a>(entry: &'a Entry, length: &'a str, offset: &'a str) -> BorrowedMembers<'a>
-    ensures { borrowed_view result
-        ≡ record (entry_texts entry.now) { length = length.now; offset = offset.now } }
-{
-    BorrowedMembers {
-        url: entry.url.as_str(),
-        mime: entry.mime.as_str(),
-        status: entry.status.as_str(),
-        digest: entry.digest.as_str(),
-        length,
-        offset,
-        filename: entry.filename.as_str(),
-    }
 }
 
 // What a line has beside its key and its texts: bytes.
@@ -143,21 +129,32 @@ fn room(alloc: Global, key: &str, texts: &BorrowedMembers<'_>) -> Result<Vec<u8>
     Ok(Vec::with_capacity(alloc, length.min(LINE_LIMIT))?)
 }
 
-fn line_bytes(alloc: Global, entry: &Entry) -> Result<Vec<u8>, AllocError>
-    requires { IsGood entry.now }
-    ensures { IfOk result (λ line. line.items ≡ line_text entry.now) }
+fn line_bytes(alloc: Global, entry: EntryRef<'_>) -> Result<Vec<u8>, AllocError>
+    requires { IsGood (entry_view entry) }
+    ensures { IfOk result (λ line. line.items ≡ line_text (entry_view entry.entry)) }
 {
     let mut length = Buffer::new();
     let mut offset = Buffer::new();
-    let texts = member_texts(
-        entry,
-        length.format(entry.length),
-        offset.format(entry.offset),
-    );
-    let mut line = room(alloc, entry.key.as_str(), &texts)?;
-    push_pair(&mut line, entry)?;
+    let texts = entry.members(length.format(entry.length), offset.format(entry.offset));
+    let mut line = room(alloc, entry.key, &texts)?;
+    push_pair(&mut line, entry.key, &entry.stamp)?;
     push_object(&mut line, alloc, entry, texts)?;
     line.push(b'\n')?;
+    Ok(line)
+}
+
+/// Writes the line of a good entry, as `write_line` does.
+pub fn write_entry(alloc: Global, entry: EntryRef<'_>) -> Result<Vec<u8>, LineFault>
+    requires { IsGood (entry_view entry) }
+    ensures { MatchResult result
+        (λ line. (line.items ≡ line_text (entry_view entry.entry)) × (length line.items ≤ LINE_LIMIT))
+        (λ fault. (fault ≡ LineFault.LineTooLong → LINE_LIMIT < length (line_text (entry_view entry.entry)))
+        × (fault ≢ LineFault.BadLine)) }
+{
+    let line = line_bytes(alloc, entry)?;
+    if line.len() > LINE_LIMIT {
+        return Err(LineFault::LineTooLong);
+    }
     Ok(line)
 }
 
@@ -171,9 +168,5 @@ pub fn write_line(alloc: Global, entry: &Entry) -> Result<Vec<u8>, LineFault>
         (λ fault. (fault ≡ LineFault.LineTooLong → LINE_LIMIT < length (line_text entry.now))
         × (fault ≢ LineFault.BadLine)) }
 {
-    let line = line_bytes(alloc, entry)?;
-    if line.len() > LINE_LIMIT {
-        return Err(LineFault::LineTooLong);
-    }
-    Ok(line)
+    write_entry(alloc, entry.borrowed())
 }

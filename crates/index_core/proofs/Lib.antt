@@ -3,7 +3,6 @@ pub mod ListingLemmas
 pub mod VerdictLemmas
 mod IndexLemmas
 mod AddingLemmas
-mod SpellingLemmas
 mod NameLemmas
 pub mod SoundLemmas
 mod OneIndexLemmas

@@ -2,7 +2,6 @@ pub mod Report
 pub mod Listing
 pub mod Verifying
 pub mod Indexing
-pub mod Spelling
 pub mod Accepted
 pub mod Captures
 pub mod Adding

@@ -12,9 +12,7 @@ ghost use Rattle.index_core.specs.Adding.{Gains};
 ghost use Rattle.index_core.specs.Counting.{CountsCapture};
 ghost use Rattle.index_core.specs.Captures.{StandBefore, TakesNext};
 
-use crate::held_line::HeldLine;
-use capture_core::{CaptureFault, Front, Types, capture_with};
-use cdxj_core::Entry;
+use capture_core::{CaptureFault, Front, HeldLine, Types, held_capture};
 use std::alloc::{AllocError, Global};
 use warc_core::{Cause, Fault, Head, Input, Reader};
 
@@ -26,7 +24,7 @@ fn next_capture<I: Input>(
     input: &mut I,
     name: &str,
     types: Types,
-) -> Result<Option<(Head, Option<Entry>)>, CaptureFault>
+) -> Result<Option<(Head, Option<HeldLine>)>, CaptureFault>
     requires between { reader.old.phase ≡ Between }
     requires named { 0 < length name.now }
     ensures takes { TakesNext (includes types) usual_limits HEAD_LIMIT name.now reader.old.offset result reader.new (prepend_known reader.old.held (I.remaining input.old)) (prepend_known reader.new.held (I.remaining input.new)) }
@@ -35,36 +33,23 @@ fn next_capture<I: Input>(
     match reader.next(input)? {
         None => Ok(None),
         Some(head) => {
-            let captured = capture_with(alloc, front, reader, input, &head, name, types)?;
+            let captured = held_capture(alloc, front, reader, input, &head, name, types)?;
             Ok(Some((head, captured)))
         }
     }
 }
 
-/// Appends one capture.
-fn keep_line(captures: &mut Vec<HeldLine>, line: HeldLine) -> Result<(), AllocError>
-    ensures ok { OnOk result (captures.new.items ≡ captures.old.items ++ line ∷ []) }
-    ensures err { OnErr result (captures.new.items ≡ captures.old.items) }
-{
-    match captures.push(line) {
-        Ok(()) => Ok(()),
-        Err(_) => Err(AllocError),
-    }
-}
-
 /// Appends the capture of a record, if it has one.
-fn keep(
-    alloc: Global,
-    captures: &mut Vec<HeldLine>,
-    captured: Option<Entry>,
-) -> Result<(), AllocError>
-    requires { IfSome captured (HasLine LINE_LIMIT) }
+fn keep(captures: &mut Vec<HeldLine>, captured: Option<HeldLine>) -> Result<(), AllocError>
     ensures ok { OnOk result (captures.new.items ≡ captures.old.items ++ option_to_list captured) }
     ensures err { OnErr result (captures.new.items ≡ captures.old.items) }
 {
     match captured {
         None => Ok(()),
-        Some(entry) => keep_line(captures, HeldLine::new(alloc, entry)?),
+        Some(line) => match captures.push(line) {
+            Ok(()) => Ok(()),
+            Err(_) => Err(AllocError),
+        },
     }
 }
 
@@ -88,7 +73,7 @@ pub fn add_captures<I: Input>(
     loop {
         match next_capture(alloc, front, &mut reader, input, name, types) {
             Ok(None) => return Ok((captures.len() - held) as u64),
-            Ok(Some((head, captured))) => match keep(alloc, captures, captured) {
+            Ok(Some((head, captured))) => match keep(captures, captured) {
                 Ok(()) => {}
                 Err(_) => {
                     return Err(CaptureFault::Archive(Fault {

@@ -5,8 +5,8 @@ ghost use Rattle.index_core.specs.Indexing.{IsWriteFault, lines_text, index_text
 ghost use Rattle.index_core.specs.Counting.{CountsWrite};
 
 use crate::fault::IndexFault;
-use crate::held_line::HeldLine;
 use crate::writing::put_bytes;
+use capture_core::HeldLine;
 use cdxj_core::in_order;
 use std::alloc::Global;
 use warc_core::Output;

@@ -1,10 +1,9 @@
 //! The indexer.
 use crate::captures::add_captures;
 use crate::fault::IndexFault;
-use crate::held_line::HeldLine;
 use crate::index_lines::put_index;
 use crate::names::{Names, is_name};
-use capture_core::{Front, Types};
+use capture_core::{Front, HeldLine, Types};
 use std::alloc::Global;
 use std::marker::Model;
 use warc_core::{Input, Output};

@@ -7,7 +7,6 @@ mod captures;
 mod copying;
 mod fault;
 mod fetching;
-mod held_line;
 mod index_lines;
 mod indexer;
 mod laws;

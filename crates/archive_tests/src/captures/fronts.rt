@@ -1,7 +1,7 @@
 //! One front for records whose HTTP heads end in each of its steps.
-use super::{ABC, HTTP, record_text, says};
-use capture_core::{CaptureFault, Front, Types, capture_with};
-use cdxj_core::Entry;
+use super::{ABC, HTTP, record_text};
+use capture_core::{CaptureFault, Front, HeldLine, Types, held_capture};
+use cdxj_core::{Field, LineRef};
 use fixtures::repeated;
 use std::alloc::{AllocError, Global};
 use std::test::Fail;
@@ -41,11 +41,22 @@ fn next_with(
     front: &mut Front,
     reader: &mut Reader,
     input: &mut Slice<'_>,
-) -> Result<Option<Entry>, CaptureFault> {
+) -> Result<Option<HeldLine>, CaptureFault> {
     reader.finish(input)?;
     match reader.next(input)? {
-        Some(head) => capture_with(alloc, front, reader, input, &head, "a.warc", Types::usual()),
+        Some(head) => held_capture(alloc, front, reader, input, &head, "a.warc", Types::usual()),
         None => Ok(None),
+    }
+}
+
+/// Returns `true` if the line of the capture has this status, and the digest of `abc`.
+fn says(alloc: Global, captured: &Option<HeldLine>, status: &str) -> bool {
+    match captured {
+        Some(line) => match LineRef::read(alloc, line.line()) {
+            Ok(line) => line.value(Field::Statuscode) == status && line.value(Field::Digest) == ABC,
+            Err(_) => false,
+        },
+        None => false,
     }
 }
 
@@ -73,7 +84,7 @@ fn one_front_serves_records_of_all_sizes(rt: HostRuntime) -> Result<(), Fail> {
     let mut refused = None;
     for (_first, _count, status) in RECORDS {
         match next_with(rt.alloc(), &mut front, &mut reader, &mut input) {
-            Ok(captured) => assert!(rt; says(&captured, "-", status, ABC), "{status}"),
+            Ok(captured) => assert!(rt; says(rt.alloc(), &captured, status), "{status}"),
             Err(fault) => {
                 assert!(rt; is_memory(fault));
                 refused = Some(fault);

@@ -36,7 +36,7 @@ returns-in_ok-captured-in-Some-clause-takes g c =
     let k = c.in_ok-captured-in-Some.ensures in
     record {
       bytes = record-whole HEAD_LIMIT c.args.reader.now.offset _ _ _ c.in-Some.head n.bytes k.reads.bytes;
-      stands = subst (λ s. StandsAt c.capture_with.new.reader (s + record_length c.in-Some.head) Between) n.begins.start_is k.reads.state;
+      stands = subst (λ s. StandsAt c.held_capture.new.reader (s + record_length c.in-Some.head) Between) n.begins.start_is k.reads.state;
       begins = n.begins;
       capture = capture_there (includes c.args.types) usual_limits HEAD_LIMIT c.args.name.now c.args.reader.now.offset c.in-Some.head c.in_ok-captured-in-Some.captured _ _ _ n.bytes k.reads.bytes k.capture;
       entry = k.entry;

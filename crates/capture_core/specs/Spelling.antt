@@ -1,5 +1,5 @@
--- The entry that a line spells.
-use Rattle.std.specs.Prelude.{◌≡◌, ℕ, List, [], length, Option, None, Some}
+-- The entry that a line spells, and lines that are held.
+use Rattle.std.specs.Prelude.{◌≡◌, ℕ, ◌+◌, ◌≤◌, List, [], length, take, drop, Option, None, Some}
 use Rattle.std.specs.Str.Parse.{digits_value}
 use Rattle.cdxj_core.specs.declared.limit.TheConstants.{LINE_LIMIT}
 use Rattle.cdxj_core.specs.Entries.{EntryValue, line_text, HasLine}
@@ -35,3 +35,9 @@ pub record IsLineOf (e : EntryValue) (line : List ℕ) (key_length : ℕ) (filen
   pub key_length_is : key_length ≡ length e.key
   pub filename_is : filename ≡ e.filename
   pub offset_is : offset ≡ e.offset
+
+-- bytes that begin with the line of an entry, and have its file name at this place
+pub record Holds (e : EntryValue) (bytes : List ℕ) (line_length key_length name_start name_length offset : ℕ) : Type 0 where
+  pub line : IsLineOf e (take line_length bytes) key_length (take name_length (drop name_start bytes)) offset
+  pub line_within : line_length ≤ length bytes
+  pub name_within : name_start + name_length ≤ length bytes

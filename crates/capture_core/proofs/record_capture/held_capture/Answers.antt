@@ -2,7 +2,7 @@ use Rattle.std.proofs.Common.{refl}
 use Rattle.std.proofs.lemmas.Result.{err_from_is_err_and}
 use Rattle.warc_core.specs.HeadView.{record_length}
 use Rattle.capture_core.proofs.CaptureLemmas.{rest-whole, rest-failed}
-use Rattle.capture_core.proofs.record_capture.capture_with.Goals as goal
+use Rattle.capture_core.proofs.record_capture.held_capture.Goals as goal
 
 pub returns-in_ok-finish-in-None-clause-reads : goal.returns-in_ok-finish-in-None-clause-reads
 returns-in_ok-finish-in-None-clause-reads g c =

@@ -1,0 +1,90 @@
+//! The line of a record's entry, from texts that are borrowed from its head and its block.
+ghost use Rattle.std.specs.Prelude.{◌≡◌, ◌<◌, ◌≤◌, length, Err, IfOk, IfSome, option_map};
+ghost use Rattle.cdxj_core.specs.declared.limit.TheConstants.{LINE_LIMIT};
+ghost use Rattle.cdxj_core.specs.Entries.{HasLine, line_text};
+ghost use Rattle.capture_core.specs.Capture.{entry_of};
+ghost use Rattle.capture_core.specs.ResponseView.{response_view};
+
+use crate::held_line::HeldLine;
+use crate::http_head::HttpHead;
+use crate::indexed::Indexed;
+use crate::mime::mime;
+use crate::status::status;
+use crate::utf8_text::utf8_text;
+use cdxj_core::{EntryRef, KeyFault, LineFault, url_key};
+use std::alloc::{AllocError, Global};
+
+/// Why the line of an entry could not be written.
+#[derive(Clone, Copy)]
+pub(crate) enum Refusal {
+    Memory,
+    KeyTooLong,
+    LineTooLong,
+}
+
+impl From<AllocError> for Refusal {
+    ghost use Rattle.std.specs.Prelude.{◌≡◌};
+    ghost use Rattle.capture_core.specs.declared.entry_line.Refusal.TheVariants.{Memory};
+
+    ghost from_gives = { λ error refusal. refusal ≡ Memory };
+
+    fn from(_: AllocError) -> Refusal {
+        Refusal::Memory
+    }
+}
+
+impl From<KeyFault> for Refusal {
+    ghost use Rattle.std.specs.Prelude.{◌≢◌};
+    ghost use Rattle.capture_core.specs.declared.entry_line.Refusal.TheVariants.{LineTooLong};
+
+    ghost from_gives = { λ fault refusal. refusal ≢ LineTooLong };
+
+    fn from(fault: KeyFault) -> Refusal {
+        match fault {
+            KeyFault::Memory => Refusal::Memory,
+            KeyFault::TooLong => Refusal::KeyTooLong,
+        }
+    }
+}
+
+/// Writes the line of the record with this head, from its URL, its HTTP head, its digest and the
+/// archive's name.
+pub(crate) fn entry_line(
+    alloc: Global,
+    indexed: Indexed<'_>,
+    response: Option<HttpHead<'_>>,
+    digest: &[u8],
+) -> Result<HeldLine, Refusal>
+    requires code { IfSome response (λ r. r.code < 1000) }
+    requires named { 0 < length indexed.name.now }
+    requires digested { 0 < length digest.now }
+    requires targeted { 0 < length indexed.url.now }
+    ensures value { IfOk result (λ held. held ≡ entry_of indexed.entry.head.now indexed.entry.name.now
+        (option_map response_view response.entry) digest.now indexed.entry.url.now) }
+    ensures line { IfOk result (HasLine LINE_LIMIT) }
+    ensures long { result ≡ Err Refusal.LineTooLong → LINE_LIMIT < length (line_text (entry_of
+        indexed.entry.head.now indexed.entry.name.now
+        (option_map response_view response.entry) digest.now indexed.entry.url.now)) }
+{
+    let url = utf8_text(alloc, indexed.url)?;
+    let key = url_key(alloc, &url)?;
+    let mime = utf8_text(alloc, mime(indexed.head, response))?;
+    let status = status(response);
+    let digest = utf8_text(alloc, digest)?;
+    let entry = EntryRef {
+        key: key.as_str(),
+        stamp: indexed.head.stamp(),
+        url: url.as_str(),
+        mime: mime.as_str(),
+        status: status.as_str(),
+        digest: digest.as_str(),
+        length: indexed.head.record_length(),
+        offset: indexed.head.start(),
+        filename: indexed.name(),
+    };
+    match HeldLine::new(alloc, entry) {
+        Ok(line) => Ok(line),
+        Err(LineFault::LineTooLong) => Err(Refusal::LineTooLong),
+        Err(_) => Err(Refusal::Memory),
+    }
+}

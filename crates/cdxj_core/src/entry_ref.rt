@@ -1,0 +1,43 @@
+//! The entry of a capture, as texts that are borrowed.
+use crate::borrowed_members::BorrowedMembers;
+
+/// The contents of an index line about one capture. Its texts are borrowed.
+#[derive(Clone, Copy, Debug)]
+pub struct EntryRef<'a> {
+    pub key: &'a str,
+    /// 14 digits, `YYYYMMDDhhmmss`.
+    pub stamp: [u8; 14],
+    pub url: &'a str,
+    pub mime: &'a str,
+    pub status: &'a str,
+    pub digest: &'a str,
+    /// The length of the record in bytes.
+    pub length: u64,
+    /// The offset in bytes from the archive's start.
+    pub offset: u64,
+    /// The archive's name.
+    pub filename: &'a str,
+}
+
+impl<'a> EntryRef<'a> {
+    ghost use Rattle.std.specs.Prelude.{◌≡◌};
+    ghost use Rattle.cdxj_core.specs.Entries.{entry_texts};
+    ghost use Rattle.cdxj_core.specs.EntryView.{entry_view};
+    ghost use Rattle.cdxj_core.specs.MemberViews.{borrowed_view};
+
+    /// Returns the texts of the members. `length` and `offset` are the entry's numbers in decimal.
+    pub(crate) fn members(self, length: &'a str, offset: &'a str) -> BorrowedMembers<'a>
+        ensures { borrowed_view result
+            ≡ record (entry_texts (entry_view self.entry)) { length = length.now; offset = offset.now } }
+    {
+        BorrowedMembers {
+            url: self.url,
+            mime: self.mime,
+            status: self.status,
+            digest: self.digest,
+            length,
+            offset,
+            filename: self.filename,
+        }
+    }
+}
