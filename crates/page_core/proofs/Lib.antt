@@ -1,3 +1,4 @@
 pub mod PageLaws
 pub mod PageLemmas
 pub mod EscapeLemmas
+pub mod SpecialLemmas

@@ -5,3 +5,4 @@ pub mod FormView
 pub mod PageText
 pub mod Faults
 pub mod Laws
+pub mod Special

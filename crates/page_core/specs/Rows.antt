@@ -46,6 +46,10 @@ text_row fields m = join_by (λ f. escaped (value_of m f)) (32 ∷ []) fields ++
 abbrev pub line_row : Member → List ℕ
 line_row m = m.line ++ 10 ∷ []
 
+-- a text between quotes as it stands
+abbrev pub between_quotes : List ℕ → List ℕ
+between_quotes text = 34 ∷ (text ++ 34 ∷ [])
+
 -- texts between brackets, with a comma between
 abbrev pub json_row : List (List ℕ) → List ℕ
 json_row texts = 91 ∷ (join_by quoted (44 ∷ []) texts ++ 93 ∷ [])

@@ -1,9 +1,11 @@
 //! Rows of JSON pages.
 ghost use Rattle.std.specs.Prelude.{◌≡◌, [], ◌∷◌, ◌++◌, map, flat_map, IfOk, option_map};
 ghost use Rattle.json.specs.Print.{quoted};
-ghost use Rattle.page_core.specs.Rows.{value_of, field_name, json_row};
+ghost use Rattle.std.specs.List.{join_by};
+ghost use Rattle.page_core.specs.Rows.{value_of, field_name, json_row, between_quotes};
 ghost use Rattle.page_core.specs.PageText.{key_rows, later_row};
 
+use crate::special::QUOTED;
 use cdxj_core::{Field, LineRef, push_quoted};
 use std::alloc::{AllocError, Global};
 
@@ -47,7 +49,55 @@ fn push_names(text: &mut Vec<u8>, alloc: Global, fields: &[Field]) -> Result<(),
     Ok(())
 }
 
-// A row of the values of the fields.
+// The values of the fields, with a comma between.
+fn push_quoted_values(
+    text: &mut Vec<u8>,
+    alloc: Global,
+    fields: &[Field],
+    line: &LineRef<'_>,
+) -> Result<(), AllocError>
+    ensures { IfOk result (λ _. text.new.items
+        ≡ text.old.items ++ join_by quoted (44 ∷ []) (map (value_of line.now) fields.now)) }
+{
+    if let Some((first, later)) = fields.split_first() {
+        push_quoted(text, alloc, line.value(*first))?;
+        for field in later {
+            push_later_quoted(text, alloc, line.value(*field))?;
+        }
+    }
+    Ok(())
+}
+
+#[inline(always)]
+fn push_between_quotes(text: &mut Vec<u8>, value: &str) -> Result<(), AllocError>
+    ensures { IfOk result (λ _. text.new.items ≡ text.old.items ++ between_quotes value.now) }
+{
+    text.extend_from_slice(b"\"")?;
+    text.extend_from_slice(value.as_bytes())?;
+    text.extend_from_slice(b"\"")
+}
+
+// The values of the fields as they stand, each between quotes, with a comma between.
+fn push_plain_values(
+    text: &mut Vec<u8>,
+    fields: &[Field],
+    line: &LineRef<'_>,
+) -> Result<(), AllocError>
+    ensures { IfOk result (λ _. text.new.items
+        ≡ text.old.items ++ join_by between_quotes (44 ∷ []) (map (value_of line.now) fields.now)) }
+{
+    if let Some((first, later)) = fields.split_first() {
+        push_between_quotes(text, line.value(*first))?;
+        for field in later {
+            text.extend_from_slice(b",")?;
+            push_between_quotes(text, line.value(*field))?;
+        }
+    }
+    Ok(())
+}
+
+// A row of the values of the fields. They are written by `serde_json` if the row has more quotes, backslashes and
+// controls than the quotes around its values.
 fn push_values(
     text: &mut Vec<u8>,
     alloc: Global,
@@ -58,11 +108,11 @@ fn push_values(
         ≡ text.old.items ++ json_row (map (value_of line.now) fields.now)) }
 {
     text.extend_from_slice(b"[")?;
-    if let Some((first, later)) = fields.split_first() {
-        push_quoted(text, alloc, line.value(*first))?;
-        for field in later {
-            push_later_quoted(text, alloc, line.value(*field))?;
-        }
+    let start = text.len();
+    push_plain_values(text, fields, line)?;
+    if QUOTED.count(&text[start..]) > fields.len().saturating_mul(2) {
+        text.truncate(start);
+        push_quoted_values(text, alloc, fields, line)?;
     }
     text.extend_from_slice(b"]")?;
     Ok(())

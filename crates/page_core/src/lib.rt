@@ -9,6 +9,7 @@ mod form;
 mod json_rows;
 mod laws;
 mod page_output;
+mod special;
 mod text_rows;
 
 pub use crate::fault::TextFault;

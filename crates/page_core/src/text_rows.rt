@@ -5,6 +5,7 @@ ghost use Rattle.page_core.specs.Rows.{value_of, escaped, text_row, line_row};
 ghost use Rattle.page_core.specs.PageText.{key_lines};
 
 use crate::escaping::push_escaped;
+use crate::special::HIDDEN;
 use cdxj_core::{Field, Line, LineRef};
 use std::alloc::AllocError;
 
@@ -33,7 +34,27 @@ fn push_text_values(
     Ok(())
 }
 
-/// Appends the values of the fields to the text, separated by one space, and a line feed.
+// The values of the fields as they stand, with one space between.
+fn push_plain_values(
+    text: &mut Vec<u8>,
+    fields: &[Field],
+    line: &LineRef<'_>,
+) -> Result<(), AllocError>
+    ensures { IfOk result (λ _. text.new.items
+        ≡ text.old.items ++ join_by (value_of line.now) (32 ∷ []) fields.now) }
+{
+    if let Some((first, later)) = fields.split_first() {
+        text.extend_from_slice(line.value(*first).as_bytes())?;
+        for field in later {
+            text.extend_from_slice(b" ")?;
+            text.extend_from_slice(line.value(*field).as_bytes())?;
+        }
+    }
+    Ok(())
+}
+
+/// Appends the values of the fields to the text, separated by one space, and a line feed. The values are escaped if they
+/// have hidden bytes, so that the row has more of these than the spaces between its values.
 pub(crate) fn push_text_row(
     text: &mut Vec<u8>,
     fields: &[Field],
@@ -41,7 +62,12 @@ pub(crate) fn push_text_row(
 ) -> Result<(), AllocError>
     ensures { IfOk result (λ _. text.new.items ≡ text.old.items ++ text_row fields.now line.now) }
 {
-    push_text_values(text, fields, line)?;
+    let start = text.len();
+    push_plain_values(text, fields, line)?;
+    if HIDDEN.count(&text[start..]) >= fields.len() {
+        text.truncate(start);
+        push_text_values(text, fields, line)?;
+    }
     text.extend_from_slice(b"\n")?;
     Ok(())
 }

@@ -1,0 +1,28 @@
+use Rattle.std.proofs.Common.{◌≡◌, ◌∙◌, ◌++◌, ◌∷◌, [], ap, append_assoc, length, take, arith}
+use Rattle.std.specs.List.{join_by, count_by}
+use Rattle.page_core.specs.declared.special.TheConstants.{HIDDEN}
+use Rattle.page_core.specs.Rows.{value_of, escaped}
+use Rattle.page_core.specs.Special.{is_special}
+use Rattle.page_core.proofs.SpecialLemmas.{taken_off, appended, text_same}
+use Rattle.page_core.proofs.text_rows.push_text_row.Goals as goal
+use Rattle.page_core.proofs.text_rows.push_text_row.Goals.{then-count-fields+in_ok-push_text_values, else-count-fields}
+
+pub returns : goal.returns
+returns c =
+    let old = c.args.text.now.items in
+    let fields = c.args.fields.now in
+    let value = value_of c.args.line.now in
+    let plain = join_by value (32 ∷ []) fields in
+    let row = join_by (λ f. escaped (value f)) (32 ∷ []) fields in
+    let start : c.len-start.result ≡ length old = omega (arith, c.len-start.ensures, c.args.text.now.ok) in
+    let pushed = c.in_ok-push_plain_values.ensures in
+    let taken = ap (take c.len-start.result) pushed ∙ taken_off old plain c.len-start.result start in
+    let written : c.if-count-fields.text.items ≡ old ++ row = elim c.if-count-fields.branch [
+      | then-count-fields+in_ok-push_text_values w ↦
+          ap (λ t. t.items) w.text-is ∙ w.in_ok-push_text_values.ensures
+          ∙ ap (λ l. l ++ row) (w.truncate.ensures.items ∙ taken)
+      | else-count-fields w ↦
+          let counted = c.count.ensures ∙ ap (count_by (is_special HIDDEN)) (appended old plain _ c.len-start.result start (c.deref.ensures.value ∙ pushed)) in
+          ap (λ t. t.items) w.text-is ∙ pushed ∙ ap (λ l. old ++ l) (text_same value fields (omega (arith, counted, w.if-count-fields.false)))
+    ] in
+    c.in_ok-extend_from_slice.ensures.items ∙ ap (λ l. l ++ 10 ∷ []) written ∙ append_assoc old row (10 ∷ [])
