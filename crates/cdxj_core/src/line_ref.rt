@@ -1,11 +1,14 @@
 //! Lines that were read and that borrow their bytes.
-ghost use Rattle.std.specs.Prelude.{◌≡◌, Some, true};
+ghost use Rattle.std.specs.Prelude.{◌≡◌, ℕ, Some, true, decimal};
 ghost use Rattle.cdxj_core.specs.declared.limit.TheConstants.{LINE_LIMIT};
 ghost use Rattle.cdxj_places.specs.Pair.{is_key, is_stamp};
+ghost use Rattle.cdxj_core.specs.Lines.{field_value, line_value};
 ghost use Rattle.cdxj_core.specs.Members.{line_entry};
+ghost use Rattle.cdxj_core.specs.MemberViews.{borrowed_view};
 ghost use Rattle.cdxj_core.specs.ValuesView.{parts_view};
 
 use crate::body::{body_of, has_no_feed};
+use crate::borrowed_members::BorrowedMembers;
 use crate::fault::LineFault;
 use crate::field::Field;
 use crate::limit::LINE_LIMIT;
@@ -16,6 +19,30 @@ use cdxj_places::{HasPlace, Place, cut_first};
 use std::alloc::Global;
 use std::cmp::Ordering;
 use std::marker::Model;
+
+/// Returns the value of a field of the line with this key, this stamp and these members.
+#[inline(always)]
+fn value_among<'a>(
+    key: &'a str,
+    stamp: &'a str,
+    texts: &BorrowedMembers<'a>,
+    field: Field,
+) -> &'a str
+    ensures { (offset : ℕ) → texts.now.offset.now ≡ decimal offset → result.now
+        ≡ field_value field (line_value key.now stamp.now (borrowed_view texts.now) offset) }
+{
+    match field {
+        Field::Urlkey => key,
+        Field::Timestamp => stamp,
+        Field::Original => texts.url,
+        Field::Mimetype => texts.mime,
+        Field::Statuscode => texts.status,
+        Field::Digest => texts.digest,
+        Field::Length => texts.length,
+        Field::Offset => texts.offset,
+        Field::Filename => texts.filename,
+    }
+}
 
 /// A line of an index that was read, with all its values.
 #[derive(Debug, Drop)]
@@ -114,17 +141,11 @@ impl<'a> LineRef<'a> {
     pub fn value(&self, field: Field) -> &str
         ensures { result.now ≡ field_value field self.now.values }
     {
-        let texts = self.values.members.borrowed();
-        match field {
-            Field::Urlkey => self.key,
-            Field::Timestamp => self.stamp,
-            Field::Original => texts.url,
-            Field::Mimetype => texts.mime,
-            Field::Statuscode => texts.status,
-            Field::Digest => texts.digest,
-            Field::Length => texts.length,
-            Field::Offset => texts.offset,
-            Field::Filename => texts.filename,
+        match &self.values.members {
+            LineMembers::Borrowed(texts) => value_among(self.key, self.stamp, texts, field),
+            LineMembers::Owned(texts) => {
+                value_among(self.key, self.stamp, &texts.borrowed(), field)
+            }
         }
     }
 
