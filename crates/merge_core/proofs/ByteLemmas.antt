@@ -1,4 +1,5 @@
 -- How many bytes indexes gave.
+use Rattle.std.specs.List.{AllZip}
 use Rattle.std.proofs.Common.{◌≡◌, ℕ, ◌+◌, ◌-◌, ◌≤◌, List, [], ◌∷◌, ◌++◌, length, take, map, filter, zip, Bool, true, false, cond, Option, Some, refl, sym, ap, ◌∙◌, subst, arith, length-append, length-take}
 use Rattle.std.specs.List.{AllByRecursion}
 use Rattle.std.proofs.lemmas.List.{map-append}
@@ -16,7 +17,6 @@ use Rattle.merge_core.specs.declared.feed.Feed.{Feed}
 use Rattle.merge_core.specs.PairOrders.{IsUpto, is_low}
 use Rattle.merge_core.specs.Collections.{Known}
 use Rattle.merge_core.specs.Feeds.{bytes_of}
-use Rattle.merge_core.specs.Gathering.{AllTwo}
 use Rattle.merge_core.specs.Openings.{IsCutAt}
 use Rattle.merge_core.specs.Spending.{ReadTo, CameWithin, AllGaveWithin}
 use Rattle.merge_core.specs.Written.{line_row, lines_text}
@@ -83,7 +83,7 @@ module _ (limit : ℕ) (past : List ℕ → Bool) (start : Pair) (b : Option Pai
 
   module _ {S : Type 0} (text : S → Option (List ℕ)) (extent gave : S → ℕ) where
     -- sources that tell their bytes, beside their feeds
-    pub tell_both : (ss : List S) (fs : List Feed) (texts : List (List ℕ)) → length ss ≡ length fs → Known (map text ss) texts → AllTwo (λ (t : List ℕ) (x : S × Feed). text x.0 ≡ Some t) texts (zip ss fs)
+    pub tell_both : (ss : List S) (fs : List Feed) (texts : List (List ℕ)) → length ss ≡ length fs → Known (map text ss) texts → AllZip (λ (t : List ℕ) (x : S × Feed). text x.0 ≡ Some t) texts (zip ss fs)
     tell_both [] fs [] same known = tt
     tell_both [] fs (t ∷ ts) same known = absurd known
     tell_both (s ∷ ss) [] ts same known = absurd (omega arith)
@@ -91,8 +91,8 @@ module _ (limit : ℕ) (past : List ℕ → Bool) (start : Pair) (b : Option Pai
     tell_both (s ∷ ss) (f ∷ fs) (t ∷ ts) same known = (known.0, tell_both ss fs ts (omega arith) known.1)
 
     -- What sources gave from before they were opened, when they were read up to the bound
-    pub gave_most : (ss0 : List S) (xs1 xs : List (S × Feed)) (texts : List (List ℕ)) (indexes : List (List Member)) → Known (map text ss0) texts → AllTwo (λ (t : List ℕ) (x : S × Feed). text x.0 ≡ Some t) texts xs1
-        → AllTwo (IsIndex limit) texts indexes → AllTwo (λ x y. CameWithin (text x) (extent x) (gave x) (gave y.0) y.1.cursor) ss0 xs1 → AllTwo (Move text extent gave) xs1 xs
+    pub gave_most : (ss0 : List S) (xs1 xs : List (S × Feed)) (texts : List (List ℕ)) (indexes : List (List Member)) → Known (map text ss0) texts → AllZip (λ (t : List ℕ) (x : S × Feed). text x.0 ≡ Some t) texts xs1
+        → AllZip (IsIndex limit) texts indexes → AllZip (λ x y. CameWithin (text x) (extent x) (gave x) (gave y.0) y.1.cursor) ss0 xs1 → AllZip (Move text extent gave) xs1 xs
         → AllByRecursion (λ x. IsCutAt limit start (text x.0) x.1.cursor) xs1 → AllByRecursion (λ x. (t : List ℕ) → text x.0 ≡ Some t → ReadTo limit past b t x.1.cursor) xs
         → AllGaveWithin extent gave test texts indexes ss0 (map (λ x. x.0) xs)
     gave_most [] [] [] [] [] known tells are came moved cut reads = tt

@@ -1,4 +1,6 @@
 -- How many lines were read of indexes.
+use Rattle.std.proofs.lemmas.List.{take-map}
+use Rattle.std.specs.List.{AllZip}
 use Rattle.std.proofs.Common.{◌≡◌, ℕ, suc, ◌+◌, ◌-◌, ◌≤◌, List, [], ◌∷◌, length, drop, map, filter, zip, Bool, true, false, Option, Some, refl, sym, ap, subst, arith, length-append, length-take, Less, Equal, Greater}
 use Rattle.std.specs.List.{AllByRecursion, sum}
 use Rattle.std.proofs.lemmas.List.{length-map}
@@ -18,14 +20,14 @@ use Rattle.merge_core.specs.PairOrders.{IsUpto, is_low}
 use Rattle.merge_core.specs.WaitingLines.{WaitingLine, waits_of}
 use Rattle.merge_core.specs.Collections.{Known, all_lines}
 use Rattle.merge_core.specs.Feeds.{AreFed, Fed, done, given, held, member_of, read_lines}
-use Rattle.merge_core.specs.Gathering.{AllTwo, AreTold, text_or, all_done}
+use Rattle.merge_core.specs.Gathering.{AreTold, text_or, all_done}
 use Rattle.merge_core.specs.Reached.{Handed}
 use Rattle.cdxj_places.specs.Places.{place_cmp}
 use Rattle.cdxj_places.specs.Rising.{choose, put, rising}
 use Rattle.merge_core.specs.Openings.{IsCutAt}
 use Rattle.merge_core.proofs.GroupLemmas.{each_cut, filter_all}
 use Rattle.merge_core.proofs.HeldLemmas.{done_fewer}
-use Rattle.merge_core.proofs.ReadLines.{members_are, take_of_map}
+use Rattle.merge_core.proofs.ReadLines.{members_are}
 use Rattle.merge_core.proofs.StartLemmas.{run_after}
 
 pub one_held : (p : Progress) → held p ≤ 1
@@ -46,7 +48,7 @@ module _ (limit : ℕ) (past : List ℕ → Bool) (start : Pair) (b : Option Pai
       let run = run_after limit start t ms f.cursor.start index cut in
       let high : map (member_of limit) from ≡ cut.high = members_are limit from cut.high run.0.entries in
       let not_low = each_take (λ m. is_low start m ≡ false) (f.cursor.count - held f.progress) (given limit t f.cursor)
-      (subst (AllByRecursion (λ m. is_low start m ≡ false)) (take_of_map (member_of limit) f.cursor.count from)
+      (subst (AllByRecursion (λ m. is_low start m ≡ false)) (take-map (member_of limit) f.cursor.count from)
       (each_take (λ m. is_low start m ≡ false) f.cursor.count (map (member_of limit) from) (subst (AllByRecursion (λ m. is_low start m ≡ false)) (sym high) cut.none_below))) in
       let all_pass : AllByRecursion (λ m. test m ≡ true) (done limit t f) =
       each_weaker (λ (m : Member) (h : ((past m.values.key ≡ false) × (is_low start m ≡ false)) × IsUpto b (member_pair m)). passes m h.0.0 h.0.1 h.1) (done limit t f)
@@ -60,7 +62,7 @@ module _ (limit : ℕ) (past : List ℕ → Bool) (start : Pair) (b : Option Pai
 
   module _ {S : Type 0} (text : S → Option (List ℕ)) (extent : S → ℕ) (ws : List WaitingLine) where
     -- No more lines were read than those that pass, and one of each source
-    pub lines_most : (n : ℕ) (ss : List S) (fs : List Feed) (texts : List (List ℕ)) (indexes : List (List Member)) → length ss ≡ length fs → Known (map text ss) texts → AllTwo (IsIndex limit) texts indexes
+    pub lines_most : (n : ℕ) (ss : List S) (fs : List Feed) (texts : List (List ℕ)) (indexes : List (List Member)) → length ss ≡ length fs → Known (map text ss) texts → AllZip (IsIndex limit) texts indexes
         → AllByRecursion (λ x. IsCutAt limit start (text x.0) x.1.cursor) (zip ss fs) → AreFed limit past text extent n ss fs ws → AllByRecursion (λ m. IsUpto b (member_pair m)) (all_done limit text ss fs)
         → sum (map (λ (f : Feed). f.cursor.count) fs) ≤ length (filter test (all_lines indexes)) + length indexes
     lines_most n [] [] texts indexes same known are cut fed upto = omega arith

@@ -1,4 +1,5 @@
 -- What one line more makes of a feed.
+use Rattle.std.proofs.lemmas.List.{map-append}
 use Rattle.std.proofs.Common.{◌≡◌, Ordering, Less, Equal, Greater, ℕ, zero, suc, ◌+◌, ◌-◌, ◌≤◌, List, [], ◌∷◌, ◌++◌, length, refl, sym, ap, ap₂, ◌∙◌, subst, arith, Bool, false, Option, Some, None, MatchOption, take, drop, map, unwrap_or, flat_map, append-nil, length-append}
 use Rattle.std.specs.List.{AllByRecursion}
 use Rattle.std.specs.Ordering.{nat_cmp, ordering_then}
@@ -61,10 +62,6 @@ take_map f (suc k) zero xs h = absurd (omega arith)
 take_map f (suc k) (suc n) [] h = refl
 take_map f (suc k) (suc n) (x ∷ xs) h = ap (λ l. f x ∷ l) (take_map f k n xs (omega arith))
 
-pub map_push : {A B : Type 0} (f : A → B) (xs : List A) (x : A) → map f (xs ++ x ∷ []) ≡ map f xs ++ f x ∷ []
-map_push f [] x = refl
-map_push f (y ∷ ys) x = ap (λ u. f y ∷ u) (map_push f ys x)
-
 falls_push : (xs : List Member) (y : Member) → NeverFalls member_pair pair_cmp xs → AllByRecursion (λ m. Upto (member_pair m) (member_pair y)) xs → NeverFalls member_pair pair_cmp (xs ++ y ∷ [])
 falls_push [] y h k = (tt, tt)
 falls_push (x ∷ xs) y h k = (each_join (λ m. Upto (member_pair x) (member_pair m)) xs (y ∷ []) h.0 (k.0, tt), falls_push xs y h.1 k.1)
@@ -121,7 +118,7 @@ module _ (limit : ℕ) where
   run_push : (ls : List (List ℕ)) (ms : List Member) (l : List ℕ) (m : Member) (low : Pair) → IsRun limit ls ms → line_entry limit l ≡ Some m
       → AllByRecursion (λ k. Upto (member_pair k) low) ms → Upto low (member_pair m) → IsRun limit (ls ++ l ∷ []) (ms ++ m ∷ [])
   run_push ls ms l m low run e upto h = record {
-    entries = map_push (line_entry limit) ls l ∙ ap₂ (λ us v. us ++ v ∷ []) run.entries e ∙ sym (map_push Some ms m);
+    entries = map-append (line_entry limit) ls (l ∷ []) ∙ ap₂ (λ us v. us ++ v ∷ []) run.entries e ∙ sym (map-append Some ms (m ∷ []));
     ordered = falls_push ms m run.ordered (each_weaker (λ (k : Member) (q : Upto (member_pair k) low). upto_upto (member_pair k) low (member_pair m) q h) ms upto);
   }
 
@@ -131,7 +128,7 @@ module _ (limit : ℕ) where
 
   pub given_next : (t : List ℕ) (old new : CursorState) (m : Member) → ReadNext t old new m → given limit t new ≡ given limit t old ++ m ∷ []
   given_next t old new m r =
-      ap (map (member_of limit)) r.1 ∙ map_push (member_of limit) (read_lines t old) r.0
+      ap (map (member_of limit)) r.1 ∙ map-append (member_of limit) (read_lines t old) (r.0 ∷ [])
       ∙ ap (λ (o : Option Member). given limit t old ++ unwrap_or o no_member ∷ []) r.2
 
   run_next : (t : List ℕ) (old new : CursorState) (m : Member) (low : Pair) → ReadNext t old new m

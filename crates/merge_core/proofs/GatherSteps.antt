@@ -1,4 +1,5 @@
 -- The steps of a group's gathering.
+use Rattle.std.specs.List.{AllZip}
 use Rattle.std.proofs.Common.{◌≡◌, ℕ, ◌+◌, ◌<◌, ◌≤◌, List, [], ◌∷◌, ◌++◌, length, get_or, set, take, drop, zip, flat_map, Bool, true, false, is_lt, Option, refl, sym, ap, ap₂, ◌∙◌, subst, arith, length-set, drop-set-lt}
 use Rattle.std.specs.List.{AllByRecursion}
 use Rattle.std.specs.List.Sorted.{IsPermutation}
@@ -12,7 +13,7 @@ use Rattle.merge_core.specs.declared.feed.Feed.{Feed}
 use Rattle.merge_core.specs.PairOrders.{Alike, Upto}
 use Rattle.merge_core.specs.WaitingLines.{WaitingLine, waiting_pair, turn_cmp}
 use Rattle.merge_core.specs.Feeds.{Ready, done, due}
-use Rattle.merge_core.specs.Gathering.{AllTwo, Gathered, AreTold, text_or, all_done, unread, IsFrom, IsDue, Drained}
+use Rattle.merge_core.specs.Gathering.{Gathered, AreTold, text_or, all_done, unread, IsFrom, IsDue, Drained}
 use Rattle.merge_core.proofs.PairOrder.{upto_upto, same_upto, same_from}
 use Rattle.merge_core.proofs.HeapLemmas.{each_get, each_permuted}
 use Rattle.merge_core.proofs.Many.{is_told, zip_set, zip_at, length_zip, Move, moved_trans, moved_still, moved_set, moved_not, told_moved, unread_set}
@@ -31,7 +32,7 @@ module _ (limit : ℕ) (past : List ℕ → Bool) {S : Type 0} (text : S → Opt
   pub record Gathers (n : ℕ) (ss : List S) (fs : List Feed) (ws : List WaitingLine) (group : List Member) : Type 0 where
     pub ready : Ready limit past text extent ss fs ws
     pub as_many : length ss ≡ length ss0
-    pub moved : AllTwo (Move text extent gave) (zip ss0 fs0) (zip ss fs)
+    pub moved : AllZip (Move text extent gave) (zip ss0 fs0) (zip ss fs)
     pub rest : drop n (zip ss fs) ≡ drop n (zip ss0 fs0)
     pub gathered : AreTold text ss0 → AreBelow pair (flat_map of (zip ss0 fs0)) → Gathered pair (flat_map of (take n (zip ss0 fs0))) (flat_map of (take n (zip ss fs))) [] group
 
@@ -76,7 +77,7 @@ module _ (limit : ℕ) (past : List ℕ → Bool) {S : Type 0} (text : S → Opt
         ready = popped_ready limit past text extent ss fs ws ws' w a b h.ready p;
         as_many = h.as_many;
         moved = moved_trans text extent gave (zip ss0 fs0) (zip ss fs) (zip ss (set fs w.source f)) h.moved
-            (subst (λ us. AllTwo (Move text extent gave) (zip ss fs) (zip us (set fs w.source f))) same_sources
+            (subst (λ us. AllZip (Move text extent gave) (zip ss fs) (zip us (set fs w.source f))) same_sources
             (moved_set text extent gave ss fs w.source a (get_or ss w.source a) b f h.ready.same inside
             (moved_not (text (get_or ss w.source a)) (extent (get_or ss w.source a)) (gave (get_or ss w.source a)) (get_or fs w.source b).cursor)));
         rest = ap (drop (w.source + 1)) zip_now ∙ rest_changes pair of (zip ss0 fs0) (zip ss fs) [] n w.source (get_or ss w.source a, f) l h.rest;
@@ -129,7 +130,7 @@ module _ (limit : ℕ) (past : List ℕ → Bool) {S : Type 0} (text : S → Opt
 
   -- the further lines of a source are taken
   pub gathers_drained : (i : ℕ) (ss : List S) (fs : List Feed) (ws : List WaitingLine) (first : Member) (g g' : List Member) (h : Gathers (i + 1) ss fs ws (first ∷ g)) (a : S) (b : Feed) (ss' : List S) (fs' : List Feed) (ws' : List WaitingLine) (s : S) (f : Feed)
-      → i < length ss → Ready limit past text extent ss' fs' ws' → AllTwo (Move text extent gave) (zip ss fs) (zip ss' fs') → ss' ≡ set ss i s → fs' ≡ set fs i f
+      → i < length ss → Ready limit past text extent ss' fs' ws' → AllZip (Move text extent gave) (zip ss fs) (zip ss' fs') → ss' ≡ set ss i s → fs' ≡ set fs i f
       → text s ≡ text (get_or ss i a) → Drained limit pair (text (get_or ss i a)) (get_or fs i b) f g g' → Gathers (i + 1) ss' fs' ws' (first ∷ g')
   gathers_drained i ss fs ws first g g' h a b ss' fs' ws' s f inside ready moved ss_is fs_is text_is drained =
       let zip_now : zip ss' fs' ≡ set (zip ss fs) i (s, f) = ap₂ (λ us vs. zip us vs) ss_is fs_is ∙ zip_set ss fs i s f in

@@ -1,4 +1,6 @@
 -- How many lines are held at once.
+use Rattle.std.proofs.lemmas.List.{take-map}
+use Rattle.std.specs.List.{AllZip}
 use Rattle.std.proofs.Common.{◌≡◌, ◌≢◌, ◌^◌, max, min, ℕ, zero, suc, ◌+◌, ◌-◌, ◌==◌, ◌<◌, ◌≤◌, List, [], ◌∷◌, ◌++◌, length, take, drop, map, filter, Bool, true, false, not, Option, Some, inl, inr, refl, sym, ap, ◌∙◌, subst, arith, length-append, Ordering, Less, Equal, Greater, is_gt, is_lt, is_eq}
 use Rattle.std.specs.List.{AllByRecursion}
 use Rattle.std.proofs.lemmas.List.{length-map, map-append}
@@ -17,10 +19,10 @@ use Rattle.merge_core.specs.WaitingLines.{WaitingLine, waiting_pair, is_of, wait
 use Rattle.merge_core.specs.Collections.{Known, all_lines}
 use Rattle.merge_core.specs.Counts.{is_at, ShareAtMost}
 use Rattle.merge_core.specs.Feeds.{Fed, AreFed, Ready, member_of, given, held, done}
-use Rattle.merge_core.specs.Gathering.{AllTwo, AreTold, Grouped, text_or, all_done}
+use Rattle.merge_core.specs.Gathering.{AreTold, Grouped, text_or, all_done}
 use Rattle.merge_core.specs.Reached.{Handed}
 use Rattle.merge_core.proofs.MergeLemmas.{below_next}
-use Rattle.merge_core.proofs.ReadLines.{take_of_map, members_are}
+use Rattle.merge_core.proofs.ReadLines.{members_are}
 use Rattle.merge_core.proofs.StreamLemmas.{few_waits}
 use Rattle.merge_core.proofs.WholeLemmas.{told_known}
 
@@ -71,13 +73,13 @@ module _ (limit : ℕ) (past : List ℕ → Bool) {S : Type 0} (text : S → Opt
       let from = lines (drop f.cursor.start t) in
       let whole : ms ≡ map (member_of limit) told.begins.0 ++ map (member_of limit) from =
       sym (members_are limit (lines t) ms index.entries) ∙ ap (map (member_of limit)) told.begins.1.0 ∙ map-append (member_of limit) told.begins.0 from in
-      let read : given limit t f.cursor ≡ take f.cursor.count (map (member_of limit) from) = sym (take_of_map (member_of limit) f.cursor.count from) in
+      let read : given limit t f.cursor ≡ take f.cursor.count (map (member_of limit) from) = sym (take-map (member_of limit) f.cursor.count from) in
       let a = filter_front test (f.cursor.count - held f.progress) (given limit t f.cursor) in
       let b = filter_front test f.cursor.count (map (member_of limit) from) in
       let c = filter_back test (map (member_of limit) told.begins.0) (map (member_of limit) from) in
       omega (arith, ap (λ l. length (filter test l)) read, ap (λ l. length (filter test l)) whole)
 
-  all_fewer : (n : ℕ) (ss : List S) (fs : List Feed) (ws : List WaitingLine) (texts : List (List ℕ)) (indexes : List (List Member)) (test : Member → Bool) → length ss ≡ length fs → Known (map text ss) texts → AllTwo (IsIndex limit) texts indexes
+  all_fewer : (n : ℕ) (ss : List S) (fs : List Feed) (ws : List WaitingLine) (texts : List (List ℕ)) (indexes : List (List Member)) (test : Member → Bool) → length ss ≡ length fs → Known (map text ss) texts → AllZip (IsIndex limit) texts indexes
       → AreFed limit past text extent n ss fs ws → length (filter test (all_done limit text ss fs)) ≤ length (filter test (all_lines indexes))
   all_fewer n [] fs ws texts indexes test e known are fed = omega arith
   all_fewer n (s ∷ ss) [] ws texts indexes test e known are fed = absurd (omega arith)
@@ -112,7 +114,7 @@ at_pair pair m u = at_order (pair_cmp (member_pair m) pair) u
 
 module _ (limit : ℕ) (past : List ℕ → Bool) {S : Type 0} (text : S → Option (List ℕ)) (extent gave : S → ℕ) (old ss0 ss : List S) (fs0 fs : List Feed) (ws0 ws : List WaitingLine) (b : Option Pair) (pair : Pair) (taken group : List Member)
     (was : Handed limit text old ss0 fs0 b taken) (above : AllByRecursion (λ w. IsAbove b (waiting_pair w)) ws0) (grouped : Grouped limit text extent ss0 fs0 ws0 ss fs ws pair group) (ready : Ready limit past text extent ss fs ws)
-    (texts : List (List ℕ)) (indexes : List (List Member)) (most : ℕ) (known_old : Known (map text old) texts) (known : Known (map text ss) texts) (kept : AreTold text old → AreTold text ss0) (are : AllTwo (IsIndex limit) texts indexes)
+    (texts : List (List ℕ)) (indexes : List (List Member)) (most : ℕ) (known_old : Known (map text old) texts) (known : Known (map text ss) texts) (kept : AreTold text old → AreTold text ss0) (are : AllZip (IsIndex limit) texts indexes)
     (share : ShareAtMost most (all_lines indexes)) where
   group_most : length group ≤ most
   group_most =

@@ -1,4 +1,5 @@
 -- Lists of sources and feeds, seen as one list of pairs.
+use Rattle.std.specs.List.{AllZip}
 use Rattle.std.proofs.Common.{◌≡◌, ℕ, zero, suc, ◌+◌, ◌-◌, ◌<◌, List, [], ◌∷◌, refl, sym, ap, ◌∙◌, subst, arith, Option, Some, None, true, length, get_or, set, map, zip}
 use Rattle.std.specs.List.{AllByRecursion, sum}
 use Rattle.std.specs.Option.{is_some}
@@ -6,7 +7,7 @@ use Rattle.std.proofs.lemmas.List.Sums.{sum_by-cons}
 use Rattle.merge_core.specs.declared.feed.Feed.{Feed}
 use Rattle.source_core.specs.Cursors.{CursorState}
 use Rattle.merge_core.specs.Feeds.{Moved}
-use Rattle.merge_core.specs.Gathering.{AllTwo, text_or, unread}
+use Rattle.merge_core.specs.Gathering.{text_or, unread}
 
 pub is_told : (o : Option (List ℕ)) → is_some o ≡ true → o ≡ Some (text_or o)
 is_told None e = cc
@@ -35,24 +36,18 @@ map_set_same f [] i d y l e = refl
 map_set_same f (x ∷ xs) zero d y l e = ap (λ v. v ∷ map f xs) e
 map_set_same f (x ∷ xs) (suc i) d y l e = ap (λ v. f x ∷ v) (map_set_same f xs i d y (omega arith) e)
 
-pub two_set : {X : Type 0} (R : X → X → Type 0) → ((x y z : X) → R x y → R y z → R x z) → (olds news : List X) (i : ℕ) (d y : X) → AllTwo R olds news → i < length news → R (get_or news i d) y → AllTwo R olds (set news i y)
+pub two_set : {X : Type 0} (R : X → X → Type 0) → ((x y z : X) → R x y → R y z → R x z) → (olds news : List X) (i : ℕ) (d y : X) → AllZip R olds news → i < length news → R (get_or news i d) y → AllZip R olds (set news i y)
 two_set R trans [] [] i d y h l r = absurd (omega arith)
 two_set R trans [] (n ∷ news) i d y h l r = absurd h
 two_set R trans (o ∷ olds) [] i d y h l r = absurd h
 two_set R trans (o ∷ olds) (n ∷ news) zero d y h l r = (trans o n y h.0 r, h.1)
 two_set R trans (o ∷ olds) (n ∷ news) (suc i) d y h l r = (h.0, two_set R trans olds news i d y h.1 (omega arith) r)
 
-pub two_same : {X : Type 0} (R : X → X → Type 0) → ((x : X) → R x x) → (xs : List X) → AllTwo R xs xs
+pub two_same : {X : Type 0} (R : X → X → Type 0) → ((x : X) → R x x) → (xs : List X) → AllZip R xs xs
 two_same R same [] = tt
 two_same R same (x ∷ xs) = (same x, two_same R same xs)
 
-pub two_long : {X : Type 0} (R : X → X → Type 0) (xs ys : List X) → AllTwo R xs ys → length ys ≡ length xs
-two_long R [] [] h = refl
-two_long R [] (y ∷ ys) h = absurd h
-two_long R (x ∷ xs) [] h = absurd h
-two_long R (x ∷ xs) (y ∷ ys) h = let e = two_long R xs ys h.1 in omega arith
-
-pub two_each : {X : Type 0} (R : X → X → Type 0) (P Q : X → Type 0) → ((x y : X) → R x y → P x → Q y) → (xs ys : List X) → AllTwo R xs ys → AllByRecursion P xs → AllByRecursion Q ys
+pub two_each : {X : Type 0} (R : X → X → Type 0) (P Q : X → Type 0) → ((x y : X) → R x y → P x → Q y) → (xs ys : List X) → AllZip R xs ys → AllByRecursion P xs → AllByRecursion Q ys
 two_each R P Q f [] [] h p = tt
 two_each R P Q f [] (y ∷ ys) h p = absurd h
 two_each R P Q f (x ∷ xs) [] h p = absurd h
@@ -66,7 +61,7 @@ moved_then t0 t1 t2 e0 e1 e2 g0 g1 g2 f0 f1 f2 a b =
 pub moved_not : (t : Option (List ℕ)) (e g : ℕ) (f : CursorState) → Moved t t e e g g f f
 moved_not t e g f = record { text_kept = refl; extent_kept = refl; spent = omega arith; start_kept = refl }
 
-two_trans : {X : Type 0} (R : X → X → Type 0) → ((x y z : X) → R x y → R y z → R x z) → (xs ys zs : List X) → AllTwo R xs ys → AllTwo R ys zs → AllTwo R xs zs
+two_trans : {X : Type 0} (R : X → X → Type 0) → ((x y z : X) → R x y → R y z → R x z) → (xs ys zs : List X) → AllZip R xs ys → AllZip R ys zs → AllZip R xs zs
 two_trans R t [] [] zs h k = k
 two_trans R t [] (y ∷ ys) zs h k = absurd h
 two_trans R t (x ∷ xs) [] zs h k = absurd h
@@ -103,13 +98,13 @@ module _ {S : Type 0} (text : S → Option (List ℕ)) (extent gave : S → ℕ)
   abbrev pub Move : S × Feed → S × Feed → Type 0
   Move x y = Moved (text x.0) (text y.0) (extent x.0) (extent y.0) (gave x.0) (gave y.0) x.1.cursor y.1.cursor
 
-  pub moved_trans : (xs ys zs : List (S × Feed)) → AllTwo Move xs ys → AllTwo Move ys zs → AllTwo Move xs zs
+  pub moved_trans : (xs ys zs : List (S × Feed)) → AllZip Move xs ys → AllZip Move ys zs → AllZip Move xs zs
   moved_trans = two_trans Move (λ x y z. moved_then (text x.0) (text y.0) (text z.0) (extent x.0) (extent y.0) (extent z.0) (gave x.0) (gave y.0) (gave z.0) x.1.cursor y.1.cursor z.1.cursor)
 
-  pub moved_still : (xs : List (S × Feed)) → AllTwo Move xs xs
+  pub moved_still : (xs : List (S × Feed)) → AllZip Move xs xs
   moved_still = two_same Move (λ x. moved_not (text x.0) (extent x.0) (gave x.0) x.1.cursor)
 
-  pub told_moved : (ss ss' : List S) (fs fs' : List Feed) → length ss' ≡ length fs' → AllTwo Move (zip ss fs) (zip ss' fs') → AllByRecursion (λ s. is_some (text s) ≡ true) ss → AllByRecursion (λ s. is_some (text s) ≡ true) ss'
+  pub told_moved : (ss ss' : List S) (fs fs' : List Feed) → length ss' ≡ length fs' → AllZip Move (zip ss fs) (zip ss' fs') → AllByRecursion (λ s. is_some (text s) ≡ true) ss → AllByRecursion (λ s. is_some (text s) ≡ true) ss'
   told_moved ss ss' fs fs' e m h =
       each_unzip (λ s. is_some (text s) ≡ true) ss' fs' e
       (two_each Move (λ x. is_some (text x.0) ≡ true) (λ x. is_some (text x.0) ≡ true) (λ x y (r : Move x y) (p : is_some (text x.0) ≡ true). ap is_some r.text_kept ∙ p) (zip ss fs) (zip ss' fs') m
@@ -119,9 +114,9 @@ module _ {S : Type 0} (text : S → Option (List ℕ)) (extent gave : S → ℕ)
     within : i < length (zip ss fs)
     within = let e = length_zip ss fs same in omega arith
 
-    pub moved_set : Move (get_or ss i a, get_or fs i b) (s, f) → AllTwo Move (zip ss fs) (zip (set ss i s) (set fs i f))
+    pub moved_set : Move (get_or ss i a, get_or fs i b) (s, f) → AllZip Move (zip ss fs) (zip (set ss i s) (set fs i f))
     moved_set m =
-        subst (AllTwo Move (zip ss fs)) (sym (zip_set ss fs i s f))
+        subst (AllZip Move (zip ss fs)) (sym (zip_set ss fs i s f))
         (two_set Move (λ x y z. moved_then (text x.0) (text y.0) (text z.0) (extent x.0) (extent y.0) (extent z.0) (gave x.0) (gave y.0) (gave z.0) x.1.cursor y.1.cursor z.1.cursor)
         (zip ss fs) (zip ss fs) i (a, b) (s, f) (moved_still (zip ss fs)) within (subst (λ x. Move x (s, f)) (sym (zip_at ss fs i a b same inside)) m))
 
@@ -133,11 +128,6 @@ module _ {S : Type 0} (text : S → Option (List ℕ)) (extent gave : S → ℕ)
         ∙ sum_set (λ (x : S × Feed). extent x.0 - x.1.cursor.at) (zip ss fs) i (a, b) (s, f) within
 
 -- ---- one of a list is replaced
-
-pub set_set : {X : Type 0} (xs : List X) (i : ℕ) (x y : X) → set (set xs i x) i y ≡ set xs i y
-set_set [] i x y = refl
-set_set (a ∷ xs) zero x y = refl
-set_set (a ∷ xs) (suc i) x y = ap (λ l. a ∷ l) (set_set xs i x y)
 
 pub each_replaced : {X : Type 0} (P : X → Type 0) (xs : List X) (i : ℕ) (y : X) → AllByRecursion P xs → P y → AllByRecursion P (set xs i y)
 each_replaced P [] i y h p = h

@@ -14,6 +14,7 @@ use Rattle.merge_core.specs.PairOrders.{Alike, Below, Upto, IsAbove, IsUpto, is_
 use Rattle.merge_core.specs.WaitingLines.{WaitingLine, waiting_pair}
 use Rattle.merge_core.specs.Gathering.{Gathered, Grouped, AreTold, all_done}
 use Rattle.merge_core.specs.Reached.{Handed}
+use Rattle.merge_core.specs.SourceLines.{HasEntry}
 use Rattle.merge_core.proofs.PairOrder.{from_not_below, below_then, then_below, below_upto, same_upto, same_from}
 use Rattle.merge_core.proofs.FeedLemmas.{each_join}
 use Rattle.merge_core.proofs.GroupLemmas.{AreAt, AreBelow}
@@ -67,8 +68,10 @@ module _ {S : Type 0} (limit : ℕ) (text : S → Option (List ℕ)) (extent : S
   at : AreAt pair (rising member_place place_cmp group)
   at = each_rising member_place place_cmp place_cmp_total (λ m. Alike (member_pair m) pair) group grouped.each
 
-  pub handed_next : Handed limit text old ss fs (Some pair) (taken ++ rising member_place place_cmp group)
-  handed_next = record {
+  pub handed_next : AllByRecursion (HasEntry limit) group → Handed limit text old ss fs (Some pair) (taken ++ rising member_place place_cmp group)
+  handed_next entries = record {
+    entries = each_join (HasEntry limit) taken (rising member_place place_cmp group) was.entries
+        (each_rising member_place place_cmp place_cmp_total (HasEntry limit) group entries);
     upto = each_join (λ m. Upto (member_pair m) pair) taken (rising member_place place_cmp group)
         (each_weaker (λ (m : Member) (h : Below (member_pair m) pair). below_upto (member_pair m) pair h) taken low)
         (each_weaker (λ (m : Member) (h : Alike (member_pair m) pair). same_upto (member_pair m) pair h) (rising member_place place_cmp group) at);
@@ -82,6 +85,7 @@ module _ {S : Type 0} (limit : ℕ) (text : S → Option (List ℕ)) (extent : S
 
 pub handed_none : {S : Type 0} (limit : ℕ) (text : S → Option (List ℕ)) (ss : List S) (fs : List Feed) → all_done limit text ss fs ≡ [] → Handed limit text ss ss fs None []
 handed_none limit text ss fs e = record {
+  entries = tt;
   upto = tt;
   rises = tt;
   told = λ t. (ap (rising member_place place_cmp) (sym e), subst (AllByRecursion (λ m. IsUpto None (member_pair m))) (sym e) tt);

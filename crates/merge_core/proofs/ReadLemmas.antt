@@ -1,4 +1,5 @@
 -- What was taken of sources that are indexes, beside all of their collection.
+use Rattle.std.specs.List.{AllZip}
 use Rattle.std.proofs.Common.{◌≡◌, ℕ, ◌+◌, List, [], ◌∷◌, ◌++◌, length, map, filter, zip, Bool, true, false, not, Option, refl, sym, ap, ap₂, ◌∙◌, subst, arith}
 use Rattle.std.specs.List.{AllByRecursion}
 use Rattle.std.proofs.lemmas.List.Elements.{filter-append}
@@ -13,7 +14,7 @@ use Rattle.merge_core.specs.PairOrders.{IsAbove, IsUpto, Upto, is_low}
 use Rattle.merge_core.specs.WaitingLines.{WaitingLine, waiting_pair, is_of, waits_of}
 use Rattle.merge_core.specs.Collections.{Known, all_lines, collection}
 use Rattle.merge_core.specs.Feeds.{AreFed, AreSettled, Fed, done}
-use Rattle.merge_core.specs.Gathering.{AllTwo, AreTold, text_or, all_done}
+use Rattle.merge_core.specs.Gathering.{AreTold, text_or, all_done}
 use Rattle.merge_core.specs.Openings.{IsCutAt}
 use Rattle.merge_core.specs.Reached.{Reached}
 use Rattle.merge_core.proofs.GroupLemmas.{each_cut}
@@ -33,7 +34,7 @@ module _ (limit : ℕ) (past : List ℕ → Bool) (upward : IsUpward past) (upto
   pub late_of : (n : ℕ) → AllByRecursion (IsLate limit past upward upto) (waits_of n ws)
   late_of n = each_waits (IsLate limit past upward upto) n ws (each_weaker (λ (w : WaitingLine) (h : IsLate limit past upward upto w.member). λ (e : is_of n w ≡ true). h) ws late)
 
-  all_read : (n : ℕ) (ss : List S) (fs : List Feed) (highs : List (List Member)) → length ss ≡ length fs → AreTold text ss → AllTwo (RunsFrom limit text) (zip ss fs) highs
+  all_read : (n : ℕ) (ss : List S) (fs : List Feed) (highs : List (List Member)) → length ss ≡ length fs → AreTold text ss → AllZip (RunsFrom limit text) (zip ss fs) highs
       → AreFed limit past text extent n ss fs ws → AreSettled fs → AllByRecursion (λ m. upto m ≡ true) (all_done limit text ss fs)
       → filter (is_read limit past upward upto) (all_lines highs) ≡ filter (stays limit past upward) (all_done limit text ss fs)
   all_read n [] fs [] same told runs fed settled each = refl
@@ -56,7 +57,7 @@ module _ (limit : ℕ) (past : List ℕ → Bool) (upward : IsUpward past) (upto
 
 module _ {S : Type 0} (text : S → Option (List ℕ)) (extent gave : S → ℕ) (limit : ℕ) (past : List ℕ → Bool) (upward : IsUpward past) (ss0 : List S) (fs0 : List Feed) (ss : List S) (fs : List Feed)
     (ws : List WaitingLine) (b : Option Pair) (taken : List Member) (same : length ss0 ≡ length fs0) (reached : Reached limit text past extent gave ss0 fs0 ss fs ws b taken)
-    (texts : List (List ℕ)) (indexes : List (List Member)) (known : Known (map text ss0) texts) (are : AllTwo (IsIndex limit) texts indexes)
+    (texts : List (List ℕ)) (indexes : List (List Member)) (known : Known (map text ss0) texts) (are : AllZip (IsIndex limit) texts indexes)
     (wanted : Member → Bool) (within : (m : Member) → wanted m ≡ true → not (past m.values.key) ≡ true) where
   told_now : AreTold text ss
   told_now = told_moved text extent gave ss0 ss fs0 fs reached.ready.same reached.moved (told_known text ss0 texts known)
@@ -65,7 +66,7 @@ module _ {S : Type 0} (text : S → Option (List ℕ)) (extent gave : S → ℕ)
   handed = reached.handed.told (told_known text ss0 texts known)
 
   -- beside the lines that the sources have from where they are read on
-  module _ (highs : List (List Member)) (runs : AllTwo (RunsFrom limit text) (zip ss0 fs0) highs) where
+  module _ (highs : List (List Member)) (runs : AllZip (RunsFrom limit text) (zip ss0 fs0) highs) where
     read : (upto : Member → Bool) → AllByRecursion (λ (w : WaitingLine). IsLate limit past upward upto w.member) ws → AllByRecursion (λ m. upto m ≡ true) (all_done limit text ss fs)
         → filter (is_read limit past upward upto) (all_lines highs) ≡ filter (stays limit past upward) (all_done limit text ss fs)
     read upto late each =
@@ -84,7 +85,7 @@ module _ {S : Type 0} (text : S → Option (List ℕ)) (extent gave : S → ℕ)
 
   -- sources that are read from their beginning
   module _ (begun : AllByRecursion (λ (f : Feed). f.cursor.start ≡ 0) fs0) where
-    runs_all : AllTwo (RunsFrom limit text) (zip ss0 fs0) indexes
+    runs_all : AllZip (RunsFrom limit text) (zip ss0 fs0) indexes
     runs_all = runs_whole limit text ss0 fs0 texts indexes same known are begun
 
     -- what was taken so far is a front of what is wanted
@@ -97,7 +98,7 @@ module _ {S : Type 0} (text : S → Option (List ℕ)) (extent gave : S → ℕ)
 
   -- sources that are read from where the search for this pair ended, below which nothing is wanted
   module _ (start : Pair) (cut : AllByRecursion (λ x. IsCutAt limit start (text x.0) x.1.cursor) (zip ss0 fs0)) (beyond : (m : Member) → wanted m ≡ true → is_low start m ≡ false) where
-    sought : (highs : List (List Member)) × AllTwo (RunsFrom limit text) (zip ss0 fs0) highs × (filter (λ m. not (is_low start m)) (all_lines indexes) ≡ all_lines highs)
+    sought : (highs : List (List Member)) × AllZip (RunsFrom limit text) (zip ss0 fs0) highs × (filter (λ m. not (is_low start m)) (all_lines indexes) ≡ all_lines highs)
     sought = runs_sought limit text start ss0 fs0 texts indexes same known are cut
 
     skipped : filter wanted (collection indexes) ≡ filter wanted (rising member_place place_cmp (all_lines sought.0))

@@ -1,4 +1,6 @@
 -- The lines of one source that were come to, among all that it has from its start on.
+use Rattle.std.proofs.lemmas.Bool.{and_right as false_right, not-false, not-true}
+use Rattle.std.proofs.lemmas.List.{take-map}
 use Rattle.std.proofs.Common.{◌≡◌, ◌⊎◌, inl, inr, ℕ, zero, suc, List, [], ◌∷◌, ◌++◌, refl, sym, ap, ap₂, ◌∙◌, subst, Bool, true, false, not, ◌&&◌, Some, unwrap_or, take, drop, map, filter, cond, append-nil, append_assoc, take-append-drop, Less, Equal, Greater, Ordering, is_gt}
 use Rattle.std.specs.List.{AllByRecursion}
 use Rattle.merge_core.proofs.Filters.{filter_same, filter_out}
@@ -27,11 +29,6 @@ use Rattle.merge_core.proofs.MergeLemmas.{place_below}
 
 -- ---- lists
 
-pub take_of_map : {X Y : Type 0} (f : X → Y) (n : ℕ) (xs : List X) → take n (map f xs) ≡ map f (take n xs)
-take_of_map f zero xs = refl
-take_of_map f (suc n) [] = refl
-take_of_map f (suc n) (x ∷ xs) = ap (λ l. f x ∷ l) (take_of_map f n xs)
-
 falls_after : (us : List Member) (y : Member) (vs : List Member) → NeverFalls member_pair pair_cmp (us ++ y ∷ vs) → AllByRecursion (λ k. Upto (member_pair y) (member_pair k)) vs
 falls_after [] y vs h = h.0
 falls_after (u ∷ us) y vs h = falls_after us y vs h.1
@@ -45,22 +42,6 @@ and_left false b h = absurd (true≢false (sym h))
 pub and_right : (a b : Bool) → (a && b) ≡ true → b ≡ true
 and_right true b h = h
 and_right false b h = absurd (true≢false (sym h))
-
-pub and_false : (a b : Bool) → (a && b) ≡ false → (a ≡ false) ⊎ (b ≡ false)
-and_false true b h = inr h
-and_false false b h = inl refl
-
-false_right : (a b : Bool) → b ≡ false → (a && b) ≡ false
-false_right true b h = h
-false_right false b h = refl
-
-pub not_true : (b : Bool) → not b ≡ true → b ≡ false
-not_true true h = absurd (true≢false (sym h))
-not_true false h = refl
-
-pub not_false : (b : Bool) → not b ≡ false → b ≡ true
-not_false true h = refl
-not_false false h = absurd (true≢false h)
 
 pub not_wanted : {X : Type 0} (f g : X → Bool) → ((x : X) → f x ≡ true → g x ≡ true) → (x : X) → g x ≡ false → f x ≡ false
 not_wanted f g h x e = (elim (f x) as (λ b. f x ≡ b → b ≡ false) [ true ↦ (λ k. absurd (true≢false (sym (h x k) ∙ e))) | false ↦ (λ k. refl) ]) refl
@@ -142,7 +123,7 @@ module _ (limit : ℕ) (past : List ℕ → Bool) (upward : IsUpward past) where
       less : slice_cmp nat_cmp x.values.key y.values.key ≡ Less
       less = elim (cases_Bool (is_gt (slice_cmp nat_cmp y.values.key x.values.key))) [
         | inl g ↦ nat_list_cmp_total.antisymm x.values.key y.values.key ∙ ap ordering_reverse (gt_is _ g)
-        | inr g ↦ absurd (true≢false (sym (upward y.values.key x.values.key (not_false _ k) g) ∙ not_true _ h))
+        | inr g ↦ absurd (true≢false (sym (upward y.values.key x.values.key (not-false _ k) g) ∙ not-true _ h))
       ]
 
   -- which lines were come to
@@ -189,7 +170,7 @@ module _ (limit : ℕ) (past : List ℕ → Bool) (upward : IsUpward past) where
         let told = fed.told t refl in
         let from = lines (drop f.cursor.start t) in
         let whole : map (member_of limit) from ≡ ms = members_are limit from ms run.entries in
-        let read : given limit t f.cursor ≡ take f.cursor.count ms = sym (take_of_map (member_of limit) f.cursor.count from) ∙ ap (take f.cursor.count) whole in
+        let read : given limit t f.cursor ≡ take f.cursor.count ms = sym (take-map (member_of limit) f.cursor.count from) ∙ ap (take f.cursor.count) whole in
         let rest : drop f.cursor.count ms ≡ map (member_of limit) (lines (drop f.cursor.at t)) =
         ap (drop f.cursor.count) (sym whole) ∙ drop-map (member_of limit) f.cursor.count from ∙ ap (map (member_of limit)) (sym (fed.stands.rest t refl)) in
         head_read (done limit t f) (given limit t f.cursor) ms (drop f.cursor.count ms) (lines (drop f.cursor.at t)) ws f.progress settled fed.waits told.head

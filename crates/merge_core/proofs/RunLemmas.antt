@@ -1,4 +1,5 @@
 -- What was taken of sources of any bytes, beside the lines that were read of them.
+use Rattle.std.specs.List.{AllZip}
 use Rattle.std.proofs.Common.{◌≡◌, ◌⊎◌, inl, inr, ℕ, ◌+◌, List, [], ◌∷◌, ◌++◌, length, take, drop, map, filter, Bool, true, not, Option, Some, refl, sym, ap, ap₂, ◌∙◌, subst, arith, take-append-drop, append_assoc}
 use Rattle.std.specs.List.{AllByRecursion, sum}
 use Rattle.std.proofs.lemmas.List.{length-map}
@@ -16,7 +17,7 @@ use Rattle.merge_core.specs.PairOrders.{IsUpto}
 use Rattle.merge_core.specs.WaitingLines.{WaitingLine, waits_of}
 use Rattle.merge_core.specs.Collections.{Known, all_lines, collection}
 use Rattle.merge_core.specs.Feeds.{AreFed, AreSettled, AreWaits, IsHead, IsSettled, Fed, done, given, member_of, read_lines}
-use Rattle.merge_core.specs.Gathering.{AllTwo, AreTold, text_or, all_done}
+use Rattle.merge_core.specs.Gathering.{AreTold, text_or, all_done}
 use Rattle.merge_core.specs.Reached.{Reached}
 use Rattle.merge_core.specs.Runs.{IsPart, parts}
 use Rattle.merge_core.proofs.GroupLemmas.{each_cut}
@@ -54,7 +55,7 @@ module _ (limit : ℕ) (past : List ℕ → Bool) where
 module _ (limit : ℕ) (past : List ℕ → Bool) {S : Type 0} (text : S → Option (List ℕ)) (extent : S → ℕ) (ws : List WaitingLine) where
   -- each is a part of its source
   pub parts_are : (n : ℕ) (ss : List S) (fs : List Feed) (texts : List (List ℕ)) (whole : Bool) → length ss ≡ length fs → Known (map text ss) texts → AreFed limit past text extent n ss fs ws → AreSettled fs
-      → (whole ≡ true → ws ≡ []) → AllTwo (IsPart limit past whole) texts (parts limit text ss fs)
+      → (whole ≡ true → ws ≡ []) → AllZip (IsPart limit past whole) texts (parts limit text ss fs)
   parts_are n [] [] [] whole same known fed settled none = tt
   parts_are n [] fs (t ∷ ts) whole same known fed settled none = absurd known
   parts_are n [] (f ∷ fs) [] whole same known fed settled none = absurd (omega arith)

@@ -1,4 +1,5 @@
 -- The lines that were taken of sources are lines of theirs.
+use Rattle.std.proofs.lemmas.Slice.Zip.{AllZip-long}
 use Rattle.std.proofs.Common.{◌≡◌, ◌⊎◌, inl, inr, ℕ, zero, suc, ◌+◌, ◌-◌, List, [], ◌∷◌, ◌++◌, length, take, drop, map, zip, Bool, true, Option, None, Some, refl, sym, ◌∙◌, subst}
 use Rattle.std.specs.List.{AllByRecursion}
 use Rattle.std.specs.Option.{is_some}
@@ -14,10 +15,10 @@ use Rattle.merge_core.specs.WaitingLines.{WaitingLine, waits_of}
 use Rattle.merge_core.specs.Feeds.{Fed, AreFed, read_lines, given, held, done}
 use Rattle.merge_core.specs.Gathering.{AreTold, text_or, all_done}
 use Rattle.merge_core.specs.Reached.{Reached}
-use Rattle.merge_core.specs.SourceLines.{IsLineIn, IsLineOf, AreLinesOf}
+use Rattle.merge_core.specs.SourceLines.{HasEntry, IsLineIn, IsLineOf, AreLinesOf}
 use Rattle.merge_core.proofs.Filters.{each_take}
 use Rattle.merge_core.proofs.FeedLemmas.{each_join}
-use Rattle.merge_core.proofs.Many.{Move, is_told, told_moved, length_zip, two_long}
+use Rattle.merge_core.proofs.Many.{Move, is_told, told_moved, length_zip}
 use Rattle.merge_core.proofs.WholeLemmas.{texts_kept}
 
 in_take : {X : Type 0} (x : X) (n : ℕ) (xs : List X) → IsIn x (take n xs) → IsIn x xs
@@ -51,11 +52,11 @@ module _ (limit : ℕ) where
       (λ l i. subst (IsIn l) (sym told.begins.1.0) (in_later l told.begins.0 from (in_take l f.cursor.count from i))))
 
   later_source : (o : Option (List ℕ)) (sources : List (Option (List ℕ))) (m : Member) → IsLineOf limit sources m → IsLineOf limit (o ∷ sources) m
-  later_source None sources m h = tt
+  later_source None sources m h = inr h
   later_source (Some t) sources m h = inr h
 
   first_source : (o : Option (List ℕ)) (sources : List (Option (List ℕ))) (m : Member) → IsLineIn limit (text_or o) m → IsLineOf limit (o ∷ sources) m
-  first_source None sources m h = tt
+  first_source None sources m h = absurd h.1
   first_source (Some t) sources m h = inl h
 
   module _ {S : Type 0} (text : S → Option (List ℕ)) (extent : S → ℕ) where
@@ -70,15 +71,15 @@ module _ (limit : ℕ) where
         (each_weaker (λ (m : Member) (h : IsLineOf limit (map text ss) m). later_source (text s) (map text ss) m h) (all_done limit text ss fs) (all_lines_of past (n + 1) ss fs ws told.1 fed.1))
 
     -- all sources tell their bytes, or one doesn't
-    told_or : (ss : List S) → AreTold text ss ⊎ ((m : Member) → IsLineOf limit (map text ss) m)
+    told_or : (ss : List S) → AreTold text ss ⊎ ((m : Member) → HasEntry limit m → IsLineOf limit (map text ss) m)
     told_or [] = inl tt
     told_or (s ∷ ss) = elim (told_or ss) [
       | inl h ↦ elim (one (text s)) [ inl e ↦ inl (e, h) | inr f ↦ inr f ]
-      | inr f ↦ inr (λ m. later_source (text s) (map text ss) m (f m))
+      | inr f ↦ inr (λ m e. later_source (text s) (map text ss) m (f m e))
     ]
       where
-        one : (o : Option (List ℕ)) → (is_some o ≡ true) ⊎ ((m : Member) → IsLineOf limit (o ∷ map text ss) m)
-        one None = inr (λ m. tt)
+        one : (o : Option (List ℕ)) → (is_some o ≡ true) ⊎ ((m : Member) → HasEntry limit m → IsLineOf limit (o ∷ map text ss) m)
+        one None = inr (λ m e. inl e)
         one (Some t) = inl refl
 
     -- what was taken are lines of the sources
@@ -92,13 +93,9 @@ module _ (limit : ℕ) where
             (each_rising member_place place_cmp place_cmp_total (IsLineOf limit (map text ss0)) (all_done limit text ss fs)
             (subst (λ ts. AllByRecursion (IsLineOf limit ts) (all_done limit text ss fs)) (texts_kept text extent gave ss0 ss fs0 fs same long reached.moved)
             (all_lines_of past 0 ss fs ws (told_moved text extent gave ss0 ss fs0 fs reached.ready.same reached.moved told) reached.ready.fed)))
-        | inr f ↦ every f taken
+        | inr f ↦ each_weaker f taken reached.handed.entries
       ];
     }
       where
         long : length ss ≡ length ss0
-        long = sym (length_zip ss fs reached.ready.same) ∙ two_long (Move text extent gave) (zip ss0 fs0) (zip ss fs) reached.moved ∙ length_zip ss0 fs0 same
-
-        every : ((m : Member) → IsLineOf limit (map text ss0) m) → (ms : List Member) → AllByRecursion (IsLineOf limit (map text ss0)) ms
-        every f [] = tt
-        every f (m ∷ ms) = (f m, every f ms)
+        long = sym (length_zip ss fs reached.ready.same) ∙ AllZip-long (Move text extent gave) (zip ss0 fs0) (zip ss fs) reached.moved ∙ length_zip ss0 fs0 same

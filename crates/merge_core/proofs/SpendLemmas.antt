@@ -1,4 +1,6 @@
 -- How far sources were read.
+use Rattle.std.proofs.lemmas.List.{take-map}
+use Rattle.std.specs.List.{AllZip}
 use Rattle.std.proofs.Common.{◌≡◌, ℕ, zero, suc, ◌+◌, ◌-◌, ◌*◌, ◌≤◌, List, [], ◌∷◌, ◌++◌, length, take, drop, map, flat_map, zip, get_or, set, Bool, false, Option, None, Some, refl, sym, ap, ◌∙◌, subst, arith, append_assoc, append-nil, take-append-drop, length-append, length-drop, drop-drop, drop-set-lt}
 use Rattle.std.specs.List.{AllByRecursion}
 use Rattle.std.proofs.lemmas.List.Concat.{flat_map-append}
@@ -12,13 +14,12 @@ use Rattle.merge_core.specs.declared.feed.Feed.{Feed}
 use Rattle.merge_core.specs.PairOrders.{IsUpto}
 use Rattle.merge_core.specs.WaitingLines.{WaitingLine, waits_of}
 use Rattle.merge_core.specs.Feeds.{Fed, AreFed, bytes_of, read_lines, given, held, done, due}
-use Rattle.merge_core.specs.Gathering.{AllTwo, text_or, all_done}
+use Rattle.merge_core.specs.Gathering.{text_or, all_done}
 use Rattle.merge_core.specs.Spending.{ReadTo, AreReadTo, OpenedWithin}
 use Rattle.merge_core.proofs.CountLemmas.{one_held}
 use Rattle.merge_core.proofs.Filters.{each_both}
 use Rattle.merge_core.proofs.GroupLemmas.{each_cut}
 use Rattle.merge_core.proofs.Many.{zip_set, each_replaced}
-use Rattle.merge_core.proofs.ReadLines.{take_of_map}
 
 longest_later : (k : ℕ) (ls : List (List ℕ)) → longest (drop k ls) ≤ longest ls
 longest_later zero ls = omega arith
@@ -63,7 +64,7 @@ module _ (limit : ℕ) (past : List ℕ → Bool) where
         cut = ap (λ s. lines (drop s t)) start ∙ sym (take-append-drop f.cursor.count from) ∙ ap (λ ls. ls ++ drop f.cursor.count from) (sym (take-append-drop k all))
             ∙ append_assoc (take k all) (drop k all) (drop f.cursor.count from);
         members = done limit t f;
-        entries = sym (take_of_map (line_entry limit) k all) ∙ ap (take k) told.run.entries ∙ take_of_map Some k (given limit t f.cursor);
+        entries = sym (take-map (line_entry limit) k all) ∙ ap (take k) told.run.entries ∙ take-map Some k (given limit t f.cursor);
         within = each_both (λ (m : Member). past m.values.key ≡ false) (λ m. IsUpto b (member_pair m)) (done limit t f) told.within upto;
         most = omega (arith, start, near, ahead, stood, split, parts, sum, last, l1, l2, l3, l4, l5);
       }
@@ -109,18 +110,18 @@ read_none limit past t c h = let most = h.most in let none = ap bytes_of (no_lin
     no_lines (l ∷ ls) [] e n = cc
     no_lines (l ∷ ls) (m ∷ ms) e n = cc
 
-pub opened_none : {S : Type 0} (text : S → Option (List ℕ)) (extent gave : S → ℕ) (ss : List S) → AllTwo (λ x y. OpenedWithin (text x) (extent x) (gave x) (gave y)) ss ss
+pub opened_none : {S : Type 0} (text : S → Option (List ℕ)) (extent gave : S → ℕ) (ss : List S) → AllZip (λ x y. OpenedWithin (text x) (extent x) (gave x) (gave y)) ss ss
 opened_none text extent gave [] = tt
 opened_none text extent gave (s ∷ ss) = ((λ t e. omega arith), opened_none text extent gave ss)
 
-pub two_put : {X Y : Type 0} (R : X → Y → Type 0) (xs : List X) (ys : List Y) (i : ℕ) (d : X) (y : Y) → AllTwo R xs ys → R (get_or xs i d) y → AllTwo R xs (set ys i y)
+pub two_put : {X Y : Type 0} (R : X → Y → Type 0) (xs : List X) (ys : List Y) (i : ℕ) (d : X) (y : Y) → AllZip R xs ys → R (get_or xs i d) y → AllZip R xs (set ys i y)
 two_put R [] [] i d y h r = tt
 two_put R [] (z ∷ ys) i d y h r = absurd h
 two_put R (x ∷ xs) [] i d y h r = absurd h
 two_put R (x ∷ xs) (z ∷ ys) zero d y h r = (r, h.1)
 two_put R (x ∷ xs) (z ∷ ys) (suc i) d y h r = (h.0, two_put R xs ys i d y h.1 r)
 
-pub two_push : {X Y : Type 0} (R : X → Y → Type 0) (xs : List X) (ys : List Y) (x : X) (y : Y) → AllTwo R xs ys → R x y → AllTwo R (xs ++ x ∷ []) (ys ++ y ∷ [])
+pub two_push : {X Y : Type 0} (R : X → Y → Type 0) (xs : List X) (ys : List Y) (x : X) (y : Y) → AllZip R xs ys → R x y → AllZip R (xs ++ x ∷ []) (ys ++ y ∷ [])
 two_push R [] [] x y h r = (r, tt)
 two_push R [] (z ∷ ys) x y h r = absurd h
 two_push R (w ∷ xs) [] x y h r = absurd h

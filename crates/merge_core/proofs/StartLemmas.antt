@@ -1,4 +1,5 @@
 -- The lines that the sources have from where they are read on.
+use Rattle.std.specs.List.{AllZip}
 use Rattle.std.proofs.Common.{◌≡◌, ℕ, List, [], ◌∷◌, ◌++◌, length, map, drop, filter, zip, true, false, not, Option, Some, refl, sym, ap, ap₂, ◌∙◌, subst, arith}
 use Rattle.std.specs.List.{AllByRecursion}
 use Rattle.std.proofs.lemmas.List.{length-map, map-append}
@@ -13,7 +14,6 @@ use Rattle.source_core.specs.Search.{IsCut}
 use Rattle.merge_core.specs.declared.feed.Feed.{Feed}
 use Rattle.merge_core.specs.PairOrders.{is_low}
 use Rattle.merge_core.specs.Collections.{Known, all_lines}
-use Rattle.merge_core.specs.Gathering.{AllTwo}
 use Rattle.merge_core.specs.Openings.{IsCutAt}
 use Rattle.merge_core.proofs.GroupLemmas.{filter_none, filter_all}
 use Rattle.merge_core.proofs.Many.{Move}
@@ -55,8 +55,8 @@ module _ {S : Type 0} (limit : ℕ) (text : S → Option (List ℕ)) where
   told_once t u o e f = let both : Some t ≡ Some u = sym e ∙ f in let q : t ≡ u = cc in q
 
   -- of sources that are read from their beginning, all lines
-  pub runs_whole : (ss : List S) (fs : List Feed) (texts : List (List ℕ)) (indexes : List (List Member)) → length ss ≡ length fs → Known (map text ss) texts → AllTwo (IsIndex limit) texts indexes
-      → AllByRecursion (λ (f : Feed). f.cursor.start ≡ 0) fs → AllTwo RunsFrom (zip ss fs) indexes
+  pub runs_whole : (ss : List S) (fs : List Feed) (texts : List (List ℕ)) (indexes : List (List Member)) → length ss ≡ length fs → Known (map text ss) texts → AllZip (IsIndex limit) texts indexes
+      → AllByRecursion (λ (f : Feed). f.cursor.start ≡ 0) fs → AllZip RunsFrom (zip ss fs) indexes
   runs_whole [] fs [] [] same known are start = tt
   runs_whole [] fs [] (i ∷ is) same known are start = absurd are
   runs_whole [] fs (t ∷ ts) is same known are start = absurd known
@@ -69,9 +69,9 @@ module _ {S : Type 0} (limit : ℕ) (text : S → Option (List ℕ)) where
   )
 
   -- of sources that are read from where a search ended, those that aren't below the start
-  pub runs_sought : (start : Pair) (ss : List S) (fs : List Feed) (texts : List (List ℕ)) (indexes : List (List Member)) → length ss ≡ length fs → Known (map text ss) texts → AllTwo (IsIndex limit) texts indexes
+  pub runs_sought : (start : Pair) (ss : List S) (fs : List Feed) (texts : List (List ℕ)) (indexes : List (List Member)) → length ss ≡ length fs → Known (map text ss) texts → AllZip (IsIndex limit) texts indexes
       → AllByRecursion (λ x. IsCutAt limit start (text x.0) x.1.cursor) (zip ss fs)
-      → (highs : List (List Member)) × AllTwo RunsFrom (zip ss fs) highs × (filter (λ m. not (is_low start m)) (all_lines indexes) ≡ all_lines highs)
+      → (highs : List (List Member)) × AllZip RunsFrom (zip ss fs) highs × (filter (λ m. not (is_low start m)) (all_lines indexes) ≡ all_lines highs)
   runs_sought start [] fs [] [] same known are cut = ([], tt, refl)
   runs_sought start [] fs [] (i ∷ is) same known are cut = absurd are
   runs_sought start [] fs (t ∷ ts) is same known are cut = absurd known
@@ -88,7 +88,7 @@ module _ {S : Type 0} (limit : ℕ) (text : S → Option (List ℕ)) where
       )
 
   -- the same after more was read
-  pub runs_kept : (extent gave : S → ℕ) (xs ys : List (S × Feed)) (highs : List (List Member)) → AllTwo (Move text extent gave) xs ys → AllTwo RunsFrom xs highs → AllTwo RunsFrom ys highs
+  pub runs_kept : (extent gave : S → ℕ) (xs ys : List (S × Feed)) (highs : List (List Member)) → AllZip (Move text extent gave) xs ys → AllZip RunsFrom xs highs → AllZip RunsFrom ys highs
   runs_kept extent gave [] [] highs m h = h
   runs_kept extent gave [] (y ∷ ys) highs m h = absurd m
   runs_kept extent gave (x ∷ xs) [] highs m h = absurd m

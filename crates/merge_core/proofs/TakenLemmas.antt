@@ -1,4 +1,5 @@
 -- What was taken of lines, beside all that is wanted of them.
+use Rattle.std.proofs.lemmas.Bool.{and_cases, not-false, not-true}
 use Rattle.std.proofs.Common.{◌≡◌, inl, inr, ℕ, List, [], ◌∷◌, ◌++◌, filter, Bool, true, false, not, ◌&&◌, Option, None, Some, refl, sym, ap, ◌∙◌, subst, append-nil, is_gt, is_lt, Less, Equal, Greater, Ordering}
 use Rattle.std.specs.List.{AllByRecursion}
 use Rattle.merge_core.proofs.Filters.{filter_out, each_filter}
@@ -16,7 +17,7 @@ use Rattle.merge_core.specs.PairOrders.{Below, Upto, IsAbove, IsUpto, is_low}
 use Rattle.merge_core.specs.WaitingLines.{WaitingLine, waiting_pair}
 use Rattle.merge_core.proofs.PairOrder.{below_then, then_below, from_not_below, upto_upto}
 use Rattle.merge_core.proofs.MergeLemmas.{place_below, below_next, is_less}
-use Rattle.merge_core.proofs.ReadLines.{IsUpward, stays, is_read, IsLate, stays_lower, gt_is, and_left, and_right, and_false, not_true, not_false, none_wanted, wanted_low}
+use Rattle.merge_core.proofs.ReadLines.{IsUpward, stays, is_read, IsLate, stays_lower, gt_is, and_left, and_right, none_wanted, wanted_low}
 
 -- ---- what stands above a bound
 
@@ -37,11 +38,11 @@ bound_late (Some p) m k h u = ap (λ r. not (is_gt r)) (pair_cmp_total.antisymm 
 
 bound_above : (b : Option Pair) (m : Member) → upto_bound b m ≡ false → IsAbove b (member_pair m)
 bound_above None m h = tt
-bound_above (Some p) m h = gt_back (member_pair m) p (not_false _ h)
+bound_above (Some p) m h = gt_back (member_pair m) p (not-false _ h)
 
 bound_lower : (b : Option Pair) (x y : Member) → upto_bound b x ≡ true → upto_bound b y ≡ false → Below (member_pair x) (member_pair y)
 bound_lower None x y h k = absurd (true≢false (sym h))
-bound_lower (Some p) x y h k = then_below (member_pair x) p (member_pair y) (not_true _ h) (gt_back (member_pair y) p (not_false _ k))
+bound_lower (Some p) x y h k = then_below (member_pair x) p (member_pair y) (not-true _ h) (gt_back (member_pair y) p (not-false _ k))
 
 -- ---- what was taken
 
@@ -65,7 +66,7 @@ module _ (limit : ℕ) (past : List ℕ → Bool) (upward : IsUpward past) (want
       → AllByRecursion (λ (w : WaitingLine). IsLate limit past upward upto w.member) ws → AllByRecursion (λ m. upto m ≡ true) done
       → seen all ≡ filter wanted taken ++ seen (filter (λ m. not (low upto m)) all)
   split upto lower late each =
-      let is_lower : IsLower member_place place_cmp (low upto) = λ x y h k. elim (and_false (upto y) (not (past y.values.key)) k) [
+      let is_lower : IsLower member_place place_cmp (low upto) = λ x y h k. elim (and_cases (upto y) (not (past y.values.key)) k) [
         | inl e ↦ place_below x y (lower x y (and_left (upto x) _ h) e)
         | inr e ↦ stays_lower limit past upward x y (and_right (upto x) _ h) e
       ] in
@@ -77,7 +78,7 @@ module _ (limit : ℕ) (past : List ℕ → Bool) (upward : IsUpward past) (want
   rest_above : (m : Member) → (low (upto_bound b) m ≡ false) × (wanted m ≡ true) → (wanted m ≡ true) × IsAbove b (member_pair m)
   rest_above m h = (
     h.1,
-    elim (and_false (upto_bound b m) (not (past m.values.key)) h.0) [
+    elim (and_cases (upto_bound b m) (not (past m.values.key)) h.0) [
       | inl e ↦ bound_above b m e
       | inr e ↦ absurd (true≢false (sym (within m h.1) ∙ e))
     ],
@@ -121,7 +122,7 @@ module _ (limit : ℕ) (past : List ℕ → Bool) (upward : IsUpward past) (want
     from_next : (m : Member) → (low (is_low next) m ≡ false) × (wanted m ≡ true) → (wanted m ≡ true) × Upto next (member_pair m)
     from_next m h = (
       h.1,
-      elim (and_false (is_low next m) (not (past m.values.key)) h.0) [
+      elim (and_cases (is_low next m) (not (past m.values.key)) h.0) [
         | inl e ↦ from_not_below (member_pair m) next e
         | inr e ↦ absurd (true≢false (sym (within m h.1) ∙ e))
       ],

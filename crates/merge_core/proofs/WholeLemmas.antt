@@ -1,4 +1,5 @@
 -- Sources of which all lines were read: each that tells its bytes is an index, and all its lines are done.
+use Rattle.std.specs.List.{AllZip}
 use Rattle.std.proofs.Common.{◌≡◌, ℕ, ◌+◌, ◌≤◌, List, [], ◌∷◌, length, take, drop, map, Bool, false, true, Option, Some, ◌++◌, flat_map, zip, refl, sym, ap, ap₂, ◌∙◌, subst, arith, length-drop}
 use Rattle.std.specs.List.{AllByRecursion}
 use Rattle.std.specs.Option.{is_some}
@@ -11,7 +12,7 @@ use Rattle.merge_core.specs.declared.feed.Progress.{Progress}
 use Rattle.merge_core.specs.declared.feed.Progress.TheVariants.{Due, Waiting, Past, Ended}
 use Rattle.merge_core.specs.declared.feed.Feed.{Feed}
 use Rattle.merge_core.specs.Feeds.{AreWaits, IsHead, IsSettled, AreSettled, Fed, AreFed, read_lines, given, done}
-use Rattle.merge_core.specs.Gathering.{AllTwo, text_or, all_done}
+use Rattle.merge_core.specs.Gathering.{text_or, all_done}
 use Rattle.merge_core.proofs.Many.{Move}
 
 none_left : (xs : List (List ℕ)) (n : ℕ) → drop n xs ≡ [] → length xs ≤ n
@@ -40,8 +41,8 @@ module _ (limit : ℕ) (past : List ℕ → Bool) (never : (key : List ℕ) → 
     abbrev pub its_lines : List S → List Feed → List (List Member)
     its_lines ss fs = map (λ x. done limit (text_or (text x.0)) x.1) (zip ss fs)
 
-    pub are_read : (n : ℕ) (ss : List S) (fs : List Feed) (texts : List (List ℕ)) → length ss ≡ length fs → AllTwo (λ told t. told ≡ Some t) (map text ss) texts
-        → AllByRecursion (λ (f : Feed). f.cursor.start ≡ 0) fs → AreSettled fs → AreFed limit past text extent n ss fs [] → AllTwo (IsIndex limit) texts (its_lines ss fs)
+    pub are_read : (n : ℕ) (ss : List S) (fs : List Feed) (texts : List (List ℕ)) → length ss ≡ length fs → AllZip (λ told t. told ≡ Some t) (map text ss) texts
+        → AllByRecursion (λ (f : Feed). f.cursor.start ≡ 0) fs → AreSettled fs → AreFed limit past text extent n ss fs [] → AllZip (IsIndex limit) texts (its_lines ss fs)
     are_read n [] [] [] same known start settled fed = tt
     are_read n [] [] (t ∷ texts) same known start settled fed = absurd known
     are_read n [] (f ∷ fs) texts same known start settled fed = absurd (omega arith)
@@ -60,13 +61,13 @@ module _ (limit : ℕ) (past : List ℕ → Bool) (never : (key : List ℕ) → 
 
 -- ---- what a merge keeps of sources and feeds
 
-pub told_known : {S : Type 0} (text : S → Option (List ℕ)) (ss : List S) (texts : List (List ℕ)) → AllTwo (λ told t. told ≡ Some t) (map text ss) texts → AllByRecursion (λ s. is_some (text s) ≡ true) ss
+pub told_known : {S : Type 0} (text : S → Option (List ℕ)) (ss : List S) (texts : List (List ℕ)) → AllZip (λ told t. told ≡ Some t) (map text ss) texts → AllByRecursion (λ s. is_some (text s) ≡ true) ss
 told_known text [] texts h = tt
 told_known text (s ∷ ss) [] h = absurd h
 told_known text (s ∷ ss) (t ∷ texts) h = (ap is_some h.0, told_known text ss texts h.1)
 
 module _ {S : Type 0} (text : S → Option (List ℕ)) (extent gave : S → ℕ) where
-  pub texts_kept : (ss ss' : List S) (fs fs' : List Feed) → length ss ≡ length fs → length ss' ≡ length ss → AllTwo (Move text extent gave) (zip ss fs) (zip ss' fs') → map text ss' ≡ map text ss
+  pub texts_kept : (ss ss' : List S) (fs fs' : List Feed) → length ss ≡ length fs → length ss' ≡ length ss → AllZip (Move text extent gave) (zip ss fs) (zip ss' fs') → map text ss' ≡ map text ss
   texts_kept [] [] fs fs' e e' h = refl
   texts_kept [] (s' ∷ ss') fs fs' e e' h = absurd (omega arith)
   texts_kept (s ∷ ss) [] fs fs' e e' h = absurd (omega arith)
@@ -74,7 +75,15 @@ module _ {S : Type 0} (text : S → Option (List ℕ)) (extent gave : S → ℕ)
   texts_kept (s ∷ ss) (s' ∷ ss') (f ∷ fs) [] e e' h = absurd h
   texts_kept (s ∷ ss) (s' ∷ ss') (f ∷ fs) (f' ∷ fs') e e' h = ap₂ (λ t ts. t ∷ ts) h.0.text_kept (texts_kept ss ss' fs fs' (omega arith) (omega arith) h.1)
 
-  pub starts_kept : (ss ss' : List S) (fs fs' : List Feed) → length ss ≡ length fs → length ss' ≡ length fs' → AllTwo (Move text extent gave) (zip ss fs) (zip ss' fs')
+  pub extents_kept : (ss ss' : List S) (fs fs' : List Feed) → length ss ≡ length fs → length ss' ≡ length ss → AllZip (Move text extent gave) (zip ss fs) (zip ss' fs') → map extent ss' ≡ map extent ss
+  extents_kept [] [] fs fs' e e' h = refl
+  extents_kept [] (s' ∷ ss') fs fs' e e' h = absurd (omega arith)
+  extents_kept (s ∷ ss) [] fs fs' e e' h = absurd (omega arith)
+  extents_kept (s ∷ ss) (s' ∷ ss') [] fs' e e' h = absurd (omega arith)
+  extents_kept (s ∷ ss) (s' ∷ ss') (f ∷ fs) [] e e' h = absurd h
+  extents_kept (s ∷ ss) (s' ∷ ss') (f ∷ fs) (f' ∷ fs') e e' h = ap₂ (λ n ns. n ∷ ns) h.0.extent_kept (extents_kept ss ss' fs fs' (omega arith) (omega arith) h.1)
+
+  pub starts_kept : (ss ss' : List S) (fs fs' : List Feed) → length ss ≡ length fs → length ss' ≡ length fs' → AllZip (Move text extent gave) (zip ss fs) (zip ss' fs')
       → AllByRecursion (λ (f : Feed). f.cursor.start ≡ 0) fs → AllByRecursion (λ (f : Feed). f.cursor.start ≡ 0) fs'
   starts_kept ss [] fs [] e e' h z = tt
   starts_kept ss [] fs (f' ∷ fs') e e' h z = absurd (omega arith)

@@ -1,7 +1,49 @@
--- Which source failed.
-use Rattle.std.specs.Prelude.{◌≡◌, ℕ, ◌<◌, List, length, get_or, set}
+-- Which device failed in a call.
+use Rattle.std.specs.Prelude.{◌≡◌, ℕ, ◌<◌, List, length, get_or, set, Result, MatchResult}
 use Rattle.devices.specs.Device.{next_count}
+use Rattle.merge_core.specs.declared.fault.FeedFault.{FeedFault}
+use Rattle.merge_core.specs.declared.fault.FeedFault.TheVariants as feed
+use Rattle.merge_core.specs.declared.fault.MergeFault.{MergeFault}
+use Rattle.merge_core.specs.declared.fault.MergeFault.TheVariants as fault
 
 -- the count of failures of this source went up, and no other
 abbrev pub RaisedAt : ℕ → List ℕ → List ℕ → Type 0
 RaisedAt i old new = (i < length old) × (new ≡ set old i (next_count (get_or old i 0)))
+
+-- the count of a source, before and after a fault of its feed
+abbrev pub RaisedByFeed : FeedFault → ℕ → ℕ → Type 0
+RaisedByFeed feed.Read old new = new ≡ next_count old
+RaisedByFeed other old new = new ≡ old
+
+-- the counts of all sources, before and after a fault of one of them, or a lack of memory
+abbrev pub RaisedByRead : MergeFault → List ℕ → List ℕ → Type 0
+RaisedByRead (fault.Feed i feed.Read) old new = RaisedAt i old new
+RaisedByRead fault.Write old new = ⊥
+RaisedByRead other old new = new ≡ old
+
+-- the count of the output, before and after a fault of its own, or a lack of memory
+abbrev pub RaisedByWrite : MergeFault → ℕ → ℕ → Type 0
+RaisedByWrite fault.Memory old new = new ≡ old
+RaisedByWrite fault.Write old new = new ≡ next_count old
+RaisedByWrite (fault.Feed i e) old new = ⊥
+
+-- the counts of all sources and of the output, before and after a fault
+abbrev pub RaisedBy : MergeFault → List ℕ → List ℕ → ℕ → ℕ → Type 0
+RaisedBy (fault.Feed i feed.Read) sources sources' out out' = RaisedAt i sources sources' × (out' ≡ out)
+RaisedBy fault.Write sources sources' out out' = (sources' ≡ sources) × (out' ≡ next_count out)
+RaisedBy other sources sources' out out' = (sources' ≡ sources) × (out' ≡ out)
+
+-- the same of a call: without a fault no count changes
+
+abbrev pub CountsFeed : {A : Type 0} → Result A FeedFault → ℕ → ℕ → Type 0
+CountsFeed result old new = MatchResult result (λ _. new ≡ old) (λ fault. RaisedByFeed fault old new)
+
+abbrev pub CountsReads : {A : Type 0} → Result A MergeFault → List ℕ → List ℕ → Type 0
+CountsReads result old new = MatchResult result (λ _. new ≡ old) (λ fault. RaisedByRead fault old new)
+
+abbrev pub CountsHanding : {A : Type 0} → Result A MergeFault → ℕ → ℕ → Type 0
+CountsHanding result old new = MatchResult result (λ _. new ≡ old) (λ fault. RaisedByWrite fault old new)
+
+abbrev pub CountsMerge : {A : Type 0} → Result A MergeFault → List ℕ → List ℕ → ℕ → ℕ → Type 0
+CountsMerge result sources sources' out out' =
+    MatchResult result (λ _. (sources' ≡ sources) × (out' ≡ out)) (λ fault. RaisedBy fault sources sources' out out')

@@ -1,4 +1,5 @@
 -- What was taken of several sources.
+use Rattle.std.specs.List.{AllZip}
 use Rattle.std.specs.Prelude.{◌≡◌, ◌⊎◌, ℕ, ◌+◌, ◌-◌, ◌<◌, ◌≤◌, List, [], ◌∷◌, ◌++◌, flat_map, length, map, not, true, Option, None, Some}
 use Rattle.std.specs.List.{AllByRecursion, filter, sum, zip}
 use Rattle.std.specs.List.Sorted.{IsPermutation}
@@ -10,13 +11,6 @@ use Rattle.merge_core.specs.declared.feed.Feed.{Feed}
 use Rattle.merge_core.specs.PairOrders.{Alike, Below, Upto, IsAbove, is_low}
 use Rattle.merge_core.specs.WaitingLines.{WaitingLine, waiting_pair}
 use Rattle.merge_core.specs.Feeds.{done}
-
--- a relation between the members of two lists, one by one
-abbrev pub AllTwo : {X Y : Type 0} → (X → Y → Type 0) → List X → List Y → Type 0
-AllTwo R [] [] = Unit {0}
-AllTwo R [] (y ∷ ys) = ⊥
-AllTwo R (x ∷ xs) [] = ⊥
-AllTwo R (x ∷ xs) (y ∷ ys) = R x y × AllTwo R xs ys
 
 -- the lines below the pair were done before, and the others went into the group
 pub record Gathered (pair : Pair) (old_done done old_group group : List Member) : Type 0 where

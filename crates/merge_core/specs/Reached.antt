@@ -1,4 +1,5 @@
 -- How far a merge of several sources has come.
+use Rattle.std.specs.List.{AllZip}
 use Rattle.std.specs.Prelude.{◌≡◌, ℕ, List, Bool, Option, Result, Ok, Err}
 use Rattle.std.specs.Io.KnownBytes.{Appends}
 use Rattle.std.specs.List.{AllByRecursion, zip}
@@ -11,9 +12,10 @@ use Rattle.merge_core.specs.declared.fault.SinkFault.{SinkFault}
 use Rattle.merge_core.specs.declared.fault.SinkFault.TheVariants.{Memory, Write}
 use Rattle.merge_core.specs.declared.feed.Feed.{Feed}
 use Rattle.merge_core.specs.PairOrders.{IsAbove, IsUpto}
+use Rattle.merge_core.specs.SourceLines.{HasEntry}
 use Rattle.merge_core.specs.WaitingLines.{WaitingLine, waiting_pair}
 use Rattle.merge_core.specs.Feeds.{Moved, Ready, AreSettled}
-use Rattle.merge_core.specs.Gathering.{AllTwo, AreTold, all_done}
+use Rattle.merge_core.specs.Gathering.{AreTold, all_done}
 
 -- a refusal of the output adds one to its count of failures, all else none
 abbrev pub CountsWrite : {A : Type 0} → Result A SinkFault → ℕ → ℕ → Type 0
@@ -27,8 +29,10 @@ pub record Grows (old new : Option (List ℕ)) : Type 0 where
   pub grown : Appends old new text
 
 module _ {S : Type 0} (limit : ℕ) (text : S → Option (List ℕ)) where
-  -- These lines were handed on: they rise, none is above the bound, and of sources that tell their bytes they are all that are done
+  -- These lines were handed on: each was read as an entry, they rise, and none is above the bound. If the bytes of all sources are
+  -- known, they are all that are done
   pub record Handed (old ss : List S) (fs : List Feed) (bound : Option Pair) (taken : List Member) : Type 0 where
+    pub entries : AllByRecursion (HasEntry limit) taken
     pub upto : AllByRecursion (λ m. IsUpto bound (member_pair m)) taken
     pub rises : Rises member_place place_cmp taken
     pub told : AreTold text old → (taken ≡ rising member_place place_cmp (all_done limit text ss fs)) × AllByRecursion (λ m. IsUpto bound (member_pair m)) (all_done limit text ss fs)
@@ -37,6 +41,6 @@ module _ {S : Type 0} (limit : ℕ) (text : S → Option (List ℕ)) where
   pub record Reached (past : List ℕ → Bool) (extent gave : S → ℕ) (old : List S) (old_feeds : List Feed) (ss : List S) (fs : List Feed) (ws : List WaitingLine) (bound : Option Pair) (taken : List Member) : Type 0 where
     pub ready : Ready limit past text extent ss fs ws
     pub settled : AreSettled fs
-    pub moved : AllTwo (λ x y. Moved (text x.0) (text y.0) (extent x.0) (extent y.0) (gave x.0) (gave y.0) x.1.cursor y.1.cursor) (zip old old_feeds) (zip ss fs)
+    pub moved : AllZip (λ x y. Moved (text x.0) (text y.0) (extent x.0) (extent y.0) (gave x.0) (gave y.0) x.1.cursor y.1.cursor) (zip old old_feeds) (zip ss fs)
     pub above : AllByRecursion (λ w. IsAbove bound (waiting_pair w)) ws
     pub handed : Handed old ss fs bound taken

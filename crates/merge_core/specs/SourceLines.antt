@@ -1,5 +1,5 @@
 -- Lines of sources of any bytes.
-use Rattle.std.specs.Prelude.{◌≡◌, ◌⊎◌, ℕ, ⊤, List, [], ◌∷◌, Option, None, Some}
+use Rattle.std.specs.Prelude.{◌≡◌, ◌⊎◌, ℕ, List, [], ◌∷◌, Option, None, Some}
 use Rattle.std.specs.List.{AllByRecursion}
 use Rattle.cdxj_places.specs.Places.{place_cmp}
 use Rattle.cdxj_places.specs.Rising.{IsIn, Rises}
@@ -10,14 +10,18 @@ use Rattle.merge_core.specs.Written.{lines_text}
 
 -- the limit of a line, in bytes
 module _ (limit : ℕ) where
+  -- its own line has it as its entry
+  abbrev pub HasEntry : Member → Type 0
+  HasEntry m = line_entry limit m.line ≡ Some m
+
   -- a line of the text has this entry
   abbrev pub IsLineIn : List ℕ → Member → Type 0
   IsLineIn text m = (line : List ℕ) × IsIn line (lines text) × (line_entry limit line ≡ Some m)
 
-  -- a line of one of the sources has this entry, or one of them doesn't tell its bytes
+  -- a line of one of the sources has this entry, or the bytes of one of them aren't known and a line has it
   abbrev pub IsLineOf : List (Option (List ℕ)) → Member → Type 0
   IsLineOf [] m = ⊥
-  IsLineOf (None ∷ sources) m = ⊤
+  IsLineOf (None ∷ sources) m = HasEntry m ⊎ IsLineOf sources m
   IsLineOf (Some text ∷ sources) m = IsLineIn text m ⊎ IsLineOf sources m
 
   -- lines of sources, which rise by place

@@ -3,7 +3,7 @@ ghost use Rattle.std.specs.Prelude.{◌≡◌, ◌≢◌, ◌+◌, ◌-◌, ◌�
 ghost use Rattle.std.specs.List.{AllByRecursion};
 ghost use Rattle.cdxj_core.specs.declared.limit.TheConstants.{LINE_LIMIT};
 ghost use Rattle.cdxj_core.specs.Members.{Member, member_pair};
-ghost use Rattle.devices.specs.Device.{next_count};
+ghost use Rattle.merge_core.specs.Failures.{CountsFeed};
 ghost use Rattle.source_core.specs.Cursors.{reach};
 ghost use Rattle.merge_core.specs.PairOrders.{Alike, Below, Upto};
 ghost use Rattle.merge_core.specs.Feeds.{IsNext, IsSettled, Fed, option_list, done};
@@ -50,7 +50,8 @@ impl Feed {
         store: &mut Store,
     ) -> Option<Box<Line>>
         ensures cursor { self.new.cursor ≡ self.old.cursor }
-        ensures next { IsNext (R.past range.now) line.value self.new.progress (option_list (option_map (λ b. b.value) result)) }
+        ensures next { IsNext (R.past range.now) line.value self.new.progress
+            (option_list (option_map (λ b. b.value) result)) }
         ensures settled { IsSettled self.new }
     {
         if range.is_past(line.pair().0) {
@@ -70,20 +71,25 @@ impl Feed {
         range: &R,
         store: &mut Store,
     ) -> Result<Option<Box<Line>>, FeedFault>
-        requires fed { Fed LINE_LIMIT (R.past range.now) (S.text source.old) (S.extent source.old) self.old [] }
+        requires fed { Fed LINE_LIMIT (R.past range.now) (S.text source.old)
+            (S.extent source.old) self.old [] }
         requires due { self.old.progress ≡ Due }
         requires fresh { self.old.cursor.count ≡ 0 }
         ensures text { S.text source.new ≡ S.text source.old }
         ensures extent { S.extent source.new ≡ S.extent source.old }
-        ensures gave { S.gave source.new + reach self.old.cursor ≤ S.gave source.old + reach self.new.cursor }
-        ensures worked { OnOk result (S.failures source.new ≡ S.failures source.old) }
-        ensures failed { IfErr result (λ e. e ≡ FeedFault.Read → S.failures source.new ≡ next_count (S.failures source.old)) }
-        ensures kept { IfErr result (λ e. e ≢ FeedFault.Read → S.failures source.new ≡ S.failures source.old) }
+        ensures gave { S.gave source.new + reach self.old.cursor
+            ≤ S.gave source.old + reach self.new.cursor }
+        ensures failures { CountsFeed result (S.failures source.old) (S.failures source.new) }
         ensures start { self.new.cursor.start ≡ self.old.cursor.start }
-        ensures fed { IfOk result (λ o. Fed LINE_LIMIT (R.past range.now) (S.text source.new) (S.extent source.new) self.new (option_list (option_map (λ b. b.value) o))) }
-        ensures reads { (t : List ℕ) → S.text source.old ≡ Some t → ReadTo LINE_LIMIT (R.past range.now) None t self.new.cursor }
-        ensures fresh { (t : List ℕ) → S.text source.old ≡ Some t → OnOk result (done LINE_LIMIT t self.new ≡ []) }
-        ensures fault { (t : List ℕ) → S.text source.old ≡ Some t → IfErr result (NamesLine LINE_LIMIT t) }
+        ensures fed { IfOk result (λ o.
+            Fed LINE_LIMIT (R.past range.now) (S.text source.new) (S.extent source.new) self.new
+            (option_list (option_map (λ b. b.value) o))) }
+        ensures reads { (t : List ℕ) → S.text source.old ≡ Some t
+            → ReadTo LINE_LIMIT (R.past range.now) None t self.new.cursor }
+        ensures fresh { (t : List ℕ) → S.text source.old ≡ Some t
+            → OnOk result (done LINE_LIMIT t self.new ≡ []) }
+        ensures fault { (t : List ℕ) → S.text source.old ≡ Some t
+            → IfErr result (NamesLine LINE_LIMIT t) }
         ensures settled { OnOk result (IsSettled self.new) }
     {
         match store.next_line(source, &mut self.cursor)? {
@@ -105,28 +111,44 @@ impl Feed {
         store: &mut Store,
         rest: &mut Vec<Box<Line>>,
     ) -> Result<Option<Box<Line>>, FeedFault>
-        requires fed { Fed LINE_LIMIT (R.past range.now) (S.text source.old) (S.extent source.old) self.old [] }
+        requires fed { Fed LINE_LIMIT (R.past range.now) (S.text source.old)
+            (S.extent source.old) self.old [] }
         requires due { self.old.progress ≡ Due }
-        requires low { (t : List ℕ) → S.text source.old ≡ Some t → AllByRecursion (λ m. Upto (member_pair m) (member_pair first.now)) (done LINE_LIMIT t self.old) }
-        requires last { (t : List ℕ) → S.text source.old ≡ Some t → EndsAt (member_pair first.now) (done LINE_LIMIT t self.old) }
+        requires low { (t : List ℕ) → S.text source.old ≡ Some t
+            → AllByRecursion (λ m. Upto (member_pair m) (member_pair first.now))
+            (done LINE_LIMIT t self.old) }
+        requires last { (t : List ℕ) → S.text source.old ≡ Some t
+            → EndsAt (member_pair first.now) (done LINE_LIMIT t self.old) }
         ensures text { S.text source.new ≡ S.text source.old }
         ensures extent { S.extent source.new ≡ S.extent source.old }
-        ensures gave { S.gave source.new + reach self.old.cursor ≤ S.gave source.old + reach self.new.cursor }
-        ensures worked { OnOk result (S.failures source.new ≡ S.failures source.old) }
-        ensures failed { IfErr result (λ e. e ≡ FeedFault.Read → S.failures source.new ≡ next_count (S.failures source.old)) }
-        ensures kept { IfErr result (λ e. e ≢ FeedFault.Read → S.failures source.new ≡ S.failures source.old) }
+        ensures gave { S.gave source.new + reach self.old.cursor
+            ≤ S.gave source.old + reach self.new.cursor }
+        ensures failures { CountsFeed result (S.failures source.old) (S.failures source.new) }
         ensures start { self.new.cursor.start ≡ self.old.cursor.start }
-        ensures fed { IfOk result (λ o. Fed LINE_LIMIT (R.past range.now) (S.text source.new) (S.extent source.new) self.new (option_list (option_map (λ b. b.value) o))) }
-        ensures later { IfOk result (λ o. AllByRecursion (λ m. Below (member_pair first.now) (member_pair m)) (option_list (option_map (λ b. b.value) o))) }
-        ensures fewer { IfOk result (λ o. (S.extent source.new - self.new.cursor.at) + length (option_list (option_map (λ b. b.value) o)) ≤ S.extent source.old - self.old.cursor.at) }
-        ensures each { AllByRecursion (λ m. Alike (member_pair m) (member_pair first.now)) (map (λ b. b.value) rest.old.items)
-            → OnOk result (AllByRecursion (λ m. Alike (member_pair m) (member_pair first.now)) (map (λ b. b.value) rest.new.items)) }
-        ensures reads { (t : List ℕ) → S.text source.old ≡ Some t → ReadTo LINE_LIMIT (R.past range.now) (Some (member_pair first.now)) t self.new.cursor }
-        ensures taken { (t : List ℕ) → S.text source.old ≡ Some t → OnOk result ((taken : List Member)
+        ensures fed { IfOk result (λ o.
+            Fed LINE_LIMIT (R.past range.now) (S.text source.new) (S.extent source.new) self.new
+            (option_list (option_map (λ b. b.value) o))) }
+        ensures later { IfOk result (λ o.
+            AllByRecursion (λ m. Below (member_pair first.now) (member_pair m))
+            (option_list (option_map (λ b. b.value) o))) }
+        ensures fewer { IfOk result (λ o.
+            (S.extent source.new - self.new.cursor.at) + length
+            (option_list (option_map (λ b. b.value) o))
+            ≤ S.extent source.old - self.old.cursor.at) }
+        ensures each { AllByRecursion (λ m. Alike (member_pair m) (member_pair first.now))
+            (map (λ b. b.value) rest.old.items)
+            → OnOk result (AllByRecursion (λ m. Alike (member_pair m) (member_pair first.now))
+            (map (λ b. b.value) rest.new.items)) }
+        ensures reads { (t : List ℕ) → S.text source.old ≡ Some t
+            → ReadTo LINE_LIMIT (R.past range.now)
+            (Some (member_pair first.now)) t self.new.cursor }
+        ensures taken { (t : List ℕ) → S.text source.old ≡ Some t
+            → OnOk result ((taken : List Member)
             × (done LINE_LIMIT t self.new ≡ done LINE_LIMIT t self.old ++ taken)
             × (map (λ b. b.value) rest.new.items ≡ map (λ b. b.value) rest.old.items ++ taken)
             × AllByRecursion (λ m. Alike (member_pair m) (member_pair first.now)) taken) }
-        ensures fault { (t : List ℕ) → S.text source.old ≡ Some t → IfErr result (NamesLine LINE_LIMIT t) }
+        ensures fault { (t : List ℕ) → S.text source.old ≡ Some t
+            → IfErr result (NamesLine LINE_LIMIT t) }
         ensures settled { OnOk result (IsSettled self.new) }
     {
         let mut begin = self.cursor.at();

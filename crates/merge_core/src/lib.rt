@@ -21,7 +21,7 @@ mod streams;
 mod waiting;
 
 pub use crate::fault::{FeedFault, MergeFault, SinkFault};
-pub use crate::indexes::merge_indexes;
+pub use crate::indexes::{MergedLines, merge_indexes};
 pub use crate::line_writer::LineWriter;
 pub use crate::merging::merge;
 pub use crate::range::{All, Range};

@@ -41,8 +41,10 @@ impl LineWriter {
 
     #[tactic(auto, using(crate::proofs::WrittenLemmas::grows_not, crate::proofs::WrittenLemmas::grows_by, crate::proofs::WrittenLemmas::grows_part))]
     fn put_line<O: Output>(&mut self, line: &Line, out: &mut O) -> Result<(), SinkFault>
-        ensures text { OnOk result (Appends (O.written out.old) (O.written out.new) (line_row line.now)) }
-        ensures part { OnErr result (AppendsPrefix (O.written out.old) (O.written out.new) (line_row line.now)) }
+        ensures text { OnOk result
+            (Appends (O.written out.old) (O.written out.new) (line_row line.now)) }
+        ensures part { OnErr result
+            (AppendsPrefix (O.written out.old) (O.written out.new) (line_row line.now)) }
         ensures grows { Grows (O.written out.old) (O.written out.new) }
         ensures count { OnOk result (self.new.count ≡ min (self.old.count + 1) (2 ^ 64 - 1)) }
         ensures failures { CountsWrite result (O.failures out.old) (O.failures out.new) }

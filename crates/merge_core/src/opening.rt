@@ -4,10 +4,9 @@ ghost use Rattle.std.specs.List.{AllByRecursion};
 ghost use Rattle.std.specs.List.Sorted.{IsPermutation};
 ghost use Rattle.cdxj_core.specs.declared.limit.TheConstants.{LINE_LIMIT};
 ghost use Rattle.cdxj_core.specs.Members.{Member};
-ghost use Rattle.devices.specs.Device.{next_count};
 ghost use Rattle.source_core.specs.Cursors.{Stands, reach};
 ghost use Rattle.source_core.specs.IndexLines.{BeginsAfter, lines, longest};
-ghost use Rattle.merge_core.specs.Failures.{RaisedAt};
+ghost use Rattle.merge_core.specs.Failures.{CountsFeed, CountsReads};
 ghost use Rattle.merge_core.specs.LineFaults.{NamesLine, IsFaultOf};
 
 use crate::fault::{FeedFault, MergeFault};
@@ -34,21 +33,29 @@ impl Streams {
         requires stands { Stands (S.text source.old) (S.extent source.old) cursor }
         requires fresh { cursor.count ≡ 0 }
         requires first { cursor.at ≡ cursor.start }
-        requires begins { (t : List ℕ) → S.text source.old ≡ Some t → (before : List (List ℕ)) × BeginsAfter t cursor.start before }
+        requires begins { (t : List ℕ) → S.text source.old ≡ Some t → (before : List (List ℕ))
+            × BeginsAfter t cursor.start before }
         ensures text { S.text source.new ≡ S.text source.old }
         ensures extent { S.extent source.new ≡ S.extent source.old }
-        ensures worked { OnOk result (S.failures source.new ≡ S.failures source.old) }
-        ensures failed { IfErr result (λ e. e ≡ FeedFault.Read → S.failures source.new ≡ next_count (S.failures source.old)) }
-        ensures kept { IfErr result (λ e. e ≢ FeedFault.Read → S.failures source.new ≡ S.failures source.old) }
-        ensures fault { (t : List ℕ) → S.text source.old ≡ Some t → IfErr result (NamesLine LINE_LIMIT t) }
-        ensures settled { AreSettled self.old.feeds.items → OnOk result (AreSettled self.new.feeds.items) }
+        ensures failures { CountsFeed result (S.failures source.old) (S.failures source.new) }
+        ensures fault { (t : List ℕ) → S.text source.old ≡ Some t
+            → IfErr result (NamesLine LINE_LIMIT t) }
+        ensures settled { AreSettled self.old.feeds.items
+            → OnOk result (AreSettled self.new.feeds.items) }
         ensures held { self.new.held ≡ self.old.held }
-        ensures added { OnOk result ((f : Feed) × (o : Option Member) × (self.new.feeds.items ≡ self.old.feeds.items ++ f ∷ [])
-            × MatchOption o (self.new.waiting ≡ self.old.waiting) (λ m. IsPermutation (record { member = m; source = length self.old.feeds.items } ∷ self.old.waiting) self.new.waiting)
-            × Fed LINE_LIMIT (R.past range.now) (S.text source.new) (S.extent source.new) f (option_list o)
-            × (f.cursor.start ≡ cursor.start) × ((t : List ℕ) → S.text source.old ≡ Some t → done LINE_LIMIT t f ≡ [])
+        ensures added { OnOk result
+            ((f : Feed) × (o : Option Member)
+            × (self.new.feeds.items ≡ self.old.feeds.items ++ f ∷ [])
+            × MatchOption o (self.new.waiting ≡ self.old.waiting) (λ m.
+            IsPermutation (record { member = m; source = length self.old.feeds.items } ∷
+            self.old.waiting) self.new.waiting)
+            × Fed LINE_LIMIT (R.past range.now) (S.text source.new) (S.extent source.new) f
+            (option_list o)
+            × (f.cursor.start ≡ cursor.start)
+            × ((t : List ℕ) → S.text source.old ≡ Some t → done LINE_LIMIT t f ≡ [])
             × (S.gave source.new + reach cursor ≤ S.gave source.old + reach f.cursor)) }
-        ensures spent { (t : List ℕ) → S.text source.old ≡ Some t → S.gave source.new + reach cursor ≤ S.gave source.old + cursor.start + 2 * longest (lines t) + 8192 }
+        ensures spent { (t : List ℕ) → S.text source.old ≡ Some t → S.gave source.new + reach cursor
+            ≤ S.gave source.old + cursor.start + 2 * longest (lines t) + 8192 }
     {
         let mut feed = Feed {
             cursor,
@@ -74,14 +81,14 @@ impl Streams {
     ) -> Result<Streams, MergeFault>
         ensures text { map S.text sources.new ≡ map S.text sources.old }
         ensures extent { map S.extent sources.new ≡ map S.extent sources.old }
-        ensures worked { OnOk result (map S.failures sources.new ≡ map S.failures sources.old) }
-        ensures read { IfErr result (λ e. (n : ℕ) → e ≡ MergeFault.Feed n FeedFault.Read → RaisedAt n (map S.failures sources.old) (map S.failures sources.new)) }
-        ensures kept { IfErr result (λ e. ((n : ℕ) → e ≢ MergeFault.Feed n FeedFault.Read) → map S.failures sources.new ≡ map S.failures sources.old) }
-        ensures unwritten { IfErr result (λ e. e ≢ MergeFault.Write) }
+        ensures failures { CountsReads result (map S.failures sources.old)
+            (map S.failures sources.new) }
         ensures fault { IfErr result (IsFaultOf LINE_LIMIT (map S.text sources.old)) }
-        ensures ready { IfOk result (λ s. Ready LINE_LIMIT (R.past range.now) S.text S.extent sources.new s.feeds.items s.waiting) }
+        ensures ready { IfOk result (λ s.
+            Ready LINE_LIMIT (R.past range.now) S.text S.extent sources.new s.feeds.items s.waiting) }
         ensures start { IfOk result (λ s. AllByRecursion (λ f. f.cursor.start ≡ 0) s.feeds.items) }
-        ensures fresh { IfOk result (λ s. all_done LINE_LIMIT S.text sources.new s.feeds.items ≡ []) }
+        ensures fresh { IfOk result (λ s.
+            all_done LINE_LIMIT S.text sources.new s.feeds.items ≡ []) }
         ensures settled { IfOk result (λ s. AreSettled s.feeds.items) }
         ensures held { IfOk result (λ s. s.held ≡ 0) }
     {

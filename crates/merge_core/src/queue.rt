@@ -61,8 +61,10 @@ impl Queue {
 
     /// Removes and returns the first line.
     pub fn pop(&mut self) -> Option<Waiting>
-        ensures out { MatchOption result ((self.old ≡ []) × (self.new ≡ [])) (λ w. IsPermutation self.old (w ∷ self.new)) }
-        ensures first { IfSome result (λ w. AllByRecursion (λ v. is_lt (turn_cmp v w) ≡ false) self.new) }
+        ensures out { MatchOption result ((self.old ≡ []) × (self.new ≡ [])) (λ w.
+            IsPermutation self.old (w ∷ self.new)) }
+        ensures first { IfSome result (λ w.
+            AllByRecursion (λ v. is_lt (turn_cmp v w) ≡ false) self.new) }
         ensures top { IfSome result (λ w. w ≡ slice_index_or self.old 0 w) }
     {
         self.heap.pop()
@@ -70,9 +72,11 @@ impl Queue {
 
     /// Returns whether the first line has the pair of this one.
     fn is_next_at(&self, line: &KeyedLine<'_>) -> bool
-        ensures alike { (d : WaitingLine) → 0 < length self.now → result ≡ true → Alike (waiting_pair (slice_index_or self.now 0 d)) (member_pair line.now) }
+        ensures alike { (d : WaitingLine) → 0 < length self.now → result ≡ true
+            → Alike (waiting_pair (slice_index_or self.now 0 d)) (member_pair line.now) }
         ensures later { AllByRecursion (λ v. Upto (member_pair line.now) (waiting_pair v)) self.now
-            → result ≡ false → AllByRecursion (λ v. Below (member_pair line.now) (waiting_pair v)) self.now }
+            → result ≡ false → AllByRecursion (λ v.
+            Below (member_pair line.now) (waiting_pair v)) self.now }
     {
         match self.heap.peek() {
             Some(waiting) => waiting.keyed().compare_pair(line).is_eq(),
@@ -83,9 +87,12 @@ impl Queue {
     /// Removes and returns the first line, if it has the pair of this one.
     pub fn pop_at(&mut self, line: &KeyedLine<'_>) -> Option<Waiting>
         requires { AllByRecursion (λ v. Upto (member_pair line.now) (waiting_pair v)) self.old }
-        ensures out { MatchOption result ((self.new ≡ self.old) × AllByRecursion (λ v. Below (member_pair line.now) (waiting_pair v)) self.new)
+        ensures out { MatchOption result
+            ((self.new ≡ self.old)
+            × AllByRecursion (λ v. Below (member_pair line.now) (waiting_pair v)) self.new)
             (λ w. IsPermutation self.old (w ∷ self.new)) }
-        ensures first { IfSome result (λ w. AllByRecursion (λ v. is_lt (turn_cmp v w) ≡ false) self.new) }
+        ensures first { IfSome result (λ w.
+            AllByRecursion (λ v. is_lt (turn_cmp v w) ≡ false) self.new) }
         ensures alike { IfSome result (λ w. Alike (waiting_pair w) (member_pair line.now)) }
     {
         if self.is_next_at(line) {

@@ -1,12 +1,15 @@
 //! The consumers of the lines of a merge.
-ghost use Rattle.std.specs.Prelude.{◌≡◌, ◌≢◌, ◌⊎◌, ◌++◌, ◌∷◌, ℕ, Option, List, map, true, false, IfOk, IfErr, OnOk, OnErr, MatchResult};
+ghost use Rattle.std.specs.List.{AllByRecursion};
+ghost use Rattle.std.specs.Prelude.{◌≡◌, ◌⊎◌, ◌++◌, ◌∷◌, ℕ, Option, List, map, true, false, IfOk, IfErr, OnOk, OnErr, MatchResult};
 ghost use Rattle.cdxj_places.specs.Places.{place_cmp};
 ghost use Rattle.cdxj_places.specs.Rising.{rising};
 ghost use Rattle.cdxj_core.specs.Members.{Member, member_place};
-ghost use Rattle.devices.specs.Device.{next_count};
+ghost use Rattle.cdxj_core.specs.declared.limit.TheConstants.{LINE_LIMIT};
+ghost use Rattle.merge_core.specs.Failures.{CountsHanding};
 ghost use Rattle.merge_core.specs.Reached.{CountsWrite, Grows};
+ghost use Rattle.merge_core.specs.SourceLines.{HasEntry};
 
-use crate::fault::{FeedFault, MergeFault, SinkFault};
+use crate::fault::{MergeFault, SinkFault};
 use cdxj_core::{Line, in_order};
 use devices::Output;
 use std::alloc::{AllocError, Global};
@@ -32,8 +35,10 @@ pub trait Sink {
         lines: &[&Line],
         out: &mut O,
     ) -> Result<bool, SinkFault>
-        ensures wrote { (first : Self) (taken : List Member) (start : Option (List ℕ)) → Wrote first self.old taken start (O.written out.old)
-            → MatchResult result (λ _. Wrote first self.new (taken ++ map (λ l. l.now) lines.now) start (O.written out.new))
+        ensures wrote { (first : Self) (taken : List Member) (start : Option (List ℕ))
+            → Wrote first self.old taken start (O.written out.old)
+            → MatchResult result (λ _.
+            Wrote first self.new (taken ++ map (λ l. l.now) lines.now) start (O.written out.new))
             (λ _. Broke first (taken ++ map (λ l. l.now) lines.now) start (O.written out.new)) }
         ensures enough { IfOk result (λ all. all ≡ false → Enough self.new) }
         ensures further { IfOk result (λ all. all ≡ true → Enough self.new → ⊥) }
@@ -46,7 +51,8 @@ fn references<'a>(
     first: &'a Line,
     rest: &'a [Box<Line>],
 ) -> Result<Vec<&'a Line>, AllocError>
-    ensures { IfOk result (λ v. map (λ l. l.now) v.items ≡ first.entry.now ∷ map (λ b. b.value) rest.entry.now) }
+    ensures { IfOk result (λ v.
+        map (λ l. l.now) v.items ≡ first.entry.now ∷ map (λ b. b.value) rest.entry.now) }
 {
     let mut lines = Vec::with_capacity(alloc, rest.len().saturating_add(1))?;
     lines.push(first)?;
@@ -58,7 +64,8 @@ fn references<'a>(
 
 /// Returns the lines in the order of places, only the first line at each place.
 fn ordered<'a>(alloc: Global, lines: &[&'a Line]) -> Result<Vec<&'a Line>, AllocError>
-    ensures { IfOk result (λ v. map (λ l. l.now) v.items ≡ rising member_place place_cmp (map (λ l. l.now) lines.now)) }
+    ensures { IfOk result (λ v.
+        map (λ l. l.now) v.items ≡ rising member_place place_cmp (map (λ l. l.now) lines.now)) }
 {
     let sorted = in_order(alloc, lines)?;
     let mut in_place = Vec::with_capacity(alloc, sorted.len())?;
@@ -73,10 +80,21 @@ fn in_places<'a>(
     first: &'a Line,
     rest: &'a [Box<Line>],
 ) -> Result<Vec<&'a Line>, AllocError>
-    ensures { IfOk result (λ v. map (λ l. l.now) v.items ≡ rising member_place place_cmp (first.entry.now ∷ map (λ b. b.value) rest.entry.now)) }
+    ensures { IfOk result (λ v.
+        map (λ l. l.now) v.items
+        ≡ rising member_place place_cmp (first.entry.now ∷ map (λ b. b.value) rest.entry.now)) }
 {
     let lines = references(alloc, first, rest)?;
     Ok(ordered(alloc, &lines)?)
+}
+
+/// Shows that each of the lines has an entry, which is what was read of it. Nothing else is done.
+fn have_entries(lines: &[Box<Line>])
+    ensures { AllByRecursion (HasEntry LINE_LIMIT) (map (λ b. b.value) lines.now) }
+{
+    for line in lines {
+        let _bytes = line.line();
+    }
 }
 
 /// Passes on the lines of a pair, in the order of places, only the first line at each place. Returns `false` if no more
@@ -89,19 +107,27 @@ pub fn hand_on<K: Sink, O: Output>(
     sink: &mut K,
     out: &mut O,
 ) -> Result<bool, MergeFault>
-    ensures wrote { OnOk result ((begin : K) → (taken : List Member) → (start : Option (List ℕ)) → K.Wrote begin sink.old taken start (O.written out.old)
-        → K.Wrote begin sink.new (taken ++ rising member_place place_cmp (first.now ∷ map (λ b. b.value) rest.now)) start (O.written out.new)) }
+    ensures wrote { OnOk result
+        ((begin : K) → (taken : List Member) → (start : Option (List ℕ))
+        → K.Wrote begin sink.old taken start (O.written out.old)
+        → K.Wrote begin sink.new
+        (taken ++ rising member_place place_cmp (first.now ∷ map (λ b. b.value) rest.now)) start
+        (O.written out.new)) }
     ensures broke { OnErr result (((sink.new ≡ sink.old) × (out.new ≡ out.old))
-        ⊎ ((begin : K) → (taken : List Member) → (start : Option (List ℕ)) → K.Wrote begin sink.old taken start (O.written out.old)
-        → K.Broke begin (taken ++ rising member_place place_cmp (first.now ∷ map (λ b. b.value) rest.now)) start (O.written out.new))) }
+        ⊎ ((begin : K) → (taken : List Member) → (start : Option (List ℕ))
+        → K.Wrote begin sink.old taken start (O.written out.old)
+        → K.Broke begin (taken ++ rising member_place place_cmp
+        (first.now ∷ map (λ b. b.value) rest.now)) start (O.written out.new))) }
     ensures enough { IfOk result (λ all. all ≡ false → K.Enough sink.new) }
     ensures further { IfOk result (λ all. all ≡ true → K.Enough sink.new → ⊥) }
     ensures grows { Grows (O.written out.old) (O.written out.new) }
-    ensures unread { IfErr result (λ e. (i : ℕ) → (f : FeedFault) → e ≢ MergeFault.Feed i f) }
-    ensures worked { OnOk result (O.failures out.new ≡ O.failures out.old) }
-    ensures kept { IfErr result (λ e. e ≢ MergeFault.Write → O.failures out.new ≡ O.failures out.old) }
-    ensures failed { IfErr result (λ e. e ≡ MergeFault.Write → O.failures out.new ≡ next_count (O.failures out.old)) }
+    ensures entries { AllByRecursion (HasEntry LINE_LIMIT)
+        (first.now ∷ map (λ b. b.value) rest.now) }
+    ensures failures { CountsHanding result (O.failures out.old) (O.failures out.new) }
 {
+    // For the proof alone: the bytes of each line have it as their entry.
+    let _bytes = first.line();
+    have_entries(rest);
     if rest.is_empty() {
         return match sink.take(alloc, &[first], out) {
             Ok(more) => Ok(more),

@@ -1,17 +1,16 @@
 //! The opening of sources at a key and stamp.
+ghost use Rattle.std.specs.List.{AllZip};
 ghost use Rattle.std.specs.Prelude.{◌≡◌, ◌≢◌, ◌⊎◌, ◌≤◌, ◌+◌, ◌++◌, ◌∷◌, ℕ, Option, List, [], length, map, Some, MatchOption, IfOk, IfErr, OnOk};
 ghost use Rattle.std.specs.List.{AllByRecursion, zip, sum};
 ghost use Rattle.std.specs.List.Sorted.{IsPermutation};
 ghost use Rattle.cdxj_core.specs.declared.limit.TheConstants.{LINE_LIMIT};
 ghost use Rattle.cdxj_core.specs.Indexes.{IsIndex};
 ghost use Rattle.cdxj_core.specs.Members.{Member};
-ghost use Rattle.devices.specs.Device.{next_count};
 ghost use Rattle.source_core.specs.Cursors.{Stands, reach};
 ghost use Rattle.source_core.specs.Halving.{digits};
 ghost use Rattle.source_core.specs.IndexLines.{BeginsAfter};
 ghost use Rattle.source_core.specs.Search.{IsCut};
-ghost use Rattle.merge_core.specs.Failures.{RaisedAt};
-ghost use Rattle.merge_core.specs.Gathering.{AllTwo};
+ghost use Rattle.merge_core.specs.Failures.{CountsFeed, CountsReads};
 ghost use Rattle.merge_core.specs.LineFaults.{NamesLine, IsFaultOf};
 ghost use Rattle.merge_core.specs.Spending.{search_most, CameWithin, OpenedWithin};
 
@@ -33,16 +32,17 @@ fn find_start<S: Source>(
 ) -> Result<(Cursor, u64), FeedFault>
     ensures text { S.text source.new ≡ S.text source.old }
     ensures extent { S.extent source.new ≡ S.extent source.old }
-    ensures worked { OnOk result (S.failures source.new ≡ S.failures source.old) }
-    ensures failed { IfErr result (λ e. e ≡ FeedFault.Read → S.failures source.new ≡ next_count (S.failures source.old)) }
+    ensures failures { CountsFeed result (S.failures source.old) (S.failures source.new) }
     ensures stands { IfOk result (λ r. Stands (S.text source.new) (S.extent source.new) r.0) }
     ensures fresh { IfOk result (λ r. r.0.count ≡ 0) }
     ensures first { IfOk result (λ r. (r.0.at ≡ r.0.start) × (reach r.0 ≡ r.0.start)) }
-    ensures gave { (t : List ℕ) → S.text source.old ≡ Some t → S.gave source.new ≤ S.gave source.old + search_most (S.extent source.old) t }
-    ensures begins { (t : List ℕ) → S.text source.old ≡ Some t → IfOk result (λ r. (before : List (List ℕ)) × BeginsAfter t r.0.start before) }
-    ensures kept { IfErr result (λ e. e ≢ FeedFault.Read → S.failures source.new ≡ S.failures source.old) }
+    ensures gave { (t : List ℕ) → S.text source.old ≡ Some t → S.gave source.new
+        ≤ S.gave source.old + search_most (S.extent source.old) t }
+    ensures begins { (t : List ℕ) → S.text source.old ≡ Some t
+        → IfOk result (λ r. (before : List (List ℕ)) × BeginsAfter t r.0.start before) }
     ensures refused { IfErr result (λ e. (e ≡ FeedFault.Memory) ⊎ (e ≡ FeedFault.Read)) }
-    ensures cut { (t : List ℕ) → (members : List Member) → S.text source.old ≡ Some t → IsIndex LINE_LIMIT t members
+    ensures cut { (t : List ℕ) → (members : List Member) → S.text source.old ≡ Some t
+        → IsIndex LINE_LIMIT t members
         → IfOk result (λ r. IsCut (key.now, stamp.now) t members r.0.start) }
     ensures probes { IfOk result (λ r. r.1 ≤ digits (S.extent source.old)) }
 {
@@ -80,20 +80,27 @@ impl Streams {
     ) -> Result<u64, FeedFault>
         ensures text { S.text source.new ≡ S.text source.old }
         ensures extent { S.extent source.new ≡ S.extent source.old }
-        ensures worked { OnOk result (S.failures source.new ≡ S.failures source.old) }
-        ensures failed { IfErr result (λ e. e ≡ FeedFault.Read → S.failures source.new ≡ next_count (S.failures source.old)) }
+        ensures failures { CountsFeed result (S.failures source.old) (S.failures source.new) }
         ensures probes { IfOk result (λ n. n ≤ digits (S.extent source.old)) }
-        ensures kept { IfErr result (λ e. e ≢ FeedFault.Read → S.failures source.new ≡ S.failures source.old) }
-        ensures fault { (t : List ℕ) → S.text source.old ≡ Some t → IfErr result (NamesLine LINE_LIMIT t) }
-        ensures settled { AreSettled self.old.feeds.items → OnOk result (AreSettled self.new.feeds.items) }
+        ensures fault { (t : List ℕ) → S.text source.old ≡ Some t
+            → IfErr result (NamesLine LINE_LIMIT t) }
+        ensures settled { AreSettled self.old.feeds.items
+            → OnOk result (AreSettled self.new.feeds.items) }
         ensures held { self.new.held ≡ self.old.held }
-        ensures added { OnOk result ((f : Feed) × (o : Option Member) × (self.new.feeds.items ≡ self.old.feeds.items ++ f ∷ [])
-            × MatchOption o (self.new.waiting ≡ self.old.waiting) (λ m. IsPermutation (record { member = m; source = length self.old.feeds.items } ∷ self.old.waiting) self.new.waiting)
-            × Fed LINE_LIMIT (R.past range.now) (S.text source.new) (S.extent source.new) f (option_list o)
+        ensures added { OnOk result
+            ((f : Feed) × (o : Option Member)
+            × (self.new.feeds.items ≡ self.old.feeds.items ++ f ∷ [])
+            × MatchOption o (self.new.waiting ≡ self.old.waiting) (λ m.
+            IsPermutation (record { member = m; source = length self.old.feeds.items } ∷
+            self.old.waiting) self.new.waiting)
+            × Fed LINE_LIMIT (R.past range.now) (S.text source.new) (S.extent source.new) f
+            (option_list o)
             × IsCutAt LINE_LIMIT (key.now, stamp.now) (S.text source.new) f.cursor
             × ((t : List ℕ) → S.text source.old ≡ Some t → done LINE_LIMIT t f ≡ [])
-            × CameWithin (S.text source.old) (S.extent source.old) (S.gave source.old) (S.gave source.new) f.cursor) }
-        ensures spent { OpenedWithin (S.text source.old) (S.extent source.old) (S.gave source.old) (S.gave source.new) }
+            × CameWithin (S.text source.old) (S.extent source.old) (S.gave source.old)
+            (S.gave source.new) f.cursor) }
+        ensures spent { OpenedWithin (S.text source.old) (S.extent source.old) (S.gave source.old)
+            (S.gave source.new) }
     {
         let (cursor, probes) = find_start(alloc, source, key, stamp)?;
         self.add(source, cursor, range)?;
@@ -110,19 +117,26 @@ impl Streams {
     ) -> Result<Opened, MergeFault>
         ensures text { map S.text sources.new ≡ map S.text sources.old }
         ensures extent { map S.extent sources.new ≡ map S.extent sources.old }
-        ensures worked { OnOk result (map S.failures sources.new ≡ map S.failures sources.old) }
-        ensures read { IfErr result (λ e. (n : ℕ) → e ≡ MergeFault.Feed n FeedFault.Read → RaisedAt n (map S.failures sources.old) (map S.failures sources.new)) }
-        ensures kept { IfErr result (λ e. ((n : ℕ) → e ≢ MergeFault.Feed n FeedFault.Read) → map S.failures sources.new ≡ map S.failures sources.old) }
-        ensures spent { AllTwo (λ x y. OpenedWithin (S.text x) (S.extent x) (S.gave x) (S.gave y)) sources.old sources.new }
-        ensures came { IfOk result (λ o. AllTwo (λ x y. CameWithin (S.text x) (S.extent x) (S.gave x) (S.gave y.0) y.1.cursor) sources.old (zip sources.new o.streams.feeds.items)) }
-        ensures unwritten { IfErr result (λ e. e ≢ MergeFault.Write) }
+        ensures failures { CountsReads result (map S.failures sources.old)
+            (map S.failures sources.new) }
+        ensures spent { AllZip (λ x y.
+            OpenedWithin (S.text x) (S.extent x) (S.gave x) (S.gave y)) sources.old sources.new }
+        ensures came { IfOk result (λ o.
+            AllZip (λ x y. CameWithin (S.text x) (S.extent x) (S.gave x) (S.gave y.0) y.1.cursor)
+            sources.old (zip sources.new o.streams.feeds.items)) }
         ensures fault { IfErr result (IsFaultOf LINE_LIMIT (map S.text sources.old)) }
-        ensures ready { IfOk result (λ o. Ready LINE_LIMIT (R.past range.now) S.text S.extent sources.new o.streams.feeds.items o.streams.waiting) }
-        ensures cut { IfOk result (λ o. AllByRecursion (λ x. IsCutAt LINE_LIMIT (key.now, stamp.now) (S.text x.0) x.1.cursor) (zip sources.new o.streams.feeds.items)) }
-        ensures fresh { IfOk result (λ o. all_done LINE_LIMIT S.text sources.new o.streams.feeds.items ≡ []) }
+        ensures ready { IfOk result (λ o.
+            Ready LINE_LIMIT (R.past range.now) S.text S.extent sources.new o.streams.feeds.items
+            o.streams.waiting) }
+        ensures cut { IfOk result (λ o.
+            AllByRecursion (λ x. IsCutAt LINE_LIMIT (key.now, stamp.now) (S.text x.0) x.1.cursor)
+            (zip sources.new o.streams.feeds.items)) }
+        ensures fresh { IfOk result (λ o.
+            all_done LINE_LIMIT S.text sources.new o.streams.feeds.items ≡ []) }
         ensures settled { IfOk result (λ o. AreSettled o.streams.feeds.items) }
         ensures held { IfOk result (λ o. o.streams.held ≡ 0) }
-        ensures probes { IfOk result (λ o. o.probes ≤ sum (map (λ s. digits (S.extent s)) sources.old)) }
+        ensures probes { IfOk result (λ o.
+            o.probes ≤ sum (map (λ s. digits (S.extent s)) sources.old)) }
     {
         let mut streams = Streams {
             feeds: Vec::new(alloc),

@@ -3,7 +3,7 @@ ghost use Rattle.std.specs.Prelude.{◌≡◌, ◌≢◌, ◌+◌, ◌<◌, ◌�
 ghost use Rattle.cdxj_core.specs.declared.limit.TheConstants.{LINE_LIMIT};
 ghost use Rattle.cdxj_core.specs.Members.{line_entry};
 ghost use Rattle.cdxj_places.specs.TextLines.{lines};
-ghost use Rattle.devices.specs.Device.{next_count};
+ghost use Rattle.merge_core.specs.Failures.{CountsFeed};
 ghost use Rattle.source_core.specs.Cursors.{Stands, reach};
 ghost use Rattle.source_core.specs.IndexLines.{first_length};
 ghost use Rattle.merge_core.specs.Feeds.{read_lines};
@@ -51,8 +51,10 @@ impl Store {
     #[tactic(auto, using(crate::proofs::FeedLemmas::no_entry))]
     fn line(&mut self) -> Result<Box<Line>, LineFault>
         ensures kept { self.new.bytes ≡ self.old.bytes }
-        ensures read { MatchResult result (λ line. line_entry LINE_LIMIT self.old.bytes.items ≡ Some line.value)
-            (λ fault. fault ≢ LineFault.Memory → line_entry LINE_LIMIT self.old.bytes.items ≡ None) }
+        ensures read { MatchResult result (λ line.
+            line_entry LINE_LIMIT self.old.bytes.items ≡ Some line.value)
+            (λ fault. fault ≢ LineFault.Memory → line_entry LINE_LIMIT self.old.bytes.items
+            ≡ None) }
     {
         match self.spare.pop() {
             Some(mut line) => match line.refill(&self.bytes) {
@@ -76,20 +78,28 @@ impl Store {
         ensures text { S.text source.new ≡ S.text source.old }
         ensures extent { S.extent source.new ≡ S.extent source.old }
         ensures gave { S.gave source.new + reach cursor.old ≤ S.gave source.old + reach cursor.new }
-        ensures worked { OnOk result (S.failures source.new ≡ S.failures source.old) }
-        ensures failed { IfErr result (λ e. e ≡ FeedFault.Read → S.failures source.new ≡ next_count (S.failures source.old)) }
-        ensures kept { IfErr result (λ e. e ≢ FeedFault.Read → S.failures source.new ≡ S.failures source.old) }
+        ensures failures { CountsFeed result (S.failures source.old) (S.failures source.new) }
         ensures stands { OnOk result (Stands (S.text source.new) (S.extent source.new) cursor.new) }
         ensures start { cursor.new.start ≡ cursor.old.start }
-        ensures count { IfOk result (λ o. MatchOption o (cursor.new.count ≡ cursor.old.count) (λ _. cursor.new.count ≡ cursor.old.count + 1)) }
-        ensures there { IfOk result (λ o. MatchOption o (cursor.new.at ≡ S.extent source.old) (λ _. cursor.old.at < cursor.new.at)) }
+        ensures count { IfOk result (λ o.
+            MatchOption o (cursor.new.count ≡ cursor.old.count) (λ _.
+            cursor.new.count ≡ cursor.old.count + 1)) }
+        ensures there { IfOk result (λ o.
+            MatchOption o (cursor.new.at ≡ S.extent source.old) (λ _.
+            cursor.old.at < cursor.new.at)) }
         ensures given { (t : List ℕ) → S.text source.old ≡ Some t → IfOk result (λ o. MatchOption o
-            ((read_lines t cursor.new ≡ read_lines t cursor.old) × (lines (drop cursor.new.at t) ≡ []))
-            (λ line. (l : List ℕ) × (read_lines t cursor.new ≡ read_lines t cursor.old ++ l ∷ []) × (line_entry LINE_LIMIT l ≡ Some line.value))) }
-        ensures next { (t : List ℕ) → S.text source.old ≡ Some t → IfOk result (λ o. IsNextLine LINE_LIMIT t cursor.old.at cursor.new.at (option_map (λ b. b.value) o)) }
-        ensures most { (t : List ℕ) → S.text source.old ≡ Some t → cursor.new.at ≤ cursor.old.at + first_length (lines (drop cursor.old.at t)) }
+            ((read_lines t cursor.new ≡ read_lines t cursor.old)
+            × (lines (drop cursor.new.at t) ≡ []))
+            (λ line. (l : List ℕ) × (read_lines t cursor.new ≡ read_lines t cursor.old ++ l ∷ [])
+            × (line_entry LINE_LIMIT l ≡ Some line.value))) }
+        ensures next { (t : List ℕ) → S.text source.old ≡ Some t
+            → IfOk result (λ o. IsNextLine LINE_LIMIT t cursor.old.at cursor.new.at
+            (option_map (λ b. b.value) o)) }
+        ensures most { (t : List ℕ) → S.text source.old ≡ Some t → cursor.new.at
+            ≤ cursor.old.at + first_length (lines (drop cursor.old.at t)) }
         ensures ahead { length cursor.new.ahead ≤ 8192 }
-        ensures fault { (t : List ℕ) → S.text source.old ≡ Some t → IfErr result (IsFaultAt LINE_LIMIT (lines (drop cursor.old.at t)) cursor.old.at) }
+        ensures fault { (t : List ℕ) → S.text source.old ≡ Some t
+            → IfErr result (IsFaultAt LINE_LIMIT (lines (drop cursor.old.at t)) cursor.old.at) }
     {
         let begin = cursor.at();
         match cursor.next(source, &mut self.bytes) {

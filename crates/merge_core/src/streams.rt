@@ -1,4 +1,5 @@
 //! Sources that are read side by side.
+ghost use Rattle.std.specs.List.{AllZip};
 ghost use Rattle.std.specs.Prelude.{◌≡◌, ◌≢◌, ◌+◌, ◌-◌, ◌^◌, ◌<◌, ◌≤◌, ◌∷◌, ℕ, false, [], length, map, max, min, slice_index_or, slice_set, Option, Some, IfOk, IfErr, OnOk, OnErr, MatchOption, IfSome};
 ghost use Rattle.std.specs.List.{AllByRecursion, sum, zip};
 ghost use Rattle.std.specs.List.Sorted.{IsPermutation};
@@ -8,10 +9,9 @@ ghost use Rattle.cdxj_core.specs.Members.{member_pair};
 ghost use Rattle.cdxj_places.specs.Pairs.{Pair};
 ghost use Rattle.merge_core.specs.PairOrders.{Alike, Below, IsAbove, Upto};
 ghost use Rattle.merge_core.specs.WaitingLines.{waiting_pair, turn_cmp};
-ghost use Rattle.merge_core.specs.Failures.{RaisedAt};
+ghost use Rattle.merge_core.specs.Failures.{CountsReads};
 ghost use Rattle.merge_core.specs.LineFaults.{IsFaultOf};
 ghost use Rattle.merge_core.specs.Spending.{AreReadTo};
-ghost use Rattle.merge_core.specs.Gathering.{AllTwo};
 
 use crate::fault::{FeedFault, MergeFault};
 use crate::feed::{Feed, Progress};
@@ -40,7 +40,9 @@ impl Streams {
 
     fn mark_due(&mut self, source: usize)
         requires { source < length self.old.feeds.items }
-        ensures feeds { (d : Feed) → self.new.feeds.items ≡ slice_set self.old.feeds.items source (due (slice_index_or self.old.feeds.items source d)) }
+        ensures feeds { (d : Feed) → self.new.feeds.items
+            ≡ slice_set self.old.feeds.items source
+            (due (slice_index_or self.old.feeds.items source d)) }
         ensures waiting { self.new.waiting ≡ self.old.waiting }
         ensures held { self.new.held ≡ self.old.held }
     {
@@ -50,10 +52,14 @@ impl Streams {
     /// Removes and returns the first line that waits.
     fn take_first(&mut self) -> Option<Waiting>
         requires { AllByRecursion (λ w. w.source < length self.old.feeds.items) self.old.waiting }
-        ensures out { MatchOption result ((self.old.waiting ≡ []) × (self.new.waiting ≡ [])) (λ w. IsPermutation self.old.waiting (w ∷ self.new.waiting)) }
-        ensures first { IfSome result (λ w. AllByRecursion (λ v. is_lt (turn_cmp v w) ≡ false) self.new.waiting) }
+        ensures out { MatchOption result ((self.old.waiting ≡ []) × (self.new.waiting ≡ [])) (λ w.
+            IsPermutation self.old.waiting (w ∷ self.new.waiting)) }
+        ensures first { IfSome result (λ w.
+            AllByRecursion (λ v. is_lt (turn_cmp v w) ≡ false) self.new.waiting) }
         ensures feeds { MatchOption result (self.new.feeds.items ≡ self.old.feeds.items)
-            (λ w. (d : Feed) → self.new.feeds.items ≡ slice_set self.old.feeds.items w.source (due (slice_index_or self.old.feeds.items w.source d))) }
+            (λ w. (d : Feed) → self.new.feeds.items
+            ≡ slice_set self.old.feeds.items w.source
+            (due (slice_index_or self.old.feeds.items w.source d))) }
         ensures held { self.new.held ≡ self.old.held }
     {
         match self.waiting.pop() {
@@ -67,14 +73,21 @@ impl Streams {
 
     /// Removes and returns the first line that waits, if it has the pair of this one.
     fn take_at(&mut self, line: &KeyedLine<'_>) -> Option<Waiting>
-        requires placed { AllByRecursion (λ w. w.source < length self.old.feeds.items) self.old.waiting }
-        requires from { AllByRecursion (λ w. Upto (member_pair line.now) (waiting_pair w)) self.old.waiting }
-        ensures out { MatchOption result ((self.new.waiting ≡ self.old.waiting) × AllByRecursion (λ w. Below (member_pair line.now) (waiting_pair w)) self.new.waiting)
+        requires placed { AllByRecursion (λ w.
+            w.source < length self.old.feeds.items) self.old.waiting }
+        requires from { AllByRecursion (λ w.
+            Upto (member_pair line.now) (waiting_pair w)) self.old.waiting }
+        ensures out { MatchOption result
+            ((self.new.waiting ≡ self.old.waiting)
+            × AllByRecursion (λ w. Below (member_pair line.now) (waiting_pair w)) self.new.waiting)
             (λ w. IsPermutation self.old.waiting (w ∷ self.new.waiting)) }
-        ensures first { IfSome result (λ w. AllByRecursion (λ v. is_lt (turn_cmp v w) ≡ false) self.new.waiting) }
+        ensures first { IfSome result (λ w.
+            AllByRecursion (λ v. is_lt (turn_cmp v w) ≡ false) self.new.waiting) }
         ensures alike { IfSome result (λ w. Alike (waiting_pair w) (member_pair line.now)) }
         ensures feeds { MatchOption result (self.new.feeds.items ≡ self.old.feeds.items)
-            (λ w. (d : Feed) → self.new.feeds.items ≡ slice_set self.old.feeds.items w.source (due (slice_index_or self.old.feeds.items w.source d))) }
+            (λ w. (d : Feed) → self.new.feeds.items
+            ≡ slice_set self.old.feeds.items w.source
+            (due (slice_index_or self.old.feeds.items w.source d))) }
         ensures held { self.new.held ≡ self.old.held }
     {
         match self.waiting.pop_at(line) {
@@ -93,7 +106,8 @@ impl Streams {
     ) -> Result<(), MergeFault>
         ensures feeds { self.new.feeds.items ≡ self.old.feeds.items }
         ensures waiting { OnOk result (MatchOption line (self.new.waiting ≡ self.old.waiting)
-            (λ b. IsPermutation (record { member = b.value; source = source } ∷ self.old.waiting) self.new.waiting)) }
+            (λ b. IsPermutation (record { member = b.value; source = source } ∷ self.old.waiting)
+            self.new.waiting)) }
         ensures refused { IfErr result (λ e. e ≡ MergeFault.Memory) }
         ensures held { self.new.held ≡ self.old.held }
     {
@@ -115,28 +129,45 @@ impl Streams {
         range: &R,
         rest: &mut Vec<Box<Line>>,
     ) -> Result<(), MergeFault>
-        requires ready { Ready LINE_LIMIT (R.past range.now) S.text S.extent sources.old self.old.feeds.items self.old.waiting }
+        requires ready { Ready LINE_LIMIT
+            (R.past range.now) S.text S.extent sources.old self.old.feeds.items self.old.waiting }
         requires inside { i < length sources.old }
-        requires due { (a : S) → (d : Feed) → IsDue LINE_LIMIT (member_pair first.now) (S.text (slice_index_or sources.old i a)) (slice_index_or self.old.feeds.items i d) }
-        ensures moved { AllTwo (λ x y. Moved (S.text x.0) (S.text y.0) (S.extent x.0) (S.extent y.0) (S.gave x.0) (S.gave y.0) x.1.cursor y.1.cursor)
+        requires due { (a : S) → (d : Feed)
+            → IsDue LINE_LIMIT (member_pair first.now) (S.text (slice_index_or sources.old i a))
+            (slice_index_or self.old.feeds.items i d) }
+        ensures moved { AllZip (λ x y.
+            Moved (S.text x.0) (S.text y.0) (S.extent x.0) (S.extent y.0) (S.gave x.0)
+            (S.gave y.0) x.1.cursor y.1.cursor)
             (zip sources.old self.old.feeds.items) (zip sources.new self.new.feeds.items) }
-        ensures worked { OnOk result (map S.failures sources.new ≡ map S.failures sources.old) }
-        ensures read { IfErr result (λ e. (n : ℕ) → e ≡ MergeFault.Feed n FeedFault.Read → RaisedAt n (map S.failures sources.old) (map S.failures sources.new)) }
-        ensures unwritten { IfErr result (λ e. e ≢ MergeFault.Write) }
+        ensures failures { CountsReads result (map S.failures sources.old)
+            (map S.failures sources.new) }
         ensures fault { IfErr result (IsFaultOf LINE_LIMIT (map S.text sources.old)) }
-        ensures kept { IfErr result (λ e. ((n : ℕ) → e ≢ MergeFault.Feed n FeedFault.Read) → map S.failures sources.new ≡ map S.failures sources.old) }
-        ensures ready { OnOk result (Ready LINE_LIMIT (R.past range.now) S.text S.extent sources.new self.new.feeds.items self.new.waiting) }
-        ensures waits { OnOk result (WaitsAbove (member_pair first.now) i self.old.waiting self.new.waiting) }
-        ensures fewer { OnOk result (unread S.extent sources.new self.new.feeds.items + length self.new.waiting ≤ unread S.extent sources.old self.old.feeds.items + length self.old.waiting) }
-        ensures each { AllByRecursion (λ m. Alike (member_pair m) (member_pair first.now)) (map (λ b. b.value) rest.old.items)
-            → OnOk result (AllByRecursion (λ m. Alike (member_pair m) (member_pair first.now)) (map (λ b. b.value) rest.new.items)) }
-        ensures settled { OnOk result ((d : Feed) → IsSettled (slice_index_or self.new.feeds.items i d)) }
-        ensures drained { OnOk result ((s : S) × (f : Feed) × (sources.new ≡ slice_set sources.old i s) × (self.new.feeds.items ≡ slice_set self.old.feeds.items i f)
+        ensures ready { OnOk result
+            (Ready LINE_LIMIT (R.past range.now) S.text S.extent sources.new self.new.feeds.items
+            self.new.waiting) }
+        ensures waits { OnOk result
+            (WaitsAbove (member_pair first.now) i self.old.waiting self.new.waiting) }
+        ensures fewer { OnOk result
+            (unread S.extent sources.new self.new.feeds.items + length self.new.waiting
+            ≤ unread S.extent sources.old self.old.feeds.items + length self.old.waiting) }
+        ensures each { AllByRecursion (λ m. Alike (member_pair m) (member_pair first.now))
+            (map (λ b. b.value) rest.old.items)
+            → OnOk result (AllByRecursion (λ m. Alike (member_pair m) (member_pair first.now))
+            (map (λ b. b.value) rest.new.items)) }
+        ensures settled { OnOk result
+            ((d : Feed) → IsSettled (slice_index_or self.new.feeds.items i d)) }
+        ensures drained { OnOk result
+            ((s : S) × (f : Feed) × (sources.new ≡ slice_set sources.old i s)
+            × (self.new.feeds.items ≡ slice_set self.old.feeds.items i f)
             × ((a : S) → (S.text s ≡ S.text (slice_index_or sources.old i a)))
-            × ((a : S) → (d : Feed) → Drained LINE_LIMIT (member_pair first.now) (S.text (slice_index_or sources.old i a)) (slice_index_or self.old.feeds.items i d) f
+            × ((a : S) → (d : Feed)
+            → Drained LINE_LIMIT (member_pair first.now) (S.text (slice_index_or sources.old i a))
+            (slice_index_or self.old.feeds.items i d) f
             (map (λ b. b.value) rest.old.items) (map (λ b. b.value) rest.new.items))) }
-        ensures reads { AllByRecursion (λ m. Upto (member_pair m) (member_pair first.now)) (all_done LINE_LIMIT S.text sources.old self.old.feeds.items)
-            → AreReadTo LINE_LIMIT (R.past range.now) S.text (Some (member_pair first.now)) sources.new self.new.feeds.items }
+        ensures reads { AllByRecursion (λ m. Upto (member_pair m) (member_pair first.now))
+            (all_done LINE_LIMIT S.text sources.old self.old.feeds.items)
+            → AreReadTo LINE_LIMIT (R.past range.now) S.text
+            (Some (member_pair first.now)) sources.new self.new.feeds.items }
         ensures held { self.new.held ≡ self.old.held }
     {
         let next = match self.feeds[i].drain(&mut sources[i], first, range, &mut self.store, rest) {
@@ -154,25 +185,37 @@ impl Streams {
         range: &R,
         rest: &mut Vec<Box<Line>>,
     ) -> Result<Option<Box<Line>>, MergeFault>
-        requires ready { Ready LINE_LIMIT (R.past range.now) S.text S.extent sources.old self.old.feeds.items self.old.waiting }
+        requires ready { Ready LINE_LIMIT
+            (R.past range.now) S.text S.extent sources.old self.old.feeds.items self.old.waiting }
         requires settled { AreSettled self.old.feeds.items }
         requires empty { rest.old.items ≡ [] }
-        ensures moved { AllTwo (λ x y. Moved (S.text x.0) (S.text y.0) (S.extent x.0) (S.extent y.0) (S.gave x.0) (S.gave y.0) x.1.cursor y.1.cursor)
+        ensures moved { AllZip (λ x y.
+            Moved (S.text x.0) (S.text y.0) (S.extent x.0) (S.extent y.0) (S.gave x.0)
+            (S.gave y.0) x.1.cursor y.1.cursor)
             (zip sources.old self.old.feeds.items) (zip sources.new self.new.feeds.items) }
-        ensures worked { OnOk result (map S.failures sources.new ≡ map S.failures sources.old) }
-        ensures read { IfErr result (λ e. (n : ℕ) → e ≡ MergeFault.Feed n FeedFault.Read → RaisedAt n (map S.failures sources.old) (map S.failures sources.new)) }
-        ensures unwritten { IfErr result (λ e. e ≢ MergeFault.Write) }
+        ensures failures { CountsReads result (map S.failures sources.old)
+            (map S.failures sources.new) }
         ensures fault { IfErr result (IsFaultOf LINE_LIMIT (map S.text sources.old)) }
-        ensures kept { IfErr result (λ e. ((n : ℕ) → e ≢ MergeFault.Feed n FeedFault.Read) → map S.failures sources.new ≡ map S.failures sources.old) }
-        ensures ready { OnOk result (Ready LINE_LIMIT (R.past range.now) S.text S.extent sources.new self.new.feeds.items self.new.waiting) }
+        ensures ready { OnOk result
+            (Ready LINE_LIMIT (R.past range.now) S.text S.extent sources.new self.new.feeds.items
+            self.new.waiting) }
         ensures settled { OnOk result (AreSettled self.new.feeds.items) }
-        ensures group { IfOk result (λ o. MatchOption o ((sources.new ≡ sources.old) × (self.new.feeds.items ≡ self.old.feeds.items) × (self.old.waiting ≡ []) × (self.new.waiting ≡ []))
-            (λ first. Grouped LINE_LIMIT S.text S.extent sources.old self.old.feeds.items self.old.waiting sources.new self.new.feeds.items self.new.waiting
+        ensures group { IfOk result (λ o.
+            MatchOption o ((sources.new ≡ sources.old)
+            × (self.new.feeds.items ≡ self.old.feeds.items) × (self.old.waiting ≡ [])
+            × (self.new.waiting ≡ []))
+            (λ first. Grouped LINE_LIMIT S.text S.extent sources.old self.old.feeds.items
+            self.old.waiting sources.new self.new.feeds.items self.new.waiting
             (member_pair first.value) (first.value ∷ map (λ b. b.value) rest.new.items))) }
-        ensures reads { OnErr result ((pair : Pair) × ((b : Option Pair) → AllByRecursion (λ w. IsAbove b (waiting_pair w)) self.old.waiting → IsAbove b pair)
+        ensures reads { OnErr result
+            ((pair : Pair) × ((b : Option Pair)
+            → AllByRecursion (λ w. IsAbove b (waiting_pair w)) self.old.waiting → IsAbove b pair)
             × AllByRecursion (λ w. Upto pair (waiting_pair w)) self.old.waiting
-            × (AreTold S.text sources.old → AllByRecursion (λ m. Below (member_pair m) pair) (all_done LINE_LIMIT S.text sources.old self.old.feeds.items)
-            → AreReadTo LINE_LIMIT (R.past range.now) S.text (Some pair) sources.new self.new.feeds.items)) }
+            × (AreTold S.text sources.old
+            → AllByRecursion (λ m. Below (member_pair m) pair)
+            (all_done LINE_LIMIT S.text sources.old self.old.feeds.items)
+            → AreReadTo LINE_LIMIT (R.past range.now) S.text
+            (Some pair) sources.new self.new.feeds.items)) }
         ensures held { self.new.held ≡ self.old.held }
     {
         let Some(next) = self.take_first() else {
@@ -199,7 +242,9 @@ impl Streams {
         ensures feeds { self.new.feeds.items ≡ self.old.feeds.items }
         ensures waiting { self.new.waiting ≡ self.old.waiting }
         ensures rest { rest.new.items ≡ [] }
-        ensures held { self.new.held ≡ max self.old.held (min (length self.old.waiting + 1 + length rest.old.items) (2 ^ 64 - 1)) }
+        ensures held { self.new.held
+            ≡ max self.old.held (min (length self.old.waiting + 1 + length rest.old.items)
+            (2 ^ 64 - 1)) }
     {
         let waiting = self.waiting.len();
         let held = waiting.saturating_add(1).saturating_add(rest.len());

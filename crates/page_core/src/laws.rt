@@ -23,8 +23,12 @@ pub fn begun_page_is_front()
 /// sizes there is one such chain. Collapsing that resumes after one of its captures gives the same
 /// later captures.
 pub fn pages_join()
-    ensures join { (same : PlaceValue → PlaceValue → Bool) (l : List Member) (rises : Rises member_place place_cmp l) → PagesJoin same l rises }
-    ensures one { (same : PlaceValue → PlaceValue → Bool) (l : List Member) (rises : Rises member_place place_cmp l)
-        → (p : Option PlaceValue) (sizes : List ℕ) → AllPositive sizes → (pages : List (Page Member PlaceValue)) × IsOneChain same l rises p sizes pages }
-    ensures resumes { (same : PlaceValue → PlaceValue → Bool) (l : List Member) (rises : Rises member_place place_cmp l) → CollapseResumes same l rises }
+    ensures join { (same : PlaceValue → PlaceValue → Bool) (l : List Member)
+        (rises : Rises member_place place_cmp l) → PagesJoin same l rises }
+    ensures one { (same : PlaceValue → PlaceValue → Bool) (l : List Member)
+        (rises : Rises member_place place_cmp l)
+        → (p : Option PlaceValue) (sizes : List ℕ) → AllPositive sizes
+        → (pages : List (Page Member PlaceValue)) × IsOneChain same l rises p sizes pages }
+    ensures resumes { (same : PlaceValue → PlaceValue → Bool) (l : List Member)
+        (rises : Rises member_place place_cmp l) → CollapseResumes same l rises }
 {}

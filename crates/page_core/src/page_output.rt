@@ -45,7 +45,8 @@ impl<'f> PageOutput<'f> {
     /// Writes what precedes the first capture.
     pub fn put_start<O: Output>(&mut self, out: &mut O) -> Result<(), TextFault>
         ensures form { self.new ≡ self.old }
-        ensures text { WritesText result (O.written out.old) (O.written out.new) (page_start self.old) }
+        ensures text { WritesText result (O.written out.old) (O.written out.new)
+            (page_start self.old) }
         ensures failures { CountsWrite result (O.failures out.old) (O.failures out.new) }
     {
         self.text.clear();
@@ -57,7 +58,8 @@ impl<'f> PageOutput<'f> {
     /// Writes the row of a capture.
     pub fn put_row<O: Output>(&mut self, line: &Line, out: &mut O) -> Result<(), TextFault>
         ensures form { self.new ≡ self.old }
-        ensures text { WritesText result (O.written out.old) (O.written out.new) (row_text self.old line.now) }
+        ensures text { WritesText result (O.written out.old) (O.written out.new)
+            (row_text self.old line.now) }
         ensures failures { CountsWrite result (O.failures out.old) (O.failures out.new) }
     {
         self.text.clear();

@@ -1,5 +1,5 @@
 -- One page of a query, by what was taken of its sources.
-use Rattle.std.proofs.Common.{◌≡◌, Err, ℕ, List, [], ◌∷◌, ◌++◌, refl, sym, ap, ap₂, ◌∙◌, subst, Bool, true, false, not, ◌&&◌, cond, Option, filter, min, length, ◌-◌, ◌^◌}
+use Rattle.std.proofs.Common.{◌≡◌, ℕ, List, [], ◌∷◌, ◌++◌, refl, sym, ap, ◌∙◌, subst, Bool, true, false, not, ◌&&◌, cond, Option, filter, min, length, ◌-◌, ◌^◌}
 use Rattle.std.specs.Option.{is_some}
 use Rattle.std.specs.Io.KnownBytes.{Appends}
 use Rattle.std.proofs.lemmas.Bool.{true≢false}
@@ -11,10 +11,6 @@ use Rattle.query_text.specs.Collapses.{same_part}
 use Rattle.query_text.specs.Filters.{holds}
 use Rattle.std.specs.List.{list_all}
 use Rattle.query_text.proofs.RangeLaw.{match_not_past}
-use Rattle.devices.specs.Device.{next_count}
-use Rattle.page_core.specs.declared.fault.TextFault.{TextFault}
-use Rattle.page_core.specs.declared.fault.TextFault.TheVariants.{Memory, Write}
-use Rattle.page_core.specs.Faults.{CountsWrite}
 use Rattle.cdxj_core.specs.Members.{Member, member_place}
 use Rattle.page_core.specs.Pages.{Page, is_above, kept}
 use Rattle.page_core.specs.PageText.{page_text, page_end, begun}
@@ -23,9 +19,8 @@ use Rattle.devices.proofs.WritingLemmas.{prefix_longer}
 use Rattle.query_core.specs.declared.page_writer.PageEnd.{PageEnd}
 use Rattle.query_core.specs.declared.report.Report.{Report}
 use Rattle.query_core.specs.Answering.{Answered}
-use Rattle.query_core.specs.QueryPages.{form_of, shown_key, query_page}
+use Rattle.query_core.specs.QueryPages.{answer_text, form_of, shown_key, query_page}
 use Rattle.query_core.specs.PageWriting.{is_wanted, captures_over, page_over, next_of, PageStands}
-use Rattle.query_core.specs.PageAsked.{asked_page, asked_text, WrotePage}
 use Rattle.query_core.proofs.WriterLemmas.{page, decided, next_is, page_front}
 
 pub filter_and : (f g : Member → Bool) (xs : List Member) → filter g (filter f xs) ≡ filter (λ m. f m && g m) xs
@@ -52,71 +47,55 @@ wanted_within q from m h =
     ap not (match_not_past q.target m.values.key
     (and_left a b (and_left (a && b) c (and_left (a && b && c) d (and_left (matches q m.values) (is_above member_place place_cmp from m) h)))))
 
--- the page that is asked for is that of the lines that are wanted
-pub asked_is : (q : QueryValue) (from : Option PlaceValue) (limit : Option ℕ) (lines : List Member) → asked_page q from limit lines ≡ page_over q from limit lines
-asked_is q from limit lines =
-    ap (λ l. page limit (kept member_place (same_part q.collapse) from l)) (filter_and (λ m. matches q m.values) (is_above member_place place_cmp from) lines)
+-- the query's page is that of the lines that are wanted
+pub asked_is : (q : QueryValue) (lines : List Member) → query_page q lines ≡ page_over q q.resume q.limit lines
+asked_is q lines =
+    ap (λ l. page q.limit (kept member_place (same_part q.collapse) q.resume l)) (filter_and (λ m. matches q m.values) (is_above member_place place_cmp q.resume) lines)
 
 -- of all lines these were taken
-module _ (q : QueryValue) (from : Option PlaceValue) (limit : Option ℕ) (shows : Bool) (all taken : List Member) where
+module _ (q : QueryValue) (all taken : List Member) where
+  abbrev captures : List Member → List Member
+  captures lines = captures_over q q.resume lines
+
+  abbrev taken_page : Page Member PlaceValue
+  taken_page = page_over q q.resume q.limit taken
+
   -- they settle the page
-  pub page_settled : (whole more : Bool) (rest : List Member) → captures_over q from all ≡ captures_over q from taken ++ rest → (whole ≡ true → captures_over q from all ≡ captures_over q from taken) → (whole ≡ false → more ≡ true)
-      → more ≡ is_some (page_over q from limit taken).next → asked_page q from limit all ≡ page_over q from limit taken
-  page_settled true more rest first ended enough is = asked_is q from limit all ∙ ap (page limit) (ended refl)
+  pub page_settled : (whole more : Bool) (rest : List Member) → captures all ≡ captures taken ++ rest → (whole ≡ true → captures all ≡ captures taken) → (whole ≡ false → more ≡ true)
+      → more ≡ is_some taken_page.next → query_page q all ≡ taken_page
+  page_settled true more rest first ended enough is = asked_is q all ∙ ap (page q.limit) (ended refl)
   page_settled false more rest first ended enough is =
-      asked_is q from limit all ∙ ap (page limit) first ∙ decided limit (captures_over q from taken) rest (sym is ∙ enough refl)
+      asked_is q all ∙ ap (page q.limit) first ∙ decided q.limit (captures taken) rest (sym is ∙ enough refl)
 
-  module _ (start mid new : Option (List ℕ)) (given : ℕ) (more : Bool) (last : Option PlaceValue) (s : PageStands (form_of q) limit (captures_over q from taken) start mid given more last) (same : asked_page q from limit all ≡ page_over q from limit taken) where
-    next_same : next_of more last ≡ (asked_page q from limit all).next
-    next_same = next_is limit (captures_over q from taken) more last s.more_is s.last_is ∙ ap (λ (p : Page Member PlaceValue). p.next) (sym same)
+  module _ (start mid new : Option (List ℕ)) (given : ℕ) (more : Bool) (last : Option PlaceValue) (s : PageStands (form_of q) q.limit (captures taken) start mid given more last) (same : query_page q all ≡ taken_page) where
+    next_same : next_of more last ≡ (query_page q all).next
+    next_same = next_is q.limit (captures taken) more last s.more_is s.last_is ∙ ap (λ (p : Page Member PlaceValue). p.next) (sym same)
 
-    text_same : page_text (form_of q) (page_over q from limit taken).members (shown_key shows (next_of more last)) ≡ asked_text q from limit shows all
+    text_same : page_text (form_of q) taken_page.members (shown_key q.show_resume_key (next_of more last)) ≡ answer_text q (query_page q all)
     text_same =
-        ap (λ (p : Page Member PlaceValue). page_text (form_of q) p.members (shown_key shows (next_of more last))) (sym same)
-        ∙ ap (λ n. page_text (form_of q) (asked_page q from limit all).members (shown_key shows n)) next_same
+        ap (λ (p : Page Member PlaceValue). page_text (form_of q) p.members (shown_key q.show_resume_key (next_of more last))) (sym same)
+        ∙ ap (λ n. page_text (form_of q) (query_page q all).members (shown_key q.show_resume_key n)) next_same
 
     -- with its end it is written
-    pub page_wrote : (end : PageEnd) → Appends mid new (page_end (form_of q) (shown_key shows (next_of more last))) → end.given ≡ given → end.next ≡ next_of more last
-        → WrotePage q from limit shows all start new end
-    page_wrote end a g n = record {
-      text = subst (Appends start new) text_same (written-whole start mid new (form_of q) (page_over q from limit taken).members (shown_key shows (next_of more last)) s.text a);
-      given = g ∙ s.given_is ∙ ap (λ (p : Page Member PlaceValue). min (length p.members) (2 ^ 64 - 1)) (sym same);
-      next = n ∙ next_same;
+    pub page_wrote : (end : PageEnd) (report : Report) → Appends mid new (page_end (form_of q) (shown_key q.show_resume_key (next_of more last))) → end.given ≡ given → end.next ≡ next_of more last
+        → report.given ≡ end.given → report.more ≡ is_some end.next → Answered q all start new report
+    page_wrote end report a g n of_end is_more = record {
+      text = subst (Appends start new) text_same (written-whole start mid new (form_of q) taken_page.members (shown_key q.show_resume_key (next_of more last)) s.text a);
+      given = of_end ∙ g ∙ s.given_is ∙ ap (λ (p : Page Member PlaceValue). min (length p.members) (2 ^ 64 - 1)) (sym same);
+      more = is_more ∙ ap is_some (n ∙ next_same);
     }
 
-    pub page_cut : AppendsPrefix mid new (page_end (form_of q) (shown_key shows (next_of more last))) → AppendsPrefix start new (asked_text q from limit shows all)
-    page_cut p = subst (AppendsPrefix start new) text_same (front-end start mid new (form_of q) (page_over q from limit taken).members (shown_key shows (next_of more last)) s.text p)
+    pub page_cut : AppendsPrefix mid new (page_end (form_of q) (shown_key q.show_resume_key (next_of more last))) → AppendsPrefix start new (answer_text q (query_page q all))
+    page_cut p = subst (AppendsPrefix start new) text_same (front-end start mid new (form_of q) taken_page.members (shown_key q.show_resume_key (next_of more last)) s.text p)
 
   -- a front of what was taken is a front of the page
-  pub page_broke : (start now : Option (List ℕ)) (rest : List Member) → captures_over q from all ≡ captures_over q from taken ++ rest
-      → AppendsPrefix start now (begun (form_of q) (page_over q from limit taken).members) → AppendsPrefix start now (asked_text q from limit shows all)
+  pub page_broke : (start now : Option (List ℕ)) (rest : List Member) → captures all ≡ captures taken ++ rest
+      → AppendsPrefix start now (begun (form_of q) taken_page.members) → AppendsPrefix start now (answer_text q (query_page q all))
   page_broke start now rest first p =
-      let r = page_front limit (captures_over q from taken) rest in
-      let key = shown_key shows (asked_page q from limit all).next in
-      let members : (asked_page q from limit all).members ≡ (page_over q from limit taken).members ++ r.0 =
-      ap (λ (p : Page Member PlaceValue). p.members) (asked_is q from limit all ∙ ap (page limit) first) ∙ r.1 in
-      let f = begun_is_front (form_of q) (page_over q from limit taken).members r.0 key in
+      let r = page_front q.limit (captures taken) rest in
+      let key = shown_key q.show_resume_key (query_page q all).next in
+      let members : (query_page q all).members ≡ taken_page.members ++ r.0 =
+      ap (λ (p : Page Member PlaceValue). p.members) (asked_is q all ∙ ap (page q.limit) first) ∙ r.1 in
+      let f = begun_is_front (form_of q) taken_page.members r.0 key in
       subst (AppendsPrefix start now) (sym (ap (λ ms. page_text (form_of q) ms key) members ∙ f.1))
-      (prefix_longer start now (begun (form_of q) (page_over q from limit taken).members) f.0 p)
-
--- the page that a query asks for
-pub answered : (q : QueryValue) (from : Option PlaceValue) (limit : Option ℕ) (shows : Bool) (lines : List Member) (old new : Option (List ℕ)) (end : PageEnd) (report : Report)
-    → from ≡ q.resume → limit ≡ q.limit → shows ≡ q.show_resume_key → report.given ≡ end.given → report.more ≡ is_some end.next
-    → WrotePage q from limit shows lines old new end → Answered q lines old new report
-answered q from limit shows lines old new end report a b d given more wrote =
-    let page : asked_page q from limit lines ≡ query_page q lines = ap₂ (λ f n. asked_page q f n lines) a b in
-    record {
-      text = subst (Appends old new) (ap₂ (λ (p : Page Member PlaceValue) s. page_text (form_of q) p.members (shown_key s p.next)) page d) wrote.text;
-      given = given ∙ wrote.given ∙ ap (λ (p : Page Member PlaceValue). min (length p.members) (2 ^ 64 - 1)) page;
-      more = more ∙ ap is_some (wrote.next ∙ ap (λ (p : Page Member PlaceValue). p.next) page);
-    }
-
--- a failure of the output is counted
-pub write_counted : (f : TextFault) (old new : ℕ) → f ≡ Write → CountsWrite {A = Unit {0}} (Err f) old new → new ≡ next_count old
-write_counted Memory old new e h = cc
-write_counted Write old new e h = h
-
--- where the output didn't fail, nothing is counted
-pub write_kept : (f : TextFault) (old new : ℕ) → (f ≡ Write → ⊥) → CountsWrite {A = Unit {0}} (Err f) old new → new ≡ old
-write_kept Memory old new e h = h
-write_kept Write old new e h = absurd (e refl)
+      (prefix_longer start now (begun (form_of q) taken_page.members) f.0 p)

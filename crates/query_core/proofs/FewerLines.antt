@@ -9,7 +9,7 @@ use Rattle.query_text.specs.Collapses.{same_part}
 use Rattle.query_text.specs.Queries.{QueryValue}
 use Rattle.page_core.specs.Pages.{Page, repeats, kept}
 use Rattle.query_core.specs.Collections.{all_lines, collection}
-use Rattle.query_core.specs.PageAsked.{asked_page}
+use Rattle.query_core.specs.QueryPages.{query_page}
 use Rattle.query_core.specs.PageWriting.{is_wanted, captures_over, page_over}
 use Rattle.query_core.proofs.AskedLemmas.{asked_is}
 
@@ -53,11 +53,11 @@ over_fewer : (q : QueryValue) (from : Option PlaceValue) (limit : Option ℕ) (l
 over_fewer q from None lines = captures_fewer q from lines
 over_fewer q from (Some n) lines = let h = captures_fewer q from lines in omega (arith, length-take n (captures_over q from lines))
 
-pub page_fewer : (q : QueryValue) (from : Option PlaceValue) (limit : Option ℕ) (parts : List (List Member)) (given lines : ℕ) → given ≡ min (length (asked_page q from limit (collection parts)).members) (2 ^ 64 - 1)
+pub page_fewer : (q : QueryValue) (parts : List (List Member)) (given lines : ℕ) → given ≡ min (length (query_page q (collection parts)).members) (2 ^ 64 - 1)
     → lines ≡ min (sum (map (λ (ms : List Member). length ms) parts)) (2 ^ 64 - 1) → given ≤ lines
-page_fewer q from limit parts given lines g l =
-    let page = ap (λ (p : Page Member PlaceValue). length p.members) (asked_is q from limit (collection parts)) in
-    let over = over_fewer q from limit (collection parts) in
+page_fewer q parts given lines g l =
+    let page = ap (λ (p : Page Member PlaceValue). length p.members) (asked_is q (collection parts)) in
+    let over = over_fewer q q.resume q.limit (collection parts) in
     let risen = rising_fewer (all_lines parts) in
     let all = all_count parts in
     omega arith

@@ -1,3 +1,5 @@
+pub mod CountLemmas
+pub mod RefusalLemmas
 pub mod Runs
 pub mod CheckLemmas
 pub mod TakenLines

@@ -1,4 +1,5 @@
 -- What was taken of indexes, beside all that is wanted of their collection.
+use Rattle.std.specs.List.{AllZip}
 use Rattle.std.proofs.Common.{◌≡◌, inl, inr, ℕ, List, [], ◌∷◌, ◌++◌, length, map, filter, zip, Bool, true, false, not, ◌&&◌, cond, Option, refl, sym, ap, ap₂, ◌∙◌, subst}
 use Rattle.std.specs.List.{AllByRecursion}
 use Rattle.cdxj_places.specs.Pair.{is_stamp}
@@ -17,7 +18,6 @@ use Rattle.page_core.proofs.PageLaws.{each_kept}
 use Rattle.merge_core.specs.declared.feed.Feed.{Feed}
 use Rattle.merge_core.specs.WaitingLines.{WaitingLine, waiting_pair}
 use Rattle.merge_core.specs.Collections.{Known, all_lines, collection}
-use Rattle.merge_core.specs.Gathering.{AllTwo}
 use Rattle.merge_core.specs.PairOrders.{IsAbove, Upto, is_low}
 use Rattle.merge_core.specs.Openings.{IsCutAt}
 use Rattle.merge_core.specs.Reached.{Reached}
@@ -41,7 +41,7 @@ stamped : (f : Member → Bool) (xs : List Member) → AllByRecursion (λ m. is_
 stamped f [] h = refl
 stamped f (x ∷ xs) h = ap₂ (λ b l. cond b (x ∷ l) l) (and_true (f x) (is_stamp x.values.stamp) h.0) (stamped f xs h.1)
 
-index_stamps : (texts : List (List ℕ)) (indexes : List (List Member)) → AllTwo (IsIndex LINE_LIMIT) texts indexes → AllByRecursion (λ m. is_stamp m.values.stamp ≡ true) (all_lines indexes)
+index_stamps : (texts : List (List ℕ)) (indexes : List (List Member)) → AllZip (IsIndex LINE_LIMIT) texts indexes → AllByRecursion (λ m. is_stamp m.values.stamp ≡ true) (all_lines indexes)
 index_stamps [] [] are = tt
 index_stamps [] (i ∷ is) are = absurd are
 index_stamps (t ∷ ts) [] are = absurd are
@@ -61,7 +61,7 @@ known_stamp (o ∷ os) (t ∷ ts) m k h = elim (subst (λ o. IsLineOf LINE_LIMIT
 module _ {S : Type 0} (text : S → Option (List ℕ)) (extent gave : S → ℕ) (q : QueryValue) (from : Option PlaceValue) (ss0 : List S) (fs0 : List Feed) (ss : List S) (fs : List Feed) (ws : List WaitingLine) (b : Option Pair)
     (taken : List Member) (same : length ss0 ≡ length fs0) (reached : Reached LINE_LIMIT text (is_past q.target) extent gave ss0 fs0 ss fs ws b taken)
     (cut : AllByRecursion (λ x. IsCutAt LINE_LIMIT (start_pair q from) (text x.0) x.1.cursor) (zip ss0 fs0))
-    (texts : List (List ℕ)) (indexes : List (List Member)) (known : Known (map text ss0) texts) (are : AllTwo (IsIndex LINE_LIMIT) texts indexes) where
+    (texts : List (List ℕ)) (indexes : List (List Member)) (known : Known (map text ss0) texts) (are : AllZip (IsIndex LINE_LIMIT) texts indexes) where
   abbrev sought : Member → Bool
   sought m = is_wanted q from m && is_stamp m.values.stamp
 

@@ -14,14 +14,13 @@ use Rattle.page_core.specs.PageText.{begun}
 use Rattle.cdxj_core.specs.declared.limit.TheConstants.{LINE_LIMIT}
 use Rattle.cdxj_core.specs.Indexes.{IsIndex}
 use Rattle.merge_core.specs.Collections.{Known, collection}
-use Rattle.merge_core.specs.Gathering.{AllTwo}
+use Rattle.std.specs.List.{AllZip}
 use Rattle.merge_core.specs.Reached.{Grows}
 use Rattle.merge_core.specs.Spending.{AllGaveWithin}
 use Rattle.merge_core.proofs.WrittenLemmas.{grows_by, grows_on}
-use Rattle.query_core.specs.PageAsked.{asked_page}
 use Rattle.query_core.specs.PageWriting.{captures_over, page_over}
 use Rattle.query_core.specs.Passes.{IsWithin}
-use Rattle.query_core.specs.QueryPages.{form_of}
+use Rattle.query_core.specs.QueryPages.{form_of, query_page}
 use Rattle.query_core.specs.Reach.{in_reach, captures_text, GaveInReach, WroteFront}
 use Rattle.query_core.proofs.AskedLemmas.{asked_is}
 use Rattle.query_core.proofs.ReachLemmas.{opened_not, within_opening}
@@ -50,34 +49,34 @@ front_written form [] old middle new a g = record { middle = old; front = Append
 front_written form (m ∷ ms) old middle new a g = record { middle = middle; front = a; grows = g }
 
 -- What was written of the page of these lines, which come first, and what sources gave for the captures of the earlier of them
-pub page_reached : {S : Type 0} (extent gave : S → ℕ) (q : QueryValue) (from : Option PlaceValue) (limit : Option ℕ) (texts : List (List ℕ)) (indexes : List (List Member)) (old middle new : Option (List ℕ)) (olds news : List S)
-    (taken rest c tail : List Member) → captures_over q from (collection indexes) ≡ captures_over q from taken ++ rest → captures_over q from taken ≡ c ++ tail → IsWithin limit c
-    → Appends old middle (begun (form_of q) (page_over q from limit taken).members) → Grows middle new
-    → ((n : ℕ) → length c ≤ n → AllGaveWithin extent gave (in_reach q from (Some n) (collection indexes)) texts indexes olds news)
-    → GaveInReach extent gave q from limit texts indexes old new olds news
-page_reached extent gave q from limit texts indexes old middle new olds news taken rest c tail split of_taken most front grows within =
-    let mine = (page_over q from limit taken).members in
-    let later = page_front limit (captures_over q from taken) rest in
-    let members : (asked_page q from limit (collection indexes)).members ≡ mine ++ later.0 =
-    ap (λ (p : Page Member PlaceValue). p.members) (asked_is q from limit (collection indexes) ∙ ap (page limit) split) ∙ later.1 in
+pub page_reached : {S : Type 0} (extent gave : S → ℕ) (q : QueryValue) (texts : List (List ℕ)) (indexes : List (List Member)) (old middle new : Option (List ℕ)) (olds news : List S)
+    (taken rest c tail : List Member) → captures_over q q.resume (collection indexes) ≡ captures_over q q.resume taken ++ rest → captures_over q q.resume taken ≡ c ++ tail → IsWithin q.limit c
+    → Appends old middle (begun (form_of q) (page_over q q.resume q.limit taken).members) → Grows middle new
+    → ((n : ℕ) → length c ≤ n → AllGaveWithin extent gave (in_reach q q.resume (Some n) (collection indexes)) texts indexes olds news)
+    → GaveInReach extent gave q texts indexes old new olds news
+page_reached extent gave q texts indexes old middle new olds news taken rest c tail split of_taken most front grows within =
+    let mine = (page_over q q.resume q.limit taken).members in
+    let later = page_front q.limit (captures_over q q.resume taken) rest in
+    let members : (query_page q (collection indexes)).members ≡ mine ++ later.0 =
+    ap (λ (p : Page Member PlaceValue). p.members) (asked_is q (collection indexes) ∙ ap (page q.limit) split) ∙ later.1 in
     record {
       whole = length mine;
       most = omega (arith, ap length members, length-append mine later.0);
       wrote = subst (λ ms. WroteFront old new (captures_text (form_of q) ms)) (sym (ap (take (length mine)) members ∙ take-append_seam mine later.0)) (front_written (form_of q) mine old middle new front grows);
-      within = within (length mine) (subst (λ ms. length c ≤ length (page limit ms).members) (sym of_taken) (has_all limit c tail most));
+      within = within (length mine) (subst (λ ms. length c ≤ length (page q.limit ms).members) (sym of_taken) (has_all q.limit c tail most));
     }
 
 -- nothing was read at all, and no capture was written
-pub page_not_reached : {S : Type 0} (text : S → Option (List ℕ)) (extent gave : S → ℕ) (q : QueryValue) (from : Option PlaceValue) (limit : Option ℕ) (texts : List (List ℕ)) (indexes : List (List Member)) (old new : Option (List ℕ)) (sources : List S)
-    → Known (map text sources) texts → AllTwo (IsIndex LINE_LIMIT) texts indexes → Grows old new → GaveInReach extent gave q from limit texts indexes old new sources sources
-page_not_reached text extent gave q from limit texts indexes old new sources known are grows = record {
+pub page_not_reached : {S : Type 0} (text : S → Option (List ℕ)) (extent gave : S → ℕ) (q : QueryValue) (texts : List (List ℕ)) (indexes : List (List Member)) (old new : Option (List ℕ)) (sources : List S)
+    → Known (map text sources) texts → AllZip (IsIndex LINE_LIMIT) texts indexes → Grows old new → GaveInReach extent gave q texts indexes old new sources sources
+page_not_reached text extent gave q texts indexes old new sources known are grows = record {
   whole = 0;
   most = omega arith;
   wrote = record { middle = old; front = Appends-none old; grows = grows };
-  within = within_opening text extent gave (in_reach q from (Some 0) (collection indexes)) texts indexes sources sources known are (opened_not text extent gave sources);
+  within = within_opening text extent gave (in_reach q q.resume (Some 0) (collection indexes)) texts indexes sources sources known are (opened_not text extent gave sources);
 }
 
 -- where no capture follows the page, all lines were read
-pub all_read : (all more : Bool) (next found : Option PlaceValue) → more ≡ is_some found → next ≡ found → (all ≡ false → more ≡ true) → not (is_some next) ≡ true → all ≡ true
-all_read true more next found a b enough e = refl
-all_read false more next found a b enough e = absurd (true≢false (sym (sym (ap not (ap is_some b ∙ sym a ∙ enough refl)) ∙ e)))
+pub all_read : (all more shown : Bool) (found : Option PlaceValue) → more ≡ is_some found → shown ≡ is_some found → (all ≡ false → more ≡ true) → not shown ≡ true → all ≡ true
+all_read true more shown found a b enough e = refl
+all_read false more shown found a b enough e = absurd (true≢false (sym (sym (ap not (b ∙ sym a ∙ enough refl)) ∙ e)))

@@ -28,7 +28,7 @@ use Rattle.merge_core.specs.declared.feed.Feed.{Feed}
 use Rattle.merge_core.specs.PairOrders.{Alike, Below, IsAbove, IsUpto, Upto, is_low}
 use Rattle.merge_core.specs.WaitingLines.{WaitingLine, waiting_pair}
 use Rattle.merge_core.specs.Collections.{Known, all_lines, collection}
-use Rattle.merge_core.specs.Gathering.{AllTwo}
+use Rattle.std.specs.List.{AllZip}
 use Rattle.merge_core.specs.Openings.{IsCutAt}
 use Rattle.merge_core.specs.Reached.{Reached}
 use Rattle.merge_core.specs.Spending.{AllGaveWithin, AreReadTo, CameWithin, OpenedWithin}
@@ -150,7 +150,7 @@ pub reach_passes : (q : QueryValue) (from : Option PlaceValue) (limit : Option �
 reach_passes q from limit lines b bound m past low upto =
     both (covers q.target m.values.key && not (is_low (start_pair q from) m)) _ (both (covers q.target m.values.key) _ (covered_from_start q from m past low) (ap not low)) (bound m upto)
 
-as_many : {X Y : Type 0} (R : X → Y → Type 0) (xs : List X) (ys : List Y) → AllTwo R xs ys → length xs ≡ length ys
+as_many : {X Y : Type 0} (R : X → Y → Type 0) (xs : List X) (ys : List Y) → AllZip R xs ys → length xs ≡ length ys
 as_many R [] [] h = refl
 as_many R [] (y ∷ ys) h = absurd h
 as_many R (x ∷ xs) [] h = absurd h
@@ -160,7 +160,7 @@ as_many R (x ∷ xs) (y ∷ ys) h = ap suc (as_many R xs ys h.1)
 module _ {S : Type 0} (text : S → Option (List ℕ)) (extent gave : S → ℕ) (q : QueryValue) (from : Option PlaceValue) (ss0 : List S) (fs0 : List Feed) (ss : List S) (fs : List Feed)
     (ws : List WaitingLine) (b : Option Pair) (taken : List Member) (same : length ss0 ≡ length fs0) (reached : Reached LINE_LIMIT text (is_past q.target) extent gave ss0 fs0 ss fs ws b taken)
     (cut : AllByRecursion (λ x. IsCutAt LINE_LIMIT (start_pair q from) (text x.0) x.1.cursor) (zip ss0 fs0))
-    (texts : List (List ℕ)) (indexes : List (List Member)) (known : Known (map text ss0) texts) (are : AllTwo (IsIndex LINE_LIMIT) texts indexes) where
+    (texts : List (List ℕ)) (indexes : List (List Member)) (known : Known (map text ss0) texts) (are : AllZip (IsIndex LINE_LIMIT) texts indexes) where
   abbrev wanted : List Member → List Member
   wanted lines = captures_over q from lines
 
@@ -214,8 +214,8 @@ module _ {S : Type 0} (text : S → Option (List ℕ)) (extent gave : S → ℕ)
     passes = reach_passes q from limit (collection indexes) bound in_bound
 
     -- what sources gave that were read up to the bound
-    pub gave_within : (olds news : List S) (feeds : List Feed) → Known (map text olds) texts → AllTwo (λ x y. CameWithin (text x) (extent x) (gave x) (gave y.0) y.1.cursor) olds (zip ss0 fs0)
-        → AllTwo (Move text extent gave) (zip ss0 fs0) (zip news feeds) → length news ≡ length ss0 → AreReadTo LINE_LIMIT (is_past q.target) text bound news feeds
+    pub gave_within : (olds news : List S) (feeds : List Feed) → Known (map text olds) texts → AllZip (λ x y. CameWithin (text x) (extent x) (gave x) (gave y.0) y.1.cursor) olds (zip ss0 fs0)
+        → AllZip (Move text extent gave) (zip ss0 fs0) (zip news feeds) → length news ≡ length ss0 → AreReadTo LINE_LIMIT (is_past q.target) text bound news feeds
         → AllGaveWithin extent gave (in_reach q from limit (collection indexes)) texts indexes olds news
     gave_within olds news feeds known_old came moved long reads =
         let test = in_reach q from limit (collection indexes) in
@@ -235,8 +235,8 @@ module _ {S : Type 0} (text : S → Option (List ℕ)) (extent gave : S → ℕ)
       reached.ready.fed (reached.handed.told (told_known text ss0 texts known)).1 in
       omega (arith, h, as_many (IsIndex LINE_LIMIT) texts indexes are, as_many (λ told t. told ≡ Some t) (map text ss0) texts known, length-map ss0 text)
 
-pub within_opening : {S : Type 0} (text : S → Option (List ℕ)) (extent gave : S → ℕ) (test : Member → Bool) (texts : List (List ℕ)) (indexes : List (List Member)) (olds news : List S) → Known (map text olds) texts → AllTwo (IsIndex LINE_LIMIT) texts indexes
-    → AllTwo (λ x y. OpenedWithin (text x) (extent x) (gave x) (gave y)) olds news → AllGaveWithin extent gave test texts indexes olds news
+pub within_opening : {S : Type 0} (text : S → Option (List ℕ)) (extent gave : S → ℕ) (test : Member → Bool) (texts : List (List ℕ)) (indexes : List (List Member)) (olds news : List S) → Known (map text olds) texts → AllZip (IsIndex LINE_LIMIT) texts indexes
+    → AllZip (λ x y. OpenedWithin (text x) (extent x) (gave x) (gave y)) olds news → AllGaveWithin extent gave test texts indexes olds news
 within_opening text extent gave test [] [] [] [] known are opened = tt
 within_opening text extent gave test [] [] [] (y ∷ ys) known are opened = absurd opened
 within_opening text extent gave test [] [] (x ∷ xs) ys known are opened = absurd known
@@ -247,5 +247,5 @@ within_opening text extent gave test (t ∷ ts) (i ∷ is) (x ∷ xs) [] known a
 within_opening text extent gave test (t ∷ ts) (i ∷ is) (x ∷ xs) (y ∷ ys) known are opened = (let h = opened.0 t known.0 in omega (arith, h), within_opening text extent gave test ts is xs ys known.1 are.1 opened.1)
 
 -- nothing was read at all
-pub opened_not : {S : Type 0} (text : S → Option (List ℕ)) (extent gave : S → ℕ) (xs : List S) → AllTwo (λ x y. OpenedWithin (text x) (extent x) (gave x) (gave y)) xs xs
+pub opened_not : {S : Type 0} (text : S → Option (List ℕ)) (extent gave : S → ℕ) (xs : List S) → AllZip (λ x y. OpenedWithin (text x) (extent x) (gave x) (gave y)) xs xs
 opened_not text extent gave = two_same (λ x y. OpenedWithin (text x) (extent x) (gave x) (gave y)) (λ x t e. omega arith)

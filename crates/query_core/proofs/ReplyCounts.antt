@@ -6,11 +6,11 @@ use Rattle.devices.proofs.Takings.{full-earlier}
 use Rattle.merge_core.specs.Failures.{RaisedAt}
 use Rattle.query_core.specs.declared.fault.AnswerFault.{AnswerFault}
 use Rattle.query_core.specs.declared.fault.AnswerFault.TheVariants as fault
-use Rattle.query_core.specs.ReplyFaults.{CountsAnswer, CountsServing, CountsLine}
+use Rattle.query_core.specs.ReplyFaults.{CountsReplying, CountsServing, CountsLine}
 
 -- nothing failed, and then this answer came
 pub counts_after : {A : Type 0} (r : Result A AnswerFault) (ss mid ss' : List ℕ) (out now out' input input' : ℕ) (text : Option (List ℕ)) → mid ≡ ss → now ≡ out → input' ≡ input
-    → CountsAnswer r mid ss' now out' → CountsServing r ss ss' out out' input input' text
+    → CountsReplying r mid ss' now out' → CountsServing r ss ss' out out' input input' text
 counts_after (Ok x) ss mid ss' out now out' input input' text s o i c = ((c.0 ∙ s, c.1 ∙ o), i)
 counts_after (Err fault.Memory) ss mid ss' out now out' input input' text s o i c = ((c.0 ∙ s, c.1 ∙ o), i)
 counts_after (Err (fault.Read n)) ss mid ss' out now out' input input' text s o i c = ((subst (λ l. RaisedAt n l ss') s c.0, c.1 ∙ o), i)

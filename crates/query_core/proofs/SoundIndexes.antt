@@ -1,4 +1,5 @@
 -- Of an index no line is at fault.
+use Rattle.std.specs.List.{AllZip}
 use Rattle.std.proofs.Common.{◌≡◌, ◌<◌, ℕ, zero, suc, List, [], ◌∷◌, ◌++◌, length, get_or, map, Option, None, Some, arith, refl, sym, ap, ◌∙◌, subst, append_assoc, true, false, is_gt}
 use Rattle.std.specs.List.{AllByRecursion}
 use Rattle.std.proofs.lemmas.Bool.{true≢false}
@@ -8,7 +9,6 @@ use Rattle.cdxj_core.specs.Members.{Member, member_pair, line_entry}
 use Rattle.cdxj_core.specs.Indexes.{IsIndex}
 use Rattle.source_core.specs.LinesAtFault.{IsBadLine, IsOutOfOrder}
 use Rattle.merge_core.specs.Collections.{Known}
-use Rattle.merge_core.specs.Gathering.{AllTwo}
 use Rattle.query_core.specs.declared.fault.AnswerFault.TheVariants as fault
 use Rattle.query_core.specs.LineFaults.{IsFaultOf}
 
@@ -70,7 +70,7 @@ module _ (limit : ℕ) where
     told_is : told ≡ Some text
     index : IsIndex limit text members
 
-  index_at : (tolds : List (Option (List ℕ))) (texts : List (List ℕ)) (indexes : List (List Member)) → Known tolds texts → AllTwo (IsIndex limit) texts indexes → (i : ℕ) → i < length tolds → ToldIndex (get_or tolds i None)
+  index_at : (tolds : List (Option (List ℕ))) (texts : List (List ℕ)) (indexes : List (List Member)) → Known tolds texts → AllZip (IsIndex limit) texts indexes → (i : ℕ) → i < length tolds → ToldIndex (get_or tolds i None)
   index_at [] [] indexes known are i inside = absurd (omega (arith, inside))
   index_at [] (t ∷ texts) indexes known are i inside = absurd known
   index_at (told ∷ tolds) [] indexes known are i inside = absurd known
@@ -78,7 +78,7 @@ module _ (limit : ℕ) where
   index_at (told ∷ tolds) (t ∷ texts) (ms ∷ indexes) known are zero inside = record { text = t; members = ms; told_is = known.0; index = are.0 }
   index_at (told ∷ tolds) (t ∷ texts) (ms ∷ indexes) known are (suc i) inside = index_at tolds texts indexes known.1 are.1 i (omega (arith, inside))
 
-  module _ (tolds : List (Option (List ℕ))) (texts : List (List ℕ)) (indexes : List (List Member)) (known : Known tolds texts) (are : AllTwo (IsIndex limit) texts indexes) (i offset : ℕ) where
+  module _ (tolds : List (Option (List ℕ))) (texts : List (List ℕ)) (indexes : List (List Member)) (known : Known tolds texts) (are : AllZip (IsIndex limit) texts indexes) (i offset : ℕ) where
     pub names_no_bad_line : IsFaultOf limit tolds (fault.BadLine i offset) → ⊥
     names_no_bad_line named =
         let at = index_at tolds texts indexes known are i named.0 in

@@ -7,11 +7,10 @@ pub mod PageWriting
 pub mod PagesWriting
 pub mod Passes
 pub mod WriterView
-pub mod PageAsked
-pub mod PageParts
 pub mod Answering
 pub mod LineFaults
-pub mod Merging
+pub mod AnswerCounts
+pub mod Refusals
 pub mod Starts
 pub mod StartViews
 pub mod Paging

@@ -1,5 +1,5 @@
 -- What a call that writes the pages of a query owes.
-use Rattle.std.specs.Prelude.{◌≡◌, ◌⊎◌, ℕ, ◌-◌, ◌^◌, List, length, flat_map, min, Bool, ◌&&◌, nat_lt, true, Option}
+use Rattle.std.specs.Prelude.{◌≡◌, ℕ, ◌-◌, ◌^◌, List, length, flat_map, min, Bool, ◌&&◌, nat_lt, true, Option, Result, MatchResult}
 use Rattle.std.specs.List.{list_all}
 use Rattle.std.specs.Io.KnownBytes.{Appends}
 use Rattle.cdxj_places.specs.Places.{PlaceValue}
@@ -8,20 +8,15 @@ use Rattle.devices.specs.Device.{AppendsPrefix}
 use Rattle.query_text.specs.Queries.{QueryValue}
 use Rattle.page_core.specs.Pages.{Page}
 use Rattle.query_core.specs.declared.fault.AnswerFault.{AnswerFault}
-use Rattle.query_core.specs.declared.fault.AnswerFault.TheVariants.{TooManySources, BadSizes}
 use Rattle.query_text.specs.Matching.{is_past}
 use Rattle.merge_core.specs.Collections.{collection}
-use Rattle.merge_core.specs.Gathering.{AllTwo}
+use Rattle.std.specs.List.{AllZip}
 use Rattle.merge_core.specs.Runs.{IsPart}
 use Rattle.query_core.specs.QueryPages.{IsQueryChain, chain_text}
 
 -- one or more sizes, none of them 0
 abbrev pub are_sizes : List ℕ → Bool
 are_sizes sizes = nat_lt 0 (length sizes) && list_all (λ size. nat_lt 0 size) sizes
-
--- the faults that come before anything is read or written
-abbrev pub IsEarly : AnswerFault → Type 0
-IsEarly fault = (fault ≡ TooManySources) ⊎ (fault ≡ BadSizes)
 
 -- the texts of pages, one after another
 abbrev pub pages_text : QueryValue → List (Page Member PlaceValue) → List ℕ
@@ -34,13 +29,18 @@ pub record WrotePages (q : QueryValue) (lines : List Member) (sizes : List ℕ) 
   pub text : Appends old new (pages_text q pages)
   pub count : number ≡ min (length pages) (2 ^ 64 - 1)
 
--- a front of their texts was written
+-- a front of the texts of such pages was written
 abbrev pub WrotePagesInPart : QueryValue → List Member → List ℕ → Option (List ℕ) → Option (List ℕ) → Type 0
 WrotePagesInPart q lines sizes old new = (pages : List (Page Member PlaceValue)) × IsQueryChain q lines sizes pages × AppendsPrefix old new (pages_text q pages)
+
+-- the pages of these lines were written, or after a fault a front of them
+abbrev pub WritesPages : QueryValue → List Member → List ℕ → Result ℕ AnswerFault → Option (List ℕ) → Option (List ℕ) → Type 0
+WritesPages q lines sizes result old new = MatchResult result (WrotePages q lines sizes old new)
+    (λ _. are_sizes sizes ≡ true → WrotePagesInPart q lines sizes old new)
 
 -- Of each source consecutive lines were read, which are an index by themselves: all of the query's range. The pages are those of these
 -- lines.
 pub record WrotePagesOfParts (limit : ℕ) (q : QueryValue) (texts : List (List ℕ)) (sizes : List ℕ) (old new : Option (List ℕ)) (number : ℕ) : Type 0 where
   pub parts : List (List Member)
-  pub each : AllTwo (IsPart limit (is_past q.target) true) texts parts
+  pub each : AllZip (IsPart limit (is_past q.target) true) texts parts
   pub wrote : WrotePages q (collection parts) sizes old new number

@@ -13,9 +13,8 @@ use Rattle.merge_core.specs.PairOrders.{is_low}
 use Rattle.merge_core.specs.Reached.{Grows}
 use Rattle.merge_core.specs.Spending.{AllGaveWithin}
 use Rattle.query_core.specs.Collections.{collection}
-use Rattle.query_core.specs.PageAsked.{asked_page}
 use Rattle.query_core.specs.PageWriting.{captures_over}
-use Rattle.query_core.specs.QueryPages.{form_of}
+use Rattle.query_core.specs.QueryPages.{form_of, query_page}
 use Rattle.query_core.specs.Starts.{start_pair}
 
 -- the pair of the first line after so many
@@ -54,8 +53,9 @@ pub record WroteFront (old new : Option (List ℕ)) (text : List ℕ) : Type 0 w
 
 -- So many captures of the page were written whole. Each source gave no more bytes than its lines have that a page of so many reaches,
 -- and what a search takes, two lines and a piece.
-pub record GaveInReach {S : Type 0} (extent gave : S → ℕ) (q : QueryValue) (from : Option PlaceValue) (limit : Option ℕ) (texts : List (List ℕ)) (indexes : List (List Member)) (old new : Option (List ℕ)) (olds news : List S) : Type 0 where
+pub record GaveInReach {S : Type 0} (extent gave : S → ℕ) (q : QueryValue) (texts : List (List ℕ)) (indexes : List (List Member))
+    (old new : Option (List ℕ)) (olds news : List S) : Type 0 where
   pub whole : ℕ
-  pub most : whole ≤ length (asked_page q from limit (collection indexes)).members
-  pub wrote : WroteFront old new (captures_text (form_of q) (take whole (asked_page q from limit (collection indexes)).members))
-  pub within : AllGaveWithin extent gave (in_reach q from (Some whole) (collection indexes)) texts indexes olds news
+  pub most : whole ≤ length (query_page q (collection indexes)).members
+  pub wrote : WroteFront old new (captures_text (form_of q) (take whole (query_page q (collection indexes)).members))
+  pub within : AllGaveWithin extent gave (in_reach q q.resume (Some whole) (collection indexes)) texts indexes olds news

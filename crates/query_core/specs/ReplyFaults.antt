@@ -14,20 +14,20 @@ CountsReply (Err fault.Write) old new = new ≡ next_count old
 CountsReply (Err other) old new = ⊥
 
 -- the counts of failures of the sources and of the output, which alone end a reply, with Memory
-abbrev pub CountsAnswer : {A : Type 0} → Result A AnswerFault → List ℕ → List ℕ → ℕ → ℕ → Type 0
-CountsAnswer (Err (fault.Read i)) sources sources' out out' = RaisedAt i sources sources' × (out' ≡ out)
-CountsAnswer (Err fault.Write) sources sources' out out' = (sources' ≡ sources) × (out' ≡ next_count out)
-CountsAnswer (Err fault.Input) sources sources' out out' = ⊥
-CountsAnswer (Err fault.BadSizes) sources sources' out out' = ⊥
-CountsAnswer (Err (fault.BadLine i offset)) sources sources' out out' = ⊥
-CountsAnswer (Err (fault.OutOfOrder i offset)) sources sources' out out' = ⊥
-CountsAnswer other sources sources' out out' = (sources' ≡ sources) × (out' ≡ out)
+abbrev pub CountsReplying : {A : Type 0} → Result A AnswerFault → List ℕ → List ℕ → ℕ → ℕ → Type 0
+CountsReplying (Err (fault.Read i)) sources sources' out out' = RaisedAt i sources sources' × (out' ≡ out)
+CountsReplying (Err fault.Write) sources sources' out out' = (sources' ≡ sources) × (out' ≡ next_count out)
+CountsReplying (Err fault.Input) sources sources' out out' = ⊥
+CountsReplying (Err fault.BadSizes) sources sources' out out' = ⊥
+CountsReplying (Err (fault.BadLine i offset)) sources sources' out out' = ⊥
+CountsReplying (Err (fault.OutOfOrder i offset)) sources sources' out out' = ⊥
+CountsReplying other sources sources' out out' = (sources' ≡ sources) × (out' ≡ out)
 
 -- the same of a conversation, and the count of its input, of which these bytes were left: Input where it failed or is too long
 abbrev pub CountsServing : {A : Type 0} → Result A AnswerFault → List ℕ → List ℕ → ℕ → ℕ → ℕ → ℕ → Option (List ℕ) → Type 0
 CountsServing (Err fault.Input) sources sources' out out' input input' text =
     (sources' ≡ sources) × (out' ≡ out) × ((input' ≡ next_count input) ⊎ ((input' ≡ input) × IsTooLong text 0))
-CountsServing result sources sources' out out' input input' text = CountsAnswer result sources sources' out out' × (input' ≡ input)
+CountsServing result sources sources' out out' input input' text = CountsReplying result sources sources' out out' × (input' ≡ input)
 
 -- the count of an input of which a line was read, after so many bytes, while these were left
 abbrev pub CountsLine : {A : Type 0} → Result A AnswerFault → ℕ → ℕ → Option (List ℕ) → ℕ → Type 0

@@ -13,7 +13,8 @@ use std::alloc::Global;
 
 fn falls_after(previous: &Option<Box<Line>>, line: &Line) -> bool
     ensures falls { result ≡ true → FallsAfter (option_map (λ b. b.value) previous.now) line.now }
-    ensures stays { result ≡ false → FallsAfter (option_map (λ b. b.value) previous.now) line.now → ⊥ }
+    ensures stays { result ≡ false → FallsAfter (option_map (λ b. b.value) previous.now) line.now
+        → ⊥ }
 {
     match previous {
         Some(previous) => falls(previous, line),
@@ -27,7 +28,8 @@ fn falls_after(previous: &Option<Box<Line>>, line: &Line) -> bool
 /// the first line at fault, as a line of index 0. At most two lines are held.
 pub fn check<S: Source>(alloc: Global, source: &mut S) -> Result<u64, AnswerFault>
     ensures text { S.text source.new ≡ S.text source.old }
-    ensures checked { (text : List ℕ) → S.text source.old ≡ Some text → IsChecked LINE_LIMIT text result }
+    ensures checked { (text : List ℕ) → S.text source.old ≡ Some text
+        → IsChecked LINE_LIMIT text result }
     ensures fault { IfErr result IsCheckFault }
     ensures failures { CountsSource result (S.failures source.old) (S.failures source.new) }
 {

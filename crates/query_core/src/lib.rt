@@ -6,11 +6,11 @@
 mod answering;
 mod checking;
 mod collapsing;
+mod conversions;
 mod fault;
 mod laws;
 mod line_reading;
 mod merging;
-mod one_page;
 mod page_writer;
 mod pages_writer;
 mod paging;

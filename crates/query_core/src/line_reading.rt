@@ -25,10 +25,15 @@ pub(crate) fn next_line<S: Source>(
     ensures extent { S.extent source.new ≡ S.extent source.old }
     ensures stands { OnOk result (Stands (S.text source.new) (S.extent source.new) cursor.new) }
     ensures start { cursor.new.start ≡ cursor.old.start }
-    ensures count { IfOk result (λ found. MatchOption found (cursor.new.count ≡ cursor.old.count) (λ _. cursor.new.count ≡ cursor.old.count + 1)) }
+    ensures count { IfOk result (λ found.
+        MatchOption found (cursor.new.count ≡ cursor.old.count) (λ _.
+        cursor.new.count ≡ cursor.old.count + 1)) }
     ensures on { IfOk result (λ found. MatchOption found ⊤ (λ _. cursor.old.at < cursor.new.at)) }
-    ensures line { (t : List ℕ) → S.text source.old ≡ Some t → IfOk result (λ found. IsNextLine LINE_LIMIT t cursor.old.at cursor.new.at (option_map (λ b. b.value) found)) }
-    ensures fault { (t : List ℕ) → S.text source.old ≡ Some t → IfErr result (IsLineFault LINE_LIMIT t cursor.old.at) }
+    ensures line { (t : List ℕ) → S.text source.old ≡ Some t
+        → IfOk result (λ found.
+        IsNextLine LINE_LIMIT t cursor.old.at cursor.new.at (option_map (λ b. b.value) found)) }
+    ensures fault { (t : List ℕ) → S.text source.old ≡ Some t
+        → IfErr result (IsLineFault LINE_LIMIT t cursor.old.at) }
     ensures kind { IfErr result IsCheckFault }
     ensures failures { CountsSource result (S.failures source.old) (S.failures source.new) }
 {

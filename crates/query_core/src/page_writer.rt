@@ -9,7 +9,7 @@ ghost use Rattle.devices.specs.Writing.{WritesText};
 ghost use Rattle.query_core.specs.QueryPages.{form_of, shown_key};
 
 use crate::selection::Selection;
-use cdxj_core::{HasPlace, Line, OwnedPlace, Place, resume_text};
+use cdxj_core::{HasPlace, Line, OwnedPlace, resume_text};
 use devices::Output;
 use merge_core::{Sink, SinkFault};
 use page_core::{PageForm, PageOutput, TextFault};
@@ -80,7 +80,7 @@ pub(crate) fn sink_fault(fault: TextFault) -> SinkFault
 
 /// The result of writing a page.
 #[derive(Debug, Drop)]
-pub struct PageEnd {
+pub(crate) struct PageEnd {
     /// The number of its captures. It saturates at 2^64 - 1.
     pub given: u64,
     /// The place after which the next page begins, if there is one.
@@ -89,7 +89,7 @@ pub struct PageEnd {
 
 /// Writes a page of a query from the lines that it takes, in the order of places.
 #[derive(Drop)]
-pub struct PageWriter<'q> {
+pub(crate) struct PageWriter<'q> {
     selection: Selection<'q>,
     limit: Option<u64>,
     page: PageOutput<'q>,
@@ -110,25 +110,30 @@ impl<'q> PageWriter<'q> {
     ghost use Rattle.query_core.specs.PageWriting.{is_full, last_after, next_of, FitsWord};
     ghost use Rattle.query_core.specs.WriterView.{stands, Kept, Broke, from_view};
 
-    /// Writes what precedes the first capture of the page after a place. The page has at most `limit` captures.
+    /// Writes what precedes the first capture of the query's page.
     pub fn begin<O: Output>(
         alloc: Global,
         query: &'q Query,
-        from: Option<Place<'q>>,
-        limit: Option<u64>,
         out: &mut O,
     ) -> Result<PageWriter<'q>, TextFault>
-        ensures stands { IfOk result (λ writer. stands writer [] (O.written out.old) (O.written out.new)) }
-        ensures query { IfOk result (λ writer. (writer.selection.query.now ≡ query.now) × (writer.selection.from ≡ from.entry) × (writer.limit ≡ limit)) }
-        ensures front { OnErr result (AppendsPrefix (O.written out.old) (O.written out.new) (page_start (form_of query.now))) }
+        ensures stands { IfOk result (λ writer.
+            stands writer [] (O.written out.old) (O.written out.new)) }
+        ensures query { IfOk result (λ writer. 
+            (writer.selection.query.now ≡ query.now)
+            × (from_view writer.selection.from ≡ query.now.resume)
+            × (writer.limit ≡ query.now.limit)) }
+        ensures some { OnOk result (query.now.limit ≡ Some 0 → ⊥) }
+        ensures front { OnErr result
+            (AppendsPrefix (O.written out.old) (O.written out.new) (page_start (form_of query.now)))
+            }
         ensures failures { CountsWrite result (O.failures out.old) (O.failures out.new) }
     {
-        let selection = Selection::begin(alloc, query, from)?;
+        let selection = Selection::begin(alloc, query)?;
         let mut page = PageOutput::new(alloc, form_of(query));
         page.put_start(out)?;
         Ok(PageWriter {
             selection,
-            limit,
+            limit: query.limit(),
             page,
             given: 0,
             more: false,
@@ -148,8 +153,11 @@ impl<'q> PageWriter<'q> {
 
     /// Stores the place of a line that was written, if it is the last that the page has room for.
     fn keep_last(&mut self, alloc: Global, line: &Line) -> Result<(), TextFault>
-        ensures last { OnOk result (self.new.last ≡ last_after self.old.limit self.old.given self.old.last (member_place line.now)) }
-        ensures kept { (self.new.selection ≡ self.old.selection) × (self.new.limit ≡ self.old.limit) × (self.new.given ≡ self.old.given) × (self.new.more ≡ self.old.more) }
+        ensures last { OnOk result
+            (self.new.last ≡ last_after self.old.limit self.old.given self.old.last
+            (member_place line.now)) }
+        ensures kept { (self.new.selection ≡ self.old.selection) × (self.new.limit ≡ self.old.limit)
+            × (self.new.given ≡ self.old.given) × (self.new.more ≡ self.old.more) }
         ensures memory { IfErr result (λ e. e ≡ TextFault.Memory) }
     {
         if !self.is_full() {
@@ -170,11 +178,18 @@ impl<'q> PageWriter<'q> {
         line: &Line,
         out: &mut O,
     ) -> Result<(), TextFault>
-        ensures text { OnOk result (Appends (O.written out.old) (O.written out.new) (row_text (form_of self.old.selection.query.now) line.now)) }
-        ensures part { OnErr result (AppendsPrefix (O.written out.old) (O.written out.new) (row_text (form_of self.old.selection.query.now) line.now)) }
-        ensures kept { (self.new.selection ≡ self.old.selection) × (self.new.limit ≡ self.old.limit) × (self.new.more ≡ self.old.more) }
+        ensures text { OnOk result
+            (Appends (O.written out.old) (O.written out.new)
+            (row_text (form_of self.old.selection.query.now) line.now)) }
+        ensures part { OnErr result
+            (AppendsPrefix (O.written out.old) (O.written out.new)
+            (row_text (form_of self.old.selection.query.now) line.now)) }
+        ensures kept { (self.new.selection ≡ self.old.selection) × (self.new.limit ≡ self.old.limit)
+            × (self.new.more ≡ self.old.more) }
         ensures given { OnOk result (self.new.given ≡ min (self.old.given + 1) (2 ^ 64 - 1)) }
-        ensures last { OnOk result (self.new.last ≡ last_after self.old.limit self.new.given self.old.last (member_place line.now)) }
+        ensures last { OnOk result
+            (self.new.last ≡ last_after self.old.limit self.new.given self.old.last
+            (member_place line.now)) }
         ensures failures { CountsWrite result (O.failures out.old) (O.failures out.new) }
     {
         self.page.put_row(line, out)?;
@@ -191,9 +206,11 @@ impl<'q> PageWriter<'q> {
         line: &Line,
         out: &mut O,
     ) -> Result<(), TextFault>
-        ensures stands { (taken : List Member) → (start : Option (List ℕ)) → stands self.old taken start (O.written out.old)
+        ensures stands { (taken : List Member) → (start : Option (List ℕ))
+            → stands self.old taken start (O.written out.old)
             → OnOk result (stands self.new (taken ++ line.now ∷ []) start (O.written out.new)) }
-        ensures broke { (taken : List Member) → (start : Option (List ℕ)) → stands self.old taken start (O.written out.old)
+        ensures broke { (taken : List Member) → (start : Option (List ℕ))
+            → stands self.old taken start (O.written out.old)
             → OnErr result (Broke self.old (taken ++ line.now ∷ []) start (O.written out.new)) }
         ensures kept { Kept self.old self.new }
         ensures grows { Grows (O.written out.old) (O.written out.new) }
@@ -220,19 +237,18 @@ impl<'q> PageWriter<'q> {
         }
     }
 
-    /// Writes what follows the last capture, with the resume key if it is to be shown and there is one.
-    pub fn end<O: Output>(
-        &mut self,
-        alloc: Global,
-        shows: bool,
-        out: &mut O,
-    ) -> Result<PageEnd, TextFault>
+    /// Writes what follows the last capture, with the resume key if the query shows it and there is one.
+    pub fn end<O: Output>(&mut self, alloc: Global, out: &mut O) -> Result<PageEnd, TextFault>
         ensures text { WritesText result (O.written out.old) (O.written out.new)
-            (page_end (form_of self.old.selection.query.now) (shown_key shows (next_of self.old.more self.old.last))) }
-        ensures end { IfOk result (λ end. (end.given ≡ self.old.given) × (end.next ≡ next_of self.old.more self.old.last)) }
+            (page_end (form_of self.old.selection.query.now)
+            (shown_key self.old.selection.query.now.show_resume_key
+            (next_of self.old.more self.old.last))) }
+        ensures end { IfOk result (λ end.
+            (end.given ≡ self.old.given) × (end.next ≡ next_of self.old.more self.old.last)) }
         ensures failures { CountsWrite result (O.failures out.old) (O.failures out.new) }
     {
         let next = self.take_next();
+        let shows = self.selection.query.shows_resume_key();
         put_end(alloc, &mut self.page, shows, next.as_ref(), out)?;
         Ok(PageEnd {
             given: self.given,
@@ -242,7 +258,8 @@ impl<'q> PageWriter<'q> {
 
     fn take_next(&mut self) -> Option<OwnedPlace>
         ensures next { result ≡ next_of self.old.more self.old.last }
-        ensures kept { (self.new.selection ≡ self.old.selection) × (self.new.given ≡ self.old.given) }
+        ensures kept { (self.new.selection ≡ self.old.selection)
+            × (self.new.given ≡ self.old.given) }
     {
         if self.more { self.last.take() } else { None }
     }

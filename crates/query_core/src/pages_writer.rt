@@ -49,12 +49,19 @@ impl<'q> PagesWriter<'q> {
         sizes: &'q [u64],
         out: &mut O,
     ) -> Result<PagesWriter<'q>, TextFault>
-        ensures stands { AllPositive sizes.now → IfOk result (λ writer. pages_stand writer.sizes.now writer [] (O.written out.old) (O.written out.new)) }
-        ensures query { IfOk result (λ writer. (writer.selection.query.now ≡ query.now) × (from_view writer.selection.from ≡ query.now.resume) × (writer.sizes.now ≡ sizes.now)) }
-        ensures front { OnErr result (AppendsPrefix (O.written out.old) (O.written out.new) (page_start (form_of query.now))) }
+        ensures stands { AllPositive sizes.now
+            → IfOk result (λ writer.
+            pages_stand writer.sizes.now writer [] (O.written out.old) (O.written out.new)) }
+        ensures query { IfOk result (λ writer.
+            (writer.selection.query.now ≡ query.now)
+            × (from_view writer.selection.from ≡ query.now.resume)
+            × (writer.sizes.now ≡ sizes.now)) }
+        ensures front { OnErr result
+            (AppendsPrefix (O.written out.old) (O.written out.new) (page_start (form_of query.now)))
+            }
         ensures failures { CountsWrite result (O.failures out.old) (O.failures out.new) }
     {
-        let selection = Selection::begin(alloc, query, query.resume())?;
+        let selection = Selection::begin(alloc, query)?;
         let mut output = PageOutput::new(alloc, form_of(query));
         output.put_start(out)?;
         Ok(PagesWriter {
@@ -77,10 +84,13 @@ impl<'q> PagesWriter<'q> {
     /// Ends the page, which is full, and begins the next.
     fn turn<O: Output>(&mut self, alloc: Global, out: &mut O) -> Result<(), TextFault>
         ensures text { WritesText result (O.written out.old) (O.written out.new)
-            (page_end (form_of self.old.selection.query.now) (shown_key true self.old.last) ++ page_start (form_of self.old.selection.query.now)) }
+            (page_end (form_of self.old.selection.query.now)
+            (shown_key true self.old.last) ++ page_start (form_of self.old.selection.query.now)) }
         ensures selection { self.new.selection ≡ self.old.selection }
-        ensures next { OnOk result ((self.new.sizes.now ≡ later_sizes self.old.sizes.now) × (self.new.given ≡ 0)
-            × (self.new.last ≡ self.old.last) × (self.new.count ≡ min (self.old.count + 1) (2 ^ 64 - 1))) }
+        ensures next { OnOk result
+            ((self.new.sizes.now ≡ later_sizes self.old.sizes.now) × (self.new.given ≡ 0)
+            × (self.new.last ≡ self.old.last)
+            × (self.new.count ≡ min (self.old.count + 1) (2 ^ 64 - 1))) }
         ensures failures { CountsWrite result (O.failures out.old) (O.failures out.new) }
     {
         match put_end(alloc, &mut self.output, true, self.last.as_ref(), out) {
@@ -99,10 +109,14 @@ impl<'q> PagesWriter<'q> {
 
     /// Ends the page if it is full, and begins the next.
     fn make_room<O: Output>(&mut self, alloc: Global, out: &mut O) -> Result<(), TextFault>
-        ensures stands { (sizes : List ℕ) → (captures : List Member) → (start : Option (List ℕ)) → are_in_pages sizes self.old captures start (O.written out.old)
-            → OnOk result (are_in_pages sizes self.new captures start (O.written out.new) × (self.new.given < first_size self.new.sizes.now)) }
-        ensures front { (sizes : List ℕ) → (captures : List Member) → (start : Option (List ℕ)) → (next : Member) → are_in_pages sizes self.old captures start (O.written out.old)
-            → OnErr result (IsFront self.old.selection.query.now sizes (captures ++ next ∷ []) start (O.written out.new)) }
+        ensures stands { (sizes : List ℕ) → (captures : List Member) → (start : Option (List ℕ))
+            → are_in_pages sizes self.old captures start (O.written out.old)
+            → OnOk result (are_in_pages sizes self.new captures start (O.written out.new)
+            × (self.new.given < first_size self.new.sizes.now)) }
+        ensures front { (sizes : List ℕ) → (captures : List Member) → (start : Option (List ℕ))
+            → (next : Member) → are_in_pages sizes self.old captures start (O.written out.old)
+            → OnErr result (IsFront self.old.selection.query.now sizes (captures ++ next ∷ []) start
+            (O.written out.new)) }
         ensures selection { self.new.selection ≡ self.old.selection }
         ensures grows { Grows (O.written out.old) (O.written out.new) }
         ensures failures { CountsWrite result (O.failures out.old) (O.failures out.new) }
@@ -122,13 +136,19 @@ impl<'q> PagesWriter<'q> {
         line: &Line,
         out: &mut O,
     ) -> Result<(), TextFault>
-        ensures text { OnOk result (Appends (O.written out.old) (O.written out.new) (row_text (form_of self.old.selection.query.now) line.now)) }
-        ensures part { OnErr result (AppendsPrefix (O.written out.old) (O.written out.new) (row_text (form_of self.old.selection.query.now) line.now)) }
+        ensures text { OnOk result
+            (Appends (O.written out.old) (O.written out.new)
+            (row_text (form_of self.old.selection.query.now) line.now)) }
+        ensures part { OnErr result
+            (AppendsPrefix (O.written out.old) (O.written out.new)
+            (row_text (form_of self.old.selection.query.now) line.now)) }
         ensures selection { self.new.selection ≡ self.old.selection }
         ensures sizes { (self.new.sizes ≡ self.old.sizes) × (self.new.count ≡ self.old.count) }
         ensures fits { OnOk result (first_size self.old.sizes.now < 2 ^ 64) }
         ensures given { OnOk result (self.new.given ≡ min (self.old.given + 1) (2 ^ 64 - 1)) }
-        ensures last { OnOk result (self.new.given ≡ first_size self.old.sizes.now → self.new.last ≡ Some (member_place line.now)) }
+        ensures last { OnOk result
+            (self.new.given ≡ first_size self.old.sizes.now → self.new.last
+            ≡ Some (member_place line.now)) }
         ensures failures { CountsWrite result (O.failures out.old) (O.failures out.new) }
     {
         self.output.put_row(line, out)?;
@@ -148,10 +168,14 @@ impl<'q> PagesWriter<'q> {
         line: &Line,
         out: &mut O,
     ) -> Result<(), TextFault>
-        ensures stands { (sizes : List ℕ) → (taken : List Member) → (start : Option (List ℕ)) → pages_stand sizes self.old taken start (O.written out.old)
-            → OnOk result (pages_stand sizes self.new (taken ++ line.now ∷ []) start (O.written out.new)) }
-        ensures broke { (sizes : List ℕ) → (taken : List Member) → (start : Option (List ℕ)) → pages_stand sizes self.old taken start (O.written out.old)
-            → OnErr result (IsFront self.old.selection.query.now sizes (captures_of self.old.selection (taken ++ line.now ∷ [])) start (O.written out.new)) }
+        ensures stands { (sizes : List ℕ) → (taken : List Member) → (start : Option (List ℕ))
+            → pages_stand sizes self.old taken start (O.written out.old)
+            → OnOk result (pages_stand sizes self.new (taken ++ line.now ∷ []) start
+            (O.written out.new)) }
+        ensures broke { (sizes : List ℕ) → (taken : List Member) → (start : Option (List ℕ))
+            → pages_stand sizes self.old taken start (O.written out.old)
+            → OnErr result (IsFront self.old.selection.query.now sizes
+            (captures_of self.old.selection (taken ++ line.now ∷ [])) start (O.written out.new)) }
         ensures same { IsSame self.old.selection self.new.selection }
         ensures grows { Grows (O.written out.old) (O.written out.new) }
         ensures failures { CountsWrite result (O.failures out.old) (O.failures out.new) }
@@ -176,7 +200,8 @@ impl<'q> PagesWriter<'q> {
 
     /// Writes what follows the last capture. Returns the number of pages.
     pub fn end<O: Output>(&mut self, out: &mut O) -> Result<u64, TextFault>
-        ensures text { WritesText result (O.written out.old) (O.written out.new) (page_end (form_of self.old.selection.query.now) None) }
+        ensures text { WritesText result (O.written out.old) (O.written out.new)
+            (page_end (form_of self.old.selection.query.now) None) }
         ensures count { IfOk result (λ count. count ≡ min (self.old.count + 1) (2 ^ 64 - 1)) }
         ensures failures { CountsWrite result (O.failures out.old) (O.failures out.new) }
     {

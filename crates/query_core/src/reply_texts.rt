@@ -36,7 +36,8 @@ pub(crate) fn put_refusal<O: Output>(
     name: &str,
     out: &mut O,
 ) -> Result<(), AnswerFault>
-    ensures text { WritesText result (O.written out.old) (O.written out.new) (refusal_text name.now) }
+    ensures text { WritesText result (O.written out.old) (O.written out.new)
+        (refusal_text name.now) }
     ensures failures { CountsReply result (O.failures out.old) (O.failures out.new) }
 {
     match refusal(alloc, name) {
@@ -67,7 +68,8 @@ pub(crate) fn put_fault_line<O: Output>(
     offset: u64,
     out: &mut O,
 ) -> Result<(), AnswerFault>
-    ensures text { WritesText result (O.written out.old) (O.written out.new) (fault_line name.now index offset) }
+    ensures text { WritesText result (O.written out.old) (O.written out.new)
+        (fault_line name.now index offset) }
     ensures failures { CountsReply result (O.failures out.old) (O.failures out.new) }
 {
     match fault_line(alloc, name, index, offset) {

@@ -26,15 +26,13 @@ impl<'q> Selection<'q> {
     ghost use Rattle.query_core.specs.PageWriting.{captures_over};
     ghost use Rattle.query_core.specs.WriterView.{Selects, IsSame, captures_of, from_view};
 
-    /// Begins after a place.
-    pub fn begin(
-        alloc: Global,
-        query: &'q Query,
-        from: Option<Place<'q>>,
-    ) -> Result<Selection<'q>, AllocError>
+    /// Begins after the place of the query's resume key, if it has one.
+    pub fn begin(alloc: Global, query: &'q Query) -> Result<Selection<'q>, AllocError>
         ensures selects { IfOk result (λ s. Selects s []) }
-        ensures query { IfOk result (λ s. (s.query.now ≡ query.now) × (s.from ≡ from.entry)) }
+        ensures query { IfOk result (λ s.
+            (s.query.now ≡ query.now) × (from_view s.from ≡ query.now.resume)) }
     {
+        let from = query.resume();
         let collapsing = Collapsing::begin(alloc, query.collapse(), from)?;
         Ok(Selection {
             query,
@@ -53,7 +51,8 @@ impl<'q> Selection<'q> {
     }
 
     fn wants(&self, line: &Line) -> Result<bool, TextFault>
-        ensures value { IfOk result (λ wanted. wanted ≡ is_wanted self.now.query.now (from_view self.now.from) line.now) }
+        ensures value { IfOk result (λ wanted.
+            wanted ≡ is_wanted self.now.query.now (from_view self.now.from) line.now) }
         ensures memory { IfErr result (λ e. e ≡ TextFault.Memory) }
     {
         match self.query.matches_kept(line) {
@@ -77,7 +76,8 @@ impl<'q> Selection<'q> {
 
     /// Stores what the lines after this one are compared with.
     fn keep_part(&mut self, line: &Line) -> Result<(), TextFault>
-        ensures part { OnOk result (self.new.collapsing ≡ collapsing_after self.old.collapsing (member_place line.now)) }
+        ensures part { OnOk result
+            (self.new.collapsing ≡ collapsing_after self.old.collapsing (member_place line.now)) }
         ensures same { IsSame self.old self.new }
         ensures memory { IfErr result (λ e. e ≡ TextFault.Memory) }
     {
@@ -95,9 +95,11 @@ impl<'q> Selection<'q> {
 
     /// Takes the next line. Returns whether it is a capture of the query.
     pub fn takes(&mut self, line: &Line) -> Result<bool, TextFault>
-        ensures selects { (taken : List Member) → Selects self.old taken → OnOk result (Selects self.new (taken ++ line.now ∷ [])) }
+        ensures selects { (taken : List Member) → Selects self.old taken
+            → OnOk result (Selects self.new (taken ++ line.now ∷ [])) }
         ensures capture { (taken : List Member) → Selects self.old taken → IfOk result (λ is.
-            captures_of self.old (taken ++ line.now ∷ []) ≡ captures_of self.old taken ++ cond is (line.now ∷ []) []) }
+            captures_of self.old (taken ++ line.now ∷ [])
+            ≡ captures_of self.old taken ++ cond is (line.now ∷ []) []) }
         ensures same { IsSame self.old self.new }
         ensures memory { IfErr result (λ e. e ≡ TextFault.Memory) }
     {

@@ -1,20 +1,18 @@
 //! A conversation: a reply to each line of an input.
-ghost use Rattle.std.specs.Prelude.{◌≡◌, ◌-◌, ◌^◌, ◌<◌, ◌≤◌, ◌≢◌, ℕ, List, length, map, true, Err, IfOk, IfErr, OnOk};
+ghost use Rattle.std.specs.Prelude.{◌≡◌, ◌-◌, ◌^◌, ◌<◌, ◌≤◌, length, map, true, IfOk, IfErr, OnOk};
 ghost use Rattle.std.specs.Io.KnownBytes.{prepend_known};
 ghost use Rattle.cdxj_core.specs.declared.limit.TheConstants.{LINE_LIMIT};
-ghost use Rattle.cdxj_core.specs.Indexes.{IsIndex};
-ghost use Rattle.cdxj_core.specs.Members.{Member};
 ghost use Rattle.devices.specs.LineReading.{CountsTaken, TakesLine};
 ghost use Rattle.devices.specs.Writing.{WritesText};
 ghost use Rattle.query_text.specs.declared.query.TheConstants.{QUERY_LIMIT};
-ghost use Rattle.merge_core.specs.Collections.{Known};
-ghost use Rattle.merge_core.specs.Gathering.{AllTwo};
+ghost use Rattle.merge_core.specs.Collections.{KeepsSources, OverIndexes};
 ghost use Rattle.query_core.specs.declared.merging.TheConstants.{SOURCES_LIMIT};
 ghost use Rattle.query_core.specs.Collections.{collection};
 ghost use Rattle.query_core.specs.QueryPages.{query_page, answer_text};
+ghost use Rattle.query_core.specs.Refusals.{IsEarly, Refuses, too_many};
 ghost use Rattle.query_core.specs.Replies.{marked_reply, reply_of, reply_text};
 ghost use Rattle.query_core.specs.Conversations.{Replied, RepliedInPart};
-ghost use Rattle.query_core.specs.ReplyFaults.{CountsAnswer, CountsLine, CountsServing};
+ghost use Rattle.query_core.specs.ReplyFaults.{CountsReplying, CountsLine, CountsServing};
 
 use crate::answering::answer;
 use crate::fault::AnswerFault;
@@ -36,11 +34,13 @@ fn reply_to_query<S: Source, O: Output>(
     query: &Query,
     out: &mut O,
 ) -> Result<(), AnswerFault>
-    ensures texts { map S.text sources.new ≡ map S.text sources.old }
-    ensures few { length sources.old ≤ SOURCES_LIMIT → IfErr result (λ e. e ≢ AnswerFault.TooManySources) }
-    ensures failures { CountsAnswer result (map S.failures sources.old) (map S.failures sources.new) (O.failures out.old) (O.failures out.new) }
-    ensures text { (texts : List (List ℕ)) → (indexes : List (List Member)) → Known (map S.text sources.old) texts → AllTwo (IsIndex LINE_LIMIT) texts indexes
-        → WritesText result (O.written out.old) (O.written out.new) (answer_text query.now (query_page query.now (collection indexes))) }
+    ensures kept { KeepsSources S.text S.extent sources.old sources.new }
+    ensures late { length sources.old ≤ SOURCES_LIMIT → IfErr result (λ e. IsEarly e → ⊥) }
+    ensures failures { CountsReplying result (map S.failures sources.old)
+        (map S.failures sources.new) (O.failures out.old) (O.failures out.new) }
+    ensures text { OverIndexes LINE_LIMIT (map S.text sources.old) (λ texts indexes.
+        WritesText result (O.written out.old) (O.written out.new)
+        (answer_text query.now (query_page query.now (collection indexes)))) }
 {
     match answer(alloc, sources, query, out) {
         Ok(_) => Ok(()),
@@ -61,11 +61,13 @@ fn reply_to_text<S: Source, O: Output>(
     text: &str,
     out: &mut O,
 ) -> Result<(), AnswerFault>
-    ensures texts { map S.text sources.new ≡ map S.text sources.old }
-    ensures few { length sources.old ≤ SOURCES_LIMIT → IfErr result (λ e. e ≢ AnswerFault.TooManySources) }
-    ensures failures { CountsAnswer result (map S.failures sources.old) (map S.failures sources.new) (O.failures out.old) (O.failures out.new) }
-    ensures text { (texts : List (List ℕ)) → (indexes : List (List Member)) → Known (map S.text sources.old) texts → AllTwo (IsIndex LINE_LIMIT) texts indexes
-        → WritesText result (O.written out.old) (O.written out.new) (reply_of QUERY_LIMIT (collection indexes) text.now) }
+    ensures kept { KeepsSources S.text S.extent sources.old sources.new }
+    ensures late { length sources.old ≤ SOURCES_LIMIT → IfErr result (λ e. IsEarly e → ⊥) }
+    ensures failures { CountsReplying result (map S.failures sources.old)
+        (map S.failures sources.new) (O.failures out.old) (O.failures out.new) }
+    ensures text { OverIndexes LINE_LIMIT (map S.text sources.old) (λ texts indexes.
+        WritesText result (O.written out.old) (O.written out.new)
+        (reply_of QUERY_LIMIT (collection indexes) text.now)) }
 {
     match Query::read(alloc, text) {
         Ok(query) => reply_to_query(alloc, sources, &query, out),
@@ -81,11 +83,13 @@ fn reply_to_line<S: Source, O: Output>(
     line: &[u8],
     out: &mut O,
 ) -> Result<(), AnswerFault>
-    ensures texts { map S.text sources.new ≡ map S.text sources.old }
-    ensures few { length sources.old ≤ SOURCES_LIMIT → IfErr result (λ e. e ≢ AnswerFault.TooManySources) }
-    ensures failures { CountsAnswer result (map S.failures sources.old) (map S.failures sources.new) (O.failures out.old) (O.failures out.new) }
-    ensures text { (texts : List (List ℕ)) → (indexes : List (List Member)) → Known (map S.text sources.old) texts → AllTwo (IsIndex LINE_LIMIT) texts indexes
-        → WritesText result (O.written out.old) (O.written out.new) (reply_text QUERY_LIMIT (reply_of QUERY_LIMIT (collection indexes)) line.now) }
+    ensures kept { KeepsSources S.text S.extent sources.old sources.new }
+    ensures late { length sources.old ≤ SOURCES_LIMIT → IfErr result (λ e. IsEarly e → ⊥) }
+    ensures failures { CountsReplying result (map S.failures sources.old)
+        (map S.failures sources.new) (O.failures out.old) (O.failures out.new) }
+    ensures text { OverIndexes LINE_LIMIT (map S.text sources.old) (λ texts indexes.
+        WritesText result (O.written out.old) (O.written out.new)
+        (reply_text QUERY_LIMIT (reply_of QUERY_LIMIT (collection indexes)) line.now)) }
 {
     if line.len() > QUERY_LIMIT {
         return put_refusal(alloc, "QueryTooLong", out);
@@ -103,11 +107,13 @@ fn reply_and_mark<S: Source, O: Output>(
     line: &[u8],
     out: &mut O,
 ) -> Result<(), AnswerFault>
-    ensures texts { map S.text sources.new ≡ map S.text sources.old }
-    ensures few { length sources.old ≤ SOURCES_LIMIT → IfErr result (λ e. e ≢ AnswerFault.TooManySources) }
-    ensures failures { CountsAnswer result (map S.failures sources.old) (map S.failures sources.new) (O.failures out.old) (O.failures out.new) }
-    ensures text { (texts : List (List ℕ)) → (indexes : List (List Member)) → Known (map S.text sources.old) texts → AllTwo (IsIndex LINE_LIMIT) texts indexes
-        → WritesText result (O.written out.old) (O.written out.new) (marked_reply QUERY_LIMIT (reply_of QUERY_LIMIT (collection indexes)) line.now) }
+    ensures kept { KeepsSources S.text S.extent sources.old sources.new }
+    ensures late { length sources.old ≤ SOURCES_LIMIT → IfErr result (λ e. IsEarly e → ⊥) }
+    ensures failures { CountsReplying result (map S.failures sources.old)
+        (map S.failures sources.new) (O.failures out.old) (O.failures out.new) }
+    ensures text { OverIndexes LINE_LIMIT (map S.text sources.old) (λ texts indexes.
+        WritesText result (O.written out.old) (O.written out.new)
+        (marked_reply QUERY_LIMIT (reply_of QUERY_LIMIT (collection indexes)) line.now)) }
 {
     reply_to_line(alloc, sources, line, out)?;
     put_text(b".\n", out)
@@ -116,12 +122,17 @@ fn reply_and_mark<S: Source, O: Output>(
 /// Reads a further line of the input, and holds it. Returns whether there was one.
 fn read_line<I: Input>(lines: &mut InputLines, input: &mut I) -> Result<bool, AnswerFault>
     ensures most { lines.new.most ≡ lines.old.most }
-    ensures line { IfOk result (λ found. TakesLine lines.old.most found (prepend_known lines.old.buffer (I.remaining input.old)) (prepend_known lines.new.buffer (I.remaining input.new)) lines.new.line) }
-    ensures count { OnOk result (CountsTaken (prepend_known lines.old.buffer (I.remaining input.old)) (prepend_known lines.new.buffer (I.remaining input.new)) lines.old.taken lines.new.taken) }
+    ensures line { IfOk result (λ found.
+        TakesLine lines.old.most found (prepend_known lines.old.buffer (I.remaining input.old))
+        (prepend_known lines.new.buffer (I.remaining input.new)) lines.new.line) }
+    ensures count { OnOk result
+        (CountsTaken (prepend_known lines.old.buffer (I.remaining input.old))
+        (prepend_known lines.new.buffer (I.remaining input.new)) lines.old.taken lines.new.taken) }
     ensures some { IfOk result (λ found. found ≡ true → lines.old.taken < lines.new.taken) }
     ensures within { OnOk result (lines.new.taken < 2 ^ 63 - 1) }
-    ensures few { IfErr result (λ e. e ≢ AnswerFault.TooManySources) }
-    ensures failures { CountsLine result (I.failures input.old) (I.failures input.new) (prepend_known lines.old.buffer (I.remaining input.old)) lines.old.taken }
+    ensures late { IfErr result (λ e. IsEarly e → ⊥) }
+    ensures failures { CountsLine result (I.failures input.old) (I.failures input.new)
+        (prepend_known lines.old.buffer (I.remaining input.old)) lines.old.taken }
 {
     match lines.next(input) {
         Ok(found) => Ok(found),
@@ -147,15 +158,19 @@ pub fn serve<S: Source, I: Input, O: Output>(
     input: &mut I,
     out: &mut O,
 ) -> Result<u64, AnswerFault>
-    ensures many { SOURCES_LIMIT < length sources.old → result ≡ Err AnswerFault.TooManySources }
-    ensures few { length sources.old ≤ SOURCES_LIMIT → IfErr result (λ e. e ≢ AnswerFault.TooManySources) }
-    ensures unread { IfErr result (λ e. e ≡ AnswerFault.TooManySources → (sources.new ≡ sources.old) × (input.new ≡ input.old) × (out.new ≡ out.old)) }
-    ensures texts { map S.text sources.new ≡ map S.text sources.old }
-    ensures failures { CountsServing result (map S.failures sources.old) (map S.failures sources.new) (O.failures out.old) (O.failures out.new) (I.failures input.old) (I.failures input.new) (I.remaining input.old) }
-    ensures replies { (texts : List (List ℕ)) → (indexes : List (List Member)) → Known (map S.text sources.old) texts → AllTwo (IsIndex LINE_LIMIT) texts indexes
-        → IfOk result (λ count. Replied QUERY_LIMIT (reply_of QUERY_LIMIT (collection indexes)) (I.remaining input.old) count (O.written out.old) (O.written out.new)) }
-    ensures part { (texts : List (List ℕ)) → (indexes : List (List Member)) → Known (map S.text sources.old) texts → AllTwo (IsIndex LINE_LIMIT) texts indexes
-        → RepliedInPart QUERY_LIMIT (reply_of QUERY_LIMIT (collection indexes)) (I.remaining input.old) (O.written out.old) (O.written out.new) }
+    ensures refused { Refuses (too_many (length sources.old)) result
+        ((sources.new ≡ sources.old) × (input.new ≡ input.old) × (out.new ≡ out.old)) }
+    ensures kept { KeepsSources S.text S.extent sources.old sources.new }
+    ensures failures { CountsServing result (map S.failures sources.old)
+        (map S.failures sources.new) (O.failures out.old) (O.failures out.new)
+        (I.failures input.old) (I.failures input.new) (I.remaining input.old) }
+    ensures replies { OverIndexes LINE_LIMIT (map S.text sources.old) (λ texts indexes.
+        IfOk result (λ count.
+        Replied QUERY_LIMIT (reply_of QUERY_LIMIT (collection indexes))
+        (I.remaining input.old) count (O.written out.old) (O.written out.new))) }
+    ensures part { OverIndexes LINE_LIMIT (map S.text sources.old) (λ texts indexes.
+        RepliedInPart QUERY_LIMIT (reply_of QUERY_LIMIT (collection indexes))
+        (I.remaining input.old) (O.written out.old) (O.written out.new)) }
 {
     if sources.len() > SOURCES_LIMIT {
         return Err(AnswerFault::TooManySources);

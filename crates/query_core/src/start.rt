@@ -3,7 +3,6 @@ ghost use Rattle.std.specs.Prelude.{◌≡◌, Some};
 ghost use Rattle.query_core.specs.Starts.{first_stamp, later_pair, start_pair};
 ghost use Rattle.cdxj_places.specs.PlaceViews.{place_view};
 ghost use Rattle.query_core.specs.StartViews.{start_view};
-ghost use Rattle.query_core.specs.WriterView.{from_view};
 
 use cdxj_core::Place;
 use query_text::Query;
@@ -20,7 +19,8 @@ pub(crate) struct StartPair<'q> {
 
 /// Returns the pair of the place if it is above this one, else this one.
 fn later_pair<'q>(start: StartPair<'q>, place: Place<'q>) -> StartPair<'q>
-    ensures { start_view result ≡ later_pair (start_view start.entry) (Some (place_view place.entry)) }
+    ensures { start_view result
+        ≡ later_pair (start_view start.entry) (Some (place_view place.entry)) }
 {
     let order = place
         .key
@@ -36,15 +36,15 @@ fn later_pair<'q>(start: StartPair<'q>, place: Place<'q>) -> StartPair<'q>
     }
 }
 
-/// Returns the pair that no line of the page after this place is below.
-pub(crate) fn start_pair<'q>(query: &'q Query, from: Option<Place<'q>>) -> StartPair<'q>
-    ensures { start_view result ≡ start_pair query.now (from_view from.entry) }
+/// Returns the pair that no line of the query's page is below.
+pub(crate) fn start_pair(query: &Query) -> StartPair<'_>
+    ensures { start_view result ≡ start_pair query.now query.now.resume }
 {
     let start = StartPair {
         key: query.target().text(),
         stamp: FIRST_STAMP,
     };
-    match from {
+    match query.resume() {
         Some(place) => later_pair(start, place),
         None => start,
     }

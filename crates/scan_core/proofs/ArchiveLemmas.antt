@@ -1,4 +1,5 @@
 -- Archives that are indexed one after another.
+use Rattle.std.specs.List.{AllZip}
 use Rattle.std.proofs.Common.{◌≡◌, ℕ, zero, suc, ◌+◌, ◌<◌, List, [], ◌∷◌, ◌++◌, length, map, take, drop, get_or, set, Option, None, Err, refl, sym, ap, ap₂, Bool, ◌∙◌, subst, arith, append_assoc, append-nil}
 use Rattle.std.proofs.lemmas.List.{take_more}
 use Rattle.warc_core.specs.Kind.{Kind}
@@ -7,7 +8,6 @@ use Rattle.cdxj_core.specs.Indexes.{IsIndex}
 use Rattle.index_core.specs.declared.fault.IndexFault.{IndexFault}
 use Rattle.index_core.specs.declared.fault.IndexFault.TheVariants as index
 use Rattle.index_core.specs.Counting.{CountsIndex}
-use Rattle.merge_core.specs.Gathering.{AllTwo}
 use Rattle.merge_core.proofs.FeedLemmas.{each_join}
 use Rattle.merge_core.proofs.SpendLemmas.{left_after}
 use Rattle.scan_core.specs.declared.fault.ScanFault.TheVariants.{Archive}
@@ -42,8 +42,8 @@ indexed_push types names inputs archives i captures l m h new accepted lines = r
 
 -- an index more
 pub indexes_push : {I : Type 0} (limit : ℕ) (text : I → List ℕ) (indexes : List I) (archives : List (List EntryValue)) (index : I) (captures : List EntryValue)
-    → AllTwo (IsIndex limit) (map text indexes) (map index_members archives) → IsIndex limit (text index) (index_members captures)
-    → AllTwo (IsIndex limit) (map text (indexes ++ index ∷ [])) (map index_members (archives ++ captures ∷ []))
+    → AllZip (IsIndex limit) (map text indexes) (map index_members archives) → IsIndex limit (text index) (index_members captures)
+    → AllZip (IsIndex limit) (map text (indexes ++ index ∷ [])) (map index_members (archives ++ captures ∷ []))
 indexes_push limit text [] [] index captures h k = (k, tt)
 indexes_push limit text [] (c ∷ archives) index captures h k = absurd h
 indexes_push limit text (x ∷ indexes) [] index captures h k = absurd h
@@ -124,8 +124,8 @@ unread_after : {X : Type 0} (old xs : List X) (i : ℕ) (y : X) → drop i xs �
 unread_after old xs i y rest = ap (λ n. drop n (set xs i y)) (let e : suc i ≡ i + 1 = omega arith in e) ∙ left_after old xs i y rest ∙ ap (λ n. drop n old) (let e : i + 1 ≡ suc i = omega arith in e)
 
 -- the list of no things has the texts of none
-pub no_indexes : {I : Type 0} (limit : ℕ) (text : I → List ℕ) (indexes : List I) → indexes ≡ [] → AllTwo (IsIndex limit) (map text indexes) []
-no_indexes limit text indexes e = subst (λ is. AllTwo (IsIndex limit) (map text is) []) (sym e) tt
+pub no_indexes : {I : Type 0} (limit : ℕ) (text : I → List ℕ) (indexes : List I) → indexes ≡ [] → AllZip (IsIndex limit) (map text indexes) []
+no_indexes limit text indexes e = subst (λ is. AllZip (IsIndex limit) (map text is) []) (sym e) tt
 
 -- what a fault at the i-th leaves unread
 pub unread_at : {X : Type 0} (old xs : List X) (i : ℕ) (d x y : X) (fault : IndexFault) → drop i xs ≡ drop i old → x ≡ get_or xs i d → (IsNameFault fault → y ≡ x)

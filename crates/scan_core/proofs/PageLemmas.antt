@@ -1,4 +1,5 @@
 -- Pages over indexes in memory.
+use Rattle.std.specs.List.{AllZip}
 use Rattle.std.proofs.Common.{◌≡◌, ◌≢◌, ℕ, zero, suc, ◌<◌, List, [], ◌∷◌, length, map, get_or, set, Option, Some, Result, Ok, Err, IfErr, refl, sym, ap, ◌∙◌, subst, arith}
 use Rattle.cdxj_core.specs.declared.limit.TheConstants.{LINE_LIMIT}
 use Rattle.cdxj_core.specs.Indexes.{IsIndex}
@@ -6,12 +7,14 @@ use Rattle.cdxj_core.specs.Members.{Member}
 use Rattle.devices.specs.Device.{next_count}
 use Rattle.merge_core.specs.Collections.{Known}
 use Rattle.merge_core.specs.Failures.{RaisedAt}
-use Rattle.merge_core.specs.Gathering.{AllTwo}
 use Rattle.query_core.specs.declared.fault.AnswerFault.{AnswerFault}
 use Rattle.query_core.specs.declared.fault.AnswerFault.TheVariants as answer
+use Rattle.query_core.specs.AnswerCounts.{CountsAnswer}
 use Rattle.query_core.specs.LineFaults.{IsFaultOf}
+use Rattle.query_core.specs.Refusals.{IsEarly}
 use Rattle.query_core.proofs.SoundIndexes.{names_no_bad_line, names_none_out_of_order}
 use Rattle.scan_core.proofs.ArchiveLemmas.{map_length}
+use Rattle.scan_core.specs.Failures.{CountsWriting}
 use Rattle.scan_core.specs.Scanning.{IsPagesFault}
 
 -- sources in memory tell their bytes
@@ -47,15 +50,26 @@ none_raised i old new h =
     omega (arith, none)
 
 -- pages over indexes meet no fault of a line or of a source
-pub pages_fault : {S : Type 0} (r : Result ℕ AnswerFault) (tolds : List (Option (List ℕ))) (texts : List (List ℕ)) (members : List (List Member)) (old new : List S) → Known tolds texts → AllTwo (IsIndex LINE_LIMIT) texts members
-    → IfErr r (IsFaultOf LINE_LIMIT tolds) → IfErr r (λ e. (i : ℕ) → e ≡ answer.Read i → RaisedAt i (zeros old) (zeros new))
-    → IfErr r (λ e. e ≢ answer.BadSizes) → IfErr r (λ e. e ≢ answer.TooManySources) → IfErr r (λ e. e ≢ answer.Input) → IfErr r IsPagesFault
-pages_fault (Ok n) tolds texts members old new known are f read sized few input = tt
-pages_fault (Err answer.Memory) tolds texts members old new known are f read sized few input = tt
-pages_fault (Err (answer.Read i)) tolds texts members old new known are f read sized few input = none_raised i old new (read i refl)
-pages_fault (Err answer.Write) tolds texts members old new known are f read sized few input = tt
-pages_fault (Err (answer.BadLine i o)) tolds texts members old new known are f read sized few input = names_no_bad_line LINE_LIMIT tolds texts members known are i o f
-pages_fault (Err (answer.OutOfOrder i o)) tolds texts members old new known are f read sized few input = names_none_out_of_order LINE_LIMIT tolds texts members known are i o f
-pages_fault (Err answer.TooManySources) tolds texts members old new known are f read sized few input = few refl
-pages_fault (Err answer.BadSizes) tolds texts members old new known are f read sized few input = sized refl
-pages_fault (Err answer.Input) tolds texts members old new known are f read sized few input = input refl
+pub pages_fault : {S : Type 0} (r : Result ℕ AnswerFault) (tolds : List (Option (List ℕ))) (texts : List (List ℕ)) (members : List (List Member)) (old new : List S) (o o' : ℕ) → Known tolds texts → AllZip (IsIndex LINE_LIMIT) texts members
+    → IfErr r (IsFaultOf LINE_LIMIT tolds) → CountsAnswer r (zeros old) (zeros new) o o' → IfErr r (λ e. IsEarly e → ⊥) → IfErr r IsPagesFault
+pages_fault (Ok n) tolds texts members old new o o' known are f counts late = tt
+pages_fault (Err answer.Memory) tolds texts members old new o o' known are f counts late = tt
+pages_fault (Err (answer.Read i)) tolds texts members old new o o' known are f counts late = none_raised i old new counts.0
+pages_fault (Err answer.Write) tolds texts members old new o o' known are f counts late = tt
+pages_fault (Err (answer.BadLine i n)) tolds texts members old new o o' known are f counts late = names_no_bad_line LINE_LIMIT tolds texts members known are i n f
+pages_fault (Err (answer.OutOfOrder i n)) tolds texts members old new o o' known are f counts late = names_none_out_of_order LINE_LIMIT tolds texts members known are i n f
+pages_fault (Err answer.TooManySources) tolds texts members old new o o' known are f counts late = late tt
+pages_fault (Err answer.BadSizes) tolds texts members old new o o' known are f counts late = late tt
+pages_fault (Err answer.Input) tolds texts members old new o o' known are f counts late = counts
+
+-- the output's count is that of the pages
+pub counts_writing : (r : Result ℕ AnswerFault) (ss ss' : List ℕ) (o o' : ℕ) → CountsAnswer r ss ss' o o' → CountsWriting r o o'
+counts_writing (Ok n) ss ss' o o' counts = counts.1
+counts_writing (Err answer.Memory) ss ss' o o' counts = counts.1
+counts_writing (Err (answer.Read i)) ss ss' o o' counts = counts.1
+counts_writing (Err answer.Write) ss ss' o o' counts = counts.1
+counts_writing (Err (answer.BadLine i n)) ss ss' o o' counts = counts.1
+counts_writing (Err (answer.OutOfOrder i n)) ss ss' o o' counts = counts.1
+counts_writing (Err answer.TooManySources) ss ss' o o' counts = counts.1
+counts_writing (Err answer.BadSizes) ss ss' o o' counts = counts.1
+counts_writing (Err answer.Input) ss ss' o o' counts = absurd counts

@@ -1,4 +1,5 @@
 -- A scan of which nothing is at fault is refused for want of memory.
+use Rattle.std.specs.List.{AllZip}
 use Rattle.std.proofs.Common.{◌≡◌, ℕ, zero, suc, ◌<◌, Bool, List, [], ◌∷◌, ◌++◌, length, take, get_or, set, Option, None, Some, IfSome, Result, Ok, Err, refl, sym, ap, ◌∙◌, subst, arith, append_assoc, append-nil}
 use Rattle.std.specs.List.{AllByRecursion}
 use Rattle.std.proofs.lemmas.Bool.{true≢false}
@@ -18,7 +19,6 @@ use Rattle.index_core.specs.Accepted.{IsAcceptedWhole, IsAcceptedTo}
 use Rattle.index_core.specs.Laws.{IsNoFaultOfArchive, WholeIsNotRefused}
 use Rattle.index_core.specs.Report.{IsNoDamage}
 use Rattle.merge_core.specs.Collections.{Known}
-use Rattle.merge_core.specs.Gathering.{AllTwo}
 use Rattle.query_text.specs.declared.fault.QueryFault.{QueryFault}
 use Rattle.query_text.specs.declared.fault.QueryFault.TheVariants as refusal
 use Rattle.query_text.specs.Queries.{QueryValue}
@@ -42,7 +42,7 @@ record ToldWhole (types : Kind → Bool) (name : List ℕ) (input : Option (List
   told : input ≡ Some archive
   whole : IsAcceptedWhole types usual_limits HEAD_LIMIT name archive
 
-whole_at : (types : Kind → Bool) (names : List (List ℕ)) (inputs : List (Option (List ℕ))) (archives : List (List ℕ)) (i : ℕ) → Known inputs archives → AllTwo (IsAcceptedWhole types usual_limits HEAD_LIMIT) names archives
+whole_at : (types : Kind → Bool) (names : List (List ℕ)) (inputs : List (Option (List ℕ))) (archives : List (List ℕ)) (i : ℕ) → Known inputs archives → AllZip (IsAcceptedWhole types usual_limits HEAD_LIMIT) names archives
     → i < length names → ToldWhole types (get_or names i []) (get_or inputs i None)
 whole_at types [] inputs archives i known whole l = absurd (omega arith)
 whole_at types (n ∷ names) inputs [] i known whole l = absurd whole
@@ -74,7 +74,7 @@ memory_cause c h n = absurd h
 -- ---- an archive's fault
 
 module _ (whole_is_not_refused : WholeIsNotRefused) (types : Kind → Bool) (names archives : List (List ℕ)) (inputs : List (Option (List ℕ))) (i : ℕ) (counts : List ℕ) (new : AreNewNames [] names) (known : Known inputs archives)
-    (whole : AllTwo (IsAcceptedWhole types usual_limits HEAD_LIMIT) names archives) (inside : i < length names) (may : AllByRecursion MayRise counts) where
+    (whole : AllZip (IsAcceptedWhole types usual_limits HEAD_LIMIT) names archives) (inside : i < length names) (may : AllByRecursion MayRise counts) where
   no_fault : (fault : CaptureFault) → IfSome (get_or inputs i None) (λ archive. (captures : List EntryValue) × IsAcceptedTo types usual_limits HEAD_LIMIT (get_or names i []) fault archive captures) → IsNoFaultOfArchive fault
   no_fault fault h =
       let w = whole_at types names inputs archives i known whole inside in

@@ -17,12 +17,12 @@ abbrev pub CountsInputs : {A : Type 0} → Result A ScanFault → List ℕ → L
 CountsInputs (Err (Archive i fault)) old new = CountsAt i fault old new
 CountsInputs result old new = new ≡ old
 
--- an answer of Write goes with one more failure of the output, any other with none
-abbrev pub CountsAnswer : {A : Type 0} → Result A AnswerFault → ℕ → ℕ → Type 0
-CountsAnswer (Err answer.Write) old new = new ≡ next_count old
-CountsAnswer result old new = new ≡ old
+-- the count of the output rises with an answer of Write, and with no other
+abbrev pub CountsWriting : {A : Type 0} → Result A AnswerFault → ℕ → ℕ → Type 0
+CountsWriting (Err answer.Write) old new = new ≡ next_count old
+CountsWriting result old new = new ≡ old
 
 -- the same of a scan
 abbrev pub CountsOutput : {A : Type 0} → Result A ScanFault → ℕ → ℕ → Type 0
-CountsOutput (Err (Answer fault)) old new = CountsAnswer {A = Unit {0}} (Err fault) old new
+CountsOutput (Err (Answer fault)) old new = CountsWriting {A = Unit {0}} (Err fault) old new
 CountsOutput result old new = new ≡ old

@@ -1,4 +1,5 @@
 -- Laws of the definitions that the contracts cite.
+use Rattle.std.specs.List.{AllZip}
 use Rattle.std.specs.Prelude.{◌≡◌, ℕ, ◌-◌, ◌^◌, ◌<◌, ◌≤◌, ⊤, Bool, List, [], length, Option, Some, Ok, Err}
 use Rattle.std.specs.List.{AllByRecursion}
 use Rattle.warc_core.specs.Kind.{Kind}
@@ -11,7 +12,6 @@ use Rattle.capture_core.specs.CaptureAnswer.{usual_limits}
 use Rattle.index_core.specs.declared.fault.IndexFault.TheVariants as index
 use Rattle.index_core.specs.Accepted.{IsAcceptedWhole}
 use Rattle.merge_core.specs.Collections.{Known}
-use Rattle.merge_core.specs.Gathering.{AllTwo}
 use Rattle.query_text.specs.declared.fault.QueryFault.TheVariants as refusal
 use Rattle.query_text.specs.declared.query.TheConstants.{QUERY_LIMIT}
 use Rattle.query_text.specs.Collapses.{same_part}
@@ -34,7 +34,7 @@ pub record IsScannable (types : Kind → Bool) (names archives : List (List ℕ)
   pub query : QueryValue
   pub asked : IsAsked sizes text (length names) query
   pub named : AreNewNames [] names
-  pub whole : AllTwo (IsAcceptedWhole types usual_limits HEAD_LIMIT) names archives
+  pub whole : AllZip (IsAcceptedWhole types usual_limits HEAD_LIMIT) names archives
 
 -- a fault for want of memory, or for a key that the URL parser has no room for
 abbrev pub IsWantOfMemory : ScanFault → Type 0

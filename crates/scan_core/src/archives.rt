@@ -1,4 +1,5 @@
 //! Archives that are indexed in memory.
+ghost use Rattle.std.specs.List.{AllZip};
 ghost use Rattle.std.specs.Prelude.{◌≡◌, ◌↔◌, ◌<◌, ◌∷◌, ◌++◌, ℕ, List, [], length, map, drop, suc, true, Err, IfOk, IfErr, OnOk, string_bytes};
 ghost use Rattle.capture_core.specs.Types.{includes};
 ghost use Rattle.cdxj_core.specs.declared.limit.TheConstants.{LINE_LIMIT};
@@ -7,7 +8,6 @@ ghost use Rattle.cdxj_core.specs.Indexes.{IsIndex};
 ghost use Rattle.devices.specs.Gathered.{gathered};
 ghost use Rattle.index_core.specs.Counting.{CountsIndex};
 ghost use Rattle.index_core.specs.Indexing.{IsName, is_among};
-ghost use Rattle.merge_core.specs.Gathering.{AllTwo};
 ghost use Rattle.scan_core.specs.Archives.{IsNewName, IsAcceptedAs, HaveLines, IsFaultOfArchive, IsNameFault, AreIndexed, index_members};
 ghost use Rattle.scan_core.specs.Failures.{CountsInputs};
 ghost use Rattle.scan_core.specs.Scanning.{LeavesUnread, IsArchiveFault};
@@ -21,7 +21,8 @@ use std::alloc::Global;
 
 /// Returns the index of the captures that an indexer holds.
 fn index_of(alloc: Global, indexer: &Indexer) -> Result<Gather, IndexFault>
-    ensures index { IfOk result (λ index. IsIndex LINE_LIMIT (gathered index) (index_members indexer.now.captures)) }
+    ensures index { IfOk result (λ index.
+        IsIndex LINE_LIMIT (gathered index) (index_members indexer.now.captures)) }
     ensures lines { HaveLines indexer.now.captures }
     ensures memory { IfErr result (λ fault. fault ≡ IndexFault.Memory) }
 {
@@ -40,13 +41,21 @@ fn index_archive<I: Input>(
 ) -> Result<Gather, IndexFault>
     requires { indexer.old.captures ≡ [] }
     ensures name { archive.new.name ≡ archive.old.name }
-    ensures held { OnOk result (indexer.new ≡ record indexer.old { names = indexer.old.names ++ string_bytes archive.old.name ∷ []; captures = [] }) }
-    ensures index { IfOk result (λ index. IsNewName indexer.old.names (string_bytes archive.old.name)
-        × (captures : List EntryValue) × IsAcceptedAs (includes indexer.old.types) (string_bytes archive.old.name) (I.remaining archive.old.input) captures
+    ensures held { OnOk result
+        (indexer.new ≡ record indexer.old
+        { names = indexer.old.names ++ string_bytes archive.old.name ∷ []; captures = [] }) }
+    ensures index { IfOk result (λ index.
+        IsNewName indexer.old.names (string_bytes archive.old.name)
+        × (captures : List EntryValue)
+        × IsAcceptedAs (includes indexer.old.types) (string_bytes archive.old.name)
+        (I.remaining archive.old.input) captures
         × HaveLines captures × IsIndex LINE_LIMIT (gathered index) (index_members captures)) }
-    ensures refused { IfErr result (IsFaultOfArchive (includes indexer.old.types) indexer.old.names (string_bytes archive.old.name) (I.remaining archive.old.input)) }
+    ensures refused { IfErr result
+        (IsFaultOfArchive (includes indexer.old.types) indexer.old.names
+        (string_bytes archive.old.name) (I.remaining archive.old.input)) }
     ensures unread { IfErr result (λ fault. IsNameFault fault → archive.new ≡ archive.old) }
-    ensures failures { CountsIndex result (I.failures archive.old.input) (I.failures archive.new.input) }
+    ensures failures { CountsIndex result (I.failures archive.old.input)
+        (I.failures archive.new.input) }
 {
     match indexer.add(archive.name.as_str(), &mut archive.input) {
         Ok(_count) => {}
@@ -63,14 +72,19 @@ pub fn index_archives<I: Input>(
     inputs: &mut [Named<I>],
     types: Types,
 ) -> Result<Vec<Gather>, ScanFault>
-    ensures names { map (λ n. string_bytes n.name) inputs.new ≡ map (λ n. string_bytes n.name) inputs.old }
+    ensures names { map (λ n. string_bytes n.name) inputs.new
+        ≡ map (λ n. string_bytes n.name) inputs.old }
     ensures indexes { IfOk result (λ indexes. (captures : List (List EntryValue))
-        × AreIndexed (includes types) (map (λ n. string_bytes n.name) inputs.old) (map (λ n. I.remaining n.input) inputs.old) captures
-        × AllTwo (IsIndex LINE_LIMIT) (map gathered indexes.items) (map index_members captures)) }
+        × AreIndexed (includes types) (map (λ n. string_bytes n.name) inputs.old)
+        (map (λ n. I.remaining n.input) inputs.old) captures
+        × AllZip (IsIndex LINE_LIMIT) (map gathered indexes.items) (map index_members captures)) }
     ensures number { IfOk result (λ indexes. length indexes.items ≡ length inputs.old) }
-    ensures refused { IfErr result (IsArchiveFault (includes types) (map (λ n. string_bytes n.name) inputs.old) (map (λ n. I.remaining n.input) inputs.old)) }
+    ensures refused { IfErr result
+        (IsArchiveFault (includes types) (map (λ n. string_bytes n.name) inputs.old)
+        (map (λ n. I.remaining n.input) inputs.old)) }
     ensures unread { IfErr result (LeavesUnread inputs.old inputs.new) }
-    ensures failures { CountsInputs result (map (λ n. I.failures n.input) inputs.old) (map (λ n. I.failures n.input) inputs.new) }
+    ensures failures { CountsInputs result (map (λ n. I.failures n.input) inputs.old)
+        (map (λ n. I.failures n.input) inputs.new) }
 {
     let mut indexer = Indexer::new(alloc, types);
     let mut indexes = Vec::new(alloc);

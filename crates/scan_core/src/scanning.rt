@@ -1,4 +1,5 @@
 //! The pages of a query over archives.
+ghost use Rattle.std.specs.List.{AllZip};
 ghost use Rattle.std.specs.Prelude.{◌≡◌, ◌<◌, ◌≤◌, ℕ, List, length, map, true, false, Some, Err, IfOk, IfErr, string_bytes};
 ghost use Rattle.capture_core.specs.Types.{includes};
 ghost use Rattle.cdxj_core.specs.declared.limit.TheConstants.{LINE_LIMIT};
@@ -6,11 +7,10 @@ ghost use Rattle.cdxj_core.specs.Indexes.{IsIndex};
 ghost use Rattle.cdxj_core.specs.Members.{Member};
 ghost use Rattle.devices.specs.Gathered.{gathered};
 ghost use Rattle.merge_core.specs.Collections.{collection};
-ghost use Rattle.merge_core.specs.Gathering.{AllTwo};
 ghost use Rattle.source_core.specs.Slices.{slice_text};
 ghost use Rattle.query_core.specs.declared.merging.TheConstants.{SOURCES_LIMIT};
-ghost use Rattle.query_core.specs.Paging.{are_sizes, WrotePages, WrotePagesInPart};
-ghost use Rattle.scan_core.specs.Failures.{CountsAnswer, CountsInputs, CountsOutput};
+ghost use Rattle.query_core.specs.Paging.{are_sizes, WritesPages};
+ghost use Rattle.scan_core.specs.Failures.{CountsWriting, CountsInputs, CountsOutput};
 ghost use Rattle.scan_core.specs.Scanning.{IsPagesFault, Scanned, ScannedInPart, IsScanFault, IsEarly, LeavesUnread};
 
 use crate::archives::index_archives;
@@ -42,12 +42,14 @@ fn write_pages<O: Output>(
 ) -> Result<u64, AnswerFault>
     requires sizes { are_sizes sizes.now ≡ true }
     requires few { length indexes.now ≤ SOURCES_LIMIT }
-    ensures pages { (members : List (List Member)) → AllTwo (IsIndex LINE_LIMIT) (map gathered indexes.now) members
-        → IfOk result (WrotePages query.now (collection members) sizes.now (O.written out.old) (O.written out.new)) }
-    ensures part { (members : List (List Member)) → AllTwo (IsIndex LINE_LIMIT) (map gathered indexes.now) members
-        → WrotePagesInPart query.now (collection members) sizes.now (O.written out.old) (O.written out.new) }
-    ensures refusals { (members : List (List Member)) → AllTwo (IsIndex LINE_LIMIT) (map gathered indexes.now) members → IfErr result IsPagesFault }
-    ensures failures { CountsAnswer result (O.failures out.old) (O.failures out.new) }
+    ensures pages { (members : List (List Member))
+        → AllZip (IsIndex LINE_LIMIT) (map gathered indexes.now) members
+        → WritesPages query.now (collection members) sizes.now result (O.written out.old)
+        (O.written out.new) }
+    ensures refusals { (members : List (List Member))
+        → AllZip (IsIndex LINE_LIMIT) (map gathered indexes.now) members
+        → IfErr result IsPagesFault }
+    ensures failures { CountsWriting result (O.failures out.old) (O.failures out.new) }
 {
     let mut sources = match sources_of(alloc, indexes) {
         Ok(sources) => sources,
@@ -74,15 +76,24 @@ pub fn scan<I: Input, O: Output>(
     query: &str,
     out: &mut O,
 ) -> Result<u64, ScanFault>
-    ensures names { map (λ n. string_bytes n.name) inputs.new ≡ map (λ n. string_bytes n.name) inputs.old }
-    ensures scanned { IfOk result (Scanned (includes types) (map (λ n. string_bytes n.name) inputs.old) (map (λ n. I.remaining n.input) inputs.old) sizes.now query.now
+    ensures names { map (λ n. string_bytes n.name) inputs.new
+        ≡ map (λ n. string_bytes n.name) inputs.old }
+    ensures scanned { IfOk result
+        (Scanned (includes types) (map (λ n. string_bytes n.name) inputs.old)
+        (map (λ n. I.remaining n.input) inputs.old) sizes.now query.now
         (O.written out.old) (O.written out.new)) }
-    ensures fault { IfErr result (IsScanFault (includes types) (map (λ n. string_bytes n.name) inputs.old) (map (λ n. I.remaining n.input) inputs.old) sizes.now query.now) }
-    ensures part { IfErr result (λ fault. (IsEarly fault → ⊥) → ScannedInPart (includes types) (map (λ n. string_bytes n.name) inputs.old) (map (λ n. I.remaining n.input) inputs.old) sizes.now query.now
+    ensures fault { IfErr result
+        (IsScanFault (includes types) (map (λ n. string_bytes n.name) inputs.old)
+        (map (λ n. I.remaining n.input) inputs.old) sizes.now query.now) }
+    ensures part { IfErr result (λ fault.
+        (IsEarly fault → ⊥) → ScannedInPart (includes types)
+        (map (λ n. string_bytes n.name) inputs.old)
+        (map (λ n. I.remaining n.input) inputs.old) sizes.now query.now
         (O.written out.old) (O.written out.new)) }
     ensures unwritten { IfErr result (λ fault. IsEarly fault → out.new ≡ out.old) }
     ensures unread { IfErr result (LeavesUnread inputs.old inputs.new) }
-    ensures inputs { CountsInputs result (map (λ n. I.failures n.input) inputs.old) (map (λ n. I.failures n.input) inputs.new) }
+    ensures inputs { CountsInputs result (map (λ n. I.failures n.input) inputs.old)
+        (map (λ n. I.failures n.input) inputs.new) }
     ensures output { CountsOutput result (O.failures out.old) (O.failures out.new) }
 {
     if !are_sizes(sizes) {

@@ -26,9 +26,12 @@ impl<D: Source> Source for Fuse<D> {
         ensures extent { D.extent self.new.device ≡ D.extent self.old.device }
         ensures within { IfOk result (λ n. n ≤ length piece.old) }
         ensures inside { IfOk result (λ n. n ≤ D.extent self.old.device - at) }
-        ensures some { IfOk result (λ n. at < D.extent self.old.device → 0 < length piece.old → 0 < n) }
+        ensures some { IfOk result (λ n.
+            at < D.extent self.old.device → 0 < length piece.old → 0 < n) }
         ensures bytes { IfOk result (λ n. HoldsPart (D.text self.old.device) at n piece.new) }
-        ensures gave { MatchResult result (λ n. D.gave self.new.device ≡ count_on (D.gave self.old.device) n) (λ _. D.gave self.new.device ≡ D.gave self.old.device) }
+        ensures gave { MatchResult result (λ n.
+            D.gave self.new.device ≡ count_on (D.gave self.old.device) n) (λ _.
+            D.gave self.new.device ≡ D.gave self.old.device) }
         ensures failures { CountsFailure result self.old.failures self.new.failures }
         ensures call { IsFusedCall (λ d. D.failures d) self.old self.new result }
     {

@@ -38,6 +38,7 @@ pub trait Source {
         ensures inside { IfOk result (λ n. n ≤ extent self.old - at) }
         ensures some { IfOk result (λ n. at < extent self.old → 0 < length piece.old → 0 < n) }
         ensures bytes { IfOk result (λ n. HoldsPart (text self.old) at n piece.new) }
-        ensures gave { MatchResult result (λ n. gave self.new ≡ count_on (gave self.old) n) (λ _. gave self.new ≡ gave self.old) }
+        ensures gave { MatchResult result (λ n. gave self.new ≡ count_on (gave self.old) n) (λ _.
+            gave self.new ≡ gave self.old) }
         ensures failures { CountsFailure result (failures self.old) (failures self.new) };
 }

@@ -1,16 +1,17 @@
 -- The merge of indexes that a command writes.
 use Rattle.std.specs.Prelude.{◌≡◌, ℕ, List, Option, Result, IfOk, IfErr}
 use Rattle.cdxj_core.specs.declared.limit.TheConstants.{LINE_LIMIT}
-use Rattle.merge_core.specs.Collections.{Known, Merged, WroteRising}
+use Rattle.merge_core.specs.Collections.{Merged, OverTexts}
+use Rattle.merge_core.specs.SourceLines.{WroteLinesOf}
 use Rattle.query_core.specs.declared.fault.AnswerFault.{AnswerFault}
 use Rattle.query_core.specs.LineFaults.{IsFaultOf}
 use Rattle.warcdx.specs.declared.outcome.Outcome.{Outcome}
 use Rattle.warcdx.specs.Queries.{answered_outcome}
 
--- sources were merged: they are indexes, and their merge was written, unless it was refused; lines that rise were written in any case
+-- sources were merged: they are indexes, and their merge was written, unless it was refused; in any case lines of theirs were written, which rise
 pub record MergesIndexes (told : List (Option (List ℕ))) (before after : Option (List ℕ)) (outcome : Outcome) : Type 0 where
   pub answer : Result ℕ AnswerFault
   pub outcome_is : outcome ≡ answered_outcome answer
-  pub merged : (texts : List (List ℕ)) → Known told texts → IfOk answer (Merged LINE_LIMIT texts before after)
-  pub rising : WroteRising before after
+  pub merged : OverTexts told (λ texts. IfOk answer (Merged LINE_LIMIT texts before after))
+  pub lines : WroteLinesOf LINE_LIMIT told before after
   pub fault : IfErr answer (IsFaultOf LINE_LIMIT told)

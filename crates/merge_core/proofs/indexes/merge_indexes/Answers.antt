@@ -1,9 +1,10 @@
+use Rattle.std.specs.List.{AllZip}
 use Rattle.std.proofs.Common.{◌≡◌, ◌-◌, ◌^◌, ℕ, List, Option, [], ◌∷◌, ◌++◌, filter, length, map, min, Bool, true, false, Some, refl, sym, ap, ◌∙◌, subst, arith, append-nil, inl, inr}
 use Rattle.std.specs.List.{AllByRecursion}
 use Rattle.std.specs.Io.KnownBytes.{Appends}
+use Rattle.std.proofs.lemmas.List.{length-map}
 use Rattle.std.proofs.lemmas.Bool.{true≢false}
 use Rattle.std.proofs.lemmas.List.Concat.{flat_map-append}
-use Rattle.std.proofs.lemmas.Result.{err_from_is_err_and}
 use Rattle.cdxj_core.specs.declared.limit.TheConstants.{LINE_LIMIT}
 use Rattle.cdxj_core.specs.Indexes.{IsIndex}
 use Rattle.cdxj_core.specs.Members.{Member, member_place}
@@ -17,14 +18,13 @@ use Rattle.merge_core.specs.declared.feed.Feed.{Feed}
 use Rattle.merge_core.specs.WaitingLines.{WaitingLine}
 use Rattle.merge_core.specs.Collections.{Known, collection}
 use Rattle.merge_core.specs.Feeds.{AreFed}
-use Rattle.merge_core.specs.Gathering.{AllTwo}
 use Rattle.merge_core.specs.Reached.{Reached}
 use Rattle.merge_core.specs.Written.{line_row, lines_text}
-use Rattle.merge_core.proofs.FailLemmas.{if_err, raised_from}
+use Rattle.merge_core.proofs.FailLemmas.{counts_merge, raised_by_read}
 use Rattle.merge_core.proofs.ReadLemmas.{read_first}
 use Rattle.merge_core.specs.SourceLines.{AreLinesOf}
 use Rattle.merge_core.proofs.SourceLemmas.{taken_lines}
-use Rattle.merge_core.proofs.WholeLemmas.{are_read, all_lines_are, its_lines, told_known, texts_kept, starts_kept}
+use Rattle.merge_core.proofs.WholeLemmas.{are_read, all_lines_are, its_lines, told_known, texts_kept, extents_kept, starts_kept}
 use Rattle.merge_core.proofs.indexes.merge_indexes.Goals as goal
 
 whole : (old new : Option (List ℕ)) (text : List ℕ) → Appends old new text → AppendsPrefix old new text
@@ -36,7 +36,7 @@ never key = false
 -- Of sources that are indexes, what was taken is a front of their collection
 taken_front : {S : Type 0} (text : S → Option (List ℕ)) (extent gave : S → ℕ) (ss0 : List S) (fs0 : List Feed) (ss : List S) (fs : List Feed) (ws : List WaitingLine) (b : Option Pair) (taken : List Member)
     → length ss0 ≡ length fs0 → AllByRecursion (λ (f : Feed). f.cursor.start ≡ 0) fs0 → Reached LINE_LIMIT text never extent gave ss0 fs0 ss fs ws b taken
-    → (texts : List (List ℕ)) → (indexes : List (List Member)) → Known (map text ss0) texts → AllTwo (IsIndex LINE_LIMIT) texts indexes
+    → (texts : List (List ℕ)) → (indexes : List (List Member)) → Known (map text ss0) texts → AllZip (IsIndex LINE_LIMIT) texts indexes
     → (old new : Option (List ℕ)) → AppendsPrefix old new (lines_text taken) → AppendsPrefix old new (lines_text (collection indexes))
 taken_front text extent gave ss0 fs0 ss fs ws b taken same begun reached texts indexes known are old new p =
     let first = read_first text extent gave LINE_LIMIT never (λ key later e h. absurd (true≢false (sym e))) ss0 fs0 ss fs ws b taken same reached texts indexes known are (λ m. true) (λ m e. refl) begun in
@@ -76,23 +76,27 @@ returns-clause-part g c = λ texts indexes known are.
     texts indexes (subst (λ l. Known l texts) (sym opened.text) known) are out new
     (whole out new (lines_text wrote.1) (wrote.3 c.new-writer.result out (Appends-none out, c.new-writer.ensures)).0)
 
-pub returns-in_err-merge-clause-texts : goal.returns-in_err-merge-clause-texts
-returns-in_err-merge-clause-texts g c =
-    texts_kept g.S.Source.text g.S.Source.extent g.S.Source.gave c.open.new.sources c.merge.new.sources c.in_ok-streams.streams.feeds.items c.merge.new.streams.feeds.items
-    c.in_ok-streams.ensures.ready.same (omega arith) c.merge.ensures.moved ∙ c.in_ok-streams.ensures.text
+pub returns-in_err-merge-clause-kept : goal.returns-in_err-merge-clause-kept
+returns-in_err-merge-clause-kept g c =
+    let text = g.S.Source.text in let extent = g.S.Source.extent in let gave = g.S.Source.gave in
+    let ss1 = c.open.new.sources in let fs1 = c.in_ok-streams.streams.feeds.items in
+    let ss2 = c.merge.new.sources in let fs2 = c.merge.new.streams.feeds.items in
+    let opened = c.in_ok-streams.ensures in
+    let moved = c.merge.ensures.moved in (
+      texts_kept text extent gave ss1 ss2 fs1 fs2 opened.ready.same (omega arith) moved ∙ opened.text,
+      extents_kept text extent gave ss1 ss2 fs1 fs2 opened.ready.same (omega arith) moved ∙ opened.extent,
+    )
 
-pub returns-clause-texts : goal.returns-clause-texts
-returns-clause-texts g c =
-    texts_kept g.S.Source.text g.S.Source.extent g.S.Source.gave c.open.new.sources c.merge.new.sources c.in_ok-streams.streams.feeds.items c.merge.new.streams.feeds.items
-    c.in_ok-streams.ensures.ready.same (omega arith) c.merge.ensures.moved ∙ c.in_ok-streams.ensures.text
-
-pub returns-in_err-merge-clause-read : goal.returns-in_err-merge-clause-read
-returns-in_err-merge-clause-read g c =
-    let f = g.S.Source.failures in
-    let p = err_from_is_err_and c.from_residual-in_err-merge.result c.from_residual-in_err-merge.ensures.1 in
-    let q : p.0 ≡ c.in_err-merge.field-0.0 = p.2 in
-    if_err c.from_residual-in_err-merge.result p.0 _ p.1 (λ i h.
-    raised_from i (map f c.args.sources.now) (map f c.open.new.sources) (map f c.merge.new.sources) c.in_ok-streams.ensures.worked (c.in_err-merge.ensures.read i (sym q ∙ h)))
+pub returns-clause-kept : goal.returns-clause-kept
+returns-clause-kept g c =
+    let text = g.S.Source.text in let extent = g.S.Source.extent in let gave = g.S.Source.gave in
+    let ss1 = c.open.new.sources in let fs1 = c.in_ok-streams.streams.feeds.items in
+    let ss2 = c.merge.new.sources in let fs2 = c.merge.new.streams.feeds.items in
+    let opened = c.in_ok-streams.ensures in
+    let moved = c.merge.ensures.moved in (
+      texts_kept text extent gave ss1 ss2 fs1 fs2 opened.ready.same (omega arith) moved ∙ opened.text,
+      extents_kept text extent gave ss1 ss2 fs1 fs2 opened.ready.same (omega arith) moved ∙ opened.extent,
+    )
 
 pub returns-clause-merged : goal.returns-clause-merged
 returns-clause-merged g c = λ texts known.
@@ -111,9 +115,9 @@ returns-clause-merged g c = λ texts known.
       | false ↦ (λ f h. absurd (h refl))
     ]) ok.ended ok.enough in
     let kept1 = opened.text in
-    let known1 = subst (λ l. AllTwo (λ (told : Option (List ℕ)) (t : List ℕ). told ≡ Some t) l texts) (sym kept1) known in
+    let known1 = subst (λ l. AllZip (λ (told : Option (List ℕ)) (t : List ℕ). told ≡ Some t) l texts) (sym kept1) known in
     let kept2 = texts_kept text extent gave ss1 ss2 fs1 fs2 opened.ready.same (omega arith) c.merge.ensures.moved in
-    let known2 = subst (λ l. AllTwo (λ (told : Option (List ℕ)) (t : List ℕ). told ≡ Some t) l texts) (sym kept2) known1 in
+    let known2 = subst (λ l. AllZip (λ (told : Option (List ℕ)) (t : List ℕ). told ≡ Some t) l texts) (sym kept2) known1 in
     let fed = subst (λ (ws : List WaitingLine). AreFed LINE_LIMIT never text extent 0 ss2 fs2 ws) empty reached.ready.fed in
     let starts = starts_kept text extent gave ss1 ss2 fs1 fs2 opened.ready.same reached.ready.same c.merge.ensures.moved opened.start in
     let indexes = its_lines LINE_LIMIT never (λ key. refl) text extent ss2 fs2 in
@@ -159,3 +163,25 @@ returns-clause-lines g c =
           opened.ready.same wrote.2),
       whole out new (lines_text wrote.1) (wrote.3 c.new-writer.result out (Appends-none out, c.new-writer.ensures)).0,
     )
+
+pub returns-in_err-streams-clause-failures : goal.returns-in_err-streams-clause-failures
+returns-in_err-streams-clause-failures g c =
+    let f = map g.S.Source.failures in
+    let out = g.O.Output.failures c.args.out.now in
+    let e = c.in_err-streams.field-0.0 in
+    counts_merge c.from_residual.result e (f c.args.sources.now) (f c.args.sources.now) (f c.open.new.sources) out out out
+    c.from_residual.ensures.1 refl refl (raised_by_read e (f c.args.sources.now) (f c.open.new.sources) out c.in_err-streams.ensures.failures)
+
+pub returns-in_err-merge-clause-failures : goal.returns-in_err-merge-clause-failures
+returns-in_err-merge-clause-failures g c =
+    let f = map g.S.Source.failures in
+    let out = g.O.Output.failures c.args.out.now in
+    counts_merge c.from_residual-in_err-merge.result c.in_err-merge.field-0.0 (f c.args.sources.now) (f c.open.new.sources) (f c.merge.new.sources)
+    out out (g.O.Output.failures c.merge.new.out) c.from_residual-in_err-merge.ensures.1 c.in_ok-streams.ensures.failures refl c.in_err-merge.ensures.failures
+
+pub returns-clause-held : goal.returns-clause-held
+returns-clause-held g c = λ texts indexes known are most share.
+    let opened = c.in_ok-streams.ensures in
+    let known1 = subst (λ l. Known l texts) (sym opened.text) known in
+    let few = c.merge.ensures.held texts indexes known1 are most share (omega (arith, opened.held)) in
+    omega (arith, few, ap length opened.extent, length-map c.open.new.sources g.S.Source.extent, length-map c.args.sources.now g.S.Source.extent)

@@ -40,7 +40,7 @@ returns-in_err-reply_and_mark-clause-part g c = λ texts indexes known are.
     (g.O.Output.written c.args.out.now) (g.O.Output.written c.loop-lines.out) (g.O.Output.written c.reply_and_mark.new.out)
     c.read_line.new.lines.line c.line.result.now c.line.ensures found (inv.told texts indexes known are)
     (subst (λ m. TakesLine m found before after c.read_line.new.lines.line) inv.most c.in_ok-read_line.ensures.line) c.if-branch.true
-    (c.in_err-reply_and_mark.ensures.text texts indexes (subst (λ ts. Known ts texts) (sym inv.texts) known) are)
+    (c.in_err-reply_and_mark.ensures.text texts indexes (subst (λ ts. Known ts texts) (sym inv.kept.0) known) are)
 
 pub loop-lines-preserved : goal.loop-lines-preserved
 loop-lines-preserved g c =
@@ -50,7 +50,7 @@ loop-lines-preserved g c =
     let found = c.in_ok-read_line.field-0 in
     let rises : c.loop-lines.lines.taken < c.read_line.new.lines.taken = c.in_ok-read_line.ensures.some c.if-branch.true in
     record {
-      texts = c.in_ok-reply_and_mark.ensures.texts ∙ inv.texts;
+      kept = (c.in_ok-reply_and_mark.ensures.kept.0 ∙ inv.kept.0, c.in_ok-reply_and_mark.ensures.kept.1 ∙ inv.kept.1);
       sources = c.in_ok-reply_and_mark.ensures.failures.0 ∙ inv.sources;
       writes = c.in_ok-reply_and_mark.ensures.failures.1 ∙ inv.writes;
       reads = c.in_ok-read_line.ensures.failures ∙ inv.reads;
@@ -64,7 +64,7 @@ loop-lines-preserved g c =
           (g.O.Output.written c.args.out.now) (g.O.Output.written c.loop-lines.out) (g.O.Output.written c.reply_and_mark.new.out)
           c.read_line.new.lines.line c.line.result.now c.line.ensures found (inv.told texts indexes known are)
           (subst (λ m. TakesLine m found before after c.read_line.new.lines.line) inv.most c.in_ok-read_line.ensures.line) c.if-branch.true
-          (c.in_ok-reply_and_mark.ensures.text texts indexes (subst (λ ts. Known ts texts) (sym inv.texts) known) are);
+          (c.in_ok-reply_and_mark.ensures.text texts indexes (subst (λ ts. Known ts texts) (sym inv.kept.0) known) are);
     }
 
 pub returns-clause-replies : goal.returns-clause-replies

@@ -1,12 +1,9 @@
 use Rattle.std.proofs.Common.{◌≡◌, ◌-◌, ◌+◌, ◌^◌, ◌<◌, ◌≤◌, ℕ, List, map}
 use Rattle.std.specs.Io.KnownBytes.{prepend_known}
 use Rattle.cdxj_core.specs.declared.limit.TheConstants.{LINE_LIMIT}
-use Rattle.cdxj_core.specs.Indexes.{IsIndex}
-use Rattle.cdxj_core.specs.Members.{Member}
 use Rattle.devices.specs.LineReading.{CountsTaken}
 use Rattle.query_text.specs.declared.query.TheConstants.{QUERY_LIMIT}
-use Rattle.merge_core.specs.Collections.{Known}
-use Rattle.merge_core.specs.Gathering.{AllTwo}
+use Rattle.merge_core.specs.Collections.{KeepsSources, OverIndexes}
 use Rattle.query_core.specs.Collections.{collection}
 use Rattle.query_core.specs.Conversations.{RepliedSoFar}
 use Rattle.query_core.specs.Replies.{reply_of}
@@ -14,7 +11,7 @@ use Rattle.query_core.proofs.serving.serve.Given as goal
 
 abbrev pub invariant-loop-lines : goal.invariant-loop-lines
 invariant-loop-lines g l = record {
-  texts : map g.S.Source.text l.sources ≡ map g.S.Source.text l.fn.sources;
+  kept : KeepsSources g.S.Source.text g.S.Source.extent l.fn.sources l.sources;
   sources : map g.S.Source.failures l.sources ≡ map g.S.Source.failures l.fn.sources;
   writes : g.O.Output.failures l.out ≡ g.O.Output.failures l.fn.out;
   reads : g.I.Input.failures l.input ≡ g.I.Input.failures l.fn.input;
@@ -22,8 +19,8 @@ invariant-loop-lines g l = record {
   taken : CountsTaken (g.I.Input.remaining l.fn.input) (prepend_known l.lines.buffer (g.I.Input.remaining l.input)) 0 l.lines.taken;
   within : l.lines.taken < 2 ^ 63 - 1;
   fits : l.count ≤ l.lines.taken;
-  told : (texts : List (List ℕ)) → (indexes : List (List Member)) → Known (map g.S.Source.text l.fn.sources) texts → AllTwo (IsIndex LINE_LIMIT) texts indexes
-      → RepliedSoFar QUERY_LIMIT (reply_of QUERY_LIMIT (collection indexes)) (g.I.Input.remaining l.fn.input) (prepend_known l.lines.buffer (g.I.Input.remaining l.input)) l.count (g.O.Output.written l.fn.out) (g.O.Output.written l.out);
+  told : OverIndexes LINE_LIMIT (map g.S.Source.text l.fn.sources) (λ texts indexes.
+      RepliedSoFar QUERY_LIMIT (reply_of QUERY_LIMIT (collection indexes)) (g.I.Input.remaining l.fn.input) (prepend_known l.lines.buffer (g.I.Input.remaining l.input)) l.count (g.O.Output.written l.fn.out) (g.O.Output.written l.out));
 }
 
 abbrev pub decreases-loop-lines : goal.decreases-loop-lines

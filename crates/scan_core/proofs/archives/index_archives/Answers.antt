@@ -1,3 +1,4 @@
+use Rattle.std.specs.List.{AllZip}
 use Rattle.std.proofs.Common.{◌<◌, ◌+◌, ◌∷◌, ◌++◌, [], length, map, refl, sym, ap, ap₂, ◌∙◌, subst, arith, get_or, length-append, string_bytes}
 use Rattle.capture_core.specs.Types.{includes}
 use Rattle.cdxj_core.specs.declared.limit.TheConstants.{LINE_LIMIT}
@@ -5,7 +6,6 @@ use Rattle.cdxj_core.specs.Indexes.{IsIndex}
 use Rattle.devices.specs.Gathered.{gathered}
 use Rattle.index_core.specs.declared.fault.IndexFault.TheVariants.{Memory}
 use Rattle.index_core.specs.Indexing.{Held}
-use Rattle.merge_core.specs.Gathering.{AllTwo}
 use Rattle.merge_core.proofs.Many.{map_set_same}
 use Rattle.merge_core.proofs.SpendLemmas.{left_here, left_after}
 use Rattle.scan_core.specs.Archives.{index_members}
@@ -95,7 +95,7 @@ loop-i-preserved g c =
         inv.indexed.0 ++ found.1 ∷ [],
         one_more_indexed (includes c.args.types) (λ n. string_bytes n.name) (λ n. g.I.Input.remaining n.input) xs0 i d (get_or xs i d) inside0 here
             c.loop-i.indexer.names inv.indexed.0 names inv.indexed.1 found.1 found.0 found.2 found.3,
-        subst (λ is. AllTwo (IsIndex LINE_LIMIT) (map gathered is) (map index_members (inv.indexed.0 ++ found.1 ∷ []))) (sym pushed)
+        subst (λ is. AllZip (IsIndex LINE_LIMIT) (map gathered is) (map index_members (inv.indexed.0 ++ found.1 ∷ []))) (sym pushed)
             (indexes_push LINE_LIMIT gathered c.loop-i.indexes.items inv.indexed.0 c.in-Ok.index found.1 inv.indexed.2 found.4),
       );
     }

@@ -1,10 +1,10 @@
+use Rattle.std.specs.List.{AllZip}
 use Rattle.std.proofs.Common.{◌≡◌, List, [], length, map, take, drop, string_bytes}
 use Rattle.capture_core.specs.Types.{includes}
 use Rattle.cdxj_core.specs.declared.limit.TheConstants.{LINE_LIMIT}
 use Rattle.cdxj_core.specs.Entries.{EntryValue}
 use Rattle.cdxj_core.specs.Indexes.{IsIndex}
 use Rattle.devices.specs.Gathered.{gathered}
-use Rattle.merge_core.specs.Gathering.{AllTwo}
 use Rattle.scan_core.specs.Archives.{AreIndexed, index_members}
 use Rattle.scan_core.proofs.archives.index_archives.Given as goal
 
@@ -17,5 +17,5 @@ invariant-loop-i g l = record {
   number : length l.indexes.items ≡ l.i;
   indexed : (archives : List (List EntryValue))
       × AreIndexed (includes l.fn.types) (take l.i (map (λ n. string_bytes n.name) l.fn.inputs)) (take l.i (map (λ n. g.I.Input.remaining n.input) l.fn.inputs)) archives
-      × AllTwo (IsIndex LINE_LIMIT) (map gathered l.indexes.items) (map index_members archives);
+      × AllZip (IsIndex LINE_LIMIT) (map gathered l.indexes.items) (map index_members archives);
 }

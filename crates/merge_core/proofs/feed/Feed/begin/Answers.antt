@@ -11,7 +11,7 @@ use Rattle.merge_core.specs.LineFaults.{NamesLine}
 use Rattle.merge_core.specs.Spending.{ReadTo}
 use Rattle.merge_core.proofs.SpendLemmas.{read_to}
 use Rattle.merge_core.proofs.BadLines.{bad_named}
-use Rattle.merge_core.proofs.FailLemmas.{if_err}
+use Rattle.merge_core.proofs.FailLemmas.{counts_feed, if_err}
 use Rattle.merge_core.proofs.PairOrder.{upto_itself}
 use Rattle.merge_core.proofs.FeedLemmas.{fresh_done}
 use Rattle.merge_core.proofs.DrainLemmas.{settled, at_end}
@@ -70,3 +70,9 @@ returns-in-Some-clause-reads g c = λ t e.
     let next = c.next_line.ensures in
     subst (ReadTo LINE_LIMIT past None t) (sym c.settle.ensures.cursor) (read_to LINE_LIMIT past t extent f [] None (subst (λ o. Fed LINE_LIMIT past o extent f []) e c.requires.fed)
     (subst (AllByRecursion (λ m. IsUpto None (member_pair m))) (sym (fresh_done LINE_LIMIT t f c.requires.fresh)) tt) c.next_line.new.cursor next.start (next.most t e) next.ahead)
+
+pub returns-in_err-line-clause-failures : goal.returns-in_err-line-clause-failures
+returns-in_err-line-clause-failures g c =
+    let f = g.S.Source.failures in
+    counts_feed c.from_residual.result c.in_err-line.field-0.0 (f c.args.source.now) (f c.args.source.now) (f c.next_line.new.source)
+    c.from_residual.ensures.1 refl c.in_err-line.ensures.failures

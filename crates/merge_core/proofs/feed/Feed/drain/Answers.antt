@@ -1,3 +1,4 @@
+use Rattle.std.proofs.lemmas.List.{map-append}
 use Rattle.std.proofs.Common.{◌≡◌, Some, ◌+◌, ◌<◌, ◌∷◌, ◌++◌, [], Box, Global, option_map, map, MatchOption, refl, sym, ap, ◌∙◌, subst, arith}
 use Rattle.std.specs.List.{AllByRecursion}
 use Rattle.std.specs.Ordering.{ordering_reverse}
@@ -16,9 +17,9 @@ use Rattle.merge_core.specs.LineFaults.{NamesLine}
 use Rattle.merge_core.specs.Spending.{ReadTo}
 use Rattle.merge_core.proofs.SpendLemmas.{read_to}
 use Rattle.merge_core.proofs.BadLines.{bad_named, order_named}
-use Rattle.merge_core.proofs.FailLemmas.{if_err}
+use Rattle.merge_core.proofs.FailLemmas.{counts_feed, if_err}
 use Rattle.merge_core.proofs.PairOrder.{below_upto, same_upto, same_from}
-use Rattle.merge_core.proofs.FeedLemmas.{each_join, each_next, map_push, line_read, same_stays}
+use Rattle.merge_core.proofs.FeedLemmas.{each_join, each_next, line_read, same_stays}
 use Rattle.merge_core.proofs.DrainLemmas.{settled, settled_done, taken, taken_done, at_end, taken_more}
 use Rattle.merge_core.proofs.feed.Feed.drain.Goals as goal
 
@@ -74,7 +75,7 @@ loop-line-preserved g c =
     let alike : Alike (member_pair m) first = ap (λ k. pair_cmp (member_pair k) first) (sym c.deref.ensures) ∙ sym c.compare_pairs.ensures ∙ c.in-Equal.is in
     let f : Feed = record { cursor = c.next_line.new.cursor; progress = c.loop-line.self.progress } in
     let pushed : map (λ (b : Box Line Global). b.value) c.push.new.self.items ≡ map (λ (b : Box Line Global). b.value) c.loop-line.rest.items ++ m ∷ [] =
-    ap (map (λ (b : Box Line Global). b.value)) c.in-Ok.ensures.items ∙ map_push (λ (b : Box Line Global). b.value) c.loop-line.rest.items line in
+    ap (map (λ (b : Box Line Global). b.value)) c.in-Ok.ensures.items ∙ map-append (λ (b : Box Line Global). b.value) c.loop-line.rest.items (line ∷ []) in
     let more = taken_done LINE_LIMIT (g.R.Range.past c.args.range.now) (λ (b : Box Line Global). b.value) (g.S.Source.text c.loop-line.source) (g.S.Source.text c.next_line.new.source)
     (g.S.Source.extent c.loop-line.source) (g.S.Source.extent c.next_line.new.source) c.loop-line.self c.next_line.new.cursor c.in_ok-line.field-0 ok.text ok.extent
     inv.due inv.fed ok.stands ok.start ok.count ok.given ok.most f refl line c.in-Some.is first
@@ -82,7 +83,7 @@ loop-line-preserved g c =
     record {
       text = ok.text ∙ inv.text;
       extent = ok.extent ∙ inv.extent;
-      failures = ok.worked ∙ inv.failures;
+      failures = ok.failures ∙ inv.failures;
       gave = omega (arith, ok.gave, inv.gave);
       start = ok.start ∙ inv.start;
       there = (let h = subst (λ o. MatchOption o (c.next_line.new.cursor.at ≡ g.S.Source.extent c.loop-line.source) (λ _. c.loop-line.self.cursor.at < c.next_line.new.cursor.at)) c.in-Some.is ok.there in omega (arith, h, inv.there));
@@ -192,3 +193,9 @@ returns-in-Greater-clause-reads g c = λ t e.
     let next = c.next_line.ensures in
     subst (ReadTo LINE_LIMIT past (Some first) t) (sym c.settle.ensures.cursor)
     (read_to LINE_LIMIT past t extent f [] (Some first) (subst (λ o. Fed LINE_LIMIT past o extent f []) told inv.fed) (inv.low t e) c.next_line.new.cursor next.start (next.most t told) next.ahead)
+
+pub returns-in_err-line-clause-failures : goal.returns-in_err-line-clause-failures
+returns-in_err-line-clause-failures g c =
+    let f = g.S.Source.failures in
+    counts_feed c.from_residual.result c.in_err-line.field-0.0 (f c.args.source.now) (f c.loop-line.source) (f c.next_line.new.source)
+    c.from_residual.ensures.1 c.loop-line.invariant.failures c.in_err-line.ensures.failures

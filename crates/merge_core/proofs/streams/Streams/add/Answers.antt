@@ -1,4 +1,5 @@
-use Rattle.std.proofs.Common.{arith}
+use Rattle.std.proofs.Common.{arith, refl}
+use Rattle.merge_core.proofs.FailLemmas.{counts_feed}
 use Rattle.merge_core.proofs.OpenLemmas.{fed_fresh}
 use Rattle.merge_core.proofs.SpendLemmas.{read_none}
 use Rattle.cdxj_core.specs.declared.limit.TheConstants.{LINE_LIMIT}
@@ -35,3 +36,9 @@ returns-in-Err-let_wait-clause-spent g c = λ t e.
     let gave = c.begin.ensures.gave in
     let start = c.begin.ensures.start in
     omega (arith, few, gave, start)
+
+pub returns-in_err-next-clause-failures : goal.returns-in_err-next-clause-failures
+returns-in_err-next-clause-failures g c =
+    let f = g.S.Source.failures in
+    counts_feed c.from_residual.result c.in_err-next.field-0.0 (f c.args.source.now) (f c.args.source.now) (f c.begin.new.source)
+    c.from_residual.ensures.1 refl c.in_err-next.ensures.failures

@@ -1,5 +1,6 @@
-use Rattle.std.proofs.Common.{arith, sym, ◌∙◌, subst}
+use Rattle.std.proofs.Common.{arith, refl, sym, ◌∙◌, subst}
 use Rattle.source_core.specs.Search.{IsCut}
+use Rattle.merge_core.proofs.FailLemmas.{counts_feed}
 use Rattle.merge_core.proofs.streams.Streams.add_from.Goals as goal
 
 pub returns-clause-added : goal.returns-clause-added
@@ -21,3 +22,15 @@ returns-clause-added g c =
           let c2 = added.5 in
           omega (arith, a, b, c1, c2),
     )
+
+pub returns-in_err-cursor-clause-failures : goal.returns-in_err-cursor-clause-failures
+returns-in_err-cursor-clause-failures g c =
+    let f = g.S.Source.failures in
+    counts_feed c.from_residual.result c.in_err-cursor.field-0.0 (f c.args.source.now) (f c.args.source.now) (f c.find_start.new.source)
+    c.from_residual.ensures.1 refl c.in_err-cursor.ensures.failures
+
+pub returns-in_err-add-clause-failures : goal.returns-in_err-add-clause-failures
+returns-in_err-add-clause-failures g c =
+    let f = g.S.Source.failures in
+    counts_feed c.from_residual-in_err-add.result c.in_err-add.field-0.0 (f c.args.source.now) (f c.find_start.new.source) (f c.add.new.source)
+    c.from_residual-in_err-add.ensures.1 c.in_ok-cursor.ensures.failures c.in_err-add.ensures.failures

@@ -1,20 +1,20 @@
+use Rattle.std.specs.List.{AllZip}
 use Rattle.std.proofs.Common.{◌≡◌, Some, ◌++◌, [], Box, Global, List, get_or, set, map, zip, refl, sym, ap, ◌∙◌, subst, arith}
 use Rattle.std.specs.List.{AllByRecursion}
 use Rattle.std.proofs.lemmas.List.{get_or_default}
 use Rattle.cdxj_core.specs.declared.limit.TheConstants.{LINE_LIMIT}
 use Rattle.cdxj_core.specs.declared.line.Line.{Line}
 use Rattle.cdxj_core.specs.Members.{member_pair}
-use Rattle.merge_core.specs.declared.fault.MergeFault.TheVariants as fault
+use Rattle.merge_core.specs.declared.fault.MergeFault.TheVariants.{Memory}
+use Rattle.merge_core.specs.Failures.{RaisedByRead}
 use Rattle.merge_core.specs.declared.feed.Feed.{Feed}
 use Rattle.merge_core.specs.declared.feed.Progress.TheVariants.{Due}
 use Rattle.merge_core.specs.PairOrders.{Upto}
-use Rattle.merge_core.specs.Failures.{RaisedAt}
 use Rattle.merge_core.specs.Feeds.{Fed, Ready, done}
-use Rattle.merge_core.specs.Gathering.{AllTwo, EndsAt, unread}
-use Rattle.std.proofs.lemmas.Result.{err_from_is_err_and}
+use Rattle.merge_core.specs.Gathering.{EndsAt, unread}
 use Rattle.merge_core.specs.Spending.{AreReadTo}
 use Rattle.merge_core.proofs.SpendLemmas.{are_read_to, read_on}
-use Rattle.merge_core.proofs.FailLemmas.{if_err, raised, feed_is}
+use Rattle.merge_core.proofs.FailLemmas.{counts_reads, raised_by_feed}
 use Rattle.merge_core.proofs.Many.{Move, moved_set, map_set_same, unread_set}
 use Rattle.merge_core.proofs.StreamLemmas.{due_fed, waited_ready, waited_length}
 use Rattle.merge_core.proofs.streams.Streams.drain.Goals as goal
@@ -46,19 +46,11 @@ returns-in-Err-clause-moved g c =
     (subst (λ (f : Feed). Move g.S.Source.text g.S.Source.extent g.S.Source.gave (get_or ss i a, f) (c.drain.new.source, c.drain.new.self)) c.index_mut.ensures.value
     (record { text_kept = k.text; extent_kept = k.extent; spent = k.gave; start_kept = k.start }))
 
-pub returns-in-Err-clause-read : goal.returns-in-Err-clause-read
-returns-in-Err-clause-read g c = λ j e.
-    let f = g.S.Source.failures in
-    let i = c.args.i in
-    let p = feed_is i j c.in-Err.fault e in
-    subst (λ k. RaisedAt k (map f c.args.sources.now) (map f (set c.args.sources.now i c.drain.new.source))) p.0
-    (raised f c.args.sources.now c.args.sources.now i c.index-sources-i.result c.drain.new.source refl c.requires.inside (c.in-Err.ensures.failed p.1))
-
 pub returns-in_err-let_wait-clause-moved : goal.returns-in_err-let_wait-clause-moved
 returns-in_err-let_wait-clause-moved g c =
     let k = c.in-Ok.ensures in
     let ss = c.args.sources.now in let fs = c.args.self.now.feeds.items in let i = c.args.i in let a = c.index-sources-i.result in
-    subst (λ (us : List Feed). AllTwo (Move g.S.Source.text g.S.Source.extent g.S.Source.gave) (zip ss fs) (zip (set ss i c.drain.new.source) us)) (sym c.let_wait.ensures.feeds)
+    subst (λ (us : List Feed). AllZip (Move g.S.Source.text g.S.Source.extent g.S.Source.gave) (zip ss fs) (zip (set ss i c.drain.new.source) us)) (sym c.let_wait.ensures.feeds)
     (moved_set g.S.Source.text g.S.Source.extent g.S.Source.gave ss fs i a c.drain.new.source c.index_mut.result.now c.drain.new.self c.requires.ready.same c.requires.inside
     (subst (λ (f : Feed). Move g.S.Source.text g.S.Source.extent g.S.Source.gave (get_or ss i a, f) (c.drain.new.source, c.drain.new.self)) c.index_mut.ensures.value
     (record { text_kept = k.text; extent_kept = k.extent; spent = k.gave; start_kept = k.start })))
@@ -67,14 +59,10 @@ pub returns-clause-moved : goal.returns-clause-moved
 returns-clause-moved g c =
     let k = c.in-Ok.ensures in
     let ss = c.args.sources.now in let fs = c.args.self.now.feeds.items in let i = c.args.i in let a = c.index-sources-i.result in
-    subst (λ (us : List Feed). AllTwo (Move g.S.Source.text g.S.Source.extent g.S.Source.gave) (zip ss fs) (zip (set ss i c.drain.new.source) us)) (sym c.let_wait.ensures.feeds)
+    subst (λ (us : List Feed). AllZip (Move g.S.Source.text g.S.Source.extent g.S.Source.gave) (zip ss fs) (zip (set ss i c.drain.new.source) us)) (sym c.let_wait.ensures.feeds)
     (moved_set g.S.Source.text g.S.Source.extent g.S.Source.gave ss fs i a c.drain.new.source c.index_mut.result.now c.drain.new.self c.requires.ready.same c.requires.inside
     (subst (λ (f : Feed). Move g.S.Source.text g.S.Source.extent g.S.Source.gave (get_or ss i a, f) (c.drain.new.source, c.drain.new.self)) c.index_mut.ensures.value
     (record { text_kept = k.text; extent_kept = k.extent; spent = k.gave; start_kept = k.start })))
-
-pub returns-clause-worked : goal.returns-clause-worked
-returns-clause-worked g c =
-    map_set_same g.S.Source.failures c.args.sources.now c.args.i c.index-sources-i.result c.drain.new.source c.requires.inside c.in-Ok.ensures.worked
 
 pub returns-clause-ready : goal.returns-clause-ready
 returns-clause-ready g c =
@@ -111,16 +99,6 @@ returns-clause-drained g c =
           (h.0, h.1 ∙ ap (λ (f : Feed). done LINE_LIMIT t f ++ h.0) (c.index_mut.ensures.value ∙ get_or_default fs i b d (let l = c.requires.ready.same in let m = c.requires.inside in omega arith)), h.2, h.3),
     )
 
-pub returns-in-Err-clause-kept : goal.returns-in-Err-clause-kept
-returns-in-Err-clause-kept g c = λ h.
-    map_set_same g.S.Source.failures c.args.sources.now c.args.i c.index-sources-i.result c.drain.new.source c.requires.inside (c.in-Err.ensures.kept (λ e. h c.args.i (ap (fault.Feed c.args.i) e)))
-
-pub returns-in_err-let_wait-clause-kept : goal.returns-in_err-let_wait-clause-kept
-returns-in_err-let_wait-clause-kept g c =
-    let p = err_from_is_err_and c.from_residual.result c.from_residual.ensures.1 in
-    if_err c.from_residual.result p.0 _ p.1 (λ h.
-    map_set_same g.S.Source.failures c.args.sources.now c.args.i c.index-sources-i.result c.drain.new.source c.requires.inside c.in-Ok.ensures.worked)
-
 pub returns-in-Err-clause-reads : goal.returns-in-Err-clause-reads
 returns-in-Err-clause-reads g c = λ low.
     let past = g.R.Range.past c.args.range.now in
@@ -150,3 +128,20 @@ returns-clause-reads g c = λ low.
     let all = are_read_to LINE_LIMIT past text extent (Some pair) 0 ss fs c.args.self.now.waiting c.requires.ready.fed low in
     let new = read_on LINE_LIMIT past text extent (Some pair) ss fs i c.drain.new.source c.drain.new.self all (λ t e. c.drain.ensures.reads t (sym c.drain.ensures.text ∙ e)) in
     subst (λ (us : List Feed). AreReadTo LINE_LIMIT past text (Some pair) (set ss i c.drain.new.source) us) (sym c.let_wait.ensures.feeds) new
+
+pub returns-in-Err-clause-failures : goal.returns-in-Err-clause-failures
+returns-in-Err-clause-failures g c =
+    raised_by_feed g.S.Source.failures c.args.sources.now c.args.sources.now c.args.i c.index-sources-i.result c.drain.new.source c.in-Err.fault
+    refl c.requires.inside c.in-Err.ensures.failures
+
+pub returns-in_err-let_wait-clause-failures : goal.returns-in_err-let_wait-clause-failures
+returns-in_err-let_wait-clause-failures g c =
+    let f = map g.S.Source.failures in
+    let new = f (set c.args.sources.now c.args.i c.drain.new.source) in
+    let same = map_set_same g.S.Source.failures c.args.sources.now c.args.i c.index-sources-i.result c.drain.new.source c.requires.inside c.in-Ok.ensures.failures in
+    counts_reads c.from_residual.result c.in_err-let_wait.field-0.0 (f c.args.sources.now) (f c.args.sources.now) new c.from_residual.ensures.1 refl
+    (subst (λ e. RaisedByRead e (f c.args.sources.now) new) (sym c.in_err-let_wait.ensures.refused) same)
+
+pub returns-clause-failures : goal.returns-clause-failures
+returns-clause-failures g c =
+    map_set_same g.S.Source.failures c.args.sources.now c.args.i c.index-sources-i.result c.drain.new.source c.requires.inside c.in-Ok.ensures.failures

@@ -1,3 +1,6 @@
+use Rattle.std.proofs.lemmas.List.{map-append}
+use Rattle.std.proofs.lemmas.List.{set-set}
+use Rattle.std.specs.List.{AllZip}
 use Rattle.std.proofs.Common.{◌≡◌, Some, ◌+◌, ◌∷◌, ◌++◌, [], Box, Global, List, length, get_or, set, map, zip, false, is_lt, refl, sym, ap, ◌∙◌, subst, arith, length-set}
 use Rattle.std.specs.List.{AllByRecursion}
 use Rattle.std.specs.List.Sorted.{IsPermutation}
@@ -13,25 +16,25 @@ use Rattle.merge_core.specs.declared.feed.Feed.{Feed}
 use Rattle.merge_core.specs.PairOrders.{Alike, Upto}
 use Rattle.merge_core.specs.WaitingLines.{WaitingLine, waiting_pair, turn_cmp}
 use Rattle.merge_core.specs.Feeds.{IsSettled, AreSettled, due}
-use Rattle.merge_core.specs.Gathering.{AllTwo, Gathered, Grouped, IsFrom, IsDue, WaitsAbove, Drained, all_done, unread}
+use Rattle.merge_core.specs.Gathering.{Gathered, Grouped, IsFrom, IsDue, WaitsAbove, Drained, all_done, unread}
 use Rattle.merge_core.specs.LineFaults.{IsFaultOf}
 use Rattle.merge_core.specs.Spending.{AreReadTo}
 use Rattle.merge_core.proofs.PairOrder.{upto_itself}
 use Rattle.merge_core.proofs.MergeLemmas.{on_err}
 use Rattle.merge_core.proofs.SpendLemmas.{due_read}
 use Rattle.merge_core.proofs.WholeLemmas.{texts_kept}
-use Rattle.merge_core.proofs.FailLemmas.{if_err, raised_from}
-use Rattle.merge_core.proofs.FeedLemmas.{each_join, map_push}
+use Rattle.merge_core.proofs.FailLemmas.{counts_reads, if_err}
+use Rattle.merge_core.proofs.FeedLemmas.{each_join}
 use Rattle.merge_core.proofs.GroupLemmas.{AreAt, from_waited}
 use Rattle.merge_core.proofs.GatherSteps.{Gathers, gathers_start, taken_next, gathers_drained, gathers_all}
 use Rattle.merge_core.proofs.HeapLemmas.{each_permuted}
-use Rattle.merge_core.proofs.Many.{Move, moved_trans, moved_still, set_set, set_own, each_replaced}
+use Rattle.merge_core.proofs.Many.{Move, moved_trans, moved_still, set_own, each_replaced}
 use Rattle.merge_core.proofs.TurnLemmas.{above_popped, not_before}
 use Rattle.merge_core.proofs.streams.Streams.gather.Goals as goal
 
 pub returns-in_default-clause-moved : goal.returns-in_default-clause-moved
 returns-in_default-clause-moved g c =
-    subst (λ (fs : List Feed). AllTwo (Move g.S.Source.text g.S.Source.extent g.S.Source.gave) (zip c.args.sources.now c.args.self.now.feeds.items) (zip c.args.sources.now fs)) (sym c.in_default.ensures.feeds)
+    subst (λ (fs : List Feed). AllZip (Move g.S.Source.text g.S.Source.extent g.S.Source.gave) (zip c.args.sources.now c.args.self.now.feeds.items) (zip c.args.sources.now fs)) (sym c.in_default.ensures.feeds)
     (moved_still g.S.Source.text g.S.Source.extent g.S.Source.gave (zip c.args.sources.now c.args.self.now.feeds.items))
 
 pub sources-init : goal.sources-init
@@ -54,7 +57,7 @@ sources-init g c =
       due = t.due;
       settled = λ f s.
           let took = (subst (λ (v : WaitingLine). (d : Feed) → c.take_first.new.self.feeds.items ≡ set fs v.source (due (get_or fs v.source d))) is c.in-Some.ensures.feeds) f in
-          subst AreSettled (sym (ap (λ (l : List Feed). set l w.source f) took ∙ set_set fs w.source (due (get_or fs w.source f)) f)) (each_replaced IsSettled fs w.source f c.requires.settled s);
+          subst AreSettled (sym (ap (λ (l : List Feed). set l w.source f) took ∙ set-set fs w.source (due (get_or fs w.source f)) f)) (each_replaced IsSettled fs w.source f c.requires.settled s);
       failures = refl;
       from = t.from;
       above = λ b h. above_popped b ws c.take_first.new.self.waiting w out h;
@@ -75,14 +78,6 @@ pub returns-in_err-drain-clause-moved : goal.returns-in_err-drain-clause-moved
 returns-in_err-drain-clause-moved g c =
     moved_trans g.S.Source.text g.S.Source.extent g.S.Source.gave (zip c.args.sources.now c.args.self.now.feeds.items) (zip c.sources.sources c.sources.self.feeds.items) (zip c.drain.new.sources c.drain.new.self.feeds.items)
     c.sources.invariant.gathers.moved c.drain.ensures.moved
-
-pub returns-in_err-drain-clause-read : goal.returns-in_err-drain-clause-read
-returns-in_err-drain-clause-read g c =
-    let f = g.S.Source.failures in
-    let p = err_from_is_err_and c.from_residual.result c.from_residual.ensures.1 in
-    let q : p.0 ≡ c.in_err-drain.field-0.0 = p.2 in
-    if_err c.from_residual.result p.0 _ p.1 (λ i h.
-    raised_from i (map f c.args.sources.now) (map f c.sources.sources) (map f c.drain.new.sources) c.sources.invariant.failures (c.in_err-drain.ensures.read i (sym q ∙ h)))
 
 pub take_at-requires-clause-from : goal.take_at-requires-clause-from
 take_at-requires-clause-from g c =
@@ -107,7 +102,7 @@ returns-in_default-take_at-clause-moved g c =
     gathers_drained LINE_LIMIT past text extent gave c.args.sources.now c.args.self.now.feeds.items pair i ss fs c.sources.self.waiting first (values c.sources.rest.items) (values c.drain.new.rest.items) inv.gathers
     ok.drained.0 ok.drained.1 c.drain.new.sources c.drain.new.self.feeds.items c.drain.new.self.waiting ok.drained.0 ok.drained.1 inv.inside ok.ready ok.moved ok.drained.2 ok.drained.3 (ok.drained.4 ok.drained.0)
     (subst (λ p. Drained LINE_LIMIT p (text (get_or ss i ok.drained.0)) (get_or fs i ok.drained.1) ok.drained.1 (values c.sources.rest.items) (values c.drain.new.rest.items)) (ap member_pair (c.deref-in-sources.ensures ∙ sym (c.new-keyed.ensures ∙ c.deref.ensures))) (ok.drained.5 ok.drained.0 ok.drained.1)) in
-    subst (λ (us : List Feed). AllTwo (Move text extent gave) (zip c.args.sources.now c.args.self.now.feeds.items) (zip c.drain.new.sources us)) (sym c.in_default-take_at.ensures.feeds) drained.moved
+    subst (λ (us : List Feed). AllZip (Move text extent gave) (zip c.args.sources.now c.args.self.now.feeds.items) (zip c.drain.new.sources us)) (sym c.in_default-take_at.ensures.feeds) drained.moved
 
 pub returns-in_default-take_at-clause-group : goal.returns-in_default-take_at-clause-group
 returns-in_default-take_at-clause-group g c =
@@ -229,7 +224,7 @@ sources-preserved g c =
     (subst (λ (v : WaitingLine). (d : Feed) → c.take_at.new.self.feeds.items ≡ set c.drain.new.self.feeds.items v.source (due (get_or c.drain.new.self.feeds.items v.source d))) is took.feeds)
     (subst (λ (x : WaitingLine). AllByRecursion (λ v. is_lt (turn_cmp v x) ≡ false) c.take_at.new.self.waiting) is took.first) (mine.1 alike) alike in
     let each = subst (λ p. AreAt p (values c.sources.rest.items) → AreAt p (values c.drain.new.rest.items)) (ap member_pair (c.deref-in-sources.ensures ∙ sym (c.new-keyed.ensures ∙ c.deref.ensures))) ok.each in
-    let pushed : values c.push.new.self.items ≡ values c.drain.new.rest.items ++ w.member ∷ [] = ap values c.in-Ok.ensures.items ∙ map_push (λ (b : Box Line Global). b.value) c.drain.new.rest.items c.next-in-sources.inside.line in
+    let pushed : values c.push.new.self.items ≡ values c.drain.new.rest.items ++ w.member ∷ [] = ap values c.in-Ok.ensures.items ∙ map-append (λ (b : Box Line Global). b.value) c.drain.new.rest.items (c.next-in-sources.inside.line ∷ []) in
     let fewer = t.fewer in
     let few = ok.fewer in
     let less = inv.fewer in
@@ -243,8 +238,8 @@ sources-preserved g c =
           let all = subst AreSettled (sym ok.drained.3) (inv.settled ok.drained.1 here) in
           let feeds = c.drain.new.self.feeds.items in
           let next = (subst (λ (v : WaitingLine). (d : Feed) → c.take_at.new.self.feeds.items ≡ set feeds v.source (due (get_or feeds v.source d))) is took.feeds) f in
-          subst AreSettled (sym (ap (λ (l : List Feed). set l w.source f) next ∙ set_set feeds w.source (due (get_or feeds w.source f)) f)) (each_replaced IsSettled feeds w.source f all s);
-      failures = ok.worked ∙ inv.failures;
+          subst AreSettled (sym (ap (λ (l : List Feed). set l w.source f) next ∙ set-set feeds w.source (due (get_or feeds w.source f)) f)) (each_replaced IsSettled feeds w.source f all s);
+      failures = ok.failures ∙ inv.failures;
       from = t.from;
       above = inv.above;
       least = inv.least;
@@ -311,3 +306,9 @@ returns-in-Err-clause-reads g c =
           (c.drain.ensures.reads (subst (λ q. AllByRecursion (λ m. Upto (member_pair m) q) (all_done LINE_LIMIT text ss fs)) (sym (ap member_pair (c.deref-in-sources.ensures ∙ sym (c.new-keyed.ensures ∙ c.deref.ensures)))) all)) in
           subst (λ (us : List Feed). AreReadTo LINE_LIMIT past text (Some pair) c.drain.new.sources us) (sym next) (due_read LINE_LIMIT past text extent (Some pair) c.drain.new.sources feeds w.source ok.drained.1 here),
     )
+
+pub returns-in_err-drain-clause-failures : goal.returns-in_err-drain-clause-failures
+returns-in_err-drain-clause-failures g c =
+    let f = map g.S.Source.failures in
+    counts_reads c.from_residual.result c.in_err-drain.field-0.0 (f c.args.sources.now) (f c.sources.sources) (f c.drain.new.sources)
+    c.from_residual.ensures.1 c.sources.invariant.failures c.in_err-drain.ensures.failures

@@ -1,13 +1,11 @@
 use Rattle.std.proofs.Common.{◌≡◌, ◌<◌, ◌+◌, ◌∷◌, [], length, map, refl, sym, ap, ◌∙◌, subst, set, zip, flat_map, length-append, arith}
 use Rattle.std.specs.List.{AllByRecursion}
 use Rattle.cdxj_core.specs.declared.limit.TheConstants.{LINE_LIMIT}
-use Rattle.merge_core.specs.declared.fault.MergeFault.TheVariants as fault
 use Rattle.merge_core.specs.declared.feed.Feed.{Feed}
 use Rattle.merge_core.specs.WaitingLines.{WaitingLine}
 use Rattle.merge_core.specs.Feeds.{AreSettled, AreFed, done}
 use Rattle.merge_core.specs.Gathering.{text_or}
-use Rattle.merge_core.specs.Failures.{RaisedAt}
-use Rattle.merge_core.proofs.FailLemmas.{raised, feed_is}
+use Rattle.merge_core.proofs.FailLemmas.{raised_by_feed}
 use Rattle.merge_core.proofs.FeedLemmas.{each_join}
 use Rattle.merge_core.proofs.Many.{map_set_same}
 use Rattle.merge_core.proofs.OpenLemmas.{fed_added, fed_none, done_none, zip_push, flat_push, fresh_of}
@@ -38,14 +36,6 @@ pub returns-in-Err-add-clause-extent : goal.returns-in-Err-add-clause-extent
 returns-in-Err-add-clause-extent g c =
     map_set_same g.S.Source.extent c.loop-i.sources c.loop-i.i c.index-sources-i.result c.add.new.source (omega arith) c.add.ensures.extent ∙ c.loop-i.invariant.extent
 
-pub returns-in-Err-add-clause-read : goal.returns-in-Err-add-clause-read
-returns-in-Err-add-clause-read g c = λ j e.
-    let f = g.S.Source.failures in
-    let i = c.loop-i.i in
-    let p = feed_is i j c.in-Err-add.fault e in
-    subst (λ k. RaisedAt k (map f c.args.sources.now) (map f (set c.loop-i.sources i c.add.new.source))) p.0
-    (raised f c.args.sources.now c.loop-i.sources i c.index-sources-i.result c.add.new.source c.loop-i.invariant.failures (omega arith) (c.in-Err-add.ensures.failed p.1))
-
 pub loop-i-preserved : goal.loop-i-preserved
 loop-i-preserved g c =
     let past = g.R.Range.past c.args.range.now in
@@ -61,7 +51,7 @@ loop-i-preserved g c =
     record {
       text = map_set_same g.S.Source.text ss i a s inside ok.text ∙ inv.text;
       extent = map_set_same g.S.Source.extent ss i a s inside ok.extent ∙ inv.extent;
-      failures = map_set_same g.S.Source.failures ss i a s inside ok.worked ∙ inv.failures;
+      failures = map_set_same g.S.Source.failures ss i a s inside ok.failures ∙ inv.failures;
       held = ok.held ∙ inv.held;
       count = ap length added.2 ∙ length-append fs (f ∷ []) ∙ ap (λ n. n + 1) inv.count;
       placed = subst (λ us. AllByRecursion (λ (w : WaitingLine). w.source < length us) ws') (sym added.2) both.0;
@@ -72,6 +62,7 @@ loop-i-preserved g c =
           ∙ flat_push of (zip ss fs) (s, f) inv.fresh (fresh_of LINE_LIMIT (g.S.Source.text s) f (λ t e. added.6 t (sym ok.text ∙ e)));
     }
 
-pub returns-in-Err-add-clause-kept : goal.returns-in-Err-add-clause-kept
-returns-in-Err-add-clause-kept g c = λ h.
-    map_set_same g.S.Source.failures c.loop-i.sources c.loop-i.i c.index-sources-i.result c.add.new.source (omega arith) (c.in-Err-add.ensures.kept (λ e. h c.loop-i.i (ap (fault.Feed c.loop-i.i) e))) ∙ c.loop-i.invariant.failures
+pub returns-in-Err-add-clause-failures : goal.returns-in-Err-add-clause-failures
+returns-in-Err-add-clause-failures g c =
+    raised_by_feed g.S.Source.failures c.args.sources.now c.loop-i.sources c.loop-i.i c.index-sources-i.result c.add.new.source c.in-Err-add.fault
+    c.loop-i.invariant.failures (omega arith) c.in-Err-add.ensures.failures

@@ -1,19 +1,17 @@
+use Rattle.std.specs.List.{AllZip}
 use Rattle.std.proofs.Common.{◌≡◌, ◌++◌, get_or, take, ◌<◌, ◌+◌, ◌∷◌, [], length, map, refl, sym, ap, ◌∙◌, subst, set, zip, flat_map, length-append, arith}
 use Rattle.std.specs.List.{AllByRecursion, sum}
 use Rattle.std.proofs.lemmas.List.{take_all, take_more}
 use Rattle.cdxj_core.specs.declared.limit.TheConstants.{LINE_LIMIT}
 use Rattle.source_core.specs.Halving.{digits}
-use Rattle.merge_core.specs.declared.fault.MergeFault.TheVariants as fault
 use Rattle.merge_core.specs.declared.feed.Feed.{Feed}
 use Rattle.merge_core.specs.WaitingLines.{WaitingLine}
 use Rattle.merge_core.specs.Feeds.{AreSettled, AreFed, done}
 use Rattle.merge_core.specs.Gathering.{text_or}
-use Rattle.merge_core.specs.Failures.{RaisedAt}
 use Rattle.merge_core.specs.Openings.{IsCutAt}
-use Rattle.merge_core.specs.Gathering.{AllTwo}
 use Rattle.merge_core.specs.Spending.{CameWithin, OpenedWithin}
 use Rattle.merge_core.proofs.SpendLemmas.{opened_none, two_put, two_push, left_here, left_after}
-use Rattle.merge_core.proofs.FailLemmas.{raised, feed_is}
+use Rattle.merge_core.proofs.FailLemmas.{raised_by_feed}
 use Rattle.merge_core.proofs.FeedLemmas.{each_join}
 use Rattle.merge_core.proofs.Many.{map_set_same}
 use Rattle.merge_core.proofs.MergeLemmas.{map_seen}
@@ -38,7 +36,7 @@ loop-i-init g c =
       probes = omega arith;
       left = refl;
       spent = opened_none g.S.Source.text g.S.Source.extent g.S.Source.gave c.args.sources.now;
-      came = subst (AllTwo (λ (x : g.row.S.Denot) (y : g.row.S.Denot × Feed). CameWithin (g.S.Source.text x) (g.S.Source.extent x) (g.S.Source.gave x) (g.S.Source.gave y.0) y.1.cursor) [])
+      came = subst (AllZip (λ (x : g.row.S.Denot) (y : g.row.S.Denot × Feed). CameWithin (g.S.Source.text x) (g.S.Source.extent x) (g.S.Source.gave x) (g.S.Source.gave y.0) y.1.cursor) [])
           (sym (zip_none c.args.sources.now c.new.result.items none)) tt;
     }
 
@@ -49,14 +47,6 @@ returns-in-Err-clause-text g c =
 pub returns-in-Err-clause-extent : goal.returns-in-Err-clause-extent
 returns-in-Err-clause-extent g c =
     map_set_same g.S.Source.extent c.loop-i.sources c.loop-i.i c.index-sources-i.result c.add_from.new.source (omega arith) c.add_from.ensures.extent ∙ c.loop-i.invariant.extent
-
-pub returns-in-Err-clause-read : goal.returns-in-Err-clause-read
-returns-in-Err-clause-read g c = λ j e.
-    let f = g.S.Source.failures in
-    let i = c.loop-i.i in
-    let p = feed_is i j c.in-Err.fault e in
-    subst (λ k. RaisedAt k (map f c.args.sources.now) (map f (set c.loop-i.sources i c.add_from.new.source))) p.0
-    (raised f c.args.sources.now c.loop-i.sources i c.index-sources-i.result c.add_from.new.source c.loop-i.invariant.failures (omega arith) (c.in-Err.ensures.failed p.1))
 
 pub loop-i-preserved : goal.loop-i-preserved
 loop-i-preserved g c =
@@ -83,7 +73,7 @@ loop-i-preserved g c =
     record {
       text = map_set_same g.S.Source.text ss i a s inside ok.text ∙ inv.text;
       extent = map_set_same g.S.Source.extent ss i a s inside ok.extent ∙ inv.extent;
-      failures = map_set_same g.S.Source.failures ss i a s inside ok.worked ∙ inv.failures;
+      failures = map_set_same g.S.Source.failures ss i a s inside ok.failures ∙ inv.failures;
       held = ok.held ∙ inv.held;
       count = ap length added.2 ∙ length-append fs (f ∷ []) ∙ ap (λ n. n + 1) inv.count;
       placed = subst (λ us. AllByRecursion (λ (w : WaitingLine). w.source < length us) ws') (sym added.2) both.0;
@@ -95,9 +85,9 @@ loop-i-preserved g c =
       probes = omega (arith, turns, here, few, before, all);
       left = left_after c.args.sources.now ss i s inv.left;
       spent = two_put (λ x y. OpenedWithin (text x) (extent x) (gave x) (gave y)) c.args.sources.now ss i a s inv.spent (subst (λ x. OpenedWithin (text x) (extent x) (gave x) (gave s)) same_here ok.spent);
-      came = subst (λ us. AllTwo Came (take (i + 1) c.args.sources.now) (zip (set ss i s) us)) (sym added.2)
-          (subst (AllTwo Came (take (i + 1) c.args.sources.now)) (sym (zip_push ss fs i s f inv.count inside))
-          (subst (λ us. AllTwo Came us (zip ss fs ++ (s, f) ∷ [])) (sym (take_more c.args.sources.now i a inside_old))
+      came = subst (λ us. AllZip Came (take (i + 1) c.args.sources.now) (zip (set ss i s) us)) (sym added.2)
+          (subst (AllZip Came (take (i + 1) c.args.sources.now)) (sym (zip_push ss fs i s f inv.count inside))
+          (subst (λ us. AllZip Came us (zip ss fs ++ (s, f) ∷ [])) (sym (take_more c.args.sources.now i a inside_old))
           (two_push Came (take i c.args.sources.now) (zip ss fs) (get_or c.args.sources.now i a) (s, f) inv.came
           (subst (λ x. CameWithin (text x) (extent x) (gave x) (gave s) f.cursor) same_here added.7))));
     }
@@ -110,10 +100,6 @@ returns-clause-probes g c =
     let same = ap sum (map_seen digits e c.loop-i.sources ∙ ap (map digits) inv.extent ∙ sym (map_seen digits e c.args.sources.now)) in
     let few = inv.probes in
     omega (arith, whole, same, few)
-
-pub returns-in-Err-clause-kept : goal.returns-in-Err-clause-kept
-returns-in-Err-clause-kept g c = λ h.
-    map_set_same g.S.Source.failures c.loop-i.sources c.loop-i.i c.index-sources-i.result c.add_from.new.source (omega arith) (c.in-Err.ensures.kept (λ e. h c.loop-i.i (ap (fault.Feed c.loop-i.i) e))) ∙ c.loop-i.invariant.failures
 
 pub returns-in-Err-clause-spent : goal.returns-in-Err-clause-spent
 returns-in-Err-clause-spent g c =
@@ -128,4 +114,9 @@ returns-clause-came g c =
     let text = g.S.Source.text in let extent = g.S.Source.extent in let gave = g.S.Source.gave in
     let inv = c.loop-i.invariant in
     let Came = λ (x : g.row.S.Denot) (y : g.row.S.Denot × Feed). CameWithin (text x) (extent x) (gave x) (gave y.0) y.1.cursor in
-    subst (λ us. AllTwo Came us (zip c.loop-i.sources c.loop-i.streams.feeds.items)) (take_all c.loop-i.i c.args.sources.now (omega arith)) inv.came
+    subst (λ us. AllZip Came us (zip c.loop-i.sources c.loop-i.streams.feeds.items)) (take_all c.loop-i.i c.args.sources.now (omega arith)) inv.came
+
+pub returns-in-Err-clause-failures : goal.returns-in-Err-clause-failures
+returns-in-Err-clause-failures g c =
+    raised_by_feed g.S.Source.failures c.args.sources.now c.loop-i.sources c.loop-i.i c.index-sources-i.result c.add_from.new.source c.in-Err.fault
+    c.loop-i.invariant.failures (omega arith) c.in-Err.ensures.failures

@@ -1,3 +1,4 @@
+use Rattle.std.specs.List.{AllZip}
 use Rattle.std.proofs.Common.{◌≡◌, ◌<◌, ◌≤◌, [], length, map, take, drop, zip}
 use Rattle.std.specs.List.{AllByRecursion, sum}
 use Rattle.cdxj_core.specs.declared.limit.TheConstants.{LINE_LIMIT}
@@ -5,7 +6,7 @@ use Rattle.source_core.specs.Halving.{digits}
 use Rattle.merge_core.specs.declared.feed.Feed.{Feed}
 use Rattle.merge_core.specs.WaitingLines.{WaitingLine}
 use Rattle.merge_core.specs.Feeds.{AreFed, AreSettled}
-use Rattle.merge_core.specs.Gathering.{AllTwo, all_done}
+use Rattle.merge_core.specs.Gathering.{all_done}
 use Rattle.merge_core.specs.Spending.{CameWithin, OpenedWithin}
 use Rattle.merge_core.specs.Openings.{IsCutAt}
 use Rattle.merge_core.proofs.streams.Streams.open_at.Given as goal
@@ -24,6 +25,6 @@ invariant-loop-i g l = record {
   fresh : all_done LINE_LIMIT g.S.Source.text l.sources l.streams.feeds.items ≡ [];
   probes : l.probes ≤ sum (map (λ s. digits (g.S.Source.extent s)) (take l.i l.sources));
   left : drop l.i l.sources ≡ drop l.i l.fn.sources;
-  spent : AllTwo (λ x y. OpenedWithin (g.S.Source.text x) (g.S.Source.extent x) (g.S.Source.gave x) (g.S.Source.gave y)) l.fn.sources l.sources;
-  came : AllTwo (λ x y. CameWithin (g.S.Source.text x) (g.S.Source.extent x) (g.S.Source.gave x) (g.S.Source.gave y.0) y.1.cursor) (take l.i l.fn.sources) (zip l.sources l.streams.feeds.items);
+  spent : AllZip (λ x y. OpenedWithin (g.S.Source.text x) (g.S.Source.extent x) (g.S.Source.gave x) (g.S.Source.gave y)) l.fn.sources l.sources;
+  came : AllZip (λ x y. CameWithin (g.S.Source.text x) (g.S.Source.extent x) (g.S.Source.gave x) (g.S.Source.gave y.0) y.1.cursor) (take l.i l.fn.sources) (zip l.sources l.streams.feeds.items);
 }

@@ -12,7 +12,7 @@ returns-clause-stands g c =
     let old = g.O.Output.written c.args.out.now in
     let new = g.O.Output.written c.put_start.new.out in
     let form = c.new-page.ensures ∙ c.form_of.ensures ∙ ap form_of (sym c.in_ok-selection.ensures.query.0) in (
-      nothing_taken (form_of c.in_ok-selection.selection.query.now) c.args.limit old new (subst (λ form. Appends old new (page_start form)) form c.in_ok-put_start.ensures.text),
+      nothing_taken (form_of c.in_ok-selection.selection.query.now) c.limit.result old new (subst (λ form. Appends old new (page_start form)) form c.in_ok-put_start.ensures.text),
       λ e. c.in_ok-selection.ensures.selects,
     )
 

@@ -1,0 +1,8 @@
+use Rattle.std.proofs.Common.{map, take}
+use Rattle.std.specs.List.{AllByRecursion}
+use Rattle.cdxj_core.specs.declared.limit.TheConstants.{LINE_LIMIT}
+use Rattle.merge_core.specs.SourceLines.{HasEntry}
+use Rattle.merge_core.proofs.sink.have_entries.Given as goal
+
+abbrev pub invariant-loop-line : goal.invariant-loop-line
+invariant-loop-line l = AllByRecursion (HasEntry LINE_LIMIT) (map (λ b. b.value) (take l.line-index l.lines))
