@@ -68,8 +68,11 @@ impl Collapsing {
     /// Stores what is compared of a capture of this key and stamp.
     pub(crate) fn keep(&mut self, key: &str, stamp: [u8; 14]) -> Result<(), AllocError>
         ensures { OnOk result
-            (self.new ≡ record { by = self.old.by; part = Some
-            (part_of self.old.by key.now stamp) }) }
+            (self.new ≡ record {
+              by = self.old.by;
+              part = Some
+                  (part_of self.old.by key.now stamp);
+            }) }
     {
         match self.by {
             Collapse::Urlkey => {

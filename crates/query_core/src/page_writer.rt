@@ -118,14 +118,13 @@ impl<'q> PageWriter<'q> {
     ) -> Result<PageWriter<'q>, TextFault>
         ensures stands { IfOk result (λ writer.
             stands writer [] (O.written out.old) (O.written out.new)) }
-        ensures query { IfOk result (λ writer. 
+        ensures query { IfOk result (λ writer.
             (writer.selection.query.now ≡ query.now)
             × (from_view writer.selection.from ≡ query.now.resume)
             × (writer.limit ≡ query.now.limit)) }
         ensures some { OnOk result (query.now.limit ≡ Some 0 → ⊥) }
         ensures front { OnErr result
-            (AppendsPrefix (O.written out.old) (O.written out.new) (page_start (form_of query.now)))
-            }
+            (AppendsPrefix (O.written out.old) (O.written out.new) (page_start (form_of query.now))) }
         ensures failures { CountsWrite result (O.failures out.old) (O.failures out.new) }
     {
         let selection = Selection::begin(alloc, query)?;

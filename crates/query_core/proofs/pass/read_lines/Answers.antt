@@ -197,19 +197,19 @@ returns-clause-took g c =
           let f = wanted_first text extent gave q from ss1 fs1 ss2 fs2 ws b taken same reached cut texts indexes (known1 texts known) are in (f.0, f.1);
     } in
     let whole = λ (e : c.in-Ok-merge.all ≡ true) (texts : List (List ℕ)) (indexes : List (List Member)) (known : Known (map text c.args.sources.now) texts) (are : AllZip (IsIndex LINE_LIMIT) texts indexes).
-        wanted_whole text extent gave q from ss1 fs1 ss2 fs2 ws b taken same reached cut texts indexes (known1 texts known) are (ok.ended e) in
+    wanted_whole text extent gave q from ss1 fs1 ss2 fs2 ws b taken same reached cut texts indexes (known1 texts known) are (ok.ended e) in
     let of_parts = λ (texts : List (List ℕ)) (known : Known (map text c.args.sources.now) texts).
-        let told = told_known text ss1 texts (known1 texts known) in
-        let found = parts_first text extent gave LINE_LIMIT (is_past q.target) (past_upward q.target) ss1 fs1 ss2 fs2 ws b taken reached told (is_wanted q from) (wanted_within q from) in
-        let p : IsOfParts q texts taken c.in-Ok-merge.all c.lines.result = record {
-          parts = read;
-          each = λ whole is. parts_are LINE_LIMIT (is_past q.target) text extent ws 0 ss2 fs2 texts whole reached.ready.same (known2 texts known) reached.ready.fed reached.settled (λ e. ok.ended (is e));
-          count = c.lines.ensures ∙ ap (λ n. min n (2 ^ 64 - 1)) (parts_count LINE_LIMIT (is_past q.target) text extent ws 0 ss2 fs2 reached.ready.same
-              (told_moved text extent gave ss1 ss2 fs1 fs2 reached.ready.same reached.moved told) reached.ready.fed);
-          first = (kept_after q from (place_before q from taken) found.0, captures_split q from (collection read) taken found.0 found.1);
-          ended = λ e. ap (kept_after q from from) (parts_whole text extent gave LINE_LIMIT (is_past q.target) (past_upward q.target) ss1 fs1 ss2 fs2 ws b taken reached told (is_wanted q from) (wanted_within q from) (ok.ended e));
-        } in
-        p in
+    let told = told_known text ss1 texts (known1 texts known) in
+    let found = parts_first text extent gave LINE_LIMIT (is_past q.target) (past_upward q.target) ss1 fs1 ss2 fs2 ws b taken reached told (is_wanted q from) (wanted_within q from) in
+    let p : IsOfParts q texts taken c.in-Ok-merge.all c.lines.result = record {
+      parts = read;
+      each = λ whole is. parts_are LINE_LIMIT (is_past q.target) text extent ws 0 ss2 fs2 texts whole reached.ready.same (known2 texts known) reached.ready.fed reached.settled (λ e. ok.ended (is e));
+      count = c.lines.ensures ∙ ap (λ n. min n (2 ^ 64 - 1)) (parts_count LINE_LIMIT (is_past q.target) text extent ws 0 ss2 fs2 reached.ready.same
+          (told_moved text extent gave ss1 ss2 fs1 fs2 reached.ready.same reached.moved told) reached.ready.fed);
+      first = (kept_after q from (place_before q from taken) found.0, captures_split q from (collection read) taken found.0 found.1);
+      ended = λ e. ap (kept_after q from from) (parts_whole text extent gave LINE_LIMIT (is_past q.target) (past_upward q.target) ss1 fs1 ss2 fs2 ws b taken reached told (is_wanted q from) (wanted_within q from) (ok.ended e));
+    } in
+    p in
     by_truth c.in-Ok-merge.all _ (λ e. record {
       lines = taken;
       came = ok.wrote.3;
@@ -235,29 +235,29 @@ returns-clause-took g c =
           let h = lines_within text extent gave q from ss1 fs1 ss2 fs2 ws b taken same reached cut texts indexes (known1 texts known) are (known2 texts known) taken all limit most in
           omega (arith, c.lines.ensures, h, length-map ss1 text, length-map c.args.sources.now text, ap length c.open_at.ensures.text);
     }) (λ e.
-        let l = ok.wrote.4 e in
-        record {
-          lines = taken;
-          came = ok.wrote.3;
-          took = took;
-          whole = whole;
-          parts = of_parts;
-          earlier = l.1;
-          later = kept_after q from (place_before q from l.1) (filter (is_wanted q from) l.2);
-          split = ap (captures_over q from) l.6 ∙ captures_append q from l.1 l.2;
-          before = record {
-            state = l.3;
-            middle = l.4;
-            more = l.9;
-            came = l.10;
-            within = λ texts indexes known are limit most.
-                let last = cut_last text extent gave q from ss1 fs1 ss2 fs2 ws b taken same reached cut texts indexes (known1 texts known) are l.0 l.1 l.2 l.5 l.6 l.8 in
-                gave_within text extent gave q from ss1 fs1 ss2 fs2 ws b taken same reached cut texts indexes (known1 texts known) are b l.1 last limit most
-                c.args.sources.now ss2 fs2 known c.in-Ok.ensures.came c.merge.ensures.moved (omega arith)
-                (are_read_to LINE_LIMIT (is_past q.target) text extent b 0 ss2 fs2 ws reached.ready.fed (reached.handed.told (told_known text ss1 texts (known1 texts known))).1);
-          };
-          few = λ texts indexes known are limit most.
-              let last = cut_last text extent gave q from ss1 fs1 ss2 fs2 ws b taken same reached cut texts indexes (known1 texts known) are l.0 l.1 l.2 l.5 l.6 l.8 in
-              let h = lines_within text extent gave q from ss1 fs1 ss2 fs2 ws b taken same reached cut texts indexes (known1 texts known) are (known2 texts known) l.1 last limit most in
-              omega (arith, c.lines.ensures, h, length-map ss1 text, length-map c.args.sources.now text, ap length c.open_at.ensures.text);
-        })
+    let l = ok.wrote.4 e in
+    record {
+      lines = taken;
+      came = ok.wrote.3;
+      took = took;
+      whole = whole;
+      parts = of_parts;
+      earlier = l.1;
+      later = kept_after q from (place_before q from l.1) (filter (is_wanted q from) l.2);
+      split = ap (captures_over q from) l.6 ∙ captures_append q from l.1 l.2;
+      before = record {
+        state = l.3;
+        middle = l.4;
+        more = l.9;
+        came = l.10;
+        within = λ texts indexes known are limit most.
+            let last = cut_last text extent gave q from ss1 fs1 ss2 fs2 ws b taken same reached cut texts indexes (known1 texts known) are l.0 l.1 l.2 l.5 l.6 l.8 in
+            gave_within text extent gave q from ss1 fs1 ss2 fs2 ws b taken same reached cut texts indexes (known1 texts known) are b l.1 last limit most
+            c.args.sources.now ss2 fs2 known c.in-Ok.ensures.came c.merge.ensures.moved (omega arith)
+            (are_read_to LINE_LIMIT (is_past q.target) text extent b 0 ss2 fs2 ws reached.ready.fed (reached.handed.told (told_known text ss1 texts (known1 texts known))).1);
+      };
+      few = λ texts indexes known are limit most.
+          let last = cut_last text extent gave q from ss1 fs1 ss2 fs2 ws b taken same reached cut texts indexes (known1 texts known) are l.0 l.1 l.2 l.5 l.6 l.8 in
+          let h = lines_within text extent gave q from ss1 fs1 ss2 fs2 ws b taken same reached cut texts indexes (known1 texts known) are (known2 texts known) l.1 last limit most in
+          omega (arith, c.lines.ensures, h, length-map ss1 text, length-map c.args.sources.now text, ap length c.open_at.ensures.text);
+    })

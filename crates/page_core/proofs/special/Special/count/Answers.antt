@@ -21,8 +21,7 @@ by_lanes-preserved c =
     let lanes = chunk end 16 bytes in
     let room : end + 16 ≤ length bytes = omega (arith, c.by_lanes.invariant.0, c.by_lanes-test.true) in
     let few = count_by-le-length (is_special c.args.self) lanes in
-    let cut = ap (count_by (is_special c.args.self)) (chunk-drop end 16 bytes) ∙ sum_by-append _ lanes (drop (end + 16) bytes) in
-    (
+    let cut = ap (count_by (is_special c.args.self)) (chunk-drop end 16 bytes) ∙ sum_by-append _ lanes (drop (end + 16) bytes) in (
       room,
       omega (arith, few, length-chunk end 16 bytes room, c.count_lanes-count.ensures, c.by_lanes.invariant.1),
       omega (arith, cut, c.count_lanes-count.ensures, c.by_lanes.invariant.2),
