@@ -1,7 +1,7 @@
 -- The lines of one source that were come to, among all that it has from its start on.
 use Rattle.std.proofs.lemmas.Bool.{and_right as false_right, not-false, not-true}
 use Rattle.std.proofs.lemmas.List.{take-map}
-use Rattle.std.proofs.Common.{◌≡◌, ◌⊎◌, inl, inr, ℕ, zero, suc, List, [], ◌∷◌, ◌++◌, refl, sym, ap, ap₂, ◌∙◌, subst, Bool, true, false, not, ◌&&◌, Some, unwrap_or, take, drop, map, filter, cond, append-nil, append_assoc, take-append-drop, Less, Equal, Greater, Ordering, is_gt}
+use Rattle.std.proofs.Common.{◌≡◌, inl, inr, ℕ, List, [], ◌∷◌, ◌++◌, refl, sym, ap, ap₂, ◌∙◌, subst, Bool, true, false, not, ◌&&◌, Some, unwrap_or, take, drop, map, filter, cond, append-nil, append_assoc, take-append-drop, Less, Equal, Greater, Ordering, is_gt}
 use Rattle.std.specs.List.{AllByRecursion}
 use Rattle.merge_core.proofs.Filters.{filter_same, filter_out}
 use Rattle.std.specs.Ordering.{ordering_then, ordering_reverse, nat_cmp}

@@ -1,5 +1,4 @@
 -- What was taken of several sources.
-use Rattle.std.specs.List.{AllZip}
 use Rattle.std.specs.Prelude.{◌≡◌, ◌⊎◌, ℕ, ◌+◌, ◌-◌, ◌<◌, ◌≤◌, List, [], ◌∷◌, ◌++◌, flat_map, length, map, not, true, Option, None, Some}
 use Rattle.std.specs.List.{AllByRecursion, filter, sum, zip}
 use Rattle.std.specs.List.Sorted.{IsPermutation}

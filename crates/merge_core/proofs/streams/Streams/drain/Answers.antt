@@ -5,7 +5,6 @@ use Rattle.std.proofs.lemmas.List.{get_or_default}
 use Rattle.cdxj_core.specs.declared.limit.TheConstants.{LINE_LIMIT}
 use Rattle.cdxj_core.specs.declared.line.Line.{Line}
 use Rattle.cdxj_core.specs.Members.{member_pair}
-use Rattle.merge_core.specs.declared.fault.MergeFault.TheVariants.{Memory}
 use Rattle.merge_core.specs.Failures.{RaisedByRead}
 use Rattle.merge_core.specs.declared.feed.Feed.{Feed}
 use Rattle.merge_core.specs.declared.feed.Progress.TheVariants.{Due}
