@@ -32,7 +32,7 @@ use std::alloc::Global;
 ///
 /// A binary search finds where the page begins in each index. From there on, lines of the target's range are read, up
 /// to the key and stamp of the first capture after the page, and at most one more line of each index. Each capture is
-/// written before lines of a later key and stamp are read.
+/// written before a line is read that stands behind the next key and stamp of its index.
 pub fn answer<S: Source, O: Output>(
     alloc: Global,
     sources: &mut [S],
