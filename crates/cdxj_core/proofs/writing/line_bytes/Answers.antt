@@ -1,4 +1,4 @@
-use Rattle.std.proofs.Common.{◌++◌, ◌∷◌, [], decimal, ap, ◌∙◌}
+use Rattle.std.proofs.Common.{◌++◌, ◌∷◌, [], ap, ◌∙◌}
 use Rattle.cdxj_core.specs.Entries.{entry_texts, members_of, object_text}
 use Rattle.cdxj_core.specs.EntryView.{entry_view}
 use Rattle.cdxj_core.proofs.EntryWrite.{line_steps}
