@@ -1,5 +1,5 @@
 -- The capture of a record, from how its block was read.
-use Rattle.std.proofs.Common.{◌≡◌, ◌≢◌, ℕ, ◌+◌, ◌-◌, ◌≤◌, ◌∙◌, List, ◌++◌, Option, None, Some, Result, Ok, Err, IfOk, IfErr, IfSome, length, take, option_map, unwrap_or, refl, sym, ap, subst, arith}
+use Rattle.std.proofs.Common.{◌≡◌, ◌≢◌, ℕ, ◌+◌, ◌-◌, ◌≤◌, ◌∙◌, List, ◌++◌, Option, None, Some, Result, Ok, Err, IfErr, IfSome, length, take, option_map, unwrap_or, refl, sym, ap, subst, arith}
 use Rattle.std.proofs.lemmas.List.{length-take}
 use Rattle.std.proofs.Math.Nat.{min-le_left}
 use Rattle.std.specs.Io.KnownBytes.{prepend_known, Consumes}
@@ -18,7 +18,7 @@ use Rattle.warc_core.specs.Calls.{Finishes}
 use Rattle.warc_core.specs.Record.{after_record}
 use Rattle.warc_core.specs.Cause.{StopsRecord}
 use Rattle.warc_core.proofs.CauseLemmas.{not-memory}
-use Rattle.cdxj_core.specs.Entries.{EntryValue, HasLine, line_text}
+use Rattle.cdxj_core.specs.Entries.{EntryValue, HasLine}
 use Rattle.capture_core.specs.declared.fault.CaptureFault.{CaptureFault}
 use Rattle.capture_core.specs.declared.fault.CaptureFault.TheVariants.{Archive, LineTooLong, KeyTooLong}
 use Rattle.capture_core.specs.Base32.{base32_of}

@@ -1,4 +1,4 @@
-use Rattle.std.proofs.Common.{◌<◌, ◌∙◌, length, option_map, arith}
+use Rattle.std.proofs.Common.{◌<◌, length, option_map, arith}
 use Rattle.std.specs.Cow.{cow_str_bytes}
 use Rattle.capture_core.specs.Capture.{mime_of}
 use Rattle.capture_core.specs.ResponseView.{response_view}

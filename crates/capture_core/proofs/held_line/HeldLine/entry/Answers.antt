@@ -1,7 +1,7 @@
 use Rattle.std.proofs.Common.{◌≡◌, ◌∙◌, sym, ap, subst, unwrap_or}
 use Rattle.cdxj_core.specs.declared.limit.TheConstants.{LINE_LIMIT}
 use Rattle.cdxj_core.specs.Entries.{HasLine}
-use Rattle.cdxj_core.specs.Members.{Member, entry_member, line_entry}
+use Rattle.cdxj_core.specs.Members.{entry_member, line_entry}
 use Rattle.capture_core.proofs.held_line.HeldLine.entry.Goals as goal
 
 pub returns : goal.returns

@@ -1,6 +1,6 @@
 use Rattle.std.proofs.Common.{◌≡◌, ◌∙◌, ◌≤◌, ap, take, length, refl, subst, sym, arith}
 use Rattle.cdxj_core.specs.declared.limit.TheConstants.{LINE_LIMIT}
-use Rattle.cdxj_core.specs.Entries.{EntryValue, HasLine, line_text}
+use Rattle.cdxj_core.specs.Entries.{HasLine, line_text}
 use Rattle.cdxj_core.specs.EntryView.{entry_view}
 use Rattle.capture_core.specs.Spelling.{Holds}
 use Rattle.capture_core.proofs.SpellingLemmas.{spells, holds_spelled}

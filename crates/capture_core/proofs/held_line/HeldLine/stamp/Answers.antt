@@ -1,6 +1,4 @@
-use Rattle.std.proofs.Common.{◌≡◌, ◌∙◌, ◌+◌, ◌-◌, length, take, drop, ap, subst, arith}
-use Rattle.cdxj_core.specs.Entries.{EntryValue, IsGood}
-use Rattle.capture_core.specs.Spelling.{Holds}
+use Rattle.std.proofs.Common.{◌∙◌, ◌+◌, ◌-◌, length, take, drop, ap, arith}
 use Rattle.capture_core.proofs.SpellingLemmas.{line_long, stamp_in, held_good, held_key}
 use Rattle.capture_core.proofs.held_line.HeldLine.stamp.Goals as goal
 

@@ -1,4 +1,4 @@
-use Rattle.std.proofs.Common.{rules, arith, ◌≡◌, ◌+◌, ◌<◌, ◌≤◌, ◌++◌, ◌∷◌, length, take, drop, sym, ap, ap₂, ◌∙◌, subst, true, false, length-append, length-take, length-drop, ◌-◌}
+use Rattle.std.proofs.Common.{rules, arith, ◌≡◌, ◌+◌, ◌<◌, ◌≤◌, ◌++◌, ◌∷◌, length, take, drop, sym, ap, ap₂, ◌∙◌, subst, length-append, length-take, length-drop, ◌-◌}
 use Rattle.cdxj_places.specs.TextLines.{lines}
 use Rattle.source_core.specs.Ahead.{StandsAt}
 use Rattle.source_core.specs.IndexLines.{first_length}
