@@ -94,7 +94,7 @@ def read_settings(path: pathlib.Path) -> Settings:
 
 
 def settings_of(table: Mapping[str, Any], folder: pathlib.Path) -> Settings:
-    given = dict(table)
+    given: dict[str, Any] = dict(table)
     tables = given.pop("collections", None)
     if not isinstance(tables, dict) or not tables:
         raise BadSettings("no collection: [collections.NAME] with indexes is needed")
@@ -109,7 +109,8 @@ def settings_of(table: Mapping[str, Any], folder: pathlib.Path) -> Settings:
         else:
             wanted = type(known[name].default) if name != "main" else str
             require(type(value) is wanted, name, f"has to be of type {wanted.__name__}")
-    settings = Settings(**{"main": collections[0].name, **given}, collections=collections, limits=limits)
+    given.setdefault("main", collections[0].name)
+    settings = Settings(collections=collections, limits=limits, **given)
     require(settings.main in tables, "main", "is not the name of a collection")
     require(0 <= settings.port <= 65_535, "port", "has to be from 0 to 65535")
     for name in ("exact", "wide"):
