@@ -1,5 +1,6 @@
 """What the tests share. They run the program that the variable WARCDX names, or else `warcdx` of the PATH."""
 import contextlib
+import gzip
 import json
 import os
 import pathlib
@@ -56,7 +57,8 @@ class Response(NamedTuple):
 
     @property
     def text(self) -> str:
-        return self.body.decode()
+        is_compressed = self.fields.get("content-encoding") == "gzip"
+        return (gzip.decompress(self.body) if is_compressed else self.body).decode()
 
 
 class Client:
