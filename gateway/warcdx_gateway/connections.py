@@ -4,6 +4,7 @@ import resource
 from typing import Any, Optional
 
 from aiohttp import web
+from aiohttp.http_exceptions import HttpProcessingError
 
 from .metrics import Metrics
 from .settings import Limits
@@ -103,8 +104,10 @@ class Connection(web.RequestHandler):
         super().connection_lost(exc)
 
     def log_exception(self, *arguments: Any, **named: Any) -> None:
-        """A request that can't be read is the client's fault, and fills no log."""
-        if not isinstance(named.get("exc_info"), web.HTTPException) and self._current_request is not None:
+        """Logs an exception, unless it is a request that can't be read: those are counted, and fill no log."""
+        if isinstance(named.get("exc_info"), HttpProcessingError):
+            self._connections.metrics.refusals["BadRequest"] += 1
+        else:
             super().log_exception(*arguments, **named)
 
 

@@ -169,8 +169,8 @@ class Planner:
 
     def page(self) -> Optional[PageNumber]:
         values = self.given.values
-        size = int(values.get("pageSize", USUAL_SIZE)) * BLOCK
         most = max(self.limits.largest // BLOCK, 1)
+        size = int(values.get("pageSize", min(USUAL_SIZE, most))) * BLOCK
         if size > most * BLOCK:
             raise Refusal("BadPage", "pageSize", f"this server gives at most {most} blocks", values["pageSize"])
         is_paged = "page" in values or self.given.is_true("showNumPages")
