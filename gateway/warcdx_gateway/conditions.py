@@ -12,6 +12,8 @@ from .row import PLACES, Row
 
 SPECIAL = frozenset("\\^$.|?*+()[]{}")  # characters that a literal text has not
 LONGEST = 1000  # characters of a regular expression
+LONGEST_VALUE = 65_536  # characters that a regular expression is tried on; it may hold 200 bytes for each
+MOST_COPIES = 200_000  # characters of a regular expression in which repeated parts are written out
 STEP = 1.0  # seconds for one match
 
 
@@ -63,6 +65,9 @@ class Conditions:
         def holds(row: Row) -> bool:
             if self._left <= 0:
                 raise too_slow(condition)
+            if len(row[place]) > LONGEST_VALUE:
+                cause = f"a value has more than {LONGEST_VALUE} characters"
+                raise Refusal("TooSlow", condition.parameter, cause, condition.text)
             try:
                 found = match(row[place], timeout=min(STEP, self._left), concurrent=True)
             except TimeoutError:
@@ -81,11 +86,24 @@ def compiled(condition: Condition) -> "regex.Pattern[str]":
     if len(condition.text) > LONGEST:
         cause = f"a regular expression has at most {LONGEST} characters"
         raise Refusal("BadFilter", condition.parameter, cause, condition.text)
+    if copies(condition.text) > MOST_COPIES:
+        raise Refusal("BadFilter", condition.parameter, "the regular expression repeats too much", condition.text)
     try:
         return regex.compile(condition.text, regex.VERSION0)
     except (regex.error, ValueError, OverflowError, RecursionError, KeyError, IndexError, TypeError) as error:
         cause = f"the regular expression can't be read: {error}"
         raise Refusal("BadFilter", condition.parameter, cause, condition.text) from error
+
+
+def copies(text: str) -> int:
+    """Returns at least how long an expression is in which `a{3}` is written as `aaa`, as it is compiled."""
+    count = len(text)
+    for braces in text.split("{")[1:]:
+        least = "".join(filter(str.isdigit, braces.partition("}")[0].partition(",")[0]))
+        if len(least) > 6:
+            return MOST_COPIES + 1
+        count *= max(int(least or "1"), 1)
+    return count
 
 
 def too_slow(condition: Condition) -> Refusal:

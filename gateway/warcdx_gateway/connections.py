@@ -1,6 +1,7 @@
 """Connections: how many are open, and which are closed because they are silent."""
 import asyncio
 import resource
+import socket
 from typing import Any, Optional
 
 from aiohttp import web
@@ -13,6 +14,7 @@ MOST_LINE = 70_000  # bytes of a request line: a query has at most 65,536
 MOST_FIELD = 8190  # bytes of a field of a request
 MOST_HEAD = MOST_LINE + 65_536  # bytes of a request that isn't whole
 MOST_WAITING = 16  # requests of a connection that wait while one is answered
+SEND_BUFFER = 1 << 17  # bytes that the system keeps for a client; Linux doubles it
 OTHER_FILES = 200  # that are open beside connections
 
 
@@ -84,6 +86,9 @@ class Connection(web.RequestHandler):
             self._connections.metrics.refused_connections += 1
             transport.abort()
             return
+        found = transport.get_extra_info("socket")
+        if found is not None:
+            found.setsockopt(socket.SOL_SOCKET, socket.SO_SNDBUF, SEND_BUFFER)
         self._connections.open.add(self)
         self._connections.metrics.connections += 1
         super().connection_made(transport)

@@ -35,11 +35,15 @@ class AsyncServe:
         return text_of(reply, is_json, self._indexes)
 
     async def end(self) -> None:
-        """Ends the program, if it runs."""
+        """Ends the program, if it runs. One that doesn't end by itself is killed."""
         process = self._process
         if process is not None:
             self._forget(process)
-            await process.wait()
+            try:
+                await asyncio.wait_for(process.wait(), PATIENCE)
+            except asyncio.TimeoutError:
+                kill(process)
+                await process.wait()
 
     async def _reply(self, asked: bytes, end: bytes, seconds: Optional[float], most: Optional[int]) -> bytes:
         """Returns the reply to what is asked, without the lines that end it.
