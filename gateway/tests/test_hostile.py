@@ -123,14 +123,15 @@ class Indexes(Case):
         threads = [threading.Thread(target=ask) for _ in range(4)]
         for thread in threads:
             thread.start()
-        for number in range(12):
+        for number in range(6):
+            before = server.metric("index_renewals_total")
             self.replace(texts[200 if number % 2 else 404])
-            time.sleep(0.3)
+            self.wait_for(lambda: server.metric("index_renewals_total") > before, "the index isn't seen")
         is_over.set()
         for thread in threads:
             thread.join()
         self.assertEqual({True}, set(results))
-        self.assertGreater(server.metric("index_renewals_total"), 5)
+        self.assertGreater(len(results), 20)
 
     def test_a_missing_index_is_answered_from_the_old_file(self) -> None:
         self.put(lines(10))
