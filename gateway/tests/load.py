@@ -4,12 +4,12 @@
 usage: load.py [--seconds N] [PROGRAM]
 
 In each case a client asks for one key again and again, and its seconds are compared with those that
-it needs alone: while 64 clients of wrk ask for N seconds (60), while 1,000 connections are silent, while
-a client reads one byte a second of the whole index, while 8 clients read the whole index, and while
+it needs alone: while 64 clients of wrk ask for N seconds (60), while 1,000 connections are silent,
+while a client reads one byte a second of the whole index, while 8 clients read the whole index, and while
 4 clients ask for regular expressions that no capture matches.
 
-Prints a line for each case, and the counts. The exit status is 0, or 1 if the slowest of 99 % takes 50 ms
-more than alone, an answer differs, or the gateway's memory has grown above 100 MB. Needs Debian's
+Prints a line for each case, and the counts. The exit status is 0, or 1 if the slowest of 99 % takes
+50 ms more than alone, an answer differs, or the gateway's memory has grown above 100 MB. Needs Debian's
 packages python3-aiohttp, python3-regex and wrk.
 """
 import contextlib
@@ -47,11 +47,13 @@ class Load(support.Case):
 
 
 def probe(server: support.Server, until: "threading.Event | float") -> tuple[float, float, int]:
-    """Asks for keys, one after another, and returns the median, the slowest of 99 % and the number of wrong answers."""
+    """Asks for keys, one after another. Returns the median, the slowest of 99 %, and how many are wrong."""
     times, wrong = [], 0
     with support.connected(server) as client:
         end = time.monotonic() + (until if isinstance(until, float) else 1000)
-        while time.monotonic() < end and not (isinstance(until, threading.Event) and until.is_set()):
+        while time.monotonic() < end and not (
+            isinstance(until, threading.Event) and until.is_set()
+        ):
             number = len(times) * 7919 % COUNT
             start = time.monotonic()
             found = client.ask(f"/cdx?url=example.com/{number:07}&fl=offset")
@@ -72,7 +74,7 @@ def silent(server: support.Server) -> Iterator[None]:
 
 @contextlib.contextmanager
 def asking(server: support.Server, count: int, target: str, pause: float) -> Iterator[None]:
-    """So many clients read an answer, with a pause after each piece, and one byte at a time if there is one."""
+    """So many clients read an answer; with a pause, a byte and then a pause again and again."""
     is_over = threading.Event()
 
     def read() -> None:
@@ -80,7 +82,9 @@ def asking(server: support.Server, count: int, target: str, pause: float) -> Ite
             with support.connected(server) as client, contextlib.suppress(OSError):
                 if pause:
                     client.socket.setsockopt(socket.SOL_SOCKET, socket.SO_RCVBUF, 4096)
-                client.send(f"GET {target} HTTP/1.1\r\nHost: a\r\nConnection: close\r\n\r\n".encode())
+                client.send(
+                    f"GET {target} HTTP/1.1\r\nHost: a\r\nConnection: close\r\n\r\n".encode()
+                )
                 while not is_over.is_set() and client.socket.recv(1 if pause else 1 << 20):
                     is_over.wait(pause)
 
@@ -94,7 +98,9 @@ def asking(server: support.Server, count: int, target: str, pause: float) -> Ite
 
 
 @contextlib.contextmanager
-def loaded(server: support.Server, folder: pathlib.Path, seconds: int, said: list[str]) -> Iterator[threading.Event]:
+def loaded(
+    server: support.Server, folder: pathlib.Path, seconds: int, said: list[str]
+) -> Iterator[threading.Event]:
     script, is_over = folder / "wrk.lua", threading.Event()
     script.write_text(WRK)
 
@@ -135,7 +141,8 @@ def measure(server: support.Server, folder: pathlib.Path, seconds: int, report: 
 
     def compare(name: str, found: tuple[float, float, int], rest: str = "") -> None:
         median, slowest, differing = found
-        line = f"{name}: median {median * 1000:.1f} ms, 99 % {slowest * 1000:.1f} ms, {differing} wrong{rest}, {server.memory() >> 20} MB"
+        times = f"median {median * 1000:.1f} ms, 99 % {slowest * 1000:.1f} ms"
+        line = f"{name}: {times}, {differing} wrong{rest}, {server.memory() >> 20} MB"
         if slowest > alone_99 + MOST_MORE or differing:
             report.add_difference(line, f"alone 99 % {alone_99 * 1000:.1f} ms")
         else:
@@ -147,7 +154,11 @@ def measure(server: support.Server, folder: pathlib.Path, seconds: int, report: 
     rate = re.search(r"Requests/sec: *([0-9.]+)", said[0])
     slowest = re.search(r"99% *([0-9.]+[a-z]+)", said[0])
     errors = re.findall(r"Socket errors.*|Non-2xx.*", said[0])
-    compare(f"64 clients for {seconds} s", found, f"; {rate[1] if rate else '?'} requests a second, 99 % {slowest[1] if slowest else '?'}, errors {errors}")
+    compare(
+        f"64 clients for {seconds} s",
+        found,
+        f"; {rate[1] if rate else '?'} requests a second, 99 % {slowest[1] if slowest else '?'}, errors {errors}",
+    )
     with silent(server):
         compare("1,000 silent connections", probe(server, PROBE))
     with asking(server, 1, "/cdx?url=example.com/*", 1.0):

@@ -1,4 +1,7 @@
-"""What the tests share. They run the program that the variable WARCDX names, or else `warcdx` of the PATH."""
+"""What the tests share.
+
+They run the program that the variable WARCDX names, or else `warcdx` of the PATH.
+"""
 import contextlib
 import gzip
 import json
@@ -26,30 +29,134 @@ LINE = (
     '"filename": "%s"}\n'
 )
 CAPTURES = (
-    ("com,example)/", "20140101000000", "http://example.com/", "text/html", "200", "AAAA", 1000, 0, "a.warc"),
-    ("com,example)/", "20150101000000", "http://example.com/", "text/html", "200", "AAAA", 1001, 1000, "a.warc"),
-    ("com,example)/", "20160101000000", "http://example.com/", "warc/revisit", "-", "AAAA", 500, 2001, "a.warc"),
-    ("com,example)/", "20160601000000", "http://example.com/", "text/html", "404", "BBBB", 700, 2501, "a.warc"),
-    ("com,example)/", "20170101000000", "https://example.com/", "text/html", "200", "CCCC", 1100, 0, "b.warc"),
-    ("com,example)/a", "20150101000000", "http://example.com/a", "text/plain", "503", "DDDD", 300, 1100, "b.warc"),
-    ("com,example)/b.png", "20150101000000", "http://example.com/b.png", "image/png", "200", "EEEE", 400, 1400, "b.warc"),
-    ("com,example,sub)/", "20160101000000", "http://sub.example.com/", "text/html", "200", "AAAA", 1000, 1800, "b.warc"),
-    ("org,example)/", "20200101000000", "http://example.org/", "text/html", "301", "FFFF", 300, 2800, "b.warc"),
+    (
+        "com,example)/",
+        "20140101000000",
+        "http://example.com/",
+        "text/html",
+        "200",
+        "AAAA",
+        1000,
+        0,
+        "a.warc",
+    ),
+    (
+        "com,example)/",
+        "20150101000000",
+        "http://example.com/",
+        "text/html",
+        "200",
+        "AAAA",
+        1001,
+        1000,
+        "a.warc",
+    ),
+    (
+        "com,example)/",
+        "20160101000000",
+        "http://example.com/",
+        "warc/revisit",
+        "-",
+        "AAAA",
+        500,
+        2001,
+        "a.warc",
+    ),
+    (
+        "com,example)/",
+        "20160601000000",
+        "http://example.com/",
+        "text/html",
+        "404",
+        "BBBB",
+        700,
+        2501,
+        "a.warc",
+    ),
+    (
+        "com,example)/",
+        "20170101000000",
+        "https://example.com/",
+        "text/html",
+        "200",
+        "CCCC",
+        1100,
+        0,
+        "b.warc",
+    ),
+    (
+        "com,example)/a",
+        "20150101000000",
+        "http://example.com/a",
+        "text/plain",
+        "503",
+        "DDDD",
+        300,
+        1100,
+        "b.warc",
+    ),
+    (
+        "com,example)/b.png",
+        "20150101000000",
+        "http://example.com/b.png",
+        "image/png",
+        "200",
+        "EEEE",
+        400,
+        1400,
+        "b.warc",
+    ),
+    (
+        "com,example,sub)/",
+        "20160101000000",
+        "http://sub.example.com/",
+        "text/html",
+        "200",
+        "AAAA",
+        1000,
+        1800,
+        "b.warc",
+    ),
+    (
+        "org,example)/",
+        "20200101000000",
+        "http://example.org/",
+        "text/html",
+        "301",
+        "FFFF",
+        300,
+        2800,
+        "b.warc",
+    ),
 )
 SAMPLE = "".join(LINE % capture for capture in CAPTURES)
 
 
 def lines(count: int, status: int = 200, size: int = 0) -> str:
-    """Returns an index of so many captures, each of another page and with a URL that is longer by `size`."""
+    """Returns an index of so many captures, each of another page and with a URL that is longer by
+    `size`.
+    """
     return "".join(
-        LINE % (f"com,example)/{n:07}", "20160101000000", f"http://example.com/{n:07}{'x' * size}", "text/html", str(status),
-                f"D{n}", n + 1, n, "a.warc")
+        LINE
+        % (
+            f"com,example)/{n:07}",
+            "20160101000000",
+            f"http://example.com/{n:07}{'x' * size}",
+            "text/html",
+            str(status),
+            f"D{n}",
+            n + 1,
+            n,
+            "a.warc",
+        )
         for n in range(count)
     )
 
 
 class Response(NamedTuple):
-    """A response: its status, its fields with their names in lower case, and its body without chunks."""
+    """A response: its status, its fields with their names in lower case, and its body without
+    chunks.
+    """
 
     status: int
     fields: dict[str, str]
@@ -133,7 +240,11 @@ class Server:
     def metric(self, name: str) -> float:
         """Returns the sum of a metric over its labels."""
         found = self.ask("/metrics").text.splitlines()
-        return sum(float(line.rpartition(" ")[2]) for line in found if line.startswith(f"warcdx_gateway_{name}"))
+        return sum(
+            float(line.rpartition(" ")[2])
+            for line in found
+            if line.startswith(f"warcdx_gateway_{name}")
+        )
 
     def memory(self) -> int:
         """Returns the resident memory of the gateway in bytes."""
@@ -142,7 +253,9 @@ class Server:
 
     def programs(self) -> list[int]:
         """Returns the process IDs of the runs of the program."""
-        found = pathlib.Path(f"/proc/{self.process.pid}/task/{self.process.pid}/children").read_text()
+        found = pathlib.Path(
+            f"/proc/{self.process.pid}/task/{self.process.pid}/children"
+        ).read_text()
         return list(map(int, found.split()))
 
     def end(self) -> int:
@@ -174,13 +287,20 @@ class Case(unittest.TestCase):
         if settings is None:
             settings = '[collections.main]\nindexes = ["index"]\n'
         table = "".join(f"{name} = {value}\n" for name, value in limits.items())
-        path = self.put(f'port = 0\nprogram = "{PROGRAM}"\n{settings}[limits]\n{table}', "settings.toml")
+        path = self.put(
+            f'port = 0\nprogram = "{PROGRAM}"\n{settings}[limits]\n{table}', "settings.toml"
+        )
         return self.run_command(str(path))
 
     def run_command(self, *arguments: str) -> Server:
         said = self.folder / "said"
         with open(said, "ab") as file:
-            process = subprocess.Popen(("/usr/bin/python3", COMMAND, *arguments), stdout=subprocess.PIPE, stderr=file, text=True)
+            process = subprocess.Popen(
+                ("/usr/bin/python3", COMMAND, *arguments),
+                stdout=subprocess.PIPE,
+                stderr=file,
+                text=True,
+            )
         server = Server(process, said)
         self.addCleanup(server.end)
         return server

@@ -55,7 +55,9 @@ class Programs(Case):
         server = self.start()
         for rest in ("", "&output=json", "&output=cdxj", "&filter=offset:.*", "&limit=-1"):
             found = server.ask(f"/cdx?key=&matchType=prefix{rest}")
-            self.assertEqual((500, f"fault OutOfOrder 0 {len(first)}\n"), (found.status, found.text))
+            self.assertEqual(
+                (500, f"fault OutOfOrder 0 {len(first)}\n"), (found.status, found.text)
+            )
         self.assertEqual((200, b""), server.ask("/cdx?key=c")[::2])
 
     def test_a_fault_in_a_long_answer_breaks_it_off(self) -> None:
@@ -73,11 +75,14 @@ class Programs(Case):
     def test_a_query_that_takes_too_long_is_ended(self) -> None:
         self.put(SAMPLE)
         refusal = "read line; echo 'refused NoUrl'; echo .\n"
-        # When it is started, it replies to an empty query twice, each with the line that ends the reply.
+        # When it is started, it replies to an empty query twice, each with a line that ends it.
         text = f'#!/bin/sh\n[ "$1" = serve ] || exec "{PROGRAM}" "$@"\n{refusal * 4}exec sleep 60\n'
         program = self.put(text, "program")
         program.chmod(0o755)
-        self.put(f'port = 0\nprogram = "{program}"\n[collections.main]\nindexes = ["index"]\n[limits]\nquery = 1\n', "settings.toml")
+        self.put(
+            f'port = 0\nprogram = "{program}"\n[collections.main]\nindexes = ["index"]\n[limits]\nquery = 1\n',
+            "settings.toml",
+        )
         server = self.run_command(str(self.folder / "settings.toml"))
         start = time.monotonic()
         found = server.ask("/cdx?url=example.com")
@@ -100,7 +105,9 @@ class Indexes(Case):
         self.assertEqual(self.page("url=example.com/*"), after.body)
         self.assertNotEqual(before.fields["etag"], after.fields["etag"])
         self.assertEqual(1, server.metric('index_renewals_total{collection="main",result="done"}'))
-        self.wait_for(lambda: len(server.programs()) == 4, "the programs over the old index haven't ended")
+        self.wait_for(
+            lambda: len(server.programs()) == 4, "the programs over the old index haven't ended"
+        )
 
     def test_indexes_are_replaced_under_load(self) -> None:
         """Each answer is that of one of the two indexes, and none is lost."""
@@ -126,7 +133,9 @@ class Indexes(Case):
         for number in range(6):
             before = server.metric("index_renewals_total")
             self.replace(texts[200 if number % 2 else 404])
-            self.wait_for(lambda: server.metric("index_renewals_total") > before, "the index isn't seen")
+            self.wait_for(
+                lambda: server.metric("index_renewals_total") > before, "the index isn't seen"
+            )
         is_over.set()
         for thread in threads:
             thread.join()
@@ -137,7 +146,10 @@ class Indexes(Case):
         self.put(lines(10))
         server = self.start()
         (self.folder / "index").unlink()
-        self.wait_for(lambda: server.metric('index_renewals_total{collection="main",result="failed"}'), "no look at the files")
+        self.wait_for(
+            lambda: server.metric('index_renewals_total{collection="main",result="failed"}'),
+            "no look at the files",
+        )
         self.assertEqual(b"8\n", server.ask(EXACT).body)
         self.put(lines(10, size=5))
         self.wait_for(lambda: b"xxxxx" in server.ask(ALL).body, "the index isn't seen")
@@ -164,7 +176,10 @@ class Clients(Case):
             client.socket.setsockopt(socket.SOL_SOCKET, socket.SO_RCVBUF, 4096)
             client.send(f"GET {ALL} HTTP/1.1\r\nHost: a\r\n\r\n".encode())
         self.assertEqual(b"8\n", server.ask(EXACT).body)
-        self.wait_for(lambda: server.metric('broken_answers_total{cause="slow client"}') == 20, "they are not disconnected")
+        self.wait_for(
+            lambda: server.metric('broken_answers_total{cause="slow client"}') == 20,
+            "they are not disconnected",
+        )
         self.assertLess(server.memory() - before, 60 << 20)
         self.assertEqual(0, server.metric("streams"))
         for client in clients:
@@ -228,13 +243,20 @@ class Clients(Case):
         wanted = self.page("url=example.com/*")
         for number in range(20):
             with connected(server) as client:
-                client.send((b"GET /cd", f"GET {ALL} HTTP/1.1\r\nHost: a\r\n\r\n".encode())[number % 2])
+                client.send(
+                    (b"GET /cd", f"GET {ALL} HTTP/1.1\r\nHost: a\r\n\r\n".encode())[number % 2]
+                )
                 if number % 4 == 1:
                     client.socket.recv(1000)
                 if number > 9:
-                    client.socket.setsockopt(socket.SOL_SOCKET, socket.SO_LINGER, struct.pack("ii", 1, 0))
+                    client.socket.setsockopt(
+                        socket.SOL_SOCKET, socket.SO_LINGER, struct.pack("ii", 1, 0)
+                    )
         self.assertTrue(server.ask(ALL).body == wanted)
-        self.wait_for(lambda: server.metric("streams") == 0 and server.metric("running_requests") == 1, "answers still run")
+        self.wait_for(
+            lambda: server.metric("streams") == 0 and server.metric("running_requests") == 1,
+            "answers still run",
+        )
 
     def test_requests_without_end_on_one_connection_are_cut(self) -> None:
         self.put(lines(100))
@@ -263,7 +285,10 @@ class Clients(Case):
 
 class Patterns(Case):
     def test_a_pattern_that_explodes_is_stopped(self) -> None:
-        texts = (LINE % (f"a{n}", "20160101000000", "x" * 60, "-", "-", "-", 1, n, "a.warc") for n in range(5))
+        texts = (
+            LINE % (f"a{n}", "20160101000000", "x" * 60, "-", "-", "-", 1, n, "a.warc")
+            for n in range(5)
+        )
         self.put("".join(texts) + SAMPLE)
         server = self.start(pattern=2)
         delays: list[float] = []
@@ -285,13 +310,20 @@ class Patterns(Case):
         self.assertGreater(len(delays), 20)
         self.assertLess(sorted(delays)[len(delays) * 9 // 10], 0.1)
 
-
     def test_a_pattern_is_not_tried_on_a_value_that_is_too_long(self) -> None:
-        self.put(LINE % ("a", "20160101000000", "x" * 65_536, "-", "-", "-", 1, 0, "a.warc") + LINE % ("b", "20160101000000", "x" * 65_537, "-", "-", "-", 1, 0, "a.warc"))
+        self.put(
+            LINE % ("a", "20160101000000", "x" * 65_536, "-", "-", "-", 1, 0, "a.warc")
+            + LINE % ("b", "20160101000000", "x" * 65_537, "-", "-", "-", 1, 0, "a.warc")
+        )
         server = self.start()
-        self.assertEqual((200, b"a\n"), server.ask("/cdx?key=a&filter=original:(.)*&fl=urlkey")[::2])
+        self.assertEqual(
+            (200, b"a\n"), server.ask("/cdx?key=a&filter=original:(.)*&fl=urlkey")[::2]
+        )
         found = server.ask("/cdx?key=b&filter=original:(.)*&fl=urlkey")
-        self.assertEqual((400, "refused TooSlow: filter=(.)*: a value has more than 65536 characters\n"), (found.status, found.text))
+        self.assertEqual(
+            (400, "refused TooSlow: filter=(.)*: a value has more than 65536 characters\n"),
+            (found.status, found.text),
+        )
         self.assertEqual((200, b"b\n"), server.ask("/cdx?key=b&filter=urlkey:(.)*&fl=urlkey")[::2])
 
     def test_a_pattern_that_would_fill_the_memory_is_refused(self) -> None:
@@ -299,11 +331,25 @@ class Patterns(Case):
         server = self.start()
         before = server.memory()
         nested = "(?:" * 90 + "a|b" + "){9}" * 90
-        for pattern in ("a{1000000000}", "(?:ab){1000000000}", "((a|b){1000}){1000}", nested, "(" * 400 + ")*" * 400, "(?x)a{1 0 0 0 0 0 0}"):
-            found = server.ask(f"/cdx?url=example.com&filter=original:{pattern.replace(' ', '%20')}")
+        for pattern in (
+            "a{1000000000}",
+            "(?:ab){1000000000}",
+            "((a|b){1000}){1000}",
+            nested,
+            "(" * 400 + ")*" * 400,
+            "(?x)a{1 0 0 0 0 0 0}",
+        ):
+            found = server.ask(
+                f"/cdx?url=example.com&filter=original:{pattern.replace(' ', '%20')}"
+            )
             self.assertEqual(400, found.status, pattern)
             self.assertIn("refused BadFilter: filter=", found.text)
-        self.assertEqual(200, server.ask("/cdx?url=example.com&filter=timestamp:[0-9]{4}0101[0-9]{6}&filter=digest:[A-Z2-7]{4}").status)
+        self.assertEqual(
+            200,
+            server.ask(
+                "/cdx?url=example.com&filter=timestamp:[0-9]{4}0101[0-9]{6}&filter=digest:[A-Z2-7]{4}"
+            ).status,
+        )
         self.assertLess(server.memory() - before, 20 << 20)
 
 

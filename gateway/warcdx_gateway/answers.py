@@ -19,7 +19,10 @@ BATCH = 1000  # captures that are written at a time
 
 
 class Answer(Protocol):
-    """An answer. Nothing is sent before its first piece that isn't empty, so until then it may be refused."""
+    """An answer.
+
+    Nothing is sent before its first piece that isn't empty, so until then it may be refused.
+    """
 
     @property
     def is_done(self) -> bool:
@@ -44,9 +47,15 @@ async def answer_of(plan: Plan, generation: Generation, limits: Limits) -> Answe
     if plan.is_plain:
         return Plain(plan.plain_query(start, limit), lane)
     if plan.counts_duplicates and limit is not None and limit > limits.held:
-        raise Refusal("BadLimit", "showDupeCount", f"it is for at most {limits.held} captures; this may give {limit}")
+        raise Refusal(
+            "BadLimit",
+            "showDupeCount",
+            f"it is for at most {limits.held} captures; this may give {limit}",
+        )
     if plan.order is not Order.FORWARD or (plan.counts_duplicates and limit is None):
-        holder = holder_of(plan) if plan.order is not Order.FORWARD else Last(None, is_reverse=False)
+        holder = (
+            holder_of(plan) if plan.order is not Order.FORWARD else Last(None, is_reverse=False)
+        )
         return Held(plan, start, holder, lane, limits)
     return Changed(plan, start, limit, lane, limits)
 
@@ -81,11 +90,13 @@ class Plain:
 
 
 class Changed:
-    """Captures in the order of the index, with which the gateway does something one after another."""
+    """Captures in the order of the index, which the gateway changes or leaves out."""
 
     is_done = False
 
-    def __init__(self, plan: Plan, start: Optional[str], limit: Optional[int], lane: Lane, limits: Limits) -> None:
+    def __init__(
+        self, plan: Plan, start: Optional[str], limit: Optional[int], lane: Lane, limits: Limits
+    ) -> None:
         self._plan = plan
         self._lane = lane
         self._left = limit
@@ -112,7 +123,11 @@ class Changed:
             piece = self._writer.rows(rows) if rows else b""
             if not self.is_done:
                 return piece
-            shown = resume_key(self._last) if has_more and self._plan.shows_key and self._last is not None else None
+            shown = (
+                resume_key(self._last)
+                if has_more and self._plan.shows_key and self._last is not None
+                else None
+            )
             return piece + self._writer.end(shown)
 
 
@@ -121,7 +136,9 @@ class Held:
 
     is_done = False
 
-    def __init__(self, plan: Plan, start: Optional[str], holder: Holder, lane: Lane, limits: Limits) -> None:
+    def __init__(
+        self, plan: Plan, start: Optional[str], holder: Holder, lane: Lane, limits: Limits
+    ) -> None:
         self._plan = plan
         self._holder = holder
         self._lane = lane
@@ -146,7 +163,11 @@ class Held:
         self._holder.add(rows)
         self._read += len(rows)
         if self._plan.limit is None and self._read > self._most:
-            raise Refusal("TooMany", held_parameter(self._plan), f"without limit it is for at most {self._most} captures")
+            raise Refusal(
+                "TooMany",
+                held_parameter(self._plan),
+                f"without limit it is for at most {self._most} captures",
+            )
         if self._selection.is_done or self._holder.is_full():
             self._rows = self._holder.rows()
             if self._plan.counts_duplicates:

@@ -25,7 +25,10 @@ WIDE_NICENESS = 5
 
 
 class Generation:
-    """The processes over the files that the indexes were at one time. Answers that began with them end with them."""
+    """The processes over the files that the indexes were at one time.
+
+    Answers that began with them end with them.
+    """
 
     def __init__(self, stamp: Stamp, exact: Lane, wide: Lane) -> None:
         self.stamp = stamp
@@ -45,7 +48,8 @@ class Collection:
     """The indexes and archives of one name.
 
     Queries of one key have processes of their own, `exact` of them, so that all others, which share
-    `wide` processes, don't delay them. Files that were replaced are seen within half a second after `start`.
+    `wide` processes, don't delay them. Files that were replaced are seen within half a second after
+    `start`.
     """
 
     def __init__(
@@ -76,7 +80,9 @@ class Collection:
         self._starting: Optional[asyncio.Future[None]] = None
         self._watcher: Optional[asyncio.Task[None]] = None
         self._closing: set[asyncio.Task[None]] = set()
-        self._threads = concurrent.futures.ThreadPoolExecutor(exact + wide + 2, thread_name_prefix=name)
+        self._threads = concurrent.futures.ThreadPoolExecutor(
+            exact + wide + 2, thread_name_prefix=name
+        )
 
     async def start(self) -> None:
         """Opens the indexes. Raises an Error of the package if the program can't, or OSError."""
@@ -85,7 +91,9 @@ class Collection:
 
     @contextlib.asynccontextmanager
     async def use(self) -> AsyncIterator[Generation]:
-        """Gives the processes over the present files, which stay the same until the answer has ended."""
+        """Gives the processes over the present files, which stay the same until the answer has
+        ended.
+        """
         if self._generation is None:
             await self._start_once()
         assert self._generation is not None
@@ -98,7 +106,7 @@ class Collection:
             self._close_unused(generation)
 
     async def rows(self, fields: Sequence[str], query: str, *, limit: int) -> list[list[str]]:
-        """Returns the values of these fields of the first captures that a query selects, at most `limit`.
+        """Returns these fields of the first captures that a query selects, at most `limit`.
 
         The query is in the program's own language, without `fl`, `limit` and `output`.
         """
@@ -152,7 +160,9 @@ class Collection:
                 self._starting = None
 
     async def _watch(self) -> None:
-        """Looks at the files again and again, and replaces the processes after the files were replaced."""
+        """Looks at the files again and again, and replaces the processes after the files were
+        replaced.
+        """
         while True:
             await asyncio.sleep(LOOKS)
             old = self._generation
@@ -163,10 +173,16 @@ class Collection:
                     self.renewals += 1
                     old.is_retired = True
                     self._close_unused(old)
-            except Exception as error:  # whatever it is, the old files are open, and are looked at again
+            except (
+                Exception
+            ) as error:  # whatever it is, the old files are open, and are looked at again
                 self.failed_renewals += 1
                 if self.failed_renewals == 1 or self.failed_renewals % 1000 == 0:
-                    print(f"warcdx-gateway: {self.name}: the indexes can't be opened again: {error}", file=sys.stderr, flush=True)
+                    print(
+                        f"warcdx-gateway: {self.name}: the indexes can't be opened again: {error}",
+                        file=sys.stderr,
+                        flush=True,
+                    )
 
     async def _renewed(self) -> Generation:
         """Returns new processes. The files are the same before and after all have opened them."""
@@ -187,8 +203,14 @@ class Collection:
     def _generation_of(self, stamp: Stamp) -> Generation:
         lanes = [
             Lane(
-                AsyncIndex(self.indexes, program=self.program, processes=processes, niceness=niceness,
-                           seconds=self._seconds, most=MOST_REPLY),
+                AsyncIndex(
+                    self.indexes,
+                    program=self.program,
+                    processes=processes,
+                    niceness=niceness,
+                    seconds=self._seconds,
+                    most=MOST_REPLY,
+                ),
                 processes,
                 self._waiting,
             )

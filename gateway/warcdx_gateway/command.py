@@ -1,13 +1,13 @@
 """The command warcdx-gateway.
 
-usage: warcdx-gateway [--address ADDRESS] [--port PORT] [--program PROGRAM] SETTINGS
-       warcdx-gateway [--address ADDRESS] [--port PORT] [--program PROGRAM] --indexes INDEX.. [--archives FOLDER..]
+usage: warcdx-gateway [OPTION]... SETTINGS
+       warcdx-gateway [OPTION]... --indexes INDEX.. [--archives FOLDER..]
 
-Answers the clients of Wayback CDX servers over indexes, by HTTP. SETTINGS is a file in TOML with the
-collections. With --indexes there is one collection, named main.
+Answers the clients of Wayback CDX servers over indexes, by HTTP. SETTINGS is a file in TOML with
+the collections. With --indexes there is one collection, named main.
 
-Prints the address when it answers. SIGTERM and SIGINT end it after the answers that are being sent. The
-exit status is 0, 1 if it can't start, with the reason on one line, or 2 after a usage error.
+Prints the address when it answers. SIGTERM and SIGINT end it after the answers that are being sent.
+The exit status is 0, 1 if it can't start, with the reason on one line, or 2 after a usage error.
 """
 import argparse
 import asyncio
@@ -36,12 +36,21 @@ BACKLOG = 1024
 def read_arguments(arguments: Optional[Sequence[str]]) -> Settings:
     """Returns the settings of the command line. Raises BadSettings."""
     parser = argparse.ArgumentParser(
-        prog="warcdx-gateway", usage=argparse.SUPPRESS, description=__doc__, formatter_class=argparse.RawDescriptionHelpFormatter
+        prog="warcdx-gateway",
+        usage=argparse.SUPPRESS,
+        description=__doc__,
+        formatter_class=argparse.RawDescriptionHelpFormatter,
     )
     parser.add_argument("settings", metavar="SETTINGS", nargs="?", help="a file in TOML")
-    parser.add_argument("--indexes", metavar="INDEX", nargs="+", help="the indexes of one collection")
-    parser.add_argument("--archives", metavar="FOLDER", nargs="+", default=[], help="the folders of its archives")
-    parser.add_argument("--address", help="the address to listen at, instead of that of the settings")
+    parser.add_argument(
+        "--indexes", metavar="INDEX", nargs="+", help="the indexes of one collection"
+    )
+    parser.add_argument(
+        "--archives", metavar="FOLDER", nargs="+", default=[], help="the folders of its archives"
+    )
+    parser.add_argument(
+        "--address", help="the address to listen at, instead of that of the settings"
+    )
     parser.add_argument("--port", type=int, help="the port, 0 for any that is free")
     parser.add_argument("--program", help="the program warcdx")
     given = parser.parse_args(arguments)
@@ -50,9 +59,16 @@ def read_arguments(arguments: Optional[Sequence[str]]) -> Settings:
     if given.settings is not None:
         settings = read_settings(pathlib.Path(given.settings))
     else:
-        paths = (tuple(pathlib.Path(name).absolute() for name in names) for names in (given.indexes, given.archives))
+        paths = (
+            tuple(pathlib.Path(name).absolute() for name in names)
+            for names in (given.indexes, given.archives)
+        )
         settings = Settings((CollectionSettings("main", "Captures", *paths),), "main")
-    changed = {name: getattr(given, name) for name in ("address", "port", "program") if getattr(given, name) is not None}
+    changed = {
+        name: getattr(given, name)
+        for name in ("address", "port", "program")
+        if getattr(given, name) is not None
+    }
     return dataclasses.replace(settings, **changed)
 
 
@@ -71,7 +87,7 @@ def collection_of(each: CollectionSettings, settings: Settings) -> Collection:
 
 
 async def run(settings: Settings) -> None:
-    """Answers requests until a signal. Raises an Error of the package, or OSError, if it can't start."""
+    """Answers requests until a signal. Raises Error or OSError if it can't start."""
     collections = {each.name: collection_of(each, settings) for each in settings.collections}
     metrics = Metrics()
     gateway = Gateway(settings, collections, metrics)
@@ -86,7 +102,9 @@ async def run(settings: Settings) -> None:
         assert runner.server is not None
         connections = Connections(runner.server, settings.limits, metrics)
         loop = asyncio.get_running_loop()
-        server = await loop.create_server(connections.connection, settings.address, settings.port, backlog=BACKLOG)
+        server = await loop.create_server(
+            connections.connection, settings.address, settings.port, backlog=BACKLOG
+        )
         connections.start()
         print(f"http://{shown_address(server.sockets[0])}/", flush=True)
         notify("READY=1")
@@ -118,7 +136,9 @@ async def signalled() -> None:
 async def drained(metrics: Metrics, connections: Connections, seconds: float) -> None:
     """Waits for the answers that are being sent."""
     end = asyncio.get_running_loop().time() + seconds
-    while any(each.is_busy() for each in connections.open) and asyncio.get_running_loop().time() < end:
+    while (
+        any(each.is_busy() for each in connections.open) and asyncio.get_running_loop().time() < end
+    ):
         await asyncio.sleep(0.02)
 
 

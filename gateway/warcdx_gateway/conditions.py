@@ -12,7 +12,9 @@ from .row import PLACES, Row
 
 SPECIAL = frozenset("\\^$.|?*+()[]{}")  # characters that a literal text has not
 LONGEST = 1000  # characters of a regular expression
-LONGEST_VALUE = 65_536  # characters that a regular expression is tried on; it may hold 200 bytes for each
+LONGEST_VALUE = (
+    65_536  # characters that a regular expression is tried on; it may hold 200 bytes for each
+)
 MOST_COPIES = 200_000  # characters of a regular expression in which repeated parts are written out
 STEP = 1.0  # seconds for one match
 
@@ -38,7 +40,10 @@ class Condition:
 
 
 class Conditions:
-    """Conditions that all have to hold. `seconds` is the time for all regular expressions of a query."""
+    """Conditions that all have to hold.
+
+    `seconds` is the time for all regular expressions of a query.
+    """
 
     def __init__(self, conditions: Sequence[Condition], seconds: float) -> None:
         self._left = seconds
@@ -87,16 +92,31 @@ def compiled(condition: Condition) -> "regex.Pattern[str]":
         cause = f"a regular expression has at most {LONGEST} characters"
         raise Refusal("BadFilter", condition.parameter, cause, condition.text)
     if copies(condition.text) > MOST_COPIES:
-        raise Refusal("BadFilter", condition.parameter, "the regular expression repeats too much", condition.text)
+        raise Refusal(
+            "BadFilter",
+            condition.parameter,
+            "the regular expression repeats too much",
+            condition.text,
+        )
     try:
         return regex.compile(condition.text, regex.VERSION0)
-    except (regex.error, ValueError, OverflowError, RecursionError, KeyError, IndexError, TypeError) as error:
+    except (
+        regex.error,
+        ValueError,
+        OverflowError,
+        RecursionError,
+        KeyError,
+        IndexError,
+        TypeError,
+    ) as error:
         cause = f"the regular expression can't be read: {error}"
         raise Refusal("BadFilter", condition.parameter, cause, condition.text) from error
 
 
 def copies(text: str) -> int:
-    """Returns at least how long an expression is in which `a{3}` is written as `aaa`, as it is compiled."""
+    """Returns at least how long an expression is in which `a{3}` is written as `aaa`, as it is
+    compiled.
+    """
     count = len(text)
     for braces in text.split("{")[1:]:
         least = "".join(filter(str.isdigit, braces.partition("}")[0].partition(",")[0]))
@@ -107,4 +127,6 @@ def copies(text: str) -> int:
 
 
 def too_slow(condition: Condition) -> Refusal:
-    return Refusal("TooSlow", condition.parameter, "the regular expression takes too long", condition.text)
+    return Refusal(
+        "TooSlow", condition.parameter, "the regular expression takes too long", condition.text
+    )

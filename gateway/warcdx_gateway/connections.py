@@ -26,7 +26,9 @@ class Connections:
         self.limits = limits
         self.metrics = metrics
         self.open: set["Connection"] = set()
-        self.most = min(limits.connections, allow_files(limits.connections + OTHER_FILES) - OTHER_FILES)
+        self.most = min(
+            limits.connections, allow_files(limits.connections + OTHER_FILES) - OTHER_FILES
+        )
         self._sweeper: Optional[asyncio.Task[None]] = None
 
     def connection(self) -> "Connection":
@@ -45,7 +47,9 @@ class Connections:
                 connection.force_close()
 
     async def _sweep(self) -> None:
-        """Closes connections that have sent no whole request for too long, however many bytes they send."""
+        """Closes connections that have sent no whole request for too long, however many bytes they
+        send.
+        """
         while True:
             await asyncio.sleep(1)
             oldest = asyncio.get_running_loop().time() - self.limits.request
@@ -82,7 +86,9 @@ class Connection(web.RequestHandler):
         self.has_sent = True
 
     def connection_made(self, transport: asyncio.BaseTransport) -> None:
-        if len(self._connections.open) >= self._connections.most and isinstance(transport, asyncio.Transport):
+        if len(self._connections.open) >= self._connections.most and isinstance(
+            transport, asyncio.Transport
+        ):
             self._connections.metrics.refused_connections += 1
             transport.abort()
             return
@@ -109,7 +115,9 @@ class Connection(web.RequestHandler):
         super().connection_lost(exc)
 
     def log_exception(self, *arguments: Any, **named: Any) -> None:
-        """Logs an exception, unless it is a request that can't be read: those are counted, and fill no log."""
+        """Logs an exception, unless it is a request that can't be read: those are counted, and fill
+        no log.
+        """
         if isinstance(named.get("exc_info"), HttpProcessingError):
             self._connections.metrics.refusals["BadRequest"] += 1
         else:

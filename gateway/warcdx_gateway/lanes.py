@@ -10,10 +10,11 @@ from .refusal import Refusal
 
 
 class Lane:
-    """The processes for one kind of queries. A turn is one of them, and the work with what it replies.
+    """The processes for one kind of queries.
 
-    So no more pieces are made at a time than there are processes, and the event loop is never busy for
-    longer than for these. At most `waiting` turns wait; a further one is refused with status 503.
+    A turn is one of them, and the work with what it replies. So no more pieces are made at a time
+    than there are processes, and the event loop is never busy for longer than for these. At most
+    `waiting` turns wait; a further one is refused with status 503.
     """
 
     def __init__(self, index: AsyncIndex, processes: int, waiting: int) -> None:
@@ -38,7 +39,9 @@ class Lane:
 
 
 class PageStarts:
-    """The resume keys with which the pages of a query begin, from page 1 on, as far as they are known."""
+    """The resume keys with which the pages of a query begin, from page 1 on, as far as they are
+    known.
+    """
 
     def __init__(self) -> None:
         self.keys: list[str] = []

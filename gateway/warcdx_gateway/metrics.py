@@ -39,7 +39,9 @@ class Metrics:
         yield heading("requests_total", "counter", "Requests that were answered.")
         for (name, status), count in sorted(self.requests.items()):
             yield line("requests_total", (("collection", name), ("status", str(status))), count)
-        yield heading("request_seconds", "histogram", "Seconds from a request to the end of its answer.")
+        yield heading(
+            "request_seconds", "histogram", "Seconds from a request to the end of its answer."
+        )
         for bound, count in zip((*map(str, BOUNDS), "+Inf"), self._buckets):
             yield line("request_seconds_bucket", (("le", bound),), count)
         yield line("request_seconds_sum", (), round(self._seconds, 6))
@@ -53,16 +55,36 @@ class Metrics:
         for name, kind, text, value in (
             ("answer_bytes_total", "counter", "Bytes of answers, before compression.", self.bytes),
             ("connections", "gauge", "Connections that are open.", self.connections),
-            ("refused_connections_total", "counter", "Connections above the largest number.", self.refused_connections),
-            ("silent_connections_total", "counter", "Connections that sent no request in time.", self.silent_connections),
+            (
+                "refused_connections_total",
+                "counter",
+                "Connections above the largest number.",
+                self.refused_connections,
+            ),
+            (
+                "silent_connections_total",
+                "counter",
+                "Connections that sent no request in time.",
+                self.silent_connections,
+            ),
             ("running_requests", "gauge", "Requests that are being answered.", self.running),
             ("streams", "gauge", "Answers of several pieces that are being sent.", self.streams),
         ):
             yield heading(name, kind, text) + line(name, (), value)
-        yield heading("index_renewals_total", "counter", "How often indexes were replaced and opened again.")
+        yield heading(
+            "index_renewals_total", "counter", "How often indexes were replaced and opened again."
+        )
         for name, collection in collections.items():
-            yield line("index_renewals_total", (("collection", name), ("result", "done")), collection.renewals)
-            yield line("index_renewals_total", (("collection", name), ("result", "failed")), collection.failed_renewals)
+            yield line(
+                "index_renewals_total",
+                (("collection", name), ("result", "done")),
+                collection.renewals,
+            )
+            yield line(
+                "index_renewals_total",
+                (("collection", name), ("result", "failed")),
+                collection.failed_renewals,
+            )
 
 
 def heading(name: str, kind: str, text: str) -> str:

@@ -48,9 +48,10 @@ class Last:
 
 
 class Closest:
-    """The captures of one key, the nearest to a time first. Of two that are as near, the earlier is first.
+    """The captures of one key, the nearest to a time first.
 
-    It holds the last captures before the time, and the first ones from there on, each up to the limit.
+    Of two that are as near, the earlier is first. It holds the last captures before the time, and
+    the first ones from there on, each up to the limit.
     """
 
     def __init__(self, stamp: str, limit: Optional[int]) -> None:
@@ -79,7 +80,11 @@ def seconds_of(stamp: str) -> int:
     """Returns the seconds from the year 1 to a stamp. What isn't a date is the nearest one."""
     year, month, day = max(int(stamp[:4]), 1), clamped(stamp[4:6], 1, 12), int(stamp[6:8])
     day = min(max(day, 1), calendar.monthrange(year, month)[1])
-    hour, minute, second = clamped(stamp[8:10], 0, 23), clamped(stamp[10:12], 0, 59), clamped(stamp[12:14], 0, 59)
+    hour, minute, second = (
+        clamped(stamp[8:10], 0, 23),
+        clamped(stamp[10:12], 0, 59),
+        clamped(stamp[12:14], 0, 59),
+    )
     moment = datetime(year, month, day, hour, minute, second, tzinfo=timezone.utc)
     return int((moment - datetime(1, 1, 1, tzinfo=timezone.utc)).total_seconds())
 

@@ -15,7 +15,10 @@ MOST_QUERIES = 64  # whose pages are remembered
 
 
 async def count_pages(plan: Plan, generation: Generation, lane: Lane, limits: Limits) -> int:
-    """Returns how many pages a query has. All of its captures are read, but only where pages begin is kept."""
+    """Returns how many pages a query has.
+
+    All of its captures are read, but only where pages begin is kept.
+    """
     starts = starts_of(plan, generation)
     async with starts.lock:
         while starts.count is None:
@@ -26,7 +29,10 @@ async def count_pages(plan: Plan, generation: Generation, lane: Lane, limits: Li
 async def start_of_page(
     plan: Plan, number: int, generation: Generation, lane: Lane, limits: Limits
 ) -> Optional[str]:
-    """Returns the resume key with which a page begins, or None if there is no such page. It isn't page 0."""
+    """Returns the resume key with which a page begins, or None if there is no such page.
+
+    It isn't page 0.
+    """
     starts = starts_of(plan, generation)
     async with starts.lock:
         while len(starts.keys) < number and starts.count is None:
@@ -46,10 +52,16 @@ def starts_of(plan: Plan, generation: Generation) -> PageStarts:
 async def advance(starts: PageStarts, plan: Plan, lane: Lane, limits: Limits) -> None:
     """Finds the start of one more page, or the number of pages."""
     if len(starts.keys) == MOST_KEYS:
-        raise Refusal("BadPage", "page", f"a query has at most {MOST_KEYS} pages; follow resume keys, or give a larger pageSize")
+        raise Refusal(
+            "BadPage",
+            "page",
+            f"a query has at most {MOST_KEYS} pages; follow resume keys, or give a larger pageSize",
+        )
     last = starts.keys[-1] if starts.keys else None
     has_steps = plan.conditions or plan.collapses or plan.resolves
-    has_rows, key = await (pass_changed(plan, last, lane, limits) if has_steps else pass_plain(plan, last, lane))
+    has_rows, key = await (
+        pass_changed(plan, last, lane, limits) if has_steps else pass_plain(plan, last, lane)
+    )
     if key is None:
         starts.count = len(starts.keys) + has_rows
     else:
@@ -57,7 +69,10 @@ async def advance(starts: PageStarts, plan: Plan, lane: Lane, limits: Limits) ->
 
 
 async def pass_plain(plan: Plan, key: Optional[str], lane: Lane) -> tuple[bool, Optional[str]]:
-    """Passes over a page of the program. Returns whether it has captures, and the resume key of the next."""
+    """Passes over a page of the program.
+
+    Returns whether it has captures, and the resume key of the next.
+    """
     assert plan.page is not None
     left, has_rows = plan.page.size, False
     while left:

@@ -9,7 +9,12 @@ from .refusal import Refusal
 from .row import ORIGINALS
 
 PYWB_NAMES = {"url": "original", "mime": "mimetype", "status": "statuscode"}
-TESTS = {"is": (Test.EQUALS, False), "isnot": (Test.EQUALS, True), "has": (Test.CONTAINS, False), "hasnot": (Test.CONTAINS, True)}
+TESTS = {
+    "is": (Test.EQUALS, False),
+    "isnot": (Test.EQUALS, True),
+    "has": (Test.CONTAINS, False),
+    "hasnot": (Test.CONTAINS, True),
+}
 FLAGS = ("true", "false")
 OUTPUTS = ("text", "json", "cdxj")
 SORTS = ("default", "regular", "reverse", "closest")
@@ -46,7 +51,12 @@ def check_size(name: str, value: str) -> None:
 def check_limit(name: str, value: str) -> None:
     digits = value.removeprefix("-")
     if not (is_number(digits) and len(digits) <= MOST_DIGITS and 1 <= int(digits) <= 1_000_000):
-        raise Refusal("BadLimit", name, "it is a number from 1 to 1,000,000, or such a number after a -", value)
+        raise Refusal(
+            "BadLimit",
+            name,
+            "it is a number from 1 to 1,000,000, or such a number after a -",
+            value,
+        )
 
 
 def check_output(name: str, value: str) -> None:
@@ -62,7 +72,12 @@ def check_sort(name: str, value: str) -> None:
 def check_fields(name: str, value: str) -> None:
     for field in value.split(","):
         if PYWB_NAMES.get(field, field) not in (*FIELDS, "dupecount", *ORIGINALS):
-            raise Refusal("BadField", name, f"it is a list of fields, separated by commas: {FIELD_LIST}", field or value)
+            raise Refusal(
+                "BadField",
+                name,
+                f"it is a list of fields, separated by commas: {FIELD_LIST}",
+                field or value,
+            )
 
 
 def check_nothing(name: str, value: str) -> None:
@@ -97,22 +112,33 @@ SINGLE: dict[str, Callable[[str, str], None]] = {
 
 
 def filter_of(value: str, form: Form) -> Condition:
-    """Returns the condition of a `filter`. After an optional `!` pywb has `=` for a text and `~` for a pattern."""
+    """Returns the condition of a `filter`.
+
+    After an optional `!` pywb has `=` for a text and `~` for a pattern.
+    """
     is_negated = value.startswith("!")
     text = value[is_negated:]
     if text[:1] in ("=", "~"):
-        return condition_of(text[1:], Test.EQUALS if text[0] == "=" else Test.BEGINS, is_negated, "filter")
+        return condition_of(
+            text[1:], Test.EQUALS if text[0] == "=" else Test.BEGINS, is_negated, "filter"
+        )
     if form is Form.PYWB:
         return condition_of(text, Test.CONTAINS, is_negated, "filter")
     found = condition_of(text, Test.MATCHES, is_negated, "filter")
-    return Condition(found.field, Test.EQUALS, found.text, is_negated) if is_literal(found.text) else found
+    return (
+        Condition(found.field, Test.EQUALS, found.text, is_negated)
+        if is_literal(found.text)
+        else found
+    )
 
 
 def condition_of(value: str, test: Test, is_negated: bool, parameter: str) -> Condition:
     name, colon, text = value.partition(":")
     field = PYWB_NAMES.get(name, name)
     if not colon or field not in FIELDS:
-        raise Refusal("BadFilter", parameter, f"it is FIELD:TEXT, with one of the fields {FIELD_LIST}", value)
+        raise Refusal(
+            "BadFilter", parameter, f"it is FIELD:TEXT, with one of the fields {FIELD_LIST}", value
+        )
     return Condition(field, test, text, is_negated, parameter)
 
 
@@ -121,7 +147,12 @@ def collapse_of(value: str) -> Collapse:
     field = PYWB_NAMES.get(name, name)
     is_count = is_number(digits) and len(digits) <= 4 and int(digits) > 0
     if field not in FIELDS or (colon and not is_count):
-        raise Refusal("BadCollapse", "collapse", f"it is FIELD or FIELD:N, with one of the fields {FIELD_LIST}", value)
+        raise Refusal(
+            "BadCollapse",
+            "collapse",
+            f"it is FIELD or FIELD:N, with one of the fields {FIELD_LIST}",
+            value,
+        )
     return Collapse(field, int(digits) if colon else None)
 
 

@@ -33,7 +33,10 @@ class Order(Enum):
 
 @dataclass(frozen=True)
 class Collapse:
-    """Consecutive captures with the same first characters of a field are one. Without `count` it is the whole value."""
+    """Consecutive captures with the same first characters of a field are one.
+
+    Without `count` it is the whole value.
+    """
 
     field: str
     count: Optional[int] = None
@@ -51,9 +54,9 @@ class PageNumber:
 class Plan:
     """What a request asks for.
 
-    If `is_plain`, the program does all of it: the answer is the page of the query `text`, with the limit
-    and the resume keys. If not, the gateway does the rest with the captures of the query `selected`. `fields`
-    are pairs of a column and its name in the answer.
+    If `is_plain`, the program does all of it: the answer is the page of the query `text`, with the
+    limit and the resume keys. If not, the gateway does the rest with the captures of the query
+    `selected`. `fields` are pairs of a column and its name in the answer.
     """
 
     text: str

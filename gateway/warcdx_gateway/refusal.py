@@ -14,7 +14,10 @@ CAUSES: dict[str, tuple[tuple[str, ...], str]] = {
     "RepeatedParameter": ((), "it may be given once"),
     "BadMatch": (("matchType",), "it is exact, prefix, host or domain"),
     "BadStamp": (("from", "to"), "it is 1 to 14 digits"),
-    "BadFilter": (("filter", "is", "isnot", "has", "hasnot"), f"it is FIELD:TEXT, with one of the fields {', '.join(FIELDS)}"),
+    "BadFilter": (
+        ("filter", "is", "isnot", "has", "hasnot"),
+        f"it is FIELD:TEXT, with one of the fields {', '.join(FIELDS)}",
+    ),
     "BadLimit": (("limit",), "it is a number from 1 to 1,000,000"),
     "BadResume": (("resumeKey",), "it isn't the resume key of a page"),
     "BadFlag": (("showResumeKey",), "it is true or false"),
@@ -28,9 +31,14 @@ CAUSES: dict[str, tuple[tuple[str, ...], str]] = {
 
 
 class Refusal(Exception):
-    """A query is refused. The name is that of docs/QUERY.md if the program could refuse the query for it."""
+    """A query is refused.
 
-    def __init__(self, name: str, parameter: str, cause: str, value: str = "", status: int = 400) -> None:
+    The name is that of docs/QUERY.md if the program could refuse the query for it.
+    """
+
+    def __init__(
+        self, name: str, parameter: str, cause: str, value: str = "", status: int = 400
+    ) -> None:
         super().__init__(name, parameter, cause, value)
         self.name = name
         self.parameter = parameter

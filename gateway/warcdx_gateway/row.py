@@ -11,7 +11,8 @@ ORIGINALS = ("orig.length", "orig.offset", "orig.filename")
 COLUMNS = (*FIELDS, "line", "dupecount", *ORIGINALS)
 PLACES = {name: place for place, name in enumerate(COLUMNS)}
 KEY, STAMP, DIGEST, OFFSET, NAME, LINE, COUNT = (
-    PLACES[name] for name in ("urlkey", "timestamp", "digest", "offset", "filename", "line", "dupecount")
+    PLACES[name]
+    for name in ("urlkey", "timestamp", "digest", "offset", "filename", "line", "dupecount")
 )
 MIME, STATUS, LENGTH = (PLACES[name] for name in ("mimetype", "statuscode", "length"))
 ADDED = ["", "0", "-", "-", "-"]

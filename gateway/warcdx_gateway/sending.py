@@ -20,7 +20,9 @@ LEAST_COMPRESSED = 500  # bytes
 LEVEL = 3  # of compression
 INLINE = 1 << 14  # bytes that are compressed without a thread
 GZIP = 16 + zlib.MAX_WBITS
-_GZIP = re.compile(r"(?:^|,)\s*(?:gzip|x-gzip|\*)\s*(?:;\s*q\s*=\s*(?P<weight>[0-9.]+)\s*)?(?:,|$)", re.IGNORECASE)
+_GZIP = re.compile(
+    r"(?:^|,)\s*(?:gzip|x-gzip|\*)\s*(?:;\s*q\s*=\s*(?P<weight>[0-9.]+)\s*)?(?:,|$)", re.IGNORECASE
+)
 
 
 class Head(web.StreamResponse):
@@ -41,8 +43,13 @@ class Sender:
         self._limits = limits
         self._metrics = metrics
 
-    async def send(self, request: web.Request, answer: Answer, headers: dict[str, str], is_compressed: bool) -> web.StreamResponse:
-        """Sends an answer. Until its first piece, its exceptions are raised, so that they have a status."""
+    async def send(
+        self, request: web.Request, answer: Answer, headers: dict[str, str], is_compressed: bool
+    ) -> web.StreamResponse:
+        """Sends an answer.
+
+        Until its first piece, its exceptions are raised, so that they have a status.
+        """
         piece = b""
         while not piece and not answer.is_done:
             if is_gone(request):
@@ -53,14 +60,18 @@ class Sender:
         if request.method == "HEAD":
             return Head(headers=compressed_headers(headers) if is_compressed else headers)
         if self._metrics.streams >= self._limits.streams:
-            raise Refusal("TooBusy", "", "too many long answers are being sent; ask again later", status=503)
+            raise Refusal(
+                "TooBusy", "", "too many long answers are being sent; ask again later", status=503
+            )
         self._metrics.streams += 1
         try:
             return await self._stream(request, piece, answer, headers, is_compressed)
         finally:
             self._metrics.streams -= 1
 
-    async def _whole(self, text: bytes, headers: dict[str, str], is_compressed: bool) -> web.Response:
+    async def _whole(
+        self, text: bytes, headers: dict[str, str], is_compressed: bool
+    ) -> web.Response:
         self._metrics.bytes += len(text)
         if is_compressed and len(text) >= LEAST_COMPRESSED:
             compressor = zlib.compressobj(LEVEL, wbits=GZIP)
@@ -69,10 +80,17 @@ class Sender:
         return web.Response(body=text, headers=headers)
 
     async def _stream(
-        self, request: web.Request, piece: bytes, answer: Answer, headers: dict[str, str], is_compressed: bool
+        self,
+        request: web.Request,
+        piece: bytes,
+        answer: Answer,
+        headers: dict[str, str],
+        is_compressed: bool,
     ) -> web.StreamResponse:
         compressor = zlib.compressobj(LEVEL, wbits=GZIP) if is_compressed else None
-        response = web.StreamResponse(headers=compressed_headers(headers) if is_compressed else headers)
+        response = web.StreamResponse(
+            headers=compressed_headers(headers) if is_compressed else headers
+        )
         if request.version >= (1, 1):
             response.enable_chunked_encoding()
         await response.prepare(request)
@@ -96,7 +114,11 @@ class Sender:
         return response
 
     async def _write(
-        self, request: web.Request, response: web.StreamResponse, piece: bytes, compressor: Optional["zlib._Compress"]
+        self,
+        request: web.Request,
+        response: web.StreamResponse,
+        piece: bytes,
+        compressor: Optional["zlib._Compress"],
     ) -> None:
         if is_gone(request):
             raise ConnectionResetError
@@ -118,7 +140,10 @@ class Sender:
 
 
 async def next_piece(answer: Answer) -> bytes:
-    """Returns the next piece. If the program has been ended by something else, it is asked again, once."""
+    """Returns the next piece.
+
+    If the program has been ended by something else, it is asked again, once.
+    """
     try:
         return await answer.next()
     except ProgramEnded:

@@ -38,7 +38,9 @@ LEFT = 499  # the status that is counted if a client has left before its answer
 class Gateway:
     """Answers requests from collections."""
 
-    def __init__(self, settings: Settings, collections: Mapping[str, Collection], metrics: Metrics) -> None:
+    def __init__(
+        self, settings: Settings, collections: Mapping[str, Collection], metrics: Metrics
+    ) -> None:
         self.settings = settings
         self.collections = collections
         self.metrics = metrics
@@ -74,12 +76,16 @@ class Gateway:
             raise web.HTTPNotFound(text="there is no such collection\n")
         return found
 
-    async def answer(self, request: web.Request, collection: Collection, form: Form) -> web.StreamResponse:
+    async def answer(
+        self, request: web.Request, collection: Collection, form: Form
+    ) -> web.StreamResponse:
         request["collection"] = collection.name
         if request.method == "OPTIONS":
             return web.Response(status=204, headers={"Allow": METHODS, **preflight(request)})
         if request.method not in ("GET", "HEAD"):
-            return refusal_response(Refusal("Method", request.method, f"the methods are {METHODS}", status=405))
+            return refusal_response(
+                Refusal("Method", request.method, f"the methods are {METHODS}", status=405)
+            )
         query = request.raw_path.partition("?")[2]
         try:
             plan = plan_of(query, form, self.settings.limits)
@@ -93,12 +99,16 @@ class Gateway:
             return self.refused(Refusal("TooSlow", "", f"{error}; restrict the query", status=503))
         except Fault as fault:
             print(f"warcdx-gateway: {collection.name}: {fault}", file=sys.stderr, flush=True)
-            return web.Response(status=500, text=f"fault {fault.name} {fault.number} {fault.offset}\n")
+            return web.Response(
+                status=500, text=f"fault {fault.name} {fault.number} {fault.offset}\n"
+            )
         except Error as error:
             print(f"warcdx-gateway: {collection.name}: {error}", file=sys.stderr, flush=True)
             return web.Response(status=500, text="warcdx has ended\n")
 
-    async def respond(self, request: web.Request, plan: Plan, generation: Generation) -> web.StreamResponse:
+    async def respond(
+        self, request: web.Request, plan: Plan, generation: Generation
+    ) -> web.StreamResponse:
         headers = {
             "Content-Type": kind_of(plan),
             "Cache-Control": "no-cache",
@@ -107,9 +117,14 @@ class Gateway:
             "Vary": "Accept-Encoding",
         }
         if is_unchanged(request, generation):
-            return web.Response(status=304, headers={name: headers[name] for name in ("ETag", "Cache-Control", "Vary")})
+            return web.Response(
+                status=304,
+                headers={name: headers[name] for name in ("ETag", "Cache-Control", "Vary")},
+            )
         answer = await answer_of(plan, generation, self.settings.limits)
-        return await self._sender.send(request, answer, headers, plan.allows_gzip and accepts_gzip(request))
+        return await self._sender.send(
+            request, answer, headers, plan.allows_gzip and accepts_gzip(request)
+        )
 
     def refused(self, refusal: Refusal) -> web.Response:
         self.metrics.refusals[refusal.name] += 1
@@ -125,16 +140,22 @@ class Gateway:
             try:
                 await asyncio.wait_for(ask_something(collection), HEALTH_SECONDS)
             except (Error, Refusal, OSError, asyncio.TimeoutError) as error:
-                return web.Response(status=503, text=f"{collection.name}: {error or 'no answer in time'}\n")
+                return web.Response(
+                    status=503, text=f"{collection.name}: {error or 'no answer in time'}\n"
+                )
         return web.Response(text="ok\n")
 
     async def show_metrics(self, request: web.Request) -> web.Response:
         text = self.metrics.text(self.collections)
-        return web.Response(text=text, headers={"Content-Type": "text/plain; version=0.0.4; charset=utf-8"})
+        return web.Response(
+            text=text, headers={"Content-Type": "text/plain; version=0.0.4; charset=utf-8"}
+        )
 
     @web.middleware
     async def counted(self, request: web.Request, handler: Handler) -> web.StreamResponse:
-        """Counts a request, and its seconds until its answer is written or handed to the connection."""
+        """Counts a request, and its seconds until its answer is written or handed to the
+        connection.
+        """
         start, status = time.monotonic(), 500
         self.metrics.running += 1
         try:
@@ -149,7 +170,9 @@ class Gateway:
             raise
         finally:
             self.metrics.running -= 1
-            self.metrics.add_request(request.get("collection", ""), status, time.monotonic() - start)
+            self.metrics.add_request(
+                request.get("collection", ""), status, time.monotonic() - start
+            )
             if isinstance(request.protocol, Connection):
                 request.protocol.rest()
 
@@ -161,7 +184,9 @@ class Gateway:
             response.headers["Access-Control-Allow-Origin"] = origin
             response.headers["Access-Control-Expose-Headers"] = "ETag, Last-Modified"
             if origin != "*":
-                response.headers["Vary"] = ", ".join(filter(None, (response.headers.get("Vary"), "Origin")))
+                response.headers["Vary"] = ", ".join(
+                    filter(None, (response.headers.get("Vary"), "Origin"))
+                )
         if self.is_ending:
             response.force_close()
 
@@ -213,5 +238,11 @@ def preflight(request: web.Request) -> dict[str, str]:
 
 
 def refusal_response(refusal: Refusal) -> web.Response:
-    headers = {"Retry-After": "1"} if refusal.status == 503 else {"Allow": METHODS} if refusal.status == 405 else {}
+    headers = (
+        {"Retry-After": "1"}
+        if refusal.status == 503
+        else {"Allow": METHODS}
+        if refusal.status == 405
+        else {}
+    )
     return web.Response(status=refusal.status, text=f"{refusal}\n", headers=headers)

@@ -21,12 +21,12 @@ class BadSettings(Exception):
 class Limits:
     """What the gateway takes at most. Each is a number that is 1 or more, except `usual`.
 
-    `usual` is the limit of a query without one, 0 if it has none. `largest` is the largest limit, in
-    captures. `held` is how many captures the gateway holds for an answer in another order, and how
-    many digests it counts. `conditions` is how many conditions a query may have.
+    `usual` is the limit of a query without one, 0 if it has none. `largest` is the largest limit,
+    in captures. `held` is how many captures the gateway holds for an answer in another order, and
+    how many digests it counts. `conditions` is how many conditions a query may have.
 
-    `connections` is how many are open at a time. `streams` is how many answers of more than one piece
-    are sent at a time. `waiting` is how many queries wait for a process of a collection.
+    `connections` is how many are open at a time. `streams` is how many answers of more than one
+    piece are sent at a time. `waiting` is how many queries wait for a process of a collection.
 
     The others are times in seconds: `query` for the program to write one piece, `pattern` for all
     matches of the patterns of a query, `request` for a client to send a request after it has
@@ -62,8 +62,8 @@ class CollectionSettings:
 class Settings:
     """All settings. `main` is the collection of the paths that name none.
 
-    `exact` and `wide` are how many queries of a collection are answered at a time: those of one key,
-    and all others. `origins` are the origins whose pages may read answers, `*` for any.
+    `exact` and `wide` are how many queries of a collection are answered at a time: those of one
+    key, and all others. `origins` are the origins whose pages may read answers, `*` for any.
     """
 
     collections: tuple[CollectionSettings, ...]
@@ -79,7 +79,10 @@ class Settings:
 
 
 def read_settings(path: pathlib.Path) -> Settings:
-    """Returns the settings of a file. Raises BadSettings. Paths in it are relative to its folder."""
+    """Returns the settings of a file.
+
+    Raises BadSettings. Paths in it are relative to its folder.
+    """
     try:
         with open(path, "rb") as file:
             table = tomllib.load(file)
@@ -126,7 +129,11 @@ def limits_of(table: object) -> Limits:
         if name not in known:
             raise BadSettings(f"unknown setting 'limits.{name}'")
         least = 0 if name == "usual" else 1
-        require(type(value) is int and value >= least, f"limits.{name}", f"has to be a number from {least}")
+        require(
+            type(value) is int and value >= least,
+            f"limits.{name}",
+            f"has to be a number from {least}",
+        )
     limits = Limits(**table)
     require(limits.largest <= MOST_CAPTURES, "limits.largest", f"has to be at most {MOST_CAPTURES}")
     require(limits.usual <= limits.largest, "limits.usual", "has to be at most limits.largest")
@@ -136,7 +143,11 @@ def limits_of(table: object) -> Limits:
 
 def collection_of(name: str, table: object, folder: pathlib.Path) -> CollectionSettings:
     where = f"collections.{name}"
-    require(bool(NAME.fullmatch(name)) and name not in RESERVED, where, "can't be the name of a collection")
+    require(
+        bool(NAME.fullmatch(name)) and name not in RESERVED,
+        where,
+        "can't be the name of a collection",
+    )
     if not isinstance(table, dict):
         raise BadSettings(f"'{where}' has to be a table")
     for each in table:
@@ -145,7 +156,11 @@ def collection_of(name: str, table: object, folder: pathlib.Path) -> CollectionS
     title = table.get("title", name)
     require(isinstance(title, str), f"{where}.title", "has to be a text")
     indexes = texts_of(f"{where}.indexes", table.get("indexes"))
-    require(1 <= len(indexes) <= MOST_INDEXES, f"{where}.indexes", f"has to be 1 to {MOST_INDEXES} paths")
+    require(
+        1 <= len(indexes) <= MOST_INDEXES,
+        f"{where}.indexes",
+        f"has to be 1 to {MOST_INDEXES} paths",
+    )
     archives = texts_of(f"{where}.archives", table.get("archives", []))
     return CollectionSettings(name, title, paths_of(indexes, folder), paths_of(archives, folder))
 

@@ -1,4 +1,5 @@
-"""Reads the captures of a query piece by piece, and does with them what is done one after another."""
+"""Reads the captures of a query piece by piece, and does with them what is done one after another.
+"""
 import asyncio
 from typing import Optional
 from urllib.parse import quote_plus, unquote_plus
@@ -61,7 +62,9 @@ class Source:
 
 
 class Selection:
-    """The captures of a plan, after conditions, originals of revisits and collapses, piece by piece."""
+    """The captures of a plan, after conditions, originals of revisits and collapses, piece by
+    piece.
+    """
 
     def __init__(self, plan: Plan, limits: Limits, key: Optional[str]) -> None:
         self._plan = plan
@@ -83,7 +86,9 @@ class Selection:
         if self._plan.resolves:
             await self._resolver.resolve(rows)
         if self._conditions.has_patterns:
-            rows = await asyncio.get_running_loop().run_in_executor(None, self._conditions.select, rows)
+            rows = await asyncio.get_running_loop().run_in_executor(
+                None, self._conditions.select, rows
+            )
         else:
             rows = self._conditions.select(rows)
         return self._collapser.select(rows)
@@ -96,7 +101,9 @@ class Selection:
         key, stamp, rest = place
         name, _, offset = rest.rpartition(" ")
         conditions = f"is={quote_plus('filename:' + name)}&is={quote_plus('offset:' + offset)}"
-        found = await ask(index, f"key={quote_plus(key)}&from={stamp}&to={stamp}&{conditions}&limit=1")
+        found = await ask(
+            index, f"key={quote_plus(key)}&from={stamp}&to={stamp}&{conditions}&limit=1"
+        )
         return found[0] if found else None
 
 

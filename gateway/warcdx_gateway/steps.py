@@ -14,9 +14,11 @@ Ask = Callable[[str], Awaitable[list[Row]]]
 
 
 class Collapser:
-    """Gives the first of consecutive captures with the same part of a field. It holds one part for each collapse.
+    """Gives the first of consecutive captures with the same part of a field. It holds one part for
+    each collapse.
 
-    With several collapses, each is of what the one before it gives. `previous` is the capture before the first.
+    With several collapses, each is of what the one before it gives. `previous` is the capture
+    before the first.
     """
 
     def __init__(self, collapses: Sequence[Collapse], previous: Optional[Row] = None) -> None:
@@ -40,7 +42,10 @@ class Collapser:
 
 
 class DuplicateCounter:
-    """Counts for each capture the captures before it in the answer that have its digest. It holds each digest."""
+    """Counts for each capture the captures before it in the answer that have its digest.
+
+    It holds each digest.
+    """
 
     def __init__(self) -> None:
         self._counts: dict[str, int] = {}
@@ -55,8 +60,8 @@ class DuplicateCounter:
 class Resolver:
     """Gives a revisit the media type, the status and the place of its original.
 
-    The original is the first capture of the same key and digest that is no revisit, wherever it is in the
-    collection. Each is asked for by a query of its own; the last thousand are kept.
+    The original is the first capture of the same key and digest that is no revisit, wherever it is
+    in the collection. Each is asked for by a query of its own; the last thousand are kept.
     """
 
     def __init__(self, ask: Ask) -> None:
@@ -69,13 +74,18 @@ class Resolver:
                 original = await self._original(row[KEY], row[DIGEST])
                 if original is not None:
                     row[MIME], row[STATUS] = original[MIME], original[STATUS]
-                    row[PLACES["orig.length"] :] = [original[LENGTH], original[OFFSET], original[NAME]]
+                    row[PLACES["orig.length"] :] = [
+                        original[LENGTH],
+                        original[OFFSET],
+                        original[NAME],
+                    ]
 
     async def _original(self, key: str, digest: str) -> Optional[Row]:
         if (key, digest) in self._kept:
             self._kept.move_to_end((key, digest))
             return self._kept[key, digest]
-        query = f"key={quote_plus(key)}&is={quote_plus('digest:' + digest)}&isnot=mimetype:{REVISIT}&limit=1"
+        conditions = f"is={quote_plus('digest:' + digest)}&isnot=mimetype:{REVISIT}"
+        query = f"key={quote_plus(key)}&{conditions}&limit=1"
         found = await self._ask(query) if len(query) <= MOST_QUERY else []
         self._kept[key, digest] = found[0] if found else None
         if len(self._kept) > MOST_ORIGINALS:

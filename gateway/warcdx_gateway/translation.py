@@ -21,7 +21,10 @@ Field = tuple[str, str]
 
 
 def plan_of(query: str, form: Form, limits: Limits) -> Plan:
-    """Returns what a query text asks for. Raises Refusal, for the first parameter that is at fault."""
+    """Returns what a query text asks for.
+
+    Raises Refusal, for the first parameter that is at fault.
+    """
     given = Given(form)
     for piece in query.replace("\r", "%0D").replace("\n", "%0A").split("&"):
         if piece:
@@ -48,7 +51,11 @@ class Given:
         if name in TESTS:
             test, is_negated = TESTS[name]
             self.conditions.append((condition_of(value, test, is_negated, name), piece))
-        elif not value and name not in ("url", "key") and (name in SINGLE or name in ("filter", "collapse")):
+        elif (
+            not value
+            and name not in ("url", "key")
+            and (name in SINGLE or name in ("filter", "collapse"))
+        ):
             return  # an empty field of a form
         elif name == "filter":
             self.add_filter(filter_of(value, self.form))
@@ -64,8 +71,12 @@ class Given:
             compiled(condition)
             self.conditions.append((condition, ""))
         else:
-            name = ("is" if condition.test is Test.EQUALS else "has") + ("not" if condition.is_negated else "")
-            self.conditions.append((condition, f"{name}={quote_plus(f'{condition.field}:{condition.text}')}"))
+            name = ("is" if condition.test is Test.EQUALS else "has") + (
+                "not" if condition.is_negated else ""
+            )
+            self.conditions.append(
+                (condition, f"{name}={quote_plus(f'{condition.field}:{condition.text}')}")
+            )
 
     def add_single(self, name: str, value: str, piece: str) -> None:
         if name in self.values:
@@ -99,13 +110,20 @@ class Planner:
         fields = self.fields(output)
         if output is Output.CDXJ and (self.resolves or self.counts):
             name = "resolveRevisits" if self.resolves else "showDupeCount"
-            raise Refusal("BadOutput", "output", f"a line of an index is given unchanged, without {name}", "cdxj")
+            raise Refusal(
+                "BadOutput",
+                "output",
+                f"a line of an index is given unchanged, without {name}",
+                "cdxj",
+            )
         page = self.page()
         asked, checked = self.conditions()
         in_program = self.program_collapse(bool(checked))
         collapses = () if in_program else tuple(given.collapses)
         is_renamed = output is Output.JSON and any(column != name for column, name in fields)
-        is_changed = bool(checked or collapses or self.resolves or self.counts or order is not Order.FORWARD)
+        is_changed = bool(
+            checked or collapses or self.resolves or self.counts or order is not Order.FORWARD
+        )
         pieces = [piece for name, piece in given.pieces.items() if name in TARGET]
         pieces += asked + ([in_program] if in_program else [])
         return Plan(
@@ -143,16 +161,30 @@ class Planner:
             text = "-1"
         limit = (self.limits.usual or None) if text is None else abs(int(text))
         if limit is not None and limit > self.limits.largest:
-            raise Refusal("BadLimit", "limit", f"this server gives at most {self.limits.largest} captures", text or "")
+            raise Refusal(
+                "BadLimit",
+                "limit",
+                f"this server gives at most {self.limits.largest} captures",
+                text or "",
+            )
         order = self.sort()
         if text is not None and text.startswith("-"):
             if order is not Order.FORWARD:
-                raise Refusal("BadLimit", "limit", "a negative one and another order exclude each other", text)
+                raise Refusal(
+                    "BadLimit", "limit", "a negative one and another order exclude each other", text
+                )
             order = Order.LAST
         elif self.given.is_true("fastLatest"):
-            raise Refusal("BadLimit", "limit", "with fastLatest=true it is negative, or isn't given", text or "")
+            raise Refusal(
+                "BadLimit",
+                "limit",
+                "with fastLatest=true it is negative, or isn't given",
+                text or "",
+            )
         if order is not Order.FORWARD and limit is not None and limit > self.limits.held:
-            raise Refusal("BadLimit", "limit", f"in this order it is at most {self.limits.held}", text or "")
+            raise Refusal(
+                "BadLimit", "limit", f"in this order it is at most {self.limits.held}", text or ""
+            )
         return order, limit
 
     def sort(self) -> Order:
@@ -163,7 +195,9 @@ class Planner:
             raise Refusal("BadSort", "closest", "sort=closest needs it")
         if "closest" in values and sort != "reverse":
             if not self.given.is_one_key():
-                raise Refusal("BadSort", "closest", "it is for the captures of one address", values["closest"])
+                raise Refusal(
+                    "BadSort", "closest", "it is for the captures of one address", values["closest"]
+                )
             return Order.CLOSEST
         return Order.REVERSE if sort == "reverse" else Order.FORWARD
 
@@ -172,7 +206,12 @@ class Planner:
         most = max(self.limits.largest // BLOCK, 1)
         size = int(values.get("pageSize", min(USUAL_SIZE, most))) * BLOCK
         if size > most * BLOCK:
-            raise Refusal("BadPage", "pageSize", f"this server gives at most {most} blocks", values["pageSize"])
+            raise Refusal(
+                "BadPage",
+                "pageSize",
+                f"this server gives at most {most} blocks",
+                values["pageSize"],
+            )
         is_paged = "page" in values or self.given.is_true("showNumPages")
         if not is_paged:
             return None

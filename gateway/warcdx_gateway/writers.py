@@ -39,7 +39,9 @@ class TextWriter:
         self._places = places
 
     def rows(self, rows: Sequence[Row]) -> bytes:
-        return "".join(" ".join(escaped(row[place]) for place in self._places) + "\n" for row in rows).encode()
+        return "".join(
+            " ".join(escaped(row[place]) for place in self._places) + "\n" for row in rows
+        ).encode()
 
     def end(self, key: Optional[str]) -> bytes:
         return b"" if key is None else f"\n{key}\n".encode()
@@ -64,7 +66,9 @@ class ArrayWriter:
 
     def rows(self, rows: Sequence[Row]) -> bytes:
         head, self._head = self._head, ""
-        return (head + "".join(",\n" + array([row[place] for place in self._places]) for row in rows)).encode()
+        return (
+            head + "".join(",\n" + array([row[place] for place in self._places]) for row in rows)
+        ).encode()
 
     def end(self, key: Optional[str]) -> bytes:
         shown = "" if key is None else f',\n[],\n["{key}"]'

@@ -52,7 +52,12 @@ class Queries(unittest.IsolatedAsyncioTestCase):
 
     async def test_pages_are_those_of_query(self) -> None:
         index = self.open(self.put(lines(2345)), processes=2)
-        for query in (ALL, f"{ALL}&output=json&limit=2000&showResumeKey=true", "url=example.com/0000007", "url=example.org"):
+        for query in (
+            ALL,
+            f"{ALL}&output=json&limit=2000&showResumeKey=true",
+            "url=example.com/0000007",
+            "url=example.org",
+        ):
             self.assertEqual(self.page(query), await index.text(query))
             self.assertEqual(self.page(query), await self.joined(index, query))
 
@@ -89,7 +94,9 @@ class Queries(unittest.IsolatedAsyncioTestCase):
         index = self.open(self.put(lines(3)), processes=4, niceness=3)
         await index.start()
         self.assertEqual(4, len(processes_of(index)))
-        self.assertEqual([3] * 4, [os.getpriority(os.PRIO_PROCESS, pid) for pid in processes_of(index)])
+        self.assertEqual(
+            [3] * 4, [os.getpriority(os.PRIO_PROCESS, pid) for pid in processes_of(index)]
+        )
         (self.folder / "index").unlink()
         self.assertEqual(b"0\n", await index.text("url=example.com/0000000&fl=offset"))
         with self.assertRaises(faults.CannotOpen):
@@ -137,7 +144,10 @@ class Queries(unittest.IsolatedAsyncioTestCase):
 
     async def test_pieces_shrink_for_long_lines(self) -> None:
         """Two lines are longer than the bound, each by itself."""
-        text = "".join(LINE % (f"{number:04}", "x" * (30_000 if number in (5, 6) else 9), 1, number) for number in range(9))
+        text = "".join(
+            LINE % (f"{number:04}", "x" * (30_000 if number in (5, 6) else 9), 1, number)
+            for number in range(9)
+        )
         self.put(text)
         index = self.open(self.folder / "index", most=20_000)
         for output in ("text", "json", "cdxj"):

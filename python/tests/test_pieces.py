@@ -13,7 +13,9 @@ KEY = "com%2Cexample%29%2F0000450+20160101000000+a.warc+450"
 
 
 def in_pieces(index: Index, query: str, size: int) -> bytes:
-    """Returns a page whose first piece has so many captures, and each other one so many that its size is the same."""
+    """Returns a page whose first piece has so many captures, and each other one so many that its
+    size is the same.
+    """
     pieces, found = Pieces(query, size=size), b""
     while (asked := pieces.next_query()) is not None:
         if piece := pieces.add(index.text(asked)):
@@ -30,7 +32,16 @@ class PiecesOfPages(Case):
     def test_the_pieces_are_the_page(self) -> None:
         index = self.open(self.put(lines(500)))
         for output in OUTPUTS:
-            for rest in ("", "&limit=1", "&limit=300", "&limit=500", "&limit=501", f"&resumeKey={KEY}", "&collapse=timestamp", "&has=offset:7"):
+            for rest in (
+                "",
+                "&limit=1",
+                "&limit=300",
+                "&limit=500",
+                "&limit=501",
+                f"&resumeKey={KEY}",
+                "&collapse=timestamp",
+                "&has=offset:7",
+            ):
                 for shown in ("", "&showResumeKey=true", "&showResumeKey=false"):
                     query = f"{ALL}&output={output}{rest}{shown}"
                     with self.subTest(query):
@@ -46,7 +57,9 @@ class PiecesOfPages(Case):
 
     def test_values_may_read_like_the_end_of_a_page(self) -> None:
         values = ("[]", '\\",\\n[],\\n[\\"', "]", "-", "refused NoUrl", "fault BadLine 0 5", ".")
-        text = "".join(LINE % (str(number), value, 1, number) for number, value in enumerate(values))
+        text = "".join(
+            LINE % (str(number), value, 1, number) for number, value in enumerate(values)
+        )
         index = self.open(self.put(text.replace("http://example.com/", "")))
         for output in OUTPUTS:
             for fields in ("original", "original,mimetype", "urlkey,original,offset"):
@@ -77,7 +90,9 @@ class PiecesOfPages(Case):
     def test_a_key_may_be_too_long_for_a_query(self) -> None:
         """Such a piece is made longer, so that it ends at another capture."""
         names = [f"{number:04}" + "x" * (70_000 if 3 <= number < 9 else 1) for number in range(20)]
-        index = self.open(self.put("".join(LINE % (name, "a", 1, number) for number, name in enumerate(names))))
+        index = self.open(
+            self.put("".join(LINE % (name, "a", 1, number) for number, name in enumerate(names)))
+        )
         for output in OUTPUTS:
             query = f"{ALL}&output={output}&fl=offset"
             for size in (1, 3, 4, 5):
@@ -94,7 +109,9 @@ class PiecesOfPages(Case):
         asked: list[Optional[str]] = []
         while pieces.shrink():
             asked.append(pieces.next_query())
-        self.assertEqual(["url=a&limit=2&showResumeKey=true", "url=a&limit=1&showResumeKey=true"], asked)
+        self.assertEqual(
+            ["url=a&limit=2&showResumeKey=true", "url=a&limit=1&showResumeKey=true"], asked
+        )
 
 
 if __name__ == "__main__":

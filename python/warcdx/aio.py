@@ -6,7 +6,15 @@ import tempfile
 from collections.abc import AsyncIterator, Sequence
 from typing import IO, Optional, Union
 
-from .errors import Error, ProgramEnded, ProgramMissing, Refused, ReplyTooLate, ReplyTooLong, error_of
+from .errors import (
+    Error,
+    ProgramEnded,
+    ProgramMissing,
+    Refused,
+    ReplyTooLate,
+    ReplyTooLong,
+    error_of,
+)
 from .pieces import Pieces
 from .program import Path, find_program, operand
 from .query import Query, one_line, rows_query, split_rows
@@ -24,13 +32,20 @@ class AsyncServe:
         self._process: Optional[asyncio.subprocess.Process] = None
         self._said: Optional[IO[bytes]] = None
 
-    async def rows(self, query: bytes, seconds: Optional[float], most: Optional[int]) -> list[list[str]]:
+    async def rows(
+        self, query: bytes, seconds: Optional[float], most: Optional[int]
+    ) -> list[list[str]]:
         return rows_of(await self._reply(query + b"\n", MARK, seconds, most), self._indexes)
 
-    async def text(self, query: bytes, is_json: bool, seconds: Optional[float], most: Optional[int]) -> bytes:
+    async def text(
+        self, query: bytes, is_json: bool, seconds: Optional[float], most: Optional[int]
+    ) -> bytes:
         reply = await self._reply(query + b"\n\n", END, seconds, most)
         refusal = refusal_of(reply)
-        if refusal is not None and await self._reply(query + NOTHING + b"\n\n", END, seconds, most) == reply:
+        if (
+            refusal is not None
+            and await self._reply(query + NOTHING + b"\n\n", END, seconds, most) == reply
+        ):
             raise refusal
         return text_of(reply, is_json, self._indexes)
 
@@ -45,11 +60,13 @@ class AsyncServe:
                 kill(process)
                 await process.wait()
 
-    async def _reply(self, asked: bytes, end: bytes, seconds: Optional[float], most: Optional[int]) -> bytes:
+    async def _reply(
+        self, asked: bytes, end: bytes, seconds: Optional[float], most: Optional[int]
+    ) -> bytes:
         """Returns the reply to what is asked, without the lines that end it.
 
-        If anything fails before they are read, or the task is cancelled, the program is ended. So the next
-        query has a program of its own, which has nothing of this reply.
+        If anything fails before they are read, or the task is cancelled, the program is ended. So
+        the next query has a program of its own, which has nothing of this reply.
         """
         process = await self._running()
         loop = asyncio.get_running_loop()
@@ -87,7 +104,10 @@ class AsyncServe:
 
     @staticmethod
     async def _end_of(process: asyncio.subprocess.Process, said: IO[bytes]) -> Error:
-        """Returns why the program has closed its output. One that doesn't end by itself is ended."""
+        """Returns why the program has closed its output.
+
+        One that doesn't end by itself is ended.
+        """
         assert process.stdin is not None
         process.stdin.close()
         try:
@@ -137,10 +157,10 @@ def kill(process: asyncio.subprocess.Process) -> None:
 class AsyncIndex:
     """One or more indexes, which are queried as one, as by `warcdx.Index`.
 
-    It is created while its event loop runs. `processes` is how many queries are answered at a time, each
-    by a run of `warcdx serve` at this niceness. If a reply takes more than `seconds`, its program is ended and
-    ReplyTooLate is raised; None is no bound. `most` is how many bytes a reply may have; the pieces of a
-    page are made shorter to have no more, except one of a single capture.
+    It is created while its event loop runs. `processes` is how many queries are answered at a time,
+    each by a run of `warcdx serve` at this niceness. If a reply takes more than `seconds`, its
+    program is ended and ReplyTooLate is raised; None is no bound. `most` is how many bytes a reply
+    may have; the pieces of a page are made shorter to have no more, except one of a single capture.
     """
 
     def __init__(
@@ -201,13 +221,18 @@ class AsyncIndex:
     async def page(
         self, fields: Sequence[str], query: str, *, size: Optional[int]
     ) -> tuple[list[list[str]], Optional[str]]:
-        """Returns the values of these fields of the first captures, at most `size`, and the resume key of the next."""
+        """Returns the values of these fields of the first captures, at most `size`, and the resume
+        key of the next.
+        """
         asked = rows_query(Query.of(query, {}), fields, size).encoded()
         async with self._serve() as serve:
             return split_rows(await serve.rows(asked, self._seconds, self._most))
 
     async def close(self) -> None:
-        """Ends the processes, after the queries that are being answered. A second call does nothing."""
+        """Ends the processes, after the queries that are being answered.
+
+        A second call does nothing.
+        """
         if not self._is_closed:
             self._is_closed = True
             for _ in range(self._processes):
@@ -223,7 +248,9 @@ class AsyncIndex:
 
     async def _text(self, line: str, is_json: bool, most: Optional[int]) -> bytes:
         async with self._serve() as serve:
-            return await serve.text(line.encode(errors="surrogateescape"), is_json, self._seconds, most)
+            return await serve.text(
+                line.encode(errors="surrogateescape"), is_json, self._seconds, most
+            )
 
     @contextlib.asynccontextmanager
     async def _serve(self) -> AsyncIterator[AsyncServe]:

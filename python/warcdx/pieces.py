@@ -13,10 +13,10 @@ _KEY_ROW = b',\n[],\n["'
 
 
 class Pieces:
-    """The queries for the pieces of a page, one after another, and what each reply adds to the page.
+    """The queries for the pieces of a page, and what each reply adds to the page.
 
-    The pieces joined are the page that `warcdx query` writes for the query. Each is a page with a limit
-    and a resume key, so other queries can be answered between two of them. The first one has
+    The pieces joined are the page that `warcdx query` writes for the query. Each is a page with a
+    limit and a resume key, so other queries can be answered between two of them. The first one has
     `size` captures, and the others so many that they have about TARGET bytes.
     """
 
@@ -32,7 +32,9 @@ class Pieces:
         # A query that is refused for one of these parameters is asked as it is.
         has_limit = self._query.take("limit")[0] is not None
         flag = self._query.take("showResumeKey")[0]
-        self._is_refused = has_limit and self._left is None or flag is not None and flag not in ("true", "false")
+        self._is_refused = (
+            has_limit and self._left is None or flag is not None and flag not in ("true", "false")
+        )
 
     def next_query(self) -> Optional[str]:
         """Returns the query for the next piece, or None after the last one."""
@@ -40,7 +42,9 @@ class Pieces:
             return None
         if self._is_refused:
             return self._text
-        return str(self._query.with_value("limit", str(self._count())).with_value("showResumeKey", "true"))
+        return str(
+            self._query.with_value("limit", str(self._count())).with_value("showResumeKey", "true")
+        )
 
     def add(self, page: bytes) -> bytes:
         """Returns what the reply to the query adds to the page, which may be nothing."""
@@ -62,7 +66,10 @@ class Pieces:
         return piece
 
     def shrink(self) -> bool:
-        """Makes the next piece shorter, as its reply is too long. Returns whether it can be shorter."""
+        """Makes the next piece shorter, as its reply is too long.
+
+        Returns whether it can be shorter.
+        """
         can_shrink = self._count() > 1
         self._size = max(1, self._count() // 8)
         return can_shrink
@@ -71,10 +78,15 @@ class Pieces:
         return self._size if self._left is None else min(self._size, self._left)
 
     def _can_end_at(self, key: bytes) -> bool:
-        """Returns whether the next query isn't too long with this key. If it is, the piece is made longer."""
+        """Returns whether the next query isn't too long with this key.
+
+        If it is, the piece is made longer.
+        """
         if self._left is not None and self._left <= self._size or self._size == MOST_LIMIT:
             return True
-        asked = self._query.with_value("resumeKey", key.decode()).with_value("limit", str(MOST_LIMIT))
+        asked = self._query.with_value("resumeKey", key.decode()).with_value(
+            "limit", str(MOST_LIMIT)
+        )
         if len(asked.with_value("showResumeKey", "true").encoded()) <= MOST_TEXT:
             return True
         self._size = min(2 * self._size, MOST_LIMIT)

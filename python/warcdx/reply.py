@@ -7,8 +7,8 @@ from .errors import Refused, fault, refused
 
 # The end of the reply to a query for `output=json`.
 MARK = b".\n"
-# The end of the reply to a query and an empty line, which is refused. No page has these three lines: one
-# with a line `.` has no spaces.
+# The end of the reply to a query and an empty line, which is refused. No page has these three
+# lines: one with a line `.` has no spaces.
 END = b".\nrefused NoUrl\n.\n"
 # A query with this condition selects nothing, and is refused if the query without it is.
 NOTHING = b"&hasnot=urlkey:"
@@ -23,13 +23,17 @@ Bytes = Union[bytes, bytearray]
 def is_whole(reply: Bytes, end: bytes) -> bool:
     """Returns whether the last lines of a reply are those of its end.
 
-    The program writes nothing after them before the next query, so only the last lines are looked at.
+    The program writes nothing after them before the next query, so only the last lines are looked
+    at.
     """
     return reply.endswith(end) and (len(reply) == len(end) or reply[-len(end) - 1] == ord("\n"))
 
 
 def rows_of(reply: bytes, indexes: tuple[str, ...]) -> list[list[str]]:
-    """Returns the rows of a page, from the reply to a query for `output=json`. The first one has the names."""
+    """Returns the rows of a page, from the reply to a query for `output=json`.
+
+    The first one has the names.
+    """
     if not reply.startswith(b"["):
         found = refusal_of(reply)
         if found is not None:
@@ -51,7 +55,10 @@ def text_of(reply: bytes, is_json: bool, indexes: tuple[str, ...]) -> bytes:
 
 
 def refusal_of(reply: bytes) -> Optional[Refused]:
-    """Returns the refusal that a reply reads like, or None. A page of two fields may read like one."""
+    """Returns the refusal that a reply reads like, or None.
+
+    A page of two fields may read like one.
+    """
     found = _REFUSED.fullmatch(reply)
     return refused(found[1].decode()) if found else None
 
