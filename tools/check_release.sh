@@ -48,7 +48,7 @@ library_versions() {
 
 other_modes() { # FOLDER: files of other modes than 644, programs and folders of others than 755
     find "$1" ! -type l ! -perm 755 ! \( -type f -perm 644 \) -printf '%m %P\n'
-    find "$1" -type f -perm 755 ! -name warcdx ! -name warcdx-gz ! -name '*.py' -printf '%m %P\n'
+    find "$1" -type f -perm 755 ! -name warcdx ! -name warcdx-gz ! -name warcdx-gateway ! -name '*.py' -printf '%m %P\n'
 }
 
 other_owners() { # on standard input, as `tar --verbose` prints the files
@@ -96,7 +96,10 @@ share/doc/warcdx/LICENSE:LICENSE
 share/doc/warcdx/README.md:README.md
 share/doc/warcdx/docs/COMMANDS.md:docs/COMMANDS.md
 share/doc/warcdx/samples/wget.warc:samples/wget.warc
-share/doc/warcdx/examples/http_server.py:examples/http_server.py
+bin/warcdx-gateway:gateway/bin/warcdx-gateway
+share/man/man1/warcdx-gateway.1:docs/warcdx-gateway.1
+share/doc/warcdx/gateway/service/warcdx-gateway.service:gateway/service/warcdx-gateway.service
+share/doc/warcdx/gateway/warcdx_gateway/server.py:gateway/warcdx_gateway/server.py
 share/doc/warcdx/python/VERSION:VERSION
 share/doc/warcdx/python/warcdx/index.py:python/warcdx/index.py
 END
@@ -134,15 +137,19 @@ wanted_package_differences() {
     cat << 'END'
 Only in debian/usr/share/doc/warcdx: changelog.gz
 Only in debian/usr/share/doc/warcdx: copyright
+Only in debian/usr/share/man/man1: warcdx-gateway.1.gz
 Only in debian/usr/share/man/man1: warcdx-gz.1.gz
 Only in debian/usr/share/man/man1: warcdx.1.gz
 Only in debian/usr/share/zsh: vendor-completions
 Only in debian/usr: lib
+Only in tar/share/doc/warcdx/gateway/service: warcdx-gateway.service
+Only in tar/share/doc/warcdx/gateway: warcdx_gateway
 Only in tar/share/doc/warcdx/python: LICENSE
 Only in tar/share/doc/warcdx/python: VERSION
 Only in tar/share/doc/warcdx/python: pyproject.toml
 Only in tar/share/doc/warcdx/python: warcdx
 Only in tar/share/doc/warcdx: SHA256SUMS
+Only in tar/share/man/man1: warcdx-gateway.1
 Only in tar/share/man/man1: warcdx-gz.1
 Only in tar/share/man/man1: warcdx.1
 Only in tar/share/zsh: site-functions
@@ -157,6 +164,8 @@ check_debian_package() {
     expect "package: owners" "" "$(dpkg-deb --contents "$package" | other_owners)"
     expect "package: files" "$(wanted_package_differences)" "$(package_differences)"
     expect "package: Python package" "" "$(diff --recursive "$doc/python/warcdx" "$debian/usr/lib/python3/dist-packages/warcdx" 2>&1)"
+    expect "package: gateway" "" "$(diff --recursive "$doc/gateway/warcdx_gateway" "$debian/usr/lib/python3/dist-packages/warcdx_gateway" 2>&1)"
+    expect "package: unit of systemd" "" "$(diff "$root/gateway/service/warcdx-gateway.service" "$debian/lib/systemd/system/warcdx-gateway.service" 2>&1)"
     expect "package: version of the Python package" "$version" "$(PYTHONPATH=$debian/usr/lib/python3/dist-packages PYTHONDONTWRITEBYTECODE=1 \
         /usr/bin/python3 -c 'import importlib.metadata; print(importlib.metadata.version("warcdx"))')"
     expect "package: manual page" "" "$(zcat "$debian/usr/share/man/man1/warcdx.1.gz" | diff "$root/docs/warcdx.1" - 2>&1)"

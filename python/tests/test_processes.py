@@ -59,28 +59,28 @@ class Programs(Case):
         self.assertEqual("x" * 200_000, self.raises(ProgramEnded, index.count, ALL).said)
 
     def test_an_interrupted_reply_is_not_in_the_next(self) -> None:
-        index = self.open(self.put(lines(3)))
-        self.assertEqual(3, index.count(ALL))
+        index = self.open(self.put(lines(3000)))
+        self.assertEqual(3000, index.count(ALL))
         serve: Any = index._idle.queue[0]
 
         class Failing:
-            """An output whose second line can't be read, as if there were no memory for it."""
+            """An output whose second piece can't be read, as if there were no memory for it."""
 
             def __init__(self, output: Any) -> None:
-                self.output, self.lines = output, 0
+                self.output, self.pieces = output, 0
 
-            def readline(self) -> bytes:
-                self.lines += 1
-                if self.lines == 2:
+            def fileno(self) -> int:
+                self.pieces += 1
+                if self.pieces == 2:
                     raise KeyboardInterrupt
-                return bytes(self.output.readline())
+                return int(self.output.fileno())
 
             def close(self) -> None:
                 self.output.close()
 
         serve._process.stdout = Failing(serve._process.stdout)
-        self.raises(KeyboardInterrupt, index.count, ALL)
-        self.assertEqual([0, 1, 2], [capture.offset for capture in index.captures(ALL)])
+        self.raises(KeyboardInterrupt, index.text, ALL)
+        self.assertEqual(list(range(3000)), [capture.offset for capture in index.captures(ALL)])
 
     def test_a_closed_index_is_refused(self) -> None:
         with Index(self.put(lines(3)), program=PROGRAM) as index:

@@ -1,7 +1,17 @@
 """Queries over the indexes of web archives, and their records, by the program `warcdx`."""
 from . import faults, refusals
 from .archive import Archive, Listed, Verified
-from .errors import Error, Fault, ProgramEnded, ProgramError, ProgramMissing, ProgramTooOld, Refused
+from .errors import (
+    Error,
+    Fault,
+    ProgramEnded,
+    ProgramError,
+    ProgramMissing,
+    ProgramTooOld,
+    Refused,
+    ReplyTooLate,
+    ReplyTooLong,
+)
 from .index import Index
 from .query import FIELDS, Capture, Page
 from .record import Record, Unreadable, payload
@@ -21,6 +31,8 @@ __all__ = [
     "ProgramTooOld",
     "Record",
     "Refused",
+    "ReplyTooLate",
+    "ReplyTooLong",
     "Unreadable",
     "Verified",
     "faults",

@@ -36,6 +36,14 @@ class ProgramEnded(ProgramError):
         return f"warcdx has ended with {how}" + (f": {self.said.strip()}" if self.said else "")
 
 
+class ReplyTooLate(ProgramError):
+    """The program was ended because its reply took too long."""
+
+
+class ReplyTooLong(ProgramError):
+    """The program was ended because its reply has too many bytes."""
+
+
 class Refused(Error):
     """A query is refused. The classes of the module `refusals` are named as the program names the causes."""
 

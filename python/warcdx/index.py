@@ -6,8 +6,9 @@ from collections.abc import Iterator, Sequence
 from types import TracebackType
 from typing import Optional, Union
 
+from .pieces import Pieces
 from .program import Path, find_program, operand
-from .query import FIELDS, Capture, Page, Query, Value, one_line
+from .query import FIELDS, Capture, Page, Query, Value, one_line, rows_query, split_rows
 from .serve import Serve
 
 PAGE_SIZE = 5000  # captures that an iterator holds at a time
@@ -98,6 +99,19 @@ class Index:
         with self._serve() as serve:
             return serve.text(line.encode(errors="surrogateescape"), is_json)
 
+    def pieces(self, query: str) -> Iterator[bytes]:
+        """Yields a page as `warcdx query` writes it, in pieces of some hundred kilobytes.
+
+        Other queries are answered between two pieces, however slowly they are taken.
+        """
+        pieces = Pieces(query)
+        while (asked := pieces.next_query()) is not None:
+            with self._serve() as serve:
+                page = serve.text(asked.encode(errors="surrogateescape"), pieces.is_json)
+            piece = pieces.add(page)
+            if piece:
+                yield piece
+
     def close(self) -> None:
         """Ends the processes, after the queries that are being answered. A second call does nothing."""
         if not self._is_closed:
@@ -117,16 +131,8 @@ class Index:
 
     def _page(self, query: Query, fields: Sequence[str], size: Optional[int]) -> tuple[list[list[str]], Optional[str]]:
         """Returns the rows of a page of at most `size` captures, and the resume key of the next."""
-        asked = query.with_parameters(output="json", fl=",".join(fields), showResumeKey=True)
-        if size is not None:
-            asked = asked.with_parameters(limit=size)
         with self._serve() as serve:
-            rows = serve.rows(str(asked).encode(errors="surrogateescape"))
-        key = None
-        if len(rows) > 2 and not rows[-2]:
-            key = rows.pop()[0]
-            rows.pop()
-        return rows[1:], key
+            return split_rows(serve.rows(rows_query(query, fields, size).encoded()))
 
     @contextlib.contextmanager
     def _serve(self) -> Iterator[Serve]:

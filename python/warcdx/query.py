@@ -80,11 +80,35 @@ class Query:
             return None, self
         return int(digits), rest
 
+    def with_value(self, name: str, value: str) -> "Query":
+        """Returns the query with this value, which is encoded, in the place of the parameter or at the end."""
+        piece = f"{name}={value}"
+        for number, each in enumerate(self.pieces):
+            if unquote_plus(each.partition("=")[0]) == name:
+                return Query((*self.pieces[:number], piece, *self.pieces[number + 1 :]))
+        return Query((*self.pieces, piece))
+
     def with_parameters(self, **parameters: Value) -> "Query":
         return Query((*self.pieces, *Query.of(None, parameters).pieces))
 
+    def encoded(self) -> bytes:
+        return str(self).encode(errors="surrogateescape")
+
     def __str__(self) -> str:
         return "&".join(self.pieces)
+
+
+def rows_query(query: Query, fields: Sequence[str], size: Optional[int]) -> Query:
+    """Returns the query for the rows of a page of at most `size` captures, with the resume key of the next."""
+    asked = query.with_parameters(output="json", fl=",".join(fields), showResumeKey=True)
+    return asked if size is None else asked.with_parameters(limit=size)
+
+
+def split_rows(rows: list[list[str]]) -> tuple[list[list[str]], Optional[str]]:
+    """Returns the captures of the rows of a page, and the resume key of the next page."""
+    if len(rows) > 2 and not rows[-2]:
+        return rows[1:-2], rows[-1][0]
+    return rows[1:], None
 
 
 def one_line(text: str) -> str:

@@ -27,7 +27,7 @@ from program import ROOT, Report, add_program, find_program, parser_of
 PAGES = ("docs/COMMANDS.md", "docs/QUERY.md", "examples/README.md")
 BLOCK = re.compile(r"(?:^    .*\n|^\n(?=(?:\n)*    ))+", re.MULTILINE)
 COMMAND = re.compile(r"^\$ (.*)\n((?:(?!\$ ).*\n)*)", re.MULTILINE)
-NOT_RUN = ("http_server.py", "socat", "surt_keys.py")
+NOT_RUN = ("socat", "surt_keys.py")
 MARK = "-- end of command"
 
 

@@ -19,6 +19,9 @@ move_to_debian_places() { # PREFIX
     ln --symbolic --force ../../common-licenses/Apache-2.0 "$documents/LICENSE"
     cp "$root/tools/debian/copyright" "$documents/copyright"
     move_python_package "$documents/python" "$1/lib/python3/dist-packages"
+    mv "$documents/gateway/warcdx_gateway" "$1/lib/python3/dist-packages"
+    mkdir --parents "${1%/usr}/lib/systemd/system"
+    mv "$documents/gateway/service/warcdx-gateway.service" "${1%/usr}/lib/systemd/system"
     print_changelog | gzip --no-name -9 > "$documents/changelog.gz"
 }
 
@@ -33,7 +36,7 @@ move_python_package() {
 put_metadata() { # FOLDER
     mkdir "$1/DEBIAN"
     install --mode=755 "$root"/tools/debian/{postinst,prerm} "$1/DEBIAN"
-    (cd "$1" && find usr -type f -print0 | LC_ALL=C sort --zero-terminated | xargs -0 md5sum) > "$1/DEBIAN/md5sums"
+    (cd "$1" && find usr lib -type f -print0 | LC_ALL=C sort --zero-terminated | xargs -0 md5sum) > "$1/DEBIAN/md5sums"
     print_control "$1" > "$1/DEBIAN/control"
 }
 
@@ -55,7 +58,7 @@ Architecture: amd64
 Maintainer: $(maintainer)
 Installed-Size: $(installed_size "$1")
 Depends: libc6 (>= $(c_library_version "$1/usr/bin/warcdx"))
-Suggests: python3 (>= 3.9), python3-matplotlib
+Suggests: python3 (>= 3.9), python3-aiohttp, python3-matplotlib, python3-regex
 Section: web
 Priority: optional
 Description: indexer of web archives, with queries over the indexes
@@ -66,7 +69,8 @@ Description: indexer of web archives, with queries over the indexes
  makes, merges and checks indexes, and answers queries in the manner of the
  Wayback CDX Server API, page by page. It fetches records from their offsets.
  The command warcdx-gz does the same for compressed archives, and a Python
- package from programs.
+ package from programs. The command warcdx-gateway is an HTTP server for the
+ clients of Wayback CDX servers; it needs python3-aiohttp and python3-regex.
 END
 }
 
@@ -75,7 +79,7 @@ maintainer() { # whose commit it is
 }
 
 installed_size() { # FOLDER: in kB, as dpkg-gencontrol counts, whatever the file system
-    find "$1/usr" -printf '%y %s\n' | awk '{ size += $1 == "f" ? int(($2 + 1023) / 1024) : 1 } END { print size }'
+    find "$1/usr" "$1/lib" -printf '%y %s\n' | awk '{ size += $1 == "f" ? int(($2 + 1023) / 1024) : 1 } END { print size }'
 }
 
 c_library_version() { # PROGRAM: the latest version of the C library of which it needs a symbol

@@ -1,0 +1,360 @@
+"""What the tests share.
+
+They run the program that the variable WARCDX names, or else `warcdx` of the PATH.
+"""
+import contextlib
+import gzip
+import json
+import os
+import pathlib
+import shutil
+import signal
+import socket
+import subprocess
+import sys
+import tempfile
+import time
+import unittest
+from collections.abc import Iterator, Mapping
+from typing import Any, NamedTuple, Optional
+
+ROOT = pathlib.Path(__file__).resolve().parents[2]
+sys.path[:0] = [str(ROOT / "gateway"), str(ROOT / "python")]
+
+PROGRAM = os.path.abspath(shutil.which(os.environ.get("WARCDX", "warcdx")) or "warcdx")
+COMMAND = ROOT / "gateway/bin/warcdx-gateway"
+WAIT = 30  # seconds for what takes a few milliseconds
+LINE = (
+    '%s %s {"url": "%s", "mime": "%s", "status": "%s", "digest": "%s", "length": "%d", "offset": "%d", '
+    '"filename": "%s"}\n'
+)
+CAPTURES = (
+    (
+        "com,example)/",
+        "20140101000000",
+        "http://example.com/",
+        "text/html",
+        "200",
+        "AAAA",
+        1000,
+        0,
+        "a.warc",
+    ),
+    (
+        "com,example)/",
+        "20150101000000",
+        "http://example.com/",
+        "text/html",
+        "200",
+        "AAAA",
+        1001,
+        1000,
+        "a.warc",
+    ),
+    (
+        "com,example)/",
+        "20160101000000",
+        "http://example.com/",
+        "warc/revisit",
+        "-",
+        "AAAA",
+        500,
+        2001,
+        "a.warc",
+    ),
+    (
+        "com,example)/",
+        "20160601000000",
+        "http://example.com/",
+        "text/html",
+        "404",
+        "BBBB",
+        700,
+        2501,
+        "a.warc",
+    ),
+    (
+        "com,example)/",
+        "20170101000000",
+        "https://example.com/",
+        "text/html",
+        "200",
+        "CCCC",
+        1100,
+        0,
+        "b.warc",
+    ),
+    (
+        "com,example)/a",
+        "20150101000000",
+        "http://example.com/a",
+        "text/plain",
+        "503",
+        "DDDD",
+        300,
+        1100,
+        "b.warc",
+    ),
+    (
+        "com,example)/b.png",
+        "20150101000000",
+        "http://example.com/b.png",
+        "image/png",
+        "200",
+        "EEEE",
+        400,
+        1400,
+        "b.warc",
+    ),
+    (
+        "com,example,sub)/",
+        "20160101000000",
+        "http://sub.example.com/",
+        "text/html",
+        "200",
+        "AAAA",
+        1000,
+        1800,
+        "b.warc",
+    ),
+    (
+        "org,example)/",
+        "20200101000000",
+        "http://example.org/",
+        "text/html",
+        "301",
+        "FFFF",
+        300,
+        2800,
+        "b.warc",
+    ),
+)
+SAMPLE = "".join(LINE % capture for capture in CAPTURES)
+
+
+def lines(count: int, status: int = 200, size: int = 0) -> str:
+    """Returns an index of so many captures, each of another page and with a URL that is longer by
+    `size`.
+    """
+    return "".join(
+        LINE
+        % (
+            f"com,example)/{n:07}",
+            "20160101000000",
+            f"http://example.com/{n:07}{'x' * size}",
+            "text/html",
+            str(status),
+            f"D{n}",
+            n + 1,
+            n,
+            "a.warc",
+        )
+        for n in range(count)
+    )
+
+
+class Response(NamedTuple):
+    """A response: its status, its fields with their names in lower case, and its body without
+    chunks.
+    """
+
+    status: int
+    fields: dict[str, str]
+    body: bytes
+
+    @property
+    def text(self) -> str:
+        is_compressed = self.fields.get("content-encoding") == "gzip"
+        return (gzip.decompress(self.body) if is_compressed else self.body).decode()
+
+
+class Client:
+    """A plain socket that sends literal requests, one after another on one connection."""
+
+    def __init__(self, address: tuple[str, int], timeout: float = WAIT) -> None:
+        self.socket = socket.create_connection(address, timeout=timeout)
+        self.input = self.socket.makefile("rb")
+
+    def send(self, request: bytes) -> None:
+        self.socket.sendall(request)
+
+    def response(self, is_head: bool = False) -> Response:
+        """Returns the next response. Raises EOFError if the connection ends before it is whole."""
+        status = self._line().split(b" ", 2)
+        fields: dict[str, str] = {}
+        while line := self._line():
+            name, _, value = line.decode("latin-1").partition(":")
+            fields[name.lower()] = value.strip()
+        body = b"" if is_head or int(status[1]) in (204, 304) else self._body(fields)
+        return Response(int(status[1]), fields, body)
+
+    def ask(self, target: str, method: str = "GET", **fields: str) -> Response:
+        head = "".join(f"{name.replace('_', '-')}: {value}\r\n" for name, value in fields.items())
+        self.send(f"{method} {target} HTTP/1.1\r\nHost: localhost\r\n{head}\r\n".encode())
+        return self.response(method == "HEAD")
+
+    def close(self) -> None:
+        self.input.close()
+        self.socket.close()
+
+    def _line(self) -> bytes:
+        line = self.input.readline()
+        if not line.endswith(b"\n"):
+            raise EOFError
+        return line.rstrip(b"\r\n")
+
+    def _body(self, fields: Mapping[str, str]) -> bytes:
+        if "content-length" in fields:
+            return self._bytes(int(fields["content-length"]))
+        if fields.get("transfer-encoding") != "chunked":
+            return self.input.read()
+        body = b""
+        while size := int(self._line(), 16):
+            body += self._bytes(size)
+            self._line()
+        self._line()
+        return body
+
+    def _bytes(self, size: int) -> bytes:
+        found = self.input.read(size)
+        if len(found) < size:
+            raise EOFError
+        return found
+
+
+class Server:
+    """A gateway that runs."""
+
+    def __init__(self, process: "subprocess.Popen[str]", said: pathlib.Path) -> None:
+        assert process.stdout is not None
+        self.process = process
+        self.said = said
+        self.url = process.stdout.readline().strip().rstrip("/")
+        host, _, port = self.url.removeprefix("http://").rpartition(":")
+        self.address = (host.strip("[]"), int(port) if port else 0)
+
+    def ask(self, target: str, method: str = "GET", **fields: str) -> Response:
+        with contextlib.closing(Client(self.address)) as client:
+            return client.ask(target, method, **fields)
+
+    def metric(self, name: str) -> float:
+        """Returns the sum of a metric over its labels."""
+        found = self.ask("/metrics").text.splitlines()
+        return sum(
+            float(line.rpartition(" ")[2])
+            for line in found
+            if line.startswith(f"warcdx_gateway_{name}")
+        )
+
+    def memory(self) -> int:
+        """Returns the resident memory of the gateway in bytes."""
+        status = pathlib.Path(f"/proc/{self.process.pid}/status").read_text()
+        return int(status.partition("VmRSS:")[2].split()[0]) * 1024
+
+    def programs(self) -> list[int]:
+        """Returns the process IDs of the runs of the program."""
+        found = pathlib.Path(
+            f"/proc/{self.process.pid}/task/{self.process.pid}/children"
+        ).read_text()
+        return list(map(int, found.split()))
+
+    def end(self) -> int:
+        if self.process.poll() is None:
+            self.process.send_signal(signal.SIGTERM)
+        try:
+            return self.process.wait(WAIT)
+        finally:
+            self.process.kill()
+            if self.process.stdout is not None:
+                self.process.stdout.close()
+
+
+class Case(unittest.TestCase):
+    """A test with a temporary folder."""
+
+    def setUp(self) -> None:
+        folder = tempfile.TemporaryDirectory()
+        self.addCleanup(folder.cleanup)
+        self.folder = pathlib.Path(folder.name)
+
+    def put(self, text: str, name: str = "index") -> pathlib.Path:
+        path = self.folder / name
+        path.write_text(text)
+        return path
+
+    def start(self, settings: Optional[str] = None, **limits: int) -> Server:
+        """Starts a gateway over the file `index`, or with these settings."""
+        if settings is None:
+            settings = '[collections.main]\nindexes = ["index"]\n'
+        table = "".join(f"{name} = {value}\n" for name, value in limits.items())
+        path = self.put(
+            f'port = 0\nprogram = "{PROGRAM}"\n{settings}[limits]\n{table}', "settings.toml"
+        )
+        return self.run_command(str(path))
+
+    def run_command(self, *arguments: str) -> Server:
+        said = self.folder / "said"
+        with open(said, "ab") as file:
+            process = subprocess.Popen(
+                ("/usr/bin/python3", COMMAND, *arguments),
+                stdout=subprocess.PIPE,
+                stderr=file,
+                text=True,
+            )
+        server = Server(process, said)
+        self.addCleanup(server.end)
+        return server
+
+    def page(self, query: str, *indexes: pathlib.Path) -> bytes:
+        """Returns what `warcdx query` writes."""
+        command = (PROGRAM, "query", query, *(indexes or (self.folder / "index",)))
+        return subprocess.run(command, stdout=subprocess.PIPE, check=True).stdout
+
+    def wait_for(self, condition: Any, what: str) -> None:
+        end = time.monotonic() + WAIT
+        while not condition():
+            self.assertLess(time.monotonic(), end, what)
+            time.sleep(0.02)
+
+
+class Shared(Case):
+    """Tests that share one gateway over the sample."""
+
+    server: Server
+    captures = SAMPLE
+
+    @classmethod
+    def setUpClass(cls) -> None:
+        folder = tempfile.TemporaryDirectory()
+        cls.addClassCleanup(folder.cleanup)
+        case = cls()
+        case.folder = pathlib.Path(folder.name)
+        case.put(cls.captures)
+        cls.shared = case.folder
+        cls.server = case.start()
+        cls.addClassCleanup(case.doCleanups)
+
+    def setUp(self) -> None:
+        self.folder = self.shared
+
+    def lines(self, target: str, **fields: str) -> list[str]:
+        """Returns the lines of an answer, which has status 200."""
+        found = self.server.ask(target, **fields)
+        self.assertEqual(200, found.status, found.body)
+        return found.text.splitlines()
+
+    def rows(self, target: str) -> list[list[str]]:
+        found = self.server.ask(target)
+        self.assertEqual(200, found.status, found.body)
+        return list(json.loads(found.body))
+
+    def refused(self, target: str) -> str:
+        found = self.server.ask(target)
+        self.assertEqual(400, found.status, found.body)
+        return found.text.rstrip("\n")
+
+
+@contextlib.contextmanager
+def connected(server: Server) -> Iterator[Client]:
+    with contextlib.closing(Client(server.address)) as client:
+        yield client

@@ -1,0 +1,305 @@
+"""HTTP: keep-alive, HEAD, OPTIONS, CORS, tags, compression, limits, health and metrics."""
+import gzip
+import json
+import pathlib
+import subprocess
+import unittest
+
+from .support import PROGRAM, ROOT, SAMPLE, Case, Client, Shared, connected, lines
+
+
+class Http(Shared):
+    def test_a_connection_is_kept(self) -> None:
+        with connected(self.server) as client:
+            for target in ("/cdx?url=example.com/a", "/cdx?url=a&x=1", "/cdx?url=example.com/a"):
+                client.ask(target)
+            for target in ("/nosuch", "/nosuch/cdx", "/health"):
+                self.assertEqual(404 if "nosuch" in target else 200, client.ask(target).status)
+            client.send(b"GET /cdx?url=example.com/a&fl=length HTTP/1.1\r\nHost: a\r\n\r\n" * 3)
+            self.assertEqual([b"300\n"] * 3, [client.response().body for _ in range(3)])
+
+    def test_http_1_0_is_answered(self) -> None:
+        with connected(self.server) as client:
+            client.send(b"GET /cdx?url=example.com/a&fl=length HTTP/1.0\r\n\r\n")
+            self.assertEqual((200, b"300\n"), client.response()[::2])
+            self.assertEqual(b"", client.input.read())
+
+    def test_head_has_the_fields_of_get(self) -> None:
+        with connected(self.server) as client:
+            for target in (
+                "/cdx?url=example.com",
+                "/cdx?url=example.com&filter=statuscode:2..",
+                "/cdx?url=a&x=1",
+            ):
+                found, wanted = client.ask(target, "HEAD"), client.ask(target)
+                self.assertEqual({**wanted.fields, "date": ""}, {**found.fields, "date": ""})
+                self.assertEqual(wanted.status, found.status)
+
+    def test_pages_of_other_origins_may_read_answers(self) -> None:
+        for target in ("/cdx?url=example.com", "/cdx?url=a&x=1", "/main/index?url=example.com"):
+            found = self.server.ask(target, Origin="https://example.net")
+            self.assertEqual("*", found.fields["access-control-allow-origin"])
+            self.assertEqual("nosniff", found.fields["x-content-type-options"])
+        found = self.server.ask(
+            "/cdx", "OPTIONS", Origin="https://example.net", Access_Control_Request_Method="GET"
+        )
+        self.assertEqual(
+            (204, "GET, HEAD, OPTIONS"),
+            (found.status, found.fields["access-control-allow-methods"]),
+        )
+        self.assertNotIn("access-control-allow-origin", self.server.ask("/metrics").fields)
+
+    def test_other_methods_are_refused(self) -> None:
+        for method in ("POST", "PUT", "DELETE", "TRACE"):
+            found = self.server.ask("/cdx?url=example.com", method)
+            self.assertEqual((405, "GET, HEAD, OPTIONS"), (found.status, found.fields["allow"]))
+
+    def test_an_answer_that_is_known_is_not_sent(self) -> None:
+        target = "/cdx?url=example.com"
+        first = self.server.ask(target)
+        tag, time = first.fields["etag"], first.fields["last-modified"]
+        for fields in (
+            {"If_None_Match": tag},
+            {"If_None_Match": f'"x", W/{tag}'},
+            {"If_None_Match": "*"},
+            {"If_Modified_Since": time},
+        ):
+            found = self.server.ask(target, **fields)
+            self.assertEqual((304, b"", tag), (found.status, found.body, found.fields["etag"]))
+        for fields in (
+            {"If_None_Match": '"x"'},
+            {"If_Modified_Since": "Mon, 01 Jan 2001 00:00:00 GMT"},
+            {"If_Modified_Since": "x"},
+        ):
+            self.assertEqual(first.body, self.server.ask(target, **fields).body)
+        self.assertEqual(400, self.server.ask("/cdx?url=a&x=1", If_None_Match=tag).status)
+
+    def test_answers_are_compressed_for_clients_that_say_so(self) -> None:
+        target = "/cdx?url=example.com&fl=urlkey,timestamp,original,mimetype,statuscode,digest,length,offset,filename,urlkey,original"
+        plain = self.server.ask(target)
+        self.assertGreater(len(plain.body), 500)
+        for accepted in ("gzip", "deflate, gzip;q=0.5", "*", "br,x-gzip"):
+            found = self.server.ask(target, Accept_Encoding=accepted)
+            self.assertEqual(
+                ("gzip", plain.body),
+                (found.fields["content-encoding"], gzip.decompress(found.body)),
+            )
+            self.assertNotEqual(plain.fields["etag"], found.fields["etag"])
+        for rest, accepted in (
+            ("", "gzip;q=0"),
+            ("", "identity"),
+            ("", "xgzip"),
+            ("&gzip=false", "gzip"),
+        ):
+            self.assertEqual(
+                plain.body, self.server.ask(target + rest, Accept_Encoding=accepted).body
+            )
+        self.assertEqual("Accept-Encoding", plain.fields["vary"])
+
+    def test_health_and_metrics(self) -> None:
+        self.assertEqual("ok\n", self.server.ask("/health").text)
+        before = self.server.metric("requests_total"), self.server.metric(
+            'refusals_total{cause="Unknown"}'
+        )
+        self.server.ask("/cdx?url=example.com")
+        self.server.ask("/cdx?url=example.com&x=1")
+        after = self.server.metric("requests_total"), self.server.metric(
+            'refusals_total{cause="Unknown"}'
+        )
+        self.assertEqual((4, 1), (after[0] - before[0], after[1] - before[1]))
+        self.assertGreater(self.server.metric("request_seconds_sum"), 0)
+
+    def test_bad_requests_are_refused(self) -> None:
+        for request, statuses in (
+            (b"GET /cdx?url=a b HTTP/1.1\r\n\r\n", (400,)),
+            (b"GET /cdx?url=\xff HTTP/1.1\r\nHost: a\r\n\r\n", (400,)),
+            (b"GET /cdx?url=" + b"a" * 65_000 + b" HTTP/1.1\r\nHost: a\r\n\r\n", (200,)),
+            (b"GET /cdx?url=" + b"a" * 65_530 + b" HTTP/1.1\r\nHost: a\r\n\r\n", (400,)),
+            (b"GET /cdx?url=" + b"a" * 80_000 + b" HTTP/1.1\r\nHost: a\r\n\r\n", (400, 414)),
+            (b"GET /cdx?url=a HTTP/1.1\r\nHost: a\r\nX: " + b"a" * 9000 + b"\r\n\r\n", (400, 431)),
+            (b"GET /cdx?url=a HTTP/1.1\r\nHost: a\r\n" + b"X: a\r\n" * 200 + b"\r\n", (400, 431)),
+            (b"GET /cdx?url=a HTTP/9.9\r\n\r\n", (200, 400)),
+            (b"\x16\x03\x01\x00\n\r\n", (400,)),
+        ):
+            with self.subTest(request[:30]), connected(self.server) as client:
+                client.send(request)
+                self.assertIn(client.response().status, statuses)
+        for nothing in (
+            b"",
+            b"\r\n\r\n",
+            b"\0" * 100_000,
+            b"GET /cdx HTTP/1.1\r\nX: " + b"a" * 200_000,
+        ):
+            with connected(self.server) as client:
+                try:
+                    client.send(nothing)
+                    client.socket.shutdown(1)
+                    client.input.read()
+                except ConnectionError:
+                    pass
+        self.assertEqual(b"300\n", self.server.ask("/cdx?url=example.com/a&fl=length").body)
+
+
+class Limits(Case):
+    def test_a_usual_and_a_largest_limit(self) -> None:
+        self.put(lines(100))
+        server = self.start(usual=10, largest=50, held=20)
+        self.assertEqual(10, len(server.ask("/cdx?url=example.com/*").text.splitlines()))
+        self.assertEqual(50, len(server.ask("/cdx?url=example.com/*&limit=50").text.splitlines()))
+        self.assertIn(
+            "limit=51: this server gives at most 50",
+            server.ask("/cdx?url=example.com/*&limit=51").text,
+        )
+        self.assertEqual(20, len(server.ask("/cdx?url=example.com/*&limit=-20").text.splitlines()))
+        self.assertIn(
+            "in this order it is at most 20", server.ask("/cdx?url=example.com/*&limit=-21").text
+        )
+
+    def test_what_would_hold_too_much_is_refused(self) -> None:
+        self.put(lines(100))
+        server = self.start(held=99)
+        for query, name in (("sort=reverse", "sort"), ("showDupeCount=true", "showDupeCount")):
+            found = server.ask(f"/cdx?url=example.com/*&{query}")
+            self.assertEqual(
+                (400, f"refused TooMany: {name}: without limit it is for at most 99 captures\n"),
+                (found.status, found.text),
+            )
+            found = server.ask(f"/cdx?url=example.com/*&{query}&limit=99")
+            self.assertEqual(99, len(found.text.splitlines()))
+
+    def test_pages_joined_are_the_answer(self) -> None:
+        index = self.put(lines(10_000))
+        server = self.start()
+        for rest in ("", "&filter=statuscode:2..", "&collapse=digest:2"):
+            target = f"/cdx?url=example.com/*&pageSize=1&fl=offset{rest}"
+            whole = server.ask(target).body
+            count = int(server.ask(f"{target}&showNumPages=true").body)
+            pages = [
+                server.ask(f"{target}&page={number}").body for number in (*range(count), count)
+            ]
+            self.assertEqual((whole, b""), (b"".join(pages), pages[-1]))
+            self.assertEqual(
+                [3000] * (count - 1), [len(page.splitlines()) for page in pages[: count - 1]]
+            )
+            backwards = [
+                server.ask(f"{target}&page={number}&filter=length:.*").body
+                for number in reversed(range(count))
+            ]
+            self.assertEqual(whole, b"".join(reversed(backwards)))
+        self.assertEqual(
+            self.page("url=example.com/*&fl=offset", index),
+            server.ask("/cdx?url=example.com/*&fl=offset").body,
+        )
+
+
+class Starts(Case):
+    """A server that can't start says so on one line."""
+
+    def fails(self, *arguments: str) -> str:
+        command = ("/usr/bin/python3", ROOT / "gateway/bin/warcdx-gateway", *arguments)
+        done = subprocess.run(command, stdout=subprocess.PIPE, stderr=subprocess.PIPE, text=True)
+        self.assertEqual(
+            (1, "", 1), (done.returncode, done.stdout, done.stderr.count("\n")), done.stderr
+        )
+        return done.stderr
+
+    def settings(self, text: str) -> str:
+        return str(self.put(text, "settings.toml"))
+
+    def test_what_is_missing_is_named(self) -> None:
+        index = str(self.put(SAMPLE))
+        nosuch = str(self.folder / "nosuch")
+        self.assertIn(nosuch, self.fails("--port", "0", "--program", PROGRAM, "--indexes", nosuch))
+        self.assertIn(nosuch, self.fails("--port", "0", "--program", nosuch, "--indexes", index))
+        self.assertIn(
+            nosuch,
+            self.fails(
+                "--port", "0", "--program", PROGRAM, "--indexes", index, "--archives", nosuch
+            ),
+        )
+        self.assertIn(nosuch, self.fails(nosuch))
+
+    def test_a_used_port_is_named(self) -> None:
+        server = self.run_command(
+            "--port", "0", "--program", PROGRAM, "--indexes", str(self.put(SAMPLE))
+        )
+        self.assertIn(
+            "in use",
+            self.fails(
+                "--port",
+                str(server.address[1]),
+                "--program",
+                PROGRAM,
+                "--indexes",
+                str(self.folder / "index"),
+            ),
+        )
+
+    def test_settings_are_checked(self) -> None:
+        good = '[collections.a]\nindexes = ["index"]\n'
+        for text, wanted in (
+            ("", "no collection"),
+            ("port = 1", "no collection"),
+            ("port = x", "Invalid value"),
+            (f"prt = 1\n{good}", "unknown setting 'prt'"),
+            (f'port = "1"\n{good}', "'port' has to be of type int"),
+            (f"port = 70000\n{good}", "'port' has to be from 0"),
+            (f'main = "b"\n{good}', "'main' is not the name of a collection"),
+            (f"exact = 0\n{good}", "'exact' has to be from 1 to 64"),
+            (f"{good}[limits]\nlargest = 0\n", "'limits.largest' has to be a number from 1"),
+            (f"{good}[limits]\nlargest = 5\n", "'limits.held' has to be at most limits.largest"),
+            (f"{good}[limits]\nx = 0\n", "unknown setting 'limits.x'"),
+            ('[collections.cdx]\nindexes = ["a"]', "'collections.cdx' can't be the name"),
+            ('[collections."a/b"]\nindexes = ["a"]', "can't be the name"),
+            ("[collections.a]\nindexes = []", "'collections.a.indexes' has to be 1 to 1024 paths"),
+            ('[collections.a]\nindexes = "a"', "'collections.a.indexes' has to be a list of texts"),
+            (
+                '[collections.a]\nindexes = ["a"]\nindex = 1',
+                "unknown setting 'collections.a.index'",
+            ),
+        ):
+            with self.subTest(text):
+                self.assertIn(wanted, self.fails(self.settings(text)))
+
+    def test_paths_are_relative_to_the_file(self) -> None:
+        self.put(SAMPLE)
+        server = self.start()
+        self.assertEqual(b"300\n", server.ask("/main/cdx?url=example.com/a&fl=length").body)
+        self.assertEqual("/main/cdx\tmain\n", server.ask("/").text)
+
+
+class Browsers(Case):
+    def test_a_page_of_another_origin_reads_json(self) -> None:
+        """By Chromium, if it is installed: a page from a file fetches an answer and shows it."""
+        import shutil
+
+        chromium = shutil.which("chromium")
+        if chromium is None:
+            self.skipTest("Debian's package chromium is missing")
+        self.put(SAMPLE)
+        server = self.start()
+        page = self.put(
+            f"<script>fetch('{server.url}/cdx?url=example.com/a&output=json').then(r => r.json())"
+            ".then(rows => document.title = document.body.innerText = rows[1].join('|'))</script><body></body>",
+            "page.html",
+        )
+        command = (
+            chromium,
+            "--headless",
+            "--no-sandbox",
+            "--disable-gpu",
+            "--virtual-time-budget=5000",
+            f"--user-data-dir={self.folder}/profile",
+            "--dump-dom",
+            page.as_uri(),
+        )
+        found = subprocess.run(
+            command, stdout=subprocess.PIPE, stderr=subprocess.DEVNULL, timeout=120
+        ).stdout.decode()
+        self.assertIn(
+            "com,example)/a|20150101000000|http://example.com/a|text/plain|503|DDDD|300", found
+        )
+
+
+if __name__ == "__main__":
+    unittest.main()

@@ -1,0 +1,132 @@
+"""Conditions on captures that the gateway checks itself: texts and regular expressions."""
+import time
+from collections.abc import Callable, Sequence
+from dataclasses import dataclass
+from enum import Enum
+from typing import Optional
+
+import regex
+
+from .refusal import Refusal
+from .row import PLACES, Row
+
+SPECIAL = frozenset("\\^$.|?*+()[]{}")  # characters that a literal text has not
+LONGEST = 1000  # characters of a regular expression
+LONGEST_VALUE = (
+    65_536  # characters that a regular expression is tried on; it may hold 200 bytes for each
+)
+MOST_COPIES = 200_000  # characters of a regular expression in which repeated parts are written out
+STEP = 1.0  # seconds for one match
+
+
+class Test(Enum):
+    """How the text of a condition is compared with a value."""
+
+    EQUALS = "equals"
+    CONTAINS = "contains"
+    MATCHES = "matches"  # a regular expression, the whole value
+    BEGINS = "begins"  # a regular expression, a front of the value
+
+
+@dataclass(frozen=True)
+class Condition:
+    """A condition on a field, by its name in the program."""
+
+    field: str
+    test: Test
+    text: str
+    is_negated: bool = False
+    parameter: str = "filter"
+
+
+class Conditions:
+    """Conditions that all have to hold.
+
+    `seconds` is the time for all regular expressions of a query.
+    """
+
+    def __init__(self, conditions: Sequence[Condition], seconds: float) -> None:
+        self._left = seconds
+        self._tests = [self._test_of(condition) for condition in conditions]
+        self.has_patterns = any(each.test in (Test.MATCHES, Test.BEGINS) for each in conditions)
+
+    def select(self, rows: list[Row]) -> list[Row]:
+        """Returns the rows for which all conditions hold. Raises Refusal if that takes too long."""
+        start = time.monotonic()
+        try:
+            return [row for row in rows if all(test(row) for test in self._tests)]
+        finally:
+            self._left -= time.monotonic() - start
+
+    def _test_of(self, condition: Condition) -> Callable[[Row], bool]:
+        place, text, is_negated = PLACES[condition.field], condition.text, condition.is_negated
+        if condition.test is Test.EQUALS:
+            return lambda row: (row[place] == text) is not is_negated
+        if condition.test is Test.CONTAINS:
+            return lambda row: (text in row[place]) is not is_negated
+        pattern = compiled(condition)
+        match = pattern.fullmatch if condition.test is Test.MATCHES else pattern.match
+
+        def holds(row: Row) -> bool:
+            if self._left <= 0:
+                raise too_slow(condition)
+            if len(row[place]) > LONGEST_VALUE:
+                cause = f"a value has more than {LONGEST_VALUE} characters"
+                raise Refusal("TooSlow", condition.parameter, cause, condition.text)
+            try:
+                found = match(row[place], timeout=min(STEP, self._left), concurrent=True)
+            except TimeoutError:
+                raise too_slow(condition) from None
+            return (found is not None) is not is_negated
+
+        return holds
+
+
+def is_literal(text: str) -> bool:
+    return SPECIAL.isdisjoint(text)
+
+
+def compiled(condition: Condition) -> "regex.Pattern[str]":
+    """Returns a regular expression. Raises Refusal."""
+    if len(condition.text) > LONGEST:
+        cause = f"a regular expression has at most {LONGEST} characters"
+        raise Refusal("BadFilter", condition.parameter, cause, condition.text)
+    if copies(condition.text) > MOST_COPIES:
+        raise Refusal(
+            "BadFilter",
+            condition.parameter,
+            "the regular expression repeats too much",
+            condition.text,
+        )
+    try:
+        return regex.compile(condition.text, regex.VERSION0)
+    except (
+        regex.error,
+        ValueError,
+        OverflowError,
+        RecursionError,
+        KeyError,
+        IndexError,
+        TypeError,
+    ) as error:
+        cause = f"the regular expression can't be read: {error}"
+        raise Refusal("BadFilter", condition.parameter, cause, condition.text) from error
+
+
+def copies(text: str) -> int:
+    """Returns at least how long an expression is in which `a{3}` is written as `aaa`, as it is
+    compiled.
+    """
+    count = len(text)
+    for braces in text.split("{")[1:]:
+        least = "".join(filter(str.isdigit, braces.partition("}")[0].partition(",")[0]))
+        if len(least) > 6:
+            return MOST_COPIES + 1
+        count *= max(int(least or "1"), 1)
+    return count
+
+
+def too_slow(condition: Condition) -> Refusal:
+    return Refusal(
+        "TooSlow", condition.parameter, "the regular expression takes too long", condition.text
+    )

@@ -1,0 +1,160 @@
+"""The values of single parameters: what each may be."""
+from collections.abc import Callable
+
+from warcdx import FIELDS
+
+from .conditions import Condition, Test, is_literal
+from .plan import Collapse, Form
+from .refusal import Refusal
+from .row import ORIGINALS
+
+PYWB_NAMES = {"url": "original", "mime": "mimetype", "status": "statuscode"}
+TESTS = {
+    "is": (Test.EQUALS, False),
+    "isnot": (Test.EQUALS, True),
+    "has": (Test.CONTAINS, False),
+    "hasnot": (Test.CONTAINS, True),
+}
+FLAGS = ("true", "false")
+OUTPUTS = ("text", "json", "cdxj")
+SORTS = ("default", "regular", "reverse", "closest")
+MOST_DIGITS = 7
+FIELD_LIST = ", ".join(FIELDS)
+
+
+def check_flag(name: str, value: str) -> None:
+    if value not in FLAGS:
+        raise Refusal("BadFlag", name, "it is true or false", value)
+
+
+def check_false(name: str, value: str) -> None:
+    if value != "false":
+        raise Refusal("Unknown", name, "this server counts no captures that are left out", value)
+
+
+def check_stamp(name: str, value: str) -> None:
+    if not (is_number(value) and len(value) <= 14):
+        raise Refusal("BadStamp", name, "it is 1 to 14 digits", value)
+
+
+def check_number(name: str, value: str) -> None:
+    if not (is_number(value) and len(value) <= MOST_DIGITS):
+        raise Refusal("BadPage", name, f"it is a number of at most {MOST_DIGITS} digits", value)
+
+
+def check_size(name: str, value: str) -> None:
+    check_number(name, value)
+    if int(value) == 0:
+        raise Refusal("BadPage", name, "it is 1 or more", value)
+
+
+def check_limit(name: str, value: str) -> None:
+    digits = value.removeprefix("-")
+    if not (is_number(digits) and len(digits) <= MOST_DIGITS and 1 <= int(digits) <= 1_000_000):
+        raise Refusal(
+            "BadLimit",
+            name,
+            "it is a number from 1 to 1,000,000, or such a number after a -",
+            value,
+        )
+
+
+def check_output(name: str, value: str) -> None:
+    if value not in OUTPUTS:
+        raise Refusal("BadOutput", name, "it is text, json or cdxj", value)
+
+
+def check_sort(name: str, value: str) -> None:
+    if value not in SORTS:
+        raise Refusal("BadSort", name, f"it is one of {', '.join(SORTS)}", value)
+
+
+def check_fields(name: str, value: str) -> None:
+    for field in value.split(","):
+        if PYWB_NAMES.get(field, field) not in (*FIELDS, "dupecount", *ORIGINALS):
+            raise Refusal(
+                "BadField",
+                name,
+                f"it is a list of fields, separated by commas: {FIELD_LIST}",
+                field or value,
+            )
+
+
+def check_nothing(name: str, value: str) -> None:
+    """The program checks the value."""
+
+
+# Parameters that may be given once. Those without a check of their own are checked by the program.
+SINGLE: dict[str, Callable[[str, str], None]] = {
+    "url": check_nothing,
+    "key": check_nothing,
+    "matchType": check_nothing,
+    "from": check_stamp,
+    "to": check_stamp,
+    "limit": check_limit,
+    "resumeKey": check_nothing,
+    "showResumeKey": check_flag,
+    "fl": check_fields,
+    "output": check_output,
+    "gzip": check_flag,
+    "page": check_number,
+    "pageSize": check_size,
+    "showNumPages": check_flag,
+    "fastLatest": check_flag,
+    "closest": check_stamp,
+    "sort": check_sort,
+    "reverse": check_flag,
+    "resolveRevisits": check_flag,
+    "showDupeCount": check_flag,
+    "showSkipCount": check_false,
+    "lastSkipTimestamp": check_false,
+}
+
+
+def filter_of(value: str, form: Form) -> Condition:
+    """Returns the condition of a `filter`.
+
+    After an optional `!` pywb has `=` for a text and `~` for a pattern.
+    """
+    is_negated = value.startswith("!")
+    text = value[is_negated:]
+    if text[:1] in ("=", "~"):
+        return condition_of(
+            text[1:], Test.EQUALS if text[0] == "=" else Test.BEGINS, is_negated, "filter"
+        )
+    if form is Form.PYWB:
+        return condition_of(text, Test.CONTAINS, is_negated, "filter")
+    found = condition_of(text, Test.MATCHES, is_negated, "filter")
+    return (
+        Condition(found.field, Test.EQUALS, found.text, is_negated)
+        if is_literal(found.text)
+        else found
+    )
+
+
+def condition_of(value: str, test: Test, is_negated: bool, parameter: str) -> Condition:
+    name, colon, text = value.partition(":")
+    field = PYWB_NAMES.get(name, name)
+    if not colon or field not in FIELDS:
+        raise Refusal(
+            "BadFilter", parameter, f"it is FIELD:TEXT, with one of the fields {FIELD_LIST}", value
+        )
+    return Condition(field, test, text, is_negated, parameter)
+
+
+def collapse_of(value: str) -> Collapse:
+    name, colon, digits = value.partition(":")
+    field = PYWB_NAMES.get(name, name)
+    is_count = is_number(digits) and len(digits) <= 4 and int(digits) > 0
+    if field not in FIELDS or (colon and not is_count):
+        raise Refusal(
+            "BadCollapse",
+            "collapse",
+            f"it is FIELD or FIELD:N, with one of the fields {FIELD_LIST}",
+            value,
+        )
+    return Collapse(field, int(digits) if colon else None)
+
+
+def is_number(text: str) -> bool:
+    return text.isascii() and text.isdigit()

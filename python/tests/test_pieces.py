@@ -1,0 +1,118 @@
+"""Pages that are read in pieces, against those of `warcdx query`."""
+import subprocess
+import unittest
+from typing import Optional
+
+from warcdx import Index, refusals
+from warcdx.pieces import Pieces
+
+from .support import ALL, LINE, PROGRAM, Case, lines
+
+OUTPUTS = ("text", "json", "cdxj")
+KEY = "com%2Cexample%29%2F0000450+20160101000000+a.warc+450"
+
+
+def in_pieces(index: Index, query: str, size: int) -> bytes:
+    """Returns a page whose first piece has so many captures, and each other one so many that its
+    size is the same.
+    """
+    pieces, found = Pieces(query, size=size), b""
+    while (asked := pieces.next_query()) is not None:
+        if piece := pieces.add(index.text(asked)):
+            found += piece
+            pieces._size = size
+    return found
+
+
+class PiecesOfPages(Case):
+    def page(self, query: str) -> bytes:
+        command = (PROGRAM, "query", query, self.folder / "index")
+        return subprocess.run(command, stdout=subprocess.PIPE, check=True).stdout
+
+    def test_the_pieces_are_the_page(self) -> None:
+        index = self.open(self.put(lines(500)))
+        for output in OUTPUTS:
+            for rest in (
+                "",
+                "&limit=1",
+                "&limit=300",
+                "&limit=500",
+                "&limit=501",
+                f"&resumeKey={KEY}",
+                "&collapse=timestamp",
+                "&has=offset:7",
+            ):
+                for shown in ("", "&showResumeKey=true", "&showResumeKey=false"):
+                    query = f"{ALL}&output={output}{rest}{shown}"
+                    with self.subTest(query):
+                        self.assertEqual(self.page(query), b"".join(index.pieces(query)))
+                        for size in (1, 7, 499, 500, 501):
+                            self.assertEqual(self.page(query), in_pieces(index, query, size))
+
+    def test_a_page_may_have_no_captures(self) -> None:
+        index = self.open(self.put(lines(5)))
+        for output in OUTPUTS:
+            query = f"url=example.org&output={output}&showResumeKey=true"
+            self.assertEqual(self.page(query), b"".join(index.pieces(query)))
+
+    def test_values_may_read_like_the_end_of_a_page(self) -> None:
+        values = ("[]", '\\",\\n[],\\n[\\"', "]", "-", "refused NoUrl", "fault BadLine 0 5", ".")
+        text = "".join(
+            LINE % (str(number), value, 1, number) for number, value in enumerate(values)
+        )
+        index = self.open(self.put(text.replace("http://example.com/", "")))
+        for output in OUTPUTS:
+            for fields in ("original", "original,mimetype", "urlkey,original,offset"):
+                query = f"{ALL}&output={output}&fl={fields}"
+                for size in (1, 2, 100):
+                    self.assertEqual(self.page(query), in_pieces(index, query, size))
+
+    def test_names_may_be_encoded(self) -> None:
+        index = self.open(self.put(lines(30)))
+        query = ALL + "&%6cimit=9&output=js%6Fn&showResumeKe%79=true&fl=offset"
+        self.assertEqual(self.page(query), in_pieces(index, query, 2))
+
+    def test_the_refusals_are_those_of_the_query(self) -> None:
+        index = self.open(self.put(lines(3)))
+        for rest, kind in (
+            ("limit=0", refusals.BadLimit),
+            ("limit=x&fl=y", refusals.BadLimit),
+            ("limit=5&limit=0", refusals.RepeatedParameter),
+            ("showResumeKey=yes", refusals.BadFlag),
+            ("showResumeKey=true&showResumeKey=true", refusals.RepeatedParameter),
+            ("resumeKey=x", refusals.BadResume),
+            ("output=xml", refusals.BadOutput),
+            ("page=1", refusals.Unknown),
+        ):
+            with self.subTest(rest):
+                self.raises(kind, list, index.pieces(f"{ALL}&{rest}"))
+
+    def test_a_key_may_be_too_long_for_a_query(self) -> None:
+        """Such a piece is made longer, so that it ends at another capture."""
+        names = [f"{number:04}" + "x" * (70_000 if 3 <= number < 9 else 1) for number in range(20)]
+        index = self.open(
+            self.put("".join(LINE % (name, "a", 1, number) for number, name in enumerate(names)))
+        )
+        for output in OUTPUTS:
+            query = f"{ALL}&output={output}&fl=offset"
+            for size in (1, 3, 4, 5):
+                self.assertEqual(self.page(query), in_pieces(index, query, size))
+
+    def test_pieces_grow_to_some_hundred_kilobytes(self) -> None:
+        index = self.open(self.put(lines(20_000)))
+        sizes = [len(piece) for piece in index.pieces(f"{ALL}&output=cdxj")]
+        self.assertLess(max(sizes), 300_000)
+        self.assertLess(len(sizes), 25)
+
+    def test_a_piece_is_shrunk_to_one_capture(self) -> None:
+        pieces = Pieces("url=a", size=20)
+        asked: list[Optional[str]] = []
+        while pieces.shrink():
+            asked.append(pieces.next_query())
+        self.assertEqual(
+            ["url=a&limit=2&showResumeKey=true", "url=a&limit=1&showResumeKey=true"], asked
+        )
+
+
+if __name__ == "__main__":
+    unittest.main()

@@ -1,0 +1,121 @@
+"""One page that is read in pieces, each of which is a page of the program."""
+from typing import Optional
+from urllib.parse import unquote_plus
+
+from .query import Query, one_line
+
+FIRST = 200  # captures of the first piece
+TARGET = 1 << 18  # bytes that the other pieces are to have
+MOST = 10_000  # captures of a piece, unless its resume key would be too long for a query
+MOST_LIMIT = 1_000_000  # the largest limit of the program
+MOST_TEXT = 65_536  # bytes of a query text
+_KEY_ROW = b',\n[],\n["'
+
+
+class Pieces:
+    """The queries for the pieces of a page, and what each reply adds to the page.
+
+    The pieces joined are the page that `warcdx query` writes for the query. Each is a page with a
+    limit and a resume key, so other queries can be answered between two of them. The first one has
+    `size` captures, and the others so many that they have about TARGET bytes.
+    """
+
+    def __init__(self, query: str, *, size: int = FIRST) -> None:
+        self._text = one_line(query)
+        self._query = Query.of(query, {})
+        self.is_json = self._query.has("output", "json")
+        self._left = self._query.take_limit()[0]
+        self._shows_key = self._query.has("showResumeKey", "true")
+        self._size = size
+        self._is_first = True
+        self.is_last = False
+        # A query that is refused for one of these parameters is asked as it is.
+        has_limit = self._query.take("limit")[0] is not None
+        flag = self._query.take("showResumeKey")[0]
+        self._is_refused = (
+            has_limit and self._left is None or flag is not None and flag not in ("true", "false")
+        )
+
+    def next_query(self) -> Optional[str]:
+        """Returns the query for the next piece, or None after the last one."""
+        if self.is_last:
+            return None
+        if self._is_refused:
+            return self._text
+        return str(
+            self._query.with_value("limit", str(self._count())).with_value("showResumeKey", "true")
+        )
+
+    def add(self, page: bytes) -> bytes:
+        """Returns what the reply to the query adds to the page, which may be nothing."""
+        if self._is_refused:
+            self.is_last = True
+            return page
+        rows, key = split_json(page) if self.is_json else split_text(page)
+        if key is not None and not self._can_end_at(key):
+            return b""
+        count = self._count()
+        if key is not None and self._left is not None:
+            self._left -= count
+        self.is_last = key is None or self._left == 0
+        piece = self._joined(rows, key)
+        self._is_first = False
+        self._size = max(1, min(TARGET * count // max(len(page), 1), MOST, 4 * count))
+        if key is not None:
+            self._query = self._query.with_value("resumeKey", key.decode())
+        return piece
+
+    def shrink(self) -> bool:
+        """Makes the next piece shorter, as its reply is too long.
+
+        Returns whether it can be shorter.
+        """
+        can_shrink = self._count() > 1
+        self._size = max(1, self._count() // 8)
+        return can_shrink
+
+    def _count(self) -> int:
+        return self._size if self._left is None else min(self._size, self._left)
+
+    def _can_end_at(self, key: bytes) -> bool:
+        """Returns whether the next query isn't too long with this key.
+
+        If it is, the piece is made longer.
+        """
+        if self._left is not None and self._left <= self._size or self._size == MOST_LIMIT:
+            return True
+        asked = self._query.with_value("resumeKey", key.decode()).with_value(
+            "limit", str(MOST_LIMIT)
+        )
+        if len(asked.with_value("showResumeKey", "true").encoded()) <= MOST_TEXT:
+            return True
+        self._size = min(2 * self._size, MOST_LIMIT)
+        return False
+
+    def _joined(self, rows: bytes, key: Optional[bytes]) -> bytes:
+        """Returns the rows of a piece, with what is before and after them in the page."""
+        shown = key if self.is_last and self._shows_key else None
+        if not self.is_json:
+            return rows if shown is None else rows + b"\n" + shown + b"\n"
+        if not self._is_first:
+            names, separator, others = rows.partition(b",\n")
+            rows = separator + others
+        if shown is not None:
+            rows += _KEY_ROW + shown + b'"]'
+        return rows + b"]\n" if self.is_last else rows
+
+
+def split_text(page: bytes) -> tuple[bytes, Optional[bytes]]:
+    """Returns the lines of a page in the outputs text and cdxj, and its resume key."""
+    start = page.rfind(b"\n", 0, -1) + 1
+    if start < 2 or page[start - 2 : start] != b"\n\n":
+        return page, None
+    return page[: start - 1], page[start:-1]
+
+
+def split_json(page: bytes) -> tuple[bytes, Optional[bytes]]:
+    """Returns an array of a page without the bracket at its end, and its resume key."""
+    start = page.rfind(_KEY_ROW)
+    if start < 0:
+        return page[:-2], None
+    return page[:start], page[start + len(_KEY_ROW) : -len(b'"]]\n')]
