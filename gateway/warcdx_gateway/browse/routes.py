@@ -1,0 +1,172 @@
+"""The paths of these pages."""
+import asyncio
+import concurrent.futures
+import functools
+import pathlib
+from collections.abc import Awaitable, Callable, Mapping
+from typing import Optional
+
+from aiohttp import web
+
+from warcdx import Fault, ProgramError, Refused
+
+from ..collection import Collection
+from . import answers, dates, layout, reading
+from .compare_page import compare_page
+from .markup import element
+from .reading import Download, Place
+from .record_page import record_page, target_of
+from .search_page import captures_page, search_page
+from .searching import Refusal, Search
+
+DOWNLOADS = 8  # at a time
+SECONDS = 60  # for a client to take a piece of a download
+STYLE = pathlib.Path(__file__).with_name("style.css")
+
+Handler = Callable[[Collection, web.Request], Awaitable[web.StreamResponse]]
+
+
+def setup(app: web.Application, collections: Mapping[str, Collection]) -> None:
+    """Adds the pages of these collections: `/browse`, and `/COLLECTION/browse/` with what is below it."""
+    pages, style = Pages(), STYLE.read_bytes()
+
+    async def listed(request: web.Request) -> web.Response:
+        return layout.list_page(collections)
+
+    async def styled(request: web.Request) -> web.Response:
+        return answers.style_sheet(style)
+
+    app.router.add_get("/browse", listed)
+    app.router.add_get("/browse/style.css", styled)
+    for name, handler in pages.handlers().items():
+        app.router.add_get(f"/{{collection}}/browse/{name}", functools.partial(_answer, collections, handler))
+    app.on_cleanup.append(pages.close)
+
+
+async def _answer(collections: Mapping[str, Collection], handler: Handler, request: web.Request) -> web.StreamResponse:
+    """Answers a request by a handler, or by a page that says what was refused."""
+    collection = collections.get(request.match_info["collection"])
+    if collection is None:
+        raise web.HTTPNotFound(text="There is no such collection.\n", headers=answers.COMMON)
+    search = None
+    try:
+        if "url" in request.query or "key" in request.query:
+            search = Search.of(request.query)
+        return await handler(collection, request)
+    except Refusal as refusal:
+        return layout.refusal_page(collection, refusal, search)
+    except Refused as refused:
+        refusal = search.refusal(refused.name) if search else Refusal("The query was refused.", refused.name)
+        return layout.refusal_page(collection, refusal, search)
+    except Fault as fault:
+        refusal = Refusal("An index of the collection can't be read.", f"Its fault is {fault.name}.", 502)
+        return layout.refusal_page(collection, refusal, search)
+    except ProgramError:
+        refusal = Refusal("The collection can't be read now.", "The program that reads it has ended.", 503)
+        return layout.refusal_page(collection, refusal, search)
+
+
+class Pages:
+    """The handlers of the pages of a collection, and the threads of downloads."""
+
+    def __init__(self) -> None:
+        self._threads = concurrent.futures.ThreadPoolExecutor(DOWNLOADS, thread_name_prefix="download")
+        self._downloads = 0
+
+    def handlers(self) -> dict[str, Handler]:
+        """Returns the handler of each page, by its name."""
+        return {
+            "": self.start,
+            "search": self.search,
+            "captures": self.captures,
+            "compare": self.compare,
+            "record": self.record,
+            "payload": self.payload,
+            "download": self.download,
+        }
+
+    async def close(self, app: web.Application) -> None:
+        self._threads.shutdown(wait=False, cancel_futures=True)
+
+    async def start(self, collection: Collection, request: web.Request) -> web.Response:
+        title = element("h1", collection.title)
+        words = element("p", "Search for an address or a host to see when it was captured.")
+        return layout.collection_page(collection, collection.title, title, words)
+
+    async def search(self, collection: Collection, request: web.Request) -> web.Response:
+        query = request.query
+        return await search_page(collection, Search.of(query), query.get("year", ""), query.get("after", ""))
+
+    async def captures(self, collection: Collection, request: web.Request) -> web.Response:
+        return await captures_page(collection, Search.of(request.query), request.query.get("after", ""))
+
+    async def compare(self, collection: Collection, request: web.Request) -> web.Response:
+        first, second = (Place.of_pair(request.query.get(name, "")) for name in ("first", "second"))
+        return await compare_page(collection, first, second)
+
+    async def record(self, collection: Collection, request: web.Request) -> web.Response:
+        return await record_page(collection, _place(request))
+
+    async def payload(self, collection: Collection, request: web.Request) -> web.StreamResponse:
+        """Answers with a payload for the frame of its record's page. A window of its own shows that page instead."""
+        if request.headers.get("Sec-Fetch-Dest") == "document":
+            raise web.HTTPSeeOther(f"record?{request.query_string}", headers=answers.COMMON)
+        place = _place(request)
+        record = await collection.run(reading.read, place.path(collection), collection.program, place.offset)
+        kind = record.shown_type
+        if kind is None:
+            raise Refusal("The payload isn't shown.", "Its type isn't one that these pages show. It can be saved.", 415)
+        return web.Response(body=record.payload.content, headers=answers.payload_headers(kind))
+
+    async def download(self, collection: Collection, request: web.Request) -> web.StreamResponse:
+        """Answers with a record or its payload, as a file to save, piece by piece."""
+        what, place = request.query.get("what", "record"), _place(request)
+        if what not in ("record", "payload"):
+            raise Refusal("The download was refused.", "A record or its payload can be saved.")
+        path = place.path(collection)
+        if self._downloads >= DOWNLOADS:
+            raise Refusal("There are too many downloads now.", "Try again in a minute.", 503)
+        self._downloads += 1
+        try:
+            download = await self._run(Download, path, collection.program, place.offset, what)
+            try:
+                return await self._send(request, download, _file_name(download, place, what))
+            finally:
+                await asyncio.shield(self._run(download.close))
+        finally:
+            self._downloads -= 1
+
+    async def _send(self, request: web.Request, download: Download, name: str) -> web.StreamResponse:
+        response = web.StreamResponse(headers=answers.attachment_headers(name))
+        if download.size is not None:
+            response.content_length = download.size
+        await response.prepare(request)
+        if request.method == "HEAD":
+            return response
+        try:
+            while piece := await self._run(download.piece):
+                await asyncio.wait_for(response.write(piece), SECONDS)
+        except (Refusal, asyncio.TimeoutError, OSError):
+            # The client must notice that the file isn't whole. Its headers were sent, so the connection ends.
+            if request.transport is not None:
+                request.transport.abort()
+            raise ConnectionResetError("the download ends before its end") from None
+        await response.write_eof()
+        return response
+
+    async def _run(self, function: Callable[..., object], *arguments: object) -> "Optional[object]":
+        return await asyncio.get_running_loop().run_in_executor(self._threads, function, *arguments)
+
+
+def _place(request: web.Request) -> Place:
+    return Place.of(request.query.get("archive", ""), request.query.get("offset", ""))
+
+
+def _file_name(download: Download, place: Place, what: str) -> str:
+    """Returns a name for the file: that of the archive with the offset, or the end of the address."""
+    if what == "record":
+        return f"{place.filename}-{place.offset}.warc"
+    path = target_of(download.head).partition("?")[0].partition("#")[0].rstrip("/")
+    name = answers.file_name(path)
+    stamp = dates.stamp_of(download.head.field("WARC-Date") or "") or str(place.offset)
+    return f"{stamp}-{name}"
