@@ -204,7 +204,8 @@ def faults_of(page: str) -> list[str]:
     checked = _Checked()
     checked.feed(page)
     checked.close()
-    return checked.faults + [f"U+{ord(each):04X}" for each in page if unicodedata.category(each) in ("Cc", "Cf") and each != "\n"]
+    shown = re.sub(' value="[^"]*"', "", page)  # what a form gives back is as it was
+    return checked.faults + [f"U+{ord(each):04X}" for each in shown if unicodedata.category(each) in ("Cc", "Cf") and each != "\n"]
 
 
 def text_of(page: str) -> str:

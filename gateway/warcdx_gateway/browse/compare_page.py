@@ -46,12 +46,15 @@ async def compare_page(collection: Collection, first: Place, second: Place) -> w
             kind = side.content.kind or "not named"
             why = f"The type of the capture of {side.when} is {cut(kind, 80)}. Only texts are compared."
             raise Refusal("The captures can't be compared.", why, 422)
-    found = await collection.run(run, [side.content for side in sides])
-    content: list[Child] = [
+    return collection_page(collection, "Two captures side by side", await collection.run(_content, sides))
+
+
+def _content(sides: list[Side]) -> Markup:
+    found = run([side.content for side in sides])
+    return joined(
         element("hgroup", element("p", "Two captures"), element("h1", "Their texts side by side")),
         element("section", _summary(sides, found), _table(sides, found["rows"]), class_="card"),
-    ]
-    return collection_page(collection, "Two captures side by side", *content)
+    )
 
 
 async def side_of(collection: Collection, place: Place) -> Side:

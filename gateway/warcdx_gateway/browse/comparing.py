@@ -17,7 +17,7 @@ from html.parser import HTMLParser
 from itertools import zip_longest
 from typing import Any, Optional
 
-SECONDS = 5  # of processor time
+SECONDS = 3  # of processor time
 MEMORY = 1 << 30  # bytes of address space
 MOST_LINES = 4000  # of a text
 MOST_CHARACTERS = 200_000  # of a text

@@ -7,11 +7,13 @@ from warcdx import FIELDS, Capture
 from ..collection import Collection
 from . import dates
 from .layout import row, table
-from .markup import Child, Link, Markup, cut, element, joined, link
+from .markup import Child, Link, Markup, cut, element, followed, joined, link
 from .searching import Search, place_of
 
 SIZE = 50  # rows of a page
 _MOST_ADDRESS = 300  # characters of an address that are shown in a list
+MOST_DIGEST = 100  # characters of a digest, of which SHA-256 has 64
+MOST_NAME = 300  # characters of an offset and a file name, of which Linux takes 255 bytes
 REVISIT = "warc/revisit"
 
 
@@ -71,10 +73,9 @@ def captures_section(part: Part, search: Search, words: str) -> Markup:
 
 
 def _capture_row(names: dict[str, str], capture: Capture, is_same: bool, number: Optional[int]) -> Markup:
-    time = element(
-        "a", _time(capture.timestamp), href=record_link(capture), aria_label=f"Record of {dates.in_words(capture.timestamp)}"
-    )  # fmt: skip
-    digest = joined(element("code", capture.digest), element("span", " same as above", class_="same") if is_same else None)
+    words = f"Record of {dates.in_words(capture.timestamp)}"
+    time = followed(_time(capture.timestamp), record_link(capture), aria_label=words)
+    digest = joined(element("code", cut(capture.digest, MOST_DIGEST)), element("span", " same as above", class_="same") if is_same else None)
     cells: dict[str, Child] = {
         "time": time,
         "address": _address(capture.original),
@@ -103,7 +104,7 @@ def status_words(status: str) -> Child:
 
 def _picks(capture: Capture, number: int) -> Markup:
     """Returns the two fields by which a capture is chosen for a comparison, the first and second row at first."""
-    value = f"{capture.offset} {capture.filename}"
+    value = cut(f"{capture.offset} {capture.filename}", MOST_NAME)
     return joined(
         element(
             "label",
@@ -123,7 +124,7 @@ def addresses_section(part: Part, search: Search) -> Markup:
     rows = (
         row(
             names,
-            element("a", _address(capture.original if capture.original != "-" else capture.urlkey), href=_history(capture)),
+            followed(_address(capture.original if capture.original != "-" else capture.urlkey), _history(capture)),
             _time(capture.timestamp),
             status_words(capture.statuscode),
             cut(capture.mimetype, 80),
@@ -147,5 +148,5 @@ def _further(part: Part, search: Search, page: str) -> Child:
     if not part.is_first:
         links.append(element("li", element("a", "First page", href=search.link(page, "list"))))
     if part.next:
-        links.append(element("li", element("a", f"Next {SIZE}", href=search.link(page, "list", after=part.next), rel="next")))
+        links.append(element("li", followed(f"Next {SIZE}", search.link(page, "list", after=part.next), rel="next")))
     return element("nav", element("ul", links), aria_label="Pages of this list", class_="pages") if links else None

@@ -13,6 +13,7 @@ from dataclasses import dataclass
 from typing import Union
 from urllib.parse import quote
 
+MOST_LINK = 7000  # bytes: the first line of a request has at most 8,190
 _NAME = re.compile("[a-zA-Z][a-zA-Z0-9]*(-[a-z0-9]+)*")
 _PATH = re.compile("(?!//)[A-Za-z0-9._/-]*")
 _ID = re.compile("[a-z-]*")
@@ -81,9 +82,9 @@ def joined(*children: Child) -> Markup:
     return Markup("".join(_text_of(child) for child in children))
 
 
-def spaced(*children: Child) -> Markup:
-    """Returns texts and elements with a space between them."""
-    return Markup(" ".join(_text_of(child) for child in children if child is not None))
+def followed(words: Child, to: Link, **attributes: Value) -> Markup:
+    """Returns words as a link, or the words alone if the link is longer than a server takes."""
+    return element("a", words, href=to, **attributes) if len(to.text) <= MOST_LINK else joined(words)
 
 
 def _text_of(child: Child) -> str:

@@ -13,12 +13,13 @@ from ..collection import Collection
 from . import dates, reading
 from .layout import collection_page, row, table
 from .lists import REVISIT, record_link
-from .markup import Child, Link, Markup, cut, element, joined, link
+from .markup import Child, Link, Markup, cut, element, followed, joined, link
 from .reading import MOST_SHOWN, MOST_VERIFIED, Place, Read
 from .searching import Search, quoted
 
-MOST_FIELDS = 500  # of a head that are shown
-MOST_VALUE = 4000  # characters of a value that are shown
+MOST_FIELDS = 300  # of a head that are shown
+MOST_VALUE = 2000  # characters of a name or value that are shown
+MOST_TEXT = 100_000  # characters of all fields of a head
 _VERDICTS = {
     "same": ("good", "The block is as it was recorded: its SHA-1 is the one in WARC-Block-Digest."),
     "differs": ("bad", "The block differs: its SHA-1 isn't the one in WARC-Block-Digest."),
@@ -39,19 +40,29 @@ async def record_page(collection: Collection, place: Place) -> web.Response:
         verdict = await collection.run(reading.verdict, path, collection.program, place.offset)
     original = await original_of(collection, record.head) if record.head.kind == "revisit" else None
     address = target_of(record.head)
-    stamp = dates.stamp_of(record.head.field("WARC-Date") or "")
-    title = f"Record of {dates.in_words(stamp)}" if stamp else "Record"
-    content: list[Child] = [
-        element("hgroup", element("p", f"{record.head.kind} record"), element("h1", element("bdi", cut(address or title, 400)))),
-        _facts(record, place, stamp, address),
-        element("section", element("h2", "Digest"), _verdict(record.head, verdict), class_="card"),
-        _original(original) if record.head.kind == "revisit" else None,
+    search = Search(cut(address, MOST_VALUE)) if address else None
+    title = cut(f"{_title(record.head)}: {address}" if address else _title(record.head), 200)
+    content = await collection.run(_content, record, place, verdict, original)
+    return collection_page(collection, title, content, search=search)
+
+
+def _title(head: Head) -> str:
+    stamp = dates.stamp_of(head.field("WARC-Date") or "")
+    return f"Record of {dates.in_words(stamp)}" if stamp else "Record"
+
+
+def _content(record: Read, place: Place, verdict: Optional[str], original: Optional[Capture]) -> Markup:
+    head = record.head
+    heading = element("h1", element("bdi", cut(target_of(head) or _title(head), 400)))
+    return joined(
+        element("hgroup", element("p", f"{cut(head.kind, 40)} record"), heading),
+        _facts(record, place),
+        element("section", element("h2", "Digest"), _verdict(head, verdict), class_="card"),
+        _original(original) if head.kind == "revisit" else None,
         _payload(record, place),
-        _fields("WARC headers", record.head.fields),
+        _fields("WARC headers", head.fields),
         _http(record),
-    ]
-    search = Search(address) if address else None
-    return collection_page(collection, cut(f"{title}: {address}", 200), *content, search=search)
+    )
 
 
 def target_of(head: Head) -> str:
@@ -63,7 +74,8 @@ def without_brackets(address: str) -> str:
     return address[1:-1] if address.startswith("<") and address.endswith(">") else address
 
 
-def _facts(record: Read, place: Place, stamp: Optional[str], address: str) -> Markup:
+def _facts(record: Read, place: Place) -> Markup:
+    stamp, address = dates.stamp_of(record.head.field("WARC-Date") or ""), target_of(record.head)
     when = dates.in_words(stamp) if stamp else "no date"
     facts: list[tuple[str, Child]] = [
         ("Time", element("time", when, datetime=dates.machine_time(stamp) if stamp else None)),
@@ -72,7 +84,7 @@ def _facts(record: Read, place: Place, stamp: Optional[str], address: str) -> Ma
     ]
     if address:
         history = link("search", url=address, match="exact")
-        facts.append(("Other captures", element("a", "All captures of this address", href=history)))
+        facts.append(("Other captures", followed("All captures of this address", history)))
     listed = (element("div", element("dt", name), element("dd", value)) for name, value in facts)
     return element("dl", listed, class_="facts")
 
@@ -137,12 +149,15 @@ def _http(record: Read) -> Child:
 def _fields(words: str, fields: Sequence[tuple[str, str]]) -> Markup:
     """Returns fields as they stand. One without a name is the line before them."""
     names = {"name": "Name", "value": "Value"}
-    rows = (
-        row(names, element("code", cut(name, MOST_VALUE)) if name else "(first line)", element("code", cut(value, MOST_VALUE)))
-        for name, value in fields[:MOST_FIELDS]
-    )
-    rest = len(fields) - MOST_FIELDS
-    more = element("p", f"{dates.many(rest, 'field')} more: save the record to see all.") if rest > 0 else None
+    rows, left = [], MOST_TEXT
+    for name, value in fields[:MOST_FIELDS]:
+        shown = [cut(each, MOST_VALUE) for each in (name, value)]
+        left -= sum(map(len, shown))
+        if left < 0:
+            break
+        rows.append(row(names, element("code", shown[0]) if name else "(first line)", element("code", shown[1])))
+    rest = len(fields) - len(rows)
+    more = element("p", f"{dates.many(rest, 'field')} more: save the record to see all.") if rest else None
     return element("section", element("h2", words), table(words, names, rows, "fields"), more, class_="card")
 
 
@@ -150,7 +165,7 @@ def _original(original: Optional[Capture]) -> Markup:
     if original is None:
         words: Child = "No capture with its digest is in the indexes of the collection."
     else:
-        when = element("a", dates.in_words(original.timestamp), href=record_link(original))
+        when = followed(dates.in_words(original.timestamp), record_link(original))
         words = joined("The payload is that of the capture of ", when, ", which has the same digest.")
     return element("section", element("h2", "The original of this revisit"), element("p", words), class_="card")
 

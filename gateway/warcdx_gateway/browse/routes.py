@@ -4,7 +4,7 @@ import concurrent.futures
 import functools
 import pathlib
 from collections.abc import Awaitable, Callable, Mapping
-from typing import Optional
+from typing import TypeVar
 
 from aiohttp import web
 
@@ -23,6 +23,7 @@ DOWNLOADS = 8  # at a time
 SECONDS = 60  # for a client to take a piece of a download
 STYLE = pathlib.Path(__file__).with_name("style.css")
 
+T = TypeVar("T")
 Handler = Callable[[Collection, web.Request], Awaitable[web.StreamResponse]]
 
 
@@ -132,7 +133,7 @@ class Pages:
             try:
                 return await self._send(request, download, _file_name(download, place, what))
             finally:
-                await asyncio.shield(self._run(download.close))
+                await asyncio.shield(asyncio.to_thread(download.close))
         finally:
             self._downloads -= 1
 
@@ -141,20 +142,17 @@ class Pages:
         if download.size is not None:
             response.content_length = download.size
         await response.prepare(request)
-        if request.method == "HEAD":
-            return response
         try:
-            while piece := await self._run(download.piece):
+            while request.method != "HEAD" and (piece := await self._run(download.piece)):
                 await asyncio.wait_for(response.write(piece), SECONDS)
+            await response.write_eof()
         except (Refusal, asyncio.TimeoutError, OSError):
-            # The client must notice that the file isn't whole. Its headers were sent, so the connection ends.
+            # The headers were sent. The connection ends, so that the client notices that the file isn't whole.
             if request.transport is not None:
                 request.transport.abort()
-            raise ConnectionResetError("the download ends before its end") from None
-        await response.write_eof()
         return response
 
-    async def _run(self, function: Callable[..., object], *arguments: object) -> "Optional[object]":
+    async def _run(self, function: Callable[..., T], *arguments: object) -> T:
         return await asyncio.get_running_loop().run_in_executor(self._threads, function, *arguments)
 
 
