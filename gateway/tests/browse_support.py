@@ -178,7 +178,7 @@ _ELEMENTS = frozenset(
     "label li line link main meta nav ol option p rect section select span strong summary svg table tbody td text th thead "
     "time title tr ul".split()
 )
-_PAGES = re.compile(r"#content|(\./|\.\./\.\./browse(/style\.css)?|[A-Za-z0-9.]+/browse/|browse/style\.css"
+_PAGES = re.compile(r"#content|(\./|\.\./\.\./browse(/style\.css|/icon\.svg)?|[A-Za-z0-9.]+/browse/|browse/(style\.css|icon\.svg)"
                     r"|(search|captures|compare|record|payload|download)(\?[A-Za-z0-9=&%.~_-]*)?(#[a-z]+)?)")  # fmt: skip
 
 

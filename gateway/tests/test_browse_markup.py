@@ -62,7 +62,7 @@ class Escaping(unittest.TestCase):
         self.assertEqual('<input type="radio" checked for="a" data-label="b">', made.text)
 
     def test_a_document_is_utf_8(self) -> None:
-        made = document("a\u202e\ud800</title><b>", joined("\ud800", "é"), link("style.css"))
+        made = document("a\u202e\ud800</title><b>", joined("\ud800", "é"), link("style.css"), link("icon.svg"))
         self.assertIn("<title>a[U+202E][U+D800]&lt;/title&gt;&lt;b&gt;</title>", made.decode())
         self.assertIn('<b class="unseen">[U+D800]</b>é', made.decode())
 

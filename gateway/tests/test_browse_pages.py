@@ -40,7 +40,8 @@ class Reading(support.Pages):
         found = await (await client.get("/browse")).text()
         self.assertIn('<a href="one/browse/">&lt;one&gt;</a>', found)
         self.assertIn('<a href="Two.2/browse/">&lt;Two.2&gt;</a>', found)
-        for path, status in (("/one/browse/", 200), ("/Two.2/browse/", 200), ("/three/browse/", 404), ("/browse/style.css", 200)):
+        for path, status in (("/one/browse/", 200), ("/Two.2/browse/", 200), ("/three/browse/", 404), ("/browse/style.css", 200),
+                             ("/browse/icon.svg", 200)):  # fmt: skip
             answer = await client.get(path)
             self.assertEqual((status, "nosniff"), (answer.status, answer.headers["X-Content-Type-Options"]), path)
         self.assertEqual("text/css", (await client.get("/browse/style.css")).content_type)

@@ -30,8 +30,10 @@ def page(text: bytes, status: int = 200) -> web.Response:
     return web.Response(body=text, status=status, headers={**headers, "Content-Type": "text/html; charset=utf-8"})
 
 
-def style_sheet(text: bytes) -> web.Response:
-    headers = {**COMMON, "Content-Type": "text/css; charset=utf-8", "Cache-Control": "max-age=3600"}
+def part(text: bytes, kind: str) -> web.Response:
+    """Returns a part of the pages themselves: the style sheet or the icon."""
+    policy = "default-src 'none'; frame-ancestors 'none'"
+    headers = {**COMMON, "Content-Security-Policy": policy, "Content-Type": kind, "Cache-Control": "max-age=3600"}
     return web.Response(body=text, headers=headers)
 
 

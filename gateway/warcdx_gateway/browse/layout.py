@@ -10,7 +10,6 @@ from .markup import Child, Link, Markup, document, element, joined, link
 from .searching import MATCHES, Refusal, Search
 
 UP = "../../"  # from a page of a collection to the list of collections
-STYLE = Link(UP + "browse/style.css")
 
 
 def collection_page(
@@ -28,7 +27,7 @@ def collection_page(
     )
     body = joined(_banner(path, search_form(search)), element("main", *content, id="content", tabindex=-1))
     shown = f"{title} – {collection.title}" if title != collection.title else title
-    return answers.page(document(shown, _body(body), STYLE), status)
+    return answers.page(_document(shown, body, UP), status)
 
 
 def list_page(collections: Mapping[str, Collection]) -> web.Response:
@@ -40,7 +39,7 @@ def list_page(collections: Mapping[str, Collection]) -> web.Response:
         element("ul", entries, class_="collections") if collections else element("p", "There is no collection."),
     )
     body = joined(_banner(None, None), element("main", content, id="content", tabindex=-1))
-    return answers.page(document("Web archives", _body(body), Link("browse/style.css")))
+    return answers.page(_document("Web archives", body, ""))
 
 
 def _entry(collection: Collection) -> Markup:
@@ -97,9 +96,10 @@ def _banner(path: Optional[Markup], form: Optional[Markup]) -> Markup:
     return joined(skip, element("header", path, form) if path or form else None)
 
 
-def _body(content: Markup) -> Markup:
+def _document(title: str, content: Markup, up: str) -> bytes:
     footer = element("footer", element("p", "Times are in UTC. Nothing on these pages is fetched from another site."))
-    return element("body", content, footer)
+    body = element("body", content, footer)
+    return document(title, body, Link(up + "browse/style.css"), Link(up + "browse/icon.svg"))
 
 
 def table(caption: Child, names: Mapping[str, str], rows: Child, kind: str = "") -> Markup:

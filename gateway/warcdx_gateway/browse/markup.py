@@ -150,8 +150,8 @@ def cut(text: str, most: int) -> str:
     return text if len(text) <= most else text[: most - 1] + "…"
 
 
-def document(title: str, body: Markup, style: Link, language: str = "en") -> bytes:
-    """Returns a page, in UTF-8."""
+def document(title: str, body: Markup, style: Link, icon: Link) -> bytes:
+    """Returns a page in UTF-8, with a style sheet and an icon."""
     head = element(
         "head",
         element("meta", charset="utf-8"),
@@ -159,6 +159,7 @@ def document(title: str, body: Markup, style: Link, language: str = "en") -> byt
         element("meta", name="color-scheme", content="light dark"),
         element("title", visible(title)),
         element("link", rel="stylesheet", href=style),
+        element("link", rel="icon", type="image/svg+xml", href=icon),
     )
-    page = element("html", head, body, lang=language)
+    page = element("html", head, body, lang="en")
     return f"<!DOCTYPE html>\n{page.text}\n".encode(errors="replace")

@@ -21,7 +21,8 @@ from .searching import Refusal, Search
 
 DOWNLOADS = 8  # at a time
 SECONDS = 60  # for a client to take a piece of a download
-STYLE = pathlib.Path(__file__).with_name("style.css")
+PARTS = {"style.css": "text/css; charset=utf-8", "icon.svg": "image/svg+xml"}
+WINDOW = "document"  # the value of Sec-Fetch-Dest for a page that gets a window of its own
 
 T = TypeVar("T")
 Handler = Callable[[Collection, web.Request], Awaitable[web.StreamResponse]]
@@ -29,19 +30,22 @@ Handler = Callable[[Collection, web.Request], Awaitable[web.StreamResponse]]
 
 def setup(app: web.Application, collections: Mapping[str, Collection]) -> None:
     """Adds the pages of these collections: `/browse`, and `/COLLECTION/browse/` with what is below it."""
-    pages, style = Pages(), STYLE.read_bytes()
+    pages = Pages()
 
     async def listed(request: web.Request) -> web.Response:
         return layout.list_page(collections)
 
-    async def styled(request: web.Request) -> web.Response:
-        return answers.style_sheet(style)
-
     app.router.add_get("/browse", listed)
-    app.router.add_get("/browse/style.css", styled)
+    for name, kind in PARTS.items():
+        text = pathlib.Path(__file__).with_name(name).read_bytes()
+        app.router.add_get(f"/browse/{name}", functools.partial(_part, text, kind))
     for name, handler in pages.handlers().items():
         app.router.add_get(f"/{{collection}}/browse/{name}", functools.partial(_answer, collections, handler))
     app.on_cleanup.append(pages.close)
+
+
+async def _part(text: bytes, kind: str, request: web.Request) -> web.Response:
+    return answers.part(text, kind)
 
 
 async def _answer(collections: Mapping[str, Collection], handler: Handler, request: web.Request) -> web.StreamResponse:
@@ -110,7 +114,7 @@ class Pages:
 
     async def payload(self, collection: Collection, request: web.Request) -> web.StreamResponse:
         """Answers with a payload for the frame of its record's page. A window of its own shows that page instead."""
-        if request.headers.get("Sec-Fetch-Dest") == "document":
+        if request.headers.get("Sec-Fetch-Dest") == WINDOW:
             raise web.HTTPSeeOther(f"record?{request.query_string}", headers=answers.COMMON)
         place = _place(request)
         record = await collection.run(reading.read, place.path(collection), collection.program, place.offset)
