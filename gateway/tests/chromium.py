@@ -78,7 +78,9 @@ class Tab:
         return [event["params"] for event in self._connection.events if event["method"] == method]
 
     async def open(self, address: str) -> None:
-        await self._loading(self.send("Page.navigate", url=address))
+        loader = (await self.send("Page.navigate", url=address))["loaderId"]
+        loaded = {"loaderId": loader, "name": "load"}
+        await until(lambda: any(loaded.items() <= event.items() for event in self.events("Page.lifecycleEvent")))
 
     async def _loading(self, command: Any) -> None:
         """Waits until a page is loaded that a command leads to."""
@@ -201,6 +203,7 @@ async def _new_tab(connection: Connection) -> Tab:
     tab = Tab(connection, session)
     for domain in ("Page", "Runtime", "Network", "Log", "DOM", "Accessibility"):
         await tab.send(f"{domain}.enable")
+    await tab.send("Page.setLifecycleEventsEnabled", enabled=True)
     await tab.send("Target.setAutoAttach", autoAttach=True, waitForDebuggerOnStart=False, flatten=True)
     await tab.window(1100, 900)
     return tab

@@ -169,7 +169,7 @@ class Hostile(support.Pages):
         """Returns a page that tries to run scripts, to fetch, to send and to go elsewhere."""
         evil = self.evil
         return f"""<!DOCTYPE html><base href="{evil}/base/"><meta http-equiv=refresh content="0;url={evil}/refresh">
-<meta http-equiv=Content-Security-Policy content="default-src *"><link rel=stylesheet href={evil}/style><link rel=icon href={evil}/icon>
+<meta http-equiv=Content-Security-Policy content="default-src * 'unsafe-inline'"><link rel=stylesheet href={evil}/style><link rel=icon href={evil}/icon>
 <link rel=prefetch href={evil}/prefetch><link rel=preconnect href={evil}><link rel=dns-prefetch href=//evil.example>
 <style>@import url({evil}/import); @font-face {{ font-family: f; src: url({evil}/font) }} p {{ font-family: f; background: url({evil}/background) }}
 a {{ position: fixed; left: 0; right: 0 }} #upper {{ top: 0; bottom: 50% }} #lower {{ top: 50%; bottom: 0 }}</style>
