@@ -4,12 +4,13 @@ import unittest
 from collections.abc import Sequence
 from unittest import mock
 
-import browse_support as support
-import chromium
 from aiohttp import web
 from aiohttp.test_utils import TestServer
-from browse_support import Archives, page, response, revisit
-from chromium import Tab, browser
+
+from . import browse_support as support
+from . import chromium
+from .browse_support import Archives, page, response, revisit
+from .chromium import Tab, browser
 
 HOME = "http://example.com/"
 FIRST = page("The library", "Open from 9 to 17.", "The same.")

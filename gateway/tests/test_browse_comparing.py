@@ -7,8 +7,9 @@ import time
 import unittest
 from unittest import mock
 
-import browse_support as support
-from browse_support import Archives, response, text_of
+from . import browse_support as support
+from .browse_support import Archives, response, text_of
+
 from warcdx_gateway.browse import compare_page, comparing
 from warcdx_gateway.browse.comparing import compare, lines_of, text_of as decoded
 
@@ -92,9 +93,6 @@ class Hostile(support.Pages):
         self.bodies = {
             "plain": b"<p>plain",
             "declarations": b"<!" * 500_000,
-            "comments": b"<!--" * 500_000,
-            "tags": b"<a " * 500_000,
-            "ends": b"</" * 500_000,
             "attributes": b"<p " + b"a=b " * 500_000,
             "nested": b"<svg>" * 300_000 + b"</math>" * 300_000,
             "entities": b"&" * 1_000_000,

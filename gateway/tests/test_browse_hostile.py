@@ -11,8 +11,9 @@ from unittest import mock
 
 from aiohttp import ClientError
 
-import browse_support as support
-from browse_support import Archives, page, record, response, text_of
+from . import browse_support as support
+from .browse_support import Archives, page, record, response, text_of
+
 from warcdx_gateway.browse import reading
 from warcdx_gateway.browse.answers import PAYLOAD_POLICY
 

@@ -4,11 +4,17 @@ import re
 import unittest
 from unittest import mock
 
-import browse_support as support
-from browse_support import Archives, page, record, response, revisit, text_of
+from aiohttp.test_utils import TestClient, TestServer
+
+from . import browse_support as support
+from .browse_support import Archives, page, record, response, revisit, text_of
+
 from warcdx_gateway.browse import counting, lists
 from warcdx_gateway.browse.search_page import caption
 from warcdx_gateway.browse.searching import Search
+from warcdx_gateway.metrics import Metrics
+from warcdx_gateway.server import Gateway
+from warcdx_gateway.settings import CollectionSettings, Settings
 
 HOME = "http://example.com/"
 FIRST = page("Home", "Open from 9 to 17.", "The same.")
@@ -210,10 +216,67 @@ class Reading(support.Pages):
         head = await self.client.head(f"/crawl/browse/download?archive=a.warc&offset={self.offset_of(1)}")
         self.assertEqual((200, answer.headers["Content-Length"]), (head.status, head.headers["Content-Length"]))
 
+    async def test_the_gateway_has_the_pages(self) -> None:
+        collection = self.archives.collection()
+        self.addAsyncCleanup(collection.close)
+        settings = Settings((CollectionSettings("crawl", "A crawl", tuple(self.archives.indexes)),), "crawl")
+        application = Gateway(settings, {"crawl": collection}, Metrics()).application()
+        async with TestClient(TestServer(application)) as client:
+            for path in ("/browse", "/crawl/browse/", "/crawl/browse/search?url=example.com"):
+                answer = await client.get(path, headers={"Origin": "http://evil.example"})
+                self.assertEqual((200, "text/html"), (answer.status, answer.content_type))
+                self.assertNotIn("Access-Control-Allow-Origin", answer.headers)
+
     def offset_of(self, number: int) -> int:
         """Returns the offset of a record of a.warc."""
         archive = (self.archives.archives / "a.warc").read_bytes()
         return [found.start() for found in re.finditer(rb"WARC/1\.1\r\nWARC-Type", archive)][number]
+
+
+class Many(support.Pages):
+    """More captures than are held at a time."""
+
+    def fill(self, archives: Archives) -> None:
+        stamps = [f"{2000 + number // 500}{number % 12 + 1:02}15{number % 86400:06}" for number in range(3500)]
+        name = "a%b +&=ü.warc"
+        archives.put("index", b"".join(sorted(archives.line(HOME, stamp, name, at) for at, stamp in enumerate(stamps))))
+
+    async def test_all_are_counted(self) -> None:
+        found = await self.get("search", url=HOME)
+        self.assertIn("3,500 captures between 15 January 2000 and 15 December 2006.", text_of(found))
+        for year in range(2000, 2007):
+            self.assertIn(f'aria-label="{year}: 500 captures"', found)
+
+    async def test_all_are_listed_page_by_page(self) -> None:
+        query, seen = "url=example.com&from=2003&to=2003", set()
+        while query:
+            answer = await self.client.get("/crawl/browse/captures?" + query)
+            found = await answer.text()
+            seen |= set(re.findall(r"offset=(\d+)", found))
+            link = re.search(r'<a href="captures\?([^"#]*)#list" rel="next">', found)
+            query = link[1].replace("&amp;", "&") if link else ""
+        self.assertEqual({str(number) for number in range(1500, 2000)}, seen)
+
+    async def test_a_limit_is_said(self) -> None:
+        with mock.patch.object(counting.count, "__defaults__", (1700,)):
+            found = text_of(await self.get("search", url=HOME, year="2003"))
+        self.assertIn("Only the first 1,700 captures were counted, up to", found)
+        self.assertIn("The captures after these aren't in the drawings.", found)
+        self.assertIn("2003: 200 captures", found)
+
+
+class LongLines(support.Pages):
+    """An index whose lines are longer than the gateway takes."""
+
+    def fill(self, archives: Archives) -> None:
+        lines = [archives.line(HOME, f"2016010100000{number}", "a.warc", number) for number in range(9)]
+        lines.append(archives.line(HOME, "20170101000000", "x" * (9 << 20), 9))
+        archives.put("index", b"".join(lines))
+
+    async def test_what_can_not_be_shown_is_said(self) -> None:
+        found = text_of(await self.get("search", 502, url=HOME))
+        self.assertIn("The lines of the index are too long.", found)
+        self.assertIn("9 captures", text_of(await self.get("search", url=HOME, from_="2016", to="2016")))
 
 
 if __name__ == "__main__":

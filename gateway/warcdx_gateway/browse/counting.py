@@ -3,12 +3,15 @@ import datetime
 from collections import Counter
 from dataclasses import dataclass, field
 
+from warcdx import ReplyTooLong
+
+from ..collection import PAGE as MOST_ROWS
 from ..collection import Collection
 from . import dates
 from .searching import Search, place_of
 
 MOST = 200_000  # captures that are counted for a page
-PAGE = 10_000  # captures that are held at a time
+PAGE = MOST_ROWS - 1  # captures that are held at a time
 FIELDS = ("timestamp", "urlkey", "filename", "offset")
 
 
@@ -43,11 +46,17 @@ class Counts:
 
 
 async def count(collection: Collection, search: Search, most: int = MOST) -> Counts:
-    """Counts the captures that a search selects, the first `most` of them."""
+    """Counts the captures that a search selects: the first `most` of them, or those before lines that are very long."""
     counts, place = Counts(), ""
     while True:
         size = min(PAGE, most - counts.total)
-        rows = await collection.rows(FIELDS, search.query(resumeKey=place), limit=size + 1)
+        try:
+            rows = await collection.rows(FIELDS, search.query(resumeKey=place), limit=size + 1)
+        except ReplyTooLong:
+            if not counts.total:
+                raise
+            counts.is_whole = False
+            return counts
         for row in rows[:size]:
             counts.add(row[0])
         if len(rows) <= size:

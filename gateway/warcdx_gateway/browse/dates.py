@@ -24,9 +24,9 @@ def time_of(stamp: str) -> Optional[datetime.datetime]:
     """Returns the time of a stamp in UTC, or None if it is no time. A leap second is none."""
     if not _STAMP.fullmatch(stamp):
         return None
-    numbers = [int(stamp[at : at + 2]) for at in range(4, 14, 2)]
+    month, day, hour, minute, second = (int(stamp[at : at + 2]) for at in range(4, 14, 2))
     try:
-        return datetime.datetime(int(stamp[:4]), *numbers, tzinfo=datetime.timezone.utc)  # type: ignore[misc]
+        return datetime.datetime(int(stamp[:4]), month, day, hour, minute, second, tzinfo=datetime.timezone.utc)
     except ValueError:
         return None
 

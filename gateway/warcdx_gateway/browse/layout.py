@@ -55,22 +55,22 @@ def refusal_page(collection: Collection, refusal: Refusal, search: Optional[Sear
 
 def search_form(search: Optional[Search]) -> Markup:
     """Returns the form, with what was typed in it."""
-    typed = search.typed if search else ""
+    search = search or Search("")
     options = (
-        element("option", words, value=value, selected=bool(search) and search.match == value)
+        element("option", words, value=value, selected=search.match == value)
         for value, words in MATCHES.items()
     )
     return element(
         "form",
         _labelled(
             "Address or host",
-            element("input", type="text", name="url", id="url", value=typed, required=True, inputmode="url",
+            element("input", type="text", name="url", id="url", value=search.typed, required=True, inputmode="url",
                     autocapitalize="none", autocomplete="off", spellcheck="false", aria_describedby="url-help"),
             "url", "wide",
         ),
         _labelled("Match", element("select", options, name="match", id="match"), "match"),
-        _labelled("From", _time_input("from", search.first if search else ""), "from"),
-        _labelled("To", _time_input("to", search.last if search else ""), "to"),
+        _labelled("From", _time_input("from", search.first), "from"),
+        _labelled("To", _time_input("to", search.last), "to"),
         element("button", "Search", type="submit"),
         element(
             "p", "An address such as ", element("code", "example.com/page"), ", all below it ",

@@ -4,13 +4,14 @@ import concurrent.futures
 import functools
 import pathlib
 from collections.abc import Awaitable, Callable, Mapping
-from typing import TypeVar
+from typing import Optional, TypeVar
 
 from aiohttp import web
 
-from warcdx import Fault, ProgramError, Refused
+from warcdx import Error, Fault, Refused, ReplyTooLate, ReplyTooLong
 
 from ..collection import Collection
+from ..refusal import Refusal as GatewayRefusal
 from . import answers, dates, layout, reading
 from .compare_page import compare_page
 from .markup import element
@@ -58,17 +59,23 @@ async def _answer(collections: Mapping[str, Collection], handler: Handler, reque
         if "url" in request.query or "key" in request.query:
             search = Search.of(request.query)
         return await handler(collection, request)
-    except Refusal as refusal:
-        return layout.refusal_page(collection, refusal, search)
-    except Refused as refused:
-        refusal = search.refusal(refused.name) if search else Refusal("The query was refused.", refused.name)
-        return layout.refusal_page(collection, refusal, search)
-    except Fault as fault:
-        refusal = Refusal("An index of the collection can't be read.", f"Its fault is {fault.name}.", 502)
-        return layout.refusal_page(collection, refusal, search)
-    except ProgramError:
-        refusal = Refusal("The collection can't be read now.", "The program that reads it has ended.", 503)
-        return layout.refusal_page(collection, refusal, search)
+    except (Refusal, Error, GatewayRefusal) as error:
+        return layout.refusal_page(collection, _refusal_of(error, search), search)
+
+
+def _refusal_of(error: Exception, search: Optional[Search]) -> Refusal:
+    """Returns in words why a page can't be made."""
+    if isinstance(error, Refusal):
+        return error
+    if isinstance(error, Refused):
+        return search.refusal(error.name) if search else Refusal("The query was refused.", f"The program says {error.name}.")
+    if isinstance(error, Fault):
+        return Refusal("An index of the collection can't be read.", f"Its fault is {error.name}.", 502)
+    if isinstance(error, ReplyTooLong):
+        return Refusal("The captures can't be shown.", "The lines of the index are too long.", 502)
+    if isinstance(error, ReplyTooLate):
+        return Refusal("The search takes too long.", "Search for a shorter time, or for fewer addresses.", 503)
+    return Refusal("The collection can't be read now.", "Try again later.", 503)
 
 
 class Pages:

@@ -96,7 +96,7 @@ class Search:
 
     def query(self, **more: Optional[str]) -> str:
         """Returns the text of the query, with further parameters."""
-        pairs = {
+        pairs: dict[str, Optional[str]] = {
             "key" if self.key else "url": self.key or self.typed,
             "matchType": self.match,
             "from": self.first,
@@ -107,8 +107,10 @@ class Search:
 
     def link(self, path: str, fragment: str = "", /, **more: Optional[str]) -> Link:
         """Returns a link to a page of this search."""
-        values = {"url": self.typed, "match": self.match, "from_": self.first, "to": self.last, "key": self.key}
-        return link(path, fragment, **{**values, **more})
+        values: dict[str, Optional[str]] = {
+            "url": self.typed, "match": self.match, "from_": self.first, "to": self.last, "key": self.key, **more
+        }  # fmt: skip
+        return link(path, fragment, **values)
 
     def refusal(self, name: str) -> Refusal:
         """Returns the refusal of this search, from the name that the program gives it."""
