@@ -18,7 +18,7 @@ LEVELS = 4
 MOST_YEARS = 100  # that are drawn
 _MOST_GAP = 60  # years that are drawn without a gap left out
 _WIDTH, _BAR_HEIGHT, _TOP, _BOTTOM = 960, 96, 18, 20  # pixels
-_LEAST_BAR, _MOST_BAR = 34, 64
+_LEAST_BAR, _MOST_BAR = 34, 40
 _DAY, _ROW, _WEEKS_TOP = 32, 28, 24
 
 
