@@ -9,6 +9,7 @@ from aiohttp.test_utils import TestClient, TestServer
 from . import browse_support as support
 from .browse_support import Archives, page, record, response, revisit, text_of
 
+from warcdx import Archive, payload
 from warcdx_gateway.browse import counting, lists
 from warcdx_gateway.browse.search_page import caption
 from warcdx_gateway.browse.searching import Search
@@ -231,6 +232,32 @@ class Reading(support.Pages):
         """Returns the offset of a record of a.warc."""
         archive = (self.archives.archives / "a.warc").read_bytes()
         return [found.start() for found in re.finditer(rb"WARC/1\.1\r\nWARC-Type", archive)][number]
+
+
+class Crawl(support.Pages):
+    """A crawl of wget."""
+
+    def fill(self, archives: Archives) -> None:
+        archives.add("wget.warc", [])
+        (archives.archives / "wget.warc").write_bytes((support.SAMPLES / "wget.warc").read_bytes())
+        archives.index(archives.archives / "wget.warc")
+
+    async def test_each_record_has_a_page_and_a_payload(self) -> None:
+        archive = Archive(support.SAMPLES / "wget.warc", program=support.PROGRAM)
+        offsets = [each.offset for each in archive.list()]
+        self.assertEqual(68, len(offsets))
+        for offset in offsets:
+            found = await self.get("record", archive="wget.warc", offset=offset)
+            self.assertIn("The block is as it was recorded", found)
+            saved = await self.ask("download", archive="wget.warc", offset=offset, what="payload")
+            self.assertEqual(payload(archive.get(offset)), await saved.read())
+            if "<iframe" in found:
+                shown = await self.ask("payload", archive="wget.warc", offset=offset)
+                self.assertEqual(payload(archive.get(offset)), await shown.read())
+
+    async def test_the_host_has_all_captures(self) -> None:
+        found = text_of(await self.get("search", url="127.0.0.1", match="host"))
+        self.assertIn("captures on 22 November 2026.", found)
 
 
 class Many(support.Pages):

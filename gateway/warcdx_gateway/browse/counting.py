@@ -10,7 +10,7 @@ from ..collection import Collection
 from . import dates
 from .searching import Search, place_of
 
-MOST = 200_000  # captures that are counted for a page
+MOST = 500_000  # captures that are counted for a page
 PAGE = MOST_ROWS - 1  # captures that are held at a time
 FIELDS = ("timestamp", "urlkey", "filename", "offset")
 
