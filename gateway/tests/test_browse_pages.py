@@ -53,6 +53,11 @@ class Reading(support.Pages):
             self.assertEqual((status, "nosniff"), (answer.status, answer.headers["X-Content-Type-Options"]), path)
         self.assertEqual("text/css", (await client.get("/browse/style.css")).content_type)
 
+    async def test_a_path_may_have_its_slash_or_not(self) -> None:
+        for path, page_path in (("/browse/", "/browse"), ("/crawl/browse", "/crawl/browse/")):
+            answer = await self.client.get(path)
+            self.assertEqual((200, page_path), (answer.status, answer.url.path))
+
     async def test_an_address_has_years_days_and_captures(self) -> None:
         found = await self.get("search", url="example.com", year="2016")
         text = text_of(found)

@@ -37,12 +37,19 @@ def setup(app: web.Application, collections: Mapping[str, Collection]) -> None:
         return layout.list_page(collections)
 
     app.router.add_get("/browse", listed)
+    app.router.add_get("/browse/", functools.partial(_redirect, "../browse"))
+    app.router.add_get("/{collection}/browse", functools.partial(_redirect, "browse/"))
     for name, kind in PARTS.items():
         text = pathlib.Path(__file__).with_name(name).read_bytes()
         app.router.add_get(f"/browse/{name}", functools.partial(_part, text, kind))
     for name, handler in pages.handlers().items():
         app.router.add_get(f"/{{collection}}/browse/{name}", functools.partial(_answer, collections, handler))
     app.on_cleanup.append(pages.close)
+
+
+async def _redirect(path: str, request: web.Request) -> web.Response:
+    """Sends a browser from a path with or without its last slash to the other. Links are relative, so one of both is right."""
+    return web.Response(status=308, headers={**answers.COMMON, "Location": path})
 
 
 async def _part(text: bytes, kind: str, request: web.Request) -> web.Response:
