@@ -38,7 +38,9 @@ def digest_of(payload: bytes) -> str:
     return "sha1:" + base64.b32encode(hashlib.sha1(payload).digest()).decode()
 
 
-def record(kind: str, address: str, date: str, block: bytes, content_type: str, fields: Sequence[str] = ()) -> bytes:
+def record(
+    kind: str, address: str, date: str, block: bytes, content_type: str, fields: Sequence[str] = ()
+) -> bytes:
     """Returns a record of WARC 1.1. Its block has a digest, unless the fields have one."""
     lines = [
         "WARC/1.1",
@@ -61,7 +63,9 @@ def response(
 ) -> bytes:  # fmt: skip
     """Returns a response record."""
     typed = [f"Content-Type: {content_type}"] if content_type is not None else []
-    head = "\r\n".join([f"HTTP/1.1 {status}", *typed, *http, "", ""]).encode(errors="surrogateescape")
+    head = "\r\n".join([f"HTTP/1.1 {status}", *typed, *http, "", ""]).encode(
+        errors="surrogateescape"
+    )
     return record("response", address, date, head + body, "application/http; msgtype=response",
                   [f"WARC-Payload-Digest: {digest_of(body)}", *fields])  # fmt: skip
 
@@ -72,7 +76,14 @@ def revisit(address: str, date: str, body: bytes, refers_to: str = "") -> bytes:
               "WARC-Profile: http://netpreserve.org/warc/1.1/revisit/identical-payload-digest"]  # fmt: skip
     if refers_to:
         fields += [f"WARC-Refers-To-Target-URI: {address}", f"WARC-Refers-To-Date: {refers_to}"]
-    return record("revisit", address, date, b"HTTP/1.1 200 OK\r\n\r\n", "application/http; msgtype=response", fields)
+    return record(
+        "revisit",
+        address,
+        date,
+        b"HTTP/1.1 200 OK\r\n\r\n",
+        "application/http; msgtype=response",
+        fields,
+    )
 
 
 def page(title: str, *paragraphs: str) -> bytes:
@@ -108,16 +119,33 @@ class Archives:
     def index(self, path: pathlib.Path) -> None:
         script = [sys.executable, str(GATEWAY.parent / "python/bin/warcdx-gz"), "--warcdx", PROGRAM]
         command = script if path.name.endswith(".gz") else [PROGRAM]
-        self.put(path.name + ".cdxj", subprocess.run([*command, "index", path], stdout=subprocess.PIPE, check=True).stdout)
+        self.put(
+            path.name + ".cdxj",
+            subprocess.run([*command, "index", path], stdout=subprocess.PIPE, check=True).stdout,
+        )
 
     def put(self, name: str, lines: bytes) -> None:
         """Writes an index of these lines."""
         self.indexes.append(self.folder / name)
         self.indexes[-1].write_bytes(lines)
 
-    def line(self, address: str, stamp: str, filename: str, offset: int, key: str = "com,example)/", **more: str) -> bytes:
+    def line(
+        self,
+        address: str,
+        stamp: str,
+        filename: str,
+        offset: int,
+        key: str = "com,example)/",
+        **more: str,
+    ) -> bytes:
         """Returns a line of an index, of any values."""
-        members = {"url": address, "mime": "text/html", "status": "200", "digest": "-", "length": "1"}
+        members = {
+            "url": address,
+            "mime": "text/html",
+            "status": "200",
+            "digest": "-",
+            "length": "1",
+        }
         return f"{key} {stamp} {json.dumps({**members, 'offset': str(offset), 'filename': filename, **more})}\n".encode()
 
     def collection(self, name: str = "crawl", title: str = "A crawl") -> Collection:
@@ -163,9 +191,13 @@ class Pages(unittest.IsolatedAsyncioTestCase):
         self.assertEqual([], faults_of(text))
         return text
 
-    async def ask(self, name: str, headers: Optional[dict[str, str]] = None, **query: object) -> ClientResponse:
+    async def ask(
+        self, name: str, headers: Optional[dict[str, str]] = None, **query: object
+    ) -> ClientResponse:
         encoded = urlencode({each.rstrip("_"): str(value) for each, value in query.items()})
-        return await self.client.get(f"/crawl/browse/{name}?{encoded}", headers=headers, allow_redirects=False)
+        return await self.client.get(
+            f"/crawl/browse/{name}?{encoded}", headers=headers, allow_redirects=False
+        )
 
     def place(self, address: str) -> dict[str, object]:
         """Returns the query that the page of the last record of an address has."""
@@ -193,7 +225,14 @@ class _Checked(HTMLParser):
         if tag not in _ELEMENTS:
             self.faults.append(f"<{tag}>")
         for name, value in attrs:
-            if name.startswith("on") or name in ("style", "srcdoc", "http-equiv", "target", "formaction", "ping"):
+            if name.startswith("on") or name in (
+                "style",
+                "srcdoc",
+                "http-equiv",
+                "target",
+                "formaction",
+                "ping",
+            ):
                 self.faults.append(f"{name}={value}")
             if name in ("href", "src", "action") and not _PAGES.fullmatch(value or ""):
                 self.faults.append(f"{name}={value}")
@@ -205,7 +244,11 @@ def faults_of(page: str) -> list[str]:
     checked.feed(page)
     checked.close()
     shown = re.sub(' value="[^"]*"', "", page)  # what a form gives back is as it was
-    return checked.faults + [f"U+{ord(each):04X}" for each in shown if unicodedata.category(each) in ("Cc", "Cf") and each != "\n"]
+    return checked.faults + [
+        f"U+{ord(each):04X}"
+        for each in shown
+        if unicodedata.category(each) in ("Cc", "Cf") and each != "\n"
+    ]
 
 
 def text_of(page: str) -> str:

@@ -59,7 +59,12 @@ class Browsing(support.Pages):
             await tab.press_mouse("tbody tr:nth-child(3) input[name=second]")
             await tab.click("form:not([role=search]) button")
             self.assertIn("1 line differs.", await tab.text())
-            self.assertEqual(["17", "18"], await tab.evaluate("[...document.querySelectorAll('del, ins')].map(e => e.innerText)"))
+            self.assertEqual(
+                ["17", "18"],
+                await tab.evaluate(
+                    "[...document.querySelectorAll('del, ins')].map(e => e.innerText)"
+                ),
+            )
 
     async def test_the_keyboard_reaches_everything_in_order(self) -> None:
         async with browser() as tab:
@@ -76,7 +81,12 @@ class Browsing(support.Pages):
             await tab.open(self.address("/crawl/browse/search?url=example.com&year=2016"))
             while await tab.tab() != "Saturday, 31 December 2016: 1 capture":
                 pass
-            self.assertEqual("3px", await tab.evaluate("getComputedStyle(document.activeElement.querySelector('rect')).strokeWidth"))
+            self.assertEqual(
+                "3px",
+                await tab.evaluate(
+                    "getComputedStyle(document.activeElement.querySelector('rect')).strokeWidth"
+                ),
+            )
             await tab.enter()
             self.assertIn("Captures on 31 December 2016", await tab.text())
             await tab.tab()
@@ -87,16 +97,32 @@ class Browsing(support.Pages):
         async with browser() as tab:
             await tab.open(self.address("/crawl/browse/search?url=example.com&year=2016"))
             links = await tab.named("link")
-            for name in ("2016: 3 captures", "Thursday, 3 March 2016: 2 captures", "Record of 3 March 2016, 09:34:31"):
+            for name in (
+                "2016: 3 captures",
+                "Thursday, 3 March 2016: 2 captures",
+                "Record of 3 March 2016, 09:34:31",
+            ):
                 self.assertEqual(1, links.count(name), links)
             groups = await tab.named("group")
-            for name in ("Captures of each year", "March 2016: 2 captures", "December 2016: 1 capture"):
+            for name in (
+                "Captures of each year",
+                "March 2016: 2 captures",
+                "December 2016: 1 capture",
+            ):
                 self.assertIn(name, groups)
             self.assertIn("April 2016: no captures", await tab.named("image"))
             self.assertEqual(["Captures in 2016"], await tab.named("table"))
             self.assertEqual(["Address or host", "From", "To"], await tab.named("textbox"))
-            self.assertEqual(["first: 3 March 2016, 09:34:31", "second: 3 March 2016, 09:34:31"], (await tab.named("radio"))[:2])
-            for names in (links, await tab.named("button"), await tab.named("heading"), await tab.named("columnheader")):
+            self.assertEqual(
+                ["first: 3 March 2016, 09:34:31", "second: 3 March 2016, 09:34:31"],
+                (await tab.named("radio"))[:2],
+            )
+            for names in (
+                links,
+                await tab.named("button"),
+                await tab.named("heading"),
+                await tab.named("columnheader"),
+            ):
                 self.assertNotIn("", names)
             await tab.evaluate("document.querySelectorAll('details').forEach(e => e.open = true)")
             self.assertIn("Captures of each day of 2016", await tab.named("table"))
@@ -115,7 +141,9 @@ class Browsing(support.Pages):
                     for path in paths:
                         await tab.open(self.address(path))
                         self.assertLessEqual(await tab.evaluate(OVERFLOW), 0, (path, width))
-                    backgrounds.add(await tab.evaluate("getComputedStyle(document.body).backgroundColor"))
+                    backgrounds.add(
+                        await tab.evaluate("getComputedStyle(document.body).backgroundColor")
+                    )
                 self.assertEqual(2, len(backgrounds))
 
     def offset_of_second(self) -> int:
@@ -155,7 +183,12 @@ class Hostile(support.Pages):
             response(HOME + "image", date, html, "image/png"),
             response(HOME + "svg", date, self.svg(), "image/svg+xml"),
             response(HOME + "xml", date, self.svg(), "application/xhtml+xml"),
-            response(HOME + "split", date, html, f"text/html\r\n\r\n<script>top.hacked=1</script>\r\nLocation: {self.evil}/split"),
+            response(
+                HOME + "split",
+                date,
+                html,
+                f"text/html\r\n\r\n<script>top.hacked=1</script>\r\nLocation: {self.evil}/split",
+            ),
         ]
         self.archives.add("hostile.warc", records)
         await super().asyncSetUp()
@@ -163,7 +196,9 @@ class Hostile(support.Pages):
     async def trap(self, request: web.Request) -> web.Response:
         self.reached.append(request.path)
         if self.is_attacking and request.path == "/attack":
-            return web.Response(body=self.attacks().replace(b"0;url", b"2;url"), content_type="text/html")
+            return web.Response(
+                body=self.attacks().replace(b"0;url", b"2;url"), content_type="text/html"
+            )
         return web.Response(text="<script>top.hacked = 1</script>", content_type="text/html")
 
     def attacks(self) -> bytes:
@@ -192,7 +227,11 @@ a {{ position: fixed; left: 0; right: 0 }} #upper {{ top: 0; bottom: 50% }} #low
 
     def address(self, name: str, page: str = "record") -> str:
         place = self.place(HOME + name)
-        return str(self.client.make_url(f"/crawl/browse/{page}?archive={place['archive']}&offset={place['offset']}"))
+        return str(
+            self.client.make_url(
+                f"/crawl/browse/{page}?archive={place['archive']}&offset={place['offset']}"
+            )
+        )
 
     async def test_hostile_pages_get_nowhere(self) -> None:
         async with browser() as tab:
@@ -236,7 +275,10 @@ a {{ position: fixed; left: 0; right: 0 }} #upper {{ top: 0; bottom: 50% }} #low
         self.is_attacking = True
         async with browser() as tab:
             await tab.open(self.evil + "/attack")
-            await chromium.until(lambda: {"/script", "/fetch", "/image", "/style", "/frame", "/refresh"} <= set(self.reached))
+            await chromium.until(
+                lambda: {"/script", "/fetch", "/image", "/style", "/frame", "/refresh"}
+                <= set(self.reached)
+            )
             for link in ("upper", "lower"):
                 await tab.open(self.evil + "/attack")
                 self.assertEqual(1, await tab.evaluate("window.hacked"))
@@ -246,10 +288,22 @@ a {{ position: fixed; left: 0; right: 0 }} #upper {{ top: 0; bottom: 50% }} #low
     async def check_nowhere(self, tab: Tab, name: str, address: str) -> None:
         self.assertEqual(address, await tab.evaluate("location.href"), name)
         self.assertIsNone(await tab.evaluate("window.hacked"), name)
-        self.assertTrue((await tab.evaluate("document.title")).startswith("Record of 3 March 2016"), name)
+        self.assertTrue(
+            (await tab.evaluate("document.title")).startswith("Record of 3 March 2016"), name
+        )
         self.assertEqual([], self.reached, name)
-        sent = {event["request"]["url"].partition("?")[0] for event in tab.events("Network.requestWillBeSent")}
-        self.assertEqual([], [each for each in sent if not each.startswith((str(self.client.make_url("/")), "data:", "about:"))])
+        sent = {
+            event["request"]["url"].partition("?")[0]
+            for event in tab.events("Network.requestWillBeSent")
+        }
+        self.assertEqual(
+            [],
+            [
+                each
+                for each in sent
+                if not each.startswith((str(self.client.make_url("/")), "data:", "about:"))
+            ],
+        )
 
 
 if __name__ == "__main__":

@@ -23,9 +23,15 @@ def html_lines(text: str) -> list[str]:
 class Texts(unittest.TestCase):
     def test_the_text_of_html_is_what_a_reader_sees(self) -> None:
         for text, lines in (
-            ("<title>T</title><h1>A <b>bold</b>\n word</h1><p>One<br>two<p>three", ["T", "A bold word", "One", "two", "three"]),
+            (
+                "<title>T</title><h1>A <b>bold</b>\n word</h1><p>One<br>two<p>three",
+                ["T", "A bold word", "One", "two", "three"],
+            ),
             ("<script>var a = '<p>no</p>'</script><style>p {}</style><p>yes", ["yes"]),
-            ("<noscript><p>no</p></noscript><template><p>no</template><svg><text>no</text></svg>yes", ["yes"]),
+            (
+                "<noscript><p>no</p></noscript><template><p>no</template><svg><text>no</text></svg>yes",
+                ["yes"],
+            ),
             ("<ul><li>a</li><li>b</li></ul><table><tr><td>c<td>d</table>", ["a", "b", "c", "d"]),
             ("a &amp; b &lt;c&gt; &eacute; &#x202e;", ["a & b <c> é \u202e"]),
             ("<img alt='a picture'> and <img>", ["a picture and"]),
@@ -50,7 +56,9 @@ class Texts(unittest.TestCase):
             self.assertEqual(text, decoded(content, charset, is_html))
 
     def test_long_texts_are_cut(self) -> None:
-        self.assertEqual((4000, True), (len(lines_of("a\n" * 5000, False)[0]), lines_of("a\n" * 5000, False)[1]))
+        self.assertEqual(
+            (4000, True), (len(lines_of("a\n" * 5000, False)[0]), lines_of("a\n" * 5000, False)[1])
+        )
         self.assertEqual((["a" * 2000], True), lines_of("a" * 2001, False))
         lines, is_cut = lines_of(("a" * 1999 + "\n") * 200, False)
         self.assertEqual((200_000, True), (sum(map(len, lines)), is_cut))
@@ -63,17 +71,24 @@ class Rows(unittest.TestCase):
         rows = list(compare(first, second))
         self.assertEqual({"equal": 8}, rows[0])
         self.assertEqual({"equal": 7}, rows[-1])
-        self.assertEqual([["8"], ["9"], ["10"], ["11"], ["12"]], [[text for _, text in row["left"]] for row in rows[1:-1]])
+        self.assertEqual(
+            [["8"], ["9"], ["10"], ["11"], ["12"]],
+            [[text for _, text in row["left"]] for row in rows[1:-1]],
+        )
         self.assertEqual([{"equal": 20}], list(compare(first, first)))
         self.assertEqual([], list(compare([], [])))
 
     def test_all_lines_are_in_the_rows(self) -> None:
         rng = random.Random(1)
         for _ in range(200):
-            first, second = ([rng.choice("abcd efgh") for _ in range(rng.randrange(12))] for _ in range(2))
+            first, second = (
+                [rng.choice("abcd efgh") for _ in range(rng.randrange(12))] for _ in range(2)
+            )
             rows = list(compare(first, second))
             for side, lines in (("left", first), ("right", second)):
-                count = sum(row["equal"] if "equal" in row else row[side] is not None for row in rows)
+                count = sum(
+                    row["equal"] if "equal" in row else row[side] is not None for row in rows
+                )
                 self.assertEqual(len(lines), count, rows)
 
     def test_words_that_differ_are_marked(self) -> None:
@@ -101,7 +116,13 @@ class Hostile(support.Pages):
             "marks": "<p>a\u202eb</p><p>&#0;&#27;[2J\x1b\x9b</p>".encode(),
             "script": b"&lt;script&gt;alert(1)&lt;/script&gt;<p>&lt;/td&gt;",
         }
-        archives.add("a.warc", [response(HOME + name, "2016-03-03T00:00:00Z", body) for name, body in self.bodies.items()])
+        archives.add(
+            "a.warc",
+            [
+                response(HOME + name, "2016-03-03T00:00:00Z", body)
+                for name, body in self.bodies.items()
+            ],
+        )
 
     def pair(self, name: str) -> str:
         filename, offset = self.archives.places[HOME + name]
@@ -110,22 +131,33 @@ class Hostile(support.Pages):
     async def test_each_ends_in_bounded_time(self) -> None:
         for name in self.bodies:
             start = time.monotonic()
-            answer = await self.ask("compare", first=self.pair(name), second=self.pair("other-lines"))
+            answer = await self.ask(
+                "compare", first=self.pair(name), second=self.pair("other-lines")
+            )
             text = text_of(await answer.text())
             self.assertIn(answer.status, (200, 422), name)
-            self.assertTrue("side by side" in text or "They need more than 3 seconds" in text, text[:300])
+            self.assertTrue(
+                "side by side" in text or "They need more than 3 seconds" in text, text[:300]
+            )
             self.assertLess(time.monotonic() - start, 12, name)
 
     async def test_texts_are_escaped(self) -> None:
         for name in ("marks", "script"):
             found = await self.get("compare", first=self.pair(name), second=self.pair("plain"))
             self.assertNotIn("<script", found)
-        found = text_of(await self.get("compare", first=self.pair("marks"), second=self.pair("plain")))
+        found = text_of(
+            await self.get("compare", first=self.pair("marks"), second=self.pair("plain"))
+        )
         self.assertIn("a [U+202E] b", found)
 
     async def test_pairs_are_checked(self) -> None:
         for pair in ("", "0", "a.warc", "x a.warc", "-1 a.warc", " a.warc"):
-            await self.get("compare", 400 if not pair.startswith("0") else 404, first=pair, second=self.pair("plain"))
+            await self.get(
+                "compare",
+                400 if not pair.startswith("0") else 404,
+                first=pair,
+                second=self.pair("plain"),
+            )
         await self.get("compare", 404, first="0 ../a.warc", second=self.pair("plain"))
         await self.get("compare", 404, first="1 a.warc", second=self.pair("plain"))
 
@@ -134,9 +166,14 @@ class Hostile(support.Pages):
             self.assertRaises(compare_page.Refusal, compare_page.run, [])
 
     def test_the_process_reads_what_is_written_for_it(self) -> None:
-        given = io.BytesIO(json.dumps({"sizes": [1, 1], "charsets": [None, None], "html": [False, False]}).encode() + b"\nab")
+        given = io.BytesIO(
+            json.dumps({"sizes": [1, 1], "charsets": [None, None], "html": [False, False]}).encode()
+            + b"\nab"
+        )
         output = io.StringIO()
-        with mock.patch("sys.stdin", mock.Mock(buffer=given)), mock.patch("sys.stdout", output), mock.patch("resource.setrlimit"):
+        with mock.patch("sys.stdin", mock.Mock(buffer=given)), mock.patch(
+            "sys.stdout", output
+        ), mock.patch("resource.setrlimit"):
             comparing.main()
         self.assertEqual([False, False], json.loads(output.getvalue())["cut"])
 

@@ -21,15 +21,9 @@ HOME = "http://example.com/"
 SCRIPT = "<script>top.hacked=1</script>"
 MARKUP = f"\"'></title></iframe></svg>{SCRIPT}<img src=x onerror=alert(1)>"
 ADDRESSES = (
-    "javascript:alert(document.domain)",
-    "data:text/html," + SCRIPT,
-    "http://evil.example/?" + MARKUP,
-    "http://evil.example/\u202egpj.exe",
-    "http://evil.example/\x9b31m",
-    "//evil.example/",
-    "..//..//",
-    "\udcff\udc80",
-)
+    "javascript:alert(document.domain)", "data:text/html," + SCRIPT, "http://evil.example/?" + MARKUP,
+    "http://evil.example/\u202egpj.exe", "http://evil.example/\x9b31m", "//evil.example/", "..//..//",
+)  # fmt: skip
 LONG = "http://long.example/" + "\u202e" * 100_000
 MEGABYTE = 1 << 20
 
@@ -38,23 +32,40 @@ MEGABYTE = 1 << 20
 def bomb(start: bytes = b"") -> bytes:
     """Returns a member of gzip that unpacks to a start and 300 MB of zeros."""
     packer, zeros = zlib.compressobj(1, zlib.DEFLATED, 31), bytes(MEGABYTE)
-    return packer.compress(start) + b"".join(packer.compress(zeros) for _ in range(300)) + packer.flush()
+    return (
+        packer.compress(start)
+        + b"".join(packer.compress(zeros) for _ in range(300))
+        + packer.flush()
+    )
 
 
 class Indexes(support.Pages):
     """Lines of an index whose values are hostile."""
 
     def fill(self, archives: Archives) -> None:
-        archives.add("good.warc", [response(HOME, "2016-03-03T00:00:00Z", page("good"))], index=False)
+        archives.add(
+            "good.warc", [response(HOME, "2016-03-03T00:00:00Z", page("good"))], index=False
+        )
         outside = archives.folder / "outside.warc"
         outside.write_bytes(response(HOME, "2016-03-03T00:00:00Z", b"secret"))
         (archives.archives / "link.warc").symlink_to(outside)
         os.mkfifo(archives.archives / "pipe.warc")
         lines = [archives.line(address, f"2016030300000{number}", "good.warc", 0)
-                 for number, address in enumerate(ADDRESSES[:-1])]  # fmt: skip
+                 for number, address in enumerate(ADDRESSES)]  # fmt: skip
         lines += [
-            archives.line(HOME, "20160304000000", MARKUP, 0, mime=MARKUP, status=MARKUP, digest=MARKUP, length=MARKUP),
-            archives.line(LONG, "20160305000000", LONG, 0, mime=LONG, status=LONG, digest=LONG, length=LONG),
+            archives.line(
+                HOME,
+                "20160304000000",
+                MARKUP,
+                0,
+                mime=MARKUP,
+                status=MARKUP,
+                digest=MARKUP,
+                length=MARKUP,
+            ),
+            archives.line(
+                LONG, "20160305000000", LONG, 0, mime=LONG, status=LONG, digest=LONG, length=LONG
+            ),
             archives.line(LONG, "20160306000000", LONG, 0, key="com,example)/" + "k" * 100_000),
             archives.line(HOME, "00000000000000", "good.warc", 0),
             archives.line(HOME, "00010101000000", "good.warc", 0),
@@ -78,7 +89,12 @@ class Indexes(support.Pages):
             self.assertNotIn(SCRIPT, found)
             self.assertLess(len(found), 200_000)
         listed = text_of(await self.get("captures", url="*.example.com"))
-        for words in ("javascript:alert(document.domain)", SCRIPT, "[U+202E] gpj.exe", "[U+009B] 31m"):
+        for words in (
+            "javascript:alert(document.domain)",
+            SCRIPT,
+            "[U+202E] gpj.exe",
+            "[U+009B] 31m",
+        ):
             self.assertIn(words, listed)
 
     async def test_what_a_reader_sends_is_escaped(self) -> None:
@@ -92,14 +108,22 @@ class Indexes(support.Pages):
                     self.assertNotIn("X-Injected", answer.headers)
                     self.assertEqual([], support.faults_of(found), (name, value))
         for path in ("record", "download", "payload", "compare"):
-            found = await self.get(path, 404, archive=MARKUP, offset=0, what="record", first=f"0 {MARKUP}", second=f"0 {MARKUP}")
+            found = await self.get(
+                path,
+                404,
+                archive=MARKUP,
+                offset=0,
+                what="record",
+                first=f"0 {MARKUP}",
+                second=f"0 {MARKUP}",
+            )
             self.assertNotIn(SCRIPT, found)
 
     async def test_years_that_are_no_dates_are_shown(self) -> None:
         found = text_of(await self.get("search", url=HOME))
         self.assertIn("The time of 2 captures is no date.", found)
-        for year in ("0000", "0001", "9999", "2016"):
-            self.assertIn(f"{year}: 1 ", (await self.get("search", url=HOME, year=year)).replace("9 captures", "1 "))
+        for year, count in (("0000", "1 capture"), ("0001", "1 capture"), ("9999", "1 capture"), ("2016", "10 captures")):
+            self.assertIn(f"<h2>{year}: {count}</h2>", await self.get("search", url=HOME, year=year))
         for day in ("00000000", "20161345", "99991231"):
             self.assertIn("Record of", await self.get("captures", url=HOME, from_=day, to=day))
 
@@ -187,7 +211,12 @@ class Records(support.Pages):
 
     def test_the_policy_of_payloads_lets_nothing_act(self) -> None:
         directives = dict(part.strip().partition(" ")[::2] for part in PAYLOAD_POLICY.split(";"))
-        self.assertEqual(("", "'none'", "'none'", "'none'"), tuple(directives[each] for each in ("sandbox", "default-src", "form-action", "base-uri")))
+        self.assertEqual(
+            ("", "'none'", "'none'", "'none'"),
+            tuple(
+                directives[each] for each in ("sandbox", "default-src", "form-action", "base-uri")
+            ),
+        )
         self.assertNotIn("script-src", directives)
 
     async def test_payloads_have_types_of_a_list(self) -> None:
@@ -203,13 +232,23 @@ class Records(support.Pages):
     async def test_a_payload_has_no_window_of_its_own(self) -> None:
         query = {"archive": "a.warc", "offset": self.offsets["html"]}
         answer = await self.ask("payload", {"Sec-Fetch-Dest": "document"}, **query)
-        self.assertEqual((303, f"record?archive=a.warc&offset={self.offsets['html']}"), (answer.status, answer.headers["Location"]))
+        self.assertEqual(
+            (303, f"record?archive=a.warc&offset={self.offsets['html']}"),
+            (answer.status, answer.headers["Location"]),
+        )
         answer = await self.ask("payload", {"Sec-Fetch-Dest": "iframe"}, **query)
         self.assertEqual(200, answer.status)
 
     async def test_what_can_not_be_seen_is_shown(self) -> None:
         text = text_of(await self.shown("controls"))
-        for words in ("X [U+0000] -Name [U+001B]", "a [U+000D] b [U+007F]", r"\xFF", r"\xFE", "No colon", SCRIPT):
+        for words in (
+            "X [U+0000] -Name [U+001B]",
+            "a [U+000D] b [U+007F]",
+            r"\xFF",
+            r"\xFE",
+            "No colon",
+            SCRIPT,
+        ):
             self.assertIn(words, text)
 
     async def test_digests_have_verdicts_in_words(self) -> None:
@@ -217,18 +256,25 @@ class Records(support.Pages):
                             ("no-digest", "isn't a SHA-1 in base 32")):  # fmt: skip
             self.assertIn(words, text_of(await self.shown(name)))
         with mock.patch("warcdx_gateway.browse.record_page.MOST_VERIFIED", 10):
-            self.assertIn("Not compared: the block has more than", text_of(await self.shown("html")))
+            self.assertIn(
+                "Not compared: the block has more than", text_of(await self.shown("html"))
+            )
 
     async def test_heads_of_many_fields_are_cut(self) -> None:
         text = text_of(await self.shown("many"))
-        shown = [words in text for words in ("HTTP/1.1 200 OK", "X-297", "X-298", "2,702 fields more")]
+        shown = [
+            words in text for words in ("HTTP/1.1 200 OK", "X-297", "X-298", "2,702 fields more")
+        ]
         self.assertEqual([True, True, False, True], shown)
 
     async def test_bombs_are_given_up(self) -> None:
         tracemalloc.start()
         self.addCleanup(tracemalloc.stop)
         start = time.monotonic()
-        self.assertIn("The payload has more than 4,194,304 bytes. Its beginning is shown.", text_of(await self.shown("bomb")))
+        self.assertIn(
+            "The payload has more than 4,194,304 bytes. Its beginning is shown.",
+            text_of(await self.shown("bomb")),
+        )
         self.assertEqual(4 * MEGABYTE, len((await self.payload("bomb"))[1]))
         self.assertIn("can't be unpacked to its end", text_of(await self.shown("nested")))
         self.assertIn("more than 8 codings", text_of(await self.shown("codings")))
@@ -240,14 +286,22 @@ class Records(support.Pages):
                             ("no-head", "The block has no HTTP head.")):  # fmt: skip
             self.assertIn(words, text_of(await self.shown(name)))
         for name in ("unknown", "no-head"):
-            found = text_of(await self.get("download", 422, archive="a.warc", offset=self.offsets[name], what="payload"))
+            found = text_of(
+                await self.get(
+                    "download", 422, archive="a.warc", offset=self.offsets[name], what="payload"
+                )
+            )
             self.assertIn("The payload can't be unpacked.", found)
-            saved = await self.ask("download", archive="a.warc", offset=self.offsets[name], what="record")
+            saved = await self.ask(
+                "download", archive="a.warc", offset=self.offsets[name], what="record"
+            )
             self.assertEqual(self.all[name], await saved.read())
 
     async def test_a_download_that_fails_later_is_not_whole(self) -> None:
         with mock.patch.object(reading, "DOWNLOADED", reading.Limits(size=MEGABYTE)):
-            answer = await self.ask("download", archive="a.warc", offset=self.offsets["bomb"], what="payload")
+            answer = await self.ask(
+                "download", archive="a.warc", offset=self.offsets["bomb"], what="payload"
+            )
             self.assertEqual(200, answer.status)
             with self.assertRaises(ClientError):
                 await answer.read()
@@ -255,9 +309,14 @@ class Records(support.Pages):
     async def test_names_of_downloads_are_plain(self) -> None:
         for name in ("address", "controls", "html"):
             for what in ("record", "payload"):
-                answer = await self.ask("download", archive="a.warc", offset=self.offsets[name], what=what)
+                answer = await self.ask(
+                    "download", archive="a.warc", offset=self.offsets[name], what=what
+                )
                 self.assertEqual("application/octet-stream", answer.headers["Content-Type"])
-                self.assertRegex(answer.headers["Content-Disposition"], r"""^attachment; filename="[\w.-]+"; filename\*=UTF-8''[\w.%~-]+$""")
+                self.assertRegex(
+                    answer.headers["Content-Disposition"],
+                    r"""^attachment; filename="[\w.-]+"; filename\*=UTF-8''[\w.%~-]+$""",
+                )
                 self.assertIn("sandbox", answer.headers["Content-Security-Policy"])
 
     async def test_downloads_are_limited_in_number(self) -> None:
@@ -282,14 +341,23 @@ class LongRecords(support.Pages):
     def fill(self, archives: Archives) -> None:
         size = 3 << 30
         path = archives.archives / "long.warc"
-        head = record("resource", HOME, "2016-03-03T00:00:00Z", b"", "text/plain", ["WARC-Block-Digest: sha1:" + "A" * 32])
+        head = record(
+            "resource",
+            HOME,
+            "2016-03-03T00:00:00Z",
+            b"",
+            "text/plain",
+            ["WARC-Block-Digest: sha1:" + "A" * 32],
+        )
         with open(path, "wb") as file:
             file.write(head[:-4].replace(b"Content-Length: 0", b"Content-Length: %d" % size))
             file.truncate(file.tell() + size)
             file.seek(0, 2)
             file.write(b"\r\n\r\n")
         start = record("resource", HOME, "2016-03-03T00:00:00Z", bytes(100), "text/plain")[:-4]
-        (archives.archives / "bomb.warc.gz").write_bytes(bomb(start.replace(b": 100", b": %d" % size)))
+        (archives.archives / "bomb.warc.gz").write_bytes(
+            bomb(start.replace(b": 100", b": %d" % size))
+        )
         archives.put("index", b"")
 
     async def test_their_pages_take_bounded_time_and_memory(self) -> None:

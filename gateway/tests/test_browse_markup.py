@@ -6,7 +6,16 @@ from html.parser import HTMLParser
 from .browse_support import GATEWAY
 
 from warcdx_gateway.browse import answers
-from warcdx_gateway.browse.markup import Markup, cut, document, element, joined, link, shown, visible
+from warcdx_gateway.browse.markup import (
+    Markup,
+    cut,
+    document,
+    element,
+    joined,
+    link,
+    shown,
+    visible,
+)
 
 HOSTILE = "<script>alert(1)</script>\"'&><img src=x onerror=alert(1)>"
 
@@ -30,10 +39,19 @@ class Found(HTMLParser):
 
 class Escaping(unittest.TestCase):
     def test_texts_and_values_are_escaped(self) -> None:
-        made = element("p", HOSTILE, [HOSTILE, element("b", HOSTILE)], title=HOSTILE, aria_label=HOSTILE, class_=HOSTILE)
+        made = element(
+            "p",
+            HOSTILE,
+            [HOSTILE, element("b", HOSTILE)],
+            title=HOSTILE,
+            aria_label=HOSTILE,
+            class_=HOSTILE,
+        )
         found = Found(made.text)
         self.assertEqual(["p", "b"], [name for name, _ in found.elements])
-        self.assertEqual({"title": HOSTILE, "aria-label": HOSTILE, "class": HOSTILE}, found.elements[0][1])
+        self.assertEqual(
+            {"title": HOSTILE, "aria-label": HOSTILE, "class": HOSTILE}, found.elements[0][1]
+        )
         self.assertEqual(HOSTILE * 3, found.data)
 
     def test_markup_is_no_text(self) -> None:
@@ -45,13 +63,22 @@ class Escaping(unittest.TestCase):
         for name in ("href", "src", "action"):
             self.assertRaises(TypeError, element, "a", **{name: "javascript:alert(1)"})
         self.assertRaises(TypeError, element, "a", title=link("record"))
-        for path in ("javascript:alert(1)", "//evil.example/", "http://evil.example/", "a?b", "a\nb", "\\\\evil"):
+        for path in (
+            "javascript:alert(1)",
+            "//evil.example/",
+            "http://evil.example/",
+            "a?b",
+            "a\nb",
+            "\\\\evil",
+        ):
             self.assertRaises(ValueError, link, path)
             self.assertRaises(ValueError, link, "record", path)
 
     def test_values_of_a_link_are_encoded(self) -> None:
         made = link("search", url="javascript:alert(1)//&year=1\r\n#x\ud800", from_="", year=None)
-        self.assertEqual("search?url=javascript%3Aalert%281%29%2F%2F%26year%3D1%0D%0A%23x%3F", made.text)
+        self.assertEqual(
+            "search?url=javascript%3Aalert%281%29%2F%2F%26year%3D1%0D%0A%23x%3F", made.text
+        )
 
     def test_what_acts_or_styles_is_no_attribute(self) -> None:
         for name in ("onclick", "ONLOAD", "style", "srcdoc", "a b", "x>", ""):
@@ -60,11 +87,21 @@ class Escaping(unittest.TestCase):
             self.assertRaises(ValueError, element, name)
 
     def test_attributes_may_be_left_out(self) -> None:
-        made = element("input", type="radio", checked=True, required=False, title=None, for_="a", data_label="b")
+        made = element(
+            "input",
+            type="radio",
+            checked=True,
+            required=False,
+            title=None,
+            for_="a",
+            data_label="b",
+        )
         self.assertEqual('<input type="radio" checked for="a" data-label="b">', made.text)
 
     def test_a_document_is_utf_8(self) -> None:
-        made = document("a\u202e\ud800</title><b>", joined("\ud800", "é"), link("style.css"), link("icon.svg"))
+        made = document(
+            "a\u202e\ud800</title><b>", joined("\ud800", "é"), link("style.css"), link("icon.svg")
+        )
         self.assertIn("<title>a[U+202E][U+D800]&lt;/title&gt;&lt;b&gt;</title>", made.decode())
         self.assertIn('<b class="unseen">[U+D800]</b>é', made.decode())
 
@@ -118,7 +155,13 @@ class Colours(unittest.TestCase):
         ("text", "added"), ("text", "added-word"), ("faint", "day1"), ("day1-text", "day1"), ("day2-text", "day2"),
         ("day3-text", "day3"), ("day4-text", "day4"),
     )  # fmt: skip
-    DRAWINGS = (("bar", "card"), ("focus", "card"), ("focus", "page"), ("day3", "card"), ("day4", "card"))
+    DRAWINGS = (
+        ("bar", "card"),
+        ("focus", "card"),
+        ("focus", "page"),
+        ("day3", "card"),
+        ("day4", "card"),
+    )
 
     def test_colours_have_enough_contrast(self) -> None:
         style = (GATEWAY / "warcdx_gateway/browse/style.css").read_text()
@@ -129,7 +172,9 @@ class Colours(unittest.TestCase):
         for colours in (light, dark):
             for pairs, least in ((self.TEXTS, 4.5), (self.DRAWINGS, 3)):
                 for one, other in pairs:
-                    self.assertGreaterEqual(contrast(colours[one], colours[other]), least, (one, other))
+                    self.assertGreaterEqual(
+                        contrast(colours[one], colours[other]), least, (one, other)
+                    )
 
 
 def contrast(one: str, other: str) -> float:
@@ -140,7 +185,9 @@ def contrast(one: str, other: str) -> float:
 
 def luminance(colour: str) -> float:
     parts = (int(colour[at : at + 2], 16) / 255 for at in (1, 3, 5))
-    red, green, blue = (part / 12.92 if part <= 0.04045 else ((part + 0.055) / 1.055) ** 2.4 for part in parts)
+    red, green, blue = (
+        part / 12.92 if part <= 0.04045 else ((part + 0.055) / 1.055) ** 2.4 for part in parts
+    )
     return 0.2126 * red + 0.7152 * green + 0.0722 * blue
 
 

@@ -25,22 +25,42 @@ SECOND = page("Home", "Open from 9 to 18.", "The same.")
 class Reading(support.Pages):
     def fill(self, archives: Archives) -> None:
         records = [
-            record("warcinfo", "", "2016-03-01T00:00:00Z", b"software: none\r\n", "application/warc-fields"),
+            record(
+                "warcinfo",
+                "",
+                "2016-03-01T00:00:00Z",
+                b"software: none\r\n",
+                "application/warc-fields",
+            ),
             response(HOME, "2016-03-03T09:34:31Z", FIRST, http=["X-Field: a value"]),
             response(HOME, "2016-03-03T10:00:00Z", SECOND),
             revisit(HOME, "2016-12-31T23:59:59Z", SECOND, "2016-03-03T10:00:00Z"),
             response(HOME, "2018-07-01T00:00:00Z", b"gone", "text/plain", status="410 Gone"),
             response("http://example.com/a%20b?c=d", "2017-01-01T00:00:00Z", FIRST),
-            response("http://www.example.com/logo", "2017-01-01T00:00:00Z", b"\x89PNG\r\n\x1a\n", "image/png"),
+            response(
+                "http://www.example.com/logo",
+                "2017-01-01T00:00:00Z",
+                b"\x89PNG\r\n\x1a\n",
+                "image/png",
+            ),
             response("http://sub.example.com/", "2017-02-01T00:00:00Z", FIRST),
-            response("http://example.org/data", "2017-02-01T00:00:00Z", b"PK\3\4", "application/zip"),
+            response(
+                "http://example.org/data", "2017-02-01T00:00:00Z", b"PK\3\4", "application/zip"
+            ),
         ]
         archives.add("a.warc", records)
-        packed = response("http://packed.example/", "2019-01-01T00:00:00Z", gzip.compress(FIRST), http=["Content-Encoding: gzip"])
+        packed = response(
+            "http://packed.example/",
+            "2019-01-01T00:00:00Z",
+            gzip.compress(FIRST),
+            http=["Content-Encoding: gzip"],
+        )
         archives.add("b.warc.gz", [packed])
 
     async def test_the_list_of_collections_links_each(self) -> None:
-        collections = {name: self.archives.collection(name, f"<{name}>") for name in ("one", "Two.2")}
+        collections = {
+            name: self.archives.collection(name, f"<{name}>") for name in ("one", "Two.2")
+        }
         for each in collections.values():
             self.addAsyncCleanup(each.close)
         client = await self.serve(collections)
@@ -50,7 +70,9 @@ class Reading(support.Pages):
         for path, status in (("/one/browse/", 200), ("/Two.2/browse/", 200), ("/three/browse/", 404), ("/browse/style.css", 200),
                              ("/browse/icon.svg", 200)):  # fmt: skip
             answer = await client.get(path)
-            self.assertEqual((status, "nosniff"), (answer.status, answer.headers["X-Content-Type-Options"]), path)
+            self.assertEqual(
+                (status, "nosniff"), (answer.status, answer.headers["X-Content-Type-Options"]), path
+            )
         self.assertEqual("text/css", (await client.get("/browse/style.css")).content_type)
 
     async def test_a_path_may_have_its_slash_or_not(self) -> None:
@@ -69,9 +91,16 @@ class Reading(support.Pages):
         self.assertIn('aria-label="Saturday, 31 December 2016: 1 capture"', found)
         self.assertEqual(2, len(re.findall('<text [^>]*class="day"', found)))
         self.assertIn("Captures in 2016", text)
-        rows = re.findall(r"<tr role=\"row\"><th scope=\"row\" role=\"rowheader\" class=\"time\">(.*?)</tr>", found)
+        rows = re.findall(
+            r"<tr role=\"row\"><th scope=\"row\" role=\"rowheader\" class=\"time\">(.*?)</tr>",
+            found,
+        )
         self.assertEqual(
-            ["3 March 2016, 09:34:31 200 text/html", "3 March 2016, 10:00:00 200 text/html", "31 December 2016, 23:59:59 200 revisit"],
+            [
+                "3 March 2016, 09:34:31 200 text/html",
+                "3 March 2016, 10:00:00 200 text/html",
+                "31 December 2016, 23:59:59 200 revisit",
+            ],
             [" ".join(text_of(each).split()[:6]) for each in rows],
         )
         self.assertIn("same as above", text_of(rows[2]))
@@ -90,7 +119,10 @@ class Reading(support.Pages):
     async def test_each_day_links_its_captures(self) -> None:
         found = await self.get("search", url=HOME, year="2016")
         link = re.search(r'<a href="(captures\?[^"]*)" aria-label="Thursday, 3 March', found)
-        self.assertEqual("captures?url=http%3A%2F%2Fexample.com%2F&amp;from=20160303&amp;to=20160303", link and link[1])
+        self.assertEqual(
+            "captures?url=http%3A%2F%2Fexample.com%2F&amp;from=20160303&amp;to=20160303",
+            link and link[1],
+        )
         day = text_of(await self.get("captures", url=HOME, from_="20160303", to="20160303"))
         self.assertIn("Captures on 3 March 2016", day)
         self.assertIn("09:34:31", day)
@@ -131,8 +163,15 @@ class Reading(support.Pages):
 
     async def test_nothing_found_offers_wider_searches(self) -> None:
         found = await self.get("search", url="example.com/nothing", from_="2016")
-        self.assertIn("The collection has no capture of this in the time from 2016 to the last.", text_of(found))
-        for words in ("Search at any time", "Search the whole host", "Search for addresses that begin so"):
+        self.assertIn(
+            "The collection has no capture of this in the time from 2016 to the last.",
+            text_of(found),
+        )
+        for words in (
+            "Search at any time",
+            "Search the whole host",
+            "Search for addresses that begin so",
+        ):
             self.assertIn(words, found)
 
     async def test_times_are_typed_in_several_ways(self) -> None:
@@ -147,7 +186,9 @@ class Reading(support.Pages):
             self.assertEqual(2, first.count("Record of"))
             link = re.search(r'<a href="captures\?([^"#]*)#list" rel="next">Next 2</a>', first)
             assert link
-            answer = await self.client.get("/crawl/browse/captures?" + link[1].replace("&amp;", "&"))
+            answer = await self.client.get(
+                "/crawl/browse/captures?" + link[1].replace("&amp;", "&")
+            )
             second = await answer.text()
         self.assertIn("Record of 31 December 2016, 23:59:59", second)
         self.assertIn("Record of 1 July 2018", second)
@@ -173,7 +214,9 @@ class Reading(support.Pages):
                       "WARC-Type response", "(first line) HTTP/1.1 200 OK", "X-Field a value",
                       f"The payload has {len(FIRST)} bytes"):  # fmt: skip
             self.assertIn(words.lower(), text.lower())
-        self.assertRegex(found, r'<iframe title="[^"]*" src="payload\?archive=a.warc&amp;offset=\d+" sandbox ')
+        self.assertRegex(
+            found, r'<iframe title="[^"]*" src="payload\?archive=a.warc&amp;offset=\d+" sandbox '
+        )
 
     async def test_records_of_other_types_are_shown(self) -> None:
         found = text_of(await self.get("record", archive="a.warc", offset=0))
@@ -184,7 +227,10 @@ class Reading(support.Pages):
 
     async def test_a_revisit_has_its_original(self) -> None:
         found = await self.get("record", archive="a.warc", offset=self.offset_of(3))
-        self.assertIn("The payload is that of the capture of 3 March 2016, 10:00:00 , which has the same digest.", text_of(found))
+        self.assertIn(
+            "The payload is that of the capture of 3 March 2016, 10:00:00 , which has the same digest.",
+            text_of(found),
+        )
         self.assertIn(f'href="record?archive=a.warc&amp;offset={self.offset_of(2)}"', found)
         self.assertIn("The payload is empty.", text_of(found))
 
@@ -195,37 +241,60 @@ class Reading(support.Pages):
         self.assertEqual(FIRST, await answer.read())
 
     async def test_two_texts_are_compared(self) -> None:
-        found = await self.get("compare", first=f"{self.offset_of(1)} a.warc", second=f"{self.offset_of(2)} a.warc")
+        found = await self.get(
+            "compare", first=f"{self.offset_of(1)} a.warc", second=f"{self.offset_of(2)} a.warc"
+        )
         self.assertIn("1 line differs.", text_of(found))
         self.assertIn("9 to <del>17</del>.", found)
         self.assertIn("9 to <ins>18</ins>.", found)
 
     async def test_a_revisit_is_compared_by_its_original(self) -> None:
-        found = text_of(await self.get("compare", first=f"{self.offset_of(2)} a.warc", second=f"{self.offset_of(3)} a.warc"))
+        found = text_of(
+            await self.get(
+                "compare", first=f"{self.offset_of(2)} a.warc", second=f"{self.offset_of(3)} a.warc"
+            )
+        )
         self.assertIn("The texts are the same. The payloads are the same, byte for byte.", found)
         self.assertIn("(a revisit: the text of its original)", found)
 
     async def test_images_are_not_compared(self) -> None:
         name, offset = self.archives.places["http://www.example.com/logo"]
-        found = text_of(await self.get("compare", 422, first=f"{self.offset_of(1)} a.warc", second=f"{offset} {name}"))
+        found = text_of(
+            await self.get(
+                "compare", 422, first=f"{self.offset_of(1)} a.warc", second=f"{offset} {name}"
+            )
+        )
         self.assertIn("Only texts are compared.", found)
 
     async def test_records_and_payloads_are_saved(self) -> None:
-        answer = await self.ask("download", what="record", archive="a.warc", offset=self.offset_of(1))
+        answer = await self.ask(
+            "download", what="record", archive="a.warc", offset=self.offset_of(1)
+        )
         self.assertEqual(b"WARC/1.1\r\n", (await answer.read())[:10])
         self.assertEqual("application/octet-stream", answer.headers["Content-Type"])
         name = f"a.warc-{self.offset_of(1)}.warc"
-        self.assertEqual(f"attachment; filename=\"{name}\"; filename*=UTF-8''{name}", answer.headers["Content-Disposition"])
+        self.assertEqual(
+            f"attachment; filename=\"{name}\"; filename*=UTF-8''{name}",
+            answer.headers["Content-Disposition"],
+        )
         saved = await self.ask("download", what="payload", **self.place("http://packed.example/"))
         self.assertEqual(FIRST, await saved.read())
-        self.assertIn('filename="20190101000000-packed.example"', saved.headers["Content-Disposition"])
-        head = await self.client.head(f"/crawl/browse/download?archive=a.warc&offset={self.offset_of(1)}")
-        self.assertEqual((200, answer.headers["Content-Length"]), (head.status, head.headers["Content-Length"]))
+        self.assertIn(
+            'filename="20190101000000-packed.example"', saved.headers["Content-Disposition"]
+        )
+        head = await self.client.head(
+            f"/crawl/browse/download?archive=a.warc&offset={self.offset_of(1)}"
+        )
+        self.assertEqual(
+            (200, answer.headers["Content-Length"]), (head.status, head.headers["Content-Length"])
+        )
 
     async def test_the_gateway_has_the_pages(self) -> None:
         collection = self.archives.collection()
         self.addAsyncCleanup(collection.close)
-        settings = Settings((CollectionSettings("crawl", "A crawl", tuple(self.archives.indexes)),), "crawl")
+        settings = Settings(
+            (CollectionSettings("crawl", "A crawl", tuple(self.archives.indexes)),), "crawl"
+        )
         application = Gateway(settings, {"crawl": collection}, Metrics()).application()
         async with TestClient(TestServer(application)) as client:
             for path in ("/browse", "/crawl/browse/", "/crawl/browse/search?url=example.com"):
@@ -269,13 +338,23 @@ class Many(support.Pages):
     """More captures than are held at a time."""
 
     def fill(self, archives: Archives) -> None:
-        stamps = [f"{2000 + number // 500}{number % 12 + 1:02}15{number % 86400:06}" for number in range(3500)]
+        stamps = [
+            f"{2000 + number // 500}{number % 12 + 1:02}15{number % 86400:06}"
+            for number in range(3500)
+        ]
         name = "a%b +&=ü.warc"
-        archives.put("index", b"".join(sorted(archives.line(HOME, stamp, name, at) for at, stamp in enumerate(stamps))))
+        archives.put(
+            "index",
+            b"".join(
+                sorted(archives.line(HOME, stamp, name, at) for at, stamp in enumerate(stamps))
+            ),
+        )
 
     async def test_all_are_counted(self) -> None:
         found = await self.get("search", url=HOME)
-        self.assertIn("3,500 captures between 15 January 2000 and 15 December 2006.", text_of(found))
+        self.assertIn(
+            "3,500 captures between 15 January 2000 and 15 December 2006.", text_of(found)
+        )
         for year in range(2000, 2007):
             self.assertIn(f'aria-label="{year}: 500 captures"', found)
 
@@ -301,14 +380,18 @@ class LongLines(support.Pages):
     """An index whose lines are longer than the gateway takes."""
 
     def fill(self, archives: Archives) -> None:
-        lines = [archives.line(HOME, f"2016010100000{number}", "a.warc", number) for number in range(9)]
+        lines = [
+            archives.line(HOME, f"2016010100000{number}", "a.warc", number) for number in range(9)
+        ]
         lines.append(archives.line(HOME, "20170101000000", "x" * (9 << 20), 9))
         archives.put("index", b"".join(lines))
 
     async def test_what_can_not_be_shown_is_said(self) -> None:
         found = text_of(await self.get("search", 502, url=HOME))
         self.assertIn("The lines of the index are too long.", found)
-        self.assertIn("9 captures", text_of(await self.get("search", url=HOME, from_="2016", to="2016")))
+        self.assertIn(
+            "9 captures", text_of(await self.get("search", url=HOME, from_="2016", to="2016"))
+        )
 
 
 if __name__ == "__main__":

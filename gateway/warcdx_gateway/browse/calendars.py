@@ -39,7 +39,9 @@ def draw_years(counts: Counts, search: Search, chosen: str = "") -> Markup:
         _bar(number * bar, bar, f"{year:04}", counts.years[f"{year:04}"], most, search, chosen)
         for number, year in enumerate(years)
     )
-    line = element("line", x1=0, x2=width, y1=_TOP + _BAR_HEIGHT, y2=_TOP + _BAR_HEIGHT, class_="axis")
+    line = element(
+        "line", x1=0, x2=width, y1=_TOP + _BAR_HEIGHT, y2=_TOP + _BAR_HEIGHT, class_="axis"
+    )
     drawing = element(
         "svg", line, bars, viewBox=f"0 0 {width} {height}", width=width, height=height, class_="years",
         role="group", aria_label="Captures of each year",
@@ -47,7 +49,9 @@ def draw_years(counts: Counts, search: Search, chosen: str = "") -> Markup:
     return element("div", drawing, class_="scroll")
 
 
-def _bar(x: int, width: int, year: str, count: int, most: int, search: Search, chosen: str) -> Markup:
+def _bar(
+    x: int, width: int, year: str, count: int, most: int, search: Search, chosen: str
+) -> Markup:
     middle, bottom = x + width / 2, _TOP + _BAR_HEIGHT
     name = element("text", year, x=middle, y=bottom + 15, class_="year")
     if not count:
@@ -96,10 +100,14 @@ def draw_year(year: int, counts: Counts, search: Search) -> Markup:
     return element("div", months, class_="months")
 
 
-def _draw_month(year: int, month: int, days: Mapping[datetime.date, int], most: int, search: Search) -> Markup:
+def _draw_month(
+    year: int, month: int, days: Mapping[datetime.date, int], most: int, search: Search
+) -> Markup:
     name = dates.MONTHS[month - 1]
     first, length = calendar.monthrange(year, month)
-    of_month = [((first + number) // 7, datetime.date(year, month, number + 1)) for number in range(length)]
+    of_month = [
+        ((first + number) // 7, datetime.date(year, month, number + 1)) for number in range(length)
+    ]
     total = sum(days.get(day, 0) for _, day in of_month)
     letters = (
         element("text", letter, x=_DAY * (number + 0.5), y=15, class_="weekday", aria_hidden="true")
@@ -125,7 +133,15 @@ def _draw_day(day: datetime.date, week: int, count: int, most: int, search: Sear
     return element(
         "a",
         element("title", words),
-        element("rect", x=x + 2, y=y + 1, width=_DAY - 4, height=_ROW - 4, rx=5, class_=f"level{level(count, most)}"),
+        element(
+            "rect",
+            x=x + 2,
+            y=y + 1,
+            width=_DAY - 4,
+            height=_ROW - 4,
+            rx=5,
+            class_=f"level{level(count, most)}",
+        ),
         number,
         href=search.within(f"{day.year:04}{digits}").link("captures"),
         aria_label=words,
@@ -148,7 +164,9 @@ def legend(counts: Mapping[datetime.date, int]) -> Child:
         element("rect", x=22 * number, y=1, width=18, height=14, rx=4, class_=f"level{number + 1}")
         for number in range(LEVELS)
     )
-    drawing = element("svg", shades, viewBox="0 0 84 16", width=84, height=16, aria_hidden="true", class_="legend")
+    drawing = element(
+        "svg", shades, viewBox="0 0 84 16", width=84, height=16, aria_hidden="true", class_="legend"
+    )
     return element("p", "A day with 1 capture ", drawing, f" to {most:,}", class_="help")
 
 
@@ -159,12 +177,18 @@ def days_table(year: int, counts: Counts, search: Search) -> Markup:
     rows = (
         row(
             names,
-            element("a", dates.full_day(day), href=search.within(f"{day.year:04}{day:%m%d}").link("captures")),
+            element(
+                "a",
+                dates.full_day(day),
+                href=search.within(f"{day.year:04}{day:%m%d}").link("captures"),
+            ),
             f"{count:,}",
         )
         for day, count in days
     )
-    return _details("The days as a table", table(f"Captures of each day of {year}", names, rows, "counts"))
+    return _details(
+        "The days as a table", table(f"Captures of each day of {year}", names, rows, "counts")
+    )
 
 
 def _details(summary: str, content: Markup) -> Markup:

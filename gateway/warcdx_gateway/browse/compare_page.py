@@ -46,7 +46,9 @@ async def compare_page(collection: Collection, first: Place, second: Place) -> w
             kind = side.content.kind or "not named"
             why = f"The type of the capture of {side.when} is {cut(kind, 80)}. Only texts are compared."
             raise Refusal("The captures can't be compared.", why, 422)
-    return collection_page(collection, "Two captures side by side", await collection.run(_content, sides))
+    return collection_page(
+        collection, "Two captures side by side", await collection.run(_content, sides)
+    )
 
 
 def _content(sides: list[Side]) -> Markup:
@@ -63,13 +65,21 @@ async def side_of(collection: Collection, place: Place) -> Side:
     if record.head.kind == "revisit" and not record.payload.content:
         original = await original_of(collection, record.head)
         if original is None:
-            raise Refusal("The captures can't be compared.", "The original of a revisit isn't in the indexes.", 422)
-        return Side(place, record, await _read(collection, Place(original.filename, original.offset)))
+            raise Refusal(
+                "The captures can't be compared.",
+                "The original of a revisit isn't in the indexes.",
+                422,
+            )
+        return Side(
+            place, record, await _read(collection, Place(original.filename, original.offset))
+        )
     return Side(place, record, record)
 
 
 async def _read(collection: Collection, place: Place) -> Read:
-    return await collection.run(reading.read, place.path(collection), collection.program, place.offset)
+    return await collection.run(
+        reading.read, place.path(collection), collection.program, place.offset
+    )
 
 
 def run(pages: list[Read]) -> dict[str, Any]:
@@ -82,7 +92,9 @@ def run(pages: list[Read]) -> dict[str, Any]:
     text = json.dumps(head).encode() + b"\n" + b"".join(page.payload.content for page in pages)
     command = (sys.executable, "-I", str(_PROGRAM))
     try:
-        done = subprocess.run(command, input=text, stdout=subprocess.PIPE, stderr=subprocess.DEVNULL, timeout=SECONDS)
+        done = subprocess.run(
+            command, input=text, stdout=subprocess.PIPE, stderr=subprocess.DEVNULL, timeout=SECONDS
+        )
     except subprocess.TimeoutExpired:
         raise _too_much() from None
     if done.returncode:
@@ -99,7 +111,11 @@ def _too_much() -> Refusal:
 def _summary(sides: list[Side], found: dict[str, Any]) -> Markup:
     first, second = (side.content.payload for side in sides)
     differing = sum(1 for row in found["rows"] if _differs(row))
-    words = [f"{dates.many(differing, 'line')} {'differs' if differing == 1 else 'differ'}." if differing else "The texts are the same."]
+    words = [
+        f"{dates.many(differing, 'line')} {'differs' if differing == 1 else 'differ'}."
+        if differing
+        else "The texts are the same."
+    ]
     if first.is_whole and second.is_whole and first.content == second.content:
         words.append("The payloads are the same, byte for byte.")
     elif not differing:
@@ -113,7 +129,9 @@ def _summary(sides: list[Side], found: dict[str, Any]) -> Markup:
 
 
 def _differs(row: dict[str, Any]) -> bool:
-    return "equal" not in row and any(changed for side in ("left", "right") for changed, _ in row[side] or ())
+    return "equal" not in row and any(
+        changed for side in ("left", "right") for changed, _ in row[side] or ()
+    )
 
 
 def _table(sides: list[Side], rows: list[dict[str, Any]]) -> Markup:
@@ -128,9 +146,13 @@ def _table(sides: list[Side], rows: list[dict[str, Any]]) -> Markup:
 
 
 def _head(side: Side) -> Markup:
-    where = element("a", side.when, href=link("record", archive=side.place.filename, offset=side.place.offset))
+    where = element(
+        "a", side.when, href=link("record", archive=side.place.filename, offset=side.place.offset)
+    )
     address = element("bdi", cut(target_of(side.record.head), 300), class_="address")
-    return joined(where, " (a revisit: the text of its original)" if side.is_revisit else None, " ", address)
+    return joined(
+        where, " (a revisit: the text of its original)" if side.is_revisit else None, " ", address
+    )
 
 
 def _row(row: dict[str, Any]) -> Markup:

@@ -26,7 +26,9 @@ def time_of(stamp: str) -> Optional[datetime.datetime]:
         return None
     month, day, hour, minute, second = (int(stamp[at : at + 2]) for at in range(4, 14, 2))
     try:
-        return datetime.datetime(int(stamp[:4]), month, day, hour, minute, second, tzinfo=datetime.timezone.utc)
+        return datetime.datetime(
+            int(stamp[:4]), month, day, hour, minute, second, tzinfo=datetime.timezone.utc
+        )
     except ValueError:
         return None
 

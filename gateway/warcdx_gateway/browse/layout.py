@@ -13,7 +13,11 @@ UP = "../../"  # from a page of a collection to the list of collections
 
 
 def collection_page(
-    collection: Collection, title: str, *content: Child, search: Optional[Search] = None, status: int = 200
+    collection: Collection,
+    title: str,
+    *content: Child,
+    search: Optional[Search] = None,
+    status: int = 200,
 ) -> web.Response:
     """Returns a page of a collection: its name, the form of the search, and what is on it."""
     path = element(
@@ -25,7 +29,9 @@ def collection_page(
         ),
         aria_label="Where you are",
     )
-    body = joined(_banner(path, search_form(search)), element("main", *content, id="content", tabindex=-1))
+    body = joined(
+        _banner(path, search_form(search)), element("main", *content, id="content", tabindex=-1)
+    )
     shown = f"{title} – {collection.title}" if title != collection.title else title
     return answers.page(_document(shown, body, UP), status)
 
@@ -36,7 +42,9 @@ def list_page(collections: Mapping[str, Collection]) -> web.Response:
     content = joined(
         element("h1", "Web archives"),
         element("p", "Each collection can be searched for an address or a host."),
-        element("ul", entries, class_="collections") if collections else element("p", "There is no collection."),
+        element("ul", entries, class_="collections")
+        if collections
+        else element("p", "There is no collection."),
     )
     body = joined(_banner(None, None), element("main", content, id="content", tabindex=-1))
     return answers.page(_document("Web archives", body, ""))
@@ -47,9 +55,17 @@ def _entry(collection: Collection) -> Markup:
     return element("li", element("h2", name), element("p", element("code", collection.name)))
 
 
-def refusal_page(collection: Collection, refusal: Refusal, search: Optional[Search] = None) -> web.Response:
+def refusal_page(
+    collection: Collection, refusal: Refusal, search: Optional[Search] = None
+) -> web.Response:
     """Returns a page that says what was refused, and why."""
-    content = element("div", element("h1", refusal.what), element("p", refusal.why), class_="refusal", role="alert")
+    content = element(
+        "div",
+        element("h1", refusal.what),
+        element("p", refusal.why),
+        class_="refusal",
+        role="alert",
+    )
     return collection_page(collection, "Refused", content, search=search, status=refusal.status)
 
 
@@ -97,7 +113,10 @@ def _banner(path: Optional[Markup], form: Optional[Markup]) -> Markup:
 
 
 def _document(title: str, content: Markup, up: str) -> bytes:
-    footer = element("footer", element("p", "Times are in UTC. Nothing on these pages is fetched from another site."))
+    footer = element(
+        "footer",
+        element("p", "Times are in UTC. Nothing on these pages is fetched from another site."),
+    )
     body = element("body", content, footer)
     return document(title, body, Link(up + "browse/style.css"), Link(up + "browse/icon.svg"))
 
@@ -124,6 +143,9 @@ def row(names: Mapping[str, str], *cells: Child) -> Markup:
     return element(
         "tr",
         element("th", first[1], scope="row", role="rowheader", class_=first[0][0]),
-        (element("td", cell, role="cell", class_=name, data_label=words) for (name, words), cell in rest),
+        (
+            element("td", cell, role="cell", class_=name, data_label=words)
+            for (name, words), cell in rest
+        ),
         role="row",
     )

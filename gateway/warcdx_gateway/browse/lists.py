@@ -53,8 +53,19 @@ def record_link(capture: Capture) -> Link:
 def captures_section(part: Part, search: Search, words: str) -> Markup:
     """Returns the list of captures, in a form that compares the texts of two of them."""
     if not part.captures:
-        return element("section", element("h2", words), element("p", "There are no captures here."), class_="card")
-    names = {"time": "Time", "status": "Status", "type": "Type", "size": "Record", "digest": "Digest"}
+        return element(
+            "section",
+            element("h2", words),
+            element("p", "There are no captures here."),
+            class_="card",
+        )
+    names = {
+        "time": "Time",
+        "status": "Status",
+        "type": "Type",
+        "size": "Record",
+        "digest": "Digest",
+    }
     can_compare = len(part.captures) > 1
     if can_compare:
         names["pick"] = "Compare"
@@ -63,19 +74,33 @@ def captures_section(part: Part, search: Search, words: str) -> Markup:
     before: Optional[str] = None
     rows: list[Child] = []
     for number, capture in enumerate(part.captures):
-        rows.append(_capture_row(names, capture, before == capture.digest, number if can_compare else None))
+        rows.append(
+            _capture_row(names, capture, before == capture.digest, number if can_compare else None)
+        )
         before = capture.digest if capture.digest != "-" else None
     listed: Child = table(words, names, rows, "captures")
     if can_compare:
         button = element("p", element("button", "Compare the two texts", type="submit"))
         listed = element("form", listed, button, action=Link("compare"), method="get")
-    return element("section", element("h2", words), listed, _further(part, search, "captures"), class_="card", id="list")
+    return element(
+        "section",
+        element("h2", words),
+        listed,
+        _further(part, search, "captures"),
+        class_="card",
+        id="list",
+    )
 
 
-def _capture_row(names: dict[str, str], capture: Capture, is_same: bool, number: Optional[int]) -> Markup:
+def _capture_row(
+    names: dict[str, str], capture: Capture, is_same: bool, number: Optional[int]
+) -> Markup:
     words = f"Record of {dates.in_words(capture.timestamp)}"
     time = followed(_time(capture.timestamp), record_link(capture), aria_label=words)
-    digest = joined(element("code", cut(capture.digest, MOST_DIGEST)), element("span", " same as above", class_="same") if is_same else None)
+    digest = joined(
+        element("code", cut(capture.digest, MOST_DIGEST)),
+        element("span", " same as above", class_="same") if is_same else None,
+    )
     cells: dict[str, Child] = {
         "time": time,
         "address": _address(capture.original),
@@ -108,7 +133,14 @@ def _picks(capture: Capture, number: int) -> Markup:
     return joined(
         element(
             "label",
-            element("input", type="radio", name=name, value=value, required=True, checked=number == first),
+            element(
+                "input",
+                type="radio",
+                name=name,
+                value=value,
+                required=True,
+                checked=number == first,
+            ),
             element("span", f" {words}", aria_hidden="true"),
             element("span", f"{name}: {dates.in_words(capture.timestamp)}", class_="hidden-label"),
         )
@@ -119,12 +151,20 @@ def _picks(capture: Capture, number: int) -> Markup:
 def addresses_section(part: Part, search: Search) -> Markup:
     """Returns the list of addresses, each with its first capture."""
     if not part.captures:
-        return element("section", element("h2", "Addresses"), element("p", "There are no addresses here."), class_="card")
+        return element(
+            "section",
+            element("h2", "Addresses"),
+            element("p", "There are no addresses here."),
+            class_="card",
+        )
     names = {"address": "Address", "time": "First capture", "status": "Status", "type": "Type"}
     rows = (
         row(
             names,
-            followed(_address(capture.original if capture.original != "-" else capture.urlkey), _history(capture)),
+            followed(
+                _address(capture.original if capture.original != "-" else capture.urlkey),
+                _history(capture),
+            ),
             _time(capture.timestamp),
             status_words(capture.statuscode),
             cut(capture.mimetype, 80),
@@ -148,5 +188,14 @@ def _further(part: Part, search: Search, page: str) -> Child:
     if not part.is_first:
         links.append(element("li", element("a", "First page", href=search.link(page, "list"))))
     if part.next:
-        links.append(element("li", followed(f"Next {SIZE}", search.link(page, "list", after=part.next), rel="next")))
-    return element("nav", element("ul", links), aria_label="Pages of this list", class_="pages") if links else None
+        links.append(
+            element(
+                "li",
+                followed(f"Next {SIZE}", search.link(page, "list", after=part.next), rel="next"),
+            )
+        )
+    return (
+        element("nav", element("ul", links), aria_label="Pages of this list", class_="pages")
+        if links
+        else None
+    )

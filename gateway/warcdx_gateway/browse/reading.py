@@ -23,7 +23,13 @@ _OFFSET = re.compile("[0-9]{1,19}")
 _CHARSET = re.compile(r"""charset\s*=\s*["']?([A-Za-z0-9._:-]{1,40})""", re.IGNORECASE)
 _HTML = ("text/html", "application/xhtml+xml")
 _IMAGES = ("image/png", "image/jpeg", "image/gif", "image/webp")
-_TEXTS = ("application/json", "application/javascript", "application/x-javascript", "application/xml", "application/warc-fields")
+_TEXTS = (
+    "application/json",
+    "application/javascript",
+    "application/x-javascript",
+    "application/xml",
+    "application/warc-fields",
+)
 _CHARSETS = frozenset(
     "utf-8 us-ascii iso-8859-1 iso-8859-2 iso-8859-3 iso-8859-4 iso-8859-5 iso-8859-6 iso-8859-7 iso-8859-8 "
     "iso-8859-9 iso-8859-10 iso-8859-13 iso-8859-14 iso-8859-15 iso-8859-16 windows-1250 windows-1251 windows-1252 "
@@ -43,7 +49,10 @@ class Place:
     def of(cls, filename: str, offset: str) -> "Place":
         """Returns the place of two texts. Raises Refusal."""
         if not _OFFSET.fullmatch(offset) or int(offset) >= 1 << 63:
-            raise Refusal("The offset of the record was refused.", "An offset is a number of bytes below 2^63.")
+            raise Refusal(
+                "The offset of the record was refused.",
+                "An offset is a number of bytes below 2^63.",
+            )
         return cls(filename, int(offset))
 
     @classmethod
@@ -112,7 +121,11 @@ class Read:
 
     @property
     def is_text(self) -> bool:
-        return self.kind.startswith("text/") or self.kind in _TEXTS or self.kind.endswith(("+xml", "+json"))
+        return (
+            self.kind.startswith("text/")
+            or self.kind in _TEXTS
+            or self.kind.endswith(("+xml", "+json"))
+        )
 
     @property
     def is_html(self) -> bool:
@@ -126,7 +139,9 @@ def opened(path: pathlib.Path, program: str, offset: int) -> Iterator[RecordStre
         with open_archive(path, program=program).stream(offset) as record:
             yield record
     except faults.NoRecord:
-        raise Refusal("There is no record here.", "No record of the archive begins at this offset.", 404) from None
+        raise Refusal(
+            "There is no record here.", "No record of the archive begins at this offset.", 404
+        ) from None
     except (Fault, Unreadable) as error:
         raise Refusal("The record can't be read.", reason_of(error), 502) from error
 
@@ -165,7 +180,9 @@ def verdict(path: pathlib.Path, program: str, offset: int) -> str:
     try:
         return open_archive(path, program=program).verdict(offset)
     except (Fault, Unreadable) as error:
-        raise Refusal("The digest of the record can't be compared.", reason_of(error), 502) from error
+        raise Refusal(
+            "The digest of the record can't be compared.", reason_of(error), 502
+        ) from error
 
 
 class Download:

@@ -24,9 +24,15 @@ _VERDICTS = {
     "same": ("good", "The block is as it was recorded: its SHA-1 is the one in WARC-Block-Digest."),
     "differs": ("bad", "The block differs: its SHA-1 isn't the one in WARC-Block-Digest."),
     "not-sha1": ("open", "Not compared: WARC-Block-Digest isn't a SHA-1 in base 32."),
-    "absent": ("open", "No digest: the record has no WARC-Block-Digest, so a change of its block wouldn't show."),
+    "absent": (
+        "open",
+        "No digest: the record has no WARC-Block-Digest, so a change of its block wouldn't show.",
+    ),
 }
-_TOO_LONG = ("open", f"Not compared: the block has more than {MOST_VERIFIED:,} bytes. warcdx verify compares it.")
+_TOO_LONG = (
+    "open",
+    f"Not compared: the block has more than {MOST_VERIFIED:,} bytes. warcdx verify compares it.",
+)
 _OF_REVISIT = " Some crawlers, such as wget, write the digest of an empty block into each revisit."
 _SHA1 = re.compile("^sha1:", re.IGNORECASE)
 
@@ -51,7 +57,9 @@ def _title(head: Head) -> str:
     return f"Record of {dates.in_words(stamp)}" if stamp else "Record"
 
 
-def _content(record: Read, place: Place, verdict: Optional[str], original: Optional[Capture]) -> Markup:
+def _content(
+    record: Read, place: Place, verdict: Optional[str], original: Optional[Capture]
+) -> Markup:
     head = record.head
     heading = element("h1", element("bdi", cut(target_of(head) or _title(head), 400)))
     return joined(
@@ -79,7 +87,10 @@ def _facts(record: Read, place: Place) -> Markup:
     when = dates.in_words(stamp) if stamp else "no date"
     facts: list[tuple[str, Child]] = [
         ("Time", element("time", when, datetime=dates.machine_time(stamp) if stamp else None)),
-        ("Archive", joined(element("bdi", element("code", place.filename)), f", at byte {place.offset:,}")),
+        (
+            "Archive",
+            joined(element("bdi", element("code", place.filename)), f", at byte {place.offset:,}"),
+        ),
         ("Block", f"{record.length:,} bytes"),
     ]
     if address:
@@ -90,7 +101,9 @@ def _facts(record: Read, place: Place) -> Markup:
 
 
 def _verdict(head: Head, verdict: Optional[str]) -> Markup:
-    kind, words = _VERDICTS.get(verdict, ("open", f"The verdict is {verdict}.")) if verdict else _TOO_LONG
+    kind, words = (
+        _VERDICTS.get(verdict, ("open", f"The verdict is {verdict}.")) if verdict else _TOO_LONG
+    )
     if verdict == "differs" and head.kind == "revisit":
         words += _OF_REVISIT
     return element("p", words, class_=f"verdict {kind}")
@@ -104,7 +117,11 @@ def _payload(record: Read, place: Place) -> Markup:
     elif not payload.is_whole:
         words = f"The payload has more than {MOST_SHOWN:,} bytes."
     else:
-        words = f"The payload has {count}, without the codings of HTTP." if size else "The payload is empty."
+        words = (
+            f"The payload has {count}, without the codings of HTTP."
+            if size
+            else "The payload is empty."
+        )
     kind = cut(record.kind, 80) or "no type"
     shown: list[Child] = []
     if size and record.shown_type:
@@ -129,9 +146,17 @@ def _frame(record: Read, place: Place) -> Markup:
 
 
 def _downloads(place: Place, has_payload: bool) -> Markup:
-    links: list[Child] = [element("li", element("a", "Save the record", href=_link("download", place, what="record")))]
+    links: list[Child] = [
+        element("li", element("a", "Save the record", href=_link("download", place, what="record")))
+    ]
     if has_payload:
-        links.insert(0, element("li", element("a", "Save the payload", href=_link("download", place, what="payload"))))
+        links.insert(
+            0,
+            element(
+                "li",
+                element("a", "Save the payload", href=_link("download", place, what="payload")),
+            ),
+        )
     return element("ul", links, class_="buttons")
 
 
@@ -155,10 +180,22 @@ def _fields(words: str, fields: Sequence[tuple[str, str]]) -> Markup:
         left -= sum(map(len, shown))
         if left < 0:
             break
-        rows.append(row(names, element("code", shown[0]) if name else "(first line)", element("code", shown[1])))
+        rows.append(
+            row(
+                names,
+                element("code", shown[0]) if name else "(first line)",
+                element("code", shown[1]),
+            )
+        )
     rest = len(fields) - len(rows)
-    more = element("p", f"{dates.many(rest, 'field')} more: save the record to see all.") if rest else None
-    return element("section", element("h2", words), table(words, names, rows, "fields"), more, class_="card")
+    more = (
+        element("p", f"{dates.many(rest, 'field')} more: save the record to see all.")
+        if rest
+        else None
+    )
+    return element(
+        "section", element("h2", words), table(words, names, rows, "fields"), more, class_="card"
+    )
 
 
 def _original(original: Optional[Capture]) -> Markup:
@@ -166,8 +203,12 @@ def _original(original: Optional[Capture]) -> Markup:
         words: Child = "No capture with its digest is in the indexes of the collection."
     else:
         when = followed(dates.in_words(original.timestamp), record_link(original))
-        words = joined("The payload is that of the capture of ", when, ", which has the same digest.")
-    return element("section", element("h2", "The original of this revisit"), element("p", words), class_="card")
+        words = joined(
+            "The payload is that of the capture of ", when, ", which has the same digest."
+        )
+    return element(
+        "section", element("h2", "The original of this revisit"), element("p", words), class_="card"
+    )
 
 
 async def original_of(collection: Collection, head: Head) -> Optional[Capture]:

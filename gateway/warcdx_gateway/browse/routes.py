@@ -43,7 +43,9 @@ def setup(app: web.Application, collections: Mapping[str, Collection]) -> None:
         text = pathlib.Path(__file__).with_name(name).read_bytes()
         app.router.add_get(f"/browse/{name}", functools.partial(_part, text, kind))
     for name, handler in pages.handlers().items():
-        app.router.add_get(f"/{{collection}}/browse/{name}", functools.partial(_answer, collections, handler))
+        app.router.add_get(
+            f"/{{collection}}/browse/{name}", functools.partial(_answer, collections, handler)
+        )
     app.on_cleanup.append(pages.close)
 
 
@@ -56,7 +58,9 @@ async def _part(text: bytes, kind: str, request: web.Request) -> web.Response:
     return answers.part(text, kind)
 
 
-async def _answer(collections: Mapping[str, Collection], handler: Handler, request: web.Request) -> web.StreamResponse:
+async def _answer(
+    collections: Mapping[str, Collection], handler: Handler, request: web.Request
+) -> web.StreamResponse:
     """Answers a request by a handler, or by a page that says what was refused."""
     collection = collections.get(request.match_info["collection"])
     if collection is None:
@@ -75,13 +79,21 @@ def _refusal_of(error: Exception, search: Optional[Search]) -> Refusal:
     if isinstance(error, Refusal):
         return error
     if isinstance(error, Refused):
-        return search.refusal(error.name) if search else Refusal("The query was refused.", f"The program says {error.name}.")
+        return (
+            search.refusal(error.name)
+            if search
+            else Refusal("The query was refused.", f"The program says {error.name}.")
+        )
     if isinstance(error, Fault):
-        return Refusal("An index of the collection can't be read.", f"Its fault is {error.name}.", 502)
+        return Refusal(
+            "An index of the collection can't be read.", f"Its fault is {error.name}.", 502
+        )
     if isinstance(error, ReplyTooLong):
         return Refusal("The captures can't be shown.", "The lines of the index are too long.", 502)
     if isinstance(error, ReplyTooLate):
-        return Refusal("The search takes too long.", "Search for a shorter time, or for fewer addresses.", 503)
+        return Refusal(
+            "The search takes too long.", "Search for a shorter time, or for fewer addresses.", 503
+        )
     return Refusal("The collection can't be read now.", "Try again later.", 503)
 
 
@@ -89,7 +101,9 @@ class Pages:
     """The handlers of the pages of a collection, and the threads of downloads."""
 
     def __init__(self) -> None:
-        self._threads = concurrent.futures.ThreadPoolExecutor(DOWNLOADS, thread_name_prefix="download")
+        self._threads = concurrent.futures.ThreadPoolExecutor(
+            DOWNLOADS, thread_name_prefix="download"
+        )
         self._downloads = 0
 
     def handlers(self) -> dict[str, Handler]:
@@ -114,10 +128,14 @@ class Pages:
 
     async def search(self, collection: Collection, request: web.Request) -> web.Response:
         query = request.query
-        return await search_page(collection, Search.of(query), query.get("year", ""), query.get("after", ""))
+        return await search_page(
+            collection, Search.of(query), query.get("year", ""), query.get("after", "")
+        )
 
     async def captures(self, collection: Collection, request: web.Request) -> web.Response:
-        return await captures_page(collection, Search.of(request.query), request.query.get("after", ""))
+        return await captures_page(
+            collection, Search.of(request.query), request.query.get("after", "")
+        )
 
     async def compare(self, collection: Collection, request: web.Request) -> web.Response:
         first, second = (Place.of_pair(request.query.get(name, "")) for name in ("first", "second"))
@@ -131,10 +149,16 @@ class Pages:
         if request.headers.get("Sec-Fetch-Dest") == WINDOW:
             raise web.HTTPSeeOther(f"record?{request.query_string}", headers=answers.COMMON)
         place = _place(request)
-        record = await collection.run(reading.read, place.path(collection), collection.program, place.offset)
+        record = await collection.run(
+            reading.read, place.path(collection), collection.program, place.offset
+        )
         kind = record.shown_type
         if kind is None:
-            raise Refusal("The payload isn't shown.", "Its type isn't one that these pages show. It can be saved.", 415)
+            raise Refusal(
+                "The payload isn't shown.",
+                "Its type isn't one that these pages show. It can be saved.",
+                415,
+            )
         return web.Response(body=record.payload.content, headers=answers.payload_headers(kind))
 
     async def download(self, collection: Collection, request: web.Request) -> web.StreamResponse:
@@ -155,7 +179,9 @@ class Pages:
         finally:
             self._downloads -= 1
 
-    async def _send(self, request: web.Request, download: Download, name: str) -> web.StreamResponse:
+    async def _send(
+        self, request: web.Request, download: Download, name: str
+    ) -> web.StreamResponse:
         response = web.StreamResponse(headers=answers.attachment_headers(name))
         if download.size is not None:
             response.content_length = download.size

@@ -13,7 +13,9 @@ from .searching import Search
 _YEAR = re.compile("[0-9]{4}")
 
 
-async def search_page(collection: Collection, search: Search, year: str, after: str) -> web.Response:
+async def search_page(
+    collection: Collection, search: Search, year: str, after: str
+) -> web.Response:
     """Returns the page of a search, with the calendar of a year, by default the last one with captures."""
     counts = await count(collection, search)
     if not counts.total:
@@ -64,10 +66,18 @@ async def captures_page(collection: Collection, search: Search, after: str) -> w
     found = await lists.captures(collection, search, after)
     words = "Captures"
     if search.first and search.first == search.last:
-        words += f" {'on' if len(search.first) == 8 else 'in'} {dates.period_in_words(search.first)}"
-    back = element("p", element("a", "All years of this search", href=search.ever().link("search")), class_="back")
+        words += (
+            f" {'on' if len(search.first) == 8 else 'in'} {dates.period_in_words(search.first)}"
+        )
+    back = element(
+        "p",
+        element("a", "All years of this search", href=search.ever().link("search")),
+        class_="back",
+    )
     listed = lists.captures_section(found, search, words)
-    return collection_page(collection, title_of(search), heading(search), back, listed, search=search)
+    return collection_page(
+        collection, title_of(search), heading(search), back, listed, search=search
+    )
 
 
 def title_of(search: Search) -> str:
@@ -94,18 +104,32 @@ def caption(counts: Counts, search: Search) -> Markup:
     if counts.is_whole:
         return joined(f"{dates.many(counts.total, 'capture')} {when}.{undated}")
     rest = "The captures after these aren't in the drawings. Search for a shorter time to count them all."
-    order = f"up to {dates.in_words(counts.last)}" if search.is_single else "in the order of their addresses"
-    return element("strong", f"Only the first {counts.total:,} captures were counted, {order}, {when}.{undated} {rest}")
+    order = (
+        f"up to {dates.in_words(counts.last)}"
+        if search.is_single
+        else "in the order of their addresses"
+    )
+    return element(
+        "strong",
+        f"Only the first {counts.total:,} captures were counted, {order}, {when}.{undated} {rest}",
+    )
 
 
 def nothing(search: Search) -> Markup:
     """Returns that there is no capture, and where there may be one."""
     hints: list[Child] = []
     if search.first or search.last:
-        hints.append(element("li", element("a", "Search at any time", href=search.ever().link("search"))))
+        hints.append(
+            element("li", element("a", "Search at any time", href=search.ever().link("search")))
+        )
     if search.is_single and search.typed:
-        for match, words in (("prefix", "Search for addresses that begin so"), ("host", "Search the whole host")):
-            hints.append(element("li", element("a", words, href=search.ever().link("search", match=match))))
+        for match, words in (
+            ("prefix", "Search for addresses that begin so"),
+            ("host", "Search the whole host"),
+        ):
+            hints.append(
+                element("li", element("a", words, href=search.ever().link("search", match=match)))
+            )
     when = ""
     if search.first or search.last:
         when = f" in the time from {dates.typed(search.first) or 'the first'} to {dates.typed(search.last) or 'the last'}"

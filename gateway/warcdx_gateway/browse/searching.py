@@ -68,7 +68,10 @@ class Search:
             raise Refusal("The search was refused.", REASONS["NoUrl"])
         if search.match not in MATCHES:
             raise Refusal(f"The match “{search.match}” was refused.", REASONS["BadMatch"])
-        for typed, digits in ((query.get("from", ""), search.first), (query.get("to", ""), search.last)):
+        for typed, digits in (
+            (query.get("from", ""), search.first),
+            (query.get("to", ""), search.last),
+        ):
             if digits and not _DIGITS.fullmatch(digits):
                 raise Refusal(f"The time “{typed}” was refused.", REASONS["BadStamp"])
         return search
