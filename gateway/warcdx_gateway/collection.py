@@ -11,6 +11,7 @@ from collections.abc import AsyncIterator, Callable, Sequence
 from typing import Optional, TypeVar
 
 from warcdx.aio import AsyncIndex
+from warcdx.query import Query
 
 from .lanes import Lane, PageStarts
 
@@ -120,7 +121,7 @@ class Collection:
                 found += rows
                 if key is None:
                     break
-                asked = f"{query}&resumeKey={key}"
+                asked = str(Query.of(query, {}).with_value("resumeKey", key))
         return found
 
     async def run(self, function: Callable[..., T], *arguments: object) -> T:

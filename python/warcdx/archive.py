@@ -1,13 +1,16 @@
 """The records of an archive, by `warcdx list`, `verify` and `get`."""
+import contextlib
 import re
+import subprocess
 from collections.abc import Iterator
 from dataclasses import dataclass
 
 from .errors import fault
 from .program import Path, find_program, operand, running
-from .record import Record
+from .record import Record, RecordStream, Unreadable
 
 FAULTY = 1  # the exit status after a fault that is on the output, and after a digest that differs
+_VERDICT = re.compile("0 ([a-z0-9-]+)\n")
 _FAULT = re.compile("fault ([0-9]+) ([A-Za-z0-9]+)")
 
 
@@ -59,6 +62,30 @@ class Archive:
         with running(self._program, "get", str(offset), self.path) as output:
             record = output.read()
         return Record.read(record)
+
+    @contextlib.contextmanager
+    def stream(self, offset: int) -> Iterator[RecordStream]:
+        """Opens the record that begins at an offset. It needn't be read to its end, and none of it is held.
+
+        Raises `faults.NoRecord` if no record begins there. If the record is read to its end, and the archive
+        is damaged in it, the fault is raised at the end.
+        """
+        with running(self._program, "get", str(offset), self.path) as output:
+            record = RecordStream.read(output)
+            if record is not None:
+                yield record
+        if record is None:
+            raise Unreadable("the program has written no record")
+
+    def verdict(self, offset: int) -> str:
+        """Returns the verdict of `verify` on the record that begins at an offset, which alone is read whole."""
+        with running(self._program, "get", str(offset), self.path) as record:
+            command = (self._program, "verify", "-")
+            done = subprocess.run(command, stdin=record, stdout=subprocess.PIPE, stderr=subprocess.DEVNULL)
+        found = _VERDICT.fullmatch(done.stdout.decode())
+        if not found:
+            raise Unreadable("the program has given no verdict")
+        return found[1]
 
     def _lines(self, command: str) -> Iterator[str]:
         found = None

@@ -13,14 +13,14 @@ import re
 import subprocess
 import tempfile
 from collections.abc import Iterator
-from typing import IO, Optional
+from typing import IO, Optional, Union
 
-from .archive import Listed, Verified
+from .archive import Archive, Listed, Verified
 from .errors import Fault, error_of, fault
 from .faults import BadName, CannotOpen, NoMember, NoRecord, NotCompressed, SeveralMembers, SeveralRecords
-from .members import Member, Unpacker, close
-from .program import Path, end_of, find_program
-from .record import Record
+from .members import MAGIC, Member, Unpacker, close
+from .program import Path, end_of, find_program, start
+from .record import Record, RecordStream, Unreadable
 
 MOST_NAME = 255  # bytes
 GOOD = (0, 1)  # the exit statuses of the program if its output is complete
@@ -100,16 +100,58 @@ class CompressedArchive:
 
         Raises NoRecord if no member begins there. Only that member is read.
         """
-        with self._reading("list", at=offset, most=1) as reading:
-            try:
-                if not list(reading.records()):
-                    raise NoRecord("NoRecord", self.path)
-            except (NoMember, NotCompressed):
-                raise NoRecord("NoRecord", self.path) from None
+        self._only("list", offset)
         with self.open() as file:
             file.seek(offset)
             unpacker = Unpacker(file, self.path, [], 1)
             output.writelines(unpacker.pieces())
+
+    def verdict(self, offset: int) -> str:
+        """Returns the verdict of `verify` on the record of the member that begins at an offset."""
+        return self._only("verify", offset).decode().rstrip("\n")
+
+    @contextlib.contextmanager
+    def stream(self, offset: int) -> Iterator[RecordStream]:
+        """Opens the record of the member that begins at an offset, as `Archive.stream` does.
+
+        What follows the record in its member isn't noticed.
+        """
+        with self._running(("get", "0", "-"), at=offset, most=1) as (process, said, unpacker):
+            assert process.stdout is not None
+            record = RecordStream.read(process.stdout)
+            if record is not None:
+                yield record
+            if not process.stdout.read(1):
+                process.wait()
+                unpacker.join()
+                self._check_end(unpacker.fault, process, said, offset)
+        if record is None:
+            raise Unreadable("the program has written no record")
+
+    def _check_end(
+        self, found: Optional[Fault], process: subprocess.Popen[bytes], said: IO[bytes], offset: int
+    ) -> None:
+        """Raises why the program has written a part of the record at an offset, or none of it."""
+        if isinstance(found, (NoMember, NotCompressed)):
+            raise NoRecord("NoRecord", self.path)
+        if found is not None:
+            raise found
+        if process.returncode:
+            error = end_of(process, said)
+            if isinstance(error, Fault):
+                raise fault(error.name, self.path, None if error.offset is None else offset)
+            raise error
+
+    def _only(self, command: str, offset: int) -> bytes:
+        """Returns what a command prints of the record of the member at an offset. Raises NoRecord."""
+        try:
+            with self._reading(command, at=offset, most=1) as reading:
+                found = [said for _, said in reading.records()]
+        except (NoMember, NotCompressed):
+            found = []
+        if not found:
+            raise NoRecord("NoRecord", self.path)
+        return found[0]
 
     def open(self) -> IO[bytes]:
         """Opens the compressed file."""
@@ -122,23 +164,36 @@ class CompressedArchive:
     def _reading(
         self, command: str, also: Optional[IO[bytes]] = None, at: int = 0, most: Optional[int] = None
     ) -> Iterator["Reading"]:
-        """Runs a command on the unpacked archive, which is written to another input too."""
+        """Reads the records of an archive by a command. What is unpacked is written to another input too."""
+        with self._running((command, "-"), also, at, most) as (process, said, unpacker):
+            yield Reading(self.path, process, said, unpacker)
+
+    @contextlib.contextmanager
+    def _running(
+        self, words: tuple[str, ...], also: Optional[IO[bytes]] = None, at: int = 0, most: Optional[int] = None
+    ) -> Iterator[tuple[subprocess.Popen[bytes], IO[bytes], Unpacker]]:
+        """Runs the program on the unpacked archive, from a member, for so many. At the end the program is ended."""
         with self.open() as file, tempfile.TemporaryFile() as said:
             file.seek(at)
-            process = subprocess.Popen(
-                (self._program, command, "-"), stdin=subprocess.PIPE, stdout=subprocess.PIPE, stderr=said
-            )
+            process = start((self._program, *words), said, subprocess.PIPE)
             assert process.stdin is not None and process.stdout is not None
             inputs = [process.stdin] if also is None else [process.stdin, also]
             unpacker = Unpacker(file, self.path, inputs, most)
             unpacker.start()
             try:
                 with process.stdout:
-                    yield Reading(self.path, process, said, unpacker)
+                    yield process, said, unpacker
             finally:
                 process.kill()
                 process.wait()
                 unpacker.abandon()
+
+
+def open_archive(path: Path, *, program: str = "warcdx") -> Union[Archive, CompressedArchive]:
+    """Returns an archive, which is compressed if its first bytes are those of gzip. Raises CannotOpen."""
+    with CompressedArchive(path, program=program).open() as file:
+        is_compressed = file.read(len(MAGIC)) == MAGIC
+    return CompressedArchive(path, program=program) if is_compressed else Archive(path, program=program)
 
 
 class Reading:

@@ -1,51 +1,162 @@
 """Records, and the body of a page without the codings of HTTP."""
+import functools
 import re
-import zlib
+from collections.abc import Iterator
 from dataclasses import dataclass
-from typing import Optional, Union
+from typing import IO, Optional, Union
 
-from .errors import Error
+from .codings import UNLIMITED, Buffer, Limits, Unreadable, decoded
+
+__all__ = ["Head", "HttpHead", "Record", "RecordStream", "Unreadable", "payload"]
 
 CLOSING = b"\r\n\r\n"
 HTTP_TYPE = "application/http"
-_END_OF_HEAD = re.compile(rb"\r?\n\r?\n")
+HEAD_LIMIT = 1_048_576  # bytes of a record's head
+_PIECE = 1 << 16
 _FOLD = re.compile(r"[ \t]*\r\n[ \t]+")
-_CHUNK_HEAD = re.compile(rb"([0-9A-Fa-f]{1,15})[ \t]*(?:;[^\r\n]*)?\r?\n")
-_CHUNK_END = re.compile(rb"\r?\n")
-_GZIP_OR_ZLIB = 32 + zlib.MAX_WBITS
-_DEFLATE_ALONE = -zlib.MAX_WBITS
+_HTTP_LINE_BREAK = re.compile(r"\r?\n")
+_HTTP_FOLD = re.compile(r"[ \t]*\r?\n[ \t]+")
+_LENGTH = re.compile("[0-9]{1,19}")
 
 
-class Unreadable(Error):
-    """A record or a coding of its body can't be read."""
+Fields = tuple[tuple[str, str], ...]
 
 
 @dataclass(frozen=True)
-class Record:
-    """A record: the fields of its head in order, with the bytes that aren't UTF-8 as surrogates, and its block."""
+class _WithFields:
+    fields: Fields
 
-    fields: tuple[tuple[str, str], ...]
+    def field(self, name: str) -> Optional[str]:
+        """Returns the value of the first field of a name, in any case, or None."""
+        return next((value for found, value in self.fields if found.lower() == name.lower()), None)
+
+
+@dataclass(frozen=True)
+class Head(_WithFields):
+    """A record's head: its fields in order, with the bytes that aren't UTF-8 as surrogates."""
+
+    @staticmethod
+    def fields_of(text: bytes) -> Fields:
+        """Returns the fields of the text of a head, without the empty line at its end. Raises Unreadable."""
+        if not text.startswith(b"WARC/"):
+            raise Unreadable("the input isn't a record")
+        lines = _FOLD.sub(" ", text.decode(errors="surrogateescape")).split("\r\n")[1:]
+        return tuple(map(_field_of, lines))
+
+    @property
+    def kind(self) -> str:
+        """The type of the record, in lower case."""
+        return (self.field("WARC-Type") or "").lower()
+
+    @property
+    def is_http(self) -> bool:
+        """Whether the record's type of content is application/http."""
+        return (self.field("Content-Type") or "").lower().startswith(HTTP_TYPE)
+
+
+@dataclass(frozen=True)
+class HttpHead(_WithFields):
+    """An HTTP head: its fields in order, and the line before them. Bytes that aren't UTF-8 are surrogates.
+
+    A line that isn't a field is one without a value.
+    """
+
+    line: str
+
+    @classmethod
+    def of(cls, text: bytes) -> "HttpHead":
+        """Returns the head of a text without the empty line at its end. No text is refused."""
+        unfolded = _HTTP_FOLD.sub(" ", text.decode(errors="surrogateescape"))
+        line, *lines = _HTTP_LINE_BREAK.split(unfolded)
+        return cls(tuple(map(_field_of, lines)), line)
+
+
+def _field_of(line: str) -> tuple[str, str]:
+    name, _, value = line.partition(":")
+    return name, value.strip(" \t")
+
+
+@dataclass(frozen=True)
+class Record(Head):
+    """A record: the fields of its head, and its block."""
+
     block: bytes
 
     @classmethod
     def read(cls, record: bytes) -> "Record":
         """Returns the record of these bytes, as `warcdx get` writes them. Raises Unreadable."""
         head, found, rest = record.partition(CLOSING)
-        if not found or not head.startswith(b"WARC/") or not rest.endswith(CLOSING):
+        if not found or not rest.endswith(CLOSING):
             raise Unreadable("the input isn't a record")
-        lines = _FOLD.sub(" ", head.decode(errors="surrogateescape")).split("\r\n")[1:]
-        parts = (line.partition(":") for line in lines)
-        fields = tuple((name, value.strip(" \t")) for name, _, value in parts)
-        return cls(fields, rest[: -len(CLOSING)])
+        return cls(cls.fields_of(head), rest[: -len(CLOSING)])
 
-    def field(self, name: str) -> Optional[str]:
-        """Returns the value of the first field of a name, in any case, or None."""
-        return next((value for found, value in self.fields if found.lower() == name.lower()), None)
 
-    @property
-    def kind(self) -> str:
-        """The type of the record, in lower case."""
-        return (self.field("WARC-Type") or "").lower()
+class RecordStream:
+    """A record that is read as it is taken, so that one of any length takes bounded memory.
+
+    One of `whole`, `block` and `payload` is called, and once.
+    """
+
+    def __init__(self, head: bytes, rest: IO[bytes]) -> None:
+        self.head = Head(Head.fields_of(head))
+        self.length = _length_of(self.head)  # of the block, in bytes
+        self.size = len(head) + len(CLOSING) + self.length + len(CLOSING)  # of the record, in bytes
+        self._text = head
+        self._rest = rest
+
+    @classmethod
+    def read(cls, output: IO[bytes]) -> Optional["RecordStream"]:
+        """Returns the record that an output of `warcdx get` begins with, or None if the output ends in its head."""
+        text = bytearray()
+        while not text.endswith(CLOSING):
+            line = output.readline(HEAD_LIMIT)
+            text += line
+            if not line:
+                return None
+            if len(text) > HEAD_LIMIT:
+                raise Unreadable("the head of the record is too long")
+        return cls(bytes(text[: -len(CLOSING)]), output)
+
+    def whole(self) -> Iterator[bytes]:
+        """Yields the record as it is stored, in pieces. They end in it if the archive does."""
+        yield self._text + CLOSING
+        while piece := self._rest.read(_PIECE):
+            yield piece
+
+    def block(self) -> Iterator[bytes]:
+        """Yields the block in pieces. They have fewer bytes than `length` if the archive ends in them."""
+        left = self.length
+        while left and (piece := self._rest.read(min(left, _PIECE))):
+            left -= len(piece)
+            yield piece
+
+    @functools.cached_property
+    def http_head(self) -> Optional[bytes]:
+        """The HTTP head without the empty line at its end, or None if the block has none."""
+        return self._body.head() if self.head.is_http else None
+
+    @functools.cached_property
+    def _body(self) -> Buffer:
+        return Buffer(self.block())
+
+    def payload(self, limits: Limits = UNLIMITED) -> Iterator[bytes]:
+        """Yields the body without its codings, as `payload` returns it. One beyond the limits is Unreadable."""
+        return _payload(self.head, self.http_head, self._body, limits)
+
+
+def _length_of(head: Head) -> int:
+    value = head.field("Content-Length") or ""
+    if not _LENGTH.fullmatch(value):
+        raise Unreadable("the record has no length")
+    return int(value)
+
+
+def _payload(head: Head, http_head: Optional[bytes], body: Buffer, limits: Limits) -> Iterator[bytes]:
+    if not head.is_http:
+        return body.rest()
+    if http_head is None:
+        raise Unreadable("the block has no HTTP head")
+    return decoded(http_head, body.rest(), limits)
 
 
 def payload(record: Union[Record, bytes]) -> bytes:
@@ -57,64 +168,7 @@ def payload(record: Union[Record, bytes]) -> bytes:
     """
     if isinstance(record, bytes):
         record = Record.read(record)
-    if not (record.field("Content-Type") or "").lower().startswith(HTTP_TYPE):
+    if not record.is_http:
         return record.block
-    end = _END_OF_HEAD.search(record.block)
-    if not end:
-        raise Unreadable("the block has no HTTP head")
-    head, body = record.block[: end.start()], record.block[end.end() :]
-    for name in (b"transfer-encoding", b"content-encoding"):
-        for coding in codings(head, name):
-            body = without(coding, body)
-    return body
-
-
-def codings(head: bytes, name: bytes) -> list[bytes]:
-    """Returns the codings that the fields of a name have, the last one that was applied first."""
-    lines = (line.lower().partition(b":") for line in head.split(b"\n"))
-    values = b",".join(value for found, _, value in lines if found.strip() == name)
-    return [coding for part in reversed(values.split(b",")) if (coding := part.strip())]
-
-
-def without(coding: bytes, body: bytes) -> bytes:
-    if coding == b"identity" or not body:
-        return body
-    if coding == b"chunked":
-        return joined_chunks(body)
-    if coding in (b"gzip", b"x-gzip"):
-        return inflated(body, _GZIP_OR_ZLIB)
-    if coding == b"deflate":  # which some servers send without the head of zlib
-        return inflated(body, _GZIP_OR_ZLIB if body[0] & 15 == 8 else _DEFLATE_ALONE)
-    raise Unreadable(f"the coding {coding.decode('latin-1')!r} isn't known")
-
-
-def joined_chunks(body: bytes) -> bytes:
-    at = 0
-    chunks: list[bytes] = []
-    while True:
-        head = _CHUNK_HEAD.match(body, at)
-        if not head:
-            raise Unreadable("the body isn't in chunks, or is cut")
-        length = int(head[1], 16)
-        if not length:
-            return b"".join(chunks)
-        end = _CHUNK_END.match(body, head.end() + length)
-        if not end:
-            raise Unreadable("a chunk is cut")
-        chunks.append(body[head.end() : head.end() + length])
-        at = end.end()
-
-
-def inflated(body: bytes, window: int) -> bytes:
-    """Returns what all members of a compressed text hold."""
-    parts = []
-    while body:
-        member = zlib.decompressobj(window)
-        try:
-            parts.append(member.decompress(body) + member.flush())
-        except zlib.error as fault:
-            raise Unreadable(f"the body can't be decompressed: {fault}") from fault
-        if not member.eof:
-            raise Unreadable("the compressed body is cut")
-        body = member.unused_data
-    return b"".join(parts)
+    body = Buffer(iter([record.block] if record.block else []))
+    return b"".join(_payload(record, body.head(), body, UNLIMITED))

@@ -1,0 +1,257 @@
+"""What the tests of the pages share: archives that they write, and the pages served over them.
+
+The variable WARCDX names the program, or else it is `warcdx` of the PATH.
+"""
+import base64
+import gzip
+import hashlib
+import html
+import json
+import os
+import pathlib
+import re
+import subprocess
+import sys
+import tempfile
+import unicodedata
+import unittest
+from collections.abc import Mapping, Sequence
+from html.parser import HTMLParser
+from typing import Optional
+from urllib.parse import urlencode
+
+GATEWAY = pathlib.Path(__file__).resolve().parents[1]
+sys.path[:0] = [str(GATEWAY), str(GATEWAY.parent / "python")]
+
+from aiohttp import ClientResponse, web  # noqa: E402
+from aiohttp.test_utils import TestClient, TestServer  # noqa: E402
+
+from warcdx_gateway import browse  # noqa: E402
+from warcdx_gateway.collection import Collection  # noqa: E402
+
+PROGRAM = os.environ.get("WARCDX", "warcdx")
+SAMPLES = GATEWAY.parent / "samples"
+HTML = "text/html; charset=utf-8"
+
+
+def digest_of(payload: bytes) -> str:
+    return "sha1:" + base64.b32encode(hashlib.sha1(payload).digest()).decode()
+
+
+def record(
+    kind: str, address: str, date: str, block: bytes, content_type: str, fields: Sequence[str] = ()
+) -> bytes:
+    """Returns a record of WARC 1.1. Its block has a digest, unless the fields have one."""
+    lines = [
+        "WARC/1.1",
+        f"WARC-Type: {kind}",
+        f"WARC-Record-ID: <urn:uuid:{hashlib.sha1(block + date.encode()).hexdigest()}>",
+        f"WARC-Date: {date}",
+        *([f"WARC-Target-URI: {address}"] if address else []),
+        f"Content-Type: {content_type}",
+        f"Content-Length: {len(block)}",
+        *fields,
+    ]
+    if not any(field.startswith("WARC-Block-Digest") for field in fields):
+        lines.append(f"WARC-Block-Digest: {digest_of(block)}")
+    return "\r\n".join([*lines, "", ""]).encode(errors="surrogateescape") + block + b"\r\n\r\n"
+
+
+def response(
+    address: str, date: str, body: bytes, content_type: Optional[str] = HTML, *, status: str = "200 OK",
+    http: Sequence[str] = (), fields: Sequence[str] = (),
+) -> bytes:  # fmt: skip
+    """Returns a response record."""
+    typed = [f"Content-Type: {content_type}"] if content_type is not None else []
+    head = "\r\n".join([f"HTTP/1.1 {status}", *typed, *http, "", ""]).encode(
+        errors="surrogateescape"
+    )
+    return record("response", address, date, head + body, "application/http; msgtype=response",
+                  [f"WARC-Payload-Digest: {digest_of(body)}", *fields])  # fmt: skip
+
+
+def revisit(address: str, date: str, body: bytes, refers_to: str = "") -> bytes:
+    """Returns a revisit record without a payload, whose digest is that of the body."""
+    fields = [f"WARC-Payload-Digest: {digest_of(body)}",
+              "WARC-Profile: http://netpreserve.org/warc/1.1/revisit/identical-payload-digest"]  # fmt: skip
+    if refers_to:
+        fields += [f"WARC-Refers-To-Target-URI: {address}", f"WARC-Refers-To-Date: {refers_to}"]
+    return record(
+        "revisit",
+        address,
+        date,
+        b"HTTP/1.1 200 OK\r\n\r\n",
+        "application/http; msgtype=response",
+        fields,
+    )
+
+
+def page(title: str, *paragraphs: str) -> bytes:
+    body = "".join(f"<p>{html.escape(each)}</p>" for each in paragraphs)
+    return f"<!DOCTYPE html><title>{title}</title><h1>{title}</h1>{body}".encode()
+
+
+class Archives:
+    """A folder of archives, with an index of each."""
+
+    def __init__(self, folder: pathlib.Path) -> None:
+        self.folder = folder
+        self.archives = folder / "archives"
+        self.archives.mkdir()
+        self.indexes: list[pathlib.Path] = []
+        self.places: dict[str, tuple[str, int]] = {}  # of the last record of each address
+
+    def add(self, name: str, records: Sequence[bytes], *, index: bool = True) -> None:
+        """Writes an archive, compressed if its name says so, and its index."""
+        is_packed, at, parts = name.endswith(".gz"), 0, []
+        for each in records:
+            part = gzip.compress(each, mtime=0) if is_packed else each
+            address = re.search(rb"WARC-Target-URI: ([^\r]*)", each)
+            if address:
+                self.places[address[1].decode(errors="surrogateescape")] = (name, at)
+            at += len(part)
+            parts.append(part)
+        path = self.archives / name
+        path.write_bytes(b"".join(parts))
+        if index:
+            self.index(path)
+
+    def index(self, path: pathlib.Path) -> None:
+        script = [sys.executable, str(GATEWAY.parent / "python/bin/warcdx-gz"), "--warcdx", PROGRAM]
+        command = script if path.name.endswith(".gz") else [PROGRAM]
+        self.put(
+            path.name + ".cdxj",
+            subprocess.run([*command, "index", path], stdout=subprocess.PIPE, check=True).stdout,
+        )
+
+    def put(self, name: str, lines: bytes) -> None:
+        """Writes an index of these lines."""
+        self.indexes.append(self.folder / name)
+        self.indexes[-1].write_bytes(lines)
+
+    def line(
+        self,
+        address: str,
+        stamp: str,
+        filename: str,
+        offset: int,
+        key: str = "com,example)/",
+        **more: str,
+    ) -> bytes:
+        """Returns a line of an index, of any values."""
+        members = {
+            "url": address,
+            "mime": "text/html",
+            "status": "200",
+            "digest": "-",
+            "length": "1",
+        }
+        return f"{key} {stamp} {json.dumps({**members, 'offset': str(offset), 'filename': filename, **more})}\n".encode()
+
+    def collection(self, name: str = "crawl", title: str = "A crawl") -> Collection:
+        return Collection(name, title, self.indexes, (self.archives,), program=PROGRAM)
+
+
+class Pages(unittest.IsolatedAsyncioTestCase):
+    """Tests with pages over archives that `fill` writes."""
+
+    def fill(self, archives: Archives) -> None:
+        raise NotImplementedError
+
+    def setUp(self) -> None:
+        folder = tempfile.TemporaryDirectory()
+        self.addCleanup(folder.cleanup)
+        self.archives = Archives(pathlib.Path(folder.name))
+        self.fill(self.archives)
+
+    async def asyncSetUp(self) -> None:
+        collection = self.archives.collection()
+        self.addAsyncCleanup(collection.close)
+        self.client = await self.serve({"crawl": collection})
+
+    async def serve(self, collections: Mapping[str, Collection]) -> TestClient:
+        app = web.Application()
+        browse.setup(app, collections)
+        client = TestClient(TestServer(app))
+        await client.start_server()
+        self.addAsyncCleanup(client.close)
+        return client
+
+    async def get(self, name: str, status: int = 200, **query: object) -> str:
+        """Returns the text of a page of the collection, and checks its status and headers."""
+        response = await self.ask(name, **query)
+        text = await response.text()
+        self.assertEqual(status, response.status, text)
+        self.assertIn("default-src 'none'", response.headers["Content-Security-Policy"])
+        self.assertNotIn("script", response.headers["Content-Security-Policy"])
+        self.assertEqual("nosniff", response.headers["X-Content-Type-Options"])
+        self.assertEqual("no-referrer", response.headers["Referrer-Policy"])
+        self.assertEqual("same-origin", response.headers["Cross-Origin-Resource-Policy"])
+        self.assertEqual("text/html; charset=utf-8", response.headers["Content-Type"])
+        self.assertEqual([], faults_of(text))
+        return text
+
+    async def ask(
+        self, name: str, headers: Optional[dict[str, str]] = None, **query: object
+    ) -> ClientResponse:
+        encoded = urlencode({each.rstrip("_"): str(value) for each, value in query.items()})
+        return await self.client.get(
+            f"/crawl/browse/{name}?{encoded}", headers=headers, allow_redirects=False
+        )
+
+    def place(self, address: str) -> dict[str, object]:
+        """Returns the query that the page of the last record of an address has."""
+        name, offset = self.archives.places[address]
+        return {"archive": name, "offset": offset}
+
+
+_ELEMENTS = frozenset(
+    "a b bdi body button caption code dd del details div dl dt footer form g h1 h2 h3 head header hgroup html iframe input ins "
+    "label li line link main meta nav ol option p rect section select span strong summary svg table tbody td text th thead "
+    "time title tr ul".split()
+)
+_PAGES = re.compile(r"#content|(\./|\.\./\.\./browse(/style\.css|/icon\.svg)?|[A-Za-z0-9.]+/browse/|browse/(style\.css|icon\.svg)"
+                    r"|(search|captures|compare|record|payload|download)(\?[A-Za-z0-9=&%.~_-]*)?(#[a-z]+)?)")  # fmt: skip
+
+
+class _Checked(HTMLParser):
+    """Collects what a page has that these pages never write."""
+
+    def __init__(self) -> None:
+        super().__init__()
+        self.faults: list[str] = []
+
+    def handle_starttag(self, tag: str, attrs: list[tuple[str, Optional[str]]]) -> None:
+        if tag not in _ELEMENTS:
+            self.faults.append(f"<{tag}>")
+        for name, value in attrs:
+            if name.startswith("on") or name in (
+                "style",
+                "srcdoc",
+                "http-equiv",
+                "target",
+                "formaction",
+                "ping",
+            ):
+                self.faults.append(f"{name}={value}")
+            if name in ("href", "src", "action") and not _PAGES.fullmatch(value or ""):
+                self.faults.append(f"{name}={value}")
+
+
+def faults_of(page: str) -> list[str]:
+    """Returns what a page has that could act on a reader: elements, attributes and addresses, and unseen characters."""
+    checked = _Checked()
+    checked.feed(page)
+    checked.close()
+    shown = re.sub(' value="[^"]*"', "", page)  # what a form gives back is as it was
+    return checked.faults + [
+        f"U+{ord(each):04X}"
+        for each in shown
+        if unicodedata.category(each) in ("Cc", "Cf") and each != "\n"
+    ]
+
+
+def text_of(page: str) -> str:
+    """Returns the text of a page, with single spaces."""
+    without = re.sub(r"<(style|title)\b.*?</\1>|<[^>]*>", " ", page, flags=re.DOTALL)
+    return " ".join(html.unescape(without).split())

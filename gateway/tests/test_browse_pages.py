@@ -1,0 +1,398 @@
+"""The pages, as a reader goes through them: search, years, days, captures, records and comparisons."""
+import gzip
+import re
+import unittest
+from unittest import mock
+
+from aiohttp.test_utils import TestClient, TestServer
+
+from . import browse_support as support
+from .browse_support import Archives, page, record, response, revisit, text_of
+
+from warcdx import Archive, payload
+from warcdx_gateway.browse import counting, lists
+from warcdx_gateway.browse.search_page import caption
+from warcdx_gateway.browse.searching import Search
+from warcdx_gateway.metrics import Metrics
+from warcdx_gateway.server import Gateway
+from warcdx_gateway.settings import CollectionSettings, Settings
+
+HOME = "http://example.com/"
+FIRST = page("Home", "Open from 9 to 17.", "The same.")
+SECOND = page("Home", "Open from 9 to 18.", "The same.")
+
+
+class Reading(support.Pages):
+    def fill(self, archives: Archives) -> None:
+        records = [
+            record(
+                "warcinfo",
+                "",
+                "2016-03-01T00:00:00Z",
+                b"software: none\r\n",
+                "application/warc-fields",
+            ),
+            response(HOME, "2016-03-03T09:34:31Z", FIRST, http=["X-Field: a value"]),
+            response(HOME, "2016-03-03T10:00:00Z", SECOND),
+            revisit(HOME, "2016-12-31T23:59:59Z", SECOND, "2016-03-03T10:00:00Z"),
+            response(HOME, "2018-07-01T00:00:00Z", b"gone", "text/plain", status="410 Gone"),
+            response("http://example.com/a%20b?c=d", "2017-01-01T00:00:00Z", FIRST),
+            response(
+                "http://www.example.com/logo",
+                "2017-01-01T00:00:00Z",
+                b"\x89PNG\r\n\x1a\n",
+                "image/png",
+            ),
+            response("http://sub.example.com/", "2017-02-01T00:00:00Z", FIRST),
+            response(
+                "http://example.org/data", "2017-02-01T00:00:00Z", b"PK\3\4", "application/zip"
+            ),
+        ]
+        archives.add("a.warc", records)
+        packed = response(
+            "http://packed.example/",
+            "2019-01-01T00:00:00Z",
+            gzip.compress(FIRST),
+            http=["Content-Encoding: gzip"],
+        )
+        archives.add("b.warc.gz", [packed])
+
+    async def test_the_list_of_collections_links_each(self) -> None:
+        collections = {
+            name: self.archives.collection(name, f"<{name}>") for name in ("one", "Two.2")
+        }
+        for each in collections.values():
+            self.addAsyncCleanup(each.close)
+        client = await self.serve(collections)
+        found = await (await client.get("/browse")).text()
+        self.assertIn('<a href="one/browse/">&lt;one&gt;</a>', found)
+        self.assertIn('<a href="Two.2/browse/">&lt;Two.2&gt;</a>', found)
+        for path, status in (("/one/browse/", 200), ("/Two.2/browse/", 200), ("/three/browse/", 404), ("/browse/style.css", 200),
+                             ("/browse/icon.svg", 200)):  # fmt: skip
+            answer = await client.get(path)
+            self.assertEqual(
+                (status, "nosniff"), (answer.status, answer.headers["X-Content-Type-Options"]), path
+            )
+        self.assertEqual("text/css", (await client.get("/browse/style.css")).content_type)
+
+    async def test_a_path_may_have_its_slash_or_not(self) -> None:
+        for path, page_path in (("/browse/", "/browse"), ("/crawl/browse", "/crawl/browse/")):
+            answer = await self.client.get(path)
+            self.assertEqual((200, page_path), (answer.status, answer.url.path))
+
+    async def test_an_address_has_years_days_and_captures(self) -> None:
+        found = await self.get("search", url="example.com", year="2016")
+        text = text_of(found)
+        self.assertIn("4 captures between 3 March 2016 and 1 July 2018.", text)
+        self.assertIn('aria-label="2016: 3 captures"', found)
+        self.assertIn('aria-label="2018: 1 capture"', found)
+        self.assertNotIn("2017: ", found)  # a year without captures is no link
+        self.assertIn('aria-label="Thursday, 3 March 2016: 2 captures"', found)
+        self.assertIn('aria-label="Saturday, 31 December 2016: 1 capture"', found)
+        self.assertEqual(2, len(re.findall('<text [^>]*class="day"', found)))
+        self.assertIn("Captures in 2016", text)
+        rows = re.findall(
+            r"<tr role=\"row\"><th scope=\"row\" role=\"rowheader\" class=\"time\">(.*?)</tr>",
+            found,
+        )
+        self.assertEqual(
+            [
+                "3 March 2016, 09:34:31 200 text/html",
+                "3 March 2016, 10:00:00 200 text/html",
+                "31 December 2016, 23:59:59 200 revisit",
+            ],
+            [" ".join(text_of(each).split()[:6]) for each in rows],
+        )
+        self.assertIn("same as above", text_of(rows[2]))
+
+    async def test_the_last_year_is_shown_first(self) -> None:
+        found = text_of(await self.get("search", url=HOME))
+        self.assertIn("2018: 1 capture", found)
+        self.assertIn("Captures in 2018", found)
+        self.assertIn("410", found)
+
+    async def test_the_drawings_are_tables_too(self) -> None:
+        found = await self.get("search", url=HOME, year="2016")
+        for words, count in (("Thursday, 3 March 2016", 2), ("Saturday, 31 December 2016", 1)):
+            self.assertRegex(found, rf"<th [^>]*><a [^>]*>{words}</a></th><td [^>]*>{count}</td>")
+
+    async def test_each_day_links_its_captures(self) -> None:
+        found = await self.get("search", url=HOME, year="2016")
+        link = re.search(r'<a href="(captures\?[^"]*)" aria-label="Thursday, 3 March', found)
+        self.assertEqual(
+            "captures?url=http%3A%2F%2Fexample.com%2F&amp;from=20160303&amp;to=20160303",
+            link and link[1],
+        )
+        day = text_of(await self.get("captures", url=HOME, from_="20160303", to="20160303"))
+        self.assertIn("Captures on 3 March 2016", day)
+        self.assertIn("09:34:31", day)
+        self.assertNotIn("December", day)
+
+    async def test_a_host_has_its_addresses(self) -> None:
+        for query, expected in (
+            ({"url": "*.example.com"}, ["http://example.com/", "http://example.com/a%20b?c=d", "http://www.example.com/logo", "http://sub.example.com/"]),
+            ({"url": "example.com", "match": "host"}, ["http://example.com/", "http://example.com/a%20b?c=d", "http://www.example.com/logo"]),
+            ({"url": "example.com/a*"}, ["http://example.com/a%20b?c=d"]),
+            ({"url": "*.example.com", "year": "2018"}, ["http://example.com/"]),
+            ({"url": "*.example.com", "from": "2017-02", "to": "2017"}, ["http://sub.example.com/"]),
+        ):  # fmt: skip
+            found = await self.get("search", **query)
+            addresses = re.findall(r'<a href="search\?url=[^"]*"><bdi>(.*?)</bdi></a>', found)
+            self.assertEqual(expected, addresses, query)
+
+    async def test_an_address_of_a_list_has_its_captures(self) -> None:
+        found = await self.get("search", url="*.example.com")
+        link = re.search(r'<a href="search\?([^"]*)"><bdi>http://example.com/a', found)
+        assert link
+        answer = await self.client.get("/crawl/browse/search?" + link[1].replace("&amp;", "&"))
+        text = text_of(await answer.text())
+        self.assertIn("http://example.com/a%20b?c=d 1 capture on 1 January 2017.", text)
+
+    async def test_what_is_refused_is_said(self) -> None:
+        for query, words in (
+            ({"url": ""}, "Nothing was typed."),
+            ({}, "Nothing was typed."),
+            ({"url": "http://[x"}, "The search for “http://[x” was refused (BadUrl)."),
+            ({"url": "ftp://a.example/", "match": "host"}, "found only for web addresses"),
+            ({"url": HOME, "match": "regex"}, "The match “regex” was refused."),
+            ({"url": HOME, "from": "March"}, "The time “March” was refused."),
+            ({"url": HOME, "to": "2016-3-1"}, "A time is a year"),
+            ({"url": HOME, "after": "nonsense"}, "isn't one"),
+        ):
+            self.assertIn(words, text_of(await self.get("search", 400, **query)), query)
+
+    async def test_nothing_found_offers_wider_searches(self) -> None:
+        found = await self.get("search", url="example.com/nothing", from_="2016")
+        self.assertIn(
+            "The collection has no capture of this in the time from 2016 to the last.",
+            text_of(found),
+        )
+        for words in (
+            "Search at any time",
+            "Search the whole host",
+            "Search for addresses that begin so",
+        ):
+            self.assertIn(words, found)
+
+    async def test_times_are_typed_in_several_ways(self) -> None:
+        for typed in ("2016", "2016-03", "201603", "2016-03-03", "20160303", " 2016 "):
+            found = text_of(await self.get("search", url=HOME, from_=typed, to=typed))
+            self.assertIn("captures", found)
+            self.assertIn("March 2016", found)
+
+    async def test_lists_continue(self) -> None:
+        with mock.patch.object(lists, "SIZE", 2):
+            first = await self.get("captures", url=HOME)
+            self.assertEqual(2, first.count("Record of"))
+            link = re.search(r'<a href="captures\?([^"#]*)#list" rel="next">Next 2</a>', first)
+            assert link
+            answer = await self.client.get(
+                "/crawl/browse/captures?" + link[1].replace("&amp;", "&")
+            )
+            second = await answer.text()
+        self.assertIn("Record of 31 December 2016, 23:59:59", second)
+        self.assertIn("Record of 1 July 2018", second)
+        self.assertNotIn("Next 2", second)
+        self.assertIn("First page", second)
+
+    async def test_counts_are_whole_over_pages_and_say_when_they_are_not(self) -> None:
+        with mock.patch.object(counting, "PAGE", 1):
+            self.assertIn("4 captures between", text_of(await self.get("search", url=HOME)))
+        collection = self.archives.collection()
+        self.addAsyncCleanup(collection.close)
+        for most, is_whole in ((3, False), (4, True), (5, True)):
+            search = Search(HOME)
+            counts = await counting.count(collection, search, most)
+            self.assertEqual((is_whole, min(most, 4)), (counts.is_whole, counts.total))
+            words = "Only the first 3 captures were counted, up to 31 December 2016, 23:59:59"
+            self.assertEqual(not is_whole, words in caption(counts, search).text)
+
+    async def test_a_record_is_shown(self) -> None:
+        found = await self.get("record", archive="a.warc", offset=self.offset_of(1))
+        text = text_of(found)
+        for words in ("Response record http://example.com/", "3 March 2016, 09:34:31", "The block is as it was recorded",
+                      "WARC-Type response", "(first line) HTTP/1.1 200 OK", "X-Field a value",
+                      f"The payload has {len(FIRST)} bytes"):  # fmt: skip
+            self.assertIn(words.lower(), text.lower())
+        self.assertRegex(
+            found, r'<iframe title="[^"]*" src="payload\?archive=a.warc&amp;offset=\d+" sandbox '
+        )
+
+    async def test_records_of_other_types_are_shown(self) -> None:
+        found = text_of(await self.get("record", archive="a.warc", offset=0))
+        self.assertIn("warcinfo record", found)
+        self.assertNotIn("HTTP headers", found)
+        self.assertIn("It isn't shown, for its type is application/zip. It can be saved.",
+                      text_of(await self.get("record", **self.place("http://example.org/data"))))  # fmt: skip
+
+    async def test_a_revisit_has_its_original(self) -> None:
+        found = await self.get("record", archive="a.warc", offset=self.offset_of(3))
+        self.assertIn(
+            "The payload is that of the capture of 3 March 2016, 10:00:00 , which has the same digest.",
+            text_of(found),
+        )
+        self.assertIn(f'href="record?archive=a.warc&amp;offset={self.offset_of(2)}"', found)
+        self.assertIn("The payload is empty.", text_of(found))
+
+    async def test_compressed_archives_are_read(self) -> None:
+        found = text_of(await self.get("record", **self.place("http://packed.example/")))
+        self.assertIn("The block is as it was recorded", found)
+        answer = await self.ask("payload", **self.place("http://packed.example/"))
+        self.assertEqual(FIRST, await answer.read())
+
+    async def test_two_texts_are_compared(self) -> None:
+        found = await self.get(
+            "compare", first=f"{self.offset_of(1)} a.warc", second=f"{self.offset_of(2)} a.warc"
+        )
+        self.assertIn("1 line differs.", text_of(found))
+        self.assertIn("9 to <del>17</del>.", found)
+        self.assertIn("9 to <ins>18</ins>.", found)
+
+    async def test_a_revisit_is_compared_by_its_original(self) -> None:
+        found = text_of(
+            await self.get(
+                "compare", first=f"{self.offset_of(2)} a.warc", second=f"{self.offset_of(3)} a.warc"
+            )
+        )
+        self.assertIn("The texts are the same. The payloads are the same, byte for byte.", found)
+        self.assertIn("(a revisit: the text of its original)", found)
+
+    async def test_images_are_not_compared(self) -> None:
+        name, offset = self.archives.places["http://www.example.com/logo"]
+        found = text_of(
+            await self.get(
+                "compare", 422, first=f"{self.offset_of(1)} a.warc", second=f"{offset} {name}"
+            )
+        )
+        self.assertIn("Only texts are compared.", found)
+
+    async def test_records_and_payloads_are_saved(self) -> None:
+        answer = await self.ask(
+            "download", what="record", archive="a.warc", offset=self.offset_of(1)
+        )
+        self.assertEqual(b"WARC/1.1\r\n", (await answer.read())[:10])
+        self.assertEqual("application/octet-stream", answer.headers["Content-Type"])
+        name = f"a.warc-{self.offset_of(1)}.warc"
+        self.assertEqual(
+            f"attachment; filename=\"{name}\"; filename*=UTF-8''{name}",
+            answer.headers["Content-Disposition"],
+        )
+        saved = await self.ask("download", what="payload", **self.place("http://packed.example/"))
+        self.assertEqual(FIRST, await saved.read())
+        self.assertIn(
+            'filename="20190101000000-packed.example"', saved.headers["Content-Disposition"]
+        )
+        head = await self.client.head(
+            f"/crawl/browse/download?archive=a.warc&offset={self.offset_of(1)}"
+        )
+        self.assertEqual(
+            (200, answer.headers["Content-Length"]), (head.status, head.headers["Content-Length"])
+        )
+
+    async def test_the_gateway_has_the_pages(self) -> None:
+        collection = self.archives.collection()
+        self.addAsyncCleanup(collection.close)
+        settings = Settings(
+            (CollectionSettings("crawl", "A crawl", tuple(self.archives.indexes)),), "crawl"
+        )
+        application = Gateway(settings, {"crawl": collection}, Metrics()).application()
+        async with TestClient(TestServer(application)) as client:
+            for path in ("/browse", "/crawl/browse/", "/crawl/browse/search?url=example.com"):
+                answer = await client.get(path, headers={"Origin": "http://evil.example"})
+                self.assertEqual((200, "text/html"), (answer.status, answer.content_type))
+                self.assertNotIn("Access-Control-Allow-Origin", answer.headers)
+
+    def offset_of(self, number: int) -> int:
+        """Returns the offset of a record of a.warc."""
+        archive = (self.archives.archives / "a.warc").read_bytes()
+        return [found.start() for found in re.finditer(rb"WARC/1\.1\r\nWARC-Type", archive)][number]
+
+
+class Crawl(support.Pages):
+    """A crawl of wget."""
+
+    def fill(self, archives: Archives) -> None:
+        archives.add("wget.warc", [])
+        (archives.archives / "wget.warc").write_bytes((support.SAMPLES / "wget.warc").read_bytes())
+        archives.index(archives.archives / "wget.warc")
+
+    async def test_each_record_has_a_page_and_a_payload(self) -> None:
+        archive = Archive(support.SAMPLES / "wget.warc", program=support.PROGRAM)
+        offsets = [each.offset for each in archive.list()]
+        self.assertEqual(68, len(offsets))
+        for offset in offsets:
+            found = await self.get("record", archive="wget.warc", offset=offset)
+            self.assertIn("The block is as it was recorded", found)
+            saved = await self.ask("download", archive="wget.warc", offset=offset, what="payload")
+            self.assertEqual(payload(archive.get(offset)), await saved.read())
+            if "<iframe" in found:
+                shown = await self.ask("payload", archive="wget.warc", offset=offset)
+                self.assertEqual(payload(archive.get(offset)), await shown.read())
+
+    async def test_the_host_has_all_captures(self) -> None:
+        found = text_of(await self.get("search", url="127.0.0.1", match="host"))
+        self.assertIn("captures on 22 November 2026.", found)
+
+
+class Many(support.Pages):
+    """More captures than are held at a time."""
+
+    def fill(self, archives: Archives) -> None:
+        stamps = [
+            f"{2000 + number // 500}{number % 12 + 1:02}15{number % 86400:06}"
+            for number in range(3500)
+        ]
+        name = "a%b +&=ü.warc"
+        archives.put(
+            "index",
+            b"".join(
+                sorted(archives.line(HOME, stamp, name, at) for at, stamp in enumerate(stamps))
+            ),
+        )
+
+    async def test_all_are_counted(self) -> None:
+        found = await self.get("search", url=HOME)
+        self.assertIn(
+            "3,500 captures between 15 January 2000 and 15 December 2006.", text_of(found)
+        )
+        for year in range(2000, 2007):
+            self.assertIn(f'aria-label="{year}: 500 captures"', found)
+
+    async def test_all_are_listed_page_by_page(self) -> None:
+        query, seen = "url=example.com&from=2003&to=2003", set()
+        while query:
+            answer = await self.client.get("/crawl/browse/captures?" + query)
+            found = await answer.text()
+            seen |= set(re.findall(r"offset=(\d+)", found))
+            link = re.search(r'<a href="captures\?([^"#]*)#list" rel="next">', found)
+            query = link[1].replace("&amp;", "&") if link else ""
+        self.assertEqual({str(number) for number in range(1500, 2000)}, seen)
+
+    async def test_a_limit_is_said(self) -> None:
+        with mock.patch.object(counting.count, "__defaults__", (1700,)):
+            found = text_of(await self.get("search", url=HOME, year="2003"))
+        self.assertIn("Only the first 1,700 captures were counted, up to", found)
+        self.assertIn("The captures after these aren't in the drawings.", found)
+        self.assertIn("2003: 200 captures", found)
+
+
+class LongLines(support.Pages):
+    """An index whose lines are longer than the gateway takes."""
+
+    def fill(self, archives: Archives) -> None:
+        lines = [
+            archives.line(HOME, f"2016010100000{number}", "a.warc", number) for number in range(9)
+        ]
+        lines.append(archives.line(HOME, "20170101000000", "x" * (9 << 20), 9))
+        archives.put("index", b"".join(lines))
+
+    async def test_what_can_not_be_shown_is_said(self) -> None:
+        found = text_of(await self.get("search", 502, url=HOME))
+        self.assertIn("The lines of the index are too long.", found)
+        self.assertIn(
+            "9 captures", text_of(await self.get("search", url=HOME, from_="2016", to="2016"))
+        )
+
+
+if __name__ == "__main__":
+    unittest.main()

@@ -1,0 +1,86 @@
+"""Stamps of captures, as dates in words. A stamp is fourteen digits, which need not be a date."""
+import datetime
+import re
+from typing import Optional
+
+MONTHS = (
+    "January", "February", "March", "April", "May", "June",
+    "July", "August", "September", "October", "November", "December",
+)  # fmt: skip
+DAYS = ("Monday", "Tuesday", "Wednesday", "Thursday", "Friday", "Saturday", "Sunday")
+_TYPED = re.compile(r"(\d{4})(?:-?(\d\d)(?:-?(\d\d))?)?", re.ASCII)
+_STAMP = re.compile(r"\d{14}", re.ASCII)
+
+
+def day_of(digits: str) -> Optional[datetime.date]:
+    """Returns the day of the first eight digits, or None if they are no date."""
+    try:
+        return datetime.date(int(digits[:4]), int(digits[4:6]), int(digits[6:8]))
+    except ValueError:
+        return None
+
+
+def time_of(stamp: str) -> Optional[datetime.datetime]:
+    """Returns the time of a stamp in UTC, or None if it is no time. A leap second is none."""
+    if not _STAMP.fullmatch(stamp):
+        return None
+    month, day, hour, minute, second = (int(stamp[at : at + 2]) for at in range(4, 14, 2))
+    try:
+        return datetime.datetime(
+            int(stamp[:4]), month, day, hour, minute, second, tzinfo=datetime.timezone.utc
+        )
+    except ValueError:
+        return None
+
+
+def day_in_words(day: datetime.date) -> str:
+    return f"{day.day} {MONTHS[day.month - 1]} {day.year}"
+
+
+def full_day(day: datetime.date) -> str:
+    return f"{DAYS[day.weekday()]}, {day_in_words(day)}"
+
+
+def in_words(stamp: str) -> str:
+    """Returns `3 March 2016, 09:34:31`, or the digits if the stamp is no time."""
+    time = time_of(stamp)
+    return f"{day_in_words(time)}, {time:%H:%M:%S}" if time else f"{stamp} (not a date)"
+
+
+def machine_time(stamp: str) -> Optional[str]:
+    """Returns the stamp as the attribute `datetime` of HTML has it, or None if it is no time."""
+    time = time_of(stamp)
+    return f"{time:%Y-%m-%dT%H:%M:%SZ}" if time and time.year >= 1000 else None
+
+
+def stamp_of(date: str) -> Optional[str]:
+    """Returns the stamp of a value of WARC-Date, or None."""
+    digits = re.sub(r"\D", "", date.partition(".")[0])
+    return digits if _STAMP.fullmatch(digits) else None
+
+
+def digits_of(typed: str) -> str:
+    """Returns the first digits of a stamp for a year, month or day as it is typed, or what was typed."""
+    found = _TYPED.fullmatch(typed.strip())
+    return "".join(part for part in found.groups() if part) if found else typed.strip()
+
+
+def typed(digits: str) -> str:
+    """Returns the first digits of a stamp as they may be typed: `2016-03` for `201603`."""
+    if len(digits) not in (4, 6, 8) or not digits.isdigit():
+        return digits
+    return "-".join(part for part in (digits[:4], digits[4:6], digits[6:]) if part)
+
+
+def period_in_words(digits: str) -> str:
+    """Returns `2016`, `March 2016` or `3 March 2016` for the first 4, 6 or 8 digits of a stamp."""
+    if len(digits) == 8 and (day := day_of(digits)):
+        return day_in_words(day)
+    if len(digits) == 6 and 1 <= int(digits[4:]) <= 12:
+        return f"{MONTHS[int(digits[4:]) - 1]} {int(digits[:4])}"
+    return digits
+
+
+def many(count: int, one: str, more: str = "") -> str:
+    """Returns a count with its noun: `1 capture`, `1,234 captures`."""
+    return f"{count:,} {one if count == 1 else more or one + 's'}"

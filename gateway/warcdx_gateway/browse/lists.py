@@ -1,0 +1,201 @@
+"""Lists of captures and of addresses, a page at a time."""
+from dataclasses import dataclass
+from typing import Optional
+
+from warcdx import FIELDS, Capture
+
+from ..collection import Collection
+from . import dates
+from .layout import row, table
+from .markup import Child, Link, Markup, cut, element, followed, joined, link
+from .searching import Search, place_of
+
+SIZE = 50  # rows of a page
+_MOST_ADDRESS = 300  # characters of an address that are shown in a list
+MOST_DIGEST = 100  # characters of a digest, of which SHA-256 has 64
+MOST_NAME = 300  # characters of an offset and a file name, of which Linux takes 255 bytes
+REVISIT = "warc/revisit"
+
+
+@dataclass(frozen=True)
+class Part:
+    """The rows of a page, and the place of the last one if others follow."""
+
+    captures: tuple[Capture, ...]
+    next: str
+    is_first: bool
+
+
+async def captures(collection: Collection, search: Search, after: str) -> Part:
+    """Returns the captures that follow a place, in the order of the index."""
+    return await _part(collection, search.query(resumeKey=after), bool(after))
+
+
+async def addresses(collection: Collection, search: Search, after: str) -> Part:
+    """Returns the first capture of each address that follows a place."""
+    return await _part(collection, search.query(collapse="urlkey", resumeKey=after), bool(after))
+
+
+async def _part(collection: Collection, query: str, is_later: bool) -> Part:
+    found = await collection.rows(FIELDS, query, limit=SIZE + 1)
+    rows = tuple(map(Capture.of, found[:SIZE]))
+    place = ""
+    if len(found) > SIZE:
+        last = rows[-1]
+        place = place_of(last.urlkey, last.timestamp, last.filename, str(last.offset))
+    return Part(rows, place, not is_later)
+
+
+def record_link(capture: Capture) -> Link:
+    return link("record", archive=capture.filename, offset=capture.offset)
+
+
+def captures_section(part: Part, search: Search, words: str) -> Markup:
+    """Returns the list of captures, in a form that compares the texts of two of them."""
+    if not part.captures:
+        return element(
+            "section",
+            element("h2", words),
+            element("p", "There are no captures here."),
+            class_="card",
+        )
+    names = {
+        "time": "Time",
+        "status": "Status",
+        "type": "Type",
+        "size": "Record",
+        "digest": "Digest",
+    }
+    can_compare = len(part.captures) > 1
+    if can_compare:
+        names["pick"] = "Compare"
+    if not search.is_single:
+        names = {"time": "Time", "address": "Address", **names}
+    before: Optional[str] = None
+    rows: list[Child] = []
+    for number, capture in enumerate(part.captures):
+        rows.append(
+            _capture_row(names, capture, before == capture.digest, number if can_compare else None)
+        )
+        before = capture.digest if capture.digest != "-" else None
+    listed: Child = table(words, names, rows, "captures")
+    if can_compare:
+        button = element("p", element("button", "Compare the two texts", type="submit"))
+        listed = element("form", listed, button, action=Link("compare"), method="get")
+    return element(
+        "section",
+        element("h2", words),
+        listed,
+        _further(part, search, "captures"),
+        class_="card",
+        id="list",
+    )
+
+
+def _capture_row(
+    names: dict[str, str], capture: Capture, is_same: bool, number: Optional[int]
+) -> Markup:
+    words = f"Record of {dates.in_words(capture.timestamp)}"
+    time = followed(_time(capture.timestamp), record_link(capture), aria_label=words)
+    digest = joined(
+        element("code", cut(capture.digest, MOST_DIGEST)),
+        element("span", " same as above", class_="same") if is_same else None,
+    )
+    cells: dict[str, Child] = {
+        "time": time,
+        "address": _address(capture.original),
+        "status": status_words(capture.statuscode),
+        "type": "revisit" if capture.mimetype == REVISIT else cut(capture.mimetype, 80),
+        "size": f"{capture.length:,} bytes" if capture.length is not None else "-",
+        "digest": digest,
+        "pick": _picks(capture, number) if number is not None else None,
+    }
+    return row(names, *(cells[name] for name in names))
+
+
+def _time(stamp: str) -> Markup:
+    return element("time", dates.in_words(stamp), datetime=dates.machine_time(stamp))
+
+
+def _address(address: str) -> Markup:
+    return element("bdi", cut(address, _MOST_ADDRESS))
+
+
+def status_words(status: str) -> Child:
+    """Returns a status with a class by its hundred, so that errors stand out."""
+    hundred = status[0] if len(status) == 3 and status.isascii() and status.isdigit() else "0"
+    return element("span", cut(status, 12), class_=f"status s{hundred}")
+
+
+def _picks(capture: Capture, number: int) -> Markup:
+    """Returns the two fields by which a capture is chosen for a comparison, the first and second row at first."""
+    value = cut(f"{capture.offset} {capture.filename}", MOST_NAME)
+    return joined(
+        element(
+            "label",
+            element(
+                "input",
+                type="radio",
+                name=name,
+                value=value,
+                required=True,
+                checked=number == first,
+            ),
+            element("span", f" {words}", aria_hidden="true"),
+            element("span", f"{name}: {dates.in_words(capture.timestamp)}", class_="hidden-label"),
+        )
+        for name, words, first in (("first", "1st", 0), ("second", "2nd", 1))
+    )
+
+
+def addresses_section(part: Part, search: Search) -> Markup:
+    """Returns the list of addresses, each with its first capture."""
+    if not part.captures:
+        return element(
+            "section",
+            element("h2", "Addresses"),
+            element("p", "There are no addresses here."),
+            class_="card",
+        )
+    names = {"address": "Address", "time": "First capture", "status": "Status", "type": "Type"}
+    rows = (
+        row(
+            names,
+            followed(
+                _address(capture.original if capture.original != "-" else capture.urlkey),
+                _history(capture),
+            ),
+            _time(capture.timestamp),
+            status_words(capture.statuscode),
+            cut(capture.mimetype, 80),
+        )
+        for capture in part.captures
+    )
+    listed = table("Addresses", names, rows, "addresses")
+    return element(
+        "section", element("h2", "Addresses"), listed, _further(part, search, "search"), class_="card", id="list"
+    )  # fmt: skip
+
+
+def _history(capture: Capture) -> Link:
+    """Returns a link to the captures of the key, which may be one that no address has here."""
+    shown = capture.original if capture.original != "-" else ""
+    return link("search", url=shown, key=capture.urlkey)
+
+
+def _further(part: Part, search: Search, page: str) -> Child:
+    links: list[Child] = []
+    if not part.is_first:
+        links.append(element("li", element("a", "First page", href=search.link(page, "list"))))
+    if part.next:
+        links.append(
+            element(
+                "li",
+                followed(f"Next {SIZE}", search.link(page, "list", after=part.next), rel="next"),
+            )
+        )
+    return (
+        element("nav", element("ul", links), aria_label="Pages of this list", class_="pages")
+        if links
+        else None
+    )
