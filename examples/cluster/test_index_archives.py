@@ -261,7 +261,7 @@ def a_further_run_indexes_what_is_new(program: pathlib.Path, folder: pathlib.Pat
 
 def a_run_that_is_broken_off_goes_on(program: pathlib.Path, folder: pathlib.Path) -> None:
     """It is killed in the middle, and a line of its log is broken off. A second run at the same time is refused."""
-    trial = Trial(program, folder, SLOW)
+    trial = Trial(program, folder, SLOW.replace("sleep 0.5", "sleep 2"))  # so that the second one begins before it ends
     with cluster(folder) as (address, _, _):
         first = trial.start("--scheduler", address)
         until("parts", lambda: len(list(trial.results.glob("parts/*.cdxj"))) >= 3)
