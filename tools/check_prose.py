@@ -1,0 +1,220 @@
+#!/usr/bin/env python3
+"""Checks the English of the pages, of the help and of the docstrings by the rules of docs/STYLE.md.
+
+usage: check_prose.py [--list] [PAGE..]
+
+In the pages and in the manual pages
+
+- a sentence has at most 25 words, and at most one of `which`, `whose` and `whom`;
+- a line has at most 100 columns, if it isn't code, a row of a table or a link.
+
+The pages, the texts of help and the docstrings of the crates contain none of the phrases that
+docs/STYLE.md replaces. A comment `<!-- prose: REASON -->` on a line of its own excuses the block of
+lines that follows it.
+
+Without PAGE these are all pages of the repository. Prints a line for each file, and the counts. With
+--list it prints each sentence with its number of words instead. The exit status is 0, or 1 if a
+file breaks a rule.
+"""
+import re
+import sys
+from collections.abc import Iterator
+from pathlib import Path
+from typing import NamedTuple
+
+sys.path.insert(0, str(Path(__file__).resolve().parents[1] / "tests"))
+
+from check_links import pages_of
+from program import ROOT, Report, parser_of
+
+MOST_WORDS = 25  # of a sentence
+MOST_COLUMNS = 100  # of a line
+MOST_RELATIVES = 1  # of a sentence
+
+PHRASES = re.compile(
+    r"\b(?:(?:is|are|was|were|be|been) asked for|asks? for by|so many|tells"
+    r"|(?:is|are) looked at|(?:is|are) gone through|is of no use|no good|by chance)\b",
+    re.IGNORECASE,
+)
+RELATIVES = re.compile(r"\b(?:which|whose|whom)\b", re.IGNORECASE)
+
+FENCE = re.compile(r"\s*(```|~~~)")
+INDENTED = re.compile(r"(?: {4}|\t)")
+BULLET = re.compile(r"\s*(?:[-*]|\d+\.)\s+")
+HEADING = re.compile(r"#{1,6}\s+")
+TABLE_RULE = re.compile(r"\|[-:|\s]+\|?$")
+EXCUSE = re.compile(r"<!-- prose: \S.* -->$")
+COMMENT = re.compile(r"<!--.*?-->", re.DOTALL)
+LINK = re.compile(r"!?\[([^\]]*)\](?:\([^)]*\)|\[[^\]]*\])")
+CODE = re.compile(r"(`+)(?!`).*?(?<!`)\1(?!`)", re.DOTALL)
+URL = re.compile(r"<?https?://\S+")
+EMPHASIS = re.compile(r"\*{1,2}|(?<!\w)_|_(?!\w)")
+SENTENCE_END = re.compile(r"(?<=[.!?])[\"')]*\s+(?=[\"'(]*[A-Z0-9])|(?<=[.!?:])[\"')]*$")
+ITEM_END = re.compile(r";\s+")
+NAMES = re.compile(r"CODE(?:(?:,| and| or|, and|, or)? CODE)+")
+ABBREVIATION = re.compile(r"\b(?:e\.g|i\.e|cf|etc|vs)\.")
+ROFF_TEXT = re.compile(r"\.(?:B|I|BR|BI|IR|IB|RB|RI|SB|SM)\s+(.*)")
+ROFF_ESCAPE = re.compile(r"\\(?:f.|&|\(..|\[[^\]]*\]|-)")
+DOCSTRING = re.compile(r"\s*//[/!]\s?(.*)")
+HELP_TEXT = re.compile(r'"((?:[^"\\]|\\.)*)"')
+
+
+class Block(NamedTuple):
+    """Lines that make one text: a paragraph, an item of a list or a cell of a table."""
+
+    line: int
+    text: str
+    is_item: bool = False  # of a list or a table, whose parts `;` separates
+
+
+def markdown_blocks(lines: list[str]) -> Iterator[Block]:
+    """Yields the blocks of a page without its code and without what is excused."""
+    fence, first, words, is_item, excused = None, 0, [], False, False
+
+    def ended() -> Iterator[Block]:
+        nonlocal words, is_item, excused
+        if words and not excused:
+            yield Block(first, " ".join(words), is_item)
+        if words:
+            excused = False
+        words, is_item = [], False
+
+    for number, line in enumerate(lines, 1):
+        if fence:
+            fence = None if line.strip().startswith(fence) else fence
+        elif found := FENCE.match(line):
+            yield from ended()
+            fence = found[1]
+        elif EXCUSE.match(line.strip()):
+            yield from ended()
+            excused = True
+        elif not line.strip():
+            yield from ended()
+        elif line.startswith("|"):
+            yield from ended()
+            if not TABLE_RULE.match(line):
+                yield from (Block(number, cell.strip(), True) for cell in cells_of(line) if cell.strip())
+        elif HEADING.match(line):
+            yield from ended()
+        elif INDENTED.match(line) and not words:
+            continue
+        elif found := BULLET.match(line):
+            yield from ended()
+            first, words, is_item = number, [line[found.end() :].strip()], True
+        else:
+            first = first if words else number
+            words.append(line.strip())
+    yield from ended()
+
+
+def cells_of(row: str) -> list[str]:
+    return re.split(r"(?<!\\)\|", row.strip().strip("|"))
+
+
+def manual_blocks(lines: list[str]) -> Iterator[Block]:
+    """Yields the paragraphs of a manual page without its examples."""
+    first, words, is_example = 0, [], False
+    for number, line in enumerate([*lines, ".PP"], 1):
+        if line.startswith((".EX", ".nf")):
+            is_example = True
+        if (line.startswith(".") and not ROFF_TEXT.match(line)) or not line.strip():
+            if words:
+                yield Block(first, " ".join(words))
+            words = []
+        elif not is_example:
+            text = ROFF_TEXT.match(line)
+            first = first if words else number
+            words.append(ROFF_ESCAPE.sub("", text[1] if text else line).strip())
+        if line.startswith((".EE", ".fi")):
+            is_example = False
+
+
+def sentences_of(block: Block) -> Iterator[str]:
+    """Yields the sentences of a block. A list of names in code counts as one word, and a link as its text."""
+    text = CODE.sub(" CODE ", COMMENT.sub(" ", block.text))
+    text = URL.sub("ADDRESS", EMPHASIS.sub("", LINK.sub(r"\1", text)))
+    text = ABBREVIATION.sub("ABBREVIATION", re.sub(r"\s+", " ", text)).strip()
+    text = re.sub(r"\s+([.,;:!?)])", r"\1", text)
+    text = NAMES.sub("CODE", text)
+    for part in ITEM_END.split(text) if block.is_item else [text]:
+        yield from (sentence.strip() for sentence in SENTENCE_END.split(part) if sentence.strip())
+
+
+def words_of(sentence: str) -> int:
+    return sum(1 for word in sentence.split() if re.search(r"\w", word))
+
+
+def is_wide(line: str) -> bool:
+    """Tests whether a line of text is too wide, and could be shorter."""
+    return len(line) > MOST_COLUMNS and not line.startswith("|") and " " in line[MOST_COLUMNS // 2 :]
+
+
+def page_faults(page: Path) -> Iterator[str]:
+    """Yields what is wrong in a page or in a manual page."""
+    lines = page.read_text().splitlines()
+    for block in blocks_of(page, lines):
+        for sentence in sentences_of(block):
+            if words_of(sentence) > MOST_WORDS:
+                yield f"line {block.line}: {words_of(sentence)} words: {sentence}"
+            if len(RELATIVES.findall(sentence)) > MOST_RELATIVES:
+                yield f"line {block.line}: several relative clauses: {sentence}"
+            if found := PHRASES.search(sentence):
+                yield f"line {block.line}: {found[0]!r}: {sentence}"
+    if page.suffix == ".md":
+        yield from (f"line {number}: {len(line)} columns" for number, line in text_lines(lines) if is_wide(line))
+
+
+def blocks_of(page: Path, lines: list[str]) -> Iterator[Block]:
+    return markdown_blocks(lines) if page.suffix == ".md" else manual_blocks(lines)
+
+
+def text_lines(lines: list[str]) -> Iterator[tuple[int, str]]:
+    """Yields the lines of a page that aren't code."""
+    fence = None
+    for number, line in enumerate(lines, 1):
+        found = FENCE.match(line)
+        if fence:
+            fence = None if line.strip().startswith(fence) else fence
+        elif found:
+            fence = found[1]
+        elif not INDENTED.match(line):
+            yield number, line
+
+
+def source_faults(source: Path) -> Iterator[str]:
+    """Yields the phrases in the docstrings of a source file, and in its texts if it has help."""
+    is_help = "help" in source.parts or source.stem in ("help", "command")
+    for number, line in enumerate(source.read_text().splitlines(), 1):
+        found = DOCSTRING.match(line)
+        texts = [found[1]] if found else HELP_TEXT.findall(line) if is_help else []
+        for text in texts:
+            if phrase := PHRASES.search(text):
+                yield f"line {number}: {phrase[0]!r}: {text}"
+
+
+def main() -> int:
+    parser = parser_of(__doc__)
+    parser.add_argument("--list", action="store_true", help="print the sentences")
+    parser.add_argument("pages", metavar="PAGE", nargs="*", type=Path)
+    arguments = parser.parse_args()
+    pages = [page.resolve() for page in arguments.pages] or [*pages_of(ROOT), *sorted(ROOT.glob("docs/*.1"))]
+    if arguments.list:
+        for page in pages:
+            for block in blocks_of(page, page.read_text().splitlines()):
+                for sentence in sentences_of(block):
+                    print(f"{page.name}:{block.line}: {words_of(sentence)}: {sentence}")
+        return 0
+    report = Report()
+    sources = [] if arguments.pages else sorted(ROOT.glob("crates/*/src/**/*.rt"))
+    for file in [*pages, *sources]:
+        name = file.relative_to(ROOT) if file.is_relative_to(ROOT) else file
+        faults = list(source_faults(file) if file.suffix == ".rt" else page_faults(file))
+        for fault in faults:
+            report.add_difference(str(name), fault)
+        if not faults and file.suffix != ".rt":
+            report.add_ok(str(name))
+    return report.end()
+
+
+if __name__ == "__main__":
+    sys.exit(main())
