@@ -146,7 +146,7 @@ def words_of(sentence: str) -> int:
 
 def is_wide(line: str) -> bool:
     """Tests whether a line of text is too wide, and could be shorter."""
-    return len(line) > MOST_COLUMNS and not line.startswith("|") and " " in line[MOST_COLUMNS // 2 :]
+    return len(line) > MOST_COLUMNS and not line.startswith(("|", "![")) and " " in line[MOST_COLUMNS // 2 :]
 
 
 def page_faults(page: Path) -> Iterator[str]:
