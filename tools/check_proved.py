@@ -72,23 +72,25 @@ def calls(cell: str) -> Iterator[tuple[Owner, str]]:
         yield owner, name
 
 
-def tables(columns: int) -> Iterator[list[str]]:
-    """Yields the cells of each row of the tables with so many columns, without the heads."""
+def promises() -> Iterator[str]:
+    """Yields the clauses' cell of each row of the tables of promises."""
+    is_promise = False
     for line in (ROOT / "docs/PROVED.md").read_text().splitlines():
         cells = [cell.strip() for cell in line.strip("|").split("|")]
-        if line.startswith("|") and len(cells) == columns and "`" in line:
-            yield cells
+        if not line.startswith("|"):
+            is_promise = False
+        elif cells == ["Promise", "Clauses"]:
+            is_promise = True
+        elif is_promise and "`" in cells[-1]:
+            yield cells[-1]
 
 
 def claims() -> Iterator[tuple[list[tuple[Owner, str]], list[str]]]:
     """Yields calls, and clauses of which each is in the contract of one of them."""
-    for _, cell in tables(2):
+    for cell in promises():
         for part in cell.split(";"):
             calls_of, _, clauses = part.partition(": ")
             yield list(calls(calls_of.partition(" in `")[0])), [name for name in names(clauses) if name.isidentifier()]
-    for call_cell, *cells in tables(7):
-        for call in calls(call_cell):
-            yield [call], [clause for cell in cells for clause in names(cell)]
 
 
 def is_meant(call: Call, owner: Owner, name: str) -> bool:
