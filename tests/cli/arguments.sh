@@ -151,10 +151,10 @@ of_list=$(lines "Lists the records of archives" "" "Usage: warcdx list <WARC>...
 of_index=$(lines "Writes an index of the captures of archives" "" "Usage: warcdx index [OPTIONS] <WARC>...")
 of_get=$(lines "Writes the record at an offset of an archive" "" "Usage: warcdx get <OFFSET> <WARC>")
 of_check=$(lines "Checks that indexes are sorted, and counts their lines" "" "Usage: warcdx check <INDEX>...")
-of_query=$(lines "Writes the captures that a query asks for" "" "Usage: warcdx query <QUERY> <INDEX>...")
-of_pages=$(lines "Writes the captures that a query asks for, page by page" "" "Usage: warcdx pages <SIZES> <QUERY> <INDEX>...")
+of_query=$(lines "Writes the captures that a query selects" "" "Usage: warcdx query <QUERY> <INDEX>...")
+of_pages=$(lines "Writes the captures that a query selects, page by page" "" "Usage: warcdx pages <SIZES> <QUERY> <INDEX>...")
 of_serve=$(lines "Answers queries line by line" "" "Usage: warcdx serve <INDEX>...")
-of_scan=$(lines "Writes the captures of archives that a query asks for" "" "Usage: warcdx scan [OPTIONS] <SIZES> <QUERY> <WARC>...")
+of_scan=$(lines "Writes the captures of archives that a query selects" "" "Usage: warcdx scan [OPTIONS] <SIZES> <QUERY> <WARC>...")
 of_verify=$(lines "Checks the digests of the records of archives" "" "Usage: warcdx verify <WARC>...")
 
 check_help "-h"                         "$of_program" -h

@@ -94,7 +94,7 @@ impl<I: Input> Input for Counted<I> {
     }
 }
 
-/// Returns whether the listing is these lines, with this result.
+/// Returns `true` if the listing is these lines, with this result.
 fn lists<I: Input>(
     alloc: Global,
     input: &mut I,
@@ -106,7 +106,7 @@ fn lists<I: Input>(
     Ok(answer == wanted && out.bytes() == lines)
 }
 
-/// Returns whether the index is these lines, with this result of reading the archive.
+/// Returns `true` if the index is these lines, with this result of reading the archive.
 fn indexes<I: Input>(
     alloc: Global,
     input: &mut I,
@@ -139,7 +139,7 @@ fn listing(alloc: Global, records: u64, fault: Option<Fault>) -> Result<Vec<u8>,
     Ok(listing)
 }
 
-/// Returns whether all three records are listed and indexed, from inputs that this function makes.
+/// Returns `true` if all three records are listed and indexed, from inputs that this function makes.
 fn reads_all<I: Input + Drop, F: FnMut() -> Result<I, Fail>>(
     alloc: Global,
     mut make: F,
@@ -154,7 +154,7 @@ fn reads_all<I: Input + Drop, F: FnMut() -> Result<I, Fail>>(
     )
 }
 
-/// Returns whether this holds of inputs that give at most this many bytes a call.
+/// Returns `true` if this holds of inputs that give at most this many bytes a call.
 fn reads_all_in_pieces(alloc: Global, bytes: &[u8], most: usize) -> Result<bool, Fail> {
     Ok(
         reads_all(alloc, || Ok(Fuse::new(Slice::new(bytes), most, 0)))?
@@ -188,7 +188,7 @@ fn written<R: Runtime>(
     Ok(FromFile::new(File::open(rt, name)?)?)
 }
 
-/// Returns whether the record at this offset is written.
+/// Returns `true` if the record at this offset is written.
 fn fetches<I: Input>(
     alloc: Global,
     offset: u64,
@@ -207,7 +207,7 @@ fn the_last_record_is_fetched_from_a_file(rt: HostRuntime) -> Result<(), Fail> {
     Ok(())
 }
 
-/// Returns whether so many bytes of an input are read, and so many skipped, while its three records are listed.
+/// Returns `true` if these numbers of bytes of an input are read and skipped while its three records are listed.
 fn lists_by_skips<I: Input>(alloc: Global, input: I, read: u64, skipped: u64) -> Result<bool, Fail>
 where
     I: Drop,
@@ -218,7 +218,7 @@ where
     Ok(is_listed && counted.read == read && counted.skipped == skipped)
 }
 
-/// The same while so many records are indexed.
+/// The same while this number of records is indexed.
 fn indexes_by_skips<I: Input>(
     alloc: Global,
     input: I,

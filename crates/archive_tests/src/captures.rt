@@ -112,7 +112,7 @@ fn capture_among(
     Ok(next_among(alloc, &mut reader, &mut input, "a.warc", types)?)
 }
 
-/// Returns whether the capture has this media type, status and digest.
+/// Returns `true` if the capture has this media type, status and digest.
 fn says(captured: &Option<Entry>, mime: &str, status: &str, digest: &str) -> bool {
     match captured {
         Some(entry) => {
@@ -124,7 +124,7 @@ fn says(captured: &Option<Entry>, mime: &str, status: &str, digest: &str) -> boo
     }
 }
 
-/// Returns whether the capture of a record marked as HTTP shows that its block doesn't begin with an HTTP head.
+/// Returns `true` if the capture of a record marked as HTTP shows that its block doesn't begin with an HTTP head.
 fn says_no_head(captured: &Option<Entry>) -> bool {
     match captured {
         Some(entry) => entry.mime.as_str() == "-" && entry.status.as_str() == "-",

@@ -6,7 +6,7 @@ use index_core::{IndexFault, get};
 use std::alloc::Global;
 use warc_core::{Cause, Fault, Fuse, Gather, Input, Slice};
 
-/// Returns whether the fault is a failed allocation.
+/// Returns `true` if the fault is a failed allocation.
 fn is_memory(fault: IndexFault) -> bool {
     match fault {
         IndexFault::Capture(CaptureFault::Archive(fault)) => fault.cause == Cause::Memory,
@@ -52,7 +52,7 @@ fn wanted(offset: u64, length: usize) -> Result<u64, IndexFault> {
     }
 }
 
-/// Returns whether this may be written with the result: the record; a part of it if the fault is its own; else nothing.
+/// Returns `true` if this may be written with the result: the record; a part of it if the fault is its own; else nothing.
 fn may_be_written(text: &[u8], offset: u64, answer: Result<u64, IndexFault>) -> bool {
     match answer {
         Ok(_) => text == record_at(offset),
@@ -73,7 +73,7 @@ fn fetches_from<I: Input>(
     Ok(answer == wanted(offset, length) && may_be_written(out.bytes(), offset, answer))
 }
 
-/// Returns whether a prefix of these records gives what it should at the offset, read in whole pieces and one byte a
+/// Returns `true` if a prefix of these records gives what it should at the offset, read in whole pieces and one byte a
 /// call.
 fn fetches(alloc: Global, offset: u64, archive: &[u8]) -> Result<bool, Refused> {
     let length = archive.len();
@@ -87,7 +87,7 @@ fn fetches(alloc: Global, offset: u64, archive: &[u8]) -> Result<bool, Refused> 
 /// Offsets where records begin, between them, and after all.
 const OFFSETS: &[u64] = &[0, 1, 264, 447, 448, 449, 712, u64::MAX];
 
-/// Returns whether a prefix gives what it should at each of the offsets.
+/// Returns `true` if a prefix gives what it should at each of the offsets.
 fn fetches_from_all(alloc: Global, archive: &[u8]) -> Result<bool, Refused> {
     for offset in OFFSETS {
         if !fetches(alloc, *offset, archive)? {
@@ -109,7 +109,7 @@ fn a_record_is_fetched_from_every_prefix_that_has_it(rt: HostRuntime) -> Result<
     Ok(())
 }
 
-/// Returns the result at 264 if the input's call `at` fails, at one byte a call. No byte after the record is asked for.
+/// Returns the result at 264 if the input's call `at` fails, at one byte a call. No byte after the record is requested.
 fn failed_read_gives(at: u64) -> Result<u64, IndexFault> {
     let read = |offset| {
         Err(IndexFault::Capture(CaptureFault::Archive(Fault {
@@ -129,7 +129,7 @@ fn fetches_to_failed_read(alloc: Global, archive: &[u8], at: u64) -> Result<bool
     Ok(answer == failed_read_gives(at) && may_be_written(out.bytes(), 264, answer))
 }
 
-/// Returns whether only the bytes of the first record are read, one a call, to find that no record begins at 1.
+/// Returns `true` if only the bytes of the first record are read, one a call, to find that no record begins at 1.
 fn reads_one_record(alloc: Global, archive: &[u8]) -> Result<bool, Refused> {
     let mut input = Fuse::new(Slice::new(archive), 1, 0);
     let (_, answer) = fetched(alloc, 1, &mut input)?;
@@ -146,7 +146,7 @@ fn a_fetch_ends_at_a_failed_read(rt: HostRuntime) -> Result<(), Refused> {
     Ok(())
 }
 
-/// Returns whether fetching the resource, written one byte a call, ends at the call `at`, which fails.
+/// Returns `true` if fetching the resource, written one byte a call, ends at the call `at`, which fails.
 fn stops(alloc: Global, archive: &[u8], at: u64) -> Result<bool, Refused> {
     let mut out = Fuse::new(Gather::new(alloc), 1, at);
     let answer = get(alloc, 264, &mut Slice::new(archive), &mut out);

@@ -17,7 +17,7 @@ fn added(indexer: &mut Indexer, name: &str, archive: &[u8]) -> Result<Result<u64
     settled(indexer.add(name, &mut Slice::new(archive)))
 }
 
-/// Returns whether these lines are written, and whether there are this many.
+/// Returns `true` if these lines are written, and whether there are this many.
 pub fn writes(
     alloc: Global,
     indexer: &Indexer,
@@ -28,7 +28,7 @@ pub fn writes(
     Ok(settled(indexer.write(&mut out))? == Ok(number) && out.bytes() == lines)
 }
 
-/// Returns whether the archive has this result, and its index these lines.
+/// Returns `true` if the archive has this result, and its index these lines.
 fn indexes(
     alloc: Global,
     archive: &[u8],
@@ -40,12 +40,12 @@ fn indexes(
     Ok(added(&mut indexer, "b.warc", archive)? == answer && writes(alloc, &indexer, lines, number)?)
 }
 
-/// Returns whether the name is refused with this fault, before anything is read.
+/// Returns `true` if the name is refused with this fault, before anything is read.
 fn refuses(indexer: &mut Indexer, name: &str, fault: IndexFault) -> bool {
     indexer.add(name, &mut Slice::new(RESPONSE)) == Err(fault)
 }
 
-/// Returns whether the damaged archive, followed by this, has the captures of its two whole records, and this fault.
+/// Returns `true` if the damaged archive, followed by this, has the captures of its two whole records, and this fault.
 fn indexes_to_fault(alloc: Global, behind: &[u8], cause: Cause) -> Result<bool, Refused> {
     let archive = joined(alloc, &[&damaged_archive(alloc)?, behind])?;
     let lines = joined(alloc, &[RESPONSE_LINE, RESOURCE_LINE])?;
@@ -104,7 +104,7 @@ const CHOSEN: &[(&str, &[u8], &[u8])] = &[
     ("metadata", RESPONSE, b""),
 ];
 
-/// Returns whether the index of this archive for these types has these lines, of which there is one or none.
+/// Returns `true` if the index of this archive for these types has these lines, of which there is one or none.
 fn indexes_types(
     alloc: Global,
     types: &str,

@@ -262,7 +262,7 @@ const TYPED: &[(&[&str], Wanted)] = &[
     (&["scan", "--types", "metadata", "--help"], SCAN),
 ];
 
-/// Returns whether the arguments have this result.
+/// Returns `true` if the arguments have this result.
 fn asks(alloc: Global, words: &[&str], wanted: &Wanted) -> Result<bool, WordsFault> {
     match read_words(alloc, owned(alloc, words)?.as_slice()) {
         Ok(task) => Ok(is_task(&task, wanted)),
@@ -321,7 +321,7 @@ fn are(names: &[String], wanted: &[&str]) -> bool {
             .all(|(name, wanted)| name.as_str() == *wanted)
 }
 
-/// Returns whether this is the wanted help. No line of help is wider than 80 columns.
+/// Returns `true` if this is the wanted help. No line of help is wider than 80 columns.
 fn is_help(text: &str, wanted: &Wanted) -> bool {
     match wanted {
         Wanted::Help(piece) => text.contains(*piece) && text.lines().all(|line| line.len() <= 80),

@@ -30,9 +30,9 @@ Examples:
 
 Exit status:
   0  success, and no digest differs; or help was printed
-  1  an archive is damaged, a digest differs, an archive's file name can't be
-     used in an index, an index is not in order, a query is refused, or no
-     record begins at the offset
+  1  an archive is damaged, a digest differs, an archive's file name or a record
+     can't be indexed, an index is not in order, a query is refused, there are
+     too many indexes or archives, or no record begins at the offset
   2  usage error
   3  a file can't be opened, or memory, an input or the output failed
 
@@ -58,12 +58,12 @@ pub const CDXJ: Operand = Operand {
 
 pub const QUERY_TEXT: Operand = Operand {
     name: "QUERY",
-    help: "What is asked for, such as 'url=example.com&limit=5'",
+    help: "The captures to select, such as 'url=example.com&limit=5'",
 };
 
 pub const SIZES: Operand = Operand {
     name: "SIZES",
-    help: "How many captures the pages have, such as 100 or 10,100,1000",
+    help: "The number of captures on each page, such as 100 or 10,100,1000",
 };
 
 pub const TYPES: Operand = Operand {

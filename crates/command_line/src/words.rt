@@ -25,7 +25,7 @@ use std::alloc::{AllocError, Global};
 ///
 /// # Errors
 ///
-/// - `Help` if help is asked for.
+/// - `Help` if an argument is `-h` or `--help`.
 /// - `Usage` for another argument that begins with `-`, except `-` alone, wherever it stands. Otherwise for a first
 ///   argument that isn't a command, for a wrong number of arguments, for an offset that isn't 1 to 19 digits below
 ///   2^63, for sizes that aren't 1 to 1,000 numbers from 1 to 1,000,000, each of at most 7 digits, separated by commas,

@@ -25,7 +25,7 @@ pub enum IndexFault {
     /// The output failed.
     #[error("the output can't be written")]
     Write,
-    /// No record begins at the offset that was asked for.
+    /// No record begins at the offset that was passed.
     #[error("no record begins there")]
     NoRecord,
 }

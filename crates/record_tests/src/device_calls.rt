@@ -13,7 +13,7 @@ use std::test::Fail;
 
 const TEXT: &[u8] = b"WARC/1.1\r\nWARC-Type: resource\r\n\r\n";
 
-/// Returns whether a read into a piece of three bytes returns this count, after which the piece has this text.
+/// Returns `true` if a read into a piece of three bytes returns this count, after which the piece has this text.
 fn reads<I: Input>(input: &mut I, piece: &mut [u8; 3], count: usize, text: &[u8; 3]) -> bool {
     input.read(piece) == Ok(count) && *piece == *text
 }
@@ -30,7 +30,7 @@ fn memory_is_read_to_its_end(rt: HostRuntime) {
 /// The lines of an input, of which five bytes are held.
 const LINES: &[&[u8]] = &[b"one", b"two", b"", b"longe", b"end"];
 
-/// Returns whether the next lines are these, and whether the input then ends.
+/// Returns `true` if the next lines are these, and whether the input then ends.
 fn are_next<I: Input>(
     reader: &mut InputLines,
     input: &mut I,
@@ -44,7 +44,7 @@ fn are_next<I: Input>(
     Ok(!reader.next(input)?)
 }
 
-/// Returns whether the lines are read from an input that gives at most this many bytes a call.
+/// Returns `true` if the lines are read from an input that gives at most this many bytes a call.
 fn are_read_in_pieces(alloc: Global, most: usize) -> Result<bool, Fail> {
     let text = Slice::new(b"one\r\ntwo\n\nlonger\r\nend");
     let mut input = Fuse::new(text, most, u64::MAX);
@@ -70,7 +70,7 @@ const WRITES: &[(usize, u64, usize)] = &[
     (8192, u64::MAX, 33),
 ];
 
-/// Returns whether so many bytes of the text are written, and the failure counted if these aren't all.
+/// Returns `true` if `count` bytes of the text are written, and the failure is counted if these aren't all.
 fn writes(alloc: Global, most: usize, at: u64, count: usize) -> Result<bool, Refused> {
     let mut out = Fuse::new(Gather::new(alloc), most, at);
     let is_written = put(&mut out, TEXT).is_ok();
@@ -124,7 +124,7 @@ impl io::Write for Full {
     }
 }
 
-/// Returns whether a write of this text returns this count, or fails.
+/// Returns `true` if a write of this text returns this count, or fails.
 fn takes<O: Output>(out: &mut O, text: &[u8], count: Option<usize>) -> bool {
     out.write(text).ok() == count
 }
@@ -148,7 +148,7 @@ fn readers_and_writers_of_std_are_devices(rt: HostRuntime) {
     }
 }
 
-/// Returns whether so many of the bytes that are asked for are skipped.
+/// Returns `true` if `count` of the bytes to skip are skipped.
 fn skips<I: Input>(input: &mut I, asked: u64, count: u64) -> bool {
     input.skip(asked) == Ok(count)
 }

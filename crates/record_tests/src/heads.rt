@@ -15,7 +15,7 @@ fn read(alloc: Global, lines: &[&str]) -> Result<Parts, HeadFault> {
     read_parts(alloc, raw)
 }
 
-/// Returns whether a head is refused for this reason. Failed allocations are errors of the test.
+/// Returns `true` if a head is refused for this reason. Failed allocations are errors of the test.
 fn is_refused(head: Result<Parts, HeadFault>, wanted: HeadFault) -> Result<bool, HeadFault> {
     match head {
         Ok(_parts) => Ok(false),
@@ -117,12 +117,12 @@ const ORDERS: &[(&str, HeadFault)] = &[
 
 const WITHOUT_FIELDS: &[&[u8]] = &[b"", b"WARC/1.", b"WARC/1.1\r\n", b"WARC/1.1\r\n\r\n"];
 
-/// Returns whether the head of these lines is refused for this reason.
+/// Returns `true` if the head of these lines is refused for this reason.
 fn are_refused(alloc: Global, lines: &[&str], wanted: HeadFault) -> Result<bool, HeadFault> {
     is_refused(read(alloc, lines), wanted)
 }
 
-/// Returns whether this text of a head is refused for this reason.
+/// Returns `true` if this text of a head is refused for this reason.
 fn is_raw_refused(alloc: Global, raw: &[u8], wanted: HeadFault) -> Result<bool, HeadFault> {
     is_refused(read_parts(alloc, Vec::from_slice(alloc, raw)?), wanted)
 }
@@ -175,7 +175,7 @@ const CUT_HEADS: &[&[u8]] = &[
     b"WARC/1.1\r\nA: b\r\n",
 ];
 
-/// Returns whether a head with this line behind the mandatory fields is refused for it.
+/// Returns `true` if a head with this line behind the mandatory fields is refused for it.
 fn is_no_field(alloc: Global, line: &str) -> Result<bool, HeadFault> {
     are_refused(alloc, &[MANDATORY, line], HeadFault::FieldLine)
 }
@@ -224,7 +224,7 @@ const VALUES: &[(&str, &str, Option<&str>)] = &[
     ("AA: b", "A", None),
 ];
 
-/// Returns whether the first field of this name has this value.
+/// Returns `true` if the first field of this name has this value.
 fn has_value(head: &Parts, name: &str, value: Option<&str>) -> bool {
     match (head.field(name.as_bytes()), value) {
         (Some(found), Some(value)) => found == value.as_bytes(),
@@ -233,7 +233,7 @@ fn has_value(head: &Parts, name: &str, value: Option<&str>) -> bool {
     }
 }
 
-/// Returns whether a head with these lines behind the mandatory fields has this value of this name.
+/// Returns `true` if a head with these lines behind the mandatory fields has this value of this name.
 fn say(alloc: Global, lines: &str, name: &str, value: Option<&str>) -> Result<bool, HeadFault> {
     Ok(has_value(&read(alloc, &[MANDATORY, lines])?, name, value))
 }
@@ -267,7 +267,7 @@ const LENGTHS: &[(&str, Option<u64>)] = &[
     ("3 \r\n\t", Some(3)),
 ];
 
-/// Returns whether this text is read as this length, or refused.
+/// Returns `true` if this text is read as this length, or refused.
 fn is_length(alloc: Global, text: &str, length: Option<u64>) -> Result<bool, HeadFault> {
     let lines = [
         "WARC-Record-ID: a\r\nWARC-Date: 2016\r\nWARC-Type: b\r\nContent-Length:",
@@ -303,7 +303,7 @@ const KINDS: &[(&str, Kind, &str)] = &[
     ("re\r\n visit", Kind::Other, "other"),
 ];
 
-/// Returns whether this text is read as this type of record, which has this name.
+/// Returns `true` if this text is read as this type of record, which has this name.
 fn is_kind(alloc: Global, text: &str, kind: Kind, name: &str) -> Result<bool, HeadFault> {
     let lines = [
         "WARC-Record-ID: a\r\nContent-Length: 0\r\nWARC-Date: 2016\r\nWARC-Type: ",

@@ -30,7 +30,7 @@ fn next_whole<I: Input>(reader: &mut Reader, input: &mut I) -> Result<Option<Hea
     Ok(head)
 }
 
-/// Returns whether this many whole records are read, and then this fault, from an input that gives at most `most` bytes
+/// Returns `true` if this many whole records are read, and then this fault, from an input that gives at most `most` bytes
 /// a call and fails at its call `at`.
 fn walks(
     alloc: Global,

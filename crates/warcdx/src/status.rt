@@ -92,7 +92,7 @@ pub fn worse(first: Outcome, second: Outcome) -> Outcome
     }
 }
 
-/// Returns whether a command ends at once with this outcome, and doesn't go on to its next file. That is so if memory
+/// Returns `true` if a command ends at once with this outcome, and doesn't go on to its next file. That is so if memory
 /// or the output failed.
 pub fn ends_command(outcome: &Outcome) -> bool
     ensures { result ≡ ends_command outcome.now }

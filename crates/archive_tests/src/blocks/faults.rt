@@ -28,7 +28,7 @@ fn cut_gives(length: usize) -> (u64, Option<Fault>) {
     }
 }
 
-/// Returns whether the first `length` bytes of the three records are listed and indexed to their end, as a file.
+/// Returns `true` if the first `length` bytes of the three records are listed and indexed to their end, as a file.
 fn reads_to_cut(alloc: Global, part: &[u8]) -> Result<bool, Fail> {
     let (records, fault) = cut_gives(part.len());
     let wanted = fault.map_or(Ok(records), Err);
@@ -55,7 +55,7 @@ fn a_file_that_was_cut_at_any_byte_is_read_to_its_cut(rt: HostRuntime) -> Result
     Ok(())
 }
 
-/// Returns whether the second record has no closing.
+/// Returns `true` if the second record has no closing.
 fn lacks_closing<I: Input>(alloc: Global, input: &mut I) -> Result<bool, Refused> {
     let fault = Fault {
         offset: 213,
@@ -86,7 +86,7 @@ fn record_of_call(call: u64) -> (u64, u64) {
     }
 }
 
-/// Returns whether a listing ends at this call, which fails.
+/// Returns `true` if a listing ends at this call, which fails.
 fn ends_at_failed_call(alloc: Global, archive: &[u8], call: u64) -> Result<bool, Fail> {
     let (records, offset) = record_of_call(call);
     let cause = Cause::Read;
@@ -96,7 +96,7 @@ fn ends_at_failed_call(alloc: Global, archive: &[u8], call: u64) -> Result<bool,
     Ok(lists(alloc, &mut input, &lines, Err(fault))? && input.failures == 1)
 }
 
-/// Returns whether no call fails, and there are so many.
+/// Returns `true` if no call fails, and there are `calls` calls.
 fn is_listed_in(alloc: Global, archive: &[u8], calls: u64) -> Result<bool, Fail> {
     let lines = listing(alloc, 3, None)?;
     let mut input = Fuse::new(Slice::new(archive), 100, calls.saturating_add(1));

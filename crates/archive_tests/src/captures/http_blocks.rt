@@ -123,7 +123,7 @@ const NO_FIELDS: &[&[u8]] = &[
     b"HTTP/1.1 200 OK\r\nA(: b\r\n\r\n",
 ];
 
-/// Returns whether the head is found before a payload of `abc`.
+/// Returns `true` if the head is found before a payload of `abc`.
 fn has_head(alloc: Global, head: &[u8], status: &str, mime: &str) -> Result<bool, Fail> {
     let block = joined(alloc, &[head, b"abc"])?;
     let captured = capture_of(alloc, "response", HTTP, block.as_slice())?;

@@ -15,7 +15,7 @@ const HEADS: &[(&[u8], &[u8], usize, bool)] = &[
     (b"HTTP/1.1 200 OK\r\nX: ", b"a", 100_000, false),
 ];
 
-/// Returns whether the capture shows that a head before `abc` was found, or not found.
+/// Returns `true` if the capture shows that a head before `abc` was found, or not found.
 fn says_head(captured: &Option<Entry>, is_head: bool) -> bool {
     if is_head {
         says(captured, "-", "200", ABC)
@@ -24,7 +24,7 @@ fn says_head(captured: &Option<Entry>, is_head: bool) -> bool {
     }
 }
 
-/// Returns whether a head of these parts is found, or not found, before `abc`.
+/// Returns `true` if a head of these parts is found, or not found, before `abc`.
 fn is_limited(alloc: Global, first: &[u8], parts: &[u8], is_head: bool) -> Result<bool, Fail> {
     let block = joined(alloc, &[first, parts, b"\r\n\r\nabc"])?;
     Ok(says_head(&capture_of(alloc, "response", HTTP, &block)?, is_head))

@@ -28,7 +28,7 @@ const LENGTHS: &[(usize, bool)] = &[
     (16_777_216, true),
 ];
 
-/// Returns whether the line of the first record's capture is too long under a name of so many letters, and the second
+/// Returns `true` if the line of the first record's capture is too long under a name of `letters` letters, and the second
 /// record can then be read.
 fn is_limited(
     alloc: Global,

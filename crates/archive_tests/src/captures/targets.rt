@@ -33,7 +33,7 @@ fn has_url(captured: &Option<Entry>, wanted: Option<&str>) -> bool {
     }
 }
 
-/// Returns whether a record of this type and target has a capture with this URL, or none.
+/// Returns `true` if a record of this type and target has a capture with this URL, or none.
 fn is_under(alloc: Global, kind: &str, target: &[u8], url: Option<&str>) -> Result<bool, Fail> {
     let text = record_text(alloc, kind, target, b"", b"")?;
     Ok(has_url(&captured(alloc, &text)?, url))

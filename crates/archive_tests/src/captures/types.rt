@@ -60,7 +60,7 @@ const NO_TYPES: &[&str] = &[
     "response,request",
 ];
 
-/// Returns whether the text names these types and no others.
+/// Returns `true` if the text names these types and no others.
 fn names(text: &str, kinds: &[Kind]) -> bool {
     match Types::read(text) {
         Some(types) => KINDS
@@ -76,7 +76,7 @@ fn is_no_set(text: &str) -> bool {
 
 const USUAL: &[Kind] = &[Kind::Response, Kind::Resource, Kind::Revisit];
 
-/// Returns whether these types are the usual ones.
+/// Returns `true` if these types are the usual ones.
 fn are_usual(kinds: &[Kind]) -> bool {
     let usual = Types::usual();
     KINDS
@@ -120,7 +120,7 @@ const SAMPLES: &[(&str, &[u8], &[u8], &str, &str)] = &[
     ("conversion", HTTP, PAGE, "-", WHOLE_PAGE),
 ];
 
-/// Returns whether a record has this capture among conversion and metadata records, and none among records of the usual
+/// Returns `true` if a record has this capture among conversion and metadata records, and none among records of the usual
 /// types.
 fn is_captured(
     alloc: Global,

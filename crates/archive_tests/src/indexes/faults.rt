@@ -31,7 +31,7 @@ fn records_before(offset: u64) -> u64 {
     }
 }
 
-/// Returns whether the input, a part of the three records, has this result or is cut short by a failed allocation, and
+/// Returns `true` if the input, a part of the three records, has this result or is cut short by a failed allocation, and
 /// the indexer then holds the captures of the records before the fault.
 fn keeps<I: Input>(
     alloc: Global,
@@ -103,7 +103,7 @@ fn an_indexer_keeps_the_records_before_a_failed_read(rt: HostRuntime) -> Result<
     Ok(())
 }
 
-/// Returns whether the index, written one byte a call, ends at each call that fails, and can be written again.
+/// Returns `true` if the index, written one byte a call, ends at each call that fails, and can be written again.
 fn stops_at_each_write(
     alloc: Global,
     indexer: &Indexer,
@@ -123,7 +123,7 @@ fn stops_at_each_write(
     writes(alloc, indexer, index, number)
 }
 
-/// Returns whether all records of the archive are indexed, and their index stops at each write that fails.
+/// Returns `true` if all records of the archive are indexed, and their index stops at each write that fails.
 fn stops(alloc: Global, archive: &[u8]) -> Result<bool, Refused> {
     let index = index_of(alloc, 3)?;
     let mut indexer = Indexer::new(alloc, Types::usual());

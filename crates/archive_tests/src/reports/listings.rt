@@ -13,7 +13,7 @@ fn listed<I: Input>(alloc: Global, input: &mut I) -> Result<(Gather, Result<u64,
     Ok((out, answer))
 }
 
-/// Returns whether the listing of the archive is these lines, read in whole pieces and one byte a call.
+/// Returns `true` if the listing of the archive is these lines, read in whole pieces and one byte a call.
 fn lists(
     alloc: Global,
     archive: &[u8],

@@ -107,7 +107,7 @@ fn verified<I: Input>(
     Ok((out, answer))
 }
 
-/// Returns whether the archive is verified with this result, read in whole pieces and one byte a call.
+/// Returns `true` if the archive is verified with this result, read in whole pieces and one byte a call.
 fn verifies(
     alloc: Global,
     archive: &[u8],
@@ -127,7 +127,7 @@ fn counts(line: &[u8]) -> Result<Verified, Fault> {
     })
 }
 
-/// Returns whether a resource with these fields, whose block is `abc`, has this verdict.
+/// Returns `true` if a resource with these fields, whose block is `abc`, has this verdict.
 fn has_verdict(alloc: Global, fields: &[u8], line: &[u8]) -> Result<bool, Refused> {
     let archive = joined(alloc, &[RESOURCE, fields, b"\r\nabc\r\n\r\n"])?;
     verifies(alloc, &archive, line, counts(line))
@@ -150,7 +150,7 @@ const OTHER: &[u8] = b"WARC-Block-Digest: sha1:AGMT4NSHA2AWVOR6EVYXQUGCNSONBWE5\
 const MILLION: &[u8] =
     b"WARC/1.1\r\nWARC-Type: resource\r\nWARC-Record-ID: <urn:x:4>\r\nWARC-Date: 2016\r\nContent-Length: 1000000\r\nWARC-Block-Digest: sha1:GSVJOPGUYTNKJ5Q65MV5XLJHGFSTIALP\r\n\r\n";
 
-/// Returns whether the archive, read one byte a call, of which the call `at` fails, is verified up to this offset.
+/// Returns `true` if the archive, read one byte a call, of which the call `at` fails, is verified up to this offset.
 fn verifies_to_failed_read(
     alloc: Global,
     archive: &[u8],

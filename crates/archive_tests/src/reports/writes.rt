@@ -29,7 +29,7 @@ fn report_fault(
     }
 }
 
-/// Returns whether the report, written one byte a call, ends at the first of these calls that fails: what was written
+/// Returns `true` if the report, written one byte a call, ends at the first of these calls that fails: what was written
 /// before it is there, and no more.
 fn stops_at_each_write(
     alloc: Global,
@@ -59,7 +59,7 @@ const OUT_OF_MEMORY: &[&[u8]] = &[
     b"0 absent\n264 absent\nfault 448 Memory\n",
 ];
 
-/// Returns whether this is the beginning of such a report, and of no other.
+/// Returns `true` if this is the beginning of such a report, and of no other.
 fn is_out_of_memory(text: &[u8], lines: &[u8]) -> bool {
     !lines.starts_with(text) && OUT_OF_MEMORY.iter().any(|report| report.starts_with(text))
 }

@@ -8,7 +8,7 @@ Prints a line for each record:
 
   OFFSET LENGTH KIND
 
-OFFSET is where the record begins, and LENGTH how long it is, both in bytes.
+OFFSET is the byte at which the record begins, and LENGTH its number of bytes.
 KIND is its type: warcinfo, response, resource, request, metadata, revisit,
 conversion, continuation, or other.
 
@@ -31,7 +31,7 @@ with the offset of the record at fault. CAUSE is one of these:
   TooFar        the record would end past byte 2^63 - 1
   Memory, Read  memory or the input failed: the archive may be whole
 
-With more than one archive, a line NAME: stands before each listing.
+With more than one archive, a line NAME: precedes each listing.
 
 Examples:
   warcdx list crawl.warc
@@ -53,7 +53,7 @@ each record:
 
   OFFSET VERDICT
 
-OFFSET is where the record begins, in bytes. VERDICT is one of these:
+OFFSET is the byte at which the record begins. VERDICT is one of these:
 
   same      the digest is the block's
   differs   the digest isn't the block's: one of them was changed
@@ -66,7 +66,7 @@ A damaged archive is checked up to the damage. The last line is then
 
 with the offset of the record at fault. 'warcdx list --help' has the causes.
 
-With more than one archive, a line NAME: stands before the lines of each.
+With more than one archive, a line NAME: precedes the lines of each.
 
 Examples:
   warcdx verify crawl.warc
@@ -89,13 +89,13 @@ of the TYPES with a WARC-Target-URI.
   KEY STAMP OBJECT
 
 KEY is made of the record's URL, and STAMP is its date in 14 digits. OBJECT is
-JSON with the members url, mime, status, digest, length, offset and filename;
-length and offset are in bytes, and 'warcdx get' writes the record from its
-offset. docs/CDXJ.md has the rules.
+JSON with the members url, mime, status, digest, length, offset and filename.
+Length and offset are in bytes. 'warcdx get' writes the record at an offset.
+docs/CDXJ.md has the rules.
 
 TYPES are one or more of these, separated by commas, none twice: response,
 resource, revisit, conversion, metadata. Without --types, response, resource and
-revisit records are indexed. --types stands directly after the command's name.
+revisit records are indexed. --types follows the command's name directly.
 
 An archive's file name in the index is the part of its argument after the last
 /, 1 to 255 bytes; - is the file name of standard input. An archive with another
@@ -107,8 +107,8 @@ error, with the offset of the record at fault:
 
   warcdx: NAME: fault OFFSET CAUSE
 
-'warcdx list --help' has the causes. Two more stand for a whole record that
-can't be indexed, and the archive is indexed up to it:
+'warcdx list --help' has the causes. Two more are for a whole record that can't
+be indexed; the archive is indexed up to it:
 
   KeyTooLong    the record's URL is too long for the URL parser
   LineTooLong   the record's line would be longer than 16,777,216 bytes
@@ -130,21 +130,21 @@ pub const GET: Page = Page {
     about: "Writes the record at an offset of an archive",
     details: "\
 Writes the record that begins at OFFSET as it is stored, from its version line
-through the two line breaks after its block. An index has the offset of each
-record, and 'warcdx list' prints it.
+through the two line breaks after its block. An index contains the offset of
+each record, and 'warcdx list' prints it.
 
-The archive is read from its start. Where no record begins at OFFSET, nothing
-is written, and this is reported on standard error:
+The archive is read from its start. If no record begins at OFFSET, nothing is
+written, and this is reported on standard error:
 
   warcdx: NAME: NoRecord
 
-Where the archive is damaged at OFFSET or before it, this is reported, with the
-offset of the record at fault; 'warcdx list --help' has the causes:
+If the archive is damaged at OFFSET or before it, this is reported, with the
+offset of the record at fault. 'warcdx list --help' has the causes:
 
   warcdx: NAME: fault OFFSET CAUSE
 
-Then nothing is written, or only a first part of the record at OFFSET, if that
-record is the one at fault.
+If the fault is in the record at OFFSET, its first part may be written.
+Otherwise nothing is written.
 
 Examples:
   warcdx get 0 crawl.warc
@@ -159,7 +159,7 @@ Exit status:
 };
 
 pub const SCAN: Page = Page {
-    about: "Writes the captures of archives that a query asks for",
+    about: "Writes the captures of archives that a query selects",
     details: "\
 Indexes the archives in memory, and writes the captures that the query selects,
 page by page, as 'warcdx pages' does with an index of each. 'warcdx index
@@ -167,11 +167,11 @@ page by page, as 'warcdx pages' does with an index of each. 'warcdx index
 
 TYPES are one or more of these, separated by commas, none twice: response,
 resource, revisit, conversion, metadata. Without --types, response, resource and
-revisit records are indexed. --types stands directly after the command's name.
+revisit records are indexed. --types follows the command's name directly.
 
-The query is read first. Then all archives are opened; at most 1,024 are taken.
-The first fault ends the command, and is reported on standard error. Nothing is
-written before all archives are indexed:
+The query is read first. Then all archives are opened, at most 1,024. The first
+fault ends the command, and is reported on standard error. Nothing is written
+before all archives are indexed:
 
   warcdx: query: CAUSE
   warcdx: NAME: cannot open
@@ -181,7 +181,7 @@ written before all archives are indexed:
   warcdx: NAME: fault OFFSET CAUSE
 
 'warcdx query --help' lists the causes for queries, and 'warcdx list --help'
-those for archives. OFFSET is where the record at fault begins, in bytes. An
+those for archives. OFFSET is the byte at which the record at fault begins. An
 archive's file name is the part of its argument after the last /, 1 to 255 bytes
 that no earlier archive has; - is the file name of standard input.
 

@@ -5,16 +5,15 @@ pub const MERGE: Page = Page {
     about: "Merges indexes into one",
     details: "\
 Writes the lines of all indexes to standard output, in the order of key, stamp,
-file name and offset. Each line is written as it stands in its index. Where
-several lines have all four in common, the first of them is written: that of
-the index that is named first.
+file name and offset. Each line is written as it is in its index. If several
+lines have all four in common, only the first is written: that of the index
+that you name first.
 
-The indexes must be sorted: 'warcdx check' tells. They are read line by line.
-One line of each index is held in memory, and the lines of one key and stamp. At
-most 1,024 indexes are merged.
+The indexes must be sorted; 'warcdx check' checks it. At most 1,024 indexes are
+merged. One line of each is held in memory, and the lines of one key and stamp.
 
 All indexes are opened before the first is read. The first fault ends the
-command, and is reported on standard error. What was written by then remains:
+command, and is reported on standard error. The output until then remains:
 
   warcdx: NAME: cannot open
   warcdx: NAME: Read
@@ -22,7 +21,7 @@ command, and is reported on standard error. What was written by then remains:
   warcdx: NAME: OutOfOrder OFFSET
   warcdx: TooManySources
 
-OFFSET is where the line at fault begins, in bytes. 'warcdx check --help'
+OFFSET is the byte at which the line at fault begins. 'warcdx check --help'
 explains the causes.
 
 Examples:
@@ -39,17 +38,17 @@ Exit status:
 pub const CHECK: Page = Page {
     about: "Checks that indexes are sorted, and counts their lines",
     details: "\
-Reads each index from its start, and prints a line for one that is in order:
+Reads each index from its start. If it is in order, this line is printed:
 
   NAME COUNT
 
-COUNT is the number of its lines. An index is in order where every line is one
-of a capture, and the key and stamp of no line are below those of the line
-before it, by bytes. 'warcdx index' writes such indexes, and so does
-LC_ALL=C sort. docs/CDXJ.md has the rules.
+COUNT is the number of its lines. An index is in order if every line is one of a
+capture, and no line has a key and stamp below those of the line before it, by
+bytes. 'warcdx index' writes such indexes, and so does LC_ALL=C sort.
+docs/CDXJ.md has the rules.
 
-For any other index nothing is printed. Its first line at fault is reported on
-standard error, with the offset at which it begins, in bytes:
+For any other index the first line at fault is reported on standard error, with
+the byte at which it begins:
 
   warcdx: NAME: CAUSE OFFSET
 
@@ -59,8 +58,8 @@ CAUSE is one of these:
               bytes, line feed included
   OutOfOrder  the line's key and stamp are below those of the line before it
 
-The indexes after it are checked all the same. The size of an index is asked
-for when it is opened. An index that ends before, or can't be read, is reported:
+The indexes after it are checked too. An index that can't be read, or that is
+cut while it is checked, is reported:
 
   warcdx: NAME: Read
 
@@ -75,17 +74,18 @@ Exit status:
 };
 
 pub const QUERY: Page = Page {
-    about: "Writes the captures that a query asks for",
+    about: "Writes the captures that a query selects",
     details: "\
 Writes the captures of the indexes that the query selects, in the order of key,
-stamp, file name and offset. Where lines of several indexes have all four in
-common, the first of them counts: that of the index that is named first.
+stamp, file name and offset. If lines of several indexes have all four in
+common, only the first counts: that of the index that you name first.
 
-QUERY has parameters separated by &. Put it in quotes, as shells read the &:
+QUERY has parameters separated by &. Quote it, because & is special to the
+shell:
 
-  url=ADDRESS        *.example.com also asks for its subdomains, and
-                     example.com/a* for all that begins so
-  key=KEY            in place of url: a key, as it stands in an index
+  url=ADDRESS        *.example.com includes subdomains; example.com/a* matches
+                     every address that begins with example.com/a
+  key=KEY            in place of url: a key, as it is in an index
   matchType=         exact, prefix, host or domain
   from=, to=         the first digits of a time: 2016, 201609, ...
   filter=FIELD:TEXT  the field is TEXT, or isn't, with ! before FIELD
@@ -97,16 +97,16 @@ QUERY has parameters separated by &. Put it in quotes, as shells read the &:
   collapse=          urlkey, timestamp or timestamp:N: only the first of
                      consecutive captures with the same key, time, or first N
                      digits of the time
-  limit=NUMBER       at most so many captures
-  showResumeKey=true where captures follow, print the key to continue with
+  limit=NUMBER       at most NUMBER captures
+  showResumeKey=true if captures follow, print the key to continue with
   resumeKey=KEY      continue from a printed key
 
-docs/QUERY.md has the rules. The indexes must be sorted: 'warcdx check' tells.
-Only the lines that a query needs are read and checked.
+docs/QUERY.md has the rules. The indexes must be sorted; 'warcdx check' checks
+it. Only the lines that a query needs are read and checked.
 
-The query is read first. Then all indexes are opened; at most 1,024 are taken.
-The first fault ends the command, and is reported on standard error; what was
-written before it stands:
+The query is read first. Then all indexes are opened, at most 1,024. The first
+fault ends the command, and is reported on standard error. The output until
+then remains:
 
   warcdx: query: CAUSE
   warcdx: NAME: cannot open
@@ -149,14 +149,14 @@ Exit status:
 };
 
 pub const PAGES: Page = Page {
-    about: "Writes the captures that a query asks for, page by page",
+    about: "Writes the captures that a query selects, page by page",
     details: "\
 Writes all captures that the query selects, as 'warcdx query' does, in pages of
-so many captures. SIZES are 1 to 1,000 numbers from 1 to 1,000,000, separated by
+the given sizes. SIZES are 1 to 1,000 numbers from 1 to 1,000,000, separated by
 commas: the size of the first page, of the second and so on. The last size is
-repeated. Each page but the last ends with the resume key of the next one.
-The query's limit and showResumeKey aren't used; its resumeKey is where the
-first page begins.
+repeated. Each page but the last ends with the resume key of the next one. The
+query's limit and showResumeKey have no effect. The first page begins after the
+place of its resumeKey.
 
 'warcdx query --help' explains queries, what is reported, and what to do.
 
@@ -176,17 +176,16 @@ pub const SERVE: Page = Page {
     about: "Answers queries line by line",
     details: "\
 Reads queries from standard input, one per line, and writes a reply to each:
-what 'warcdx query' writes for it, and then a line with only a period. A reply
-is flushed before the next line is waited for.
+what 'warcdx query' writes for it, and then a line with only a period. Each
+reply is flushed before the next line is read.
 
 The reply to a query that is refused is
 
   refused CAUSE
 
 with a cause that 'warcdx query --help' lists, or NotText for a query that isn't
-UTF-8.
-Where an index has a bad line, or one out of order, what was written of the page
-is followed by a line feed and
+UTF-8. If an index has a bad line, or one out of order, the reply is the page up
+to that line, a line feed and
 
   fault CAUSE NUMBER OFFSET
 

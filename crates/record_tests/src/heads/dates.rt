@@ -3,7 +3,7 @@ use super::read;
 use std::alloc::Global;
 use warc_head::HeadFault;
 
-/// Returns whether a head with this date has this stamp, or is refused.
+/// Returns `true` if a head with this date has this stamp, or is refused.
 fn is_date(alloc: Global, date: &str, stamp: Option<&str>) -> Result<bool, HeadFault> {
     let lines = "WARC-Record-ID: a\r\nContent-Length: 3\r\nWARC-Type: b\r\nWARC-Date: ";
     match (read(alloc, &[lines, date]), stamp) {

@@ -147,7 +147,7 @@ fn second_of_length(alloc: Global, digits: &str) -> Result<Vec<u8>, AllocError> 
     joined(alloc, &[RESPONSE, before, digits.as_bytes(), behind])
 }
 
-/// Returns whether a second record of this length has this fault, behind its head.
+/// Returns `true` if a second record of this length has this fault, behind its head.
 fn is_second_refused(alloc: Global, digits: &str, cause: Cause) -> Result<bool, Fail> {
     let fault = Fault { offset: 264, cause };
     let text = second_of_length(alloc, digits)?;
@@ -173,7 +173,7 @@ fn stand_before(at: u64) -> (u64, u64) {
     }
 }
 
-/// Returns whether reading ends at the call `at`, which fails, if the input gives one byte a call.
+/// Returns `true` if reading ends at the call `at`, which fails, if the input gives one byte a call.
 fn ends_at_failed_read(alloc: Global, archive: &[u8], at: u64) -> Result<bool, Fault> {
     let (records, offset) = stand_before(at);
     let cause = Cause::Read;
@@ -194,7 +194,7 @@ fn reading_ends_at_the_record_whose_read_fails(rt: HostRuntime) -> Result<(), Fa
     Ok(())
 }
 
-/// Returns whether the reader has this fault. A failed allocation is an error of the test.
+/// Returns `true` if the reader has this fault. A failed allocation is an error of the test.
 fn fails(answer: Result<Option<Head>, Fault>, fault: Fault) -> Result<bool, Fault> {
     match answer {
         Ok(_head) => Ok(false),
@@ -203,14 +203,14 @@ fn fails(answer: Result<Option<Head>, Fault>, fault: Fault) -> Result<bool, Faul
     }
 }
 
-/// Returns whether each call of a reader that failed returns this fault.
+/// Returns `true` if each call of a reader that failed returns this fault.
 fn repeats<I: Input>(reader: &mut Reader, input: &mut I, fault: Fault) -> bool {
     reader.next(input).err() == Some(fault)
         && reader.finish(input).err() == Some(fault)
         && reader.block(input, &mut [0; 10]).err() == Some(fault)
 }
 
-/// Returns whether a reader of this text fails, and then repeats its fault without reading.
+/// Returns `true` if a reader of this text fails, and then repeats its fault without reading.
 fn fails_for_good(alloc: Global, text: &[u8], fault: Fault) -> Result<bool, Fault> {
     let mut input = Fuse::new(Slice::new(text), 8192, 0);
     let mut reader = Reader::new(alloc)?;

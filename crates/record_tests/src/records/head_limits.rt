@@ -28,7 +28,7 @@ fn behind(open: bool) -> &'static [u8] {
     if open { b"" } else { b"abc\r\n\r\n" }
 }
 
-/// Returns whether a record with such a head is read, or refused for this cause.
+/// Returns `true` if a record with such a head is read, or refused for this cause.
 fn is_limited(
     alloc: Global,
     length: usize,
@@ -66,7 +66,7 @@ fn a_long_head_is_refused_before_its_lines_are_read(rt: HostRuntime) -> Result<(
     Ok(())
 }
 
-/// Returns whether the next record has a head of this length and a block of three bytes.
+/// Returns `true` if the next record has a head of this length and a block of three bytes.
 fn is_read<I: Input>(alloc: Global, input: &mut I, length: usize) -> Result<bool, Fault> {
     let mut reader = Reader::new(alloc)?;
     let Some(head) = reader.next(input)? else {
@@ -79,7 +79,7 @@ fn is_read<I: Input>(alloc: Global, input: &mut I, length: usize) -> Result<bool
     )
 }
 
-/// Returns whether a head of this length is read in pieces of one, seven and 8,192 bytes.
+/// Returns `true` if a head of this length is read in pieces of one, seven and 8,192 bytes.
 fn is_read_in_pieces(alloc: Global, length: usize) -> Result<bool, Fail> {
     let head = head_of(alloc, length, false)?;
     let text = joined(alloc, &[&head, b"abc\r\n\r\n"])?;

@@ -28,7 +28,7 @@ fn a_record_has_a_head(rt: HostRuntime) -> Result<(), Fault> {
 
 const BLOCK: &[u8] = b"HTTP/1.1 200 OK\r\nContent-Type: text/html; charset=utf-8\r\n\r\n";
 
-/// Returns whether the open record's block is read as expected: nothing into no bytes, then all of it, then its end.
+/// Returns `true` if the open record's block is read as expected: nothing into no bytes, then all of it, then its end.
 fn gives_its_block(reader: &mut Reader, input: &mut Slice<'_>) -> Result<bool, Fault> {
     let mut piece = [0; 100];
     let none = reader.block(input, &mut [])?;
@@ -45,7 +45,7 @@ fn opens(alloc: Global, input: &mut Slice<'_>) -> Result<(Reader, bool), Fault> 
     Ok((reader, is_open && is_given))
 }
 
-/// Returns whether the first call of `finish` returns the length of the record, and the second nothing.
+/// Returns `true` if the first call of `finish` returns the length of the record, and the second nothing.
 fn is_finished_once(reader: &mut Reader, input: &mut Slice<'_>) -> Result<bool, Fault> {
     Ok(reader.finish(input)? == 264 && reader.finish(input)? == 0)
 }
@@ -59,7 +59,7 @@ fn a_record_has_a_block_and_a_length(rt: HostRuntime) -> Result<(), Fault> {
     Ok(())
 }
 
-/// Returns whether there is no record and no block, however often they are asked for.
+/// Returns `true` if there is no record and no block, at any number of calls.
 fn is_at_end(alloc: Global, input: &mut Slice<'_>) -> Result<bool, Fault> {
     let mut reader = Reader::new(alloc)?;
     let is_end = reader.next(input)?.is_none();

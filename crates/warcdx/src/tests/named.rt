@@ -136,7 +136,7 @@ fn scan_of(
     })
 }
 
-/// Returns whether the task writes these pieces, one after another, and has this outcome.
+/// Returns `true` if the task writes these pieces, one after another, and has this outcome.
 fn writes<R: Runtime + AllocGlobal>(
     rt: &R,
     task: Result<Task, AllocError>,
@@ -148,7 +148,7 @@ fn writes<R: Runtime + AllocGlobal>(
     Ok(out.device.bytes() == text.as_slice() && outcome == wanted)
 }
 
-/// Returns whether the task's first write fails, and ends it.
+/// Returns `true` if the task's first write fails, and ends it.
 fn stops<R: Runtime + AllocGlobal>(
     rt: &R,
     task: Result<Task, AllocError>,
@@ -157,7 +157,7 @@ fn stops<R: Runtime + AllocGlobal>(
     Ok(out.device.bytes().is_empty() && outcome == WRITE)
 }
 
-/// Returns whether only the resource of the two records is indexed and found by a scan.
+/// Returns `true` if only the resource of the two records is indexed and found by a scan.
 fn takes_resources<R: Runtime + AllocGlobal>(rt: &R) -> Result<bool, Refused> {
     let alloc = rt.alloc();
     let Some(types) = Types::read("resource,metadata") else {
@@ -171,7 +171,7 @@ fn takes_resources<R: Runtime + AllocGlobal>(rt: &R) -> Result<bool, Refused> {
     )
 }
 
-/// Returns whether a first part of the response is written before its block ends too early.
+/// Returns `true` if a first part of the response is written before its block ends too early.
 fn writes_in_part<R: Runtime + AllocGlobal>(rt: &R) -> Result<bool, Refused> {
     let (outcome, out) = performed(rt, record_at(rt.alloc(), 448, "b.warc"), 0)?;
     Ok(cut(RESPONSE, 231).starts_with(out.device.bytes()) && outcome == SHORT_BLOCK)

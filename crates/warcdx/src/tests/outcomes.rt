@@ -62,7 +62,7 @@ const CAUSES: &[(Cause, u8, bool)] = &[
     (Cause::TooFar, 1, false),
 ];
 
-/// Returns whether an outcome has this exit status, and ends a command at once or not.
+/// Returns `true` if an outcome has this exit status, and ends a command at once or not.
 fn has_status(outcome: &Outcome, wanted: u8, ends: bool) -> bool {
     status(outcome) == wanted && ends_command(outcome) == ends
 }

@@ -113,7 +113,7 @@ fn pages(alloc: Global, sizes: &[u64], text: &str) -> Result<Task, AllocError> {
     })
 }
 
-/// Returns whether the task writes this, and has this outcome.
+/// Returns `true` if the task writes this, and has this outcome.
 fn writes<R: Runtime + AllocGlobal>(
     rt: &R,
     task: Result<Task, AllocError>,
@@ -124,7 +124,7 @@ fn writes<R: Runtime + AllocGlobal>(
     Ok(out.device.bytes() == text && outcome == wanted)
 }
 
-/// Returns whether these replies are written to the lines, which are read six bytes at a time, with this outcome.
+/// Returns `true` if these replies are written to the lines, which are read six bytes at a time, with this outcome.
 fn replies<R: Runtime + AllocGlobal>(
     rt: &R,
     names: &[&str],

@@ -104,7 +104,7 @@ fn scan(alloc: Global) -> Result<Task, AllocError> {
     })
 }
 
-/// Returns whether the task is done and writes this.
+/// Returns `true` if the task is done and writes this.
 fn does<R: Runtime + AllocGlobal>(
     rt: &R,
     task: Result<Task, AllocError>,
@@ -114,7 +114,7 @@ fn does<R: Runtime + AllocGlobal>(
     Ok(outcome == Outcome::Done && out.device.bytes() == text)
 }
 
-/// Returns whether the task writes nothing and has this outcome.
+/// Returns `true` if the task writes nothing and has this outcome.
 fn fails<R: Runtime + AllocGlobal>(
     rt: &R,
     task: Result<Task, AllocError>,
