@@ -45,7 +45,7 @@ def lines(count: int, host_count: int = HOSTS) -> list[bytes]:
 
 
 def deal(ordered: Sequence[bytes], count: int, folder: pathlib.Path, name: str) -> None:
-    """Writes the lines to so many files, each of them sorted. One line in ten is in two files."""
+    """Writes the lines to a number of files, each of them sorted. One line in ten is in two files."""
     choice = random.Random(count)
     dealt = [[] for _ in range(count)]
     for line in ordered:

@@ -28,7 +28,7 @@ WORDS = [f"<p>word{number} " .encode() for number in range(5000)]
 
 
 def make(path: pathlib.Path, records: int, words: int) -> None:
-    """Writes an archive of pages of so many words, which compress to about a third."""
+    """Writes an archive of pages of a number of words, which compress to about a third."""
     choices = random.Random(1)
     with open(path, "wb") as file:
         for number in range(records):

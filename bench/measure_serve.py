@@ -40,7 +40,7 @@ def expect_replies(program, index, queries, pages):
     asked = b"".join(query + b"&output=cdxj\n" for query in queries)
     found = subprocess.run([program, "serve", index], input=asked, stdout=subprocess.PIPE, check=True).stdout
     if found != b"".join(page + MARK for page in pages):
-        sys.exit("the replies aren't the lines of the keys that were asked for")
+        sys.exit("the replies aren't the lines of the keys that were queried")
 
 
 def waits(program, index, queries):

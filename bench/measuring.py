@@ -151,7 +151,7 @@ def read_bytes(command):
 
 
 def peak(command):
-    """The most memory, in bytes, that such a run has held, by its own account; it is looked at every millisecond."""
+    """The most memory, in bytes, that such a run has held, by its own account, which is read every millisecond."""
     most = 0
     with subprocess.Popen(command, **NOWHERE) as process:
         while process.poll() is None:

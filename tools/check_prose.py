@@ -8,8 +8,8 @@ In the pages and in the manual pages
 - a sentence has at most 25 words, and at most one of `which`, `whose` and `whom`;
 - a line has at most 100 columns, if it isn't code, a row of a table or a link.
 
-The pages, the texts of help and the docstrings of the crates contain none of the phrases that
-docs/STYLE.md replaces. A comment `<!-- prose: REASON -->` on a line of its own excuses the block of
+The pages, the texts of help, the docstrings of the crates, and the scripts contain none of the phrases
+that docs/STYLE.md replaces. A comment `<!-- prose: REASON -->` on a line of its own excuses the block of
 lines that follows it.
 
 Without PAGE these are all pages of the repository. Prints a line for each file, and the counts. With
@@ -27,6 +27,7 @@ sys.path.insert(0, str(Path(__file__).resolve().parents[1] / "tests"))
 from check_links import pages_of
 from program import ROOT, Report, parser_of
 
+FOLDERS = ("bench", "examples", "gateway", "python", "tests", "tools")  # with scripts
 MOST_WORDS = 25  # of a sentence
 MOST_COLUMNS = 100  # of a line
 MOST_RELATIVES = 1  # of a sentence
@@ -56,7 +57,6 @@ ABBREVIATION = re.compile(r"\b(?:e\.g|i\.e|cf|etc|vs)\.")
 ROFF_TEXT = re.compile(r"\.(?:B|I|BR|BI|IR|IB|RB|RI|SB|SM)\s+(.*)")
 ROFF_ESCAPE = re.compile(r"\\(?:f.|&|\(..|\[[^\]]*\]|-)")
 DOCSTRING = re.compile(r"\s*//[/!]\s?(.*)")
-HELP_TEXT = re.compile(r'"((?:[^"\\]|\\.)*)"')
 
 
 class Block(NamedTuple):
@@ -182,14 +182,20 @@ def text_lines(lines: list[str]) -> Iterator[tuple[int, str]]:
 
 
 def source_faults(source: Path) -> Iterator[str]:
-    """Yields the phrases in the docstrings of a source file, and in its texts if it has help."""
-    is_help = "help" in source.parts or source.stem in ("help", "command")
+    """Yields the phrases in the docstrings of a crate's file, and in all lines of a script or of help."""
+    is_code = source.suffix == ".rt" and "help" not in source.parts and source.stem != "help"
     for number, line in enumerate(source.read_text().splitlines(), 1):
         found = DOCSTRING.match(line)
-        texts = [found[1]] if found else HELP_TEXT.findall(line) if is_help else []
-        for text in texts:
-            if phrase := PHRASES.search(text):
-                yield f"line {number}: {phrase[0]!r}: {text}"
+        text = found[1] if found else "" if is_code else line
+        if phrase := PHRASES.search(text):
+            yield f"line {number}: {phrase[0]!r}: {text.strip()}"
+
+
+def sources() -> list[Path]:
+    """Returns the sources of the crates and the scripts, without this one."""
+    patterns = ("crates/*/src/**/*.rt", *(f"{folder}/**/*.{ending}" for folder in FOLDERS for ending in ("py", "sh")))
+    found = (source for pattern in patterns for source in ROOT.glob(pattern))
+    return sorted(source for source in found if source != Path(__file__).resolve())
 
 
 def main() -> int:
@@ -205,13 +211,13 @@ def main() -> int:
                     print(f"{page.name}:{block.line}: {words_of(sentence)}: {sentence}")
         return 0
     report = Report()
-    sources = [] if arguments.pages else sorted(ROOT.glob("crates/*/src/**/*.rt"))
-    for file in [*pages, *sources]:
+    for file in [*pages, *([] if arguments.pages else sources())]:
         name = file.relative_to(ROOT) if file.is_relative_to(ROOT) else file
-        faults = list(source_faults(file) if file.suffix == ".rt" else page_faults(file))
+        is_page = file.suffix in (".md", ".1")
+        faults = list(page_faults(file) if is_page else source_faults(file))
         for fault in faults:
             report.add_difference(str(name), fault)
-        if not faults and file.suffix != ".rt":
+        if is_page and not faults:
             report.add_ok(str(name))
     return report.end()
 

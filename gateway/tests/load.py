@@ -74,7 +74,7 @@ def silent(server: support.Server) -> Iterator[None]:
 
 @contextlib.contextmanager
 def asking(server: support.Server, count: int, target: str, pause: float) -> Iterator[None]:
-    """So many clients read an answer; with a pause, a byte and then a pause again and again."""
+    """A number of clients read an answer; with a pause, a byte and then a pause again and again."""
     is_over = threading.Event()
 
     def read() -> None:

@@ -133,7 +133,7 @@ SAMPLE = "".join(LINE % capture for capture in CAPTURES)
 
 
 def lines(count: int, status: int = 200, size: int = 0) -> str:
-    """Returns an index of so many captures, each of another page and with a URL that is longer by
+    """Returns an index of `count` captures, each of another page and with a URL that is longer by
     `size`.
     """
     return "".join(

@@ -176,7 +176,7 @@ class Collection:
                     self._close_unused(old)
             except (
                 Exception
-            ) as error:  # whatever it is, the old files are open, and are looked at again
+            ) as error:  # whatever it is, the old files are open, and are compared again
                 self.failed_renewals += 1
                 if self.failed_renewals == 1 or self.failed_renewals % 1000 == 0:
                     print(

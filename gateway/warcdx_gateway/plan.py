@@ -44,7 +44,7 @@ class Collapse:
 
 @dataclass(frozen=True)
 class PageNumber:
-    """A page of so many captures, by its number from 0."""
+    """A page of `size` captures, by its number from 0."""
 
     number: int
     size: int

@@ -61,7 +61,7 @@ class Resolver:
     """Gives a revisit the media type, the status and the place of its original.
 
     The original is the first capture of the same key and digest that is no revisit, wherever it is
-    in the collection. Each is asked for by a query of its own; the last thousand are kept.
+    in the collection. Each has a query of its own; the last thousand are kept.
     """
 
     def __init__(self, ask: Ask) -> None:

@@ -21,7 +21,7 @@ Field = tuple[str, str]
 
 
 def plan_of(query: str, form: Form, limits: Limits) -> Plan:
-    """Returns what a query text asks for.
+    """Returns what a query text selects.
 
     Raises Refusal, for the first parameter that is at fault.
     """

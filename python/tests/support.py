@@ -19,7 +19,7 @@ LINE = (
 
 
 def lines(count: int) -> str:
-    """Returns an index of so many captures, each of another page."""
+    """Returns an index of `count` captures, each of another page."""
     return "".join(LINE % (f"{number:07}", f"{number:07}", number + 1, number) for number in range(count))
 
 

@@ -64,7 +64,7 @@ class Gz(Case):
         return places, *fault
 
     def expect(self, members: Sequence[bytes], good: int, name: str, at: int = -1) -> None:
-        """Checks that so many members are indexed and listed, and the fault of the member after them."""
+        """Checks the number of members that are indexed and listed, and the fault of the member after them."""
         archive = self.archive(members)
         ends = [sum(map(len, members[:number])) for number in range(len(members) + 1)]
         places = [(ends[number], len(members[number])) for number in range(good)]

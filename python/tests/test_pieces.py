@@ -13,9 +13,7 @@ KEY = "com%2Cexample%29%2F0000450+20160101000000+a.warc+450"
 
 
 def in_pieces(index: Index, query: str, size: int) -> bytes:
-    """Returns a page whose first piece has so many captures, and each other one so many that its
-    size is the same.
-    """
+    """Returns the pieces of a page joined, of which the first has `size` captures."""
     pieces, found = Pieces(query, size=size), b""
     while (asked := pieces.next_query()) is not None:
         if piece := pieces.add(index.text(asked)):

@@ -81,7 +81,7 @@ class Host:
 
 
 def count_hosts(index: Index, query: str, most: int, **parameters: Value) -> list[Host]:
-    """Returns the hosts with most bytes, at most so many, and the others as one, if there are any.
+    """Returns the hosts with most bytes, at most `most`, and the others as one, if there are any.
 
     The captures of a host are one after another, so that only these hosts are held.
     """

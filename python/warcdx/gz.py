@@ -172,7 +172,7 @@ class CompressedArchive:
     def _running(
         self, words: tuple[str, ...], also: Optional[IO[bytes]] = None, at: int = 0, most: Optional[int] = None
     ) -> Iterator[tuple[subprocess.Popen[bytes], IO[bytes], Unpacker]]:
-        """Runs the program on the unpacked archive, from a member, for so many. At the end the program is ended."""
+        """Runs the program on a number of unpacked members, from one on. Ends the program at the end."""
         with self.open() as file, tempfile.TemporaryFile() as said:
             file.seek(at)
             process = start((self._program, *words), said, subprocess.PIPE)

@@ -34,7 +34,7 @@ class Unpacker(threading.Thread):
     """
 
     def __init__(self, file: IO[bytes], name: str, inputs: list[IO[bytes]], most: Optional[int] = None) -> None:
-        """Reads from the position of the file, at most so many members."""
+        """Reads from the position of the file, at most `most` members."""
         super().__init__(daemon=True)
         self.members: collections.deque[Member] = collections.deque()
         self.fault: Optional[Fault] = None

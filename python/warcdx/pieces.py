@@ -17,7 +17,7 @@ class Pieces:
 
     The pieces joined are the page that `warcdx query` writes for the query. Each is a page with a
     limit and a resume key, so other queries can be answered between two of them. The first one has
-    `size` captures, and the others so many that they have about TARGET bytes.
+    `size` captures, and the others have about TARGET bytes.
     """
 
     def __init__(self, query: str, *, size: int = FIRST) -> None:

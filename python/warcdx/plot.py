@@ -246,7 +246,7 @@ def draw_bars(axes: Any, rows: Sequence[tuple[str, int]], label: str) -> None:
 
 
 def shown(name: str, most: int = 40) -> str:
-    """Returns a text of at most so many characters that can be shown."""
+    """Returns a text of at most `most` characters that can be shown."""
     text = name if name.isprintable() else name.encode("unicode_escape").decode()
     return text if len(text) <= most else text[: most - 1] + "\u2026"
 

@@ -73,7 +73,7 @@ resource() { # FIELD: a record with the block "abc"
         "$1" "Content-Length: 3" "" abc ""
 }
 
-long_head() { # BYTES: a record whose head has so many; without the value of its last field it has 117
+long_head() { # BYTES: a record whose head has BYTES bytes; without the value of its last field it has 117
     resource "X: $(printf a | repeated $(($1 - 117)))"
 }
 

@@ -77,7 +77,7 @@ def an_input_that_is_long(place: Place) -> Iterator[str]:
 
 
 def fed(place: Place, words: Sequence[str], text: tuple[bytes, int, bytes], least: int) -> tuple[int, bytes, bytes]:
-    """Returns how a run ends that reads a front, so many letters and a back from a pipe."""
+    """Returns how a run ends that reads a front, a number of letters and a back from a pipe."""
     front, size, back = text
     process = place.start(words, stdin=subprocess.PIPE, preexec_fn=limit_memory(least + HEAD_MEMORY))
 

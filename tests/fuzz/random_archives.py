@@ -1,4 +1,4 @@
-"""Makes archives by chance: records of few values, and records at fault in several ways at once."""
+"""Makes archives at random: records of few values, and records at fault in several ways at once."""
 import random
 import re
 

@@ -1,4 +1,4 @@
-"""Changes texts by chance: bytes, numbers, lines and parts of them."""
+"""Changes texts at random: bytes, numbers, lines and parts of them."""
 import random
 import re
 from collections.abc import Callable, Sequence

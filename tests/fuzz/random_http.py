@@ -1,4 +1,4 @@
-"""Makes HTTP heads and the blocks that begin with them by chance: with repeated, folded and odd fields, and of lengths near the limits."""
+"""Makes HTTP heads and the blocks that begin with them at random: with repeated, folded and odd fields, and of lengths near the limits."""
 import random
 
 from choices import mostly, near

@@ -1,4 +1,4 @@
-"""Makes indexes by chance, of few keys, stamps, file names and offsets, so that lines often have a place or a part of it in common."""
+"""Makes indexes at random, of few keys, stamps, file names and offsets, so that lines often have a place or a part of it in common."""
 import json
 import random
 from collections.abc import Iterable, Sequence
@@ -108,7 +108,7 @@ def index(choice: random.Random, most: int = 50) -> bytes:
 
 
 def dealt(choice: random.Random, bodies: Iterable[bytes], count: int) -> list[bytes]:
-    """The lines in so many indexes, some of them in several, some with another line of the same place before or after."""
+    """The lines in a number of indexes, some of them in several, some with another line of the same place before or after."""
     parts: list[list[bytes]] = [[] for _ in range(count)]
     for body in bodies:
         for _ in range(choice.choice((1, 1, 1, 2, 3))):

@@ -1,4 +1,4 @@
-"""Makes query texts by chance, of the keys, stamps, values and places that some lines have, with limits near the number of captures."""
+"""Makes query texts at random, of the keys, stamps, values and places that some lines have, with limits near the number of captures."""
 import os.path
 import random
 from collections.abc import Sequence

@@ -1,4 +1,4 @@
-"""Makes targets of captures by chance: URLs of few hosts, ports and paths, with the forms on which docs/CDXJ.md has rules."""
+"""Makes targets of captures at random: URLs of few hosts, ports and paths, with the forms on which docs/CDXJ.md has rules."""
 import random
 
 from choices import mostly

@@ -25,7 +25,7 @@ move_to_debian_places() { # PREFIX
     print_changelog | gzip --no-name -9 > "$documents/changelog.gz"
 }
 
-# move_python_package FOLDER MODULES: moves the Python package to Debian's modules, with what tells other programs its version.
+# move_python_package FOLDER MODULES: moves the Python package to Debian's modules, with the files that give other programs its version.
 move_python_package() {
     mkdir --parents "$2"
     mv "$1/warcdx" "$2"

@@ -158,7 +158,7 @@ def shown(text: str) -> Markup:
 
 
 def cut(text: str, most: int) -> str:
-    """Returns a text of at most so many characters. One that is cut ends with an ellipsis."""
+    """Returns a text of at most `most` characters. One that is cut ends with an ellipsis."""
     return text if len(text) <= most else text[: most - 1] + "…"
 
 
