@@ -10,7 +10,7 @@ use std::marker::Model;
 const CLOSING: usize = 3;
 
 /// A capture, held as its line in an index.
-#[derive(Drop)]
+#[derive(Debug, Drop)]
 pub struct HeldLine {
     /// The line. A file name that needs escapes in the line stands behind it.
     bytes: Vec<u8>,

@@ -34,7 +34,7 @@ const FIRST_STEP: usize = 2048;
 const SECOND_STEP: usize = 8192;
 
 /// A buffer for the start of a block, which serves one record after another.
-#[derive(Drop)]
+#[derive(Debug, Drop)]
 pub struct Front {
     bytes: Vec<u8>,
 }

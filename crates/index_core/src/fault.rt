@@ -30,6 +30,25 @@ pub enum IndexFault {
     NoRecord,
 }
 
+impl IndexFault {
+    ghost use Rattle.index_core.specs.Fault.{index_fault_name};
+
+    /// Returns the fault's name as the program prints it: `Memory`, `BadName`, `DuplicateName`,
+    /// `Write`, `NoRecord`, or the cause of an archive's fault.
+    pub fn name(self) -> &'static str
+        ensures { result.now ≡ index_fault_name self }
+    {
+        match self {
+            IndexFault::Memory => "Memory",
+            IndexFault::Capture(fault) => fault.name(),
+            IndexFault::BadName => "BadName",
+            IndexFault::DuplicateName => "DuplicateName",
+            IndexFault::Write => "Write",
+            IndexFault::NoRecord => "NoRecord",
+        }
+    }
+}
+
 impl From<Fault> for IndexFault {
     ghost from_gives = { λ fault given. given ≡ Capture (Archive fault) };
 

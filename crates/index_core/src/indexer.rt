@@ -9,7 +9,7 @@ use std::marker::Model;
 use warc_core::{Input, Output};
 
 /// Collects the captures of archives, and writes them as an index.
-#[derive(Drop)]
+#[derive(Debug, Drop)]
 pub struct Indexer {
     alloc: Global,
     types: Types,

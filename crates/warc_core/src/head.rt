@@ -5,7 +5,7 @@ use std::marker::Model;
 use warc_head::{Kind, Parts};
 
 /// A record's head, with the record's offset in its archive.
-#[derive(Drop)]
+#[derive(Debug, Drop)]
 pub struct Head {
     start: u64,
     parts: Parts,

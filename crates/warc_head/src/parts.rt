@@ -17,7 +17,7 @@ use std::alloc::Global;
 use std::marker::Model;
 
 /// The text of a record's head, and what it says.
-#[derive(Drop)]
+#[derive(Debug, Drop)]
 pub struct Parts {
     /// The head's text, and behind it the values of the fields that take several lines.
     text: Vec<u8>,
@@ -28,7 +28,7 @@ pub struct Parts {
 }
 
 /// What the mandatory fields of a head say.
-#[derive(Clone, Copy)]
+#[derive(Clone, Copy, Debug)]
 struct Said {
     kind: Kind,
     stamp: [u8; 14],

@@ -6,7 +6,7 @@ ghost use Rattle.warc_head.specs.Places.{IsWithin, fields_at};
 use crate::names::same_name;
 
 /// The place of a field in a text, in bytes from the text's start.
-#[derive(Clone, Copy)]
+#[derive(Clone, Copy, Debug)]
 pub struct Place {
     pub name_start: usize,
     pub name_end: usize,

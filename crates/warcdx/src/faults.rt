@@ -26,7 +26,8 @@ fn say_fault<R: Runtime>(rt: &R, name: &str, fault: IndexFault) {
             let _ = eprintln!(rt; "warcdx: {name}: fault {offset} {cause}");
         }
         IndexFault::BadName | IndexFault::DuplicateName | IndexFault::NoRecord => {
-            let _ = eprintln!(rt; "warcdx: {name}: {fault:?}");
+            let cause = fault.name();
+            let _ = eprintln!(rt; "warcdx: {name}: {cause}");
         }
         IndexFault::Memory | IndexFault::Write => {}
     }
