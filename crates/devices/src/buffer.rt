@@ -12,7 +12,7 @@ pub const PIECE: usize = 8192;
 
 /// Bytes that were read from an input and not yet consumed, at most [`PIECE`] of them. A buffer does not hold the
 /// input; each call that reads takes it.
-#[derive(Drop)]
+#[derive(Debug, Drop)]
 pub struct Buffer {
     bytes: Vec<u8>,
     from: usize,

@@ -14,7 +14,7 @@ pub const LEAST_SKIP: u64 = 8192;
 const READ_AFTER_SKIP: usize = 2048;
 
 /// A file of `std` as an input, which skips by seeks. Its bytes are not known.
-#[derive(Drop)]
+#[derive(Debug, Drop)]
 pub struct FromFile<F> {
     file: F,
     left: u64,

@@ -8,7 +8,7 @@ use crate::device::{DeviceFault, Input, Output};
 /// A device that limits the bytes per call of an inner device, and fails at one of its own calls.
 ///
 /// The call that fails doesn't reach the inner device; the calls after it do.
-#[derive(Drop)]
+#[derive(Debug, Drop)]
 pub struct Fuse<D> {
     /// The inner device.
     pub device: D,

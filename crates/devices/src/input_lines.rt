@@ -65,7 +65,7 @@ enum Part {
 /// Reads the lines of an input, one after another. It does not hold the input; each call that reads takes it.
 ///
 /// A line ends with a line feed, which the last line may lack. At most the first `most` bytes of a line are held.
-#[derive(Drop)]
+#[derive(Debug, Drop)]
 pub struct InputLines {
     buffer: Buffer,
     line: Vec<u8>,

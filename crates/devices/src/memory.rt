@@ -8,7 +8,7 @@ use std::alloc::Global;
 use std::marker::Model;
 
 /// An input over bytes in memory. Its bytes are known, and it never fails.
-#[derive(Drop)]
+#[derive(Debug, Drop)]
 pub struct Slice<'a> {
     rest: &'a [u8],
 }
@@ -61,7 +61,7 @@ impl Input for Slice<'_> {
 
 /// An output that keeps the bytes written to it, in memory. A write fails if memory could not be
 /// allocated.
-#[derive(Drop)]
+#[derive(Debug, Drop)]
 pub struct Gather {
     bytes: Vec<u8>,
     failures: u64,

@@ -13,7 +13,7 @@ use std::io;
 /// The writer is flushed after a piece that ends with `.` and a line feed, or that is a single line feed. So a reply
 /// whose last line is a `.` written as a piece of its own has left the buffer once that piece was written. If the flush
 /// fails, the write of the piece fails.
-#[derive(Drop)]
+#[derive(Debug, Drop)]
 pub struct Prompt<W> {
     writer: W,
     failures: u64,

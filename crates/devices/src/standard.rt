@@ -7,7 +7,7 @@ use crate::device::{DeviceFault, Input, Output};
 use std::io;
 
 /// A reader of `std` as an input. Its bytes are not known.
-#[derive(Drop)]
+#[derive(Debug, Drop)]
 pub struct FromRead<R> {
     reader: R,
     failures: u64,
@@ -65,7 +65,7 @@ impl<R: io::Read> Input for FromRead<R> {
 
 /// A writer of `std` as an output. Its bytes are not known. If the writer returns `Ok(0)` for a piece that isn't empty,
 /// the write fails.
-#[derive(Drop)]
+#[derive(Debug, Drop)]
 pub struct FromWrite<W> {
     writer: W,
     failures: u64,

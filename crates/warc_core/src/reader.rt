@@ -15,7 +15,7 @@ use std::marker::Model;
 ///
 /// A record is open from its head until its closing is read. After a call has failed, each further call returns the
 /// same fault and reads nothing.
-#[derive(Drop)]
+#[derive(Debug, Drop)]
 pub struct Reader {
     alloc: Global,
     offset: u64,
