@@ -84,7 +84,7 @@ pub fn capture<I: Input>(
 }
 
 /// Like `capture`, with the capture as its line, and with a buffer for the start of the block that serves one record
-/// after another. Of a usual record, only the line takes memory.
+/// after another. Of a usual record, only the line takes memory. Errors are those of `capture`, `Memory` included.
 pub fn held_capture<I: Input>(
     alloc: Global,
     front: &mut Front,

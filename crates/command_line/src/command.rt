@@ -9,7 +9,7 @@ use crate::help::{ARCHIVE, CDXJ, OFFSET, Operand, PROGRAM, Page, QUERY_TEXT, SIZ
 use clap::{Arg, Command};
 use std::alloc::{AllocError, Global};
 
-/// Returns the clap command of the program.
+/// Returns the clap command of the program. The only error is refused memory.
 pub fn command_line<'a>(alloc: Global) -> Result<Command<'a>, AllocError>
     ensures { IfOk result (λ command. app_of command ≡ warcdx) }
 {

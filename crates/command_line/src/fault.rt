@@ -7,6 +7,7 @@ use thiserror::Error;
 /// Why the arguments give no task.
 #[derive(Debug, Drop, Error, PartialEq, Eq)]
 pub enum WordsFault {
+    /// Memory could not be allocated.
     #[error("out of memory")]
     Memory,
     /// The arguments ask for help. Its text is for standard output.

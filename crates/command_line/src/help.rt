@@ -2,13 +2,16 @@
 pub mod archives;
 pub mod indexes;
 
-/// A command's page: its line in the list of commands, and the text after its usage.
+/// A command's page.
 #[derive(Clone, Copy)]
 pub struct Page<'a> {
+    /// The command's line in the list of commands.
     pub about: &'a str,
+    /// The text after the command's usage.
     pub details: &'a str,
 }
 
+/// The program's page.
 pub const PROGRAM: Page = Page {
     about: "warcdx 0.1.0: indexes web archives, answers queries, and fetches records",
     details: "\
@@ -42,35 +45,43 @@ Exit status:
 /// An operand of a command.
 #[derive(Clone, Copy)]
 pub struct Operand<'a> {
+    /// Its name in the usage.
     pub name: &'a str,
+    /// Its line in the help.
     pub help: &'a str,
 }
 
+/// The operand `WARC`.
 pub const ARCHIVE: Operand = Operand {
     name: "WARC",
     help: "A WARC file, or - for standard input",
 };
 
+/// The operand `INDEX`.
 pub const CDXJ: Operand = Operand {
     name: "INDEX",
     help: "A file with a CDXJ index",
 };
 
+/// The operand `QUERY`.
 pub const QUERY_TEXT: Operand = Operand {
     name: "QUERY",
     help: "The captures to select, such as 'url=example.com&limit=5'",
 };
 
+/// The operand `SIZES`.
 pub const SIZES: Operand = Operand {
     name: "SIZES",
     help: "The number of captures on each page, such as 100 or 10,100,1000",
 };
 
+/// The operand `TYPES`.
 pub const TYPES: Operand = Operand {
     name: "TYPES",
     help: "Types of records to index, such as response,metadata",
 };
 
+/// The operand `OFFSET`.
 pub const OFFSET: Operand = Operand {
     name: "OFFSET",
     help: "Where the record begins, in bytes from the archive's start",

@@ -12,7 +12,7 @@ use cdxj_places::read_offset;
 use clap::ArgMatches;
 use std::alloc::{AllocError, Global};
 
-/// Returns the task, if the matches give one.
+/// Returns the task, or `None` if the matches give none. The only error is refused memory.
 pub fn task_of(alloc: Global, matches: &ArgMatches) -> Result<Option<Task>, AllocError>
     ensures { IfOk result (λ task. option_map view task ≡ matches_task (subcommand_rows_of matches.now)) }
 {

@@ -10,7 +10,7 @@ use std::alloc::{AllocError, Global};
 const SIZES_LIMIT: usize = 1_000;
 
 /// Reads the sizes in an argument, separated by commas: 1 to 1,000 numbers from 1 to 1,000,000, each of at most 7
-/// digits.
+/// digits. Returns `None` for any other argument. The only error is refused memory.
 pub fn read_sizes(alloc: Global, word: &str) -> Result<Option<Vec<u64>>, AllocError>
     ensures { IfOk result (λ sizes. option_map (λ s. s.items) sizes ≡ sizes_of word.now) }
 {

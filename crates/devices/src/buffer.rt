@@ -28,7 +28,7 @@ impl Model for Buffer {
 }
 
 impl Buffer {
-    /// Creates a buffer that holds nothing, with room for [`PIECE`] bytes.
+    /// Creates a buffer that holds nothing, with room for [`PIECE`] bytes. The only error is refused memory.
     pub fn new(alloc: Global) -> Result<Buffer, AllocError>
         ensures { IfOk result (λ b. b ≡ []) }
     {

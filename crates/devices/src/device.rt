@@ -54,7 +54,7 @@ pub trait Output {
         ensures failures { CountsFailure result (failures self.old) (failures self.new) };
 }
 
-/// Writes all of `bytes`. If the output fails, a prefix of them was written.
+/// Writes all of `bytes`. The only error is the output's failure. A prefix of them was then written.
 pub fn put<O: Output>(out: &mut O, bytes: &[u8]) -> Result<(), DeviceFault>
     ensures all { OnOk result (Appends (O.written out.old) (O.written out.new) bytes.now) }
     ensures prefix { OnErr result (AppendsPrefix (O.written out.old) (O.written out.new) bytes.now) }

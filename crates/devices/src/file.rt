@@ -30,7 +30,7 @@ impl<F: Seek + Drop> FromFile<F> {
     /// Creates an input over a file that stands at its start. A seek to the file's end determines its size. Where that
     /// seek fails, as for a pipe, the input skips nothing.
     ///
-    /// Fails if the file can't be set back to its start.
+    /// The only error is that the file can't be set back to its start.
     pub fn new(mut file: F) -> Result<FromFile<F>, DeviceFault>
         ensures left { (position : ℕ) → (bytes : List ℕ) → F.stream_position file ≡ Some position → F.stream_bytes file ≡ Some bytes
             → IfOk result (λ input. (file_left input ≡ length bytes) ⊎ (file_left input ≡ 0)) }

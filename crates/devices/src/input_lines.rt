@@ -85,7 +85,8 @@ impl InputLines {
     ghost use Rattle.devices.specs.declared.input_lines.Part.TheVariants.{AtEnd};
     ghost use Rattle.devices.specs.declared.input_lines.InputLineFault.TheVariants.{Memory, TooLong};
 
-    /// Creates a reader of lines that has read nothing. At most the first `most` bytes of each line will be held.
+    /// Creates a reader of lines that has read nothing. It will hold at most the first `most` bytes of each line. The only
+    /// error is refused memory.
     pub fn new(alloc: Global, most: usize) -> Result<InputLines, AllocError>
         requires { 0 < most }
         ensures { IfOk result (λ lines. (lines.buffer ≡ []) × (lines.taken ≡ 0) × (lines.most ≡ most)) }
@@ -167,8 +168,10 @@ impl InputLines {
         self.take_held()
     }
 
-    /// Reads the next line, and returns whether there was one. A line that is longer than the bytes held is still read
-    /// to its end.
+    /// Reads the next line. Returns `true` if there was one. A line that is longer than the bytes held is still read to
+    /// its end.
+    ///
+    /// Errors are `Memory`, `Read` if the input failed, and `TooLong` at 2^63 - 1 bytes of input.
     pub fn next<I: Input>(&mut self, input: &mut I) -> Result<bool, InputLineFault>
         ensures within { OnOk result (self.new.taken < 2 ^ 63 - 1) }
         ensures most { self.new.most ≡ self.old.most }

@@ -54,6 +54,8 @@ fn keep(captures: &mut Vec<HeldLine>, captured: Option<HeldLine>) -> Result<(), 
 }
 
 /// Adds the captures of an archive's records of these types under its name, and returns their number.
+///
+/// Errors are those of `held_capture`. The captures before the fault were then added.
 pub fn add_captures<I: Input>(
     alloc: Global,
     front: &mut Front,

@@ -16,7 +16,8 @@ use warc_core::{Fault, HEAD_LIMIT, Input, Output, Phase, Reader};
 /// length in bytes. The input is not called for anything after that record.
 ///
 /// Errors are `NoRecord` if a record begins before the offset and ends after it, or if the archive ends at the offset
-/// or before it; the archive's fault at the offset or before it; and `Write` at the output's first failure. After
+/// or before it; the archive's fault at the offset or before it, `Memory` and `Read` included; and `Write` at the
+/// output's first failure. After
 /// `NoRecord`, or a fault before the offset, nothing was written. After any other error, the first bytes from the
 /// offset on may have been written, but none past the end of the record that begins there.
 pub fn get<I: Input, O: Output>(

@@ -48,7 +48,7 @@ impl Names {
         self.set.contains(name)
     }
 
-    /// Adds a copy of a name that isn't among these.
+    /// Adds a copy of a name that isn't among these. The only error is refused memory.
     pub fn add(&mut self, alloc: Global, name: &str) -> Result<(), AllocError>
         requires { is_among self.old name.now ≡ false }
         ensures ok { OnOk result (self.new ≡ self.old ++ name.now ∷ []) }

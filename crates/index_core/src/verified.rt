@@ -1,8 +1,10 @@
 //! The result of a verification.
 
-/// The number of records of an archive, and the number of those whose block has another digest than the record gives.
+/// The counts of a verification of an archive.
 #[derive(Clone, Copy, Debug, PartialEq, Eq)]
 pub struct Verified {
+    /// The number of records.
     pub records: u64,
+    /// The number of records whose block has another digest than the record gives.
     pub differing: u64,
 }

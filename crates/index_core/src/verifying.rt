@@ -17,7 +17,8 @@ use warc_core::{HEAD_LIMIT, Input, Output, Reader};
 /// archive can't be read to its end. The verdict on a block is `same`, `differs`, `not-sha1` or `absent`, by the digest
 /// that its record gives. Returns the number of whole records, and the number of those that differ.
 ///
-/// Errors are the archive's fault, after its line was written, and `Write` at the output's first failure.
+/// Errors are the archive's fault, `Memory` and `Read` included, after its line was written, and `Write` at the output's
+/// first failure.
 pub fn verify<I: Input, O: Output>(
     alloc: Global,
     input: &mut I,

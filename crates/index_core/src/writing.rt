@@ -8,7 +8,7 @@ use crate::fault::IndexFault;
 use crate::lines::{Line, fault_line};
 use warc_core::{Fault, Output, put};
 
-/// Writes these bytes.
+/// Writes these bytes. The only error is `Write`. A prefix of them was then written.
 pub fn put_bytes<O: Output>(out: &mut O, bytes: &[u8]) -> Result<(), IndexFault>
     ensures bytes { WritesText result (O.written out.old) (O.written out.new) bytes.now }
     ensures refusal { IfErr result (λ fault. fault ≡ IndexFault.Write) }
@@ -20,7 +20,7 @@ pub fn put_bytes<O: Output>(out: &mut O, bytes: &[u8]) -> Result<(), IndexFault>
     }
 }
 
-/// Writes a line.
+/// Writes a line. The only error is `Write`. A prefix of it was then written.
 pub fn put_line<O: Output>(out: &mut O, line: &Line) -> Result<(), IndexFault>
     ensures line { WritesText result (O.written out.old) (O.written out.new) line.now.bytes }
     ensures refusal { IfErr result (λ fault. fault ≡ IndexFault.Write) }

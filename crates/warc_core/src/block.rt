@@ -26,7 +26,8 @@ fn give<I: Input>(buffer: &mut Buffer, input: &mut I, piece: &mut [u8]) -> Resul
     Ok(count)
 }
 
-/// Reads the next bytes of a block into `piece`. The block has `left` bytes left.
+/// Reads the next bytes of a block into `piece`, and returns their number. The block has `left` bytes left. The errors
+/// are `Read` and `ShortBlock`.
 pub fn give_block<I: Input>(
     buffer: &mut Buffer,
     input: &mut I,
@@ -52,7 +53,7 @@ pub fn give_block<I: Input>(
     Ok(count)
 }
 
-/// Skips the `length` bytes of a block.
+/// Skips the `length` bytes of a block. The errors are `Read` and `ShortBlock`.
 pub fn skip_block<I: Input>(buffer: &mut Buffer, input: &mut I, length: u64) -> Result<(), Cause>
     ensures bytes { Reads (after_block length) result
         (prepend_known buffer.old (I.remaining input.old))

@@ -47,7 +47,7 @@ fn expect_closing<I: Input>(buffer: &mut Buffer, input: &mut I) -> Result<(), Ca
     Ok(())
 }
 
-/// Skips the rest of a block, and its closing.
+/// Skips the rest of a block, of `left` bytes, and its closing. The errors are `Read`, `ShortBlock` and `Closing`.
 pub fn skip_record<I: Input>(buffer: &mut Buffer, input: &mut I, left: u64) -> Result<(), Cause>
     ensures cause { IfErr result StopsRecord }
     ensures bytes { Reads (after_record left) result

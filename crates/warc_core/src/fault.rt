@@ -86,6 +86,7 @@ impl Cause {
 pub struct Fault {
     /// The offset of the record at fault, in bytes from the archive's start.
     pub offset: u64,
+    /// Why the record can't be read.
     pub cause: Cause,
 }
 

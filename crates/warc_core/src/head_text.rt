@@ -69,7 +69,8 @@ fn closing_end(text: &[u8], before: usize) -> Option<usize>
     }
 }
 
-/// Reads the text of the next head, of at most `limit` bytes.
+/// Reads the text of the next head, of at most `limit` bytes. The errors are `Memory`, `Read`, `Version`, `ShortHead` and
+/// `HeadTooLong`.
 pub fn read_head_text<I: Input>(
     alloc: Global,
     buffer: &mut Buffer,

@@ -44,7 +44,8 @@ fn read_head<I: Input>(
     Ok(Head::from_parts(start, parts))
 }
 
-/// Reads the head of the record that starts at this offset, if a byte follows.
+/// Reads the head of the record that starts at this offset, if a byte follows. The errors are those of the head, `Memory`,
+/// `Read` and `TooFar`.
 pub fn read_next<I: Input>(
     alloc: Global,
     buffer: &mut Buffer,

@@ -9,7 +9,7 @@ use crate::calendar::date_exists;
 use crate::fault::HeadFault;
 use crate::length::all_digits;
 
-/// Returns the stamp of a date text: year, month, day, hour, minute and second in 14 digits.
+/// Returns the stamp of a date text: year, month, day, hour, minute and second in 14 digits. The only error is `BadDate`.
 #[tactic(auto, unfolding(crate::specs::Date::stamp_of))]
 pub fn stamp_of(text: &[u8]) -> Result<[u8; 14], HeadFault>
     ensures answer { Answers (λ s. s) result (stamp_of text.now) }

@@ -10,6 +10,7 @@ use thiserror::Error;
 /// If a head has several faults, the first in this order is returned, except for `Memory`.
 #[derive(Clone, Copy, Debug, PartialEq, Eq, Error)]
 pub enum HeadFault {
+    /// Memory could not be allocated.
     #[error("out of memory")]
     Memory,
     /// A line is neither a named field nor the continuation of one, or has a CR or LF outside its final CR LF.

@@ -26,7 +26,7 @@ const EMPTY_LINE: usize = 2;
 const USUAL_FIELDS: usize = 16;
 
 /// Returns the places of the fields on the lines between the version line and the empty line of a head's text. The value
-/// of a field that takes several lines is appended to the text.
+/// of a field that takes several lines is appended to the text. The errors are `FieldLine` and `Memory`.
 pub fn read_fields(alloc: Global, text: &mut Vec<u8>) -> Result<Vec<Place>, HeadFault>
     ensures answer { Answers (λ places. fields_at text.new.items places.items) result
         (fields_of (body_of text.old.items)) }

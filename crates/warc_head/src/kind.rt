@@ -5,14 +5,23 @@ ghost use Rattle.warc_head.specs.Kind.{kind_of};
 /// The type of a record (ISO 28500:2017, clause 6). `Other` is a type that the standard doesn't name.
 #[derive(Clone, Copy, Debug, PartialEq, Eq)]
 pub enum Kind {
+    /// What follows in the file, and how it was made.
     Warcinfo,
+    /// What a server sent, as it was received.
     Response,
+    /// A resource without the protocol that brought it.
     Resource,
+    /// What was sent to a server.
     Request,
+    /// What further describes another record.
     Metadata,
+    /// A visit whose content another record has.
     Revisit,
+    /// Another form of another record's content.
     Conversion,
+    /// A further segment of a record.
     Continuation,
+    /// Any other type.
     Other,
 }
 

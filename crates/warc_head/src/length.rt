@@ -5,7 +5,7 @@ ghost use Rattle.warc_head.specs.Length.{all_digits, number_of, length_of};
 
 use crate::fault::HeadFault;
 
-/// Returns the length in bytes that a value gives.
+/// Returns the length in bytes that a value of `Content-Length` gives. The only error is `BadLength`.
 #[tactic(auto, unfolding(crate::specs::Length::length_of))]
 pub fn length_of(value: &[u8]) -> Result<u64, HeadFault>
     ensures answer { Answers (λ n. n) result (length_of value.now) }
@@ -21,6 +21,7 @@ pub fn length_of(value: &[u8]) -> Result<u64, HeadFault>
     Ok(number)
 }
 
+/// Returns `true` if each byte is an ASCII digit.
 pub fn all_digits(text: &[u8]) -> bool
     ensures { result ≡ all_digits text.now }
 {

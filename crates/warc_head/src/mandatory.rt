@@ -10,8 +10,11 @@ use crate::places::Place;
 /// The values of the mandatory fields, but for the record's identifier.
 #[derive(Clone, Copy)]
 pub struct Mandatory<'a> {
+    /// The value of `Content-Length`.
     pub length: &'a [u8],
+    /// The value of `WARC-Date`.
     pub date: &'a [u8],
+    /// The value of `WARC-Type`.
     pub kind: &'a [u8],
 }
 

@@ -5,8 +5,11 @@ use crate::places::Place;
 /// How often a field of a name occurs in a head, with its place where it occurs once.
 #[derive(Clone, Copy)]
 pub enum Occurrence {
+    /// It doesn't occur.
     Never,
+    /// It occurs once, at this place.
     Once(Place),
+    /// It occurs more than once.
     Repeated,
 }
 
@@ -37,6 +40,7 @@ impl Occurrence {
         }
     }
 
+    /// Returns `true` if the field occurs.
     pub fn is_some(self) -> bool
         ensures { (text : List ℕ) (values : List (List ℕ)) → Occurs text values self → result
             ≡ nat_lt 0 (length values) }
@@ -44,6 +48,7 @@ impl Occurrence {
         !matches!(self, Occurrence::Never)
     }
 
+    /// Returns `true` if the field occurs more than once.
     pub fn is_repeated(self) -> bool
         ensures { (text : List ℕ) (values : List (List ℕ)) → Occurs text values self → not result
             ≡ nat_lt (length values) 2 }

@@ -9,9 +9,13 @@ use crate::places::Place;
 /// How often each mandatory field occurs.
 #[derive(Clone, Copy)]
 pub struct Occurrences {
+    /// That of `WARC-Record-ID`.
     pub record_id: Occurrence,
+    /// That of `Content-Length`.
     pub length: Occurrence,
+    /// That of `WARC-Date`.
     pub date: Occurrence,
+    /// That of `WARC-Type`.
     pub kind: Occurrence,
 }
 

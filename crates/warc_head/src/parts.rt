@@ -100,7 +100,7 @@ impl Parts {
 /// Reads the text of a head: the version line, the lines of the fields and an empty line, each with its CR LF.
 ///
 /// It checks neither which version the text names nor that the last line is empty. A text that is too short to hold the
-/// first and the last of these lines has no fields.
+/// first and the last of these lines has no fields. The error is the head's first fault, or `Memory`.
 #[tactic(auto, unfolding(crate::specs::Parts::parts_of))]
 pub fn read_parts(alloc: Global, raw: Vec<u8>) -> Result<Parts, HeadFault>
     ensures answer { Answers (λ p. p.parts) result (parts_of raw.items) }

@@ -8,9 +8,13 @@ use crate::names::same_name;
 /// The place of a field in a text, in bytes from the text's start.
 #[derive(Clone, Copy, Debug)]
 pub struct Place {
+    /// The place of the name's first byte.
     pub name_start: usize,
+    /// The place after the name.
     pub name_end: usize,
+    /// The place of the value's first byte.
     pub value_start: usize,
+    /// The place after the value.
     pub value_end: usize,
 }
 
@@ -32,6 +36,7 @@ impl Place {
         }
     }
 
+    /// Returns the field's name in its text.
     pub fn name(self, text: &[u8]) -> &[u8]
         requires { IsWithin (length text.now) self }
         ensures { result.now ≡ (field_at text.now self).name }
@@ -39,6 +44,7 @@ impl Place {
         &text[self.name_start..self.name_end]
     }
 
+    /// Returns the field's value in its text.
     pub fn value(self, text: &[u8]) -> &[u8]
         requires { IsWithin (length text.now) self }
         ensures { result.now ≡ (field_at text.now self).value }

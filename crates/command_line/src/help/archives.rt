@@ -1,6 +1,7 @@
 //! Help for the commands that read archives.
 use super::Page;
 
+/// The page of `warcdx list`.
 pub const LIST: Page = Page {
     about: "Lists the records of archives",
     details: "\
@@ -45,6 +46,7 @@ Exit status:
   3  a file can't be opened, or memory, an input or the output failed",
 };
 
+/// The page of `warcdx verify`.
 pub const VERIFY: Page = Page {
     about: "Checks the digests of the records of archives",
     details: "\
@@ -80,6 +82,7 @@ Exit status:
   3  a file can't be opened, or memory, an input or the output failed",
 };
 
+/// The page of `warcdx index`.
 pub const INDEX: Page = Page {
     about: "Writes an index of the captures of archives",
     details: "\
@@ -126,6 +129,7 @@ Exit status:
   3  a file can't be opened, or memory, an input or the output failed",
 };
 
+/// The page of `warcdx get`.
 pub const GET: Page = Page {
     about: "Writes the record at an offset of an archive",
     details: "\
@@ -158,6 +162,7 @@ Exit status:
   3  the file can't be opened, or memory, an input or the output failed",
 };
 
+/// The page of `warcdx scan`.
 pub const SCAN: Page = Page {
     about: "Writes the captures of archives that a query selects",
     details: "\

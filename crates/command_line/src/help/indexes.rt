@@ -1,6 +1,7 @@
 //! Help for the commands that read indexes.
 use super::Page;
 
+/// The page of `warcdx merge`.
 pub const MERGE: Page = Page {
     about: "Merges indexes into one",
     details: "\
@@ -35,6 +36,7 @@ Exit status:
   3  a file can't be opened or read, or memory or the output failed",
 };
 
+/// The page of `warcdx check`.
 pub const CHECK: Page = Page {
     about: "Checks that indexes are sorted, and counts their lines",
     details: "\
@@ -73,6 +75,7 @@ Exit status:
   3  a file can't be opened or read, or memory or the output failed",
 };
 
+/// The page of `warcdx query`.
 pub const QUERY: Page = Page {
     about: "Writes the captures that a query selects",
     details: "\
@@ -148,6 +151,7 @@ Exit status:
   3  a file can't be opened or read, or memory or the output failed",
 };
 
+/// The page of `warcdx pages`.
 pub const PAGES: Page = Page {
     about: "Writes the captures that a query selects, page by page",
     details: "\
@@ -172,6 +176,7 @@ Exit status:
   3  a file can't be opened or read, or memory or the output failed",
 };
 
+/// The page of `warcdx serve`.
 pub const SERVE: Page = Page {
     about: "Answers queries line by line",
     details: "\
