@@ -1,5 +1,6 @@
 -- The capture of a record, from how its block was read.
-use Rattle.std.proofs.Common.{◌≡◌, ◌≢◌, ℕ, ◌+◌, ◌-◌, ◌≤◌, ◌∙◌, List, ◌++◌, Option, None, Some, Result, Ok, Err, IfErr, IfSome, length, take, option_map, unwrap_or, refl, sym, ap, subst, arith}
+use Rattle.std.proofs.Common.{◌≡◌, ◌≢◌, ℕ, ◌+◌, ◌-◌, ◌≤◌, ◌∙◌, List, ◌++◌, Option, None, Some, Result, Ok, Err, IfErr}
+use Rattle.std.proofs.Common.{IfSome, length, take, option_map, unwrap_or, refl, sym, ap, subst, arith}
 use Rattle.std.proofs.lemmas.List.{length-take}
 use Rattle.std.proofs.Math.Nat.{min-le_left}
 use Rattle.std.specs.Io.KnownBytes.{prepend_known, Consumes}
@@ -24,7 +25,8 @@ use Rattle.capture_core.specs.declared.fault.CaptureFault.TheVariants.{Archive, 
 use Rattle.capture_core.specs.Base32.{base32_of}
 use Rattle.capture_core.specs.HttpHead.{then_more}
 use Rattle.capture_core.specs.Payload.{digest_of_rest}
-use Rattle.capture_core.specs.Capture.{ResponseValue, IsCaptureUnder, entry_of, response_of, digest_of, settled_digest, payload_of}
+use Rattle.capture_core.specs.Capture.{ResponseValue, IsCaptureUnder, entry_of, response_of, digest_of, settled_digest}
+use Rattle.capture_core.specs.Capture.{payload_of}
 use Rattle.capture_core.specs.RecordReading.{read_to, reading_of, IsFaultAt, Leaves, ReadsRest}
 use Rattle.capture_core.specs.CaptureAnswer.{Limits, IsCaptureOf, IsEntryOf, AnswersEntry, PartsBlock}
 use Rattle.capture_core.proofs.HeadLemmas.{take_past}
@@ -39,9 +41,12 @@ read_to-fault c n = refl
 
 module _ {A : Type 0} (left : ℕ) (h : HeadView) (old new : ReaderView) (before after : Option (List ℕ)) (k k' : ℕ) where
   -- an open record was read to its end, and then this was answered of it
-  pub rest-whole : (r : Result A CaptureFault) (n : ℕ) → old.offset ≡ h.start → Finishes left (record_length h) (state_of old before k) (state_of new after k') (Ok n) → reading_of r ≡ Ok tt → IfErr r (IsFaultAt h.start) → ReadsRest left h (state_of old before k) (state_of new after k') r
+  pub rest-whole : (r : Result A CaptureFault) (n : ℕ) → old.offset ≡ h.start
+      → Finishes left (record_length h) (state_of old before k) (state_of new after k') (Ok n) → reading_of r ≡ Ok tt
+      → IfErr r (IsFaultAt h.start) → ReadsRest left h (state_of old before k) (state_of new after k') r
   rest-whole r n o f own at = record {
-    bytes = subst (λ x. Reads (after_record left) x (prepend_known old.held before) (prepend_known new.held after)) (sym own) f.bytes;
+    bytes = subst (λ x. Reads (after_record left) x (prepend_known old.held before) (prepend_known new.held after))
+        (sym own) f.bytes;
     state = subst (Leaves h new) (sym own) (subst (λ s. StandsAt new (s + record_length h) Between) o f.state.1);
     fault = at;
     cause = subst (λ x. IfErr x StopsRecord) (sym own) tt;
@@ -49,9 +54,13 @@ module _ {A : Type 0} (left : ℕ) (h : HeadView) (old new : ReaderView) (before
   }
 
   -- the reader failed in what was left
-  pub rest-failed : (f : Fault) → StopsRecord f.cause → Reads (after_record left) (Err f.cause) (prepend_known old.held before) (prepend_known new.held after) → FailedBy new h.start f → CountsRead {A = Unit {0}} (Err f.cause) k k' → ReadsRest {A = A} left h (state_of old before k) (state_of new after k') (Err (Archive f))
+  pub rest-failed : (f : Fault) → StopsRecord f.cause
+      → Reads (after_record left) (Err f.cause) (prepend_known old.held before) (prepend_known new.held after)
+      → FailedBy new h.start f → CountsRead {A = Unit {0}} (Err f.cause) k k'
+      → ReadsRest {A = A} left h (state_of old before k) (state_of new after k') (Err (Archive f))
   rest-failed f stops b s c = let m = not-memory f.cause stops in record {
-    bytes = subst (λ x. Reads (after_record left) x (prepend_known old.held before) (prepend_known new.held after)) (sym (read_to-fault f.cause m)) b;
+    bytes = subst (λ x. Reads (after_record left) x (prepend_known old.held before) (prepend_known new.held after))
+        (sym (read_to-fault f.cause m)) b;
     state = subst (Leaves h new) (sym (read_to-fault f.cause m)) s.stands;
     fault = s.at;
     cause = subst (λ x. IfErr x StopsRecord) (sym (read_to-fault f.cause m)) stops;
@@ -59,7 +68,11 @@ module _ {A : Type 0} (left : ℕ) (h : HeadView) (old new : ReaderView) (before
   }
 
 -- reading goes on after what was read of the block
-pub rest-behind : {A : Type 0} (left left' : ℕ) (h : HeadView) (old mid new : ReaderView) (r : Result A CaptureFault) (before between after : Option (List ℕ)) (k l k' : ℕ) → GoesOn (after_record left) (after_record left') (prepend_known old.held before) (prepend_known mid.held between) → l ≡ k → ReadsRest left' h (state_of mid between l) (state_of new after k') r → ReadsRest left h (state_of old before k) (state_of new after k') r
+pub rest-behind : {A : Type 0} (left left' : ℕ) (h : HeadView) (old mid new : ReaderView) (r : Result A CaptureFault)
+    (before between after : Option (List ℕ)) (k l k' : ℕ)
+    → GoesOn (after_record left) (after_record left') (prepend_known old.held before) (prepend_known mid.held between)
+    → l ≡ k → ReadsRest left' h (state_of mid between l) (state_of new after k') r
+    → ReadsRest left h (state_of old before k) (state_of new after k') r
 rest-behind left left' h old mid new r before between after k l k' g e s = record {
   bytes = GoesOn-reads (after_record left) (after_record left') (reading_of r) _ _ _ g s.bytes;
   state = s.state;
@@ -69,74 +82,99 @@ rest-behind left left' h old mid new r before between after k l k' g e s = recor
 }
 
 -- after a digest of what is left, only the closing is left
-pub behind-digest : (left : ℕ) (start digest : List ℕ) (before after : Option (List ℕ)) → Reads (digest_of_rest left start) (Ok digest) before after → GoesOn (after_record left) (after_record 0) before after
+pub behind-digest : (left : ℕ) (start digest : List ℕ) (before after : Option (List ℕ))
+    → Reads (digest_of_rest left start) (Ok digest) before after
+    → GoesOn (after_record left) (after_record 0) before after
 behind-digest left start digest None after r = tt
 behind-digest left start digest (Some z) None r = absurd r
 behind-digest left start digest (Some z) (Some w) r = (digest-then left start z w digest r).0
 
-pub digest-met : (left : ℕ) (start : List ℕ) (c : Cause) (before after : Option (List ℕ)) → c ≢ causes.Memory → Reads (digest_of_rest left start) (Err c) before after → Reads (after_record left) (Err c) before after
+pub digest-met : (left : ℕ) (start : List ℕ) (c : Cause) (before after : Option (List ℕ)) → c ≢ causes.Memory
+    → Reads (digest_of_rest left start) (Err c) before after → Reads (after_record left) (Err c) before after
 digest-met left start c None after m r = tt
 digest-met left start causes.Memory (Some z) after m r = tt
 digest-met left start causes.Read (Some z) after m r = tt
 digest-met left start c (Some z) after m r = digest-found c left start z r
 
 -- what was hashed, where the bytes are known
-pub digest-known : (left : ℕ) (start digest : List ℕ) (before after : Option (List ℕ)) → Reads (digest_of_rest left start) (Ok digest) before after → IfSome before (λ bytes. digest ≡ sha1 (start ++ take left bytes))
+pub digest-known : (left : ℕ) (start digest : List ℕ) (before after : Option (List ℕ))
+    → Reads (digest_of_rest left start) (Ok digest) before after
+    → IfSome before (λ bytes. digest ≡ sha1 (start ++ take left bytes))
 digest-known left start digest None after r = tt
 digest-known left start digest (Some z) None r = absurd r
 digest-known left start digest (Some z) (Some w) r = (digest-then left start z w digest r).1
 
 -- ---- what the capture is
 
-payload-behind : (front more : List ℕ) (found : Option (ResponseHead × List ℕ)) → payload_of (front ++ more) (then_more more found) ≡ payload_of front found ++ more
+payload-behind : (front more : List ℕ) (found : Option (ResponseHead × List ℕ))
+    → payload_of (front ++ more) (then_more more found) ≡ payload_of front found ++ more
 payload-behind front more None = refl
 payload-behind front more (Some f) = refl
 
-same-response : (more : List ℕ) (found : Option (ResponseHead × List ℕ)) → option_map (λ f. response_of f.0) (then_more more found) ≡ option_map (λ f. response_of f.0) found
+same-response : (more : List ℕ) (found : Option (ResponseHead × List ℕ))
+    → option_map (λ f. response_of f.0) (then_more more found) ≡ option_map (λ f. response_of f.0) found
 same-response more None = refl
 same-response more (Some f) = refl
 
-module _ (limits : Limits) (h : HeadView) (name url front payload bytes digest : List ℕ) (response : Option ResponseValue) where
+module _ (limits : Limits) (h : HeadView) (name url front payload bytes digest : List ℕ)
+    (response : Option ResponseValue) where
   abbrev pub more : List ℕ
   more = take (h.parts.length - length front) bytes
 
   abbrev pub entry : EntryValue
   entry = entry_of h name response digest url
 
-  capture-is : PartsBlock limits h front response payload → digest ≡ digest_of h (payload ++ more) → IsCaptureUnder (Some url) limits.head limits.fields h (take h.parts.length (front ++ bytes)) name (Some entry)
+  capture-is : PartsBlock limits h front response payload → digest ≡ digest_of h (payload ++ more)
+      → IsCaptureUnder (Some url) limits.head limits.fields h (take h.parts.length (front ++ bytes)) name (Some entry)
   capture-is p d =
-      let block : take h.parts.length (front ++ bytes) ≡ front ++ more = take_past h.parts.length front bytes p.within in
-      let few : length more ≤ h.parts.length - length front = subst (λ n. n ≤ h.parts.length - length front) (sym (length-take (h.parts.length - length front) bytes)) (min-le_left (h.parts.length - length front) (length bytes)) in
+      let block : take h.parts.length (front ++ bytes) ≡ front
+      ++ more = take_past h.parts.length front bytes p.within in
+      let few : length more ≤ h.parts.length - length front = subst (λ n. n ≤ h.parts.length - length front)
+      (sym (length-take (h.parts.length - length front) bytes))
+      (min-le_left (h.parts.length - length front) (length bytes)) in
       let short = p.within in
       let whole : IsCaptureUnder (Some url) limits.head limits.fields h (front ++ more) name (Some entry) = (
         then_more more p.found,
         p.decides more (omega arith),
-        ap Some (ap (λ x. entry_of h name x digest url) (p.response_is ∙ sym (same-response more p.found)) ∙ ap (λ x. entry_of h name (option_map (λ q. response_of q.0) (then_more more p.found)) x url) (d ∙ ap (digest_of h) (ap (λ t. t ++ more) p.payload_is ∙ sym (payload-behind front more p.found)))),
+        ap Some (ap (λ x. entry_of h name x digest url) (p.response_is ∙ sym (same-response more p.found))
+            ∙ ap (λ x. entry_of h name (option_map (λ q. response_of q.0) (then_more more p.found)) x url)
+            (d ∙ ap (digest_of h) (ap (λ t. t ++ more) p.payload_is ∙ sym (payload-behind front more p.found)))),
       ) in
       subst (λ b. IsCaptureUnder (Some url) limits.head limits.fields h b name (Some entry)) (sym block) whole
 
   -- what the entry answers is the capture
-  pub capture-known : PartsBlock limits h front response payload → digest ≡ digest_of h (payload ++ more) → (r : Result (Option EntryValue) CaptureFault) → AnswersEntry limits.line entry r → IsCaptureOf (Some url) limits h name (front ++ bytes) r
-  capture-known p d (Ok captured) a = subst (IsCaptureUnder (Some url) limits.head limits.fields h (take h.parts.length (front ++ bytes)) name) (sym a) (capture-is p d)
+  pub capture-known : PartsBlock limits h front response payload → digest ≡ digest_of h (payload ++ more)
+      → (r : Result (Option EntryValue) CaptureFault) → AnswersEntry limits.line entry r
+      → IsCaptureOf (Some url) limits h name (front ++ bytes) r
+  capture-known p d (Ok captured) a = subst
+      (IsCaptureUnder (Some url) limits.head limits.fields h (take h.parts.length (front ++ bytes)) name) (sym a)
+      (capture-is p d)
   capture-known p d (Err (Archive x)) a = tt
   capture-known p d (Err (LineTooLong o)) a = (entry, capture-is p d, a)
   capture-known p d (Err (KeyTooLong o)) a = refl
 
 -- a digest that is settled is that of any payload
-pub digest-settled : (h : HeadView) (digest payload : List ℕ) → settled_digest h ≡ Some digest → digest ≡ digest_of h payload
+pub digest-settled : (h : HeadView) (digest payload : List ℕ) → settled_digest h ≡ Some digest → digest
+    ≡ digest_of h payload
 digest-settled h digest payload e = sym (ap (λ o. unwrap_or o (base32_of (sha1 payload))) e)
 
-pub digest-made : (h : HeadView) (digest payload : List ℕ) → settled_digest h ≡ None → digest ≡ sha1 payload → base32_of digest ≡ digest_of h payload
+pub digest-made : (h : HeadView) (digest payload : List ℕ) → settled_digest h ≡ None → digest ≡ sha1 payload
+    → base32_of digest ≡ digest_of h payload
 digest-made h digest payload e d = ap base32_of d ∙ sym (ap (λ o. unwrap_or o (base32_of (sha1 payload))) e)
 
 -- what is known of the bytes behind the front is known of the block
-pub capture-behind : (url : Option (List ℕ)) (limits : Limits) (h : HeadView) (name front : List ℕ) (before mid : Option (List ℕ)) (r : Result (Option EntryValue) CaptureFault) → Consumes before mid front → IfSome mid (λ bytes. IsCaptureOf url limits h name (front ++ bytes) r) → IfSome before (λ bytes. IsCaptureOf url limits h name bytes r)
+pub capture-behind : (url : Option (List ℕ)) (limits : Limits) (h : HeadView) (name front : List ℕ)
+    (before mid : Option (List ℕ)) (r : Result (Option EntryValue) CaptureFault) → Consumes before mid front
+    → IfSome mid (λ bytes. IsCaptureOf url limits h name (front ++ bytes) r)
+    → IfSome before (λ bytes. IsCaptureOf url limits h name bytes r)
 capture-behind url limits h name front None mid r c t = tt
 capture-behind url limits h name front (Some z) None r c t = absurd c
-capture-behind url limits h name front (Some z) (Some w) r c t = subst (λ b. IsCaptureOf url limits h name b r) (sym c) t
+capture-behind url limits h name front (Some z) (Some w) r c t = subst (λ b. IsCaptureOf url limits h name b r) (sym c)
+    t
 
 -- an entry whose line is within the limit
-pub entry-fits : (h : HeadView) (name : List ℕ) (limit : ℕ) (response : Option ResponseValue) (digest url : List ℕ) (e : EntryValue) → e ≡ entry_of h name response digest url → HasLine limit e → IsEntryOf h name limit e
+pub entry-fits : (h : HeadView) (name : List ℕ) (limit : ℕ) (response : Option ResponseValue) (digest url : List ℕ)
+    (e : EntryValue) → e ≡ entry_of h name response digest url → HasLine limit e → IsEntryOf h name limit e
 entry-fits h name limit response digest url e v l = record {
   good = l.0;
   filename = ap (λ y. y.filename) v;

@@ -17,7 +17,8 @@ one_under : (url : Option (List ℕ)) (limit few : ℕ) (h : HeadView) (block na
     → IsCaptureUnder url limit few h block name a → IsCaptureUnder url limit few h block name b → a ≡ b
 one_under None limit few h block name a b x y = x ∙ sym y
 one_under (Some url) limit few h block name a b x y =
-    x.2 ∙ ap (λ f. Some (entry_of h name (option_map (λ p. response_of p.0) f) (digest_of h (payload_of block f)) url)) (one_found (may_have_head h) limit few block x.0 y.0 x.1 y.1) ∙ sym y.2
+    x.2 ∙ ap (λ f. Some (entry_of h name (option_map (λ p. response_of p.0) f) (digest_of h (payload_of block f)) url))
+    (one_found (may_have_head h) limit few block x.0 y.0 x.1 y.1) ∙ sym y.2
 
 pub one_capture : OneCapture
 one_capture types limit few h block name a b x y = one_under (url_of types h) limit few h block name a b x y

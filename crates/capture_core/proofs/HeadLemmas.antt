@@ -1,5 +1,6 @@
 -- A block's head is the only one, and is found in as many of its first bytes as a head may have.
-use Rattle.std.proofs.Common.{◌≡◌, ℕ, ◌+◌, ◌-◌, ◌≤◌, List, ◌++◌, length, length-append, take, drop, refl, ap, subst, ◌∙◌, arith, Some, None}
+use Rattle.std.proofs.Common.{◌≡◌, ℕ, ◌+◌, ◌-◌, ◌≤◌, List, ◌++◌, length, length-append, take, drop, refl, ap, subst}
+use Rattle.std.proofs.Common.{◌∙◌, arith, Some, None}
 use Rattle.std.proofs.lemmas.List.{take-append-drop}
 use Rattle.std.proofs.Math.Seq.{take-append-add}
 use Rattle.httparse.specs.Grammar.{print_response, ReadsResponse}
@@ -20,11 +21,12 @@ take_past n xs ys h =
     ap (λ m. take m (xs ++ ys)) e ∙ take-append-add xs ys (n - length xs)
 
 pub front_decides : FrontDecides
-front_decides bytes fields block None h = λ head payload b. h head (take (bytes - length (print_response head)) payload) (record {
-  reads = (b.reads.0, ap (take bytes) b.reads.1 ∙ take_past bytes (print_response head) payload b.short);
-  short = b.short;
-  few = b.few;
-})
+front_decides bytes fields block None h = λ head payload b. h head (take (bytes - length (print_response head)) payload)
+    (record {
+      reads = (b.reads.0, ap (take bytes) b.reads.1 ∙ take_past bytes (print_response head) payload b.short);
+      short = b.short;
+      few = b.few;
+    })
 front_decides bytes fields block (Some x) h = record {
   reads = subst (λ text. ReadsResponse text x.0 (x.1 ++ drop bytes block)) (take-append-drop bytes block)
       (ReadsResponse-append (take bytes block) x.0 x.1 (drop bytes block) h.reads);
@@ -35,4 +37,5 @@ front_decides bytes fields block (Some x) h = record {
 -- no head stands in no bytes
 pub no_head_in_nothing : (bytes fields : ℕ) (block : List ℕ) → length block ≡ 0 → HasNoHead bytes fields block
 unfolding print_response
-no_head_in_nothing bytes fields block none = λ head payload begins. let text = ap length begins.reads.1 in absurd (omega (arith, none, text, length-append {A = ℕ}))
+no_head_in_nothing bytes fields block none = λ head payload begins. let text = ap length begins.reads.1 in absurd
+    (omega (arith, none, text, length-append {A = ℕ}))

@@ -1,5 +1,7 @@
 -- The front of a block, read in steps.
-use Rattle.std.proofs.Common.{◌≡◌, ℕ, ◌+◌, ◌-◌, ◌≤◌, ◌∙◌, ◌⊎◌, inl, inr, List, [], ◌∷◌, ◌++◌, Bool, true, false, cond, Option, None, Some, Result, IfSome, length, take, drop, min, nat_le, option_map, is_some, refl, sym, ap, subst, arith, append-nil, append_assoc, if◌then◌else◌}
+use Rattle.std.proofs.Common.{◌≡◌, ℕ, ◌+◌, ◌-◌, ◌≤◌, ◌∙◌, ◌⊎◌, inl, inr, List, [], ◌∷◌, ◌++◌, Bool, true, false, cond}
+use Rattle.std.proofs.Common.{Option, None, Some, Result, IfSome, length, take, drop, min, nat_le, option_map, is_some}
+use Rattle.std.proofs.Common.{refl, sym, ap, subst, arith, append-nil, append_assoc, if◌then◌else◌}
 use Rattle.std.proofs.lemmas.Bool.Decides.{nat_tests}
 use Rattle.std.proofs.lemmas.List.{take_all}
 use Rattle.std.proofs.Math.Nat.{min-le_left, min-le_right, min-eq_left, min-eq_right}
@@ -41,7 +43,9 @@ module _ (count : ℕ) (front piece : List ℕ) where
 -- ---- the head
 
 -- a head that was found in the first bytes is that of the block
-found-first : (may : Bool) (limit few : ℕ) (front more : List ℕ) (f : ResponseHead × List ℕ) → cond may (IsHeadOf limit few front (Some f)) (Some f ≡ None) → cond may (IsHeadOf limit few (front ++ more) (then_more more (Some f))) (then_more more (Some f) ≡ None)
+found-first : (may : Bool) (limit few : ℕ) (front more : List ℕ) (f : ResponseHead × List ℕ)
+    → cond may (IsHeadOf limit few front (Some f)) (Some f ≡ None)
+    → cond may (IsHeadOf limit few (front ++ more) (then_more more (Some f))) (then_more more (Some f) ≡ None)
 found-first true limit few front more f h = record {
   reads = ReadsResponse-append front f.0 f.1 more h.reads;
   short = h.short;
@@ -50,13 +54,19 @@ found-first true limit few front more f h = record {
 found-first false limit few front more f h = ap (then_more more) h
 
 -- the HTTP head of a block is that of its front
-head-behind : (limit few : ℕ) (front more : List ℕ) (found : Option (ResponseHead × List ℕ)) → (length front ≡ limit) ⊎ (more ≡ []) → IsHeadOf limit few front found → IsHeadOf limit few (front ++ more) (then_more more found)
+head-behind : (limit few : ℕ) (front more : List ℕ) (found : Option (ResponseHead × List ℕ)) → (length front ≡ limit)
+    ⊎ (more ≡ []) → IsHeadOf limit few front found → IsHeadOf limit few (front ++ more) (then_more more found)
 head-behind limit few front more found (inl full) e =
-    let front_is : take limit (front ++ more) ≡ front = ap (λ n. take n (front ++ more)) (sym full) ∙ take-append_seam front more in
-    let more_is : drop limit (front ++ more) ≡ more = ap (λ n. drop n (front ++ more)) (sym full) ∙ drop-append_seam front more in
-    subst (λ m. IsHeadOf limit few (front ++ more) (then_more m found)) more_is (front_decides limit few (front ++ more) found (subst (λ f. IsHeadOf limit few f found) (sym front_is) e))
+    let front_is : take limit (front ++ more) ≡ front = ap (λ n. take n (front ++ more)) (sym full)
+    ∙ take-append_seam front more in
+    let more_is : drop limit (front ++ more) ≡ more = ap (λ n. drop n (front ++ more)) (sym full)
+    ∙ drop-append_seam front more in
+    subst (λ m. IsHeadOf limit few (front ++ more) (then_more m found)) more_is
+    (front_decides limit few (front ++ more) found (subst (λ f. IsHeadOf limit few f found) (sym front_is) e))
 head-behind limit few front more found (inr none) e =
-    subst (λ m. IsHeadOf limit few (front ++ m) (then_more m found)) (sym none) (subst (λ f. IsHeadOf limit few f (then_more [] found)) (sym (append-nil front)) (subst (IsHeadOf limit few front) (sym (no_more found)) e))
+    subst (λ m. IsHeadOf limit few (front ++ m) (then_more m found)) (sym none)
+    (subst (λ f. IsHeadOf limit few f (then_more [] found)) (sym (append-nil front))
+    (subst (IsHeadOf limit few front) (sym (no_more found)) e))
   where
     no_more : (f : Option (ResponseHead × List ℕ)) → then_more [] f ≡ f
     no_more None = refl
@@ -73,33 +83,49 @@ front-or-all len limit n more e h = elim (le-or limit len (nat_le limit len) ref
 ]
 
 -- found in the front, found in the block
-found-front : (may : Bool) (limit few len : ℕ) (front more : List ℕ) (found : Option (ResponseHead × List ℕ)) → length front ≡ min len (if may then limit else 0) → length front + length more ≤ len → cond may (IsHeadOf limit few front found) (found ≡ None) → cond may (IsHeadOf limit few (front ++ more) (then_more more found)) (then_more more found ≡ None)
-found-front true limit few len front more found l h f = head-behind limit few front more found (front-or-all len limit (length front) more l h) f
+found-front : (may : Bool) (limit few len : ℕ) (front more : List ℕ) (found : Option (ResponseHead × List ℕ))
+    → length front ≡ min len (if may then limit else 0) → length front + length more ≤ len
+    → cond may (IsHeadOf limit few front found) (found ≡ None)
+    → cond may (IsHeadOf limit few (front ++ more) (then_more more found)) (then_more more found ≡ None)
+found-front true limit few len front more found l h f = head-behind limit few front more found
+    (front-or-all len limit (length front) more l h) f
 found-front false limit few len front more found l h f = ap (then_more more) f
 
-head-where : (may : Bool) (limit few len : ℕ) (front : List ℕ) (found : Option (ResponseHead × List ℕ)) → length front ≤ min len (if may then limit else 0) → IsHeadOf limit few front found → cond may (IsHeadOf limit few front found) (found ≡ None)
+head-where : (may : Bool) (limit few len : ℕ) (front : List ℕ) (found : Option (ResponseHead × List ℕ))
+    → length front ≤ min len (if may then limit else 0) → IsHeadOf limit few front found
+    → cond may (IsHeadOf limit few front found) (found ≡ None)
 head-where true limit few len front found l e = e
 head-where false limit few len front None l e = refl
 head-where false limit few len [] (Some f) l e = absurd (no_head_in_nothing limit few [] refl f.0 f.1 e)
 head-where false limit few len (x ∷ front) (Some f) l e = absurd (let m = min-le_right len 0 in omega (arith, l, m))
 
 -- the head in a front of a block is that of the record
-pub head-for : (limit few : ℕ) (h : HeadView) (front : List ℕ) (found : Option (ResponseHead × List ℕ)) → length front ≤ front_length limit h → IsHeadOf limit few front found → IsHeadFor limit few h front found
+pub head-for : (limit few : ℕ) (h : HeadView) (front : List ℕ) (found : Option (ResponseHead × List ℕ))
+    → length front ≤ front_length limit h → IsHeadOf limit few front found → IsHeadFor limit few h front found
 head-for limit few h front found l e = head-where (may_have_head h) limit few h.parts.length front found l e
 
-module _ (limits : Limits) (h : HeadView) (front payload : List ℕ) (response : Option ResponseValue) (found : Option (ResponseHead × List ℕ)) where
+module _ (limits : Limits) (h : HeadView) (front payload : List ℕ) (response : Option ResponseValue)
+    (found : Option (ResponseHead × List ℕ)) where
   -- the whole front parts the block
-  pub parts-front : length front ≡ front_length limits.head h → IsHeadFor limits.head limits.fields h front found → response ≡ option_map (λ f. response_of f.0) found → payload ≡ payload_of front found → PartsBlock limits h front response payload
+  pub parts-front : length front ≡ front_length limits.head h → IsHeadFor limits.head limits.fields h front found
+      → response ≡ option_map (λ f. response_of f.0) found → payload ≡ payload_of front found
+      → PartsBlock limits h front response payload
   parts-front l f r p = record {
     found = found;
-    within = subst (λ n. n ≤ h.parts.length) (sym l) (min-le_left h.parts.length (if may_have_head h then limits.head else 0));
-    decides = λ more few. found-front (may_have_head h) limits.head limits.fields h.parts.length front more found l few f;
+    within = subst (λ n. n ≤ h.parts.length) (sym l)
+        (min-le_left h.parts.length (if may_have_head h then limits.head else 0));
+    decides = λ more few. found-front (may_have_head h) limits.head limits.fields h.parts.length front more found l few
+        f;
     response_is = r;
     payload_is = p;
   }
 
 -- first bytes with a head in them part the block
-pub parts-first : {X : Type 0} (view : X → ResponseValue) (limits : Limits) (h : HeadView) (front payload : List ℕ) (response : Option X) (found : Option (ResponseHead × List ℕ)) → length front ≤ front_length limits.head h → IsHeadFor limits.head limits.fields h front found → option_map view response ≡ option_map (λ f. response_of f.0) found → payload ≡ payload_of front found → is_some response ≡ true → PartsBlock limits h front (option_map view response) payload
+pub parts-first : {X : Type 0} (view : X → ResponseValue) (limits : Limits) (h : HeadView) (front payload : List ℕ)
+    (response : Option X) (found : Option (ResponseHead × List ℕ)) → length front ≤ front_length limits.head h
+    → IsHeadFor limits.head limits.fields h front found → option_map view response
+    ≡ option_map (λ f. response_of f.0) found → payload ≡ payload_of front found → is_some response ≡ true
+    → PartsBlock limits h front (option_map view response) payload
 parts-first view limits h front payload None found l f r p s = absurd (cc)
 parts-first view limits h front payload (Some x) None l f r p s = absurd (cc)
 parts-first view limits h front payload (Some x) (Some found) l f r p s = record {
@@ -110,16 +136,25 @@ parts-first view limits h front payload (Some x) (Some found) l f r p s = record
   payload_is = p;
 }
 
-pub front-within : (limit : ℕ) (h : HeadView) (front : List ℕ) → length front ≤ front_length limit h → length front ≤ h.parts.length
-front-within limit h front l = let m = min-le_left h.parts.length (if may_have_head h then limit else 0) in omega (arith, l, m)
+pub front-within : (limit : ℕ) (h : HeadView) (front : List ℕ) → length front ≤ front_length limit h
+    → length front ≤ h.parts.length
+front-within limit h front l = let m = min-le_left h.parts.length (if may_have_head h then limit else 0) in omega
+    (arith, l, m)
 
 -- ---- the rest
 
-pub goes-on-to : (n m : ℕ) (front : List ℕ) (before after : Option (List ℕ)) → length front ≤ n → n - length front ≡ m → Consumes before after front → GoesOn (after_record n) (after_record m) before after
-goes-on-to n m front before after h e c = subst (λ k. GoesOn (after_record n) (after_record k) before after) e (behind-front n front before after h c)
+pub goes-on-to : (n m : ℕ) (front : List ℕ) (before after : Option (List ℕ)) → length front ≤ n → n - length front ≡ m
+    → Consumes before after front → GoesOn (after_record n) (after_record m) before after
+goes-on-to n m front before after h e c = subst (λ k. GoesOn (after_record n) (after_record k) before after) e
+    (behind-front n front before after h c)
 
 -- what is known of the bytes behind the front is known behind its first bytes
-pub capture-behind-first : (url : Option (List ℕ)) (limits : Limits) (h : HeadView) (name first piece front : List ℕ) (before mid : Option (List ℕ)) (r : Result (Option EntryValue) CaptureFault) → front ≡ first ++ piece → Consumes before mid piece → IfSome mid (λ bytes. IsCaptureOf url limits h name (front ++ bytes) r) → IfSome before (λ bytes. IsCaptureOf url limits h name (first ++ bytes) r)
+pub capture-behind-first : (url : Option (List ℕ)) (limits : Limits) (h : HeadView) (name first piece front : List ℕ)
+    (before mid : Option (List ℕ)) (r : Result (Option EntryValue) CaptureFault) → front ≡ first ++ piece
+    → Consumes before mid piece → IfSome mid (λ bytes. IsCaptureOf url limits h name (front ++ bytes) r)
+    → IfSome before (λ bytes. IsCaptureOf url limits h name (first ++ bytes) r)
 capture-behind-first url limits h name first piece front None mid r e c t = tt
 capture-behind-first url limits h name first piece front (Some z) None r e c t = absurd c
-capture-behind-first url limits h name first piece front (Some z) (Some w) r e c t = subst (λ b. IsCaptureOf url limits h name b r) (ap (λ f. f ++ w) e ∙ (append_assoc first piece w ∙ ap (λ b. first ++ b) (sym c))) t
+capture-behind-first url limits h name first piece front (Some z) (Some w) r e c t = subst
+    (λ b. IsCaptureOf url limits h name b r) (ap (λ f. f ++ w) e
+    ∙ (append_assoc first piece w ∙ ap (λ b. first ++ b) (sym c))) t

@@ -1,5 +1,6 @@
 -- What WARC-Block-Digest (ISO 28500:2017, 5.8) says of a block, where it names SHA-1.
-use Rattle.std.specs.Prelude.{ℕ, ◌+◌, ◌==◌, ◌&&◌, ◌||◌, nat_le, Bool, List, length, take, drop, codes, Option, None, Some, Result, Ok, if◌then◌else◌}
+use Rattle.std.specs.Prelude.{ℕ, ◌+◌, ◌==◌, ◌&&◌, ◌||◌, nat_le, Bool, List, length, take, drop, codes, Option, None}
+use Rattle.std.specs.Prelude.{Some, Result, Ok, if◌then◌else◌}
 use Rattle.std.specs.List.{list_all}
 use Rattle.std.specs.Str.{str_eq_ignore_ascii_case}
 use Rattle.sha1.specs.Sha1.{sha1}
@@ -27,7 +28,8 @@ lower letter = letter + 32
 
 -- a byte of the alphabet of RFC 4648, section 6, in any case
 abbrev pub is_base32_letter : ℕ → Bool
-is_base32_letter b = (nat_le letter_a b && nat_le b letter_z) || (nat_le (lower letter_a) b && nat_le b (lower letter_z)) || (nat_le digit_2 b && nat_le b digit_7)
+is_base32_letter b = (nat_le letter_a b && nat_le b letter_z) ||
+    (nat_le (lower letter_a) b && nat_le b (lower letter_z)) || (nat_le digit_2 b && nat_le b digit_7)
 
 -- 32 letters: twenty bytes
 abbrev pub is_base32_text : List ℕ → Bool
@@ -41,7 +43,8 @@ sha1_text value =
 
 -- a digest's text against a digest
 abbrev pub digest_verdict : List ℕ → List ℕ → Verdict
-digest_verdict text digest = if str_eq_ignore_ascii_case text (base32_of digest) then verdicts.Same else verdicts.Differs
+digest_verdict text digest = if str_eq_ignore_ascii_case text (base32_of digest) then verdicts.Same else
+    verdicts.Differs
 
 -- the verdict on a block, by the digest's text in the value, if there is one
 abbrev pub judged : Option (List ℕ) → List ℕ → Verdict

@@ -1,5 +1,6 @@
 -- The capture of a record: the entry that an index has of it.
-use Rattle.std.specs.Prelude.{◌≡◌, ℕ, ◌+◌, ◌/◌, ◌%◌, [], ◌∷◌, Bool, cond, List, Option, Some, None, option_map, unwrap_or, codes}
+use Rattle.std.specs.Prelude.{◌≡◌, ℕ, ◌+◌, ◌/◌, ◌%◌, [], ◌∷◌, Bool, cond, List, Option, Some, None, option_map}
+use Rattle.std.specs.Prelude.{unwrap_or, codes}
 use Rattle.httparse.specs.Grammar.{ResponseHead, status_code}
 use Rattle.sha1.specs.Sha1.{sha1}
 use Rattle.warc_head.specs.Bytes.{digit_0}
@@ -91,7 +92,8 @@ abbrev pub IsCaptureUnder : Option (List ℕ) → ℕ → ℕ → HeadView → L
 IsCaptureUnder None limit few h block name captured = captured ≡ None
 IsCaptureUnder (Some url) limit few h block name captured =
     (found : Option (ResponseHead × List ℕ)) × IsHeadFor limit few h block found
-    × (captured ≡ Some (entry_of h name (option_map (λ f. response_of f.0) found) (digest_of h (payload_of block found)) url))
+    × (captured ≡ Some (entry_of h name (option_map (λ f. response_of f.0) found) (digest_of h (payload_of block found))
+    url))
 
 -- captured is the capture of the record with this head and block, under a file name
 abbrev pub IsCapture : (Kind → Bool) → ℕ → ℕ → HeadView → List ℕ → List ℕ → Option EntryValue → Type 0

@@ -1,5 +1,6 @@
 -- What a capture answers.
-use Rattle.std.specs.Prelude.{◌≡◌, ℕ, ◌+◌, ◌<◌, ◌≤◌, ⊤, List, ◌++◌, length, take, Option, Some, Result, Ok, Err, IfSome, IsSome, option_map}
+use Rattle.std.specs.Prelude.{◌≡◌, ℕ, ◌+◌, ◌<◌, ◌≤◌, ⊤, List, ◌++◌, length, take, Option, Some, Result, Ok, Err, IfSome}
+use Rattle.std.specs.Prelude.{IsSome, option_map}
 use Rattle.httparse.specs.Grammar.{ResponseHead}
 use Rattle.warc_core.specs.HeadView.{HeadView, record_length}
 use Rattle.cdxj_core.specs.Entries.{EntryValue, IsGood, line_text}
@@ -18,18 +19,24 @@ pub record Limits : Type 0 where
 
 -- The answer is the capture, under this URL, of the record that begins the bytes, within the limit of a line, or says that its
 -- line is too long. That a key is too long is said only of a record that is indexed.
-abbrev pub IsCaptureOf : Option (List ℕ) → Limits → HeadView → List ℕ → List ℕ → Result (Option EntryValue) CaptureFault → Type 0
-IsCaptureOf url limits h name bytes (Ok captured) = IsCaptureUnder url limits.head limits.fields h (take h.parts.length bytes) name captured
+abbrev pub IsCaptureOf : Option (List ℕ) → Limits → HeadView → List ℕ → List ℕ → Result (Option EntryValue) CaptureFault
+    → Type 0
+IsCaptureOf url limits h name bytes (Ok captured) = IsCaptureUnder url limits.head limits.fields h
+    (take h.parts.length bytes) name captured
 IsCaptureOf url limits h name bytes (Err (LineTooLong o)) =
-    (entry : EntryValue) × IsCaptureUnder url limits.head limits.fields h (take h.parts.length bytes) name (Some entry) × (limits.line < length (line_text entry))
+    (entry : EntryValue) × IsCaptureUnder url limits.head limits.fields h (take h.parts.length bytes) name (Some entry)
+    × (limits.line < length (line_text entry))
 IsCaptureOf url limits h name bytes (Err (KeyTooLong o)) = IsSome url
 IsCaptureOf url limits h name bytes (Err other) = ⊤
 
 -- the same, where these bytes come after the front of the block
-abbrev pub CapturesBehind : Option (List ℕ) → Limits → HeadView → List ℕ → List ℕ → Option (List ℕ) → Result (Option EntryValue) CaptureFault → Type 0
-CapturesBehind url limits h name front before r = IfSome before (λ bytes. IsCaptureOf url limits h name (front ++ bytes) r)
+abbrev pub CapturesBehind : Option (List ℕ) → Limits → HeadView → List ℕ → List ℕ → Option (List ℕ)
+    → Result (Option EntryValue) CaptureFault → Type 0
+CapturesBehind url limits h name front before r = IfSome before
+    (λ bytes. IsCaptureOf url limits h name (front ++ bytes) r)
 
-abbrev pub Captures : Option (List ℕ) → Limits → HeadView → List ℕ → Option (List ℕ) → Result (Option EntryValue) CaptureFault → Type 0
+abbrev pub Captures : Option (List ℕ) → Limits → HeadView → List ℕ → Option (List ℕ)
+    → Result (Option EntryValue) CaptureFault → Type 0
 Captures url limits h name before r = IfSome before (λ bytes. IsCaptureOf url limits h name bytes r)
 
 abbrev pub usual_limits : Limits
@@ -37,10 +44,12 @@ usual_limits = record { head = HTTP_HEAD_LIMIT; fields = HTTP_FIELD_LIMIT; line 
 
 -- These first bytes of a record's block are split as the whole block is: the head that was found in them is that of every
 -- block that begins with them and is no longer than the record's.
-pub record PartsBlock (limits : Limits) (h : HeadView) (front : List ℕ) (response : Option ResponseValue) (payload : List ℕ) : Type 0 where
+pub record PartsBlock (limits : Limits) (h : HeadView) (front : List ℕ) (response : Option ResponseValue)
+    (payload : List ℕ) : Type 0 where
   pub found : Option (ResponseHead × List ℕ)
   pub within : length front ≤ h.parts.length
-  pub decides : (more : List ℕ) → length front + length more ≤ h.parts.length → IsHeadFor limits.head limits.fields h (front ++ more) (then_more more found)
+  pub decides : (more : List ℕ) → length front + length more ≤ h.parts.length
+      → IsHeadFor limits.head limits.fields h (front ++ more) (then_more more found)
   pub response_is : response ≡ option_map (λ f. response_of f.0) found
   pub payload_is : payload ≡ payload_of front found
 

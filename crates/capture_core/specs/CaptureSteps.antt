@@ -18,14 +18,17 @@ pub record IsReadTo (indexed : Indexed) (front : List ℕ) (reader : ReaderView)
   pub named : 0 < length indexed.name.now
   pub target : 0 < length indexed.url.now
   pub within : length front ≤ front_length HTTP_HEAD_LIMIT indexed.head.now
-  pub stands : StandsAt reader indexed.head.now.start (Open (indexed.head.now.parts.length - length front) (record_length indexed.head.now))
+  pub stands : StandsAt reader indexed.head.now.start
+      (Open (indexed.head.now.parts.length - length front) (record_length indexed.head.now))
 
 -- A call filled the front behind its first bytes with the next bytes of an open record's block, or failed by what it met.
 abbrev pub FillsBehind : List ℕ → ℕ → ℕ → ReaderState → ReaderState → Result (Unit {0}) Fault → List ℕ → Type 0
-FillsBehind first left len old new r front = (piece : List ℕ) × (front ≡ first ++ piece) × Fills left len old new r piece
+FillsBehind first left len old new r front = (piece : List ℕ) × (front ≡ first ++ piece)
+    × Fills left len old new r piece
 
 -- A call read the rest of an indexed record, of whose block this much of the front was read, and answered its capture.
-pub record CapturesRest (indexed : Indexed) (front : List ℕ) (old new : ReaderState) (r : Result (Option EntryValue) CaptureFault) : Type 0 where
+pub record CapturesRest (indexed : Indexed) (front : List ℕ) (old new : ReaderState)
+    (r : Result (Option EntryValue) CaptureFault) : Type 0 where
   pub reads : ReadsRest (indexed.head.now.parts.length - length front) indexed.head.now old new r
   pub capture : CapturesBehind (Some indexed.url.now) usual_limits indexed.head.now indexed.name.now front (ahead old) r
   pub entry : IfOk r (λ captured. IfSome captured (IsEntryOf indexed.head.now indexed.name.now LINE_LIMIT))

@@ -1,5 +1,6 @@
 -- What of a field's value goes into an entry.
-use Rattle.std.specs.Prelude.{ℕ, ◌-◌, ◌==◌, ◌&&◌, nat_le, List, [], ◌∷◌, take, drop, length, position, Option, Some, None, unwrap_or, slice_index, codes, if◌then◌else◌}
+use Rattle.std.specs.Prelude.{ℕ, ◌-◌, ◌==◌, ◌&&◌, nat_le, List, [], ◌∷◌, take, drop, length, position, Option, Some}
+use Rattle.std.specs.Prelude.{None, unwrap_or, slice_index, codes, if◌then◌else◌}
 use Rattle.warc_head.specs.Lines.{trim}
 use Rattle.warc_head.specs.Names.{same_name}
 
@@ -21,7 +22,8 @@ non_empty (b ∷ bytes) = Some (b ∷ bytes)
 -- the value without one enclosing pair of `<` and `>`
 unfoldable pub without_brackets : List ℕ → List ℕ
 without_brackets value =
-    if nat_le 2 (length value) && (slice_index value 0 == less_than) && (slice_index value (length value - 1) == greater_than)
+    if nat_le 2 (length value) && (slice_index value 0 == less_than) &&
+    (slice_index value (length value - 1) == greater_than)
     then take (length value - 2) (drop 1 value) else value
 
 -- the bytes before the first `;`

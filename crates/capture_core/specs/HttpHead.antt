@@ -1,5 +1,6 @@
 -- The HTTP head at the front of a block: a response head (RFC 9112, section 2.1), within a limit of bytes and of fields.
-use Rattle.std.specs.Prelude.{◌≡◌, ℕ, ◌≤◌, List, [], ◌∷◌, ◌++◌, length, take, drop, map, Option, Some, None, option_map, if◌then◌else◌}
+use Rattle.std.specs.Prelude.{◌≡◌, ℕ, ◌≤◌, List, [], ◌∷◌, ◌++◌, length, take, drop, map, Option, Some, None, option_map}
+use Rattle.std.specs.Prelude.{if◌then◌else◌}
 use Rattle.std.specs.Str.{str_eq_ignore_ascii_case}
 use Rattle.httparse.specs.Grammar.{ResponseHead, print_response, ReadsResponse}
 use Rattle.httparse.specs.Spans.{name_and_value}
@@ -34,8 +35,10 @@ then_more more found = option_map (λ f. (f.0, f.1 ++ more)) found
 
 -- a block has one head and one payload, or no head
 abbrev pub OneHead : Type 0
-OneHead = (bytes fields : ℕ) (block : List ℕ) (found other : Option (ResponseHead × List ℕ)) → IsHeadOf bytes fields block found → IsHeadOf bytes fields block other → found ≡ other
+OneHead = (bytes fields : ℕ) (block : List ℕ) (found other : Option (ResponseHead × List ℕ))
+    → IsHeadOf bytes fields block found → IsHeadOf bytes fields block other → found ≡ other
 
 -- as many first bytes of a block as a head may have decide what its head is
 abbrev pub FrontDecides : Type 0
-FrontDecides = (bytes fields : ℕ) (block : List ℕ) (found : Option (ResponseHead × List ℕ)) → IsHeadOf bytes fields (take bytes block) found → IsHeadOf bytes fields block (then_more (drop bytes block) found)
+FrontDecides = (bytes fields : ℕ) (block : List ℕ) (found : Option (ResponseHead × List ℕ))
+    → IsHeadOf bytes fields (take bytes block) found → IsHeadOf bytes fields block (then_more (drop bytes block) found)

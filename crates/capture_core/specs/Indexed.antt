@@ -1,5 +1,6 @@
 -- Which records are indexed, and what their heads say of it (ISO 28500:2017, clauses 5 and 6).
-use Rattle.std.specs.Prelude.{ℕ, ◌&&◌, Bool, true, false, List, codes, Option, Some, None, option_and_then, if◌then◌else◌}
+use Rattle.std.specs.Prelude.{ℕ, ◌&&◌, Bool, true, false, List, codes, Option, Some, None, option_and_then}
+use Rattle.std.specs.Prelude.{if◌then◌else◌}
 use Rattle.warc_core.specs.Kind.{Kind}
 use Rattle.warc_core.specs.Kind.kinds
 use Rattle.warc_core.specs.Fields.{value_of}

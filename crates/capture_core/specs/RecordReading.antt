@@ -37,12 +37,13 @@ Leaves h new (Ok x) = StandsAt new (h.start + record_length h) Between
 Leaves h new (Err c) = StandsAt new h.start (Failed c)
 
 -- A call read the record to its end, of whose block so many bytes were left, or failed by what it met.
-pub record ReadsRest {A : Type 0} (left : ℕ) (h : HeadView) (old new : ReaderState) (r : Result A CaptureFault) : Type 0 where
-  pub bytes : Reads (after_record left) (reading_of r) (ahead old) (ahead new)
-  pub state : Leaves h new.reader (reading_of r)
-  pub fault : IfErr r (IsFaultAt h.start)
-  pub cause : IfErr (reading_of r) StopsRecord
-  pub failures : CountsRead (reading_of r) old.failures new.failures
+pub record ReadsRest {A : Type 0} (left : ℕ) (h : HeadView) (old new : ReaderState) (r : Result A CaptureFault) : Type 0
+  where
+    pub bytes : Reads (after_record left) (reading_of r) (ahead old) (ahead new)
+    pub state : Leaves h new.reader (reading_of r)
+    pub fault : IfErr r (IsFaultAt h.start)
+    pub cause : IfErr (reading_of r) StopsRecord
+    pub failures : CountsRead (reading_of r) old.failures new.failures
 
 -- A call read the record to its end, or failed by what it met.
 abbrev pub ReadsWhole : {A : Type 0} → HeadView → ReaderState → ReaderState → Result A CaptureFault → Type 0

@@ -22,7 +22,17 @@ entry_of l = record {
 -- the same, or an entry of nothing where there are no values
 abbrev pub entry_or_nothing : Option LineValue → EntryValue
 entry_or_nothing (Some l) = entry_of l
-entry_or_nothing None = record { key = []; stamp = []; url = []; mime = []; status = []; digest = []; length = 0; offset = 0; filename = [] }
+entry_or_nothing None = record {
+  key = [];
+  stamp = [];
+  url = [];
+  mime = [];
+  status = [];
+  digest = [];
+  length = 0;
+  offset = 0;
+  filename = [];
+}
 
 -- the entry that a line spells
 unfoldable pub entry_in : List ℕ → EntryValue
@@ -37,7 +47,8 @@ pub record IsLineOf (e : EntryValue) (line : List ℕ) (key_length : ℕ) (filen
   pub offset_is : offset ≡ e.offset
 
 -- bytes that begin with the line of an entry, and have its file name at this place
-pub record Holds (e : EntryValue) (bytes : List ℕ) (line_length key_length name_start name_length offset : ℕ) : Type 0 where
-  pub line : IsLineOf e (take line_length bytes) key_length (take name_length (drop name_start bytes)) offset
-  pub line_within : line_length ≤ length bytes
-  pub name_within : name_start + name_length ≤ length bytes
+pub record Holds (e : EntryValue) (bytes : List ℕ) (line_length key_length name_start name_length offset : ℕ) : Type 0
+  where
+    pub line : IsLineOf e (take line_length bytes) key_length (take name_length (drop name_start bytes)) offset
+    pub line_within : line_length ≤ length bytes
+    pub name_within : name_start + name_length ≤ length bytes

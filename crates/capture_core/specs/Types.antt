@@ -1,5 +1,6 @@
 -- Sets of record types (ISO 28500:2017, clause 6), and their texts.
-use Rattle.std.specs.Prelude.{◌≡◌, ℕ, ◌==◌, Bool, true, false, List, [], ◌∷◌, Option, None, Some, option_and_then, if◌then◌else◌, find, bytes_eq}
+use Rattle.std.specs.Prelude.{◌≡◌, ℕ, ◌==◌, Bool, true, false, List, [], ◌∷◌, Option, None, Some, option_and_then}
+use Rattle.std.specs.Prelude.{if◌then◌else◌, find, bytes_eq}
 use Rattle.std.specs.List.{slice_split}
 use Rattle.warc_core.specs.Kind.{Kind, kind_name}
 use Rattle.warc_core.specs.Kind.kinds

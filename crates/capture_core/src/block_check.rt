@@ -23,7 +23,9 @@ pub fn block_digest<I: Input>(
     head: &Head,
 ) -> Result<Verdict, Fault>
     requires { IsUnread reader.old head.now }
-    ensures { ReadsTo (judge_record (verdict_of (value_of (codes "WARC-Block-Digest") head.now.parts.fields)) head.now.parts.length) (head.now.start + record_length head.now) Between
+    ensures { ReadsTo (judge_record
+        (verdict_of (value_of (codes "WARC-Block-Digest") head.now.parts.fields))
+        head.now.parts.length) (head.now.start + record_length head.now) Between
         (state_of reader.old (I.remaining input.old) (I.failures input.old))
         (state_of reader.new (I.remaining input.new) (I.failures input.new)) result }
 {

@@ -59,7 +59,8 @@ pub(crate) fn entry_line(
     requires named { 0 < length indexed.name.now }
     requires digested { 0 < length digest.now }
     requires targeted { 0 < length indexed.url.now }
-    ensures value { IfOk result (λ held. held ≡ entry_of indexed.entry.head.now indexed.entry.name.now
+    ensures value { IfOk result
+        (λ held. held ≡ entry_of indexed.entry.head.now indexed.entry.name.now
         (option_map response_view response.entry) digest.now indexed.entry.url.now) }
     ensures line { IfOk result (HasLine LINE_LIMIT) }
     ensures long { result ≡ Err Refusal.LineTooLong → LINE_LIMIT < length (line_text (entry_of

@@ -47,7 +47,8 @@ impl HeldLine {
         requires { IsGood (entry_view entry) }
         ensures value { IfOk result (λ held. held ≡ entry_view entry.entry) }
         ensures line { IfOk result (HasLine LINE_LIMIT) }
-        ensures long { result ≡ Err LineFault.LineTooLong → LINE_LIMIT < length (line_text (entry_view entry.entry)) }
+        ensures long { result ≡ Err LineFault.LineTooLong
+            → LINE_LIMIT < length (line_text (entry_view entry.entry)) }
     {
         let mut bytes = write_entry(alloc, entry)?;
         let line_length = bytes.len();
@@ -155,10 +156,12 @@ fn plain_start(line: &[u8], name: &[u8]) -> Option<usize>
 
 /// Returns where the file name stands. One that has escapes in the line is appended to it.
 fn name_start(bytes: &mut Vec<u8>, name: &[u8]) -> Result<usize, AllocError>
-    ensures line { IfOk result (λ _. take (length bytes.old.items) bytes.new.items ≡ bytes.old.items) }
+    ensures line { IfOk result (λ _. take (length bytes.old.items) bytes.new.items
+        ≡ bytes.old.items) }
     ensures longer { IfOk result (λ _. length bytes.old.items ≤ length bytes.new.items) }
     ensures within { IfOk result (λ start. start + length name.now ≤ length bytes.new.items) }
-    ensures name { IfOk result (λ start. take (length name.now) (drop start bytes.new.items) ≡ name.now) }
+    ensures name { IfOk result (λ start. take (length name.now) (drop start bytes.new.items)
+        ≡ name.now) }
 {
     match plain_start(bytes, name) {
         Some(start) => Ok(start),

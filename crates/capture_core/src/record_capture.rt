@@ -218,7 +218,8 @@ fn refuse<I: Input>(
     indexed: Indexed<'_>,
 ) -> Result<Option<HeldLine>, CaptureFault>
     requires { HasLeft 0 reader.old.phase }
-    ensures { (first : List ℕ) → IsReadTo indexed.entry first reader.old → CapturesRest indexed.entry first
+    ensures { (first : List ℕ) → IsReadTo indexed.entry first reader.old
+        → CapturesRest indexed.entry first
         (state_of reader.old (I.remaining input.old) (I.failures input.old))
         (state_of reader.new (I.remaining input.new) (I.failures input.new)) result }
 {

@@ -1,5 +1,6 @@
 -- What clap answers to the words of a command line.
-use Rattle.std.proofs.Common.{arith, refl, ◌≡◌, ◌<◌, ◌^◌, ◌&&◌, ◌⊎◌, List, [], ◌∷◌, Option, Some, None, Bool, true, false, codes, length, ap, ap₂, ◌∙◌, sym, inl, inr, find, Err}
+use Rattle.std.proofs.Common.{arith, refl, ◌≡◌, ◌<◌, ◌^◌, ◌&&◌, ◌⊎◌, List, [], ◌∷◌, Option, Some, None, Bool, true}
+use Rattle.std.proofs.Common.{false, codes, length, ap, ap₂, ◌∙◌, sym, inl, inr, find, Err}
 use Rattle.std.specs.List.{list_any, list_all}
 use Rattle.std.specs.Option.{IfSome, ok_or}
 use Rattle.clap.specs.Words.{Row, subcommand_of, fault_of, IsAmong}
@@ -8,13 +9,16 @@ use Rattle.clap.specs.Faults.{walk_fault, defaults_fault}
 use Rattle.clap.specs.declared.error.kind.ErrorKind.{ErrorKind}
 use Rattle.clap.specs.declared.error.kind.ErrorKind.TheVariants as kind
 use Rattle.command_line.specs.Words.{Text, asks_for_help, is_unknown_option}
-use Rattle.command_line.specs.Commands.{Meaning, ToIndex, ToScan, Form, Typed, TypedSizes, Refusal, Help, Usage, asked, help_or_usage, task_of, operands_task, command_of, commands, takes_types, is_typed_command, chooses_types, other_words}
+use Rattle.command_line.specs.Commands.{Meaning, ToIndex, ToScan, Form, Typed, TypedSizes, Refusal, Help, Usage, asked}
+use Rattle.command_line.specs.Commands.{help_or_usage, task_of, operands_task, command_of, commands, takes_types}
+use Rattle.command_line.specs.Commands.{is_typed_command, chooses_types, other_words}
 use Rattle.command_line.specs.Clap.{warcdx, matches_task, refusal_for}
 use Rattle.command_line.proofs.PlainWords.{IsPlain, AllPlain, plain_word}
 use Rattle.command_line.proofs.OtherWords.{choice, typed_command, types_option}
 use Rattle.command_line.proofs.OperandWalk.{fits, is_usage, are_usage}
 use Rattle.command_line.proofs.Operands.{rows_of, values, reads, unfit_task, level_fits, level_unfit, level_help}
-use Rattle.command_line.proofs.TypedOperands.{typed_rows, typed_values, typed_reads, typed_unfit_task, typed_fits, typed_unfit, without_text}
+use Rattle.command_line.proofs.TypedOperands.{typed_rows, typed_values, typed_reads, typed_unfit_task, typed_fits}
+use Rattle.command_line.proofs.TypedOperands.{typed_unfit, without_text}
 use Rattle.command_line.proofs.CommandName.{is_named, same_name, given, below, unknown, top_help}
 
 -- ---- words without options
@@ -30,14 +34,18 @@ no_words : Tells []
 unfolding walk_fault defaults_fault
 no_words = inl (refl, refl)
 
-told_as : (a b : Option Meaning) (kinds : Kinds) (met : Option (Text × List Row)) → a ≡ b → Told b kinds met → Told a kinds met
+told_as : (a b : Option Meaning) (kinds : Kinds) (met : Option (Text × List Row)) → a ≡ b → Told b kinds met
+    → Told a kinds met
 told_as a b kinds met e t = rw e t
 
-operands_told : (word : Text) (form : Form) (rest : List Text) → find (is_named word) commands ≡ Some (word, form) → AllPlain rest → length rest < 2 ^ 64
-    → (b : Bool) → fits form rest ≡ b → Told (operands_task form rest) (fault_of warcdx (word ∷ rest)) (subcommand_of warcdx (word ∷ rest))
+operands_told : (word : Text) (form : Form) (rest : List Text) → find (is_named word) commands ≡ Some (word, form)
+    → AllPlain rest → length rest < 2 ^ 64
+    → (b : Bool) → fits form rest ≡ b
+    → Told (operands_task form rest) (fault_of warcdx (word ∷ rest)) (subcommand_of warcdx (word ∷ rest))
 operands_told word form rest e p short true f = inl (
   below word form commands rest e ∙ level_fits word form rest f p short,
-  ap matches_task (given word form commands rest (rows_of form rest) e (values form rest f p)) ∙ rw e (reads form rest f p),
+  ap matches_task (given word form commands rest (rows_of form rest) e (values form rest f p))
+      ∙ rw e (reads form rest f p),
 )
 operands_told word form rest e p short false f = inr (
   ap are_usage (below word form commands rest e) ∙ level_unfit word form rest f p,
@@ -47,7 +55,8 @@ operands_told word form rest e p short false f = inr (
 first_told : (word : Text) (rest : List Text) → IsPlain word → AllPlain rest → length rest < 2 ^ 64
     → (o : Option (Text × Form)) → command_of word ≡ o → Tells (word ∷ rest)
 first_told word rest q p short None n = inr (unknown word commands rest n q, rw n refl)
-first_told word rest q p short (Some c) n = told_as (task_of (word ∷ rest)) (operands_task c.1 rest) (fault_of warcdx (word ∷ rest))
+first_told word rest q p short (Some c) n = told_as (task_of (word ∷ rest)) (operands_task c.1 rest)
+    (fault_of warcdx (word ∷ rest))
     (subcommand_of warcdx (word ∷ rest)) (rw n refl)
     (operands_told word c.1 rest (same_name word commands c n) p short (fits c.1 rest) refl)
 
@@ -55,12 +64,15 @@ first_told word rest q p short (Some c) n = told_as (task_of (word ∷ rest)) (o
 abbrev choosing : Text → List Text → List Text
 choosing text rest = codes "--types" ∷ text ∷ rest
 
-chosen_told : (word : Text) (form : Form) (text : Text) (rest : List Text) → find (is_named word) commands ≡ Some (word, form) → takes_types form ≡ true
+chosen_told : (word : Text) (form : Form) (text : Text) (rest : List Text) → find (is_named word) commands
+    ≡ Some (word, form) → takes_types form ≡ true
     → IsPlain text → AllPlain rest → length rest < 2 ^ 64 → (b : Bool) → fits form rest ≡ b
-    → Told (operands_task form (choosing text rest)) (fault_of warcdx (word ∷ choosing text rest)) (subcommand_of warcdx (word ∷ choosing text rest))
+    → Told (operands_task form (choosing text rest)) (fault_of warcdx (word ∷ choosing text rest))
+    (subcommand_of warcdx (word ∷ choosing text rest))
 chosen_told word form text rest e t q p short true f = inl (
   below word form commands (choosing text rest) e ∙ typed_fits word form (Some text) rest t f q p short,
-  ap matches_task (given word form commands (choosing text rest) (typed_rows form (Some text) rest) e (typed_values form (Some text) rest t f q p))
+  ap matches_task (given word form commands (choosing text rest) (typed_rows form (Some text) rest) e
+      (typed_values form (Some text) rest t f q p))
       ∙ rw e (typed_reads form (Some text) rest t f q p),
 )
 chosen_told word form text rest e t q p short false f = inr (
@@ -73,30 +85,38 @@ no_text_task (Typed make) t = refl
 no_text_task (TypedSizes make) t = refl
 no_text_task _ t = cc
 
-types_told : (word : Text) (form : Form) (rest : List Text) → find (is_named word) commands ≡ Some (word, form) → takes_types form ≡ true
+types_told : (word : Text) (form : Form) (rest : List Text) → find (is_named word) commands ≡ Some (word, form)
+    → takes_types form ≡ true
     → AllPlain rest → length rest < 2 ^ 64
-    → Told (operands_task form (codes "--types" ∷ rest)) (fault_of warcdx (word ∷ codes "--types" ∷ rest)) (subcommand_of warcdx (word ∷ codes "--types" ∷ rest))
+    → Told (operands_task form (codes "--types" ∷ rest)) (fault_of warcdx (word ∷ codes "--types" ∷ rest))
+    (subcommand_of warcdx (word ∷ codes "--types" ∷ rest))
 types_told word form [] e t p short = inr (
   ap are_usage (below word form commands (codes "--types" ∷ []) e) ∙ without_text word form t,
   no_text_task form t,
 )
-types_told word form (text ∷ rest) e t p short = chosen_told word form text rest e t p.0 p.1 (omega (arith, short)) (fits form rest) refl
+types_told word form (text ∷ rest) e t p short = chosen_told word form text rest e t p.0 p.1 (omega (arith, short))
+    (fits form rest) refl
 
 tells_as : (a b : List Text) → a ≡ b → Tells b → Tells a
 tells_as a b e t = rw e t
 
-typed_told : (word option : Text) (rest : List Text) → is_typed_command word ≡ true → chooses_types option ≡ true → AllPlain rest → length rest < 2 ^ 64
+typed_told : (word option : Text) (rest : List Text) → is_typed_command word ≡ true → chooses_types option ≡ true
+    → AllPlain rest → length rest < 2 ^ 64
     → Tells (word ∷ option ∷ rest)
 typed_told word option rest n o p short = elim (typed_command word n) [
-  | inl e ↦ tells_as _ _ (ap₂ (λ (a b : Text). a ∷ b ∷ rest) e (types_option option o)) (types_told (codes "index") (Typed ToIndex) rest refl refl p short)
-  | inr e ↦ tells_as _ _ (ap₂ (λ (a b : Text). a ∷ b ∷ rest) e (types_option option o)) (types_told (codes "scan") (TypedSizes ToScan) rest refl refl p short)
+  | inl e ↦ tells_as _ _ (ap₂ (λ (a b : Text). a ∷ b ∷ rest) e (types_option option o))
+      (types_told (codes "index") (Typed ToIndex) rest refl refl p short)
+  | inr e ↦ tells_as _ _ (ap₂ (λ (a b : Text). a ∷ b ∷ rest) e (types_option option o))
+      (types_told (codes "scan") (TypedSizes ToScan) rest refl refl p short)
 ]
 
-two_told : (word option : Text) (rest : List Text) → AllPlain (other_words (word ∷ option ∷ rest)) → length (option ∷ rest) < 2 ^ 64
+two_told : (word option : Text) (rest : List Text) → AllPlain (other_words (word ∷ option ∷ rest))
+    → length (option ∷ rest) < 2 ^ 64
     → Tells (word ∷ option ∷ rest)
 two_told word option rest p short = elim (choice word option rest) [
   | inl c ↦ typed_told word option rest c.takes c.chooses (rw c.others at p) (omega (arith, short))
-  | inr e ↦ let q : AllPlain (word ∷ option ∷ rest) = rw e at p in first_told word (option ∷ rest) q.0 q.1 short (command_of word) refl
+  | inr e ↦ let q : AllPlain (word ∷ option ∷ rest) = rw e at p in first_told word (option ∷ rest) q.0 q.1 short
+      (command_of word) refl
 ]
 
 pub tells : (words : List Text) → AllPlain (other_words words) → length words < 2 ^ 64 → Tells words
@@ -105,11 +125,13 @@ tells (word ∷ []) p short = first_told word [] p.0 p.1 (omega (arith, short)) 
 tells (word ∷ option ∷ rest) p short = two_told word option rest p (omega (arith, short))
 
 -- what is asked is the task of the words
-pub plain_asked : (words : List Text) → list_any is_unknown_option (other_words words) ≡ false → list_any asks_for_help (other_words words) ≡ false
+pub plain_asked : (words : List Text) → list_any is_unknown_option (other_words words) ≡ false
+    → list_any asks_for_help (other_words words) ≡ false
     → asked words ≡ ok_or (task_of words) Usage
 plain_asked words u h = rw (u, h) refl
 
-pub matched : (task : Option Meaning) (kinds : Kinds) (met : Option (Text × List Row)) → Told task kinds met → kinds ≡ []
+pub matched : (task : Option Meaning) (kinds : Kinds) (met : Option (Text × List Row)) → Told task kinds met → kinds
+    ≡ []
     → ok_or task Usage ≡ ok_or (matches_task met) Usage
 matched task kinds met (inl t) e = ap (λ m. ok_or m Usage) (sym t.1)
 matched task kinds met (inr t) e = let no : are_usage [] ≡ true = ap are_usage (sym e) ∙ t.0 in cc
@@ -121,12 +143,14 @@ is_usage_is None h = cc
 is_usage_is (Some Help) h = cc
 is_usage_is (Some Usage) h = refl
 
-usage_kind : (kinds : Kinds) (k : ErrorKind) → list_all (λ kind. is_usage (refusal_for kind)) kinds ≡ true → IsAmong k kinds
+usage_kind : (kinds : Kinds) (k : ErrorKind) → list_all (λ kind. is_usage (refusal_for kind)) kinds ≡ true
+    → IsAmong k kinds
     → refusal_for k ≡ Some Usage
 usage_kind [] k h m = absurd m
 usage_kind (x ∷ xs) k h m = go (is_usage (refusal_for x)) refl h m (usage_kind xs k)
   where
-    go : (b : Bool) → is_usage (refusal_for x) ≡ b → (b && list_all (λ kind. is_usage (refusal_for kind)) xs) ≡ true → (k ≡ x) ⊎ IsAmong k xs
+    go : (b : Bool) → is_usage (refusal_for x) ≡ b → (b && list_all (λ kind. is_usage (refusal_for kind)) xs) ≡ true
+        → (k ≡ x) ⊎ IsAmong k xs
         → (list_all (λ kind. is_usage (refusal_for kind)) xs ≡ true → IsAmong k xs → refusal_for k ≡ Some Usage)
         → refusal_for k ≡ Some Usage
     go false e f n rest = cc
@@ -137,7 +161,8 @@ all_usage : (kinds : Kinds) (k : ErrorKind) → are_usage kinds ≡ true → IsA
 all_usage [] k h m = absurd m
 all_usage (x ∷ xs) k h m = usage_kind (x ∷ xs) k h m
 
-pub refused : (task : Option Meaning) (kinds : Kinds) (met : Option (Text × List Row)) (k : ErrorKind) → Told task kinds met
+pub refused : (task : Option Meaning) (kinds : Kinds) (met : Option (Text × List Row)) (k : ErrorKind)
+    → Told task kinds met
     → (k ≡ kind.OutOfMemory) ⊎ IsAmong k kinds → IfSome (refusal_for k) (λ refusal. ok_or task Usage ≡ Err refusal)
 refused task kinds met k t (inl e) = rw e tt
 refused task kinds met k (inl t) (inr m) = let no : IsAmong k [] = rw t.0 at m in absurd no
@@ -152,9 +177,12 @@ ToldHelp Usage kinds = are_usage kinds ≡ true
 help_told_as : (a b : Refusal) (kinds : Kinds) → a ≡ b → ToldHelp b kinds → ToldHelp a kinds
 help_told_as a b kinds e t = rw e t
 
-command_help : (first help : Text) → is_unknown_option first ≡ false → asks_for_help first ≡ false → asks_for_help help ≡ true
-    → (o : Option (Text × Form)) → command_of first ≡ o → ToldHelp (help_or_usage (first ∷ [])) (fault_of warcdx (first ∷ help ∷ []))
-command_help first help u n h None e = help_told_as _ Usage _ (rw (n, e) refl) (unknown first commands (help ∷ []) e (plain_word first u n))
+command_help : (first help : Text) → is_unknown_option first ≡ false → asks_for_help first ≡ false → asks_for_help help
+    ≡ true
+    → (o : Option (Text × Form)) → command_of first ≡ o
+    → ToldHelp (help_or_usage (first ∷ [])) (fault_of warcdx (first ∷ help ∷ []))
+command_help first help u n h None e = help_told_as _ Usage _ (rw (n, e) refl)
+    (unknown first commands (help ∷ []) e (plain_word first u n))
 command_help first help u n h (Some c) e = help_told_as _ Help _ (rw (n, e) refl)
     (below first c.1 commands (help ∷ []) (same_name first commands c e) ∙ level_help first c.1 help h)
 
@@ -162,7 +190,8 @@ pub tells_help : (first help : Text) → is_unknown_option first ≡ false → a
     → ToldHelp (help_or_usage (first ∷ [])) (fault_of warcdx (first ∷ help ∷ []))
 tells_help first help u h = go (asks_for_help first) refl
   where
-    go : (b : Bool) → asks_for_help first ≡ b → ToldHelp (help_or_usage (first ∷ [])) (fault_of warcdx (first ∷ help ∷ []))
+    go : (b : Bool) → asks_for_help first ≡ b
+        → ToldHelp (help_or_usage (first ∷ [])) (fault_of warcdx (first ∷ help ∷ []))
     go true e = help_told_as _ Help _ (rw e refl) (top_help first (help ∷ []) e)
     go false e = command_help first help u e h (command_of first) refl
 
@@ -170,7 +199,8 @@ pub never_taken : (wanted : Refusal) (kinds : Kinds) → ToldHelp wanted kinds �
 never_taken Help kinds t e = let no : kind.DisplayHelp ∷ [] ≡ [] = sym t ∙ e in cc
 never_taken Usage kinds t e = let no : are_usage [] ≡ true = ap are_usage (sym e) ∙ t in cc
 
-help_kind : (kinds : Kinds) (k : ErrorKind) → kinds ≡ kind.DisplayHelp ∷ [] → IsAmong k kinds → refusal_for k ≡ Some Help
+help_kind : (kinds : Kinds) (k : ErrorKind) → kinds ≡ kind.DisplayHelp ∷ [] → IsAmong k kinds → refusal_for k
+    ≡ Some Help
 help_kind kinds k e m = go (rw e at m)
   where
     go : IsAmong k (kind.DisplayHelp ∷ []) → refusal_for k ≡ Some Help

@@ -1,5 +1,6 @@
 -- What clap makes of a command's name, and of the words after it.
-use Rattle.std.proofs.Common.{rules, ap₂, refl, inl, inr, ◌≡◌, ◌&&◌, List, [], ◌∷◌, ◌++◌, Some, None, Bool, true, false, codes, bytes_eq, ap, ◌∙◌, append_assoc, fold, map, option_map, find}
+use Rattle.std.proofs.Common.{rules, ap₂, refl, inl, inr, ◌≡◌, ◌&&◌, List, [], ◌∷◌, ◌++◌, Some, None, Bool, true, false}
+use Rattle.std.proofs.Common.{codes, bytes_eq, ap, ◌∙◌, append_assoc, fold, map, option_map, find}
 use Rattle.std.proofs.lemmas.Slice.Eq.{bytes_eq-Decides}
 use Rattle.std.specs.Char.{encode_utf8}
 use Rattle.std.specs.Str.{chars}
@@ -42,8 +43,10 @@ met_in word [] = refl
 met_in word (c ∷ cs) = go (bytes_eq c.0 word) refl (met_in word cs)
   where
     go : (b : Bool) → bytes_eq c.0 word ≡ b
-        → find (answers_to word) (names_of (app_for cs)) ≡ option_map (λ c. label_of (shaped c)) (find (is_named word) cs)
-        → find (answers_to word) (names_of (app_for (c ∷ cs))) ≡ option_map (λ c. label_of (shaped c)) (find (is_named word) (c ∷ cs))
+        → find (answers_to word) (names_of (app_for cs))
+        ≡ option_map (λ c. label_of (shaped c)) (find (is_named word) cs)
+        → find (answers_to word) (names_of (app_for (c ∷ cs)))
+        ≡ option_map (λ c. label_of (shaped c)) (find (is_named word) (c ∷ cs))
     go true e h = rw e refl
     go false e h = rw e h
 
@@ -54,7 +57,8 @@ shape_in word (c ∷ cs) = go (bytes_eq c.0 word) refl (shape_in word cs)
   where
     go : (b : Bool) → bytes_eq c.0 word ≡ b
         → find (λ s. answers_to word (label_of s)) (app_for cs).subs ≡ option_map shaped (find (is_named word) cs)
-        → find (λ s. answers_to word (label_of s)) (app_for (c ∷ cs)).subs ≡ option_map shaped (find (is_named word) (c ∷ cs))
+        → find (λ s. answers_to word (label_of s)) (app_for (c ∷ cs)).subs
+        ≡ option_map shaped (find (is_named word) (c ∷ cs))
     go true e h = rw e refl
     go false e h = rw e h
 
@@ -96,13 +100,15 @@ all_more names name before (word ∷ words) =
     ap (λ w. fold (walked head.rules names) w words) (one_more names name before word)
     ∙ all_more names name (before ++ word ∷ []) words ∙ ap (stopped_at name) (append_assoc before (word ∷ []) words)
 
-stops : (word : Text) (form : Form) (cs : List (Text × Form)) (rest : List Text) → find (is_named word) cs ≡ Some (word, form)
+stops : (word : Text) (form : Form) (cs : List (Text × Form)) (rest : List Text) → find (is_named word) cs
+    ≡ Some (word, form)
     → walk head.rules (names_of (app_for cs)) nothing_held (word ∷ rest) ≡ stopped_at word rest
 stops word form cs rest e =
     ap (λ w. fold (walked head.rules (names_of (app_for cs))) w rest) (met word form cs e)
     ∙ all_more (names_of (app_for cs)) word [] rest
 
-pub given : (word : Text) (form : Form) (cs : List (Text × Form)) (rest : List Text) (rows : List Row) → find (is_named word) cs ≡ Some (word, form)
+pub given : (word : Text) (form : Form) (cs : List (Text × Form)) (rest : List Text) (rows : List Row)
+    → find (is_named word) cs ≡ Some (word, form)
     → finished (rules_of form) (walk (rules_of form) [] nothing_held rest).held ≡ rows
     → entered (app_for cs) (stop_after head.rules (names_of (app_for cs)) (word ∷ rest)) ≡ Some (word, rows)
 given word form cs rest rows e values =
@@ -117,23 +123,28 @@ one_more_clear : (names : Names) (name : Text) (before : List Text) (word : Text
 unfolding walk_fault
 one_more_clear names name before word words = refl
 
-all_clear : (names : Names) (name : Text) (before words : List Text) → walk_fault head names (stopped_at name before) words ≡ []
+all_clear : (names : Names) (name : Text) (before words : List Text)
+    → walk_fault head names (stopped_at name before) words ≡ []
 all_clear names name before [] = unfold walk_fault in refl
 all_clear names name before (word ∷ words) =
-    one_more_clear names name before word words ∙ ap (λ w. walk_fault head names w words) (one_more names name before word)
+    one_more_clear names name before word words
+    ∙ ap (λ w. walk_fault head names w words) (one_more names name before word)
     ∙ all_clear names name (before ++ word ∷ []) words
 
 never : (b : Bool) → (b && false) ≡ false
 never false = refl
 never true = refl
 
-name_clear : (word : Text) (form : Form) (cs : List (Text × Form)) (words : List Text) → find (is_named word) cs ≡ Some (word, form)
+name_clear : (word : Text) (form : Form) (cs : List (Text × Form)) (words : List Text) → find (is_named word) cs
+    ≡ Some (word, form)
     → walk_fault head (names_of (app_for cs)) (walk_from nothing_held) (word ∷ words)
-    ≡ walk_fault head (names_of (app_for cs)) (walked head.rules (names_of (app_for cs)) (walk_from nothing_held) word) words
+    ≡ walk_fault head (names_of (app_for cs)) (walked head.rules (names_of (app_for cs)) (walk_from nothing_held) word)
+    words
 unfolding walk_fault
 name_clear word form cs words e = rw (met_in word cs, e, never (bytes_eq word (codes "help"))) refl
 
-above_clear : (word : Text) (form : Form) (cs : List (Text × Form)) (rest : List Text) → find (is_named word) cs ≡ Some (word, form)
+above_clear : (word : Text) (form : Form) (cs : List (Text × Form)) (rest : List Text) → find (is_named word) cs
+    ≡ Some (word, form)
     → walk_fault head (names_of (app_for cs)) (walk_from nothing_held) (word ∷ rest) ≡ []
 above_clear word form cs rest e =
     name_clear word form cs rest e ∙ ap (λ w. walk_fault head (names_of (app_for cs)) w rest) (met word form cs e)
@@ -144,8 +155,10 @@ or_nothing [] = refl
 or_nothing (k ∷ ks) = refl
 
 -- the fault is the command's
-pub below : (word : Text) (form : Form) (cs : List (Text × Form)) (rest : List Text) → find (is_named word) cs ≡ Some (word, form)
-    → built_fault (app_for cs) nothing_held (word ∷ rest) ≡ level_fault (shaped (word, form)) [] nothing_held rest false []
+pub below : (word : Text) (form : Form) (cs : List (Text × Form)) (rest : List Text) → find (is_named word) cs
+    ≡ Some (word, form)
+    → built_fault (app_for cs) nothing_held (word ∷ rest)
+    ≡ level_fault (shaped (word, form)) [] nothing_held rest false []
 unfolding defaults_fault
 below word form cs rest e =
     rw (stops word form cs rest e, shape_in word cs, e, above_clear word form cs rest e)

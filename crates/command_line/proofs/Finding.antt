@@ -1,15 +1,18 @@
 -- The first word that passes a test, as a text.
-use Rattle.std.proofs.Common.{refl, ◌≡◌, List, [], ◌∷◌, Option, Some, None, Bool, true, false, String, string_bytes, option_map, find, is_some}
+use Rattle.std.proofs.Common.{refl, ◌≡◌, List, [], ◌∷◌, Option, Some, None, Bool, true, false, String, string_bytes}
+use Rattle.std.proofs.Common.{option_map, find, is_some}
 use Rattle.std.specs.Global.{Global}
 use Rattle.std.specs.List.{list_any}
 use Rattle.command_line.specs.Words.{Text}
 
-pub in_turn : {A : Type 0} (o : Option A) (f : A → String Global) → option_map (λ x. string_bytes (f x)) o ≡ option_map string_bytes (option_map f o)
+pub in_turn : {A : Type 0} (o : Option A) (f : A → String Global) → option_map (λ x. string_bytes (f x)) o
+    ≡ option_map string_bytes (option_map f o)
 in_turn None f = refl
 in_turn (Some x) f = refl
 
 -- a word passes the test where one is found
-pub any_found : (test : Text → Bool) (words : List Text) (found : Option Text) → found ≡ find test words → list_any test words ≡ is_some found
+pub any_found : (test : Text → Bool) (words : List Text) (found : Option Text) → found ≡ find test words
+    → list_any test words ≡ is_some found
 any_found test [] found h = rw h refl
 any_found test (word ∷ words) found h = go (test word) refl h (any_found test words found)
   where
@@ -19,7 +22,8 @@ any_found test (word ∷ words) found h = go (test word) refl h (any_found test 
     go false e h rest = let later : found ≡ find test words = rw e at h in rw e (rest later)
 
 -- what is found passes the test
-pub found_passes : (test : Text → Bool) (words : List Text) (word : Text) → find test words ≡ Some word → test word ≡ true
+pub found_passes : (test : Text → Bool) (words : List Text) (word : Text) → find test words ≡ Some word → test word
+    ≡ true
 found_passes test [] word h = cc
 found_passes test (first ∷ words) word h = go (test first) refl h (found_passes test words word)
   where

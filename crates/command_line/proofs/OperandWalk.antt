@@ -1,5 +1,6 @@
 -- How clap walks over the names after a command, and counts them.
-use Rattle.std.proofs.Common.{rules, arith, refl, ℕ, ◌≡◌, ◌<◌, ◌^◌, ◌==◌, List, [], ◌∷◌, ◌++◌, Some, None, Bool, true, false, codes, length, ap, ◌∙◌, append_assoc, fold, nat_lt, Option}
+use Rattle.std.proofs.Common.{rules, arith, refl, ℕ, ◌≡◌, ◌<◌, ◌^◌, ◌==◌, List, [], ◌∷◌, ◌++◌, Some, None, Bool, true}
+use Rattle.std.proofs.Common.{false, codes, length, ap, ◌∙◌, append_assoc, fold, nat_lt, Option}
 use Rattle.std.specs.List.{list_all}
 use Rattle.std.proofs.lemmas.Bool.Decides.{nat_tests}
 use Rattle.clap.specs.Words.{Row, Rule, Shape}
@@ -10,7 +11,8 @@ use Rattle.clap.specs.Kinds.{Kinds, range_kinds}
 use Rattle.clap.specs.Lexer.{usize_max}
 use Rattle.clap.specs.declared.parser.matches.ValueSource.TheVariants.{CommandLine}
 use Rattle.command_line.specs.Words.{Text}
-use Rattle.command_line.specs.Commands.{Form, Names as OfNames, Query as OfQuery, Sizes as OfSizes, Offset as OfOffset, Typed as OfTyped, TypedSizes as OfTypedSizes, Refusal, Usage}
+use Rattle.command_line.specs.Commands.{Form, Names as OfNames, Query as OfQuery, Sizes as OfSizes, Offset as OfOffset}
+use Rattle.command_line.specs.Commands.{Typed as OfTyped, TypedSizes as OfTypedSizes, Refusal, Usage}
 use Rattle.command_line.specs.Clap.{names_rule, program, command_for, refusal_for}
 use Rattle.command_line.proofs.PlainWords.{IsPlain, AllPlain}
 
@@ -102,7 +104,8 @@ next_clear name (OfTyped make) rows before word words t p = rw (p.dashes, p.long
 next_clear name (OfTypedSizes make) rows before word words t p = rw (p.dashes, p.long, p.short) refl
 next_clear name (OfOffset make) rows before word words t p = cc
 
-pub walk_clear : (name : Text) (form : Form) (rows : List Row) (before words : List Text) → takes_names form ≡ true → AllPlain words
+pub walk_clear : (name : Text) (form : Form) (rows : List Row) (before words : List Text) → takes_names form ≡ true
+    → AllPlain words
     → walk_fault (shaped (name, form)) [] (after form rows before) words ≡ []
 walk_clear name form rows before [] t p = unfold walk_fault in refl
 walk_clear name form rows before (word ∷ words) t p =
@@ -112,7 +115,8 @@ walk_clear name form rows before (word ∷ words) t p =
 
 -- ---- the number of names
 
-pub in_range : (words : List Text) → 0 < length words → length words < 2 ^ 64 → range_kinds 1 usize_max (length words) ≡ []
+pub in_range : (words : List Text) → 0 < length words → length words < 2 ^ 64 → range_kinds 1 usize_max (length words)
+    ≡ []
 in_range words some short =
     let zero : (length words == 0) ≡ false = grind (arith, nat_tests) in
     let few : nat_lt (length words) 1 ≡ false = grind (arith, nat_tests) in

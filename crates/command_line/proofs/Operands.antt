@@ -1,5 +1,6 @@
 -- What clap makes of the operands after a command's name.
-use Rattle.std.proofs.Common.{arith, refl, ℕ, ◌≡◌, ◌<◌, ◌^◌, List, [], ◌∷◌, ◌++◌, Some, None, true, false, codes, length, ap, ◌∙◌, fold, inl, inr}
+use Rattle.std.proofs.Common.{arith, refl, ℕ, ◌≡◌, ◌<◌, ◌^◌, List, [], ◌∷◌, ◌++◌, Some, None, true, false, codes}
+use Rattle.std.proofs.Common.{length, ap, ◌∙◌, fold, inl, inr}
 use Rattle.std.specs.Char.{encode_utf8}
 use Rattle.std.specs.Str.{chars}
 use Rattle.clap.specs.Words.{Row}
@@ -8,11 +9,15 @@ use Rattle.clap.specs.Faults.{flags_fault, walk_fault, defaults_fault, level_fau
 use Rattle.clap.specs.declared.error.kind.ErrorKind.TheVariants as kind
 use Rattle.command_line.specs.Words.{Text, asks_for_help}
 use Rattle.command_line.specs.Sizes.{sizes_of}
-use Rattle.command_line.specs.Commands.{Meaning, Form, Names as OfNames, Query as OfQuery, Sizes as OfSizes, Offset as OfOffset, Typed as OfTyped, TypedSizes as OfTypedSizes, takes_types, operands_task}
+use Rattle.command_line.specs.Commands.{Meaning, Form, Names as OfNames, Query as OfQuery, Sizes as OfSizes}
+use Rattle.command_line.specs.Commands.{Offset as OfOffset, Typed as OfTyped, TypedSizes as OfTypedSizes, takes_types}
+use Rattle.command_line.specs.Commands.{operands_task}
 use Rattle.command_line.specs.Clap.{values_task}
 use Rattle.command_line.proofs.PlainWords.{IsPlain, AllPlain, help_word}
-use Rattle.command_line.proofs.OperandWalk.{shaped, rules_of, fits, row, after, walk_on, walk_clear, query_row, sizes_rows, in_range, any_text, are_usage}
-use Rattle.command_line.proofs.TypedOperands.{typed_fits, typed_unfit, typed_rows, typed_values, typed_reads, typed_unfit_task, in_turn}
+use Rattle.command_line.proofs.OperandWalk.{shaped, rules_of, fits, row, after, walk_on, walk_clear, query_row}
+use Rattle.command_line.proofs.OperandWalk.{sizes_rows, in_range, any_text, are_usage}
+use Rattle.command_line.proofs.TypedOperands.{typed_fits, typed_unfit, typed_rows, typed_values, typed_reads}
+use Rattle.command_line.proofs.TypedOperands.{typed_unfit_task, in_turn}
 
 -- ---- the walk over plain words
 
@@ -56,7 +61,8 @@ both_in make a b p q = rw (p.dashes, p.long, p.short, q.dashes, q.long, q.short)
 ends : (form : Form) (words : List Text) → takes_types form ≡ false → fits form words ≡ true → AllPlain words
     → walk (rules_of form) [] nothing_held words ≡ end_of form words
 ends (OfNames make) (a ∷ more) u f p =
-    ap (λ w. fold (walked (rules_of (OfNames make)) []) w more) (first_in make a p.0) ∙ walk_on (OfNames make) [] (a ∷ []) more refl p.1
+    ap (λ w. fold (walked (rules_of (OfNames make)) []) w more) (first_in make a p.0)
+    ∙ walk_on (OfNames make) [] (a ∷ []) more refl p.1
 ends (OfQuery make) (a ∷ b ∷ more) u f p =
     ap (λ w. fold (walked (rules_of (OfQuery make)) []) w more) (two_in make a b p.0 p.1.0)
     ∙ walk_on (OfQuery make) (query_row a) (b ∷ []) more refl p.1.1
@@ -80,38 +86,62 @@ two_clear : (name : Text) (make : Text → List Text → Meaning) (a b : Text) (
 unfolding walk_fault walked
 two_clear name make a b more p q = rw (p.dashes, p.long, p.short, q.dashes, q.long, q.short) refl
 
-three_clear : (name : Text) (make : List ℕ → Text → List Text → Meaning) (a b c : Text) (more : List Text) → IsPlain a → IsPlain b → IsPlain c
+three_clear : (name : Text) (make : List ℕ → Text → List Text → Meaning) (a b c : Text) (more : List Text) → IsPlain a
+    → IsPlain b → IsPlain c
     → walk_fault (shaped (name, OfSizes make)) [] (walk_from nothing_held) (a ∷ b ∷ c ∷ more)
     ≡ walk_fault (shaped (name, OfSizes make)) [] (after (OfSizes make) (sizes_rows a b) (c ∷ [])) more
 unfolding walk_fault walked
-three_clear name make a b c more p q r = rw (p.dashes, p.long, p.short, q.dashes, q.long, q.short, r.dashes, r.long, r.short) refl
+three_clear name make a b c more p q r =
+    rw (p.dashes, p.long, p.short, q.dashes, q.long, q.short, r.dashes, r.long, r.short) refl
 
 both_clear : (name : Text) (make : ℕ → Text → Meaning) (a b : Text) → IsPlain a → IsPlain b
     → walk_fault (shaped (name, OfOffset make)) [] (walk_from nothing_held) (a ∷ b ∷ []) ≡ []
 unfolding walk_fault walked
 both_clear name make a b p q = rw (p.dashes, p.long, p.short, q.dashes, q.long, q.short) refl
 
-clear : (name : Text) (form : Form) (words : List Text) → takes_types form ≡ false → fits form words ≡ true → AllPlain words
+clear : (name : Text) (form : Form) (words : List Text) → takes_types form ≡ false → fits form words ≡ true
+    → AllPlain words
     → walk_fault (shaped (name, form)) [] (walk_from nothing_held) words ≡ []
-clear name (OfNames make) (a ∷ more) u f p = first_clear name make a more p.0 ∙ walk_clear name (OfNames make) [] (a ∷ []) more refl p.1
+clear name (OfNames make) (a ∷ more) u f p = first_clear name make a more p.0
+    ∙ walk_clear name (OfNames make) [] (a ∷ []) more refl p.1
 clear name (OfQuery make) (a ∷ b ∷ more) u f p =
     two_clear name make a b more p.0 p.1.0 ∙ walk_clear name (OfQuery make) (query_row a) (b ∷ []) more refl p.1.1
 clear name (OfSizes make) (a ∷ b ∷ c ∷ more) u f p =
-    three_clear name make a b c more p.0 p.1.0 p.1.1.0 ∙ walk_clear name (OfSizes make) (sizes_rows a b) (c ∷ []) more refl p.1.1.1
+    three_clear name make a b c more p.0 p.1.0 p.1.1.0
+    ∙ walk_clear name (OfSizes make) (sizes_rows a b) (c ∷ []) more refl p.1.1.1
 clear name (OfOffset make) (a ∷ b ∷ []) u f p = both_clear name make a b p.0 p.1.0
 clear _ _ _ u f p = cc
 
 -- ---- a command's fault
 
-pub level_fits : (name : Text) (form : Form) (words : List Text) → fits form words ≡ true → AllPlain words → length words < 2 ^ 64
+pub level_fits : (name : Text) (form : Form) (words : List Text) → fits form words ≡ true → AllPlain words
+    → length words < 2 ^ 64
     → level_fault (shaped (name, form)) [] nothing_held words false [] ≡ []
 unfolding defaults_fault
 level_fits name (OfNames make) (a ∷ more) f p short =
-    rw (ends (OfNames make) (a ∷ more) refl f p, clear name (OfNames make) (a ∷ more) refl f p, in_range (a ∷ more) (omega arith) short, any_text more) refl
+    rw (
+      ends (OfNames make) (a ∷ more) refl f p,
+      clear name (OfNames make) (a ∷ more) refl f p,
+      in_range (a ∷ more)
+          (omega arith) short,
+      any_text more,
+    ) refl
 level_fits name (OfQuery make) (a ∷ b ∷ more) f p short =
-    rw (ends (OfQuery make) (a ∷ b ∷ more) refl f p, clear name (OfQuery make) (a ∷ b ∷ more) refl f p, in_range (b ∷ more) (omega arith) (omega (arith, short)), any_text more) refl
+    rw (
+      ends (OfQuery make) (a ∷ b ∷ more) refl f p,
+      clear name (OfQuery make) (a ∷ b ∷ more) refl f p,
+      in_range
+          (b ∷ more) (omega arith) (omega (arith, short)),
+      any_text more,
+    ) refl
 level_fits name (OfSizes make) (a ∷ b ∷ c ∷ more) f p short =
-    rw (ends (OfSizes make) (a ∷ b ∷ c ∷ more) refl f p, clear name (OfSizes make) (a ∷ b ∷ c ∷ more) refl f p, in_range (c ∷ more) (omega arith) (omega (arith, short)), any_text more) refl
+    rw (
+      ends (OfSizes make) (a ∷ b ∷ c ∷ more) refl f p,
+      clear name (OfSizes make) (a ∷ b ∷ c ∷ more) refl f p,
+      in_range
+          (c ∷ more) (omega arith) (omega (arith, short)),
+      any_text more,
+    ) refl
 level_fits name (OfOffset make) (a ∷ b ∷ []) f p short =
     rw (ends (OfOffset make) (a ∷ b ∷ []) refl f p, clear name (OfOffset make) (a ∷ b ∷ []) refl f p) refl
 level_fits name (OfTyped make) (a ∷ more) f p short = typed_fits name (OfTyped make) None (a ∷ more) refl f tt p short
@@ -132,7 +162,17 @@ level_unfit name (OfSizes make) (a ∷ b ∷ []) f p =
 level_unfit name (OfOffset make) [] f p = refl
 level_unfit name (OfOffset make) (a ∷ []) f p = rw (p.0.dashes, p.0.long, p.0.short) refl
 level_unfit name (OfOffset make) (a ∷ b ∷ c ∷ more) f p =
-    rw (p.0.dashes, p.0.long, p.0.short, p.1.0.dashes, p.1.0.long, p.1.0.short, p.1.1.0.dashes, p.1.1.0.long, p.1.1.0.short) refl
+    rw (
+      p.0.dashes,
+      p.0.long,
+      p.0.short,
+      p.1.0.dashes,
+      p.1.0.long,
+      p.1.0.short,
+      p.1.1.0.dashes,
+      p.1.1.0.long,
+      p.1.1.0.short,
+    ) refl
 level_unfit name (OfTyped make) words f p = typed_unfit name (OfTyped make) None words refl f tt p
 level_unfit name (OfTypedSizes make) words f p = typed_unfit name (OfTypedSizes make) None words refl f tt p
 level_unfit _ _ _ f p = cc
@@ -187,16 +227,19 @@ values (OfTyped make) (a ∷ more) f p = typed_values (OfTyped make) None (a ∷
 values (OfTypedSizes make) (a ∷ b ∷ c ∷ more) f p = typed_values (OfTypedSizes make) None (a ∷ b ∷ c ∷ more) refl f tt p
 values _ _ f p = cc
 
-pub reads : (form : Form) (words : List Text) → fits form words ≡ true → AllPlain words → values_task form (rows_of form words) ≡ operands_task form words
+pub reads : (form : Form) (words : List Text) → fits form words ≡ true → AllPlain words
+    → values_task form (rows_of form words) ≡ operands_task form words
 reads (OfNames make) (a ∷ more) f p = refl
 reads (OfQuery make) (a ∷ b ∷ more) f p = refl
-reads (OfSizes make) (a ∷ b ∷ c ∷ more) f p = in_turn (sizes_of a) (λ s. (s, b, c ∷ more)) (λ asked. make asked.0 asked.1 asked.2)
+reads (OfSizes make) (a ∷ b ∷ c ∷ more) f p = in_turn (sizes_of a) (λ s. (s, b, c ∷ more))
+    (λ asked. make asked.0 asked.1 asked.2)
 reads (OfOffset make) (a ∷ b ∷ []) f p = refl
 reads (OfTyped make) (a ∷ more) f p = typed_reads (OfTyped make) None (a ∷ more) refl f tt p
 reads (OfTypedSizes make) (a ∷ b ∷ c ∷ more) f p = typed_reads (OfTypedSizes make) None (a ∷ b ∷ c ∷ more) refl f tt p
 reads _ _ f p = cc
 
-pub unfit_task : (form : Form) (words : List Text) → fits form words ≡ false → AllPlain words → operands_task form words ≡ None
+pub unfit_task : (form : Form) (words : List Text) → fits form words ≡ false → AllPlain words → operands_task form words
+    ≡ None
 unfit_task (OfNames make) [] f p = refl
 unfit_task (OfQuery make) [] f p = refl
 unfit_task (OfQuery make) (a ∷ []) f p = refl

@@ -24,7 +24,8 @@ pub record IsChoice (word option : Text) (rest : List Text) : Type 0 where
   pub chooses : chooses_types option ≡ true
   pub others : other_words (word ∷ option ∷ rest) ≡ rest
 
-pub choice : (word option : Text) (rest : List Text) → IsChoice word option rest ⊎ (other_words (word ∷ option ∷ rest) ≡ word ∷ option ∷ rest)
+pub choice : (word option : Text) (rest : List Text) → IsChoice word option rest
+    ⊎ (other_words (word ∷ option ∷ rest) ≡ word ∷ option ∷ rest)
 choice word option rest = go (is_typed_command word) refl (chooses_types option) refl
   where
     go : (a : Bool) → is_typed_command word ≡ a → (b : Bool) → chooses_types option ≡ b
@@ -44,7 +45,8 @@ first_false false b h = refl
 first_false true b h = cc
 
 -- the first word is known where the other words are
-pub first_known : (words : List Text) → list_any is_unknown_option (other_words words) ≡ false → list_any is_unknown_option (take 1 words) ≡ false
+pub first_known : (words : List Text) → list_any is_unknown_option (other_words words) ≡ false
+    → list_any is_unknown_option (take 1 words) ≡ false
 first_known [] h = refl
 first_known (word ∷ []) h = h
 first_known (word ∷ option ∷ rest) h = elim (choice word option rest) [

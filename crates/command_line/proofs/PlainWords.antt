@@ -1,5 +1,6 @@
 -- How clap reads a word by itself.
-use Rattle.std.proofs.Common.{refl, ◌≡◌, ◌⊎◌, inl, inr, ◌||◌, ◌==◌, List, [], ◌∷◌, None, Bool, true, false, codes, bytes_eq}
+use Rattle.std.proofs.Common.{refl, ◌≡◌, ◌⊎◌, inl, inr, ◌||◌, ◌==◌, List, [], ◌∷◌, None, Bool, true, false, codes}
+use Rattle.std.proofs.Common.{bytes_eq}
 use Rattle.std.specs.List.{list_any}
 use Rattle.std.proofs.lemmas.Slice.Eq.{bytes_eq-Decides}
 use Rattle.clap.specs.Lexer.{long_of, short_of}
@@ -49,7 +50,11 @@ second_false : (a b : Bool) → (a || b) ≡ false → b ≡ false
 second_false false b h = h
 second_false true b h = cc
 
-pub all_plain : (words : List Text) → list_any is_unknown_option words ≡ false → list_any asks_for_help words ≡ false → AllPlain words
+pub all_plain : (words : List Text) → list_any is_unknown_option words ≡ false → list_any asks_for_help words ≡ false
+    → AllPlain words
 all_plain [] h k = tt
-all_plain (word ∷ words) h k =
-    (plain_word word (first_false _ _ h) (first_false _ _ k), all_plain words (second_false (is_unknown_option word) _ h) (second_false (asks_for_help word) _ k))
+all_plain (word ∷ words) h k = (
+  plain_word word (first_false _ _ h) (first_false _ _ k),
+  all_plain words
+      (second_false (is_unknown_option word) _ h) (second_false (asks_for_help word) _ k),
+)

@@ -1,5 +1,6 @@
 -- What clap makes of the words after a command that takes types.
-use Rattle.std.proofs.Common.{arith, refl, ℕ, ◌≡◌, ◌<◌, ◌^◌, List, [], ◌∷◌, ◌++◌, Some, None, Bool, true, false, codes, bytes_eq, length, ap, sym, ◌∙◌, fold, Option, option_map, option_and_then}
+use Rattle.std.proofs.Common.{arith, refl, ℕ, ◌≡◌, ◌<◌, ◌^◌, List, [], ◌∷◌, ◌++◌, Some, None, Bool, true, false, codes}
+use Rattle.std.proofs.Common.{bytes_eq, length, ap, sym, ◌∙◌, fold, Option, option_map, option_and_then}
 use Rattle.std.proofs.lemmas.Slice.Eq.{bytes_eq-Decides}
 use Rattle.clap.specs.Words.{Row}
 use Rattle.clap.specs.Lexer.{long_of}
@@ -9,10 +10,12 @@ use Rattle.capture_core.specs.Types.{types_of, usual_types}
 use Rattle.capture_core.specs.declared.types.Types.{Types}
 use Rattle.command_line.specs.Words.{Text}
 use Rattle.command_line.specs.Sizes.{sizes_of}
-use Rattle.command_line.specs.Commands.{Meaning, Form, Typed as OfTyped, TypedSizes as OfTypedSizes, takes_types, chooses_types, typed_operands, names_task, sizes_task, operands_task}
+use Rattle.command_line.specs.Commands.{Meaning, Form, Typed as OfTyped, TypedSizes as OfTypedSizes, takes_types}
+use Rattle.command_line.specs.Commands.{chooses_types, typed_operands, names_task, sizes_task, operands_task}
 use Rattle.command_line.specs.Clap.{values_task}
 use Rattle.command_line.proofs.PlainWords.{IsPlain, AllPlain}
-use Rattle.command_line.proofs.OperandWalk.{shaped, rules_of, fits, row, after, walk_on, walk_clear, sizes_rows, in_range, any_text, are_usage}
+use Rattle.command_line.proofs.OperandWalk.{shaped, rules_of, fits, row, after, walk_on, walk_clear, sizes_rows}
+use Rattle.command_line.proofs.OperandWalk.{in_range, any_text, are_usage}
 
 -- ---- a choice of types
 
@@ -42,7 +45,8 @@ chosen (OfTypedSizes make) text t p = rw (p.dashes, p.long, p.short) refl
 chosen _ text t p = cc
 
 begun : (form : Form) (choice : Option Text) (words : List Text) → takes_types form ≡ true → IsPlainChoice choice
-    → walk (rules_of form) [] nothing_held (choice_words choice ++ words) ≡ fold (walked (rules_of form) []) (start choice) words
+    → walk (rules_of form) [] nothing_held (choice_words choice ++ words)
+    ≡ fold (walked (rules_of form) []) (start choice) words
 begun form None words t p = refl
 begun form (Some text) words t p = ap (λ w. fold (walked (rules_of form) []) w words) (chosen form text t p)
 
@@ -54,7 +58,8 @@ chosen_clear name (OfTyped make) text words t p = rw (p.dashes, p.long, p.short)
 chosen_clear name (OfTypedSizes make) text words t p = rw (p.dashes, p.long, p.short) refl
 chosen_clear name _ text words t p = cc
 
-begun_clear : (name : Text) (form : Form) (choice : Option Text) (words : List Text) → takes_types form ≡ true → IsPlainChoice choice
+begun_clear : (name : Text) (form : Form) (choice : Option Text) (words : List Text) → takes_types form ≡ true
+    → IsPlainChoice choice
     → walk_fault (shaped (name, form)) [] (walk_from nothing_held) (choice_words choice ++ words)
     ≡ walk_fault (shaped (name, form)) [] (start choice) words
 begun_clear name form None words t p = refl
@@ -68,12 +73,15 @@ unfolding walked
 first_in make None a p = rw (p.dashes, p.long, p.short) refl
 first_in make (Some text) a p = rw (p.dashes, p.long, p.short) refl
 
-three_in : (make : Types → List ℕ → Text → List Text → Meaning) (choice : Option Text) (a b c : Text) → IsPlain a → IsPlain b → IsPlain c
+three_in : (make : Types → List ℕ → Text → List Text → Meaning) (choice : Option Text) (a b c : Text) → IsPlain a
+    → IsPlain b → IsPlain c
     → fold (walked (rules_of (OfTypedSizes make)) []) (start choice) (a ∷ b ∷ c ∷ [])
     ≡ after (OfTypedSizes make) (choice_rows choice ++ sizes_rows a b) (c ∷ [])
 unfolding walked
-three_in make None a b c p q r = rw (p.dashes, p.long, p.short, q.dashes, q.long, q.short, r.dashes, r.long, r.short) refl
-three_in make (Some text) a b c p q r = rw (p.dashes, p.long, p.short, q.dashes, q.long, q.short, r.dashes, r.long, r.short) refl
+three_in make None a b c p q r = rw (p.dashes, p.long, p.short, q.dashes, q.long, q.short, r.dashes, r.long, r.short)
+    refl
+three_in make (Some text) a b c p q r =
+    rw (p.dashes, p.long, p.short, q.dashes, q.long, q.short, r.dashes, r.long, r.short) refl
 
 abbrev end_of : Form → Option Text → List Text → Walk
 end_of (OfTyped make) choice words = after (OfTyped make) (choice_rows choice) words
@@ -81,7 +89,8 @@ end_of (OfTypedSizes make) choice (a ∷ b ∷ more) = after (OfTypedSizes make)
 end_of _ choice words = start choice
 
 ends : (form : Form) (choice : Option Text) (words : List Text) → takes_types form ≡ true → fits form words ≡ true
-    → IsPlainChoice choice → AllPlain words → walk (rules_of form) [] nothing_held (choice_words choice ++ words) ≡ end_of form choice words
+    → IsPlainChoice choice → AllPlain words → walk (rules_of form) [] nothing_held (choice_words choice ++ words)
+    ≡ end_of form choice words
 ends (OfTyped make) choice (a ∷ more) t f q p =
     begun (OfTyped make) choice (a ∷ more) t q
     ∙ ap (λ w. fold (walked (rules_of (OfTyped make)) []) w more) (first_in make choice a p.0)
@@ -94,46 +103,75 @@ ends _ choice _ t f q p = cc
 
 -- ---- no fault in operands that fit
 
-first_clear : (name : Text) (make : Types → List Text → Meaning) (choice : Option Text) (a : Text) (more : List Text) → IsPlain a
+first_clear : (name : Text) (make : Types → List Text → Meaning) (choice : Option Text) (a : Text) (more : List Text)
+    → IsPlain a
     → walk_fault (shaped (name, OfTyped make)) [] (start choice) (a ∷ more)
     ≡ walk_fault (shaped (name, OfTyped make)) [] (after (OfTyped make) (choice_rows choice) (a ∷ [])) more
 unfolding walk_fault walked
 first_clear name make None a more p = rw (p.dashes, p.long, p.short) refl
 first_clear name make (Some text) a more p = rw (p.dashes, p.long, p.short) refl
 
-three_clear : (name : Text) (make : Types → List ℕ → Text → List Text → Meaning) (choice : Option Text) (a b c : Text) (more : List Text)
+three_clear : (name : Text) (make : Types → List ℕ → Text → List Text → Meaning) (choice : Option Text) (a b c : Text)
+    (more : List Text)
     → IsPlain a → IsPlain b → IsPlain c
     → walk_fault (shaped (name, OfTypedSizes make)) [] (start choice) (a ∷ b ∷ c ∷ more)
-    ≡ walk_fault (shaped (name, OfTypedSizes make)) [] (after (OfTypedSizes make) (choice_rows choice ++ sizes_rows a b) (c ∷ [])) more
+    ≡ walk_fault (shaped (name, OfTypedSizes make)) []
+    (after (OfTypedSizes make) (choice_rows choice ++ sizes_rows a b) (c ∷ [])) more
 unfolding walk_fault walked
 three_clear name make None a b c more p q r =
     rw (p.dashes, p.long, p.short, q.dashes, q.long, q.short, r.dashes, r.long, r.short) refl
 three_clear name make (Some text) a b c more p q r =
     rw (p.dashes, p.long, p.short, q.dashes, q.long, q.short, r.dashes, r.long, r.short) refl
 
-clear : (name : Text) (form : Form) (choice : Option Text) (words : List Text) → takes_types form ≡ true → fits form words ≡ true
+clear : (name : Text) (form : Form) (choice : Option Text) (words : List Text) → takes_types form ≡ true
+    → fits form words ≡ true
     → IsPlainChoice choice → AllPlain words
     → walk_fault (shaped (name, form)) [] (walk_from nothing_held) (choice_words choice ++ words) ≡ []
 clear name (OfTyped make) choice (a ∷ more) t f q p =
     begun_clear name (OfTyped make) choice (a ∷ more) t q ∙ first_clear name make choice a more p.0
     ∙ walk_clear name (OfTyped make) (choice_rows choice) (a ∷ []) more refl p.1
 clear name (OfTypedSizes make) choice (a ∷ b ∷ c ∷ more) t f q p =
-    begun_clear name (OfTypedSizes make) choice (a ∷ b ∷ c ∷ more) t q ∙ three_clear name make choice a b c more p.0 p.1.0 p.1.1.0
+    begun_clear name (OfTypedSizes make) choice (a ∷ b ∷ c ∷ more) t q
+    ∙ three_clear name make choice a b c more p.0 p.1.0 p.1.1.0
     ∙ walk_clear name (OfTypedSizes make) (choice_rows choice ++ sizes_rows a b) (c ∷ []) more refl p.1.1.1
 clear name _ choice _ t f q p = cc
 
-pub typed_fits : (name : Text) (form : Form) (choice : Option Text) (words : List Text) → takes_types form ≡ true → fits form words ≡ true
+pub typed_fits : (name : Text) (form : Form) (choice : Option Text) (words : List Text) → takes_types form ≡ true
+    → fits form words ≡ true
     → IsPlainChoice choice → AllPlain words → length words < 2 ^ 64
     → level_fault (shaped (name, form)) [] nothing_held (choice_words choice ++ words) false [] ≡ []
 unfolding defaults_fault
 typed_fits name (OfTyped make) None (a ∷ more) t f q p short =
-    rw (ends (OfTyped make) None (a ∷ more) t f q p, clear name (OfTyped make) None (a ∷ more) t f q p, in_range (a ∷ more) (omega arith) short, any_text more) refl
+    rw (
+      ends (OfTyped make) None (a ∷ more) t f q p,
+      clear name (OfTyped make) None (a ∷ more) t f q p,
+      in_range
+          (a ∷ more) (omega arith) short,
+      any_text more,
+    ) refl
 typed_fits name (OfTyped make) (Some text) (a ∷ more) t f q p short =
-    rw (ends (OfTyped make) (Some text) (a ∷ more) t f q p, clear name (OfTyped make) (Some text) (a ∷ more) t f q p, in_range (a ∷ more) (omega arith) short, any_text more) refl
+    rw (
+      ends (OfTyped make) (Some text) (a ∷ more) t f q p,
+      clear name (OfTyped make) (Some text) (a ∷ more) t f q p,
+      in_range (a ∷ more) (omega arith) short,
+      any_text more,
+    ) refl
 typed_fits name (OfTypedSizes make) None (a ∷ b ∷ c ∷ more) t f q p short =
-    rw (ends (OfTypedSizes make) None (a ∷ b ∷ c ∷ more) t f q p, clear name (OfTypedSizes make) None (a ∷ b ∷ c ∷ more) t f q p, in_range (c ∷ more) (omega arith) (omega (arith, short)), any_text more) refl
+    rw (
+      ends (OfTypedSizes make) None (a ∷ b ∷ c ∷ more) t f q p,
+      clear name (OfTypedSizes make) None (a ∷ b ∷ c ∷ more)
+          t f q p,
+      in_range (c ∷ more) (omega arith) (omega (arith, short)),
+      any_text more,
+    ) refl
 typed_fits name (OfTypedSizes make) (Some text) (a ∷ b ∷ c ∷ more) t f q p short =
-    rw (ends (OfTypedSizes make) (Some text) (a ∷ b ∷ c ∷ more) t f q p, clear name (OfTypedSizes make) (Some text) (a ∷ b ∷ c ∷ more) t f q p, in_range (c ∷ more) (omega arith) (omega (arith, short)), any_text more) refl
+    rw (
+      ends (OfTypedSizes make) (Some text) (a ∷ b ∷ c ∷ more) t f q p,
+      clear name (OfTypedSizes make) (Some text)
+          (a ∷ b ∷ c ∷ more) t f q p,
+      in_range (c ∷ more) (omega arith) (omega (arith, short)),
+      any_text more,
+    ) refl
 typed_fits name _ choice _ t f q p short = cc
 
 -- ---- words that don't fit
@@ -146,7 +184,8 @@ without_text name (OfTyped make) t = refl
 without_text name (OfTypedSizes make) t = refl
 without_text name _ t = cc
 
-pub typed_unfit : (name : Text) (form : Form) (choice : Option Text) (words : List Text) → takes_types form ≡ true → fits form words ≡ false
+pub typed_unfit : (name : Text) (form : Form) (choice : Option Text) (words : List Text) → takes_types form ≡ true
+    → fits form words ≡ false
     → IsPlainChoice choice → AllPlain words
     → are_usage (level_fault (shaped (name, form)) [] nothing_held (choice_words choice ++ words) false []) ≡ true
 unfolding walk_fault walked defaults_fault
@@ -167,22 +206,28 @@ typed_unfit name _ choice _ t f q p = cc
 
 abbrev pub typed_rows : Form → Option Text → List Text → List Row
 typed_rows (OfTyped make) choice words = choice_rows choice ++ row (codes "names") words ∷ []
-typed_rows (OfTypedSizes make) choice (a ∷ b ∷ more) = choice_rows choice ++ sizes_rows a b ++ row (codes "names") more ∷ []
+typed_rows (OfTypedSizes make) choice (a ∷ b ∷ more) = choice_rows choice ++ sizes_rows a b
+    ++ row (codes "names") more ∷ []
 typed_rows _ choice words = []
 
-pub typed_values : (form : Form) (choice : Option Text) (words : List Text) → takes_types form ≡ true → fits form words ≡ true
+pub typed_values : (form : Form) (choice : Option Text) (words : List Text) → takes_types form ≡ true → fits form words
+    ≡ true
     → IsPlainChoice choice → AllPlain words
-    → finished (rules_of form) (walk (rules_of form) [] nothing_held (choice_words choice ++ words)).held ≡ typed_rows form choice words
+    → finished (rules_of form) (walk (rules_of form) [] nothing_held (choice_words choice ++ words)).held
+    ≡ typed_rows form choice words
 typed_values (OfTyped make) None (a ∷ more) t f q p = rw (ends (OfTyped make) None (a ∷ more) t f q p) refl
-typed_values (OfTyped make) (Some text) (a ∷ more) t f q p = rw (ends (OfTyped make) (Some text) (a ∷ more) t f q p) refl
-typed_values (OfTypedSizes make) None (a ∷ b ∷ c ∷ more) t f q p = rw (ends (OfTypedSizes make) None (a ∷ b ∷ c ∷ more) t f q p) refl
+typed_values (OfTyped make) (Some text) (a ∷ more) t f q p = rw (ends (OfTyped make) (Some text) (a ∷ more) t f q p)
+    refl
+typed_values (OfTypedSizes make) None (a ∷ b ∷ c ∷ more) t f q p =
+    rw (ends (OfTypedSizes make) None (a ∷ b ∷ c ∷ more) t f q p) refl
 typed_values (OfTypedSizes make) (Some text) (a ∷ b ∷ c ∷ more) t f q p =
     rw (ends (OfTypedSizes make) (Some text) (a ∷ b ∷ c ∷ more) t f q p) refl
 typed_values _ choice _ t f q p = cc
 
 -- ---- the task
 
-pub in_turn : {A B C : Type 0} (o : Option A) (f : A → B) (g : B → C) → option_map g (option_map f o) ≡ option_map (λ x. g (f x)) o
+pub in_turn : {A B C : Type 0} (o : Option A) (f : A → B) (g : B → C) → option_map g (option_map f o)
+    ≡ option_map (λ x. g (f x)) o
 in_turn None f g = refl
 in_turn (Some x) f g = refl
 
@@ -202,15 +247,18 @@ no_choice word p = go (bytes_eq word (codes "--types")) refl
   where
     go : (b : Bool) → bytes_eq word (codes "--types") ≡ b → b ≡ false
     go false e = refl
-    go true e = let long : long_of (codes "--types") ≡ None = ap long_of (sym ((bytes_eq-Decides word (codes "--types")).0 e)) ∙ p.long in cc
+    go true e = let long : long_of (codes "--types")
+        ≡ None = ap long_of (sym ((bytes_eq-Decides word (codes "--types")).0 e)) ∙ p.long in cc
 
 -- plain words are all operands, of the usual types
 usual : (words : List Text) → AllPlain words → typed_operands words ≡ Some (usual_types, words)
 usual [] p = refl
 usual (word ∷ words) p = rw (no_choice word p.0) refl
 
-pub typed_reads : (form : Form) (choice : Option Text) (words : List Text) → takes_types form ≡ true → fits form words ≡ true
-    → IsPlainChoice choice → AllPlain words → values_task form (typed_rows form choice words) ≡ operands_task form (choice_words choice ++ words)
+pub typed_reads : (form : Form) (choice : Option Text) (words : List Text) → takes_types form ≡ true → fits form words
+    ≡ true
+    → IsPlainChoice choice → AllPlain words → values_task form (typed_rows form choice words)
+    ≡ operands_task form (choice_words choice ++ words)
 typed_reads (OfTyped make) None (a ∷ more) t f q p = rw (usual (a ∷ more) p) refl
 typed_reads (OfTyped make) (Some text) (a ∷ more) t f q p =
     alike (types_of text) _ (λ types. (types, a ∷ more)) (λ typed. names_task (make typed.0) typed.1) (λ types. refl)
@@ -223,7 +271,8 @@ typed_reads (OfTypedSizes make) (Some text) (a ∷ b ∷ c ∷ more) t f q p =
 typed_reads _ choice _ t f q p = cc
 
 -- too few operands have no task, whatever the types
-pub typed_unfit_task : (form : Form) (choice : Option Text) (words : List Text) → takes_types form ≡ true → fits form words ≡ false
+pub typed_unfit_task : (form : Form) (choice : Option Text) (words : List Text) → takes_types form ≡ true
+    → fits form words ≡ false
     → IsPlainChoice choice → AllPlain words → operands_task form (choice_words choice ++ words) ≡ None
 typed_unfit_task (OfTyped make) None [] t f q p = refl
 typed_unfit_task (OfTyped make) (Some text) [] t f q p =

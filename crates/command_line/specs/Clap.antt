@@ -1,5 +1,6 @@
 -- clap's command, made from the table of commands, and what is read of clap's answer.
-use Rattle.std.specs.Prelude.{ℕ, List, [], ◌∷◌, Option, None, Some, true, false, codes, map, option_map, option_and_then}
+use Rattle.std.specs.Prelude.{ℕ, List, [], ◌∷◌, Option, None, Some, true, false, codes, map, option_map}
+use Rattle.std.specs.Prelude.{option_and_then}
 use Rattle.clap.specs.Words.{App, Row, Rule, Shape, new_rule, all_of, first_of}
 use Rattle.clap.specs.Simple.{new_shape}
 use Rattle.clap.specs.Lexer.{usize_max}
@@ -10,7 +11,8 @@ use Rattle.capture_core.specs.declared.types.Types.{Types}
 use Rattle.cdxj_places.specs.Places.{offset_of}
 use Rattle.command_line.specs.Words.{Text}
 use Rattle.command_line.specs.Sizes.{sizes_of}
-use Rattle.command_line.specs.Commands.{Meaning, Form, Names, Query, Sizes, Offset, Typed, TypedSizes, Refusal, Help, Usage, commands, command_of, list_input}
+use Rattle.command_line.specs.Commands.{Meaning, Form, Names, Query, Sizes, Offset, Typed, TypedSizes, Refusal, Help}
+use Rattle.command_line.specs.Commands.{Usage, commands, command_of, list_input}
 
 -- ---- the command
 
@@ -63,7 +65,8 @@ warcdx = record { top = program; subs = map command_for commands }
 -- sizes, a query and names
 abbrev pub sized_query : List Row → Option (List ℕ × Text × List Text)
 sized_query rows = option_and_then (λ sizes. option_and_then
-    (λ query. option_and_then (λ names. option_map (λ s. (s, query, names)) (sizes_of sizes)) (all_of (codes "names") rows))
+    (λ query. option_and_then (λ names. option_map (λ s. (s, query, names)) (sizes_of sizes))
+    (all_of (codes "names") rows))
     (first_of (codes "query") rows)) (first_of (codes "sizes") rows)
 
 -- the types of the option's word, or the usual ones where it isn't given
@@ -81,7 +84,8 @@ values_task (Query make) rows = option_and_then
     (λ query. option_map (make query) (all_of (codes "names") rows)) (first_of (codes "query") rows)
 values_task (Sizes make) rows = option_map (λ asked. make asked.0 asked.1 asked.2) (sized_query rows)
 values_task (Offset make) rows = option_and_then
-    (λ offset. option_and_then (λ name. option_map (λ n. make n name) (offset_of offset)) (first_of (codes "name") rows))
+    (λ offset. option_and_then (λ name. option_map (λ n. make n name) (offset_of offset))
+    (first_of (codes "name") rows))
     (first_of (codes "offset") rows)
 values_task (Typed make) rows = option_and_then
     (λ types. option_map (make types) (all_of (codes "names") rows)) (chosen_types rows)

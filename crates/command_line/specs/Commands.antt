@@ -1,5 +1,7 @@
 -- The commands, and what the words of a command line ask for.
-use Rattle.std.specs.Prelude.{ℕ, List, [], ◌∷◌, ◌||◌, ◌&&◌, Bool, true, false, Option, None, Some, Result, Ok, Err, MatchResult, ◌≡◌, if◌then◌else◌, codes, bytes_eq, find, is_some, option_map, option_and_then, string_bytes}
+use Rattle.std.specs.Prelude.{ℕ, List, [], ◌∷◌, ◌||◌, ◌&&◌, Bool, true, false, Option, None, Some, Result, Ok, Err}
+use Rattle.std.specs.Prelude.{MatchResult, ◌≡◌, if◌then◌else◌, codes, bytes_eq, find, is_some, option_map}
+use Rattle.std.specs.Prelude.{option_and_then, string_bytes}
 use Rattle.std.specs.List.{list_any}
 use Rattle.std.specs.Option.{IfSome, ok_or}
 use Rattle.capture_core.specs.Types.{types_of, usual_types}
@@ -74,7 +76,8 @@ operands_task (Query make) (query ∷ name ∷ names) = Some (make query (name �
 operands_task (Sizes make) operands = sizes_task make operands
 operands_task (Offset make) (offset ∷ name ∷ []) = option_map (λ n. make n name) (offset_of offset)
 operands_task (Typed make) words = option_and_then (λ typed. names_task (make typed.0) typed.1) (typed_operands words)
-operands_task (TypedSizes make) words = option_and_then (λ typed. sizes_task (make typed.0) typed.1) (typed_operands words)
+operands_task (TypedSizes make) words = option_and_then (λ typed. sizes_task (make typed.0) typed.1)
+    (typed_operands words)
 operands_task _ _ = None
 
 abbrev pub command_of : Text → Option (Text × Form)

@@ -1,5 +1,6 @@
 -- The sizes of pages, as a word gives them.
-use Rattle.std.specs.Prelude.{ℕ, ◌==◌, ◌&&◌, Bool, nat_lt, nat_le, List, [], ◌∷◌, length, Option, Some, None, if◌then◌else◌, option_map, option_and_then}
+use Rattle.std.specs.Prelude.{ℕ, ◌==◌, ◌&&◌, Bool, nat_lt, nat_le, List, [], ◌∷◌, length, Option, Some, None}
+use Rattle.std.specs.Prelude.{if◌then◌else◌, option_map, option_and_then}
 use Rattle.std.specs.List.{list_all, slice_split}
 use Rattle.std.specs.Char.{is_ascii_digit}
 use Rattle.std.specs.Str.Parse.{digits_value}
@@ -17,7 +18,8 @@ size_of digits = if is_size digits then Some (digits_value 10 digits) else None
 -- the sizes of these digits, where each of them has one
 abbrev pub all_sizes : List Text → Option (List ℕ)
 all_sizes [] = Some []
-all_sizes (digits ∷ later) = option_and_then (λ size. option_map (λ sizes. size ∷ sizes) (all_sizes later)) (size_of digits)
+all_sizes (digits ∷ later) = option_and_then (λ size. option_map (λ sizes. size ∷ sizes) (all_sizes later))
+    (size_of digits)
 
 -- `b','`
 abbrev pub is_comma : ℕ → Bool

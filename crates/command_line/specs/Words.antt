@@ -1,5 +1,6 @@
 -- The words of a command line, and which of them are options (POSIX.1-2017, 12.2).
-use Rattle.std.specs.Prelude.{ℕ, List, ◌∷◌, Bool, false, ◌==◌, ◌&&◌, ◌||◌, not, codes, map, bytes_eq, String, string_bytes}
+use Rattle.std.specs.Prelude.{ℕ, List, ◌∷◌, Bool, false, ◌==◌, ◌&&◌, ◌||◌, not, codes, map, bytes_eq, String}
+use Rattle.std.specs.Prelude.{string_bytes}
 use Rattle.std.specs.Global.{Global}
 
 -- the bytes of a word

@@ -14,7 +14,8 @@ use std::alloc::{AllocError, Global};
 
 /// Returns the task, or `None` if the matches give none. The only error is refused memory.
 pub fn task_of(alloc: Global, matches: &ArgMatches) -> Result<Option<Task>, AllocError>
-    ensures { IfOk result (λ task. option_map view task ≡ matches_task (subcommand_rows_of matches.now)) }
+    ensures { IfOk result (λ task. option_map view task
+        ≡ matches_task (subcommand_rows_of matches.now)) }
 {
     match matches.subcommand() {
         Some((command, values)) => command_task(alloc, command, values),
@@ -122,7 +123,8 @@ fn sized_query(
     alloc: Global,
     values: &ArgMatches,
 ) -> Result<Option<(Vec<u64>, String, Vec<String>)>, AllocError>
-    ensures { IfOk result (λ asked. option_map (λ a. (a.0.items, string_bytes a.1, texts a.2.items)) asked
+    ensures { IfOk result
+        (λ asked. option_map (λ a. (a.0.items, string_bytes a.1, texts a.2.items)) asked
         ≡ sized_query (rows_of (found_of values.now))) }
 {
     let Some(sizes) = value_of(values, "sizes") else {
@@ -177,7 +179,8 @@ fn text_of(alloc: Global, values: &ArgMatches, id: &str) -> Result<Option<String
 }
 
 fn value_of<'a>(values: &ArgMatches<'a>, id: &str) -> Option<&'a str>
-    ensures { option_map (λ word. word.now) result ≡ first_of id.now (rows_of (found_of values.now)) }
+    ensures { option_map (λ word. word.now) result
+        ≡ first_of id.now (rows_of (found_of values.now)) }
 {
     values.get_str(id)
 }

@@ -27,14 +27,16 @@ fn is_typed_command(word: &str) -> bool
 
 /// Returns the first argument that begins with `-`, except `-` alone and arguments that ask for help.
 pub fn unknown_option(words: &[String]) -> Option<&String>
-    ensures { option_map (λ word. string_bytes word.now) result ≡ find is_unknown_option (texts words.now) }
+    ensures { option_map (λ word. string_bytes word.now) result
+        ≡ find is_unknown_option (texts words.now) }
 {
     words.iter().find(|word| is_unknown_option(word))
 }
 
 /// Returns the first argument that asks for help.
 pub fn help_option(words: &[String]) -> Option<&String>
-    ensures { option_map (λ word. string_bytes word.now) result ≡ find asks_for_help (texts words.now) }
+    ensures { option_map (λ word. string_bytes word.now) result
+        ≡ find asks_for_help (texts words.now) }
 {
     words.iter().find(|word| asks_for_help(word))
 }

@@ -22,13 +22,15 @@ pub fn read_sizes(alloc: Global, word: &str) -> Result<Option<Vec<u64>>, AllocEr
 }
 
 fn cut_parts(alloc: Global, word: &str) -> Result<Vec<&str>, AllocError>
-    ensures { IfOk result (λ parts. map (λ part. part.now) parts.items ≡ slice_split is_comma word.now) }
+    ensures { IfOk result (λ parts. map (λ part. part.now) parts.items
+        ≡ slice_split is_comma word.now) }
 {
     word.split(',').collect(alloc)
 }
 
 fn all_sizes(alloc: Global, parts: &[&str]) -> Result<Option<Vec<u64>>, AllocError>
-    ensures { IfOk result (λ sizes. option_map (λ s. s.items) sizes ≡ all_sizes (map (λ part. part.now) parts.now)) }
+    ensures { IfOk result (λ sizes. option_map (λ s. s.items) sizes
+        ≡ all_sizes (map (λ part. part.now) parts.now)) }
 {
     let mut sizes = Vec::new(alloc);
     for part in parts {

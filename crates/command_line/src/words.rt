@@ -78,7 +78,8 @@ fn help_fault(alloc: Global, words: &[String], help: &String) -> WordsFault
 fn help_error(alloc: Global, first: &str, help: &str) -> Error
     requires known { is_unknown_option first.now ≡ false }
     requires asks { asks_for_help help.now ≡ true }
-    ensures { IfSome (refusal_for (kind_of result)) (λ refusal. refusal ≡ help_or_usage (first.now ∷ [])) }
+    ensures { IfSome (refusal_for (kind_of result)) (λ refusal. refusal
+        ≡ help_or_usage (first.now ∷ [])) }
 {
     match command_line(alloc) {
         Ok(command) => match command.try_get_matches_from(&[first, help]) {

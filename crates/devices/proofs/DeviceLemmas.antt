@@ -1,5 +1,6 @@
 -- Growing twice is growing by both, and what wasn't written is a rest.
-use Rattle.std.proofs.Common.{ℕ, List, [], ◌++◌, Option, None, Some, take, drop, refl, sym, ap, ◌∙◌, append_assoc, append-nil}
+use Rattle.std.proofs.Common.{ℕ, List, [], ◌++◌, Option, None, Some, take, drop, refl, sym, ap, ◌∙◌, append_assoc}
+use Rattle.std.proofs.Common.{append-nil}
 use Rattle.std.proofs.lemmas.List.{take-append-drop}
 use Rattle.std.specs.Io.KnownBytes.{Appends}
 use Rattle.devices.specs.Device.{WroteUpTo, AppendsPrefix}
@@ -8,7 +9,8 @@ pub Appends-none : (old : Option (List ℕ)) → Appends old old []
 Appends-none None = tt
 Appends-none (Some xs) = sym (append-nil xs)
 
-pub Appends-join : (old mid new : Option (List ℕ)) (a b : List ℕ) → Appends old mid a → Appends mid new b → Appends old new (a ++ b)
+pub Appends-join : (old mid new : Option (List ℕ)) (a b : List ℕ) → Appends old mid a → Appends mid new b
+    → Appends old new (a ++ b)
 Appends-join None mid new a b h k = tt
 Appends-join (Some xs) None new a b h k = absurd h
 Appends-join (Some xs) (Some ys) None a b h k = absurd k
@@ -17,20 +19,24 @@ Appends-join (Some xs) (Some ys) (Some zs) a b h k = k ∙ (ap (λ w. w ++ b) h 
 pub WroteUpTo-start : (old : Option (List ℕ)) (bs : List ℕ) → WroteUpTo old old bs bs
 WroteUpTo-start old bs = record { front = []; whole = refl; grown = Appends-none old }
 
-pub WroteUpTo-more : (old mid new : Option (List ℕ)) (bs rest : List ℕ) (n : ℕ) → WroteUpTo old mid bs rest → Appends mid new (take n rest) → WroteUpTo old new bs (drop n rest)
+pub WroteUpTo-more : (old mid new : Option (List ℕ)) (bs rest : List ℕ) (n : ℕ) → WroteUpTo old mid bs rest
+    → Appends mid new (take n rest) → WroteUpTo old new bs (drop n rest)
 WroteUpTo-more old mid new bs rest n w k = record {
   front = w.front ++ take n rest;
-  whole = w.whole ∙ (ap (λ r. w.front ++ r) (sym (take-append-drop n rest)) ∙ sym (append_assoc w.front (take n rest) (drop n rest)));
+  whole = w.whole ∙ (ap (λ r. w.front ++ r) (sym (take-append-drop n rest))
+      ∙ sym (append_assoc w.front (take n rest) (drop n rest)));
   grown = Appends-join old mid new w.front (take n rest) w.grown k;
 }
 
 -- a prefix behind what was written before
-pub AppendsPrefix-behind : (old mid new : Option (List ℕ)) (a b more : List ℕ) → Appends old mid a → AppendsPrefix mid new b → AppendsPrefix old new (a ++ (b ++ more))
+pub AppendsPrefix-behind : (old mid new : Option (List ℕ)) (a b more : List ℕ) → Appends old mid a
+    → AppendsPrefix mid new b → AppendsPrefix old new (a ++ (b ++ more))
 AppendsPrefix-behind old mid new a b more h p = (
   p.0 ++ more,
   record {
     front = a ++ p.1.front;
-    whole = ap (λ z. a ++ (z ++ more)) p.1.whole ∙ (ap (λ z. a ++ z) (append_assoc p.1.front p.0 more) ∙ sym (append_assoc a p.1.front (p.0 ++ more)));
+    whole = ap (λ z. a ++ (z ++ more)) p.1.whole
+        ∙ (ap (λ z. a ++ z) (append_assoc p.1.front p.0 more) ∙ sym (append_assoc a p.1.front (p.0 ++ more)));
     grown = Appends-join old mid new a p.1.front h p.1.grown;
   },
 )

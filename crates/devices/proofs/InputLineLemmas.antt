@@ -1,5 +1,6 @@
 -- The line that is being read.
-use Rattle.std.proofs.Common.{◌≡◌, ℕ, zero, suc, ◌<◌, List, [], ◌∷◌, ◌++◌, length, take, refl, sym, ap, ◌∙◌, subst, arith, cond, Bool, true, false, not, Option, Some, None, append_assoc, append-nil}
+use Rattle.std.proofs.Common.{◌≡◌, ℕ, zero, suc, ◌<◌, List, [], ◌∷◌, ◌++◌, length, take, refl, sym, ap, ◌∙◌, subst}
+use Rattle.std.proofs.Common.{arith, cond, Bool, true, false, not, Option, Some, None, append_assoc, append-nil}
 use Rattle.std.proofs.lemmas.List.{take_all}
 use Rattle.std.specs.List.{onto_first}
 use Rattle.devices.specs.LineCuts.{HasNoLineFeed, cut_lines}
@@ -10,12 +11,14 @@ use Rattle.devices.specs.declared.input_lines.Part.TheVariants.{Within, Ended, A
 -- a line that ends with its feed
 cut-front : (u v : List ℕ) → HasNoLineFeed u → cut_lines (u ++ 10 ∷ v) ≡ u ∷ cut_lines v
 cut-front [] v h = refl
-cut-front (b ∷ u) v h = ap (λ t. cond t ([] ∷ cut_lines (u ++ 10 ∷ v)) (onto_first b (cut_lines (u ++ 10 ∷ v)))) h.0 ∙ ap (onto_first b) (cut-front u v h.1)
+cut-front (b ∷ u) v h = ap (λ t. cond t ([] ∷ cut_lines (u ++ 10 ∷ v)) (onto_first b (cut_lines (u ++ 10 ∷ v)))) h.0
+    ∙ ap (onto_first b) (cut-front u v h.1)
 
 -- one that the end cuts
 cut-last : (b : ℕ) (u : List ℕ) → HasNoLineFeed (b ∷ u) → cut_lines (b ∷ u) ≡ (b ∷ u) ∷ []
 cut-last b [] h = ap (λ t. cond t ([] ∷ []) ((b ∷ []) ∷ [])) h.0
-cut-last b (c ∷ u) h = ap (λ t. cond t ([] ∷ cut_lines (c ∷ u)) (onto_first b (cut_lines (c ∷ u)))) h.0 ∙ ap (onto_first b) (cut-last c u h.1)
+cut-last b (c ∷ u) h = ap (λ t. cond t ([] ∷ cut_lines (c ∷ u)) (onto_first b (cut_lines (c ∷ u)))) h.0
+    ∙ ap (onto_first b) (cut-last c u h.1)
 
 no_line_feed-append : (u v : List ℕ) → HasNoLineFeed u → HasNoLineFeed v → HasNoLineFeed (u ++ v)
 no_line_feed-append [] v h k = k
@@ -42,7 +45,8 @@ so_far-start most None = tt
 so_far-start most (Some text) = ([], refl, tt, sym (take_all most [] (omega arith)))
 
 module _ (most : ℕ) where
-  pub so_far-more : (before now after : Option (List ℕ)) (line new : List ℕ) → LineSoFar most before now line → TakesPart most Within now after line new → LineSoFar most before after new
+  pub so_far-more : (before now after : Option (List ℕ)) (line new : List ℕ) → LineSoFar most before now line
+      → TakesPart most Within now after line new → LineSoFar most before after new
   so_far-more None now after line new s p = tt
   so_far-more (Some text) None after line new s p = absurd s
   so_far-more (Some text) (Some now) None line new s p = absurd p
@@ -53,13 +57,15 @@ module _ (most : ℕ) where
     kept ∙ (ap (λ l. take most (l ++ piece)) held ∙ take-more most seen piece),
   )
 
-  pub so_far-ended : (before now after : Option (List ℕ)) (line new : List ℕ) → LineSoFar most before now line → TakesPart most Ended now after line new → TakesLine most true before after new
+  pub so_far-ended : (before now after : Option (List ℕ)) (line new : List ℕ) → LineSoFar most before now line
+      → TakesPart most Ended now after line new → TakesLine most true before after new
   so_far-ended None now after line new s p = tt
   so_far-ended (Some text) None after line new s p = absurd s
   so_far-ended (Some text) (Some now) None line new s p = absurd p
   so_far-ended (Some text) (Some now) (Some rest) line new (seen, whole, free, held) (piece, part, free_part, kept) = (
     seen ++ piece,
-    ap cut_lines (whole ∙ (ap (λ l. seen ++ l) part ∙ sym (append_assoc seen piece (10 ∷ rest)))) ∙ cut-front (seen ++ piece) rest (no_line_feed-append seen piece free free_part),
+    ap cut_lines (whole ∙ (ap (λ l. seen ++ l) part ∙ sym (append_assoc seen piece (10 ∷ rest))))
+        ∙ cut-front (seen ++ piece) rest (no_line_feed-append seen piece free free_part),
     kept ∙ (ap (λ l. take most (l ++ piece)) held ∙ take-more most seen piece),
   )
 
@@ -67,15 +73,21 @@ module _ (most : ℕ) where
   last [] free some = absurd (omega arith)
   last (b ∷ seen) free some = cut-last b seen free
 
-  pub so_far-last : (before now after : Option (List ℕ)) (line new : List ℕ) → LineSoFar most before now line → TakesPart most AtEnd now after line new → 0 < length new → TakesLine most true before after new
+  pub so_far-last : (before now after : Option (List ℕ)) (line new : List ℕ) → LineSoFar most before now line
+      → TakesPart most AtEnd now after line new → 0 < length new → TakesLine most true before after new
   so_far-last None now after line new s p some = tt
   so_far-last (Some text) None after line new s p some = absurd s
   so_far-last (Some text) (Some now) None line new s p some = absurd p
   so_far-last (Some text) (Some now) (Some rest) line new (seen, whole, free, held) (none, end, kept) some =
-      let some_held : 0 < length (take most seen) = omega (arith, ap length kept, ap length held) in
-      (seen, ap cut_lines (whole ∙ (ap (λ l. seen ++ l) none ∙ append-nil seen)) ∙ (last seen free (take-some most seen some_held) ∙ ap (λ l. seen ∷ cut_lines l) (sym end)), kept ∙ held)
+      let some_held : 0 < length (take most seen) = omega (arith, ap length kept, ap length held) in (
+        seen,
+        ap cut_lines (whole ∙ (ap (λ l. seen ++ l) none ∙ append-nil seen))
+            ∙ (last seen free (take-some most seen some_held) ∙ ap (λ l. seen ∷ cut_lines l) (sym end)),
+        kept ∙ held,
+      )
 
-  pub so_far-none : (before now after : Option (List ℕ)) (line new : List ℕ) → 0 < most → LineSoFar most before now line → TakesPart most AtEnd now after line new → length new ≡ 0 → TakesLine most false before after new
+  pub so_far-none : (before now after : Option (List ℕ)) (line new : List ℕ) → 0 < most → LineSoFar most before now line
+      → TakesPart most AtEnd now after line new → length new ≡ 0 → TakesLine most false before after new
   so_far-none None now after line new room s p none = tt
   so_far-none (Some text) None after line new room s p none = absurd s
   so_far-none (Some text) (Some now) None line new room s p none = absurd p
@@ -84,14 +96,19 @@ module _ (most : ℕ) where
       let empty = take-none most seen room none_held in
       (whole ∙ (ap (λ l. l ++ now) empty ∙ none_left), end)
 
-  pub so_far-end : (before now after : Option (List ℕ)) (line new : List ℕ) (empty : Bool) → 0 < most → (empty ≡ true → length new ≡ 0) → (empty ≡ false → 0 < length new) → LineSoFar most before now line → TakesPart most AtEnd now after line new → TakesLine most (not empty) before after new
-  so_far-end before now after line new true room none some s p = so_far-none before now after line new room s p (none refl)
+  pub so_far-end : (before now after : Option (List ℕ)) (line new : List ℕ) (empty : Bool) → 0 < most
+      → (empty ≡ true → length new ≡ 0) → (empty ≡ false → 0 < length new) → LineSoFar most before now line
+      → TakesPart most AtEnd now after line new → TakesLine most (not empty) before after new
+  so_far-end before now after line new true room none some s p = so_far-none before now after line new room s p
+      (none refl)
   so_far-end before now after line new false room none some s p = so_far-last before now after line new s p (some refl)
 
   -- the same, where the piece is named by an answer, and what is held by the reader
-  module _ (part : Part) (now after : Option (List ℕ)) (line new : List ℕ) (its : ℕ) (same : its ≡ most) (takes : TakesPart its part now after line new) (before : Option (List ℕ)) where
+  module _ (part : Part) (now after : Option (List ℕ)) (line new : List ℕ) (its : ℕ) (same : its ≡ most)
+      (takes : TakesPart its part now after line new) (before : Option (List ℕ)) where
     taken_as : (q : Part) → part ≡ q → TakesPart most q now after line new
-    taken_as q e = subst (λ p. TakesPart most p now after line new) e (subst (λ m. TakesPart m part now after line new) same takes)
+    taken_as q e = subst (λ p. TakesPart most p now after line new) e
+        (subst (λ m. TakesPart m part now after line new) same takes)
 
     pub after_within : part ≡ Within → LineSoFar most before now line → LineSoFar most before after new
     after_within e s = so_far-more before now after line new s (taken_as Within e)
@@ -99,7 +116,9 @@ module _ (most : ℕ) where
     pub after_ended : part ≡ Ended → LineSoFar most before now line → TakesLine most true before after new
     after_ended e s = so_far-ended before now after line new s (taken_as Ended e)
 
-    pub after_end : (empty : Bool) → part ≡ AtEnd → 0 < most → (empty ≡ true → length new ≡ 0) → (empty ≡ false → 0 < length new) → LineSoFar most before now line → TakesLine most (not empty) before after new
+    pub after_end : (empty : Bool) → part ≡ AtEnd → 0 < most → (empty ≡ true → length new ≡ 0)
+        → (empty ≡ false → 0 < length new) → LineSoFar most before now line
+        → TakesLine most (not empty) before after new
     after_end empty e room none some s = so_far-end before now after line new empty room none some s (taken_as AtEnd e)
 
 pub within_goes_on : (part : Part) → part ≡ Within → part ≡ AtEnd → ⊥

@@ -11,11 +11,21 @@ pub wrote_nothing : (old : Option (List ℕ)) (text : List ℕ) → AppendsPrefi
 wrote_nothing old text = (text, record { front = []; whole = refl; grown = Appends-none old })
 
 -- a front of a text is a front of a longer one
-pub prefix_longer : (old new : Option (List ℕ)) (text more : List ℕ) → AppendsPrefix old new text → AppendsPrefix old new (text ++ more)
-prefix_longer old new text more (rest, w) = (rest ++ more, record { front = w.front; whole = ap (λ t. t ++ more) w.whole ∙ append_assoc w.front rest more; grown = w.grown })
+pub prefix_longer : (old new : Option (List ℕ)) (text more : List ℕ) → AppendsPrefix old new text
+    → AppendsPrefix old new (text ++ more)
+prefix_longer old new text more (rest, w) = (
+  rest ++ more,
+  record {
+    front = w.front;
+    whole = ap (λ t. t ++ more) w.whole
+        ∙ append_assoc w.front rest more;
+    grown = w.grown;
+  },
+)
 
 -- a text and then a front of the next
-pub prefix_after : (old mid new : Option (List ℕ)) (text more : List ℕ) → Appends old mid text → AppendsPrefix mid new more → AppendsPrefix old new (text ++ more)
+pub prefix_after : (old mid new : Option (List ℕ)) (text more : List ℕ) → Appends old mid text
+    → AppendsPrefix mid new more → AppendsPrefix old new (text ++ more)
 prefix_after old mid new text more a (rest, w) = (
   rest,
   record {
@@ -26,21 +36,26 @@ prefix_after old mid new text more a (rest, w) = (
 )
 
 -- a whole text is a front of it
-pub prefix_whole : (old new : Option (List ℕ)) (text more : List ℕ) → Appends old new text → AppendsPrefix old new (text ++ more)
+pub prefix_whole : (old new : Option (List ℕ)) (text more : List ℕ) → Appends old new text
+    → AppendsPrefix old new (text ++ more)
 prefix_whole old new text more a = (more, record { front = text; whole = refl; grown = a })
 
 -- ---- an answer and what it says of the text
 
 -- a refusal, after which the output has a front of the text
-pub writes_prefix : {A E : Type 0} (Q : E → Type 0) (r : Result A E) (old new : Option (List ℕ)) (text : List ℕ) → IsErrAnd r Q → AppendsPrefix old new text → WritesText r old new text
+pub writes_prefix : {A E : Type 0} (Q : E → Type 0) (r : Result A E) (old new : Option (List ℕ)) (text : List ℕ)
+    → IsErrAnd r Q → AppendsPrefix old new text → WritesText r old new text
 writes_prefix Q (Ok x) old new text h p = absurd h
 writes_prefix Q (Err e) old new text h p = p
 
 -- a refusal before anything was written
-pub writes_nothing : {A E : Type 0} (Q : E → Type 0) (r : Result A E) (old : Option (List ℕ)) (text : List ℕ) → IsErrAnd r Q → WritesText r old old text
+pub writes_nothing : {A E : Type 0} (Q : E → Type 0) (r : Result A E) (old : Option (List ℕ)) (text : List ℕ)
+    → IsErrAnd r Q → WritesText r old old text
 writes_nothing Q r old text h = writes_prefix Q r old old text h (wrote_nothing old text)
 
 -- the text is a part of another
-pub writes_whole : {A E : Type 0} (r : Result A E) (old now new : Option (List ℕ)) (part whole : List ℕ) → (Appends now new part → Appends old new whole) → (AppendsPrefix now new part → AppendsPrefix old new whole) → WritesText r now new part → WritesText r old new whole
+pub writes_whole : {A E : Type 0} (r : Result A E) (old now new : Option (List ℕ)) (part whole : List ℕ)
+    → (Appends now new part → Appends old new whole) → (AppendsPrefix now new part → AppendsPrefix old new whole)
+    → WritesText r now new part → WritesText r old new whole
 writes_whole (Ok x) old now new part whole f g w = f w
 writes_whole (Err e) old now new part whole f g w = g w

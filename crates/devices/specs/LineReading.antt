@@ -1,5 +1,6 @@
 -- What the reading of a line takes from an input.
-use Rattle.std.specs.Prelude.{◌≡◌, ℕ, ◌+◌, ◌-◌, ◌^◌, ◌≤◌, ⊤, Bool, true, false, List, [], ◌∷◌, ◌++◌, length, take, Option, None, Some, Result, MatchResult}
+use Rattle.std.specs.Prelude.{◌≡◌, ℕ, ◌+◌, ◌-◌, ◌^◌, ◌≤◌, ⊤, Bool, true, false, List, [], ◌∷◌, ◌++◌, length, take}
+use Rattle.std.specs.Prelude.{Option, None, Some, Result, MatchResult}
 use Rattle.devices.specs.Device.{next_count}
 use Rattle.devices.specs.LineCuts.{HasNoLineFeed, cut_lines}
 use Rattle.devices.specs.declared.input_lines.Part.{Part}
@@ -18,8 +19,10 @@ pub record LineState : Type 0 where
 abbrev pub TakesPart : ℕ → Part → Option (List ℕ) → Option (List ℕ) → List ℕ → List ℕ → Type 0
 TakesPart most part None after line new = ⊤
 TakesPart most part (Some text) None line new = ⊥
-TakesPart most Within (Some text) (Some rest) line new = (piece : List ℕ) × (text ≡ piece ++ rest) × HasNoLineFeed piece × (new ≡ take most (line ++ piece))
-TakesPart most Ended (Some text) (Some rest) line new = (piece : List ℕ) × (text ≡ piece ++ 10 ∷ rest) × HasNoLineFeed piece × (new ≡ take most (line ++ piece))
+TakesPart most Within (Some text) (Some rest) line new = (piece : List ℕ) × (text ≡ piece ++ rest) × HasNoLineFeed piece
+    × (new ≡ take most (line ++ piece))
+TakesPart most Ended (Some text) (Some rest) line new = (piece : List ℕ) × (text ≡ piece ++ 10 ∷ rest)
+    × HasNoLineFeed piece × (new ≡ take most (line ++ piece))
 TakesPart most AtEnd (Some text) (Some rest) line new = (text ≡ []) × (rest ≡ []) × (new ≡ line)
 
 -- so many bytes were taken before and after
@@ -33,13 +36,15 @@ abbrev pub TakesLine : ℕ → Bool → Option (List ℕ) → Option (List ℕ) 
 TakesLine most found None after line = ⊤
 TakesLine most found (Some text) None line = ⊥
 TakesLine most false (Some text) (Some rest) line = (text ≡ []) × (rest ≡ [])
-TakesLine most true (Some text) (Some rest) line = (seen : List ℕ) × (cut_lines text ≡ seen ∷ cut_lines rest) × (line ≡ take most seen)
+TakesLine most true (Some text) (Some rest) line = (seen : List ℕ) × (cut_lines text ≡ seen ∷ cut_lines rest)
+    × (line ≡ take most seen)
 
 -- the bytes of the line so far
 abbrev pub LineSoFar : ℕ → Option (List ℕ) → Option (List ℕ) → List ℕ → Type 0
 LineSoFar most None now line = ⊤
 LineSoFar most (Some text) None line = ⊥
-LineSoFar most (Some text) (Some rest) line = (seen : List ℕ) × (text ≡ seen ++ rest) × HasNoLineFeed seen × (line ≡ take most seen)
+LineSoFar most (Some text) (Some rest) line = (seen : List ℕ) × (text ≡ seen ++ rest) × HasNoLineFeed seen
+    × (line ≡ take most seen)
 
 -- an input of this many bytes after those that were taken is too long
 abbrev pub IsTooLong : Option (List ℕ) → ℕ → Type 0
@@ -53,4 +58,5 @@ IsLineFault Read old new text taken = new ≡ next_count old
 IsLineFault TooLong old new text taken = (new ≡ old) × IsTooLong text taken
 
 abbrev pub CountsLineRead : {A : Type 0} → Result A InputLineFault → ℕ → ℕ → Option (List ℕ) → ℕ → Type 0
-CountsLineRead result old new text taken = MatchResult result (λ _. new ≡ old) (λ fault. IsLineFault fault old new text taken)
+CountsLineRead result old new text taken = MatchResult result (λ _. new ≡ old)
+    (λ fault. IsLineFault fault old new text taken)

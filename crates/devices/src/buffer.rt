@@ -24,7 +24,8 @@ impl Model for Buffer {
 
     ghost view = { λ b. take (b.to - b.from) (drop b.from b.bytes.items) };
 
-    ghost invariant = { λ b. (b.from ≤ b.to) × (b.to ≤ length b.bytes.items) × (0 < length b.bytes.items) };
+    ghost invariant = { λ b. (b.from ≤ b.to) × (b.to ≤ length b.bytes.items)
+        × (0 < length b.bytes.items) };
 }
 
 impl Buffer {
@@ -59,7 +60,8 @@ impl Buffer {
     ///
     /// The only error is the input's failure.
     pub fn fill<I: Input>(&mut self, input: &mut I) -> Result<(), DeviceFault>
-        ensures bytes { Keeps (prepend_known self.old (I.remaining input.old)) (prepend_known self.new (I.remaining input.new)) }
+        ensures bytes { Keeps (prepend_known self.old (I.remaining input.old))
+            (prepend_known self.new (I.remaining input.new)) }
         ensures end { OnOk result (self.new ≡ [] → IsAtEnd (I.remaining input.new)) }
         ensures failures { CountsFailure result (I.failures input.old) (I.failures input.new) }
     {
@@ -87,8 +89,10 @@ impl Buffer {
     /// The only error is the input's failure.
     pub fn skip<I: Input>(&mut self, input: &mut I, count: u64) -> Result<u64, DeviceFault>
         ensures bound { IfOk result (λ n. n ≤ count) }
-        ensures bytes { ConsumesCount (prepend_known self.old (I.remaining input.old)) (prepend_known self.new (I.remaining input.new)) result }
-        ensures end { IfOk result (λ n. n ≡ 0 → 0 < count → IsAtEnd (prepend_known self.new (I.remaining input.new))) }
+        ensures bytes { ConsumesCount (prepend_known self.old (I.remaining input.old))
+            (prepend_known self.new (I.remaining input.new)) result }
+        ensures end { IfOk result (λ n. n ≡ 0 → 0 < count
+            → IsAtEnd (prepend_known self.new (I.remaining input.new))) }
         ensures failures { CountsFailure result (I.failures input.old) (I.failures input.new) }
     {
         if !self.as_slice().is_empty() {

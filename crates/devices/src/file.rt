@@ -32,9 +32,11 @@ impl<F: Seek + Drop> FromFile<F> {
     ///
     /// The only error is that the file can't be set back to its start.
     pub fn new(mut file: F) -> Result<FromFile<F>, DeviceFault>
-        ensures left { (position : ℕ) → (bytes : List ℕ) → F.stream_position file ≡ Some position → F.stream_bytes file ≡ Some bytes
+        ensures left { (position : ℕ) → (bytes : List ℕ) → F.stream_position file ≡ Some position
+            → F.stream_bytes file ≡ Some bytes
             → IfOk result (λ input. (file_left input ≡ length bytes) ⊎ (file_left input ≡ 0)) }
-        ensures start { F.stream_position file ≡ Some 0 → IfOk result (λ input. F.stream_position (file_of input) ≡ Some 0) }
+        ensures start { F.stream_position file ≡ Some 0
+            → IfOk result (λ input. F.stream_position (file_of input) ≡ Some 0) }
         ensures failures { IfOk result (λ input. file_failures input ≡ 0) }
     {
         let left = size_of(&mut file)?;
@@ -50,10 +52,12 @@ impl<F: Seek + Drop> FromFile<F> {
 /// Returns the size of a file, and sets the file to its start. Returns 0 if the file has no end to seek to, or if its
 /// size isn't below 2^63.
 fn size_of<F: Seek>(file: &mut F) -> Result<u64, DeviceFault>
-    ensures size { (position : ℕ) → (bytes : List ℕ) → F.stream_position file.old ≡ Some position → F.stream_bytes file.old ≡ Some bytes
+    ensures size { (position : ℕ) → (bytes : List ℕ) → F.stream_position file.old ≡ Some position
+        → F.stream_bytes file.old ≡ Some bytes
         → IfOk result (λ size. (size ≡ length bytes) ⊎ (size ≡ 0)) }
     ensures limit { IfOk result (λ size. size < 2 ^ 63) }
-    ensures start { F.stream_position file.old ≡ Some 0 → OnOk result (F.stream_position file.new ≡ Some 0) }
+    ensures start { F.stream_position file.old ≡ Some 0
+        → OnOk result (F.stream_position file.new ≡ Some 0) }
 {
     match file.seek(SeekFrom::End(0)) {
         Ok(size) => match file.rewind() {
@@ -77,8 +81,10 @@ impl<F: Read + Seek> Input for FromFile<F> {
         ensures bound { IfOk result (λ n. n ≤ length piece.new) }
         ensures bytes { ReadConsumes None None result piece.new }
         ensures failures { CountsFailure result (file_failures self.old) (file_failures self.new) }
-        ensures file { ReadConsumes (F.remaining (file_of self.old)) (F.remaining (file_of self.new)) result piece.new }
-        ensures left { MatchResult result (λ n. file_left self.new ≡ file_left self.old - n) (λ _. file_left self.new ≡ file_left self.old) }
+        ensures file { ReadConsumes (F.remaining (file_of self.old))
+            (F.remaining (file_of self.new)) result piece.new }
+        ensures left { MatchResult result (λ n. file_left self.new ≡ file_left self.old - n)
+            (λ _. file_left self.new ≡ file_left self.old) }
     {
         let most = piece.len().min(self.next_read);
         match self.file.read(&mut piece[..most]) {
@@ -101,7 +107,8 @@ impl<F: Read + Seek> Input for FromFile<F> {
         ensures bytes { ConsumesCount None None result }
         ensures failures { CountsFailure result (file_failures self.old) (file_failures self.new) }
         ensures skips { IfOk result (λ n. n ≡ skippable LEAST_SKIP count (file_left self.old)) }
-        ensures left { MatchResult result (λ n. file_left self.new ≡ file_left self.old - n) (λ _. file_left self.new ≡ file_left self.old) }
+        ensures left { MatchResult result (λ n. file_left self.new ≡ file_left self.old - n)
+            (λ _. file_left self.new ≡ file_left self.old) }
         ensures moves { (position : ℕ) → F.stream_position (file_of self.old) ≡ Some position
             → IfOk result (λ n. F.stream_position (file_of self.new) ≡ Some (position + n)) }
     {

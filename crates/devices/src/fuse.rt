@@ -40,7 +40,8 @@ impl<D> Fuse<D> {
 
     /// Counts a call, and returns whether it is the one that fails.
     pub fn blows(&mut self) -> bool
-        ensures call { self.new ≡ record self.old { calls = min (self.old.calls + 1) (2 ^ 64 - 1) } }
+        ensures call { self.new
+            ≡ record self.old { calls = min (self.old.calls + 1) (2 ^ 64 - 1) } }
         ensures at { IsTrue result ↔ IsBlown self.new.calls self.old.at }
     {
         self.calls = self.calls.saturating_add(1);
@@ -57,7 +58,8 @@ impl<D: Input> Input for Fuse<D> {
 
     fn read(&mut self, piece: &mut [u8]) -> Result<usize, DeviceFault>
         ensures bound { IfOk result (λ n. n ≤ length piece.new) }
-        ensures bytes { ReadConsumes (D.remaining self.old.device) (D.remaining self.new.device) result piece.new }
+        ensures bytes { ReadConsumes (D.remaining self.old.device) (D.remaining self.new.device)
+            result piece.new }
         ensures failures { CountsFailure result self.old.failures self.new.failures }
         ensures call { IsFusedCall (λ d. D.failures d) self.old self.new result }
     {
@@ -73,7 +75,8 @@ impl<D: Input> Input for Fuse<D> {
 
     fn skip(&mut self, count: u64) -> Result<u64, DeviceFault>
         ensures bound { IfOk result (λ n. n ≤ count) }
-        ensures bytes { ConsumesCount (D.remaining self.old.device) (D.remaining self.new.device) result }
+        ensures bytes { ConsumesCount (D.remaining self.old.device) (D.remaining self.new.device)
+            result }
         ensures failures { CountsFailure result self.old.failures self.new.failures }
         ensures call { IsFusedCall (λ d. D.failures d) self.old self.new result }
     {
@@ -97,7 +100,8 @@ impl<D: Output> Output for Fuse<D> {
 
     fn write(&mut self, piece: &[u8]) -> Result<usize, DeviceFault>
         ensures some { IfOk result (TakesSome piece.now) }
-        ensures bytes { WriteAppends (D.written self.old.device) (D.written self.new.device) result piece.now }
+        ensures bytes { WriteAppends (D.written self.old.device) (D.written self.new.device) result
+            piece.now }
         ensures failures { CountsFailure result self.old.failures self.new.failures }
         ensures call { IsFusedCall (λ d. D.failures d) self.old self.new result }
     {

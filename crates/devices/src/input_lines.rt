@@ -76,9 +76,16 @@ pub struct InputLines {
 impl Model for InputLines {
     ghost Value = { LineState };
 
-    ghost view = { λ l. record { buffer = l.buffer; line = l.line.items; most = l.most; taken = l.taken } };
+    ghost view = { λ l. record {
+      buffer = l.buffer;
+      line = l.line.items;
+      most = l.most;
+      taken =
+          l.taken;
+    } };
 
-    ghost invariant = { λ l. (0 < l.most) × (length l.line.items ≤ l.most) × (l.taken < 2 ^ 63 - 1) };
+    ghost invariant = { λ l. (0 < l.most) × (length l.line.items ≤ l.most)
+        × (l.taken < 2 ^ 63 - 1) };
 }
 
 impl InputLines {
@@ -89,7 +96,8 @@ impl InputLines {
     /// error is refused memory.
     pub fn new(alloc: Global, most: usize) -> Result<InputLines, AllocError>
         requires { 0 < most }
-        ensures { IfOk result (λ lines. (lines.buffer ≡ []) × (lines.taken ≡ 0) × (lines.most ≡ most)) }
+        ensures { IfOk result (λ lines. (lines.buffer ≡ []) × (lines.taken ≡ 0)
+            × (lines.most ≡ most)) }
     {
         let buffer = Buffer::new(alloc)?;
         Ok(InputLines {
@@ -114,7 +122,8 @@ impl InputLines {
         ensures line { (self.new.line ≡ self.old.line) × (self.new.most ≡ self.old.most) }
         ensures rest { OnOk result (self.new.buffer ≡ drop count self.old.buffer) }
         ensures taken { OnOk result (self.new.taken ≡ self.old.taken + count) }
-        ensures full { IfErr result (λ fault. (fault ≡ TooLong) × (2 ^ 63 - 1 ≤ self.old.taken + count)) }
+        ensures full { IfErr result (λ fault. (fault ≡ TooLong)
+            × (2 ^ 63 - 1 ≤ self.old.taken + count)) }
     {
         let taken = self.taken.saturating_add(count as u64);
         if taken >= INPUT_LIMIT {
@@ -129,11 +138,16 @@ impl InputLines {
     fn take_held(&mut self) -> Result<Part, InputLineFault>
         ensures within { OnOk result (self.new.taken < 2 ^ 63 - 1) }
         ensures most { self.new.most ≡ self.old.most }
-        ensures part { IfOk result (λ part. TakesPart self.old.most part (Some self.old.buffer) (Some self.new.buffer) self.old.line self.new.line) }
-        ensures count { OnOk result (self.old.taken + length self.old.buffer ≡ self.new.taken + length self.new.buffer) }
+        ensures part { IfOk result
+            (λ part. TakesPart self.old.most part (Some self.old.buffer) (Some self.new.buffer)
+            self.old.line self.new.line) }
+        ensures count { OnOk result (self.old.taken + length self.old.buffer
+            ≡ self.new.taken + length self.new.buffer) }
         ensures some { IfOk result (λ part. part ≢ AtEnd → self.old.taken < self.new.taken) }
-        ensures end { IfOk result (λ part. part ≡ AtEnd → (self.new.line ≡ self.old.line) × (self.new.taken ≡ self.old.taken)) }
-        ensures full { IfErr result (λ fault. (fault ≡ Memory) ⊎ ((fault ≡ TooLong) × (2 ^ 63 - 1 ≤ self.old.taken + length self.old.buffer))) }
+        ensures end { IfOk result (λ part. part ≡ AtEnd → (self.new.line ≡ self.old.line)
+            × (self.new.taken ≡ self.old.taken)) }
+        ensures full { IfErr result (λ fault. (fault ≡ Memory)
+            ⊎ ((fault ≡ TooLong) × (2 ^ 63 - 1 ≤ self.old.taken + length self.old.buffer))) }
     {
         let piece = self.buffer.as_slice();
         if piece.is_empty() {
@@ -158,11 +172,18 @@ impl InputLines {
     fn take_part<I: Input>(&mut self, input: &mut I) -> Result<Part, InputLineFault>
         ensures within { OnOk result (self.new.taken < 2 ^ 63 - 1) }
         ensures most { self.new.most ≡ self.old.most }
-        ensures part { IfOk result (λ part. TakesPart self.old.most part (prepend_known self.old.buffer (I.remaining input.old)) (prepend_known self.new.buffer (I.remaining input.new)) self.old.line self.new.line) }
-        ensures count { OnOk result (CountsTaken (prepend_known self.old.buffer (I.remaining input.old)) (prepend_known self.new.buffer (I.remaining input.new)) self.old.taken self.new.taken) }
+        ensures part { IfOk result
+            (λ part. TakesPart self.old.most part
+            (prepend_known self.old.buffer (I.remaining input.old))
+            (prepend_known self.new.buffer (I.remaining input.new)) self.old.line self.new.line) }
+        ensures count { OnOk result
+            (CountsTaken (prepend_known self.old.buffer (I.remaining input.old))
+            (prepend_known self.new.buffer (I.remaining input.new)) self.old.taken self.new.taken) }
         ensures some { IfOk result (λ part. part ≢ AtEnd → self.old.taken < self.new.taken) }
-        ensures end { IfOk result (λ part. part ≡ AtEnd → (self.new.line ≡ self.old.line) × (self.new.taken ≡ self.old.taken)) }
-        ensures failures { CountsLineRead result (I.failures input.old) (I.failures input.new) (prepend_known self.old.buffer (I.remaining input.old)) self.old.taken }
+        ensures end { IfOk result (λ part. part ≡ AtEnd → (self.new.line ≡ self.old.line)
+            × (self.new.taken ≡ self.old.taken)) }
+        ensures failures { CountsLineRead result (I.failures input.old) (I.failures input.new)
+            (prepend_known self.old.buffer (I.remaining input.old)) self.old.taken }
     {
         self.buffer.fill(input)?;
         self.take_held()
@@ -175,10 +196,16 @@ impl InputLines {
     pub fn next<I: Input>(&mut self, input: &mut I) -> Result<bool, InputLineFault>
         ensures within { OnOk result (self.new.taken < 2 ^ 63 - 1) }
         ensures most { self.new.most ≡ self.old.most }
-        ensures line { IfOk result (λ found. TakesLine self.old.most found (prepend_known self.old.buffer (I.remaining input.old)) (prepend_known self.new.buffer (I.remaining input.new)) self.new.line) }
-        ensures count { OnOk result (CountsTaken (prepend_known self.old.buffer (I.remaining input.old)) (prepend_known self.new.buffer (I.remaining input.new)) self.old.taken self.new.taken) }
+        ensures line { IfOk result
+            (λ found. TakesLine self.old.most found
+            (prepend_known self.old.buffer (I.remaining input.old))
+            (prepend_known self.new.buffer (I.remaining input.new)) self.new.line) }
+        ensures count { OnOk result
+            (CountsTaken (prepend_known self.old.buffer (I.remaining input.old))
+            (prepend_known self.new.buffer (I.remaining input.new)) self.old.taken self.new.taken) }
         ensures some { IfOk result (λ found. found ≡ true → self.old.taken < self.new.taken) }
-        ensures failures { CountsLineRead result (I.failures input.old) (I.failures input.new) (prepend_known self.old.buffer (I.remaining input.old)) self.old.taken }
+        ensures failures { CountsLineRead result (I.failures input.old) (I.failures input.new)
+            (prepend_known self.old.buffer (I.remaining input.old)) self.old.taken }
     {
         self.line.clear();
         loop {

@@ -42,7 +42,8 @@ fn ends_reply(piece: &[u8]) -> bool {
 /// Writes a piece, and flushes the writer if the piece was taken whole and ends a reply.
 fn write_promptly<W: io::Write>(writer: &mut W, piece: &[u8]) -> Result<usize, io::Error>
     ensures bound { IfOk result (λ n. n ≤ length piece.now) }
-    ensures writes { IfOk result (λ n. Appends (W.contents writer.old) (W.contents writer.new) (take n piece.now)) }
+    ensures writes { IfOk result
+        (λ n. Appends (W.contents writer.old) (W.contents writer.new) (take n piece.now)) }
 {
     let count = writer.write(piece)?;
     if count == piece.len() && ends_reply(piece) {
@@ -60,7 +61,8 @@ impl<W: io::Write> Output for Prompt<W> {
     fn write(&mut self, piece: &[u8]) -> Result<usize, DeviceFault>
         ensures some { IfOk result (TakesSome piece.now) }
         ensures bytes { WriteAppends None None result piece.now }
-        ensures failures { CountsFailure result (prompt_failures self.old) (prompt_failures self.new) }
+        ensures failures { CountsFailure result (prompt_failures self.old)
+            (prompt_failures self.new) }
         ensures writer { IfOk result (λ n.
             Appends (W.contents (prompt_writer self.old)) (W.contents (prompt_writer self.new)) (take n piece.now)) }
     {

@@ -40,7 +40,8 @@ impl<R: io::Read> Input for FromRead<R> {
         ensures bound { IfOk result (λ n. n ≤ length piece.new) }
         ensures bytes { ReadConsumes None None result piece.new }
         ensures failures { CountsFailure result (read_failures self.old) (read_failures self.new) }
-        ensures reader { ReadConsumes (R.remaining (reader_of self.old)) (R.remaining (reader_of self.new)) result piece.new }
+        ensures reader { ReadConsumes (R.remaining (reader_of self.old))
+            (R.remaining (reader_of self.new)) result piece.new }
     {
         match self.reader.read(piece) {
             Ok(count) => Ok(count),
@@ -98,7 +99,8 @@ impl<W: io::Write> Output for FromWrite<W> {
         ensures some { IfOk result (TakesSome piece.now) }
         ensures bytes { WriteAppends None None result piece.now }
         ensures failures { CountsFailure result (write_failures self.old) (write_failures self.new) }
-        ensures writer { WriteAppends (W.contents (writer_of self.old)) (W.contents (writer_of self.new)) result piece.now }
+        ensures writer { WriteAppends (W.contents (writer_of self.old))
+            (W.contents (writer_of self.new)) result piece.now }
     {
         match self.writer.write(piece) {
             Ok(count) if count > 0 || piece.is_empty() => Ok(count),

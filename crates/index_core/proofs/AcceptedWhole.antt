@@ -10,11 +10,14 @@ use Rattle.capture_core.proofs.Captures.{one_capture}
 use Rattle.index_core.specs.Accepted.{IsTaken, AreCaptured, FitsLine}
 use Rattle.index_core.specs.Laws.{AcceptedIsWhole}
 
-all_taken : (types : Kind → Bool) (limits : Limits) (limit : ℕ) (name archive : List ℕ) (heads : List HeadView) (captures : List EntryValue)
-    → AreCaptured types limits limit name archive heads captures → AllByRecursion (IsTaken types limits limit name archive) heads
+all_taken : (types : Kind → Bool) (limits : Limits) (limit : ℕ) (name archive : List ℕ) (heads : List HeadView)
+    (captures : List EntryValue)
+    → AreCaptured types limits limit name archive heads captures
+    → AllByRecursion (IsTaken types limits limit name archive) heads
 all_taken types limits limit name archive [] captures c = tt
 all_taken types limits limit name archive (h ∷ heads) captures c = (
-  λ other is. subst (λ o. IfSome o (FitsLine types limits limit name)) (one_capture types limits.head limits.fields h (block_at h (drop h.start archive)) name c.0 other c.2.0 is) c.2.1,
+  λ other is. subst (λ o. IfSome o (FitsLine types limits limit name))
+      (one_capture types limits.head limits.fields h (block_at h (drop h.start archive)) name c.0 other c.2.0 is) c.2.1,
   all_taken types limits limit name archive heads c.1 c.3,
 )
 

@@ -1,5 +1,6 @@
 -- The copying of a record, piece by piece.
-use Rattle.std.proofs.Common.{◌≡◌, ◌∙◌, ℕ, ◌+◌, ◌-◌, ◌≤◌, List, [], ◌++◌, Option, None, Some, Result, Ok, Err, IfSome, length, take, sym, ap, refl, subst, append_assoc, length-append, arith}
+use Rattle.std.proofs.Common.{◌≡◌, ◌∙◌, ℕ, ◌+◌, ◌-◌, ◌≤◌, List, [], ◌++◌, Option, None, Some, Result, Ok, Err, IfSome}
+use Rattle.std.proofs.Common.{length, take, sym, ap, refl, subst, append_assoc, length-append, arith}
 use Rattle.std.proofs.lemmas.List.{length-take-le}
 use Rattle.std.specs.Io.KnownBytes.{Appends, Consumes, prepend_known}
 use Rattle.warc_core.specs.declared.fault.Cause.{Cause}
@@ -24,12 +25,15 @@ use Rattle.index_core.specs.Copying.{WroteFront, CopiesBlock, CopiesRecord}
 -- ---- fronts of what is known
 
 -- what was taken stands in front
-front_there : (known known' : Option (List ℕ)) (a : List ℕ) → Consumes known known' a → IfSome known (λ bytes. (more : List ℕ) × (bytes ≡ a ++ more))
+front_there : (known known' : Option (List ℕ)) (a : List ℕ) → Consumes known known' a
+    → IfSome known (λ bytes. (more : List ℕ) × (bytes ≡ a ++ more))
 front_there None known' a c = tt
 front_there (Some z) None a c = absurd c
 front_there (Some z) (Some w) a c = (w, c)
 
-begins_behind : (known known' : Option (List ℕ)) (a front : List ℕ) → Consumes known known' a → IfSome known' (λ bytes. (more : List ℕ) × (bytes ≡ front ++ more)) → IfSome known (λ bytes. (more : List ℕ) × (bytes ≡ (a ++ front) ++ more))
+begins_behind : (known known' : Option (List ℕ)) (a front : List ℕ) → Consumes known known' a
+    → IfSome known' (λ bytes. (more : List ℕ) × (bytes ≡ front ++ more))
+    → IfSome known (λ bytes. (more : List ℕ) × (bytes ≡ (a ++ front) ++ more))
 begins_behind None known' a front c b = tt
 begins_behind (Some z) None a front c b = absurd c
 begins_behind (Some z) (Some w) a front c b = (b.0, c ∙ (ap (λ t. a ++ t) b.1 ∙ sym (append_assoc a front b.0)))
@@ -40,12 +44,21 @@ consumes_head raw None = tt
 consumes_head raw (Some z) = refl
 
 -- all that was taken was written
-pub wrote_all : (a : List ℕ) (known known' old new : Option (List ℕ)) → Consumes known known' a → Appends old new a → WroteFront (length a) known old new
-wrote_all a known known' old new c k = record { front = a; most = omega arith; begins = front_there known known' a c; grown = k }
+pub wrote_all : (a : List ℕ) (known known' old new : Option (List ℕ)) → Consumes known known' a → Appends old new a
+    → WroteFront (length a) known old new
+wrote_all a known known' old new c k =
+    record { front = a; most = omega arith; begins = front_there known known' a c; grown = k }
 
 -- a prefix of what was taken was written
-pub wrote_part : (a : List ℕ) (known known' old new : Option (List ℕ)) → Consumes known known' a → AppendsPrefix old new a → WroteFront (length a) known old new
-wrote_part a None known' old new c p = record { front = p.1.front; most = omega (arith, ap length p.1.whole, length-append p.1.front p.0); begins = tt; grown = p.1.grown }
+pub wrote_part : (a : List ℕ) (known known' old new : Option (List ℕ)) → Consumes known known' a
+    → AppendsPrefix old new a → WroteFront (length a) known old new
+wrote_part a None known' old new c p =
+    record {
+      front = p.1.front;
+      most = omega (arith, ap length p.1.whole, length-append p.1.front p.0);
+      begins = tt;
+      grown = p.1.grown;
+    }
 wrote_part a (Some z) None old new c p = absurd c
 wrote_part a (Some z) (Some w) old new c p = record {
   front = p.1.front;
@@ -55,7 +68,8 @@ wrote_part a (Some z) (Some w) old new c p = record {
 }
 
 -- a front behind what was written before
-pub wrote_behind : (n : ℕ) (a : List ℕ) (known known' old mid new : Option (List ℕ)) → Consumes known known' a → Appends old mid a → WroteFront n known' mid new → WroteFront (length a + n) known old new
+pub wrote_behind : (n : ℕ) (a : List ℕ) (known known' old mid new : Option (List ℕ)) → Consumes known known' a
+    → Appends old mid a → WroteFront n known' mid new → WroteFront (length a + n) known old new
 wrote_behind n a known known' old mid new c k w = record {
   front = a ++ w.front;
   most = (let most = w.most in omega (arith, most, length-append a w.front));
@@ -63,20 +77,24 @@ wrote_behind n a known known' old mid new c k w = record {
   grown = Appends-join old mid new a w.front k w.grown;
 }
 
-pub wrote_within : (n m : ℕ) (known old new : Option (List ℕ)) → n ≤ m → WroteFront n known old new → WroteFront m known old new
-wrote_within n m known old new l w = record { front = w.front; most = (let most = w.most in omega (arith, most, l)); begins = w.begins; grown = w.grown }
+pub wrote_within : (n m : ℕ) (known old new : Option (List ℕ)) → n ≤ m → WroteFront n known old new
+    → WroteFront m known old new
+wrote_within n m known old new l w =
+    record { front = w.front; most = (let most = w.most in omega (arith, most, l)); begins = w.begins; grown = w.grown }
 
 -- ---- a block
 
 -- What was written of an open record's block, of which rest bytes are left.
-pub record Copying (left len rest : ℕ) (old now : ReaderView) (before mid written written' : Option (List ℕ)) : Type 0 where
-  pub taken : List ℕ
-  pub whole : length taken + rest ≡ left
-  pub given : Consumes (prepend_known old.held before) (prepend_known now.held mid) taken
-  pub stands : StandsAt now old.offset (Open rest len)
-  pub grown : Appends written written' taken
+pub record Copying (left len rest : ℕ) (old now : ReaderView) (before mid written written' : Option (List ℕ)) : Type 0
+  where
+    pub taken : List ℕ
+    pub whole : length taken + rest ≡ left
+    pub given : Consumes (prepend_known old.held before) (prepend_known now.held mid) taken
+    pub stands : StandsAt now old.offset (Open rest len)
+    pub grown : Appends written written' taken
 
-pub Copying-start : (left len : ℕ) (old : ReaderView) (before written : Option (List ℕ)) → old.phase ≡ Open left len → Copying left len left old old before before written written
+pub Copying-start : (left len : ℕ) (old : ReaderView) (before written : Option (List ℕ)) → old.phase ≡ Open left len
+    → Copying left len left old old before before written written
 Copying-start left len old before written e = record {
   taken = [];
   whole = omega arith;
@@ -85,8 +103,11 @@ Copying-start left len old before written e = record {
   grown = Appends-none written;
 }
 
-module _ (left len rest : ℕ) (old now next : ReaderView) (before mid after w v u : Option (List ℕ)) (d : Copying left len rest old now before mid w v) where
-  pub Copying-more : (n : ℕ) (piece : List ℕ) (k k' : ℕ) → GivesBlock rest len (state_of now mid k) (state_of next after k') (Ok n) piece → Appends v u (take n piece) → Copying left len (rest - n) old next before after w u
+module _ (left len rest : ℕ) (old now next : ReaderView) (before mid after w v u : Option (List ℕ))
+    (d : Copying left len rest old now before mid w v) where
+  pub Copying-more : (n : ℕ) (piece : List ℕ) (k k' : ℕ)
+      → GivesBlock rest len (state_of now mid k) (state_of next after k') (Ok n) piece → Appends v u (take n piece)
+      → Copying left len (rest - n) old next before after w u
   Copying-more n piece k k' g a =
       let low = g.bound.0 in
       let long = length-take-le n piece g.bound.1 in
@@ -100,107 +121,173 @@ module _ (left len rest : ℕ) (old now next : ReaderView) (before mid after w v
       }
 
   -- the output failed in a piece
-  pub Copying-cut : (fault : IndexFault) (n : ℕ) (piece : List ℕ) (k k' : ℕ) → fault ≡ faults.Write → GivesBlock rest len (state_of now mid k) (state_of next after k') (Ok n) piece → AppendsPrefix v u (take n piece) → CopiesBlock left len old next (Err fault) before after w u
+  pub Copying-cut : (fault : IndexFault) (n : ℕ) (piece : List ℕ) (k k' : ℕ) → fault ≡ faults.Write
+      → GivesBlock rest len (state_of now mid k) (state_of next after k') (Ok n) piece
+      → AppendsPrefix v u (take n piece) → CopiesBlock left len old next (Err fault) before after w u
   Copying-cut faults.Write n piece k k' e g p =
       let low = g.bound.0 in
       let long = length-take-le n piece g.bound.1 in
       let whole = d.whole in
       record {
-        wrote = wrote_within (length d.taken + length (take n piece)) left _ w u (omega (arith, low, long, whole)) (wrote_behind (length (take n piece)) d.taken _ _ w v u d.given d.grown (wrote_part (take n piece) _ _ v u g.bytes p));
+        wrote = wrote_within (length d.taken + length (take n piece)) left _ w u (omega (arith, low, long, whole))
+            (wrote_behind (length (take n piece)) d.taken _ _ w v u d.given d.grown
+            (wrote_part (take n piece) _ _ v u g.bytes p));
         ends = tt;
       }
   Copying-cut fault n piece k k' e g p = absurd (cc)
 
   -- the block couldn't be read on
-  pub Copying-fault : (f : Fault) (piece : List ℕ) (k k' : ℕ) → GivesBlock rest len (state_of now mid k) (state_of next after k') (Err f) piece → CopiesBlock left len old next (Err (faults.Capture (Archive f))) before after w v
+  pub Copying-fault : (f : Fault) (piece : List ℕ) (k k' : ℕ)
+      → GivesBlock rest len (state_of now mid k) (state_of next after k') (Err f) piece
+      → CopiesBlock left len old next (Err (faults.Capture (Archive f))) before after w v
   Copying-fault f piece k k' g =
       let whole = d.whole in
       let same : rest ≡ left - length d.taken = omega (arith, whole) in
       record {
-        wrote = wrote_within (length d.taken) left _ w v (omega (arith, whole)) (wrote_all d.taken _ _ w v d.given d.grown);
-        ends = (g.state.at ∙ d.stands.offset_is, found-behind f.cause left (length d.taken) d.taken _ _ refl (omega (arith, whole)) d.given (subst (λ n. IsFoundAt (after_block n) f.cause (prepend_known now.held mid)) same g.bytes));
+        wrote = wrote_within (length d.taken) left _ w v (omega (arith, whole))
+            (wrote_all d.taken _ _ w v d.given d.grown);
+        ends = (
+          g.state.at ∙ d.stands.offset_is,
+          found-behind f.cause left (length d.taken) d.taken _ _ refl
+              (omega (arith, whole)) d.given
+              (subst (λ n. IsFoundAt (after_block n) f.cause (prepend_known now.held mid)) same g.bytes),
+        );
       }
 
-pub Copying-end : (left len rest : ℕ) (old now : ReaderView) (before mid w v : Option (List ℕ)) → rest ≡ 0 → Copying left len rest old now before mid w v → CopiesBlock left len old now (Ok tt) before mid w v
+pub Copying-end : (left len rest : ℕ) (old now : ReaderView) (before mid w v : Option (List ℕ)) → rest ≡ 0
+    → Copying left len rest old now before mid w v → CopiesBlock left len old now (Ok tt) before mid w v
 Copying-end left len rest old now before mid w v e d =
     let whole = d.whole in
     record {
-      wrote = record { front = d.taken; most = omega (arith, whole); begins = front_there _ _ d.taken d.given; grown = d.grown };
-      ends = (omega (arith, whole, e), d.given, record { offset_is = d.stands.offset_is; phase_is = d.stands.phase_is ∙ ap (λ n. Open n len) e });
+      wrote = record {
+        front = d.taken;
+        most = omega (arith, whole);
+        begins = front_there _ _ d.taken d.given;
+        grown =
+            d.grown;
+      };
+      ends = (
+        omega (arith, whole, e),
+        d.given,
+        record {
+          offset_is = d.stands.offset_is;
+          phase_is = d.stands.phase_is
+              ∙ ap (λ n. Open n len) e;
+        },
+      );
     }
 
 -- ---- a record
 
 -- the closing was taken
-closing_taken : (before after : Option (List ℕ)) → Reads (after_record 0) (Ok tt) before after → Consumes before after closing
+closing_taken : (before after : Option (List ℕ)) → Reads (after_record 0) (Ok tt) before after
+    → Consumes before after closing
 closing_taken None after r = tt
 closing_taken (Some z) None r = absurd r
-closing_taken (Some z) (Some w) r = let b = block-there 0 z w r in b.2 ∙ ap (λ block. block ++ (closing ++ w)) (nil_of b.0 b.1)
+closing_taken (Some z) (Some w) r = let b = block-there 0 z w r in b.2
+    ∙ ap (λ block. block ++ (closing ++ w)) (nil_of b.0 b.1)
 
 -- what is read behind a block that was taken whole is read behind its record's head
-behind_block : (r : Result (Unit {0}) Cause) (n : ℕ) (block : List ℕ) (before mid after : Option (List ℕ)) → length block ≡ n → Consumes before mid block → Reads (after_record 0) r mid after → Reads (after_record n) r before after
+behind_block : (r : Result (Unit {0}) Cause) (n : ℕ) (block : List ℕ) (before mid after : Option (List ℕ))
+    → length block ≡ n → Consumes before mid block → Reads (after_record 0) r mid after
+    → Reads (after_record n) r before after
 behind_block r n block before mid after l c s =
     let none : n - length block ≡ 0 = omega (arith, l) in
-    GoesOn-reads (after_record n) (after_record (n - length block)) r before mid after (behind-front n block before mid (omega (arith, l)) c) (subst (λ m. Reads (after_record m) r mid after) (sym none) s)
+    GoesOn-reads (after_record n) (after_record (n - length block)) r before mid after
+    (behind-front n block before mid (omega (arith, l)) c)
+    (subst (λ m. Reads (after_record m) r mid after) (sym none) s)
 
 module _ (h : HeadView) (w v : Option (List ℕ)) where
   -- the output failed in the head
-  pub head_cut : (fault : IndexFault) (before after : Option (List ℕ)) → fault ≡ faults.Write → AppendsPrefix w v h.raw → CopiesRecord h (Err fault) before after w v
+  pub head_cut : (fault : IndexFault) (before after : Option (List ℕ)) → fault ≡ faults.Write → AppendsPrefix w v h.raw
+      → CopiesRecord h (Err fault) before after w v
   head_cut faults.Write before after e p = record {
-    wrote = wrote_within (length h.raw) (record_length h) _ w v (omega arith) (wrote_part h.raw _ before w v (consumes_head h.raw before) p);
+    wrote = wrote_within (length h.raw) (record_length h) _ w v (omega arith)
+        (wrote_part h.raw _ before w v (consumes_head h.raw before) p);
     ends = tt;
   }
   head_cut fault before after e p = absurd (cc)
 
-  module _ (u : Option (List ℕ)) (old mid : ReaderView) (before between : Option (List ℕ)) (unread : old.offset ≡ h.start) (head : Appends w v h.raw) where
-    behind_head : WroteFront h.parts.length (prepend_known old.held before) v u → WroteFront (record_length h) (prepend_known h.raw (prepend_known old.held before)) w u
-    behind_head f = wrote_within (length h.raw + h.parts.length) (record_length h) _ w u (omega arith) (wrote_behind h.parts.length h.raw _ _ w v u (consumes_head h.raw _) head f)
+  module _ (u : Option (List ℕ)) (old mid : ReaderView) (before between : Option (List ℕ)) (unread : old.offset
+      ≡ h.start) (head : Appends w v h.raw) where
+    behind_head : WroteFront h.parts.length (prepend_known old.held before) v u
+        → WroteFront (record_length h) (prepend_known h.raw (prepend_known old.held before)) w u
+    behind_head f = wrote_within (length h.raw + h.parts.length) (record_length h) _ w u (omega arith)
+        (wrote_behind h.parts.length h.raw _ _ w v u (consumes_head h.raw _) head f)
 
     -- the block couldn't be copied
-    pub block_cut : (fault : IndexFault) (after : Option (List ℕ)) → CopiesBlock h.parts.length (record_length h) old mid (Err fault) before between v u → CopiesRecord h (Err fault) (prepend_known old.held before) after w u
+    pub block_cut : (fault : IndexFault) (after : Option (List ℕ))
+        → CopiesBlock h.parts.length (record_length h) old mid (Err fault) before between v u
+        → CopiesRecord h (Err fault) (prepend_known old.held before) after w u
     block_cut faults.Memory after b = absurd b.ends
     block_cut faults.BadName after b = absurd b.ends
     block_cut faults.DuplicateName after b = absurd b.ends
     block_cut faults.NoRecord after b = absurd b.ends
     block_cut (faults.Capture (LineTooLong o)) after b = absurd b.ends
     block_cut (faults.Capture (KeyTooLong o)) after b = absurd b.ends
-    block_cut (faults.Capture (Archive f)) after b = record { wrote = behind_head b.wrote; ends = (b.ends.0 ∙ unread, found-of-record f.cause h.parts.length _ after b.ends.1) }
+    block_cut (faults.Capture (Archive f)) after b =
+        record {
+          wrote = behind_head b.wrote;
+          ends =
+              (b.ends.0 ∙ unread, found-of-record f.cause h.parts.length _ after b.ends.1);
+        }
     block_cut faults.Write after b = record { wrote = behind_head b.wrote; ends = tt }
 
-    module _ (block : CopiesBlock h.parts.length (record_length h) old mid (Ok tt) before between v u) (new : ReaderView) (after : Option (List ℕ)) (k k' : ℕ) where
+    module _ (block : CopiesBlock h.parts.length (record_length h) old mid (Ok tt) before between v u)
+        (new : ReaderView) (after : Option (List ℕ)) (k k' : ℕ) where
       -- the record couldn't be finished
-      pub finish_cut : (f : Fault) → Finishes 0 (record_length h) (state_of mid between k) (state_of new after k') (Err f) → CopiesRecord h (Err (faults.Capture (Archive f))) (prepend_known old.held before) (prepend_known new.held after) w u
+      pub finish_cut : (f : Fault) → Finishes 0 (record_length h) (state_of mid between k) (state_of new after k')
+          (Err f) → CopiesRecord h (Err (faults.Capture (Archive f))) (prepend_known old.held before)
+          (prepend_known new.held after) w u
       finish_cut f s = record {
         wrote = behind_head block.wrote;
-        ends = (s.state.at ∙ (block.ends.2.offset_is ∙ unread), behind_block (Err f.cause) h.parts.length block.wrote.front _ _ _ block.ends.0 block.ends.1 s.bytes);
+        ends = (
+          s.state.at ∙ (block.ends.2.offset_is ∙ unread),
+          behind_block (Err f.cause) h.parts.length
+              block.wrote.front _ _ _ block.ends.0 block.ends.1 s.bytes,
+        );
       }
 
-      module _ (x : Option (List ℕ)) (n : ℕ) (s : Finishes 0 (record_length h) (state_of mid between k) (state_of new after k') (Ok n)) where
+      module _ (x : Option (List ℕ)) (n : ℕ)
+          (s : Finishes 0 (record_length h) (state_of mid between k) (state_of new after k') (Ok n)) where
         -- the output failed in the closing
-        pub closing_cut : (fault : IndexFault) → fault ≡ faults.Write → AppendsPrefix u x closing → CopiesRecord h (Err fault) (prepend_known old.held before) (prepend_known new.held after) w x
+        pub closing_cut : (fault : IndexFault) → fault ≡ faults.Write → AppendsPrefix u x closing
+            → CopiesRecord h (Err fault) (prepend_known old.held before) (prepend_known new.held after) w x
         closing_cut faults.Write e p =
             let front = block.wrote.front in
             let long = block.ends.0 in
             record {
               wrote = wrote_within (length h.raw + (length front + 4)) (record_length h) _ w x (omega (arith, long))
                   (wrote_behind (length front + 4) h.raw _ _ w v x (consumes_head h.raw _) head
-                  (wrote_behind 4 front _ _ v u x block.ends.1 block.wrote.grown (wrote_part closing _ _ u x (closing_taken _ _ s.bytes) p)));
+                  (wrote_behind 4 front _ _ v u x block.ends.1 block.wrote.grown
+                  (wrote_part closing _ _ u x (closing_taken _ _ s.bytes) p)));
               ends = tt;
             }
         closing_cut fault e p = absurd (cc)
 
         -- the whole record was copied
-        pub record_copied : Appends u x closing → CopiesRecord h (Ok n) (prepend_known old.held before) (prepend_known new.held after) w x
+        pub record_copied : Appends u x closing
+            → CopiesRecord h (Ok n) (prepend_known old.held before) (prepend_known new.held after) w x
         record_copied p =
             let front = block.wrote.front in
             let long = block.ends.0 in
-            let size : length (h.raw ++ (front ++ closing)) ≡ record_length h = omega (arith, long, length-append h.raw (front ++ closing), length-append front closing) in
+            let size : length (h.raw ++ (front ++ closing))
+            ≡ record_length h = omega
+            (arith, long, length-append h.raw (front ++ closing), length-append front closing) in
             record {
               wrote = record {
                 front = h.raw ++ (front ++ closing);
                 most = omega (arith, size);
-                begins = begins_behind _ _ h.raw (front ++ closing) (consumes_head h.raw _) (begins_behind _ _ front closing block.ends.1 (front_there _ _ closing (closing_taken _ _ s.bytes)));
-                grown = Appends-join w v x h.raw (front ++ closing) head (Appends-join v u x front closing block.wrote.grown p);
+                begins = begins_behind _ _ h.raw (front ++ closing) (consumes_head h.raw _)
+                    (begins_behind _ _ front closing block.ends.1
+                    (front_there _ _ closing (closing_taken _ _ s.bytes)));
+                grown = Appends-join w v x h.raw (front ++ closing) head
+                    (Appends-join v u x front closing block.wrote.grown p);
               };
-              ends = (s.state.0 ∙ sym size, s.state.0, behind_block (Ok tt) h.parts.length front _ _ _ long block.ends.1 s.bytes);
+              ends = (
+                s.state.0 ∙ sym size,
+                s.state.0,
+                behind_block (Ok tt) h.parts.length front _ _ _ long block.ends.1
+                    s.bytes,
+              );
             }

@@ -1,5 +1,6 @@
 -- The walk to an offset, and what was copied there.
-use Rattle.std.proofs.Common.{◌≡◌, ◌∙◌, ℕ, ◌+◌, ◌-◌, ◌<◌, ◌≤◌, List, [], ◌∷◌, ◌++◌, ◌⊎◌, inl, inr, Option, None, Some, Result, Ok, Err, IfSome, length, take, drop, sym, ap, refl, subst, arith}
+use Rattle.std.proofs.Common.{◌≡◌, ◌∙◌, ℕ, ◌+◌, ◌-◌, ◌<◌, ◌≤◌, List, [], ◌∷◌, ◌++◌, ◌⊎◌, inl, inr, Option, None, Some}
+use Rattle.std.proofs.Common.{Result, Ok, Err, IfSome, length, take, drop, sym, ap, refl, subst, arith}
 use Rattle.std.specs.Io.KnownBytes.{Appends}
 use Rattle.warc_core.specs.declared.fault.Cause.{Cause}
 use Rattle.warc_core.specs.declared.fault.Fault.{Fault}
@@ -11,7 +12,8 @@ use Rattle.warc_core.specs.Record.{after_record}
 use Rattle.warc_core.specs.Walk.{record_at, closed_at, Walks}
 use Rattle.warc_core.proofs.ArchiveLemmas.{walk-front, next-spelled}
 use Rattle.warc_core.proofs.ReadingLemmas.{answered, front_of}
-use Rattle.warc_core.proofs.WalkLemmas.{Walks-more, none_at_end, record-stopped, record-end, record-unclosed, record-whole}
+use Rattle.warc_core.proofs.WalkLemmas.{Walks-more, none_at_end, record-stopped, record-end, record-unclosed}
+use Rattle.warc_core.proofs.WalkLemmas.{record-whole}
 use Rattle.capture_core.specs.declared.fault.CaptureFault.TheVariants.{Archive, LineTooLong, KeyTooLong}
 use Rattle.capture_core.proofs.HeadLemmas.{take_past}
 use Rattle.index_core.specs.declared.fault.IndexFault.{IndexFault}
@@ -25,27 +27,36 @@ use Rattle.index_core.proofs.VerdictLemmas.{behind}
 -- ---- the walk
 
 module _ (limit : ℕ) where
-  pub WalkedTo-more : (o : ℕ) (left now after : Option (List ℕ)) (h : HeadView) → WalkedTo limit o left now → Reads (record_at limit o) (Ok (Some h)) now after → WalkedTo limit (o + record_length h) left after
+  pub WalkedTo-more : (o : ℕ) (left now after : Option (List ℕ)) (h : HeadView) → WalkedTo limit o left now
+      → Reads (record_at limit o) (Ok (Some h)) now after → WalkedTo limit (o + record_length h) left after
   WalkedTo-more o None now after h s r = tt
   WalkedTo-more o (Some archive) None after h s r = absurd s
   WalkedTo-more o (Some archive) (Some z) None h s r = absurd r
   WalkedTo-more o (Some archive) (Some z) (Some y) h s r = (s.0 ++ h ∷ [], Walks-more limit 0 archive s.0 o z h y s.1 r)
 
   -- the walk went past the offset
-  pub went_past : (o : ℕ) (left now after : Option (List ℕ)) (offset : ℕ) (h : HeadView) → WalkedTo limit o left now → Reads (record_at limit o) (Ok (Some h)) now after → o < offset → offset < o + record_length h → IfSome left (λ archive. IsInRecord limit archive offset)
+  pub went_past : (o : ℕ) (left now after : Option (List ℕ)) (offset : ℕ) (h : HeadView) → WalkedTo limit o left now
+      → Reads (record_at limit o) (Ok (Some h)) now after → o < offset → offset < o + record_length h
+      → IfSome left (λ archive. IsInRecord limit archive offset)
   went_past o None now after offset h s r l m = tt
   went_past o (Some archive) None after offset h s r l m = absurd s
   went_past o (Some archive) (Some z) None offset h s r l m = absurd r
-  went_past o (Some archive) (Some z) (Some y) offset h s r l m = (o, h, record { before = s.0; bytes = z; rest = y; walks = s.1; whole = r }, l, m)
+  went_past o (Some archive) (Some z) (Some y) offset h s r l m =
+      (o, h, record { before = s.0; bytes = z; rest = y; walks = s.1; whole = r }, l, m)
 
   -- the archive ended before the offset, or there
-  pub ends_before : (o : ℕ) (left now after : Option (List ℕ)) (offset : ℕ) → WalkedTo limit o left now → Reads (record_at limit o) (Ok None) now after → o ≤ offset → IfSome left (λ archive. IsInRecord limit archive offset ⊎ IsBehindRecords limit archive offset)
+  pub ends_before : (o : ℕ) (left now after : Option (List ℕ)) (offset : ℕ) → WalkedTo limit o left now
+      → Reads (record_at limit o) (Ok None) now after → o ≤ offset
+      → IfSome left (λ archive. IsInRecord limit archive offset ⊎ IsBehindRecords limit archive offset)
   ends_before o None now after offset s r l = tt
   ends_before o (Some archive) None after offset s r l = absurd s
   ends_before o (Some archive) (Some z) None offset s r l = absurd r
-  ends_before o (Some archive) (Some z) (Some y) offset s r l = inr (s.0, record { end = o; walks = subst (Walks limit 0 archive s.0 o) (none_at_end limit o z y r) s.1 }, l)
+  ends_before o (Some archive) (Some z) (Some y) offset s r l = inr
+      (s.0, record { end = o; walks = subst (Walks limit 0 archive s.0 o) (none_at_end limit o z y r) s.1 }, l)
 
-  stops : (archive : List ℕ) (offset : ℕ) (f : Fault) (heads : List HeadView) (z : List ℕ) → Walks limit 0 archive heads f.offset z → IsFoundIn f.cause (record_at limit f.offset z) → f.offset ≤ offset → StopsAt limit archive offset f
+  stops : (archive : List ℕ) (offset : ℕ) (f : Fault) (heads : List HeadView) (z : List ℕ)
+      → Walks limit 0 archive heads f.offset z → IsFoundIn f.cause (record_at limit f.offset z) → f.offset ≤ offset
+      → StopsAt limit archive offset f
   stops archive offset f heads z w i l =
       elim (found_or_not f.cause (record_at limit f.offset z) i) [
         | inl e ↦ inl (heads, record { rest = z; walks = w; refused = e }, l)
@@ -54,28 +65,42 @@ module _ (limit : ℕ) where
 
   -- ---- what comes next
 
-  same_head : (h k : HeadView) (z : List ℕ) (r : Result (Unit {0} × List ℕ) Cause) → ◌≡◌ {A = Result (Option HeadView × List ℕ) Cause} (r >>= λ closed. Ok (Some h, closed.1)) (Ok (Some k, z)) → h ≡ k
+  same_head : (h k : HeadView) (z : List ℕ) (r : Result (Unit {0} × List ℕ) Cause)
+      → ◌≡◌ {A = Result (Option HeadView × List ℕ) Cause} (r >>= λ closed. Ok (Some h, closed.1)) (Ok (Some k, z)) → h
+      ≡ k
   same_head h k z (Err c) e = absurd (cc)
   same_head h k z (Ok (u, y)) e = let p = (answered (Some h) (Some k) y z e).0 in cc
 
   -- the head that was read is that of the record which begins these bytes
-  record_head : (o : ℕ) (h k : HeadView) (bytes y z : List ℕ) → next_at limit o bytes ≡ Ok (Some h, y) → record_at limit o bytes ≡ Ok (Some k, z) → h ≡ k
+  record_head : (o : ℕ) (h k : HeadView) (bytes y z : List ℕ) → next_at limit o bytes ≡ Ok (Some h, y)
+      → record_at limit o bytes ≡ Ok (Some k, z) → h ≡ k
   unfolding record_at
-  record_head o h k bytes y z n r = same_head h k z (after_record h.parts.length y) (sym (ap (λ s. s >>= closed_at) n) ∙ r)
+  record_head o h k bytes y z n r = same_head h k z (after_record h.parts.length y) (sym (ap (λ s. s >>= closed_at) n)
+      ∙ r)
 
   -- what was written is in front of what may be written
-  goes_on : (o : ℕ) (h : HeadView) (bytes y front more : List ℕ) (r : Result (Option HeadView × List ℕ) Cause) → next_at limit o bytes ≡ Ok (Some h, y) → bytes ≡ front ++ more → length front ≤ record_length h → record_at limit o bytes ≡ r → (tail : List ℕ) × (most_written r bytes ≡ front ++ tail)
+  goes_on : (o : ℕ) (h : HeadView) (bytes y front more : List ℕ) (r : Result (Option HeadView × List ℕ) Cause)
+      → next_at limit o bytes ≡ Ok (Some h, y) → bytes ≡ front ++ more → length front ≤ record_length h
+      → record_at limit o bytes ≡ r → (tail : List ℕ) × (most_written r bytes ≡ front ++ tail)
   goes_on o h bytes y front more (Err c) n e l r = (more, e)
   goes_on o h bytes y front more (Ok (None, z)) n e l r = (more, e)
   goes_on o h bytes y front more (Ok (Some k, z)) n e l r =
-      let same = record_head o h k bytes y z n r in
-      (take (record_length h - length front) more, ap (λ k. take (record_length k) bytes) (sym same) ∙ (ap (take (record_length h)) e ∙ take_past (record_length h) front more l))
+      let same = record_head o h k bytes y z n r in (
+        take (record_length h - length front) more,
+        ap (λ k. take (record_length k) bytes) (sym same)
+            ∙ (ap (take (record_length h)) e ∙ take_past (record_length h) front more l),
+      )
 
-  front_written : (o : ℕ) (h : HeadView) (bytes y front more : List ℕ) (w u : Option (List ℕ)) → next_at limit o bytes ≡ Ok (Some h, y) → bytes ≡ front ++ more → length front ≤ record_length h → Appends w u front → AppendsPrefix w u (most_written_at limit o bytes)
-  front_written o h bytes y front more w u n e l a = let t = goes_on o h bytes y front more (record_at limit o bytes) n e l refl in (t.0, record { front = front; whole = t.1; grown = a })
+  front_written : (o : ℕ) (h : HeadView) (bytes y front more : List ℕ) (w u : Option (List ℕ)) → next_at limit o bytes
+      ≡ Ok (Some h, y) → bytes ≡ front ++ more → length front ≤ record_length h → Appends w u front
+      → AppendsPrefix w u (most_written_at limit o bytes)
+  front_written o h bytes y front more w u n e l a = let t = goes_on o h bytes y front more (record_at limit o bytes) n
+      e l refl in (t.0, record { front = front; whole = t.1; grown = a })
 
   -- how the copying of the record that comes next ended
-  pub next_copied : (o : ℕ) (h : HeadView) (r : Result ℕ IndexFault) (before mid after w u : Option (List ℕ)) → Reads (next_at limit o) (Ok (Some h)) before mid → h.start ≡ o → CopiesRecord h r mid after w u → CopiesNext limit o r before w u
+  pub next_copied : (o : ℕ) (h : HeadView) (r : Result ℕ IndexFault) (before mid after w u : Option (List ℕ))
+      → Reads (next_at limit o) (Ok (Some h)) before mid → h.start ≡ o → CopiesRecord h r mid after w u
+      → CopiesNext limit o r before w u
   next_copied o h (Err faults.Memory) before mid after w u n e c = absurd c.ends
   next_copied o h (Err faults.BadName) before mid after w u n e c = absurd c.ends
   next_copied o h (Err faults.DuplicateName) before mid after w u n e c = absurd c.ends
@@ -85,45 +110,72 @@ module _ (limit : ℕ) where
   next_copied o h (Err (faults.Capture (Archive f))) None mid after w u n e c = (c.ends.0 ∙ e, tt)
   next_copied o h (Err (faults.Capture (Archive f))) (Some z) None after w u n e c = absurd n
   next_copied o h (Err (faults.Capture (Archive f))) (Some z) (Some y) after w u n e c =
-      let b = (next-spelled limit o z y h n).0 ∙ c.wrote.begins.1 in
-      (c.ends.0 ∙ e, (record-unclosed limit o (Some z) (Some y) after h f.cause n c.ends.1, front_written o h z y c.wrote.front c.wrote.begins.0 w u n b c.wrote.most c.wrote.grown))
+      let b = (next-spelled limit o z y h n).0 ∙ c.wrote.begins.1 in (
+        c.ends.0 ∙ e,
+        (
+          record-unclosed limit o (Some z) (Some y) after h f.cause n c.ends.1,
+          front_written o h z y
+              c.wrote.front c.wrote.begins.0 w u n b c.wrote.most c.wrote.grown,
+        ),
+      )
   next_copied o h (Err faults.Write) None mid after w u n e c = tt
   next_copied o h (Err faults.Write) (Some z) None after w u n e c = absurd n
   next_copied o h (Err faults.Write) (Some z) (Some y) after w u n e c =
-      front_written o h z y c.wrote.front c.wrote.begins.0 w u n ((next-spelled limit o z y h n).0 ∙ c.wrote.begins.1) c.wrote.most c.wrote.grown
+      front_written o h z y c.wrote.front c.wrote.begins.0 w u n ((next-spelled limit o z y h n).0 ∙ c.wrote.begins.1)
+      c.wrote.most c.wrote.grown
   next_copied o h (Ok l) None mid after w u n e c = (c.wrote.front, c.ends.0, c.wrote.grown, tt)
   next_copied o h (Ok l) (Some z) None after w u n e c = absurd n
   next_copied o h (Ok l) (Some z) (Some y) None w u n e c = absurd c.ends.2
   next_copied o h (Ok l) (Some z) (Some y) (Some x) w u n e c =
       let b = (next-spelled limit o z y h n).0 ∙ c.wrote.begins.1 in
-      let size : length c.wrote.front ≡ record_length h = sym c.ends.0 ∙ c.ends.1 in
-      (c.wrote.front, c.ends.0, c.wrote.grown, (h, x, record-whole limit o (Some z) (Some y) (Some x) h n c.ends.2, sym (ap (take (record_length h)) b ∙ front_of (record_length h) c.wrote.front c.wrote.begins.0 size)))
+      let size : length c.wrote.front ≡ record_length h = sym c.ends.0 ∙ c.ends.1 in (
+        c.wrote.front,
+        c.ends.0,
+        c.wrote.grown,
+        (
+          h,
+          x,
+          record-whole limit o (Some z) (Some y) (Some x) h n c.ends.2,
+          sym (ap (take (record_length h)) b
+              ∙ front_of (record_length h) c.wrote.front c.wrote.begins.0 size),
+        ),
+      )
 
   -- no record came next
-  pub next_none : (o : ℕ) (before after : Option (List ℕ)) → Reads (next_at limit o) (Ok None) before after → IfSome before (λ bytes. bytes ≡ [])
+  pub next_none : (o : ℕ) (before after : Option (List ℕ)) → Reads (next_at limit o) (Ok None) before after
+      → IfSome before (λ bytes. bytes ≡ [])
   next_none o None after n = tt
   next_none o (Some z) None n = absurd n
   next_none o (Some z) (Some y) n = none_at_end limit o z y (record-end limit o (Some z) (Some y) (Some y) n)
 
   -- the head of the record couldn't be read
-  pub next_stopped : (o : ℕ) (f : Fault) (before after w : Option (List ℕ)) → Reads (next_at limit o) (Err f.cause) before after → f.offset ≡ o → CopiesNext limit o (Err (faults.Capture (Archive f))) before w w
+  pub next_stopped : (o : ℕ) (f : Fault) (before after w : Option (List ℕ))
+      → Reads (next_at limit o) (Err f.cause) before after → f.offset ≡ o
+      → CopiesNext limit o (Err (faults.Capture (Archive f))) before w w
   next_stopped o f None after w n e = (e, tt)
-  next_stopped o f (Some z) after w n e = (e, (record-stopped limit o (Some z) after after f.cause n, wrote_nothing w (most_written_at limit o z)))
+  next_stopped o f (Some z) after w n e =
+      (e, (record-stopped limit o (Some z) after after f.cause n, wrote_nothing w (most_written_at limit o z)))
 
   -- ---- the whole call
 
-  pub from_offset : (archive : List ℕ) (heads : List HeadView) (o : ℕ) (z : List ℕ) → Walks limit 0 archive heads o z → drop o archive ≡ z
+  pub from_offset : (archive : List ℕ) (heads : List HeadView) (o : ℕ) (z : List ℕ) → Walks limit 0 archive heads o z
+      → drop o archive ≡ z
   from_offset archive heads o z w = let f = walk-front limit 0 archive heads o z w in behind archive f.0 z o f.1 f.2
 
-  prefix_there : (archive : List ℕ) (heads : List HeadView) (o : ℕ) (z : List ℕ) (w u : Option (List ℕ)) → Walks limit 0 archive heads o z → AppendsPrefix w u (most_written_at limit o z) → AppendsPrefix w u (most_written_at limit o (drop o archive))
-  prefix_there archive heads o z w u k p = subst (λ y. AppendsPrefix w u (most_written_at limit o y)) (sym (from_offset archive heads o z k)) p
+  prefix_there : (archive : List ℕ) (heads : List HeadView) (o : ℕ) (z : List ℕ) (w u : Option (List ℕ))
+      → Walks limit 0 archive heads o z → AppendsPrefix w u (most_written_at limit o z)
+      → AppendsPrefix w u (most_written_at limit o (drop o archive))
+  prefix_there archive heads o z w u k p = subst (λ y. AppendsPrefix w u (most_written_at limit o y))
+      (sym (from_offset archive heads o z k)) p
 
   -- the walk couldn't go on, and nothing was written
-  pub unfetched : (o : ℕ) (f : Fault) (left w : Option (List ℕ)) → f.offset ≤ o → IfSome left (λ archive. StopsAt limit archive o f) → Fetches limit o left (Err (faults.Capture (Archive f))) w w
+  pub unfetched : (o : ℕ) (f : Fault) (left w : Option (List ℕ)) → f.offset ≤ o
+      → IfSome left (λ archive. StopsAt limit archive o f) → Fetches limit o left (Err (faults.Capture (Archive f))) w w
   unfetched o f None w l s = (l, tt)
   unfetched o f (Some archive) w l s = (l, (s, wrote_nothing w (most_written_at limit o (drop o archive))))
 
-  pub fetched : (o : ℕ) (r : Result ℕ IndexFault) (left known w u : Option (List ℕ)) → WalkedTo limit o left known → CopiesNext limit o r known w u → Fetches limit o left r w u
+  pub fetched : (o : ℕ) (r : Result ℕ IndexFault) (left known w u : Option (List ℕ)) → WalkedTo limit o left known
+      → CopiesNext limit o r known w u → Fetches limit o left r w u
   fetched o (Err faults.Memory) left known w u s c = absurd c
   fetched o (Err faults.BadName) left known w u s c = absurd c
   fetched o (Err faults.DuplicateName) left known w u s c = absurd c
@@ -131,7 +183,8 @@ module _ (limit : ℕ) where
   fetched o (Err (faults.Capture (KeyTooLong p))) left known w u s c = absurd c
   fetched o (Err faults.NoRecord) None known w u s c = tt
   fetched o (Err faults.NoRecord) (Some archive) None w u s c = absurd s
-  fetched o (Err faults.NoRecord) (Some archive) (Some z) w u s c = inr (s.0, record { end = o; walks = subst (Walks limit 0 archive s.0 o) c s.1 }, omega arith)
+  fetched o (Err faults.NoRecord) (Some archive) (Some z) w u s c = inr
+      (s.0, record { end = o; walks = subst (Walks limit 0 archive s.0 o) c s.1 }, omega arith)
   fetched o (Err faults.Write) None known w u s c = tt
   fetched o (Err faults.Write) (Some archive) None w u s c = absurd s
   fetched o (Err faults.Write) (Some archive) (Some z) w u s c = ((s.0, z, s.1), prefix_there archive s.0 o z w u s.1 c)
@@ -139,10 +192,26 @@ module _ (limit : ℕ) where
   fetched o (Err (faults.Capture (Archive f))) (Some archive) None w u s c = absurd s
   fetched o (Err (faults.Capture (Archive f))) (Some archive) (Some z) w u s c =
       let at = c.0 in
-      let low : f.offset ≤ o = omega (arith, at) in
-      (low, (stops archive o f s.0 z (subst (λ p. Walks limit 0 archive s.0 p z) (sym at) s.1) (subst (λ p. IsFoundIn f.cause (record_at limit p z)) (sym at) c.1.0) low, prefix_there archive s.0 o z w u s.1 c.1.1))
+      let low : f.offset ≤ o = omega (arith, at) in (
+        low,
+        (
+          stops archive o f s.0 z (subst (λ p. Walks limit 0 archive s.0 p z) (sym at) s.1)
+              (subst (λ p. IsFoundIn f.cause (record_at limit p z)) (sym at) c.1.0) low,
+          prefix_there archive s.0 o z w u
+              s.1 c.1.1,
+        ),
+      )
   fetched o (Ok n) None known w u s c = (c.0, c.1, c.2, tt)
   fetched o (Ok n) (Some archive) None w u s c = absurd s
   fetched o (Ok n) (Some archive) (Some z) w u s c =
-      let t = c.3 in
-      (c.0, c.1, c.2, (t.0, record { before = s.0; bytes = z; rest = t.1; walks = s.1; whole = t.2 }, t.3 ∙ ap (take (record_length t.0)) (sym (from_offset archive s.0 o z s.1))))
+      let t = c.3 in (
+        c.0,
+        c.1,
+        c.2,
+        (
+          t.0,
+          record { before = s.0; bytes = z; rest = t.1; walks = s.1; whole = t.2 },
+          t.3
+              ∙ ap (take (record_length t.0)) (sym (from_offset archive s.0 o z s.1)),
+        ),
+      )

@@ -9,21 +9,31 @@ use Rattle.capture_core.specs.CaptureAnswer.{Limits}
 use Rattle.index_core.specs.Accepted.{IsTaken, AreCaptured}
 use Rattle.index_core.specs.Laws.{WholeStays, CapturesStay}
 
-line_fits : (low high : ℕ) → low ≤ high → (captured : Option EntryValue) → IfSome captured (λ e. length (line_text e) ≤ low) → IfSome captured (λ e. length (line_text e) ≤ high)
+line_fits : (low high : ℕ) → low ≤ high → (captured : Option EntryValue)
+    → IfSome captured (λ e. length (line_text e) ≤ low) → IfSome captured (λ e. length (line_text e) ≤ high)
 line_fits low high up None h = tt
 line_fits low high up (Some e) h = omega (arith, up, h)
 
-module _ (types : Kind → Bool) (limits : Limits) (line low high : ℕ) (longer : limits.line ≤ line) (name archive : List ℕ) where
+module _ (types : Kind → Bool) (limits : Limits) (line low high : ℕ) (longer : limits.line ≤ line)
+    (name archive : List ℕ) where
   abbrev higher : Limits
   higher = record limits { line = line }
 
-  are_taken : (heads : List HeadView) → AllByRecursion (IsTaken types limits low name archive) heads → AllByRecursion (IsTaken types higher high name archive) heads
+  are_taken : (heads : List HeadView) → AllByRecursion (IsTaken types limits low name archive) heads
+      → AllByRecursion (IsTaken types higher high name archive) heads
   are_taken [] h = tt
-  are_taken (head ∷ heads) h = ((λ captured is. line_fits limits.line line longer captured (h.0 captured is)), are_taken heads h.1)
+  are_taken (head ∷ heads) h = (
+    (λ captured is. line_fits limits.line line longer captured (h.0 captured is)),
+    are_taken
+        heads h.1,
+  )
 
-  are_captured : (heads : List HeadView) (captures : List EntryValue) → AreCaptured types limits low name archive heads captures → AreCaptured types higher high name archive heads captures
+  are_captured : (heads : List HeadView) (captures : List EntryValue)
+      → AreCaptured types limits low name archive heads captures
+      → AreCaptured types higher high name archive heads captures
   are_captured [] captures h = h
-  are_captured (head ∷ heads) captures h = (h.0, h.1, (h.2.0, line_fits limits.line line longer h.0 h.2.1), are_captured heads h.1 h.3, h.4)
+  are_captured (head ∷ heads) captures h =
+      (h.0, h.1, (h.2.0, line_fits limits.line line longer h.0 h.2.1), are_captured heads h.1 h.3, h.4)
 
 pub whole_stays : WholeStays
 whole_stays types limits line low high longer up name archive w = record {

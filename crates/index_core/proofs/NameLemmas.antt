@@ -8,7 +8,8 @@ use Rattle.index_core.specs.Indexing.{is_among}
 
 module _ {K : Type 0} (text : K → List ℕ) where
   -- a name is among the texts of the keys that are compared with it
-  pub among_texts : (keys : List K) (name : List ℕ) → is_among (map text keys) name ≡ list_any (λ key. bytes_eq name (text key)) keys
+  pub among_texts : (keys : List K) (name : List ℕ) → is_among (map text keys) name
+      ≡ list_any (λ key. bytes_eq name (text key)) keys
   among_texts [] name = refl
   among_texts (key ∷ keys) name = ap (λ b. bytes_eq name (text key) || b) (among_texts keys name)
 
@@ -17,4 +18,5 @@ module _ {K : Type 0} (text : K → List ℕ) where
       → new ≡ (if list_any (λ other. bytes_eq (text key) (text other)) keys then keys else keys ++ key ∷ [])
       → map text new ≡ map text keys ++ text key ∷ []
   new_goes_last keys new key absent is =
-      ap (map text) (is ∙ cond-false _ _ _ (sym (among_texts keys (text key)) ∙ absent)) ∙ map-append text keys (key ∷ [])
+      ap (map text) (is ∙ cond-false _ _ _ (sym (among_texts keys (text key)) ∙ absent))
+      ∙ map-append text keys (key ∷ [])

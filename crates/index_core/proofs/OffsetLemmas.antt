@@ -1,5 +1,6 @@
 -- One thing stands at an offset of an archive.
-use Rattle.std.proofs.Common.{◌≡◌, ◌∙◌, ℕ, ◌+◌, ◌<◌, ◌≤◌, nat_lt, List, [], ◌∷◌, ◌⊎◌, inl, inr, Option, None, Some, Result, Ok, Err, take, drop, sym, ap, ap₂, refl, subst, arith}
+use Rattle.std.proofs.Common.{◌≡◌, ◌∙◌, ℕ, ◌+◌, ◌<◌, ◌≤◌, nat_lt, List, [], ◌∷◌, ◌⊎◌, inl, inr, Option, None, Some}
+use Rattle.std.proofs.Common.{Result, Ok, Err, take, drop, sym, ap, ap₂, refl, subst, arith}
 use Rattle.std.proofs.lemmas.Bool.Decides.{nat_tests}
 use Rattle.warc_core.specs.declared.fault.Cause.{Cause}
 use Rattle.warc_core.specs.declared.fault.Fault.{Fault}
@@ -24,28 +25,38 @@ Ends limit o bytes = (h : HeadView) (rest : List ℕ) → record_at limit o byte
 
 module _ (limit : ℕ) where
   -- where a record is read, no other is
-  one_record : (o : ℕ) (bytes y z : List ℕ) (h k : HeadView) → record_at limit o bytes ≡ Ok (Some h, y) → record_at limit o bytes ≡ Ok (Some k, z) → (h ≡ k) × (y ≡ z)
-  one_record o bytes y z h k a b = let e = answered (Some h) (Some k) y z (sym a ∙ b) in let f = e.0 in let g : h ≡ k = cc in (g, e.1)
+  one_record : (o : ℕ) (bytes y z : List ℕ) (h k : HeadView) → record_at limit o bytes ≡ Ok (Some h, y)
+      → record_at limit o bytes ≡ Ok (Some k, z) → (h ≡ k) × (y ≡ z)
+  one_record o bytes y z h k a b = let e = answered (Some h) (Some k) y z (sym a ∙ b) in let f = e.0 in let g : h
+      ≡ k = cc in (g, e.1)
 
   ends_by : (o : ℕ) (bytes : List ℕ) (c : Cause) → record_at limit o bytes ≡ Err c → Ends limit o bytes
-  ends_by o bytes c e h rest r = let k : ◌≡◌ {A = Result (Option HeadView × List ℕ) Cause} (Ok (Some h, rest)) (Err c) = sym r ∙ e in cc
+  ends_by o bytes c e h rest r = let k : ◌≡◌ {A = Result (Option HeadView × List ℕ) Cause} (Ok (Some h, rest)) (Err c) =
+      sym r ∙ e in cc
 
   ends_empty : (o : ℕ) → Ends limit o []
   unfolding record_at next_at
   ends_empty o h rest r = let e = (answered None (Some h) [] rest r).0 in cc
 
   -- of two walks over one text, one goes on where the other ends
-  longer_walk : (start : ℕ) (bytes : List ℕ) (hs gs : List HeadView) (o p : ℕ) (r t : List ℕ) → Walks limit start bytes hs o r → Walks limit start bytes gs p t
+  longer_walk : (start : ℕ) (bytes : List ℕ) (hs gs : List HeadView) (o p : ℕ) (r t : List ℕ)
+      → Walks limit start bytes hs o r → Walks limit start bytes gs p t
       → ((more : List HeadView) × Walks limit o r more p t) ⊎ ((more : List HeadView) × Walks limit p t more o r)
-  longer_walk start bytes [] gs o p r t v w = inl (gs, subst (λ n. Walks limit n r gs p t) (sym v.0) (subst (λ z. Walks limit start z gs p t) (sym v.1) w))
-  longer_walk start bytes (h ∷ hs) [] o p r t v w = inr (h ∷ hs, subst (λ n. Walks limit n t (h ∷ hs) o r) (sym w.0) (subst (λ z. Walks limit start z (h ∷ hs) o r) (sym w.1) v))
+  longer_walk start bytes [] gs o p r t v w = inl
+      (gs, subst (λ n. Walks limit n r gs p t) (sym v.0) (subst (λ z. Walks limit start z gs p t) (sym v.1) w))
+  longer_walk start bytes (h ∷ hs) [] o p r t v w = inr (
+    h ∷ hs,
+    subst (λ n. Walks limit n t (h ∷ hs) o r) (sym w.0)
+        (subst (λ z. Walks limit start z (h ∷ hs) o r) (sym w.1) v),
+  )
   longer_walk start bytes (h ∷ hs) (g ∷ gs) o p r t v w =
       let e = one_record start bytes v.0 w.0 h g v.1 w.1 in
       let x : Walks limit (start + record_length h) v.0 gs p t = rw (e.0, e.1) w.2 in
       longer_walk (start + record_length h) v.0 hs gs o p r t v.2 x
 
   -- a walk that goes on from a record ends behind it
-  goes_past : (o p : ℕ) (r y t : List ℕ) (h k : HeadView) (more : List HeadView) → record_at limit o r ≡ Ok (Some h, y) → Walks limit o r (k ∷ more) p t → o + record_length h ≤ p
+  goes_past : (o p : ℕ) (r y t : List ℕ) (h k : HeadView) (more : List HeadView) → record_at limit o r ≡ Ok (Some h, y)
+      → Walks limit o r (k ∷ more) p t → o + record_length h ≤ p
   goes_past o p r y t h k more a w =
       let e = one_record o r y w.0 h k a w.1 in
       let f = walk-front limit (o + record_length k) w.0 more p t w.2 in
@@ -53,16 +64,19 @@ module _ (limit : ℕ) where
       omega (arith, f.2, size)
 
   -- a walk from a record ends behind it, or there
-  goes_behind : (o p : ℕ) (r y t : List ℕ) (h : HeadView) (more : List HeadView) → record_at limit o r ≡ Ok (Some h, y) → (p ≡ o → t ≡ r → ⊥) → Walks limit o r more p t → o + record_length h ≤ p
+  goes_behind : (o p : ℕ) (r y t : List ℕ) (h : HeadView) (more : List HeadView) → record_at limit o r ≡ Ok (Some h, y)
+      → (p ≡ o → t ≡ r → ⊥) → Walks limit o r more p t → o + record_length h ≤ p
   goes_behind o p r y t h [] a n w = absurd (n w.0 w.1)
   goes_behind o p r y t h (k ∷ more) a n w = goes_past o p r y t h k more a w
 
   -- no walk goes on from where no record stands
-  goes_nowhere : (o p : ℕ) (r t : List ℕ) (more : List HeadView) → Ends limit p t → Walks limit p t more o r → (p ≡ o) × (t ≡ r)
+  goes_nowhere : (o p : ℕ) (r t : List ℕ) (more : List HeadView) → Ends limit p t → Walks limit p t more o r → (p ≡ o)
+      × (t ≡ r)
   goes_nowhere o p r t [] n w = (sym w.0, sym w.1)
   goes_nowhere o p r t (k ∷ more) n w = absurd (n k w.0 w.1)
 
-  module _ (archive : List ℕ) (o p : ℕ) (h : HeadView) (gs : List HeadView) (t : List ℕ) (a : IsRecordOf limit archive o h) (w : Walks limit 0 archive gs p t) where
+  module _ (archive : List ℕ) (o p : ℕ) (h : HeadView) (gs : List HeadView) (t : List ℕ)
+      (a : IsRecordOf limit archive o h) (w : Walks limit 0 archive gs p t) where
     -- what is behind a record's beginning is behind its end
     behind_record : o < p → o + record_length h ≤ p
     behind_record l =
@@ -72,7 +86,9 @@ module _ (limit : ℕ) where
         ]
 
     not_there : Ends limit p t → p ≡ o → t ≡ a.bytes → ⊥
-    not_there n e f = n h a.rest (subst (λ q. record_at limit q t ≡ Ok (Some h, a.rest)) (sym e) (subst (λ z. record_at limit o z ≡ Ok (Some h, a.rest)) (sym f) a.whole))
+    not_there n e f = n h a.rest
+        (subst (λ q. record_at limit q t ≡ Ok (Some h, a.rest)) (sym e)
+        (subst (λ z. record_at limit o z ≡ Ok (Some h, a.rest)) (sym f) a.whole))
 
     -- where no record stands, those that do are before
     before_end : Ends limit p t → o + record_length h ≤ p
@@ -89,24 +105,34 @@ module _ (limit : ℕ) where
     one_text a b x y =
         let r = x.1 in
         let s = y.1 in
-        let there : s.bytes ≡ r.bytes = sym (from_offset limit archive s.before offset s.bytes s.walks) ∙ from_offset limit archive r.before offset r.bytes r.walks in
-        let e = one_record offset r.bytes r.rest s.rest x.0 y.0 r.whole (subst (λ z. record_at limit offset z ≡ Ok (Some y.0, s.rest)) there s.whole) in
+        let there : s.bytes ≡ r.bytes = sym (from_offset limit archive s.before offset s.bytes s.walks)
+        ∙ from_offset limit archive r.before offset r.bytes r.walks in
+        let e = one_record offset r.bytes r.rest s.rest x.0 y.0 r.whole
+        (subst (λ z. record_at limit offset z ≡ Ok (Some y.0, s.rest)) there s.whole) in
         x.2 ∙ (ap (λ h. take (record_length h) (drop offset archive)) e.0 ∙ sym y.2)
 
-    text_or_none : (a : List ℕ) → IsTextAt limit archive offset a → IsInRecord limit archive offset ⊎ IsBehindRecords limit archive offset → ⊥
-    text_or_none a x (inl n) = let l = behind_record archive n.0 offset n.1 x.1.before x.1.bytes n.2 x.1.walks n.3 in omega (arith, l, n.4)
-    text_or_none a x (inr n) = let l = before_end archive offset n.1.end x.0 n.0 [] x.1 n.1.walks (ends_empty n.1.end) in omega (arith, l, n.2)
+    text_or_none : (a : List ℕ) → IsTextAt limit archive offset a → IsInRecord limit archive offset
+        ⊎ IsBehindRecords limit archive offset → ⊥
+    text_or_none a x (inl n) = let l = behind_record archive n.0 offset n.1 x.1.before x.1.bytes n.2 x.1.walks n.3 in
+        omega (arith, l, n.4)
+    text_or_none a x (inr n) = let l = before_end archive offset n.1.end x.0 n.0 [] x.1 n.1.walks
+        (ends_empty n.1.end) in omega (arith, l, n.2)
 
     text_or_damage : (a : List ℕ) (f : Fault) → IsTextAt limit archive offset a → IsDamagedBy limit archive offset f → ⊥
-    text_or_damage a f x d = let l = before_end archive offset f.offset x.0 d.0 d.1.rest x.1 d.1.walks (ends_by f.offset d.1.rest f.cause d.1.refused) in omega (arith, l, d.2)
+    text_or_damage a f x d = let l = before_end archive offset f.offset x.0 d.0 d.1.rest x.1 d.1.walks
+        (ends_by f.offset d.1.rest f.cause d.1.refused) in omega (arith, l, d.2)
 
-    none_or_damage : (f : Fault) → IsInRecord limit archive offset ⊎ IsBehindRecords limit archive offset → IsDamagedBy limit archive offset f → ⊥
-    none_or_damage f (inl n) d = let l = before_end archive n.0 f.offset n.1 d.0 d.1.rest n.2 d.1.walks (ends_by f.offset d.1.rest f.cause d.1.refused) in omega (arith, l, n.4, d.2)
-    none_or_damage f (inr n) d = not_both limit 0 archive n.0 d.0 n.1.end f.offset f.cause d.1.rest n.1.walks d.1.walks d.1.refused
+    none_or_damage : (f : Fault) → IsInRecord limit archive offset ⊎ IsBehindRecords limit archive offset
+        → IsDamagedBy limit archive offset f → ⊥
+    none_or_damage f (inl n) d = let l = before_end archive n.0 f.offset n.1 d.0 d.1.rest n.2 d.1.walks
+        (ends_by f.offset d.1.rest f.cause d.1.refused) in omega (arith, l, n.4, d.2)
+    none_or_damage f (inr n) d = not_both limit 0 archive n.0 d.0 n.1.end f.offset f.cause d.1.rest n.1.walks d.1.walks
+        d.1.refused
 
     one_damage : (f g : Fault) → IsDamagedBy limit archive offset f → IsDamagedBy limit archive offset g → f ≡ g
     one_damage f g x y =
-        let e = one_fault limit 0 archive x.0 y.0 f.offset g.offset f.cause g.cause x.1.rest y.1.rest x.1.walks y.1.walks x.1.refused y.1.refused in
+        let e = one_fault limit 0 archive x.0 y.0 f.offset g.offset f.cause g.cause x.1.rest y.1.rest x.1.walks
+        y.1.walks x.1.refused y.1.refused in
         ap₂ (λ o c. record { offset = o; cause = c }) e.1 e.2
 
     -- the three things that may stand there
@@ -136,7 +162,8 @@ module _ (limit : ℕ) where
     one_of_three r s (inr (inl x)) (inr (inr y)) = absurd (none_or_damage y.0 x.1 y.2)
     one_of_three r s (inr (inr x)) (inl y) = absurd (text_or_damage y.0 x.0 y.2 x.2)
     one_of_three r s (inr (inr x)) (inr (inl y)) = absurd (none_or_damage x.0 y.1 x.2)
-    one_of_three r s (inr (inr x)) (inr (inr y)) = x.1 ∙ (ap (λ f. Err (faults.Capture (Archive f))) (one_damage x.0 y.0 x.2 y.2) ∙ sym y.1)
+    one_of_three r s (inr (inr x)) (inr (inr y)) = x.1
+        ∙ (ap (λ f. Err (faults.Capture (Archive f))) (one_damage x.0 y.0 x.2 y.2) ∙ sym y.1)
 
 -- ---- something stands there
 
@@ -144,13 +171,16 @@ module _ (limit : ℕ) where
 abbrev Covers : ℕ → ℕ → List ℕ → ℕ → Type 0
 Covers limit start bytes offset =
     (before : List HeadView) × (o : ℕ) × (z : List ℕ) × (h : HeadView) × (rest : List ℕ)
-    × Walks limit start bytes before o z × (record_at limit o z ≡ Ok (Some h, rest)) × (o ≤ offset) × (offset < o + record_length h)
+    × Walks limit start bytes before o z × (record_at limit o z ≡ Ok (Some h, rest)) × (o ≤ offset)
+    × (offset < o + record_length h)
 
-covering : (limit start : ℕ) (bytes : List ℕ) (heads : List HeadView) (end : ℕ) (rest : List ℕ) (offset : ℕ) → Walks limit start bytes heads end rest → start ≤ offset → offset < end → Covers limit start bytes offset
+covering : (limit start : ℕ) (bytes : List ℕ) (heads : List HeadView) (end : ℕ) (rest : List ℕ) (offset : ℕ)
+    → Walks limit start bytes heads end rest → start ≤ offset → offset < end → Covers limit start bytes offset
 covering limit start bytes [] end rest offset w l m = absurd (omega (arith, w.0, l, m))
 covering limit start bytes (h ∷ heads) end rest offset w l m =
     elim (which (nat_lt offset (start + record_length h))) [
-      | inl t ↦ (let less : offset < start + record_length h = grind (arith, nat_tests) in ([], start, bytes, h, w.0, (refl, refl), w.1, l, less))
+      | inl t ↦ (let less : offset < start + record_length h = grind (arith, nat_tests) in
+          ([], start, bytes, h, w.0, (refl, refl), w.1, l, less))
       | inr f ↦ (
           let more : start + record_length h ≤ offset = grind (arith, nat_tests) in
           let c = covering limit (start + record_length h) w.0 heads end rest offset w.2 more m in
@@ -163,26 +193,40 @@ Stands limit offset archive = (answer : Result (List ℕ) IndexFault) × StandsI
 covered : (limit offset : ℕ) (archive : List ℕ) → Covers limit 0 archive offset → Stands limit offset archive
 covered limit offset archive c =
     elim (which (nat_lt c.1 offset)) [
-      | inl t ↦ (let less : c.1 < offset = grind (arith, nat_tests) in
-          (Err faults.NoRecord, inl (c.1, c.3, record { before = c.0; bytes = c.2; rest = c.4; walks = c.5; whole = c.6 }, less, c.8)))
+      | inl t ↦ (let less : c.1 < offset = grind (arith, nat_tests) in (
+        Err faults.NoRecord,
+        inl
+            (c.1, c.3, record { before = c.0; bytes = c.2; rest = c.4; walks = c.5; whole = c.6 }, less, c.8),
+      ))
       | inr f ↦ (
           let low = c.7 in
-          let same : c.1 ≡ offset = grind (arith, nat_tests, low) in
-          (Ok (take (record_length c.3) (drop offset archive)), (c.3, subst (λ o. IsRecordOf limit archive o c.3) same (record { before = c.0; bytes = c.2; rest = c.4; walks = c.5; whole = c.6 }), refl)))
+          let same : c.1 ≡ offset = grind (arith, nat_tests, low) in (
+            Ok (take (record_length c.3) (drop offset archive)),
+            (
+              c.3,
+              subst (λ o. IsRecordOf limit archive o c.3) same
+                  (record { before = c.0; bytes = c.2; rest = c.4; walks = c.5; whole = c.6 }),
+              refl,
+            ),
+          ))
     ]
 
 pub one_stands : OneStands
-one_stands limit offset archive this that s t = one_of_three limit archive offset this that (three limit archive offset this s) (three limit archive offset that t)
+one_stands limit offset archive this that s t = one_of_three limit archive offset this that
+    (three limit archive offset this s) (three limit archive offset that t)
 
 pub some_stands : SomeStands
 some_stands limit offset archive =
     elim (total limit archive) [
       | inl a ↦ (elim (which (nat_lt offset a.1.end)) [
-        | inl t ↦ covered limit offset archive (covering limit 0 archive a.0 a.1.end [] offset a.1.walks (omega arith) (grind (arith, nat_tests)))
+        | inl t ↦ covered limit offset archive
+            (covering limit 0 archive a.0 a.1.end [] offset a.1.walks (omega arith) (grind (arith, nat_tests)))
         | inr f ↦ (let l : a.1.end ≤ offset = grind (arith, nat_tests) in (Err faults.NoRecord, inr (a.0, a.1, l)))
       ])
       | inr d ↦ (elim (which (nat_lt offset d.1)) [
-        | inl t ↦ covered limit offset archive (covering limit 0 archive d.0 d.1 d.3.rest offset d.3.walks (omega arith) (grind (arith, nat_tests)))
-        | inr f ↦ (let l : d.1 ≤ offset = grind (arith, nat_tests) in (Err (faults.Capture (Archive (record { offset = d.1; cause = d.2 }))), (d.0, d.3, l)))
+        | inl t ↦ covered limit offset archive
+            (covering limit 0 archive d.0 d.1 d.3.rest offset d.3.walks (omega arith) (grind (arith, nat_tests)))
+        | inr f ↦ (let l : d.1 ≤ offset = grind (arith, nat_tests) in
+            (Err (faults.Capture (Archive (record { offset = d.1; cause = d.2 }))), (d.0, d.3, l)))
       ])
     ]

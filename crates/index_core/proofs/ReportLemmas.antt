@@ -1,5 +1,6 @@
 -- The lines of a report, one record further, and at the end.
-use Rattle.std.proofs.Common.{◌≡◌, ◌∙◌, ℕ, ◌+◌, List, [], ◌∷◌, ◌++◌, ◌⊎◌, inl, inr, Option, None, Some, Result, Ok, Err, sym, ap, refl, subst, append-nil, append_assoc}
+use Rattle.std.proofs.Common.{◌≡◌, ◌∙◌, ℕ, ◌+◌, List, [], ◌∷◌, ◌++◌, ◌⊎◌, inl, inr, Option, None, Some, Result, Ok, Err}
+use Rattle.std.proofs.Common.{sym, ap, refl, subst, append-nil, append_assoc}
 use Rattle.std.proofs.lemmas.List.Concat.{flat_map-append}
 use Rattle.std.specs.Bool.{⊤}
 use Rattle.std.specs.Io.KnownBytes.{Appends, prepend_known}
@@ -17,7 +18,8 @@ use Rattle.warc_core.proofs.WalkLemmas.{Walks-more, none_at_end, walk-extends}
 use Rattle.capture_core.specs.declared.fault.CaptureFault.TheVariants.{Archive, LineTooLong, KeyTooLong}
 use Rattle.index_core.specs.declared.fault.IndexFault.{IndexFault}
 use Rattle.index_core.specs.declared.fault.IndexFault.TheVariants as faults
-use Rattle.index_core.specs.Report.{Line, lines_of, fault_line, IsReport, IsCutReport, IsNoDamage, Reported, ReportedToFault, ReportedInPart, Reports, WritesFault}
+use Rattle.index_core.specs.Report.{Line, lines_of, fault_line, IsReport, IsCutReport, IsNoDamage, Reported}
+use Rattle.index_core.specs.Report.{ReportedToFault, ReportedInPart, Reports, WritesFault}
 
 -- this text is the record's line, where the archive is known
 abbrev pub IsLine : Line → Option (List ℕ) → HeadView → List ℕ → Type 0
@@ -25,17 +27,21 @@ IsLine line left h text = (archive : List ℕ) → left ≡ Some archive → tex
 
 -- the answer counts one more record
 abbrev pub CountsOn : {A : Type 0} → (List ℕ → List HeadView → A) → Option (List ℕ) → HeadView → A → A → Type 0
-CountsOn tally left h old new = (archive : List ℕ) (heads : List HeadView) → left ≡ Some archive → old ≡ tally archive heads → new ≡ tally archive (heads ++ h ∷ [])
+CountsOn tally left h old new = (archive : List ℕ) (heads : List HeadView) → left ≡ Some archive → old
+    ≡ tally archive heads → new ≡ tally archive (heads ++ h ∷ [])
 
 -- The lines of the records so far were written; the last of these records ends at the offset.
-abbrev pub SoFar : {A : Type 0} → ℕ → Line → (List ℕ → List HeadView → A) → Option (List ℕ) → Option (List ℕ) → ℕ → A → Option (List ℕ) → Option (List ℕ) → Type 0
+abbrev pub SoFar : {A : Type 0} → ℕ → Line → (List ℕ → List HeadView → A) → Option (List ℕ) → Option (List ℕ) → ℕ → A
+    → Option (List ℕ) → Option (List ℕ) → Type 0
 SoFar limit line tally None now offset answer before after = ⊤
 SoFar limit line tally (Some archive) None offset answer before after = ⊥
 SoFar limit line tally (Some archive) (Some rest) offset answer before after =
-    (heads : List HeadView) × Walks limit 0 archive heads offset rest × (answer ≡ tally archive heads) × Appends before after (lines_of line archive heads)
+    (heads : List HeadView) × Walks limit 0 archive heads offset rest × (answer ≡ tally archive heads)
+    × Appends before after (lines_of line archive heads)
 
 -- for want of memory any reading may stop
-pub stopped_anywhere : {A : Type 0} (f : List ℕ → Result (A × List ℕ) Cause) (c : Cause) (before after : Option (List ℕ)) → c ≡ causes.Memory → Reads f (Err c) before after
+pub stopped_anywhere : {A : Type 0} (f : List ℕ → Result (A × List ℕ) Cause) (c : Cause)
+    (before after : Option (List ℕ)) → c ≡ causes.Memory → Reads f (Err c) before after
 stopped_anywhere f c None after e = tt
 stopped_anywhere f c (Some z) after e = subst (λ k. IsFoundIn k (f z)) (sym e) tt
 
@@ -46,36 +52,62 @@ found_or_not causes.Read r h = inr tt
 found_or_not c r h = inl h
 
 -- counts of another answer with the same cause
-pub CountsRead-same : (A B : Type 0) (c : Cause) (old new : ℕ) → CountsRead {A = A} (Err c) old new → CountsRead {A = B} (Err c) old new
+pub CountsRead-same : (A B : Type 0) (c : Cause) (old new : ℕ) → CountsRead {A = A} (Err c) old new
+    → CountsRead {A = B} (Err c) old new
 CountsRead-same A B causes.Read old new h = h
 CountsRead-same A B c old new h = h
 
 module _ (limit : ℕ) (line : Line) where
-  report_to : (archive : List ℕ) (heads : List HeadView) (z : List ℕ) (f : Fault) → Walks limit 0 archive heads f.offset z → (record_at limit f.offset z ≡ Err f.cause) ⊎ IsNoDamage f.cause → IsReport limit line archive (lines_of line archive heads ++ fault_line f) ⊎ IsCutReport limit line archive (lines_of line archive heads ++ fault_line f)
+  report_to : (archive : List ℕ) (heads : List HeadView) (z : List ℕ) (f : Fault)
+      → Walks limit 0 archive heads f.offset z → (record_at limit f.offset z ≡ Err f.cause) ⊎ IsNoDamage f.cause
+      → IsReport limit line archive (lines_of line archive heads ++ fault_line f)
+      ⊎ IsCutReport limit line archive (lines_of line archive heads ++ fault_line f)
   report_to archive heads z f w (inl e) = inl (inr (heads, f, record { rest = z; walks = w; refused = e }, refl))
   report_to archive heads z f w (inr n) = inr (heads, f, z, n, w, refl)
 
   -- the archive's report goes on where the lines of its first records end
-  report_behind : (archive : List ℕ) (heads : List HeadView) (o : ℕ) (rest : List ℕ) → Walks limit 0 archive heads o rest → (tail : List ℕ) × IsReport limit line archive (lines_of line archive heads ++ tail)
+  report_behind : (archive : List ℕ) (heads : List HeadView) (o : ℕ) (rest : List ℕ)
+      → Walks limit 0 archive heads o rest → (tail : List ℕ)
+      × IsReport limit line archive (lines_of line archive heads ++ tail)
   report_behind archive heads o rest w =
       elim (total limit archive) [
-        | inl a ↦ (let m = walk-extends limit 0 archive heads a.0 o a.1.end rest [] w a.1.walks (inl refl) in
-            (lines_of line archive m.0, inl (a.0, a.1, sym (ap (lines_of line archive) m.1 ∙ flat_map-append (line archive) heads m.0))))
-        | inr d ↦ (let m = walk-extends limit 0 archive heads d.0 o d.1 rest d.3.rest w d.3.walks (inr (d.2, d.3.refused)) in
-            let f : Fault = record { offset = d.1; cause = d.2 } in
-            (lines_of line archive m.0 ++ fault_line f, inr (d.0, f, d.3, sym (ap (λ hs. lines_of line archive hs ++ fault_line f) m.1 ∙ (ap (λ t. t ++ fault_line f) (flat_map-append (line archive) heads m.0) ∙ append_assoc (lines_of line archive heads) (lines_of line archive m.0) (fault_line f))))))
+        | inl a ↦ (let m = walk-extends limit 0 archive heads a.0 o a.1.end rest [] w a.1.walks (inl refl) in (
+          lines_of line archive m.0,
+          inl
+              (a.0, a.1, sym (ap (lines_of line archive) m.1 ∙ flat_map-append (line archive) heads m.0)),
+        ))
+        | inr d ↦ (let m = walk-extends limit 0 archive heads d.0 o d.1 rest d.3.rest w d.3.walks
+            (inr (d.2, d.3.refused)) in
+            let f : Fault = record { offset = d.1; cause = d.2 } in (
+              lines_of line archive m.0
+                  ++ fault_line f,
+              inr (
+                d.0,
+                f,
+                d.3,
+                sym (ap (λ hs. lines_of line archive hs ++ fault_line f) m.1
+                    ∙ (ap (λ t. t ++ fault_line f) (flat_map-append (line archive) heads m.0)
+                    ∙ append_assoc (lines_of line archive heads) (lines_of line archive m.0) (fault_line f))),
+              ),
+            ))
       ]
 
   -- the lines with one more
-  one_more : (archive : List ℕ) (heads : List HeadView) (h : HeadView) → lines_of line archive (heads ++ h ∷ []) ≡ lines_of line archive heads ++ line archive h
-  one_more archive heads h = flat_map-append (line archive) heads (h ∷ []) ∙ ap (λ t. lines_of line archive heads ++ t) (append-nil (line archive h))
+  one_more : (archive : List ℕ) (heads : List HeadView) (h : HeadView) → lines_of line archive (heads ++ h ∷ [])
+      ≡ lines_of line archive heads ++ line archive h
+  one_more archive heads h = flat_map-append (line archive) heads (h ∷ [])
+      ∙ ap (λ t. lines_of line archive heads ++ t) (append-nil (line archive h))
 
   module _ {A : Type 0} (tally : List ℕ → List HeadView → A) where
-    pub SoFar-start : (left written : Option (List ℕ)) (x : A) → ((archive : List ℕ) → x ≡ tally archive []) → SoFar limit line tally left (prepend_known [] left) 0 x written written
+    pub SoFar-start : (left written : Option (List ℕ)) (x : A) → ((archive : List ℕ) → x ≡ tally archive [])
+        → SoFar limit line tally left (prepend_known [] left) 0 x written written
     SoFar-start None written x e = tt
     SoFar-start (Some archive) written x e = ([], (refl, refl), e archive, Appends-none written)
 
-    pub SoFar-more : (left now after : Option (List ℕ)) (o : ℕ) (x y : A) (h : HeadView) (text : List ℕ) (w v u : Option (List ℕ)) → SoFar limit line tally left now o x w v → Reads (record_at limit o) (Ok (Some h)) now after → IsLine line left h text → CountsOn tally left h x y → Appends v u text → SoFar limit line tally left after (o + record_length h) y w u
+    pub SoFar-more : (left now after : Option (List ℕ)) (o : ℕ) (x y : A) (h : HeadView) (text : List ℕ)
+        (w v u : Option (List ℕ)) → SoFar limit line tally left now o x w v
+        → Reads (record_at limit o) (Ok (Some h)) now after → IsLine line left h text → CountsOn tally left h x y
+        → Appends v u text → SoFar limit line tally left after (o + record_length h) y w u
     SoFar-more None now after o x y h text w v u s r l k a = tt
     SoFar-more (Some archive) None after o x y h text w v u s r l k a = absurd s
     SoFar-more (Some archive) (Some z) None o x y h text w v u s r l k a = absurd r
@@ -83,44 +115,74 @@ module _ (limit : ℕ) (line : Line) where
       s.0 ++ h ∷ [],
       Walks-more limit 0 archive s.0 o z h later s.1 r,
       k archive s.0 refl s.2,
-      subst (Appends w u) (sym (one_more archive s.0 h)) (Appends-join w v u (lines_of line archive s.0) (line archive h) s.3 (subst (Appends v u) (l archive refl) a)),
+      subst (Appends w u) (sym (one_more archive s.0 h))
+          (Appends-join w v u (lines_of line archive s.0) (line archive h) s.3
+          (subst (Appends v u) (l archive refl) a)),
     )
 
-    pub SoFar-end : (left now after : Option (List ℕ)) (o : ℕ) (x : A) (w v : Option (List ℕ)) → SoFar limit line tally left now o x w v → Reads (record_at limit o) (Ok None) now after → Reported limit line tally left x w v
+    pub SoFar-end : (left now after : Option (List ℕ)) (o : ℕ) (x : A) (w v : Option (List ℕ))
+        → SoFar limit line tally left now o x w v → Reads (record_at limit o) (Ok None) now after
+        → Reported limit line tally left x w v
     SoFar-end None now after o x w v s r = tt
     SoFar-end (Some archive) None after o x w v s r = absurd s
     SoFar-end (Some archive) (Some z) None o x w v s r = absurd r
-    SoFar-end (Some archive) (Some z) (Some y) o x w v s r = (s.0, record { end = o; walks = subst (Walks limit 0 archive s.0 o) (none_at_end limit o z y r) s.1 }, s.2, s.3)
+    SoFar-end (Some archive) (Some z) (Some y) o x w v s r =
+        (s.0, record { end = o; walks = subst (Walks limit 0 archive s.0 o) (none_at_end limit o z y r) s.1 }, s.2, s.3)
 
-    SoFar-fault : (left now after : Option (List ℕ)) (o : ℕ) (x : A) (f : Fault) (w v u : Option (List ℕ)) → SoFar limit line tally left now o x w v → Reads (record_at limit o) (Err f.cause) now after → f.offset ≡ o → Appends v u (fault_line f) → ReportedToFault limit line left f w u
+    SoFar-fault : (left now after : Option (List ℕ)) (o : ℕ) (x : A) (f : Fault) (w v u : Option (List ℕ))
+        → SoFar limit line tally left now o x w v → Reads (record_at limit o) (Err f.cause) now after → f.offset ≡ o
+        → Appends v u (fault_line f) → ReportedToFault limit line left f w u
     SoFar-fault None now after o x f w v u s r e a = tt
     SoFar-fault (Some archive) None after o x f w v u s r e a = absurd s
-    SoFar-fault (Some archive) (Some z) after o x f w v u s r e a =
-        (s.0, z, subst (λ p. Walks limit 0 archive s.0 p z) (sym e) s.1, subst (λ p. IsFoundIn f.cause (record_at limit p z)) (sym e) r, Appends-join w v u (lines_of line archive s.0) (fault_line f) s.3 a)
+    SoFar-fault (Some archive) (Some z) after o x f w v u s r e a = (
+      s.0,
+      z,
+      subst (λ p. Walks limit 0 archive s.0 p z) (sym e) s.1,
+      subst
+          (λ p. IsFoundIn f.cause (record_at limit p z)) (sym e) r,
+      Appends-join w v u (lines_of line archive s.0)
+          (fault_line f) s.3 a,
+    )
 
     -- the output failed in the line of a fault
-    SoFar-cut : (left now after : Option (List ℕ)) (o : ℕ) (x : A) (f : Fault) (w v u : Option (List ℕ)) → SoFar limit line tally left now o x w v → Reads (record_at limit o) (Err f.cause) now after → f.offset ≡ o → AppendsPrefix v u (fault_line f) → ReportedInPart limit line left w u
+    SoFar-cut : (left now after : Option (List ℕ)) (o : ℕ) (x : A) (f : Fault) (w v u : Option (List ℕ))
+        → SoFar limit line tally left now o x w v → Reads (record_at limit o) (Err f.cause) now after → f.offset ≡ o
+        → AppendsPrefix v u (fault_line f) → ReportedInPart limit line left w u
     SoFar-cut None now after o x f w v u s r e a = tt
     SoFar-cut (Some archive) None after o x f w v u s r e a = absurd s
     SoFar-cut (Some archive) (Some z) after o x f w v u s r e a = (
       lines_of line archive s.0 ++ fault_line f,
-      report_to archive s.0 z f (subst (λ p. Walks limit 0 archive s.0 p z) (sym e) s.1) (found_or_not f.cause (record_at limit f.offset z) (subst (λ p. IsFoundIn f.cause (record_at limit p z)) (sym e) r)),
-      subst (λ t. AppendsPrefix w u (lines_of line archive s.0 ++ t)) (append-nil (fault_line f)) (AppendsPrefix-behind w v u (lines_of line archive s.0) (fault_line f) [] s.3 a),
+      report_to archive s.0 z f (subst (λ p. Walks limit 0 archive s.0 p z) (sym e) s.1)
+          (found_or_not f.cause (record_at limit f.offset z)
+          (subst (λ p. IsFoundIn f.cause (record_at limit p z)) (sym e) r)),
+      subst (λ t. AppendsPrefix w u (lines_of line archive s.0 ++ t)) (append-nil (fault_line f))
+          (AppendsPrefix-behind w v u (lines_of line archive s.0) (fault_line f) [] s.3 a),
     )
 
     -- the output failed in the line of a record
-    pub SoFar-stopped : (left now after : Option (List ℕ)) (o : ℕ) (x : A) (h : HeadView) (text : List ℕ) (w v u : Option (List ℕ)) → SoFar limit line tally left now o x w v → Reads (record_at limit o) (Ok (Some h)) now after → IsLine line left h text → AppendsPrefix v u text → ReportedInPart limit line left w u
+    pub SoFar-stopped : (left now after : Option (List ℕ)) (o : ℕ) (x : A) (h : HeadView) (text : List ℕ)
+        (w v u : Option (List ℕ)) → SoFar limit line tally left now o x w v
+        → Reads (record_at limit o) (Ok (Some h)) now after → IsLine line left h text → AppendsPrefix v u text
+        → ReportedInPart limit line left w u
     SoFar-stopped None now after o x h text w v u s r l a = tt
     SoFar-stopped (Some archive) None after o x h text w v u s r l a = absurd s
     SoFar-stopped (Some archive) (Some z) None o x h text w v u s r l a = absurd r
     SoFar-stopped (Some archive) (Some z) (Some y) o x h text w v u s r l a =
-        let t = report_behind archive (s.0 ++ h ∷ []) (o + record_length h) y (Walks-more limit 0 archive s.0 o z h y s.1 r) in
+        let t = report_behind archive (s.0 ++ h ∷ []) (o + record_length h) y
+        (Walks-more limit 0 archive s.0 o z h y s.1 r) in
         let e : lines_of line archive (s.0 ++ h ∷ []) ++ t.0 ≡ lines_of line archive s.0 ++ (line archive h ++ t.0) =
-        ap (λ x. x ++ t.0) (one_more archive s.0 h) ∙ append_assoc (lines_of line archive s.0) (line archive h) t.0 in
-        (lines_of line archive s.0 ++ (line archive h ++ t.0), inl (subst (IsReport limit line archive) e t.1), AppendsPrefix-behind w v u (lines_of line archive s.0) (line archive h) t.0 s.3 (subst (AppendsPrefix v u) (l archive refl) a))
+        ap (λ x. x ++ t.0) (one_more archive s.0 h) ∙ append_assoc (lines_of line archive s.0) (line archive h) t.0 in (
+          lines_of line archive s.0 ++ (line archive h ++ t.0),
+          inl (subst (IsReport limit line archive) e t.1),
+          AppendsPrefix-behind w v u (lines_of line archive s.0) (line archive h) t.0 s.3
+              (subst (AppendsPrefix v u) (l archive refl) a),
+        )
 
     -- what the writing of a fault's line leaves
-    pub fault_reported : (fault : Fault) (given : IndexFault) (left now after : Option (List ℕ)) (o : ℕ) (x : A) (w v u : Option (List ℕ)) (k k' : ℕ) → SoFar limit line tally left now o x w v → Reads (record_at limit o) (Err fault.cause) now after → fault.offset ≡ o → WritesFault fault given v u k k' → Reports limit line tally left (Err given) w u
+    pub fault_reported : (fault : Fault) (given : IndexFault) (left now after : Option (List ℕ)) (o : ℕ) (x : A)
+        (w v u : Option (List ℕ)) (k k' : ℕ) → SoFar limit line tally left now o x w v
+        → Reads (record_at limit o) (Err fault.cause) now after → fault.offset ≡ o → WritesFault fault given v u k k'
+        → Reports limit line tally left (Err given) w u
     fault_reported fault faults.Memory left now after o x w v u k k' s r e h = h
     fault_reported fault faults.BadName left now after o x w v u k k' s r e h = h
     fault_reported fault faults.DuplicateName left now after o x w v u k k' s r e h = h
@@ -128,5 +190,7 @@ module _ (limit : ℕ) (line : Line) where
     fault_reported fault (faults.Capture (LineTooLong g)) left now after o x w v u k k' s r e h = h
     fault_reported fault (faults.Capture (KeyTooLong g)) left now after o x w v u k k' s r e h = h
     fault_reported fault (faults.Capture (Archive f)) left now after o x w v u k k' s r e h =
-        subst (λ g. ReportedToFault limit line left g w u) (sym h.0) (SoFar-fault left now after o x fault w v u s r e h.1)
-    fault_reported fault faults.Write left now after o x w v u k k' s r e h = SoFar-cut left now after o x fault w v u s r e h.0
+        subst (λ g. ReportedToFault limit line left g w u) (sym h.0)
+        (SoFar-fault left now after o x fault w v u s r e h.1)
+    fault_reported fault faults.Write left now after o x w v u k k' s r e h = SoFar-cut left now after o x fault w v u s
+        r e h.0

@@ -1,5 +1,6 @@
 -- Captures that stay sound: each has its own place, under a name that was added.
-use Rattle.std.proofs.Common.{◌≡◌, ◌∙◌, ℕ, ◌<◌, true, false, ◌||◌, List, [], ◌∷◌, ◌++◌, Option, None, Some, IfSome, option_to_list, sym, ap, refl, subst, append-nil, arith}
+use Rattle.std.proofs.Common.{◌≡◌, ◌∙◌, ℕ, ◌<◌, true, false, ◌||◌, List, [], ◌∷◌, ◌++◌, Option, None, Some, IfSome}
+use Rattle.std.proofs.Common.{option_to_list, sym, ap, refl, subst, append-nil, arith}
 use Rattle.std.specs.List.{AllByRecursion}
 use Rattle.std.specs.Ordering.{ordering_then}
 use Rattle.std.specs.FinMap.{slice_cmp-IsAntisymmetric, nat_cmp-IsAntisymmetric}
@@ -17,11 +18,13 @@ use Rattle.index_core.specs.Captures.{StandBefore}
 
 -- ---- lists with one more
 
-each_push : (A : EntryValue → Type 0) (xs : List EntryValue) (e : EntryValue) → AllByRecursion A xs → A e → AllByRecursion A (xs ++ e ∷ [])
+each_push : (A : EntryValue → Type 0) (xs : List EntryValue) (e : EntryValue) → AllByRecursion A xs → A e
+    → AllByRecursion A (xs ++ e ∷ [])
 each_push A [] e h a = (a, tt)
 each_push A (x ∷ xs) e h a = (h.0, each_push A xs e h.1 a)
 
-each_weaker : (A B : EntryValue → Type 0) → ((x : EntryValue) → A x → B x) → (xs : List EntryValue) → AllByRecursion A xs → AllByRecursion B xs
+each_weaker : (A B : EntryValue → Type 0) → ((x : EntryValue) → A x → B x) → (xs : List EntryValue)
+    → AllByRecursion A xs → AllByRecursion B xs
 each_weaker A B f [] h = tt
 each_weaker A B f (x ∷ xs) h = (f x h.0, each_weaker A B f xs h.1)
 
@@ -33,7 +36,8 @@ both_equal Equal b e = (refl, e)
 both_equal Greater b e = cc
 
 -- a capture that stands before the offset has another place than one at the offset
-apart : (name : List ℕ) (o : ℕ) (x e : EntryValue) → e.offset ≡ o → e.filename ≡ name → (x.filename ≡ name → x.offset < o) → place_cmp (entry_place x) (entry_place e) ≡ Equal → ⊥
+apart : (name : List ℕ) (o : ℕ) (x e : EntryValue) → e.offset ≡ o → e.filename ≡ name
+    → (x.filename ≡ name → x.offset < o) → place_cmp (entry_place x) (entry_place e) ≡ Equal → ⊥
 apart name o x e at named before q =
     let a = both_equal _ _ q in
     let b = both_equal _ _ a.1 in
@@ -43,20 +47,31 @@ apart name o x e at named before q =
     let less = before (names ∙ named) in
     absurd (omega (arith, less, offsets, at))
 
-places_push : (name : List ℕ) (o : ℕ) (xs : List EntryValue) (e : EntryValue) → e.offset ≡ o → e.filename ≡ name → StandBefore name o xs → HaveOwnPlaces xs → HaveOwnPlaces (xs ++ e ∷ [])
+places_push : (name : List ℕ) (o : ℕ) (xs : List EntryValue) (e : EntryValue) → e.offset ≡ o → e.filename ≡ name
+    → StandBefore name o xs → HaveOwnPlaces xs → HaveOwnPlaces (xs ++ e ∷ [])
 places_push name o [] e at named before own = (tt, tt)
-places_push name o (x ∷ xs) e at named before own =
-    (each_push (λ other. place_cmp (entry_place x) (entry_place other) ≡ Equal → ⊥) xs e own.0 (apart name o x e at named before.0), places_push name o xs e at named before.1 own.1)
+places_push name o (x ∷ xs) e at named before own = (
+  each_push (λ other. place_cmp (entry_place x) (entry_place other) ≡ Equal → ⊥) xs e own.0
+      (apart name o x e at named before.0),
+  places_push name o xs e at named before.1 own.1,
+)
 
 before_more : (name : List ℕ) (o p : ℕ) (xs : List EntryValue) → o < p → StandBefore name o xs → StandBefore name p xs
-before_more name o p xs less h = each_weaker (λ e. e.filename ≡ name → e.offset < o) (λ e. e.filename ≡ name → e.offset < p) (λ e k n. (let l = k n in omega (arith, l, less))) xs h
+before_more name o p xs less h = each_weaker (λ e. e.filename ≡ name → e.offset < o) (λ e. e.filename ≡ name
+    → e.offset < p) (λ e k n. (let l = k n in omega (arith, l, less))) xs h
 
 -- what a record at the offset adds stands before its end
-pub before_step : (name : List ℕ) (limit o p : ℕ) (h : HeadView) (xs : List EntryValue) (captured : Option EntryValue) → o < p → h.start ≡ o → IfSome captured (IsEntryOf h name limit) → StandBefore name o xs → StandBefore name p (xs ++ option_to_list captured)
-before_step name limit o p h xs None less at e before = subst (StandBefore name p) (sym (append-nil xs)) (before_more name o p xs less before)
-before_step name limit o p h xs (Some x) less at e before = each_push (λ y. y.filename ≡ name → y.offset < p) xs x (before_more name o p xs less before) (λ n. omega (arith, less, at, e.offset))
+pub before_step : (name : List ℕ) (limit o p : ℕ) (h : HeadView) (xs : List EntryValue) (captured : Option EntryValue)
+    → o < p → h.start ≡ o → IfSome captured (IsEntryOf h name limit) → StandBefore name o xs
+    → StandBefore name p (xs ++ option_to_list captured)
+before_step name limit o p h xs None less at e before = subst (StandBefore name p) (sym (append-nil xs))
+    (before_more name o p xs less before)
+before_step name limit o p h xs (Some x) less at e before = each_push (λ y. y.filename ≡ name → y.offset < p) xs x
+    (before_more name o p xs less before) (λ n. omega (arith, less, at, e.offset))
 
-pub sound_step : (limit : ℕ) (names : List (List ℕ)) (name : List ℕ) (o : ℕ) (h : HeadView) (xs : List EntryValue) (captured : Option EntryValue) → is_among names name ≡ true → h.start ≡ o → IfSome captured (IsEntryOf h name limit) → StandBefore name o xs → AreSound limit names xs → AreSound limit names (xs ++ option_to_list captured)
+pub sound_step : (limit : ℕ) (names : List (List ℕ)) (name : List ℕ) (o : ℕ) (h : HeadView) (xs : List EntryValue)
+    (captured : Option EntryValue) → is_among names name ≡ true → h.start ≡ o → IfSome captured (IsEntryOf h name limit)
+    → StandBefore name o xs → AreSound limit names xs → AreSound limit names (xs ++ option_to_list captured)
 sound_step limit names name o h xs None used at e before s = subst (AreSound limit names) (sym (append-nil xs)) s
 sound_step limit names name o h xs (Some x) used at e before s = record {
   places = places_push name o xs x (e.offset ∙ at) e.filename before s.places;
@@ -66,7 +81,8 @@ sound_step limit names name o h xs (Some x) used at e before s = record {
 
 -- ---- names
 
-pub among_more : (names more : List (List ℕ)) (name : List ℕ) → is_among names name ≡ true → is_among (names ++ more) name ≡ true
+pub among_more : (names more : List (List ℕ)) (name : List ℕ) → is_among names name ≡ true
+    → is_among (names ++ more) name ≡ true
 among_more names more name h = list_any-append (bytes_eq name) names more ∙ ap (λ b. b || is_among more name) h
 
 pub among_last : (names : List (List ℕ)) (name : List ℕ) → is_among (names ++ name ∷ []) name ≡ true
@@ -80,9 +96,11 @@ pub is_among_kept : (names new : List (List ℕ)) (name : List ℕ) → new ≡ 
 is_among_kept names new name e = ap (λ ns. is_among ns name) e ∙ among_last names name
 
 -- captures stay sound under more names
-pub sound_under : (limit : ℕ) (names new : List (List ℕ)) (name : List ℕ) (xs : List EntryValue) → new ≡ names ++ name ∷ [] → AreSound limit names xs → AreSound limit new xs
+pub sound_under : (limit : ℕ) (names new : List (List ℕ)) (name : List ℕ) (xs : List EntryValue) → new ≡ names
+    ++ name ∷ [] → AreSound limit names xs → AreSound limit new xs
 sound_under limit names new name xs e s = record {
   places = s.places;
-  named = each_weaker (λ y. is_among names y.filename ≡ true) (λ y. is_among new y.filename ≡ true) (λ y k. ap (λ ns. is_among ns y.filename) e ∙ among_more names (name ∷ []) y.filename k) xs s.named;
+  named = each_weaker (λ y. is_among names y.filename ≡ true) (λ y. is_among new y.filename ≡ true)
+      (λ y k. ap (λ ns. is_among ns y.filename) e ∙ among_more names (name ∷ []) y.filename k) xs s.named;
   lines = s.lines;
 }

@@ -1,5 +1,6 @@
 -- What a verification says of a record, and what it counts.
-use Rattle.std.proofs.Common.{◌≡◌, ◌∙◌, ℕ, ◌+◌, ◌≤◌, List, [], ◌∷◌, ◌++◌, Option, None, Some, Result, Ok, Err, IfSome, length, take, drop, sym, ap, refl, subst, length-append, arith}
+use Rattle.std.proofs.Common.{◌≡◌, ◌∙◌, ℕ, ◌+◌, ◌≤◌, List, [], ◌∷◌, ◌++◌, Option, None, Some, Result, Ok, Err, IfSome}
+use Rattle.std.proofs.Common.{length, take, drop, sym, ap, refl, subst, length-append, arith}
 use Rattle.std.specs.List.{sum_by}
 use Rattle.std.proofs.lemmas.List.Sums.{sum_by-append}
 use Rattle.std.proofs.Math.Seq.{drop-append_seam}
@@ -14,42 +15,57 @@ use Rattle.warc_core.proofs.ReadingLemmas.{answered}
 use Rattle.capture_core.specs.declared.verdict.Verdict.{Verdict}
 use Rattle.capture_core.specs.declared.verdict.Verdict.TheVariants as verdicts
 use Rattle.capture_core.specs.BlockDigest.{judge_record}
-use Rattle.index_core.specs.Verifying.{verdict_on, verdict_in, verdict_line, verification_line, differing_by, verified_in}
+use Rattle.index_core.specs.Verifying.{verdict_on, verdict_in, verdict_line, verification_line, differing_by}
+use Rattle.index_core.specs.Verifying.{verified_in}
 use Rattle.index_core.proofs.ReportLemmas.{IsLine, CountsOn, SoFar}
 
-judged : (judge : List ℕ → Verdict) (n : ℕ) (z w : List ℕ) (v : Verdict) (r : Result (Unit {0} × List ℕ) Cause) → after_record n z ≡ r → (◌>>=◌ {B = Verdict × List ℕ} r (λ rest. Ok (judge (take n z), rest.1))) ≡ Ok (v, w) → (after_record n z ≡ Ok (tt, w)) × (v ≡ judge (take n z))
-judged judge n z w v (Err c) e h = absurd (let k : ◌≡◌ {A = Result (Verdict × List ℕ) Cause} (Err c) (Ok (v, w)) = h in cc)
-judged judge n z w v (Ok (u, rest)) e h = let a = answered (judge (take n z)) v rest w h in (e ∙ ap (λ t. Ok (tt, t)) a.1, sym a.0)
+judged : (judge : List ℕ → Verdict) (n : ℕ) (z w : List ℕ) (v : Verdict) (r : Result (Unit {0} × List ℕ) Cause)
+    → after_record n z ≡ r → (◌>>=◌ {B = Verdict × List ℕ} r (λ rest. Ok (judge (take n z), rest.1))) ≡ Ok (v, w)
+    → (after_record n z ≡ Ok (tt, w)) × (v ≡ judge (take n z))
+judged judge n z w v (Err c) e h = absurd
+    (let k : ◌≡◌ {A = Result (Verdict × List ℕ) Cause} (Err c) (Ok (v, w)) = h in cc)
+judged judge n z w v (Ok (u, rest)) e h = let a = answered (judge (take n z)) v rest w h in
+    (e ∙ ap (λ t. Ok (tt, t)) a.1, sym a.0)
 
-judged_record : (judge : List ℕ → Verdict) (n : ℕ) (z w : List ℕ) (v : Verdict) → judge_record judge n z ≡ Ok (v, w) → (after_record n z ≡ Ok (tt, w)) × (v ≡ judge (take n z))
+judged_record : (judge : List ℕ → Verdict) (n : ℕ) (z w : List ℕ) (v : Verdict) → judge_record judge n z ≡ Ok (v, w)
+    → (after_record n z ≡ Ok (tt, w)) × (v ≡ judge (take n z))
 unfolding judge_record
 judged_record judge n z w v h = judged judge n z w v (after_record n z) refl h
 
-refused : (judge : List ℕ → Verdict) (n : ℕ) (z : List ℕ) (c : Cause) (r : Result (Unit {0} × List ℕ) Cause) → (◌>>=◌ {B = Verdict × List ℕ} r (λ rest. Ok (judge (take n z), rest.1))) ≡ Err c → r ≡ Err c
+refused : (judge : List ℕ → Verdict) (n : ℕ) (z : List ℕ) (c : Cause) (r : Result (Unit {0} × List ℕ) Cause)
+    → (◌>>=◌ {B = Verdict × List ℕ} r (λ rest. Ok (judge (take n z), rest.1))) ≡ Err c → r ≡ Err c
 refused judge n z c (Err d) h = let k : ◌≡◌ {A = Result (Verdict × List ℕ) Cause} (Err d) (Err c) = h in cc
-refused judge n z c (Ok (u, rest)) h = absurd (let k : ◌≡◌ {A = Result (Verdict × List ℕ) Cause} (Ok (judge (take n z), rest)) (Err c) = h in cc)
+refused judge n z c (Ok (u, rest)) h = absurd
+    (let k : ◌≡◌ {A = Result (Verdict × List ℕ) Cause} (Ok (judge (take n z), rest)) (Err c) = h in cc)
 
-refused_record : (judge : List ℕ → Verdict) (n : ℕ) (z : List ℕ) (c : Cause) → judge_record judge n z ≡ Err c → after_record n z ≡ Err c
+refused_record : (judge : List ℕ → Verdict) (n : ℕ) (z : List ℕ) (c : Cause) → judge_record judge n z ≡ Err c
+    → after_record n z ≡ Err c
 unfolding judge_record
 refused_record judge n z c h = refused judge n z c (after_record n z) h
 
-found_record : (judge : List ℕ → Verdict) (n : ℕ) (z : List ℕ) (c : Cause) → IsFoundIn c (judge_record judge n z) → IsFoundIn c (after_record n z)
+found_record : (judge : List ℕ → Verdict) (n : ℕ) (z : List ℕ) (c : Cause) → IsFoundIn c (judge_record judge n z)
+    → IsFoundIn c (after_record n z)
 found_record judge n z causes.Memory h = tt
 found_record judge n z causes.Read h = tt
 found_record judge n z c h = refused_record judge n z c h
 
 -- a judged record was read
-pub judged_reads : (judge : List ℕ → Verdict) (n : ℕ) (v : Verdict) (before after : Option (List ℕ)) → Reads (judge_record judge n) (Ok v) before after → Reads (after_record n) (Ok tt) before after
+pub judged_reads : (judge : List ℕ → Verdict) (n : ℕ) (v : Verdict) (before after : Option (List ℕ))
+    → Reads (judge_record judge n) (Ok v) before after → Reads (after_record n) (Ok tt) before after
 judged_reads judge n v None after h = tt
 judged_reads judge n v (Some z) None h = absurd h
 judged_reads judge n v (Some z) (Some w) h = (judged_record judge n z w v h).0
 
-pub judged_met : (judge : List ℕ → Verdict) (n : ℕ) (c : Cause) (before after : Option (List ℕ)) → Reads (judge_record judge n) (Err c) before after → Reads (after_record n) (Err c) before after
+pub judged_met : (judge : List ℕ → Verdict) (n : ℕ) (c : Cause) (before after : Option (List ℕ))
+    → Reads (judge_record judge n) (Err c) before after → Reads (after_record n) (Err c) before after
 judged_met judge n c None after h = tt
 judged_met judge n c (Some z) after h = found_record judge n z c h
 
 -- the verdict on a record that begins the bytes
-pub judged_verdict : (limit start : ℕ) (h : HeadView) (v : Verdict) (before mid after : Option (List ℕ)) → Reads (next_at limit start) (Ok (Some h)) before mid → Reads (judge_record (verdict_on h) h.parts.length) (Ok v) mid after → IfSome before (λ bytes. v ≡ verdict_on h (block_at h bytes))
+pub judged_verdict : (limit start : ℕ) (h : HeadView) (v : Verdict) (before mid after : Option (List ℕ))
+    → Reads (next_at limit start) (Ok (Some h)) before mid
+    → Reads (judge_record (verdict_on h) h.parts.length) (Ok v) mid after
+    → IfSome before (λ bytes. v ≡ verdict_on h (block_at h bytes))
 judged_verdict limit start h v None mid after r j = tt
 judged_verdict limit start h v (Some z) None after r j = absurd r
 judged_verdict limit start h v (Some z) (Some y) None r j = absurd j
@@ -60,27 +76,41 @@ judged_verdict limit start h v (Some z) (Some y) (Some w) r j =
 
 -- what stands behind the first records of an archive
 pub behind : (archive front z : List ℕ) (o : ℕ) → archive ≡ front ++ z → o ≡ 0 + length front → drop o archive ≡ z
-behind archive front z o e l = ap (λ n. drop n archive) (let k : o ≡ length front = omega (arith, l) in k) ∙ (ap (drop (length front)) e ∙ drop-append_seam front z)
+behind archive front z o e l = ap (λ n. drop n archive) (let k : o ≡ length front = omega (arith, l) in k)
+    ∙ (ap (drop (length front)) e ∙ drop-append_seam front z)
 
 -- the line of a verdict is that of the record in the archive
-pub verdict_known : {A : Type 0} (limit : ℕ) (tally : List ℕ → List HeadView → A) (left now : Option (List ℕ)) (o : ℕ) (x : A) (w u : Option (List ℕ)) (h : HeadView) (v : Verdict) → SoFar limit verification_line tally left now o x w u → h.start ≡ o → IfSome now (λ bytes. v ≡ verdict_on h (block_at h bytes)) → (archive : List ℕ) → left ≡ Some archive → v ≡ verdict_in archive h
-verdict_known limit tally None now o x w u h v s b t archive e = absurd (let k : ◌≡◌ {A = Option (List ℕ)} None (Some archive) = e in cc)
+pub verdict_known : {A : Type 0} (limit : ℕ) (tally : List ℕ → List HeadView → A) (left now : Option (List ℕ)) (o : ℕ)
+    (x : A) (w u : Option (List ℕ)) (h : HeadView) (v : Verdict) → SoFar limit verification_line tally left now o x w u
+    → h.start ≡ o → IfSome now (λ bytes. v ≡ verdict_on h (block_at h bytes)) → (archive : List ℕ) → left ≡ Some archive
+    → v ≡ verdict_in archive h
+verdict_known limit tally None now o x w u h v s b t archive e = absurd
+    (let k : ◌≡◌ {A = Option (List ℕ)} None (Some archive) = e in cc)
 verdict_known limit tally (Some a) None o x w u h v s b t archive e = absurd s
 verdict_known limit tally (Some a) (Some z) o x w u h v s b t archive e =
     let same : a ≡ archive = (let k : ◌≡◌ {A = Option (List ℕ)} (Some a) (Some archive) = e in cc) in
     let f = walk-front limit 0 a s.0 o z s.1 in
-    subst (λ r. v ≡ verdict_in r h) same (t ∙ ap (λ y. verdict_on h (block_at h y)) (sym (ap (λ n. drop n a) b ∙ behind a f.0 z o f.1 f.2)))
+    subst (λ r. v ≡ verdict_in r h) same
+    (t ∙ ap (λ y. verdict_on h (block_at h y)) (sym (ap (λ n. drop n a) b ∙ behind a f.0 z o f.1 f.2)))
 
-pub is_line : (left : Option (List ℕ)) (h : HeadView) (v : Verdict) → ((archive : List ℕ) → left ≡ Some archive → v ≡ verdict_in archive h) → IsLine verification_line left h (verdict_line h.start v)
+pub is_line : (left : Option (List ℕ)) (h : HeadView) (v : Verdict)
+    → ((archive : List ℕ) → left ≡ Some archive → v ≡ verdict_in archive h)
+    → IsLine verification_line left h (verdict_line h.start v)
 is_line left h v t archive e = ap (verdict_line h.start) (t archive e)
 
-pub one_verdict : (left : Option (List ℕ)) (h : HeadView) (v : Verdict) (n d : ℕ) → ((archive : List ℕ) → left ≡ Some archive → v ≡ verdict_in archive h) → CountsOn verified_in left h (record { records = n; differing = d }) (record { records = n + 1; differing = d + differing_by v })
+pub one_verdict : (left : Option (List ℕ)) (h : HeadView) (v : Verdict) (n d : ℕ)
+    → ((archive : List ℕ) → left ≡ Some archive → v ≡ verdict_in archive h)
+    → CountsOn verified_in left h (record { records = n; differing = d })
+    (record { records = n + 1; differing = d + differing_by v })
 one_verdict left h v n d t archive heads e k =
-    let records : n + 1 ≡ length (heads ++ h ∷ []) = omega (arith, ap (λ y. y.records) k, length-append heads (h ∷ [])) in
+    let records : n + 1 ≡ length (heads ++ h ∷ []) = omega
+    (arith, ap (λ y. y.records) k, length-append heads (h ∷ [])) in
     let by = λ (g : HeadView). differing_by (verdict_in archive g) in
     let last : sum_by by (h ∷ []) ≡ differing_by v = omega (arith, ap differing_by (t archive e)) in
-    let differing : d + differing_by v ≡ sum_by by (heads ++ h ∷ []) = omega (arith, ap (λ y. y.differing) k, sum_by-append by heads (h ∷ []), last) in
-    ap (λ a. record { records = a; differing = d + differing_by v }) records ∙ ap (λ b. record { records = length (heads ++ h ∷ []); differing = b }) differing
+    let differing : d + differing_by v
+    ≡ sum_by by (heads ++ h ∷ []) = omega (arith, ap (λ y. y.differing) k, sum_by-append by heads (h ∷ []), last) in
+    ap (λ a. record { records = a; differing = d + differing_by v }) records
+    ∙ ap (λ b. record { records = length (heads ++ h ∷ []); differing = b }) differing
 
 pub one_at_most : (v : Verdict) → differing_by v ≤ 1
 one_at_most verdicts.Same = omega arith

@@ -1,5 +1,6 @@
 -- The captures of an archive that is accepted, whole or up to a fault's offset.
-use Rattle.std.specs.Prelude.{◌≡◌, ℕ, ◌<◌, ◌≤◌, Bool, List, [], ◌∷◌, ◌++◌, length, drop, option_to_list, Option, Some, Ok, IfSome}
+use Rattle.std.specs.Prelude.{◌≡◌, ℕ, ◌<◌, ◌≤◌, Bool, List, [], ◌∷◌, ◌++◌, length, drop, option_to_list, Option, Some}
+use Rattle.std.specs.Prelude.{Ok, IfSome}
 use Rattle.std.specs.List.{AllByRecursion}
 use Rattle.warc_core.specs.Kind.{Kind}
 use Rattle.warc_core.specs.HeadView.{HeadView, block_at}
@@ -20,13 +21,15 @@ module _ (types : Kind → Bool) (limits : Limits) (limit : ℕ) (name : List �
 
   -- the capture of a record of the archive, with a line that isn't too long
   abbrev pub IsCaptured : List ℕ → HeadView → Option EntryValue → Type 0
-  IsCaptured archive h captured = IsCaptureAt h (drop h.start archive) captured × IfSome captured (λ e. length (line_text e) ≤ limits.line)
+  IsCaptured archive h captured = IsCaptureAt h (drop h.start archive) captured
+      × IfSome captured (λ e. length (line_text e) ≤ limits.line)
 
   -- the captures of these records of the archive
   abbrev pub AreCaptured : List ℕ → List HeadView → List EntryValue → Type 0
   AreCaptured archive [] captures = captures ≡ []
   AreCaptured archive (h ∷ heads) captures =
-      (captured : Option EntryValue) × (others : List EntryValue) × IsCaptured archive h captured × AreCaptured archive heads others × (captures ≡ option_to_list captured ++ others)
+      (captured : Option EntryValue) × (others : List EntryValue) × IsCaptured archive h captured
+      × AreCaptured archive heads others × (captures ≡ option_to_list captured ++ others)
 
   -- The archive is accepted whole, with these captures.
   pub record IsAccepted (archive : List ℕ) (captures : List EntryValue) : Type 0 where
@@ -40,7 +43,8 @@ module _ (types : Kind → Bool) (limits : Limits) (limit : ℕ) (name : List �
   IsRefused offset bytes (LineTooLong o) =
       (h : HeadView) × (rest : List ℕ) × (record_at limit offset bytes ≡ Ok (Some h, rest))
       × (e : EntryValue) × IsCaptureAt h bytes (Some e) × (limits.line < length (line_text e))
-  IsRefused offset bytes (KeyTooLong o) = (h : HeadView) × (rest : List ℕ) × (record_at limit offset bytes ≡ Ok (Some h, rest))
+  IsRefused offset bytes (KeyTooLong o) = (h : HeadView) × (rest : List ℕ)
+      × (record_at limit offset bytes ≡ Ok (Some h, rest))
 
   -- The archive is accepted up to the fault's offset, with these captures of the whole records before it.
   pub record IsAcceptedTo (fault : CaptureFault) (archive : List ℕ) (captures : List EntryValue) : Type 0 where
@@ -56,7 +60,8 @@ module _ (types : Kind → Bool) (limits : Limits) (limit : ℕ) (name : List �
 
   -- no capture of this record is refused
   abbrev pub IsTaken : List ℕ → HeadView → Type 0
-  IsTaken archive h = (captured : Option EntryValue) → IsCaptureAt h (drop h.start archive) captured → IfSome captured FitsLine
+  IsTaken archive h = (captured : Option EntryValue) → IsCaptureAt h (drop h.start archive) captured
+      → IfSome captured FitsLine
 
   -- The archive is accepted whole: it is records, and no capture of them is refused.
   pub record IsAcceptedWhole (archive : List ℕ) : Type 0 where

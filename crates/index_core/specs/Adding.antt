@@ -17,13 +17,16 @@ with_archive name captures held = record held { names = held.names ++ name ∷ [
 module _ (types : Kind → Bool) (limits : Limits) (limit : ℕ) (name : List ℕ) where
   -- which captures a list gains from an archive, and the number that is answered
   abbrev pub Gains : Option (List ℕ) → List EntryValue → Result ℕ CaptureFault → Type 0
-  Gains left captures (Ok n) = (n ≡ length captures) × IfSome left (λ archive. IsAccepted types limits limit name archive captures)
+  Gains left captures (Ok n) = (n ≡ length captures)
+      × IfSome left (λ archive. IsAccepted types limits limit name archive captures)
   Gains left captures (Err fault) = IfSome left (λ archive. IsAcceptedTo types limits limit name fault archive captures)
 
   -- what an addition makes of what an indexer holds
   abbrev pub Adds : Option (List ℕ) → Held → Held → Result ℕ IndexFault → Type 0
-  Adds left old new (Ok n) = (captures : List EntryValue) × (new ≡ with_archive name captures old) × Gains left captures (Ok n)
-  Adds left old new (Err (faults.Capture fault)) = (captures : List EntryValue) × (new ≡ with_archive name captures old) × Gains left captures (Err fault)
+  Adds left old new (Ok n) = (captures : List EntryValue) × (new ≡ with_archive name captures old)
+      × Gains left captures (Ok n)
+  Adds left old new (Err (faults.Capture fault)) = (captures : List EntryValue) × (new ≡ with_archive name captures old)
+      × Gains left captures (Err fault)
   Adds left old new (Err faults.Write) = ⊥
   Adds left old new (Err faults.NoRecord) = ⊥
   Adds left old new (Err refusal) = new ≡ old

@@ -19,7 +19,8 @@ StandBefore name offset captures = AllByRecursion (λ e. e.filename ≡ name →
 
 module _ (types : Kind → Bool) (limits : Limits) (limit : ℕ) (name : List ℕ) where
   -- a record at the offset was read to its end, and this is its capture
-  pub record TakesRecord (offset : ℕ) (h : HeadView) (captured : Option EntryValue) (new : ReaderView) (before after : Option (List ℕ)) : Type 0 where
+  pub record TakesRecord (offset : ℕ) (h : HeadView) (captured : Option EntryValue) (new : ReaderView)
+      (before after : Option (List ℕ)) : Type 0 where
     pub bytes : Reads (record_at limit offset) (Ok (Some h)) before after
     pub stands : StandsAt new (offset + record_length h) Between
     pub begins : BeginsAt offset h
@@ -27,7 +28,9 @@ module _ (types : Kind → Bool) (limits : Limits) (limit : ℕ) (name : List �
     pub entry : IfSome captured (IsEntryOf h name limits.line)
 
   -- what comes next at the offset was read, or refused
-  abbrev pub TakesNext : ℕ → Result (Option (HeadView × Option EntryValue)) CaptureFault → ReaderView → Option (List ℕ) → Option (List ℕ) → Type 0
+  abbrev pub TakesNext : ℕ → Result (Option (HeadView × Option EntryValue)) CaptureFault → ReaderView → Option (List ℕ)
+      → Option (List ℕ) → Type 0
   TakesNext offset (Ok None) new before after = Reads (record_at limit offset) (Ok None) before after
   TakesNext offset (Ok (Some (h, captured))) new before after = TakesRecord offset h captured new before after
-  TakesNext offset (Err fault) new before after = (fault_offset fault ≡ offset) × IfSome before (λ bytes. IsRefused types limits limit name offset bytes fault)
+  TakesNext offset (Err fault) new before after = (fault_offset fault ≡ offset)
+      × IfSome before (λ bytes. IsRefused types limits limit name offset bytes fault)

@@ -1,5 +1,6 @@
 -- The walk to an offset of an archive, and the copying of the record there.
-use Rattle.std.specs.Prelude.{◌≡◌, ℕ, ◌≤◌, ⊤, ◌⊎◌, List, [], ◌++◌, length, take, Option, None, Some, Result, Ok, Err, IfSome}
+use Rattle.std.specs.Prelude.{◌≡◌, ℕ, ◌≤◌, ⊤, ◌⊎◌, List, [], ◌++◌, length, take, Option, None, Some, Result, Ok, Err}
+use Rattle.std.specs.Prelude.{IfSome}
 use Rattle.std.specs.Io.KnownBytes.{Appends, Consumes, prepend_known}
 use Rattle.warc_core.specs.declared.fault.Fault.{Fault}
 use Rattle.warc_core.specs.declared.phase.Phase.TheVariants.{Between, Open}
@@ -22,27 +23,34 @@ pub record WroteFront (n : ℕ) (known old new : Option (List ℕ)) : Type 0 whe
   pub grown : Appends old new front
 
 -- how the copying of what is left of an open record's block ended, by the front of it that was written
-abbrev pub EndsBlock : ℕ → ℕ → List ℕ → ReaderView → ReaderView → Result (Unit {0}) IndexFault → Option (List ℕ) → Option (List ℕ) → Type 0
+abbrev pub EndsBlock : ℕ → ℕ → List ℕ → ReaderView → ReaderView → Result (Unit {0}) IndexFault → Option (List ℕ)
+    → Option (List ℕ) → Type 0
 EndsBlock left len front old new (Ok u) before after =
-    (length front ≡ left) × Consumes (prepend_known old.held before) (prepend_known new.held after) front × StandsAt new old.offset (Open 0 len)
-EndsBlock left len front old new (Err (faults.Capture (Archive f))) before after = (f.offset ≡ old.offset) × IsFoundAt (after_block left) f.cause (prepend_known old.held before)
+    (length front ≡ left) × Consumes (prepend_known old.held before) (prepend_known new.held after) front
+    × StandsAt new old.offset (Open 0 len)
+EndsBlock left len front old new (Err (faults.Capture (Archive f))) before after = (f.offset ≡ old.offset)
+    × IsFoundAt (after_block left) f.cause (prepend_known old.held before)
 EndsBlock left len front old new (Err faults.Write) before after = ⊤
 EndsBlock left len front old new (Err other) before after = ⊥
 
 -- what is left of an open record's block was copied, or its front
-pub record CopiesBlock (left len : ℕ) (old new : ReaderView) (r : Result (Unit {0}) IndexFault) (before after written written' : Option (List ℕ)) : Type 0 where
+pub record CopiesBlock (left len : ℕ) (old new : ReaderView) (r : Result (Unit {0}) IndexFault)
+    (before after written written' : Option (List ℕ)) : Type 0 where
   pub wrote : WroteFront left (prepend_known old.held before) written written'
   pub ends : EndsBlock left len wrote.front old new r before after
 
 -- how the copying of a record ended, by the front of it that was written
 abbrev pub EndsRecord : HeadView → List ℕ → Result ℕ IndexFault → Option (List ℕ) → Option (List ℕ) → Type 0
-EndsRecord h front (Ok n) before after = (n ≡ length front) × (n ≡ record_length h) × Reads (after_record h.parts.length) (Ok tt) before after
-EndsRecord h front (Err (faults.Capture (Archive f))) before after = (f.offset ≡ h.start) × Reads (after_record h.parts.length) (Err f.cause) before after
+EndsRecord h front (Ok n) before after = (n ≡ length front) × (n ≡ record_length h)
+    × Reads (after_record h.parts.length) (Ok tt) before after
+EndsRecord h front (Err (faults.Capture (Archive f))) before after = (f.offset ≡ h.start)
+    × Reads (after_record h.parts.length) (Err f.cause) before after
 EndsRecord h front (Err faults.Write) before after = ⊤
 EndsRecord h front (Err other) before after = ⊥
 
 -- a record was copied, or its front; its head was read before
-pub record CopiesRecord (h : HeadView) (r : Result ℕ IndexFault) (before after written written' : Option (List ℕ)) : Type 0 where
+pub record CopiesRecord (h : HeadView) (r : Result ℕ IndexFault) (before after written written' : Option (List ℕ)) :
+    Type 0 where
   pub wrote : WroteFront (record_length h) (prepend_known h.raw before) written written'
   pub ends : EndsRecord h wrote.front r before after
 
@@ -50,11 +58,14 @@ pub record CopiesRecord (h : HeadView) (r : Result ℕ IndexFault) (before after
 abbrev pub CopiesNext : ℕ → ℕ → Result ℕ IndexFault → Option (List ℕ) → Option (List ℕ) → Option (List ℕ) → Type 0
 CopiesNext limit offset (Ok n) before written written' =
     (text : List ℕ) × (n ≡ length text) × Appends written written' text
-    × IfSome before (λ bytes. (h : HeadView) × (rest : List ℕ) × (record_at limit offset bytes ≡ Ok (Some h, rest)) × (text ≡ take (record_length h) bytes))
+    × IfSome before (λ bytes. (h : HeadView) × (rest : List ℕ) × (record_at limit offset bytes ≡ Ok (Some h, rest))
+    × (text ≡ take (record_length h) bytes))
 CopiesNext limit offset (Err faults.NoRecord) before written written' = IfSome before (λ bytes. bytes ≡ [])
 CopiesNext limit offset (Err (faults.Capture (Archive f))) before written written' =
-    (f.offset ≡ offset) × IfSome before (λ bytes. IsFoundIn f.cause (record_at limit offset bytes) × AppendsPrefix written written' (most_written_at limit offset bytes))
-CopiesNext limit offset (Err faults.Write) before written written' = IfSome before (λ bytes. AppendsPrefix written written' (most_written_at limit offset bytes))
+    (f.offset ≡ offset) × IfSome before (λ bytes. IsFoundIn f.cause (record_at limit offset bytes)
+    × AppendsPrefix written written' (most_written_at limit offset bytes))
+CopiesNext limit offset (Err faults.Write) before written written' = IfSome before
+    (λ bytes. AppendsPrefix written written' (most_written_at limit offset bytes))
 CopiesNext limit offset (Err other) before written written' = ⊥
 
 -- whole records fill the archive up to the offset, and these bytes follow them
@@ -65,6 +76,8 @@ WalkedTo limit offset (Some archive) (Some rest) = (heads : List HeadView) × Wa
 
 -- a reader came to the offset, or it is no end of a record
 abbrev pub Reaches : ℕ → ℕ → Result (Option ReaderView) Fault → Option (List ℕ) → Option (List ℕ) → Type 0
-Reaches limit offset (Ok (Some reader)) left after = StandsAt reader offset Between × WalkedTo limit offset left (prepend_known reader.held after)
-Reaches limit offset (Ok None) left after = IfSome left (λ archive. IsInRecord limit archive offset ⊎ IsBehindRecords limit archive offset)
+Reaches limit offset (Ok (Some reader)) left after = StandsAt reader offset Between
+    × WalkedTo limit offset left (prepend_known reader.held after)
+Reaches limit offset (Ok None) left after = IfSome left (λ archive. IsInRecord limit archive offset
+    ⊎ IsBehindRecords limit archive offset)
 Reaches limit offset (Err f) left after = (f.offset ≤ offset) × IfSome left (λ archive. StopsAt limit archive offset f)

@@ -1,5 +1,6 @@
 -- The record that begins at an offset of an archive, and what a call that fetches it owes.
-use Rattle.std.specs.Prelude.{◌≡◌, ℕ, ◌+◌, ◌<◌, ◌≤◌, ⊤, ◌⊎◌, List, length, take, drop, Option, Some, Result, Ok, Err, IfSome}
+use Rattle.std.specs.Prelude.{◌≡◌, ℕ, ◌+◌, ◌<◌, ◌≤◌, ⊤, ◌⊎◌, List, length, take, drop, Option, Some, Result, Ok, Err}
+use Rattle.std.specs.Prelude.{IfSome}
 use Rattle.std.specs.Io.KnownBytes.{Appends}
 use Rattle.warc_core.specs.declared.fault.Cause.{Cause}
 use Rattle.warc_core.specs.declared.fault.Fault.{Fault}
@@ -32,7 +33,8 @@ module _ (limit : ℕ) (archive : List ℕ) where
 
   -- A record begins before the offset and ends behind it.
   abbrev pub IsInRecord : ℕ → Type 0
-  IsInRecord offset = (start : ℕ) × (h : HeadView) × IsRecordOf start h × (start < offset) × (offset < start + record_length h)
+  IsInRecord offset = (start : ℕ) × (h : HeadView) × IsRecordOf start h × (start < offset)
+      × (offset < start + record_length h)
 
   -- The archive is whole records, and ends at the offset or before it.
   abbrev pub IsBehindRecords : ℕ → Type 0
@@ -65,12 +67,16 @@ most_written_at limit offset bytes = most_written (record_at limit offset bytes)
 -- What a call has written, and what it says of the archive where that is known.
 abbrev pub Fetches : ℕ → ℕ → Option (List ℕ) → Result ℕ IndexFault → Option (List ℕ) → Option (List ℕ) → Type 0
 Fetches limit offset left (Ok n) before after =
-    (text : List ℕ) × (n ≡ length text) × Appends before after text × IfSome left (λ archive. StandsIn limit archive offset (Ok text))
-Fetches limit offset left (Err faults.NoRecord) before after = IfSome left (λ archive. StandsIn limit archive offset (Err faults.NoRecord))
+    (text : List ℕ) × (n ≡ length text) × Appends before after text
+    × IfSome left (λ archive. StandsIn limit archive offset (Ok text))
+Fetches limit offset left (Err faults.NoRecord) before after = IfSome left
+    (λ archive. StandsIn limit archive offset (Err faults.NoRecord))
 Fetches limit offset left (Err (faults.Capture (Archive f))) before after =
-    (f.offset ≤ offset) × IfSome left (λ archive. StopsAt limit archive offset f × AppendsPrefix before after (most_written_at limit offset (drop offset archive)))
+    (f.offset ≤ offset) × IfSome left (λ archive. StopsAt limit archive offset f
+    × AppendsPrefix before after (most_written_at limit offset (drop offset archive)))
 Fetches limit offset left (Err faults.Write) before after =
-    IfSome left (λ archive. AreRecordsTo limit archive offset × AppendsPrefix before after (most_written_at limit offset (drop offset archive)))
+    IfSome left (λ archive. AreRecordsTo limit archive offset
+    × AppendsPrefix before after (most_written_at limit offset (drop offset archive)))
 Fetches limit offset left (Err other) before after = ⊥
 
 -- a record isn't fetched where none begins, for the archive's fault, or where the output failed

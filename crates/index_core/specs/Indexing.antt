@@ -39,7 +39,8 @@ index_text captures = lines_text (in_places captures)
 -- no two captures have one place
 abbrev pub HaveOwnPlaces : List EntryValue → Type 0
 HaveOwnPlaces [] = Unit {0}
-HaveOwnPlaces (e ∷ captures) = AllByRecursion (λ other. place_cmp (entry_place e) (entry_place other) ≡ Equal → ⊥) captures × HaveOwnPlaces captures
+HaveOwnPlaces (e ∷ captures) = AllByRecursion (λ other. place_cmp (entry_place e) (entry_place other) ≡ Equal → ⊥)
+    captures × HaveOwnPlaces captures
 
 -- What always holds of the captures of archives of these names.
 pub record AreSound (limit : ℕ) (names : List (List ℕ)) (captures : List EntryValue) : Type 0 where

@@ -14,12 +14,15 @@ use Rattle.index_core.specs.Report.{IsNoDamage}
 -- an archive is accepted with one list of captures
 abbrev pub OneIndexed : Type 0
 OneIndexed = (types : Kind → Bool) (limits : Limits) (limit : ℕ) (name archive : List ℕ) (these those : List EntryValue)
-    → IsAccepted types limits limit name archive these → IsAccepted types limits limit name archive those → these ≡ those
+    → IsAccepted types limits limit name archive these → IsAccepted types limits limit name archive those → these
+    ≡ those
 
 -- up to a fault's offset it is too
 abbrev pub OneIndexedTo : Type 0
-OneIndexedTo = (types : Kind → Bool) (limits : Limits) (limit : ℕ) (name archive : List ℕ) (fault : CaptureFault) (these those : List EntryValue)
-    → IsAcceptedTo types limits limit name fault archive these → IsAcceptedTo types limits limit name fault archive those → these ≡ those
+OneIndexedTo = (types : Kind → Bool) (limits : Limits) (limit : ℕ) (name archive : List ℕ) (fault : CaptureFault)
+    (these those : List EntryValue)
+    → IsAcceptedTo types limits limit name fault archive these
+    → IsAcceptedTo types limits limit name fault archive those → these ≡ those
 
 -- the fault is neither damage of an archive nor a line that is too long
 abbrev pub IsNoFaultOfArchive : CaptureFault → Type 0
@@ -30,28 +33,37 @@ IsNoFaultOfArchive (KeyTooLong offset) = ⊤
 -- an archive that is accepted whole is refused for want of memory, by its input's failure or for a key that is too long, and no
 -- other cause
 abbrev pub WholeIsNotRefused : Type 0
-WholeIsNotRefused = (types : Kind → Bool) (limits : Limits) (limit : ℕ) (name archive : List ℕ) (gained : List EntryValue) (fault : CaptureFault)
-    → IsAcceptedWhole types limits limit name archive → Gains types limits limit name (Some archive) gained (Err fault) → IsNoFaultOfArchive fault
+WholeIsNotRefused = (types : Kind → Bool) (limits : Limits) (limit : ℕ) (name archive : List ℕ)
+    (gained : List EntryValue) (fault : CaptureFault)
+    → IsAcceptedWhole types limits limit name archive → Gains types limits limit name (Some archive) gained (Err fault)
+    → IsNoFaultOfArchive fault
 
 -- an archive that is accepted with captures is accepted whole
 abbrev pub AcceptedIsWhole : Type 0
-AcceptedIsWhole = (types : Kind → Bool) (limits : Limits) (limit : ℕ) (name archive : List ℕ) (captures : List EntryValue)
+AcceptedIsWhole = (types : Kind → Bool) (limits : Limits) (limit : ℕ) (name archive : List ℕ)
+    (captures : List EntryValue)
     → IsAccepted types limits limit name archive captures → IsAcceptedWhole types limits limit name archive
 
 -- one thing stands at an offset of an archive
 abbrev pub OneStands : Type 0
-OneStands = (limit offset : ℕ) (archive : List ℕ) (this that : Result (List ℕ) IndexFault) → StandsIn limit archive offset this → StandsIn limit archive offset that → this ≡ that
+OneStands = (limit offset : ℕ) (archive : List ℕ) (this that : Result (List ℕ) IndexFault)
+    → StandsIn limit archive offset this → StandsIn limit archive offset that → this ≡ that
 
 -- and something does
 abbrev pub SomeStands : Type 0
-SomeStands = (limit offset : ℕ) (archive : List ℕ) → (answer : Result (List ℕ) IndexFault) × StandsIn limit archive offset answer
+SomeStands = (limit offset : ℕ) (archive : List ℕ) → (answer : Result (List ℕ) IndexFault)
+    × StandsIn limit archive offset answer
 
 -- an archive that is accepted whole is so under higher limits of lines and heads
 abbrev pub WholeStays : Type 0
-WholeStays = (types : Kind → Bool) (limits : Limits) (line low high : ℕ) → limits.line ≤ line → low ≤ high → (name archive : List ℕ)
-    → IsAcceptedWhole types limits low name archive → IsAcceptedWhole types (record limits { line = line }) high name archive
+WholeStays = (types : Kind → Bool) (limits : Limits) (line low high : ℕ) → limits.line ≤ line → low ≤ high
+    → (name archive : List ℕ)
+    → IsAcceptedWhole types limits low name archive
+    → IsAcceptedWhole types (record limits { line = line }) high name archive
 
 -- and it has the captures that it had
 abbrev pub CapturesStay : Type 0
-CapturesStay = (types : Kind → Bool) (limits : Limits) (line low high : ℕ) → limits.line ≤ line → low ≤ high → (name archive : List ℕ) (captures : List EntryValue)
-    → IsAccepted types limits low name archive captures → IsAccepted types (record limits { line = line }) high name archive captures
+CapturesStay = (types : Kind → Bool) (limits : Limits) (line low high : ℕ) → limits.line ≤ line → low ≤ high
+    → (name archive : List ℕ) (captures : List EntryValue)
+    → IsAccepted types limits low name archive captures
+    → IsAccepted types (record limits { line = line }) high name archive captures

@@ -7,7 +7,8 @@ use Rattle.index_core.specs.Report.{Reports}
 
 -- `OFFSET LENGTH KIND`
 abbrev pub record_line : HeadView → List ℕ
-record_line h = decimal h.start ++ codes " " ++ decimal (record_length h) ++ codes " " ++ kind_name h.parts.kind ++ codes "\n"
+record_line h = decimal h.start ++ codes " " ++ decimal (record_length h) ++ codes " " ++ kind_name h.parts.kind
+    ++ codes "\n"
 
 -- what a listing says of a record
 abbrev pub listing_line : List ℕ → HeadView → List ℕ

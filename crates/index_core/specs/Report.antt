@@ -1,5 +1,6 @@
 -- A report on an archive: a line for each of its records, and one for its fault.
-use Rattle.std.specs.Prelude.{◌≡◌, ℕ, ◌+◌, ⊤, ◌⊎◌, List, ◌++◌, flat_map, Option, None, Some, Result, Ok, Err, codes, decimal}
+use Rattle.std.specs.Prelude.{◌≡◌, ℕ, ◌+◌, ⊤, ◌⊎◌, List, ◌++◌, flat_map, Option, None, Some, Result, Ok, Err, codes}
+use Rattle.std.specs.Prelude.{decimal}
 use Rattle.std.specs.Io.KnownBytes.{Appends}
 use Rattle.warc_core.specs.declared.fault.Cause.{Cause}
 use Rattle.warc_core.specs.declared.fault.Cause.TheVariants as causes
@@ -31,7 +32,8 @@ fault_line f = codes "fault " ++ decimal f.offset ++ codes " " ++ cause_name f.c
 abbrev pub IsReport : ℕ → Line → List ℕ → List ℕ → Type 0
 IsReport limit line archive text =
     ((heads : List HeadView) × AreRecords limit archive heads × (text ≡ lines_of line archive heads))
-    ⊎ ((heads : List HeadView) × (f : Fault) × IsDamaged limit archive heads f.offset f.cause × (text ≡ lines_of line archive heads ++ fault_line f))
+    ⊎ ((heads : List HeadView) × (f : Fault) × IsDamaged limit archive heads f.offset f.cause
+    × (text ≡ lines_of line archive heads ++ fault_line f))
 
 -- the cause isn't the archive's
 abbrev pub IsNoDamage : Cause → Type 0
@@ -42,31 +44,38 @@ IsNoDamage c = ⊥
 -- the text is the report up to a record that couldn't be read, for want of memory or by the input's failure
 abbrev pub IsCutReport : ℕ → Line → List ℕ → List ℕ → Type 0
 IsCutReport limit line archive text =
-    (heads : List HeadView) × (f : Fault) × (rest : List ℕ) × IsNoDamage f.cause × Walks limit 0 archive heads f.offset rest × (text ≡ lines_of line archive heads ++ fault_line f)
+    (heads : List HeadView) × (f : Fault) × (rest : List ℕ) × IsNoDamage f.cause
+    × Walks limit 0 archive heads f.offset rest × (text ≡ lines_of line archive heads ++ fault_line f)
 
 -- The lines of all records of the archive were written, where it is known, and the answer is their tally.
-abbrev pub Reported : {A : Type 0} → ℕ → Line → (List ℕ → List HeadView → A) → Option (List ℕ) → A → Option (List ℕ) → Option (List ℕ) → Type 0
+abbrev pub Reported : {A : Type 0} → ℕ → Line → (List ℕ → List HeadView → A) → Option (List ℕ) → A → Option (List ℕ)
+    → Option (List ℕ) → Type 0
 Reported limit line tally None answer before after = ⊤
 Reported limit line tally (Some archive) answer before after =
-    (heads : List HeadView) × AreRecords limit archive heads × (answer ≡ tally archive heads) × Appends before after (lines_of line archive heads)
+    (heads : List HeadView) × AreRecords limit archive heads × (answer ≡ tally archive heads)
+    × Appends before after (lines_of line archive heads)
 
 -- The lines of the records before the fault were written, and the fault's line.
 abbrev pub ReportedToFault : ℕ → Line → Option (List ℕ) → Fault → Option (List ℕ) → Option (List ℕ) → Type 0
 ReportedToFault limit line None f before after = ⊤
 ReportedToFault limit line (Some archive) f before after =
-    (heads : List HeadView) × (rest : List ℕ) × Walks limit 0 archive heads f.offset rest × IsFoundIn f.cause (record_at limit f.offset rest)
+    (heads : List HeadView) × (rest : List ℕ) × Walks limit 0 archive heads f.offset rest
+    × IsFoundIn f.cause (record_at limit f.offset rest)
     × Appends before after (lines_of line archive heads ++ fault_line f)
 
 -- A prefix of the report was written.
 abbrev pub ReportedInPart : ℕ → Line → Option (List ℕ) → Option (List ℕ) → Option (List ℕ) → Type 0
 ReportedInPart limit line None before after = ⊤
 ReportedInPart limit line (Some archive) before after =
-    (text : List ℕ) × (IsReport limit line archive text ⊎ IsCutReport limit line archive text) × AppendsPrefix before after text
+    (text : List ℕ) × (IsReport limit line archive text ⊎ IsCutReport limit line archive text)
+    × AppendsPrefix before after text
 
 -- What a call wrote that reports on an archive, by its answer.
-abbrev pub Reports : {A : Type 0} → ℕ → Line → (List ℕ → List HeadView → A) → Option (List ℕ) → Result A IndexFault → Option (List ℕ) → Option (List ℕ) → Type 0
+abbrev pub Reports : {A : Type 0} → ℕ → Line → (List ℕ → List HeadView → A) → Option (List ℕ) → Result A IndexFault
+    → Option (List ℕ) → Option (List ℕ) → Type 0
 Reports limit line tally left (Ok answer) before after = Reported limit line tally left answer before after
-Reports limit line tally left (Err (faults.Capture (Archive f))) before after = ReportedToFault limit line left f before after
+Reports limit line tally left (Err (faults.Capture (Archive f))) before after = ReportedToFault limit line left f before
+    after
 Reports limit line tally left (Err faults.Write) before after = ReportedInPart limit line left before after
 Reports limit line tally left (Err other) before after = ⊥
 
@@ -78,8 +87,10 @@ IsReportFault other = ⊥
 
 -- the fault's line was written, or a prefix of it before the output failed
 abbrev pub WritesFault : Fault → IndexFault → Option (List ℕ) → Option (List ℕ) → ℕ → ℕ → Type 0
-WritesFault fault (faults.Capture (Archive f)) before after count count' = (f ≡ fault) × Appends before after (fault_line fault) × (count' ≡ count)
-WritesFault fault faults.Write before after count count' = AppendsPrefix before after (fault_line fault) × (count' ≡ next_count count)
+WritesFault fault (faults.Capture (Archive f)) before after count count' = (f ≡ fault)
+    × Appends before after (fault_line fault) × (count' ≡ count)
+WritesFault fault faults.Write before after count count' = AppendsPrefix before after (fault_line fault)
+    × (count' ≡ next_count count)
 WritesFault fault other before after count count' = ⊥
 
 -- where a reader stands after a whole record, or at the end

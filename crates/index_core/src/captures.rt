@@ -27,7 +27,9 @@ fn next_capture<I: Input>(
 ) -> Result<Option<(Head, Option<HeldLine>)>, CaptureFault>
     requires between { reader.old.phase ≡ Between }
     requires named { 0 < length name.now }
-    ensures takes { TakesNext (includes types) usual_limits HEAD_LIMIT name.now reader.old.offset result reader.new (prepend_known reader.old.held (I.remaining input.old)) (prepend_known reader.new.held (I.remaining input.new)) }
+    ensures takes { TakesNext (includes types) usual_limits HEAD_LIMIT name.now reader.old.offset
+        result reader.new (prepend_known reader.old.held (I.remaining input.old))
+        (prepend_known reader.new.held (I.remaining input.new)) }
     ensures failures { CountsCapture result (I.failures input.old) (I.failures input.new) }
 {
     match reader.next(input)? {
@@ -66,8 +68,12 @@ pub fn add_captures<I: Input>(
 ) -> Result<u64, CaptureFault>
     requires named { 0 < length name.now }
     requires unused { StandBefore name.now 0 captures.old.items }
-    ensures gains { (gained : List EntryValue) × (captures.new.items ≡ captures.old.items ++ gained) × Gains (includes types) usual_limits HEAD_LIMIT name.now (I.remaining input.old) gained result }
-    ensures sound { (names : List (List ℕ)) → is_among names name.now ≡ true → AreSound LINE_LIMIT names captures.old.items → AreSound LINE_LIMIT names captures.new.items }
+    ensures gains { (gained : List EntryValue) × (captures.new.items ≡ captures.old.items ++ gained)
+        × Gains (includes types) usual_limits HEAD_LIMIT name.now (I.remaining input.old) gained
+        result }
+    ensures sound { (names : List (List ℕ)) → is_among names name.now ≡ true
+        → AreSound LINE_LIMIT names captures.old.items
+        → AreSound LINE_LIMIT names captures.new.items }
     ensures failures { CountsCapture result (I.failures input.old) (I.failures input.new) }
 {
     let held = captures.len();

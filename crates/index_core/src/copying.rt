@@ -42,7 +42,10 @@ pub fn copy_record<I: Input, O: Output>(
     out: &mut O,
 ) -> Result<u64, IndexFault>
     requires { IsUnread reader.old head.now }
-    ensures copies { CopiesRecord head.now result (prepend_known reader.old.held (I.remaining input.old)) (prepend_known reader.new.held (I.remaining input.new)) (O.written out.old) (O.written out.new) }
+    ensures copies { CopiesRecord head.now result
+        (prepend_known reader.old.held (I.remaining input.old))
+        (prepend_known reader.new.held (I.remaining input.new)) (O.written out.old)
+        (O.written out.new) }
     ensures reads { CountsIndex result (I.failures input.old) (I.failures input.new) }
     ensures writes { CountsWrite result (O.failures out.old) (O.failures out.new) }
 {

@@ -26,7 +26,8 @@ pub fn get<I: Input, O: Output>(
     input: &mut I,
     out: &mut O,
 ) -> Result<u64, IndexFault>
-    ensures fetches { Fetches HEAD_LIMIT offset (I.remaining input.old) result (O.written out.old) (O.written out.new) }
+    ensures fetches { Fetches HEAD_LIMIT offset (I.remaining input.old) result (O.written out.old)
+        (O.written out.new) }
     ensures refusals { IfErr result IsFetchFault }
     ensures unwritten { IfErr result (λ fault. IsMetBefore offset fault → out.new ≡ out.old) }
     ensures reads { CountsIndex result (I.failures input.old) (I.failures input.new) }
@@ -40,7 +41,8 @@ pub fn get<I: Input, O: Output>(
 
 /// Returns a reader that has reached the offset, if whole records fill the archive up to it.
 fn reader_at<I: Input>(alloc: Global, input: &mut I, offset: u64) -> Result<Option<Reader>, Fault>
-    ensures reaches { Reaches HEAD_LIMIT offset result (I.remaining input.old) (I.remaining input.new) }
+    ensures reaches { Reaches HEAD_LIMIT offset result (I.remaining input.old)
+        (I.remaining input.new) }
     ensures reads { CountsRead (causes_of result) (I.failures input.old) (I.failures input.new) }
 {
     let mut reader = Reader::new(alloc)?;
@@ -65,7 +67,9 @@ fn copy_next<I: Input, O: Output>(
     out: &mut O,
 ) -> Result<u64, IndexFault>
     requires { reader.old.phase ≡ Phase.Between }
-    ensures copies { CopiesNext HEAD_LIMIT reader.old.offset result (prepend_known reader.old.held (I.remaining input.old)) (O.written out.old) (O.written out.new) }
+    ensures copies { CopiesNext HEAD_LIMIT reader.old.offset result
+        (prepend_known reader.old.held (I.remaining input.old)) (O.written out.old)
+        (O.written out.new) }
     ensures unwritten { result ≡ Err IndexFault.NoRecord → out.new ≡ out.old }
     ensures reads { CountsIndex result (I.failures input.old) (I.failures input.new) }
     ensures writes { CountsWrite result (O.failures out.old) (O.failures out.new) }

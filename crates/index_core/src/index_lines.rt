@@ -13,7 +13,8 @@ use warc_core::Output;
 
 /// Writes the lines of captures, and returns their number.
 fn put_lines<O: Output>(out: &mut O, lines: &[&HeldLine]) -> Result<u64, IndexFault>
-    ensures lines { WritesText result (O.written out.old) (O.written out.new) (lines_text (map (λ line. line.now) lines.now)) }
+    ensures lines { WritesText result (O.written out.old) (O.written out.new)
+        (lines_text (map (λ line. line.now) lines.now)) }
     ensures number { IfOk result (λ n. n ≡ length lines.now) }
     ensures refusal { IfErr result (λ fault. fault ≡ IndexFault.Write) }
     ensures failures { CountsWrite result (O.failures out.old) (O.failures out.new) }
@@ -32,7 +33,8 @@ pub fn put_index<O: Output>(
     out: &mut O,
     captures: &[HeldLine],
 ) -> Result<u64, IndexFault>
-    ensures lines { WritesText result (O.written out.old) (O.written out.new) (index_text captures.now) }
+    ensures lines { WritesText result (O.written out.old) (O.written out.new)
+        (index_text captures.now) }
     ensures number { IfOk result (λ n. n ≡ length (in_places captures.now)) }
     ensures refusals { IfErr result IsWriteFault }
     ensures failures { CountsWrite result (O.failures out.old) (O.failures out.new) }

@@ -65,8 +65,10 @@ impl Indexer {
     /// else.
     pub fn add<I: Input>(&mut self, name: &str, input: &mut I) -> Result<u64, IndexFault>
         ensures bad { (result ≡ Err IndexFault.BadName) ↔ ¬ (IsName name.now) }
-        ensures duplicate { (result ≡ Err IndexFault.DuplicateName) ↔ (IsName name.now × (is_among self.old.names name.now ≡ true)) }
-        ensures adds { Adds (includes self.old.types) usual_limits HEAD_LIMIT name.now (I.remaining input.old) self.old self.new result }
+        ensures duplicate { (result ≡ Err IndexFault.DuplicateName)
+            ↔ (IsName name.now × (is_among self.old.names name.now ≡ true)) }
+        ensures adds { Adds (includes self.old.types) usual_limits HEAD_LIMIT name.now
+            (I.remaining input.old) self.old self.new result }
         ensures refusals { IfErr result IsAddFault }
         ensures unread { IfErr result (λ fault. IsRefusal fault → input.new ≡ input.old) }
         ensures failures { CountsIndex result (I.failures input.old) (I.failures input.new) }
@@ -103,8 +105,10 @@ impl Indexer {
     /// Errors are `Memory`, and `Write` at the output's first failure. After an error, the first lines may have been
     /// written.
     pub fn write<O: Output>(&self, out: &mut O) -> Result<u64, IndexFault>
-        ensures lines { WritesText result (O.written out.old) (O.written out.new) (index_text self.now.captures) }
-        ensures index { IsIndex LINE_LIMIT (index_text self.now.captures) (map entry_member (in_places self.now.captures)) }
+        ensures lines { WritesText result (O.written out.old) (O.written out.new)
+            (index_text self.now.captures) }
+        ensures index { IsIndex LINE_LIMIT (index_text self.now.captures)
+            (map entry_member (in_places self.now.captures)) }
         ensures number { IfOk result (λ n. n ≡ length (in_places self.now.captures)) }
         ensures sound { AreSound LINE_LIMIT self.now.names self.now.captures }
         ensures all { length (in_places self.now.captures) ≡ length self.now.captures }

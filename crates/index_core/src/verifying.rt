@@ -24,7 +24,8 @@ pub fn verify<I: Input, O: Output>(
     input: &mut I,
     out: &mut O,
 ) -> Result<Verified, IndexFault>
-    ensures verifies { Verifies HEAD_LIMIT (I.remaining input.old) result (O.written out.old) (O.written out.new) }
+    ensures verifies { Verifies HEAD_LIMIT (I.remaining input.old) result (O.written out.old)
+        (O.written out.new) }
     ensures refusals { IfErr result IsReportFault }
     ensures reads { CountsInput result (I.failures input.old) (I.failures input.new) }
     ensures writes { CountsWrite result (O.failures out.old) (O.failures out.new) }

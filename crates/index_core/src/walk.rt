@@ -16,8 +16,11 @@ use warc_core::{Fault, HEAD_LIMIT, Head, Input, Phase, Reader};
 /// Reads the next whole record to its end, and returns its head. The errors are the archive's faults.
 pub fn next_record<I: Input>(reader: &mut Reader, input: &mut I) -> Result<Option<Head>, Fault>
     requires { reader.old.phase ≡ Phase.Between }
-    ensures bytes { Reads (record_at HEAD_LIMIT reader.old.offset) (causes_of result) (prepend_known reader.old.held (I.remaining input.old)) (prepend_known reader.new.held (I.remaining input.new)) }
-    ensures state { MatchResult result (Passes reader.new reader.old.offset) (FailedBy reader.new reader.old.offset) }
+    ensures bytes { Reads (record_at HEAD_LIMIT reader.old.offset) (causes_of result)
+        (prepend_known reader.old.held (I.remaining input.old))
+        (prepend_known reader.new.held (I.remaining input.new)) }
+    ensures state { MatchResult result (Passes reader.new reader.old.offset)
+        (FailedBy reader.new reader.old.offset) }
     ensures begins { IfOk result (λ o. IfSome o (BeginsAt reader.old.offset)) }
     ensures failures { CountsRead (causes_of result) (I.failures input.old) (I.failures input.new) }
 {
@@ -37,9 +40,14 @@ pub fn next_verdict<I: Input>(
     input: &mut I,
 ) -> Result<Option<(Head, Verdict)>, Fault>
     requires { reader.old.phase ≡ Phase.Between }
-    ensures bytes { Reads (record_at HEAD_LIMIT reader.old.offset) (causes_of (heads_of result)) (prepend_known reader.old.held (I.remaining input.old)) (prepend_known reader.new.held (I.remaining input.new)) }
-    ensures verdict { (h : HeadView) (v : Verdict) → result ≡ Ok (Some (h, v)) → IfSome (prepend_known reader.old.held (I.remaining input.old)) (λ bytes. v ≡ verdict_on h (block_at h bytes)) }
-    ensures state { MatchResult (heads_of result) (Passes reader.new reader.old.offset) (FailedBy reader.new reader.old.offset) }
+    ensures bytes { Reads (record_at HEAD_LIMIT reader.old.offset) (causes_of (heads_of result))
+        (prepend_known reader.old.held (I.remaining input.old))
+        (prepend_known reader.new.held (I.remaining input.new)) }
+    ensures verdict { (h : HeadView) (v : Verdict) → result ≡ Ok (Some (h, v))
+        → IfSome (prepend_known reader.old.held (I.remaining input.old))
+        (λ bytes. v ≡ verdict_on h (block_at h bytes)) }
+    ensures state { MatchResult (heads_of result) (Passes reader.new reader.old.offset)
+        (FailedBy reader.new reader.old.offset) }
     ensures begins { IfOk (heads_of result) (λ o. IfSome o (BeginsAt reader.old.offset)) }
     ensures failures { CountsRead (causes_of result) (I.failures input.old) (I.failures input.new) }
 {

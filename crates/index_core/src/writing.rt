@@ -31,7 +31,8 @@ pub fn put_line<O: Output>(out: &mut O, line: &Line) -> Result<(), IndexFault>
 
 /// Writes the line of a fault. Returns that fault, or `Write` if the output fails.
 pub fn put_fault<O: Output>(out: &mut O, fault: Fault) -> IndexFault
-    ensures { WritesFault fault result (O.written out.old) (O.written out.new) (O.failures out.old) (O.failures out.new) }
+    ensures { WritesFault fault result (O.written out.old) (O.written out.new) (O.failures out.old)
+        (O.failures out.new) }
 {
     match put(out, fault_line(fault).as_str().as_bytes()) {
         Ok(()) => IndexFault::from(fault),

@@ -1,5 +1,6 @@
 -- An archive and the texts of its records.
-use Rattle.std.proofs.Common.{◌≡◌, ◌∙◌, ℕ, ◌+◌, List, [], ◌∷◌, ◌++◌, Some, Result, Ok, Err, Option, sym, ap, refl, append_assoc, length, length-append, arith}
+use Rattle.std.proofs.Common.{◌≡◌, ◌∙◌, ℕ, ◌+◌, List, [], ◌∷◌, ◌++◌, Some, Result, Ok, Err, Option, sym, ap, refl}
+use Rattle.std.proofs.Common.{append_assoc, length, length-append, arith}
 use Rattle.std.specs.List.{concat}
 use Rattle.warc_core.specs.declared.fault.Cause.{Cause}
 use Rattle.warc_core.specs.HeadView.{HeadView, record_length}
@@ -11,7 +12,9 @@ use Rattle.warc_core.specs.Laws.{NoRecordAtDamage}
 use Rattle.warc_core.proofs.SpelledLemmas.{read-spelled, spelled-read, head-there, head-read-there, next-there}
 
 -- what is walked is spelled
-pub walk-spelled : (limit start : ℕ) (bytes : List ℕ) (heads : List HeadView) (end : ℕ) (rest : List ℕ) → Walks limit start bytes heads end rest → (texts : List (List ℕ)) × AreTexts limit start heads texts × (bytes ≡ concat texts ++ rest)
+pub walk-spelled : (limit start : ℕ) (bytes : List ℕ) (heads : List HeadView) (end : ℕ) (rest : List ℕ)
+    → Walks limit start bytes heads end rest → (texts : List (List ℕ)) × AreTexts limit start heads texts
+    × (bytes ≡ concat texts ++ rest)
 walk-spelled limit start bytes [] end rest w = ([], tt, sym w.1)
 walk-spelled limit start bytes (h ∷ heads) end rest w =
     let r = read-spelled limit start bytes w.0 h w.1 in
@@ -24,28 +27,39 @@ end_of start [] = start
 end_of start (h ∷ heads) = end_of (start + record_length h) heads
 
 -- what is spelled is walked
-pub spelled-walk : (limit start : ℕ) (heads : List HeadView) (texts : List (List ℕ)) (rest : List ℕ) → AreTexts limit start heads texts → Walks limit start (concat texts ++ rest) heads (end_of start heads) rest
+pub spelled-walk : (limit start : ℕ) (heads : List HeadView) (texts : List (List ℕ)) (rest : List ℕ)
+    → AreTexts limit start heads texts → Walks limit start (concat texts ++ rest) heads (end_of start heads) rest
 spelled-walk limit start [] [] rest a = (refl, refl)
 spelled-walk limit start [] (text ∷ texts) rest a = absurd a
 spelled-walk limit start (h ∷ heads) [] rest a = absurd a
 spelled-walk limit start (h ∷ heads) (text ∷ texts) rest a = (
   concat texts ++ rest,
-  ap (record_at limit start) (append_assoc text (concat texts) rest) ∙ spelled-read limit start h a.0 text (concat texts ++ rest) a.1,
+  ap (record_at limit start) (append_assoc text (concat texts) rest)
+      ∙ spelled-read limit start h a.0 text (concat texts ++ rest) a.1,
   spelled-walk limit (start + record_length h) heads texts rest a.2,
 )
 
 -- no record begins where damage does
 pub no-record : NoRecordAtDamage
 no-record limit archive heads offset cause d h block text more e r =
-    let k : ◌≡◌ {A = Result (Option HeadView × List ℕ) Cause} (Ok (Some h, more)) (Err cause) = sym (spelled-read limit offset h block text more r) ∙ (ap (record_at limit offset) (sym e) ∙ d.refused) in cc
+    let k : ◌≡◌ {A = Result (Option HeadView × List ℕ) Cause} (Ok (Some h, more)) (Err cause) = sym
+    (spelled-read limit offset h block text more r) ∙ (ap (record_at limit offset) (sym e) ∙ d.refused) in cc
 
-record-size : (limit start : ℕ) (h : HeadView) (block text : List ℕ) → IsReadFrom limit start h block text → length text ≡ record_length h
+record-size : (limit start : ℕ) (h : HeadView) (block text : List ℕ) → IsReadFrom limit start h block text → length text
+    ≡ record_length h
 record-size limit start h block text r =
     let t = r.is_text in
-    omega (arith, ap length t.spelled, length-append h.raw (block ++ closing), length-append block closing, t.block_length)
+    omega (
+      arith,
+      ap length t.spelled,
+      length-append h.raw (block ++ closing),
+      length-append block closing,
+      t.block_length,
+    )
 
 -- what was walked over stands in front of what is left
-pub walk-front : (limit start : ℕ) (bytes : List ℕ) (heads : List HeadView) (end : ℕ) (rest : List ℕ) → Walks limit start bytes heads end rest → (front : List ℕ) × (bytes ≡ front ++ rest) × (end ≡ start + length front)
+pub walk-front : (limit start : ℕ) (bytes : List ℕ) (heads : List HeadView) (end : ℕ) (rest : List ℕ)
+    → Walks limit start bytes heads end rest → (front : List ℕ) × (bytes ≡ front ++ rest) × (end ≡ start + length front)
 walk-front limit start bytes [] end rest w = ([], sym w.1, omega (arith, w.0))
 walk-front limit start bytes (h ∷ heads) end rest w =
     let r = read-spelled limit start bytes w.0 h w.1 in
@@ -56,7 +70,8 @@ walk-front limit start bytes (h ∷ heads) end rest w =
     )
 
 -- a head that was read stands in front of its block
-pub next-spelled : (limit start : ℕ) (bytes rest : List ℕ) (h : HeadView) → next_at limit start bytes ≡ Ok (Some h, rest) → (bytes ≡ h.raw ++ rest) × (h.start ≡ start)
+pub next-spelled : (limit start : ℕ) (bytes rest : List ℕ) (h : HeadView) → next_at limit start bytes
+    ≡ Ok (Some h, rest) → (bytes ≡ h.raw ++ rest) × (h.start ≡ start)
 next-spelled limit start bytes rest h e =
     let r = head-read-there limit start bytes rest h (next-there limit start bytes rest h e) in
     ((head-there limit bytes h.raw rest r.0).1, r.2)

@@ -1,5 +1,6 @@
 -- A block's first bytes, piece by piece.
-use Rattle.std.proofs.Common.{◌≡◌, ℕ, ◌+◌, ◌-◌, ◌≤◌, List, [], ◌++◌, Option, None, Some, Ok, Err, length, take, drop, refl, sym, ap, ◌∙◌, subst, arith, append_assoc, length-drop}
+use Rattle.std.proofs.Common.{◌≡◌, ℕ, ◌+◌, ◌-◌, ◌≤◌, List, [], ◌++◌, Option, None, Some, Ok, Err, length, take, drop}
+use Rattle.std.proofs.Common.{refl, sym, ap, ◌∙◌, subst, arith, append_assoc, length-drop}
 use Rattle.std.proofs.lemmas.List.{length-take-le, drop_all, take-take, take_all}
 use Rattle.std.proofs.lemmas.Slice.{take-put_mid}
 use Rattle.std.proofs.Math.Seq.{take-append-add}
@@ -19,23 +20,28 @@ pub Consumes-none : (known : Option (List ℕ)) → Consumes known known []
 Consumes-none None = tt
 Consumes-none (Some z) = refl
 
-pub Consumes-join : (before mid after : Option (List ℕ)) (a b : List ℕ) → Consumes before mid a → Consumes mid after b → Consumes before after (a ++ b)
+pub Consumes-join : (before mid after : Option (List ℕ)) (a b : List ℕ) → Consumes before mid a → Consumes mid after b
+    → Consumes before after (a ++ b)
 Consumes-join None mid after a b h k = tt
 Consumes-join (Some z) None after a b h k = absurd h
 Consumes-join (Some z) (Some w) None a b h k = absurd k
 Consumes-join (Some z) (Some w) (Some v) a b h k = h ∙ (ap (λ t. a ++ t) k ∙ sym (append_assoc a b v))
 
 -- what is found behind the first bytes of a block is found of the block
-pub found-behind : (c : Cause) (left n : ℕ) (piece : List ℕ) (before mid : Option (List ℕ)) → length piece ≡ n → n ≤ left → Consumes before mid piece → IsFoundAt (after_block (left - n)) c mid → IsFoundAt (after_block left) c before
+pub found-behind : (c : Cause) (left n : ℕ) (piece : List ℕ) (before mid : Option (List ℕ)) → length piece ≡ n
+    → n ≤ left → Consumes before mid piece → IsFoundAt (after_block (left - n)) c mid
+    → IsFoundAt (after_block left) c before
 found-behind c left n piece None mid l h k f = tt
 found-behind c left n piece (Some z) None l h k f = absurd k
 found-behind c left n piece (Some z) (Some w) l h k f =
     let none : drop n piece ≡ [] = drop_all n piece (omega arith) in
-    let e : after_block left z ≡ after_block (left - n) w = ap (after_block left) k ∙ (after_block-part left n piece w h (omega arith) ∙ ap (λ t. after_block (left - n) (t ++ w)) none) in
+    let e : after_block left z ≡ after_block (left - n) w = ap (after_block left) k
+    ∙ (after_block-part left n piece w h (omega arith) ∙ ap (λ t. after_block (left - n) (t ++ w)) none) in
     subst (IsFoundIn c) (sym e) f
 
 -- the first n bytes of what was written at the place a
-pub take-written : (a k n : ℕ) (xs ys : List ℕ) → a ≤ length xs → n ≤ length ys → take (a + n) (put_mid a k xs ys) ≡ take a xs ++ take n ys
+pub take-written : (a k n : ℕ) (xs ys : List ℕ) → a ≤ length xs → n ≤ length ys → take (a + n) (put_mid a k xs ys)
+    ≡ take a xs ++ take n ys
 take-written a k n xs ys h m =
     let front : length (take a xs) ≡ a = length-take-le a xs h in
     sym (take-take (a + n) (a + length ys) (put_mid a k xs ys) (omega arith))
@@ -43,7 +49,8 @@ take-written a k n xs ys h m =
     ∙ (ap (λ i. take (i + n) (take a xs ++ ys)) (sym front) ∙ take-append-add (take a xs) ys n))
 
 -- So many bytes of a piece were filled from an open record's block.
-pub record Filling (left len : ℕ) (old now : ReaderView) (before mid : Option (List ℕ)) (size filled : ℕ) (piece : List ℕ) : Type 0 where
+pub record Filling (left len : ℕ) (old now : ReaderView) (before mid : Option (List ℕ)) (size filled : ℕ)
+    (piece : List ℕ) : Type 0 where
   pub opened : old.phase ≡ Open left len
   pub fits : size ≤ left
   pub long : length piece ≡ size
@@ -51,8 +58,10 @@ pub record Filling (left len : ℕ) (old now : ReaderView) (before mid : Option 
   pub stands : StandsAt now old.offset (Open (left - filled) len)
   pub given : Consumes (prepend_known old.held before) (prepend_known now.held mid) (take filled piece)
 
-pub Filling-more : (left len : ℕ) (old now next : ReaderView) (before mid after : Option (List ℕ)) (size filled n : ℕ) (piece part : List ℕ) (count count' : ℕ) → Filling left len old now before mid size filled piece
-    → GivesBlock (left - filled) len (state_of now mid count) (state_of next after count') (Ok n) part → length part ≡ size - filled
+pub Filling-more : (left len : ℕ) (old now next : ReaderView) (before mid after : Option (List ℕ)) (size filled n : ℕ)
+    (piece part : List ℕ) (count count' : ℕ) → Filling left len old now before mid size filled piece
+    → GivesBlock (left - filled) len (state_of now mid count) (state_of next after count') (Ok n) part → length part
+    ≡ size - filled
     → Filling left len old next before after size (filled + n) (put_mid filled (length piece - filled) piece part)
 Filling-more left len old now next before mid after size filled n piece part count count' f g l =
     let long = f.long in
@@ -62,13 +71,25 @@ Filling-more left len old now next before mid after size filled n piece part cou
     record {
       opened = f.opened;
       fits = f.fits;
-      long = same_len_mid filled (length piece - filled) piece part (omega (arith, length-take-le (length piece - filled) (drop filled piece) (omega (arith, length-drop filled piece)), length-drop filled piece)) ∙ long;
+      long = same_len_mid filled (length piece - filled) piece part
+          (omega (
+            arith,
+            length-take-le (length piece - filled) (drop filled piece)
+                (omega (arith, length-drop filled piece)),
+            length-drop filled piece,
+          )) ∙ long;
       within = omega arith;
-      stands = record { offset_is = g.state.offset_is ∙ f.stands.offset_is; phase_is = g.state.phase_is ∙ ap (λ m. Open m len) (omega arith) };
-      given = rw (take-written filled (length piece - filled) n piece part (omega arith) g.bound.1) (Consumes-join _ _ _ (take filled piece) (take n part) f.given g.bytes);
+      stands = record {
+        offset_is = g.state.offset_is ∙ f.stands.offset_is;
+        phase_is = g.state.phase_is
+            ∙ ap (λ m. Open m len) (omega arith);
+      };
+      given = rw (take-written filled (length piece - filled) n piece part (omega arith) g.bound.1)
+          (Consumes-join _ _ _ (take filled piece) (take n part) f.given g.bytes);
     }
 
-pub Filling-start : (left len : ℕ) (old : ReaderView) (before : Option (List ℕ)) (piece : List ℕ) → old.phase ≡ Open left len → length piece ≤ left → Filling left len old old before before (length piece) 0 piece
+pub Filling-start : (left len : ℕ) (old : ReaderView) (before : Option (List ℕ)) (piece : List ℕ) → old.phase
+    ≡ Open left len → length piece ≤ left → Filling left len old old before before (length piece) 0 piece
 Filling-start left len old before piece e h = record {
   opened = e;
   fits = h;
@@ -78,20 +99,25 @@ Filling-start left len old before piece e h = record {
   given = Consumes-none _;
 }
 
-pub Filling-fault : (left len : ℕ) (old now next : ReaderView) (before mid after : Option (List ℕ)) (size filled : ℕ) (fault : Fault) (piece part whole : List ℕ) (count k k' : ℕ) → Filling left len old now before mid size filled piece
-    → GivesBlock (left - filled) len (state_of now mid k) (state_of next after k') (Err fault) part → k ≡ count → Fills left len (state_of old before count) (state_of next after k') (Err fault) whole
+pub Filling-fault : (left len : ℕ) (old now next : ReaderView) (before mid after : Option (List ℕ)) (size filled : ℕ)
+    (fault : Fault) (piece part whole : List ℕ) (count k k' : ℕ) → Filling left len old now before mid size filled piece
+    → GivesBlock (left - filled) len (state_of now mid k) (state_of next after k') (Err fault) part → k ≡ count
+    → Fills left len (state_of old before count) (state_of next after k') (Err fault) whole
 Filling-fault left len old now next before mid after size filled fault piece part whole count k k' f g e =
     let long = f.long in
     let within = f.within in
     let fits = f.fits in
     record {
-      given = found-behind fault.cause left filled (take filled piece) _ _ (length-take-le filled piece (omega arith)) (omega arith) f.given g.bytes;
+      given = found-behind fault.cause left filled (take filled piece) _ _ (length-take-le filled piece (omega arith))
+          (omega arith) f.given g.bytes;
       state = subst (λ o. FailedBy next o fault) f.stands.offset_is g.state;
       cause = g.cause;
       failures = subst (λ c. CountsRead {A = Unit {0}} (Err fault.cause) c k') e g.failures;
     }
 
-pub Filling-end : (left len : ℕ) (old now : ReaderView) (before mid : Option (List ℕ)) (size filled : ℕ) (piece : List ℕ) (count k : ℕ) → Filling left len old now before mid size filled piece → filled ≡ length piece → k ≡ count → Fills left len (state_of old before count) (state_of now mid k) (Ok tt) piece
+pub Filling-end : (left len : ℕ) (old now : ReaderView) (before mid : Option (List ℕ)) (size filled : ℕ)
+    (piece : List ℕ) (count k : ℕ) → Filling left len old now before mid size filled piece → filled ≡ length piece → k
+    ≡ count → Fills left len (state_of old before count) (state_of now mid k) (Ok tt) piece
 Filling-end left len old now before mid size filled piece count k f e c = record {
   given = subst (Consumes _ _) (take_all filled piece (omega arith)) f.given;
   state = record { offset_is = f.stands.offset_is; phase_is = f.stands.phase_is ∙ ap (λ n. Open (left - n) len) e };

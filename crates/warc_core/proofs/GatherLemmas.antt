@@ -1,5 +1,7 @@
 -- What a piece of a head does to the reading of it.
-use Rattle.std.proofs.Common.{◌≡◌, ◌∙◌, ℕ, ◌+◌, ◌-◌, ◌<◌, ◌≤◌, List, [], ◌++◌, Option, None, Some, Result, Ok, Err, true, false, length, take, drop, nat_lt, arith, sym, ap, subst, append_assoc, length-append, inl, inr}
+use Rattle.std.proofs.Common.{◌≡◌, ◌∙◌, ℕ, ◌+◌, ◌-◌, ◌<◌, ◌≤◌, List, [], ◌++◌, Option, None, Some, Result, Ok, Err}
+use Rattle.std.proofs.Common.{true, false, length, take, drop, nat_lt, arith, sym, ap, subst, append_assoc}
+use Rattle.std.proofs.Common.{length-append, inl, inr}
 use Rattle.std.proofs.lemmas.Bool.Decides.{nat_tests}
 use Rattle.std.specs.Io.KnownBytes.{IsAtEnd, prepend_known}
 use Rattle.std.proofs.lemmas.Grind.{common_steps}
@@ -9,10 +11,13 @@ use Rattle.warc_core.specs.declared.fault.Cause.TheVariants as causes
 use Rattle.warc_core.specs.Reading.{Reads, IsFoundIn}
 use Rattle.warc_core.proofs.ReadingLemmas.{GoesOn, GoesOn-fault, GoesOn-done, GoesOn-held, none_known}
 use Rattle.warc_core.specs.HeadText.{has_version, is_closed, head_text, IsFoundHead, IsOpenAfter, ClosesFirst}
-use Rattle.warc_core.proofs.HeadLemmas.{going, going-end, going-full, going-found, going-wrong, going-gathered, take-behind, has_version-longer, which}
+use Rattle.warc_core.proofs.HeadLemmas.{going, going-end, going-full, going-found, going-wrong, going-gathered}
+use Rattle.warc_core.proofs.HeadLemmas.{take-behind, has_version-longer, which}
 
 -- a fault that the held bytes show
-fault_held : {A : Type 0} (f g : List ℕ → Result (A × List ℕ) Cause) (c : Cause) (before left after : Option (List ℕ)) (b : List ℕ) → GoesOn f g before (prepend_known b left) → ((z : List ℕ) → IsFoundIn c (g (b ++ z))) → Reads f (Err c) before after
+fault_held : {A : Type 0} (f g : List ℕ → Result (A × List ℕ) Cause) (c : Cause) (before left after : Option (List ℕ))
+    (b : List ℕ) → GoesOn f g before (prepend_known b left) → ((z : List ℕ) → IsFoundIn c (g (b ++ z)))
+    → Reads f (Err c) before after
 fault_held f g c None left after b h e = tt
 fault_held f g c (Some z) None after b h e = absurd h
 fault_held f g c (Some z) (Some w) after b h e = subst (IsFoundIn c) (sym h) (e w)
@@ -34,35 +39,47 @@ has_version-front xs more h =
 pub has_version-take : (n : ℕ) (xs : List ℕ) → has_version xs ≡ true → has_version (take n xs) ≡ true
 has_version-take n xs h = has_version-front (take n xs) (drop n xs) (ap has_version (take-append-drop n xs) ∙ h)
 
-module _ (limit : ℕ) (seen b : List ℕ) (before left : Option (List ℕ)) (unclosed : is_closed seen ≡ false) (same : GoesOn (head_text limit) (going limit seen) before (prepend_known b left)) where
+module _ (limit : ℕ) (seen b : List ℕ) (before left : Option (List ℕ)) (unclosed : is_closed seen ≡ false)
+    (same : GoesOn (head_text limit) (going limit seen) before (prepend_known b left)) where
   -- the input ends
-  pub head-short : (after : Option (List ℕ)) → has_version seen ≡ true → length seen < limit → b ≡ [] → IsAtEnd left → Reads (head_text limit) (Err causes.ShortHead) before after
+  pub head-short : (after : Option (List ℕ)) → has_version seen ≡ true → length seen < limit → b ≡ [] → IsAtEnd left
+      → Reads (head_text limit) (Err causes.ShortHead) before after
   head-short after agree room e h =
       GoesOn-fault (head_text limit) (going limit seen) causes.ShortHead before (prepend_known b left) after same
       (λ w k. ap (going limit seen) (none_known b left w e h k) ∙ going-end limit seen unclosed agree room)
 
   -- no room is left
-  pub head-long : (after : Option (List ℕ)) → has_version seen ≡ true → length seen ≡ limit → 10 ≤ limit → Reads (head_text limit) (Err causes.HeadTooLong) before after
-  head-long after agree full ten = GoesOn-fault (head_text limit) (going limit seen) causes.HeadTooLong before (prepend_known b left) after same (λ w k. going-full limit seen w unclosed agree full ten)
+  pub head-long : (after : Option (List ℕ)) → has_version seen ≡ true → length seen ≡ limit → 10 ≤ limit
+      → Reads (head_text limit) (Err causes.HeadTooLong) before after
+  head-long after agree full ten = GoesOn-fault (head_text limit) (going limit seen) causes.HeadTooLong before
+      (prepend_known b left) after same (λ w k. going-full limit seen w unclosed agree full ten)
 
   -- a piece more shows another version
-  pub head-wrong : (after : Option (List ℕ)) (count : ℕ) (new : List ℕ) → new ≡ seen ++ take count b → has_version new ≡ false → Reads (head_text limit) (Err causes.Version) before after
+  pub head-wrong : (after : Option (List ℕ)) (count : ℕ) (new : List ℕ) → new ≡ seen ++ take count b → has_version new
+      ≡ false → Reads (head_text limit) (Err causes.Version) before after
   head-wrong after count new n h =
       fault_held (head_text limit) (going limit seen) causes.Version before left after b same
-      (λ z. ap (going limit seen) (split_at count b z) ∙ going-wrong limit seen (take count b) (drop count b ++ z) (ap has_version (sym n) ∙ h))
+      (λ z. ap (going limit seen) (split_at count b z)
+      ∙ going-wrong limit seen (take count b) (drop count b ++ z) (ap has_version (sym n) ∙ h))
 
   -- a piece more
-  pub head-piece : (count : ℕ) (new : List ℕ) → count ≤ length b → new ≡ seen ++ take count b → ((n : ℕ) → length seen < n → n < length seen + count → is_closed (take n new) ≡ false) → length seen + count ≤ limit → GoesOn (head_text limit) (going limit new) before (prepend_known (drop count b) left)
+  pub head-piece : (count : ℕ) (new : List ℕ) → count ≤ length b → new ≡ seen ++ take count b
+      → ((n : ℕ) → length seen < n → n < length seen + count → is_closed (take n new) ≡ false)
+      → length seen + count ≤ limit
+      → GoesOn (head_text limit) (going limit new) before (prepend_known (drop count b) left)
   head-piece count new c n u l =
       let m : length (take count b) ≡ count = length-take-le count b c in
       GoesOn-held (head_text limit) (going limit seen) (going limit new) before left b (drop count b)
       (λ z. ap (going limit seen) (split_at count b z)
-      ∙ (going-gathered limit seen (take count b) (drop count b ++ z) unclosed (λ k p q. ap (λ t. is_closed (take k t)) (sym n) ∙ u k p (omega (arith, m, q))) (omega (arith, m, l))
+      ∙ (going-gathered limit seen (take count b) (drop count b ++ z) unclosed
+      (λ k p q. ap (λ t. is_closed (take k t)) (sym n) ∙ u k p (omega (arith, m, q))) (omega (arith, m, l))
       ∙ ap (λ s. going limit s (drop count b ++ z)) (sym n)))
       same
 
   -- the piece has the end
-  pub head-found : (count end : ℕ) (new : List ℕ) → count ≤ length b → new ≡ seen ++ take count b → ClosesFirst new (length seen) end → length seen + count ≤ limit → has_version new ≡ true → Reads (head_text limit) (Ok (take end new)) before (prepend_known (drop (end - length seen) b) left)
+  pub head-found : (count end : ℕ) (new : List ℕ) → count ≤ length b → new ≡ seen ++ take count b
+      → ClosesFirst new (length seen) end → length seen + count ≤ limit → has_version new ≡ true
+      → Reads (head_text limit) (Ok (take end new)) before (prepend_known (drop (end - length seen) b) left)
   head-found count end new c n h l agree =
       let m : length (take count b) ≡ count = length-take-le count b c in
       let k = end - length seen in
@@ -71,33 +88,48 @@ module _ (limit : ℕ) (seen b : List ℕ) (before left : Option (List ℕ)) (un
       let len : length new ≡ length seen + length (take count b) = ap length n ∙ length-append seen (take count b) in
       let e : end ≡ length seen + k = omega (arith, longer) in
       let small : k ≤ count = omega (arith, len, m, within) in
-      let front : take end new ≡ seen ++ take k b = ap (take end) n ∙ (ap (λ j. take j (seen ++ take count b)) e ∙ (take-behind seen (take count b) k ∙ ap (λ t. seen ++ t) (take-take-le k count b small))) in
+      let front : take end new ≡ seen ++ take k b = ap (take end) n
+      ∙ (ap (λ j. take j (seen ++ take count b)) e
+      ∙ (take-behind seen (take count b) k ∙ ap (λ t. seen ++ t) (take-take-le k count b small))) in
       GoesOn-done (head_text limit) (going limit (take end new)) (take end new) before (prepend_known (drop k b) left)
-      (head-piece k (take end new) (omega (arith, small, c)) front (λ j p q. ap is_closed (take-take-le j end new (omega (arith, q, longer))) ∙ h.first j p (omega (arith, q, longer))) (omega (arith, small, l)))
+      (head-piece k (take end new) (omega (arith, small, c)) front
+      (λ j p q. ap is_closed (take-take-le j end new (omega (arith, q, longer)))
+      ∙ h.first j p (omega (arith, q, longer))) (omega (arith, small, l)))
       (λ w. going-found limit (take end new) w h.closed (has_version-take end new agree))
 
 -- a front of what was seen, or a longer one
-open-or-more : (seen piece new : List ℕ) (end : ℕ) → new ≡ seen ++ piece → ((n : ℕ) → n ≤ length seen → is_closed (take n seen) ≡ false) → ((n : ℕ) → length seen < n → n < end → is_closed (take n new) ≡ false) → (n : ℕ) → n < end → is_closed (take n new) ≡ false
+open-or-more : (seen piece new : List ℕ) (end : ℕ) → new ≡ seen ++ piece
+    → ((n : ℕ) → n ≤ length seen → is_closed (take n seen) ≡ false)
+    → ((n : ℕ) → length seen < n → n < end → is_closed (take n new) ≡ false) → (n : ℕ) → n < end
+    → is_closed (take n new) ≡ false
 open-or-more seen piece new end e before behind n l =
     elim (which (nat_lt (length seen) n)) [
       | inl t ↦ behind n (grind (arith, nat_tests)) l
-      | inr f ↦ (let within : n ≤ length seen = grind (arith, nat_tests) in ap (λ t. is_closed (take n t)) e ∙ (ap is_closed (take-append-le n seen piece within) ∙ before n within))
+      | inr f ↦ (let within : n ≤ length seen = grind (arith, nat_tests) in ap (λ t. is_closed (take n t)) e
+          ∙ (ap is_closed (take-append-le n seen piece within) ∙ before n within))
     ]
 
 -- no front of what was seen ends a head, nor does one of what was added
-pub open-more : (seen piece new : List ℕ) → new ≡ seen ++ piece → ((n : ℕ) → n ≤ length seen → is_closed (take n seen) ≡ false) → IsOpenAfter new (length seen) → (n : ℕ) → n ≤ length new → is_closed (take n new) ≡ false
-open-more seen piece new e before after n l = open-or-more seen piece new (length new + 1) e before (λ k p q. after k p (omega (arith, q))) n (omega (arith, l))
+pub open-more : (seen piece new : List ℕ) → new ≡ seen ++ piece
+    → ((n : ℕ) → n ≤ length seen → is_closed (take n seen) ≡ false) → IsOpenAfter new (length seen) → (n : ℕ)
+    → n ≤ length new → is_closed (take n new) ≡ false
+open-more seen piece new e before after n l = open-or-more seen piece new (length new + 1) e before
+    (λ k p q. after k p (omega (arith, q))) n (omega (arith, l))
 
 -- the text that was gathered is a head
-pub head-is-found : (limit : ℕ) (seen b new : List ℕ) (count end : ℕ) → count ≤ length b → new ≡ seen ++ take count b → ((n : ℕ) → n ≤ length seen → is_closed (take n seen) ≡ false) → ClosesFirst new (length seen) end → length seen + count ≤ limit → has_version new ≡ true → IsFoundHead limit (take end new)
+pub head-is-found : (limit : ℕ) (seen b new : List ℕ) (count end : ℕ) → count ≤ length b → new ≡ seen ++ take count b
+    → ((n : ℕ) → n ≤ length seen → is_closed (take n seen) ≡ false) → ClosesFirst new (length seen) end
+    → length seen + count ≤ limit → has_version new ≡ true → IsFoundHead limit (take end new)
 head-is-found limit seen b new count end c e before h room agree =
     let within = h.within in
     let size : length (take end new) ≡ end = length-take-le end new within in
-    let long : length new ≡ length seen + count = ap length e ∙ (length-append seen (take count b) ∙ ap (λ n. length seen + n) (length-take-le count b c)) in
+    let long : length new ≡ length seen + count = ap length e
+    ∙ (length-append seen (take count b) ∙ ap (λ n. length seen + n) (length-take-le count b c)) in
     record {
       version = has_version-take end new agree;
       closed = h.closed;
       first = λ n l. let small : n < end = omega (arith, size, l) in
-          ap is_closed (take-take-le n end new (omega (arith, small))) ∙ open-or-more seen (take count b) new end e before h.first n small;
+          ap is_closed (take-take-le n end new (omega (arith, small)))
+          ∙ open-or-more seen (take count b) new end e before h.first n small;
       small = omega (arith, size, within, long, room);
     }

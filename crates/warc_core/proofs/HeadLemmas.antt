@@ -1,10 +1,13 @@
 -- The text of a head, found a byte at a time.
-use Rattle.std.proofs.Common.{◌≡◌, ℕ, zero, suc, ◌+◌, ◌-◌, ◌<◌, ◌≤◌, Bool, true, false, ◌&&◌, ◌||◌, nat_lt, List, [], ◌∷◌, ◌++◌, Option, None, Some, Result, Ok, Err, length, take, drop, refl, sym, ap, ◌∙◌, arith, append_assoc, append-nil, length-append, if◌then◌else◌, ◌==◌, ◌⊎◌, inl, inr}
+use Rattle.std.proofs.Common.{◌≡◌, ℕ, zero, suc, ◌+◌, ◌-◌, ◌<◌, ◌≤◌, Bool, true, false, ◌&&◌, ◌||◌, nat_lt, List, []}
+use Rattle.std.proofs.Common.{◌∷◌, ◌++◌, Option, None, Some, Result, Ok, Err, length, take, drop, refl, sym, ap, ◌∙◌}
+use Rattle.std.proofs.Common.{arith, append_assoc, append-nil, length-append, if◌then◌else◌, ◌==◌, ◌⊎◌, inl, inr}
 use Rattle.std.proofs.lemmas.Bool.Decides.{nat_tests}
 use Rattle.std.proofs.Math.Seq.{take-nil, drop-append_seam}
 use Rattle.warc_core.specs.declared.fault.Cause.{Cause}
 use Rattle.warc_core.specs.declared.fault.Cause.TheVariants as causes
-use Rattle.warc_core.specs.HeadText.{has_version, agrees, version_1_1, version_1_0, is_closed, shortest, found_head, head_text}
+use Rattle.warc_core.specs.HeadText.{has_version, agrees, version_1_1, version_1_0, is_closed, shortest, found_head}
+use Rattle.warc_core.specs.HeadText.{head_text}
 
 and_keeps_false : (t a b : Bool) → (a ≡ false → b ≡ false) → (t && a) ≡ false → (t && b) ≡ false
 and_keeps_false true a b f h = f h
@@ -26,7 +29,8 @@ which false = inr refl
 pub agrees-longer : (xs more ys : List ℕ) → agrees xs ys ≡ false → agrees (xs ++ more) ys ≡ false
 agrees-longer [] more ys h = absurd (let e : true ≡ false = h in cc)
 agrees-longer (x ∷ xs) more [] h = absurd (let e : true ≡ false = h in cc)
-agrees-longer (x ∷ xs) more (y ∷ ys) h = and_keeps_false (x == y) (agrees xs ys) (agrees (xs ++ more) ys) (agrees-longer xs more ys) h
+agrees-longer (x ∷ xs) more (y ∷ ys) h = and_keeps_false (x == y) (agrees xs ys) (agrees (xs ++ more) ys)
+    (agrees-longer xs more ys) h
 
 agrees-nil : (xs : List ℕ) → agrees xs [] ≡ true
 agrees-nil [] = refl
@@ -44,7 +48,8 @@ pub agrees-whole : (xs more ys : List ℕ) → agrees xs ys ≡ true → length 
 agrees-whole [] more [] h l = agrees-nil more
 agrees-whole [] more (y ∷ ys) h l = absurd (omega arith)
 agrees-whole (x ∷ xs) more [] h l = refl
-agrees-whole (x ∷ xs) more (y ∷ ys) h l = and_keeps_true (x == y) (agrees xs ys) (agrees (xs ++ more) ys) (λ t. agrees-whole xs more ys t (omega arith)) h
+agrees-whole (x ∷ xs) more (y ∷ ys) h l = and_keeps_true (x == y) (agrees xs ys) (agrees (xs ++ more) ys)
+    (λ t. agrees-whole xs more ys t (omega arith)) h
 
 -- a text that agrees and is no longer is a front of the other
 pub agrees-front : (xs ys : List ℕ) → agrees xs ys ≡ true → length xs ≤ length ys → xs ≡ take (length xs) ys
@@ -114,7 +119,8 @@ closed-long_1_1 seen h a =
             | inr u ↦ (let m : 11 ≤ length seen = grind (arith, nat_tests) in
                 let r = agrees-begins seen version_1_1 a (omega arith) in
                 let len : length seen ≡ 10 + length r.0 = ap length r.1 ∙ length-append version_1_1 r.0 in
-                absurd (let g : is_closed seen ≡ false = ap is_closed r.1 ∙ one_more_1_1 r.0 (omega (arith, len)) in let k : true ≡ false = sym h ∙ g in cc))
+                absurd (let g : is_closed seen ≡ false = ap is_closed r.1
+                ∙ one_more_1_1 r.0 (omega (arith, len)) in let k : true ≡ false = sym h ∙ g in cc))
           ])
       | inr f ↦ grind (arith, nat_tests)
     ]
@@ -135,7 +141,8 @@ closed-long_1_0 seen h a =
             | inr u ↦ (let m : 11 ≤ length seen = grind (arith, nat_tests) in
                 let r = agrees-begins seen version_1_0 a (omega arith) in
                 let len : length seen ≡ 10 + length r.0 = ap length r.1 ∙ length-append version_1_0 r.0 in
-                absurd (let g : is_closed seen ≡ false = ap is_closed r.1 ∙ one_more_1_0 r.0 (omega (arith, len)) in let k : true ≡ false = sym h ∙ g in cc))
+                absurd (let g : is_closed seen ≡ false = ap is_closed r.1
+                ∙ one_more_1_0 r.0 (omega (arith, len)) in let k : true ≡ false = sym h ∙ g in cc))
           ])
       | inr f ↦ grind (arith, nat_tests)
     ]
@@ -167,8 +174,10 @@ has_version-longer xs more h =
 pub has_version-whole : (xs more : List ℕ) → has_version xs ≡ true → 10 ≤ length xs → has_version (xs ++ more) ≡ true
 has_version-whole xs more h l =
     elim (or_true (agrees xs version_1_1) (agrees xs version_1_0) h) [
-      | inl a ↦ or_left (agrees (xs ++ more) version_1_1) (agrees (xs ++ more) version_1_0) (agrees-whole xs more version_1_1 a l)
-      | inr b ↦ or_right (agrees (xs ++ more) version_1_1) (agrees (xs ++ more) version_1_0) (agrees-whole xs more version_1_0 b l)
+      | inl a ↦ or_left (agrees (xs ++ more) version_1_1) (agrees (xs ++ more) version_1_0)
+          (agrees-whole xs more version_1_1 a l)
+      | inr b ↦ or_right (agrees (xs ++ more) version_1_1) (agrees (xs ++ more) version_1_0)
+          (agrees-whole xs more version_1_0 b l)
     ]
 
 -- what ends a head and agrees has the whole version line, and more
@@ -188,7 +197,8 @@ shortest-none : (test : List ℕ → Bool) (seen : List ℕ) → test seen ≡ f
 unfolding shortest
 shortest-none test seen h = rw h refl
 
-shortest-more : (test : List ℕ → Bool) (seen bytes : List ℕ) (b : ℕ) → test seen ≡ false → shortest test seen (b ∷ bytes) ≡ shortest test (seen ++ b ∷ []) bytes
+shortest-more : (test : List ℕ → Bool) (seen bytes : List ℕ) (b : ℕ) → test seen ≡ false
+    → shortest test seen (b ∷ bytes) ≡ shortest test (seen ++ b ∷ []) bytes
 unfolding shortest
 shortest-more test seen bytes b h = rw h refl
 
@@ -196,13 +206,16 @@ shortest-more test seen bytes b h = rw h refl
 abbrev pub judged : ℕ → List ℕ → Option (List ℕ) → Result (List ℕ × List ℕ) Cause
 judged limit text found = if has_version text then found_head limit text found else Err causes.Version
 
-judged-some : (limit : ℕ) (text head : List ℕ) → has_version text ≡ true → judged limit text (Some head) ≡ Ok (head, drop (length head) text)
+judged-some : (limit : ℕ) (text head : List ℕ) → has_version text ≡ true → judged limit text (Some head)
+    ≡ Ok (head, drop (length head) text)
 judged-some limit text head a = rw a refl
 
-judged-short : (limit : ℕ) (text : List ℕ) → has_version text ≡ true → length text < limit → judged limit text None ≡ Err causes.ShortHead
+judged-short : (limit : ℕ) (text : List ℕ) → has_version text ≡ true → length text < limit → judged limit text None
+    ≡ Err causes.ShortHead
 judged-short limit text a l = let t : nat_lt (length text) limit ≡ true = grind (arith, nat_tests) in rw (a, t) refl
 
-judged-full : (limit : ℕ) (text : List ℕ) → has_version text ≡ true → limit ≤ length text → judged limit text None ≡ Err causes.HeadTooLong
+judged-full : (limit : ℕ) (text : List ℕ) → has_version text ≡ true → limit ≤ length text → judged limit text None
+    ≡ Err causes.HeadTooLong
 judged-full limit text a l = let t : nat_lt (length text) limit ≡ false = grind (arith, nat_tests) in rw (a, t) refl
 
 -- the head's text, of which some bytes were seen
@@ -215,34 +228,45 @@ going-start limit bytes =
     let e : limit ≡ limit - 0 = omega arith in
     ap (λ m. judged limit bytes (shortest is_closed [] (take m bytes))) e
 
-pub going-more : (limit : ℕ) (seen bytes : List ℕ) (b : ℕ) → is_closed seen ≡ false → length seen < limit → going limit seen (b ∷ bytes) ≡ going limit (seen ++ b ∷ []) bytes
+pub going-more : (limit : ℕ) (seen bytes : List ℕ) (b : ℕ) → is_closed seen ≡ false → length seen < limit
+    → going limit seen (b ∷ bytes) ≡ going limit (seen ++ b ∷ []) bytes
 unfolding going
 going-more limit seen bytes b h l =
     let n = limit - length (seen ++ b ∷ []) in
     let e : limit - length seen ≡ suc n = omega (arith, length-append seen (b ∷ [])) in
-    let s : shortest is_closed seen (take (limit - length seen) (b ∷ bytes)) ≡ shortest is_closed (seen ++ b ∷ []) (take n bytes) =
+    let s : shortest is_closed seen (take (limit - length seen) (b ∷ bytes))
+    ≡ shortest is_closed (seen ++ b ∷ []) (take n bytes) =
     ap (λ m. shortest is_closed seen (take m (b ∷ bytes))) e ∙ shortest-more is_closed seen (take n bytes) b h in
     let a : seen ++ (b ∷ bytes) ≡ (seen ++ b ∷ []) ++ bytes = sym (append_assoc seen (b ∷ []) bytes) in
-    ap (λ t. judged limit t (shortest is_closed seen (take (limit - length seen) (b ∷ bytes)))) a ∙ ap (judged limit ((seen ++ b ∷ []) ++ bytes)) s
+    ap (λ t. judged limit t (shortest is_closed seen (take (limit - length seen) (b ∷ bytes)))) a
+    ∙ ap (judged limit ((seen ++ b ∷ []) ++ bytes)) s
 
-pub going-end : (limit : ℕ) (seen : List ℕ) → is_closed seen ≡ false → has_version seen ≡ true → length seen < limit → going limit seen [] ≡ Err causes.ShortHead
+pub going-end : (limit : ℕ) (seen : List ℕ) → is_closed seen ≡ false → has_version seen ≡ true → length seen < limit
+    → going limit seen [] ≡ Err causes.ShortHead
 unfolding going
 going-end limit seen h a l =
-    ap (judged limit (seen ++ [])) (ap (shortest is_closed seen) (take-nil (limit - length seen)) ∙ shortest-none is_closed seen h)
+    ap (judged limit (seen ++ [])) (ap (shortest is_closed seen) (take-nil (limit - length seen))
+    ∙ shortest-none is_closed seen h)
     ∙ (ap (λ t. judged limit t None) (append-nil seen) ∙ judged-short limit seen a l)
 
-pub going-full : (limit : ℕ) (seen bytes : List ℕ) → is_closed seen ≡ false → has_version seen ≡ true → length seen ≡ limit → 10 ≤ limit → going limit seen bytes ≡ Err causes.HeadTooLong
+pub going-full : (limit : ℕ) (seen bytes : List ℕ) → is_closed seen ≡ false → has_version seen ≡ true → length seen
+    ≡ limit → 10 ≤ limit → going limit seen bytes ≡ Err causes.HeadTooLong
 unfolding going
 going-full limit seen bytes h a l m =
     let e : limit - length seen ≡ 0 = omega arith in
-    ap (judged limit (seen ++ bytes)) (ap (λ n. shortest is_closed seen (take n bytes)) e ∙ shortest-none is_closed seen h)
-    ∙ judged-full limit (seen ++ bytes) (has_version-whole seen bytes a (omega arith)) (omega (arith, length-append seen bytes))
+    ap (judged limit (seen ++ bytes)) (ap (λ n. shortest is_closed seen (take n bytes)) e
+    ∙ shortest-none is_closed seen h)
+    ∙ judged-full limit (seen ++ bytes) (has_version-whole seen bytes a (omega arith))
+    (omega (arith, length-append seen bytes))
 
-pub going-found : (limit : ℕ) (seen bytes : List ℕ) → is_closed seen ≡ true → has_version seen ≡ true → going limit seen bytes ≡ Ok (seen, bytes)
+pub going-found : (limit : ℕ) (seen bytes : List ℕ) → is_closed seen ≡ true → has_version seen ≡ true
+    → going limit seen bytes ≡ Ok (seen, bytes)
 unfolding going
 going-found limit seen bytes h a =
     ap (judged limit (seen ++ bytes)) (shortest-now is_closed seen (take (limit - length seen) bytes) h)
-    ∙ (judged-some limit (seen ++ bytes) seen (has_version-whole seen bytes a (let l = closed-long seen h a in omega (arith, l))) ∙ ap (λ r. Ok (seen, r)) (drop-append_seam seen bytes))
+    ∙ (judged-some limit (seen ++ bytes) seen
+    (has_version-whole seen bytes a (let l = closed-long seen h a in omega (arith, l)))
+    ∙ ap (λ r. Ok (seen, r)) (drop-append_seam seen bytes))
 
 pub take-behind : (seen w : List ℕ) (j : ℕ) → take (length seen + j) (seen ++ w) ≡ seen ++ take j w
 take-behind [] w j = ap (λ n. take n w) (let e : 0 + j ≡ j = omega arith in e)
@@ -251,7 +275,8 @@ take-behind (x ∷ seen) w j =
     ap (λ n. take n (x ∷ (seen ++ w))) e ∙ ap (λ t. x ∷ t) (take-behind seen w j)
 
 -- a piece of which no front but the last can end a head
-pub going-piece : (limit : ℕ) (seen w bytes : List ℕ) → ((j : ℕ) → j < length w → is_closed (seen ++ take j w) ≡ false) → length seen + length w ≤ limit → going limit seen (w ++ bytes) ≡ going limit (seen ++ w) bytes
+pub going-piece : (limit : ℕ) (seen w bytes : List ℕ) → ((j : ℕ) → j < length w → is_closed (seen ++ take j w) ≡ false)
+    → length seen + length w ≤ limit → going limit seen (w ++ bytes) ≡ going limit (seen ++ w) bytes
 going-piece limit seen [] bytes u l = ap (λ s. going limit s bytes) (sym (append-nil seen))
 going-piece limit seen (b ∷ w) bytes u l =
     let first : is_closed seen ≡ false = ap is_closed (sym (append-nil seen)) ∙ u 0 (omega arith) in
@@ -262,16 +287,22 @@ going-piece limit seen (b ∷ w) bytes u l =
     ∙ ap (λ s. going limit s bytes) (append_assoc seen (b ∷ []) w))
 
 -- a piece that disagrees
-pub going-wrong : (limit : ℕ) (seen w bytes : List ℕ) → has_version (seen ++ w) ≡ false → going limit seen (w ++ bytes) ≡ Err causes.Version
+pub going-wrong : (limit : ℕ) (seen w bytes : List ℕ) → has_version (seen ++ w) ≡ false → going limit seen (w ++ bytes)
+    ≡ Err causes.Version
 unfolding going
 going-wrong limit seen w bytes h =
-    let e : has_version (seen ++ (w ++ bytes)) ≡ false = ap has_version (sym (append_assoc seen w bytes)) ∙ has_version-longer (seen ++ w) bytes h in
+    let e : has_version (seen ++ (w ++ bytes)) ≡ false = ap has_version (sym (append_assoc seen w bytes))
+    ∙ has_version-longer (seen ++ w) bytes h in
     rw e refl
 
 -- where no front of the text that was gathered from `seen` and a piece ends a head before the last
-pub going-gathered : (limit : ℕ) (seen w bytes : List ℕ) → is_closed seen ≡ false → ((n : ℕ) → length seen < n → n < length seen + length w → is_closed (take n (seen ++ w)) ≡ false) → length seen + length w ≤ limit → going limit seen (w ++ bytes) ≡ going limit (seen ++ w) bytes
+pub going-gathered : (limit : ℕ) (seen w bytes : List ℕ) → is_closed seen ≡ false
+    → ((n : ℕ) → length seen < n → n < length seen + length w → is_closed (take n (seen ++ w)) ≡ false)
+    → length seen + length w ≤ limit → going limit seen (w ++ bytes) ≡ going limit (seen ++ w) bytes
 going-gathered limit seen w bytes h u l =
     going-piece limit seen w bytes (λ j k. elim (which (nat_lt 0 j)) [
-      | inl t ↦ (let p : 0 < j = grind (arith, nat_tests) in ap is_closed (sym (take-behind seen w j)) ∙ u (length seen + j) (omega arith) (omega arith))
-      | inr f ↦ (let p : j ≡ 0 = grind (arith, nat_tests) in ap (λ n. is_closed (seen ++ take n w)) p ∙ (ap is_closed (append-nil seen) ∙ h))
+      | inl t ↦ (let p : 0 < j = grind (arith, nat_tests) in ap is_closed (sym (take-behind seen w j))
+          ∙ u (length seen + j) (omega arith) (omega arith))
+      | inr f ↦ (let p : j ≡ 0 = grind (arith, nat_tests) in ap (λ n. is_closed (seen ++ take n w)) p
+          ∙ (ap is_closed (append-nil seen) ∙ h))
     ]) l

@@ -1,5 +1,6 @@
 -- A head that is found is a head text, and a head text is found.
-use Rattle.std.proofs.Common.{◌≡◌, ◌∙◌, ℕ, ◌+◌, ◌-◌, ◌≤◌, true, List, ◌++◌, Result, Ok, Err, length, drop, sym, ap, refl, arith, inl, inr}
+use Rattle.std.proofs.Common.{◌≡◌, ◌∙◌, ℕ, ◌+◌, ◌-◌, ◌≤◌, true, List, ◌++◌, Result, Ok, Err, length, drop, sym, ap}
+use Rattle.std.proofs.Common.{refl, arith, inl, inr}
 use Rattle.std.proofs.lemmas.List.{take-append-drop, drop-drop, drop_at}
 use Rattle.warc_head.specs.declared.fault.HeadFault.{HeadFault}
 use Rattle.warc_head.specs.Answers.{◌>>=◌}
@@ -23,10 +24,12 @@ pub record IsFoundOf (limit : ℕ) (parts : HeadParts) (text : List ℕ) : Type 
   pub says : parts_of text ≡ Ok parts
 
 by_cause-ok : (r : Result HeadParts HeadFault) (p : HeadParts) → by_cause r ≡ Ok p → r ≡ Ok p
-by_cause-ok (Ok q) p h = let e : ◌≡◌ {A = Result HeadParts Cause} (Ok q) (Ok p) = h in let same : q ≡ p = cc in ap Ok same
+by_cause-ok (Ok q) p h = let e : ◌≡◌ {A = Result HeadParts Cause} (Ok q) (Ok p) = h in let same : q
+    ≡ p = cc in ap Ok same
 by_cause-ok (Err f) p h = absurd (let e : ◌≡◌ {A = Result HeadParts Cause} (Err (cause_of f)) (Ok p) = h in cc)
 
-bind_ok : {A B : Type 0} (r : Result A HeadFault) (f : A → Result B HeadFault) (y : B) → (r >>= f) ≡ Ok y → (x : A) × (r ≡ Ok x) × (f x ≡ Ok y)
+bind_ok : {A B : Type 0} (r : Result A HeadFault) (f : A → Result B HeadFault) (y : B) → (r >>= f) ≡ Ok y → (x : A)
+    × (r ≡ Ok x) × (f x ≡ Ok y)
 bind_ok {A} {B} (Ok x) f y h = (x, refl, h)
 bind_ok {A} {B} (Err c) f y h = absurd (let e : ◌≡◌ {A = Result B HeadFault} (Err c) (Ok y) = h in cc)
 
@@ -44,19 +47,22 @@ parts_in-fields fields p h =
     ap (λ q. q.fields) (sym same)
 
 -- what is read of a text is read of its fields
-read-in : (raw : List ℕ) (p : HeadParts) → parts_of raw ≡ Ok p → (fields_of (body_of raw) ≡ Ok p.fields) × (parts_in p.fields ≡ Ok p)
+read-in : (raw : List ℕ) (p : HeadParts) → parts_of raw ≡ Ok p → (fields_of (body_of raw) ≡ Ok p.fields)
+    × (parts_in p.fields ≡ Ok p)
 unfolding parts_of parts.parts_of
 read-in raw p h =
     let e = bind_ok (fields_of (body_of raw)) parts_in p (by_cause-ok (fields_of (body_of raw) >>= parts_in) p h) in
     let same = parts_in-fields e.0 p e.2 in
     (e.1 ∙ ap Ok (sym same), ap parts_in same ∙ e.2)
 
-read-back : (raw : List ℕ) (p : HeadParts) → fields_of (body_of raw) ≡ Ok p.fields → parts_in p.fields ≡ Ok p → parts_of raw ≡ Ok p
+read-back : (raw : List ℕ) (p : HeadParts) → fields_of (body_of raw) ≡ Ok p.fields → parts_in p.fields ≡ Ok p
+    → parts_of raw ≡ Ok p
 unfolding parts_of parts.parts_of
 read-back raw p f h = ap (λ r. by_cause (r >>= parts_in)) f ∙ ap by_cause h
 
 -- a text with a version begins with a version line
-version-begins : (text : List ℕ) → has_version text ≡ true → 10 ≤ length text → (version : List ℕ) × (more : List ℕ) × IsVersionLine version × (length version ≡ 10) × (text ≡ version ++ more)
+version-begins : (text : List ℕ) → has_version text ≡ true → 10 ≤ length text → (version : List ℕ) × (more : List ℕ)
+    × IsVersionLine version × (length version ≡ 10) × (text ≡ version ++ more)
 version-begins text h l =
     elim (or_true (agrees text version_1_1) (agrees text version_1_0) h) [
       | inl a ↦ (let r = agrees-begins text version_1_1 a l in (version_1_1, r.0, inl refl, refl, r.1))
@@ -68,10 +74,13 @@ last-empty : (text : List ℕ) → is_closed text ≡ true → 12 ≤ length tex
 last-empty text h l =
     let n = length text - 2 - 10 in
     let at : length text - 4 + 2 ≡ 10 + n = omega (arith, l) in
-    let end : drop n (drop 10 text) ≡ line_end = drop-drop n 10 text ∙ (ap (λ m. drop m text) (sym at) ∙ (sym (drop-drop 2 (length text - 4) text) ∙ ap (drop 2) (closed-last text h))) in
+    let end : drop n (drop 10 text) ≡ line_end = drop-drop n 10 text
+    ∙ (ap (λ m. drop m text) (sym at)
+    ∙ (sym (drop-drop 2 (length text - 4) text) ∙ ap (drop 2) (closed-last text h))) in
     sym (take-append-drop n (drop 10 text)) ∙ ap (λ t. body_of text ++ t) end
 
-pub found-spelled : (limit : ℕ) (raw : List ℕ) (p : HeadParts) → IsFoundHead limit raw → parts_of raw ≡ Ok p → IsRecordHead limit p raw
+pub found-spelled : (limit : ℕ) (raw : List ℕ) (p : HeadParts) → IsFoundHead limit raw → parts_of raw ≡ Ok p
+    → IsRecordHead limit p raw
 found-spelled limit raw p f h =
     let r = read-in raw p h in
     let long = closed-long raw f.closed f.version in
@@ -92,9 +101,12 @@ found-spelled limit raw p f h =
     }
 
 -- a version line has ten bytes, and is one however it goes on
-version-found : (version more : List ℕ) → IsVersionLine version → (length version ≡ 10) × (has_version (version ++ more) ≡ true)
-version-found version more (inl e) = let long : length version ≡ 10 = ap length e in (long, has_version-whole version more (ap has_version e) (omega (arith, long)))
-version-found version more (inr e) = let long : length version ≡ 10 = ap length e in (long, has_version-whole version more (ap has_version e) (omega (arith, long)))
+version-found : (version more : List ℕ) → IsVersionLine version → (length version ≡ 10)
+    × (has_version (version ++ more) ≡ true)
+version-found version more (inl e) = let long : length version
+    ≡ 10 = ap length e in (long, has_version-whole version more (ap has_version e) (omega (arith, long)))
+version-found version more (inr e) = let long : length version
+    ≡ 10 = ap length e in (long, has_version-whole version more (ap has_version e) (omega (arith, long)))
 
 pub spelled-found : (limit : ℕ) (raw : List ℕ) (p : HeadParts) → IsRecordHead limit p raw → IsFoundOf limit p raw
 spelled-found limit raw p h =

@@ -8,7 +8,8 @@ use Rattle.warc_head.specs.Parts.{HeadParts}
 use Rattle.warc_core.specs.Head.{parts_of, by_cause, cause_of}
 use Rattle.warc_core.specs.Answers.{IsFoundPurely}
 
-pub purely-found : (f : HeadFault) (raw : List ℕ) → IsFound f (heads.parts_of raw) → IsFoundPurely (cause_of f) (parts_of raw)
+pub purely-found : (f : HeadFault) (raw : List ℕ) → IsFound f (heads.parts_of raw)
+    → IsFoundPurely (cause_of f) (parts_of raw)
 unfolding parts_of
 purely-found faults.Memory raw h = tt
 purely-found faults.FieldLine raw h = ap by_cause h

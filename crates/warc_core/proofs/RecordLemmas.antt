@@ -1,5 +1,7 @@
 -- Laws of what follows a block and its closing.
-use Rattle.std.proofs.Common.{◌≡◌, ◌≢◌, ℕ, ◌+◌, ◌-◌, ◌<◌, ◌≤◌, List, [], ◌∷◌, ◌++◌, Option, None, Some, Result, Ok, Err, length, drop, refl, sym, ap, ◌∙◌, subst, arith, length-append, length-drop, drop-cons, get_or, suc, add-one}
+use Rattle.std.proofs.Common.{◌≡◌, ◌≢◌, ℕ, ◌+◌, ◌-◌, ◌<◌, ◌≤◌, List, [], ◌∷◌, ◌++◌, Option, None, Some, Result, Ok, Err}
+use Rattle.std.proofs.Common.{length, drop, refl, sym, ap, ◌∙◌, subst, arith, length-append, length-drop, drop-cons}
+use Rattle.std.proofs.Common.{get_or, suc, add-one}
 use Rattle.std.proofs.lemmas.Bool.Decides.{nat_tests}
 use Rattle.std.proofs.lemmas.List.{drop-append-le, drop-drop}
 use Rattle.warc_core.specs.declared.fault.Cause.{Cause}
@@ -17,7 +19,8 @@ pub after_block-short : (n : ℕ) (w : List ℕ) → 0 < n → w ≡ [] → afte
 unfolding after_block
 after_block-short n w h e = grind (arith, nat_tests)
 
-pub after_block-part : (n count : ℕ) (b z : List ℕ) → count ≤ n → count ≤ length b → after_block n (b ++ z) ≡ after_block (n - count) (drop count b ++ z)
+pub after_block-part : (n count : ℕ) (b z : List ℕ) → count ≤ n → count ≤ length b → after_block n (b ++ z)
+    ≡ after_block (n - count) (drop count b ++ z)
 unfolding after_block
 after_block-part n count b z h k =
     let e : drop n (b ++ z) ≡ drop (n - count) (drop count b ++ z) =
@@ -28,11 +31,14 @@ after_block-part n count b z h k =
     grind (arith, nat_tests)
 
 -- one byte of a text that has to come next
-pub after_text-same : {A : Type 0} (f : List ℕ → Result A Cause) (g : List ℕ → List ℕ → Result A Cause) (c b : ℕ) (text : List ℕ) (before now after : Option (List ℕ)) → ((w : List ℕ) → g (c ∷ text) (c ∷ w) ≡ g text w) → b ≡ c → GoesOn f (g (c ∷ text)) before now → Reads first_of (Ok (Some b)) now after → GoesOn f (g text) before after
+pub after_text-same : {A : Type 0} (f : List ℕ → Result A Cause) (g : List ℕ → List ℕ → Result A Cause) (c b : ℕ)
+    (text : List ℕ) (before now after : Option (List ℕ)) → ((w : List ℕ) → g (c ∷ text) (c ∷ w) ≡ g text w) → b ≡ c
+    → GoesOn f (g (c ∷ text)) before now → Reads first_of (Ok (Some b)) now after → GoesOn f (g text) before after
 after_text-same f g c b text None now after e q h k = tt
 after_text-same f g c b text (Some z) None after e q h k = absurd h
 after_text-same f g c b text (Some z) (Some w) None e q h k = absurd k
-after_text-same f g c b text (Some z) (Some w) (Some v) e q h k = h ∙ (ap (g (c ∷ text)) (first-is w v b k ∙ ap (λ x. x ∷ v) q) ∙ e v)
+after_text-same f g c b text (Some z) (Some w) (Some v) e q h k = h
+    ∙ (ap (g (c ∷ text)) (first-is w v b k ∙ ap (λ x. x ∷ v) q) ∙ e v)
 
 -- another byte, or none, in a text's place
 pub after_text-other : (c b : ℕ) (text w : List ℕ) → b ≢ c → after_text (c ∷ text) (b ∷ w) ≡ Err causes.Closing
@@ -48,7 +54,8 @@ unfolding after_text
 after_text-here c text w = grind (arith, nat_tests)
 
 -- a closing that stands whole in front of what is known
-pub closing-held : (held left : List ℕ) (known : Option (List ℕ)) → held ≡ closing ++ drop 4 held → left ≡ drop 4 held → Reads (after_text closing) (Ok tt) (prepend_known held known) (prepend_known left known)
+pub closing-held : (held left : List ℕ) (known : Option (List ℕ)) → held ≡ closing ++ drop 4 held → left ≡ drop 4 held
+    → Reads (after_text closing) (Ok tt) (prepend_known held known) (prepend_known left known)
 unfolding after_text
 closing-held held left None h l = tt
 closing-held held left (Some w) h l = ap (λ t. after_text closing (t ++ w)) h ∙ ap (λ t. Ok (tt, t ++ w)) (sym l)
@@ -57,31 +64,43 @@ pub after_text-done : (w : List ℕ) → after_text [] w ≡ Ok (tt, w)
 unfolding after_text
 after_text-done w = refl
 
-module _ (before now after : Option (List ℕ)) (i : ℕ) (within : i < length closing) (same : GoesOn (after_text closing) (after_text (drop i closing)) before now) where
+module _ (before now after : Option (List ℕ)) (i : ℕ) (within : i < length closing)
+    (same : GoesOn (after_text closing) (after_text (drop i closing)) before now) where
   here : GoesOn (after_text closing) (after_text (get_or closing i 0 ∷ drop (suc i) closing)) before now
   here = subst (λ t. GoesOn (after_text closing) (after_text t) before now) (drop-cons closing i 0 within) same
 
   -- one more byte of the closing
-  pub closing-more : (o : Option ℕ) (b : ℕ) → Reads first_of (Ok o) now after → o ≡ Some b → b ≡ get_or closing i 0 → GoesOn (after_text closing) (after_text (drop (i + 1) closing)) before after
-  closing-more o b r e q = rw add-one (after_text-same (after_text closing) after_text (get_or closing i 0) b (drop (suc i) closing) before now after (after_text-here (get_or closing i 0) (drop (suc i) closing)) q here (subst (λ p. Reads first_of (Ok p) now after) e r))
+  pub closing-more : (o : Option ℕ) (b : ℕ) → Reads first_of (Ok o) now after → o ≡ Some b → b ≡ get_or closing i 0
+      → GoesOn (after_text closing) (after_text (drop (i + 1) closing)) before after
+  closing-more o b r e q = rw add-one
+      (after_text-same (after_text closing) after_text (get_or closing i 0) b (drop (suc i) closing) before now after
+      (after_text-here (get_or closing i 0) (drop (suc i) closing)) q here
+      (subst (λ p. Reads first_of (Ok p) now after) e r))
 
   -- another byte, or none
-  pub closing-other : (o : Option ℕ) (b : ℕ) → Reads first_of (Ok o) now after → o ≡ Some b → b ≢ get_or closing i 0 → Reads (after_text closing) (Err causes.Closing) before after
-  closing-other o b r e q = GoesOn-fault (after_text closing) (after_text (get_or closing i 0 ∷ drop (suc i) closing)) causes.Closing before now after here
+  pub closing-other : (o : Option ℕ) (b : ℕ) → Reads first_of (Ok o) now after → o ≡ Some b → b ≢ get_or closing i 0
+      → Reads (after_text closing) (Err causes.Closing) before after
+  closing-other o b r e q = GoesOn-fault (after_text closing) (after_text (get_or closing i 0 ∷ drop (suc i) closing))
+      causes.Closing before now after here
       (λ w k. let v = was_read first_of (Some b) now after w (subst (λ p. Reads first_of (Ok p) now after) e r) k in
-      ap (after_text (get_or closing i 0 ∷ drop (suc i) closing)) (first-is w v.0 b v.1) ∙ after_text-other (get_or closing i 0) b (drop (suc i) closing) v.0 q)
+      ap (after_text (get_or closing i 0 ∷ drop (suc i) closing)) (first-is w v.0 b v.1)
+      ∙ after_text-other (get_or closing i 0) b (drop (suc i) closing) v.0 q)
 
-  pub closing-end : (o : Option ℕ) → Reads first_of (Ok o) now after → o ≡ None → Reads (after_text closing) (Err causes.Closing) before after
-  closing-end o r e = GoesOn-fault (after_text closing) (after_text (get_or closing i 0 ∷ drop (suc i) closing)) causes.Closing before now after here
+  pub closing-end : (o : Option ℕ) → Reads first_of (Ok o) now after → o ≡ None
+      → Reads (after_text closing) (Err causes.Closing) before after
+  closing-end o r e = GoesOn-fault (after_text closing) (after_text (get_or closing i 0 ∷ drop (suc i) closing))
+      causes.Closing before now after here
       (λ w k. let v = was_read first_of None now after w (subst (λ p. Reads first_of (Ok p) now after) e r) k in
       after_text-end (get_or closing i 0) (drop (suc i) closing) w (first-none w v.0 v.1))
 
 -- at the end of what is known a block is short
-pub short_at : (n : ℕ) (before after : Option (List ℕ)) (none : List ℕ) → 0 < n → none ≡ [] → Consumes before after none → IsAtEnd after → IsFoundAt (after_block n) causes.ShortBlock before
+pub short_at : (n : ℕ) (before after : Option (List ℕ)) (none : List ℕ) → 0 < n → none ≡ [] → Consumes before after none
+    → IsAtEnd after → IsFoundAt (after_block n) causes.ShortBlock before
 short_at n None after none h e k l = tt
 short_at n (Some z) None none h e k l = absurd k
 short_at n (Some z) (Some w) none h e k l = after_block-short n z h (k ∙ (ap (λ x. x ++ w) e ∙ l))
 
-pub read_at : {A : Type 0} (f : List ℕ → Result A Cause) (c : Cause) (before : Option (List ℕ)) → c ≡ causes.Read → IsFoundAt f c before
+pub read_at : {A : Type 0} (f : List ℕ → Result A Cause) (c : Cause) (before : Option (List ℕ)) → c ≡ causes.Read
+    → IsFoundAt f c before
 read_at f c None e = tt
 read_at f c (Some z) e = rw e tt

@@ -25,7 +25,8 @@ IsFoundAt f c None = ⊤
 IsFoundAt f c (Some z) = IsFoundIn c (f z)
 
 -- A call answered what f reads at the front of the known bytes, and left the bytes after it.
-abbrev pub Reads : {A : Type 0} → (List ℕ → Result (A × List ℕ) Cause) → Result A Cause → Option (List ℕ) → Option (List ℕ) → Type 0
+abbrev pub Reads : {A : Type 0} → (List ℕ → Result (A × List ℕ) Cause) → Result A Cause → Option (List ℕ)
+    → Option (List ℕ) → Type 0
 Reads f r None after = ⊤
 Reads f (Ok x) (Some z) None = ⊥
 Reads f (Ok x) (Some z) (Some rest) = f z ≡ Ok (x, rest)

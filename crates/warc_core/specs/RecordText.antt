@@ -51,4 +51,5 @@ abbrev pub AreTexts : ℕ → ℕ → List HeadView → List (List ℕ) → Type
 AreTexts limit start [] [] = Unit {0}
 AreTexts limit start [] (text ∷ texts) = ⊥
 AreTexts limit start (h ∷ heads) [] = ⊥
-AreTexts limit start (h ∷ heads) (text ∷ texts) = (block : List ℕ) × IsReadFrom limit start h block text × AreTexts limit (start + record_length h) heads texts
+AreTexts limit start (h ∷ heads) (text ∷ texts) = (block : List ℕ) × IsReadFrom limit start h block text
+    × AreTexts limit (start + record_length h) heads texts

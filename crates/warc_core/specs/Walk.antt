@@ -19,7 +19,8 @@ record_at limit start bytes = next_at limit start bytes >>= closed_at
 -- after them begin at `end`.
 abbrev pub Walks : ℕ → ℕ → List ℕ → List HeadView → ℕ → List ℕ → Type 0
 Walks limit start bytes [] end rest = (end ≡ start) × (rest ≡ bytes)
-Walks limit start bytes (h ∷ hs) end rest = (later : List ℕ) × (record_at limit start bytes ≡ Ok (Some h, later)) × Walks limit (start + record_length h) later hs end rest
+Walks limit start bytes (h ∷ hs) end rest = (later : List ℕ) × (record_at limit start bytes ≡ Ok (Some h, later))
+    × Walks limit (start + record_length h) later hs end rest
 
 -- the archive is these records and no more
 pub record AreRecords (limit : ℕ) (archive : List ℕ) (heads : List HeadView) : Type 0 where

@@ -1,5 +1,6 @@
 -- The test of a day.
-use Rattle.std.proofs.Common.{◌≡◌, ℕ, ◌≤◌, Bool, true, false, ◌&&◌, ◌↔◌, IsTrue, nat_le, refl, sym, arith, ◌⊎◌, inl, inr}
+use Rattle.std.proofs.Common.{◌≡◌, ℕ, ◌≤◌, Bool, true, false, ◌&&◌, ◌↔◌, IsTrue, nat_le, refl, sym, arith, ◌⊎◌, inl}
+use Rattle.std.proofs.Common.{inr}
 use Rattle.std.proofs.lemmas.Bool.Decides.{nat_tests}
 use Rattle.warc_head.specs.Calendar.{is_date, month_days, DateExists}
 
@@ -28,7 +29,13 @@ passes-day y m d h =
     let p = and_both (nat_le 1 m && nat_le m 12 && nat_le 1 d) (nat_le d (month_days y m)) h in
     let q = and_both (nat_le 1 m && nat_le m 12) (nat_le 1 d) p.0 in
     let r = and_both (nat_le 1 m) (nat_le m 12) q.0 in
-    record { month_low = le_of 1 m r.0; month_high = le_of m 12 r.1; day_low = le_of 1 d q.1; day_high = le_of d (month_days y m) p.1 }
+    record {
+      month_low = le_of 1 m r.0;
+      month_high = le_of m 12 r.1;
+      day_low = le_of 1 d q.1;
+      day_high = le_of d
+          (month_days y m) p.1;
+    }
 
 pub day-test : (r : Bool) (y m d : ℕ) → (IsTrue r ↔ DateExists y m d) → r ≡ is_date y m d
 day-test true y m d h = sym (day-passes y m d (h.0 refl))

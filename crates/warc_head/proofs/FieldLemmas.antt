@@ -1,5 +1,7 @@
 -- The fields of lines, of which some were read.
-use Rattle.std.proofs.Common.{◌≡◌, ◌∙◌, ◌<◌, ℕ, List, [], ◌∷◌, ◌++◌, length, Option, None, Some, Result, Ok, Err, refl, sym, ap, true, false, Bool, append_assoc, arith, ◌⊎◌, inl, inr, length-take, if◌then◌else◌}
+use Rattle.std.proofs.Common.{◌≡◌, ◌∙◌, ◌<◌, ℕ, List, [], ◌∷◌, ◌++◌, length, Option, None, Some, Result, Ok, Err, refl}
+use Rattle.std.proofs.Common.{sym, ap, true, false, Bool, append_assoc, arith, ◌⊎◌, inl, inr, length-take}
+use Rattle.std.proofs.Common.{if◌then◌else◌}
 use Rattle.std.specs.List.{ends_with, list_all}
 use Rattle.std.specs.Prelude.{nat_eq, ◌&&◌, take, drop, ◌-◌, ◌+◌}
 use Rattle.std.proofs.lemmas.Bool.{cases_lt}
@@ -10,7 +12,8 @@ use Rattle.warc_head.specs.declared.fault.HeadFault.TheVariants as faults
 use Rattle.warc_head.specs.Answers.{◌>>=◌, IsFound}
 use Rattle.warc_head.specs.Lines.{lines_of, line_content, BeginsWithLine, continues, trim, is_plain, line_end}
 use Rattle.warc_head.specs.Names.{is_name}
-use Rattle.warc_head.specs.Fields.{Field, Given, given_by, fields_of, joined, longer, added, begun, field_in, with_piece, with_field, named, at_colon}
+use Rattle.warc_head.specs.Fields.{Field, Given, given_by, fields_of, joined, longer, added, begun, field_in}
+use Rattle.warc_head.specs.Fields.{with_piece, with_field, named, at_colon}
 use Rattle.warc_head.proofs.LineLemmas.{line_first, line_text, concat, concat-lines, IsLine, line_if}
 
 -- fields that were read, and what the lines after them give
@@ -36,50 +39,66 @@ joined-nil [] = refl
 joined-nil (x ∷ a) = refl
 
 -- fields before the last one are left as they are
-onto-more : (seen : List Field) (f : Field) (read : Given) → onto (seen ++ f ∷ []) read ≡ Ok (seen ++ longer f (added read.more) ∷ read.fields)
+onto-more : (seen : List Field) (f : Field) (read : Given) → onto (seen ++ f ∷ []) read
+    ≡ Ok (seen ++ longer f (added read.more) ∷ read.fields)
 onto-more [] f read = refl
 onto-more (g ∷ []) f read = refl
 onto-more (g ∷ h ∷ seen) f read = ap (λ r. r >>= λ fs. Ok (g ∷ fs)) (onto-more (h ∷ seen) f read)
 
 -- a line that goes on, where a field stands before it
-onto-continued : (seen : List Field) (f : Field) (t : List ℕ) (read : Given) → onto (seen ++ f ∷ []) (with_piece t read) ≡ onto (seen ++ longer f t ∷ []) read
+onto-continued : (seen : List Field) (f : Field) (t : List ℕ) (read : Given) → onto (seen ++ f ∷ []) (with_piece t read)
+    ≡ onto (seen ++ longer f t ∷ []) read
 onto-continued seen f t read =
     onto-more seen f (with_piece t read)
-    ∙ (ap (λ v. Ok (seen ++ record { name = f.name; value = v } ∷ read.fields)) (sym (joined-assoc f.value t (added read.more)))
+    ∙ (ap (λ v. Ok (seen ++ record { name = f.name; value = v } ∷ read.fields))
+    (sym (joined-assoc f.value t (added read.more)))
     ∙ sym (onto-more seen (longer f t) read))
 
 -- a line that begins a field
 onto-began : (seen : List Field) (f : Field) (read : Given) → onto seen (with_field f read) ≡ onto (seen ++ f ∷ []) read
 onto-began [] f read = refl
-onto-began (g ∷ []) f read = ap (λ v. Ok (record { name = g.name; value = v } ∷ longer f (added read.more) ∷ read.fields)) (joined-nil g.value)
+onto-began (g ∷ []) f read = ap
+    (λ v. Ok (record { name = g.name; value = v } ∷ longer f (added read.more) ∷ read.fields)) (joined-nil g.value)
 onto-began (g ∷ h ∷ seen) f read = ap (λ r. r >>= λ fs. Ok (g ∷ fs)) (onto-began (h ∷ seen) f read)
 
-then_ok : {A B C : Type 0} (r : Result A HeadFault) (f : A → B) (g : B → Result C HeadFault) → ((r >>= λ x. Ok (f x)) >>= g) ≡ (r >>= λ x. g (f x))
+then_ok : {A B C : Type 0} (r : Result A HeadFault) (f : A → B) (g : B → Result C HeadFault)
+    → ((r >>= λ x. Ok (f x)) >>= g) ≡ (r >>= λ x. g (f x))
 then_ok (Ok x) f g = refl
 then_ok (Err e) f g = refl
 
-same_then : {A B : Type 0} (r : Result A HeadFault) (f g : A → Result B HeadFault) → ((x : A) → f x ≡ g x) → (r >>= f) ≡ (r >>= g)
+same_then : {A B : Type 0} (r : Result A HeadFault) (f g : A → Result B HeadFault) → ((x : A) → f x ≡ g x) → (r >>= f)
+    ≡ (r >>= g)
 same_then (Ok x) f g h = h x
 same_then (Err e) f g h = refl
 
 -- what one line does
-line-fault : (seen : List Field) (line : List ℕ) (lines : List (List ℕ)) (e : HeadFault) → line_content line ≡ Err e → going_lines seen (line ∷ lines) ≡ Err e
+line-fault : (seen : List Field) (line : List ℕ) (lines : List (List ℕ)) (e : HeadFault) → line_content line ≡ Err e
+    → going_lines seen (line ∷ lines) ≡ Err e
 unfolding given_by
-line-fault seen line lines e h = ap (λ r. (r >>= λ text. if continues text then (given_by lines >>= λ later. Ok (with_piece (trim text) later)) else (field_in text >>= λ field. given_by lines >>= λ later. Ok (with_field field later))) >>= onto seen) h
+line-fault seen line lines e h = ap
+    (λ r. (r >>= λ text. if continues text then (given_by lines >>= λ later. Ok (with_piece (trim text) later)) else
+    (field_in text >>= λ field. given_by lines >>= λ later. Ok (with_field field later))) >>= onto seen) h
 
-line-continued : (seen : List Field) (f : Field) (line text : List ℕ) (lines : List (List ℕ)) → line_content line ≡ Ok text → continues text ≡ true → going_lines (seen ++ f ∷ []) (line ∷ lines) ≡ going_lines (seen ++ longer f (trim text) ∷ []) lines
+line-continued : (seen : List Field) (f : Field) (line text : List ℕ) (lines : List (List ℕ)) → line_content line
+    ≡ Ok text → continues text ≡ true → going_lines (seen ++ f ∷ []) (line ∷ lines)
+    ≡ going_lines (seen ++ longer f (trim text) ∷ []) lines
 unfolding given_by
 line-continued seen f line text lines h c =
-    rw (h, c) (then_ok (given_by lines) (with_piece (trim text)) (onto (seen ++ f ∷ [])) ∙ same_then (given_by lines) _ _ (λ read. onto-continued seen f (trim text) read))
+    rw (h, c) (then_ok (given_by lines) (with_piece (trim text)) (onto (seen ++ f ∷ []))
+    ∙ same_then (given_by lines) _ _ (λ read. onto-continued seen f (trim text) read))
 
-line-unnamed : (seen : List Field) (line text : List ℕ) (lines : List (List ℕ)) (e : HeadFault) → line_content line ≡ Ok text → continues text ≡ false → field_in text ≡ Err e → going_lines seen (line ∷ lines) ≡ Err e
+line-unnamed : (seen : List Field) (line text : List ℕ) (lines : List (List ℕ)) (e : HeadFault) → line_content line
+    ≡ Ok text → continues text ≡ false → field_in text ≡ Err e → going_lines seen (line ∷ lines) ≡ Err e
 unfolding given_by
 line-unnamed seen line text lines e h c n = rw (h, c, n) refl
 
-line-began : (seen : List Field) (f : Field) (line text : List ℕ) (lines : List (List ℕ)) → line_content line ≡ Ok text → continues text ≡ false → field_in text ≡ Ok f → going_lines seen (line ∷ lines) ≡ going_lines (seen ++ f ∷ []) lines
+line-began : (seen : List Field) (f : Field) (line text : List ℕ) (lines : List (List ℕ)) → line_content line ≡ Ok text
+    → continues text ≡ false → field_in text ≡ Ok f → going_lines seen (line ∷ lines)
+    ≡ going_lines (seen ++ f ∷ []) lines
 unfolding given_by
 line-began seen f line text lines h c n =
-    rw (h, c, n) (then_ok (given_by lines) (with_field f) (onto seen) ∙ same_then (given_by lines) _ _ (λ read. onto-began seen f read))
+    rw (h, c, n) (then_ok (given_by lines) (with_field f) (onto seen)
+    ∙ same_then (given_by lines) _ _ (λ read. onto-began seen f read))
 
 -- an answer without any other fault than FieldLine
 abbrev pub Plain : {A : Type 0} → Result A HeadFault → Type 0
@@ -87,7 +106,8 @@ Plain (Ok x) = Unit {0}
 Plain (Err faults.FieldLine) = Unit {0}
 Plain (Err e) = ⊥
 
-Plain-then : {A B : Type 0} (r : Result A HeadFault) (f : A → Result B HeadFault) → Plain r → ((x : A) → Plain (f x)) → Plain (r >>= f)
+Plain-then : {A B : Type 0} (r : Result A HeadFault) (f : A → Result B HeadFault) → Plain r → ((x : A) → Plain (f x))
+    → Plain (r >>= f)
 Plain-then (Ok x) f p h = h x
 Plain-then (Err faults.FieldLine) f p h = tt
 Plain-then (Err e) f p h = absurd p
@@ -98,7 +118,8 @@ Plain-if false a b p q = q
 
 Plain-field : (p : Option (List ℕ × List ℕ)) → Plain (named p)
 Plain-field None = tt
-Plain-field (Some p) = Plain-if (is_name p.0) (Ok (record { name = p.0; value = trim p.1 })) (Err faults.FieldLine) tt tt
+Plain-field (Some p) = Plain-if (is_name p.0) (Ok (record { name = p.0; value = trim p.1 })) (Err faults.FieldLine) tt
+    tt
 
 Plain-name : (text : List ℕ) → Plain (field_in text)
 unfolding field_in
@@ -108,19 +129,25 @@ Plain-lines : (lines : List (List ℕ)) → Plain (given_by lines)
 unfolding given_by
 Plain-lines [] = tt
 Plain-lines (line ∷ lines) =
-    Plain-then (line_content line) _ (Plain-if (ends_with nat_eq line line_end && list_all is_plain (take (length line - 2) line)) (Ok (take (length line - 2) line)) (Err faults.FieldLine) tt tt)
+    Plain-then (line_content line) _
+    (Plain-if (ends_with nat_eq line line_end && list_all is_plain (take (length line - 2) line))
+    (Ok (take (length line - 2) line)) (Err faults.FieldLine) tt tt)
     (λ text. Plain-if (continues text) _ _ (Plain-then (given_by lines) _ (Plain-lines lines) (λ later. tt))
-    (Plain-then (field_in text) _ (Plain-name text) (λ field. Plain-then (given_by lines) _ (Plain-lines lines) (λ later. tt))))
+    (Plain-then (field_in text) _ (Plain-name text)
+    (λ field. Plain-then (given_by lines) _ (Plain-lines lines) (λ later. tt))))
 
-all_refused : {A B : Type 0} (r : Result A HeadFault) → Plain r → ◌≡◌ {A = Result B HeadFault} (r >>= λ x. Err faults.FieldLine) (Err faults.FieldLine)
+all_refused : {A B : Type 0} (r : Result A HeadFault) → Plain r
+    → ◌≡◌ {A = Result B HeadFault} (r >>= λ x. Err faults.FieldLine) (Err faults.FieldLine)
 all_refused (Ok x) p = refl
 all_refused (Err faults.FieldLine) p = refl
 all_refused (Err e) p = absurd p
 
-line-first : (line text : List ℕ) (lines : List (List ℕ)) → line_content line ≡ Ok text → continues text ≡ true → going_lines [] (line ∷ lines) ≡ Err faults.FieldLine
+line-first : (line text : List ℕ) (lines : List (List ℕ)) → line_content line ≡ Ok text → continues text ≡ true
+    → going_lines [] (line ∷ lines) ≡ Err faults.FieldLine
 unfolding given_by
 line-first line text lines h c =
-    rw (h, c) (then_ok (given_by lines) (with_piece (trim text)) (onto []) ∙ all_refused (given_by lines) (Plain-lines lines))
+    rw (h, c) (then_ok (given_by lines) (with_piece (trim text)) (onto [])
+    ∙ all_refused (given_by lines) (Plain-lines lines))
 
 -- at the end
 onto-end : (seen : List Field) → onto seen (record { more = None; fields = [] }) ≡ Ok seen
@@ -136,20 +163,31 @@ pub going-start : (body : List ℕ) → fields_of body ≡ going [] body
 unfolding going fields_of
 going-start body = refl
 
-content_fault : (line : List ℕ) (t : Bool) → (ends_with nat_eq line line_end && list_all is_plain (take (length line - 2) line)) ≡ t
+content_fault : (line : List ℕ) (t : Bool)
+    → (ends_with nat_eq line line_end && list_all is_plain (take (length line - 2) line)) ≡ t
     → ((text : List ℕ) → IsLine line text → ⊥) → line_content line ≡ Err faults.FieldLine
-content_fault line true e f = absurd (f (take (length line - 2) line) (line_if line true (take (length line - 2) line) e refl))
+content_fault line true e f = absurd
+    (f (take (length line - 2) line) (line_if line true (take (length line - 2) line) e refl))
 content_fault line false e f = rw e refl
 
 unended_lines : (seen : List Field) (text : List ℕ) (lines : List (List ℕ)) → lines_of text ≡ lines → 0 < length text
     → ((line rest : List ℕ) → BeginsWithLine text line rest → ⊥) → going_lines seen lines ≡ Err faults.FieldLine
-unended_lines seen text [] e h f = absurd (let n : text ≡ [] = sym (concat-lines text) ∙ ap concat e in omega (arith, h, ap length n))
+unended_lines seen text [] e h f = absurd (let n : text ≡ [] = sym (concat-lines text)
+    ∙ ap concat e in omega (arith, h, ap length n))
 unended_lines seen text (line ∷ lines) e h f =
-    line-fault seen line lines faults.FieldLine (content_fault line (ends_with nat_eq line line_end && list_all is_plain (take (length line - 2) line)) refl
-    (λ t l. f t (concat lines) (record { spelled = sym (concat-lines text) ∙ (ap concat e ∙ (ap (λ d. d ++ concat lines) l.spelled ∙ append_assoc t line_end (concat lines))); plain = l.plain })))
+    line-fault seen line lines faults.FieldLine
+    (content_fault line (ends_with nat_eq line line_end && list_all is_plain (take (length line - 2) line)) refl
+    (λ t l. f t (concat lines)
+    (record {
+      spelled = sym (concat-lines text)
+          ∙ (ap concat e ∙ (ap (λ d. d ++ concat lines) l.spelled ∙ append_assoc t line_end (concat lines)));
+      plain =
+          l.plain;
+    })))
 
 -- a text that begins with no line
-pub going-fault : (seen : List Field) (text : List ℕ) → 0 < length text → ((line rest : List ℕ) → BeginsWithLine text line rest → ⊥) → going seen text ≡ Err faults.FieldLine
+pub going-fault : (seen : List Field) (text : List ℕ) → 0 < length text
+    → ((line rest : List ℕ) → BeginsWithLine text line rest → ⊥) → going seen text ≡ Err faults.FieldLine
 unfolding going
 going-fault seen text h f = unended_lines seen text (lines_of text) refl h f
 
@@ -160,21 +198,27 @@ module _ (rest text later : List ℕ) (line : BeginsWithLine rest text later) wh
   content : line_content (text ++ line_end) ≡ Ok text
   content = line_text text line.plain
 
-  pub going-unnamed : (seen : List Field) (e : HeadFault) → continues text ≡ false → field_in text ≡ Err e → going seen rest ≡ Err e
+  pub going-unnamed : (seen : List Field) (e : HeadFault) → continues text ≡ false → field_in text ≡ Err e
+      → going seen rest ≡ Err e
   unfolding going
-  going-unnamed seen e c n = ap (going_lines seen) cut ∙ line-unnamed seen (text ++ line_end) text (lines_of later) e content c n
+  going-unnamed seen e c n = ap (going_lines seen) cut
+      ∙ line-unnamed seen (text ++ line_end) text (lines_of later) e content c n
 
-  pub going-began : (seen : List Field) (f : Field) → continues text ≡ false → field_in text ≡ Ok f → going seen rest ≡ going (seen ++ f ∷ []) later
+  pub going-began : (seen : List Field) (f : Field) → continues text ≡ false → field_in text ≡ Ok f → going seen rest
+      ≡ going (seen ++ f ∷ []) later
   unfolding going
-  going-began seen f c n = ap (going_lines seen) cut ∙ line-began seen f (text ++ line_end) text (lines_of later) content c n
+  going-began seen f c n = ap (going_lines seen) cut
+      ∙ line-began seen f (text ++ line_end) text (lines_of later) content c n
 
   pub going-first : continues text ≡ true → going [] rest ≡ Err faults.FieldLine
   unfolding going
   going-first c = ap (going_lines []) cut ∙ line-first (text ++ line_end) text (lines_of later) content c
 
-  pub going-continued : (seen : List Field) (f : Field) → continues text ≡ true → going (seen ++ f ∷ []) rest ≡ going (seen ++ longer f (trim text) ∷ []) later
+  pub going-continued : (seen : List Field) (f : Field) → continues text ≡ true → going (seen ++ f ∷ []) rest
+      ≡ going (seen ++ longer f (trim text) ∷ []) later
   unfolding going
-  going-continued seen f c = ap (going_lines (seen ++ f ∷ [])) cut ∙ line-continued seen f (text ++ line_end) text (lines_of later) content c
+  going-continued seen f c = ap (going_lines (seen ++ f ∷ [])) cut
+      ∙ line-continued seen f (text ++ line_end) text (lines_of later) content c
 
 -- a fault that is passed on
 pub IsFound-of : {A : Type 0} (e : HeadFault) (r : Result A HeadFault) → r ≡ Err e → IsFound e r
@@ -182,11 +226,13 @@ IsFound-of faults.Memory r h = tt
 IsFound-of e r h = h
 
 -- a piece that can't go on, or memory that ran out
-pub IsFound-either : {A : Type 0} (e : HeadFault) (r : Result A HeadFault) → (e ≡ faults.Memory) ⊎ (r ≡ Err e) → IsFound e r
+pub IsFound-either : {A : Type 0} (e : HeadFault) (r : Result A HeadFault) → (e ≡ faults.Memory) ⊎ (r ≡ Err e)
+    → IsFound e r
 IsFound-either faults.Memory r h = tt
 IsFound-either e r h = elim h [ inl m ↦ absurd cc | inr f ↦ f ]
 
-pub IsFound-then : {A B : Type 0} (e : HeadFault) (r : Result A HeadFault) (s : Result B HeadFault) → (r ≡ Err e → s ≡ Err e) → IsFound e r → IsFound e s
+pub IsFound-then : {A B : Type 0} (e : HeadFault) (r : Result A HeadFault) (s : Result B HeadFault)
+    → (r ≡ Err e → s ≡ Err e) → IsFound e r → IsFound e s
 IsFound-then faults.Memory r s f h = tt
 IsFound-then e r s f h = f h
 
@@ -200,7 +246,8 @@ body_is raw =
     elim (cases_lt (length raw - 2) 10) [
       | inl short ↦ (
           let none : length raw - 2 - 10 ≡ 0 = omega (arith, short) in
-          ap (λ n. take n (drop 10 raw)) none ∙ sym (drop_all 10 (take (length raw - 2) raw) (omega (arith, length-take (length raw - 2) raw, short))))
+          ap (λ n. take n (drop 10 raw)) none
+          ∙ sym (drop_all 10 (take (length raw - 2) raw) (omega (arith, length-take (length raw - 2) raw, short))))
       | inr long ↦ (
           let whole : 10 + (length raw - 2 - 10) ≡ length raw - 2 = omega (arith, long) in
           sym (drop-take 10 (length raw - 2 - 10) raw) ∙ ap (λ n. drop 10 (take n raw)) whole)

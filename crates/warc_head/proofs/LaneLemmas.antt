@@ -1,10 +1,12 @@
 -- The lanes at which two loads have a byte.
-use Rattle.std.proofs.Common.{◌≡◌, ◌∙◌, ℕ, ◌+◌, ◌%◌, ◌^◌, ◌<◌, ◌≤◌, eqb, cond, bit_and, Bool, true, false, not, ◌&&◌, List, [], ◌∷◌, map, length, get_or, replicate, refl, sym, ap, arith}
+use Rattle.std.proofs.Common.{◌≡◌, ◌∙◌, ℕ, ◌+◌, ◌%◌, ◌^◌, ◌<◌, ◌≤◌, eqb, cond, bit_and, Bool, true, false, not, ◌&&◌}
+use Rattle.std.proofs.Common.{List, [], ◌∷◌, map, length, get_or, replicate, refl, sym, ap, arith}
 use Rattle.std.specs.List.{prefix_len}
 use Rattle.std.proofs.lemmas.Bool.{eq-eqb, not-true}
 use Rattle.std.proofs.lemmas.List.{map-id}
 use Rattle.std.proofs.lemmas.List.Sums.{prefix_len-le-length, prefix_len_passes}
-use Rattle.std.proofs.lemmas.Simd.{zip2_splat, length-chunk, get_or-chunk, get_or-zip2, length-zip2, mask_l-mod, first_set_mask_l}
+use Rattle.std.proofs.lemmas.Simd.{zip2_splat, length-chunk, get_or-chunk, get_or-zip2, length-zip2, mask_l-mod}
+use Rattle.std.proofs.lemmas.Simd.{first_set_mask_l}
 use Rattle.httparse.specs.Pieces.{first_set}
 use lib.Lanes.{chunk, zip2, mask_l, top}
 
@@ -21,7 +23,8 @@ both_top true false = refl
 both_top false true = refl
 both_top false false = refl
 
-both_tops : (y : ℕ) (v w : List ℕ) → map (top 7) (zip2 bit_and (map (λ x. has_byte x y) v) (map (λ x. has_byte x y) w)) ≡ zip2 (λ a b. eqb a y && eqb b y) v w
+both_tops : (y : ℕ) (v w : List ℕ) → map (top 7) (zip2 bit_and (map (λ x. has_byte x y) v) (map (λ x. has_byte x y) w))
+    ≡ zip2 (λ a b. eqb a y && eqb b y) v w
 both_tops y [] w = refl
 both_tops y (a ∷ v) [] = refl
 both_tops y (a ∷ v) (b ∷ w) = λ i. both_top (eqb a y) (eqb b y) i ∷ both_tops y v w i
@@ -51,7 +54,9 @@ module _ (text : List ℕ) (i j y r : ℕ) (first : i + 32 ≤ length text) (sec
 
   mask_is : mask ≡ mask_l (map (λ b. b) both)
   mask_is =
-      ap (λ l. mask_l l % 2 ^ 64) ((λ k. map (top 7) (zip2 bit_and (zip2_splat has_byte v 32 y long_v k) (zip2_splat has_byte w 32 y long_w k))) ∙ both_tops y v w)
+      ap (λ l. mask_l l % 2 ^ 64)
+      ((λ k. map (top 7) (zip2 bit_and (zip2_splat has_byte v 32 y long_v k) (zip2_splat has_byte w 32 y long_w k)))
+      ∙ both_tops y v w)
       ∙ mask_l-mod both 64 (omega (arith, long)) ∙ ap mask_l (sym (map-id both))
 
   counted : r ≡ first_set mask 32 → r ≡ prefix_len (λ b. not b) both
@@ -63,8 +68,10 @@ module _ (text : List ℕ) (i j y r : ℕ) (first : i + 32 ≤ length text) (sec
   pub both_none : r ≡ first_set mask 32 → (k : ℕ) → k < r → get_or text (i + k) 0 ≡ y → get_or text (j + k) 0 ≡ y → ⊥
   both_none found k below p q =
       let inside : k < 32 = omega (arith, both_bound found) in
-      let none : get_or both k false ≡ false = not-true _ (prefix_len_passes (λ b. not b) both k false (omega (arith, counted found))) in
-      let at : get_or both k false ≡ (eqb (get_or v k 0) y && eqb (get_or w k 0) y) = get_or-zip2 _ v w k 0 0 false (omega (arith, long_v)) (omega (arith, long_w)) in
+      let none : get_or both k false
+      ≡ false = not-true _ (prefix_len_passes (λ b. not b) both k false (omega (arith, counted found))) in
+      let at : get_or both k false ≡ (eqb (get_or v k 0) y && eqb (get_or w k 0) y) = get_or-zip2 _ v w k 0 0 false
+      (omega (arith, long_v)) (omega (arith, long_w)) in
       let s : eqb (get_or v k 0) y ≡ true = eq-eqb _ _ (get_or-chunk i 32 text k 0 inside ∙ p) in
       let t : eqb (get_or w k 0) y ≡ true = eq-eqb _ _ (get_or-chunk j 32 text k 0 inside ∙ q) in
       let e : true ≡ false = (λ m. sym s m && sym t m) ∙ (sym at ∙ none) in

@@ -1,5 +1,7 @@
 -- The lines of a text.
-use Rattle.std.proofs.Common.{◌≡◌, ◌∙◌, ℕ, zero, suc, ◌+◌, ◌-◌, ◌<◌, ◌≤◌, List, [], ◌∷◌, ◌++◌, length, take, drop, get_or, refl, sym, ap, arith, true, false, Bool, ◌&&◌, add-one, length-append, length-drop, inl, inr, Result, Ok, Err, nat_eq, subst, if◌then◌else◌}
+use Rattle.std.proofs.Common.{◌≡◌, ◌∙◌, ℕ, zero, suc, ◌+◌, ◌-◌, ◌<◌, ◌≤◌, List, [], ◌∷◌, ◌++◌, length, take, drop}
+use Rattle.std.proofs.Common.{get_or, refl, sym, ap, arith, true, false, Bool, ◌&&◌, add-one, length-append}
+use Rattle.std.proofs.Common.{length-drop, inl, inr, Result, Ok, Err, nat_eq, subst, if◌then◌else◌}
 use Rattle.std.specs.Prelude.{◌==◌, Some, None, not}
 use Rattle.std.specs.List.{list_all, ends_with}
 use Rattle.std.specs.Option.{option_map}
@@ -22,15 +24,18 @@ false_of true h = absurd (h refl)
 false_of false h = refl
 
 -- a text whose first colon stands at a place
-pub colon_at : (text : List ℕ) (at : ℕ) → at < length text → (get_or text at 0 == 58) ≡ true → ((k : ℕ) → k < at → (get_or text k 0 == 58) ≡ true → ⊥) → at_colon text ≡ Some (take at text, drop (at + 1) text)
+pub colon_at : (text : List ℕ) (at : ℕ) → at < length text → (get_or text at 0 == 58) ≡ true
+    → ((k : ℕ) → k < at → (get_or text k 0 == 58) ≡ true → ⊥) → at_colon text ≡ Some (take at text, drop (at + 1) text)
 unfolding at_colon
 colon_at [] at h e f = absurd (omega arith)
 colon_at (b ∷ bs) zero h e f = rw e refl
 colon_at (b ∷ bs) (suc at) h e f =
     let t : (b == 58) ≡ false = false_of (b == 58) (f 0 (omega arith)) in
-    rw (t, add-one) (ap (option_map (λ p. (b ∷ p.0, p.1))) (rw add-one at (colon_at bs at (omega arith) e (λ k l. f (suc k) (omega arith)))))
+    rw (t, add-one) (ap (option_map (λ p. (b ∷ p.0, p.1)))
+    (rw add-one at (colon_at bs at (omega arith) e (λ k l. f (suc k) (omega arith)))))
 
-pub colon_none : (text : List ℕ) → ((k : ℕ) → k < length text → (get_or text k 0 == 58) ≡ true → ⊥) → at_colon text ≡ None
+pub colon_none : (text : List ℕ) → ((k : ℕ) → k < length text → (get_or text k 0 == 58) ≡ true → ⊥) → at_colon text
+    ≡ None
 unfolding at_colon
 colon_none [] f = refl
 colon_none (b ∷ bs) f =
@@ -41,7 +46,8 @@ plain-not_lf : (b : ℕ) → is_plain b ≡ true → (b == 10) ≡ false
 plain-not_lf b h = grind (arith, nat_tests, h)
 
 -- the first line of a text
-pub line_first : (text rest : List ℕ) → list_all is_plain text ≡ true → lines_of (text ++ (line_end ++ rest)) ≡ (text ++ line_end) ∷ lines_of rest
+pub line_first : (text rest : List ℕ) → list_all is_plain text ≡ true → lines_of (text ++ (line_end ++ rest))
+    ≡ (text ++ line_end) ∷ lines_of rest
 unfolding lines_of
 line_first [] rest h = refl
 line_first (b ∷ bs) rest h =
@@ -69,7 +75,8 @@ concat-with_first : (b : ℕ) (lines : List (List ℕ)) → concat (with_first b
 concat-with_first b [] = refl
 concat-with_first b (line ∷ lines) = refl
 
-concat-if : (t : Bool) (b : ℕ) (lines : List (List ℕ)) → concat (if t then (b ∷ []) ∷ lines else with_first b lines) ≡ b ∷ concat lines
+concat-if : (t : Bool) (b : ℕ) (lines : List (List ℕ)) → concat (if t then (b ∷ []) ∷ lines else with_first b lines)
+    ≡ b ∷ concat lines
 concat-if true b lines = refl
 concat-if false b lines = concat-with_first b lines
 
@@ -90,43 +97,56 @@ line_end_is (a ∷ b ∷ []) h =
     let p = and_both (nat_eq 13 a) (nat_eq 10 b && true) h in
     let q = and_both (nat_eq 10 b) true p.1 in
     rw (same_byte 13 a p.0, same_byte 10 b q.0) refl
-line_end_is (a ∷ b ∷ c ∷ d) h = absurd (let e : false ≡ true = (and_both (nat_eq 10 b) false (and_both (nat_eq 13 a) _ h).1).1 in cc)
+line_end_is (a ∷ b ∷ c ∷ d) h = absurd (let e : false
+    ≡ true = (and_both (nat_eq 10 b) false (and_both (nat_eq 13 a) _ h).1).1 in cc)
 
 pub record IsLine (line text : List ℕ) : Type 0 where
   pub spelled : line ≡ ended text
   pub plain : list_all is_plain text ≡ true
 
-pub line_if : (line : List ℕ) (t : Bool) (text : List ℕ) → (ends_with nat_eq line line_end && list_all is_plain (take (length line - 2) line)) ≡ t
+pub line_if : (line : List ℕ) (t : Bool) (text : List ℕ)
+    → (ends_with nat_eq line line_end && list_all is_plain (take (length line - 2) line)) ≡ t
     → (if t then Ok (take (length line - 2) line) else Err faults.FieldLine) ≡ Ok text → IsLine line text
-line_if line false text e h = absurd (let k : ◌≡◌ {A = Result (List ℕ) HeadFault} (Err faults.FieldLine) (Ok text) = h in cc)
+line_if line false text e h = absurd
+    (let k : ◌≡◌ {A = Result (List ℕ) HeadFault} (Err faults.FieldLine) (Ok text) = h in cc)
 line_if line true text e h =
     let p = and_both (ends_with nat_eq line line_end) (list_all is_plain (take (length line - 2) line)) e in
     let k : ◌≡◌ {A = Result (List ℕ) HeadFault} (Ok (take (length line - 2) line)) (Ok text) = h in
     let same : take (length line - 2) line ≡ text = cc in
     subst (λ t. IsLine line t) same
-    (record { spelled = sym (take-append-drop (length line - 2) line) ∙ ap (λ d. take (length line - 2) line ++ d) (line_end_is (drop (length line - 2) line) p.0); plain = p.1 })
+    (record {
+      spelled = sym (take-append-drop (length line - 2) line)
+          ∙ ap (λ d. take (length line - 2) line ++ d) (line_end_is (drop (length line - 2) line) p.0);
+      plain = p.1;
+    })
 
 -- a line without CR and LF has neither at a place
-plain_at : (line : List ℕ) (at : ℕ) → list_all is_plain line ≡ true → at < length line → is_byte2 13 10 (get_or line at 0) ≡ true → ⊥
+plain_at : (line : List ℕ) (at : ℕ) → list_all is_plain line ≡ true → at < length line
+    → is_byte2 13 10 (get_or line at 0) ≡ true → ⊥
 plain_at [] at p l h = absurd (omega arith)
-plain_at (b ∷ bs) zero p l h = let k : false ≡ true = ap not (sym h) ∙ (and_both (is_plain b) (list_all is_plain bs) p).0 in cc
+plain_at (b ∷ bs) zero p l h = let k : false ≡ true = ap not (sym h)
+    ∙ (and_both (is_plain b) (list_all is_plain bs) p).0 in cc
 plain_at (b ∷ bs) (suc at) p l h = plain_at bs at (and_both (is_plain b) (list_all is_plain bs) p).1 (omega arith) h
 
 -- where a line stands, the first CR or LF is that at its end
-pub line_end_at : (line rest : List ℕ) (at : ℕ) → list_all is_plain line ≡ true → is_byte2 13 10 (get_or (line ++ 13 ∷ rest) at 0) ≡ true
+pub line_end_at : (line rest : List ℕ) (at : ℕ) → list_all is_plain line ≡ true
+    → is_byte2 13 10 (get_or (line ++ 13 ∷ rest) at 0) ≡ true
     → ((k : ℕ) → k < at → is_byte2 13 10 (get_or (line ++ 13 ∷ rest) k 0) ≡ true → ⊥) → at ≡ length line
 line_end_at [] rest zero p h f = refl
 line_end_at [] rest (suc at) p h f = absurd (f 0 (omega arith) refl)
 line_end_at (b ∷ bs) rest zero p h f = absurd (plain_at (b ∷ bs) 0 p (omega arith) h)
-line_end_at (b ∷ bs) rest (suc at) p h f = ap suc (line_end_at bs rest at (and_both (is_plain b) (list_all is_plain bs) p).1 h (λ k l. f (suc k) (omega arith)))
+line_end_at (b ∷ bs) rest (suc at) p h f = ap suc
+    (line_end_at bs rest at (and_both (is_plain b) (list_all is_plain bs) p).1 h (λ k l. f (suc k) (omega arith)))
 
 -- a text that begins so has a CR or LF
-pub line_end_in : (line rest : List ℕ) → ((k : ℕ) → k < length (line ++ 13 ∷ rest) → is_byte2 13 10 (get_or (line ++ 13 ∷ rest) k 0) ≡ true → ⊥) → ⊥
+pub line_end_in : (line rest : List ℕ)
+    → ((k : ℕ) → k < length (line ++ 13 ∷ rest) → is_byte2 13 10 (get_or (line ++ 13 ∷ rest) k 0) ≡ true → ⊥) → ⊥
 line_end_in [] rest f = f 0 (omega arith) refl
 line_end_in (b ∷ bs) rest f = line_end_in bs rest (λ k l. f (suc k) (omega arith))
 
 -- the bytes before the first CR or LF
-pub plain_before : (text : List ℕ) (at : ℕ) → ((k : ℕ) → k < at → is_byte2 13 10 (get_or text k 0) ≡ true → ⊥) → at ≤ length text → list_all is_plain (take at text) ≡ true
+pub plain_before : (text : List ℕ) (at : ℕ) → ((k : ℕ) → k < at → is_byte2 13 10 (get_or text k 0) ≡ true → ⊥)
+    → at ≤ length text → list_all is_plain (take at text) ≡ true
 plain_before text zero f l = refl
 plain_before [] (suc at) f l = absurd (omega arith)
 plain_before (b ∷ bs) (suc at) f l =
@@ -134,36 +154,45 @@ plain_before (b ∷ bs) (suc at) f l =
     rw t (plain_before bs at (λ k l. f (suc k) (omega arith)) (omega arith))
 
 -- where no CR or LF stands, no line does
-pub unended : (text : List ℕ) → ((k : ℕ) → k < length text → is_byte2 13 10 (get_or text k 0) ≡ true → ⊥) → (line rest : List ℕ) → BeginsWithLine text line rest → ⊥
-unended text f line rest b = line_end_in line (10 ∷ rest) (subst (λ t. (k : ℕ) → k < length t → is_byte2 13 10 (get_or t k 0) ≡ true → ⊥) b.spelled f)
+pub unended : (text : List ℕ) → ((k : ℕ) → k < length text → is_byte2 13 10 (get_or text k 0) ≡ true → ⊥)
+    → (line rest : List ℕ) → BeginsWithLine text line rest → ⊥
+unended text f line rest b = line_end_in line (10 ∷ rest)
+    (subst (λ t. (k : ℕ) → k < length t → is_byte2 13 10 (get_or t k 0) ≡ true → ⊥) b.spelled f)
 
 -- where the first CR or LF begins no CR LF, no line stands
-pub ended_elsewhere : (text : List ℕ) (at : ℕ) → is_byte2 13 10 (get_or text at 0) ≡ true → ((k : ℕ) → k < at → is_byte2 13 10 (get_or text k 0) ≡ true → ⊥)
+pub ended_elsewhere : (text : List ℕ) (at : ℕ) → is_byte2 13 10 (get_or text at 0) ≡ true
+    → ((k : ℕ) → k < at → is_byte2 13 10 (get_or text k 0) ≡ true → ⊥)
     → ((rest : List ℕ) → drop at text ≡ line_end ++ rest → ⊥) → (line rest : List ℕ) → BeginsWithLine text line rest → ⊥
 ended_elsewhere text at h f n line rest b =
     let e : at ≡ length line =
     line_end_at line (10 ∷ rest) at b.plain (subst (λ t. is_byte2 13 10 (get_or t at 0) ≡ true) b.spelled h)
     (subst (λ t. (k : ℕ) → k < at → is_byte2 13 10 (get_or t k 0) ≡ true → ⊥) b.spelled f) in
-    n rest (ap (drop at) b.spelled ∙ (ap (λ n. drop n (line ++ (line_end ++ rest))) e ∙ drop-append_seam line (line_end ++ rest)))
+    n rest (ap (drop at) b.spelled
+    ∙ (ap (λ n. drop n (line ++ (line_end ++ rest))) e ∙ drop-append_seam line (line_end ++ rest)))
 
 -- a run of bytes that are no CR and no LF, from one offset to another
 module _ (text : List ℕ) (at end : ℕ) (run : IsRunAt is_plain text at end) where
   no_break : (k : ℕ) → k < end - at → is_byte2 13 10 (get_or (drop at text) k 0) ≡ true → ⊥
   no_break k l h =
-      let plain : is_plain (get_or (drop at text) k 0) ≡ true = ap is_plain (get_or-drop at text k 0) ∙ run.pass (at + k) (omega arith) (omega (arith, l)) in
+      let plain : is_plain (get_or (drop at text) k 0) ≡ true = ap is_plain (get_or-drop at text k 0)
+      ∙ run.pass (at + k) (omega arith) (omega (arith, l)) in
       let e : false ≡ true = sym (ap not h) ∙ plain in cc
 
   behind : drop (end - at) (drop at text) ≡ drop end text
-  behind = let same : at + (end - at) ≡ end = omega (arith, run.ordered) in drop-drop (end - at) at text ∙ ap (λ n. drop n text) same
+  behind = let same : at + (end - at) ≡ end = omega (arith, run.ordered) in drop-drop (end - at) at text
+      ∙ ap (λ n. drop n text) same
 
   pub ends_line : drop end text ≡ line_end ++ drop 2 (drop end text) → EndsLine text at end
   ends_line e =
-      let size : length (drop end text) ≡ 2 + length (drop 2 (drop end text)) = ap length e ∙ length-append line_end (drop 2 (drop end text)) in
+      let size : length (drop end text) ≡ 2 + length (drop 2 (drop end text)) = ap length e
+      ∙ length-append line_end (drop 2 (drop end text)) in
       record {
         order = run.ordered;
         within = omega (arith, size, length-drop end text);
         line = record {
-          spelled = sym (take-append-drop (end - at) (drop at text)) ∙ ap (λ t. take (end - at) (drop at text) ++ t) (behind ∙ (e ∙ ap (λ t. line_end ++ t) (drop-drop 2 end text)));
+          spelled = sym (take-append-drop (end - at) (drop at text))
+              ∙ ap (λ t. take (end - at) (drop at text) ++ t)
+              (behind ∙ (e ∙ ap (λ t. line_end ++ t) (drop-drop 2 end text)));
           plain = plain_before (drop at text) (end - at) no_break (omega (arith, run.in_range, length-drop at text));
         };
       }
@@ -173,9 +202,12 @@ module _ (text : List ℕ) (at end : ℕ) (run : IsRunAt is_plain text at end) w
       let same : at + (end - at) ≡ end = omega (arith, run.ordered) in
       not-false _ (ap is_plain (get_or-drop at text (end - at) 0 ∙ ap (λ n. get_or text n 0) same) ∙ run.stops inside)
 
-  pub ends_no_line : ((more : List ℕ) → drop end text ≡ line_end ++ more → ⊥) → (line rest : List ℕ) → BeginsWithLine (drop at text) line rest → ⊥
+  pub ends_no_line : ((more : List ℕ) → drop end text ≡ line_end ++ more → ⊥) → (line rest : List ℕ)
+      → BeginsWithLine (drop at text) line rest → ⊥
   ends_no_line other line rest b =
       elim (cases_lt end (length text)) [
-        | inl inside ↦ ended_elsewhere (drop at text) (end - at) (broken inside) no_break (λ more e. other more (sym behind ∙ e)) line rest b
-        | inr whole ↦ unended (drop at text) (λ k l h. no_break k (omega (arith, l, whole, length-drop at text)) h) line rest b
+        | inl inside ↦ ended_elsewhere (drop at text) (end - at) (broken inside) no_break
+            (λ more e. other more (sym behind ∙ e)) line rest b
+        | inr whole ↦ unended (drop at text) (λ k l h. no_break k (omega (arith, l, whole, length-drop at text)) h) line
+            rest b
       ]

@@ -1,5 +1,6 @@
 -- Tokens of HTTP are the names of fields: both are of the visible ASCII characters but the separators.
-use Rattle.std.proofs.Common.{◌≡◌, ℕ, zero, suc, ◌<◌, Bool, true, false, ◌&&◌, List, [], ◌∷◌, length, get_or, refl, arith, inl, inr}
+use Rattle.std.proofs.Common.{◌≡◌, ℕ, zero, suc, ◌<◌, Bool, true, false, ◌&&◌, List, [], ◌∷◌, length, get_or, refl}
+use Rattle.std.proofs.Common.{arith, inl, inr}
 use Rattle.std.specs.Bool.{beq}
 use Rattle.std.specs.List.{list_all}
 use Rattle.std.specs.Prelude.{◌==◌, not, nat_lt}
@@ -31,7 +32,8 @@ token_byte : (b : ℕ) → b < 256 → is_token_byte b ≡ is_name_byte b
 unfolding agree_below is_token_byte
 token_byte b lt = agree_at is_token_byte is_name_byte 256 refl b lt
 
-token_bytes : (name : List ℕ) → ((k : ℕ) → get_or name k 0 < 256) → list_all is_token_byte name ≡ list_all is_name_byte name
+token_bytes : (name : List ℕ) → ((k : ℕ) → get_or name k 0 < 256) → list_all is_token_byte name
+    ≡ list_all is_name_byte name
 token_bytes [] h = refl
 token_bytes (b ∷ bs) h = λ i. token_byte b (h 0) i && token_bytes bs (λ k. h (suc k)) i
 

@@ -1,7 +1,8 @@
 -- Numbers of few digits.
 use Rattle.std.proofs.Math.Nat.{pow-le-pow_right, one-le-pow}
 use Rattle.std.proofs.lemmas.Grind.{pow_more}
-use Rattle.std.proofs.Common.{◌≡◌, ℕ, ◌+◌, ◌-◌, ◌*◌, ◌^◌, ◌<◌, ◌≤◌, arith, sym, ap, lit<, List, ◌∷◌, length, true, ◌&&◌, nat_le, ◌∙◌}
+use Rattle.std.proofs.Common.{◌≡◌, ℕ, ◌+◌, ◌-◌, ◌*◌, ◌^◌, ◌<◌, ◌≤◌, arith, sym, ap, lit<, List, ◌∷◌, length, true, ◌&&◌}
+use Rattle.std.proofs.Common.{nat_le, ◌∙◌}
 use Rattle.std.proofs.lemmas.Bool.Decides.{nat_tests}
 use Rattle.warc_head.specs.Length.{all_digits}
 use Rattle.warc_head.proofs.DateLemmas.{and_both}
@@ -21,8 +22,10 @@ le_of : (a b : ℕ) → nat_le a b ≡ true → a ≤ b
 le_of a b h = grind (arith, nat_tests)
 
 -- the next digit keeps the number small
-pub step-small : (n : ℕ) (rest : List ℕ) (d : ℕ) (later : List ℕ) → rest ≡ d ∷ later → all_digits rest ≡ true → length rest ≤ 19 → n < 10 ^ (19 - length rest)
-    → (10 * n + (d - 48) < 10000000000000000000) × (10 * n + (d - 48) < 10 ^ (19 - length later)) × (all_digits later ≡ true)
+pub step-small : (n : ℕ) (rest : List ℕ) (d : ℕ) (later : List ℕ) → rest ≡ d ∷ later → all_digits rest ≡ true
+    → length rest ≤ 19 → n < 10 ^ (19 - length rest)
+    → (10 * n + (d - 48) < 10000000000000000000) × (10 * n + (d - 48) < 10 ^ (19 - length later))
+    × (all_digits later ≡ true)
 step-small n rest d later e a l h =
     let a' : (nat_le 48 d && nat_le d 57 && all_digits later) ≡ true = ap all_digits (sym e) ∙ a in
     let p = and_both (nat_le 48 d && nat_le d 57) (all_digits later) a' in

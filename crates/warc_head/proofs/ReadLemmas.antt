@@ -1,5 +1,6 @@
 -- A line of a text that begins with the lines of a head.
-use Rattle.std.proofs.Common.{◌≡◌, ◌∙◌, ℕ, ◌+◌, ◌-◌, ◌<◌, ◌≤◌, List, ◌++◌, length, take, drop, sym, ap, subst, arith, length-drop, length-append}
+use Rattle.std.proofs.Common.{◌≡◌, ◌∙◌, ℕ, ◌+◌, ◌-◌, ◌<◌, ◌≤◌, List, ◌++◌, length, take, drop, sym, ap, subst, arith}
+use Rattle.std.proofs.Common.{length-drop, length-append}
 use Rattle.std.proofs.lemmas.List.{take-append-le, take-append-drop, drop-drop, length-take-le}
 use Rattle.warc_head.specs.Lines.{EndsLine}
 use Rattle.warc_head.specs.Places.{Continues, between}
@@ -28,7 +29,8 @@ module _ (raw text : List ℕ) (held : Continues raw text) (end at : ℕ) (insid
     line_held =
         let next : at + (stop - at) ≡ stop = omega (arith, ended.order) in
         sym (take-append-drop at text) ∙ ap (λ t. take at text ++ t)
-        (sym (take-append-drop (stop - at) (drop at text)) ∙ ap (λ t. between at stop text ++ t) (drop-drop (stop - at) at text ∙ ap (λ n. drop n text) next))
+        (sym (take-append-drop (stop - at) (drop at text))
+        ∙ ap (λ t. between at stop text ++ t) (drop-drop (stop - at) at text ∙ ap (λ n. drop n text) next))
 
     -- what follows the line
     pub shorter : length text ≡ length raw + length held.0

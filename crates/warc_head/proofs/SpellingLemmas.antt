@@ -1,5 +1,6 @@
 -- Reading what was spelled.
-use Rattle.std.proofs.Common.{◌≡◌, ◌∙◌, ℕ, suc, ◌-◌, Bool, true, false, ◌&&◌, not, List, [], ◌∷◌, ◌++◌, length, drop, refl, ap, arith, append_assoc, length-append, Some, None, Ok, nat_le, subst}
+use Rattle.std.proofs.Common.{◌≡◌, ◌∙◌, ℕ, suc, ◌-◌, Bool, true, false, ◌&&◌, not, List, [], ◌∷◌, ◌++◌, length, drop}
+use Rattle.std.proofs.Common.{refl, ap, arith, append_assoc, length-append, Some, None, Ok, nat_le, subst}
 use Rattle.std.specs.Prelude.{◌==◌, All}
 use Rattle.std.specs.List.{list_all}
 use Rattle.std.specs.Option.{option_map}
@@ -18,12 +19,14 @@ use Rattle.warc_head.proofs.FieldLemmas.{joined-nil}
 
 name-not_space : (b : ℕ) → is_name_byte b ≡ true → is_space b ≡ false
 name-not_space b h =
-    let p : nat_le 33 b ≡ true = (and_both (nat_le 33 b) (nat_le b 126) (and_both (nat_le 33 b && nat_le b 126) (not (is_separator b)) h).0).0 in
+    let p : nat_le 33 b ≡ true =
+    (and_both (nat_le 33 b) (nat_le b 126) (and_both (nat_le 33 b && nat_le b 126) (not (is_separator b)) h).0).0 in
     grind (arith, nat_tests, p)
 
 name-plain : (b : ℕ) → is_name_byte b ≡ true → is_plain b ≡ true
 name-plain b h =
-    let p : nat_le 33 b ≡ true = (and_both (nat_le 33 b) (nat_le b 126) (and_both (nat_le 33 b && nat_le b 126) (not (is_separator b)) h).0).0 in
+    let p : nat_le 33 b ≡ true =
+    (and_both (nat_le 33 b) (nat_le b 126) (and_both (nat_le 33 b && nat_le b 126) (not (is_separator b)) h).0).0 in
     grind (arith, nat_tests, p)
 
 test_false : (t : Bool) → (t ≡ true → ⊥) → t ≡ false
@@ -42,7 +45,8 @@ names-plain (b ∷ bs) h =
     let p = and_both (is_name_byte b) (list_all is_name_byte bs) h in
     both (is_plain b) (list_all is_plain bs) (name-plain b p.0) (names-plain bs p.1)
 
-pub colon_after : (name rest : List ℕ) → list_all is_name_byte name ≡ true → at_colon (name ++ (58 ∷ rest)) ≡ Some (name, rest)
+pub colon_after : (name rest : List ℕ) → list_all is_name_byte name ≡ true → at_colon (name ++ (58 ∷ rest))
+    ≡ Some (name, rest)
 unfolding at_colon
 colon_after [] rest h = refl
 colon_after (b ∷ bs) rest h =
@@ -54,24 +58,35 @@ name_bytes name h = (and_both (not (length name == 0)) (list_all is_name_byte na
 
 pub begins : (name rest : List ℕ) → is_name name ≡ true → continues (name ++ rest) ≡ false
 begins [] rest h = absurd (let k : false ≡ true = h in cc)
-begins (b ∷ bs) rest h = name-not_space b (and_both (is_name_byte b) (list_all is_name_byte bs) (name_bytes (b ∷ bs) h)).0
+begins (b ∷ bs) rest h = name-not_space b
+    (and_both (is_name_byte b) (list_all is_name_byte bs) (name_bytes (b ∷ bs) h)).0
 
 field_back : (f : Field) → IsOneLine f → field_in (field_text f) ≡ Ok f
 unfolding field_in
-field_back f h = rw (colon_after f.name (32 ∷ f.value) (name_bytes f.name h.name), h.name) (ap (λ v. Ok (record { name = f.name; value = v })) h.trimmed)
+field_back f h = rw (colon_after f.name (32 ∷ f.value) (name_bytes f.name h.name), h.name)
+    (ap (λ v. Ok (record { name = f.name; value = v })) h.trimmed)
 
 text_plain : (f : Field) → IsOneLine f → list_all is_plain (field_text f) ≡ true
-text_plain f h = list_all-append is_plain f.name (58 ∷ 32 ∷ f.value) ∙ both _ _ (names-plain f.name (name_bytes f.name h.name)) h.plain
+text_plain f h = list_all-append is_plain f.name (58 ∷ 32 ∷ f.value)
+    ∙ both _ _ (names-plain f.name (name_bytes f.name h.name)) h.plain
 
-given_back : (fields : List Field) → All IsOneLine fields → given_by (lines_of (spelled fields)) ≡ Ok (record { more = None; fields = fields })
+given_back : (fields : List Field) → All IsOneLine fields → given_by (lines_of (spelled fields))
+    ≡ Ok (record { more = None; fields = fields })
 unfolding given_by lines_of
 given_back [] h = refl
 given_back (f ∷ fs) h =
     let one : IsOneLine f = h 0 f (omega arith) in
     let later : All IsOneLine fs = λ k d l. h (suc k) d (omega (arith, l)) in
     let cut : lines_of (spelled (f ∷ fs)) ≡ (field_text f ++ line_end) ∷ lines_of (spelled fs) =
-    ap lines_of (append_assoc (field_text f) line_end (spelled fs)) ∙ line_first (field_text f) (spelled fs) (text_plain f one) in
-    rw (cut, line_text (field_text f) (text_plain f one), begins f.name (58 ∷ 32 ∷ f.value) one.name, field_back f one, given_back fs later)
+    ap lines_of (append_assoc (field_text f) line_end (spelled fs))
+    ∙ line_first (field_text f) (spelled fs) (text_plain f one) in
+    rw (
+      cut,
+      line_text (field_text f) (text_plain f one),
+      begins f.name (58 ∷ 32 ∷ f.value) one.name,
+      field_back f one,
+      given_back fs later,
+    )
     (ap (λ v. Ok (record { more = None; fields = record { name = f.name; value = v } ∷ fs })) (joined-nil f.value))
 
 fields_back : (fields : List Field) → All IsOneLine fields → fields_of (spelled fields) ≡ Ok fields

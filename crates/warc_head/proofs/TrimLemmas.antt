@@ -1,11 +1,14 @@
 -- White space at the ends of a text, and the place of the text between it.
-use Rattle.std.proofs.Common.{◌≡◌, ◌∙◌, ℕ, ◌+◌, ◌-◌, ◌≤◌, Bool, true, false, List, [], ◌∷◌, ◌++◌, length, take, drop, reverse, refl, sym, ap, arith, length-append, append_assoc, if◌then◌else◌, subst}
-use Rattle.std.proofs.lemmas.List.{reverse-append, reverse-reverse, length-drop, take-append-drop, drop-drop, length-take-le}
+use Rattle.std.proofs.Common.{◌≡◌, ◌∙◌, ℕ, ◌+◌, ◌-◌, ◌≤◌, Bool, true, false, List, [], ◌∷◌, ◌++◌, length, take, drop}
+use Rattle.std.proofs.Common.{reverse, refl, sym, ap, arith, length-append, append_assoc, if◌then◌else◌, subst}
+use Rattle.std.proofs.lemmas.List.{reverse-append, reverse-reverse, length-drop, take-append-drop, drop-drop}
+use Rattle.std.proofs.lemmas.List.{length-take-le}
 use Rattle.std.proofs.Math.Seq.{drop-append_seam, take-append_seam}
 use Rattle.warc_head.specs.Lines.{is_space, trim_front, trim_end}
 use Rattle.warc_head.specs.Places.{between, IsTrimmed}
 
-front_if : (t : Bool) (b : ℕ) (bs : List ℕ) → (before : List ℕ) × (bs ≡ before ++ trim_front bs) → (before : List ℕ) × (b ∷ bs ≡ before ++ (if t then trim_front bs else b ∷ bs))
+front_if : (t : Bool) (b : ℕ) (bs : List ℕ) → (before : List ℕ) × (bs ≡ before ++ trim_front bs) → (before : List ℕ)
+    × (b ∷ bs ≡ before ++ (if t then trim_front bs else b ∷ bs))
 front_if true b bs p = (b ∷ p.0, ap (λ t. b ∷ t) p.1)
 front_if false b bs p = ([], refl)
 
@@ -19,7 +22,8 @@ trimmed_end bs =
     (reverse p.0, sym (reverse-reverse bs) ∙ (ap reverse p.1 ∙ reverse-append p.0 (trim_front (reverse bs))))
 
 -- the bytes between two offsets, of which some in front and some behind are left out
-between_part : (text : List ℕ) (from to : ℕ) (before middle after : List ℕ) → between from to text ≡ before ++ (middle ++ after)
+between_part : (text : List ℕ) (from to : ℕ) (before middle after : List ℕ) → between from to text ≡ before
+    ++ (middle ++ after)
     → between (from + length before) (from + length before + length middle) text ≡ middle
 between_part text from to before middle after e =
     let rest = drop (to - from) (drop from text) in
@@ -27,7 +31,8 @@ between_part text from to before middle after e =
     let whole : drop from text ≡ before ++ (middle ++ (after ++ rest)) =
     sym (take-append-drop (to - from) (drop from text)) ∙ (ap (λ t. t ++ rest) e ∙ simp append_assoc) in
     let behind : drop (from + length before) text ≡ middle ++ (after ++ rest) =
-    sym (drop-drop (length before) from text) ∙ (ap (drop (length before)) whole ∙ drop-append_seam before (middle ++ (after ++ rest))) in
+    sym (drop-drop (length before) from text)
+    ∙ (ap (drop (length before)) whole ∙ drop-append_seam before (middle ++ (after ++ rest))) in
     (λ i. take (size i) (behind i)) ∙ take-append_seam middle (after ++ rest)
 
 -- where the bytes between two offsets stand without the white space at both ends
@@ -49,7 +54,8 @@ module _ (text : List ℕ) (from to : ℕ) (order : from ≤ to) (within : to �
   whole = (trimmed_front bytes).1 ∙ ap (λ t. before ++ t) (sym front_is)
 
   size : to - from ≡ length before + length front
-  size = sym (length-take-le (to - from) (drop from text) (omega (arith, order, within, length-drop from text))) ∙ (ap length whole ∙ length-append before front)
+  size = sym (length-take-le (to - from) (drop from text) (omega (arith, order, within, length-drop from text)))
+      ∙ (ap length whole ∙ length-append before front)
 
   end_size : length front ≡ length end + length after
   end_size = ap length front_whole ∙ length-append end after

@@ -1,5 +1,6 @@
 -- The date of a record, in six forms, and its stamp of fourteen digits (ISO 28500:2017, 5.4).
-use Rattle.std.specs.Prelude.{ℕ, ◌+◌, ◌-◌, ◌*◌, ◌==◌, ◌&&◌, nat_le, Bool, true, false, List, [], ◌∷◌, ◌++◌, length, take, drop, codes, Option, None, Some, Result, Ok, Err, if◌then◌else◌, slice_index}
+use Rattle.std.specs.Prelude.{ℕ, ◌+◌, ◌-◌, ◌*◌, ◌==◌, ◌&&◌, nat_le, Bool, true, false, List, [], ◌∷◌, ◌++◌, length}
+use Rattle.std.specs.Prelude.{take, drop, codes, Option, None, Some, Result, Ok, Err, if◌then◌else◌, slice_index}
 use Rattle.warc_head.specs.Bytes.{full_stop, digit_0, letter_z}
 use Rattle.warc_head.specs.declared.fault.HeadFault.{HeadFault}
 use Rattle.warc_head.specs.declared.fault.HeadFault.TheVariants as faults
@@ -20,7 +21,8 @@ fits (f ∷ fs) (b ∷ bs) = fits_byte f b && fits fs bs
 -- `.`, one to nine digits, `Z`
 abbrev pub is_fraction : List ℕ → Bool
 is_fraction text =
-    nat_le 3 (length text) && nat_le (length text) 11 && (slice_index text 0 == full_stop) && (slice_index text (length text - 1) == letter_z)
+    nat_le 3 (length text) && nat_le (length text) 11 && (slice_index text 0 == full_stop) &&
+    (slice_index text (length text - 1) == letter_z)
     && all_digits (take (length text - 2) (drop 1 text))
 
 abbrev pub to_the_second : List ℕ
@@ -59,12 +61,15 @@ is_moment whole =
 -- the fourteen digits of a date and time
 abbrev pub digits_of : List ℕ → List ℕ
 digits_of whole =
-    slice_index whole 0 ∷ slice_index whole 1 ∷ slice_index whole 2 ∷ slice_index whole 3 ∷ slice_index whole 5 ∷ slice_index whole 6 ∷ slice_index whole 8
-    ∷ slice_index whole 9 ∷ slice_index whole 11 ∷ slice_index whole 12 ∷ slice_index whole 14 ∷ slice_index whole 15 ∷ slice_index whole 17 ∷ slice_index whole 18 ∷ []
+    slice_index whole 0 ∷ slice_index whole 1 ∷ slice_index whole 2 ∷ slice_index whole 3 ∷ slice_index whole 5 ∷
+    slice_index whole 6 ∷ slice_index whole 8
+    ∷ slice_index whole 9 ∷ slice_index whole 11 ∷ slice_index whole 12 ∷ slice_index whole 14 ∷ slice_index whole 15 ∷
+    slice_index whole 17 ∷ slice_index whole 18 ∷ []
 
 abbrev pub stamp_from : List ℕ → Option ℕ → Result (List ℕ) HeadFault
 stamp_from text None = Err faults.BadDate
-stamp_from text (Some n) = if is_moment (full_date text n) then Ok (digits_of (full_date text n)) else Err faults.BadDate
+stamp_from text (Some n) = if is_moment (full_date text n) then Ok (digits_of (full_date text n)) else
+    Err faults.BadDate
 
 -- the stamp of a date text
 unfoldable pub stamp_of : List ℕ → Result (List ℕ) HeadFault

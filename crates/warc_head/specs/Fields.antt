@@ -1,6 +1,7 @@
 -- The named fields of a head (ISO 28500:2017, clauses 4 and 5).
 use Rattle.std.specs.Option.{option_map}
-use Rattle.std.specs.Prelude.{ℕ, ◌==◌, Bool, not, List, [], ◌∷◌, ◌++◌, filter, map, Option, None, Some, Result, Ok, Err, if◌then◌else◌}
+use Rattle.std.specs.Prelude.{ℕ, ◌==◌, Bool, not, List, [], ◌∷◌, ◌++◌, filter, map, Option, None, Some, Result, Ok, Err}
+use Rattle.std.specs.Prelude.{if◌then◌else◌}
 use Rattle.warc_head.specs.Bytes.{space, colon}
 use Rattle.warc_head.specs.declared.fault.HeadFault.{HeadFault}
 use Rattle.warc_head.specs.declared.fault.HeadFault.TheVariants as faults
@@ -54,7 +55,12 @@ with_piece piece later = record { more = Some (joined piece (added later.more));
 
 -- a field, with what the lines after it add to its value, and what follows it
 abbrev pub with_field : Field → Given → Given
-with_field field later = record { more = None; fields = record { name = field.name; value = joined field.value (added later.more) } ∷ later.fields }
+with_field field later =
+    record {
+      more = None;
+      fields = record { name = field.name; value = joined field.value (added later.more) } ∷
+          later.fields;
+    }
 
 unfoldable pub given_by : List (List ℕ) → Result Given HeadFault
 given_by [] = Ok (record { more = None; fields = [] })

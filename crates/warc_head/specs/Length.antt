@@ -1,5 +1,6 @@
 -- The length of a block (ISO 28500:2017, 5.3).
-use Rattle.std.specs.Prelude.{ℕ, ◌+◌, ◌-◌, ◌*◌, ◌^◌, ◌&&◌, nat_le, Bool, List, [], ◌∷◌, length, Result, Ok, Err, if◌then◌else◌}
+use Rattle.std.specs.Prelude.{ℕ, ◌+◌, ◌-◌, ◌*◌, ◌^◌, ◌&&◌, nat_le, Bool, List, [], ◌∷◌, length, Result, Ok, Err}
+use Rattle.std.specs.Prelude.{if◌then◌else◌}
 use Rattle.std.specs.List.{list_all}
 use Rattle.warc_head.specs.Bytes.{digit_0, digit_9}
 use Rattle.warc_head.specs.declared.fault.HeadFault.{HeadFault}

@@ -1,5 +1,6 @@
 -- The lines of a head, each ended by CR LF (ISO 28500:2017, clause 4).
-use Rattle.std.specs.Prelude.{◌≡◌, ℕ, ◌+◌, ◌-◌, ◌≤◌, ◌==◌, ◌&&◌, ◌||◌, not, nat_eq, Bool, true, false, List, [], ◌∷◌, ◌++◌, length, take, drop, reverse, Result, Ok, Err, if◌then◌else◌}
+use Rattle.std.specs.Prelude.{◌≡◌, ℕ, ◌+◌, ◌-◌, ◌≤◌, ◌==◌, ◌&&◌, ◌||◌, not, nat_eq, Bool, true, false, List, [], ◌∷◌}
+use Rattle.std.specs.Prelude.{◌++◌, length, take, drop, reverse, Result, Ok, Err, if◌then◌else◌}
 use Rattle.std.specs.List.{ends_with, list_all}
 use Rattle.warc_head.specs.Bytes.{tab, lf, cr, space}
 use Rattle.warc_head.specs.declared.fault.HeadFault.{HeadFault}

@@ -1,5 +1,6 @@
 -- The four fields that each record has (ISO 28500:2017, 5.2 to 5.5).
-use Rattle.std.specs.Prelude.{◌≡◌, ◌<◌, ℕ, nat_lt, Bool, List, [], ◌∷◌, length, codes, Option, None, Some, Result, Ok, Err, if◌then◌else◌}
+use Rattle.std.specs.Prelude.{◌≡◌, ◌<◌, ℕ, nat_lt, Bool, List, [], ◌∷◌, length, codes, Option, None, Some, Result, Ok}
+use Rattle.std.specs.Prelude.{Err, if◌then◌else◌}
 use Rattle.std.specs.List.{list_all}
 use Rattle.warc_head.specs.declared.fault.HeadFault.{HeadFault}
 use Rattle.warc_head.specs.declared.fault.HeadFault.TheVariants as faults
@@ -24,7 +25,8 @@ none_repeated names fields = list_all (λ name. nat_lt (length (values_of name f
 -- each mandatory name stands once; a missing one comes before a repeated one
 unfoldable pub each_once : List Field → Result (Unit {0}) HeadFault
 each_once fields =
-    if none_missing mandatory fields then (if none_repeated mandatory fields then Ok tt else Err faults.Repeated) else Err faults.Missing
+    if none_missing mandatory fields then (if none_repeated mandatory fields then Ok tt else Err faults.Repeated) else
+    Err faults.Missing
 
 abbrev pub found : Option (List ℕ) → Result (List ℕ) HeadFault
 found None = Err faults.Missing

@@ -32,7 +32,13 @@ pub record IsTrimmed (text : List ℕ) (from to start end : ℕ) : Type 0 where
 
 -- a place in a text that begins so many bytes earlier
 abbrev pub moved : ℕ → Place → Place
-moved offset p = record { name_start = offset + p.name_start; name_end = offset + p.name_end; value_start = offset + p.value_start; value_end = offset + p.value_end }
+moved offset p = record {
+  name_start = offset + p.name_start;
+  name_end = offset + p.name_end;
+  value_start = offset +
+      p.value_start;
+  value_end = offset + p.value_end;
+}
 
 -- a text with bytes behind it
 abbrev pub Continues : List ℕ → List ℕ → Type 0

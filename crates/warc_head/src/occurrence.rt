@@ -31,7 +31,8 @@ impl Occurrence {
     }
 
     fn with_place(self, place: Place) -> Occurrence
-        ensures { (text : List ℕ) (values : List (List ℕ)) → IsWithin (length text) place → Occurs text values self
+        ensures { (text : List ℕ) (values : List (List ℕ)) → IsWithin (length text) place
+            → Occurs text values self
             → Occurs text (values ++ (field_at text place).value ∷ []) result }
     {
         match self {

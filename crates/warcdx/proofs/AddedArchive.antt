@@ -11,13 +11,17 @@ use Rattle.warcdx.specs.declared.outcome.Outcome.{Outcome}
 use Rattle.warcdx.specs.Indexing.{AddsArchive, file_name}
 use Rattle.warcdx.specs.Outcome.{outcome_of}
 
-pub adds_archive : (named name : List ℕ) (archive : Option (List ℕ)) (old new : Held) (answer : Result ℕ IndexFault) (outcome : Outcome) → named ≡ file_name name → outcome ≡ outcome_of answer
-    → (answer ≡ Err faults.BadName) ↔ ¬ (IsName named) → (answer ≡ Err faults.DuplicateName) ↔ (IsName named × (is_among old.names named ≡ true))
-    → Adds (includes old.types) usual_limits HEAD_LIMIT named archive old new answer → AddsArchive name archive old new outcome
+pub adds_archive : (named name : List ℕ) (archive : Option (List ℕ)) (old new : Held) (answer : Result ℕ IndexFault)
+    (outcome : Outcome) → named ≡ file_name name → outcome ≡ outcome_of answer
+    → (answer ≡ Err faults.BadName) ↔ ¬ (IsName named) → (answer ≡ Err faults.DuplicateName)
+    ↔ (IsName named × (is_among old.names named ≡ true))
+    → Adds (includes old.types) usual_limits HEAD_LIMIT named archive old new answer
+    → AddsArchive name archive old new outcome
 adds_archive named name archive old new answer outcome same is bad duplicate adds = record {
   answer = answer;
   outcome_is = is;
   bad = subst (λ n. (answer ≡ Err faults.BadName) ↔ ¬ (IsName n)) same bad;
-  duplicate = subst (λ n. (answer ≡ Err faults.DuplicateName) ↔ (IsName n × (is_among old.names n ≡ true))) same duplicate;
+  duplicate = subst (λ n. (answer ≡ Err faults.DuplicateName) ↔ (IsName n × (is_among old.names n ≡ true))) same
+      duplicate;
   adds = subst (λ n. Adds (includes old.types) usual_limits HEAD_LIMIT n archive old new answer) same adds;
 }

@@ -16,9 +16,12 @@ match_bool-of true f g = f refl
 match_bool-of false f g = g refl
 
 -- steps that are steps of another kind, of what is seen of the state
-goes_over-map : {S T : Type 0} (P : S → List ℕ → Outcome → S → Type 0) (Q : T → List ℕ → Outcome → T → Type 0) (view : S → T)
-    → ((state : S) (name : List ℕ) (ended : Outcome) (next : S) → P state name ended next → Q (view state) name ended (view next))
-    → (result : Outcome) (last : S) (names : List (List ℕ)) (reached : Outcome) (state : S) → GoesOver P reached state names result last
+goes_over-map : {S T : Type 0} (P : S → List ℕ → Outcome → S → Type 0) (Q : T → List ℕ → Outcome → T → Type 0)
+    (view : S → T)
+    → ((state : S) (name : List ℕ) (ended : Outcome) (next : S) → P state name ended next
+    → Q (view state) name ended (view next))
+    → (result : Outcome) (last : S) (names : List (List ℕ)) (reached : Outcome) (state : S)
+    → GoesOver P reached state names result last
     → GoesOver Q reached (view state) names result (view last)
 goes_over-map P Q view step result last [] reached state over = (over.0, ap view over.1)
 goes_over-map P Q view step result last (name ∷ names) reached state over = (
@@ -29,12 +32,15 @@ goes_over-map P Q view step result last (name ∷ names) reached state over = (
       (λ rest. goes_over-map P Q view step result last names (worse_of reached over.0) over.1 rest) over.3,
 )
 
-module _ {F S : Type 0} (calls : Shared F (MutBor S × (Bor (List ℕ) × Unit {0})) (Outcome × (MutBor S × Unit {0}))) (act : F) where
+module _ {F S : Type 0} (calls : Shared F (MutBor S × (Bor (List ℕ) × Unit {0})) (Outcome × (MutBor S × Unit {0})))
+    (act : F) where
   -- the calls of a closure are steps of this kind, of what is seen of the state
   pub goes_over-calls : {T : Type 0} (Q : T → List ℕ → Outcome → T → Type 0) (view : S → T)
-      → ((shown : MutBor S) (named : Bor (List ℕ)) (ended : Outcome) (left : MutBor S) → calls.post act (shown, (named, tt)) (ended, (left, tt))
+      → ((shown : MutBor S) (named : Bor (List ℕ)) (ended : Outcome) (left : MutBor S)
+      → calls.post act (shown, (named, tt)) (ended, (left, tt))
       → Q (view shown.now) named.now ended (view left.now))
-      → (result : Outcome) (last : S) (names : List (List ℕ)) (reached : Outcome) (state : S) → GoesOver (ReturnsWithState calls act) reached state names result last
+      → (result : Outcome) (last : S) (names : List (List ℕ)) (reached : Outcome) (state : S)
+      → GoesOver (ReturnsWithState calls act) reached state names result last
       → GoesOver Q reached (view state) names result (view last)
   goes_over-calls Q view step = goes_over-map (ReturnsWithState calls act) Q view (λ state name ended next called.
       subst (λ s. Q (view s) name ended (view next)) called.shows

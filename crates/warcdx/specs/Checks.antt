@@ -25,11 +25,13 @@ WritesCount name count outcome before after =
     ⊎ ((outcome ≡ outcomes.Answer answers.Write) × AppendsPrefix before after (checked_line name count))
 
 -- an index of this name was checked: its line is written where it is in order, and nothing where it isn't
-pub record ChecksIndex (name : List ℕ) (index : Option (List ℕ)) (outcome : Outcome) (before after : Option (List ℕ)) : Type 0 where
+pub record ChecksIndex (name : List ℕ) (index : Option (List ℕ)) (outcome : Outcome) (before after : Option (List ℕ)) :
+    Type 0 where
   pub answer : Result ℕ AnswerFault
   pub checked : (text : List ℕ) → index ≡ Some text → IsChecked LINE_LIMIT text answer
   pub fault : IfErr answer IsCheckFault
-  pub written : MatchResult answer (λ count. WritesCount name count outcome before after) (λ fault. (outcome ≡ outcomes.Answer fault) × (after ≡ before))
+  pub written : MatchResult answer (λ count. WritesCount name count outcome before after)
+      (λ fault. (outcome ≡ outcomes.Answer fault) × (after ≡ before))
 
 -- the index of this name was checked, unless it couldn't be opened
 abbrev pub ChecksOne : (List ℕ → Option (List ℕ)) → Option (List ℕ) → List ℕ → Outcome → Option (List ℕ) → Type 0
@@ -37,5 +39,7 @@ ChecksOne bytes_of before name outcome after =
     OpensFirst (IsUnopenedIndex outcome) (after ≡ before) (ChecksIndex name (bytes_of name) outcome before after)
 
 -- the indexes of these names were checked, one after another
-abbrev pub ChecksIndexes : (List ℕ → Option (List ℕ)) → List (List ℕ) → Option (List ℕ) → Option (List ℕ) → Outcome → Type 0
-ChecksIndexes bytes_of names before after outcome = GoesOver (ChecksOne bytes_of) outcomes.Done before names outcome after
+abbrev pub ChecksIndexes : (List ℕ → Option (List ℕ)) → List (List ℕ) → Option (List ℕ) → Option (List ℕ) → Outcome
+    → Type 0
+ChecksIndexes bytes_of names before after outcome = GoesOver (ChecksOne bytes_of) outcomes.Done before names outcome
+    after

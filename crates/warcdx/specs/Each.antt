@@ -13,15 +13,17 @@ module _ {S : Type 0} (Step : S → List ℕ → Outcome → S → Type 0) where
   GoesOver reached state [] result last = (result ≡ reached) × (last ≡ state)
   GoesOver reached state (name ∷ names) result last =
       (ended : Outcome) × (next : S) × Step state name ended next
-      × MatchBool (ends_command ended) ((result ≡ ended) × (last ≡ next)) (GoesOver (worse_of reached ended) next names result last)
+      × MatchBool (ends_command ended) ((result ≡ ended) × (last ≡ next))
+      (GoesOver (worse_of reached ended) next names result last)
 
 -- a call of a closure, with a state and a name, gives this outcome and leaves this state
-module _ {F S : Type 0} (calls : Shared F (MutBor S × (Bor (List ℕ) × Unit {0})) (Outcome × (MutBor S × Unit {0}))) where
-  pub record ReturnsWithState (act : F) (state : S) (name : List ℕ) (ended : Outcome) (next : S) : Type 0 where
-    pub shown : MutBor S
-    pub shows : shown.now ≡ state
-    pub named : Bor (List ℕ)
-    pub names : named.now ≡ name
-    pub left : MutBor S
-    pub met : calls.post act (shown, (named, tt)) (ended, (left, tt))
-    pub leaves : left.now ≡ next
+module _ {F S : Type 0} (calls : Shared F (MutBor S × (Bor (List ℕ) × Unit {0})) (Outcome × (MutBor S × Unit {0})))
+  where
+    pub record ReturnsWithState (act : F) (state : S) (name : List ℕ) (ended : Outcome) (next : S) : Type 0 where
+      pub shown : MutBor S
+      pub shows : shown.now ≡ state
+      pub named : Bor (List ℕ)
+      pub names : named.now ≡ name
+      pub left : MutBor S
+      pub met : calls.post act (shown, (named, tt)) (ended, (left, tt))
+      pub leaves : left.now ≡ next

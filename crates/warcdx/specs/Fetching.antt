@@ -9,4 +9,5 @@ use Rattle.warcdx.specs.Outcome.{outcome_of}
 -- what was written of the record at an offset of the archive, by the outcome
 abbrev pub WritesRecord : ℕ → Option (List ℕ) → Outcome → Option (List ℕ) → Option (List ℕ) → Type 0
 WritesRecord offset archive outcome before after =
-    (answer : Result ℕ IndexFault) × (outcome ≡ outcome_of answer) × Fetches HEAD_LIMIT offset archive answer before after
+    (answer : Result ℕ IndexFault) × (outcome ≡ outcome_of answer)
+    × Fetches HEAD_LIMIT offset archive answer before after

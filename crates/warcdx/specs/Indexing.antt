@@ -29,7 +29,8 @@ pub record AddsArchive (name : List ℕ) (archive : Option (List ℕ)) (old new 
   pub answer : Result ℕ IndexFault
   pub outcome_is : outcome ≡ outcome_of answer
   pub bad : (answer ≡ Err faults.BadName) ↔ ¬ (IsName (file_name name))
-  pub duplicate : (answer ≡ Err faults.DuplicateName) ↔ (IsName (file_name name) × (is_among old.names (file_name name) ≡ true))
+  pub duplicate : (answer ≡ Err faults.DuplicateName)
+      ↔ (IsName (file_name name) × (is_among old.names (file_name name) ≡ true))
   pub adds : Adds (includes old.types) usual_limits HEAD_LIMIT (file_name name) archive old new answer
 
 -- the outcome of the adding, unless the writing was refused
@@ -54,7 +55,8 @@ nothing_of chosen = record { types = chosen; names = []; captures = [] }
 
 -- the archives of these names were added, one after another, and the index of what was added was written, unless adding ended the
 -- command
-abbrev pub IndexesArchives : (List ℕ → Option (List ℕ)) → Types → List (List ℕ) → Option (List ℕ) → Option (List ℕ) → Type 0 → Outcome → Type 0
+abbrev pub IndexesArchives : (List ℕ → Option (List ℕ)) → Types → List (List ℕ) → Option (List ℕ) → Option (List ℕ)
+    → Type 0 → Outcome → Type 0
 IndexesArchives bytes_of types names before after unchanged outcome =
     (held : Held) × (added : Outcome) × GoesOver (AddsOne bytes_of) outcomes.Done (nothing_of types) names added held
     × MatchBool (ends_command added) ((outcome ≡ added) × unchanged) (WritesIndex held added before after outcome)

@@ -1,7 +1,8 @@
 -- What the program does for each task.
 use Rattle.std.specs.Prelude.{ℕ, List, Option, map}
 use Rattle.capture_core.specs.Types.{includes}
-use Rattle.command_line.specs.Commands.{Meaning, ToList, ToVerify, ToIndex, ToMerge, ToCheck, ToQuery, ToPages, ToServe, ToGet, ToScan}
+use Rattle.command_line.specs.Commands.{Meaning, ToList, ToVerify, ToIndex, ToMerge, ToCheck, ToQuery, ToPages, ToServe}
+use Rattle.command_line.specs.Commands.{ToGet, ToScan}
 use Rattle.warcdx.specs.declared.outcome.Outcome.{Outcome}
 use Rattle.warcdx.specs.declared.reports.ArchiveReport.TheVariants as reports
 use Rattle.warcdx.specs.Checks.{ChecksIndexes}
@@ -15,7 +16,8 @@ use Rattle.warcdx.specs.Scanning.{ScansNamed}
 
 -- the bytes of the archive and of the index of a name, and those of standard input, as far as they are known; what was written before and
 -- after; that the output is unchanged; and the outcome
-module _ (archive_of index_of : List ℕ → Option (List ℕ)) (input before after : Option (List ℕ)) (unchanged : Type 0) (outcome : Outcome) where
+module _ (archive_of index_of : List ℕ → Option (List ℕ)) (input before after : Option (List ℕ)) (unchanged : Type 0)
+    (outcome : Outcome) where
   abbrev pub Performs : Meaning → Type 0
   Performs (ToList names) = ReportsOn archive_of reports.Listing names before after outcome
   Performs (ToVerify names) = ReportsOn archive_of reports.Verdicts names before after outcome
@@ -26,7 +28,8 @@ module _ (archive_of index_of : List ℕ → Option (List ℕ)) (input before af
   Performs (ToQuery text names) = ReadsFirst text outcome unchanged (λ query.
       OpensFirst (AreUnopenedIndexes outcome) unchanged (AnswersQuery query (map index_of names) before after outcome))
   Performs (ToPages sizes text names) = ReadsFirst text outcome unchanged (λ query.
-      OpensFirst (AreUnopenedIndexes outcome) unchanged (AnswersPages query sizes (map index_of names) before after outcome))
+      OpensFirst (AreUnopenedIndexes outcome) unchanged
+      (AnswersPages query sizes (map index_of names) before after outcome))
   Performs (ToServe names) =
       OpensFirst (AreUnopenedIndexes outcome) unchanged (AnswersLines (map index_of names) input before after outcome)
   Performs (ToGet offset name) =

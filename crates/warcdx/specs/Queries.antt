@@ -24,7 +24,8 @@ ReadsQuery text (Err outcome) = ⊥
 -- the query text was read and this was done with the query, or it is refused and nothing was written
 abbrev pub ReadsFirst : List ℕ → Outcome → Type 0 → (QueryValue → Type 0) → Type 0
 ReadsFirst text outcome unchanged Done =
-    ((query : QueryValue) × (query_of QUERY_LIMIT text ≡ Ok query) × Done query) ⊎ (ReadsQuery text (Err outcome) × unchanged)
+    ((query : QueryValue) × (query_of QUERY_LIMIT text ≡ Ok query) × Done query)
+    ⊎ (ReadsQuery text (Err outcome) × unchanged)
 
 -- how a call on indexes ended
 abbrev pub answered_outcome : {A : Type 0} → Result A AnswerFault → Outcome
@@ -32,21 +33,25 @@ answered_outcome (Ok answer) = outcomes.Done
 answered_outcome (Err fault) = outcomes.Answer fault
 
 -- a query was answered over sources: over indexes its page was written, whole or in part; a line that a fault names is at fault
-pub record AnswersQuery (query : QueryValue) (told : List (Option (List ℕ))) (before after : Option (List ℕ)) (outcome : Outcome) : Type 0 where
+pub record AnswersQuery (query : QueryValue) (told : List (Option (List ℕ))) (before after : Option (List ℕ))
+    (outcome : Outcome) : Type 0 where
   pub answer : Result Report AnswerFault
   pub outcome_is : outcome ≡ answered_outcome answer
   pub page : OverIndexes LINE_LIMIT told (λ texts indexes. Answers query (collection indexes) answer before after)
   pub fault : IfErr answer (IsFaultOf LINE_LIMIT told)
 
 -- the same of the pages of these sizes
-pub record AnswersPages (query : QueryValue) (sizes : List ℕ) (told : List (Option (List ℕ))) (before after : Option (List ℕ)) (outcome : Outcome) : Type 0 where
+pub record AnswersPages (query : QueryValue) (sizes : List ℕ) (told : List (Option (List ℕ)))
+    (before after : Option (List ℕ)) (outcome : Outcome) : Type 0 where
   pub answer : Result ℕ AnswerFault
   pub outcome_is : outcome ≡ answered_outcome answer
-  pub pages : OverIndexes LINE_LIMIT told (λ texts indexes. WritesPages query (collection indexes) sizes answer before after)
+  pub pages : OverIndexes LINE_LIMIT told
+      (λ texts indexes. WritesPages query (collection indexes) sizes answer before after)
   pub fault : IfErr answer (IsFaultOf LINE_LIMIT told)
 
 -- lines of an input were answered over sources: over indexes the replies were written, whole or in part
-pub record AnswersLines (told : List (Option (List ℕ))) (lines : Option (List ℕ)) (before after : Option (List ℕ)) (outcome : Outcome) : Type 0 where
+pub record AnswersLines (told : List (Option (List ℕ))) (lines : Option (List ℕ)) (before after : Option (List ℕ))
+    (outcome : Outcome) : Type 0 where
   pub answer : Result ℕ AnswerFault
   pub outcome_is : outcome ≡ answered_outcome answer
   pub replies : OverIndexes LINE_LIMIT told (λ texts indexes. IfOk answer (λ count.

@@ -29,7 +29,8 @@ abbrev pub WritesReport : ArchiveReport → Option (List ℕ) → Outcome → Op
 WritesReport reports.Listing archive outcome before after =
     (answer : Result ℕ IndexFault) × (outcome ≡ outcome_of answer) × Lists HEAD_LIMIT archive answer before after
 WritesReport reports.Verdicts archive outcome before after =
-    (answer : Result Verified IndexFault) × (outcome ≡ verification_outcome answer) × Verifies HEAD_LIMIT archive answer before after
+    (answer : Result Verified IndexFault) × (outcome ≡ verification_outcome answer)
+    × Verifies HEAD_LIMIT archive answer before after
 
 -- the report was written below a heading, or the output failed in the heading
 abbrev pub WritesBelow : List ℕ → ArchiveReport → Option (List ℕ) → Outcome → Option (List ℕ) → Option (List ℕ) → Type 0
@@ -38,11 +39,14 @@ WritesBelow heading report archive outcome before after =
     ⊎ ((outcome ≡ outcomes.Index faults.Write) × AppendsPrefix before after heading)
 
 -- the report on the archive of this name, which is one of so many, was written, unless it couldn't be opened
-abbrev pub ReportsOnOne : (List ℕ → Option (List ℕ)) → ArchiveReport → ℕ → Option (List ℕ) → List ℕ → Outcome → Option (List ℕ) → Type 0
+abbrev pub ReportsOnOne : (List ℕ → Option (List ℕ)) → ArchiveReport → ℕ → Option (List ℕ) → List ℕ → Outcome
+    → Option (List ℕ) → Type 0
 ReportsOnOne bytes_of report count before name outcome after =
-    OpensFirst (IsUnopened outcome) (after ≡ before) (WritesBelow (heading_among count name) report (bytes_of name) outcome before after)
+    OpensFirst (IsUnopened outcome) (after ≡ before)
+    (WritesBelow (heading_among count name) report (bytes_of name) outcome before after)
 
 -- the reports on the archives of these names were written, one after another
-abbrev pub ReportsOn : (List ℕ → Option (List ℕ)) → ArchiveReport → List (List ℕ) → Option (List ℕ) → Option (List ℕ) → Outcome → Type 0
+abbrev pub ReportsOn : (List ℕ → Option (List ℕ)) → ArchiveReport → List (List ℕ) → Option (List ℕ) → Option (List ℕ)
+    → Outcome → Type 0
 ReportsOn bytes_of report names before after outcome =
     GoesOver (ReportsOnOne bytes_of report (length names)) outcomes.Done before names outcome after

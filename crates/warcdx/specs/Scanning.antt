@@ -20,7 +20,8 @@ abbrev pub inputs : {I : Type 0} → List (Named I) → List I
 inputs archives = map (λ archive. archive.input) archives
 
 -- archives of these names were opened: each stands under its file name and has its bytes
-pub record AreOpened {I : Type 0} (remaining : I → Option (List ℕ)) (bytes_of : List ℕ → Option (List ℕ)) (names : List (List ℕ)) (archives : List (Named I)) : Type 0 where
+pub record AreOpened {I : Type 0} (remaining : I → Option (List ℕ)) (bytes_of : List ℕ → Option (List ℕ))
+    (names : List (List ℕ)) (archives : List (Named I)) : Type 0 where
   pub named : archive_names archives ≡ map file_name names
   pub bytes : map (λ archive. remaining archive.input) archives ≡ map bytes_of names
 
@@ -32,7 +33,8 @@ scan_outcome (Err (scans.Archive archive fault)) = outcomes.Index fault
 scan_outcome (Err (scans.Answer fault)) = outcomes.Answer fault
 
 -- archives of these names were scanned for records of these types: the pages were written, or none or no more of them for this fault
-pub record ScansArchives (types : Kind → Bool) (names : List (List ℕ)) (inputs : List (Option (List ℕ))) (sizes query : List ℕ) (before after : Option (List ℕ)) (outcome : Outcome) : Type 0 where
+pub record ScansArchives (types : Kind → Bool) (names : List (List ℕ)) (inputs : List (Option (List ℕ)))
+    (sizes query : List ℕ) (before after : Option (List ℕ)) (outcome : Outcome) : Type 0 where
   pub answer : Result ℕ ScanFault
   pub outcome_is : outcome ≡ scan_outcome answer
   pub scanned : IfOk answer (Scanned types names inputs sizes query before after)
@@ -42,7 +44,8 @@ pub record ScansArchives (types : Kind → Bool) (names : List (List ℕ)) (inpu
 
 -- the query text was read, the archives of these names were opened, and then they were scanned under their file names; or nothing was
 -- written, as the query is refused or an archive can't be opened
-abbrev pub ScansNamed : (List ℕ → Option (List ℕ)) → (Kind → Bool) → List ℕ → List ℕ → List (List ℕ) → Option (List ℕ) → Option (List ℕ) → Type 0 → Outcome → Type 0
+abbrev pub ScansNamed : (List ℕ → Option (List ℕ)) → (Kind → Bool) → List ℕ → List ℕ → List (List ℕ) → Option (List ℕ)
+    → Option (List ℕ) → Type 0 → Outcome → Type 0
 ScansNamed bytes_of types sizes query names before after unchanged outcome = ReadsFirst query outcome unchanged (λ _.
     OpensFirst (IsUnopened outcome) unchanged
     (ScansArchives types (map file_name names) (map bytes_of names) sizes query before after outcome))

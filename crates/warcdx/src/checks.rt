@@ -70,7 +70,8 @@ fn write_count<O: Output>(name: &str, count: u64, out: &mut O) -> Outcome
 
 /// Writes `NAME COUNT` and a line feed.
 fn put_count<O: Output>(name: &str, count: u64, out: &mut O) -> Result<(), DeviceFault>
-    ensures line { WritesText result (O.written out.old) (O.written out.new) (checked_line name.now count) }
+    ensures line { WritesText result (O.written out.old) (O.written out.new)
+        (checked_line name.now count) }
     ensures failures { CountsFailure result (O.failures out.old) (O.failures out.new) }
 {
     let text = count_text(count);

@@ -38,7 +38,8 @@ fn serve_opened<R: Runtime + AllocGlobal, S: Source, I: Input, O: Output>(
     input: &mut I,
     out: &mut O,
 ) -> Outcome
-    ensures { AnswersLines (map S.text sources.old) (I.remaining input.old) (O.written out.old) (O.written out.new) result }
+    ensures { AnswersLines (map S.text sources.old) (I.remaining input.old) (O.written out.old)
+        (O.written out.new) result }
 {
     match serve(rt.alloc(), sources, input, out) {
         Ok(_count) => Outcome::Done,

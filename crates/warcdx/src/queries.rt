@@ -109,7 +109,8 @@ fn answer_opened<R: Runtime + AllocGlobal, S: Source, O: Output>(
     sources: &mut [S],
     out: &mut O,
 ) -> Outcome
-    ensures { AnswersQuery query.now (map S.text sources.old) (O.written out.old) (O.written out.new) result }
+    ensures { AnswersQuery query.now (map S.text sources.old) (O.written out.old)
+        (O.written out.new) result }
 {
     match answer(rt.alloc(), sources, query, out) {
         Ok(_report) => Outcome::Done,
@@ -129,7 +130,8 @@ fn pages_opened<R: Runtime + AllocGlobal, S: Source, O: Output>(
     sources: &mut [S],
     out: &mut O,
 ) -> Outcome
-    ensures { AnswersPages query.now sizes.now (map S.text sources.old) (O.written out.old) (O.written out.new) result }
+    ensures { AnswersPages query.now sizes.now (map S.text sources.old) (O.written out.old)
+        (O.written out.new) result }
 {
     match pages(rt.alloc(), sources, query, sizes, out) {
         Ok(_count) => Outcome::Done,

@@ -87,7 +87,8 @@ fn report_below<I: Input, O: Output>(
     archive: &mut I,
     out: &mut O,
 ) -> Outcome
-    ensures report { WritesBelow (heading_among among name.now) report (I.remaining archive.old) result (O.written out.old) (O.written out.new) }
+    ensures report { WritesBelow (heading_among among name.now) report (I.remaining archive.old)
+        result (O.written out.old) (O.written out.new) }
     ensures reads { CountsInput (answer_of result) (I.failures archive.old) (I.failures archive.new) }
     ensures writes { CountsWrite (answer_of result) (O.failures out.old) (O.failures out.new) }
 {
@@ -99,7 +100,8 @@ fn report_below<I: Input, O: Output>(
 
 /// Writes `NAME:` if there are several archives.
 fn put_heading_among<O: Output>(among: usize, name: &str, out: &mut O) -> Result<(), DeviceFault>
-    ensures heading { WritesText result (O.written out.old) (O.written out.new) (heading_among among name.now) }
+    ensures heading { WritesText result (O.written out.old) (O.written out.new)
+        (heading_among among name.now) }
     ensures failures { CountsFailure result (O.failures out.old) (O.failures out.new) }
 {
     if among > 1 {
@@ -124,7 +126,8 @@ fn write_report<I: Input, O: Output>(
     archive: &mut I,
     out: &mut O,
 ) -> Outcome
-    ensures report { WritesReport report (I.remaining archive.old) result (O.written out.old) (O.written out.new) }
+    ensures report { WritesReport report (I.remaining archive.old) result (O.written out.old)
+        (O.written out.new) }
     ensures reads { CountsInput (answer_of result) (I.failures archive.old) (I.failures archive.new) }
     ensures writes { CountsWrite (answer_of result) (O.failures out.old) (O.failures out.new) }
 {

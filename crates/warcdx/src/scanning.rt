@@ -108,7 +108,9 @@ fn scan_opened<R: Runtime + AllocGlobal, I: Input, O: Output>(
     archives: &mut [Named<I>],
     out: &mut O,
 ) -> Outcome
-    ensures { ScansArchives (includes types) (archive_names archives.old) (map (λ a. I.remaining a.input) archives.old) sizes.now query.now (O.written out.old) (O.written out.new) result }
+    ensures { ScansArchives (includes types) (archive_names archives.old)
+        (map (λ a. I.remaining a.input) archives.old) sizes.now query.now (O.written out.old)
+        (O.written out.new) result }
 {
     let answer = scan(rt.alloc(), archives, types, sizes, query, out);
     if let Err(fault) = answer {

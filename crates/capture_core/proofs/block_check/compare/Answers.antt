@@ -14,7 +14,8 @@ returns-in_err-digest g c left len e =
     let p = err_from_is_err_and c.from_residual.result c.from_residual.ensures.1 in
     let d = c.in_err-digest.ensures left len e in
     rw (p.1, p.2) (record {
-      bytes = compare-stopped (λ block. digest_verdict c.args.text.now (sha1 block)) c.in_err-digest.field-0.0.cause left _ _ d.bytes;
+      bytes = compare-stopped (λ block. digest_verdict c.args.text.now (sha1 block)) c.in_err-digest.field-0.0.cause
+          left _ _ d.bytes;
       state = d.state;
       cause = d.cause;
       failures = CountsRead-as (List ℕ) Verdict c.in_err-digest.field-0.0.cause _ _ d.failures;
@@ -27,10 +28,12 @@ returns-in_err-finish g c left len e =
     let cause = c.in_err-finish.field-0.0.cause in
     let f = c.in_err-finish.ensures.open 0 len d.state.phase_is in
     rw (p.1, p.2) (record {
-      bytes = compare-unclosed (λ block. digest_verdict c.args.text.now (sha1 block)) cause left c.in_ok-digest.digest _ _ _ d.bytes f.bytes;
+      bytes = compare-unclosed (λ block. digest_verdict c.args.text.now (sha1 block)) cause left c.in_ok-digest.digest _
+          _ _ d.bytes f.bytes;
       state = subst (λ o. FailedBy c.finish.new.self o c.in_err-finish.field-0.0) d.state.offset_is f.state;
       cause = f.cause;
-      failures = subst (λ k. CountsRead {A = Verdict} (Err cause) k (g.I.Input.failures c.finish.new.input)) d.failures (CountsRead-as (Unit {0}) Verdict cause _ _ f.failures);
+      failures = subst (λ k. CountsRead {A = Verdict} (Err cause) k (g.I.Input.failures c.finish.new.input)) d.failures
+          (CountsRead-as (Unit {0}) Verdict cause _ _ f.failures);
     })
 
 pub returns : goal.returns
@@ -39,7 +42,8 @@ returns g c left len e =
     let f = c.in_ok-finish.ensures.open 0 len d.state.phase_is in
     let s = f.state.1 in
     record {
-      bytes = compare-closed (λ block. digest_verdict c.args.text.now (sha1 block)) c.digest_verdict.result left c.in_ok-digest.digest _ _ _ d.bytes f.bytes
+      bytes = compare-closed (λ block. digest_verdict c.args.text.now (sha1 block)) c.digest_verdict.result left
+          c.in_ok-digest.digest _ _ _ d.bytes f.bytes
           (λ block h. c.digest_verdict.ensures ∙ ap (digest_verdict c.args.text.now) h);
       state = record { offset_is = s.offset_is ∙ ap (λ o. o + len) d.state.offset_is; phase_is = s.phase_is };
       cause = tt;

@@ -17,11 +17,13 @@ returns-in-Err-clause-reads g c left len e =
     let s = c.requires.stands in
     let q = same_open s.0 (record_length c.args.indexed.head.now) left len (sym s.1.phase_is ∙ e) in
     let f = rw (← q.1) at (c.in_ok-finish.ensures.open left len e) in
-    rest-whole left c.args.indexed.head.now _ _ _ _ _ _ _ c.in_ok-finish.field-0 s.1.offset_is f c.in-Err.ensures.own c.in-Err.ensures.fault
+    rest-whole left c.args.indexed.head.now _ _ _ _ _ _ _ c.in_ok-finish.field-0 s.1.offset_is f c.in-Err.ensures.own
+    c.in-Err.ensures.fault
 
 pub returns-in_err-finish-clause-reads : goal.returns-in_err-finish-clause-reads
 returns-in_err-finish-clause-reads g c left len e =
     let p = err_from_is_err_and c.from_residual.result c.from_residual.ensures.1 in
     let s = c.requires.stands in
     let f = c.in_err-finish.ensures.open left len e in
-    rw (p.1, p.2) (rest-failed left c.args.indexed.head.now _ _ _ _ _ _ c.in_err-finish.field-0.0 f.cause f.bytes (rw (← s.1.offset_is) f.state) f.failures)
+    rw (p.1, p.2) (rest-failed left c.args.indexed.head.now _ _ _ _ _ _ c.in_err-finish.field-0.0 f.cause f.bytes
+    (rw (← s.1.offset_is) f.state) f.failures)

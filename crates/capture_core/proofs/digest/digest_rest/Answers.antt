@@ -11,8 +11,15 @@ use Rattle.capture_core.proofs.DigestLemmas.{Digesting-start, Digesting-more, Di
 use Rattle.capture_core.proofs.digest.digest_rest.Goals as goal
 
 pub pieces-init : goal.pieces-init
-pieces-init g c =
-    (c.requires.0, c.requires.1, c.requires.0, c.requires.2, Digesting-start _ _ _ _ _ _ c.requires.2 (c.update.ensures [] c.new-hasher.ensures), refl)
+pieces-init g c = (
+  c.requires.0,
+  c.requires.1,
+  c.requires.0,
+  c.requires.2,
+  Digesting-start _ _ _ _ _ _ c.requires.2
+      (c.update.ensures [] c.new-hasher.ensures),
+  refl,
+)
 
 pub returns-in_err-count : goal.returns-in_err-count
 returns-in_err-count g c left len e =
@@ -20,8 +27,12 @@ returns-in_err-count g c left len e =
     let i = c.pieces.invariant in
     let d = i.4 in
     let b = c.in_err-count.ensures in
-    let r = Digesting-fault i.0 i.1 i.2 _ _ _ _ _ _ _ _ d c.in_err-count.field-0.0 _ _ _ _ (b.open i.2 i.1 d.stands.phase_is) i.5 in
-    rw (p.1, p.2) (of_open (λ a b. ReadsTo (digest_of_rest a c.args.start.now) c.args.reader.now.offset (Open 0 b) (state_of c.args.reader.now (g.I.Input.remaining c.args.input.now) (g.I.Input.failures c.args.input.now)) (state_of c.block.new.self (g.I.Input.remaining c.block.new.input) (g.I.Input.failures c.block.new.input)) (Err c.in_err-count.field-0.0)) _ i.0 i.1 left len i.3 e r)
+    let r = Digesting-fault i.0 i.1 i.2 _ _ _ _ _ _ _ _ d c.in_err-count.field-0.0 _ _ _ _
+    (b.open i.2 i.1 d.stands.phase_is) i.5 in
+    rw (p.1, p.2) (of_open (λ a b. ReadsTo (digest_of_rest a c.args.start.now) c.args.reader.now.offset (Open 0 b)
+    (state_of c.args.reader.now (g.I.Input.remaining c.args.input.now) (g.I.Input.failures c.args.input.now))
+    (state_of c.block.new.self (g.I.Input.remaining c.block.new.input) (g.I.Input.failures c.block.new.input))
+    (Err c.in_err-count.field-0.0)) _ i.0 i.1 left len i.3 e r)
 
 pub slice_bounds-piece-end : goal.slice_bounds-piece-end
 slice_bounds-piece-end g c =
@@ -49,8 +60,15 @@ pub pieces-preserved : goal.pieces-preserved
 pieces-preserved g c =
     let i = c.pieces.invariant in
     let d = i.4 in
-    let b = c.in_ok-count.ensures.open i.2 i.1 d.stands.phase_is in
-    (i.0, i.1, i.2 - c.in_ok-count.count, i.3, Digesting-more i.0 i.1 i.2 _ _ _ _ _ _ _ _ d c.update-in-pieces.new.self c.in_ok-count.count c.block.new.piece _ _ b c.update-in-pieces.ensures, b.failures ∙ i.5)
+    let b = c.in_ok-count.ensures.open i.2 i.1 d.stands.phase_is in (
+      i.0,
+      i.1,
+      i.2 - c.in_ok-count.count,
+      i.3,
+      Digesting-more i.0 i.1 i.2 _ _ _ _ _ _ _ _ d c.update-in-pieces.new.self
+          c.in_ok-count.count c.block.new.piece _ _ b c.update-in-pieces.ensures,
+      b.failures ∙ i.5,
+    )
 
 pub returns : goal.returns
 returns g c left len e =
@@ -58,7 +76,13 @@ returns g c left len e =
     let d = i.4 in
     let b = c.in_ok-count.ensures.open i.2 i.1 d.stands.phase_is in
     let zero : c.in_ok-count.count ≡ 0 = c.if-count-eq0.true in
-    let none : i.2 ≡ 0 = zero_of i.2 (λ some. let more = b.bound.2 some (omega (arith, c.block.auto.piece)) in omega (arith, zero)) in
-    let last = Digesting-more i.0 i.1 i.2 _ _ _ _ _ _ _ _ d c.pieces.hasher c.in_ok-count.count c.block.new.piece _ _ b (λ m h. subst (Holds c.pieces.hasher) (sym (ap (λ n. m ++ take n c.block.new.piece) zero ∙ append-nil m)) h) in
-    let r = Digesting-end i.0 i.1 _ _ _ _ _ _ (let rest : i.2 - c.in_ok-count.count ≡ 0 = omega arith in rw rest at last) c.finalize.result c.finalize.ensures _ _ (b.failures ∙ i.5) in
-    of_open (λ a b. ReadsTo (digest_of_rest a c.args.start.now) c.args.reader.now.offset (Open 0 b) (state_of c.args.reader.now (g.I.Input.remaining c.args.input.now) (g.I.Input.failures c.args.input.now)) (state_of c.block.new.self (g.I.Input.remaining c.block.new.input) (g.I.Input.failures c.block.new.input)) (Ok c.finalize.result)) _ i.0 i.1 left len i.3 e r
+    let none : i.2 ≡ 0 = zero_of i.2
+    (λ some. let more = b.bound.2 some (omega (arith, c.block.auto.piece)) in omega (arith, zero)) in
+    let last = Digesting-more i.0 i.1 i.2 _ _ _ _ _ _ _ _ d c.pieces.hasher c.in_ok-count.count c.block.new.piece _ _ b
+    (λ m h. subst (Holds c.pieces.hasher) (sym (ap (λ n. m ++ take n c.block.new.piece) zero ∙ append-nil m)) h) in
+    let r = Digesting-end i.0 i.1 _ _ _ _ _ _ (let rest : i.2 - c.in_ok-count.count
+    ≡ 0 = omega arith in rw rest at last) c.finalize.result c.finalize.ensures _ _ (b.failures ∙ i.5) in
+    of_open (λ a b. ReadsTo (digest_of_rest a c.args.start.now) c.args.reader.now.offset (Open 0 b)
+    (state_of c.args.reader.now (g.I.Input.remaining c.args.input.now) (g.I.Input.failures c.args.input.now))
+    (state_of c.block.new.self (g.I.Input.remaining c.block.new.input) (g.I.Input.failures c.block.new.input))
+    (Ok c.finalize.result)) _ i.0 i.1 left len i.3 e r

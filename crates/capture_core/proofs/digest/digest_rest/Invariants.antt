@@ -7,7 +7,8 @@ use Rattle.capture_core.proofs.digest.digest_rest.Given as goal
 abbrev pub invariant-pieces : goal.invariant-pieces
 invariant-pieces g l =
     (left : ℕ) × (len : ℕ) × (rest : ℕ) × (l.fn.reader.phase ≡ Open left len)
-    × Digesting left len rest l.start l.fn.reader l.reader (g.I.Input.remaining l.fn.input) (g.I.Input.remaining l.input) l.hasher
+    × Digesting left len rest l.start l.fn.reader l.reader (g.I.Input.remaining l.fn.input)
+    (g.I.Input.remaining l.input) l.hasher
     × (g.I.Input.failures l.input ≡ g.I.Input.failures l.fn.input)
 
 abbrev pub decreases-pieces : goal.decreases-pieces

@@ -5,18 +5,21 @@ use Rattle.warc_head.proofs.FirstPlace.{first_place}
 use Rattle.capture_core.specs.FieldValue.{semicolon}
 use Rattle.capture_core.proofs.field_value.semicolon.Goals as goal
 
-within : (value : List ℕ) (r : Option ℕ) → IsFirstByte (is_byte semicolon) value r → IfSome r (λ end. end < length value)
+within : (value : List ℕ) (r : Option ℕ) → IsFirstByte (is_byte semicolon) value r
+    → IfSome r (λ end. end < length value)
 within value None h = tt
 within value (Some end) h = h.0.high
 
 pub returns-clause-place : goal.returns-clause-place
 returns-clause-place c =
     let value = c.args.value.now in
-    let first = first_place (is_byte semicolon) value c.memchr_iter.result c.next.new.self c.next.result c.memchr_iter.ensures.value c.next.ensures.steps in
+    let first = first_place (is_byte semicolon) value c.memchr_iter.result c.next.new.self c.next.result
+    c.memchr_iter.ensures.value c.next.ensures.steps in
     IsFirstByte_position (is_byte semicolon) value c.next.result first
 
 pub returns-clause-within : goal.returns-clause-within
 returns-clause-within c =
     let value = c.args.value.now in
-    let first = first_place (is_byte semicolon) value c.memchr_iter.result c.next.new.self c.next.result c.memchr_iter.ensures.value c.next.ensures.steps in
+    let first = first_place (is_byte semicolon) value c.memchr_iter.result c.next.new.self c.next.result
+    c.memchr_iter.ensures.value c.next.ensures.steps in
     within value c.next.result first

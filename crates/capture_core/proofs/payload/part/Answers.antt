@@ -4,5 +4,10 @@ use Rattle.capture_core.proofs.payload.part.Goals as goal
 
 pub returns-in-Some-clause-parts : goal.returns-in-Some-clause-parts
 returns-in-Some-clause-parts c =
-    let f = c.in-Some.ensures.found in
-    (Some (f.0, drop c.in-Some.head.len c.args.front.now), f.1, rw (f.3, f.4) refl, take_all _ (drop c.in-Some.head.len c.args.front.now) (omega (arith, length-drop c.in-Some.head.len c.args.front.now)))
+    let f = c.in-Some.ensures.found in (
+      Some (f.0, drop c.in-Some.head.len c.args.front.now),
+      f.1,
+      rw (f.3, f.4) refl,
+      take_all _
+          (drop c.in-Some.head.len c.args.front.now) (omega (arith, length-drop c.in-Some.head.len c.args.front.now)),
+    )

@@ -19,11 +19,15 @@ returns-in_err-filled g c =
     let p = err_from_is_err_and c.from_residual.result c.from_residual.ensures.1 in
     let f = c.in_err-filled.field-0.0 in
     let b = c.in_err-filled.ensures _ (record_length h) c.requires.stands.phase_is in
-    rw (p.1, p.2) (captures-failed c.args.indexed [] _ _ _ _ _ _ f c.requires (stops-record f.cause b.cause) (found-of-record f.cause (h.parts.length - 0) _ _ b.bytes) b.state b.failures)
+    rw (p.1, p.2) (captures-failed c.args.indexed [] _ _ _ _ _ _ f c.requires (stops-record f.cause b.cause)
+    (found-of-record f.cause (h.parts.length - 0) _ _ b.bytes) b.state b.failures)
 
 -- a buffer whose bytes were all written
-back_is : (n : ℕ) (new old : List ℕ) → length new ≡ length old → n ≡ length old → take n (new ++ drop (length new) old) ≡ new
-back_is n new old same size = (let whole : n ≡ length new = omega (arith, same, size) in ap (λ m. take m (new ++ drop (length new) old)) whole) ∙ take-append_seam new (drop (length new) old)
+back_is : (n : ℕ) (new old : List ℕ) → length new ≡ length old → n ≡ length old → take n (new ++ drop (length new) old)
+    ≡ new
+back_is n new old same size = (let whole : n
+    ≡ length new = omega (arith, same, size) in ap (λ m. take m (new ++ drop (length new) old)) whole)
+    ∙ take-append_seam new (drop (length new) old)
 
 pub steps-init : goal.steps-init
 steps-init g c =
@@ -39,12 +43,15 @@ steps-init g c =
     let few : filled ≤ first = omega (arith, most, length-take first front) in
     let inside : filled ≤ length front = omega (arith, most, length-take first front) in
     let size : length (take filled front) ≡ filled = length-take-le filled front inside in
-    let within : length (take filled front) ≤ front_length HTTP_HEAD_LIMIT h = omega (arith, size, few, c.min-first.ensures, c.front_length-whole.ensures) in
-    let fills = given-behind _ (record_length h) filled _ _ (take first front) (take filled front) (take-take filled first front few) b in
+    let within : length (take filled front) ≤ front_length HTTP_HEAD_LIMIT h = omega
+    (arith, size, few, c.min-first.ensures, c.front_length-whole.ensures) in
+    let fills = given-behind _ (record_length h) filled _ _ (take first front) (take filled front)
+    (take-take filled first front few) b in
     rw back (record {
       within = inside;
       ready = filled-ready c.args.indexed [] (take filled front) _ _ _ _ _ _ c.requires within fills;
-      rest = λ r new after k s. filled-rest c.args.indexed [] (take filled front) _ _ _ _ _ _ c.requires new after k r within fills s;
+      rest = λ r new after k s. filled-rest c.args.indexed [] (take filled front) _ _ _ _ _ _ c.requires new after k r
+          within fills s;
     })
 
 pub returns-in-Some : goal.returns-in-Some
@@ -54,17 +61,21 @@ returns-in-Some g c =
 
 pub returns-in-Err-make_room : goal.returns-in-Err-make_room
 returns-in-Err-make_room g c =
-    c.steps.invariant.rest _ _ _ _ (c.refuse-in-Err-make_room.ensures (take c.steps.filled c.steps.front.items) c.steps.invariant.ready)
+    c.steps.invariant.rest _ _ _ _
+    (c.refuse-in-Err-make_room.ensures (take c.steps.filled c.steps.front.items) c.steps.invariant.ready)
 
 pub returns-in_err-read_behind : goal.returns-in_err-read_behind
 returns-in_err-read_behind g c =
     let h = c.args.indexed.head.now in
     let kept = c.steps.invariant in
-    let p = err_from_is_err_and c.from_residual-in_err-read_behind.result c.from_residual-in_err-read_behind.ensures.1 in
+    let p = err_from_is_err_and c.from_residual-in_err-read_behind.result
+    c.from_residual-in_err-read_behind.ensures.1 in
     let f = c.in_err-read_behind.field-0.0 in
-    let first = ap (take c.steps.filled) c.deref_mut-in-steps.ensures.value ∙ c.in-Ok-make_room.ensures.kept c.steps.filled kept.within in
+    let first = ap (take c.steps.filled) c.deref_mut-in-steps.ensures.value
+    ∙ c.in-Ok-make_room.ensures.kept c.steps.filled kept.within in
     let fills = rw first at (c.in_err-read_behind.ensures _ (record_length h) kept.ready.stands.phase_is) in
-    rw (p.1, p.2) (kept.rest _ _ _ _ (filled-failed c.args.indexed (take c.steps.filled c.steps.front.items) _ _ _ _ _ _ _ kept.ready f fills))
+    rw (p.1, p.2) (kept.rest _ _ _ _
+    (filled-failed c.args.indexed (take c.steps.filled c.steps.front.items) _ _ _ _ _ _ _ kept.ready f fills))
 
 pub steps-preserved : goal.steps-preserved
 steps-preserved g c =
@@ -73,15 +84,21 @@ steps-preserved g c =
     let room = c.make_room-in-steps.new.front in
     let front = c.read_behind.new.front in
     let goal_size = c.min-goal.result in
-    let same : length front ≡ length room.items = c.read_behind.auto.front ∙ ap length c.deref_mut-in-steps.ensures.value in
+    let same : length front ≡ length room.items = c.read_behind.auto.front
+    ∙ ap length c.deref_mut-in-steps.ensures.value in
     let back = back_is room.len front room.items same (omega (arith, room.ok)) in
-    let first = ap (take c.steps.filled) c.deref_mut-in-steps.ensures.value ∙ c.in-Ok-make_room.ensures.kept c.steps.filled kept.within in
+    let first = ap (take c.steps.filled) c.deref_mut-in-steps.ensures.value
+    ∙ c.in-Ok-make_room.ensures.kept c.steps.filled kept.within in
     let fills = rw first at (c.in_ok-read_behind.ensures _ (record_length h) kept.ready.stands.phase_is) in
     let inside : goal_size ≤ length front = omega (arith, same, c.in-Ok-make_room.ensures.room) in
     let size : length (take goal_size front) ≡ goal_size = length-take-le goal_size front inside in
-    let within : length (take goal_size front) ≤ front_length HTTP_HEAD_LIMIT h = omega (arith, size, c.min-goal.ensures, c.front_length-whole.ensures) in
+    let within : length (take goal_size front) ≤ front_length HTTP_HEAD_LIMIT h = omega
+    (arith, size, c.min-goal.ensures, c.front_length-whole.ensures) in
     rw back (record {
       within = inside;
-      ready = filled-ready c.args.indexed (take c.steps.filled c.steps.front.items) (take goal_size front) _ _ _ _ _ _ kept.ready within fills;
-      rest = λ r new after k s. kept.rest r new after k (filled-rest c.args.indexed (take c.steps.filled c.steps.front.items) (take goal_size front) _ _ _ _ _ _ kept.ready new after k r within fills s);
+      ready = filled-ready c.args.indexed (take c.steps.filled c.steps.front.items) (take goal_size front) _ _ _ _ _ _
+          kept.ready within fills;
+      rest = λ r new after k s. kept.rest r new after k
+          (filled-rest c.args.indexed (take c.steps.filled c.steps.front.items) (take goal_size front) _ _ _ _ _ _
+          kept.ready new after k r within fills s);
     })

@@ -10,8 +10,11 @@ invariant-steps g l = record {
   within : l.filled ≤ length l.front.items;
   ready : IsReadTo l.indexed (take l.filled l.front.items) l.reader;
   rest : (r : Result (Option EntryValue) CaptureFault) (new : ReaderView) (after : Option (List ℕ)) (k : ℕ)
-      → CapturesRest l.indexed (take l.filled l.front.items) (state_of l.reader (g.I.Input.remaining l.input) (g.I.Input.failures l.input)) (state_of new after k) r
-      → CapturesRest l.indexed [] (state_of l.fn.reader (g.I.Input.remaining l.fn.input) (g.I.Input.failures l.fn.input)) (state_of new after k) r;
+      → CapturesRest l.indexed (take l.filled l.front.items)
+      (state_of l.reader (g.I.Input.remaining l.input) (g.I.Input.failures l.input)) (state_of new after k) r
+      → CapturesRest l.indexed []
+      (state_of l.fn.reader (g.I.Input.remaining l.fn.input) (g.I.Input.failures l.fn.input)) (state_of new after k)
+      r;
 }
 
 abbrev pub decreases-steps : goal.decreases-steps

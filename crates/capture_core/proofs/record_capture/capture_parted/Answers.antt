@@ -6,31 +6,46 @@ use Rattle.capture_core.specs.ResponseView.{response_view}
 use Rattle.capture_core.specs.CaptureAnswer.{usual_limits}
 use Rattle.warc_core.proofs.OpenLemmas.{CountsRead-as}
 use Rattle.warc_core.proofs.CauseLemmas.{not-memory}
-use Rattle.capture_core.proofs.CaptureLemmas.{rest-behind, behind-digest, digest-met, digest-known, digest-settled, digest-made, capture-known, some-always, some-then}
+use Rattle.capture_core.proofs.CaptureLemmas.{rest-behind, behind-digest, digest-met, digest-known, digest-settled}
+use Rattle.capture_core.proofs.CaptureLemmas.{digest-made, capture-known, some-always, some-then}
 use Rattle.capture_core.proofs.RestLemmas.{captures-failed}
 use Rattle.capture_core.proofs.record_capture.capture_parted.Goals as goal
 
 pub capture_closed-requires-in-None-clause-stands : goal.capture_closed-requires-in-None-clause-stands
 capture_closed-requires-in-None-clause-stands g c =
-    let d = c.in_ok-digest_rest-in-None.ensures _ (record_length c.args.indexed.head.now) c.requires.ready.stands.phase_is in
+    let d = c.in_ok-digest_rest-in-None.ensures _ (record_length c.args.indexed.head.now)
+    c.requires.ready.stands.phase_is in
     (0, record { offset_is = d.state.offset_is ∙ c.requires.ready.stands.offset_is; phase_is = d.state.phase_is })
 
 pub returns-in-Some : goal.returns-in-Some
 returns-in-Some g c = record {
   reads = c.capture_closed.ensures.reads _ (record_length c.args.indexed.head.now) c.requires.ready.stands.phase_is;
-  capture = some-always _ _ (λ bytes. capture-known usual_limits c.args.indexed.head.now c.args.indexed.name.now c.args.indexed.url.now c.args.parted.bytes.now c.args.parted.payload.now bytes c.in-Some.digest.now (option_map response_view c.args.parted.response)
-      c.requires.parts (digest-settled c.args.indexed.head.now c.in-Some.digest.now _ c.in-Some.ensures.value) c.capture_closed.result c.capture_closed.ensures.answers);
+  capture = some-always _ _
+      (λ bytes. capture-known usual_limits c.args.indexed.head.now c.args.indexed.name.now c.args.indexed.url.now
+      c.args.parted.bytes.now c.args.parted.payload.now bytes c.in-Some.digest.now
+      (option_map response_view c.args.parted.response)
+      c.requires.parts (digest-settled c.args.indexed.head.now c.in-Some.digest.now _ c.in-Some.ensures.value)
+      c.capture_closed.result c.capture_closed.ensures.answers);
   entry = c.capture_closed.ensures.entry;
 }
 
 pub returns-in_ok-digest_rest-in-None : goal.returns-in_ok-digest_rest-in-None
 returns-in_ok-digest_rest-in-None g c =
-    let d = c.in_ok-digest_rest-in-None.ensures _ (record_length c.args.indexed.head.now) c.requires.ready.stands.phase_is in
+    let d = c.in_ok-digest_rest-in-None.ensures _ (record_length c.args.indexed.head.now)
+    c.requires.ready.stands.phase_is in
     let left = c.args.indexed.head.now.parts.length - length c.args.parted.bytes.now in
     record {
-      reads = rest-behind _ 0 c.args.indexed.head.now _ _ _ _ _ _ _ _ _ _ (behind-digest _ c.args.parted.payload.now c.in_ok-digest_rest-in-None.field-0 _ _ d.bytes) d.failures (c.capture_closed-in-None.ensures.reads 0 (record_length c.args.indexed.head.now) d.state.phase_is);
-      capture = some-then _ (λ bytes. c.in_ok-digest_rest-in-None.field-0 ≡ sha1 (c.args.parted.payload.now ++ take left bytes)) _ (λ bytes hashed. capture-known usual_limits c.args.indexed.head.now c.args.indexed.name.now c.args.indexed.url.now c.args.parted.bytes.now c.args.parted.payload.now bytes c.base32-digest.result (option_map response_view c.args.parted.response)
-          c.requires.parts (c.base32-digest.ensures ∙ digest-made c.args.indexed.head.now c.in_ok-digest_rest-in-None.field-0 _ c.in-None.ensures.value hashed) c.capture_closed-in-None.result c.capture_closed-in-None.ensures.answers)
+      reads = rest-behind _ 0 c.args.indexed.head.now _ _ _ _ _ _ _ _ _ _
+          (behind-digest _ c.args.parted.payload.now c.in_ok-digest_rest-in-None.field-0 _ _ d.bytes) d.failures
+          (c.capture_closed-in-None.ensures.reads 0 (record_length c.args.indexed.head.now) d.state.phase_is);
+      capture = some-then _ (λ bytes. c.in_ok-digest_rest-in-None.field-0
+          ≡ sha1 (c.args.parted.payload.now ++ take left bytes)) _
+          (λ bytes hashed. capture-known usual_limits c.args.indexed.head.now c.args.indexed.name.now
+          c.args.indexed.url.now c.args.parted.bytes.now c.args.parted.payload.now bytes c.base32-digest.result
+          (option_map response_view c.args.parted.response)
+          c.requires.parts (c.base32-digest.ensures
+          ∙ digest-made c.args.indexed.head.now c.in_ok-digest_rest-in-None.field-0 _ c.in-None.ensures.value
+          hashed) c.capture_closed-in-None.result c.capture_closed-in-None.ensures.answers)
           (digest-known left c.args.parted.payload.now c.in_ok-digest_rest-in-None.field-0 _ _ d.bytes);
       entry = c.capture_closed-in-None.ensures.entry;
     }
@@ -38,5 +53,10 @@ returns-in_ok-digest_rest-in-None g c =
 pub returns-in_err-digest_rest-in-None : goal.returns-in_err-digest_rest-in-None
 returns-in_err-digest_rest-in-None g c =
     let p = err_from_is_err_and c.from_residual.result c.from_residual.ensures.1 in
-    let d = c.in_err-digest_rest-in-None.ensures _ (record_length c.args.indexed.head.now) c.requires.ready.stands.phase_is in
-    rw (p.1, p.2) (captures-failed c.args.indexed c.args.parted.bytes.now _ _ _ _ _ _ c.in_err-digest_rest-in-None.field-0.0 c.requires.ready d.cause (digest-met _ c.args.parted.payload.now c.in_err-digest_rest-in-None.field-0.0.cause _ _ (not-memory c.in_err-digest_rest-in-None.field-0.0.cause d.cause) d.bytes) d.state (CountsRead-as (List ℕ) (Unit {0}) c.in_err-digest_rest-in-None.field-0.0.cause _ _ d.failures))
+    let d = c.in_err-digest_rest-in-None.ensures _ (record_length c.args.indexed.head.now)
+    c.requires.ready.stands.phase_is in
+    rw (p.1, p.2) (captures-failed c.args.indexed c.args.parted.bytes.now _ _ _ _ _ _
+    c.in_err-digest_rest-in-None.field-0.0 c.requires.ready d.cause
+    (digest-met _ c.args.parted.payload.now c.in_err-digest_rest-in-None.field-0.0.cause _ _
+    (not-memory c.in_err-digest_rest-in-None.field-0.0.cause d.cause) d.bytes) d.state
+    (CountsRead-as (List ℕ) (Unit {0}) c.in_err-digest_rest-in-None.field-0.0.cause _ _ d.failures))

@@ -10,11 +10,14 @@ returns g c = λ left len phase.
     let goal_size = c.args.goal in
     let front = c.args.front.now in
     let piece = c.block_exact.new.piece in
-    let size : length piece ≡ goal_size - filled = c.block_exact.auto.piece ∙ length-take-le (goal_size - filled) (drop filled front) (omega (arith, c.requires.order, c.requires.within, length-drop filled front)) in
+    let size : length piece ≡ goal_size - filled = c.block_exact.auto.piece
+    ∙ length-take-le (goal_size - filled) (drop filled front)
+    (omega (arith, c.requires.order, c.requires.within, length-drop filled front)) in
     let end : goal_size ≡ filled + length piece = omega (arith, size, c.requires.order) in (
       piece,
       ap (λ n. take n (put_mid filled (goal_size - filled) front piece)) end
-          ∙ (take-written filled (goal_size - filled) (length piece) front piece (omega (arith, c.requires.order, c.requires.within)) (omega arith)
+          ∙ (take-written filled (goal_size - filled) (length piece) front piece
+          (omega (arith, c.requires.order, c.requires.within)) (omega arith)
           ∙ ap (λ t. take filled front ++ t) (take_all (length piece) piece (omega arith))),
       c.block_exact.ensures left len phase,
     )

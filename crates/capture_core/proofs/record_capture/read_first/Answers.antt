@@ -9,5 +9,6 @@ returns g c = λ left len phase.
     let front = c.args.front.now in
     let piece = c.block.new.piece in
     let size : length piece ≡ first = c.block.auto.piece ∙ length-take-le first front c.requires in
-    let same : take first (piece ++ drop first front) ≡ piece = ap (λ n. take n (piece ++ drop first front)) (sym size) ∙ take-append_seam piece (drop first front) in
+    let same : take first (piece ++ drop first front) ≡ piece = ap (λ n. take n (piece ++ drop first front)) (sym size)
+    ∙ take-append_seam piece (drop first front) in
     rw same (c.block.ensures.open left len phase)

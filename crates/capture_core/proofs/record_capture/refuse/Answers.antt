@@ -7,7 +7,8 @@ use Rattle.capture_core.proofs.record_capture.refuse.Goals as goal
 
 pub returns : goal.returns
 returns g c = λ first ready. rw c.memory.ensures (record {
-  reads = rest-whole _ c.args.indexed.head.now _ _ _ _ _ _ _ c.in_ok-finish.field-0 ready.stands.offset_is (c.in_ok-finish.ensures.open _ (record_length c.args.indexed.head.now) ready.stands.phase_is) refl refl;
+  reads = rest-whole _ c.args.indexed.head.now _ _ _ _ _ _ _ c.in_ok-finish.field-0 ready.stands.offset_is
+      (c.in_ok-finish.ensures.open _ (record_length c.args.indexed.head.now) ready.stands.phase_is) refl refl;
   capture = some-always _ _ (λ bytes. tt);
   entry = tt;
 })
@@ -16,4 +17,5 @@ pub returns-in_err-finish : goal.returns-in_err-finish
 returns-in_err-finish g c = λ first ready.
     let p = err_from_is_err_and c.from_residual.result c.from_residual.ensures.1 in
     let f = c.in_err-finish.ensures.open _ (record_length c.args.indexed.head.now) ready.stands.phase_is in
-    rw (p.1, p.2) (captures-failed c.args.indexed first _ _ _ _ _ _ c.in_err-finish.field-0.0 ready f.cause f.bytes f.state f.failures)
+    rw (p.1, p.2) (captures-failed c.args.indexed first _ _ _ _ _ _ c.in_err-finish.field-0.0 ready f.cause f.bytes
+    f.state f.failures)

@@ -13,5 +13,6 @@ returns-in-Ok c = grind (arith, common_steps, is_utf8-from_IsUtf8 _ c.in-Ok.ensu
 pub returns-in-Err : goal.returns-in-Err
 unfolding utf8_text
 returns-in-Err c =
-    let broken = false_from_ne_true (is_utf8 c.args.value.now) (λ e. c.in-Err.ensures.cases.0 (IsUtf8-from_is_utf8 _ e)) in
+    let broken = false_from_ne_true (is_utf8 c.args.value.now)
+    (λ e. c.in-Err.ensures.cases.0 (IsUtf8-from_is_utf8 _ e)) in
     grind (arith, common_steps)

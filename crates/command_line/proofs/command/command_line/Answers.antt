@@ -14,8 +14,22 @@ more s h e = h ∙ ap (λ (y : App). with_subcommand y s) e
 pub returns : goal.returns
 returns c =
     let bare : app_of c.disable_help_subcommand-program.result ≡ without_commands =
-    rw (c.disable_help_subcommand-program.ensures, c.no_binary_name.ensures, c.after_help.ensures, c.about.ensures, c.in_ok-bin_name.ensures.0)
-    (ap (λ (a : App). record a { top = record a.top { no_binary_name = true; disable_help_subcommand = true } }) c.new.ensures.app) in
+    rw (
+      c.disable_help_subcommand-program.ensures,
+      c.no_binary_name.ensures,
+      c.after_help.ensures,
+      c.about.ensures,
+      c.in_ok-bin_name.ensures.0,
+    )
+    (ap (λ (a : App). record a { top = record a.top { no_binary_name = true; disable_help_subcommand = true } })
+    c.new.ensures.app) in
     IfOk-weaker c.with_types_and_sizes.result _ _
-    (λ command h. more _ h (more _ c.in_ok-get.ensures (more _ c.in_ok-serve.ensures (more _ c.in_ok-pages.ensures (more _ c.in_ok-query.ensures (more _ c.in_ok-check.ensures (more _ c.in_ok-merge.ensures (more _ c.in_ok-index.ensures (more _ c.in_ok-verify.ensures (more _ c.in_ok-list.ensures bare))))))))))
+    (λ command h. more _ h
+    (more _ c.in_ok-get.ensures
+    (more _ c.in_ok-serve.ensures
+    (more _ c.in_ok-pages.ensures
+    (more _ c.in_ok-query.ensures
+    (more _ c.in_ok-check.ensures
+    (more _ c.in_ok-merge.ensures
+    (more _ c.in_ok-index.ensures (more _ c.in_ok-verify.ensures (more _ c.in_ok-list.ensures bare))))))))))
     c.with_types_and_sizes.ensures

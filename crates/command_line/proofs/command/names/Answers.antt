@@ -10,7 +10,8 @@ some_is (Some r) v h = ap Some h
 
 pub returns-clause-rule : goal.returns-clause-rule
 returns-clause-rule c =
-    rw c.num_args.ensures.0 (ap₂ (λ (r : Rule) (v : Option ValueRange). record r { range = v }) c.word.ensures.rule (some_is _ _ c.num_args.ensures.1))
+    rw c.num_args.ensures.0 (ap₂ (λ (r : Rule) (v : Option ValueRange). record r { range = v }) c.word.ensures.rule
+    (some_is _ _ c.num_args.ensures.1))
 
 pub returns-clause-local : goal.returns-clause-local
 returns-clause-local c = rw c.num_args.ensures.0 c.word.ensures.local

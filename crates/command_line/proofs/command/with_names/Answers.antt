@@ -7,10 +7,13 @@ use Rattle.command_line.proofs.command.with_names.Goals as goal
 
 pub returns : goal.returns
 returns c =
-    let bare : app_of c.after_help.result ≡ new_app c.args.name.now = rw (c.after_help.ensures, c.about.ensures) c.new.ensures.app in
+    let bare : app_of c.after_help.result
+    ≡ new_app c.args.name.now = rw (c.after_help.ensures, c.about.ensures) c.new.ensures.app in
     let whole : app_of c.in_ok-arg.field-0 ≡ with_rule (new_app c.args.name.now) names_rule =
     c.in_ok-arg.ensures.shape c.names.ensures.local ∙ ap₂ with_rule bare c.names.ensures.rule in
-    let globals : (fields_of c.after_help.result).has_globals ≡ false = rw (c.after_help.ensures, c.about.ensures) c.new.ensures.local in
+    let globals : (fields_of c.after_help.result).has_globals
+    ≡ false = rw (c.after_help.ensures, c.about.ensures) c.new.ensures.local in
     let local = c.in_ok-arg.ensures.globals ∙ ap₂ ◌||◌ globals c.names.ensures.local in
     IfOk-weaker c.subcommand.result _ _
-    (λ more h. h.shape local ∙ ap (λ (a : App). with_subcommand (app_of c.args.command) a.top) whole) c.subcommand.ensures
+    (λ more h. h.shape local ∙ ap (λ (a : App). with_subcommand (app_of c.args.command) a.top) whole)
+    c.subcommand.ensures

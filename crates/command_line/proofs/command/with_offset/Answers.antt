@@ -7,13 +7,17 @@ use Rattle.command_line.proofs.command.with_offset.Goals as goal
 
 pub returns : goal.returns
 returns c =
-    let bare : app_of c.after_help.result ≡ new_app c.args.name.now = rw (c.after_help.ensures, c.about.ensures) c.new.ensures.app in
+    let bare : app_of c.after_help.result
+    ≡ new_app c.args.name.now = rw (c.after_help.ensures, c.about.ensures) c.new.ensures.app in
     let one : app_of c.in_ok-arg.field-0 ≡ with_rule (new_app c.args.name.now) (word_rule (codes "offset")) =
     c.in_ok-arg.ensures.shape c.word.ensures.local ∙ ap₂ with_rule bare c.word.ensures.rule in
-    let both : app_of c.in_ok-arg-2.field-0 ≡ with_rule (with_rule (new_app c.args.name.now) (word_rule (codes "offset"))) (word_rule (codes "name")) =
+    let both : app_of c.in_ok-arg-2.field-0
+    ≡ with_rule (with_rule (new_app c.args.name.now) (word_rule (codes "offset"))) (word_rule (codes "name")) =
     c.in_ok-arg-2.ensures.shape c.word-2.ensures.local ∙ ap₂ with_rule one c.word-2.ensures.rule in
-    let globals : (fields_of c.after_help.result).has_globals ≡ false = rw (c.after_help.ensures, c.about.ensures) c.new.ensures.local in
+    let globals : (fields_of c.after_help.result).has_globals
+    ≡ false = rw (c.after_help.ensures, c.about.ensures) c.new.ensures.local in
     let first = c.in_ok-arg.ensures.globals ∙ ap₂ ◌||◌ globals c.word.ensures.local in
     let local = c.in_ok-arg-2.ensures.globals ∙ ap₂ ◌||◌ first c.word-2.ensures.local in
     IfOk-weaker c.subcommand.result _ _
-    (λ more h. h.shape local ∙ ap (λ (a : App). with_subcommand (app_of c.args.command) a.top) both) c.subcommand.ensures
+    (λ more h. h.shape local ∙ ap (λ (a : App). with_subcommand (app_of c.args.command) a.top) both)
+    c.subcommand.ensures

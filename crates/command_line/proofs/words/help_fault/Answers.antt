@@ -1,4 +1,5 @@
-use Rattle.std.proofs.Common.{refl, ◌≡◌, ◌∙◌, sym, ap, true, Some, None, [], ◌∷◌, String, string_bytes, List, Option, unwrap_or, slice_get, Bor}
+use Rattle.std.proofs.Common.{refl, ◌≡◌, ◌∙◌, sym, ap, true, Some, None, [], ◌∷◌, String, string_bytes, List, Option}
+use Rattle.std.proofs.Common.{unwrap_or, slice_get, Bor}
 use Rattle.std.specs.Global.{Global}
 use Rattle.std.specs.Option.{IfSome, option_copied}
 use Rattle.command_line.specs.Words.{texts, asks_for_help}
@@ -6,7 +7,8 @@ use Rattle.command_line.specs.Commands.{Refusal, help_or_usage}
 use Rattle.command_line.proofs.words.help_fault.Goals as goal
 
 -- the first word, or the one that asks for help where there is none, is helped as all the words are
-first_of : (words : List (String Global)) (first : Option (Bor (String Global))) (help : Bor (String Global)) → option_copied first ≡ slice_get words 0
+first_of : (words : List (String Global)) (first : Option (Bor (String Global))) (help : Bor (String Global))
+    → option_copied first ≡ slice_get words 0
     → asks_for_help (string_bytes help.now) ≡ true
     → help_or_usage (string_bytes (unwrap_or first help).now ∷ []) ≡ help_or_usage (texts words)
 first_of [] None help f h = rw h refl
@@ -25,5 +27,6 @@ returns c =
     let first : string_bytes c.unwrap_or-first.result.now ≡ string_bytes (unwrap_or c.first.result c.args.help).now =
     ap (λ (w : Bor (String Global)). string_bytes w.now) c.unwrap_or-first.ensures in
     joined _ _ _ _ c.help_error.ensures
-    (ap (λ w. help_or_usage (w ∷ [])) (c.deref.ensures ∙ first) ∙ first_of c.args.words.now c.first.result c.args.help c.first.ensures.value c.requires.asks)
+    (ap (λ w. help_or_usage (w ∷ [])) (c.deref.ensures ∙ first)
+    ∙ first_of c.args.words.now c.first.result c.args.help c.first.ensures.value c.requires.asks)
     c.fault_of.ensures

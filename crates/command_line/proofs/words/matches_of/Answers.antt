@@ -1,4 +1,5 @@
-use Rattle.std.proofs.Common.{rules, arith, ◌≡◌, ◌∙◌, ◌<◌, ◌^◌, sym, ap, length, string_bytes, Result, Ok, Err, IfOk, IfErr, MatchResult}
+use Rattle.std.proofs.Common.{rules, arith, ◌≡◌, ◌∙◌, ◌<◌, ◌^◌, sym, ap, length, string_bytes, Result, Ok, Err, IfOk}
+use Rattle.std.proofs.Common.{IfErr, MatchResult}
 use Rattle.std.specs.Option.{ok_or}
 use Rattle.std.proofs.lemmas.List.{length-map}
 use Rattle.clap.specs.Words.{app_of, is_simple, subcommand_of, fault_of, is_simple_and_free, kind_of}
@@ -14,7 +15,8 @@ both : {T E : Type 0} (r : Result T E) (P Q S : T → Type 0) (R : E → Type 0)
 both (Ok x) P Q S R f p q = f x p q
 both (Err e) P Q S R f p q = p
 
-error : {T E : Type 0} (r : Result T E) (Q : T → Type 0) (R S : E → Type 0) → ((e : E) → R e → S e) → MatchResult r Q R → IfErr r S
+error : {T E : Type 0} (r : Result T E) (Q : T → Type 0) (R S : E → Type 0) → ((e : E) → R e → S e) → MatchResult r Q R
+    → IfErr r S
 error (Ok x) Q R S f m = tt
 error (Err e) Q R S f m = f e m
 
@@ -28,8 +30,10 @@ returns-clause-matches c =
     let told = tells words (all_plain (other_words words) c.requires.known c.requires.plain) short in
     let parse = c.try_get_matches_from in
     both parse.result _ _ _ _ (λ m h k. plain_asked words c.requires.known c.requires.plain
-    ∙ matched (task_of words) (fault_of warcdx words) (subcommand_of warcdx words) told (ap (λ a. fault_of a words) (sym same) ∙ k)
-    ∙ ap (λ met. ok_or (matches_task met) Usage) (sym ((h (ap is_simple same)).1 ∙ ap (λ a. subcommand_of a words) same)))
+    ∙ matched (task_of words) (fault_of warcdx words) (subcommand_of warcdx words) told
+    (ap (λ a. fault_of a words) (sym same) ∙ k)
+    ∙ ap (λ met. ok_or (matches_task met) Usage)
+    (sym ((h (ap is_simple same)).1 ∙ ap (λ a. subcommand_of a words) same)))
     parse.ensures.matches (parse.ensures.kinds (ap is_simple_and_free same))
 
 pub returns-clause-refused : goal.returns-clause-refused

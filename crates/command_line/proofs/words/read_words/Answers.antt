@@ -1,4 +1,5 @@
-use Rattle.std.proofs.Common.{refl, ◌≡◌, ◌∙◌, sym, ap, List, Bool, Option, None, Some, true, false, find, is_some, Result, Err}
+use Rattle.std.proofs.Common.{refl, ◌≡◌, ◌∙◌, sym, ap, List, Bool, Option, None, Some, true, false, find, is_some}
+use Rattle.std.proofs.Common.{Result, Err}
 use Rattle.std.specs.List.{list_any}
 use Rattle.std.specs.Option.{IfSome}
 use Rattle.command_line.specs.Words.{Text, texts, asks_for_help, is_unknown_option}
@@ -7,7 +8,8 @@ use Rattle.command_line.proofs.Finding.{any_found, found_passes}
 use Rattle.command_line.proofs.OtherWords.{first_known}
 use Rattle.command_line.proofs.words.read_words.Goals as goal
 
-wanted_so : (wanted : Result Meaning Refusal) (r : Refusal) (given : Option Refusal) → wanted ≡ Err r → IfSome given (λ refusal. refusal ≡ r)
+wanted_so : (wanted : Result Meaning Refusal) (r : Refusal) (given : Option Refusal) → wanted ≡ Err r
+    → IfSome given (λ refusal. refusal ≡ r)
     → IfSome given (λ refusal. wanted ≡ Err refusal)
 wanted_so wanted r None w h = tt
 wanted_so wanted r (Some refusal) w h = w ∙ ap Err (sym h)
@@ -31,7 +33,8 @@ help_fault-requires-clause-known c =
 
 pub help_fault-requires-clause-asks : goal.help_fault-requires-clause-asks
 help_fault-requires-clause-asks c =
-    let found : _ ≡ find asks_for_help (texts c.other_words-others.result.now) = rw c.in-Some-help_option.is at c.help_option.ensures in
+    let found : _ ≡ find asks_for_help (texts c.other_words-others.result.now) = rw c.in-Some-help_option.is
+    at c.help_option.ensures in
     found_passes asks_for_help (texts c.other_words-others.result.now) _ (sym found)
 
 pub returns-in-Some-help_option : goal.returns-in-Some-help_option

@@ -1,5 +1,6 @@
 use Rattle.std.proofs.lemmas.Result.{err_from_is_err_and}
-use Rattle.std.proofs.Common.{◌∙◌, ◌++◌, [], append-nil, List, length, length-append, option_to_list, ap, sym, subst, append_assoc, arith}
+use Rattle.std.proofs.Common.{◌∙◌, ◌++◌, [], append-nil, List, length, length-append, option_to_list, ap, sym, subst}
+use Rattle.std.proofs.Common.{append_assoc, arith}
 use Rattle.warc_core.specs.declared.next.TheConstants.{HEAD_LIMIT}
 use Rattle.cdxj_core.specs.declared.limit.TheConstants.{LINE_LIMIT}
 use Rattle.cdxj_core.specs.Entries.{EntryValue}
@@ -14,18 +15,41 @@ use Rattle.index_core.proofs.captures.add_captures.Goals as goal
 pub returns-in-Ok-None-clause-gains : goal.returns-in-Ok-None-clause-gains
 returns-in-Ok-None-clause-gains g c =
     let e = rw c.in-Ok-None.field-0-is at c.in-Ok-None.ensures in
-    let s = c.loop-captures.invariant.gains in
-    (s.0, s.1, (omega (arith, c.len.ensures, c.loop-captures.invariant.held, ap length s.1, length-append c.args.captures.now.items s.0), AddedSoFar-end (includes c.args.types) usual_limits HEAD_LIMIT c.args.name.now _ _ _ c.loop-captures.reader.offset s.0 s.2 e.takes))
+    let s = c.loop-captures.invariant.gains in (
+      s.0,
+      s.1,
+      (
+        omega (
+          arith,
+          c.len.ensures,
+          c.loop-captures.invariant.held,
+          ap length s.1,
+          length-append
+              c.args.captures.now.items s.0,
+        ),
+        AddedSoFar-end (includes c.args.types) usual_limits HEAD_LIMIT c.args.name.now _
+            _ _ c.loop-captures.reader.offset s.0 s.2 e.takes,
+      ),
+    )
 
 pub returns-in_err-reader-clause-gains : goal.returns-in_err-reader-clause-gains
 returns-in_err-reader-clause-gains g c =
-    let p = err_from_is_err_and c.from_residual.result c.from_residual.ensures.1 in
-    ([], sym (append-nil c.args.captures.now.items), rw (p.1, p.2, c.in_err-reader.ensures.memory) (none_added (includes c.args.types) usual_limits HEAD_LIMIT c.args.name.now (g.I.Input.remaining c.args.input.now)))
+    let p = err_from_is_err_and c.from_residual.result c.from_residual.ensures.1 in (
+      [],
+      sym (append-nil c.args.captures.now.items),
+      rw (p.1, p.2, c.in_err-reader.ensures.memory)
+          (none_added (includes c.args.types) usual_limits HEAD_LIMIT c.args.name.now
+          (g.I.Input.remaining c.args.input.now)),
+    )
 
 pub returns-in-Err-clause-gains : goal.returns-in-Err-clause-gains
 returns-in-Err-clause-gains g c =
-    let i = c.loop-captures.invariant.gains in
-    (i.0, i.1, AddedSoFar-refused (includes c.args.types) usual_limits HEAD_LIMIT c.args.name.now _ _ c.loop-captures.reader.offset i.0 c.in-Err.fault i.2 c.in-Err.ensures.takes)
+    let i = c.loop-captures.invariant.gains in (
+      i.0,
+      i.1,
+      AddedSoFar-refused (includes c.args.types) usual_limits HEAD_LIMIT c.args.name.now _ _
+          c.loop-captures.reader.offset i.0 c.in-Err.fault i.2 c.in-Err.ensures.takes,
+    )
 
 pub loop-captures-preserved : goal.loop-captures-preserved
 loop-captures-preserved g c =
@@ -40,12 +64,16 @@ loop-captures-preserved g c =
       within = rw t.stands.offset_is t.begins.fits;
       gains = (
         i.gains.0 ++ more,
-        c.in-Ok.ensures.ok ∙ (ap (λ (xs : List EntryValue). xs ++ more) i.gains.1 ∙ append_assoc c.args.captures.now.items i.gains.0 more),
-        rw t.stands.offset_is (AddedSoFar-more (includes c.args.types) usual_limits HEAD_LIMIT c.args.name.now _ _ _ o i.gains.0 c.in-Ok-Some.head c.in-Ok-Some.captured _ i.gains.2 t),
+        c.in-Ok.ensures.ok ∙ (ap (λ (xs : List EntryValue). xs ++ more) i.gains.1
+            ∙ append_assoc c.args.captures.now.items i.gains.0 more),
+        rw t.stands.offset_is (AddedSoFar-more (includes c.args.types) usual_limits HEAD_LIMIT c.args.name.now _ _ _ o
+            i.gains.0 c.in-Ok-Some.head c.in-Ok-Some.captured _ i.gains.2 t),
       );
       before = subst (StandBefore c.args.name.now c.next_capture.new.reader.offset) (sym c.in-Ok.ensures.ok)
-          (before_step c.args.name.now LINE_LIMIT o c.next_capture.new.reader.offset c.in-Ok-Some.head _ c.in-Ok-Some.captured (rw t.stands.offset_is (omega arith)) t.begins.start_is t.entry i.before);
+          (before_step c.args.name.now LINE_LIMIT o c.next_capture.new.reader.offset c.in-Ok-Some.head _
+          c.in-Ok-Some.captured (rw t.stands.offset_is (omega arith)) t.begins.start_is t.entry i.before);
       sound = λ names used s. subst (AreSound LINE_LIMIT names) (sym c.in-Ok.ensures.ok)
-          (sound_step LINE_LIMIT names c.args.name.now o c.in-Ok-Some.head _ c.in-Ok-Some.captured used t.begins.start_is t.entry i.before (i.sound names used s));
+          (sound_step LINE_LIMIT names c.args.name.now o c.in-Ok-Some.head _ c.in-Ok-Some.captured used
+          t.begins.start_is t.entry i.before (i.sound names used s));
       reads = e.failures ∙ i.reads;
     }

@@ -16,9 +16,12 @@ invariant-loop-captures g l = record {
   held : l.held ≡ length l.fn.captures.items;
   phase : l.reader.phase ≡ Between;
   within : l.reader.offset ≤ 2 ^ 63 - 1;
-  gains : (gained : List EntryValue) × (l.captures.items ≡ l.fn.captures.items ++ gained) × AddedSoFar (includes l.types) usual_limits HEAD_LIMIT l.name (g.I.Input.remaining l.fn.input) (prepend_known l.reader.held (g.I.Input.remaining l.input)) l.reader.offset gained;
+  gains : (gained : List EntryValue) × (l.captures.items ≡ l.fn.captures.items ++ gained)
+      × AddedSoFar (includes l.types) usual_limits HEAD_LIMIT l.name (g.I.Input.remaining l.fn.input)
+      (prepend_known l.reader.held (g.I.Input.remaining l.input)) l.reader.offset gained;
   before : StandBefore l.name l.reader.offset l.captures.items;
-  sound : (names : List (List ℕ)) → is_among names l.name ≡ true → AreSound LINE_LIMIT names l.fn.captures.items → AreSound LINE_LIMIT names l.captures.items;
+  sound : (names : List (List ℕ)) → is_among names l.name ≡ true → AreSound LINE_LIMIT names l.fn.captures.items
+      → AreSound LINE_LIMIT names l.captures.items;
   reads : g.I.Input.failures l.input ≡ g.I.Input.failures l.fn.input;
 }
 

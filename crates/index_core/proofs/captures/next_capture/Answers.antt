@@ -15,7 +15,12 @@ pub returns-in_err-next-clause-takes : goal.returns-in_err-next-clause-takes
 returns-in_err-next-clause-takes g c =
     let p = err_from_is_err_and c.from_residual.result c.from_residual.ensures.1 in
     let n = c.in_err-next.ensures.between c.requires.between in
-    rw (p.1, p.2) (n.state.at, found_there (record_at HEAD_LIMIT c.args.reader.now.offset) c.in_err-next.field-0.0.cause _ _ (record-stopped HEAD_LIMIT c.args.reader.now.offset _ (g.I.Input.remaining c.args.input.now) _ c.in_err-next.field-0.0.cause n.bytes))
+    rw (p.1, p.2) (
+      n.state.at,
+      found_there (record_at HEAD_LIMIT c.args.reader.now.offset) c.in_err-next.field-0.0.cause
+          _ _ (record-stopped HEAD_LIMIT c.args.reader.now.offset _ (g.I.Input.remaining c.args.input.now) _
+          c.in_err-next.field-0.0.cause n.bytes),
+    )
 
 pub returns-in-None-clause-takes : goal.returns-in-None-clause-takes
 returns-in-None-clause-takes g c =
@@ -24,11 +29,17 @@ returns-in-None-clause-takes g c =
 
 pub returns-in_err-captured-in-Some-clause-takes : goal.returns-in_err-captured-in-Some-clause-takes
 returns-in_err-captured-in-Some-clause-takes g c =
-    let p = err_from_is_err_and c.from_residual-in_err-captured-in-Some.result c.from_residual-in_err-captured-in-Some.ensures.1 in
+    let p = err_from_is_err_and c.from_residual-in_err-captured-in-Some.result
+    c.from_residual-in_err-captured-in-Some.ensures.1 in
     let n = rw c.in-Some.is at (c.in_ok-next.ensures.between c.requires.between) in
     let k = c.in_err-captured-in-Some.ensures in
     let f = c.in_err-captured-in-Some.field-0.0 in
-    rw (p.1, p.2) (fault_at c.in-Some.head.start f k.reads.fault ∙ n.begins.start_is, refused_there (includes c.args.types) usual_limits HEAD_LIMIT c.args.name.now c.args.reader.now.offset c.in-Some.head f _ _ _ n.bytes k.reads.bytes k.capture)
+    rw (p.1, p.2) (
+      fault_at c.in-Some.head.start f k.reads.fault
+          ∙ n.begins.start_is,
+      refused_there (includes c.args.types) usual_limits HEAD_LIMIT c.args.name.now
+          c.args.reader.now.offset c.in-Some.head f _ _ _ n.bytes k.reads.bytes k.capture,
+    )
 
 pub returns-in_ok-captured-in-Some-clause-takes : goal.returns-in_ok-captured-in-Some-clause-takes
 returns-in_ok-captured-in-Some-clause-takes g c =
@@ -36,8 +47,10 @@ returns-in_ok-captured-in-Some-clause-takes g c =
     let k = c.in_ok-captured-in-Some.ensures in
     record {
       bytes = record-whole HEAD_LIMIT c.args.reader.now.offset _ _ _ c.in-Some.head n.bytes k.reads.bytes;
-      stands = subst (λ s. StandsAt c.held_capture.new.reader (s + record_length c.in-Some.head) Between) n.begins.start_is k.reads.state;
+      stands = subst (λ s. StandsAt c.held_capture.new.reader (s + record_length c.in-Some.head) Between)
+          n.begins.start_is k.reads.state;
       begins = n.begins;
-      capture = capture_there (includes c.args.types) usual_limits HEAD_LIMIT c.args.name.now c.args.reader.now.offset c.in-Some.head c.in_ok-captured-in-Some.captured _ _ _ n.bytes k.reads.bytes k.capture;
+      capture = capture_there (includes c.args.types) usual_limits HEAD_LIMIT c.args.name.now c.args.reader.now.offset
+          c.in-Some.head c.in_ok-captured-in-Some.captured _ _ _ n.bytes k.reads.bytes k.capture;
       entry = k.entry;
     }

@@ -26,9 +26,14 @@ returns-then-count-eq0-clause-copies g c left len e =
     let i = c.loop-count.invariant in
     let b = c.in_ok-count.ensures.open i.rest i.len i.copying.stands.phase_is in
     let zero : c.in_ok-count.count ≡ 0 = c.if-count-eq0.true in
-    let none : i.rest ≡ 0 = zero_of i.rest (λ some. let more = b.bound.2 some (omega (arith, c.block.auto.piece)) in omega (arith, zero, more)) in
-    let last = Copying-more i.left i.len i.rest _ _ _ _ _ _ _ _ _ i.copying c.in_ok-count.count c.block.new.piece _ _ b (subst (λ n. Appends (g.O.Output.written c.loop-count.out) (g.O.Output.written c.loop-count.out) (take n c.block.new.piece)) (sym zero) (Appends-none _)) in
-    of_open (λ a b. CopiesBlock a b c.args.reader.now c.block.new.self (Ok tt) (g.I.Input.remaining c.args.input.now) (g.I.Input.remaining c.block.new.input) (g.O.Output.written c.args.out.now) (g.O.Output.written c.loop-count.out)) _ i.left i.len left len i.opened e
+    let none : i.rest ≡ 0 = zero_of i.rest
+    (λ some. let more = b.bound.2 some (omega (arith, c.block.auto.piece)) in omega (arith, zero, more)) in
+    let last = Copying-more i.left i.len i.rest _ _ _ _ _ _ _ _ _ i.copying c.in_ok-count.count c.block.new.piece _ _ b
+    (subst (λ n. Appends (g.O.Output.written c.loop-count.out) (g.O.Output.written c.loop-count.out)
+    (take n c.block.new.piece)) (sym zero) (Appends-none _)) in
+    of_open (λ a b. CopiesBlock a b c.args.reader.now c.block.new.self (Ok tt) (g.I.Input.remaining c.args.input.now)
+    (g.I.Input.remaining c.block.new.input) (g.O.Output.written c.args.out.now)
+    (g.O.Output.written c.loop-count.out)) _ i.left i.len left len i.opened e
     (Copying-end i.left i.len (i.rest - c.in_ok-count.count) _ _ _ _ _ _ (omega (arith, none)) last)
 
 pub returns-then-count-eq0-clause-reads : goal.returns-then-count-eq0-clause-reads
@@ -65,7 +70,8 @@ loop-count-preserved g c =
       len = i.len;
       rest = i.rest - c.in_ok-count.count;
       opened = i.opened;
-      copying = Copying-more i.left i.len i.rest _ _ _ _ _ _ _ _ _ i.copying c.in_ok-count.count c.block.new.piece _ _ b c.in_ok-put_bytes.ensures.bytes;
+      copying = Copying-more i.left i.len i.rest _ _ _ _ _ _ _ _ _ i.copying c.in_ok-count.count c.block.new.piece _ _ b
+          c.in_ok-put_bytes.ensures.bytes;
       reads = b.failures ∙ i.reads;
       writes = c.in_ok-put_bytes.ensures.failures ∙ i.writes;
     }
@@ -77,8 +83,11 @@ returns-in_err-put_bytes-clause-copies g c left len e =
     let b = c.in_ok-count.ensures.open i.rest i.len i.copying.stands.phase_is in
     let r = c.in_err-put_bytes.ensures in
     rw (p.1, p.2)
-    (of_open (λ a b. CopiesBlock a b c.args.reader.now c.block.new.self (Err c.in_err-put_bytes.field-0.0) (g.I.Input.remaining c.args.input.now) (g.I.Input.remaining c.block.new.input) (g.O.Output.written c.args.out.now) (g.O.Output.written c.put_bytes.new.out)) _ i.left i.len left len i.opened e
-    (Copying-cut i.left i.len i.rest _ _ _ _ _ _ _ _ _ i.copying c.in_err-put_bytes.field-0.0 c.in_ok-count.count c.block.new.piece _ _ r.refusal b r.bytes))
+    (of_open (λ a b. CopiesBlock a b c.args.reader.now c.block.new.self (Err c.in_err-put_bytes.field-0.0)
+    (g.I.Input.remaining c.args.input.now) (g.I.Input.remaining c.block.new.input)
+    (g.O.Output.written c.args.out.now) (g.O.Output.written c.put_bytes.new.out)) _ i.left i.len left len i.opened e
+    (Copying-cut i.left i.len i.rest _ _ _ _ _ _ _ _ _ i.copying c.in_err-put_bytes.field-0.0 c.in_ok-count.count
+    c.block.new.piece _ _ r.refusal b r.bytes))
 
 pub returns-in_err-put_bytes-clause-reads : goal.returns-in_err-put_bytes-clause-reads
 returns-in_err-put_bytes-clause-reads g c =
@@ -93,5 +102,9 @@ returns-in_err-count-clause-copies g c left len e =
     let i = c.loop-count.invariant in
     let b = c.in_err-count.ensures.open i.rest i.len i.copying.stands.phase_is in
     rw (p.1, p.2)
-    (of_open (λ a b. CopiesBlock a b c.args.reader.now c.block.new.self (Err (faults.Capture (Archive c.in_err-count.field-0.0))) (g.I.Input.remaining c.args.input.now) (g.I.Input.remaining c.block.new.input) (g.O.Output.written c.args.out.now) (g.O.Output.written c.loop-count.out)) _ i.left i.len left len i.opened e
-    (Copying-fault i.left i.len i.rest _ _ _ _ _ _ _ _ (g.O.Output.written c.loop-count.out) i.copying c.in_err-count.field-0.0 c.block.new.piece _ _ b))
+    (of_open (λ a b. CopiesBlock a b c.args.reader.now c.block.new.self
+    (Err (faults.Capture (Archive c.in_err-count.field-0.0))) (g.I.Input.remaining c.args.input.now)
+    (g.I.Input.remaining c.block.new.input) (g.O.Output.written c.args.out.now)
+    (g.O.Output.written c.loop-count.out)) _ i.left i.len left len i.opened e
+    (Copying-fault i.left i.len i.rest _ _ _ _ _ _ _ _ (g.O.Output.written c.loop-count.out) i.copying
+    c.in_err-count.field-0.0 c.block.new.piece _ _ b))

@@ -10,7 +10,8 @@ invariant-loop-count g l = record {
   len : ℕ;
   rest : ℕ;
   opened : l.fn.reader.phase ≡ Open left len;
-  copying : Copying left len rest l.fn.reader l.reader (g.I.Input.remaining l.fn.input) (g.I.Input.remaining l.input) (g.O.Output.written l.fn.out) (g.O.Output.written l.out);
+  copying : Copying left len rest l.fn.reader l.reader (g.I.Input.remaining l.fn.input) (g.I.Input.remaining l.input)
+      (g.O.Output.written l.fn.out) (g.O.Output.written l.out);
   reads : g.I.Input.failures l.input ≡ g.I.Input.failures l.fn.input;
   writes : g.O.Output.failures l.out ≡ g.O.Output.failures l.fn.out;
 }

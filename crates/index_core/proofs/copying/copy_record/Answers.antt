@@ -9,14 +9,16 @@ pub returns-in_err-put_bytes-clause-copies : goal.returns-in_err-put_bytes-claus
 returns-in_err-put_bytes-clause-copies g c =
     let p = err_from_is_err_and c.from_residual.result c.from_residual.ensures.1 in
     let e = c.in_err-put_bytes.ensures in
-    rw (p.1, p.2) (head_cut c.args.head.now _ _ c.in_err-put_bytes.field-0.0 _ _ e.refusal (rw c.raw.ensures.value at e.bytes))
+    rw (p.1, p.2) (head_cut c.args.head.now _ _ c.in_err-put_bytes.field-0.0 _ _ e.refusal
+    (rw c.raw.ensures.value at e.bytes))
 
 pub returns-in_err-copy_block-clause-copies : goal.returns-in_err-copy_block-clause-copies
 returns-in_err-copy_block-clause-copies g c =
     let p = err_from_is_err_and c.from_residual-in_err-copy_block.result c.from_residual-in_err-copy_block.ensures.1 in
     let h = c.args.head.now in
     let head = rw c.raw.ensures.value at c.in_ok-put_bytes.ensures.bytes in
-    rw (p.1, p.2) (block_cut h _ _ _ _ _ _ _ c.requires.offset_is head c.in_err-copy_block.field-0.0 _ (c.in_err-copy_block.ensures.copies h.parts.length (record_length h) c.requires.phase_is))
+    rw (p.1, p.2) (block_cut h _ _ _ _ _ _ _ c.requires.offset_is head c.in_err-copy_block.field-0.0 _
+    (c.in_err-copy_block.ensures.copies h.parts.length (record_length h) c.requires.phase_is))
 
 pub returns-in_err-length-clause-copies : goal.returns-in_err-length-clause-copies
 returns-in_err-length-clause-copies g c =
@@ -24,37 +26,47 @@ returns-in_err-length-clause-copies g c =
     let h = c.args.head.now in
     let head = rw c.raw.ensures.value at c.in_ok-put_bytes.ensures.bytes in
     let block = c.in_ok-copy_block.ensures.copies h.parts.length (record_length h) c.requires.phase_is in
-    rw (p.1, p.2) (finish_cut h _ _ _ _ _ _ _ c.requires.offset_is head block _ _ _ _ c.in_err-length.field-0.0 (c.in_err-length.ensures.open 0 (record_length h) block.ends.2.phase_is))
+    rw (p.1, p.2) (finish_cut h _ _ _ _ _ _ _ c.requires.offset_is head block _ _ _ _ c.in_err-length.field-0.0
+    (c.in_err-length.ensures.open 0 (record_length h) block.ends.2.phase_is))
 
 pub returns-in_err-length-clause-reads : goal.returns-in_err-length-clause-reads
 returns-in_err-length-clause-reads g c =
     let p = err_from_is_err_and c.from_residual-in_err-length.result c.from_residual-in_err-length.ensures.1 in
     let h = c.args.head.now in
     let block = c.in_ok-copy_block.ensures.copies h.parts.length (record_length h) c.requires.phase_is in
-    rw (p.1, p.2) (subst (λ k. CountsRead {A = Unit {0}} (Err c.in_err-length.field-0.0.cause) k (g.I.Input.failures c.finish.new.input)) c.in_ok-copy_block.ensures.reads (c.in_err-length.ensures.open 0 (record_length h) block.ends.2.phase_is).failures)
+    rw (p.1, p.2) (subst (λ k. CountsRead {A = Unit {0}} (Err c.in_err-length.field-0.0.cause) k
+    (g.I.Input.failures c.finish.new.input)) c.in_ok-copy_block.ensures.reads
+    (c.in_err-length.ensures.open 0 (record_length h) block.ends.2.phase_is).failures)
 
 pub returns-in_err-put_bytes-2-clause-copies : goal.returns-in_err-put_bytes-2-clause-copies
 returns-in_err-put_bytes-2-clause-copies g c =
-    let p = err_from_is_err_and c.from_residual-in_err-put_bytes-2.result c.from_residual-in_err-put_bytes-2.ensures.1 in
+    let p = err_from_is_err_and c.from_residual-in_err-put_bytes-2.result
+    c.from_residual-in_err-put_bytes-2.ensures.1 in
     let h = c.args.head.now in
     let head = rw c.raw.ensures.value at c.in_ok-put_bytes.ensures.bytes in
     let block = c.in_ok-copy_block.ensures.copies h.parts.length (record_length h) c.requires.phase_is in
     let e = c.in_err-put_bytes-2.ensures in
-    rw (p.1, p.2) (closing_cut h _ _ _ _ _ _ _ c.requires.offset_is head block _ _ _ _ _ c.in_ok-length.length (c.in_ok-length.ensures.open 0 (record_length h) block.ends.2.phase_is) c.in_err-put_bytes-2.field-0.0 e.refusal e.bytes)
+    rw (p.1, p.2) (closing_cut h _ _ _ _ _ _ _ c.requires.offset_is head block _ _ _ _ _ c.in_ok-length.length
+    (c.in_ok-length.ensures.open 0 (record_length h) block.ends.2.phase_is) c.in_err-put_bytes-2.field-0.0 e.refusal
+    e.bytes)
 
 pub returns-in_err-put_bytes-2-clause-reads : goal.returns-in_err-put_bytes-2-clause-reads
 returns-in_err-put_bytes-2-clause-reads g c =
-    let p = err_from_is_err_and c.from_residual-in_err-put_bytes-2.result c.from_residual-in_err-put_bytes-2.ensures.1 in
+    let p = err_from_is_err_and c.from_residual-in_err-put_bytes-2.result
+    c.from_residual-in_err-put_bytes-2.ensures.1 in
     let h = c.args.head.now in
     let block = c.in_ok-copy_block.ensures.copies h.parts.length (record_length h) c.requires.phase_is in
-    rw (p.1, p.2, c.in_err-put_bytes-2.ensures.refusal) ((c.in_ok-length.ensures.open 0 (record_length h) block.ends.2.phase_is).failures ∙ c.in_ok-copy_block.ensures.reads)
+    rw (p.1, p.2, c.in_err-put_bytes-2.ensures.refusal)
+    ((c.in_ok-length.ensures.open 0 (record_length h) block.ends.2.phase_is).failures
+    ∙ c.in_ok-copy_block.ensures.reads)
 
 pub returns-clause-copies : goal.returns-clause-copies
 returns-clause-copies g c =
     let h = c.args.head.now in
     let head = rw c.raw.ensures.value at c.in_ok-put_bytes.ensures.bytes in
     let block = c.in_ok-copy_block.ensures.copies h.parts.length (record_length h) c.requires.phase_is in
-    record_copied h _ _ _ _ _ _ _ c.requires.offset_is head block _ _ _ _ _ c.in_ok-length.length (c.in_ok-length.ensures.open 0 (record_length h) block.ends.2.phase_is) c.in_ok-put_bytes-2.ensures.bytes
+    record_copied h _ _ _ _ _ _ _ c.requires.offset_is head block _ _ _ _ _ c.in_ok-length.length
+    (c.in_ok-length.ensures.open 0 (record_length h) block.ends.2.phase_is) c.in_ok-put_bytes-2.ensures.bytes
 
 pub returns-clause-reads : goal.returns-clause-reads
 returns-clause-reads g c =

@@ -10,7 +10,10 @@ pub returns-in-Some-clause-fetches : goal.returns-in-Some-clause-fetches
 returns-in-Some-clause-fetches g c =
     let r = rw c.in-Some.is at c.in_ok-reader.ensures.reaches in
     fetched HEAD_LIMIT c.args.offset c.copy_next.result _ _ _ _ r.1
-    (subst (λ o. CopiesNext HEAD_LIMIT o c.copy_next.result (prepend_known c.in-Some.reader.held (g.I.Input.remaining c.reader_at.new.input)) (g.O.Output.written c.args.out.now) (g.O.Output.written c.copy_next.new.out)) r.0.offset_is c.copy_next.ensures.copies)
+    (subst (λ o. CopiesNext HEAD_LIMIT o c.copy_next.result
+    (prepend_known c.in-Some.reader.held (g.I.Input.remaining c.reader_at.new.input))
+    (g.O.Output.written c.args.out.now) (g.O.Output.written c.copy_next.new.out)) r.0.offset_is
+    c.copy_next.ensures.copies)
 
 pub returns-in_err-reader-clause-fetches : goal.returns-in_err-reader-clause-fetches
 returns-in_err-reader-clause-fetches g c =

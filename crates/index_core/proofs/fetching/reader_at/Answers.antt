@@ -16,7 +16,11 @@ loop-end-preserved g c =
     let fits = n.begins.fits in
     let less : end < c.args.offset = c.loop-end-test.true in
     record {
-      stands = record { offset_is = n.state.offset_is ∙ (ap (λ p. p + record_length h) o ∙ ap (λ l. end + l) (sym length)); phase_is = n.state.phase_is };
+      stands = record {
+        offset_is = n.state.offset_is
+            ∙ (ap (λ p. p + record_length h) o ∙ ap (λ l. end + l) (sym length));
+        phase_is = n.state.phase_is;
+      };
       within = omega (arith, fits, o, length);
       walked = rw length (WalkedTo-more HEAD_LIMIT end _ _ _ h i.walked bytes);
       inside = λ past. went_past HEAD_LIMIT end _ _ _ c.args.offset h i.walked bytes less (omega (arith, past, length));
@@ -28,4 +32,5 @@ returns-in-None-clause-reaches g c =
     let i = c.loop-end.invariant in
     let n = rw c.in-None.is at c.in_ok-head.ensures in
     let less : c.loop-end.end < c.args.offset = c.loop-end-test.true in
-    ends_before HEAD_LIMIT c.loop-end.end _ _ _ c.args.offset i.walked (rw i.stands.offset_is at n.bytes) (omega (arith, less))
+    ends_before HEAD_LIMIT c.loop-end.end _ _ _ c.args.offset i.walked (rw i.stands.offset_is at n.bytes)
+    (omega (arith, less))

@@ -11,8 +11,10 @@ abbrev pub invariant-loop-end : goal.invariant-loop-end
 invariant-loop-end g l = record {
   stands : StandsAt l.reader l.end Between;
   within : l.end ≤ 2 ^ 63 - 1;
-  walked : WalkedTo HEAD_LIMIT l.end (g.I.Input.remaining l.fn.input) (prepend_known l.reader.held (g.I.Input.remaining l.input));
-  inside : l.offset < l.end → IfSome (g.I.Input.remaining l.fn.input) (λ archive. IsInRecord HEAD_LIMIT archive l.offset);
+  walked : WalkedTo HEAD_LIMIT l.end (g.I.Input.remaining l.fn.input)
+      (prepend_known l.reader.held (g.I.Input.remaining l.input));
+  inside : l.offset < l.end
+      → IfSome (g.I.Input.remaining l.fn.input) (λ archive. IsInRecord HEAD_LIMIT archive l.offset);
   reads : g.I.Input.failures l.input ≡ g.I.Input.failures l.fn.input;
 }
 

@@ -11,7 +11,9 @@ invariant-loop-reader g l = record {
   phase : l.reader.phase ≡ Between;
   within : l.reader.offset ≤ 2 ^ 63 - 1;
   fewer : l.count ≤ l.reader.offset;
-  lines : SoFar HEAD_LIMIT listing_line record_count (g.I.Input.remaining l.fn.input) (prepend_known l.reader.held (g.I.Input.remaining l.input)) l.reader.offset l.count (g.O.Output.written l.fn.out) (g.O.Output.written l.out);
+  lines : SoFar HEAD_LIMIT listing_line record_count (g.I.Input.remaining l.fn.input)
+      (prepend_known l.reader.held (g.I.Input.remaining l.input)) l.reader.offset l.count (g.O.Output.written l.fn.out)
+      (g.O.Output.written l.out);
   reads : g.I.Input.failures l.input ≡ g.I.Input.failures l.fn.input;
   writes : g.O.Output.failures l.out ≡ g.O.Output.failures l.fn.out;
 }

@@ -6,7 +6,8 @@ use Rattle.warc_core.specs.Walk.{record_at}
 use Rattle.index_core.specs.declared.verified.Verified.{Verified}
 use Rattle.index_core.specs.Verifying.{verification_line, verified_in}
 use Rattle.index_core.proofs.VerdictLemmas.{verdict_known, is_line, one_verdict, one_at_most}
-use Rattle.index_core.proofs.ReportLemmas.{SoFar-start, SoFar-more, SoFar-end, SoFar-stopped, stopped_anywhere, fault_reported}
+use Rattle.index_core.proofs.ReportLemmas.{SoFar-start, SoFar-more, SoFar-end, SoFar-stopped, stopped_anywhere}
+use Rattle.index_core.proofs.ReportLemmas.{fault_reported}
 use Rattle.index_core.proofs.verifying.verify.Goals as goal
 
 abbrev so_far : ℕ → ℕ → Verified
@@ -16,32 +17,50 @@ pub returns-in-Err-clause-verifies : goal.returns-in-Err-clause-verifies
 returns-in-Err-clause-verifies g c =
     let left = g.I.Input.remaining c.args.input.now in
     let none : Verified = record { records = 0; differing = 0 } in
-    fault_reported HEAD_LIMIT verification_line verified_in c.in-Err.fault c.put_fault.result left (prepend_known [] left) left 0 none _ _ _ _ _ (SoFar-start HEAD_LIMIT verification_line verified_in left _ none (λ archive. refl)) (stopped_anywhere (record_at HEAD_LIMIT 0) c.in-Err.fault.cause (prepend_known [] left) left (ap (λ f. f.cause) c.in-Err.ensures.memory)) (ap (λ f. f.offset) c.in-Err.ensures.memory) c.put_fault.ensures
+    fault_reported HEAD_LIMIT verification_line verified_in c.in-Err.fault c.put_fault.result left
+    (prepend_known [] left) left 0 none _ _ _ _ _
+    (SoFar-start HEAD_LIMIT verification_line verified_in left _ none (λ archive. refl))
+    (stopped_anywhere (record_at HEAD_LIMIT 0) c.in-Err.fault.cause (prepend_known [] left) left
+    (ap (λ f. f.cause) c.in-Err.ensures.memory)) (ap (λ f. f.offset) c.in-Err.ensures.memory) c.put_fault.ensures
 
 pub returns-in-Ok-None-clause-verifies : goal.returns-in-Ok-None-clause-verifies
 returns-in-Ok-None-clause-verifies g c =
     let e = rw c.in-Ok-None.field-0-is at c.in-Ok-None.ensures in
-    SoFar-end HEAD_LIMIT verification_line verified_in _ _ _ c.loop-reader.reader.offset (so_far c.loop-reader.records c.loop-reader.differing) _ _ c.loop-reader.invariant.lines e.bytes
+    SoFar-end HEAD_LIMIT verification_line verified_in _ _ _ c.loop-reader.reader.offset
+    (so_far c.loop-reader.records c.loop-reader.differing) _ _ c.loop-reader.invariant.lines e.bytes
 
 pub returns-in_err-put_line-in-Ok-Some-clause-verifies : goal.returns-in_err-put_line-in-Ok-Some-clause-verifies
 returns-in_err-put_line-in-Ok-Some-clause-verifies g c =
     let p = err_from_is_err_and c.from_residual.result c.from_residual.ensures.1 in
     let w = c.in_err-put_line-in-Ok-Some.ensures in
     let e = rw c.in-Ok-Some.field-0-is at c.in-Ok-Some.ensures in
-    let known = verdict_known HEAD_LIMIT verified_in _ _ c.loop-reader.reader.offset (so_far c.loop-reader.records c.loop-reader.differing) _ _ c.in-Ok-Some.head c.in-Ok-Some.verdict c.loop-reader.invariant.lines e.begins.start_is (e.verdict c.in-Ok-Some.head c.in-Ok-Some.verdict refl) in
-    rw (p.1, p.2, w.refusal) (SoFar-stopped HEAD_LIMIT verification_line verified_in _ _ _ c.loop-reader.reader.offset (so_far c.loop-reader.records c.loop-reader.differing) c.in-Ok-Some.head _ _ _ _ c.loop-reader.invariant.lines e.bytes (is_line _ c.in-Ok-Some.head c.in-Ok-Some.verdict known) (rw (c.verdict_line.ensures, c.start.ensures) at w.line))
+    let known = verdict_known HEAD_LIMIT verified_in _ _ c.loop-reader.reader.offset
+    (so_far c.loop-reader.records c.loop-reader.differing) _ _ c.in-Ok-Some.head c.in-Ok-Some.verdict
+    c.loop-reader.invariant.lines e.begins.start_is (e.verdict c.in-Ok-Some.head c.in-Ok-Some.verdict refl) in
+    rw (p.1, p.2, w.refusal) (SoFar-stopped HEAD_LIMIT verification_line verified_in _ _ _ c.loop-reader.reader.offset
+    (so_far c.loop-reader.records c.loop-reader.differing) c.in-Ok-Some.head _ _ _ _ c.loop-reader.invariant.lines
+    e.bytes (is_line _ c.in-Ok-Some.head c.in-Ok-Some.verdict known)
+    (rw (c.verdict_line.ensures, c.start.ensures) at w.line))
 
 pub loop-reader-preserved : goal.loop-reader-preserved
 loop-reader-preserved g c =
     let e = rw c.in-Ok-Some.field-0-is at c.in-Ok-Some.ensures in
-    let known = verdict_known HEAD_LIMIT verified_in _ _ c.loop-reader.reader.offset (so_far c.loop-reader.records c.loop-reader.differing) _ _ c.in-Ok-Some.head c.in-Ok-Some.verdict c.loop-reader.invariant.lines e.begins.start_is (e.verdict c.in-Ok-Some.head c.in-Ok-Some.verdict refl) in
+    let known = verdict_known HEAD_LIMIT verified_in _ _ c.loop-reader.reader.offset
+    (so_far c.loop-reader.records c.loop-reader.differing) _ _ c.in-Ok-Some.head c.in-Ok-Some.verdict
+    c.loop-reader.invariant.lines e.begins.start_is (e.verdict c.in-Ok-Some.head c.in-Ok-Some.verdict refl) in
     let f : c.loop-reader.records ≤ c.loop-reader.reader.offset = c.loop-reader.invariant.fewer in
     record {
       phase = e.state.phase_is;
       within = rw e.state.offset_is e.begins.fits;
       fewer = rw e.state.offset_is (omega arith);
-      among = (let low = c.loop-reader.invariant.among in omega (arith, low, c.differing_by-differing.ensures, one_at_most c.in-Ok-Some.verdict));
-      lines = rw (e.state.offset_is, c.differing_by-differing.ensures) (SoFar-more HEAD_LIMIT verification_line verified_in _ _ _ c.loop-reader.reader.offset (so_far c.loop-reader.records c.loop-reader.differing) _ c.in-Ok-Some.head _ _ _ _ c.loop-reader.invariant.lines e.bytes (is_line _ c.in-Ok-Some.head c.in-Ok-Some.verdict known) (one_verdict _ c.in-Ok-Some.head c.in-Ok-Some.verdict c.loop-reader.records c.loop-reader.differing known) (rw (c.verdict_line.ensures, c.start.ensures) at c.in_ok-put_line-in-Ok-Some.ensures.line));
+      among = (let low = c.loop-reader.invariant.among in omega
+          (arith, low, c.differing_by-differing.ensures, one_at_most c.in-Ok-Some.verdict));
+      lines = rw (e.state.offset_is, c.differing_by-differing.ensures)
+          (SoFar-more HEAD_LIMIT verification_line verified_in _ _ _ c.loop-reader.reader.offset
+          (so_far c.loop-reader.records c.loop-reader.differing) _ c.in-Ok-Some.head _ _ _ _
+          c.loop-reader.invariant.lines e.bytes (is_line _ c.in-Ok-Some.head c.in-Ok-Some.verdict known)
+          (one_verdict _ c.in-Ok-Some.head c.in-Ok-Some.verdict c.loop-reader.records c.loop-reader.differing known)
+          (rw (c.verdict_line.ensures, c.start.ensures) at c.in_ok-put_line-in-Ok-Some.ensures.line));
       reads = e.failures ∙ c.loop-reader.invariant.reads;
       writes = c.in_ok-put_line-in-Ok-Some.ensures.failures ∙ c.loop-reader.invariant.writes;
     }
@@ -49,4 +68,7 @@ loop-reader-preserved g c =
 pub returns-in-Err-next_verdict-clause-verifies : goal.returns-in-Err-next_verdict-clause-verifies
 returns-in-Err-next_verdict-clause-verifies g c =
     let e = c.in-Err-next_verdict.ensures in
-    fault_reported HEAD_LIMIT verification_line verified_in c.in-Err-next_verdict.damage c.put_fault-in-Err-next_verdict.result _ _ _ c.loop-reader.reader.offset (so_far c.loop-reader.records c.loop-reader.differing) _ _ _ _ _ c.loop-reader.invariant.lines e.bytes e.state.at c.put_fault-in-Err-next_verdict.ensures
+    fault_reported HEAD_LIMIT verification_line verified_in c.in-Err-next_verdict.damage
+    c.put_fault-in-Err-next_verdict.result _ _ _ c.loop-reader.reader.offset
+    (so_far c.loop-reader.records c.loop-reader.differing) _ _ _ _ _ c.loop-reader.invariant.lines e.bytes
+    e.state.at c.put_fault-in-Err-next_verdict.ensures

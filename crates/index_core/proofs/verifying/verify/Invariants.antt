@@ -12,7 +12,10 @@ invariant-loop-reader g l = record {
   within : l.reader.offset ≤ 2 ^ 63 - 1;
   fewer : l.records ≤ l.reader.offset;
   among : l.differing ≤ l.records;
-  lines : SoFar HEAD_LIMIT verification_line verified_in (g.I.Input.remaining l.fn.input) (prepend_known l.reader.held (g.I.Input.remaining l.input)) l.reader.offset (record { records = l.records; differing = l.differing }) (g.O.Output.written l.fn.out) (g.O.Output.written l.out);
+  lines : SoFar HEAD_LIMIT verification_line verified_in (g.I.Input.remaining l.fn.input)
+      (prepend_known l.reader.held (g.I.Input.remaining l.input)) l.reader.offset
+      (record { records = l.records; differing = l.differing }) (g.O.Output.written l.fn.out)
+      (g.O.Output.written l.out);
   reads : g.I.Input.failures l.input ≡ g.I.Input.failures l.fn.input;
   writes : g.O.Output.failures l.out ≡ g.O.Output.failures l.fn.out;
 }

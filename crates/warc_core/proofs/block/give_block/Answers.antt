@@ -12,4 +12,8 @@ returns-in_err-count-clause-bytes g c =
 pub returns-then-count-eq0-clause-bytes : goal.returns-then-count-eq0-clause-bytes
 returns-then-count-eq0-clause-bytes g c =
     let b = c.in_ok-count.ensures.bytes in
-    short_at c.args.left _ _ _ (omega (arith, c.min-most.ensures)) (ap (λ n. take n c.give.new.piece) c.if-count-eq0.true) b.0 (b.1 c.if-count-eq0.true (let l = c.give.auto.piece in omega (arith, c.min-most.ensures, length-take c.min-most.result c.args.piece.now)))
+    short_at c.args.left _ _ _ (omega (arith, c.min-most.ensures))
+    (ap (λ n. take n c.give.new.piece) c.if-count-eq0.true) b.0
+    (b.1 c.if-count-eq0.true
+    (let l = c.give.auto.piece in omega
+    (arith, c.min-most.ensures, length-take c.min-most.result c.args.piece.now)))

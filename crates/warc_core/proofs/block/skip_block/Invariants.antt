@@ -6,7 +6,8 @@ use Rattle.warc_core.proofs.block.skip_block.Given as goal
 
 abbrev pub invariant-loop-left : goal.invariant-loop-left
 invariant-loop-left g l = record {
-  same : GoesOn (after_block l.length) (after_block l.left) (prepend_known l.fn.buffer (g.I.Input.remaining l.fn.input)) (prepend_known l.buffer (g.I.Input.remaining l.input));
+  same : GoesOn (after_block l.length) (after_block l.left) (prepend_known l.fn.buffer (g.I.Input.remaining l.fn.input))
+      (prepend_known l.buffer (g.I.Input.remaining l.input));
   count : g.I.Input.failures l.input ≡ g.I.Input.failures l.fn.input;
 }
 

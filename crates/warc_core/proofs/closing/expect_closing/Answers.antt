@@ -6,15 +6,18 @@ use Rattle.warc_core.proofs.closing.expect_closing.Goals as goal
 
 pub returns-in_default-clause-bytes : goal.returns-in_default-clause-bytes
 returns-in_default-clause-bytes g c =
-    closing-other _ _ _ c.loop-expected.expected-index c.loop-expected-test.true c.loop-expected.invariant.same _ c.in-Some.byte c.in_ok-byte.ensures.bytes c.in-Some.is c.if-byte-expected.false
+    closing-other _ _ _ c.loop-expected.expected-index c.loop-expected-test.true c.loop-expected.invariant.same _
+    c.in-Some.byte c.in_ok-byte.ensures.bytes c.in-Some.is c.if-byte-expected.false
 
 pub returns-in_default-2-clause-bytes : goal.returns-in_default-2-clause-bytes
 returns-in_default-2-clause-bytes g c =
-    closing-end _ _ _ c.loop-expected.expected-index c.loop-expected-test.true c.loop-expected.invariant.same _ c.in_ok-byte.ensures.bytes c.in_default.is
+    closing-end _ _ _ c.loop-expected.expected-index c.loop-expected-test.true c.loop-expected.invariant.same _
+    c.in_ok-byte.ensures.bytes c.in_default.is
 
 pub loop-expected-preserved : goal.loop-expected-preserved
 loop-expected-preserved g c = record {
-  same = closing-more _ _ _ c.loop-expected.expected-index c.loop-expected-test.true c.loop-expected.invariant.same _ c.in-Some.byte c.in_ok-byte.ensures.bytes c.in-Some.is c.if-byte-expected.true;
+  same = closing-more _ _ _ c.loop-expected.expected-index c.loop-expected-test.true c.loop-expected.invariant.same _
+      c.in-Some.byte c.in_ok-byte.ensures.bytes c.in-Some.is c.if-byte-expected.true;
   count = c.in_ok-byte.ensures.failures ∙ c.loop-expected.invariant.count;
 }
 
@@ -27,4 +30,5 @@ returns-clause-bytes g c =
 pub returns-then-begins_with_closing-clause-bytes : goal.returns-then-begins_with_closing-clause-bytes
 returns-then-begins_with_closing-clause-bytes g c =
     let begins = c.begins_with_closing.ensures.begins c.if-begins_with_closing.true in
-    closing-held c.args.buffer.now _ (g.I.Input.remaining c.args.input.now) (sym c.as_slice.ensures ∙ (begins ∙ ap (λ held. closing ++ drop 4 held) c.as_slice.ensures)) c.consume.ensures
+    closing-held c.args.buffer.now _ (g.I.Input.remaining c.args.input.now) (sym c.as_slice.ensures
+    ∙ (begins ∙ ap (λ held. closing ++ drop 4 held) c.as_slice.ensures)) c.consume.ensures

@@ -6,6 +6,8 @@ use Rattle.warc_core.proofs.closing.expect_closing.Given as goal
 
 abbrev pub invariant-loop-expected : goal.invariant-loop-expected
 invariant-loop-expected g l = record {
-  same : GoesOn (after_text closing) (after_text (drop l.expected-index closing)) (prepend_known l.fn.buffer (g.I.Input.remaining l.fn.input)) (prepend_known l.buffer (g.I.Input.remaining l.input));
+  same : GoesOn (after_text closing) (after_text (drop l.expected-index closing))
+      (prepend_known l.fn.buffer (g.I.Input.remaining l.fn.input))
+      (prepend_known l.buffer (g.I.Input.remaining l.input));
   count : g.I.Input.failures l.input ≡ g.I.Input.failures l.fn.input;
 }

@@ -11,7 +11,9 @@ invariant-loop-buffer g l = record {
   unclosed : is_closed l.head.items ≡ false;
   open_so_far : (n : ℕ) → n ≤ length l.head.items → is_closed (take n l.head.items) ≡ false;
   agree : has_version l.head.items ≡ true;
-  same : GoesOn (head_text l.limit) (going l.limit l.head.items) (prepend_known l.fn.buffer (g.I.Input.remaining l.fn.input)) (prepend_known l.buffer (g.I.Input.remaining l.input));
+  same : GoesOn (head_text l.limit) (going l.limit l.head.items)
+      (prepend_known l.fn.buffer (g.I.Input.remaining l.fn.input))
+      (prepend_known l.buffer (g.I.Input.remaining l.input));
   failures : g.I.Input.failures l.input ≡ g.I.Input.failures l.fn.input;
 }
 

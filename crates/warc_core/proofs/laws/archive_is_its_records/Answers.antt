@@ -12,5 +12,6 @@ returns-clause-spelled c limit archive heads r =
 pub returns-clause-read : goal.returns-clause-read
 returns-clause-read c limit heads texts a = record {
   end = end_of 0 heads;
-  walks = subst (λ z. Walks limit 0 z heads (end_of 0 heads) []) (append-nil (concat texts)) (spelled-walk limit 0 heads texts [] a);
+  walks = subst (λ z. Walks limit 0 z heads (end_of 0 heads) []) (append-nil (concat texts))
+      (spelled-walk limit 0 heads texts [] a);
 }

@@ -9,13 +9,21 @@ use Rattle.warc_core.proofs.next.read_next.Goals as goal
 pub returns-then-is_empty-clause-bytes : goal.returns-then-is_empty-clause-bytes
 returns-then-is_empty-clause-bytes g c =
     let none : c.fill.new.self ≡ [] = no_bytes c.as_slice.result.now _ c.as_slice.ensures c.if-is_empty.ensures in
-    next-end HEAD_LIMIT c.args.start _ _ c.fill.new.self (GoesOn-keeps _ (next_at HEAD_LIMIT c.args.start) _ _ _ (GoesOn-start (next_at HEAD_LIMIT c.args.start) _) c.fill.ensures.bytes) none (c.in_ok-fill.ensures.end none)
+    next-end HEAD_LIMIT c.args.start _ _ c.fill.new.self
+    (GoesOn-keeps _ (next_at HEAD_LIMIT c.args.start) _ _ _ (GoesOn-start (next_at HEAD_LIMIT c.args.start) _)
+    c.fill.ensures.bytes) none (c.in_ok-fill.ensures.end none)
 
 pub returns-in_err-read_head-clause-bytes : goal.returns-in_err-read_head-clause-bytes
 returns-in_err-read_head-clause-bytes g c =
     let p = err_from_is_err_and c.from_residual-in_err-read_head.result c.from_residual-in_err-read_head.ensures.1 in
-    rw (p.1, p.2) (next-stopped HEAD_LIMIT c.args.start _ _ c.fill.new.self (GoesOn-keeps _ (next_at HEAD_LIMIT c.args.start) _ _ _ (GoesOn-start (next_at HEAD_LIMIT c.args.start) _) c.fill.ensures.bytes) c.in_err-read_head.field-0.0 _ (some_bytes c.as_slice.result.now _ c.as_slice.ensures c.if-is_empty.ensures) c.in_err-read_head.ensures.bytes)
+    rw (p.1, p.2) (next-stopped HEAD_LIMIT c.args.start _ _ c.fill.new.self
+    (GoesOn-keeps _ (next_at HEAD_LIMIT c.args.start) _ _ _ (GoesOn-start (next_at HEAD_LIMIT c.args.start) _)
+    c.fill.ensures.bytes) c.in_err-read_head.field-0.0 _
+    (some_bytes c.as_slice.result.now _ c.as_slice.ensures c.if-is_empty.ensures) c.in_err-read_head.ensures.bytes)
 
 pub returns-clause-bytes : goal.returns-clause-bytes
 returns-clause-bytes g c =
-    next-head HEAD_LIMIT c.args.start _ _ c.fill.new.self (GoesOn-keeps _ (next_at HEAD_LIMIT c.args.start) _ _ _ (GoesOn-start (next_at HEAD_LIMIT c.args.start) _) c.fill.ensures.bytes) c.in_ok-read_head.field-0 _ (some_bytes c.as_slice.result.now _ c.as_slice.ensures c.if-is_empty.ensures) c.in_ok-read_head.ensures.bytes
+    next-head HEAD_LIMIT c.args.start _ _ c.fill.new.self
+    (GoesOn-keeps _ (next_at HEAD_LIMIT c.args.start) _ _ _ (GoesOn-start (next_at HEAD_LIMIT c.args.start) _)
+    c.fill.ensures.bytes) c.in_ok-read_head.field-0 _
+    (some_bytes c.as_slice.result.now _ c.as_slice.ensures c.if-is_empty.ensures) c.in_ok-read_head.ensures.bytes

@@ -15,14 +15,20 @@ returns-clause-fields c =
     let value = c.in_ok-value_start.value_start in
     let start = c.trimmed-start.result.0 in
     let end = c.trimmed-start.result.1 in
-    let place : IsTrimmed text c.args.from c.args.to start end = subst (λ t. IsTrimmed t c.args.from c.args.to start end) c.deref.ensures.value c.trimmed-start.ensures in
+    let place : IsTrimmed text c.args.from c.args.to start end = subst
+    (λ t. IsTrimmed t c.args.from c.args.to start end) c.deref.ensures.value c.trimmed-start.ensures in
     let piece : between start end there ≡ trim (between c.args.from c.args.to text) =
-    ap (between start end) longer.1 ∙ (between_more text longer.0 start end place.order (omega (arith, place.high, c.requires.line)) ∙ place.value) in
+    ap (between start end) longer.1
+    ∙ (between_more text longer.0 start end place.order (omega (arith, place.high, c.requires.line))
+    ∙ place.value) in
     let new = c.in_ok-join.ensures ∙ ap (λ p. there ++ joint (drop value there) p) piece in
     let old = subst (All (IsWithin (length text))) c.in-Some.ensures.items c.requires.places in (
       fields_at text before,
       field_at text last,
       ap (fields_at text) c.in-Some.ensures.items ∙ old_fields text before last,
-      rw c.in_ok-push.ensures.items (piece_added text there c.join.new.text.items (trim (between c.args.from c.args.to text)) longer.0 before last _ old longer.1
-          c.in_ok-value_start.ensures.value c.in_ok-value_start.ensures.within new refl refl (omega (arith, c.len.ensures, c.join.new.text.ok))),
+      rw c.in_ok-push.ensures.items
+          (piece_added text there c.join.new.text.items (trim (between c.args.from c.args.to text)) longer.0 before last
+          _ old longer.1
+          c.in_ok-value_start.ensures.value c.in_ok-value_start.ensures.within new refl refl
+          (omega (arith, c.len.ensures, c.join.new.text.ok))),
     )

@@ -13,7 +13,9 @@ returns c =
     let piece = between start end text in
     let said = rw take_rest at c.space_between-space.ensures in
     let joined : space ++ piece ≡ joint (drop c.args.value text) piece =
-    (λ i. space ++ between start end (sym c.deref-2.ensures.value i)) ∙ (said ∙ (λ i. joint (drop c.args.value (c.deref.ensures.value i)) (between start end (c.deref-2.ensures.value i)))) in
+    (λ i. space ++ between start end (sym c.deref-2.ensures.value i))
+    ∙ (said ∙ (λ i. joint (drop c.args.value (c.deref.ensures.value i))
+    (between start end (c.deref-2.ensures.value i)))) in
     let spaced = c.in_ok-extend_from_slice.ensures.items in
     c.in_ok-extend_from_within.ensures.items
     ∙ ((λ i. spaced i ++ between start end (spaced i))

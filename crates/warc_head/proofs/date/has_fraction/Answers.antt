@@ -5,4 +5,6 @@ use Rattle.warc_head.proofs.date.has_fraction.Goals as goal
 
 pub returns : goal.returns
 returns c =
-    c.is_fraction.ensures ∙ (ap is_fraction (take_rest c.args.text.now 19) ∙ ap (λ t. t && is_fraction (drop 19 c.args.text.now)) c.if-not-fits.ensures)
+    c.is_fraction.ensures
+    ∙ (ap is_fraction (take_rest c.args.text.now 19)
+    ∙ ap (λ t. t && is_fraction (drop 19 c.args.text.now)) c.if-not-fits.ensures)

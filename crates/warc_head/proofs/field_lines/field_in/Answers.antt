@@ -8,14 +8,17 @@ use Rattle.warc_head.proofs.field_lines.field_in.Goals as goal
 
 pub returns-in_err-name_end : goal.returns-in_err-name_end
 unfolding field_in
-returns-in_err-name_end c = rw (c.from_residual.ensures) (ap named (colon_none c.args.line.now (λ k l. c.in_err-name_end.ensures k (omega arith) l)))
+returns-in_err-name_end c = rw (c.from_residual.ensures)
+    (ap named (colon_none c.args.line.now (λ k l. c.in_err-name_end.ensures k (omega arith) l)))
 
 pub returns-then-not-is_name : goal.returns-then-not-is_name
 unfolding field_in
 returns-then-not-is_name c =
     let f = c.in_ok-name_end.ensures in
-    let bad : is_name (take c.in_ok-name_end.name_end c.args.line.now) ≡ false = sym c.is_name.ensures ∙ c.if-not-is_name.true in
-    ap named (colon_at c.args.line.now c.in_ok-name_end.name_end f.0.high f.1 (λ k l. f.0.before k (omega arith) l)) ∙ rw bad refl
+    let bad : is_name (take c.in_ok-name_end.name_end c.args.line.now) ≡ false = sym c.is_name.ensures
+    ∙ c.if-not-is_name.true in
+    ap named (colon_at c.args.line.now c.in_ok-name_end.name_end f.0.high f.1 (λ k l. f.0.before k (omega arith) l))
+    ∙ rw bad refl
 
 pub returns : goal.returns
 unfolding field_in
@@ -34,5 +37,6 @@ returns c =
         value = place.order;
         end = place.high;
       },
-      ap named (colon_at line at below f.1 (λ k l. f.0.before k (omega arith) l)) ∙ rw good (λ i. Ok (record { name = take (whole i) line; value = sym value i })),
+      ap named (colon_at line at below f.1 (λ k l. f.0.before k (omega arith) l))
+          ∙ rw good (λ i. Ok (record { name = take (whole i) line; value = sym value i })),
     )

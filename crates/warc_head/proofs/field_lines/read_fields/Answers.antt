@@ -1,4 +1,5 @@
-use Rattle.std.proofs.Common.{◌≡◌, ◌∙◌, ◌++◌, ◌∷◌, ◌+◌, ◌-◌, ℕ, List, [], length, take, drop, Ok, Err, true, false, subst, sym, ap, arith, inl, inr, append-nil, length-take-le}
+use Rattle.std.proofs.Common.{◌≡◌, ◌∙◌, ◌++◌, ◌∷◌, ◌+◌, ◌-◌, ℕ, List, [], length, take, drop, Ok, Err, true, false}
+use Rattle.std.proofs.Common.{subst, sym, ap, arith, inl, inr, append-nil, length-take-le}
 use Rattle.std.specs.Prelude.{All}
 use Rattle.std.proofs.lemmas.Result.{err_from_is_err_and}
 use Rattle.std.proofs.lemmas.List.{drop_all}
@@ -8,19 +9,23 @@ use Rattle.warc_head.specs.Fields.{Field, field_in, fields_of, longer}
 use Rattle.warc_head.specs.Lines.{BeginsWithLine, EndsLine, continues, trim}
 use Rattle.warc_head.specs.Parts.{body_of}
 use Rattle.warc_head.specs.Places.{IsWithin, between, field_at, fields_at, moved}
-use Rattle.warc_head.proofs.FieldLemmas.{going, going-start, going-end, going-fault, going-first, going-unnamed, going-began, going-continued, IsFound-either, body_is}
+use Rattle.warc_head.proofs.FieldLemmas.{going, going-start, going-end, going-fault, going-first, going-unnamed}
+use Rattle.warc_head.proofs.FieldLemmas.{going-began, going-continued, IsFound-either, body_is}
 use Rattle.warc_head.proofs.PlaceLemmas.{field_added, place_added, Continues-trans}
 use Rattle.warc_head.proofs.ReadLemmas.{size, lines_held, filled, ended, line_is, line_held, inside_text}
 use Rattle.warc_head.proofs.field_lines.read_fields.Goals as goal
-use Rattle.warc_head.proofs.field_lines.read_fields.Goals.{In-Some, then-continues+in_ok-continue_field, else-continues+in-Some-field_in+in_ok-push}
+use Rattle.warc_head.proofs.field_lines.read_fields.Goals.{In-Some, then-continues+in_ok-continue_field}
+use Rattle.warc_head.proofs.field_lines.read_fields.Goals.{else-continues+in-Some-field_in+in_ok-push}
 
 pub lines-init : goal.lines-init
 lines-init c =
     let raw = c.args.text.now.items in
     let none = c.in_ok-places.ensures.items in
-    let end : c.saturating_sub-end.result ≡ length raw - 2 = omega (arith, c.saturating_sub-end.ensures, c.len.ensures) in
+    let end : c.saturating_sub-end.result
+    ≡ length raw - 2 = omega (arith, c.saturating_sub-end.ensures, c.len.ensures) in
     record {
-      fields = going-start (body_of raw) ∙ (λ i. going (fields_at raw (sym none i)) ((body_is raw ∙ ap (λ n. drop 10 (take n raw)) (sym end)) i));
+      fields = going-start (body_of raw)
+          ∙ (λ i. going (fields_at raw (sym none i)) ((body_is raw ∙ ap (λ n. drop 10 (take n raw)) (sym end)) i));
       text = ([], sym (append-nil raw));
       within = rw none (All-nil (IsWithin (length raw)));
       end = omega (arith, end);
@@ -34,7 +39,8 @@ returns-in_default-clause-answer c =
     let at = c.lines.at in
     let kept = c.lines.invariant in
     let front = ap (take end) c.deref.ensures.value ∙ lines_held raw text kept.text end at kept.end in
-    kept.fields ∙ going-fault (fields_at text c.lines.places.items) (drop at (take end raw)) (filled raw text kept.text end at kept.end c.lines-test.true)
+    kept.fields ∙ going-fault (fields_at text c.lines.places.items) (drop at (take end raw))
+    (filled raw text kept.text end at kept.end c.lines-test.true)
     (λ line later b. c.in_default.ensures line later (subst (λ t. BeginsWithLine (drop at t) line later) (sym front) b))
 
 -- where a line stands
@@ -69,13 +75,16 @@ module _ (c : In-Some) where
 pub returns-in_err-continue_field-clause-answer : goal.returns-in_err-continue_field-clause-answer
 returns-in_err-continue_field-clause-answer c =
     let d = (goal.at.returns-in_err-continue_field-clause-answer c).In-Some in
-    let p = err_from_is_err_and c.from_residual-in_err-continue_field.result c.from_residual-in_err-continue_field.ensures.1 in
+    let p = err_from_is_err_and c.from_residual-in_err-continue_field.result
+    c.from_residual-in_err-continue_field.ensures.1 in
     let goes_on : continues (between (at d) (stop d) (take (end d) (raw d))) ≡ true =
-    ap continues (sym (ap (between (at d) (stop d)) c.deref-in-lines.ensures.value ∙ same d)) ∙ sym c.if-continues.ensures in
+    ap continues (sym (ap (between (at d) (stop d)) c.deref-in-lines.ensures.value ∙ same d))
+    ∙ sym c.if-continues.ensures in
     rw (p.1, p.2) (IsFound-either c.in_err-continue_field.field-0.0 (fields_of (body_of (raw d)))
     (elim c.in_err-continue_field.ensures.err [
       | inl memory ↦ inl memory
-      | inr first ↦ inr (c.lines.invariant.fields ∙ (ap (λ places. going (fields_at (text d) places) (drop (at d) (take (end d) (raw d)))) first.1
+      | inr first ↦ inr (c.lines.invariant.fields
+          ∙ (ap (λ places. going (fields_at (text d) places) (drop (at d) (take (end d) (raw d)))) first.1
           ∙ (going-first _ _ _ (line d).line goes_on ∙ ap Err (sym first.0))))
     ]))
 
@@ -83,9 +92,11 @@ pub returns-in_default-field_in-clause-answer : goal.returns-in_default-field_in
 returns-in_default-field_in-clause-answer c =
     let d = (goal.at.returns-in_default-field_in-clause-answer c).In-Some in
     let begins : continues (between (at d) (stop d) (take (end d) (raw d))) ≡ false =
-    ap continues (sym (ap (between (at d) (stop d)) c.deref-in-lines.ensures.value ∙ same d)) ∙ sym c.if-continues.ensures in
+    ap continues (sym (ap (between (at d) (stop d)) c.deref-in-lines.ensures.value ∙ same d))
+    ∙ sym c.if-continues.ensures in
     let unnamed : field_in (between (at d) (stop d) (take (end d) (raw d))) ≡ Err faults.FieldLine =
-    ap field_in (sym (ap (between (at d) (stop d)) c.deref-else-continues.ensures.value ∙ same d)) ∙ c.in_default-field_in.ensures in
+    ap field_in (sym (ap (between (at d) (stop d)) c.deref-else-continues.ensures.value ∙ same d))
+    ∙ c.in_default-field_in.ensures in
     c.lines.invariant.fields ∙ going-unnamed _ _ _ (line d).line (seen d) faults.FieldLine begins unnamed
 
 pub lines-preserved : goal.lines-preserved
@@ -103,29 +114,47 @@ lines-preserved c =
           rw (w.text-is, w.places-is) (record {
             fields = kept.fields ∙ (ap (λ fields. going fields rest) e.2
                 ∙ (going-continued rest this later (line d).line e.0 e.1 goes_on
-                ∙ ap (λ fields. going fields later) (ap (λ piece. e.0 ++ longer e.1 piece ∷ []) (ap trim (sym (same d))) ∙ sym e.3)));
-            text = Continues-trans (raw d) (text d) w.continue_field.new.text.items kept.text w.in_ok-continue_field.ensures.text;
+                ∙ ap (λ fields. going fields later) (ap (λ piece. e.0 ++ longer e.1 piece ∷ []) (ap trim (sym (same d)))
+                ∙ sym e.3)));
+            text = Continues-trans (raw d) (text d) w.continue_field.new.text.items kept.text
+                w.in_ok-continue_field.ensures.text;
             within = w.in_ok-continue_field.ensures.within;
             end = kept.end;
           }))
       | else-continues+in-Some-field_in+in_ok-push w ↦ (
           let begins : continues this ≡ false = first ∙ sym w.if-continues.ensures in
           let place = w.in-Some-field_in.place in
-          let spelled : between (at d) (stop d) w.deref-else-continues.result.now ≡ between (at d) (stop d) (text d) = ap (between (at d) (stop d)) w.deref-else-continues.ensures.value in
-          let inside : IsWithin (length (between (at d) (stop d) (text d))) place = subst (λ t. IsWithin (length t) place) spelled w.in-Some-field_in.ensures.0 in
-          let found : field_in (between (at d) (stop d) (text d)) ≡ Ok (field_at (between (at d) (stop d) (text d)) place) =
+          let spelled : between (at d) (stop d) w.deref-else-continues.result.now
+          ≡ between (at d) (stop d) (text d) = ap (between (at d) (stop d)) w.deref-else-continues.ensures.value in
+          let inside : IsWithin (length (between (at d) (stop d) (text d))) place = subst
+          (λ t. IsWithin (length t) place) spelled w.in-Some-field_in.ensures.0 in
+          let found : field_in (between (at d) (stop d) (text d))
+          ≡ Ok (field_at (between (at d) (stop d) (text d)) place) =
           subst (λ t. field_in t ≡ Ok (field_at t place)) spelled w.in-Some-field_in.ensures.1 in
-          let front : length (take (at d) (text d)) ≡ at d = length-take-le (at d) (text d) (omega (arith, (line d).order, inside_text (raw d) (text d) kept.text (end d) (at d) kept.end (stop d) (ends d))) in
+          let front : length (take (at d) (text d))
+          ≡ at d = length-take-le (at d) (text d)
+          (omega (
+            arith,
+            (line d).order,
+            inside_text (raw d) (text d) kept.text (end d) (at d) kept.end (stop d)
+                (ends d),
+          )) in
           let held = line_held (raw d) (text d) kept.text (end d) (at d) kept.end (stop d) (ends d) in
-          let moved_is : w.moved.result ≡ moved (length (take (at d) (text d))) place = w.moved.ensures ∙ ap (λ n. moved n place) (sym front) in
+          let moved_is : w.moved.result ≡ moved (length (take (at d) (text d))) place = w.moved.ensures
+          ∙ ap (λ n. moved n place) (sym front) in
           let pushed = w.in_ok-push.ensures.items ∙ ap (λ p. c.lines.places.items ++ p ∷ []) moved_is in
-          let added = ap (fields_at (text d)) pushed ∙ field_added (text d) (take (at d) (text d)) (between (at d) (stop d) (text d)) (drop (stop d) (text d)) c.lines.places.items place held inside in
+          let added = ap (fields_at (text d)) pushed
+          ∙ field_added (text d) (take (at d) (text d)) (between (at d) (stop d) (text d)) (drop (stop d) (text d))
+          c.lines.places.items place held inside in
           rw (w.text-is, w.places-is) (record {
-            fields = kept.fields ∙ (going-began rest this later (line d).line (seen d) (field_at (between (at d) (stop d) (text d)) place) begins (ap field_in (sym (same d)) ∙ found)
+            fields = kept.fields ∙
+                (going-began rest this later (line d).line (seen d) (field_at (between (at d) (stop d) (text d)) place)
+                begins (ap field_in (sym (same d)) ∙ found)
                 ∙ ap (λ fields. going fields later) (sym added));
             text = kept.text;
             within = subst (All (IsWithin (length (text d)))) (sym pushed)
-                (place_added (text d) (take (at d) (text d)) (between (at d) (stop d) (text d)) (drop (stop d) (text d)) c.lines.places.items place held inside kept.within);
+                (place_added (text d) (take (at d) (text d)) (between (at d) (stop d) (text d)) (drop (stop d) (text d))
+                c.lines.places.items place held inside kept.within);
             end = kept.end;
           }))
     ]
@@ -134,5 +163,14 @@ pub returns-clause-answer : goal.returns-clause-answer
 returns-clause-answer c =
     let raw = c.args.text.now.items in
     let end = c.saturating_sub-end.result in
-    let none : drop c.lines.at (take end raw) ≡ [] = drop_all c.lines.at (take end raw) (omega (arith, c.lines-test.false, size raw c.lines.text.items c.lines.invariant.text end c.lines.at c.lines.invariant.end)) in
-    c.lines.invariant.fields ∙ (ap (going (fields_at c.lines.text.items c.lines.places.items)) none ∙ going-end (fields_at c.lines.text.items c.lines.places.items))
+    let none : drop c.lines.at (take end raw)
+    ≡ [] = drop_all c.lines.at (take end raw)
+    (omega (
+      arith,
+      c.lines-test.false,
+      size raw c.lines.text.items c.lines.invariant.text end c.lines.at
+          c.lines.invariant.end,
+    )) in
+    c.lines.invariant.fields
+    ∙ (ap (going (fields_at c.lines.text.items c.lines.places.items)) none
+    ∙ going-end (fields_at c.lines.text.items c.lines.places.items))

@@ -8,7 +8,8 @@ use Rattle.warc_head.proofs.field_lines.read_fields.Given as goal
 
 abbrev pub invariant-lines : goal.invariant-lines
 invariant-lines l = record {
-  fields : fields_of (body_of l.fn.text.items) ≡ going (fields_at l.text.items l.places.items) (drop l.at (take l.end l.fn.text.items));
+  fields : fields_of (body_of l.fn.text.items)
+      ≡ going (fields_at l.text.items l.places.items) (drop l.at (take l.end l.fn.text.items));
   text : Continues l.fn.text.items l.text.items;
   within : All (IsWithin (length l.text.items)) l.places.items;
   end : l.end ≤ length l.fn.text.items;

@@ -9,7 +9,9 @@ pub returns-then-not-none_missing-clause-err : goal.returns-then-not-none_missin
 unfolding each_once
 returns-then-not-none_missing-clause-err c =
     let fields = fields_at c.args.text.now c.args.places.now in
-    let missing : none_missing mandatory fields ≡ false = sym (c.none_missing.ensures c.args.text.now fields c.occurrences_in-found.ensures) ∙ c.if-not-none_missing.true in
+    let missing : none_missing mandatory fields
+    ≡ false = sym (c.none_missing.ensures c.args.text.now fields c.occurrences_in-found.ensures)
+    ∙ c.if-not-none_missing.true in
     rw missing refl
 
 pub returns-then-not-none_repeated-clause-err : goal.returns-then-not-none_repeated-clause-err
@@ -18,8 +20,10 @@ returns-then-not-none_repeated-clause-err c =
     let text = c.args.text.now in
     let fields = fields_at text c.args.places.now in
     let all = c.occurrences_in-found.ensures in
-    let some : none_missing mandatory fields ≡ true = sym (c.none_missing.ensures text fields all) ∙ c.if-not-none_missing.false in
-    let repeated : none_repeated mandatory fields ≡ false = sym (c.none_repeated.ensures text fields all) ∙ c.if-not-none_repeated.true in
+    let some : none_missing mandatory fields ≡ true = sym (c.none_missing.ensures text fields all)
+    ∙ c.if-not-none_missing.false in
+    let repeated : none_repeated mandatory fields ≡ false = sym (c.none_repeated.ensures text fields all)
+    ∙ c.if-not-none_repeated.true in
     rw (some, repeated) refl
 
 -- at the end, none is missing and none is repeated
@@ -28,10 +32,12 @@ module _ (c : goal.After-value-3) where
   fields = fields_at c.args.text.now c.args.places.now
 
   some : none_missing mandatory fields ≡ true
-  some = sym (c.none_missing.ensures c.args.text.now fields c.occurrences_in-found.ensures) ∙ c.if-not-none_missing.false
+  some = sym (c.none_missing.ensures c.args.text.now fields c.occurrences_in-found.ensures)
+      ∙ c.if-not-none_missing.false
 
   single : none_repeated mandatory fields ≡ true
-  single = sym (c.none_repeated.ensures c.args.text.now fields c.occurrences_in-found.ensures) ∙ c.if-not-none_repeated.false
+  single = sym (c.none_repeated.ensures c.args.text.now fields c.occurrences_in-found.ensures)
+      ∙ c.if-not-none_repeated.false
 
 pub returns-clause-once : goal.returns-clause-once
 unfolding each_once
@@ -40,14 +46,18 @@ returns-clause-once c = rw (some c, single c) refl
 pub returns-clause-length : goal.returns-clause-length
 returns-clause-length c =
     let once = length_once (fields c) (some c) (single c) in
-    required_is (codes "Content-Length") (fields c) c.value.result.now (c.value.ensures (values_of (codes "Content-Length") (fields c)) c.occurrences_in-found.ensures.length once.0 once.1)
+    required_is (codes "Content-Length") (fields c) c.value.result.now
+    (c.value.ensures (values_of (codes "Content-Length") (fields c)) c.occurrences_in-found.ensures.length once.0
+    once.1)
 
 pub returns-clause-date : goal.returns-clause-date
 returns-clause-date c =
     let once = date_once (fields c) (some c) (single c) in
-    required_is (codes "WARC-Date") (fields c) c.value-2.result.now (c.value-2.ensures (values_of (codes "WARC-Date") (fields c)) c.occurrences_in-found.ensures.date once.0 once.1)
+    required_is (codes "WARC-Date") (fields c) c.value-2.result.now
+    (c.value-2.ensures (values_of (codes "WARC-Date") (fields c)) c.occurrences_in-found.ensures.date once.0 once.1)
 
 pub returns-clause-kind : goal.returns-clause-kind
 returns-clause-kind c =
     let once = kind_once (fields c) (some c) (single c) in
-    required_is (codes "WARC-Type") (fields c) c.value-3.result.now (c.value-3.ensures (values_of (codes "WARC-Type") (fields c)) c.occurrences_in-found.ensures.kind once.0 once.1)
+    required_is (codes "WARC-Type") (fields c) c.value-3.result.now
+    (c.value-3.ensures (values_of (codes "WARC-Type") (fields c)) c.occurrences_in-found.ensures.kind once.0 once.1)

@@ -16,5 +16,6 @@ loop-place-preserved c =
     let i = c.loop-place.place-index in
     let no_place : Place = record { name_start = 0; name_end = 0; value_start = 0; value_end = 0 } in
     subst (λ (fields : List Field). AllOccur text fields c.count.new.self)
-    (sym (ap (fields_at text) (take_more places i no_place c.loop-place-test.true) ∙ map-append (field_at text) (take i places) _))
+    (sym (ap (fields_at text) (take_more places i no_place c.loop-place-test.true)
+    ∙ map-append (field_at text) (take i places) _))
     (c.count.ensures (fields_at text (take i places)) c.loop-place.invariant)

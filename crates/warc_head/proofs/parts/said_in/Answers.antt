@@ -12,17 +12,30 @@ unfolding parts_in length_in
 returns-in_err-length-clause-answer c =
     let found = c.in_ok-found.ensures in
     let p = err_from_is_err_and c.from_residual-in_err-length.result c.from_residual-in_err-length.ensures.1 in
-    rw (p.1, p.2) (IsFound-then c.in_err-length.field-0.0 (length_of c.in_ok-found.found.length.now) (parts_in (fields_at c.args.text.now c.args.places.now)) (λ h. rw (found.once, found.length, h) refl) c.in_err-length.ensures.answer)
+    rw (p.1, p.2) (IsFound-then c.in_err-length.field-0.0 (length_of c.in_ok-found.found.length.now)
+    (parts_in (fields_at c.args.text.now c.args.places.now)) (λ h. rw (found.once, found.length, h) refl)
+    c.in_err-length.ensures.answer)
 
 pub returns-in_err-stamp-clause-answer : goal.returns-in_err-stamp-clause-answer
 unfolding parts_in length_in stamp_in
 returns-in_err-stamp-clause-answer c =
     let found = c.in_ok-found.ensures in
     let p = err_from_is_err_and c.from_residual-in_err-stamp.result c.from_residual-in_err-stamp.ensures.1 in
-    rw (p.1, p.2) (IsFound-then c.in_err-stamp.field-0.0 (stamp_of c.in_ok-found.found.date.now) (parts_in (fields_at c.args.text.now c.args.places.now)) (λ h. rw (found.once, found.length, c.in_ok-length.ensures.answer, found.date, h) refl) c.in_err-stamp.ensures.answer)
+    rw (p.1, p.2) (IsFound-then c.in_err-stamp.field-0.0 (stamp_of c.in_ok-found.found.date.now)
+    (parts_in (fields_at c.args.text.now c.args.places.now))
+    (λ h. rw (found.once, found.length, c.in_ok-length.ensures.answer, found.date, h) refl)
+    c.in_err-stamp.ensures.answer)
 
 pub returns-clause-answer : goal.returns-clause-answer
 unfolding parts_in length_in stamp_in kind_in
 returns-clause-answer c =
     let found = c.in_ok-found.ensures in
-    rw (found.once, found.length, c.in_ok-length.ensures.answer, found.date, c.in_ok-stamp.ensures.answer, found.kind, c.kind_of-kind.ensures) refl
+    rw (
+      found.once,
+      found.length,
+      c.in_ok-length.ensures.answer,
+      found.date,
+      c.in_ok-stamp.ensures.answer,
+      found.kind,
+      c.kind_of-kind.ensures,
+    ) refl

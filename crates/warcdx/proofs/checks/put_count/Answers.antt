@@ -14,5 +14,6 @@ pub returns-in_err-put-2-clause-line : goal.returns-in_err-put-2-clause-line
 returns-in_err-put-2-clause-line g c =
     let p = err_from_is_err_and c.from_residual-in_err-put-2.result c.from_residual-in_err-put-2.ensures.1 in
     let text : c.as_bytes-2.result.now ≡ count_text c.args.count = cc in
-    let written = subst (AppendsPrefix (g.O.Output.written c.put.new.out) (g.O.Output.written c.put-2.new.out)) text c.in_err-put-2.ensures.prefix in
+    let written = subst (AppendsPrefix (g.O.Output.written c.put.new.out) (g.O.Output.written c.put-2.new.out)) text
+    c.in_err-put-2.ensures.prefix in
     rw p.1 (prefix_after _ _ _ c.args.name.now _ (rw c.as_bytes.ensures.value at c.in_ok-put.ensures.all) written)

@@ -8,5 +8,6 @@ use Rattle.warcdx.proofs.each.with_each.Given as goal
 -- as the command goes over the files that are left, so it goes over all
 abbrev pub invariant-loop-name : goal.invariant-loop-name
 invariant-loop-name g l =
-    (result : Outcome) (last : _) → GoesOver (ReturnsWithState g.F.Fn l.act) l.outcome l.state (texts (drop l.name-index l.names)) result last
+    (result : Outcome) (last : _)
+    → GoesOver (ReturnsWithState g.F.Fn l.act) l.outcome l.state (texts (drop l.name-index l.names)) result last
     → GoesOver (ReturnsWithState g.F.Fn l.act) Done l.initial.state (texts l.names) result last

@@ -8,5 +8,11 @@ pub returns : goal.returns
 returns g c =
     let bytes_of = g.F.Opener.archive_bytes c.args.files.now in
     let added = c.with_each-added.result in
-    let over = goes_over-calls _ _ (AddsOne bytes_of) (λ held. held) (λ indexer name ended left met. search rules) _ _ _ _ _ c.with_each-added.ensures in
-    (c.with_each-added.new.state, added, rw (sym c.new-indexer.ensures) over, match_bool-of (ends_command added) c.write_index.ensures.ended c.write_index.ensures.written)
+    let over = goes_over-calls _ _ (AddsOne bytes_of) (λ held. held) (λ indexer name ended left met. search rules) _ _ _
+    _ _ c.with_each-added.ensures in (
+      c.with_each-added.new.state,
+      added,
+      rw (sym c.new-indexer.ensures) over,
+      match_bool-of (ends_command added)
+          c.write_index.ensures.ended c.write_index.ensures.written,
+    )

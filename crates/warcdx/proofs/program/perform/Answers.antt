@@ -10,7 +10,9 @@ returns-in-Scan g c =
     let old = c.args.out.now in
     let new = c.scan_all.new.out in
     let scans = ScansNamed (g.F.Opener.archive_bytes c.args.files.now) (includes task.types) in
-    let ends : List ℕ → List ℕ → List (String Global) → Type 0 = λ sizes query names. scans sizes query (texts names) (g.O.Output.written old) (g.O.Output.written new) (new ≡ old) c.scan_all.result in
+    let ends : List ℕ → List ℕ → List (String Global)
+    → Type 0 = λ sizes query names. scans sizes query (texts names) (g.O.Output.written old)
+    (g.O.Output.written new) (new ≡ old) c.scan_all.result in
     rw task.is
     (subst (λ sizes. ends sizes (string_bytes task.query) task.names.items) c.deref-in-Scan.ensures.value
     (subst (λ query. ends c.deref-in-Scan.result.now query task.names.items) c.deref-in-Scan-2.ensures

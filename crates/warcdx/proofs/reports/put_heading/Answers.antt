@@ -10,4 +10,5 @@ returns-in_err-put-clause-heading g c =
 pub returns-in_err-put-2-clause-heading : goal.returns-in_err-put-2-clause-heading
 returns-in_err-put-2-clause-heading g c =
     let p = err_from_is_err_and c.from_residual-in_err-put-2.result c.from_residual-in_err-put-2.ensures.1 in
-    rw p.1 (prefix_after _ _ _ c.args.name.now _ (rw c.as_bytes.ensures.value at c.in_ok-put.ensures.all) c.in_err-put-2.ensures.prefix)
+    rw p.1 (prefix_after _ _ _ c.args.name.now _ (rw c.as_bytes.ensures.value at c.in_ok-put.ensures.all)
+    c.in_err-put-2.ensures.prefix)

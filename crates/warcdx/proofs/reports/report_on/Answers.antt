@@ -13,6 +13,8 @@ returns g c =
     let names = texts given in
     let bytes_of = g.F.Opener.archive_bytes c.args.files.now in
     let written = g.O.Output.written in
-    let over = goes_over-calls _ _ (ReportsOnOne bytes_of c.args.report (length given)) written (λ out name ended left met. search rules) _ _ _ _ _ c.with_each.ensures in
-    subst (λ n. GoesOver (ReportsOnOne bytes_of c.args.report n) Done (written c.args.out.now) names c.with_each.result (written c.with_each.new.state))
+    let over = goes_over-calls _ _ (ReportsOnOne bytes_of c.args.report (length given)) written
+    (λ out name ended left met. search rules) _ _ _ _ _ c.with_each.ensures in
+    subst (λ n. GoesOver (ReportsOnOne bytes_of c.args.report n) Done (written c.args.out.now) names c.with_each.result
+    (written c.with_each.new.state))
     (sym (length-map given string_bytes)) over

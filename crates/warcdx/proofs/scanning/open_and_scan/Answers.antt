@@ -5,5 +5,6 @@ use Rattle.warcdx.proofs.scanning.open_and_scan.Goals as goal
 pub returns-in-Ok : goal.returns-in-Ok
 returns-in-Ok g c =
     let named = ap archive_names c.deref_mut.ensures.value ∙ c.in-Ok.ensures.named in
-    let bytes = ap (map (λ archive. g.F.Archive.Input.remaining archive.input)) c.deref_mut.ensures.value ∙ c.in-Ok.ensures.bytes in
+    let bytes = ap (map (λ archive. g.F.Archive.Input.remaining archive.input)) c.deref_mut.ensures.value
+    ∙ c.in-Ok.ensures.bytes in
     inl (rw (named, bytes) at c.scan_opened.ensures)

@@ -8,7 +8,8 @@ loop-name-preserved g c =
     let pushed = sym c.is_err.ensures.value ∙ c.if-is_err.false in
     let bytes_of = g.F.Opener.archive_bytes c.args.files.now in
     opened-more g.F.Archive.Input.remaining bytes_of _ _ _ _ c.in_ok-input.input _ _
-    (map-more string_bytes c.args.names.now c.loop-name.name-index c.name-item.result c.loop-name-test.true (sym c.name-item.is))
+    (map-more string_bytes c.args.names.now c.loop-name.name-index c.name-item.result c.loop-name-test.true
+    (sym c.name-item.is))
     (c.file_name.ensures ∙ ap file_name c.deref-in-loop-name.ensures)
     (c.in_ok-input.ensures ∙ ap bytes_of c.deref.ensures)
     (of_ok c.push_named.result pushed c.push_named.ensures.names)

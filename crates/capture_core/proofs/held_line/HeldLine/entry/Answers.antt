@@ -8,7 +8,9 @@ pub returns : goal.returns
 returns c =
     let e = c.args.self.now in
     let has = subst (HasLine LINE_LIMIT) c.self.view_is c.self.invariant.line.has_line in
-    let read : c.in-Ok.line ≡ entry_member e = ap (λ o. unwrap_or o (entry_member e)) (sym c.in-Ok.ensures ∙ ap (line_entry LINE_LIMIT) c.line.ensures ∙ c.written_line_is_read.ensures LINE_LIMIT e has) in
+    let read : c.in-Ok.line
+    ≡ entry_member e = ap (λ o. unwrap_or o (entry_member e)) (sym c.in-Ok.ensures
+    ∙ ap (line_entry LINE_LIMIT) c.line.ensures ∙ c.written_line_is_read.ensures LINE_LIMIT e has) in
     λ i. record {
       key = (c.in_ok-from_str.ensures.ok ∙ c.pair.ensures.key ∙ ap (λ m. m.values.key) read) i;
       stamp = (c.pair.ensures.stamp ∙ ap (λ m. m.values.stamp) read) i;

@@ -7,9 +7,11 @@ use Rattle.capture_core.proofs.SpellingLemmas.{spells, holds_spelled}
 use Rattle.capture_core.proofs.held_line.HeldLine.new.Goals as goal
 
 -- the line stands first
-line : (c : goal.In_ok-name_start) → take c.len-line_length.result c.name_start.new.bytes.items ≡ line_text (entry_view c.args.entry)
+line : (c : goal.In_ok-name_start) → take c.len-line_length.result c.name_start.new.bytes.items
+    ≡ line_text (entry_view c.args.entry)
 line c =
-    let size : c.len-line_length.result ≡ length c.in_ok-bytes.bytes.items = omega (arith, c.len-line_length.ensures, c.in_ok-bytes.bytes.ok) in
+    let size : c.len-line_length.result
+    ≡ length c.in_ok-bytes.bytes.items = omega (arith, c.len-line_length.ensures, c.in_ok-bytes.bytes.ok) in
     ap (λ n. take n c.name_start.new.bytes.items) size ∙ c.in_ok-name_start.ensures.line ∙ c.in_ok-bytes.ensures.0
 
 has_line : (c : goal.In_ok-name_start) → HasLine LINE_LIMIT (entry_view c.args.entry)
@@ -34,4 +36,5 @@ pub returns-clause-value : goal.returns-clause-value
 returns-clause-value c = spells (entry_view c.args.entry) _ (has_line c) (line c)
 
 pub returns-clause-line : goal.returns-clause-line
-returns-clause-line c = subst (HasLine LINE_LIMIT) (sym (spells (entry_view c.args.entry) _ (has_line c) (line c))) (has_line c)
+returns-clause-line c = subst (HasLine LINE_LIMIT) (sym (spells (entry_view c.args.entry) _ (has_line c) (line c)))
+    (has_line c)

@@ -5,13 +5,16 @@ use Rattle.capture_core.proofs.types.Types.+with_names.Goals as goal
 pub returns-in_err-with_name-in-Some : goal.returns-in_err-with_name-in-Some
 returns-in_err-with_name-in-Some t c =
     let cut = c.in-Some.ensures.byte (omega arith) (λ text found finds. finds) in
-    c.from_residual.ensures ∙ sym (first_name c.args.self c.args.names.now c.in-Some.name.now c.in-Some.others.now None cut.0 cut.1 cut.2 c.in_err-with_name-in-Some.ensures)
+    c.from_residual.ensures
+    ∙ sym (first_name c.args.self c.args.names.now c.in-Some.name.now c.in-Some.others.now None cut.0 cut.1 cut.2
+    c.in_err-with_name-in-Some.ensures)
 
 pub returns-in_ok-with_name-in-Some : goal.returns-in_ok-with_name-in-Some
 returns-in_ok-with_name-in-Some t c =
     let cut = c.in-Some.ensures.byte (omega arith) (λ text found finds. finds) in
     c.with_names.ensures
-    ∙ sym (first_name c.args.self c.args.names.now c.in-Some.name.now c.in-Some.others.now (Some c.in_ok-with_name-in-Some.field-0) cut.0 cut.1 cut.2 c.in_ok-with_name-in-Some.ensures)
+    ∙ sym (first_name c.args.self c.args.names.now c.in-Some.name.now c.in-Some.others.now
+    (Some c.in_ok-with_name-in-Some.field-0) cut.0 cut.1 cut.2 c.in_ok-with_name-in-Some.ensures)
 
 pub returns-in-None : goal.returns-in-None
 returns-in-None t c =

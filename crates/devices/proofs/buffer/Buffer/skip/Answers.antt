@@ -6,13 +6,22 @@ use Rattle.devices.proofs.buffer.Buffer.skip.Goals as goal
 pub returns-then-not-is_empty-clause-bytes : goal.returns-then-not-is_empty-clause-bytes
 returns-then-not-is_empty-clause-bytes g c =
     let n = c.skip_held.result in
-    let fits : n ≤ length c.args.self.now = omega (arith, c.skip_held.ensures.count) in
-    (take n c.args.self.now, rw c.skip_held.ensures.held (skips-held _ c.args.self.now n), length-take-le n c.args.self.now fits)
+    let fits : n ≤ length c.args.self.now = omega (arith, c.skip_held.ensures.count) in (
+      take n c.args.self.now,
+      rw c.skip_held.ensures.held (skips-held _ c.args.self.now n),
+      length-take-le n
+          c.args.self.now fits,
+    )
 
 pub returns-in_ok-fill-in-0-clause-bytes : goal.returns-in_ok-fill-in-0-clause-bytes
 returns-in_ok-fill-in-0-clause-bytes g c =
     let n = c.skip_held-in-0.result in
     let now = c.fill.new.self in
     let none = c.in_ok-skipped.ensures.bytes in
-    let fits : n ≤ length now = omega (arith, c.skip_held-in-0.ensures.count) in
-    (take n now, rw c.skip_held-in-0.ensures.held (skips-read _ _ _ none.0 c.args.self.now now n none.1 (none.2 ∙ c.in-0.is) c.fill.ensures.bytes), length-take-le n now fits)
+    let fits : n ≤ length now = omega (arith, c.skip_held-in-0.ensures.count) in (
+      take n now,
+      rw c.skip_held-in-0.ensures.held
+          (skips-read _ _ _ none.0 c.args.self.now now n none.1 (none.2 ∙ c.in-0.is) c.fill.ensures.bytes),
+      length-take-le
+          n now fits,
+    )

@@ -19,13 +19,15 @@ loop-self-preserved g c =
     }
 
 pub returns-in-Ended-clause-line : goal.returns-in-Ended-clause-line
-returns-in-Ended-clause-line g c = after_ended _ _ _ _ _ _ _ c.loop-self.invariant.most c.in_ok-take_part.ensures.part _ c.in-Ended.is c.loop-self.invariant.so_far
+returns-in-Ended-clause-line g c = after_ended _ _ _ _ _ _ _ c.loop-self.invariant.most c.in_ok-take_part.ensures.part _
+    c.in-Ended.is c.loop-self.invariant.so_far
 
 pub returns-in-AtEnd-clause-line : goal.returns-in-AtEnd-clause-line
 returns-in-AtEnd-clause-line g c =
     let now = c.self-in-loop-self.inside.line in
     let same = ap (λ s. length s.line) c.self-in-loop-self.view_is in
-    after_end _ _ _ _ _ _ _ c.loop-self.invariant.most c.in_ok-take_part.ensures.part _ c.is_empty.result c.in-AtEnd.is (subst (λ s. 0 < s.most) c.self.view_is c.self.invariant.0)
+    after_end _ _ _ _ _ _ _ c.loop-self.invariant.most c.in_ok-take_part.ensures.part _ c.is_empty.result c.in-AtEnd.is
+    (subst (λ s. 0 < s.most) c.self.view_is c.self.invariant.0)
     (λ t. omega (arith, same, eqb-true (vec_len now) 0 (sym c.is_empty.ensures ∙ t)))
     (λ t. omega (arith, same, eqb-false (vec_len now) 0 (sym c.is_empty.ensures ∙ t)))
     c.loop-self.invariant.so_far

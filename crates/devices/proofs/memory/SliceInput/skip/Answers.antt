@@ -6,5 +6,11 @@ pub returns-clause-bytes : goal.returns-clause-bytes
 returns-clause-bytes c =
     let n = c.min-skipped.result in
     let rest = c.self.inside.rest.now in
-    let fits : n ≤ length rest = omega (arith, c.min-skipped.ensures) in
-    (take n rest, sym c.self.view_is ∙ sym (take-append-drop n rest) ∙ ap (λ z. take n rest ++ z) (sym (take_all (length rest - n) (drop n rest) (omega (arith, length-drop n rest)))), length-take-le n rest fits)
+    let fits : n ≤ length rest = omega (arith, c.min-skipped.ensures) in (
+      take n rest,
+      sym c.self.view_is ∙ sym (take-append-drop n rest)
+          ∙ ap (λ z. take n rest ++ z)
+          (sym (take_all (length rest - n) (drop n rest) (omega (arith, length-drop n rest)))),
+      length-take-le n rest
+          fits,
+    )

@@ -12,7 +12,8 @@ returns-clause-index g c =
     c.self.view_is (index_in_places LINE_LIMIT c.self.inside.captures.items c.self.invariant.lines)
 
 pub returns-clause-sound : goal.returns-clause-sound
-returns-clause-sound g c = subst (λ (held : Held). AreSound LINE_LIMIT held.names held.captures) c.self.view_is c.self.invariant
+returns-clause-sound g c = subst (λ (held : Held). AreSound LINE_LIMIT held.names held.captures) c.self.view_is
+    c.self.invariant
 
 pub returns-clause-all : goal.returns-clause-all
 returns-clause-all g c = rw (← c.self.view_is) (all_in_places c.self.inside.captures.items c.self.invariant.places)

@@ -13,7 +13,8 @@ returns-clause-ok c =
     (λ i. is_among (c.self.view_is i) (text i)) ∙ c.requires in
     elim c.match-insert.branch [
       | in-Ok w ↦ rw w.result-is
-          (new_goes_last string_bytes keys c.insert.new.self.keys c.in_ok-copy.copy absent w.in-Ok.ensures.keys ∙ (λ i. c.self.view_is i ++ text i ∷ []))
+          (new_goes_last string_bytes keys c.insert.new.self.keys c.in_ok-copy.copy absent w.in-Ok.ensures.keys
+          ∙ (λ i. c.self.view_is i ++ text i ∷ []))
       | in-Err w ↦ rw w.result-is tt
     ]
 

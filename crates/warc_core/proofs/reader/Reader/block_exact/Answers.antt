@@ -16,16 +16,23 @@ returns-in_err-filled g c left len e =
     let i = c.loop-filled.invariant in
     let b = c.in_err-filled.ensures in
     let phase = i.2.stands.phase_is in
-    let whole = put_mid c.loop-filled.filled (length c.loop-filled.piece - c.loop-filled.filled) c.loop-filled.piece c.block.new.piece in
-    let r = Filling-fault i.0 i.1 _ _ _ _ _ _ _ c.loop-filled.filled c.in_err-filled.field-0.0 c.loop-filled.piece c.block.new.piece whole _ _ _ i.2 (b.open _ _ phase) i.3 in
-    rw (p.1, p.2) (of_open (λ a b. Fills a b (state_of c.args.self.now (g.I.Input.remaining c.args.input.now) (g.I.Input.failures c.args.input.now)) (state_of c.block.new.self (g.I.Input.remaining c.block.new.input) (g.I.Input.failures c.block.new.input)) (Err c.in_err-filled.field-0.0) whole) _ i.0 i.1 left len i.2.opened e r)
+    let whole = put_mid c.loop-filled.filled (length c.loop-filled.piece - c.loop-filled.filled) c.loop-filled.piece
+    c.block.new.piece in
+    let r = Filling-fault i.0 i.1 _ _ _ _ _ _ _ c.loop-filled.filled c.in_err-filled.field-0.0 c.loop-filled.piece
+    c.block.new.piece whole _ _ _ i.2 (b.open _ _ phase) i.3 in
+    rw (p.1, p.2) (of_open
+    (λ a b. Fills a b (state_of c.args.self.now (g.I.Input.remaining c.args.input.now)
+    (g.I.Input.failures c.args.input.now))
+    (state_of c.block.new.self (g.I.Input.remaining c.block.new.input) (g.I.Input.failures c.block.new.input))
+    (Err c.in_err-filled.field-0.0) whole) _ i.0 i.1 left len i.2.opened e r)
 
 pub overflow_add-filled : goal.overflow_add-filled
 overflow_add-filled g c =
     let i = c.loop-filled.invariant in
     let b = c.in_ok-filled.ensures.open _ i.1 i.2.stands.phase_is in
     let most = b.bound.1 in
-    let size : length c.block.new.piece ≡ length c.loop-filled.piece - c.loop-filled.filled = c.block.auto.piece ∙ part_long c.loop-filled.filled c.loop-filled.piece in
+    let size : length c.block.new.piece ≡ length c.loop-filled.piece - c.loop-filled.filled = c.block.auto.piece
+    ∙ part_long c.loop-filled.filled c.loop-filled.piece in
     let long = i.2.long in
     let within = i.2.within in
     omega arith
@@ -37,7 +44,8 @@ loop-filled-smaller g c =
     let b = c.in_ok-filled.ensures.open _ i.1 f.stands.phase_is in
     let long = f.long in
     let fits = f.fits in
-    let size : length c.block.new.piece ≡ length c.loop-filled.piece - c.loop-filled.filled = c.block.auto.piece ∙ part_long c.loop-filled.filled c.loop-filled.piece in
+    let size : length c.block.new.piece ≡ length c.loop-filled.piece - c.loop-filled.filled = c.block.auto.piece
+    ∙ part_long c.loop-filled.filled c.loop-filled.piece in
     let some : 0 < c.in_ok-filled.field-0 = b.bound.2 (omega arith) (omega arith) in
     omega arith
 
@@ -45,9 +53,15 @@ pub loop-filled-preserved : goal.loop-filled-preserved
 loop-filled-preserved g c =
     let i = c.loop-filled.invariant in
     let b = c.in_ok-filled.ensures.open _ i.1 i.2.stands.phase_is in
-    let size : length c.block.new.piece ≡ length c.loop-filled.piece - c.loop-filled.filled = c.block.auto.piece ∙ part_long c.loop-filled.filled c.loop-filled.piece in
-    let long = i.2.long in
-    (i.0, i.1, Filling-more i.0 i.1 _ _ _ _ _ _ _ c.loop-filled.filled c.in_ok-filled.field-0 c.loop-filled.piece c.block.new.piece _ _ i.2 b (omega arith), b.failures ∙ i.3)
+    let size : length c.block.new.piece ≡ length c.loop-filled.piece - c.loop-filled.filled = c.block.auto.piece
+    ∙ part_long c.loop-filled.filled c.loop-filled.piece in
+    let long = i.2.long in (
+      i.0,
+      i.1,
+      Filling-more i.0 i.1 _ _ _ _ _ _ _ c.loop-filled.filled c.in_ok-filled.field-0 c.loop-filled.piece
+          c.block.new.piece _ _ i.2 b (omega arith),
+      b.failures ∙ i.3,
+    )
 
 pub returns : goal.returns
 returns g c left len e =
@@ -55,4 +69,7 @@ returns g c left len e =
     let long = i.2.long in
     let within = i.2.within in
     let r = Filling-end i.0 i.1 _ _ _ _ _ c.loop-filled.filled c.loop-filled.piece _ _ i.2 (omega arith) i.3 in
-    of_open (λ a b. Fills a b (state_of c.args.self.now (g.I.Input.remaining c.args.input.now) (g.I.Input.failures c.args.input.now)) (state_of c.loop-filled.self (g.I.Input.remaining c.loop-filled.input) (g.I.Input.failures c.loop-filled.input)) (Ok tt) c.loop-filled.piece) _ i.0 i.1 left len i.2.opened e r
+    of_open (λ a b. Fills a b
+    (state_of c.args.self.now (g.I.Input.remaining c.args.input.now) (g.I.Input.failures c.args.input.now))
+    (state_of c.loop-filled.self (g.I.Input.remaining c.loop-filled.input) (g.I.Input.failures c.loop-filled.input))
+    (Ok tt) c.loop-filled.piece) _ i.0 i.1 left len i.2.opened e r

@@ -7,12 +7,18 @@ use Rattle.warc_head.proofs.MandatoryLemmas.{values_more, values_same}
 use Rattle.warc_head.proofs.occurrences.Occurrences.count.Goals as goal
 
 -- the values of a name, with those that the last field adds
-counted : (text wanted : List ℕ) (last : Field) (fields : List Field) (o : Occurrence) → Occurs text (values_of wanted fields ++ values_in wanted last) o → Occurs text (values_of wanted (fields ++ last ∷ [])) o
-counted text wanted last fields o h = subst (λ (values : List (List ℕ)). Occurs text values o) (sym (values_more wanted last fields)) h
+counted : (text wanted : List ℕ) (last : Field) (fields : List Field) (o : Occurrence)
+    → Occurs text (values_of wanted fields ++ values_in wanted last) o
+    → Occurs text (values_of wanted (fields ++ last ∷ [])) o
+counted text wanted last fields o h = subst (λ (values : List (List ℕ)). Occurs text values o)
+    (sym (values_more wanted last fields)) h
 
 -- a field of a name of another length adds none
-kept : (text wanted : List ℕ) (last : Field) (fields : List Field) (o : Occurrence) → (length last.name ≡ length wanted → ⊥) → Occurs text (values_of wanted fields) o → Occurs text (values_of wanted (fields ++ last ∷ [])) o
-kept text wanted last fields o other h = subst (λ (values : List (List ℕ)). Occurs text values o) (sym (values_same wanted last fields other)) h
+kept : (text wanted : List ℕ) (last : Field) (fields : List Field) (o : Occurrence)
+    → (length last.name ≡ length wanted → ⊥) → Occurs text (values_of wanted fields) o
+    → Occurs text (values_of wanted (fields ++ last ∷ [])) o
+kept text wanted last fields o other h = subst (λ (values : List (List ℕ)). Occurs text values o)
+    (sym (values_same wanted last fields other)) h
 
 pub returns-then-size-eq9 : goal.returns-then-size-eq9
 returns-then-size-eq9 c =
@@ -22,8 +28,10 @@ returns-then-size-eq9 c =
     λ fields all. record {
       record_id = kept text (codes "WARC-Record-ID") last fields _ (λ e. omega (arith, e, size)) all.record_id;
       length = kept text (codes "Content-Length") last fields _ (λ e. omega (arith, e, size)) all.length;
-      date = counted text (codes "WARC-Date") last fields _ (c.count.ensures (values_of (codes "WARC-Date") fields) all.date);
-      kind = counted text (codes "WARC-Type") last fields _ (c.count-then-size-eq9.ensures (values_of (codes "WARC-Type") fields) all.kind);
+      date = counted text (codes "WARC-Date") last fields _
+          (c.count.ensures (values_of (codes "WARC-Date") fields) all.date);
+      kind = counted text (codes "WARC-Type") last fields _
+          (c.count-then-size-eq9.ensures (values_of (codes "WARC-Type") fields) all.kind);
     }
 
 pub returns-then-size-eq14 : goal.returns-then-size-eq14
@@ -32,8 +40,10 @@ returns-then-size-eq14 c =
     let last = field_at text c.args.place in
     let size : length last.name ≡ 14 = sym (ap length c.name-size.ensures) ∙ c.if-size-eq14.true in
     λ fields all. record {
-      record_id = counted text (codes "WARC-Record-ID") last fields _ (c.count-then-size-eq14.ensures (values_of (codes "WARC-Record-ID") fields) all.record_id);
-      length = counted text (codes "Content-Length") last fields _ (c.count-then-size-eq14-2.ensures (values_of (codes "Content-Length") fields) all.length);
+      record_id = counted text (codes "WARC-Record-ID") last fields _
+          (c.count-then-size-eq14.ensures (values_of (codes "WARC-Record-ID") fields) all.record_id);
+      length = counted text (codes "Content-Length") last fields _
+          (c.count-then-size-eq14-2.ensures (values_of (codes "Content-Length") fields) all.length);
       date = kept text (codes "WARC-Date") last fields _ (λ e. omega (arith, e, size)) all.date;
       kind = kept text (codes "WARC-Type") last fields _ (λ e. omega (arith, e, size)) all.kind;
     }

@@ -8,5 +8,6 @@ pub returns : goal.returns
 returns g c =
     let written = g.O.Output.written in
     opens_first c.open_archive.result g.F.Archive.Input.remaining _ IsUnopened
-    (λ bytes. WritesBelow (heading_among c.captures.among c.args.name.now) c.captures.report bytes c.report_on_opened.result (written c.args.out.now) (written c.report_on_opened.new.out))
+    (λ bytes. WritesBelow (heading_among c.captures.among c.args.name.now) c.captures.report bytes
+    c.report_on_opened.result (written c.args.out.now) (written c.report_on_opened.new.out))
     _ (ap written) c.open_archive.ensures c.report_on_opened.ensures.report
