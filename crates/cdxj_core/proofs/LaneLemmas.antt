@@ -1,7 +1,11 @@
 -- From vectors that were compared to the fronts of lists.
-use Rattle.std.proofs.Common.{◌≡◌, ℕ, zero, suc, ◌+◌, ◌≤◌, Bool, true, false, not, cond, List, [], ◌∷◌, take, refl, ap₂, eqb, eqb-true, arith}
+use Rattle.std.proofs.Common.{◌≡◌, ℕ, zero, suc, ◌+◌, ◌≤◌, ◌%◌, ◌^◌, ◌||◌, Bool, true, false, not, cond, List, [], ◌∷◌, map, length, take, drop, bit_or, refl, ap, ap₂, ◌∙◌, eqb, eqb-true, ltb, arith}
+use Rattle.std.specs.Char.{is_ascii_digit}
 use Rattle.std.specs.List.{prefix_len}
-use lib.Lanes.{zip2}
+use Rattle.std.proofs.lemmas.List.{length-map}
+use Rattle.std.proofs.lemmas.Bool.Decides.{nat_tests}
+use Rattle.std.proofs.lemmas.Simd.{map-map, mask_l-mod}
+use lib.Lanes.{zip2, mask_l, top}
 
 -- two numbers differ
 abbrev pub differ : ℕ → ℕ → Bool
@@ -17,3 +21,43 @@ same_front (suc n) (x ∷ xs) (y ∷ ys) h = by (eqb x y) refl (same_front n xs 
     by : (b : Bool) → eqb x y ≡ b → (n ≤ prefix_len not (zip2 differ xs ys) → take n xs ≡ take n ys) → suc n ≤ cond (not (not b)) (1 + prefix_len not (zip2 differ xs ys)) 0 → take (suc n) (x ∷ xs) ≡ take (suc n) (y ∷ ys)
     by true e rest more = ap₂ (λ z zs. z ∷ zs) (eqb-true _ _ e) (rest (omega arith))
     by false e rest more = absurd (omega arith)
+
+-- the front of bytes that pass a test, as it goes on behind some of them
+pub front_behind : (p : ℕ → Bool) (k : ℕ) (xs : List ℕ) → k ≤ prefix_len p xs → k + prefix_len p (drop k xs) ≡ prefix_len p xs
+front_behind p zero xs h = omega arith
+front_behind p (suc k) [] h = absurd (omega arith)
+front_behind p (suc k) (x ∷ xs) h = by (p x) (front_behind p k xs) h
+  where
+    by : (b : Bool) → (k ≤ prefix_len p xs → k + prefix_len p (drop k xs) ≡ prefix_len p xs) → suc k ≤ cond b (1 + prefix_len p xs) 0 → suc k + prefix_len p (drop k xs) ≡ cond b (1 + prefix_len p xs) 0
+    by true rest more = let shorter = rest (omega arith) in omega arith
+    by false rest more = absurd (omega arith)
+
+-- ---- digits
+
+abbrev pub no_digit : ℕ → Bool
+no_digit x = ltb x 48 || ltb 57 x
+
+-- what a vector has for a byte, once it was compared with the first and the last digit
+abbrev pub digit_lane : ℕ → ℕ
+digit_lane x = bit_or (cond (ltb x 48) 255 0) (cond (ltb 57 x) 255 0)
+
+tops : (a b : Bool) → top 7 (bit_or (cond a 255 0) (cond b 255 0)) ≡ (a || b)
+tops true true = refl
+tops true false = refl
+tops false true = refl
+tops false false = refl
+
+tops_all : (v : List ℕ) → map (λ x. top 7 (digit_lane x)) v ≡ map no_digit v
+tops_all [] = refl
+tops_all (x ∷ v) = λ i. tops (ltb x 48) (ltb 57 x) i ∷ tops_all v i
+
+pub digit_masks : (v z : List ℕ) → length v ≡ 16 → z ≡ map digit_lane v → mask_l (map (top 7) z) % 2 ^ 64 ≡ mask_l (map no_digit v)
+digit_masks v z long e =
+    ap (λ l. mask_l l % 2 ^ 64) (ap (map (top 7)) e ∙ map-map (top 7) digit_lane v ∙ tops_all v)
+    ∙ mask_l-mod (map no_digit v) 64 (omega (arith, length-map v no_digit, long))
+
+digit : (x : ℕ) → not (no_digit x) ≡ is_ascii_digit x
+digit x = grind (arith, nat_tests)
+
+pub digit_runs : (v : List ℕ) → prefix_len (λ x. not (no_digit x)) v ≡ prefix_len is_ascii_digit v
+digit_runs v = λ i. prefix_len (λ x. digit x i) v

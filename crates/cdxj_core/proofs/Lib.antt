@@ -17,3 +17,4 @@ pub mod PlainPlaces
 pub mod NumberTexts
 pub mod JsonReading
 pub mod FoundLaw
+pub mod SpellingLemmas

@@ -1,14 +1,14 @@
 -- The entry of a line.
-use Rattle.std.proofs.Common.{◌≡◌, ◌≢◌, ℕ, ◌-◌, ◌<◌, ◌≤◌, ◌==◌, true, false, not, cond, List, [], ◌∷◌, length, take, get_or, Option, Some, None, option_map, Err, refl, sym, ap, ◌∙◌, subst, arith}
+use Rattle.std.proofs.Common.{◌≡◌, ◌≢◌, ℕ, ◌-◌, ◌<◌, ◌≤◌, ◌==◌, ◌&&◌, Bool, nat_lt, true, false, not, cond, List, [], ◌∷◌, length, take, get_or, Option, Some, None, option_map, Err, refl, sym, ap, ◌∙◌, subst, arith}
 use Rattle.std.specs.Str.{IsUtf8, is_utf8}
 use Rattle.std.proofs.lemmas.Bool.{cond-true, cond-false, not-true, lt-ltb, le-ltb}
 use Rattle.std.proofs.lemmas.List.Sums.{AllPass-from_list_all}
 use Rattle.std.proofs.lemmas.Str.{IsUtf8-from_is_utf8, is_utf8-from_IsUtf8}
 use Rattle.std.specs.List.{before_first, after_first}
-use Rattle.cdxj_places.specs.Pair.{is_space, pair_of}
+use Rattle.cdxj_places.specs.Pair.{is_space, is_key, is_stamp, pair_of}
 use Rattle.cdxj_places.proofs.PlaceLaw.{both}
 use Rattle.cdxj_core.specs.Entries.{EntryValue, HasLine, body_text, line_text}
-use Rattle.cdxj_core.specs.Lines.{LineValue, has_no_feed, line_parts, line_in, body_of}
+use Rattle.cdxj_core.specs.Lines.{LineValue, has_no_feed, line_object, line_parts, line_in, body_of}
 use Rattle.cdxj_core.specs.Members.{Member, member_pair, entry_member, line_entry, IsReading}
 use Rattle.cdxj_core.specs.declared.fault.LineFault.{LineFault}
 use Rattle.cdxj_core.specs.declared.fault.LineFault.TheVariants.{Memory, LineTooLong, BadLine}
@@ -22,6 +22,10 @@ with_line body values = record { values = values; line = body }
 pub entry_there : (limit : ℕ) (line : List ℕ) (values : LineValue) → IsUtf8 (body_of line) → line_in limit (body_of line) ≡ Some values
     → line_entry limit line ≡ Some (record { values = values; line = body_of line })
 entry_there limit line values utf8 e = cond-true (is_utf8 (body_of line)) _ _ (is_utf8-from_IsUtf8 _ utf8) ∙ ap (option_map (with_line (body_of line))) e
+
+if_none : {A : Type 0} (b : Bool) (x : Option A) → x ≡ None → cond b x None ≡ None
+if_none true x h = h
+if_none false x h = refl
 
 abbrev NoEntry : Option Member → Type 0
 NoEntry entry = entry ≡ None
@@ -117,6 +121,15 @@ body_entry limit body text key rest stamp object v same utf8 short whole k r s o
       values = ap (line_in limit) its ∙ body_values limit text key rest stamp object v less feed k r s o read;
       body = sym its;
     })
+
+-- a body that was cut so, whose object has no values
+pub body_none : (limit : ℕ) (body key rest stamp object : List ℕ) → key ≡ before_first is_space body → rest ≡ after_first is_space body → stamp ≡ before_first is_space rest → object ≡ after_first is_space rest
+    → line_object key stamp object ≡ None → line_in limit body ≡ None
+unfolding line_in
+body_none limit body key rest stamp object k r s o none =
+    let cut : line_parts (before_first is_space body) (before_first is_space (after_first is_space body)) (after_first is_space (after_first is_space body)) ≡ None =
+    sym (λ i. line_parts (k i) ((s ∙ ap (before_first is_space) r) i) ((o ∙ ap (after_first is_space) r) i)) ∙ if_none (is_key key && is_stamp stamp) (line_object key stamp object) none in
+    if_none (nat_lt (length body) limit && has_no_feed body) _ cut
 
 -- a line whose body has an entry
 pub line_of_body : (limit : ℕ) (line body text : List ℕ) (member : Member) → text ≡ body → body ≡ body_of line → true ≡ has_no_feed body → line_entry limit text ≡ Some member → line_entry limit line ≡ Some member

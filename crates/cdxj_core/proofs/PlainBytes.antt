@@ -78,5 +78,8 @@ plain_where_unescaped t h k =
 digit_is_plain : (b : ℕ) → is_ascii_digit b ≡ true → is_plain b ≡ true
 digit_is_plain b h = grind (arith, nat_tests, h)
 
+pub digits_plain : (digits : List ℕ) → list_all is_ascii_digit digits ≡ true → list_all is_plain digits ≡ true
+digits_plain = weaker is_ascii_digit is_plain digit_is_plain
+
 pub plain_decimal : (n : ℕ) → n < 2 ^ 63 → list_all is_plain (decimal n) ≡ true
-plain_decimal n h = weaker is_ascii_digit is_plain digit_is_plain (decimal n) (digits_decimal own n (omega (arith, h)))
+plain_decimal n h = digits_plain (decimal n) (digits_decimal own n (omega (arith, h)))

@@ -1,31 +1,64 @@
--- Bytes that are characters of ASCII, and neither controls nor backslashes.
-use Rattle.std.proofs.Common.{◌≡◌, ℕ, zero, suc, ◌+◌, ◌==◌, Bool, true, not, nat_lt, nat_le, List, [], ◌∷◌, drop, get_or, refl, arith, IsUtf8}
-use Rattle.std.specs.List.{list_all, position_or_len, after_first}
-use Rattle.std.proofs.lemmas.Bool.{and_parts, ltb-true}
-use Rattle.std.specs.Str.{IsAscii}
-use Rattle.std.proofs.lemmas.Str.Ascii.{IsAscii-from_all}
-use Rattle.std.proofs.lemmas.List.Sums.{AllPass-from_list_all}
+-- Texts without controls, backslashes and deletes, of ASCII or not.
+use Rattle.std.proofs.Common.{◌≡◌, ℕ, ◌<◌, ◌==◌, ◌&&◌, Bool, true, not, nat_lt, nat_le, List, [], ◌∷◌, ◌++◌, length, refl, sym, ap, ◌∙◌, arith, IsUtf8}
+use Rattle.std.specs.List.{list_all}
+use Rattle.std.proofs.lemmas.Bool.{and_parts, lt-ltb}
 use Rattle.std.proofs.lemmas.Bool.Decides.{nat_tests}
+use Rattle.std.proofs.lemmas.List.Folds.{list_all-append}
 use Rattle.json.proofs.Printed.Utf8.{are_ascii, IsUtf8-are_ascii}
+use Rattle.cdxj_places.specs.Pair.{is_key_byte, is_key}
 use Rattle.cdxj_places.proofs.PlaceLaw.{both}
 use Rattle.cdxj_core.specs.Lines.{has_no_feed}
-use Rattle.cdxj_core.specs.Plain.{is_unescaped, is_unescaped_ascii}
+use Rattle.cdxj_core.specs.Plain.{is_clean, is_other, is_unescaped, is_unescaped_ascii}
 
 pub weaker : (p q : ℕ → Bool) → ((b : ℕ) → p b ≡ true → q b ≡ true) → (xs : List ℕ) → list_all p xs ≡ true → list_all q xs ≡ true
 weaker p q f [] h = refl
 weaker p q f (x ∷ xs) h = let parts = and_parts (p x) (list_all p xs) h in both (q x) (list_all q xs) (f x parts.0) (weaker p q f xs parts.1)
 
-byte_is_no_feed : (b : ℕ) → is_unescaped_ascii b ≡ true → not (b == 10) ≡ true
-byte_is_no_feed b h = let low : nat_le 32 b ≡ true = (and_parts (nat_le 32 b) (not (b == 92)) (and_parts (is_unescaped b) (nat_lt b 127) h).0).0 in grind (arith, nat_tests)
+clean_byte : (b : ℕ) → is_clean b ≡ true → (is_unescaped b ≡ true) × (not (b == 127) ≡ true)
+clean_byte b h = and_parts (is_unescaped b) (not (b == 127)) h
+
+byte_is_no_feed : (b : ℕ) → is_clean b ≡ true → not (b == 10) ≡ true
+byte_is_no_feed b h = let low : nat_le 32 b ≡ true = (and_parts (nat_le 32 b) (not (b == 92)) (clean_byte b h).0).0 in grind (arith, nat_tests)
+
+byte_is_clean : (b : ℕ) → is_unescaped_ascii b ≡ true → is_clean b ≡ true
+byte_is_clean b h =
+    let parts = and_parts (is_unescaped b) (nat_lt b 127) h in
+    let other : not (b == 127) ≡ true = (let low : nat_lt b 127 ≡ true = parts.1 in grind (arith, nat_tests)) in
+    both (is_unescaped b) (not (b == 127)) parts.0 other
+
+key_byte : (b : ℕ) → (is_clean b && is_other 32 b) ≡ true → is_key_byte b ≡ true
+key_byte b h =
+    let parts = and_parts (is_clean b) (is_other 32 b) h in
+    let clean = clean_byte b parts.0 in
+    let low : nat_le 32 b ≡ true = (and_parts (nat_le 32 b) (not (b == 92)) clean.0).0 in
+    let space : not (b == 32) ≡ true = parts.1 in
+    let above : nat_lt 32 b ≡ true = grind (arith, nat_tests) in
+    both (nat_lt 32 b) (not (b == 127)) above clean.1
+
+all_both : (p q : ℕ → Bool) (xs : List ℕ) → list_all p xs ≡ true → list_all q xs ≡ true → list_all (λ b. p b && q b) xs ≡ true
+all_both p q [] h k = refl
+all_both p q (x ∷ xs) h k =
+    let left = and_parts (p x) (list_all p xs) h in
+    let right = and_parts (q x) (list_all q xs) k in
+    both (p x && q x) (list_all (λ b. p b && q b) xs) (both (p x) (q x) left.0 right.0) (all_both p q xs left.1 right.1)
 
 byte_is_ascii : (b : ℕ) → is_unescaped_ascii b ≡ true → nat_lt b 128 ≡ true
 byte_is_ascii b h = let high : nat_lt b 127 ≡ true = (and_parts (is_unescaped b) (nat_lt b 127) h).1 in grind (arith, nat_tests)
 
-pub unescaped_only : (xs : List ℕ) → list_all is_unescaped_ascii xs ≡ true → list_all is_unescaped xs ≡ true
-unescaped_only = weaker is_unescaped_ascii is_unescaped (λ b h. (and_parts (is_unescaped b) (nat_lt b 127) h).0)
+pub unescaped_only : (xs : List ℕ) → list_all is_clean xs ≡ true → list_all is_unescaped xs ≡ true
+unescaped_only = weaker is_clean is_unescaped (λ b h. (clean_byte b h).0)
 
-pub without_feed : (xs : List ℕ) → list_all is_unescaped_ascii xs ≡ true → has_no_feed xs ≡ true
-without_feed = weaker is_unescaped_ascii (λ b. not (b == 10)) byte_is_no_feed
+pub ascii_clean : (xs : List ℕ) → list_all is_unescaped_ascii xs ≡ true → list_all is_clean xs ≡ true
+ascii_clean = weaker is_unescaped_ascii is_clean byte_is_clean
+
+pub clean_feed : (xs : List ℕ) → list_all is_clean xs ≡ true → has_no_feed xs ≡ true
+clean_feed = weaker is_clean (λ b. not (b == 10)) byte_is_no_feed
+
+-- what stands before the first space of a clean text is a key, if it is not empty
+pub clean_key : (key : List ℕ) → list_all is_clean key ≡ true → list_all (is_other 32) key ≡ true → 0 < length key → is_key key ≡ true
+clean_key key h k some =
+    both (nat_lt 0 (length key)) (list_all is_key_byte key) (lt-ltb 0 (length key) some)
+    (weaker (λ b. is_clean b && is_other 32 b) is_key_byte key_byte key (all_both is_clean (is_other 32) key h k))
 
 all_ascii : (xs : List ℕ) → list_all is_unescaped_ascii xs ≡ true → are_ascii xs ≡ true
 all_ascii [] h = refl
@@ -34,13 +67,8 @@ all_ascii (x ∷ xs) h = let parts = and_parts (is_unescaped_ascii x) (list_all 
 pub ascii_utf8 : (xs : List ℕ) → list_all is_unescaped_ascii xs ≡ true → IsUtf8 xs
 ascii_utf8 xs h = IsUtf8-are_ascii xs (all_ascii xs h)
 
-behind : (p : ℕ → Bool) (n : ℕ) (xs : List ℕ) → list_all p xs ≡ true → list_all p (drop n xs) ≡ true
-behind p zero xs h = h
-behind p (suc n) [] h = refl
-behind p (suc n) (x ∷ xs) h = behind p n xs (and_parts (p x) (list_all p xs) h).1
-
-pub all_after : (p q : ℕ → Bool) (xs : List ℕ) → list_all p xs ≡ true → list_all p (after_first q xs) ≡ true
-all_after p q xs h = behind p (position_or_len q xs + 1) xs h
-
-pub is_ascii : (xs : List ℕ) → list_all is_unescaped_ascii xs ≡ true → IsAscii xs
-is_ascii xs h = IsAscii-from_all xs (λ k d l. ltb-true (get_or xs k d) 128 (byte_is_ascii (get_or xs k d) (AllPass-from_list_all is_unescaped_ascii xs h k d l)))
+-- the parts of a text that passes a test
+pub all_parts : (p : ℕ → Bool) (text front rest : List ℕ) (b : ℕ) → text ≡ front ++ b ∷ rest → list_all p text ≡ true → (list_all p front ≡ true) × (list_all p rest ≡ true)
+all_parts p text front rest b cut h =
+    let parts = and_parts _ _ (sym (list_all-append p front (b ∷ rest)) ∙ ap (list_all p) (sym cut) ∙ h) in
+    (parts.0, (and_parts (p b) (list_all p rest) parts.1).1)

@@ -1,8 +1,9 @@
 -- Entries, and the line that an index has of one.
-use Rattle.std.specs.Prelude.{◌≡◌, ℕ, ◌^◌, ◌<◌, ◌≤◌, true, List, [], ◌∷◌, ◌++◌, length, decimal}
+use Rattle.std.specs.Prelude.{◌≡◌, ℕ, ◌^◌, ◌<◌, ◌≤◌, true, List, [], ◌∷◌, ◌++◌, length, codes, decimal}
 use Rattle.std.specs.List.{join_by}
 use Rattle.std.specs.Str.{IsUtf8}
 use Rattle.json.specs.Print.{quoted}
+use Rattle.cdxj_places.specs.Bytes.{line_feed, space}
 use Rattle.cdxj_places.specs.Pair.{is_key, is_stamp}
 use Rattle.cdxj_places.specs.Pairs.{Pair}
 use Rattle.cdxj_places.specs.Places.{PlaceValue}
@@ -62,23 +63,23 @@ members_of e = text_members (entry_texts e)
 
 -- `"name": "value"`
 abbrev pub member_text : List ℕ × List ℕ → List ℕ
-member_text (name, value) = quoted name ++ (58 ∷ 32 ∷ []) ++ quoted value
+member_text (name, value) = quoted name ++ codes ": " ++ quoted value
 
 -- a member after another
 abbrev pub later_text : List ℕ × List ℕ → List ℕ
-later_text member = 44 ∷ 32 ∷ member_text member
+later_text member = codes ", " ++ member_text member
 
 -- the members between braces, with `, ` between
 abbrev pub object_text : List (List ℕ × List ℕ) → List ℕ
-object_text members = 123 ∷ (join_by member_text (44 ∷ 32 ∷ []) members ++ 125 ∷ [])
+object_text members = codes "{" ++ (join_by member_text (codes ", ") members ++ codes "}")
 
 -- the line without its line feed
 abbrev pub body_text : EntryValue → List ℕ
-body_text e = e.key ++ 32 ∷ (e.stamp ++ 32 ∷ object_text (members_of e))
+body_text e = e.key ++ space ∷ (e.stamp ++ space ∷ object_text (members_of e))
 
 -- the line of an entry
 abbrev pub line_text : EntryValue → List ℕ
-line_text e = body_text e ++ 10 ∷ []
+line_text e = body_text e ++ line_feed ∷ []
 
 -- an entry whose line an index can have
 abbrev pub HasLine : ℕ → EntryValue → Type 0

@@ -1,5 +1,5 @@
 -- What a line takes from a JSON object: the value of each of its members, the last one of its name.
-use Rattle.std.specs.Prelude.{ℕ, List, length, codes, bytes_eq, Option, None, Some, option_map, option_and_then, if◌then◌else◌}
+use Rattle.std.specs.Prelude.{ℕ, List, [], length, codes, decimal, bytes_eq, Option, None, Some, option_map, option_and_then, if◌then◌else◌}
 use Rattle.json.specs.Token.{Token}
 use Rattle.json.specs.Json.{parse_map, items, members, value, if_last}
 use Rattle.serde_json.specs.Data.{Num, unsigned, negative, float, Data, null, boolean, number, string, array, object, Members, no_members}
@@ -19,6 +19,18 @@ member_data (number n) = number_data n
 member_data (string s) = string s
 member_data (array ds) = null
 member_data (object ms) = null
+
+-- the text that a member has as it stands: a text, a number in decimal, and nothing for all else
+abbrev pub raw_text : Option Data → List ℕ
+raw_text None = []
+raw_text (Some null) = []
+raw_text (Some (boolean b)) = []
+raw_text (Some (number (unsigned n))) = decimal n
+raw_text (Some (number (negative z))) = []
+raw_text (Some (number (float x))) = []
+raw_text (Some (string s)) = s
+raw_text (Some (array ds)) = []
+raw_text (Some (object ms)) = []
 
 pub record FoundValue : Type 0 where
   pub url : Option Data

@@ -1,37 +1,31 @@
--- A line that is kept in one buffer: where the parts of its place stand in it.
-use Rattle.std.specs.Prelude.{◌≡◌, ℕ, ◌-◌, ◌<◌, ◌≤◌, ◌^◌, true, List, [], take, drop, length, ⊤, Option, None, Some, unwrap_or, MatchOption}
+-- A line that was read: its text, and where its parts stand in it.
+use Rattle.std.specs.Prelude.{◌≡◌, ℕ, ◌+◌, ◌<◌, ◌^◌, true, List, [], take, length, Some, unwrap_or}
 use Rattle.std.specs.Str.{IsCharBoundary}
 use Rattle.cdxj_places.specs.Pair.{is_key, is_stamp}
-use Rattle.cdxj_core.specs.declared.member_ends.MemberEnds.{MemberEnds}
+use Rattle.cdxj_core.specs.declared.spans.Spans.{Spans}
+use Rattle.cdxj_core.specs.declared.spans.TheConstants.{TO_STAMP, TO_STAMP_END}
 use Rattle.cdxj_core.specs.Members.{Member, line_entry}
-use Rattle.cdxj_core.specs.PlainPlaces.{AreMemberEnds}
+use Rattle.cdxj_core.specs.Plain.{ArePlain}
+use Rattle.cdxj_core.specs.PlainPlaces.{AreMemberEnds, IsPart, part, texts_in}
 
--- a name stands in the text, from its start to its end
-pub record StandsAt (text : List ℕ) (start end : ℕ) (name : List ℕ) : Type 0 where
-  pub order : start ≤ end
-  pub start_is_cut : IsCharBoundary text start
-  pub end_is_cut : IsCharBoundary text end
-  pub name_is : take (end - start) (drop start text) ≡ name
-
--- a file name stands in the body, or apart
-abbrev pub IsNamed : List ℕ → Option (ℕ × ℕ) → List ℕ → List ℕ → Type 0
-IsNamed body (Some ends) apart name = StandsAt body ends.0 ends.1 name
-IsNamed body None apart name = apart ≡ name
-
--- a body, with the parts of its place, is the line of this member
-pub record IsKept (limit : ℕ) (body : List ℕ) (key_length : ℕ) (stamp : List ℕ) (within : Option (ℕ × ℕ)) (apart : List ℕ) (offset : ℕ) (ends : Option MemberEnds) (member : Member) : Type 0 where
-  pub entry : line_entry limit body ≡ Some member
-  pub line_is : body ≡ member.line
-  pub key_is : take key_length body ≡ member.values.key
-  pub key_ends : IsCharBoundary body key_length
-  pub stamp_is : stamp ≡ member.values.stamp
-  pub filename_is : IsNamed body within apart member.values.filename
-  pub offset_is : offset ≡ member.values.offset
-  pub placed : MatchOption ends ⊤ (λ e. AreMemberEnds body key_length e member.values)
+-- The text begins with the line of this member, and its parts stand there. Behind a line that isn't plain, the text has
+-- a plain object with the texts of the line's members.
+pub record IsKept (limit : ℕ) (text : List ℕ) (s : Spans) (member : Member) : Type 0 where
+  pub entry : line_entry limit (take s.size text) ≡ Some member
+  pub line_is : take s.size text ≡ member.line
+  pub line_ends : IsCharBoundary text s.size
+  pub key_is : take s.key text ≡ member.values.key
+  pub key_ends : IsCharBoundary text s.key
+  pub stamp_ends : IsPart text (s.key + TO_STAMP) (s.key + TO_STAMP_END)
+  pub stamp_text : part text (s.key + TO_STAMP) (s.key + TO_STAMP_END) ≡ member.values.stamp
+  pub stamp_is : s.stamp ≡ member.values.stamp
+  pub offset_is : s.offset ≡ member.values.offset
+  pub placed : AreMemberEnds text s.start s.ends member.values
   pub key_rule : is_key member.values.key ≡ true
   pub stamp_rule : is_stamp member.values.stamp ≡ true
   pub filename_rule : 0 < length member.values.filename
   pub offset_rule : member.values.offset < 2 ^ 63
+  pub plain : s.size ≡ length text → ArePlain (texts_in member.values)
 
 -- the member of nothing
 abbrev pub no_member : Member

@@ -6,13 +6,14 @@ pub mod FoundMembers
 pub mod FoundViews
 pub mod MemberViews
 pub mod EntryView
-pub mod ValuesView
+pub mod LineTexts
 pub mod Members
 pub mod PlainPlaces
-pub mod PlainLines
 pub mod KeptLine
 pub mod Indexes
+pub mod Spelling
 -- what contracts see of places
+pub use Rattle.cdxj_places.specs.Bytes
 pub use Rattle.cdxj_places.specs.Pair
 pub use Rattle.cdxj_places.specs.Pairs
 pub use Rattle.cdxj_places.specs.Places

@@ -6,6 +6,7 @@ use Rattle.serde_json.specs.Read.{read}
 use Rattle.serde_json.specs.Find.{get}
 use Rattle.cdxj_core.specs.declared.field.Field.{Field}
 use Rattle.cdxj_core.specs.declared.field.Field.TheVariants.{Urlkey, Timestamp, Original, Mimetype, Statuscode, Digest, Length, Offset, Filename}
+use Rattle.cdxj_places.specs.Bytes.{line_feed}
 use Rattle.cdxj_places.specs.Pair.{is_space, is_key, is_stamp}
 use Rattle.cdxj_places.specs.Places.{PlaceValue, offset_of}
 use Rattle.cdxj_core.specs.Entries.{EntryValue}
@@ -132,10 +133,10 @@ line_from key stamp d =
 -- the line without a line feed at its end
 abbrev pub body_of : List ℕ → List ℕ
 body_of line =
-    if slice_index line (length line - 1) == 10 then take (length line - 1) line else line
+    if slice_index line (length line - 1) == line_feed then take (length line - 1) line else line
 
 abbrev pub has_no_feed : List ℕ → Bool
-has_no_feed text = list_all (λ b. not (b == 10)) text
+has_no_feed text = list_all (λ b. not (b == line_feed)) text
 
 -- the values of the text of an object after a pair
 abbrev pub line_object : List ℕ → List ℕ → List ℕ → Option LineValue

@@ -2,6 +2,7 @@
 use Rattle.std.specs.Prelude.{◌≡◌, ℕ, ◌==◌, ◌&&◌, Bool, true, not, nat_le, nat_lt, List, ◌∷◌, ◌++◌, codes}
 use Rattle.std.specs.List.{list_all}
 use Rattle.json.specs.Run.{is_plain}
+use Rattle.cdxj_places.specs.Bytes.{space, quote, backslash, delete}
 use Rattle.cdxj_core.specs.Texts.{TextsValue, or_missing}
 
 -- another byte
@@ -14,15 +15,19 @@ IsCutAt byte text front rest = (text ≡ front ++ byte ∷ rest) × (list_all (i
 
 -- no quote
 abbrev pub is_open : ℕ → Bool
-is_open = is_other 34
+is_open = is_other quote
 
 -- no control and no backslash
 abbrev pub is_unescaped : ℕ → Bool
-is_unescaped b = nat_le 32 b && not (b == 92)
+is_unescaped b = nat_le space b && not (b == backslash)
+
+-- no control, no backslash and no delete
+abbrev pub is_clean : ℕ → Bool
+is_clean b = is_unescaped b && not (b == delete)
 
 -- a character of ASCII that is no control and no backslash
 abbrev pub is_unescaped_ascii : ℕ → Bool
-is_unescaped_ascii b = is_unescaped b && nat_lt b 127
+is_unescaped_ascii b = is_unescaped b && nat_lt b delete
 
 -- no text has a quote
 pub record AreOpen (t : TextsValue) : Type 0 where
@@ -46,7 +51,7 @@ pub record ArePlain (t : TextsValue) : Type 0 where
 
 -- a text between its front and its quote
 abbrev pub after : List ℕ → List ℕ → List ℕ → List ℕ
-after front text rest = front ++ (text ++ 34 ∷ rest)
+after front text rest = front ++ (text ++ quote ∷ rest)
 
 abbrev pub plain_text : TextsValue → List ℕ
 plain_text t =

@@ -17,9 +17,9 @@ text_members t =
     ∷ (codes "digest", t.digest) ∷ (codes "length", t.length)
     ∷ (codes "offset", t.offset) ∷ (codes "filename", t.filename) ∷ []
 
--- `-`
+-- the text of a value that is missing
 abbrev pub missing : List ℕ
-missing = 45 ∷ []
+missing = codes "-"
 
 -- a text, or `-` for an empty one
 abbrev pub or_missing : List ℕ → List ℕ

@@ -1,7 +1,9 @@
 //! Tests of 16 bytes at a time.
-ghost use Rattle.std.specs.Prelude.{◌≡◌, ◌≤◌, ◌<◌, ◌+◌, ◌==◌, ◌++◌, true, if◌then◌else◌, drop, length, take, IfSome};
+ghost use Rattle.std.specs.Prelude.{◌≡◌, ◌≤◌, ◌<◌, ◌+◌, ◌-◌, ◌==◌, ◌++◌, true, if◌then◌else◌, drop, length, take, slice_index, IfSome};
+ghost use Rattle.std.specs.Char.{is_ascii_digit};
 ghost use Rattle.std.specs.Int.{trailing_zeros, w64};
 ghost use Rattle.std.specs.List.{prefix_len};
+ghost use Rattle.cdxj_places.specs.Pair.{is_stamp};
 ghost use Rattle.cdxj_core.specs.Plain.{is_other, IsCutAt};
 
 use std::simd::prelude::*;
@@ -43,6 +45,10 @@ fn length_before(bytes: &[u8], byte: u8) -> usize
         }
         end += LANES;
     }
+    if bytes.len() >= LANES {
+        let last = bytes.len() - LANES;
+        return last + run_before(bytes, last, byte);
+    }
     'by_bytes: while end < bytes.len() && bytes[end] != byte {
         end += 1;
     }
@@ -63,7 +69,28 @@ pub(crate) fn cut_at(text: &str, byte: u8) -> Option<(&str, &str)>
     }
 }
 
-/// A text of `length` bytes, filled up to 16 bytes.
+/// Returns how many of the first 16 bytes stand before the first that is no digit.
+#[inline(always)]
+fn digits_before(bytes: &[u8]) -> usize
+    requires { LANES ≤ length bytes.now }
+    ensures { result ≡ prefix_len is_ascii_digit (take LANES bytes.now) }
+{
+    let lanes = u8x16::from_slice(bytes);
+    let others = lanes.simd_lt(u8x16::splat(b'0')) | lanes.simd_gt(u8x16::splat(b'9'));
+    first_set(others.to_bitmask())
+}
+
+/// Returns `true` if the bytes begin with 14 digits and a space.
+#[inline(always)]
+pub(crate) fn begins_with_stamp(bytes: &[u8]) -> bool
+    requires { LANES ≤ length bytes.now }
+    ensures digits { result ≡ true → is_stamp (take 14 bytes.now) ≡ true }
+    ensures space { result ≡ true → slice_index bytes.now 14 ≡ 32 }
+{
+    digits_before(bytes) == 14 && bytes[14] == b' '
+}
+
+/// A text of `length` bytes, filled up to 16 bytes. Its last byte is a quote.
 #[derive(Copy, Clone)]
 pub(crate) struct Front {
     pub bytes: [u8; LANES],
@@ -85,11 +112,13 @@ fn begins(bytes: &[u8], front: Front) -> bool
 /// bytes.
 #[inline(always)]
 pub(crate) fn without_front(text: &str, front: Front) -> Option<&str>
-    requires { front.length ≤ LANES }
+    requires some { 0 < front.length }
+    requires short { front.length ≤ LANES }
+    requires quote { slice_index front.bytes (front.length - 1) ≡ 34 }
     ensures { IfSome result (λ rest. text.now ≡ take front.length front.bytes ++ rest.now) }
 {
     if text.len() >= LANES && begins(text.as_bytes(), front) {
-        text.get(front.length..)
+        Some(&text[front.length..])
     } else {
         None
     }

@@ -3,14 +3,17 @@ ghost use Rattle.std.specs.Prelude.{◌≡◌, ◌≤◌, length, string_bytes, 
 ghost use Rattle.std.specs.String.{string_capacity};
 ghost use Rattle.cdxj_core.specs.declared.limit.TheConstants.{LINE_LIMIT};
 
+use crate::body::{body_of, has_no_feed};
 use crate::fault::LineFault;
-use crate::line_members::LineMembers;
-use crate::line_ref::LineRef;
-use crate::member_ends::MemberEnds;
-use crate::name_ends::cut_name;
-use crate::plain_line::PlainLine;
-use crate::values::Values;
-use cdxj_places::{HasPlace, Place};
+use crate::found_members::FoundMembers;
+use crate::limit::LINE_LIMIT;
+use crate::line_parts::LineParts;
+use crate::line_ref::{LineRef, LineText};
+use crate::member_values::{filename_value, offset_value};
+use crate::spans::{OPEN, Spans};
+use crate::spelling::spelled;
+use cdxj_places::{HasPlace, Place, cut_first, is_key, is_stamp};
+use json::Scratch;
 use std::alloc::{AllocError, Global};
 use std::cmp::Ordering;
 use std::marker::Model;
@@ -19,93 +22,22 @@ use std::marker::Model;
 #[derive(Debug, Drop)]
 pub struct Line {
     alloc: Global,
-    body: String,
-    key_length: usize,
-    stamp: [u8; 14],
-    /// The start and the end of the file name in the body, if it was found there.
-    within: Option<(usize, usize)>,
-    /// The file name, if it was not found in the body.
-    apart: String,
-    offset: u64,
-    /// The ends of the texts of the members, if the line is plain.
-    ends: Option<MemberEnds>,
+    pub(crate) text: String,
+    pub(crate) spans: Spans,
 }
 
 impl Model for Line {
-    ghost use Rattle.std.specs.Prelude.{string_bytes};
+    ghost use Rattle.std.specs.Prelude.{string_bytes, take};
     ghost use Rattle.cdxj_core.specs.declared.limit.TheConstants.{LINE_LIMIT};
     ghost use Rattle.cdxj_core.specs.KeptLine.{IsKept, member_in};
     ghost use Rattle.cdxj_core.specs.Members.{Member};
 
     ghost Value = { Member };
 
-    ghost view = { λ l. member_in LINE_LIMIT (string_bytes l.body) };
+    ghost view = { λ l. member_in LINE_LIMIT (take l.spans.size (string_bytes l.text)) };
 
-    ghost invariant = { λ l. IsKept LINE_LIMIT (string_bytes l.body) l.key_length l.stamp l.within
-        (string_bytes l.apart) l.offset l.ends (member_in LINE_LIMIT (string_bytes l.body)) };
-}
-
-// What a line keeps of one that was read.
-#[derive(Drop)]
-struct Parts<'a> {
-    body: &'a str,
-    key_length: usize,
-    stamp: [u8; 14],
-    within: Option<(usize, usize)>,
-    apart: &'a str,
-    offset: u64,
-    ends: Option<MemberEnds>,
-}
-
-impl<'a> Model for Parts<'a> {
-    ghost use Rattle.cdxj_core.specs.declared.limit.TheConstants.{LINE_LIMIT};
-    ghost use Rattle.cdxj_core.specs.KeptLine.{IsKept, member_in};
-    ghost use Rattle.cdxj_core.specs.Members.{Member};
-
-    ghost Value = { Member };
-
-    ghost view = { λ p. member_in LINE_LIMIT p.body.now };
-
-    ghost invariant = { λ p. IsKept LINE_LIMIT p.body.now p.key_length p.stamp p.within p.apart.now p.offset p.ends
-        (member_in LINE_LIMIT p.body.now) };
-}
-
-impl<'a> Parts<'a> {
-    ghost use Rattle.std.specs.Prelude.{◌≡◌};
-    ghost use Rattle.cdxj_core.specs.PlainLines.{plain_member};
-
-    fn of(line: &'a LineRef<'_>) -> Parts<'a>
-        ensures { result ≡ line.now }
-    {
-        let body = line.text();
-        let place = line.place();
-        let (within, apart) = cut_name(body, place.filename);
-        Parts {
-            body,
-            key_length: place.key.len(),
-            stamp: place.stamp,
-            within,
-            apart,
-            offset: place.offset,
-            ends: None,
-        }
-    }
-
-    #[inline(always)]
-    fn of_plain(line: &PlainLine<'a>) -> Parts<'a>
-        ensures { result ≡ plain_member line.now }
-    {
-        let ends = MemberEnds::of(line);
-        Parts {
-            body: line.body,
-            key_length: line.key.len(),
-            stamp: line.digits,
-            within: Some(ends.filename(line.body.len())),
-            apart: "",
-            offset: line.offset,
-            ends: Some(ends),
-        }
-    }
+    ghost invariant = { λ l. IsKept LINE_LIMIT (string_bytes l.text) l.spans
+        (member_in LINE_LIMIT (take l.spans.size (string_bytes l.text))) };
 }
 
 // Room for a text of this length.
@@ -136,34 +68,72 @@ impl Line {
     pub fn read(alloc: Global, line: &[u8]) -> Result<Line, LineFault>
         ensures { IsReading LINE_LIMIT line.now result }
     {
-        match PlainLine::read(line) {
-            Some(plain) => Ok(Line::of(alloc, Parts::of_plain(&plain))?),
-            None => {
-                let line = LineRef::read_any(alloc, line)?;
-                Ok(Line::of(alloc, Parts::of(&line))?)
-            }
+        match LineParts::read(line) {
+            Some(parts) => Ok(Line::of(alloc, &parts)?),
+            None => Line::read_json(alloc, line),
         }
+    }
+
+    /// Reads a line as any JSON object.
+    #[tactic(auto, unfolding(crate::specs::Lines::line_in))]
+    pub(crate) fn read_json(alloc: Global, line: &[u8]) -> Result<Line, LineFault>
+        ensures { IsReading LINE_LIMIT line.now result }
+    {
+        let body = body_of(line);
+        if body.len() >= LINE_LIMIT {
+            return Err(LineFault::LineTooLong);
+        }
+        let Ok(body) = str::from_utf8(body) else {
+            return Err(LineFault::BadLine);
+        };
+        if !has_no_feed(body.as_bytes()) {
+            return Err(LineFault::BadLine);
+        }
+        let (key, rest) = cut_first(body);
+        let (stamp, object) = cut_first(rest);
+        if !is_key(key.as_bytes()) || !is_stamp(stamp.as_bytes()) {
+            return Err(LineFault::BadLine);
+        }
+        let Ok(stamp) = <[u8; 14]>::try_from(stamp.as_bytes()) else {
+            return Err(LineFault::BadLine);
+        };
+        let mut scratch = Scratch::new(alloc);
+        let found = FoundMembers::of_text(object, &mut scratch)?;
+        let Some(filename) = filename_value(found.filename) else {
+            return Err(LineFault::BadLine);
+        };
+        let Some(offset) = offset_value(found.offset) else {
+            return Err(LineFault::BadLine);
+        };
+        let (text, ends) = spelled(alloc, body, found, offset, filename)?;
+        Ok(Line {
+            alloc,
+            text,
+            spans: Spans {
+                size: body.len(),
+                key: key.len(),
+                stamp,
+                offset,
+                start: body.len() + OPEN,
+                ends,
+            },
+        })
     }
 
     /// Copies a line that was read.
     pub fn new(alloc: Global, line: &LineRef<'_>) -> Result<Line, AllocError>
         ensures { IfOk result (λ kept. kept ≡ line.now) }
     {
-        Line::of(alloc, Parts::of(line))
+        Line::of(alloc, &line.parts())
     }
 
-    fn of(alloc: Global, parts: Parts<'_>) -> Result<Line, AllocError>
-        ensures { IfOk result (λ kept. kept ≡ parts.entry) }
+    fn of(alloc: Global, parts: &LineParts<'_>) -> Result<Line, AllocError>
+        ensures { IfOk result (λ kept. kept ≡ parts.now) }
     {
         Ok(Line {
             alloc,
-            body: String::from_str(alloc, parts.body)?,
-            key_length: parts.key_length,
-            stamp: parts.stamp,
-            within: parts.within,
-            apart: String::from_str(alloc, parts.apart)?,
-            offset: parts.offset,
-            ends: parts.ends,
+            text: String::from_str(alloc, parts.text)?,
+            spans: parts.spans,
         })
     }
 
@@ -174,19 +144,18 @@ impl Line {
         ensures { MatchResult result (λ _. IsReading LINE_LIMIT line.now (Ok self.new))
             (λ fault. IsReading LINE_LIMIT line.now (Err fault) × (self.new ≡ self.old)) }
     {
-        match PlainLine::read(line) {
-            Some(plain) => self.take_on(Parts::of_plain(&plain)),
+        match LineParts::read(line) {
+            Some(parts) => self.take_on(&parts),
             None => {
-                let line = LineRef::read_any(self.alloc, line)?;
-                let parts = Parts::of(&line);
-                self.take_on(parts)
+                *self = Line::read_json(self.alloc, line)?;
+                Ok(())
             }
         }
     }
 
     #[inline(always)]
-    fn take_on(&mut self, parts: Parts<'_>) -> Result<(), LineFault>
-        ensures { MatchResult result (λ _. self.new ≡ parts.entry)
+    fn take_on(&mut self, parts: &LineParts<'_>) -> Result<(), LineFault>
+        ensures { MatchResult result (λ _. self.new ≡ parts.now)
             (λ fault. (fault ≡ LineFault.Memory) × (self.new ≡ self.old)) }
     {
         match self.keep(parts) {
@@ -196,34 +165,23 @@ impl Line {
     }
 
     #[inline(always)]
-    fn keep(&mut self, parts: Parts<'_>) -> Result<(), AllocError>
-        ensures ok { OnOk result (self.new ≡ parts.entry) }
+    fn keep(&mut self, parts: &LineParts<'_>) -> Result<(), AllocError>
+        ensures ok { OnOk result (self.new ≡ parts.now) }
         ensures err { OnErr result (self.new ≡ self.old) }
     {
-        make_room(&mut self.body, parts.body.len())?;
-        make_room(&mut self.apart, parts.apart.len())?;
-        fill(&mut self.body, parts.body);
-        fill(&mut self.apart, parts.apart);
-        self.key_length = parts.key_length;
-        self.stamp = parts.stamp;
-        self.within = parts.within;
-        self.offset = parts.offset;
-        self.ends = parts.ends;
+        make_room(&mut self.text, parts.text.len())?;
+        fill(&mut self.text, parts.text);
+        self.spans = parts.spans;
         Ok(())
     }
 
-    fn key(&self) -> &str
-        ensures { result.now ≡ self.now.values.key }
+    #[inline(always)]
+    pub(crate) fn parts(&self) -> LineParts<'_>
+        ensures { result ≡ self.now }
     {
-        &self.body.as_str()[..self.key_length]
-    }
-
-    fn filename(&self) -> &str
-        ensures { result.now ≡ self.now.values.filename }
-    {
-        match self.within {
-            Some((start, end)) => &self.body.as_str()[start..end],
-            None => self.apart.as_str(),
+        LineParts {
+            text: self.text.as_str(),
+            spans: self.spans,
         }
     }
 
@@ -232,19 +190,14 @@ impl Line {
         ensures key { result.0.now ≡ self.now.values.key }
         ensures stamp { result.1 ≡ self.now.values.stamp }
     {
-        (self.key(), self.stamp)
+        self.parts().pair()
     }
 
     /// Returns the place of the line's capture.
     pub fn place(&self) -> Place<'_>
         ensures { place_view result ≡ member_place self.now }
     {
-        Place {
-            key: self.key(),
-            stamp: self.stamp,
-            filename: self.filename(),
-            offset: self.offset,
-        }
+        self.parts().place()
     }
 
     /// Returns the line without its line feed.
@@ -252,37 +205,17 @@ impl Line {
         ensures value { result.now ≡ self.now.line }
         ensures entry { line_entry LINE_LIMIT result.now ≡ Some self.now }
     {
-        self.body.as_bytes()
+        self.parts().line().as_bytes()
     }
 
-    /// Returns the line with all its values. A line that isn't plain is read again.
+    /// Returns the line with all its values.
     pub fn values(&self) -> Result<LineRef<'_>, AllocError>
         ensures { IfOk result (λ found. found ≡ self.now) }
     {
-        match &self.ends {
-            Some(ends) => Ok(LineRef {
-                body: self.body.as_str(),
-                key: self.key(),
-                stamp: ends.stamp(self.body.as_str(), self.key_length),
-                digits: self.stamp,
-                values: Values {
-                    offset: self.offset,
-                    members: LineMembers::Borrowed(
-                        ends.texts(self.body.as_str(), self.key_length).values(),
-                    ),
-                },
-            }),
-            None => self.read_again(),
-        }
-    }
-
-    fn read_again(&self) -> Result<LineRef<'_>, AllocError>
-        ensures { IfOk result (λ found. found ≡ self.now) }
-    {
-        match LineRef::read(self.alloc, self.line()) {
-            Ok(found) => Ok(found),
-            Err(_) => Err(AllocError),
-        }
+        Ok(LineRef {
+            text: LineText::Borrowed(self.text.as_str()),
+            spans: self.spans,
+        })
     }
 }
 
@@ -292,7 +225,7 @@ impl HasPlace for Line {
     ghost place_of = { member_place };
 
     fn key_bytes(&self) -> &[u8] {
-        self.key().as_bytes()
+        self.parts().key().as_bytes()
     }
 
     fn compare_place(&self, other: &Line) -> Ordering {

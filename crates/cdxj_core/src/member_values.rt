@@ -1,27 +1,10 @@
-//! The values of a line's members, as they are in JSON.
-ghost use Rattle.std.specs.Prelude.{◌≡◌, ◌<◌, ◌^◌, IfOk, IfSome, option_map, string_bytes, length};
-ghost use Rattle.cdxj_core.specs.Lines.{value_text, filename_value, offset_value};
+//! The file name and the offset of a line, as they are in JSON.
+ghost use Rattle.std.specs.Prelude.{◌≡◌, ◌<◌, ◌^◌, IfSome, option_map, length};
+ghost use Rattle.cdxj_core.specs.Lines.{filename_value, offset_value};
 ghost use Rattle.cdxj_core.specs.FoundViews.{value_view};
 
 use crate::member_value::MemberValue;
 use cdxj_places::read_offset;
-use std::alloc::{AllocError, Global};
-
-/// Returns a member's value as a text, or `-` if it is absent, empty, or neither a text nor an
-/// unsigned 64-bit number.
-pub(crate) fn value_text(
-    alloc: Global,
-    member: Option<MemberValue<'_>>,
-) -> Result<String, AllocError>
-    ensures { IfOk result
-        (λ text. string_bytes text ≡ value_text (option_map value_view member.entry)) }
-{
-    match member {
-        Some(MemberValue::Text(text)) if !text.is_empty() => String::from_str(alloc, text),
-        Some(MemberValue::Number(number)) => format!(in alloc; "{number}"),
-        _ => String::from_str(alloc, "-"),
-    }
-}
 
 /// Returns a text that isn't empty.
 pub(crate) fn filename_value(member: Option<MemberValue<'_>>) -> Option<&str>

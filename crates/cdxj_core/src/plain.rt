@@ -1,6 +1,6 @@
 //! Plain objects: seven members in the order and the spelling of a written line, whose texts need
 //! no escapes.
-ghost use Rattle.std.specs.Prelude.{◌≡◌, ◌≤◌, ◌<◌, ◌^◌, ◌∷◌, ◌++◌, length, take, true, codes, decimal, IfSome, Some};
+ghost use Rattle.std.specs.Prelude.{◌≡◌, ◌≤◌, ◌<◌, ◌-◌, ◌^◌, ◌∷◌, ◌++◌, length, take, slice_index, true, codes, decimal, IfSome, Some};
 ghost use Rattle.std.specs.List.{list_all};
 ghost use Rattle.cdxj_core.specs.Plain.{is_open, is_unescaped, plain_text, ArePlain, AreOpen};
 ghost use Rattle.cdxj_core.specs.MemberViews.{borrowed_view};
@@ -9,7 +9,6 @@ ghost use Rattle.cdxj_places.specs.Places.{offset_of};
 use crate::borrowed_members::BorrowedMembers;
 use crate::lanes::{Front, cut_at, without_front};
 use crate::offset::canonical_offset;
-use crate::unescaped::is_unescaped;
 
 const URL: Front = Front {
     bytes: *b"{\"url\": \"       ",
@@ -49,7 +48,9 @@ const FILENAME: Front = Front {
 /// Returns the text after the front, up to its quote, and what follows that quote.
 #[inline(always)]
 fn text_after(text: &str, front: Front) -> Option<(&str, &str)>
-    requires { front.length ≤ 16 }
+    requires some { 0 < front.length }
+    requires short { front.length ≤ 16 }
+    requires quote { slice_index front.bytes (front.length - 1) ≡ 34 }
     ensures { IfSome result (λ p. (text.now ≡ take front.length front.bytes ++ (p.0.now ++ 34 ∷ p.1.now))
         × (list_all is_open p.0.now ≡ true)) }
 {
@@ -97,17 +98,6 @@ pub(crate) fn unescaped_texts(object: &str) -> Option<BorrowedMembers<'_>>
     ensures { IfSome result (λ t. (object.now ≡ plain_text (borrowed_view t)) × ArePlain (borrowed_view t)) }
 {
     open_texts(object)
-}
-
-/// Returns the texts of a plain object. It may decline any object, which is then read as JSON.
-pub(crate) fn plain_texts(object: &str) -> Option<BorrowedMembers<'_>>
-    ensures { IfSome result (λ t. (object.now ≡ plain_text (borrowed_view t)) × ArePlain (borrowed_view t)) }
-{
-    if is_unescaped(object.as_bytes()) {
-        unescaped_texts(object)
-    } else {
-        None
-    }
 }
 
 /// Returns the offset of a plain object that has a file name, if the offset is spelled as in a

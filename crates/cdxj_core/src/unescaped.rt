@@ -2,16 +2,16 @@
 ghost use Rattle.std.specs.Prelude.{◌≡◌};
 ghost use Rattle.std.specs.List.{list_all};
 ghost use Rattle.json.specs.Run.{is_plain};
-ghost use Rattle.cdxj_core.specs.Plain.{is_unescaped, is_unescaped_ascii};
+ghost use Rattle.cdxj_core.specs.Plain.{is_clean, is_unescaped_ascii};
 
-/// Returns `true` if no byte is a control or a backslash. It is one pass without an early exit,
+/// Returns `true` if no byte is a control, a backslash or DEL. It is one pass without an early exit,
 /// which compiles to vector tests.
-pub(crate) fn is_unescaped(text: &[u8]) -> bool
-    ensures { result ≡ list_all is_unescaped text.now }
+pub(crate) fn is_clean(text: &[u8]) -> bool
+    ensures { result ≡ list_all is_clean text.now }
 {
     let mut good = true;
     for byte in text {
-        good &= *byte >= b' ' && *byte != b'\\';
+        good &= *byte >= b' ' && *byte != b'\\' && *byte != 0x7f;
     }
     good
 }

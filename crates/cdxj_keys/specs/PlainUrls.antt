@@ -5,11 +5,12 @@ use Rattle.std.specs.Char.{is_ascii_lowercase, is_ascii_digit}
 use Rattle.url.specs.declared.host.Host.TheVariants.{Domain}
 use Rattle.url.specs.Ipv4.{last_label}
 use Rattle.url.specs.Parts.{Parts}
+use Rattle.cdxj_keys.specs.Bytes.{percent, hyphen, full_stop, slash, question_mark}
 use Rattle.cdxj_keys.specs.Key.{domain_text, is_graphic, query_text}
 
 -- a letter in lower case, a digit, `-` or `.`
 abbrev pub is_domain_byte : ℕ → Bool
-is_domain_byte b = is_graphic b && (is_ascii_lowercase b || is_ascii_digit b || b == 45 || b == 46)
+is_domain_byte b = is_graphic b && (is_ascii_lowercase b || is_ascii_digit b || b == hyphen || b == full_stop)
 
 -- a byte that neither a path nor a query escapes, and that no path reads as `/`
 abbrev pub is_plain_byte : ℕ → Bool
@@ -17,11 +18,11 @@ is_plain_byte b = is_graphic b && not (list_any (λ c. c == b) (codes "\"#'<>\\^
 
 -- such a byte, but not the one that ends a path
 abbrev pub is_path_byte : ℕ → Bool
-is_path_byte b = is_plain_byte b && not (b == 63)
+is_path_byte b = is_plain_byte b && not (b == question_mark)
 
 -- a segment that begins with `.` or an escape may not be left as it is
 abbrev pub begins_plain : ℕ → ℕ → Bool
-begins_plain before b = not (before == 47 && (b == 46 || b == 37))
+begins_plain before b = not (before == slash && (b == full_stop || b == percent))
 
 -- a path that is left as it is
 pub record IsPlainPath (path : List ℕ) : Type 0 where
@@ -41,7 +42,7 @@ plain_parts scheme host path query = record {
   password = [];
   host = Some (Domain host);
   port = None;
-  path = 47 ∷ path;
+  path = slash ∷ path;
   query = query;
   fragment = None;
 }
@@ -54,8 +55,8 @@ IsPlainQuery query = (0 < length query) × (list_all is_plain_byte query ≡ tru
 pub record IsPlainTail (tail : List ℕ) : Type 0 where
   pub path : List ℕ
   pub query : Option (List ℕ)
-  pub cut : tail ≡ 47 ∷ (path ++ query_text query)
-  pub plain_path : IsPlainPath (47 ∷ path)
+  pub cut : tail ≡ slash ∷ (path ++ query_text query)
+  pub plain_path : IsPlainPath (slash ∷ path)
   pub plain_query : IfSome query IsPlainQuery
 
 -- the text behind `http://` or `https://`

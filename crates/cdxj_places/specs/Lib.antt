@@ -1,3 +1,4 @@
+pub mod Bytes
 pub mod Pair
 pub mod Places
 pub mod Pairs

@@ -9,6 +9,7 @@ use Rattle.std.specs.Ordering.{nat_cmp, ordering_then}
 use Rattle.std.specs.declared.cmp.Ordering.{Ordering}
 use Rattle.std.specs.Cmp.Lexicographic.{slice_cmp}
 use Rattle.form_urlencoded.specs.Form.{decode, byte_serialize}
+use Rattle.cdxj_places.specs.Bytes.{space}
 use Rattle.cdxj_places.specs.Pair.{is_space, is_key, is_stamp}
 
 -- what a place is: three texts and a number
@@ -38,7 +39,7 @@ place_cmp p q =
 
 -- the four parts, with a space between
 abbrev pub place_text : PlaceValue → List ℕ
-place_text p = p.key ++ 32 ∷ (p.stamp ++ 32 ∷ (p.filename ++ 32 ∷ decimal p.offset))
+place_text p = p.key ++ space ∷ (p.stamp ++ space ∷ (p.filename ++ space ∷ decimal p.offset))
 
 -- the text of a place as a form writes it
 abbrev pub resume_text : PlaceValue → List ℕ

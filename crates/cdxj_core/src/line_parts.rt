@@ -1,0 +1,174 @@
+//! A line's text, and where its parts stand in it.
+ghost use Rattle.std.specs.Prelude.{◌≡◌, ◌∷◌, ◌++◌, IfSome, true};
+ghost use Rattle.cdxj_core.specs.declared.limit.TheConstants.{LINE_LIMIT};
+ghost use Rattle.cdxj_places.specs.Pair.{is_stamp};
+
+use crate::body::{body_of, clean_text};
+use crate::borrowed_members::or_missing;
+use crate::field::Field;
+use crate::lanes::{begins_with_stamp, cut_at};
+use crate::plain::{plain_offset, unescaped_texts};
+use crate::spans::{
+    CLOSE, MemberEnds, Spans, TO_DIGEST, TO_FILENAME, TO_LENGTH, TO_MIME, TO_OFFSET, TO_STAMP,
+    TO_STAMP_END, TO_STATUS, TO_URL,
+};
+use crate::unescaped::is_plain_text;
+use cdxj_places::Place;
+use std::marker::Model;
+
+/// A line's text, and where its parts stand in it.
+#[derive(Debug, Drop)]
+pub(crate) struct LineParts<'a> {
+    pub text: &'a str,
+    pub spans: Spans,
+}
+
+impl<'a> Model for LineParts<'a> {
+    ghost use Rattle.std.specs.Prelude.{take};
+    ghost use Rattle.cdxj_core.specs.declared.limit.TheConstants.{LINE_LIMIT};
+    ghost use Rattle.cdxj_core.specs.KeptLine.{IsKept, member_in};
+    ghost use Rattle.cdxj_core.specs.Members.{Member};
+
+    ghost Value = { Member };
+
+    ghost view = { λ p. member_in LINE_LIMIT (take p.spans.size p.text.now) };
+
+    ghost invariant = { λ p. IsKept LINE_LIMIT p.text.now p.spans
+        (member_in LINE_LIMIT (take p.spans.size p.text.now)) };
+}
+
+/// Returns the stamp that begins a text, and what follows the space behind it. It declines a text of
+/// fewer than 16 bytes.
+#[inline(always)]
+fn cut_stamp(text: &str) -> Option<(&str, &str)>
+    ensures { IfSome result (λ p. (text.now ≡ p.0.now ++ 32 ∷ p.1.now) × (is_stamp p.0.now ≡ true)) }
+{
+    if text.len() >= 16 && begins_with_stamp(text.as_bytes()) {
+        Some((&text[..14], &text[15..]))
+    } else {
+        None
+    }
+}
+
+impl<'a> LineParts<'a> {
+    ghost use Rattle.std.specs.Prelude.{Some};
+    ghost use Rattle.std.specs.List.{list_all};
+    ghost use Rattle.json.specs.Run.{is_plain};
+    ghost use Rattle.cdxj_places.specs.PlaceViews.{place_view};
+    ghost use Rattle.cdxj_core.specs.declared.field.Field.{Field};
+    ghost use Rattle.cdxj_core.specs.Lines.{field_value};
+    ghost use Rattle.cdxj_core.specs.Members.{member_place, line_entry};
+
+    /// Reads a plain line, with or without its line feed. It may decline any line, and takes no memory.
+    #[inline(always)]
+    pub(crate) fn read(line: &'a [u8]) -> Option<LineParts<'a>>
+        ensures { IfSome result (λ found. line_entry LINE_LIMIT line.now ≡ Some found) }
+    {
+        let body = body_of(line);
+        let text = clean_text(body)?;
+        let (key, rest) = cut_at(text, b' ')?;
+        if key.is_empty() {
+            return None;
+        }
+        let (stamp, object) = cut_stamp(rest)?;
+        let texts = unescaped_texts(object)?;
+        let offset = plain_offset(texts)?;
+        let Ok(stamp) = <[u8; 14]>::try_from(stamp.as_bytes()) else {
+            return None;
+        };
+        let start = key.len() + TO_URL;
+        Some(LineParts {
+            text,
+            spans: Spans {
+                size: text.len(),
+                key: key.len(),
+                stamp,
+                offset,
+                start,
+                ends: MemberEnds::of(start, texts),
+            },
+        })
+    }
+
+    /// Returns the line, without its line feed.
+    #[inline(always)]
+    pub(crate) fn line(&self) -> &'a str
+        ensures value { result.now ≡ self.now.line }
+        ensures entry { line_entry LINE_LIMIT result.now ≡ Some self.now }
+    {
+        &self.text[..self.spans.size]
+    }
+
+    #[inline(always)]
+    pub(crate) fn key(&self) -> &'a str
+        ensures { result.now ≡ self.now.values.key }
+    {
+        &self.text[..self.spans.key]
+    }
+
+    #[inline(always)]
+    fn stamp(&self) -> &'a str
+        ensures { result.now ≡ self.now.values.stamp }
+    {
+        &self.text[self.spans.key + TO_STAMP..self.spans.key + TO_STAMP_END]
+    }
+
+    #[inline(always)]
+    fn filename(&self) -> &'a str
+        ensures { result.now ≡ self.now.values.filename }
+    {
+        let text = self.text;
+        &text[self.spans.ends.offset + TO_FILENAME..text.len() - CLOSE]
+    }
+
+    /// Returns the key and the stamp.
+    #[inline(always)]
+    pub(crate) fn pair(&self) -> (&'a str, [u8; 14])
+        ensures key { result.0.now ≡ self.now.values.key }
+        ensures stamp { result.1 ≡ self.now.values.stamp }
+    {
+        (self.key(), self.spans.stamp)
+    }
+
+    /// Returns the place of the line's capture.
+    #[inline(always)]
+    pub(crate) fn place(&self) -> Place<'a>
+        ensures { place_view result ≡ member_place self.now }
+    {
+        Place {
+            key: self.key(),
+            stamp: self.spans.stamp,
+            filename: self.filename(),
+            offset: self.spans.offset,
+        }
+    }
+
+    /// Returns the value of a field.
+    #[inline(always)]
+    pub(crate) fn value(&self, field: Field) -> &'a str
+        ensures { result.now ≡ field_value field self.now.values }
+    {
+        let text = self.text;
+        let ends = self.spans.ends;
+        match field {
+            Field::Urlkey => self.key(),
+            Field::Timestamp => self.stamp(),
+            Field::Original => or_missing(&text[self.spans.start..ends.url]),
+            Field::Mimetype => or_missing(&text[ends.url + TO_MIME..ends.mime]),
+            Field::Statuscode => or_missing(&text[ends.mime + TO_STATUS..ends.status]),
+            Field::Digest => or_missing(&text[ends.status + TO_DIGEST..ends.digest]),
+            Field::Length => or_missing(&text[ends.digest + TO_LENGTH..ends.length]),
+            Field::Offset => &text[ends.length + TO_OFFSET..ends.offset],
+            Field::Filename => self.filename(),
+        }
+    }
+
+    /// Returns `true` if JSON writes each value of the line without escapes. It may be `false` for
+    /// any line.
+    pub(crate) fn needs_no_escapes(&self) -> bool
+        ensures { result ≡ true → (field : Field)
+            → list_all is_plain (field_value field self.now.values) ≡ true }
+    {
+        self.spans.size == self.text.len() && is_plain_text(self.key().as_bytes())
+    }
+}
