@@ -1,12 +1,9 @@
 -- Lines whose end is far.
 use Rattle.std.proofs.Common.{◌≡◌, ℕ, ◌+◌, ◌-◌, ◌<◌, ◌≤◌, List, length, drop, ap, arith, length-drop, Option, None, Some, IfNone}
 use Rattle.source_core.specs.IndexLines.{lines, from_line, after_line, first_length, longest}
+use Rattle.source_core.specs.Halved.{IsFar}
 use Rattle.source_core.proofs.Halves.{from_line_later}
 use Rattle.source_core.proofs.LongestLines.{first_and_after, first_most, longest_drop, from_line_short}
-
--- the first line that begins at the offset or after it begins so many bytes later, or after that
-abbrev pub IsFar : ℕ → List ℕ → ℕ → Type 0
-IsFar limit t m = m + limit + length (from_line m t) ≤ length t
 
 -- the line that begins before it is too long
 pub far_first : (limit : ℕ) (t : List ℕ) (m : ℕ) → 0 < m → IsFar limit t m → limit < first_length (lines (drop (m - 1) t))

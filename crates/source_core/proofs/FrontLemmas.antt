@@ -81,6 +81,13 @@ module _ (limit : ℕ) (start : Pair) where
   decided t offset front held ends below same r some short h =
       decided_by t offset front ends below (pair_of front) r some short refl (h ∙ ap (λ u. option_map (is_below start) (pair_of u)) same)
 
+  -- so it isn't empty
+  pub decided_at : (t : List ℕ) (offset : ℕ) (front held : List ℕ) (ends below : Bool) → held ≡ front → ReadsOn t offset front ends → length front ≤ limit
+      → Some below ≡ option_map (is_below start) (pair_of held) → not below ≡ stops_lines (line_below limit start) (lines (drop offset t))
+  decided_at t offset [] held ends below same r short h =
+      let e : Some below ≡ option_map (is_below start) (pair_of []) = h ∙ ap (λ u. option_map (is_below start) (pair_of u)) same in absurd (cc)
+  decided_at t offset (x ∷ u) held ends below same r short h = decided t offset (x ∷ u) held ends below same r (omega arith) short h
+
   none_by : (o : Option Pair) → None ≡ option_map (is_below start) o → o ≡ None
   none_by None h = refl
   none_by (Some p) h = absurd (cc)

@@ -1,10 +1,11 @@
 -- Indexes, cut at a pair.
-use Rattle.std.proofs.Common.{◌≡◌, ℕ, suc, ◌+◌, ◌-◌, ◌*◌, ◌≤◌, List, [], ◌∷◌, ◌++◌, Bool, true, false, cond, length, take, drop, flat_map, map, Some, refl, sym, ap, ◌∙◌, arith, eqb, length-append, length-drop, length-take, Less, Equal, Greater, is_gt, is_lt}
+use Rattle.std.proofs.Common.{◌≡◌, ℕ, zero, suc, ◌+◌, ◌-◌, ◌*◌, ◌^◌, ◌<◌, ◌≤◌, List, [], ◌∷◌, ◌++◌, Bool, true, false, cond, length, take, drop, flat_map, map, Some, refl, sym, ap, inl, inr, ◌∙◌, arith, eqb, length-append, length-drop, length-take, Less, Equal, Greater, is_gt, is_lt}
 use Rattle.std.specs.List.{onto_first, AllByRecursion}
-use Rattle.std.proofs.lemmas.Bool.{true≢false}
+use Rattle.std.proofs.lemmas.Bool.{cases_lt, true≢false}
 use Rattle.std.proofs.lemmas.Grind.{flat_map-append}
 use Rattle.std.proofs.lemmas.List.{take_all}
 use Rattle.std.proofs.Math.Nat.{mul-le-mul_right}
+use Rattle.std.proofs.Math.Pow.{pow_mono}
 use Rattle.cdxj_core.specs.Lines.{body_of}
 use Rattle.cdxj_core.specs.Members.{Member, member_pair, line_entry}
 use Rattle.cdxj_core.specs.Indexes.{IsIndex}
@@ -15,7 +16,8 @@ use Rattle.cdxj_places.specs.Rising.{NeverFalls}
 use Rattle.cdxj_places.proofs.PairLemmas.{pair_cmp_total}
 use Rattle.source_core.specs.IndexLines.{lines, from_line, longest, BeginsAfter}
 use Rattle.source_core.specs.Search.{is_below, is_some_below, line_below, IsCut}
-use Rattle.source_core.specs.Halving.{stops}
+use Rattle.source_core.specs.Halving.{stops, digits}
+use Rattle.source_core.proofs.Halves.{digits_below}
 use Rattle.source_core.proofs.Seeks.{from_line_rest, sought, BelowFirst}
 
 -- ---- where lines begin
@@ -165,7 +167,21 @@ module _ (limit : ℕ) (start : Pair) where
 pub turns_most : (gave probes turns w : ℕ) → probes ≤ turns → gave + probes * w ≤ gave + turns * w
 turns_most gave probes turns w h = let e = mul-le-mul_right w h in omega arith
 
-pub turn_more : (g0 g1 g2 probes long : ℕ) → g1 ≤ g0 + probes * (2 * long + 2048) → g2 ≤ g1 + 2 * long + 2 * 1024 → g2 ≤ g0 + (probes + 1) * (2 * long + 2048)
-turn_more g0 g1 g2 probes long h k =
-    let e : (probes + 1) * (2 * long + 2048) ≡ probes * (2 * long + 2048) + (2 * long + 2048) = omega arith in
+pub turn_more : (g0 g1 g2 probes w : ℕ) → g1 ≤ g0 + probes * w → g2 ≤ g1 + w → g2 ≤ g0 + (probes + 1) * w
+turn_more g0 g1 g2 probes w h k =
+    let e : (probes + 1) * w ≡ probes * w + w = omega arith in
     omega arith
+
+paid_by : (d extent n : ℕ) → extent < 2 ^ d → n ≤ 8192 → n ≤ extent → n ≤ d * 1024
+paid_by zero extent n few most inside = omega arith
+paid_by (suc d) extent n few most inside = elim (cases_lt d 7) [
+  | inl l ↦ (let p : 2 ^ suc d ≤ 2 ^ 7 = pow_mono {i = suc d} {j = 7} (omega arith) in omega arith)
+  | inr l ↦ omega arith
+]
+
+-- what is read at once of a source is no more than half of what its turns may read
+pub few_are_paid : (extent n : ℕ) → n ≤ 8192 → n ≤ extent → n ≤ digits extent * 1024
+few_are_paid extent n most inside = paid_by (digits extent) extent n (digits_below extent).0 most inside
+
+pub turns_paid : (turns long : ℕ) → turns * (2 * long + 1024) + turns * 1024 ≡ turns * (2 * long + 2048)
+turns_paid turns long = omega arith

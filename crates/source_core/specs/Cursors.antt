@@ -1,8 +1,9 @@
 -- Where a cursor stands in a source's text.
-use Rattle.std.specs.Prelude.{◌≡◌, ℕ, ◌+◌, ◌≤◌, List, length, drop, Option, Some, Result, Err}
+use Rattle.std.specs.Prelude.{◌≡◌, ℕ, ◌+◌, ◌<◌, ◌≤◌, List, length, drop, true, Option, Some, Result, Err}
 use Rattle.devices.specs.Device.{next_count}
 use Rattle.cdxj_places.specs.TextLines.{lines}
 use Rattle.source_core.specs.Ahead.{StandsAt}
+use Rattle.source_core.specs.LineParts.{PartOf}
 use Rattle.source_core.specs.declared.fault.LineReadFault.{LineReadFault}
 use Rattle.source_core.specs.declared.fault.LineReadFault.TheVariants as fault
 
@@ -26,6 +27,12 @@ pub record Stands (text : Option (List ℕ)) (extent : ℕ) (c : CursorState) : 
   pub filled : Filled text extent c
   pub begun : c.start + c.count ≤ c.at
   pub rest : (t : List ℕ) → text ≡ Some t → lines (drop c.at t) ≡ drop c.count (lines (drop c.start t))
+
+-- so many of the bytes that are held are a line, which ends with a line feed
+pub record IsHeldLine (held : List ℕ) (size : ℕ) : Type 0 where
+  pub some : 0 < size
+  pub inside : size ≤ length held
+  pub part : PartOf held size true
 
 -- a source's count of failures, before and after a line was read
 abbrev pub CountsLineRead : {A : Type 0} → Result A LineReadFault → ℕ → ℕ → Type 0

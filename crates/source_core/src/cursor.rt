@@ -1,5 +1,5 @@
 //! The lines of a source, one after another.
-ghost use Rattle.std.specs.Prelude.{◌≡◌, ◌+◌, ◌<◌, ◌≤◌, ◌≢◌, ℕ, Option, List, length, drop, IfOk, IfErr, OnOk, MatchOption, IfSome, Some};
+ghost use Rattle.std.specs.Prelude.{◌≡◌, ◌+◌, ◌<◌, ◌≤◌, ◌≢◌, ◌∷◌, ℕ, Option, List, length, take, drop, IfOk, IfErr, OnOk, MatchOption, IfSome, Some};
 ghost use Rattle.cdxj_core.specs.declared.limit.TheConstants.{LINE_LIMIT};
 
 use crate::ahead::Ahead;
@@ -31,7 +31,7 @@ impl Model for Cursor {
 
 impl Cursor {
     ghost use Rattle.source_core.specs.IndexLines.{lines, first_length, first_then, line_found};
-    ghost use Rattle.source_core.specs.Cursors.{Filled, Stands, reach, CountsLineRead};
+    ghost use Rattle.source_core.specs.Cursors.{Filled, Stands, reach, CountsLineRead, IsHeldLine};
 
     /// Creates a cursor at the offset `start`, in bytes from the source's start. A line begins there.
     pub fn new(alloc: Global, start: u64) -> Result<Cursor, AllocError>
@@ -60,6 +60,34 @@ impl Cursor {
         ensures { result ≡ self.now.count }
     {
         self.count
+    }
+
+    /// Returns the next line, with its line feed, if all of it was read ahead.
+    pub fn held_line(&self) -> Option<&[u8]>
+        ensures { IfSome result (λ l. (l.now ≡ take (length l.now) self.now.ahead)
+            × IsHeldLine self.now.ahead (length l.now)) }
+    {
+        let held = self.ahead.as_slice();
+        let (length, ends) = line_part(held);
+        if ends { Some(&held[..length]) } else { None }
+    }
+
+    /// Goes on behind the next line, which [`Cursor::held_line`] returned and which has so many bytes.
+    pub fn pass_line<S: Source>(&mut self, source: &S, size: usize)
+        requires stands { Stands (S.text source.now) (S.extent source.now) self.old }
+        requires line { IsHeldLine self.old.ahead size }
+        ensures stands { Stands (S.text source.now) (S.extent source.now) self.new }
+        ensures start { self.new.start ≡ self.old.start }
+        ensures count { self.new.count ≡ self.old.count + 1 }
+        ensures there { self.new.at ≡ self.old.at + size }
+        ensures reach { reach self.new ≡ reach self.old }
+        ensures given { (t : List ℕ) → S.text source.now ≡ Some t → lines (drop self.old.at t)
+            ≡ take size self.old.ahead ∷ lines (drop self.new.at t) }
+    {
+        let _extent = source.size();
+        self.ahead.consume(size);
+        self.at += size as u64;
+        self.count += 1;
     }
 
     /// Reads the next line, with its line feed, into `line`, whose previous bytes are dropped. Returns whether there

@@ -2,23 +2,27 @@
 ghost use Rattle.std.specs.Prelude.{◌≡◌, ◌+◌, ◌<◌, ◌≤◌, ℕ, List, length, drop, IfOk, IfSome, IfNone, Some};
 ghost use Rattle.devices.specs.Device.{CountsFailure};
 ghost use Rattle.source_core.specs.IndexLines.{lines, from_line, longest};
+ghost use Rattle.source_core.specs.Windows.{Holds};
 
 use crate::source::{Source, SourceFault};
+use crate::window::{SEARCH_PIECE, Window};
 use memchr::memchr;
 
 /// Returns the offset of the first line that begins at the offset `from` or after it, if it begins before `until`.
-/// Reads piece by piece, from the byte before `from` on, and nothing if `from` is 0.
+/// Looks through the bytes from the one before `from` on, and through none if `from` is 0. What the window doesn't hold
+/// is read piece by piece.
 pub(crate) fn next_line_start<S: Source>(
     source: &mut S,
-    piece: &mut [u8],
+    window: &mut Window,
     from: u64,
     until: u64,
 ) -> Result<Option<u64>, SourceFault>
-    requires room { 0 < length piece.old }
+    requires holds { Holds (S.text source.old) (S.extent source.old) window.old }
     requires some { from < until }
     requires inside { until ≤ S.extent source.old }
     ensures text { S.text source.new ≡ S.text source.old }
     ensures extent { S.extent source.new ≡ S.extent source.old }
+    ensures holds { Holds (S.text source.new) (S.extent source.new) window.new }
     ensures after { IfOk result (λ found. IfSome found (λ offset. from ≤ offset)) }
     ensures within { IfOk result (λ found. IfSome found (λ offset. offset < until)) }
     ensures later { IfOk result (λ found. IfNone found (0 < from)) }
@@ -29,7 +33,7 @@ pub(crate) fn next_line_start<S: Source>(
     ensures none { (t : List ℕ) → S.text source.old ≡ Some t
         → IfOk result (λ found. IfNone found (from_line until t ≡ from_line from t)) }
     ensures gave { (t : List ℕ) → S.text source.old ≡ Some t
-        → S.gave source.new ≤ S.gave source.old + longest (lines t) + length piece.old }
+        → S.gave source.new ≤ S.gave source.old + longest (lines t) + 512 }
     ensures bound { S.gave source.new + from ≤ S.gave source.old + until }
     ensures failures { CountsFailure result (S.failures source.old) (S.failures source.new) }
 {
@@ -40,9 +44,11 @@ pub(crate) fn next_line_start<S: Source>(
     let end = until - 1;
     let mut at = from - 1;
     while at < end {
-        let most = piece.len().min((end - at) as usize);
-        let count = source.read_at(at, &mut piece[..most])?;
-        match memchr(b'\n', &piece[..count]) {
+        let most = SEARCH_PIECE.min((end - at) as usize);
+        window.hold(source, at, most)?;
+        let held = window.from(at);
+        let count = held.len().min((end - at) as usize);
+        match memchr(b'\n', &held[..count]) {
             Some(feed) => return Ok(Some(at + feed as u64 + 1)),
             None => at += count as u64,
         }

@@ -1,5 +1,5 @@
 //! The binary search for the line where the reading of an index begins.
-ghost use Rattle.std.specs.Prelude.{◌≡◌, ◌+◌, ◌*◌, ◌<◌, ◌≤◌, ℕ, Option, List, length, drop, false, option_map, IfOk, OnOk, IfSome, IfNone, Some};
+ghost use Rattle.std.specs.Prelude.{◌≡◌, ◌+◌, ◌-◌, ◌*◌, ◌<◌, ◌≤◌, ℕ, Option, List, length, drop, false, option_map, IfOk, OnOk, OnErr, IfSome, IfNone, Some};
 ghost use Rattle.cdxj_core.specs.declared.limit.TheConstants.{LINE_LIMIT};
 ghost use Rattle.cdxj_core.specs.Indexes.{IsIndex};
 ghost use Rattle.cdxj_core.specs.Members.{Member};
@@ -7,17 +7,21 @@ ghost use Rattle.cdxj_places.specs.Pair.{pair_of};
 ghost use Rattle.source_core.specs.IndexLines.{lines, from_line, longest, BeginsAfter};
 ghost use Rattle.source_core.specs.Search.{is_below, line_below, IsStop, IsCut, CountsSearch};
 ghost use Rattle.source_core.specs.Halving.{stops, stops_lines, digits};
+ghost use Rattle.source_core.specs.Halved.{Halved};
 ghost use Rattle.source_core.specs.LineParts.{BeginsWith, ReadsOn};
+ghost use Rattle.source_core.specs.Windows.{Holds};
 
 use crate::fault::SearchFault;
 use crate::line_part::line_part;
 use crate::line_start::next_line_start;
 use crate::source::Source;
+use crate::window::{SEARCH_PIECE, Window};
 use cdxj_core::{LINE_LIMIT, split_pair};
-use std::alloc::Global;
+use devices::PIECE;
+use std::alloc::{AllocError, Global};
 
-/// The number of bytes that the search reads at once: more than most lines have.
-const SEARCH_PIECE: usize = 1024;
+/// How many offsets are few: a piece of [`PIECE`] bytes holds them, and 512 bytes of a line that begins at the last.
+const FEW: u64 = 7680;
 
 /// The result of a search.
 #[derive(Clone, Copy, Debug, Drop, PartialEq, Eq)]
@@ -43,33 +47,55 @@ fn front_is_below(front: &[u8], key: &[u8], stamp: &[u8]) -> Option<bool>
     }
 }
 
-/// Reads more of the line that begins at the offset, whose first bytes are in `front`. Returns whether the line ends
-/// with the bytes in `front`.
+/// Copies the bytes that the window holds of the line that begins at the offset into `front`, whose previous bytes are
+/// dropped. Returns whether the line ends with them.
+fn held_front(window: &Window, offset: u64, front: &mut Vec<u8>) -> Result<bool, AllocError>
+    ensures within { (text : Option (List ℕ)) → (extent : ℕ) → Holds text extent window.now
+        → offset ≤ extent → OnOk result (offset + length front.new.items ≤ extent) }
+    ensures short { (text : Option (List ℕ)) → (extent : ℕ) → Holds text extent window.now
+        → OnOk result (length front.new.items ≤ 8192) }
+    ensures reads { (text : Option (List ℕ)) → (extent : ℕ) → Holds text extent window.now
+        → offset ≤ extent → (t : List ℕ) → text ≡ Some t
+        → IfOk result (λ ends. ReadsOn t offset front.new.items ends) }
+{
+    let held = window.from(offset);
+    let (length, ends) = line_part(held);
+    front.clear();
+    front.extend_from_slice(&held[..length])?;
+    Ok(ends)
+}
+
+/// Reads more of the line that begins at the offset, at most `most` bytes; its first bytes are in `front`. Returns
+/// whether the line ends with the bytes in `front`.
 fn read_on<S: Source>(
     source: &mut S,
-    piece: &mut [u8],
+    window: &mut Window,
     offset: u64,
     front: &mut Vec<u8>,
+    most: usize,
 ) -> Result<bool, SearchFault>
-    requires room { 0 < length piece.old }
+    requires some { 0 < most }
+    requires room { most ≤ 8192 }
     requires inside { offset + length front.old.items < S.extent source.old }
     ensures text { S.text source.new ≡ S.text source.old }
     ensures extent { S.extent source.new ≡ S.extent source.old }
+    ensures holds { Holds (S.text source.new) (S.extent source.new) window.new }
     ensures within { OnOk result (offset + length front.new.items ≤ S.extent source.old) }
     ensures some { OnOk result (length front.old.items < length front.new.items) }
-    ensures most { OnOk result
-        (length front.new.items ≤ length front.old.items + length piece.old) }
+    ensures most { OnOk result (length front.new.items ≤ length front.old.items + most) }
     ensures reads { (t : List ℕ) → S.text source.old ≡ Some t → BeginsWith t offset front.old.items
         → IfOk result (λ ends. ReadsOn t offset front.new.items ends) }
-    ensures gave { S.gave source.new ≤ S.gave source.old + length piece.old }
+    ensures gave { S.gave source.new ≤ S.gave source.old + most }
     ensures held { IfOk result (λ ends. ends ≡ false
         → S.gave source.new + length front.old.items ≤ S.gave source.old + length front.new.items) }
     ensures failures { CountsSearch result (S.failures source.old) (S.failures source.new) }
 {
     let _size = source.size();
-    let count = source.read_at(offset + front.len() as u64, piece)?;
-    let (length, ends) = line_part(&piece[..count]);
-    front.extend_from_slice(&piece[..length])?;
+    let at = offset + front.len() as u64;
+    window.read(source, at, most)?;
+    let held = window.from(at);
+    let (length, ends) = line_part(held);
+    front.extend_from_slice(&held[..length])?;
     Ok(ends)
 }
 
@@ -77,16 +103,17 @@ fn read_on<S: Source>(
 /// source ends. Returns whether the line ends with the bytes in `front`.
 fn read_to<S: Source>(
     source: &mut S,
-    piece: &mut [u8],
+    window: &mut Window,
     offset: u64,
     front: &mut Vec<u8>,
     wanted: usize,
 ) -> Result<bool, SearchFault>
-    requires room { 0 < length piece.old }
+    requires holds { Holds (S.text source.old) (S.extent source.old) window.old }
     requires inside { offset + length front.old.items < S.extent source.old }
     requires more { length front.old.items < wanted }
     ensures text { S.text source.new ≡ S.text source.old }
     ensures extent { S.extent source.new ≡ S.extent source.old }
+    ensures holds { Holds (S.text source.new) (S.extent source.new) window.new }
     ensures within { OnOk result (offset + length front.new.items ≤ S.extent source.old) }
     ensures some { OnOk result (length front.old.items < length front.new.items) }
     ensures most { OnOk result (length front.new.items ≤ wanted) }
@@ -94,7 +121,7 @@ fn read_to<S: Source>(
         → IfOk result (λ ends. ReadsOn t offset front.new.items ends) }
     ensures gave { (t : List ℕ) → S.text source.old ≡ Some t → BeginsWith t offset front.old.items
         → S.gave source.new + length front.old.items
-        ≤ S.gave source.old + longest (lines t) + length piece.old }
+        ≤ S.gave source.old + longest (lines t) + 512 }
     ensures bound { S.gave source.new + length front.old.items ≤ S.gave source.old + wanted }
     ensures held { IfOk result (λ ends. ends ≡ false
         → S.gave source.new + length front.old.items ≤ S.gave source.old + length front.new.items) }
@@ -102,8 +129,8 @@ fn read_to<S: Source>(
 {
     let size = source.size();
     while front.len() < wanted && offset + (front.len() as u64) < size {
-        let most = piece.len().min(wanted - front.len());
-        let ends = read_on(source, &mut piece[..most], offset, front)?;
+        let most = SEARCH_PIECE.min(wanted - front.len());
+        let ends = read_on(source, window, offset, front, most)?;
         if ends {
             return Ok(true);
         }
@@ -111,34 +138,34 @@ fn read_to<S: Source>(
     Ok(false)
 }
 
-/// Returns whether the line that begins at the offset isn't below the pair, or the text ends there. Reads its first
+/// Returns whether the line that begins at the offset isn't below the pair, or the text ends there. Looks at its first
 /// [`LINE_LIMIT`] bytes at most; a line that shows no pair in them isn't below.
 ///
-/// Each comparison begins at the line's start, so twice as many bytes are read before the next one.
+/// It looks first at what the window holds of the line. Each comparison begins at the line's start, so twice as many
+/// bytes are read before the next one.
 fn stops_at<S: Source>(
     source: &mut S,
-    piece: &mut [u8],
+    window: &mut Window,
     offset: u64,
     front: &mut Vec<u8>,
     key: &[u8],
     stamp: &[u8],
 ) -> Result<bool, SearchFault>
-    requires room { 0 < length piece.old }
+    requires holds { Holds (S.text source.old) (S.extent source.old) window.old }
     requires inside { offset ≤ S.extent source.old }
     ensures text { S.text source.new ≡ S.text source.old }
     ensures extent { S.extent source.new ≡ S.extent source.old }
+    ensures holds { Holds (S.text source.new) (S.extent source.new) window.new }
     ensures stops { (t : List ℕ) → S.text source.old ≡ Some t → IfOk result (λ stop.
         stop ≡ stops_lines (line_below LINE_LIMIT (key.now, stamp.now)) (lines (drop offset t))) }
     ensures gave { (t : List ℕ) → S.text source.old ≡ Some t
-        → S.gave source.new ≤ S.gave source.old + longest (lines t) + length piece.old }
+        → S.gave source.new ≤ S.gave source.old + longest (lines t) + 512 }
     ensures bound { S.gave source.new ≤ S.gave source.old + LINE_LIMIT }
     ensures failures { CountsSearch result (S.failures source.old) (S.failures source.new) }
 {
-    front.clear();
     let size = source.size();
-    while front.len() < LINE_LIMIT && offset + (front.len() as u64) < size {
-        let wanted = (2 * front.len()).max(SEARCH_PIECE).min(LINE_LIMIT);
-        let ends = read_to(source, piece, offset, front, wanted)?;
+    let mut ends = held_front(window, offset, front)?;
+    'fronts: loop {
         match front_is_below(front, key, stamp) {
             Some(below) => return Ok(!below),
             None => {}
@@ -146,8 +173,12 @@ fn stops_at<S: Source>(
         if ends {
             return Ok(true);
         }
+        if front.len() >= LINE_LIMIT || offset + (front.len() as u64) >= size {
+            return Ok(true);
+        }
+        let wanted = (2 * front.len()).max(SEARCH_PIECE).min(LINE_LIMIT);
+        ends = read_to(source, window, offset, front, wanted)?;
     }
-    Ok(true)
 }
 
 /// A line that a step of the search looked at.
@@ -162,18 +193,19 @@ struct Probed {
 /// Looks at the first line that begins at `middle` or after it, if it begins before `until`.
 fn probe<S: Source>(
     source: &mut S,
-    piece: &mut [u8],
+    window: &mut Window,
     middle: u64,
     until: u64,
     front: &mut Vec<u8>,
     key: &[u8],
     stamp: &[u8],
 ) -> Result<Option<Probed>, SearchFault>
-    requires room { 0 < length piece.old }
+    requires holds { Holds (S.text source.old) (S.extent source.old) window.old }
     requires some { middle < until }
     requires inside { until ≤ S.extent source.old }
     ensures text { S.text source.new ≡ S.text source.old }
     ensures extent { S.extent source.new ≡ S.extent source.old }
+    ensures holds { Holds (S.text source.new) (S.extent source.new) window.new }
     ensures after { IfOk result (λ found. IfSome found (λ line. middle ≤ line.offset)) }
     ensures within { IfOk result (λ found. IfSome found (λ line. line.offset < until)) }
     ensures later { IfOk result (λ found. IfNone found (0 < middle)) }
@@ -188,25 +220,120 @@ fn probe<S: Source>(
     ensures none { (t : List ℕ) → S.text source.old ≡ Some t
         → IfOk result (λ found. IfNone found (from_line until t ≡ from_line middle t)) }
     ensures gave { (t : List ℕ) → S.text source.old ≡ Some t
-        → S.gave source.new ≤ S.gave source.old + 2 * longest (lines t) + 2 * length piece.old }
+        → S.gave source.new ≤ S.gave source.old + (2 * longest (lines t) + 1024) }
     ensures bound { S.gave source.new + middle ≤ S.gave source.old + until + LINE_LIMIT }
     ensures failures { CountsSearch result (S.failures source.old) (S.failures source.new) }
 {
-    match next_line_start(source, piece, middle, until)? {
+    match next_line_start(source, window, middle, until)? {
         Some(offset) => {
-            let stops = stops_at(source, piece, offset, front, key, stamp)?;
+            let stops = stops_at(source, window, offset, front, key, stamp)?;
             Ok(Some(Probed { offset, stops }))
         }
         None => Ok(None),
     }
 }
 
+/// What a search has left.
+#[derive(Clone, Copy)]
+struct Span {
+    /// No line that begins before this offset is sought.
+    low: u64,
+    /// No line that begins at this offset or after it is below the pair.
+    high: u64,
+    /// Where the first line from `high` on begins, unless a line that is too long hides it.
+    line: Option<u64>,
+    /// The number of steps that were taken.
+    probes: u64,
+}
+
+/// Takes one step of a search: looks at the first line that begins in the upper half of the offsets that are left.
+fn halve<S: Source>(
+    source: &mut S,
+    window: &mut Window,
+    front: &mut Vec<u8>,
+    span: Span,
+    key: &[u8],
+    stamp: &[u8],
+) -> Result<Span, SearchFault>
+    requires holds { Holds (S.text source.old) (S.extent source.old) window.old }
+    requires some { span.low < span.high }
+    requires halved { Halved LINE_LIMIT (key.now, stamp.now)
+        (S.text source.old) (S.extent source.old) span }
+    ensures text { S.text source.new ≡ S.text source.old }
+    ensures extent { S.extent source.new ≡ S.extent source.old }
+    ensures holds { Holds (S.text source.new) (S.extent source.new) window.new }
+    ensures halved { IfOk result (λ next. Halved LINE_LIMIT (key.now, stamp.now)
+        (S.text source.new) (S.extent source.new) next) }
+    ensures probes { IfOk result (λ next. next.probes ≡ span.probes + 1) }
+    ensures inner { IfOk result (λ next. (span.low ≤ next.low) × (next.high ≤ span.high)) }
+    ensures smaller { IfOk result (λ next. next.high - next.low < span.high - span.low) }
+    ensures gave { (t : List ℕ) → S.text source.old ≡ Some t
+        → S.gave source.new ≤ S.gave source.old + (2 * longest (lines t) + 1024) }
+    ensures bound { S.gave source.new ≤ S.gave source.old + 2 * LINE_LIMIT }
+    ensures near { S.gave source.new + span.low ≤ S.gave source.old + span.high + LINE_LIMIT }
+    ensures failures { CountsSearch result (S.failures source.old) (S.failures source.new) }
+{
+    let _size = source.size();
+    let middle = span.low + (span.high - span.low) / 2;
+    let until = middle + (span.high - middle).min(LINE_LIMIT as u64);
+    let found = probe(source, window, middle, until, front, key, stamp)?;
+    let probes = span.probes + 1;
+    match found {
+        Some(probed) if probed.stops => Ok(Span {
+            low: span.low,
+            high: middle,
+            line: Some(probed.offset),
+            probes,
+        }),
+        Some(probed) => Ok(Span {
+            low: probed.offset + 1,
+            high: span.high,
+            line: span.line,
+            probes,
+        }),
+        None if until < span.high => Ok(Span {
+            low: span.low,
+            high: middle,
+            line: None,
+            probes,
+        }),
+        None => Ok(Span {
+            low: span.low,
+            high: middle,
+            line: span.line,
+            probes,
+        }),
+    }
+}
+
+/// Reads the few offsets that are left at once, if there are any, from the byte before them on.
+fn hold_few<S: Source>(source: &mut S, window: &mut Window, span: Span) -> Result<(), SearchFault>
+    requires holds { Holds (S.text source.old) (S.extent source.old) window.old }
+    requires inside { span.high ≤ S.extent source.old }
+    ensures text { S.text source.new ≡ S.text source.old }
+    ensures extent { S.extent source.new ≡ S.extent source.old }
+    ensures holds { Holds (S.text source.new) (S.extent source.new) window.new }
+    ensures gave { S.gave source.new ≤ S.gave source.old + 8192 }
+    ensures inside { S.gave source.new ≤ S.gave source.old + S.extent source.old }
+    ensures none { span.high ≤ span.low → S.gave source.new ≡ S.gave source.old }
+    ensures unread { OnErr result (S.gave source.new ≤ S.gave source.old) }
+    ensures failures { CountsSearch result (S.failures source.old) (S.failures source.new) }
+{
+    if span.low < span.high {
+        window.read(source, span.low.saturating_sub(1), PIECE)?;
+    }
+    Ok(())
+}
+
 /// Finds the first line of an index whose pair isn't below this one, by a binary search over the byte offsets. A step
 /// looks at the first line that begins in the upper half of the offsets that are left.
 ///
-/// Of a line it reads the first [`LINE_LIMIT`] bytes at most; a line that shows no pair in them isn't below. It looks
+/// Of a line it looks at the first [`LINE_LIMIT`] bytes at most; a line that shows no pair in them isn't below. It looks
 /// through as many bytes at most for the end of a line. If they have no line feed, the line is too long, and what
-/// follows it counts as not below. It reads pieces of at most 1,024 bytes.
+/// follows it counts as not below.
+///
+/// A step reads pieces of at most 512 bytes, and nothing that it holds. Once few offsets are left, one read of at most
+/// [`PIECE`] bytes gives them all, and the further steps read nothing but what a long line has beyond it.
 ///
 /// In a text that isn't an index it finds the start of some line that isn't below or is too long, or the size.
 pub fn search<S: Source>(
@@ -233,36 +360,29 @@ pub fn search<S: Source>(
         ≤ S.gave source.old + digits (S.extent source.old) * (2 * LINE_LIMIT) }
     ensures failures { CountsSearch result (S.failures source.old) (S.failures source.new) }
 {
-    let mut piece = vec![in alloc; 0; SEARCH_PIECE]?;
+    let mut window = Window::new(alloc)?;
     let mut front = Vec::new(alloc);
-    let mut low = 0;
-    let mut high = source.size();
-    // where the first line from `high` on begins, unless a line that is too long hides it
-    let mut line = Some(high);
-    let mut probes = 0;
-    while low < high {
-        let middle = low + (high - low) / 2;
-        let until = middle + (high - middle).min(LINE_LIMIT as u64);
-        let found = probe(source, &mut piece, middle, until, &mut front, key, stamp)?;
-        probes += 1;
-        match found {
-            Some(probed) if probed.stops => {
-                line = Some(probed.offset);
-                high = middle;
-            }
-            Some(probed) => low = probed.offset + 1,
-            None => {
-                if until < high {
-                    line = None;
-                }
-                high = middle;
-            }
-        }
+    let size = source.size();
+    let mut span = Span {
+        low: 0,
+        high: size,
+        line: Some(size),
+        probes: 0,
+    };
+    while span.high - span.low > FEW {
+        span = halve(source, &mut window, &mut front, span, key, stamp)?;
+    }
+    hold_few(source, &mut window, span)?;
+    while span.low < span.high {
+        span = halve(source, &mut window, &mut front, span, key, stamp)?;
     }
     // the line that is too long is the last one that was below
-    let offset = match line {
+    let offset = match span.line {
         Some(offset) => offset,
-        None => low - 1,
+        None => span.low - 1,
     };
-    Ok(Found { offset, probes })
+    Ok(Found {
+        offset,
+        probes: span.probes,
+    })
 }

@@ -1,5 +1,5 @@
 //! Bytes that are read at any offset.
-ghost use Rattle.std.specs.Prelude.{◌≡◌, ◌-◌, ◌<◌, ◌≤◌, ℕ, Option, List, length, IfSome, IfOk, MatchResult};
+ghost use Rattle.std.specs.Prelude.{◌≡◌, ◌-◌, ◌^◌, ◌<◌, ◌≤◌, ℕ, Option, List, length, IfSome, IfOk, MatchResult};
 ghost use Rattle.devices.specs.Device.{CountsFailure};
 ghost use Rattle.source_core.specs.Device.{count_on, HoldsPart};
 
@@ -26,6 +26,7 @@ pub trait Source {
 
     /// Returns the number of its bytes, which is below 2^63.
     fn size(&self) -> u64
+        ensures below { result < 2 ^ 63 }
         ensures extent { result ≡ extent self.now }
         ensures told { IfSome (text self.now) (λ t. length t ≡ extent self.now) };
 

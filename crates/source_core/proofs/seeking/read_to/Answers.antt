@@ -1,53 +1,32 @@
-use Rattle.std.proofs.Common.{◌≡◌, ◌++◌, length, drop, arith, ◌∙◌, subst, length-take, length-drop, length-append}
-use Rattle.source_core.specs.LineParts.{ReadsOn}
+use Rattle.std.proofs.Common.{◌≡◌, ◌≤◌, List, ℕ, Some, length, arith}
+use Rattle.source_core.specs.IndexLines.{lines, longest}
+use Rattle.source_core.specs.LineParts.{BeginsWith}
 use Rattle.source_core.proofs.LongestLines.{front_most}
+use Rattle.source_core.proofs.seeking.read_to.Given.{Over}
+use Rattle.source_core.proofs.seeking.read_to.Goals.{After-len}
 use Rattle.source_core.proofs.seeking.read_to.Goals as goal
 
+-- what was read of the line so far is no longer than the longest line
+most : (g : Over) (c : After-len g) (t : List ℕ) → g.S.Source.text c.args.source.now ≡ Some t → BeginsWith t c.args.offset c.args.front.now.items
+    → length c.loop-front.front.items ≤ longest (lines t)
+most g c t e b = front_most t c.args.offset c.loop-front.front.items (c.loop-front.invariant.told t e b)
+
 pub returns-in_err-ends-clause-gave : goal.returns-in_err-ends-clause-gave
-returns-in_err-ends-clause-gave g c =
-    let inv = c.loop-front.invariant in
-    let ok = c.in_err-ends.ensures in
-    λ t e b. let m = front_most t c.args.offset c.loop-front.front.items (inv.told t e b) in
-    omega (arith, ok.gave, inv.gave, inv.as_long, m, length-take c.min-most.result c.loop-front.piece)
+returns-in_err-ends-clause-gave g c = λ t e b.
+    let m = most g (goal.at.returns-in_err-ends-clause-gave g c).After-len t e b in
+    omega (arith, c.in_err-ends.ensures.gave, c.loop-front.invariant.gave, m)
 
 pub returns-then-ends-clause-gave : goal.returns-then-ends-clause-gave
-returns-then-ends-clause-gave g c =
-    let inv = c.loop-front.invariant in
-    let ok = c.in_ok-ends.ensures in
-    λ t e b. let m = front_most t c.args.offset c.loop-front.front.items (inv.told t e b) in
-    omega (arith, ok.gave, inv.gave, inv.as_long, m, length-take c.min-most.result c.loop-front.piece)
+returns-then-ends-clause-gave g c = λ t e b.
+    let m = most g (goal.at.returns-then-ends-clause-gave g c).After-len t e b in
+    omega (arith, c.in_ok-ends.ensures.gave, c.loop-front.invariant.gave, m)
 
 pub returns-else-offset-len-clause-gave : goal.returns-else-offset-len-clause-gave
-returns-else-offset-len-clause-gave g c =
-    let inv = c.loop-front.invariant in
-    λ t e b. let m = front_most t c.args.offset c.loop-front.front.items (inv.told t e b) in omega (arith, inv.gave, m)
+returns-else-offset-len-clause-gave g c = λ t e b.
+    let m = most g (goal.at.returns-else-offset-len-clause-gave g c).After-len t e b in
+    omega (arith, c.loop-front.invariant.gave, m)
 
 pub returns-after-loop-front-clause-gave : goal.returns-after-loop-front-clause-gave
-returns-after-loop-front-clause-gave g c =
-    let inv = c.loop-front.invariant in
-    λ t e b. let m = front_most t c.args.offset c.loop-front.front.items (inv.told t e b) in omega (arith, inv.gave, m)
-
-pub returns-then-ends-clause-some : goal.returns-then-ends-clause-some
-returns-then-ends-clause-some g c = let some = c.in_ok-ends.ensures.some in omega (arith, some, c.loop-front.invariant.grown)
-
-pub loop-front-preserved : goal.loop-front-preserved
-loop-front-preserved g c =
-    let inv = c.loop-front.invariant in
-    let ok = c.in_ok-ends.ensures in
-    let most = c.min-most.result in
-    let piece : length (c.read_on.new.piece ++ drop most c.loop-front.piece) ≡ length c.loop-front.piece =
-    omega (arith, length-append c.read_on.new.piece (drop most c.loop-front.piece), length-drop most c.loop-front.piece, length-take most c.loop-front.piece, c.read_on.auto.piece, c.min-most.ensures) in
-    let held = ok.held c.if-ends.false in
-    record {
-      text = ok.text ∙ inv.text;
-      extent = ok.extent ∙ inv.extent;
-      failures = ok.failures ∙ inv.failures;
-      gave = omega (arith, held, inv.gave);
-      size = inv.size;
-      room = omega (arith, piece, inv.room);
-      as_long = piece ∙ inv.as_long;
-      within = omega (arith, ok.within, inv.extent, inv.size);
-      short = omega (arith, ok.most, inv.short, length-take most c.loop-front.piece, c.min-most.ensures, c.len.ensures, c.len-in-loop-front-2.ensures);
-      grown = omega (arith, ok.some, inv.grown);
-      told = λ t e b. subst (λ ends. ReadsOn t c.args.offset c.read_on.new.front.items ends) c.if-ends.false (ok.reads t (inv.text ∙ e) (inv.told t e b));
-    }
+returns-after-loop-front-clause-gave g c = λ t e b.
+    let m = most g (goal.at.returns-after-loop-front-clause-gave g c).After-len t e b in
+    omega (arith, c.loop-front.invariant.gave, m)

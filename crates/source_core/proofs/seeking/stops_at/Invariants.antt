@@ -1,22 +1,25 @@
-use Rattle.std.proofs.Common.{◌≡◌, ◌+◌, ◌-◌, ◌<◌, ◌≤◌, ℕ, List, length, Some, None}
-use Rattle.cdxj_places.specs.Pair.{pair_of}
-use Rattle.source_core.specs.LineParts.{BeginsWith}
+use Rattle.std.proofs.Common.{◌≡◌, ◌+◌, ◌-◌, ◌≤◌, ℕ, List, length, false, Some}
+use Rattle.cdxj_core.specs.declared.limit.TheConstants.{LINE_LIMIT}
+use Rattle.source_core.specs.IndexLines.{lines, longest}
+use Rattle.source_core.specs.LineParts.{ReadsOn}
+use Rattle.source_core.specs.Windows.{Holds}
 use Rattle.source_core.proofs.seeking.stops_at.Given as goal
 
-abbrev pub invariant-loop-front : goal.invariant-loop-front
-invariant-loop-front g l = record {
+abbrev pub invariant-fronts : goal.invariant-fronts
+invariant-fronts g l = record {
   text : g.S.Source.text l.source ≡ g.S.Source.text l.fn.source;
   extent : g.S.Source.extent l.source ≡ g.S.Source.extent l.fn.source;
   failures : g.S.Source.failures l.source ≡ g.S.Source.failures l.fn.source;
-  gave : g.S.Source.gave l.source ≤ g.S.Source.gave l.fn.source + length l.front.items;
+  gave : l.ends ≡ false → g.S.Source.gave l.source ≤ g.S.Source.gave l.fn.source + length l.front.items;
+  bound : g.S.Source.gave l.source ≤ g.S.Source.gave l.fn.source + LINE_LIMIT;
+  paid : (t : List ℕ) → g.S.Source.text l.fn.source ≡ Some t → g.S.Source.gave l.source ≤ g.S.Source.gave l.fn.source + longest (lines t) + 512;
   size : l.size ≡ g.S.Source.extent l.fn.source;
-  room : 0 < length l.piece;
-  as_long : length l.piece ≡ length l.fn.piece;
+  holds : Holds (g.S.Source.text l.source) (g.S.Source.extent l.source) l.window;
   within : l.offset + length l.front.items ≤ l.size;
   short : length l.front.items ≤ 16777216;
-  none : pair_of l.front.items ≡ None;
-  told : (t : List ℕ) → g.S.Source.text l.fn.source ≡ Some t → (length t ≡ l.size) × BeginsWith t l.offset l.front.items;
+  long : (t : List ℕ) → g.S.Source.text l.fn.source ≡ Some t → length t ≡ l.size;
+  told : (t : List ℕ) → g.S.Source.text l.fn.source ≡ Some t → ReadsOn t l.offset l.front.items l.ends;
 }
 
-abbrev pub decreases-loop-front : goal.decreases-loop-front
-decreases-loop-front g l = l.size - (l.offset + length l.front.items)
+abbrev pub decreases-fronts : goal.decreases-fronts
+decreases-fronts g l = l.size - (l.offset + length l.front.items)
