@@ -13,3 +13,19 @@ pub mod RecordReading
 pub mod CaptureAnswer
 pub mod CaptureSteps
 pub mod Spelling
+pub mod Limits
+-- what contracts see of records
+pub use Rattle.warc_core.specs.Answers
+pub use Rattle.warc_core.specs.Calls
+pub use Rattle.warc_core.specs.Cause
+pub use Rattle.warc_core.specs.HeadView
+pub use Rattle.warc_core.specs.Kind
+pub use Rattle.warc_core.specs.Reading
+pub use Rattle.warc_core.specs.ReaderView
+-- what contracts see of entries
+pub use Rattle.cdxj_core.specs.Entries
+pub use Rattle.cdxj_core.specs.EntryView
+-- what contracts see of inputs
+pub use Rattle.warc_core.specs.Device
+pub use Rattle.warc_core.specs.FromStd
+pub use Rattle.warc_core.specs.Files

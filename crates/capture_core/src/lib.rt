@@ -35,3 +35,7 @@ pub use crate::laws::{block_has_one_head, record_has_one_capture};
 pub use crate::record_capture::{Front, capture, held_capture};
 pub use crate::types::Types;
 pub use crate::verdict::Verdict;
+pub use cdxj_core::{Entry, EntryRef, LINE_LIMIT, LineFault, write_line};
+pub use warc_core::{
+    Cause, DeviceFault, Fault, FromFile, FromRead, HEAD_LIMIT, Head, Input, Kind, Reader, Slice,
+};

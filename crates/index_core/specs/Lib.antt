@@ -10,3 +10,29 @@ pub mod Fetching
 pub mod Copying
 pub mod Counting
 pub mod Laws
+pub mod Limits
+-- what contracts see of records
+pub use Rattle.warc_core.specs.Answers
+pub use Rattle.warc_core.specs.HeadView
+pub use Rattle.warc_core.specs.Kind
+pub use Rattle.warc_core.specs.Reading
+pub use Rattle.warc_core.specs.ReaderView
+pub use Rattle.warc_core.specs.RecordText
+pub use Rattle.warc_core.specs.Walk
+-- what contracts see of captures
+pub use Rattle.capture_core.specs.Capture
+pub use Rattle.capture_core.specs.CaptureAnswer
+pub use Rattle.capture_core.specs.Fault
+pub use Rattle.capture_core.specs.Types
+-- what contracts see of entries and indexes
+pub use Rattle.cdxj_core.specs.Entries
+pub use Rattle.cdxj_core.specs.Indexes
+pub use Rattle.cdxj_core.specs.Members
+pub use Rattle.cdxj_places.specs.Places
+pub use Rattle.cdxj_places.specs.Rising
+-- what contracts see of devices
+pub use Rattle.devices.specs.Device
+pub use Rattle.devices.specs.Files
+pub use Rattle.devices.specs.FromStd
+pub use Rattle.devices.specs.Gathered
+pub use Rattle.devices.specs.Writing

@@ -28,3 +28,9 @@ pub use crate::laws::{
 pub use crate::listing::list;
 pub use crate::verified::Verified;
 pub use crate::verifying::verify;
+pub use capture_core::{CaptureFault, Types, Verdict};
+pub use cdxj_core::LINE_LIMIT;
+pub use warc_core::{
+    Cause, DeviceFault, Fault, FromFile, FromRead, FromWrite, Gather, HEAD_LIMIT, Input, Output,
+    Slice,
+};

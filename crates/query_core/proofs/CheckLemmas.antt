@@ -10,7 +10,7 @@ use Rattle.source_core.proofs.SortedCuts.{begins_at}
 use Rattle.query_core.specs.declared.fault.AnswerFault.{AnswerFault}
 use Rattle.query_core.specs.declared.fault.AnswerFault.TheVariants as fault
 use Rattle.merge_core.specs.NextLine.{IsNextLine}
-use Rattle.query_core.specs.NextLine.{IsLineFault}
+use Rattle.query_core.specs.Checking.{IsLineFault}
 use Rattle.query_core.specs.Checking.{IsLastOf, FallsAfter, EndsInBadLine, EndsOutOfOrder, IsChecked}
 use Rattle.query_core.proofs.Runs.{run_push, take_next}
 

@@ -11,12 +11,14 @@ pub mod AskedLemmas
 pub mod PageOfIndexes
 pub mod PageExits
 pub mod PagesLemmas
+pub mod PageKeys
 pub mod PageChains
 pub mod PagesExits
 pub mod FewerLines
 pub mod NextPlaces
 pub mod RisingPages
 pub mod SoundIndexes
+pub mod FieldNames
 pub mod LineReplies
 pub mod ReplyCounts
 pub mod ReplyLemmas

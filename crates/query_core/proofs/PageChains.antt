@@ -9,14 +9,14 @@ use Rattle.query_text.specs.Collapses.{same_part}
 use Rattle.query_text.specs.Matching.{matches}
 use Rattle.query_text.specs.Queries.{QueryValue}
 use Rattle.page_core.specs.Pages.{Page, AllPositive, first_size, later_sizes, end_place, next_after, collapsed, is_above, kept, IsChain}
-use Rattle.page_core.proofs.PageLaws.{split_there, collapse_resumes, rises_collapsed, rises_filter}
-use Rattle.query_core.specs.Collections.{selected}
-use Rattle.query_core.specs.QueryPages.{IsQueryChain}
+use Rattle.page_core.proofs.PageLaws.{chain_law, split_there, collapse_resumes, rises_collapsed, rises_filter}
+use Rattle.query_core.specs.QueryPages.{selected, IsQueryChain}
 use Rattle.query_core.specs.PageWriting.{captures_over}
 use Rattle.query_core.specs.PagesWriting.{AreCut}
 use Rattle.query_core.specs.Paging.{pages_text, WrotePages, WrotePagesInPart}
 use Rattle.query_core.specs.WriterView.{IsFront}
 use Rattle.query_core.proofs.AskedLemmas.{filter_and}
+use Rattle.query_core.proofs.PageKeys.{keys_but_last, one_empty}
 use Rattle.query_core.proofs.WriterLemmas.{whole_prefix}
 use Rattle.query_core.proofs.PagesLemmas.{Ended, EndedInPart, Pages, cut_there, first_positive, later_positive}
 
@@ -72,9 +72,12 @@ module _ (q : QueryValue) (sizes : List ℕ) (positive : AllPositive sizes) (lin
   pub captures_are : captures_over q q.resume lines ≡ collapsed member_place place_cmp (same_part q.collapse) (selected q lines) q.resume
   captures_are = ap (kept member_place (same_part q.collapse) q.resume) (sym (filter_and (λ m. matches q m.values) (is_above member_place place_cmp q.resume) lines))
 
+  selects : Rises member_place place_cmp (selected q lines)
+  selects = rises_filter member_place place_cmp place_cmp_total (λ m. matches q m.values) lines rise
+
   chain_of : (pages : Pages) → AreCut sizes pages (captures_over q q.resume lines) → IsQueryChain q lines sizes pages
   chain_of pages h =
-      cut_chain (same_part q.collapse) (selected q lines) (rises_filter member_place place_cmp place_cmp_total (λ m. matches q m.values) lines rise) q.resume sizes pages positive
+      cut_chain (same_part q.collapse) (selected q lines) selects q.resume sizes pages positive
       (subst (AreCut sizes pages) captures_are h)
 
   -- nothing was written of them
@@ -89,7 +92,21 @@ module _ (q : QueryValue) (sizes : List ℕ) (positive : AllPositive sizes) (lin
     module _ (all : captures_over q q.resume lines ≡ captures) where
       -- all of them
       pub wrote_whole : (number : ℕ) → Ended q sizes captures old new number → WrotePages q lines sizes old new number
-      wrote_whole number found = record { pages = found.0; chain = chain_of found.0 (subst (AreCut sizes found.0) (sym all) found.1); text = found.2; count = found.3 }
+      wrote_whole number found =
+          let same = same_part q.collapse in
+          let chain = chain_of found.0 (subst (AreCut sizes found.0) (sym all) found.1) in
+          let law = chain_law member_place place_cmp same place_cmp_total (selected q lines) q.resume sizes found.0 selects positive chain in
+          record {
+            pages = found.0;
+            chain = chain;
+            joined = law.0;
+            rises = rises_collapsed member_place place_cmp same place_cmp_total (selected q lines) q.resume selects;
+            full = law.1;
+            keys = keys_but_last same (selected q lines) q.resume sizes found.0 found.4 chain;
+            empty = λ none. one_empty same (selected q lines) q.resume sizes found.0 none chain;
+            text = found.2;
+            count = found.3;
+          }
 
       pub wrote_most : EndedInPart q sizes captures old new → WrotePagesInPart q lines sizes old new
       wrote_most found = (found.0, chain_of found.0 (subst (AreCut sizes found.0) (sym all) found.1), found.2)

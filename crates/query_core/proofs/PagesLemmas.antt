@@ -1,8 +1,8 @@
 -- Captures that are cut into pages, as they come.
-use Rattle.std.proofs.Common.{nat_lt, ltb, eqb, ◌≡◌, inl, inr, ℕ, zero, suc, ◌+◌, ◌-◌, ◌^◌, ◌<◌, ◌≤◌, List, [], ◌∷◌, ◌++◌, length, take, drop, min, true, false, Option, None, Some, option_map, refl, sym, ap, ◌∙◌, subst, arith, append_assoc, append-nil, length-append, length-drop, length-take, take-append-drop}
+use Rattle.std.proofs.Common.{nat_lt, ltb, eqb, ◌≡◌, inl, inr, ℕ, zero, suc, ◌+◌, ◌-◌, ◌^◌, ◌<◌, ◌≤◌, List, [], ◌∷◌, ◌++◌, length, take, drop, min, true, false, Option, None, Some, IfSome, option_map, refl, sym, ap, ◌∙◌, subst, arith, append_assoc, append-nil, length-append, length-drop, length-take, take-append-drop}
 use Rattle.std.specs.Io.KnownBytes.{Appends}
 use Rattle.std.proofs.lemmas.Bool.{eqb-false, ltb-true, ltb-false, and_parts}
-use Rattle.std.specs.List.{list_all}
+use Rattle.std.specs.List.{AllByRecursion, list_all}
 use Rattle.std.proofs.lemmas.List.Concat.{flat_map-append}
 use Rattle.cdxj_places.specs.Places.{PlaceValue}
 use Rattle.cdxj_places.specs.Places.{resume_text}
@@ -17,8 +17,9 @@ use Rattle.page_core.specs.PageText.{begun, page_text, page_start, page_end, row
 use Rattle.page_core.proofs.PageLemmas.{begun-more, begun_is_front, page_in_pieces}
 use Rattle.query_core.specs.QueryPages.{chain_text, form_of, shown_key}
 use Rattle.query_core.specs.WriterView.{IsFront}
-use Rattle.query_core.specs.Paging.{are_sizes, pages_text}
-use Rattle.query_core.specs.PagesWriting.{AreCut, HasNext, PagesStand, last_of}
+use Rattle.query_core.specs.Paging.{IsReadBack, are_sizes, pages_text}
+use Rattle.query_core.specs.PagesWriting.{AreCut, HasNext, HasReadKey, PagesStand, last_of}
+use Rattle.merge_core.proofs.FeedLemmas.{each_join}
 
 abbrev pub Pages : Type 0
 Pages = List (Page Member PlaceValue)
@@ -47,6 +48,7 @@ later_positive (n ∷ m ∷ ms) h = h.1
 abbrev pub Ended : QueryValue → List ℕ → List Member → Option (List ℕ) → Option (List ℕ) → ℕ → Type 0
 Ended q sizes captures old new number =
     (pages : Pages) × AreCut sizes pages captures × Appends old new (pages_text q pages) × (number ≡ min (length pages) (2 ^ 64 - 1))
+    × AllByRecursion HasReadKey pages
 
 -- a front of them was written
 abbrev pub EndedInPart : QueryValue → List ℕ → List Member → Option (List ℕ) → Option (List ℕ) → Type 0
@@ -134,6 +136,7 @@ none_stand q sizes start now z a = (
     rows = [];
     goes_on = λ later rest n h. h;
     positive = z;
+    keyed = tt;
     text = subst (Appends start now) (sym (append-nil (page_start (form_of q)))) a;
     given_is = refl;
     room = omega arith;
@@ -175,6 +178,7 @@ module _ (q : QueryValue) (sizes : List ℕ) (c : List Member) (start now : Opti
               subst (AreCut sizes (s.whole ++ rest)) (sym (append_assoc c (m ∷ []) later))
               (s.goes_on (m ∷ later) rest (subst (HasNext s.whole) (append_assoc s.rows (m ∷ []) later) n) (subst (AreCut left rest) (append_assoc s.rows (m ∷ []) later) h));
           positive = s.positive;
+          keyed = s.keyed;
           text = subst (Appends start new) (append_assoc (pages_text q s.whole) (begun form s.rows) (row_text form m) ∙ ap (λ l. pages_text q s.whole ++ l) (sym (begun-more form s.rows m)))
               (Appends-join start now new before (row_text form m) s.text a);
           given_is = is;
@@ -212,14 +216,15 @@ module _ (q : QueryValue) (sizes : List ℕ) (c : List Member) (start now : Opti
 
     -- it is ended, and the next is begun
     pub turned_stands : (new : Option (List ℕ)) (left' : List ℕ) (given' : ℕ) (last' : Option PlaceValue) (count' : ℕ) → Appends now new (page_end form (shown_key true last) ++ page_start form)
-        → left' ≡ later_sizes left → given' ≡ 0 → count' ≡ min (count + 1) (2 ^ 64 - 1) → PagesStand q sizes c start new left' given' last' count'
-    turned_stands new left' given' last' count' a is none n =
+        → left' ≡ later_sizes left → given' ≡ 0 → count' ≡ min (count + 1) (2 ^ 64 - 1) → IfSome last IsReadBack → PagesStand q sizes c start new left' given' last' count'
+    turned_stands new left' given' last' count' a is none n read =
         let positive : AllPositive left' = subst AllPositive (sym is) (later_positive left s.positive) in
         record {
           whole = s.whole ++ page ∷ [];
           rows = [];
           goes_on = λ later rest more h. goes_on later rest (nonempty s.whole page later more) (subst (λ left. AreCut left rest later) is h);
           positive = positive;
+          keyed = each_join HasReadKey s.whole (page ∷ []) s.keyed (subst (λ p. IfSome p IsReadBack) (s.last_is are_full) read, tt);
           text = subst (Appends start new) (turned ∙ ap (λ l. pages_text q (s.whole ++ page ∷ []) ++ l) (sym (append-nil (page_start form)))) (Appends-join start now new before _ s.text a);
           given_is = none;
           room = omega arith;
@@ -294,6 +299,7 @@ module _ (q : QueryValue) (sizes : List ℕ) (c : List Member) (start now : Opti
       all_cut,
       subst (Appends start new) (sym ended) (Appends-join start now new before (page_end form None) s.text a),
       omega (arith, n, s.count_is, length-append s.whole (last_page ∷ [])),
+      each_join HasReadKey s.whole (last_page ∷ []) s.keyed (tt, tt),
     )
 
     pub ending_front : (new : Option (List ℕ)) → AppendsPrefix now new (page_end form None) → EndedInPart q sizes c start new

@@ -1,22 +1,22 @@
 -- The captures of pages that follow one another rise.
-use Rattle.std.proofs.Common.{◌≡◌, List, [], ◌∷◌, Option, None, Some, filter, true, refl, ap, sym, subst, ◌∙◌}
+use Rattle.std.proofs.Common.{◌≡◌, ◌↔◌, Bool, List, [], ◌∷◌, Option, None, Some, filter, true, false, cond, inl, inr, refl, ap, sym, subst, ◌∙◌}
 use Rattle.std.specs.List.{AllByRecursion}
 use Rattle.cdxj_places.specs.Places.{PlaceValue, place_cmp}
 use Rattle.cdxj_places.specs.Rising.{Rises}
 use Rattle.cdxj_places.proofs.PlaceOrder.{place_cmp_total}
-use Rattle.cdxj_places.proofs.RisingLaws.{rises_rising}
+use Rattle.cdxj_places.specs.Rising.{IsIn}
+use Rattle.cdxj_places.proofs.RisingLaws.{rises_rising, rising_members}
 use Rattle.cdxj_core.specs.Members.{Member, member_place}
 use Rattle.query_text.specs.Collapses.{same_part}
 use Rattle.query_text.specs.Matching.{matches}
 use Rattle.page_core.proofs.PageLaws.{chain_law, rises_filter, rises_collapsed}
 use Rattle.merge_core.specs.Collections.{all_lines, collection}
 use Rattle.page_core.specs.Pages.{is_above, kept}
-use Rattle.query_core.specs.Collections.{selected}
-use Rattle.query_core.specs.Laws.{AllAreKept, PagesAreSelected, PagesRise, SelectedRise}
+use Rattle.query_core.specs.QueryPages.{selected}
+use Rattle.query_core.specs.QueryLaws.{AllAreKept, PagesRise, SelectedAreFirst, SelectedRise}
 use Rattle.query_core.specs.PageWriting.{is_wanted}
 use Rattle.query_core.proofs.NextPlaces.{captures_wanted}
 use Rattle.query_core.proofs.PageChains.{captures_are}
-use Rattle.query_core.proofs.PagesLemmas.{all_positive}
 
 pub pages_rise : PagesRise
 pages_rise q lines sizes pages rise positive chain =
@@ -26,14 +26,31 @@ pages_rise q lines sizes pages rise positive chain =
       subst (AllByRecursion (λ m. is_wanted q q.resume m ≡ true)) (captures_are q sizes positive lines rise ∙ sym joined) (captures_wanted q.resume q lines),
     )
 
-pub pages_selected : PagesAreSelected
-pages_selected q lines sizes old new number rise sized wrote =
-    chain_law member_place place_cmp (same_part q.collapse) place_cmp_total (selected q lines) q.resume sizes wrote.pages
-    (rises_filter member_place place_cmp place_cmp_total (λ m. matches q m.values) lines rise) (all_positive sizes sized) wrote.chain
-
 pub selected_rise : SelectedRise
 selected_rise q indexes =
     rises_filter member_place place_cmp place_cmp_total (λ m. matches q m.values) (collection indexes) (rises_rising member_place place_cmp place_cmp_total (all_lines indexes))
+
+-- what is in a list and passes a test is in what is left of it, and nothing else is
+filter_members : (f : Member → Bool) (m : Member) (l : List Member) → IsIn m (filter f l) ↔ (IsIn m l × (f m ≡ true))
+filter_members f m [] = ((λ i. absurd i), (λ i. absurd i.0))
+filter_members f m (x ∷ l) =
+    let rest = filter_members f m l in
+    (elim (f x) as (λ b. f x ≡ b → IsIn m (cond b (x ∷ filter f l) (filter f l)) ↔ (IsIn m (x ∷ l) × (f m ≡ true))) [
+      | true ↦ (λ e. (
+        (λ i. elim i [ inl is ↦ (inl is, ap f (sym is) ∙ e) | inr j ↦ (let r = rest.0 j in (inr r.0, r.1)) ]),
+        (λ i. elim i.0 [ inl is ↦ inl is | inr j ↦ inr (rest.1 (j, i.1)) ]),
+      ))
+      | false ↦ (λ e. (
+        (λ i. let r = rest.0 i in (inr r.0, r.1)),
+        (λ i. elim i.0 [ inl is ↦ (let never : true ≡ false = sym i.1 ∙ ap f (sym is) ∙ e in cc) | inr j ↦ rest.1 (j, i.1) ]),
+      ))
+    ]) refl
+
+pub selected_are_first : SelectedAreFirst
+selected_are_first q indexes m =
+    let lines = filter_members (λ m. matches q m.values) m (collection indexes) in
+    let first = rising_members member_place place_cmp place_cmp_total m (all_lines indexes) in
+    ((λ i. (first.0 (lines.0 i).0, (lines.0 i).1)), (λ i. lines.1 (first.1 i.0, i.1)))
 
 kept_all : (place : Option PlaceValue) (lines : List Member) → kept member_place (same_part None) place lines ≡ lines
 kept_all place [] = refl

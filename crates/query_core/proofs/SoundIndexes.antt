@@ -5,12 +5,14 @@ use Rattle.std.specs.List.{AllByRecursion}
 use Rattle.std.proofs.lemmas.Bool.{true≢false}
 use Rattle.cdxj_places.specs.Pairs.{pair_cmp}
 use Rattle.cdxj_places.specs.Rising.{NeverFalls}
+use Rattle.cdxj_core.specs.declared.limit.TheConstants.{LINE_LIMIT}
 use Rattle.cdxj_core.specs.Members.{Member, member_pair, line_entry}
 use Rattle.cdxj_core.specs.Indexes.{IsIndex}
 use Rattle.source_core.specs.LinesAtFault.{IsBadLine, IsOutOfOrder}
 use Rattle.merge_core.specs.Collections.{Known}
 use Rattle.query_core.specs.declared.fault.AnswerFault.TheVariants as fault
-use Rattle.query_core.specs.LineFaults.{IsFaultOf}
+use Rattle.query_core.specs.IndexFaults.{IsFaultOf}
+use Rattle.query_core.specs.QueryLaws.{NoLineIsAtFault}
 
 module _ (limit : ℕ) where
   -- the line has an entry, the lines before it have these, and those after it the others
@@ -88,3 +90,13 @@ module _ (limit : ℕ) where
     names_none_out_of_order named =
         let at = index_at tolds texts indexes known are i named.0 in
         none_out_of_order at.text at.members offset at.index (named.1 at.text at.told_is)
+
+pub no_line_at_fault : NoLineIsAtFault
+no_line_at_fault told fault.Memory named texts indexes known are = tt
+no_line_at_fault told (fault.Read i) named texts indexes known are = tt
+no_line_at_fault told fault.Write named texts indexes known are = tt
+no_line_at_fault told (fault.BadLine i offset) named texts indexes known are = names_no_bad_line LINE_LIMIT told texts indexes known are i offset named
+no_line_at_fault told (fault.OutOfOrder i offset) named texts indexes known are = names_none_out_of_order LINE_LIMIT told texts indexes known are i offset named
+no_line_at_fault told fault.TooManySources named texts indexes known are = tt
+no_line_at_fault told fault.BadSizes named texts indexes known are = tt
+no_line_at_fault told fault.Input named texts indexes known are = tt

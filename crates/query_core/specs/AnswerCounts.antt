@@ -1,5 +1,5 @@
 -- Which device failed, by the answer of a call on sources.
-use Rattle.std.specs.Prelude.{◌≡◌, ℕ, List, Result, MatchResult}
+use Rattle.std.specs.Prelude.{◌≡◌, ℕ, List, Result, Err, MatchResult}
 use Rattle.devices.specs.Device.{next_count}
 use Rattle.merge_core.specs.Failures.{RaisedAt}
 use Rattle.query_core.specs.declared.fault.AnswerFault.{AnswerFault}
@@ -16,3 +16,8 @@ RaisedByAnswer other sources sources' out out' = (sources' ≡ sources) × (out'
 abbrev pub CountsAnswer : {A : Type 0} → Result A AnswerFault → List ℕ → List ℕ → ℕ → ℕ → Type 0
 CountsAnswer result sources sources' out out' =
     MatchResult result (λ _. (sources' ≡ sources) × (out' ≡ out)) (λ fault. RaisedByAnswer fault sources sources' out out')
+
+-- the same of a call on one source alone
+abbrev pub CountsSource : {A : Type 0} → Result A AnswerFault → ℕ → ℕ → Type 0
+CountsSource (Err (fault.Read i)) old new = new ≡ next_count old
+CountsSource answer old new = new ≡ old

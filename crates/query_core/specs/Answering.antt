@@ -9,12 +9,11 @@ use Rattle.devices.specs.Device.{AppendsPrefix}
 use Rattle.source_core.specs.Halving.{digits}
 use Rattle.query_text.specs.Queries.{QueryValue}
 use Rattle.query_text.specs.Matching.{is_past}
-use Rattle.merge_core.specs.Collections.{OverIndexes}
+use Rattle.merge_core.specs.Collections.{OverIndexes, all_lines, collection}
 use Rattle.merge_core.specs.Counts.{ShareAtMost}
 use Rattle.merge_core.specs.Runs.{IsPart}
 use Rattle.query_core.specs.declared.fault.AnswerFault.{AnswerFault}
 use Rattle.query_core.specs.declared.report.Report.{Report}
-use Rattle.query_core.specs.Collections.{all_lines, collection}
 use Rattle.query_core.specs.QueryPages.{query_page, answer_text}
 use Rattle.query_core.specs.Reach.{GaveInReach, in_reach}
 

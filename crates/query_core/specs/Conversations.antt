@@ -1,9 +1,14 @@
 -- The replies to an input, all of them or a front of them.
-use Rattle.std.specs.Prelude.{◌≡◌, ℕ, ◌-◌, ◌^◌, ◌<◌, ⊤, List, ◌++◌, length, flat_map, Option, None, Some}
+use Rattle.std.specs.Prelude.{◌≡◌, ℕ, ◌-◌, ◌^◌, ◌<◌, ⊤, List, ◌++◌, length, flat_map, nat_lt, codes, MatchBool, Option, None, Some, Result, MatchResult}
+use Rattle.std.specs.List.{AllZip}
+use Rattle.std.specs.Str.{is_utf8}
 use Rattle.std.specs.Io.KnownBytes.{Appends}
 use Rattle.devices.specs.Device.{AppendsPrefix}
 use Rattle.devices.specs.LineCuts.{input_lines, cut_lines, without_carriage_return}
-use Rattle.query_core.specs.Replies.{replies, marked_reply}
+use Rattle.query_core.specs.declared.fault.AnswerFault.{AnswerFault}
+use Rattle.query_core.specs.Replies.{refusal_text, replies}
+
+-- ---- where each text has one reply
 
 -- the replies to the whole input were written, and so many lines were answered
 abbrev pub Replied : ℕ → (List ℕ → List ℕ) → Option (List ℕ) → ℕ → Option (List ℕ) → Option (List ℕ) → Type 0
@@ -16,15 +21,47 @@ abbrev pub RepliedInPart : ℕ → (List ℕ → List ℕ) → Option (List ℕ)
 RepliedInPart limit reply None old new = ⊤
 RepliedInPart limit reply (Some input) old new = AppendsPrefix old new (replies limit reply input)
 
--- ---- the conversation so far
+-- ---- by what is a reply to a text within the limit, in bytes
 
--- the replies to some lines
-abbrev pub replies_to : ℕ → (List ℕ → List ℕ) → List (List ℕ) → List ℕ
-replies_to limit reply lines = flat_map (λ line. marked_reply limit reply (without_carriage_return line)) lines
+module _ (limit : ℕ) (IsReply : List ℕ → List ℕ → Type 0) where
+  abbrev pub IsLineReply : List ℕ → List ℕ → Type 0
+  IsLineReply line reply =
+      MatchBool (nat_lt limit (length line)) (reply ≡ refusal_text (codes "QueryTooLong"))
+      (MatchBool (is_utf8 line) (IsReply line reply) (reply ≡ refusal_text (codes "NotText")))
 
--- so many lines were answered, and these bytes are left
-abbrev pub RepliedSoFar : ℕ → (List ℕ → List ℕ) → Option (List ℕ) → Option (List ℕ) → ℕ → Option (List ℕ) → Option (List ℕ) → Type 0
-RepliedSoFar limit reply None now count old new = ⊤
-RepliedSoFar limit reply (Some input) None count old new = ⊥
-RepliedSoFar limit reply (Some input) (Some rest) count old new =
-    (done : List (List ℕ)) × (cut_lines input ≡ done ++ cut_lines rest) × (count ≡ length done) × Appends old new (replies_to limit reply done)
+  -- with a line `.` after it
+  abbrev pub IsMarkedReply : List ℕ → List ℕ → Type 0
+  IsMarkedReply line text = (reply : List ℕ) × IsLineReply line reply × (text ≡ reply ++ codes ".\n")
+
+  -- a reply to each line of an input was written, and so many lines were answered
+  abbrev pub RepliedToAll : Option (List ℕ) → ℕ → Option (List ℕ) → Option (List ℕ) → Type 0
+  RepliedToAll None count old new = ⊤
+  RepliedToAll (Some input) count old new =
+      (length input < 2 ^ 63 - 1) × (count ≡ length (input_lines input))
+      × (texts : List (List ℕ)) × AllZip IsMarkedReply (input_lines input) texts × Appends old new (flat_map (λ text. text) texts)
+
+  -- a front of replies to the first lines was written
+  abbrev pub RepliedToFirst : Option (List ℕ) → Option (List ℕ) → Option (List ℕ) → Type 0
+  RepliedToFirst None old new = ⊤
+  RepliedToFirst (Some input) old new =
+      (first : List (List ℕ)) × (later : List (List ℕ)) × (texts : List (List ℕ)) × (input_lines input ≡ first ++ later)
+      × AllZip IsMarkedReply first texts × AppendsPrefix old new (flat_map (λ text. text) texts)
+
+  -- the replies to the input were written, or after a fault a front of replies
+  abbrev pub Converses : Result ℕ AnswerFault → Option (List ℕ) → Option (List ℕ) → Option (List ℕ) → Type 0
+  Converses result input old new = MatchResult result (λ count. RepliedToAll input count old new) (λ _. RepliedToFirst input old new)
+
+  -- so many lines were answered, and these bytes of the input are left
+  abbrev pub RepliedSoFar : Option (List ℕ) → Option (List ℕ) → ℕ → Option (List ℕ) → Option (List ℕ) → Type 0
+  RepliedSoFar None now count old new = ⊤
+  RepliedSoFar (Some input) None count old new = ⊥
+  RepliedSoFar (Some input) (Some rest) count old new =
+      (done : List (List ℕ)) × (texts : List (List ℕ)) × (cut_lines input ≡ done ++ cut_lines rest) × (count ≡ length done)
+      × AllZip (λ line text. IsMarkedReply (without_carriage_return line) text) done texts × Appends old new (flat_map (λ text. text) texts)
+
+-- ---- the writing of a text that satisfies a fact
+
+-- such a text was written, or after a fault a front of one
+abbrev pub WritesSome : {A E : Type 0} → Result A E → Option (List ℕ) → Option (List ℕ) → (List ℕ → Type 0) → Type 0
+WritesSome result old new Is =
+    MatchResult result (λ _. (text : List ℕ) × Is text × Appends old new text) (λ _. (text : List ℕ) × Is text × AppendsPrefix old new text)

@@ -1,12 +1,13 @@
 -- Pages that are being written, one after another.
-use Rattle.std.specs.Prelude.{◌≡◌, ◌⊎◌, ℕ, ◌-◌, ◌^◌, ◌<◌, ◌≤◌, List, [], ◌∷◌, ◌++◌, length, take, drop, min, Option, None}
+use Rattle.std.specs.Prelude.{◌≡◌, ◌⊎◌, ℕ, ◌-◌, ◌^◌, ◌<◌, ◌≤◌, List, [], ◌∷◌, ◌++◌, length, take, drop, min, Option, None, IfSome}
+use Rattle.std.specs.List.{AllByRecursion}
 use Rattle.std.specs.Io.KnownBytes.{Appends}
 use Rattle.cdxj_places.specs.Places.{PlaceValue}
 use Rattle.query_text.specs.Queries.{QueryValue}
 use Rattle.cdxj_core.specs.Members.{Member, member_place}
 use Rattle.page_core.specs.Pages.{Page, AllPositive, first_size, later_sizes, end_place}
 use Rattle.page_core.specs.PageText.{begun}
-use Rattle.query_core.specs.Paging.{pages_text}
+use Rattle.query_core.specs.Paging.{IsReadBack, pages_text}
 use Rattle.query_core.specs.QueryPages.{form_of}
 
 -- the place of the last of them
@@ -22,6 +23,10 @@ AreCut sizes (page ∷ other ∷ rest) captures =
     (page ≡ record { members = take (first_size sizes) captures; next = last_of (take (first_size sizes) captures) })
     × (first_size sizes < length captures) × AreCut (later_sizes sizes) (other ∷ rest) (drop (first_size sizes) captures)
 
+-- the page's key, if it has one, is read as its place
+abbrev pub HasReadKey : Page Member PlaceValue → Type 0
+HasReadKey page = IfSome page.next IsReadBack
+
 -- no page has been written, or the next one has captures
 abbrev pub HasNext : List (Page Member PlaceValue) → List Member → Type 0
 HasNext pages captures = (pages ≡ []) ⊎ (0 < length captures)
@@ -35,6 +40,7 @@ pub record PagesStand (q : QueryValue) (sizes : List ℕ) (captures : List Membe
   pub goes_on : (later : List Member) (rest : List (Page Member PlaceValue)) → HasNext whole (rows ++ later)
       → AreCut left rest (rows ++ later) → AreCut sizes (whole ++ rest) (captures ++ later)
   pub positive : AllPositive left
+  pub keyed : AllByRecursion HasReadKey whole
   pub text : Appends start now (pages_text q whole ++ begun (form_of q) rows)
   pub given_is : given ≡ length rows
   pub room : length rows ≤ first_size left

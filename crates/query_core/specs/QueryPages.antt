@@ -1,16 +1,26 @@
 -- The pages of a query, and their texts.
 use Rattle.std.specs.Prelude.{ℕ, List, Bool, Option, None, option_map, if◌then◌else◌}
+use Rattle.std.specs.List.{filter}
 use Rattle.cdxj_core.specs.declared.field.Field.{Field}
 use Rattle.cdxj_places.specs.Places.{PlaceValue, place_cmp, resume_text}
 use Rattle.query_text.specs.Collapses.{same_part}
 use Rattle.query_text.specs.declared.output.OutputFormat.{OutputFormat}
 use Rattle.query_text.specs.declared.output.OutputFormat.TheVariants as output
 use Rattle.query_text.specs.Queries.{QueryValue}
+use Rattle.query_text.specs.Matching.{matches}
 use Rattle.cdxj_core.specs.Members.{Member, member_place}
 use Rattle.page_core.specs.Form.{Form, Text, Cdxj, Json}
-use Rattle.page_core.specs.Pages.{Page, page_of, IsChain}
+use Rattle.page_core.specs.Pages.{Page, collapsed, page_of, IsChain}
 use Rattle.page_core.specs.PageText.{page_text}
-use Rattle.query_core.specs.Collections.{selected}
+
+-- those of these lines that match the query
+abbrev pub selected : QueryValue → List Member → List Member
+selected q lines = filter (λ m. matches q m.values) lines
+
+-- the captures that a query asks for, of lines that rise by place: those that it selects above the place of its resume key, collapsed
+-- from there on
+abbrev pub query_captures : QueryValue → List Member → List Member
+query_captures q lines = collapsed member_place place_cmp (same_part q.collapse) (selected q lines) q.resume
 
 -- the page that a query asks for, of lines that rise by place
 abbrev pub query_page : QueryValue → List Member → Page Member PlaceValue

@@ -12,7 +12,7 @@ use Rattle.page_core.specs.PageText.{begun}
 use Rattle.merge_core.specs.PairOrders.{is_low}
 use Rattle.merge_core.specs.Reached.{Grows}
 use Rattle.merge_core.specs.Spending.{AllGaveWithin}
-use Rattle.query_core.specs.Collections.{collection}
+use Rattle.merge_core.specs.Collections.{collection}
 use Rattle.query_core.specs.PageWriting.{captures_over}
 use Rattle.query_core.specs.QueryPages.{form_of, query_page}
 use Rattle.query_core.specs.Starts.{start_pair}

@@ -6,7 +6,7 @@ ghost use Rattle.merge_core.specs.Collections.{KeepsSources, OverIndexes, OverTe
 ghost use Rattle.merge_core.specs.SourceLines.{AreLinesOf};
 ghost use Rattle.query_core.specs.AnswerCounts.{CountsAnswer};
 ghost use Rattle.query_core.specs.Answering.{AnsweredParts, Answers, ReadsInReach};
-ghost use Rattle.query_core.specs.LineFaults.{IsFaultOf};
+ghost use Rattle.query_core.specs.IndexFaults.{IsFaultOf};
 ghost use Rattle.query_core.specs.Refusals.{Refuses, too_many};
 
 use crate::conversions::text_fault;
@@ -26,9 +26,10 @@ use std::alloc::Global;
 /// that of the capture before it. The first capture after a resume key is left out if its part is that of the key's
 /// place.
 ///
-/// `TooManySources` is returned for more than `SOURCES_LIMIT` indexes, before anything is read or written. `BadLine`
-/// and `OutOfOrder` name a line because of which the text is not an index. Only the lines that are read are checked.
-/// After an error, a prefix of the page was written.
+/// Returns `TooManySources` for more than `SOURCES_LIMIT` indexes, before it reads or writes. `BadLine` and
+/// `OutOfOrder` name a line because of which the text is not an index; only the lines that are read are checked. `Read`
+/// names the index that failed, `Write` comes at the output's first failure, and `Memory` if memory could not be
+/// allocated. After an error, a prefix of the page was written.
 ///
 /// A binary search finds where the page begins in each index. From there on, lines of the target's range are read, up
 /// to the key and stamp of the first capture after the page, and at most one more line of each index. Each capture is

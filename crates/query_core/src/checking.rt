@@ -1,7 +1,7 @@
 //! The checking of an index.
 ghost use Rattle.std.specs.Prelude.{◌≡◌, ⊤, ℕ, List, true, false, option_map, IfErr, MatchBool, Some};
 ghost use Rattle.cdxj_core.specs.declared.limit.TheConstants.{LINE_LIMIT};
-ghost use Rattle.query_core.specs.NextLine.{CountsSource};
+ghost use Rattle.query_core.specs.AnswerCounts.{CountsSource};
 ghost use Rattle.query_core.specs.Checking.{FallsAfter, IsChecked, IsCheckFault};
 
 use crate::fault::AnswerFault;
@@ -24,10 +24,13 @@ fn falls_after(previous: &Option<Box<Line>>, line: &Line) -> bool
 
 /// Checks an index, and returns the number of its lines.
 ///
-/// Each line must have an entry, and its key and stamp must not be below those of the line before it. The error names
-/// the first line at fault, as a line of index 0. At most two lines are held.
+/// Each line must have an entry, and its key and stamp must not be below those of the line before it. At most two lines
+/// are held.
+///
+/// Errors are `Memory`, `Read`, and for the first line at fault `BadLine` or `OutOfOrder`, all of index 0.
 pub fn check<S: Source>(alloc: Global, source: &mut S) -> Result<u64, AnswerFault>
-    ensures text { S.text source.new ≡ S.text source.old }
+    ensures kept { (S.text source.new ≡ S.text source.old)
+        × (S.extent source.new ≡ S.extent source.old) }
     ensures checked { (text : List ℕ) → S.text source.old ≡ Some text
         → IsChecked LINE_LIMIT text result }
     ensures fault { IfErr result IsCheckFault }

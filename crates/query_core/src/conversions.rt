@@ -5,7 +5,7 @@ ghost use Rattle.merge_core.specs.Failures.{RaisedBy};
 ghost use Rattle.merge_core.specs.LineFaults as feed;
 ghost use Rattle.page_core.specs.Faults.{RaisedByText};
 ghost use Rattle.query_core.specs.AnswerCounts.{RaisedByAnswer};
-ghost use Rattle.query_core.specs.LineFaults.{IsFaultOf};
+ghost use Rattle.query_core.specs.IndexFaults.{IsFaultOf};
 ghost use Rattle.query_core.specs.Refusals.{IsEarly};
 
 use crate::fault::AnswerFault;

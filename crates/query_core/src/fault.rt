@@ -31,6 +31,27 @@ pub enum AnswerFault {
     Input,
 }
 
+impl AnswerFault {
+    ghost use Rattle.std.specs.Prelude.{◌≡◌};
+    ghost use Rattle.query_core.specs.IndexFaults.{fault_name};
+
+    /// Returns the fault's name.
+    pub fn name(self) -> &'static str
+        ensures { result.now ≡ fault_name self }
+    {
+        match self {
+            AnswerFault::Memory => "Memory",
+            AnswerFault::Read(_) => "Read",
+            AnswerFault::Write => "Write",
+            AnswerFault::BadLine(..) => "BadLine",
+            AnswerFault::OutOfOrder(..) => "OutOfOrder",
+            AnswerFault::TooManySources => "TooManySources",
+            AnswerFault::BadSizes => "BadSizes",
+            AnswerFault::Input => "Input",
+        }
+    }
+}
+
 impl From<AllocError> for AnswerFault {
     ghost use Rattle.std.specs.Prelude.{◌≡◌};
     ghost use Rattle.query_core.specs.declared.fault.AnswerFault.TheVariants.{Memory};

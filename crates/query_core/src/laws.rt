@@ -1,12 +1,17 @@
 // Laws of the definitions that the contracts cite. These functions do nothing: each law is a
 // contract.
-ghost use Rattle.query_core.specs.Laws.{AllAreKept, PagesAreSelected, PagesRise, SelectedRise};
+ghost use Rattle.std.specs.Prelude.{◌≡◌};
+ghost use Rattle.query_core.specs.declared.merging.TheConstants.{SOURCES_LIMIT};
+ghost use Rattle.query_core.specs.Limits.{LINE_LIMIT, QUERY_LIMIT};
+ghost use Rattle.query_core.specs.QueryLaws.{AllAreKept, KeysContinue, NamesNameFields, NoLineIsAtFault, PagesRise, SelectedAreFirst, SelectedRise};
 
-/// Pages that were written over indexes, joined, are the captures that the query selects above its resume key, each once.
-/// All pages but the last are full. If the query collapses nothing, these are all that it selects there.
+use query_text::resume_key_is_put_into_query;
+
+/// What a query selects of indexes rises by place. It consists of the lines that match, of those at one place the first. If
+/// the query collapses nothing, its pages leave out none of what it selects above its resume key.
 pub fn pages_are_selected()
-    ensures joined { PagesAreSelected }
     ensures rise { SelectedRise }
+    ensures members { SelectedAreFirst }
     ensures plain { AllAreKept }
 {}
 
@@ -14,4 +19,29 @@ pub fn pages_are_selected()
 /// the place after which the first page begins.
 pub fn pages_rise()
     ensures { PagesRise }
+{}
+
+/// The resume key at the end of a page, put into the query's text as it was printed, asks for the same query after the
+/// page's last capture.
+pub fn resume_keys_continue()
+    ensures { KeysContinue }
+{
+    resume_key_is_put_into_query();
+}
+
+/// Over indexes, no call returns the fault of a line.
+pub fn indexes_have_no_line_at_fault()
+    ensures { NoLineIsAtFault }
+{}
+
+/// The name of a field, as pages write it, names the field in a query.
+pub fn names_name_fields()
+    ensures { NamesNameFields }
+{}
+
+/// The limits, as numbers: the bytes of a line, the bytes of a query's text, and the number of indexes.
+pub fn limits_are_these()
+    ensures line { LINE_LIMIT ≡ 16777216 }
+    ensures query { QUERY_LIMIT ≡ 65536 }
+    ensures sources { SOURCES_LIMIT ≡ 1024 }
 {}

@@ -1,6 +1,8 @@
 //! Calls on indexes: their merge, the check of one, the page of a query, all its pages, and the replies to queries.
 //!
 //! The definitions begin in `specs/QueryPages.antt`: the pages of a query, and their texts.
+//!
+//! A crate that calls this one needs no other: it passes on the types and the definitions that its contracts name.
 #![tactic(auto)]
 
 mod answering;
@@ -26,11 +28,22 @@ mod target_range;
 pub use crate::answering::answer;
 pub use crate::checking::check;
 pub use crate::fault::AnswerFault;
-pub use crate::laws::{pages_are_selected, pages_rise};
+pub use crate::laws::{
+    indexes_have_no_line_at_fault, limits_are_these, names_name_fields, pages_are_selected,
+    pages_rise, resume_keys_continue,
+};
 pub use crate::merging::{SOURCES_LIMIT, merge};
 pub use crate::paging::pages;
 pub use crate::report::Report;
 pub use crate::serving::serve;
 pub use crate::sizes::are_sizes;
-pub use query_text::{Query, QueryFault};
+pub use cdxj_core::{Field, LINE_LIMIT, Line, LineFault, LineRef, Place};
+pub use devices::{
+    DeviceFault, FromRead, FromWrite, Gather, INPUT_LIMIT, Input, Output, Prompt, Slice,
+};
+pub use page_core::{field_name, page_is_its_pieces, pages_join};
+pub use query_text::{
+    Collapse, MatchKind, OutputFormat, QUERY_LIMIT, Query, QueryFault, Target,
+    matching_keys_are_in_one_range, resume_key_is_put_into_query,
+};
 pub use source_core::{FileSource, SliceSource, Source, SourceFault};

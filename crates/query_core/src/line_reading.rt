@@ -6,8 +6,8 @@ ghost use Rattle.cdxj_core.specs.Members.{member_pair};
 ghost use Rattle.cdxj_places.specs.Pairs.{pair_cmp};
 ghost use Rattle.source_core.specs.Cursors.{Stands};
 ghost use Rattle.merge_core.specs.NextLine.{IsNextLine};
-ghost use Rattle.query_core.specs.Checking.{IsCheckFault};
-ghost use Rattle.query_core.specs.NextLine.{IsLineFault, CountsSource};
+ghost use Rattle.query_core.specs.AnswerCounts.{CountsSource};
+ghost use Rattle.query_core.specs.Checking.{IsCheckFault, IsLineFault};
 
 use crate::fault::AnswerFault;
 use cdxj_core::Line;

@@ -6,7 +6,7 @@ ghost use Rattle.merge_core.specs.Collections.{KeepsSources, Merged, OverIndexes
 ghost use Rattle.merge_core.specs.SourceLines.{WroteLinesOf};
 ghost use Rattle.merge_core.specs.Written.{lines_text};
 ghost use Rattle.query_core.specs.AnswerCounts.{CountsAnswer};
-ghost use Rattle.query_core.specs.LineFaults.{IsFaultOf};
+ghost use Rattle.query_core.specs.IndexFaults.{IsFaultOf};
 ghost use Rattle.query_core.specs.Refusals.{Refuses, too_many};
 
 use crate::conversions::merge_fault;
@@ -22,10 +22,12 @@ pub const SOURCES_LIMIT: usize = 1_024;
 /// Merges indexes: writes their lines in the order of places, each as it stands in its index, only the first line at
 /// each place. Returns the number of lines written.
 ///
-/// `TooManySources` is returned for more than `SOURCES_LIMIT` indexes, before anything is read. `BadLine` and
-/// `OutOfOrder` name a line because of which the text is not an index. If there are several, which one is named is not
-/// specified. After an error, lines that rise by place were written, the last of them in whole or in part. One line of
-/// each index is held, and the lines of one key and stamp.
+/// Returns `TooManySources` for more than `SOURCES_LIMIT` indexes, before it reads or writes. `BadLine` and `OutOfOrder`
+/// name a line because of which the text is not an index. If there are several, which one is named is not specified.
+/// `Read` names the index that failed, `Write` comes at the output's first failure, and `Memory` if memory could not be
+/// allocated. After an error, lines that rise by place were written, the last of them in whole or in part.
+///
+/// One line of each index is held, and the lines of one key and stamp.
 pub fn merge<S: Source, O: Output>(
     alloc: Global,
     sources: &mut [S],

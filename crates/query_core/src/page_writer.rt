@@ -1,15 +1,16 @@
 //! The writing of a page.
-ghost use Rattle.std.specs.Prelude.{◌≡◌, ◌++◌, ◌∷◌, [], List, Option, None, Some, ℕ, OnOk, IfOk, IfErr, OnErr, option_map, string_bytes};
+ghost use Rattle.std.specs.Prelude.{◌≡◌, ◌++◌, ◌∷◌, [], List, Option, None, Some, ℕ, OnOk, IfOk, IfErr, OnErr, IfSome, option_map, string_bytes};
 ghost use Rattle.cdxj_places.specs.PlaceViews.{place_view};
 ghost use Rattle.cdxj_core.specs.Members.{Member, member_place};
 ghost use Rattle.page_core.specs.FormView.{form_view};
 ghost use Rattle.page_core.specs.Faults.{CountsWrite};
 ghost use Rattle.page_core.specs.PageText.{page_end};
 ghost use Rattle.devices.specs.Writing.{WritesText};
+ghost use Rattle.query_core.specs.Paging.{IsReadBack};
 ghost use Rattle.query_core.specs.QueryPages.{form_of, shown_key};
 
 use crate::selection::Selection;
-use cdxj_core::{HasPlace, Line, OwnedPlace, resume_text};
+use cdxj_core::{HasPlace, Line, OwnedPlace, place_is_good, resume_key_is_read, resume_text};
 use devices::Output;
 use merge_core::{Sink, SinkFault};
 use page_core::{PageForm, PageOutput, TextFault};
@@ -46,6 +47,19 @@ pub(crate) fn key_text(
     match resume_text(alloc, place.place()) {
         Ok(text) => Ok(Some(text)),
         Err(_) => Err(TextFault::Memory),
+    }
+}
+
+/// Shows that the resume key of this place, if there is one, is read as the place. Nothing else is done.
+pub(crate) fn key_is_read(place: Option<&OwnedPlace>)
+    ensures { IfSome (option_map (λ p. p.now) place.entry) IsReadBack }
+{
+    match place {
+        Some(place) => {
+            place_is_good(place.place());
+            resume_key_is_read();
+        }
+        None => {}
     }
 }
 

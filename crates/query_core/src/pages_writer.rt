@@ -4,7 +4,7 @@ ghost use Rattle.cdxj_core.specs.Members.{Member, member_place};
 ghost use Rattle.page_core.specs.Faults.{CountsWrite};
 ghost use Rattle.query_core.specs.QueryPages.{form_of};
 
-use crate::page_writer::{form_of, put_end, sink_fault};
+use crate::page_writer::{form_of, key_is_read, put_end, sink_fault};
 use crate::selection::Selection;
 use crate::sizes::{first_size, later_sizes};
 use cdxj_core::{HasPlace, Line, OwnedPlace};
@@ -33,12 +33,13 @@ pub(crate) struct PagesWriter<'q> {
 
 impl<'q> PagesWriter<'q> {
     ghost use Rattle.std.specs.Io.KnownBytes.{Appends};
-    ghost use Rattle.std.specs.Prelude.{◌+◌, ◌-◌, ◌^◌, ◌<◌, min, true, Some};
+    ghost use Rattle.std.specs.Prelude.{◌+◌, ◌-◌, ◌^◌, ◌<◌, min, true, IfSome, Some};
     ghost use Rattle.devices.specs.Device.{AppendsPrefix};
     ghost use Rattle.devices.specs.Writing.{WritesText};
     ghost use Rattle.merge_core.specs.Reached.{Grows};
     ghost use Rattle.page_core.specs.Pages.{AllPositive, first_size, later_sizes};
     ghost use Rattle.page_core.specs.PageText.{page_start, page_end, row_text};
+    ghost use Rattle.query_core.specs.Paging.{IsReadBack};
     ghost use Rattle.query_core.specs.QueryPages.{shown_key};
     ghost use Rattle.query_core.specs.WriterView.{IsSame, IsFront, are_in_pages, captures_of, from_view, pages_stand};
 
@@ -86,12 +87,14 @@ impl<'q> PagesWriter<'q> {
             (page_end (form_of self.old.selection.query.now)
             (shown_key true self.old.last) ++ page_start (form_of self.old.selection.query.now)) }
         ensures selection { self.new.selection ≡ self.old.selection }
+        ensures key { IfSome self.old.last IsReadBack }
         ensures next { OnOk result
             ((self.new.sizes.now ≡ later_sizes self.old.sizes.now) × (self.new.given ≡ 0)
             × (self.new.last ≡ self.old.last)
             × (self.new.count ≡ min (self.old.count + 1) (2 ^ 64 - 1))) }
         ensures failures { CountsWrite result (O.failures out.old) (O.failures out.new) }
     {
+        key_is_read(self.last.as_ref());
         match put_end(alloc, &mut self.output, true, self.last.as_ref(), out) {
             Ok(()) => {}
             Err(fault) => return Err(fault),

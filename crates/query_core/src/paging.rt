@@ -6,7 +6,7 @@ ghost use Rattle.merge_core.specs.Collections.{KeepsSources, OverIndexes, OverTe
 ghost use Rattle.merge_core.specs.SourceLines.{AreLinesOf};
 ghost use Rattle.merge_core.specs.Spending.{AllGaveWithin};
 ghost use Rattle.query_core.specs.AnswerCounts.{CountsAnswer};
-ghost use Rattle.query_core.specs.LineFaults.{IsFaultOf};
+ghost use Rattle.query_core.specs.IndexFaults.{IsFaultOf};
 ghost use Rattle.query_core.specs.Paging.{WritesPages, WrotePagesOfParts};
 ghost use Rattle.query_core.specs.Reach.{in_reach};
 ghost use Rattle.query_core.specs.Refusals.{Refuses, bad_sizes_or_too_many};
@@ -29,9 +29,9 @@ use std::alloc::Global;
 /// The indexes are searched once, and each line of the target's range is read once, whatever the sizes. A page ends when
 /// its next capture is read.
 ///
-/// `BadSizes` is returned if there are no sizes, or one of them is 0; then `TooManySources` for more than
-/// `SOURCES_LIMIT` indexes. Both come before anything is read or written. The other errors are those of `answer`. After
-/// one, a prefix of the pages was written.
+/// Returns `BadSizes` if there are no sizes, or one of them is 0; then `TooManySources` for more than `SOURCES_LIMIT`
+/// indexes. Both come before it reads or writes. The other errors are those of `answer`: `BadLine`, `OutOfOrder`, `Read`,
+/// `Write` and `Memory`. After one, a prefix of the pages was written.
 pub fn pages<S: Source, O: Output>(
     alloc: Global,
     sources: &mut [S],

@@ -6,7 +6,7 @@ ghost use Rattle.source_core.specs.Halving.{digits};
 ghost use Rattle.merge_core.specs.Collections.{KeepsSources, OverIndexes, all_lines};
 ghost use Rattle.merge_core.specs.Counts.{ShareAtMost};
 ghost use Rattle.query_core.specs.AnswerCounts.{CountsAnswer};
-ghost use Rattle.query_core.specs.LineFaults.{IsFaultOf};
+ghost use Rattle.query_core.specs.IndexFaults.{IsFaultOf};
 ghost use Rattle.query_core.specs.Passes.{BrokeOff, Halted, TookLines};
 ghost use Rattle.query_core.specs.Refusals.{IsEarly};
 

@@ -1,18 +1,21 @@
 //! A conversation: a reply to each line of an input.
-ghost use Rattle.std.specs.Prelude.{◌≡◌, ◌-◌, ◌^◌, ◌<◌, ◌≤◌, length, map, true, IfOk, IfErr, OnOk};
+ghost use Rattle.std.specs.Prelude.{◌≡◌, ◌≢◌, ◌-◌, ◌^◌, ◌<◌, ◌≤◌, ℕ, List, length, map, true, Option, Result, Err, IfOk, IfErr, OnOk};
 ghost use Rattle.std.specs.Io.KnownBytes.{prepend_known};
 ghost use Rattle.cdxj_core.specs.declared.limit.TheConstants.{LINE_LIMIT};
 ghost use Rattle.devices.specs.LineReading.{CountsTaken, TakesLine};
 ghost use Rattle.devices.specs.Writing.{WritesText};
+ghost use Rattle.cdxj_core.specs.Members.{Member};
 ghost use Rattle.query_text.specs.declared.query.TheConstants.{QUERY_LIMIT};
-ghost use Rattle.merge_core.specs.Collections.{KeepsSources, OverIndexes};
+ghost use Rattle.query_text.specs.declared.fault.QueryFault.{QueryFault};
+ghost use Rattle.query_text.specs.Queries.{QueryValue};
+ghost use Rattle.merge_core.specs.Collections.{KeepsSources, OverIndexes, collection};
 ghost use Rattle.query_core.specs.declared.merging.TheConstants.{SOURCES_LIMIT};
-ghost use Rattle.query_core.specs.Collections.{collection};
 ghost use Rattle.query_core.specs.QueryPages.{query_page, answer_text};
 ghost use Rattle.query_core.specs.Refusals.{IsEarly, Refuses, too_many};
-ghost use Rattle.query_core.specs.Replies.{marked_reply, reply_of, reply_text};
-ghost use Rattle.query_core.specs.Conversations.{Replied, RepliedInPart};
-ghost use Rattle.query_core.specs.ReplyFaults.{CountsReplying, CountsLine, CountsServing};
+ghost use Rattle.query_core.specs.Replies.{reply_of, reply_to};
+ghost use Rattle.query_core.specs.AnyReplies.{IsPageReply, IsQueryReply, IsTextReply};
+ghost use Rattle.query_core.specs.Conversations.{Converses, IsLineReply, IsMarkedReply, Replied, RepliedInPart, WritesSome};
+ghost use Rattle.query_core.specs.ReplyFaults.{CountsReply, CountsReplying, CountsLine, CountsServing};
 
 use crate::answering::answer;
 use crate::fault::AnswerFault;
@@ -41,6 +44,8 @@ fn reply_to_query<S: Source, O: Output>(
     ensures text { OverIndexes LINE_LIMIT (map S.text sources.old) (λ texts indexes.
         WritesText result (O.written out.old) (O.written out.new)
         (answer_text query.now (query_page query.now (collection indexes)))) }
+    ensures lines { WritesSome result (O.written out.old) (O.written out.new)
+        (IsPageReply (map S.text sources.old) query.now) }
 {
     match answer(alloc, sources, query, out) {
         Ok(_) => Ok(()),
@@ -51,6 +56,26 @@ fn reply_to_query<S: Source, O: Output>(
             put_fault_line(alloc, "OutOfOrder", index, offset, out)
         }
         Err(fault) => Err(fault),
+    }
+}
+
+/// Writes the name of the refusal of a query. For lack of memory nothing is written.
+fn put_query_refusal<O: Output>(
+    alloc: Global,
+    fault: QueryFault,
+    out: &mut O,
+) -> Result<(), AnswerFault>
+    ensures text { (lines : List Member) → (read : Result QueryValue QueryFault)
+        → (fault ≢ QueryFault.Memory → read ≡ Err fault)
+        → WritesText result (O.written out.old) (O.written out.new) (reply_to lines read) }
+    ensures lines { (told : List (Option (List ℕ))) → (read : Result QueryValue QueryFault)
+        → (fault ≢ QueryFault.Memory → read ≡ Err fault)
+        → WritesSome result (O.written out.old) (O.written out.new) (IsQueryReply told read) }
+    ensures failures { CountsReply result (O.failures out.old) (O.failures out.new) }
+{
+    match fault {
+        QueryFault::Memory => Err(AnswerFault::Memory),
+        _ => put_refusal(alloc, fault.name(), out),
     }
 }
 
@@ -68,11 +93,12 @@ fn reply_to_text<S: Source, O: Output>(
     ensures text { OverIndexes LINE_LIMIT (map S.text sources.old) (λ texts indexes.
         WritesText result (O.written out.old) (O.written out.new)
         (reply_of QUERY_LIMIT (collection indexes) text.now)) }
+    ensures lines { WritesSome result (O.written out.old) (O.written out.new)
+        (IsTextReply (map S.text sources.old) text.now) }
 {
     match Query::read(alloc, text) {
         Ok(query) => reply_to_query(alloc, sources, &query, out),
-        Err(QueryFault::Memory) => Err(AnswerFault::Memory),
-        Err(fault) => put_refusal(alloc, fault.name(), out),
+        Err(fault) => put_query_refusal(alloc, fault, out),
     }
 }
 
@@ -88,8 +114,11 @@ fn reply_to_line<S: Source, O: Output>(
     ensures failures { CountsReplying result (map S.failures sources.old)
         (map S.failures sources.new) (O.failures out.old) (O.failures out.new) }
     ensures text { OverIndexes LINE_LIMIT (map S.text sources.old) (λ texts indexes.
-        WritesText result (O.written out.old) (O.written out.new)
-        (reply_text QUERY_LIMIT (reply_of QUERY_LIMIT (collection indexes)) line.now)) }
+        WritesSome result (O.written out.old) (O.written out.new)
+        (IsLineReply QUERY_LIMIT (λ text reply. reply ≡ reply_of QUERY_LIMIT (collection indexes) text)
+        line.now)) }
+    ensures lines { WritesSome result (O.written out.old) (O.written out.new)
+        (IsLineReply QUERY_LIMIT (IsTextReply (map S.text sources.old)) line.now) }
 {
     if line.len() > QUERY_LIMIT {
         return put_refusal(alloc, "QueryTooLong", out);
@@ -112,11 +141,16 @@ fn reply_and_mark<S: Source, O: Output>(
     ensures failures { CountsReplying result (map S.failures sources.old)
         (map S.failures sources.new) (O.failures out.old) (O.failures out.new) }
     ensures text { OverIndexes LINE_LIMIT (map S.text sources.old) (λ texts indexes.
-        WritesText result (O.written out.old) (O.written out.new)
-        (marked_reply QUERY_LIMIT (reply_of QUERY_LIMIT (collection indexes)) line.now)) }
+        WritesSome result (O.written out.old) (O.written out.new)
+        (IsMarkedReply QUERY_LIMIT (λ text reply. reply ≡ reply_of QUERY_LIMIT (collection indexes) text)
+        line.now)) }
+    ensures lines { WritesSome result (O.written out.old) (O.written out.new)
+        (IsMarkedReply QUERY_LIMIT (IsTextReply (map S.text sources.old)) line.now) }
 {
-    reply_to_line(alloc, sources, line, out)?;
-    put_text(b".\n", out)
+    match reply_to_line(alloc, sources, line, out) {
+        Ok(()) => put_text(b".\n", out),
+        Err(fault) => Err(fault),
+    }
 }
 
 /// Reads a further line of the input, and holds it. Returns whether there was one.
@@ -150,8 +184,8 @@ fn read_line<I: Input>(lines: &mut InputLines, input: &mut I) -> Result<bool, An
 /// written is followed by a line feed, and `fault` with the name of the fault, the number of the index and the offset
 /// of the line. Each reply is followed by a line `.`, which is passed to the output in a call of its own.
 ///
-/// `TooManySources` is returned for more than `SOURCES_LIMIT` indexes, before anything is read. `Memory`, `Read` of an
-/// index, `Write` and `Input` end the conversation. `Input` is also returned for an input of 2^63 - 1 bytes.
+/// Returns `TooManySources` for more than `SOURCES_LIMIT` indexes, before it reads. `Memory`, `Read` of an index, `Write`
+/// and `Input` end the conversation. `Input` comes if the input failed, and for an input of 2^63 - 1 bytes.
 pub fn serve<S: Source, I: Input, O: Output>(
     alloc: Global,
     sources: &mut [S],
@@ -171,6 +205,9 @@ pub fn serve<S: Source, I: Input, O: Output>(
     ensures part { OverIndexes LINE_LIMIT (map S.text sources.old) (λ texts indexes.
         RepliedInPart QUERY_LIMIT (reply_of QUERY_LIMIT (collection indexes))
         (I.remaining input.old) (O.written out.old) (O.written out.new)) }
+    // Whatever the sources' bytes, each page is that of lines of theirs that rise by place.
+    ensures lines { Converses QUERY_LIMIT (IsTextReply (map S.text sources.old)) result
+        (I.remaining input.old) (O.written out.old) (O.written out.new) }
 {
     if sources.len() > SOURCES_LIMIT {
         return Err(AnswerFault::TooManySources);

@@ -1,7 +1,7 @@
 //! The sizes of pages.
-ghost use Rattle.std.specs.Prelude.{◌≡◌, ◌<◌, nat_lt};
+ghost use Rattle.std.specs.Prelude.{◌≡◌, ◌<◌, nat_lt, true};
 ghost use Rattle.std.specs.List.{list_all};
-ghost use Rattle.page_core.specs.Pages.{first_size, later_sizes};
+ghost use Rattle.page_core.specs.Pages.{AllPositive, first_size, later_sizes};
 ghost use Rattle.query_core.specs.Paging.{are_sizes};
 
 fn are_positive(sizes: &[u64]) -> bool
@@ -10,9 +10,10 @@ fn are_positive(sizes: &[u64]) -> bool
     sizes.iter().all(|&size| size > 0)
 }
 
-/// Returns whether there are sizes, and none of them is 0.
+/// Returns `true` if there are sizes, and none of them is 0.
 pub fn are_sizes(sizes: &[u64]) -> bool
-    ensures { result ≡ are_sizes sizes.now }
+    ensures value { result ≡ are_sizes sizes.now }
+    ensures positive { result ≡ true → AllPositive sizes.now }
 {
     !sizes.is_empty() && are_positive(sizes)
 }

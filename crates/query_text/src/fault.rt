@@ -8,38 +8,55 @@ use thiserror::Error;
 /// Why a query text is rejected.
 #[derive(Clone, Copy, Debug, Drop, Error, PartialEq, Eq)]
 pub enum QueryFault {
+    /// Memory could not be allocated, or the URL parser has no room for the URL.
     #[error("memory")]
     Memory,
+    /// No parameter has this name.
     #[error("unknown parameter")]
     Unknown,
+    /// A parameter that may occur once is given twice.
     #[error("repeated parameter")]
     RepeatedParameter,
+    /// The match type is none of `exact`, `prefix`, `host` and `domain`.
     #[error("bad match type")]
     BadMatch,
+    /// A bound of the stamps is not 1 to 14 digits.
     #[error("bad stamp")]
     BadStamp,
+    /// A filter has no colon, or no field has the name before it.
     #[error("bad filter")]
     BadFilter,
+    /// The text of `filter` contains a sign that patterns use.
     #[error("filter is a pattern")]
     NotLiteral,
+    /// The limit is not a number from 1 to 1,000,000, in at most 7 digits.
     #[error("bad limit")]
     BadLimit,
+    /// The resume key does not name a place.
     #[error("bad resume key")]
     BadResume,
+    /// No field has a name that `fl` lists.
     #[error("bad field")]
     BadField,
+    /// The output is none of `text`, `json` and `cdxj`.
     #[error("bad output")]
     BadOutput,
+    /// A flag is neither `true` nor `false`.
     #[error("bad flag")]
     BadFlag,
+    /// The text has neither `url` nor `key`.
     #[error("neither url nor key")]
     NoUrl,
+    /// The text has both `url` and `key`.
     #[error("both url and key")]
     UrlAndKey,
+    /// The URL Standard has no URL for the target, or the target has no host.
     #[error("bad URL")]
     BadUrl,
+    /// The text has more than `QUERY_LIMIT` bytes.
     #[error("query too long")]
     QueryTooLong,
+    /// The captures can't be collapsed by this value.
     #[error("bad collapse")]
     BadCollapse,
 }

@@ -4,11 +4,14 @@ ghost use Rattle.query_text.specs.Outputs.{output_of, flag_of};
 
 use crate::fault::QueryFault;
 
-/// The format of a page: rows of fields, JSON, or index lines as they are.
+/// The format of a page.
 #[derive(Clone, Copy, Debug, Drop, PartialEq, Eq)]
 pub enum OutputFormat {
+    /// A line for each capture: the values of its fields, with one space between them.
     Text,
+    /// One JSON array: a row of the fields' names, and a row of the fields' values for each capture.
     Json,
+    /// The line of each capture, as its index has it.
     Cdxj,
 }
 

@@ -98,7 +98,7 @@ fn all_hold(filters: &[Filter], line: &LineRef<'_>) -> bool
 }
 
 impl Query {
-    ghost use Rattle.std.specs.Prelude.{◌≢◌, ◌<◌, ◌≤◌, [], IsOk, IfSome, MatchResult, Ok, Err};
+    ghost use Rattle.std.specs.Prelude.{◌≢◌, ◌<◌, ◌≤◌, [], false, length, IsOk, IfSome, MatchResult, Ok, Err};
     ghost use Rattle.cdxj_core.specs.PlaceViews.{place_view};
     ghost use Rattle.query_text.specs.declared.query.TheConstants.{QUERY_LIMIT};
     ghost use Rattle.query_text.specs.ParameterViews.{values_of};
@@ -141,12 +141,15 @@ impl Query {
         })
     }
 
-    /// Reads the query of a text, or returns the first error: `QueryTooLong` over `QUERY_LIMIT`
-    /// bytes; the errors of the parameters, from left to right; then `NoUrl`, `UrlAndKey` and
-    /// `BadUrl`. `Memory` is also returned if the URL parser has no room for the URL.
+    /// Reads the query of a text.
+    ///
+    /// Returns the first of these errors: `QueryTooLong` for more than `QUERY_LIMIT` bytes, before it allocates; the
+    /// errors of the parameters, from left to right; then `NoUrl`, `UrlAndKey` and `BadUrl`. Returns `Memory` if memory
+    /// could not be allocated, or if the URL parser has no room for the URL.
     pub fn read(alloc: Global, text: &str) -> Result<Query, QueryFault>
-        ensures { MatchResult result (λ query. query_of QUERY_LIMIT text.now ≡ Ok query)
+        ensures value { MatchResult result (λ query. query_of QUERY_LIMIT text.now ≡ Ok query)
             (λ fault. fault ≢ QueryFault.Memory → query_of QUERY_LIMIT text.now ≡ Err fault) }
+        ensures long { QUERY_LIMIT < length text.now → result ≡ Err QueryFault.QueryTooLong }
     {
         if text.len() > QUERY_LIMIT {
             return Err(QueryFault::QueryTooLong);
@@ -176,11 +179,14 @@ impl Query {
         self.matches_pair(key, stamp) && all_hold(self.filters.as_slice(), line)
     }
 
-    /// Returns `true` if the query matches the line. The line's values are read again only if the
-    /// query has filters.
+    /// Returns `true` if the query matches the line.
+    ///
+    /// The only error is a refused allocation: the line's values are read again. This happens only if the query has
+    /// filters and matches the line's key and stamp.
     pub fn matches_kept(&self, line: &Line) -> Result<bool, AllocError>
         ensures value { IfOk result (λ found. found ≡ matches self.now line.now.values) }
         ensures unfiltered { self.now.filters ≡ [] → IsOk result }
+        ensures unmatched { matches_pair self.now line.now.values.key line.now.values.stamp ≡ false → IsOk result }
     {
         let (key, stamp) = line.pair();
         if !self.matches_pair(key, stamp) {

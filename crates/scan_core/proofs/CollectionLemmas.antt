@@ -101,7 +101,3 @@ collected archives =
     ap (rising member_place place_cmp) (all_members archives)
     ∙ sym (rising_referred entry_member member_place place_cmp (flat_map in_places archives))
     ∙ ap (map entry_member) (rising_parts entry_place place_cmp place_cmp_total archives)
-
--- they rise
-pub lines_rise : (archives : List (List EntryValue)) → Rises member_place place_cmp (captured_lines archives)
-lines_rise archives = subst (Rises member_place place_cmp) (collected archives) (rises_rising member_place place_cmp place_cmp_total (all_lines (map index_members archives)))

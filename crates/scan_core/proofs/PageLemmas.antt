@@ -1,6 +1,7 @@
 -- Pages over indexes in memory.
 use Rattle.std.specs.List.{AllZip}
-use Rattle.std.proofs.Common.{◌≡◌, ◌≢◌, ℕ, zero, suc, ◌<◌, List, [], ◌∷◌, length, map, get_or, set, Option, Some, Result, Ok, Err, IfErr, refl, sym, ap, ◌∙◌, subst, arith}
+use Rattle.std.proofs.Common.{◌≡◌, ◌≢◌, ℕ, zero, suc, ◌<◌, ◌≤◌, nat_lt, true, false, List, [], ◌∷◌, length, map, get_or, set, Option, None, Some, Result, Ok, Err, IfErr, if◌then◌else◌, refl, sym, ap, ◌∙◌, subst, arith}
+use Rattle.std.proofs.lemmas.Bool.Decides.{nat_tests}
 use Rattle.cdxj_core.specs.declared.limit.TheConstants.{LINE_LIMIT}
 use Rattle.cdxj_core.specs.Indexes.{IsIndex}
 use Rattle.cdxj_core.specs.Members.{Member}
@@ -10,9 +11,11 @@ use Rattle.merge_core.specs.Failures.{RaisedAt}
 use Rattle.query_core.specs.declared.fault.AnswerFault.{AnswerFault}
 use Rattle.query_core.specs.declared.fault.AnswerFault.TheVariants as answer
 use Rattle.query_core.specs.AnswerCounts.{CountsAnswer}
-use Rattle.query_core.specs.LineFaults.{IsFaultOf}
-use Rattle.query_core.specs.Refusals.{IsEarly}
-use Rattle.query_core.proofs.SoundIndexes.{names_no_bad_line, names_none_out_of_order}
+use Rattle.query_core.specs.IndexFaults.{IsFaultOf}
+use Rattle.query_core.specs.declared.merging.TheConstants.{SOURCES_LIMIT}
+use Rattle.query_core.specs.Paging.{are_sizes}
+use Rattle.query_core.specs.QueryLaws.{NoLineIsAtFault}
+use Rattle.query_core.specs.Refusals.{IsEarly, Refuses, bad_sizes_or_too_many, too_many}
 use Rattle.scan_core.proofs.ArchiveLemmas.{map_length}
 use Rattle.scan_core.specs.Failures.{CountsWriting}
 use Rattle.scan_core.specs.Scanning.{IsPagesFault}
@@ -50,17 +53,17 @@ none_raised i old new h =
     omega (arith, none)
 
 -- pages over indexes meet no fault of a line or of a source
-pub pages_fault : {S : Type 0} (r : Result ℕ AnswerFault) (tolds : List (Option (List ℕ))) (texts : List (List ℕ)) (members : List (List Member)) (old new : List S) (o o' : ℕ) → Known tolds texts → AllZip (IsIndex LINE_LIMIT) texts members
+pub pages_fault : {S : Type 0} → NoLineIsAtFault → (r : Result ℕ AnswerFault) (tolds : List (Option (List ℕ))) (texts : List (List ℕ)) (members : List (List Member)) (old new : List S) (o o' : ℕ) → Known tolds texts → AllZip (IsIndex LINE_LIMIT) texts members
     → IfErr r (IsFaultOf LINE_LIMIT tolds) → CountsAnswer r (zeros old) (zeros new) o o' → IfErr r (λ e. IsEarly e → ⊥) → IfErr r IsPagesFault
-pages_fault (Ok n) tolds texts members old new o o' known are f counts late = tt
-pages_fault (Err answer.Memory) tolds texts members old new o o' known are f counts late = tt
-pages_fault (Err (answer.Read i)) tolds texts members old new o o' known are f counts late = none_raised i old new counts.0
-pages_fault (Err answer.Write) tolds texts members old new o o' known are f counts late = tt
-pages_fault (Err (answer.BadLine i n)) tolds texts members old new o o' known are f counts late = names_no_bad_line LINE_LIMIT tolds texts members known are i n f
-pages_fault (Err (answer.OutOfOrder i n)) tolds texts members old new o o' known are f counts late = names_none_out_of_order LINE_LIMIT tolds texts members known are i n f
-pages_fault (Err answer.TooManySources) tolds texts members old new o o' known are f counts late = late tt
-pages_fault (Err answer.BadSizes) tolds texts members old new o o' known are f counts late = late tt
-pages_fault (Err answer.Input) tolds texts members old new o o' known are f counts late = counts
+pages_fault law (Ok n) tolds texts members old new o o' known are f counts late = tt
+pages_fault law (Err answer.Memory) tolds texts members old new o o' known are f counts late = tt
+pages_fault law (Err (answer.Read i)) tolds texts members old new o o' known are f counts late = none_raised i old new counts.0
+pages_fault law (Err answer.Write) tolds texts members old new o o' known are f counts late = tt
+pages_fault law (Err (answer.BadLine i n)) tolds texts members old new o o' known are f counts late = law tolds (answer.BadLine i n) f texts members known are
+pages_fault law (Err (answer.OutOfOrder i n)) tolds texts members old new o o' known are f counts late = law tolds (answer.OutOfOrder i n) f texts members known are
+pages_fault law (Err answer.TooManySources) tolds texts members old new o o' known are f counts late = late tt
+pages_fault law (Err answer.BadSizes) tolds texts members old new o o' known are f counts late = late tt
+pages_fault law (Err answer.Input) tolds texts members old new o o' known are f counts late = counts
 
 -- the output's count is that of the pages
 pub counts_writing : (r : Result ℕ AnswerFault) (ss ss' : List ℕ) (o o' : ℕ) → CountsAnswer r ss ss' o o' → CountsWriting r o o'
@@ -73,3 +76,13 @@ counts_writing (Err (answer.OutOfOrder i n)) ss ss' o o' counts = counts.1
 counts_writing (Err answer.TooManySources) ss ss' o o' counts = counts.1
 counts_writing (Err answer.BadSizes) ss ss' o o' counts = counts.1
 counts_writing (Err answer.Input) ss ss' o o' counts = absurd counts
+
+few : (limit count : ℕ) → count ≤ limit → nat_lt limit count ≡ false
+few limit count h = grind (arith, nat_tests)
+
+-- sizes and sources that are accepted are not refused
+pub not_refused : (r : Result ℕ AnswerFault) (sizes : List ℕ) (count : ℕ) (X : Type 0) → are_sizes sizes ≡ true → count ≤ SOURCES_LIMIT
+    → Refuses (bad_sizes_or_too_many sizes count) r X → IfErr r (λ e. IsEarly e → ⊥)
+not_refused r sizes count X sized h refused =
+    subst (λ b. Refuses (if b then Some answer.TooManySources else None) r X) (few SOURCES_LIMIT count h)
+    (subst (λ b. Refuses (if b then too_many count else Some answer.BadSizes) r X) sized refused)

@@ -1,28 +1,21 @@
 -- What a scan of archives owes.
-use Rattle.std.specs.Prelude.{◌≡◌, ℕ, ◌-◌, ◌^◌, ◌<◌, ◌≤◌, ⊤, Bool, List, [], ◌∷◌, length, drop, suc, flat_map, min, true, false, Option, Ok, Err}
-use Rattle.std.specs.Io.KnownBytes.{Appends}
+use Rattle.std.specs.Prelude.{◌≡◌, ℕ, ◌<◌, ◌≤◌, ⊤, Bool, List, length, drop, suc, true, false, Option, Ok, Err}
 use Rattle.warc_core.specs.Kind.{Kind}
-use Rattle.cdxj_places.specs.Places.{PlaceValue, place_cmp}
 use Rattle.cdxj_core.specs.Entries.{EntryValue}
-use Rattle.cdxj_core.specs.Members.{Member, member_place}
 use Rattle.index_core.specs.declared.fault.IndexFault.TheVariants as index
 use Rattle.index_core.specs.Indexing.{HaveOwnPlaces}
 use Rattle.merge_core.specs.Collections.{Known}
 use Rattle.query_text.specs.declared.fault.QueryFault.TheVariants as refusal
 use Rattle.query_text.specs.declared.query.TheConstants.{QUERY_LIMIT}
-use Rattle.query_text.specs.Collapses.{same_part}
 use Rattle.query_text.specs.Queries.{QueryValue, query_of}
-use Rattle.page_core.specs.Pages.{Page, collapsed, FullButLast}
 use Rattle.query_core.specs.declared.fault.AnswerFault.{AnswerFault}
 use Rattle.query_core.specs.declared.fault.AnswerFault.TheVariants as answer
 use Rattle.query_core.specs.declared.merging.TheConstants.{SOURCES_LIMIT}
-use Rattle.query_core.specs.Collections.{selected}
-use Rattle.query_core.specs.QueryPages.{IsQueryChain}
-use Rattle.query_core.specs.Paging.{are_sizes, pages_text, WrotePagesInPart}
+use Rattle.query_core.specs.Paging.{are_sizes, WrotePages, WrotePagesInPart}
 use Rattle.scan_core.specs.declared.fault.ScanFault.{ScanFault}
 use Rattle.scan_core.specs.declared.fault.ScanFault.TheVariants.{Query, Archive, Answer}
 use Rattle.scan_core.specs.Archives.{AreIndexed, IsFirstFault}
-use Rattle.scan_core.specs.Captures.{all_captures, captured_lines, KeysButLast, empty_page}
+use Rattle.scan_core.specs.Captures.{all_captures, captured_lines}
 
 -- the sizes are given and positive, the text means this query, and the archives aren't too many
 pub record IsAsked (ns text : List ℕ) (count : ℕ) (query : QueryValue) : Type 0 where
@@ -33,23 +26,15 @@ pub record IsAsked (ns text : List ℕ) (count : ℕ) (query : QueryValue) : Typ
 -- The types of records that are indexed; the archives, by their names and by what their inputs hold; the sizes of pages, and the
 -- query's text
 module _ (types : Kind → Bool) (names : List (List ℕ)) (inputs : List (Option (List ℕ))) (sizes text : List ℕ) where
-  -- The pages that were written, joined, are exactly the captures of the archives that the query selects, each once, in the
-  -- order of places. Every page but the last is full and ends with a key from which the next one goes on. Where nothing is
-  -- selected there is one empty page.
+  -- The pages of the archives' captures were written: joined, they are exactly those that the query selects, each once, in the order of
+  -- places.
   pub record Scanned (old new : Option (List ℕ)) (number : ℕ) : Type 0 where
     pub query : QueryValue
     pub asked : IsAsked sizes text (length names) query
     pub captures : List (List EntryValue)
     pub indexed : AreIndexed types names inputs captures
     pub once : (archives : List (List ℕ)) → Known inputs archives → HaveOwnPlaces (all_captures captures)
-    pub pages : List (Page Member PlaceValue)
-    pub chain : IsQueryChain query (captured_lines captures) sizes pages
-    pub joined : flat_map (λ page. page.members) pages ≡ collapsed member_place place_cmp (same_part query.collapse) (selected query (captured_lines captures)) query.resume
-    pub full : FullButLast sizes pages
-    pub keys : KeysButLast pages
-    pub empty : collapsed member_place place_cmp (same_part query.collapse) (selected query (captured_lines captures)) query.resume ≡ [] → pages ≡ empty_page ∷ []
-    pub wrote : Appends old new (pages_text query pages)
-    pub count : number ≡ min (length pages) (2 ^ 64 - 1)
+    pub wrote : WrotePages query (captured_lines captures) sizes old new number
 
   -- a front of those pages was written
   pub record ScannedInPart (old new : Option (List ℕ)) : Type 0 where

@@ -10,6 +10,14 @@ mod named;
 mod scanning;
 
 pub use crate::fault::ScanFault;
-pub use crate::laws::{accepted_archives_are_scanned, resume_keys_continue};
+pub use crate::laws::accepted_archives_are_scanned;
 pub use crate::named::Named;
 pub use crate::scanning::scan;
+pub use capture_core::{CaptureFault, Types};
+pub use index_core::IndexFault;
+pub use query_core::{
+    AnswerFault, QUERY_LIMIT, QueryFault, SOURCES_LIMIT, are_sizes, resume_keys_continue,
+};
+pub use warc_core::{
+    Cause, DeviceFault, Fault, FromFile, FromRead, FromWrite, Gather, Input, Output, Slice,
+};

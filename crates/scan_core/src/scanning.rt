@@ -8,6 +8,7 @@ ghost use Rattle.cdxj_core.specs.Members.{Member};
 ghost use Rattle.devices.specs.Gathered.{gathered};
 ghost use Rattle.merge_core.specs.Collections.{collection};
 ghost use Rattle.source_core.specs.Slices.{slice_text};
+ghost use Rattle.page_core.specs.Pages.{AllPositive};
 ghost use Rattle.query_core.specs.declared.merging.TheConstants.{SOURCES_LIMIT};
 ghost use Rattle.query_core.specs.Paging.{are_sizes, WritesPages};
 ghost use Rattle.scan_core.specs.Failures.{CountsWriting, CountsInputs, CountsOutput};
@@ -18,7 +19,11 @@ use crate::fault::ScanFault;
 use crate::named::Named;
 use capture_core::Types;
 use devices::{Gather, Input, Output};
-use query_core::{AnswerFault, Query, SOURCES_LIMIT, SliceSource, are_sizes, pages};
+use page_core::pages_join;
+use query_core::{
+    AnswerFault, Query, SOURCES_LIMIT, SliceSource, are_sizes, indexes_have_no_line_at_fault,
+    pages, pages_are_selected,
+};
 use std::alloc::{AllocError, Global};
 
 /// Returns the indexes as sources.
@@ -41,6 +46,7 @@ fn write_pages<O: Output>(
     out: &mut O,
 ) -> Result<u64, AnswerFault>
     requires sizes { are_sizes sizes.now ≡ true }
+    requires positive { AllPositive sizes.now }
     requires few { length indexes.now ≤ SOURCES_LIMIT }
     ensures pages { (members : List (List Member))
         → AllZip (IsIndex LINE_LIMIT) (map gathered indexes.now) members
@@ -51,6 +57,9 @@ fn write_pages<O: Output>(
         → IfErr result IsPagesFault }
     ensures failures { CountsWriting result (O.failures out.old) (O.failures out.new) }
 {
+    pages_join();
+    pages_are_selected();
+    indexes_have_no_line_at_fault();
     let mut sources = match sources_of(alloc, indexes) {
         Ok(sources) => sources,
         Err(_) => return Err(AnswerFault::Memory),

@@ -4,7 +4,7 @@ use Rattle.cdxj_core.specs.declared.limit.TheConstants.{LINE_LIMIT}
 use Rattle.merge_core.specs.Collections.{Merged, OverTexts}
 use Rattle.merge_core.specs.SourceLines.{WroteLinesOf}
 use Rattle.query_core.specs.declared.fault.AnswerFault.{AnswerFault}
-use Rattle.query_core.specs.LineFaults.{IsFaultOf}
+use Rattle.query_core.specs.IndexFaults.{IsFaultOf}
 use Rattle.warcdx.specs.declared.outcome.Outcome.{Outcome}
 use Rattle.warcdx.specs.Queries.{answered_outcome}
 

@@ -9,7 +9,7 @@ use Rattle.query_core.specs.declared.fault.AnswerFault.{AnswerFault}
 use Rattle.query_core.specs.declared.report.Report.{Report}
 use Rattle.query_core.specs.Answering.{Answers}
 use Rattle.query_core.specs.Conversations.{Replied, RepliedInPart}
-use Rattle.query_core.specs.LineFaults.{IsFaultOf}
+use Rattle.query_core.specs.IndexFaults.{IsFaultOf}
 use Rattle.query_core.specs.Paging.{WritesPages}
 use Rattle.query_core.specs.Replies.{reply_of}
 use Rattle.warcdx.specs.declared.outcome.Outcome.{Outcome}

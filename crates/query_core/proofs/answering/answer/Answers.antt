@@ -11,7 +11,7 @@ use Rattle.page_core.specs.Pages.{Page}
 use Rattle.merge_core.specs.Runs.{IsPart}
 use Rattle.merge_core.specs.SourceLines.{AreLinesOf}
 use Rattle.merge_core.proofs.WrittenLemmas.{grows_by, grows_not, grows_part}
-use Rattle.query_core.specs.Collections.{collection}
+use Rattle.merge_core.specs.Collections.{collection}
 use Rattle.query_core.specs.Answering.{Answered}
 use Rattle.query_core.specs.Passes.{IsWithin}
 use Rattle.query_core.specs.PageWriting.{PageStands, captures_over, page_over}

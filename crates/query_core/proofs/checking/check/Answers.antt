@@ -6,7 +6,7 @@ use Rattle.cdxj_core.specs.declared.line.Line.{Line}
 use Rattle.cdxj_core.specs.Members.{Member}
 use Rattle.source_core.specs.IndexLines.{lines}
 use Rattle.merge_core.specs.NextLine.{IsNextLine}
-use Rattle.query_core.specs.NextLine.{CountsSource}
+use Rattle.query_core.specs.AnswerCounts.{CountsSource}
 use Rattle.query_core.specs.Checking.{FallsAfter, EndsOutOfOrder}
 use Rattle.query_core.proofs.CheckLemmas.{CheckedTo, checked_more, checked_whole, checked_falls, checked_fault}
 use Rattle.query_core.proofs.checking.check.Goals as goal

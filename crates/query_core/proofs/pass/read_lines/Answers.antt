@@ -20,7 +20,7 @@ use Rattle.merge_core.proofs.SourceLemmas.{taken_lines}
 use Rattle.merge_core.proofs.SpendLemmas.{are_read_to}
 use Rattle.merge_core.proofs.WholeLemmas.{extents_kept, texts_kept, told_known}
 use Rattle.merge_core.proofs.WrittenLemmas.{grows_not}
-use Rattle.query_core.specs.LineFaults.{IsFaultOf}
+use Rattle.query_core.specs.IndexFaults.{IsFaultOf}
 use Rattle.query_core.specs.PageWriting.{is_wanted, place_before, captures_over}
 use Rattle.query_core.specs.Reach.{in_reach}
 use Rattle.query_core.specs.Passes.{IsOfParts, Took}

@@ -1,16 +1,29 @@
-use Rattle.std.specs.Prelude.{codes}
-use Rattle.devices.proofs.WritingLemmas.{writes_prefix, prefix_longer}
+use Rattle.std.proofs.Common.{◌≡◌, List, ℕ, map}
+use Rattle.cdxj_core.specs.Members.{Member}
+use Rattle.merge_core.specs.Collections.{collection}
 use Rattle.query_text.specs.declared.query.TheConstants.{QUERY_LIMIT}
-use Rattle.query_core.specs.Collections.{collection}
-use Rattle.query_core.specs.Replies.{reply_of, reply_text}
-use Rattle.query_core.proofs.LineReplies.{marked}
+use Rattle.query_core.specs.AnyReplies.{IsTextReply}
+use Rattle.query_core.specs.Replies.{reply_of}
+use Rattle.query_core.proofs.LineReplies.{marked_reply, unmarked_reply}
 use Rattle.query_core.proofs.serving.reply_and_mark.Goals as goal
 
-pub returns-in_err-reply_to_line-clause-text : goal.returns-in_err-reply_to_line-clause-text
-returns-in_err-reply_to_line-clause-text g c = λ texts indexes known are.
-    writes_prefix _ c.from_residual.result _ _ _ c.from_residual.ensures.1 (prefix_longer _ _ _ (codes ".\n") (c.in_err-reply_to_line.ensures.text texts indexes known are))
+abbrev Is : List (List Member) → List ℕ → List ℕ → Type 0
+Is indexes text reply = reply ≡ reply_of QUERY_LIMIT (collection indexes) text
 
-pub returns-clause-text : goal.returns-clause-text
-returns-clause-text g c = λ texts indexes known are.
-    marked c.put_text.result (g.O.Output.written c.args.out.now) (g.O.Output.written c.reply_to_line.new.out) (g.O.Output.written c.put_text.new.out)
-    (reply_text QUERY_LIMIT (reply_of QUERY_LIMIT (collection indexes)) c.args.line.now) (codes ".\n") (c.in_ok-reply_to_line.ensures.text texts indexes known are) c.put_text.ensures.text
+pub returns-in-Err-clause-text : goal.returns-in-Err-clause-text
+returns-in-Err-clause-text g c = λ texts indexes known are.
+    unmarked_reply QUERY_LIMIT (Is indexes) c.args.line.now (g.O.Output.written c.args.out.now) (g.O.Output.written c.reply_to_line.new.out) (c.in-Err.ensures.text texts indexes known are)
+
+pub returns-in-Err-clause-lines : goal.returns-in-Err-clause-lines
+returns-in-Err-clause-lines g c =
+    unmarked_reply QUERY_LIMIT (IsTextReply (map g.S.Source.text c.args.sources.now)) c.args.line.now (g.O.Output.written c.args.out.now) (g.O.Output.written c.reply_to_line.new.out) c.in-Err.ensures.lines
+
+pub returns-in-Ok-clause-text : goal.returns-in-Ok-clause-text
+returns-in-Ok-clause-text g c = λ texts indexes known are.
+    marked_reply QUERY_LIMIT (Is indexes) c.args.line.now (g.O.Output.written c.args.out.now) (g.O.Output.written c.reply_to_line.new.out)
+    c.put_text.result (g.O.Output.written c.put_text.new.out) (c.in-Ok.ensures.text texts indexes known are) c.put_text.ensures.text
+
+pub returns-in-Ok-clause-lines : goal.returns-in-Ok-clause-lines
+returns-in-Ok-clause-lines g c =
+    marked_reply QUERY_LIMIT (IsTextReply (map g.S.Source.text c.args.sources.now)) c.args.line.now (g.O.Output.written c.args.out.now) (g.O.Output.written c.reply_to_line.new.out)
+    c.put_text.result (g.O.Output.written c.put_text.new.out) c.in-Ok.ensures.lines c.put_text.ensures.text

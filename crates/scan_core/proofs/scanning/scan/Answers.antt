@@ -16,7 +16,7 @@ returns-in-Ok-write_pages-clause-scanned g c =
     let are = subst (λ is. AllZip (IsIndex LINE_LIMIT) (map gathered is) (map index_members found.0)) (sym c.deref.ensures.value) found.2 in
     scanned_whole (includes c.args.types) (map (λ n. string_bytes n.name) c.args.inputs.now) (map (λ n. g.I.Input.remaining n.input) c.args.inputs.now) c.args.sizes.now c.args.query.now c.in-Ok.query found.0
     (g.O.Output.written c.args.out.now) (g.O.Output.written c.write_pages.new.out)
-    (record { sizes = sym c.if-not-are_sizes.ensures; meaning = c.in-Ok.ensures; few = omega arith })
+    (record { sizes = sym c.if-not-are_sizes.ensures.value; meaning = c.in-Ok.ensures.value; few = omega arith })
     found.1 c.in-Ok-write_pages.count (c.in-Ok-write_pages.ensures.pages (map index_members found.0) are)
 
 pub returns-clause-part : goal.returns-clause-part
@@ -26,5 +26,5 @@ returns-clause-part g c = λ late.
     let are = subst (λ is. AllZip (IsIndex LINE_LIMIT) (map gathered is) (map index_members found.0)) (sym c.deref.ensures.value) found.2 in
     scanned_part (includes c.args.types) (map (λ n. string_bytes n.name) c.args.inputs.now) (map (λ n. g.I.Input.remaining n.input) c.args.inputs.now) c.args.sizes.now c.args.query.now c.in-Ok.query found.0
     (g.O.Output.written c.args.out.now) (g.O.Output.written c.write_pages.new.out)
-    (record { sizes = sym c.if-not-are_sizes.ensures; meaning = c.in-Ok.ensures; few = omega arith })
-    found.1 (c.in-Err-write_pages.ensures.pages (map index_members found.0) are (sym c.if-not-are_sizes.ensures))
+    (record { sizes = sym c.if-not-are_sizes.ensures.value; meaning = c.in-Ok.ensures.value; few = omega arith })
+    found.1 (c.in-Err-write_pages.ensures.pages (map index_members found.0) are (sym c.if-not-are_sizes.ensures.value))

@@ -1,22 +1,20 @@
 use Rattle.std.proofs.Common.{◌≤◌, length, map, Some, ap, ◌∙◌, arith}
 use Rattle.devices.specs.Gathered.{gathered}
-use Rattle.cdxj_places.specs.Places.{place_cmp}
-use Rattle.cdxj_places.proofs.PlaceOrder.{place_cmp_total}
-use Rattle.cdxj_places.proofs.RisingLaws.{rises_rising}
-use Rattle.cdxj_core.specs.Members.{member_place}
-use Rattle.merge_core.specs.Collections.{all_lines, collection}
+use Rattle.devices.proofs.WritingLemmas.{wrote_nothing}
+use Rattle.merge_core.specs.Collections.{collection}
 use Rattle.source_core.specs.Slices.{slice_text}
+use Rattle.query_text.specs.Collapses.{same_part}
 use Rattle.query_core.specs.declared.merging.TheConstants.{SOURCES_LIMIT}
-use Rattle.query_core.proofs.PageChains.{wrote_none}
-use Rattle.query_core.proofs.PagesLemmas.{all_positive}
-use Rattle.query_core.proofs.RefusalLemmas.{late_few, sized_refused}
-use Rattle.scan_core.proofs.PageLemmas.{counts_writing, known_texts, same_length, pages_fault}
+use Rattle.query_core.specs.Paging.{pages_text}
+use Rattle.query_core.specs.QueryPages.{selected}
+use Rattle.scan_core.proofs.PageLemmas.{counts_writing, known_texts, not_refused, same_length, pages_fault}
 use Rattle.scan_core.proofs.scanning.write_pages.Goals as goal
 
 pub returns-in-Err-clause-pages : goal.returns-in-Err-clause-pages
 returns-in-Err-clause-pages g c = λ members are sized.
-    wrote_none c.args.query.now c.args.sizes.now (all_positive c.args.sizes.now sized) (collection members)
-    (rises_rising member_place place_cmp place_cmp_total (all_lines members)) (g.O.Output.written c.args.out.now)
+    let q = c.args.query.now in
+    let chain = c.pages_join.ensures.one (same_part q.collapse) (selected q (collection members)) (c.pages_are_selected.ensures.rise q members) q.resume c.args.sizes.now c.requires.positive in
+    (chain.0, chain.1.0, wrote_nothing (g.O.Output.written c.args.out.now) (pages_text q chain.0))
 
 pub returns-clause-pages : goal.returns-clause-pages
 returns-clause-pages g c = λ members are.
@@ -33,7 +31,7 @@ returns-clause-refusals g c = λ members are.
     let texts = ap (map slice_text) c.deref_mut.ensures.value ∙ c.in-Ok.ensures in
     let same = same_length slice_text gathered c.deref_mut.result.now c.args.indexes.now texts in
     let number : length c.deref_mut.result.now ≤ SOURCES_LIMIT = omega arith in
-    pages_fault c.pages.result (map (λ s. Some (slice_text s)) c.deref_mut.result.now) (map gathered c.args.indexes.now) members c.deref_mut.result.now c.pages.new.sources
+    pages_fault c.indexes_have_no_line_at_fault.ensures c.pages.result (map (λ s. Some (slice_text s)) c.deref_mut.result.now) (map gathered c.args.indexes.now) members c.deref_mut.result.now c.pages.new.sources
     (g.O.Output.failures c.args.out.now) (g.O.Output.failures c.pages.new.out)
     (known_texts slice_text c.deref_mut.result.now (map gathered c.args.indexes.now) texts) are ok.fault ok.failures
-    (late_few (length c.deref_mut.result.now) _ c.pages.result number (sized_refused (length c.deref_mut.result.now) _ c.pages.result c.args.sizes.now c.requires.sizes ok.refused))
+    (not_refused c.pages.result c.args.sizes.now (length c.deref_mut.result.now) _ c.requires.sizes number ok.refused)

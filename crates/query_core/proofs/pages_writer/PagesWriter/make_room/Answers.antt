@@ -19,7 +19,7 @@ returns-in-Ok-clause-stands g c = λ sizes captures start s.
     let full : (w.given == first_size w.sizes.now) ≡ true = search rules in
     let next = c.in-Ok.ensures.next in
     let turned = turned_stands w.selection.query.now sizes captures start old w.sizes.now w.given w.last w.count s (eqb-true w.given (first_size w.sizes.now) full)
-    new k.sizes.now k.given k.last k.count c.in-Ok.ensures.text next.0 next.1 next.3 in (
+    new k.sizes.now k.given k.last k.count c.in-Ok.ensures.text next.0 next.1 next.3 c.turn.ensures.key in (
       subst (λ selection. PagesStand selection.query.now sizes captures start new k.sizes.now k.given k.last k.count) (sym c.turn.ensures.selection) turned,
       omega (arith, next.1, first_positive k.sizes.now turned.positive),
     )

@@ -1,13 +1,12 @@
-use Rattle.std.proofs.Common.{Some, refl}
 use Rattle.cdxj_places.specs.Places.{resume_text}
 use Rattle.cdxj_core.specs.Members.{member_place}
 use Rattle.query_text.specs.Resuming.{text_with_key}
 use Rattle.query_text.specs.declared.query.TheConstants.{QUERY_LIMIT}
-use Rattle.scan_core.proofs.laws.resume_keys_continue.Goals as goal
+use Rattle.query_core.proofs.laws.resume_keys_continue.Goals as goal
 
 pub returns : goal.returns
-returns c = λ text query page lines meaning ended short.
+returns c = λ text query page meaning ended short.
     let place = member_place ended.last in
     let key = resume_text place in
     let law = c.resume_key_is_put_into_query.ensures in
-    (record query { resume = Some place }, law.meaning QUERY_LIMIT text (text_with_key key text) key query place meaning ended.read short (law.pieces text place), refl)
+    law.meaning QUERY_LIMIT text (text_with_key key text) key query place meaning ended.read short (law.pieces text place)

@@ -1,8 +1,19 @@
--- Faults that name lines.
-use Rattle.std.specs.Prelude.{◌≡◌, ℕ, ◌<◌, ⊤, List, length, get_or, Option, None, Some}
+-- The names of faults, and faults that name lines.
+use Rattle.std.specs.Prelude.{◌≡◌, ℕ, ◌<◌, ⊤, List, length, get_or, codes, Option, None, Some}
 use Rattle.source_core.specs.LinesAtFault.{IsBadLine, IsOutOfOrder}
 use Rattle.query_core.specs.declared.fault.AnswerFault.{AnswerFault}
 use Rattle.query_core.specs.declared.fault.AnswerFault.TheVariants as fault
+
+-- the names of faults
+abbrev pub fault_name : AnswerFault → List ℕ
+fault_name fault.Memory = codes "Memory"
+fault_name (fault.Read i) = codes "Read"
+fault_name fault.Write = codes "Write"
+fault_name (fault.BadLine i offset) = codes "BadLine"
+fault_name (fault.OutOfOrder i offset) = codes "OutOfOrder"
+fault_name fault.TooManySources = codes "TooManySources"
+fault_name fault.BadSizes = codes "BadSizes"
+fault_name fault.Input = codes "Input"
 
 -- what the text of this source is, where it is told
 abbrev pub IfTold : List (Option (List ℕ)) → ℕ → (List ℕ → Type 0) → Type 0
@@ -13,3 +24,9 @@ abbrev pub IsFaultOf : ℕ → List (Option (List ℕ)) → AnswerFault → Type
 IsFaultOf limit texts (fault.BadLine i offset) = IfTold texts i (λ text. IsBadLine limit text offset)
 IsFaultOf limit texts (fault.OutOfOrder i offset) = IfTold texts i (λ text. IsOutOfOrder limit text offset)
 IsFaultOf limit texts other = ⊤
+
+-- the fault names no line
+abbrev pub NamesNoLine : AnswerFault → Type 0
+NamesNoLine (fault.BadLine i offset) = ⊥
+NamesNoLine (fault.OutOfOrder i offset) = ⊥
+NamesNoLine other = ⊤

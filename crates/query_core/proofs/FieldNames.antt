@@ -1,0 +1,15 @@
+-- The names of fields.
+use Rattle.std.proofs.Common.{refl}
+use Rattle.cdxj_core.specs.declared.field.Field.TheVariants.{Urlkey, Timestamp, Original, Mimetype, Statuscode, Digest, Length, Offset, Filename}
+use Rattle.query_core.specs.QueryLaws.{NamesNameFields}
+
+pub names_name_fields : NamesNameFields
+names_name_fields Urlkey = refl
+names_name_fields Timestamp = refl
+names_name_fields Original = refl
+names_name_fields Mimetype = refl
+names_name_fields Statuscode = refl
+names_name_fields Digest = refl
+names_name_fields Length = refl
+names_name_fields Offset = refl
+names_name_fields Filename = refl

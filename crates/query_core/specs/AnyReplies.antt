@@ -1,0 +1,48 @@
+-- The reply to a query over sources of any bytes.
+use Rattle.std.specs.Prelude.{◌≡◌, ◌⊎◌, ℕ, List, ◌++◌, codes, Option, None, Some, Result, Ok, Err}
+use Rattle.cdxj_core.specs.declared.limit.TheConstants.{LINE_LIMIT}
+use Rattle.cdxj_core.specs.Members.{Member}
+use Rattle.query_text.specs.declared.fault.QueryFault.{QueryFault}
+use Rattle.query_text.specs.declared.query.TheConstants.{QUERY_LIMIT}
+use Rattle.query_text.specs.FaultNames.{fault_name}
+use Rattle.query_text.specs.Queries.{QueryValue, query_of}
+use Rattle.merge_core.specs.SourceLines.{AreLinesOf}
+use Rattle.query_core.specs.declared.fault.AnswerFault.{AnswerFault}
+use Rattle.query_core.specs.declared.fault.AnswerFault.TheVariants as fault
+use Rattle.query_core.specs.IndexFaults.{IsFaultOf}
+use Rattle.query_core.specs.QueryPages.{query_page, answer_text}
+use Rattle.query_core.specs.Replies.{fault_line, refusal_text}
+
+-- what is written of a fault that names a line
+abbrev pub fault_text : AnswerFault → Option (List ℕ)
+fault_text (fault.BadLine i offset) = Some (fault_line (codes "BadLine") i offset)
+fault_text (fault.OutOfOrder i offset) = Some (fault_line (codes "OutOfOrder") i offset)
+fault_text other = None
+
+-- the sources, by their bytes, where those are known
+module _ (told : List (Option (List ℕ))) where
+  -- a front of the page, and then the fault of a line of the sources
+  pub record EndsInFault (page reply : List ℕ) : Type 0 where
+    pub front : List ℕ
+    pub rest : List ℕ
+    pub whole : page ≡ front ++ rest
+    pub fault : AnswerFault
+    pub named : IsFaultOf LINE_LIMIT told fault
+    pub line : List ℕ
+    pub line_is : fault_text fault ≡ Some line
+    pub ends : reply ≡ front ++ line
+
+  -- the page of lines of the sources that rise by place, whole or up to the fault of a line
+  pub record IsPageReply (q : QueryValue) (reply : List ℕ) : Type 0 where
+    pub lines : List Member
+    pub are : AreLinesOf LINE_LIMIT told lines
+    pub page : (reply ≡ answer_text q (query_page q lines)) ⊎ EndsInFault (answer_text q (query_page q lines)) reply
+
+  -- the same, or the name of the query's refusal
+  abbrev pub IsQueryReply : Result QueryValue QueryFault → List ℕ → Type 0
+  IsQueryReply (Ok q) reply = IsPageReply q reply
+  IsQueryReply (Err refusal) reply = reply ≡ refusal_text (fault_name refusal)
+
+  -- the same for a text
+  abbrev pub IsTextReply : List ℕ → List ℕ → Type 0
+  IsTextReply text reply = IsQueryReply (query_of QUERY_LIMIT text) reply
