@@ -1,5 +1,5 @@
 -- Lines at fault, by where the cursor stands.
-use Rattle.std.proofs.Common.{◌≡◌, ℕ, ◌+◌, ◌-◌, ◌<◌, ◌≤◌, List, [], ◌∷◌, ◌++◌, Bool, true, false, cond, length, take, drop, map, None, Some, inl, inr, refl, sym, ap, ap₂, ◌∙◌, subst, arith, length-take, append_assoc, take-append-drop, is_gt}
+use Rattle.std.proofs.Common.{◌≡◌, ◌≢◌, ℕ, ◌+◌, ◌-◌, ◌<◌, ◌≤◌, List, [], ◌∷◌, ◌++◌, Bool, true, false, cond, length, take, drop, map, None, Some, inl, inr, refl, sym, ap, ap₂, ◌∙◌, subst, arith, length-take, append_assoc, take-append-drop, is_gt}
 use Rattle.std.specs.Ordering.{ordering_reverse}
 use Rattle.std.proofs.lemmas.Bool.{cases_lt}
 use Rattle.std.proofs.lemmas.List.{drop_all}
@@ -20,7 +20,9 @@ use Rattle.merge_core.specs.declared.feed.Feed.{Feed}
 use Rattle.merge_core.specs.PairOrders.{Below}
 use Rattle.merge_core.specs.Feeds.{Fed, read_lines, done}
 use Rattle.merge_core.specs.Gathering.{EndsAt}
-use Rattle.merge_core.specs.LineFaults.{IsBadFirst, IsFaultAt, NamesLine}
+use Rattle.cdxj_core.specs.declared.fault.LineFault.{LineFault}
+use Rattle.cdxj_core.specs.declared.fault.LineFault.TheVariants as reading
+use Rattle.merge_core.specs.LineFaults.{IsBadFirst, IsFaultAt, NamesLine, line_fault}
 use Rattle.merge_core.proofs.PairOrder.{below_then}
 use Rattle.merge_core.proofs.FeedLemmas.{ReadNext, done_due, after_taken}
 
@@ -38,9 +40,12 @@ pub first_long : (limit : ℕ) (ls : List (List ℕ)) → limit < first_length l
 first_long limit [] long = absurd (omega arith)
 first_long limit (l ∷ ls) long = (l, ls, refl, long_none limit l long)
 
-pub first_bad : (limit : ℕ) (ls rest : List (List ℕ)) (found : Bool) (line : List ℕ) → ls ≡ first_then (line_found found line) rest → found ≡ true → line_entry limit line ≡ None → IsBadFirst limit ls
-first_bad limit ls rest true line given is bad = (line, rest, given, bad)
-first_bad limit ls rest false line given is bad = absurd (cc)
+-- the first of the lines was refused
+pub refused_at : (limit : ℕ) (ls rest : List (List ℕ)) (line : List ℕ) (at begin : ℕ) (e : LineFault) → begin ≡ at → ls ≡ line ∷ rest → (e ≢ reading.Memory → line_entry limit line ≡ None)
+    → IsFaultAt limit ls at (line_fault begin e)
+refused_at limit ls rest line at begin reading.Memory there is bad = tt
+refused_at limit ls rest line at begin reading.LineTooLong there is bad = (there, (line, rest, is, bad (λ q. absurd (cc))))
+refused_at limit ls rest line at begin reading.BadLine there is bad = (there, (line, rest, is, bad (λ q. absurd (cc))))
 
 -- where lines are left, the offset lies within the text
 inside : (t : List ℕ) (at : ℕ) (line : List ℕ) (after : List (List ℕ)) → lines (drop at t) ≡ line ∷ after → at ≤ length t

@@ -43,6 +43,12 @@ take_suc_at (suc n) (y ∷ ys) x rest e = ap (λ u. y ∷ u) (take_suc_at n ys x
 pub take_next : {X : Type 0} (n : ℕ) (all : List X) (x : X) (rest : List X) → drop n all ≡ x ∷ rest → take (n + 1) all ≡ take n all ++ x ∷ []
 take_next n all x rest e = ap (λ k. take k all) (let q : n + 1 ≡ suc n = omega arith in q) ∙ take_suc_at n all x rest e
 
+-- one line more was read
+pub one_more : (t : List ℕ) (was now : CursorState) (line : List ℕ) → lines (drop was.at t) ≡ drop was.count (lines (drop was.start t)) → now.count ≡ was.count + 1 → now.start ≡ was.start
+    → lines (drop was.at t) ≡ line ∷ lines (drop now.at t) → read_lines t now ≡ read_lines t was ++ line ∷ []
+one_more t was now line rest more start found =
+    ap₂ (λ n s. take n (lines (drop s t))) more start ∙ take_next was.count (lines (drop was.start t)) line (lines (drop now.at t)) (sym rest ∙ found)
+
 -- the line that was taken is the first of the others
 pub after_taken : {X : Type 0} (n : ℕ) (xs : List X) (x : X) → take (n + 1) xs ≡ take n xs ++ x ∷ [] → (after : List X) × (drop n xs ≡ x ∷ after)
 after_taken {X = X} n xs x e = suc_taken n xs (ap (λ k. take k xs) (let q : suc n ≡ n + 1 = omega arith in q) ∙ e)

@@ -5,6 +5,13 @@ use Rattle.merge_core.specs.declared.fault.FeedFault.{FeedFault}
 use Rattle.merge_core.specs.declared.fault.FeedFault.TheVariants as feed
 use Rattle.merge_core.specs.declared.fault.MergeFault.{MergeFault}
 use Rattle.merge_core.specs.declared.fault.MergeFault.TheVariants as fault
+use Rattle.merge_core.specs.declared.fault.SinkFault.{SinkFault}
+use Rattle.merge_core.specs.declared.fault.SinkFault.TheVariants as sink
+
+-- the fault of a merge whose sink has this fault
+abbrev pub merge_fault : SinkFault → MergeFault
+merge_fault sink.Memory = fault.Memory
+merge_fault sink.Write = fault.Write
 
 -- the count of failures of this source went up, and no other
 abbrev pub RaisedAt : ℕ → List ℕ → List ℕ → Type 0

@@ -1,6 +1,8 @@
 -- Faults that name lines.
 use Rattle.std.specs.Prelude.{◌≡◌, ℕ, ◌<◌, ⊤, List, ◌∷◌, length, get_or, Option, None, Some}
 use Rattle.cdxj_core.specs.Members.{line_entry}
+use Rattle.cdxj_core.specs.declared.fault.LineFault.{LineFault}
+use Rattle.cdxj_core.specs.declared.fault.LineFault.TheVariants as reading
 use Rattle.source_core.specs.LinesAtFault.{IsBadLine, IsOutOfOrder}
 use Rattle.merge_core.specs.declared.fault.FeedFault.{FeedFault}
 use Rattle.merge_core.specs.declared.fault.FeedFault.TheVariants as feed
@@ -10,6 +12,11 @@ use Rattle.merge_core.specs.declared.fault.MergeFault.TheVariants as fault
 -- the first of these lines has no entry
 abbrev pub IsBadFirst : ℕ → List (List ℕ) → Type 0
 IsBadFirst limit ls = (line : List ℕ) × (after : List (List ℕ)) × (ls ≡ line ∷ after) × (line_entry limit line ≡ None)
+
+-- the fault of a source whose line at the offset has this fault
+abbrev pub line_fault : ℕ → LineFault → FeedFault
+line_fault at reading.Memory = feed.Memory
+line_fault at other = feed.BadLine at
 
 -- a fault of the reading of the line of a text that begins at this offset
 abbrev pub IsFaultAt : ℕ → List (List ℕ) → ℕ → FeedFault → Type 0

@@ -1,4 +1,6 @@
 //! Why sources couldn't be merged.
+use devices::DeviceFault;
+use std::alloc::AllocError;
 
 /// Why a source's lines couldn't be read.
 #[derive(Clone, Copy, Debug, Drop, PartialEq, Eq)]
@@ -25,4 +27,51 @@ pub enum MergeFault {
 pub enum SinkFault {
     Memory,
     Write,
+}
+
+impl From<AllocError> for SinkFault {
+    ghost use Rattle.std.specs.Prelude.{◌≡◌};
+    ghost use Rattle.merge_core.specs.declared.fault.SinkFault.TheVariants.{Memory};
+
+    ghost from_gives = { λ _ fault. fault ≡ Memory };
+
+    fn from(_error: AllocError) -> SinkFault {
+        SinkFault::Memory
+    }
+}
+
+impl From<DeviceFault> for SinkFault {
+    ghost use Rattle.std.specs.Prelude.{◌≡◌};
+    ghost use Rattle.merge_core.specs.declared.fault.SinkFault.TheVariants.{Write};
+
+    ghost from_gives = { λ _ fault. fault ≡ Write };
+
+    fn from(_fault: DeviceFault) -> SinkFault {
+        SinkFault::Write
+    }
+}
+
+impl From<AllocError> for MergeFault {
+    ghost use Rattle.std.specs.Prelude.{◌≡◌};
+    ghost use Rattle.merge_core.specs.declared.fault.MergeFault.TheVariants.{Memory};
+
+    ghost from_gives = { λ _ fault. fault ≡ Memory };
+
+    fn from(_error: AllocError) -> MergeFault {
+        MergeFault::Memory
+    }
+}
+
+impl From<SinkFault> for MergeFault {
+    ghost use Rattle.std.specs.Prelude.{◌≡◌};
+    ghost use Rattle.merge_core.specs.Failures.{merge_fault};
+
+    ghost from_gives = { λ sink fault. fault ≡ merge_fault sink };
+
+    fn from(fault: SinkFault) -> MergeFault {
+        match fault {
+            SinkFault::Memory => MergeFault::Memory,
+            SinkFault::Write => MergeFault::Write,
+        }
+    }
 }

@@ -53,7 +53,7 @@ pub fn merge_indexes<S: Source, O: Output>(
         → IfOk result (λ merged. merged.held ≤ length sources.old + most)) }
 {
     let mut streams = Streams::open(alloc, sources, &All)?;
-    let mut writer = LineWriter::new(alloc);
+    let mut writer = LineWriter::new();
     merge(alloc, sources, &mut streams, &All, &mut writer, out)?;
     Ok(MergedLines {
         count: writer.count,

@@ -2,8 +2,9 @@
 ghost use Rattle.std.specs.Prelude.{◌≡◌};
 ghost use Rattle.cdxj_core.specs.Members.{member_pair};
 ghost use Rattle.cdxj_places.specs.Pairs.{pair_cmp};
+ghost use Rattle.merge_core.specs.KeyStarts.{IsText, key_words};
 
-use crate::key_start::{KeyStart, key_start};
+use crate::key_start::KeyStart;
 use crate::pair::compare_pairs;
 use cdxj_core::Line;
 use std::cmp::Ordering;
@@ -29,14 +30,13 @@ impl<'a> Model for KeyedLine<'a> {
 }
 
 impl<'a> KeyedLine<'a> {
-    /// Creates the value for a line.
-    pub fn new(line: &'a Line) -> KeyedLine<'a>
+    /// Creates the value for a line and the start of its key.
+    pub(crate) fn new(key_start: KeyStart, line: &'a Line) -> KeyedLine<'a>
+        requires start { key_start ≡ key_words line.now.values.key }
+        requires text { IsText line.now.values.key }
         ensures { result ≡ line.now }
     {
-        KeyedLine {
-            key_start: key_start(line.pair().0.as_bytes()),
-            line,
-        }
+        KeyedLine { key_start, line }
     }
 
     /// Compares the pairs of two lines.

@@ -9,34 +9,21 @@ use crate::fault::SinkFault;
 use crate::sink::Sink;
 use cdxj_core::Line;
 use devices::{Output, put};
-use std::alloc::{AllocError, Global};
+use std::alloc::Global;
 
 /// Writes each line that it takes as it stands in its index.
 #[derive(Drop)]
 pub struct LineWriter {
     /// The number of lines written. It saturates at 2^64 - 1.
     pub count: u64,
-    row: Vec<u8>,
-}
-
-fn fill_row(row: &mut Vec<u8>, line: &Line) -> Result<(), AllocError>
-    ensures { OnOk result (row.new.items ≡ line_row line.now) }
-{
-    row.clear();
-    row.extend_from_slice(line.line())?;
-    row.extend_from_slice(b"\n")?;
-    Ok(())
 }
 
 impl LineWriter {
     /// Creates a writer that has written nothing.
-    pub fn new(alloc: Global) -> LineWriter
+    pub fn new() -> LineWriter
         ensures { result.count ≡ 0 }
     {
-        LineWriter {
-            count: 0,
-            row: Vec::new(alloc),
-        }
+        LineWriter { count: 0 }
     }
 
     #[tactic(auto, using(crate::proofs::WrittenLemmas::grows_not, crate::proofs::WrittenLemmas::grows_by, crate::proofs::WrittenLemmas::grows_part))]
@@ -49,14 +36,8 @@ impl LineWriter {
         ensures count { OnOk result (self.new.count ≡ min (self.old.count + 1) (2 ^ 64 - 1)) }
         ensures failures { CountsWrite result (O.failures out.old) (O.failures out.new) }
     {
-        match fill_row(&mut self.row, line) {
-            Ok(()) => {}
-            Err(_) => return Err(SinkFault::Memory),
-        }
-        match put(out, &self.row) {
-            Ok(()) => {}
-            Err(_) => return Err(SinkFault::Write),
-        }
+        put(out, line.line())?;
+        put(out, b"\n")?;
         self.count = self.count.saturating_add(1);
         Ok(())
     }

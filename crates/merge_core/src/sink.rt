@@ -1,6 +1,6 @@
 //! The consumers of the lines of a merge.
 ghost use Rattle.std.specs.List.{AllByRecursion};
-ghost use Rattle.std.specs.Prelude.{◌≡◌, ◌⊎◌, ◌++◌, ◌∷◌, ℕ, Option, List, map, true, false, IfOk, IfErr, OnOk, OnErr, MatchResult};
+ghost use Rattle.std.specs.Prelude.{◌≡◌, ◌⊎◌, ◌++◌, ◌∷◌, ℕ, Option, List, [], map, true, false, IfOk, IfErr, OnOk, OnErr, MatchResult};
 ghost use Rattle.cdxj_places.specs.Places.{place_cmp};
 ghost use Rattle.cdxj_places.specs.Rising.{rising};
 ghost use Rattle.cdxj_core.specs.Members.{Member, member_place};
@@ -10,9 +10,10 @@ ghost use Rattle.merge_core.specs.Reached.{CountsWrite, Grows};
 ghost use Rattle.merge_core.specs.SourceLines.{HasEntry};
 
 use crate::fault::{MergeFault, SinkFault};
-use cdxj_core::{Line, in_order};
+use cdxj_core::{HasPlace, Line, in_order};
 use devices::Output;
 use std::alloc::{AllocError, Global};
+use std::cmp::Ordering;
 
 /// A consumer of the lines of a merge.
 pub trait Sink {
@@ -97,6 +98,33 @@ fn have_entries(lines: &[Box<Line>])
     }
 }
 
+/// Passes two lines to a sink in the order of places, or only the first if they have one place.
+fn take_two<K: Sink, O: Output>(
+    alloc: Global,
+    first: &Line,
+    second: &Line,
+    sink: &mut K,
+    out: &mut O,
+) -> Result<bool, SinkFault>
+    ensures wrote { (begin : K) (taken : List Member) (start : Option (List ℕ))
+        → K.Wrote begin sink.old taken start (O.written out.old)
+        → MatchResult result (λ _.
+        K.Wrote begin sink.new
+        (taken ++ rising member_place place_cmp (first.now ∷ second.now ∷ [])) start (O.written out.new))
+        (λ _. K.Broke begin
+        (taken ++ rising member_place place_cmp (first.now ∷ second.now ∷ [])) start (O.written out.new)) }
+    ensures enough { IfOk result (λ all. all ≡ false → K.Enough sink.new) }
+    ensures further { IfOk result (λ all. all ≡ true → K.Enough sink.new → ⊥) }
+    ensures grows { Grows (O.written out.old) (O.written out.new) }
+    ensures failures { CountsWrite result (O.failures out.old) (O.failures out.new) }
+{
+    match first.compare_place(second) {
+        Ordering::Less => sink.take(alloc, &[first, second], out),
+        Ordering::Equal => sink.take(alloc, &[first], out),
+        Ordering::Greater => sink.take(alloc, &[second, first], out),
+    }
+}
+
 /// Passes on the lines of a pair, in the order of places, only the first line at each place. Returns `false` if no more
 /// are wanted.
 #[tactic(auto, using(crate::proofs::WrittenLemmas::grows_not))]
@@ -128,20 +156,12 @@ pub fn hand_on<K: Sink, O: Output>(
     // For the proof alone: the bytes of each line have it as their entry.
     let _bytes = first.line();
     have_entries(rest);
-    if rest.is_empty() {
-        return match sink.take(alloc, &[first], out) {
-            Ok(more) => Ok(more),
-            Err(SinkFault::Memory) => Err(MergeFault::Memory),
-            Err(SinkFault::Write) => Err(MergeFault::Write),
-        };
-    }
-    let lines = match in_places(alloc, first, rest) {
-        Ok(lines) => lines,
-        Err(_) => return Err(MergeFault::Memory),
-    };
-    match sink.take(alloc, &lines, out) {
-        Ok(more) => Ok(more),
-        Err(SinkFault::Memory) => Err(MergeFault::Memory),
-        Err(SinkFault::Write) => Err(MergeFault::Write),
+    match rest {
+        [] => Ok(sink.take(alloc, &[first], out)?),
+        [second] => Ok(take_two(alloc, first, second, sink, out)?),
+        _ => {
+            let lines = in_places(alloc, first, rest)?;
+            Ok(sink.take(alloc, &lines, out)?)
+        }
     }
 }

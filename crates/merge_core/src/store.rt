@@ -7,7 +7,7 @@ ghost use Rattle.merge_core.specs.Failures.{CountsFeed};
 ghost use Rattle.source_core.specs.Cursors.{Stands, reach};
 ghost use Rattle.source_core.specs.IndexLines.{first_length};
 ghost use Rattle.merge_core.specs.Feeds.{read_lines};
-ghost use Rattle.merge_core.specs.LineFaults.{IsFaultAt};
+ghost use Rattle.merge_core.specs.LineFaults.{IsFaultAt, line_fault};
 ghost use Rattle.merge_core.specs.NextLine.{IsNextLine};
 
 use crate::fault::FeedFault;
@@ -21,6 +21,35 @@ fn boxed(alloc: Global, line: Line) -> Result<Box<Line>, LineFault>
     match Box::new(alloc, line) {
         Ok(line) => Ok(line),
         Err(_) => Err(LineFault::Memory),
+    }
+}
+
+/// Returns the line of these bytes, in the buffer of a line that isn't needed any more if there is one.
+#[tactic(auto, using(crate::proofs::FeedLemmas::no_entry))]
+fn line_of(alloc: Global, spare: &mut Vec<Box<Line>>, bytes: &[u8]) -> Result<Box<Line>, LineFault>
+    ensures { MatchResult result (λ line. line_entry LINE_LIMIT bytes.now ≡ Some line.value)
+        (λ fault. fault ≢ LineFault.Memory → line_entry LINE_LIMIT bytes.now ≡ None) }
+{
+    match spare.pop() {
+        Some(mut line) => match line.refill(bytes) {
+            Ok(()) => Ok(line),
+            Err(fault) => Err(fault),
+        },
+        None => match Line::read(alloc, bytes) {
+            Ok(line) => boxed(alloc, line),
+            Err(fault) => Err(fault),
+        },
+    }
+}
+
+/// Returns the fault of a source whose line at this offset has this fault.
+fn fault_at(begin: u64, fault: LineFault) -> FeedFault
+    ensures { result ≡ line_fault begin fault }
+{
+    match fault {
+        LineFault::Memory => FeedFault::Memory,
+        LineFault::LineTooLong => FeedFault::BadLine(begin),
+        LineFault::BadLine => FeedFault::BadLine(begin),
     }
 }
 
@@ -45,27 +74,6 @@ impl Store {
     /// Keeps the line's buffer, if memory can be allocated for that.
     pub fn put_back(&mut self, line: Box<Line>) {
         let _ = self.spare.push(line);
-    }
-
-    /// Returns the line of the bytes that were read last.
-    #[tactic(auto, using(crate::proofs::FeedLemmas::no_entry))]
-    fn line(&mut self) -> Result<Box<Line>, LineFault>
-        ensures kept { self.new.bytes ≡ self.old.bytes }
-        ensures read { MatchResult result (λ line.
-            line_entry LINE_LIMIT self.old.bytes.items ≡ Some line.value)
-            (λ fault. fault ≢ LineFault.Memory → line_entry LINE_LIMIT self.old.bytes.items
-            ≡ None) }
-    {
-        match self.spare.pop() {
-            Some(mut line) => match line.refill(&self.bytes) {
-                Ok(()) => Ok(line),
-                Err(fault) => Err(fault),
-            },
-            None => match Line::read(self.alloc, &self.bytes) {
-                Ok(line) => boxed(self.alloc, line),
-                Err(fault) => Err(fault),
-            },
-        }
     }
 
     /// Reads the next line of a source, if there is one.
@@ -102,13 +110,20 @@ impl Store {
             → IfErr result (IsFaultAt LINE_LIMIT (lines (drop cursor.old.at t)) cursor.old.at) }
     {
         let begin = cursor.at();
+        if let Some(bytes) = cursor.held_line() {
+            let size = bytes.len();
+            let read = line_of(self.alloc, &mut self.spare, bytes);
+            cursor.pass_line(source, size);
+            return match read {
+                Ok(line) => Ok(Some(line)),
+                Err(fault) => Err(fault_at(begin, fault)),
+            };
+        }
         match cursor.next(source, &mut self.bytes) {
             Ok(false) => Ok(None),
-            Ok(true) => match self.line() {
+            Ok(true) => match line_of(self.alloc, &mut self.spare, &self.bytes) {
                 Ok(line) => Ok(Some(line)),
-                Err(LineFault::Memory) => Err(FeedFault::Memory),
-                Err(LineFault::LineTooLong) => Err(FeedFault::BadLine(begin)),
-                Err(LineFault::BadLine) => Err(FeedFault::BadLine(begin)),
+                Err(fault) => Err(fault_at(begin, fault)),
             },
             Err(LineReadFault::Memory) => Err(FeedFault::Memory),
             Err(LineReadFault::Read) => Err(FeedFault::Read),

@@ -221,9 +221,10 @@ impl Streams {
         let Some(next) = self.take_first() else {
             return Ok(None);
         };
-        let first = next.line;
+        let key_start = next.key_start;
         let mut i = next.source;
-        let keyed = KeyedLine::new(&first);
+        let first = next.line;
+        let keyed = KeyedLine::new(key_start, &first);
         'sources: loop {
             self.drain(sources, i, &first, range, rest)?;
             let Some(next) = self.take_at(&keyed) else {

@@ -18,7 +18,7 @@ use std::marker::Model;
 #[derive(Drop)]
 pub struct Waiting {
     /// Decides most comparisons without access to the line.
-    key_start: KeyStart,
+    pub(crate) key_start: KeyStart,
     pub line: Box<Line>,
     pub source: usize,
 }

@@ -96,7 +96,7 @@ const STARTS: &[(&str, &str, usize)] = &[
 fn merged_from(alloc: Global, text: &[u8], key: &str, stamp: &str) -> Result<(Gather, u64), Fail> {
     let mut sources = [SliceSource::new(text), SliceSource::new(b"")];
     let mut opened = Streams::open_at(alloc, &mut sources, key.as_bytes(), stamp.as_bytes(), &All)?;
-    let mut writer = LineWriter::new(alloc);
+    let mut writer = LineWriter::new();
     let mut out = Gather::new(alloc);
     let _all = merge(
         alloc,
