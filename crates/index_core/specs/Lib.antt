@@ -5,7 +5,7 @@ pub mod Indexing
 pub mod Accepted
 pub mod Captures
 pub mod Adding
-pub mod Fault
+pub mod FaultNames
 pub mod Fetching
 pub mod Copying
 pub mod Counting

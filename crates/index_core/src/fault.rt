@@ -31,7 +31,7 @@ pub enum IndexFault {
 }
 
 impl IndexFault {
-    ghost use Rattle.index_core.specs.Fault.{index_fault_name};
+    ghost use Rattle.index_core.specs.FaultNames.{index_fault_name};
 
     /// Returns the fault's name as the program prints it: `Memory`, `BadName`, `DuplicateName`,
     /// `Write`, `NoRecord`, or the cause of an archive's fault.
