@@ -74,9 +74,18 @@ impl Line {
         }
     }
 
-    /// Reads a line as any JSON object.
-    #[tactic(auto, unfolding(crate::specs::Lines::line_in))]
+    /// Reads a line that has any JSON object.
     pub(crate) fn read_json(alloc: Global, line: &[u8]) -> Result<Line, LineFault>
+        ensures { IsReading LINE_LIMIT line.now result }
+    {
+        let mut scratch = Scratch::new(alloc);
+        Line::read_with(alloc, line, &mut scratch)
+    }
+
+    // The same, with room for the parser: it is large, and stands in a function with one way out.
+    #[inline(never)]
+    #[tactic(auto, unfolding(crate::specs::Lines::line_in))]
+    fn read_with(alloc: Global, line: &[u8], scratch: &mut Scratch) -> Result<Line, LineFault>
         ensures { IsReading LINE_LIMIT line.now result }
     {
         let body = body_of(line);
@@ -97,8 +106,7 @@ impl Line {
         let Ok(stamp) = <[u8; 14]>::try_from(stamp.as_bytes()) else {
             return Err(LineFault::BadLine);
         };
-        let mut scratch = Scratch::new(alloc);
-        let found = FoundMembers::of_text(object, &mut scratch)?;
+        let found = FoundMembers::of_text(object, scratch)?;
         let Some(filename) = filename_value(found.filename) else {
             return Err(LineFault::BadLine);
         };

@@ -12,8 +12,8 @@ use Rattle.cdxj_core.specs.Spelling.{raw_texts}
 use Rattle.cdxj_core.proofs.FoundLaw.{line_found, no_filename, no_offset}
 use Rattle.cdxj_core.proofs.KeptLemmas.{json_kept, kept_entry, kept_in}
 use Rattle.cdxj_core.proofs.MemberLemmas.{body_none, entry_none, line_of_body}
-use Rattle.cdxj_core.proofs.line.Line.read_json.Goals.{In_ok-found, In_ok-text}
-use Rattle.cdxj_core.proofs.line.Line.read_json.Goals as goal
+use Rattle.cdxj_core.proofs.line.Line.read_with.Goals.{In_ok-found, In_ok-text}
+use Rattle.cdxj_core.proofs.line.Line.read_with.Goals as goal
 
 pub returns-in_default : goal.returns-in_default
 returns-in_default c =
