@@ -10,7 +10,7 @@ use Rattle.cdxj_core.specs.Lines.{body_of}
 use Rattle.cdxj_core.specs.Members.{Member, member_pair, line_entry}
 use Rattle.cdxj_core.proofs.MemberLemmas.{long_line_none}
 use Rattle.source_core.specs.Cursors.{CursorState}
-use Rattle.source_core.specs.IndexLines.{first_length, first_then, line_found}
+use Rattle.source_core.specs.IndexLines.{first_length}
 use Rattle.source_core.specs.LinesAtFault.{BeginsAt, IsOutOfOrder}
 use Rattle.source_core.proofs.SortedCuts.{begins_at}
 use Rattle.merge_core.specs.declared.fault.FeedFault.{FeedFault}
