@@ -6,8 +6,8 @@ ghost use Rattle.cdxj_core.specs.Members.{entry_member, line_entry};
 ghost use Rattle.cdxj_core.specs.Places.{offset_of, resume_place};
 
 use cdxj_core::{
-    Entry, KeyFault, LineFault, Place, PlaceFault, is_key, is_stamp, read_offset, resume_text, url_key,
-    write_line, written_line_is_read,
+    Entry, KeyFault, LineFault, Place, PlaceFault, is_key, is_stamp, read_offset, resume_text,
+    url_key, write_line, written_line_is_read,
 };
 use std::alloc::Global;
 
