@@ -12,6 +12,8 @@ returns c =
     let nine : ℕ = 57 in
     let all = length-chunk 0 16 c.args.bytes.now c.requires in
     c.first_set.ensures
-    ∙ ap (λ m. cond (eqb m 0) 16 (count_trailing_zeros 64 m)) (digit_masks v _ all (zip2_of_maps _ _ _ v (zip2_splat _ v 16 48 all) (zip2_splat_left (λ a b. cond (ltb a b) 255 0) nine 16 v all)))
+    ∙ ap (λ m. cond (eqb m 0) 16 (count_trailing_zeros 64 m))
+    (digit_masks v _ all (zip2_of_maps _ _ _ v (zip2_splat _ v 16 48 all)
+    (zip2_splat_left (λ a b. cond (ltb a b) 255 0) nine 16 v all)))
     ∙ first_set_mask_l no_digit v 16 all (omega arith)
     ∙ digit_runs v
