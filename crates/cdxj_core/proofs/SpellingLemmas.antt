@@ -1,14 +1,12 @@
 -- A line followed by a plain object.
-use Rattle.std.proofs.Common.{◌≡◌, ℕ, ◌+◌, ◌<◌, ◌^◌, ◌==◌, List, [], ◌∷◌, ◌++◌, codes, decimal, length, refl, sym, ap, ◌∙◌, append_assoc, length-append, arith}
+use Rattle.std.proofs.Common.{◌≡◌, ℕ, ◌<◌, ◌^◌, ◌==◌, List, ◌++◌, codes, decimal, length, ap, ◌∙◌, append_assoc, length-append, arith}
 use Rattle.std.proofs.lemmas.Bool.{cond-false, ne_eqb}
 use Rattle.std.proofs.lemmas.Fmt.{decimal_nonempty}
 use Rattle.cdxj_core.specs.declared.spans.MemberEnds.{MemberEnds}
-use Rattle.cdxj_core.specs.declared.spans.TheConstants.{OPEN}
 use Rattle.cdxj_core.specs.FoundMembers.{FoundValue, raw_text}
 use Rattle.cdxj_core.specs.Lines.{value_text}
 use Rattle.cdxj_core.specs.Plain.{plain_text}
-use Rattle.cdxj_core.specs.PlainPlaces.{AreEndsOf}
-use Rattle.cdxj_core.specs.Spelling.{IsSpelled, raw_texts}
+use Rattle.cdxj_core.specs.Spelling.{IsSpelled}
 use Rattle.cdxj_core.specs.Texts.{missing, or_missing}
 
 -- a number has a text

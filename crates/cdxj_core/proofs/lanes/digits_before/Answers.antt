@@ -1,7 +1,6 @@
 use Rattle.std.proofs.Common.{ℕ, ap, ◌∙◌, cond, eqb, ltb, arith}
-use Rattle.std.specs.List.{prefix_len}
 use lib.Count.{count_trailing_zeros}
-use lib.Lanes.{chunk, mask_l}
+use lib.Lanes.{chunk}
 use Rattle.std.proofs.lemmas.Simd.{length-chunk, zip2_splat, zip2_splat_left, zip2_of_maps, first_set_mask_l}
 use Rattle.cdxj_core.proofs.LaneLemmas.{no_digit, digit_masks, digit_runs}
 use Rattle.cdxj_core.proofs.lanes.digits_before.Goals as goal
