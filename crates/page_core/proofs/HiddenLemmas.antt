@@ -23,7 +23,8 @@ tops_all : (v : List ℕ) → map (λ x. top 7 (lane x)) v ≡ map is_hidden v
 tops_all [] = refl
 tops_all (x ∷ v) = λ i. tops (leb x 32) (eqb x 127) i ∷ tops_all v i
 
-pub lanes_counted : (v z : List ℕ) → length v ≡ 16 → z ≡ map lane v → count_ones (mask_l (map (top 7) z) % 2 ^ 64) ≡ count_by is_hidden v
+pub lanes_counted : (v z : List ℕ) → length v ≡ 16 → z ≡ map lane v → count_ones (mask_l (map (top 7) z) % 2 ^ 64) ≡
+    count_by is_hidden v
 lanes_counted v z long e =
     ap (λ l. count_ones (mask_l l % 2 ^ 64)) (ap (map (top 7)) e ∙ map-map (top 7) lane v ∙ tops_all v)
     ∙ ap count_ones (mask_l-mod (map is_hidden v) 64 (omega (arith, length-map v is_hidden, long)))
@@ -36,10 +37,13 @@ pub taken_off : (old row : List ℕ) (n : ℕ) → n ≡ length old → take n (
 taken_off old row n e = ap (λ k. take k (old ++ row)) e ∙ take-append_seam old row
 
 -- what was appended after this many bytes, as a part of the text
-pub appended : (old row text : List ℕ) (n : ℕ) → n ≡ length old → text ≡ old ++ row → take (length text - n) (drop n text) ≡ row
+pub appended : (old row text : List ℕ) (n : ℕ) → n ≡ length old → text ≡ old ++ row → take (length text - n)
+    (drop n text) ≡ row
 appended old row text n e is =
-    let size : length text - n ≡ length row = let whole = ap length is ∙ length-append old row in omega (arith, whole, e) in
-    (λ i. take (size i) (drop (e i) (is i))) ∙ ap (take (length row)) (drop-append_seam old row) ∙ take_all (length row) row (omega arith)
+    let size : length text - n ≡ length row = let whole = ap length is ∙ length-append old row in
+    omega (arith, whole, e) in
+    (λ i. take (size i) (drop (e i) (is i))) ∙ ap (take (length row)) (drop-append_seam old row) ∙ take_all (length row)
+    row (omega arith)
 
 -- Texts with one hidden byte between them. If there are no more in all, the texts are as they would be escaped.
 module _ {X : Type 0} (p : ℕ → Bool) (plain escaped : X → List ℕ) (between : List ℕ)
@@ -47,8 +51,10 @@ module _ {X : Type 0} (p : ℕ → Bool) (plain escaped : X → List ℕ) (betwe
   abbrev later : (X → List ℕ) → List X → List ℕ
   later f xs = flat_map (λ x. between ++ f x) xs
 
-  later_count : (x : X) (xs : List X) → count_by p (later plain (x ∷ xs)) ≡ (1 + count_by p (plain x)) + count_by p (later plain xs)
-  later_count x xs = sum_by-append _ (between ++ plain x) (later plain xs) ∙ ap (λ k. k + count_by p (later plain xs)) (sum_by-append _ between (plain x) ∙ ap (λ k. k + count_by p (plain x)) seam)
+  later_count : (x : X) (xs : List X) → count_by p (later plain (x ∷ xs)) ≡ (1 + count_by p (plain x)) + count_by p
+      (later plain xs)
+  later_count x xs = sum_by-append _ (between ++ plain x) (later plain xs) ∙ ap (λ k. k + count_by p (later plain xs))
+      (sum_by-append _ between (plain x) ∙ ap (λ k. k + count_by p (plain x)) seam)
 
   later_least : (xs : List X) → length xs ≤ count_by p (later plain xs)
   later_least [] = omega arith
@@ -61,7 +67,8 @@ module _ {X : Type 0} (p : ℕ → Bool) (plain escaped : X → List ℕ) (betwe
       let rest = later_same xs (omega (arith, later_count x xs)) in
       λ i. (between ++ here i) ++ rest i
 
-  row_same : (x : X) (xs : List X) → count_by p (join_by plain between (x ∷ xs)) ≤ length xs → join_by plain between (x ∷ xs) ≡ join_by escaped between (x ∷ xs)
+  row_same : (x : X) (xs : List X) → count_by p (join_by plain between (x ∷ xs)) ≤ length xs → join_by plain between
+      (x ∷ xs) ≡ join_by escaped between (x ∷ xs)
   row_same x xs h =
       let whole = sum_by-append (λ b. cond (p b) 1 0) (plain x) (later plain xs) in
       let here = same x (omega (arith, whole, later_least xs)) in
@@ -91,6 +98,9 @@ shown (x ∷ xs) h =
 -- ---- rows
 
 -- values with no hidden bytes but the spaces between them aren't escaped
-pub text_same : {X : Type 0} (value : X → List ℕ) (fields : List X) → count_by is_hidden (join_by value (32 ∷ []) fields) < length fields → join_by value (32 ∷ []) fields ≡ join_by (λ f. escaped (value f)) (32 ∷ []) fields
+pub text_same : {X : Type 0} (value : X → List ℕ) (fields : List X)
+    → count_by is_hidden (join_by value (32 ∷ []) fields) < length fields → join_by value (32 ∷ []) fields ≡ join_by
+    (λ f. escaped (value f)) (32 ∷ []) fields
 text_same value [] h = refl
-text_same value (f ∷ fs) h = row_same is_hidden value (λ x. escaped (value x)) (32 ∷ []) (λ x. shown (value x)) refl f fs (omega (arith, h))
+text_same value (f ∷ fs) h = row_same is_hidden value (λ x. escaped (value x)) (32 ∷ []) (λ x. shown (value x)) refl f
+    fs (omega (arith, h))

@@ -28,7 +28,8 @@ cdxj_page members key = flat_map line_row members ++ key_lines key
 -- one array of rows, the names of the fields first
 abbrev pub json_page : List Field → List Member → Option (List ℕ) → List ℕ
 json_page fields members key =
-    codes "[" ++ (join_by json_row (codes ",\n") (map field_name fields ∷ map (λ m. map (value_of m) fields) members ++ key_rows key)
+    codes "[" ++ (join_by json_row (codes ",\n")
+    (map field_name fields ∷ map (λ m. map (value_of m) fields) members ++ key_rows key)
     ++ codes "]\n")
 
 -- the text of a page
@@ -67,7 +68,8 @@ begun form members = page_start form ++ flat_map (row_text form) members
 
 -- a page is its start, its captures and its end
 abbrev pub PageInPieces : Type 0
-PageInPieces = (form : Form) (members : List Member) (key : Option (List ℕ)) → page_text form members key ≡ begun form members ++ page_end form key
+PageInPieces = (form : Form) (members : List Member) (key : Option (List ℕ))
+    → page_text form members key ≡ begun form members ++ page_end form key
 
 -- what was written so far stands at the front of each page that begins with these captures
 abbrev pub BegunIsFront : Type 0

@@ -34,7 +34,8 @@ is_hidden b = nat_le b space || (b == delete)
 
 -- such a byte as `%XX`, and every other as it is
 abbrev pub escaped_byte : ℕ → List ℕ
-escaped_byte b = if is_hidden b then codes "%" ++ hex_digit (b / 16) ∷ hex_digit (b % 16) ∷ [] else b ∷ []
+escaped_byte b =
+    if is_hidden b then codes "%" ++ hex_digit (b / 16) ∷ hex_digit (b % 16) ∷ [] else b ∷ []
 
 abbrev pub escaped : List ℕ → List ℕ
 escaped text = flat_map escaped_byte text

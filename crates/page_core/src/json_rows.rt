@@ -27,7 +27,8 @@ pub fn field_name(field: Field) -> &'static str
 }
 
 fn push_later_quoted(text: &mut Vec<u8>, alloc: Global, value: &str) -> Result<(), AllocError>
-    ensures { IfOk result (λ _. text.new.items ≡ text.old.items ++ (codes "," ++ quoted value.now)) }
+    ensures { IfOk result (λ _. text.new.items
+        ≡ text.old.items ++ (codes "," ++ quoted value.now)) }
 {
     text.extend_from_slice(b",")?;
     push_quoted(text, alloc, value)
@@ -85,7 +86,8 @@ fn push_plain_values(
     line: &LineRef<'_>,
 ) -> Result<(), AllocError>
     ensures { IfOk result (λ _. text.new.items
-        ≡ text.old.items ++ join_by between_quotes (codes ",") (map (value_of line.now) fields.now)) }
+        ≡ text.old.items
+        ++ join_by between_quotes (codes ",") (map (value_of line.now) fields.now)) }
 {
     if let Some((first, later)) = fields.split_first() {
         text.extend_from_slice(b"\"")?;

@@ -10,7 +10,8 @@ use cdxj_core::{Field, Line, LineRef};
 use std::alloc::AllocError;
 
 fn push_later_escaped(text: &mut Vec<u8>, value: &str) -> Result<(), AllocError>
-    ensures { IfOk result (λ _. text.new.items ≡ text.old.items ++ (codes " " ++ escaped value.now)) }
+    ensures { IfOk result (λ _. text.new.items
+        ≡ text.old.items ++ (codes " " ++ escaped value.now)) }
 {
     text.extend_from_slice(b" ")?;
     push_escaped(text, value)
@@ -53,8 +54,9 @@ fn push_plain_values(
     Ok(())
 }
 
-/// Appends the values of the fields to the text, separated by one space, and a line feed. The values are escaped if they
-/// have hidden bytes, so that the row has more of these than the spaces between its values.
+/// Appends the values of the fields to the text, separated by one space, and a line feed. The
+/// values are escaped if they have hidden bytes, so that the row has more of these than the spaces
+/// between its values.
 pub(crate) fn push_text_row(
     text: &mut Vec<u8>,
     fields: &[Field],

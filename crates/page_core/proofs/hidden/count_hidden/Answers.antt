@@ -12,7 +12,14 @@ overflow_add-count c =
     let lanes = chunk c.by_lanes.end 16 bytes in
     let room : c.by_lanes.end + 16 ≤ length bytes = omega (arith, c.by_lanes.invariant.0, c.by_lanes-test.true) in
     let few = count_by-le-length is_hidden lanes in
-    omega (arith, few, room, length-chunk c.by_lanes.end 16 bytes room, c.count_lanes-count.ensures, c.by_lanes.invariant.1)
+    omega (
+      arith,
+      few,
+      room,
+      length-chunk c.by_lanes.end 16 bytes room,
+      c.count_lanes-count.ensures,
+      c.by_lanes.invariant.1,
+    )
 
 pub by_lanes-preserved : goal.by_lanes-preserved
 by_lanes-preserved c =

@@ -17,7 +17,10 @@ returns c =
     let written : c.if-needs_no_escapes.text.items ≡ begun.items ++ row = elim c.if-needs_no_escapes.branch [
       | then-needs_no_escapes+in_ok-push_plain_values w ↦
           ap (λ t. t.items) w.text-is ∙ w.in_ok-push_plain_values.ensures
-          ∙ ap (λ l. begun.items ++ l) (values_plain value (c.needs_no_escapes.ensures w.if-needs_no_escapes.true) c.args.fields.now)
-      | else-needs_no_escapes+in_ok-push_quoted_values w ↦ ap (λ t. t.items) w.text-is ∙ w.in_ok-push_quoted_values.ensures
+          ∙ ap (λ l. begun.items ++ l) (values_plain value (c.needs_no_escapes.ensures w.if-needs_no_escapes.true)
+          c.args.fields.now)
+      | else-needs_no_escapes+in_ok-push_quoted_values w ↦ ap (λ t. t.items) w.text-is
+          ∙ w.in_ok-push_quoted_values.ensures
     ] in
-    c.in_ok-extend_from_slice-2.ensures.items ∙ ap (λ l. l ++ 93 ∷ []) (written ∙ ap (λ l. l ++ row) c.in_ok-extend_from_slice.ensures.items) ∙ closed c.args.text.now.items row
+    c.in_ok-extend_from_slice-2.ensures.items ∙ ap (λ l. l ++ 93 ∷ [])
+    (written ∙ ap (λ l. l ++ row) c.in_ok-extend_from_slice.ensures.items) ∙ closed c.args.text.now.items row

@@ -20,7 +20,9 @@ returns c =
           ap (λ t. t.items) w.text-is ∙ w.in_ok-push_text_values.ensures
           ∙ ap (λ l. l ++ row) (w.truncate.ensures.items ∙ taken)
       | else-count_hidden-fields w ↦
-          let counted = c.count_hidden.ensures ∙ ap (count_by is_hidden) (appended old plain _ c.len-start.result start (c.deref.ensures.value ∙ pushed)) in
-          ap (λ t. t.items) w.text-is ∙ pushed ∙ ap (λ l. old ++ l) (text_same value fields (omega (arith, counted, w.if-count_hidden-fields.false)))
+          let counted = c.count_hidden.ensures ∙ ap (count_by is_hidden) (appended old plain _ c.len-start.result start
+          (c.deref.ensures.value ∙ pushed)) in
+          ap (λ t. t.items) w.text-is ∙ pushed ∙ ap (λ l. old ++ l)
+          (text_same value fields (omega (arith, counted, w.if-count_hidden-fields.false)))
     ] in
     c.in_ok-extend_from_slice.ensures.items ∙ ap (λ l. l ++ 10 ∷ []) written ∙ append_assoc old row (10 ∷ [])
