@@ -27,15 +27,18 @@ no_feed b = not (b == 10)
 joined : (xs ys : List ℕ) → has_no_feed xs ≡ true → has_no_feed ys ≡ true → has_no_feed (xs ++ ys) ≡ true
 joined xs ys h k = list_all-append no_feed xs ys ∙ both _ _ h k
 
-weaker : (test : ℕ → Bool) → ((b : ℕ) → test b ≡ true → no_feed b ≡ true) → (xs : List ℕ) → list_all test xs ≡ true → has_no_feed xs ≡ true
+weaker : (test : ℕ → Bool) → ((b : ℕ) → test b ≡ true → no_feed b ≡ true) → (xs : List ℕ) → list_all test xs ≡ true
+    → has_no_feed xs ≡ true
 weaker test step [] h = refl
-weaker test step (x ∷ xs) h = let parts = and_parts (test x) (list_all test xs) h in both _ _ (step x parts.0) (weaker test step xs parts.1)
+weaker test step (x ∷ xs) h = let parts = and_parts (test x) (list_all test xs) h in
+    both _ _ (step x parts.0) (weaker test step xs parts.1)
 
 key_feed : (b : ℕ) → is_key_byte b ≡ true → no_feed b ≡ true
 key_feed b h = let above : 32 < b = ltb-true 32 b (and_parts _ _ h).0 in ap not (ne_eqb b 10 (λ e. omega arith))
 
 digit_feed : (b : ℕ) → is_ascii_digit b ≡ true → no_feed b ≡ true
-digit_feed b h = ap not (ne_eqb b 10 (λ e. let bad : is_ascii_digit 10 ≡ true = subst (λ x. is_ascii_digit x ≡ true) e h in cc))
+digit_feed b h = ap not (ne_eqb b 10 (λ e. let bad : is_ascii_digit 10 ≡ true = subst (λ x. is_ascii_digit x ≡ true) e
+    h in cc))
 
 abbrev Each : (ℕ → Type 0) → ℕ → Type 0
 Each P zero = Unit {0}
@@ -43,14 +46,90 @@ Each P (suc n) = P n × Each P n
 
 each_sound : (P : ℕ → Type 0) (n : ℕ) → Each P n → (x : ℕ) → x < n → P x
 each_sound P zero h x lt = absurd (omega arith)
-each_sound P (suc n) h x lt = ⊎_elim (λ e. subst P (sym e) h.0) (λ ne. each_sound P n h.1 x (omega arith)) (cases_eq x n)
+each_sound P (suc n) h x lt = ⊎_elim (λ e. subst P (sym e) h.0) (λ ne. each_sound P n h.1 x (omega arith))
+    (cases_eq x n)
 
 abbrev Escapes : ℕ → Type 0
 Escapes x = has_no_feed (escape_byte x) ≡ true
 
 controls : Each Escapes 32
 unfolding escape_byte
-controls = (refl, (refl, (refl, (refl, (refl, (refl, (refl, (refl, (refl, (refl, (refl, (refl, (refl, (refl, (refl, (refl, (refl, (refl, (refl, (refl, (refl, (refl, (refl, (refl, (refl, (refl, (refl, (refl, (refl, (refl, (refl, (refl, tt))))))))))))))))))))))))))))))))
+controls = (
+  refl,
+  (
+    refl,
+    (
+      refl,
+      (
+        refl,
+        (
+          refl,
+          (
+            refl,
+            (
+              refl,
+              (
+                refl,
+                (
+                  refl,
+                  (
+                    refl,
+                    (
+                      refl,
+                      (
+                        refl,
+                        (
+                          refl,
+                          (
+                            refl,
+                            (
+                              refl,
+                              (
+                                refl,
+                                (
+                                  refl,
+                                  (
+                                    refl,
+                                    (
+                                      refl,
+                                      (
+                                        refl,
+                                        (
+                                          refl,
+                                          (
+                                            refl,
+                                            (
+                                              refl,
+                                              (
+                                                refl,
+                                                (
+                                                  refl,
+                                                  (refl, (refl, (refl, (refl, (refl, (refl, (refl, tt))))))),
+                                                ),
+                                              ),
+                                            ),
+                                          ),
+                                        ),
+                                      ),
+                                    ),
+                                  ),
+                                ),
+                              ),
+                            ),
+                          ),
+                        ),
+                      ),
+                    ),
+                  ),
+                ),
+              ),
+            ),
+          ),
+        ),
+      ),
+    ),
+  ),
+)
 
 quote_escape : Escapes 34
 unfolding escape_byte
@@ -64,7 +143,8 @@ plain_escape : (x : ℕ) → 32 ≤ x → Escapes x
 plain_escape x high =
     ⊎_elim (λ e. subst Escapes (sym e) quote_escape)
     (λ not_quote. ⊎_elim (λ e. subst Escapes (sym e) backslash_escape)
-    (λ not_backslash. ap has_no_feed (escape_byte_plain x not_quote not_backslash high) ∙ both (no_feed x) true (ap not (ne_eqb x 10 (λ e. omega arith))) refl)
+    (λ not_backslash. ap has_no_feed (escape_byte_plain x not_quote not_backslash high) ∙ both (no_feed x) true
+    (ap not (ne_eqb x 10 (λ e. omega arith))) refl)
     (cases_eq x 92))
     (cases_eq x 34)
 
@@ -83,28 +163,34 @@ quoted_feed : (s : List ℕ) → has_no_feed (quoted s) ≡ true
 quoted_feed s = joined (escape s) (34 ∷ []) (escaped s) refl
 
 member_feed : (m : Pair) → has_no_feed (member_text m) ≡ true
-member_feed (n, v) = joined (quoted n ++ (58 ∷ 32 ∷ [])) (quoted v) (joined (quoted n) (58 ∷ 32 ∷ []) (quoted_feed n) refl) (quoted_feed v)
+member_feed (n, v) = joined (quoted n ++ (58 ∷ 32 ∷ [])) (quoted v) (joined (quoted n) (58 ∷ 32 ∷ []) (quoted_feed n)
+    refl) (quoted_feed v)
 
 later_feed : (ms : List Pair) → has_no_feed (flat_map (λ m. (44 ∷ 32 ∷ []) ++ member_text m) ms) ≡ true
 later_feed [] = refl
-later_feed (m ∷ ms) = joined ((44 ∷ 32 ∷ []) ++ member_text m) _ (joined (44 ∷ 32 ∷ []) (member_text m) refl (member_feed m)) (later_feed ms)
+later_feed (m ∷ ms) = joined ((44 ∷ 32 ∷ []) ++ member_text m) _ (joined (44 ∷ 32 ∷ []) (member_text m) refl
+    (member_feed m)) (later_feed ms)
 
 object_feed : (m : Pair) (ms : List Pair) → has_no_feed (object_text (m ∷ ms)) ≡ true
-object_feed m ms = joined (join_by member_text (44 ∷ 32 ∷ []) (m ∷ ms)) (125 ∷ []) (joined (member_text m) _ (member_feed m) (later_feed ms)) refl
+object_feed m ms = joined (join_by member_text (44 ∷ 32 ∷ []) (m ∷ ms)) (125 ∷ [])
+    (joined (member_text m) _ (member_feed m) (later_feed ms)) refl
 
 abbrev first_member : EntryValue → Pair
 first_member e = (codes "url", e.url)
 
 abbrev later_members : EntryValue → List Pair
 later_members e =
-    (codes "mime", e.mime) ∷ (codes "status", e.status) ∷ (codes "digest", e.digest) ∷ (codes "length", decimal e.length) ∷ (codes "offset", decimal e.offset)
+    (codes "mime", e.mime) ∷ (codes "status", e.status) ∷ (codes "digest", e.digest) ∷
+    (codes "length", decimal e.length) ∷ (codes "offset", decimal e.offset)
     ∷ (codes "filename", e.filename) ∷ []
 
 pub body_feed : (e : EntryValue) → IsGood e → has_no_feed (body_text e) ≡ true
 body_feed e h =
     let object = object_text (members_of e) in
     joined e.key (32 ∷ (e.stamp ++ 32 ∷ object)) (weaker is_key_byte key_feed e.key (and_parts _ _ h.key).1)
-    (joined (32 ∷ []) (e.stamp ++ 32 ∷ object) refl (joined e.stamp (32 ∷ object) (weaker is_ascii_digit digit_feed e.stamp (and_parts _ _ h.stamp).1) (joined (32 ∷ []) object refl (object_feed (first_member e) (later_members e)))))
+    (joined (32 ∷ []) (e.stamp ++ 32 ∷ object) refl (joined e.stamp (32 ∷ object)
+    (weaker is_ascii_digit digit_feed e.stamp (and_parts _ _ h.stamp).1)
+    (joined (32 ∷ []) object refl (object_feed (first_member e) (later_members e)))))
 
 -- ---- the body
 
@@ -112,15 +198,28 @@ pub body_of-feed : (xs : List ℕ) → body_of (xs ++ 10 ∷ []) ≡ xs
 body_of-feed xs =
     let s = xs ++ 10 ∷ [] in
     let last : length s - 1 ≡ length xs = omega (arith, length-append xs (10 ∷ [])) in
-    cond-true _ _ _ (ap (λ n. get_or s n 0 == 10) last ∙ eq-eqb (get_or s (length xs) 0) 10 (get_or-append_seam xs 10 [] 0)) ∙ ap (λ n. take n s) last ∙ take-append_seam xs (10 ∷ [])
+    cond-true _ _ _ (ap (λ n. get_or s n 0 == 10) last ∙ eq-eqb (get_or s (length xs) 0) 10
+    (get_or-append_seam xs 10 [] 0)) ∙ ap (λ n. take n s) last ∙ take-append_seam xs (10 ∷ [])
 
 -- ---- the values
 
-abbrev opts : List ℕ → List ℕ → Option Data → Option Data → Option Data → Option Data → Option Data → Option Data → Option Data → Option LineValue
+abbrev opts : List ℕ → List ℕ → Option Data → Option Data → Option Data → Option Data → Option Data → Option Data
+    → Option Data → Option LineValue
 opts key stamp url mime status digest size offset filename =
-    option_and_then (λ f. option_map (λ o. record { key = key; stamp = stamp; original = value_text url; mimetype = value_text mime; statuscode = value_text status; digest = value_text digest; length = value_text size; offset = o; filename = f }) (offset_value offset)) (filename_value filename)
+    option_and_then (λ f. option_map (λ o. record {
+      key = key;
+      stamp = stamp;
+      original = value_text url;
+      mimetype = value_text mime;
+      statuscode = value_text status;
+      digest = value_text digest;
+      length = value_text size;
+      offset = o;
+      filename = f;
+    }) (offset_value offset)) (filename_value filename)
 
-found : (e : EntryValue) (name : List ℕ) (d : Data) → found_in name (members_of e) None ≡ Some d → get name (written e) ≡ Some d
+found : (e : EntryValue) (name : List ℕ) (d : Data) → found_in name (members_of e) None ≡ Some d → get name (written e)
+    ≡ Some d
 found e name d h = get_put_all name (members_of e) no_members ∙ h
 
 text_value : (s : List ℕ) → 0 < length s → value_text (Some (string s)) ≡ s
@@ -130,10 +229,14 @@ values_read : (e : EntryValue) → IsGood e → line_from e.key e.stamp (written
 values_read e h =
     let size_fits : e.length < 2 ^ 64 = omega (arith, h.size) in
     let offset_fits : e.offset < 2 ^ 64 = omega (arith, h.offset) in
-    let offset_is : offset_of (decimal e.offset) ≡ Some e.offset = cond-true _ _ _ (offset_text e.offset h.offset) ∙ ap Some (digits_value-decimal own e.offset offset_fits) in
-    let name_is : filename_value (Some (string e.filename)) ≡ Some e.filename = cond-false _ _ _ (ne_eqb (length e.filename) 0 (λ z. let some = h.filename in omega arith)) in
-    (λ i. opts e.key e.stamp (found e (codes "url") (string e.url) refl i) (found e (codes "mime") (string e.mime) refl i) (found e (codes "status") (string e.status) refl i) (found e (codes "digest") (string e.digest) refl i)
-    (found e (codes "length") (string (decimal e.length)) refl i) (found e (codes "offset") (string (decimal e.offset)) refl i) (found e (codes "filename") (string e.filename) refl i))
+    let offset_is : offset_of (decimal e.offset) ≡ Some e.offset = cond-true _ _ _ (offset_text e.offset h.offset)
+    ∙ ap Some (digits_value-decimal own e.offset offset_fits) in
+    let name_is : filename_value (Some (string e.filename)) ≡ Some e.filename =
+    cond-false _ _ _ (ne_eqb (length e.filename) 0 (λ z. let some = h.filename in omega arith)) in
+    (λ i. opts e.key e.stamp (found e (codes "url") (string e.url) refl i) (found e (codes "mime") (string e.mime) refl
+    i) (found e (codes "status") (string e.status) refl i) (found e (codes "digest") (string e.digest) refl i)
+    (found e (codes "length") (string (decimal e.length)) refl i) (found e (codes "offset") (string (decimal e.offset))
+    refl i) (found e (codes "filename") (string e.filename) refl i))
     ∙ (λ i. option_and_then (λ f. option_map (λ o. record {
       key = e.key;
       stamp = e.stamp;
@@ -146,7 +249,8 @@ values_read e h =
       filename = f;
     }) (offset_is i)) (name_is i))
 
-pub line_in-body_text : (limit : ℕ) (e : EntryValue) → IsGood e → length (line_text e) ≤ limit → line_in limit (body_text e) ≡ Some (entry_values e)
+pub line_in-body_text : (limit : ℕ) (e : EntryValue) → IsGood e → length (line_text e) ≤ limit
+    → line_in limit (body_text e) ≡ Some (entry_values e)
 unfolding line_in
 line_in-body_text limit e h short =
     let object = object_text (members_of e) in

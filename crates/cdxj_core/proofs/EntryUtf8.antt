@@ -22,34 +22,42 @@ AreTexts [] = Unit {0}
 AreTexts (m ∷ ms) = IsUtf8 m.0 × (IsUtf8 m.1 × AreTexts ms)
 
 byte : (b : ℕ) → b < 128 → IsUtf8 (b ∷ [])
-byte b h = IsUtf8-from_ascii (b ∷ []) (IsAscii-from_all (b ∷ []) (All-cons (λ x. x < 128) b [] h (All-nil (λ x. x < 128))))
+byte b h = IsUtf8-from_ascii (b ∷ []) (IsAscii-from_all (b ∷ [])
+    (All-cons (λ x. x < 128) b [] h (All-nil (λ x. x < 128))))
 
 after : (b : ℕ) (s : List ℕ) → b < 128 → IsUtf8 s → IsUtf8 (b ∷ s)
 after b s h u = IsUtf8-append (b ∷ []) s (byte b h) u
 
 member_utf8 : (m : Pair) → IsUtf8 m.0 → IsUtf8 m.1 → IsUtf8 (member_text m)
 member_utf8 (n, v) a b =
-    IsUtf8-append (quoted n ++ (58 ∷ 32 ∷ [])) (quoted v) (IsUtf8-append (quoted n) (58 ∷ 32 ∷ []) (IsUtf8-quoted n a) (after 58 (32 ∷ []) (omega arith) (byte 32 (omega arith)))) (IsUtf8-quoted v b)
+    IsUtf8-append (quoted n ++ (58 ∷ 32 ∷ [])) (quoted v) (IsUtf8-append (quoted n) (58 ∷ 32 ∷ []) (IsUtf8-quoted n a)
+    (after 58 (32 ∷ []) (omega arith) (byte 32 (omega arith)))) (IsUtf8-quoted v b)
 
 later_utf8 : (ms : List Pair) → AreTexts ms → IsUtf8 (flat_map (λ m. (44 ∷ 32 ∷ []) ++ member_text m) ms)
 later_utf8 [] h = IsUtf8-nil
-later_utf8 (m ∷ ms) h = IsUtf8-append ((44 ∷ 32 ∷ []) ++ member_text m) (flat_map (λ m. (44 ∷ 32 ∷ []) ++ member_text m) ms) (after 44 (32 ∷ member_text m) (omega arith) (after 32 (member_text m) (omega arith) (member_utf8 m h.0 h.1.0))) (later_utf8 ms h.1.1)
+later_utf8 (m ∷ ms) h = IsUtf8-append ((44 ∷ 32 ∷ []) ++ member_text m) (flat_map (λ m. (44 ∷ 32 ∷ []) ++ member_text m)
+    ms) (after 44 (32 ∷ member_text m) (omega arith) (after 32 (member_text m) (omega arith) (member_utf8 m h.0 h.1.0)))
+    (later_utf8 ms h.1.1)
 
 object_utf8 : (m : Pair) (ms : List Pair) → AreTexts (m ∷ ms) → IsUtf8 (object_text (m ∷ ms))
 object_utf8 m ms h =
     let inner = join_by member_text (44 ∷ 32 ∷ []) (m ∷ ms) in
-    after 123 (inner ++ 125 ∷ []) (omega arith) (IsUtf8-append inner (125 ∷ []) (IsUtf8-append (member_text m) (flat_map (λ m. (44 ∷ 32 ∷ []) ++ member_text m) ms) (member_utf8 m h.0 h.1.0) (later_utf8 ms h.1.1)) (byte 125 (omega arith)))
+    after 123 (inner ++ 125 ∷ []) (omega arith) (IsUtf8-append inner (125 ∷ [])
+    (IsUtf8-append (member_text m) (flat_map (λ m. (44 ∷ 32 ∷ []) ++ member_text m) ms) (member_utf8 m h.0 h.1.0)
+    (later_utf8 ms h.1.1)) (byte 125 (omega arith)))
 
 pub ascii_name : (s : List ℕ) → list_all (λ b. ltb b 128) s ≡ true → IsUtf8 s
 ascii_name [] h = IsUtf8-nil
-ascii_name (b ∷ s) h = let parts = and_parts (ltb b 128) (list_all (λ b. ltb b 128) s) h in after b s (ltb-true b 128 parts.0) (ascii_name s parts.1)
+ascii_name (b ∷ s) h = let parts = and_parts (ltb b 128) (list_all (λ b. ltb b 128) s) h in
+    after b s (ltb-true b 128 parts.0) (ascii_name s parts.1)
 
 pub body_utf8 : (e : EntryValue) → IsGood e → IsUtf8 (body_text e)
 body_utf8 e h =
     let size_fits : e.length < 2 ^ 64 = let b = h.size in omega (arith, b) in
     let offset_fits : e.offset < 2 ^ 64 = let b = h.offset in omega (arith, b) in
     let object : IsUtf8 (object_text (members_of e)) =
-    object_utf8 (codes "url", e.url) ((codes "mime", e.mime) ∷ (codes "status", e.status) ∷ (codes "digest", e.digest) ∷ (codes "length", decimal e.length) ∷ (codes "offset", decimal e.offset) ∷ (codes "filename", e.filename) ∷ []) (
+    object_utf8 (codes "url", e.url) ((codes "mime", e.mime) ∷ (codes "status", e.status) ∷ (codes "digest", e.digest) ∷
+    (codes "length", decimal e.length) ∷ (codes "offset", decimal e.offset) ∷ (codes "filename", e.filename) ∷ []) (
       ascii_name (codes "url") refl,
       (
         h.utf8_url,
@@ -69,7 +77,17 @@ body_utf8 e h =
                       ascii_name (codes "length") refl,
                       (
                         digits_utf8 (decimal e.length) (digits_decimal own e.length size_fits),
-                        (ascii_name (codes "offset") refl, (digits_utf8 (decimal e.offset) (digits_decimal own e.offset offset_fits), (ascii_name (codes "filename") refl, (h.utf8_filename, tt)))),
+                        (
+                          ascii_name (codes "offset") refl,
+                          (
+                            digits_utf8 (decimal e.offset)
+                                (digits_decimal own e.offset offset_fits),
+                            (
+                              ascii_name (codes "filename") refl,
+                              (h.utf8_filename, tt),
+                            ),
+                          ),
+                        ),
                       ),
                     ),
                   ),
@@ -80,9 +98,13 @@ body_utf8 e h =
         ),
       ),
     ) in
-    IsUtf8-append e.key (32 ∷ (e.stamp ++ 32 ∷ object_text (members_of e))) h.utf8_key (after 32 (e.stamp ++ 32 ∷ object_text (members_of e)) (omega arith) (IsUtf8-append e.stamp (32 ∷ object_text (members_of e)) (digits_utf8 e.stamp (and_parts _ _ h.stamp).1) (after 32 (object_text (members_of e)) (omega arith) object)))
+    IsUtf8-append e.key (32 ∷ (e.stamp ++ 32 ∷ object_text (members_of e))) h.utf8_key
+    (after 32 (e.stamp ++ 32 ∷ object_text (members_of e)) (omega arith)
+    (IsUtf8-append e.stamp (32 ∷ object_text (members_of e)) (digits_utf8 e.stamp (and_parts _ _ h.stamp).1)
+    (after 32 (object_text (members_of e)) (omega arith) object)))
 
-pub line_law : (limit : ℕ) (e : EntryValue) → IsGood e → length (line_text e) ≤ limit → line_in limit (body_of (line_text e)) ≡ Some (entry_values e)
+pub line_law : (limit : ℕ) (e : EntryValue) → IsGood e → length (line_text e) ≤ limit
+    → line_in limit (body_of (line_text e)) ≡ Some (entry_values e)
 line_law limit e h short = ap (line_in limit) (body_of-feed (body_text e)) ∙ line_in-body_text limit e h short
 
 pub line_utf8 : (e : EntryValue) → IsGood e → IsUtf8 (body_of (line_text e))

@@ -1,5 +1,5 @@
 -- A line that is kept in one text.
-use Rattle.std.proofs.Common.{◌≡◌, ℕ, ◌+◌, ◌-◌, ◌<◌, ◌≤◌, ◌^◌, ◌==◌, true, false, cond, List, [], ◌∷◌, ◌++◌, take, drop, length, get_or, decimal, Some, unwrap_or, refl, sym, ap, ◌∙◌, subst, arith, append_assoc, append-nil, length-append, drop-drop, IsUtf8}
+use Rattle.std.proofs.Common.{◌≡◌, ℕ, ◌+◌, ◌<◌, ◌≤◌, ◌^◌, ◌==◌, true, false, cond, List, [], ◌∷◌, ◌++◌, take, drop, length, get_or, decimal, Some, unwrap_or, refl, sym, ap, ◌∙◌, subst, arith, append_assoc, append-nil, length-append, drop-drop, IsUtf8}
 use Rattle.std.specs.List.{list_all, before_first, after_first}
 use Rattle.std.specs.Str.{IsCharBoundary}
 use Rattle.std.proofs.lemmas.Bool.{and_parts, cond-true, eqb-true}
@@ -33,19 +33,26 @@ use Rattle.cdxj_core.proofs.PlainPlaces.{GoesOn, byte_at, next, placed}
 use Rattle.cdxj_core.proofs.UnescapedAscii.{all_parts, clean_feed, clean_key}
 
 -- the entry of a line that was cut at its first two spaces, whose object is plain
-pub plain_entry : (limit : ℕ) (text key rest stamp object : List ℕ) (t : TextsValue) (offset : ℕ) → IsUtf8 text → list_all is_clean text ≡ true → length text < limit
-    → key ≡ before_first is_space text → rest ≡ after_first is_space text → stamp ≡ before_first is_space rest → object ≡ after_first is_space rest
-    → is_key key ≡ true → is_stamp stamp ≡ true → (object ≡ plain_text t) × ArePlain t → offset_of t.offset ≡ Some offset → 0 < length t.filename
+pub plain_entry : (limit : ℕ) (text key rest stamp object : List ℕ) (t : TextsValue) (offset : ℕ) → IsUtf8 text
+    → list_all is_clean text ≡ true → length text < limit
+    → key ≡ before_first is_space text → rest ≡ after_first is_space text → stamp ≡ before_first is_space rest
+    → object ≡ after_first is_space rest
+    → is_key key ≡ true → is_stamp stamp ≡ true → (object ≡ plain_text t) × ArePlain t → offset_of t.offset ≡ Some
+    offset → 0 < length t.filename
     → line_entry limit text ≡ Some (record { values = line_value key stamp (values_of_texts t) offset; line = text })
 plain_entry limit text key rest stamp object t offset utf8 all short k r s o good_key good_stamp plain digits named =
-    body_entry limit text text key rest stamp object (line_value key stamp (values_of_texts t) offset) refl utf8 short (sym (clean_feed text all)) k r s o
-    (cond-true _ _ _ (both _ _ good_key good_stamp) ∙ ap (line_object key stamp) plain.0 ∙ line_object-plain key stamp t offset plain.1 digits named)
+    body_entry limit text text key rest stamp object (line_value key stamp (values_of_texts t) offset) refl utf8 short
+    (sym (clean_feed text all)) k r s o
+    (cond-true _ _ _ (both _ _ good_key good_stamp) ∙ ap (line_object key stamp) plain.0 ∙ line_object-plain key stamp t
+    offset plain.1 digits named)
 
 -- a text that stands for itself, or for a value that is missing
 plain_or_missing : (s : List ℕ) → list_all is_plain s ≡ true → list_all is_plain (or_missing s) ≡ true
-plain_or_missing s h = elim (length s == 0) as (λ b. list_all is_plain (cond b missing s) ≡ true) [ true ↦ refl | false ↦ h ]
+plain_or_missing s h = elim (length s == 0) as (λ b. list_all is_plain (cond b missing s) ≡ true)
+    [ true ↦ refl | false ↦ h ]
 
-plain_values : (key stamp : List ℕ) (t : TextsValue) (offset : ℕ) → offset < 2 ^ 63 → ArePlain t → ArePlain (texts_in (line_value key stamp (values_of_texts t) offset))
+plain_values : (key stamp : List ℕ) (t : TextsValue) (offset : ℕ) → offset < 2 ^ 63 → ArePlain t
+    → ArePlain (texts_in (line_value key stamp (values_of_texts t) offset))
 plain_values key stamp t offset small h = record {
   url = plain_or_missing t.url h.url;
   mime = plain_or_missing t.mime h.mime;
@@ -58,26 +65,39 @@ plain_values key stamp t offset small h = record {
 
 -- a line that was cut at its first two spaces, and what follows it in its text
 pub kept_line : (limit : ℕ) (text body tail key stamp object : List ℕ) (t : TextsValue) (offset at : ℕ) (s : Spans)
-    → IsUtf8 text → line_entry limit body ≡ Some (record { values = line_value key stamp (values_of_texts t) offset; line = body })
+    → IsUtf8 text → line_entry limit body ≡ Some (record {
+      values = line_value key stamp (values_of_texts t) offset;
+      line = body;
+    })
     → text ≡ body ++ tail → body ≡ key ++ 32 ∷ (stamp ++ 32 ∷ object) → is_key key ≡ true → is_stamp stamp ≡ true
     → 0 < length t.filename → offset < 2 ^ 63 → t.offset ≡ decimal offset
     → s.size ≡ length body → IsCharBoundary text s.size → s.key ≡ length key → s.stamp ≡ stamp → s.offset ≡ offset
-    → GoesOn text at (plain_text t) → s.start ≡ at + OPEN → AreEndsOf s.start t s.ends → (s.size ≡ length text → ArePlain t)
+    → GoesOn text at (plain_text t) → s.start ≡ at + OPEN → AreEndsOf s.start t s.ends
+    → (s.size ≡ length text → ArePlain t)
     → IsKept limit text s (record { values = line_value key stamp (values_of_texts t) offset; line = body })
-kept_line limit text body tail key stamp object t offset at s utf8 entry seam cut good_key good_stamp named small digits size line_ends key_size stamp_is offset_is here begins ends plain =
+kept_line limit text body tail key stamp object t offset at s utf8 entry seam cut good_key good_stamp named small digits
+    size line_ends key_size stamp_is offset_is here begins ends plain =
     let line : take s.size text ≡ body = (λ i. take (size i) (seam i)) ∙ take-append_seam body tail in
     let rest = stamp ++ 32 ∷ (object ++ tail) in
     let whole : text ≡ key ++ 32 ∷ rest =
-    seam ∙ ap (λ b. b ++ tail) cut ∙ append_assoc key (32 ∷ (stamp ++ 32 ∷ object)) tail ∙ ap (λ r. key ++ 32 ∷ r) (append_assoc stamp (32 ∷ object) tail) in
+    seam ∙ ap (λ b. b ++ tail) cut ∙ append_assoc key (32 ∷ (stamp ++ 32 ∷ object)) tail ∙ ap (λ r. key ++ 32 ∷ r)
+    (append_assoc stamp (32 ∷ object) tail) in
     let fourteen : length stamp ≡ 14 = eqb-true (length stamp) 14 (and_parts _ _ good_stamp).0 in
-    let there = next text utf8 32 (omega arith) 0 key stamp (object ++ tail) (s.key + TO_STAMP) (s.key + TO_STAMP_END) (omega arith, whole) (omega (arith, key_size)) (omega (arith, fourteen)) in
+    let there = next text utf8 32 (omega arith) 0 key stamp (object ++ tail) (s.key + TO_STAMP) (s.key + TO_STAMP_END)
+    (omega arith, whole) (omega (arith, key_size)) (omega (arith, fourteen)) in
     let space : get_or text s.key 0 ≡ 32 = (λ i. get_or (whole i) (key_size i) 0) ∙ get_or-append_seam key 32 rest 0 in
     record {
       entry = ap (line_entry limit) line ∙ entry;
       line_is = line;
       line_ends = line_ends;
       key_is = (λ i. take (key_size i) (whole i)) ∙ take-append_seam key (32 ∷ rest);
-      key_ends = IsCharBoundary-before_ascii text s.key (omega (arith, key_size, ap length whole, length-append key (32 ∷ rest))) (omega (arith, space));
+      key_ends = IsCharBoundary-before_ascii text s.key (omega (
+        arith,
+        key_size,
+        ap length whole,
+        length-append key
+            (32 ∷ rest),
+      )) (omega (arith, space));
       stamp_ends = there.ends;
       stamp_text = there.is;
       stamp_is = stamp_is;
@@ -95,60 +115,95 @@ pub plain_kept : (limit : ℕ) (text key rest stamp object : List ℕ) (t : Text
     → IsUtf8 text → list_all is_clean text ≡ true → length text < limit → IsCutAt 32 text key rest → 0 < length key
     → (rest ≡ stamp ++ 32 ∷ object) × (is_stamp stamp ≡ true) → (object ≡ plain_text t) × ArePlain t
     → offset_of t.offset ≡ Some offset → offset < 2 ^ 63 → t.offset ≡ decimal offset → 0 < length t.filename
-    → s.size ≡ length text → s.key ≡ length key → s.stamp ≡ stamp → s.offset ≡ offset → s.start ≡ length key + TO_URL → AreEndsOf s.start t s.ends
+    → s.size ≡ length text → s.key ≡ length key → s.stamp ≡ stamp → s.offset ≡ offset → s.start ≡ length key + TO_URL
+    → AreEndsOf s.start t s.ends
     → IsKept limit text s (record { values = line_value key stamp (values_of_texts t) offset; line = text })
-plain_kept limit text key rest stamp object t offset s utf8 all short first some second plain value small digits named size key_size stamp_is offset_is begins ends =
+plain_kept limit text key rest stamp object t offset s utf8 all short first some second plain value small digits named
+    size key_size stamp_is offset_is begins ends =
     let good_key = clean_key key (all_parts is_clean text key rest 32 first.0 all).0 first.1 some in
     let keys = first_cut text key rest first in
     let stamps = first_stamp rest stamp object second in
-    let entry = plain_entry limit text key rest stamp object t offset utf8 all short (sym keys.0) (sym keys.1) (sym stamps.0) (sym stamps.1) good_key second.1 plain value named in
+    let entry = plain_entry limit text key rest stamp object t offset utf8 all short (sym keys.0) (sym keys.1)
+    (sym stamps.0) (sym stamps.1) good_key second.1 plain value named in
     let cut : text ≡ key ++ 32 ∷ (stamp ++ 32 ∷ object) = first.0 ∙ ap (λ r. key ++ 32 ∷ r) second.0 in
     let fourteen : length stamp ≡ 14 = eqb-true (length stamp) 14 (and_parts _ _ second.1).0 in
-    let there = next text utf8 32 (omega arith) 0 key stamp object (length key + 1) (length key + 15) (omega arith, cut) (omega arith) (omega (arith, fourteen)) in
+    let there = next text utf8 32 (omega arith) 0 key stamp object (length key + 1) (length key + 15) (omega arith, cut)
+    (omega arith) (omega (arith, fourteen)) in
     let one : length key + 16 ≡ length key + 15 + 1 = omega arith in
     let to_object : drop (length key + 16) text ≡ plain_text t =
     ap (λ n. drop n text) one ∙ sym (drop-drop 1 (length key + 15) text) ∙ ap (drop 1) there.goes_on.1 ∙ plain.0 in
-    let within : length key + 16 ≤ length text = omega (arith, ap length cut, length-append key (32 ∷ (stamp ++ 32 ∷ object)), length-append stamp (32 ∷ object), fourteen) in
-    kept_line limit text text [] key stamp object t offset (length key + 16) s utf8 entry (sym (append-nil text)) cut good_key second.1 named small digits size
-    (subst (IsCharBoundary text) (sym size) (IsCharBoundary-end text)) key_size stamp_is offset_is (within, to_object) (omega (arith, begins)) ends (λ e. plain.1)
+    let within : length key + 16 ≤ length text = omega (
+      arith,
+      ap length cut,
+      length-append key
+          (32 ∷ (stamp ++ 32 ∷ object)),
+      length-append stamp (32 ∷ object),
+      fourteen,
+    ) in
+    kept_line limit text text [] key stamp object t offset (length key + 16) s utf8 entry (sym (append-nil text)) cut
+    good_key second.1 named small digits size
+    (subst (IsCharBoundary text) (sym size) (IsCharBoundary-end text)) key_size stamp_is offset_is (within, to_object)
+    (omega (arith, begins)) ends (λ e. plain.1)
 
 -- any other line is followed by a plain object with its texts
-pub json_kept : (limit : ℕ) (text body key rest stamp object filename : List ℕ) (f : FoundValue) (offset : ℕ) (s : Spans)
+pub json_kept : (limit : ℕ) (text body key rest stamp object filename : List ℕ) (f : FoundValue) (offset : ℕ)
+    (s : Spans)
     → IsUtf8 text → IsUtf8 body → length body < limit → true ≡ has_no_feed body
-    → key ≡ before_first is_space body → rest ≡ after_first is_space body → stamp ≡ before_first is_space rest → object ≡ after_first is_space rest
+    → key ≡ before_first is_space body → rest ≡ after_first is_space body → stamp ≡ before_first is_space rest
+    → object ≡ after_first is_space rest
     → is_key key ≡ true → is_stamp stamp ≡ true → members_in object ≡ Some f
-    → filename_value f.filename ≡ Some filename → offset_value f.offset ≡ Some offset → 0 < length filename → offset < 2 ^ 63 → IsSpelled body f offset filename text s.ends
+    → filename_value f.filename ≡ Some filename → offset_value f.offset ≡ Some offset → 0 < length filename
+    → offset < 2 ^ 63 → IsSpelled body f offset filename text s.ends
     → s.size ≡ length body → s.key ≡ length key → s.stamp ≡ stamp → s.offset ≡ offset → s.start ≡ length body + OPEN
-    → IsKept limit text s (record { values = line_value key stamp (values_of_texts (raw_texts f offset filename)) offset; line = body })
-json_kept limit text body key rest stamp object filename f offset s utf8 body_utf8 short whole k r t o good_key good_stamp found named placed_at some small spelled size key_size stamp_is offset_is begins =
+    → IsKept limit text s (record {
+      values = line_value key stamp (values_of_texts (raw_texts f offset filename))
+          offset;
+      line = body;
+    })
+json_kept limit text body key rest stamp object filename f offset s utf8 body_utf8 short whole k r t o good_key
+    good_stamp found named placed_at some small spelled size key_size stamp_is offset_is begins =
     let texts = raw_texts f offset filename in
-    let line = line_found key stamp object f found ∙ line_made key stamp f offset (found_texts f offset filename) named placed_at refl refl refl refl refl in
-    let values = cond-true _ _ _ (both _ _ good_key good_stamp) ∙ line ∙ ap (λ v. Some (line_value key stamp v offset)) (sym spelled.values) in
-    let entry = body_entry limit body body key rest stamp object (line_value key stamp (values_of_texts texts) offset) refl body_utf8 short whole k r t o values in
+    let line = line_found key stamp object f found ∙ line_made key stamp f offset (found_texts f offset filename) named
+    placed_at refl refl refl refl refl in
+    let values = cond-true _ _ _ (both _ _ good_key good_stamp) ∙ line ∙ ap (λ v. Some (line_value key stamp v offset))
+    (sym spelled.values) in
+    let entry = body_entry limit body body key rest stamp object (line_value key stamp (values_of_texts texts) offset)
+    refl body_utf8 short whole k r t o values in
     let was_read = and_then_some object_found (read object) f found in
-    let object_some : 0 < length (after_first is_space rest) = subst (λ x. 0 < length x) o (some_read object was_read.0 was_read.1) in
+    let object_some : 0 < length (after_first is_space rest) =
+    subst (λ x. 0 < length x) o (some_read object was_read.0 was_read.1) in
     let rest_is : rest ≡ stamp ++ 32 ∷ object = around rest object_some ∙ (λ i. sym t i ++ 32 ∷ sym o i) in
-    let rest_some : 0 < length (after_first is_space body) = subst (λ x. 0 < length x) r (omega (arith, ap length rest_is, length-append stamp (32 ∷ object))) in
-    let cut : body ≡ key ++ 32 ∷ (stamp ++ 32 ∷ object) = around body rest_some ∙ (λ i. sym k i ++ 32 ∷ (sym r ∙ rest_is) i) in
-    let to_object : drop (length body) text ≡ plain_text texts = ap (drop (length body)) spelled.text_is ∙ drop-append_seam body (plain_text texts) in
+    let rest_some : 0 < length (after_first is_space body) =
+    subst (λ x. 0 < length x) r (omega (arith, ap length rest_is, length-append stamp (32 ∷ object))) in
+    let cut : body ≡ key ++ 32 ∷ (stamp ++ 32 ∷ object) = around body rest_some
+    ∙ (λ i. sym k i ++ 32 ∷ (sym r ∙ rest_is) i) in
+    let to_object : drop (length body) text ≡ plain_text texts = ap (drop (length body)) spelled.text_is
+    ∙ drop-append_seam body (plain_text texts) in
     let long = ap length spelled.text_is ∙ length-append body (plain_text texts) in
     let brace = byte_at text (length body) 123 _ to_object in
-    let ends : IsCharBoundary text s.size = subst (IsCharBoundary text) (sym size) (IsCharBoundary-before_ascii text (length body) (omega (arith, long)) (omega (arith, brace))) in
-    kept_line limit text body (plain_text texts) key stamp object texts offset (length body) s utf8 entry spelled.text_is cut good_key good_stamp some small refl size ends
-    key_size stamp_is offset_is (omega (arith, long), to_object) begins (subst (λ n. AreEndsOf n texts s.ends) (sym begins) spelled.ends) (λ e. absurd (omega (arith, e, size, long)))
+    let ends : IsCharBoundary text s.size = subst (IsCharBoundary text) (sym size)
+    (IsCharBoundary-before_ascii text (length body) (omega (arith, long)) (omega (arith, brace))) in
+    kept_line limit text body (plain_text texts) key stamp object texts offset (length body) s utf8 entry
+    spelled.text_is cut good_key good_stamp some small refl size ends
+    key_size stamp_is offset_is (omega (arith, long), to_object) begins (subst (λ n. AreEndsOf n texts s.ends)
+    (sym begins) spelled.ends) (λ e. absurd (omega (arith, e, size, long)))
 
 -- the member of a line is the one that it is kept as
-pub kept_member : (limit : ℕ) (text : List ℕ) (s : Spans) (member : Member) → IsKept limit text s member → member_in limit (take s.size text) ≡ member
+pub kept_member : (limit : ℕ) (text : List ℕ) (s : Spans) (member : Member) → IsKept limit text s member
+    → member_in limit (take s.size text) ≡ member
 kept_member limit text s member h = ap (λ v. unwrap_or v no_member) h.entry
 
-pub kept_in : (limit : ℕ) (text : List ℕ) (s : Spans) (member : Member) → IsKept limit text s member → IsKept limit text s (member_in limit (take s.size text))
+pub kept_in : (limit : ℕ) (text : List ℕ) (s : Spans) (member : Member) → IsKept limit text s member
+    → IsKept limit text s (member_in limit (take s.size text))
 kept_in limit text s member h = subst (IsKept limit text s) (sym (kept_member limit text s member h)) h
 
-pub kept_entry : (limit : ℕ) (text : List ℕ) (s : Spans) (member : Member) → IsKept limit text s member → line_entry limit member.line ≡ Some (member_in limit (take s.size text))
+pub kept_entry : (limit : ℕ) (text : List ℕ) (s : Spans) (member : Member) → IsKept limit text s member
+    → line_entry limit member.line ≡ Some (member_in limit (take s.size text))
 kept_entry limit text s member h = ap (line_entry limit) (sym h.line_is) ∙ (kept_in limit text s member h).entry
 
 -- the key ends before its line
-pub key_short : (limit : ℕ) (line : List ℕ) (member : Member) → line_entry limit line ≡ Some member → length member.values.key < length member.line
+pub key_short : (limit : ℕ) (line : List ℕ) (member : Member) → line_entry limit line ≡ Some member
+    → length member.values.key < length member.line
 key_short limit line member h =
     let whole = entry_of-body limit line member h in
     let front = pair_front (body_of line) (member_pair member) (entry_pair_is limit (body_of line) member whole) in
@@ -156,7 +211,8 @@ key_short limit line member h =
     omega (arith, ap length body, ap length front.1, length-append member.values.key (32 ∷ front.0))
 
 -- the values of a plain line, whose key is plain too
-pub no_escapes : (limit : ℕ) (text : List ℕ) (s : Spans) (member : Member) → IsKept limit text s member → s.size ≡ length text → list_all is_plain member.values.key ≡ true
+pub no_escapes : (limit : ℕ) (text : List ℕ) (s : Spans) (member : Member) → IsKept limit text s member
+    → s.size ≡ length text → list_all is_plain member.values.key ≡ true
     → (field : Field) → list_all is_plain (field_value field member.values) ≡ true
 no_escapes limit text s member h whole key Urlkey = key
 no_escapes limit text s member h whole key Timestamp = digits_plain member.values.stamp (and_parts _ _ h.stamp_rule).1

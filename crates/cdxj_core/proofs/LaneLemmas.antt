@@ -18,17 +18,21 @@ same_front (suc n) [] ys h = absurd (omega arith)
 same_front (suc n) (x ∷ xs) [] h = absurd (omega arith)
 same_front (suc n) (x ∷ xs) (y ∷ ys) h = by (eqb x y) refl (same_front n xs ys) h
   where
-    by : (b : Bool) → eqb x y ≡ b → (n ≤ prefix_len not (zip2 differ xs ys) → take n xs ≡ take n ys) → suc n ≤ cond (not (not b)) (1 + prefix_len not (zip2 differ xs ys)) 0 → take (suc n) (x ∷ xs) ≡ take (suc n) (y ∷ ys)
+    by : (b : Bool) → eqb x y ≡ b → (n ≤ prefix_len not (zip2 differ xs ys) → take n xs ≡ take n ys)
+        → suc n ≤ cond (not (not b)) (1 + prefix_len not (zip2 differ xs ys)) 0 → take (suc n) (x ∷ xs) ≡ take (suc n)
+        (y ∷ ys)
     by true e rest more = ap₂ (λ z zs. z ∷ zs) (eqb-true _ _ e) (rest (omega arith))
     by false e rest more = absurd (omega arith)
 
 -- the front of bytes that pass a test, as it goes on behind some of them
-pub front_behind : (p : ℕ → Bool) (k : ℕ) (xs : List ℕ) → k ≤ prefix_len p xs → k + prefix_len p (drop k xs) ≡ prefix_len p xs
+pub front_behind : (p : ℕ → Bool) (k : ℕ) (xs : List ℕ) → k ≤ prefix_len p xs → k + prefix_len p (drop k xs) ≡
+    prefix_len p xs
 front_behind p zero xs h = omega arith
 front_behind p (suc k) [] h = absurd (omega arith)
 front_behind p (suc k) (x ∷ xs) h = by (p x) (front_behind p k xs) h
   where
-    by : (b : Bool) → (k ≤ prefix_len p xs → k + prefix_len p (drop k xs) ≡ prefix_len p xs) → suc k ≤ cond b (1 + prefix_len p xs) 0 → suc k + prefix_len p (drop k xs) ≡ cond b (1 + prefix_len p xs) 0
+    by : (b : Bool) → (k ≤ prefix_len p xs → k + prefix_len p (drop k xs) ≡ prefix_len p xs)
+        → suc k ≤ cond b (1 + prefix_len p xs) 0 → suc k + prefix_len p (drop k xs) ≡ cond b (1 + prefix_len p xs) 0
     by true rest more = let shorter = rest (omega arith) in omega arith
     by false rest more = absurd (omega arith)
 
@@ -51,7 +55,8 @@ tops_all : (v : List ℕ) → map (λ x. top 7 (digit_lane x)) v ≡ map no_digi
 tops_all [] = refl
 tops_all (x ∷ v) = λ i. tops (ltb x 48) (ltb 57 x) i ∷ tops_all v i
 
-pub digit_masks : (v z : List ℕ) → length v ≡ 16 → z ≡ map digit_lane v → mask_l (map (top 7) z) % 2 ^ 64 ≡ mask_l (map no_digit v)
+pub digit_masks : (v z : List ℕ) → length v ≡ 16 → z ≡ map digit_lane v → mask_l (map (top 7) z) % 2 ^ 64 ≡ mask_l
+    (map no_digit v)
 digit_masks v z long e =
     ap (λ l. mask_l l % 2 ^ 64) (ap (map (top 7)) e ∙ map-map (top 7) digit_lane v ∙ tops_all v)
     ∙ mask_l-mod (map no_digit v) 64 (omega (arith, length-map v no_digit, long))

@@ -19,9 +19,11 @@ use Rattle.cdxj_core.proofs.PairLaw.{if_test, line_pair, line_in-higher, line_in
 abbrev with_line : List ℕ → LineValue → Member
 with_line body values = record { values = values; line = body }
 
-pub entry_there : (limit : ℕ) (line : List ℕ) (values : LineValue) → IsUtf8 (body_of line) → line_in limit (body_of line) ≡ Some values
+pub entry_there : (limit : ℕ) (line : List ℕ) (values : LineValue) → IsUtf8 (body_of line)
+    → line_in limit (body_of line) ≡ Some values
     → line_entry limit line ≡ Some (record { values = values; line = body_of line })
-entry_there limit line values utf8 e = cond-true (is_utf8 (body_of line)) _ _ (is_utf8-from_IsUtf8 _ utf8) ∙ ap (option_map (with_line (body_of line))) e
+entry_there limit line values utf8 e = cond-true (is_utf8 (body_of line)) _ _ (is_utf8-from_IsUtf8 _ utf8)
+    ∙ ap (option_map (with_line (body_of line))) e
 
 if_none : {A : Type 0} (b : Bool) (x : Option A) → x ≡ None → cond b x None ≡ None
 if_none true x h = h
@@ -30,12 +32,16 @@ if_none false x h = refl
 abbrev NoEntry : Option Member → Type 0
 NoEntry entry = entry ≡ None
 
-pub entry_none : (limit : ℕ) (line : List ℕ) → (IsUtf8 (body_of line) → line_in limit (body_of line) ≡ None) → line_entry limit line ≡ None
+pub entry_none : (limit : ℕ) (line : List ℕ) → (IsUtf8 (body_of line) → line_in limit (body_of line) ≡ None)
+    → line_entry limit line ≡ None
 entry_none limit line none =
-    (elim (is_utf8 (body_of line)) as (λ b. is_utf8 (body_of line) ≡ b → NoEntry (cond b (option_map (with_line (body_of line)) (line_in limit (body_of line))) None))
-    [ true ↦ (λ e. ap (option_map (with_line (body_of line))) (none (IsUtf8-from_is_utf8 _ e))) | false ↦ (λ e. refl) ]) refl
+    (elim (is_utf8 (body_of line)) as (λ b. is_utf8 (body_of line) ≡ b
+    → NoEntry (cond b (option_map (with_line (body_of line)) (line_in limit (body_of line))) None))
+    [ true ↦ (λ e. ap (option_map (with_line (body_of line))) (none (IsUtf8-from_is_utf8 _ e))) | false ↦ (λ e. refl) ])
+    refl
 
-map_is : {A B : Type 0} (g : A → B) (o : Option A) (v : B) → option_map g o ≡ Some v → (a : A) × (o ≡ Some a) × (g a ≡ v)
+map_is : {A B : Type 0} (g : A → B) (o : Option A) (v : B) → option_map g o ≡ Some v → (a : A) × (o ≡ Some a)
+    × (g a ≡ v)
 map_is g None v h = absurd (cc)
 map_is g (Some a) v h = (a, refl, let e : g a ≡ v = cc in e)
 
@@ -45,9 +51,11 @@ pub record Entered (limit : ℕ) (line : List ℕ) (member : Member) : Type 0 wh
   pub values : line_in limit (body_of line) ≡ Some member.values
   pub body : member.line ≡ body_of line
 
-pub entered : (limit : ℕ) (line : List ℕ) (member : Member) → line_entry limit line ≡ Some member → Entered limit line member
+pub entered : (limit : ℕ) (line : List ℕ) (member : Member) → line_entry limit line ≡ Some member
+    → Entered limit line member
 entered limit line member h =
-    let outer = if_test (is_utf8 (body_of line)) (option_map (with_line (body_of line)) (line_in limit (body_of line))) member h in
+    let outer = if_test (is_utf8 (body_of line)) (option_map (with_line (body_of line)) (line_in limit (body_of line)))
+    member h in
     let inner = map_is (with_line (body_of line)) (line_in limit (body_of line)) member outer.1 in
     record {
       utf8 = IsUtf8-from_is_utf8 _ outer.0;
@@ -55,19 +63,24 @@ entered limit line member h =
       body = sym (ap (λ m. m.line) inner.2);
     }
 
-pub entry_from : (limit : ℕ) (line : List ℕ) (member : Member) → Entered limit line member → line_entry limit line ≡ Some member
-entry_from limit line member h = entry_there limit line member.values h.utf8 h.values ∙ ap (λ b. Some (with_line b member.values)) (sym h.body)
+pub entry_from : (limit : ℕ) (line : List ℕ) (member : Member) → Entered limit line member → line_entry limit line ≡
+    Some member
+entry_from limit line member h = entry_there limit line member.values h.utf8 h.values
+    ∙ ap (λ b. Some (with_line b member.values)) (sym h.body)
 
 -- a body without a line feed is its own
 pub body_of-body : (body : List ℕ) → has_no_feed body ≡ true → body_of body ≡ body
 body_of-body [] h = refl
-body_of-body (b ∷ body) h = cond-false (get_or (b ∷ body) (length (b ∷ body) - 1) 0 == 10) (take (length (b ∷ body) - 1) (b ∷ body)) (b ∷ body) (last_no_feed (b ∷ body) (length (b ∷ body) - 1) (omega arith) h)
+body_of-body (b ∷ body) h = cond-false (get_or (b ∷ body) (length (b ∷ body) - 1) 0 == 10)
+    (take (length (b ∷ body) - 1) (b ∷ body)) (b ∷ body) (last_no_feed (b ∷ body) (length (b ∷ body) - 1) (omega arith)
+    h)
   where
     last_no_feed : (xs : List ℕ) (i : ℕ) → i < length xs → has_no_feed xs ≡ true → (get_or xs i 0 == 10) ≡ false
     last_no_feed xs i l h = not-true (get_or xs i 0 == 10) (AllPass-from_list_all (λ b. not (b == 10)) xs h i 0 l)
 
 -- the body of a line with an entry has it too
-pub entry_of-body : (limit : ℕ) (line : List ℕ) (member : Member) → line_entry limit line ≡ Some member → line_entry limit (body_of line) ≡ Some member
+pub entry_of-body : (limit : ℕ) (line : List ℕ) (member : Member) → line_entry limit line ≡ Some member
+    → line_entry limit (body_of line) ≡ Some member
 entry_of-body limit line member h =
     let e = entered limit line member h in
     let same = body_of-body (body_of line) (line_in-feed limit (body_of line) member.values e.values) in
@@ -79,17 +92,29 @@ entry_of-body limit line member h =
 
 -- ---- laws
 
-pub entry-higher : (low high : ℕ) → low ≤ high → (line : List ℕ) (member : Member) → line_entry low line ≡ Some member → line_entry high line ≡ Some member
+pub entry-higher : (low high : ℕ) → low ≤ high → (line : List ℕ) (member : Member) → line_entry low line ≡ Some member
+    → line_entry high line ≡ Some member
 entry-higher low high le line member h =
     let e = entered low line member h in
-    entry_from high line member (record { utf8 = e.utf8; values = line_in-higher low high le (body_of line) member.values e.values; body = e.body })
+    entry_from high line member (record {
+      utf8 = e.utf8;
+      values = line_in-higher low high le (body_of line)
+          member.values e.values;
+      body = e.body;
+    })
 
-pub entry_pair_is : (limit : ℕ) (line : List ℕ) (member : Member) → line_entry limit line ≡ Some member → pair_of line ≡ Some (member_pair member)
+pub entry_pair_is : (limit : ℕ) (line : List ℕ) (member : Member) → line_entry limit line ≡ Some member
+    → pair_of line ≡ Some (member_pair member)
 entry_pair_is limit line member h = line_pair line limit member.values (entered limit line member h).values
 
-pub written_entry : (limit : ℕ) (e : EntryValue) → HasLine limit e → line_entry limit (line_text e) ≡ Some (entry_member e)
+pub written_entry : (limit : ℕ) (e : EntryValue) → HasLine limit e → line_entry limit (line_text e) ≡ Some
+    (entry_member e)
 written_entry limit e h =
-    entry_from limit (line_text e) (entry_member e) (record { utf8 = line_utf8 e h.0; values = line_law limit e h.0 h.1; body = sym (body_of-feed (body_text e)) })
+    entry_from limit (line_text e) (entry_member e) (record {
+      utf8 = line_utf8 e h.0;
+      values = line_law limit e h.0 h.1;
+      body = sym (body_of-feed (body_text e));
+    })
 
 -- ---- reading
 
@@ -99,8 +124,10 @@ reading_refused limit line Memory short bad long = short
 reading_refused limit line LineTooLong short bad long = absurd (long refl)
 reading_refused limit line BadLine short bad long = (short, entry_none limit line (λ utf8. bad refl))
 
-body_values : (limit : ℕ) (body key rest stamp object : List ℕ) (v : LineValue) → length body < limit → has_no_feed body ≡ true
-    → key ≡ before_first is_space body → rest ≡ after_first is_space body → stamp ≡ before_first is_space rest → object ≡ after_first is_space rest
+body_values : (limit : ℕ) (body key rest stamp object : List ℕ) (v : LineValue) → length body < limit
+    → has_no_feed body ≡ true
+    → key ≡ before_first is_space body → rest ≡ after_first is_space body → stamp ≡ before_first is_space rest
+    → object ≡ after_first is_space rest
     → line_parts key stamp object ≡ Some v → line_in limit body ≡ Some v
 unfolding line_in
 body_values limit body key rest stamp object v short whole k r s o read =
@@ -109,8 +136,10 @@ body_values limit body key rest stamp object v short whole k r s o read =
     ∙ read
 
 -- a body that was cut at its first two spaces
-pub body_entry : (limit : ℕ) (body text key rest stamp object : List ℕ) (v : LineValue) → text ≡ body → IsUtf8 body → length body < limit → true ≡ has_no_feed body
-    → key ≡ before_first is_space text → rest ≡ after_first is_space text → stamp ≡ before_first is_space rest → object ≡ after_first is_space rest
+pub body_entry : (limit : ℕ) (body text key rest stamp object : List ℕ) (v : LineValue) → text ≡ body → IsUtf8 body
+    → length body < limit → true ≡ has_no_feed body
+    → key ≡ before_first is_space text → rest ≡ after_first is_space text → stamp ≡ before_first is_space rest
+    → object ≡ after_first is_space rest
     → line_parts key stamp object ≡ Some v → line_entry limit text ≡ Some (record { values = v; line = text })
 body_entry limit body text key rest stamp object v same utf8 short whole k r s o read =
     let feed : has_no_feed text ≡ true = ap has_no_feed same ∙ sym whole in
@@ -123,20 +152,29 @@ body_entry limit body text key rest stamp object v same utf8 short whole k r s o
     })
 
 -- a body that was cut so, whose object has no values
-pub body_none : (limit : ℕ) (body key rest stamp object : List ℕ) → key ≡ before_first is_space body → rest ≡ after_first is_space body → stamp ≡ before_first is_space rest → object ≡ after_first is_space rest
+pub body_none : (limit : ℕ) (body key rest stamp object : List ℕ) → key ≡ before_first is_space body
+    → rest ≡ after_first is_space body → stamp ≡ before_first is_space rest → object ≡ after_first is_space rest
     → line_object key stamp object ≡ None → line_in limit body ≡ None
 unfolding line_in
 body_none limit body key rest stamp object k r s o none =
-    let cut : line_parts (before_first is_space body) (before_first is_space (after_first is_space body)) (after_first is_space (after_first is_space body)) ≡ None =
-    sym (λ i. line_parts (k i) ((s ∙ ap (before_first is_space) r) i) ((o ∙ ap (after_first is_space) r) i)) ∙ if_none (is_key key && is_stamp stamp) (line_object key stamp object) none in
+    let cut : line_parts (before_first is_space body) (before_first is_space (after_first is_space body))
+    (after_first is_space (after_first is_space body)) ≡ None =
+    sym (λ i. line_parts (k i) ((s ∙ ap (before_first is_space) r) i) ((o ∙ ap (after_first is_space) r) i))
+    ∙ if_none (is_key key && is_stamp stamp) (line_object key stamp object) none in
     if_none (nat_lt (length body) limit && has_no_feed body) _ cut
 
 -- a line whose body has an entry
-pub line_of_body : (limit : ℕ) (line body text : List ℕ) (member : Member) → text ≡ body → body ≡ body_of line → true ≡ has_no_feed body → line_entry limit text ≡ Some member → line_entry limit line ≡ Some member
+pub line_of_body : (limit : ℕ) (line body text : List ℕ) (member : Member) → text ≡ body → body ≡ body_of line
+    → true ≡ has_no_feed body → line_entry limit text ≡ Some member → line_entry limit line ≡ Some member
 line_of_body limit line body text member same its whole h =
     let e = entered limit text member h in
     let bodies : body_of text ≡ body_of line = body_of-body text (ap has_no_feed same ∙ sym whole) ∙ same ∙ its in
-    entry_from limit line member (record { utf8 = subst IsUtf8 bodies e.utf8; values = ap (line_in limit) (sym bodies) ∙ e.values; body = e.body ∙ bodies })
+    entry_from limit line member (record {
+      utf8 = subst IsUtf8 bodies e.utf8;
+      values = ap (line_in limit) (sym bodies)
+          ∙ e.values;
+      body = e.body ∙ bodies;
+    })
 
 -- a body that is too long has no values
 long_has_none : (limit : ℕ) (body : List ℕ) → limit ≤ length body → line_in limit body ≡ None
@@ -147,5 +185,7 @@ long_has_none limit body long = rw (le-ltb (length body) limit long) refl
 pub long_line_none : (limit : ℕ) (line : List ℕ) → limit ≤ length (body_of line) → line_entry limit line ≡ None
 long_line_none limit line long = entry_none limit line (λ utf8. long_has_none limit (body_of line) long)
 
-pub entry_is_short : (limit : ℕ) (line : List ℕ) (member : Member) → line_entry limit line ≡ Some member → length (body_of line) < limit
-entry_is_short limit line member h = line_in-short limit (body_of line) member.values (entered limit line member h).values
+pub entry_is_short : (limit : ℕ) (line : List ℕ) (member : Member) → line_entry limit line ≡ Some member
+    → length (body_of line) < limit
+entry_is_short limit line member h = line_in-short limit (body_of line) member.values
+    (entered limit line member h).values

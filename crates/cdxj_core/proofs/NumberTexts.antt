@@ -12,13 +12,15 @@ begins_with_minus : (s : List ℕ) → pointwise nat_eq (take 1 s) (45 ∷ []) �
 begins_with_minus [] = refl
 begins_with_minus (x ∷ xs) = and_true (x == 45)
 
-pub negative_number : (s digits : List ℕ) → pointwise nat_eq (take 1 s) (45 ∷ []) ≡ true → digits ≡ drop 1 s → number_of s ≡ number_from true (scan digits)
+pub negative_number : (s digits : List ℕ) → pointwise nat_eq (take 1 s) (45 ∷ []) ≡ true → digits ≡ drop 1 s
+    → number_of s ≡ number_from true (scan digits)
 unfolding number_of
 negative_number s digits e is =
     let minus : (get_or s 0 0 == 45) ≡ true = sym (begins_with_minus s) ∙ e in
     rw minus (ap (λ t. number_from true (scan t)) (sym is))
 
-pub unsigned_number : (s : List ℕ) → pointwise nat_eq (take 1 s) (45 ∷ []) ≡ false → number_of s ≡ number_from false (scan s)
+pub unsigned_number : (s : List ℕ) → pointwise nat_eq (take 1 s) (45 ∷ []) ≡ false → number_of s ≡ number_from false
+    (scan s)
 unfolding number_of
 unsigned_number s e =
     let none : (get_or s 0 0 == 45) ≡ false = sym (begins_with_minus s) ∙ e in

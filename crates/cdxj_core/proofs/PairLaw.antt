@@ -20,7 +20,8 @@ read_nil : read [] ≡ None
 unfolding serde_json_on_literals
 read_nil = refl
 
-pub and_then_some : {A B : Type 0} (f : A → Option B) (o : Option A) (v : B) → option_and_then f o ≡ Some v → (a : A) × (o ≡ Some a) × (f a ≡ Some v)
+pub and_then_some : {A B : Type 0} (f : A → Option B) (o : Option A) (v : B) → option_and_then f o ≡ Some v → (a : A)
+    × (o ≡ Some a) × (f a ≡ Some v)
 and_then_some f None v h = absurd (cc)
 and_then_some f (Some a) v h = (a, refl, h)
 
@@ -36,7 +37,8 @@ body_split : (b : Bool) (line : List ℕ) → (t : List ℕ) × (line ≡ cond b
 body_split true line = (drop (length line - 1) line, sym (take-append-drop (length line - 1) line))
 body_split false line = ([], sym (append-nil line))
 
-pub line_pair : (line : List ℕ) (limit : ℕ) (v : LineValue) → line_in limit (body_of line) ≡ Some v → pair_of line ≡ Some (v.key, v.stamp)
+pub line_pair : (line : List ℕ) (limit : ℕ) (v : LineValue) → line_in limit (body_of line) ≡ Some v
+    → pair_of line ≡ Some (v.key, v.stamp)
 unfolding line_in
 line_pair line limit v h =
     let body = body_of line in
@@ -48,8 +50,11 @@ line_pair line limit v h =
     let inner = if_test (is_key key && is_stamp stamp) (line_object key stamp object) v outer.1 in
     let tests = and_parts (is_key key) (is_stamp stamp) inner.0 in
     let was_read = and_then_some (line_from key stamp) (read object) v inner.1 in
-    let named = and_then_some (λ filename. option_map (values_of key stamp was_read.0 filename) (offset_value (get (codes "offset") was_read.0))) (filename_value (get (codes "filename") was_read.0)) v was_read.2 in
-    let made = map_some (values_of key stamp was_read.0 named.0) (offset_value (get (codes "offset") was_read.0)) v named.2 in
+    let named = and_then_some (λ filename. option_map (values_of key stamp was_read.0 filename)
+    (offset_value (get (codes "offset") was_read.0))) (filename_value (get (codes "filename") was_read.0)) v
+    was_read.2 in
+    let made = map_some (values_of key stamp was_read.0 named.0) (offset_value (get (codes "offset") was_read.0)) v
+    named.2 in
     let object_some : 0 < length object = some_read object was_read.0 was_read.1 in
     let stamp_len : length stamp ≡ 14 = eqb-true (length stamp) 14 (and_parts _ _ tests.1).0 in
     let rest_is : rest ≡ stamp ++ 32 ∷ object = around rest object_some in
@@ -57,16 +62,21 @@ line_pair line limit v h =
     let body_is : body ≡ key ++ 32 ∷ rest = around body rest_some in
     let split = body_split (get_or line (length line - 1) 0 == 10) line in
     let whole : line ≡ key ++ 32 ∷ (stamp ++ 32 ∷ (object ++ split.0)) =
-    split.1 ∙ ap (λ b. b ++ split.0) (body_is ∙ ap (λ r. key ++ 32 ∷ r) rest_is) ∙ append_assoc key (32 ∷ (stamp ++ 32 ∷ object)) split.0 ∙ ap (λ r. key ++ 32 ∷ r) (append_assoc stamp (32 ∷ object) split.0) in
-    ap pair_of whole ∙ pair_of-parts key stamp (object ++ split.0) tests.0 tests.1 ∙ ap (λ w. Some (w.key, w.stamp)) made.1
+    split.1 ∙ ap (λ b. b ++ split.0) (body_is ∙ ap (λ r. key ++ 32 ∷ r) rest_is)
+    ∙ append_assoc key (32 ∷ (stamp ++ 32 ∷ object)) split.0 ∙ ap (λ r. key ++ 32 ∷ r)
+    (append_assoc stamp (32 ∷ object) split.0) in
+    ap pair_of whole ∙ pair_of-parts key stamp (object ++ split.0) tests.0 tests.1 ∙ ap (λ w. Some (w.key, w.stamp))
+    made.1
 
 -- a line keeps its values under a higher limit
-pub line_in-higher : (low high : ℕ) → low ≤ high → (body : List ℕ) (v : LineValue) → line_in low body ≡ Some v → line_in high body ≡ Some v
+pub line_in-higher : (low high : ℕ) → low ≤ high → (body : List ℕ) (v : LineValue) → line_in low body ≡ Some v
+    → line_in high body ≡ Some v
 unfolding line_in
 line_in-higher low high le body v h =
     let key = before_first is_space body in
     let rest = after_first is_space body in
-    let outer = if_test (nat_lt (length body) low && has_no_feed body) (line_parts key (before_first is_space rest) (after_first is_space rest)) v h in
+    let outer = if_test (nat_lt (length body) low && has_no_feed body) (line_parts key (before_first is_space rest)
+    (after_first is_space rest)) v h in
     let tests = and_parts (nat_lt (length body) low) (has_no_feed body) outer.0 in
     let below : length body < low = ltb-true (length body) low tests.0 in
     cond-true _ _ _ (both _ _ (lt-ltb (length body) high (omega arith)) tests.1) ∙ outer.1
@@ -76,7 +86,8 @@ pub line_in-feed : (limit : ℕ) (body : List ℕ) (v : LineValue) → line_in l
 unfolding line_in
 line_in-feed limit body v h =
     let rest = after_first is_space body in
-    let outer = if_test (nat_lt (length body) limit && has_no_feed body) (line_parts (before_first is_space body) (before_first is_space rest) (after_first is_space rest)) v h in
+    let outer = if_test (nat_lt (length body) limit && has_no_feed body) (line_parts (before_first is_space body)
+    (before_first is_space rest) (after_first is_space rest)) v h in
     (and_parts (nat_lt (length body) limit) (has_no_feed body) outer.0).1
 
 -- and is below the limit
@@ -84,5 +95,6 @@ pub line_in-short : (limit : ℕ) (body : List ℕ) (v : LineValue) → line_in 
 unfolding line_in
 line_in-short limit body v h =
     let rest = after_first is_space body in
-    let outer = if_test (nat_lt (length body) limit && has_no_feed body) (line_parts (before_first is_space body) (before_first is_space rest) (after_first is_space rest)) v h in
+    let outer = if_test (nat_lt (length body) limit && has_no_feed body) (line_parts (before_first is_space body)
+    (before_first is_space rest) (after_first is_space rest)) v h in
     ltb-true (length body) limit (and_parts (nat_lt (length body) limit) (has_no_feed body) outer.0).0

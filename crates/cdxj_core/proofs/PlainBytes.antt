@@ -41,11 +41,13 @@ regroup false b c d = refl
 pub list_all_plain : (xs : List ℕ) → list_all is_plain xs ≡ (list_all is_open xs && list_all is_unescaped xs)
 list_all_plain [] = refl
 list_all_plain (x ∷ xs) =
-    (λ i. plain_byte x i && list_all_plain xs i) ∙ regroup (is_open x) (is_unescaped x) (list_all is_open xs) (list_all is_unescaped xs)
+    (λ i. plain_byte x i && list_all_plain xs i) ∙ regroup (is_open x) (is_unescaped x) (list_all is_open xs)
+    (list_all is_unescaped xs)
 
 -- ---- the texts of an object that has no control
 
-within : (front text rest : List ℕ) → list_all is_unescaped (after front text rest) ≡ true → (list_all is_unescaped text ≡ true) × (list_all is_unescaped rest ≡ true)
+within : (front text rest : List ℕ) → list_all is_unescaped (after front text rest) ≡ true
+    → (list_all is_unescaped text ≡ true) × (list_all is_unescaped rest ≡ true)
 within front text rest h =
     let inner = (and_parts _ _ (sym (list_all-append is_unescaped front (text ++ 34 ∷ rest)) ∙ h)).1 in
     let parts = and_parts _ _ (sym (list_all-append is_unescaped text (34 ∷ rest)) ∙ inner) in

@@ -17,7 +17,8 @@ cut_here (x ∷ xs) zero h = refl
 cut_here (x ∷ xs) (suc i) h = ap (λ ys. x ∷ ys) (cut_here xs i (omega arith))
 
 pub cut_at : (xs : List ℕ) (i : ℕ) → i < length xs → xs ≡ take i xs ++ get_or xs i 0 ∷ drop (i + 1) xs
-cut_at xs i h = let one : suc i ≡ i + 1 = omega arith in cut_here xs i h ∙ ap (λ n. take i xs ++ get_or xs i 0 ∷ drop n xs) one
+cut_at xs i h = let one : suc i ≡ i + 1 = omega arith in cut_here xs i h
+    ∙ ap (λ n. take i xs ++ get_or xs i 0 ∷ drop n xs) one
 
 -- the front of bytes that pass a test passes it whole
 pub front_passes : (p : ℕ → Bool) (xs : List ℕ) → list_all p (take (prefix_len p xs) xs) ≡ true
@@ -36,9 +37,11 @@ first_stamp text stamp rest cut =
     )
 
 -- what a text is cut at the first of these bytes into
-pub first_cut : (text front rest : List ℕ) → IsCutAt 32 text front rest → (before_first is_space text ≡ front) × (after_first is_space text ≡ rest)
+pub first_cut : (text front rest : List ℕ) → IsCutAt 32 text front rest → (before_first is_space text ≡ front)
+    × (after_first is_space text ≡ rest)
 first_cut text front rest cut =
-    let free : All (λ b. b ≢ 32) front = All-weaker (λ b. is_other 32 b ≡ true) (λ b. b ≢ 32) (λ b other. eqb-false b 32 (not-true _ other)) front (AllPass-from_list_all (is_other 32) front cut.1) in (
+    let free : All (λ b. b ≢ 32) front = All-weaker (λ b. is_other 32 b ≡ true) (λ b. b ≢ 32)
+    (λ b other. eqb-false b 32 (not-true _ other)) front (AllPass-from_list_all (is_other 32) front cut.1) in (
       ap (before_first is_space) cut.0 ∙ before_first_at front rest free,
       ap (after_first is_space) cut.0 ∙ after_first_at front rest free,
     )

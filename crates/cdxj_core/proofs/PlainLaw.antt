@@ -66,7 +66,8 @@ rest_is (m ∷ ms) h =
 
 object_is : (m : Pair) (ms : List Pair) → AllPlain (m ∷ ms) → object_text (m ∷ ms) ≡ 123 ∷ front m.0 m.1 (rest_text ms)
 object_is m ms h =
-    ap (λ r. 123 ∷ r) (append_assoc (member_text m) (later ms) (125 ∷ []) ∙ ap (λ r. member_text m ++ r) (rest_is ms h.1) ∙ member_is m (rest_text ms) h.0)
+    ap (λ r. 123 ∷ r) (append_assoc (member_text m) (later ms) (125 ∷ []) ∙ ap (λ r. member_text m ++ r)
+    (rest_is ms h.1) ∙ member_is m (rest_text ms) h.0)
 
 -- ---- the seven members
 
@@ -75,11 +76,24 @@ first_of t = (codes "url", t.url)
 
 abbrev later_of : TextsValue → List Pair
 later_of t =
-    (codes "mime", t.mime) ∷ (codes "status", t.status) ∷ (codes "digest", t.digest) ∷ (codes "length", t.length) ∷ (codes "offset", t.offset)
+    (codes "mime", t.mime) ∷ (codes "status", t.status) ∷ (codes "digest", t.digest) ∷ (codes "length", t.length) ∷
+    (codes "offset", t.offset)
     ∷ (codes "filename", t.filename) ∷ []
 
 plain_text_is : (t : TextsValue) → ArePlain t → plain_text t ≡ object_text (first_of t ∷ later_of t)
-plain_text_is t h = sym (object_is (first_of t) (later_of t) ((refl, h.url), ((refl, h.mime), ((refl, h.status), ((refl, h.digest), ((refl, h.length), ((refl, h.offset), ((refl, h.filename), tt))))))))
+plain_text_is t h = sym (object_is (first_of t) (later_of t) (
+  (refl, h.url),
+  (
+    (refl, h.mime),
+    (
+      (refl, h.status),
+      (
+        (refl, h.digest),
+        ((refl, h.length), ((refl, h.offset), ((refl, h.filename), tt))),
+      ),
+    ),
+  ),
+))
 
 abbrev data_of : TextsValue → Data
 data_of t = object (put_all (first_of t ∷ later_of t) no_members)
@@ -89,18 +103,34 @@ read_plain t h = ap read (plain_text_is t h) ∙ read_object (first_of t) (later
 
 -- ---- the values
 
-abbrev opts : List ℕ → List ℕ → Option Data → Option Data → Option Data → Option Data → Option Data → Option Data → Option Data → Option LineValue
+abbrev opts : List ℕ → List ℕ → Option Data → Option Data → Option Data → Option Data → Option Data → Option Data
+    → Option Data → Option LineValue
 opts key stamp url mime status digest size offset filename =
-    option_and_then (λ f. option_map (λ o. record { key = key; stamp = stamp; original = value_text url; mimetype = value_text mime; statuscode = value_text status; digest = value_text digest; length = value_text size; offset = o; filename = f }) (offset_value offset)) (filename_value filename)
+    option_and_then (λ f. option_map (λ o. record {
+      key = key;
+      stamp = stamp;
+      original = value_text url;
+      mimetype = value_text mime;
+      statuscode = value_text status;
+      digest = value_text digest;
+      length = value_text size;
+      offset = o;
+      filename = f;
+    }) (offset_value offset)) (filename_value filename)
 
-found : (t : TextsValue) (name : List ℕ) (d : Data) → found_in name (first_of t ∷ later_of t) None ≡ Some d → get name (data_of t) ≡ Some d
+found : (t : TextsValue) (name : List ℕ) (d : Data) → found_in name (first_of t ∷ later_of t) None ≡ Some d
+    → get name (data_of t) ≡ Some d
 found t name d h = get_put_all name (first_of t ∷ later_of t) no_members ∙ h
 
-values_plain : (key stamp : List ℕ) (t : TextsValue) (offset : ℕ) → offset_of t.offset ≡ Some offset → 0 < length t.filename → line_from key stamp (data_of t) ≡ Some (line_value key stamp (values_of_texts t) offset)
+values_plain : (key stamp : List ℕ) (t : TextsValue) (offset : ℕ) → offset_of t.offset ≡ Some offset
+    → 0 < length t.filename → line_from key stamp (data_of t) ≡ Some (line_value key stamp (values_of_texts t) offset)
 values_plain key stamp t offset offset_is some =
-    let name_is : filename_value (Some (string t.filename)) ≡ Some t.filename = cond-false _ _ _ (ne_eqb (length t.filename) 0 (λ z. omega arith)) in
-    (λ i. opts key stamp (found t (codes "url") (string t.url) refl i) (found t (codes "mime") (string t.mime) refl i) (found t (codes "status") (string t.status) refl i) (found t (codes "digest") (string t.digest) refl i)
-    (found t (codes "length") (string t.length) refl i) (found t (codes "offset") (string t.offset) refl i) (found t (codes "filename") (string t.filename) refl i))
+    let name_is : filename_value (Some (string t.filename)) ≡ Some t.filename =
+    cond-false _ _ _ (ne_eqb (length t.filename) 0 (λ z. omega arith)) in
+    (λ i. opts key stamp (found t (codes "url") (string t.url) refl i) (found t (codes "mime") (string t.mime) refl i)
+    (found t (codes "status") (string t.status) refl i) (found t (codes "digest") (string t.digest) refl i)
+    (found t (codes "length") (string t.length) refl i) (found t (codes "offset") (string t.offset) refl i)
+    (found t (codes "filename") (string t.filename) refl i))
     ∙ (λ i. option_and_then (λ f. option_map (λ o. record {
       key = key;
       stamp = stamp;
@@ -113,9 +143,11 @@ values_plain key stamp t offset offset_is some =
       filename = f;
     }) (offset_is i)) (name_is i))
 
-pub line_object-plain : (key stamp : List ℕ) (t : TextsValue) (offset : ℕ) → ArePlain t → offset_of t.offset ≡ Some offset → 0 < length t.filename
+pub line_object-plain : (key stamp : List ℕ) (t : TextsValue) (offset : ℕ) → ArePlain t → offset_of t.offset ≡ Some
+    offset → 0 < length t.filename
     → line_object key stamp (plain_text t) ≡ Some (line_value key stamp (values_of_texts t) offset)
-line_object-plain key stamp t offset h o f = ap (option_and_then (line_from key stamp)) (read_plain t h) ∙ values_plain key stamp t offset o f
+line_object-plain key stamp t offset h o f = ap (option_and_then (line_from key stamp)) (read_plain t h)
+    ∙ values_plain key stamp t offset o f
 
 -- ---- the offset
 
@@ -123,7 +155,8 @@ if_some : (b : Bool) (v n : ℕ) → cond b (Some v) None ≡ Some n → (b ≡ 
 if_some true v n h = (refl, let e : v ≡ n = cc in e)
 if_some false v n h = absurd (cc)
 
-pub canonical_decimal : (ds : List ℕ) (n : ℕ) → offset_of ds ≡ Some n → (get_or ds 0 0 ≡ 48 → length ds ≡ 1) → ds ≡ decimal n
+pub canonical_decimal : (ds : List ℕ) (n : ℕ) → offset_of ds ≡ Some n → (get_or ds 0 0 ≡ 48 → length ds ≡ 1)
+    → ds ≡ decimal n
 canonical_decimal ds n h single =
     let parts = if_some (is_offset ds) (digits_value 10 ds) n h in
     let outer = and_parts _ _ parts.0 in
@@ -147,8 +180,10 @@ quoted_plain old s h = steps_of old s ∙ ap (λ e. old ++ 34 ∷ (e ++ 34 ∷ [
 -- fronts and texts by turns; each front but the first begins with the quote of the text before it
 abbrev pub in_pieces : List ℕ → TextsValue → List ℕ
 in_pieces old t =
-    (((((((old ++ (codes "{\"url\": \"" ++ t.url)) ++ (codes "\", \"mime\": \"" ++ t.mime)) ++ (codes "\", \"status\": \"" ++ t.status))
-    ++ (codes "\", \"digest\": \"" ++ t.digest)) ++ (codes "\", \"length\": \"" ++ t.length)) ++ (codes "\", \"offset\": \"" ++ t.offset))
+    (((((((old ++ (codes "{\"url\": \"" ++ t.url)) ++ (codes "\", \"mime\": \"" ++ t.mime))
+    ++ (codes "\", \"status\": \"" ++ t.status))
+    ++ (codes "\", \"digest\": \"" ++ t.digest)) ++ (codes "\", \"length\": \"" ++ t.length))
+    ++ (codes "\", \"offset\": \"" ++ t.offset))
     ++ (codes "\", \"filename\": \"" ++ t.filename)) ++ codes "\"}"
 
 in_one : (old : List ℕ) (t : TextsValue) → in_pieces old t ≡ old ++ plain_text t

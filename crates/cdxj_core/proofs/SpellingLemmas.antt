@@ -1,39 +1,47 @@
 -- A line followed by a plain object.
-use Rattle.std.proofs.Common.{◌≡◌, ℕ, ◌+◌, ◌<◌, ◌^◌, ◌==◌, List, [], ◌∷◌, ◌++◌, codes, decimal, length, refl, sym, ap, ◌∙◌, append_assoc, length-append, arith}
+use Rattle.std.proofs.Common.{◌≡◌, ℕ, ◌<◌, ◌^◌, ◌==◌, List, ◌++◌, codes, decimal, length, ap, ◌∙◌, append_assoc, length-append, arith}
 use Rattle.std.proofs.lemmas.Bool.{cond-false, ne_eqb}
 use Rattle.std.proofs.lemmas.Fmt.{decimal_nonempty}
 use Rattle.cdxj_core.specs.declared.spans.MemberEnds.{MemberEnds}
-use Rattle.cdxj_core.specs.declared.spans.TheConstants.{OPEN}
 use Rattle.cdxj_core.specs.FoundMembers.{FoundValue, raw_text}
 use Rattle.cdxj_core.specs.Lines.{value_text}
 use Rattle.cdxj_core.specs.Plain.{plain_text}
-use Rattle.cdxj_core.specs.PlainPlaces.{AreEndsOf}
-use Rattle.cdxj_core.specs.Spelling.{IsSpelled, raw_texts}
+use Rattle.cdxj_core.specs.Spelling.{IsSpelled}
 use Rattle.cdxj_core.specs.Texts.{missing, or_missing}
 
 -- a number has a text
 pub number_stands : (n : ℕ) → n < 2 ^ 64 → or_missing (decimal n) ≡ decimal n
-number_stands n small = cond-false (length (decimal n) == 0) missing (decimal n) (ne_eqb (length (decimal n)) 0 (λ e. omega (arith, e, decimal_nonempty n small)))
+number_stands n small = cond-false (length (decimal n) == 0) missing (decimal n)
+    (ne_eqb (length (decimal n)) 0 (λ e. omega (arith, e, decimal_nonempty n small)))
 
 all_steps : (line a b c d e f g : List ℕ)
-    → ((((((((line ++ (codes "{\"url\": \"" ++ a)) ++ (codes "\", \"mime\": \"" ++ b)) ++ (codes "\", \"status\": \"" ++ c)) ++ (codes "\", \"digest\": \"" ++ d))
-    ++ (codes "\", \"length\": \"" ++ e)) ++ (codes "\", \"offset\": \"" ++ f)) ++ (codes "\", \"filename\": \"" ++ g)) ++ codes "\"}")
+    → ((((((((line ++ (codes "{\"url\": \"" ++ a)) ++ (codes "\", \"mime\": \"" ++ b))
+    ++ (codes "\", \"status\": \"" ++ c)) ++ (codes "\", \"digest\": \"" ++ d))
+    ++ (codes "\", \"length\": \"" ++ e)) ++ (codes "\", \"offset\": \"" ++ f)) ++ (codes "\", \"filename\": \"" ++ g))
+    ++ codes "\"}")
     ≡ line ++ plain_text (record { url = a; mime = b; status = c; digest = d; length = e; offset = f; filename = g })
 all_steps line a b c d e f g = simp append_assoc
 
 -- the texts that were pushed one after another, and the lengths after each
-pub is_spelled : (line filename : List ℕ) (found : FoundValue) (offset : ℕ) (s0 s1 s2 s3 s4 s5 s6 s7 s8 : List ℕ) (e : MemberEnds)
+pub is_spelled : (line filename : List ℕ) (found : FoundValue) (offset : ℕ) (s0 s1 s2 s3 s4 s5 s6 s7 s8 : List ℕ)
+    (e : MemberEnds)
     → s0 ≡ line
-    → s1 ≡ s0 ++ (codes "{\"url\": \"" ++ raw_text found.url) → s2 ≡ s1 ++ (codes "\", \"mime\": \"" ++ raw_text found.mime)
-    → s3 ≡ s2 ++ (codes "\", \"status\": \"" ++ raw_text found.status) → s4 ≡ s3 ++ (codes "\", \"digest\": \"" ++ raw_text found.digest)
-    → s5 ≡ s4 ++ (codes "\", \"length\": \"" ++ raw_text found.length) → s6 ≡ s5 ++ (codes "\", \"offset\": \"" ++ decimal offset)
+    → s1 ≡ s0 ++ (codes "{\"url\": \"" ++ raw_text found.url) → s2 ≡ s1
+    ++ (codes "\", \"mime\": \"" ++ raw_text found.mime)
+    → s3 ≡ s2 ++ (codes "\", \"status\": \"" ++ raw_text found.status) → s4 ≡ s3
+    ++ (codes "\", \"digest\": \"" ++ raw_text found.digest)
+    → s5 ≡ s4 ++ (codes "\", \"length\": \"" ++ raw_text found.length) → s6 ≡ s5
+    ++ (codes "\", \"offset\": \"" ++ decimal offset)
     → s7 ≡ s6 ++ (codes "\", \"filename\": \"" ++ filename) → s8 ≡ s7 ++ codes "\"}"
-    → e.url ≡ length s1 → e.mime ≡ length s2 → e.status ≡ length s3 → e.digest ≡ length s4 → e.length ≡ length s5 → e.offset ≡ length s6
+    → e.url ≡ length s1 → e.mime ≡ length s2 → e.status ≡ length s3 → e.digest ≡ length s4 → e.length ≡ length s5
+    → e.offset ≡ length s6
     → or_missing (raw_text found.url) ≡ value_text found.url → or_missing (raw_text found.mime) ≡ value_text found.mime
-    → or_missing (raw_text found.status) ≡ value_text found.status → or_missing (raw_text found.digest) ≡ value_text found.digest
+    → or_missing (raw_text found.status) ≡ value_text found.status → or_missing (raw_text found.digest) ≡ value_text
+    found.digest
     → or_missing (raw_text found.length) ≡ value_text found.length
     → IsSpelled line found offset filename s8 e
-is_spelled line filename found offset s0 s1 s2 s3 s4 s5 s6 s7 s8 e p0 p1 p2 p3 p4 p5 p6 p7 p8 u m s d z o vu vm vs vd vz =
+is_spelled line filename found offset s0 s1 s2 s3 s4 s5 s6 s7 s8 e p0 p1 p2 p3 p4 p5 p6 p7 p8 u m s d z o vu vm vs vd
+    vz =
     let url = raw_text found.url in
     let mime = raw_text found.mime in
     let status = raw_text found.status in
@@ -64,5 +72,13 @@ is_spelled line filename found offset s0 s1 s2 s3 s4 s5 s6 s7 s8 e p0 p1 p2 p3 p
         size = omega (arith, d, z, l5);
         offset = omega (arith, z, o, l6);
       };
-      values = λ i. record { url = vu i; mime = vm i; status = vs i; digest = vd i; length = vz i; offset = number; filename = filename };
+      values = λ i. record {
+        url = vu i;
+        mime = vm i;
+        status = vs i;
+        digest = vd i;
+        length = vz i;
+        offset = number;
+        filename = filename;
+      };
     }

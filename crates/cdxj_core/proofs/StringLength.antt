@@ -15,11 +15,13 @@ abbrev pub Each : {A : Type 0} → (A → Type 0) → Option A → Type 0
 Each P None = ⊤
 Each P (Some a) = P a
 
-pub each_map : {A B : Type 0} (P : A → Type 0) (Q : B → Type 0) (f : A → B) → ((a : A) → P a → Q (f a)) → (o : Option A) → Each P o → Each Q (option_map f o)
+pub each_map : {A B : Type 0} (P : A → Type 0) (Q : B → Type 0) (f : A → B) → ((a : A) → P a → Q (f a)) → (o : Option A)
+    → Each P o → Each Q (option_map f o)
 each_map P Q f h None x = tt
 each_map P Q f h (Some a) x = h a x
 
-pub each_then : {A B : Type 0} (P : A → Type 0) (Q : B → Type 0) (f : A → Option B) → ((a : A) → P a → Each Q (f a)) → (o : Option A) → Each P o → Each Q (option_and_then f o)
+pub each_then : {A B : Type 0} (P : A → Type 0) (Q : B → Type 0) (f : A → Option B) → ((a : A) → P a → Each Q (f a))
+    → (o : Option A) → Each P o → Each Q (option_and_then f o)
 each_then P Q f h None x = tt
 each_then P Q f h (Some a) x = h a x
 
@@ -32,11 +34,13 @@ either P false x y p q = q
 abbrev pub UpTo : ℕ → List ℕ → Type 0
 UpTo n s = length s ≤ n
 
-after_unit : (n : ℕ) (f : ℕ → Option (List ℕ)) (o : Option ℕ) → ((u : ℕ) → Each (UpTo n) (f u)) → Each (UpTo n) (option_and_then f o)
+after_unit : (n : ℕ) (f : ℕ → Option (List ℕ)) (o : Option ℕ) → ((u : ℕ) → Each (UpTo n) (f u))
+    → Each (UpTo n) (option_and_then f o)
 after_unit n f None h = tt
 after_unit n f (Some u) h = h u
 
-prepended : (n m : ℕ) (a : List ℕ) (r : Option (List ℕ)) → length a + m ≤ n → Each (UpTo m) r → Each (UpTo n) (prepend a r)
+prepended : (n m : ℕ) (a : List ℕ) (r : Option (List ℕ)) → length a + m ≤ n → Each (UpTo m) r
+    → Each (UpTo n) (prepend a r)
 prepended n m a None le h = tt
 prepended n m a (Some s) le h = omega (arith, length-append a s)
 
@@ -48,19 +52,24 @@ short_content : (n : ℕ) (w : Within) (xs : List ℕ) → length xs ≤ n → E
 unfolding content
 short_content n plain [] le = tt
 short_content n plain (x ∷ xs) le =
-    either (Each (UpTo n)) (x == 34) _ _ (omega arith) (either (Each (UpTo n)) (x == 92) _ _ (short_content n after_backslash xs (omega arith))
-    (either (Each (UpTo n)) (nat_lt x 32) _ _ tt (prepended n (length xs) (x ∷ []) _ (omega arith) (short_content (length xs) plain xs (omega arith)))))
+    either (Each (UpTo n)) (x == 34) _ _ (omega arith) (either (Each (UpTo n)) (x == 92) _ _
+    (short_content n after_backslash xs (omega arith))
+    (either (Each (UpTo n)) (nat_lt x 32) _ _ tt (prepended n (length xs) (x ∷ []) _ (omega arith)
+    (short_content (length xs) plain xs (omega arith)))))
 short_content n after_backslash [] le = tt
 short_content n after_backslash (x ∷ xs) le =
     either (Each (UpTo n)) (x == 117) _ _ (short_content n after_u xs (omega arith))
-    (after_unit n _ (short_escape x) (λ c. prepended n (length xs) (c ∷ []) _ (omega arith) (short_content (length xs) plain xs (omega arith))))
+    (after_unit n _ (short_escape x) (λ c. prepended n (length xs) (c ∷ []) _ (omega arith)
+    (short_content (length xs) plain xs (omega arith))))
 short_content n after_u [] le = tt
 short_content n after_u (a ∷ []) le = tt
 short_content n after_u (a ∷ b ∷ []) le = tt
 short_content n after_u (a ∷ b ∷ c ∷ []) le = tt
 short_content n after_u (a ∷ b ∷ c ∷ d ∷ xs) le =
-    after_unit n _ (code_unit a b c d) (λ u. either (Each (UpTo n)) (is_high_surrogate u) _ _ (short_content n (after_high u) xs (omega arith))
-    (either (Each (UpTo n)) (is_low_surrogate u) _ _ tt (prepended n (length xs) (encode_utf8 u) _ (omega (arith, length-encode u)) (short_content (length xs) plain xs (omega arith)))))
+    after_unit n _ (code_unit a b c d) (λ u. either (Each (UpTo n)) (is_high_surrogate u) _ _
+    (short_content n (after_high u) xs (omega arith))
+    (either (Each (UpTo n)) (is_low_surrogate u) _ _ tt (prepended n (length xs) (encode_utf8 u) _
+    (omega (arith, length-encode u)) (short_content (length xs) plain xs (omega arith)))))
 short_content n (after_high h) [] le = tt
 short_content n (after_high h) (s ∷ []) le = tt
 short_content n (after_high h) (s ∷ u ∷ []) le = tt
@@ -68,8 +77,10 @@ short_content n (after_high h) (s ∷ u ∷ a ∷ []) le = tt
 short_content n (after_high h) (s ∷ u ∷ a ∷ b ∷ []) le = tt
 short_content n (after_high h) (s ∷ u ∷ a ∷ b ∷ c ∷ []) le = tt
 short_content n (after_high h) (s ∷ u ∷ a ∷ b ∷ c ∷ d ∷ xs) le =
-    either (Each (UpTo n)) ((s == 92) && (u == 117)) _ _ (after_unit n _ (code_unit a b c d) (λ l. either (Each (UpTo n)) (is_low_surrogate l) _ _
-    (prepended n (length xs) (encode_utf8 (surrogate_pair h l)) _ (omega (arith, length-encode (surrogate_pair h l))) (short_content (length xs) plain xs (omega arith))) tt)) tt
+    either (Each (UpTo n)) ((s == 92) && (u == 117)) _ _ (after_unit n _ (code_unit a b c d)
+    (λ l. either (Each (UpTo n)) (is_low_surrogate l) _ _
+    (prepended n (length xs) (encode_utf8 (surrogate_pair h l)) _ (omega (arith, length-encode (surrogate_pair h l)))
+    (short_content (length xs) plain xs (omega arith))) tt)) tt
 
 -- ---- the tokens of a text
 
@@ -102,21 +113,25 @@ short_number n t None = tt
 short_number n t (Some rest) = either (ShortToken n) (ends_word rest) _ _ tt tt
 
 short_literal : (n : ℕ) (name : List ℕ) (k : Token) (t : List ℕ) → ShortToken n k → ShortToken n (literal name k t)
-short_literal n name k t h = either (ShortToken n) (starts_with nat_eq t name && ends_word (drop (length name) t)) k Token.bad h tt
+short_literal n name k t h = either (ShortToken n) (starts_with nat_eq t name && ends_word (drop (length name) t)) k
+    Token.bad h tt
 
 short_word : (n : ℕ) (t : List ℕ) → ShortToken n (word t)
 unfolding word
 short_word n t =
     either (ShortToken n) (head t == 116) _ _ (short_literal n (codes "true") (Token.boolean true) t tt)
     (either (ShortToken n) (head t == 102) _ _ (short_literal n (codes "false") (Token.boolean false) t tt)
-    (either (ShortToken n) (head t == 110) _ _ (short_literal n (codes "null") Token.null t tt) (short_number n t (after_number t))))
+    (either (ShortToken n) (head t == 110) _ _ (short_literal n (codes "null") Token.null t tt)
+    (short_number n t (after_number t))))
 
 short_operator : (n x : ℕ) → ShortLexeme n (operator_lexeme x)
 short_operator n x =
-    either (ShortLexeme n) (x == 123) _ _ tt (either (ShortLexeme n) (x == 125) _ _ tt (either (ShortLexeme n) (x == 91) _ _ tt
+    either (ShortLexeme n) (x == 123) _ _ tt (either (ShortLexeme n) (x == 125) _ _ tt
+    (either (ShortLexeme n) (x == 91) _ _ tt
     (either (ShortLexeme n) (x == 93) _ _ tt (either (ShortLexeme n) (x == 44) _ _ tt tt))))
 
-short_byte : (n : ℕ) (m : Mode) (c : Class) (x : ℕ) (xs : List ℕ) (k : Mode → List Lexeme) → length xs ≤ n → ((next : Mode) → AllByRecursion (ShortLexeme n) (k next)) → AllByRecursion (ShortLexeme n) (lex_byte m c x xs k)
+short_byte : (n : ℕ) (m : Mode) (c : Class) (x : ℕ) (xs : List ℕ) (k : Mode → List Lexeme) → length xs ≤ n
+    → ((next : Mode) → AllByRecursion (ShortLexeme n) (k next)) → AllByRecursion (ShortLexeme n) (lex_byte m c x xs k)
 short_byte n between quote x xs k le h = (short_string n (content plain xs) (short_content n plain xs le), h in_string)
 short_byte n between backslash x xs k le h = (tt, h in_word)
 short_byte n between operator x xs k le h = (short_operator n x, h between)
@@ -137,13 +152,16 @@ short_byte n in_escape c x xs k le h = h in_string
 short_lex : (n : ℕ) (m : Mode) (xs : List ℕ) → length xs ≤ n → AllByRecursion (ShortLexeme n) (lex m xs)
 unfolding lex
 short_lex n m [] le = tt
-short_lex n m (x ∷ xs) le = short_byte n m (class x) x xs (λ next. lex next xs) (omega arith) (λ next. short_lex n next xs (omega arith))
+short_lex n m (x ∷ xs) le = short_byte n m (class x) x xs (λ next. lex next xs) (omega arith)
+    (λ next. short_lex n next xs (omega arith))
 
-short_allowed : (n : ℕ) (b : Bool) (t : Token) (k : Place → List Token) (next : Place) → ShortToken n t → ((p : Place) → AreShort n (k p)) → AreShort n (if_allowed b t k next)
+short_allowed : (n : ℕ) (b : Bool) (t : Token) (k : Place → List Token) (next : Place) → ShortToken n t
+    → ((p : Place) → AreShort n (k p)) → AreShort n (if_allowed b t k next)
 short_allowed n true t k next h rest = (h, rest next)
 short_allowed n false t k next h rest = (tt, tt)
 
-short_placed : (n : ℕ) (p : Place) (t : Token) (before_colon : Bool) (k : Place → List Token) → ShortToken n t → ((next : Place) → AreShort n (k next)) → AreShort n (place_token p t before_colon k)
+short_placed : (n : ℕ) (p : Place) (t : Token) (before_colon : Bool) (k : Place → List Token) → ShortToken n t
+    → ((next : Place) → AreShort n (k next)) → AreShort n (place_token p t before_colon k)
 short_placed n p Token.begin_object b k h rest = short_allowed n (may_begin p) Token.begin_object k fresh tt rest
 short_placed n p Token.end_object b k h rest = short_allowed n (may_close p) Token.end_object k after_value tt rest
 short_placed n p Token.begin_array b k h rest = short_allowed n (may_begin p) Token.begin_array k fresh tt rest
@@ -156,16 +174,21 @@ short_placed n p (Token.boolean v) b k h rest = short_allowed n (may_begin p) (T
 short_placed n p Token.null b k h rest = short_allowed n (may_begin p) Token.null k after_value tt rest
 short_placed n p Token.bad b k h rest = (tt, tt)
 
-short_punctuated : (n : ℕ) (p : Place) (ls : List Lexeme) → AllByRecursion (ShortLexeme n) ls → AreShort n (punctuate p ls)
+short_punctuated : (n : ℕ) (p : Place) (ls : List Lexeme) → AllByRecursion (ShortLexeme n) ls
+    → AreShort n (punctuate p ls)
 unfolding punctuate
 short_punctuated n fresh [] h = tt
 short_punctuated n after_value [] h = tt
 short_punctuated n after_comma [] h = (tt, tt)
 short_punctuated n after_key [] h = (tt, tt)
-short_punctuated n fresh (token t ∷ ls) h = short_placed n fresh t (begins_colon ls) (λ next. punctuate next ls) h.0 (λ next. short_punctuated n next ls h.1)
-short_punctuated n after_value (token t ∷ ls) h = short_placed n after_value t (begins_colon ls) (λ next. punctuate next ls) h.0 (λ next. short_punctuated n next ls h.1)
-short_punctuated n after_comma (token t ∷ ls) h = short_placed n after_comma t (begins_colon ls) (λ next. punctuate next ls) h.0 (λ next. short_punctuated n next ls h.1)
-short_punctuated n after_key (token t ∷ ls) h = short_placed n after_key t (begins_colon ls) (λ next. punctuate next ls) h.0 (λ next. short_punctuated n next ls h.1)
+short_punctuated n fresh (token t ∷ ls) h = short_placed n fresh t (begins_colon ls) (λ next. punctuate next ls) h.0
+    (λ next. short_punctuated n next ls h.1)
+short_punctuated n after_value (token t ∷ ls) h = short_placed n after_value t (begins_colon ls)
+    (λ next. punctuate next ls) h.0 (λ next. short_punctuated n next ls h.1)
+short_punctuated n after_comma (token t ∷ ls) h = short_placed n after_comma t (begins_colon ls)
+    (λ next. punctuate next ls) h.0 (λ next. short_punctuated n next ls h.1)
+short_punctuated n after_key (token t ∷ ls) h = short_placed n after_key t (begins_colon ls) (λ next. punctuate next ls)
+    h.0 (λ next. short_punctuated n next ls h.1)
 short_punctuated n fresh (comma ∷ ls) h = (tt, tt)
 short_punctuated n after_value (comma ∷ ls) h = short_punctuated n after_comma ls h.1
 short_punctuated n after_comma (comma ∷ ls) h = (tt, tt)
@@ -176,4 +199,5 @@ short_punctuated n after_comma (colon ∷ ls) h = (tt, tt)
 short_punctuated n after_key (colon ∷ ls) h = short_punctuated n fresh ls h.1
 
 pub short_tokens : (text : List ℕ) → AreShort (length text) (tokens text)
-short_tokens text = short_punctuated (length text) fresh (lex between text) (short_lex (length text) between text (omega arith))
+short_tokens text = short_punctuated (length text) fresh (lex between text) (short_lex (length text) between text
+    (omega arith))

@@ -10,15 +10,18 @@ use Rattle.cdxj_places.proofs.PlaceLaw.{both}
 use Rattle.cdxj_core.specs.Lines.{has_no_feed}
 use Rattle.cdxj_core.specs.Plain.{is_clean, is_other, is_unescaped, is_unescaped_ascii}
 
-pub weaker : (p q : ℕ → Bool) → ((b : ℕ) → p b ≡ true → q b ≡ true) → (xs : List ℕ) → list_all p xs ≡ true → list_all q xs ≡ true
+pub weaker : (p q : ℕ → Bool) → ((b : ℕ) → p b ≡ true → q b ≡ true) → (xs : List ℕ) → list_all p xs ≡ true
+    → list_all q xs ≡ true
 weaker p q f [] h = refl
-weaker p q f (x ∷ xs) h = let parts = and_parts (p x) (list_all p xs) h in both (q x) (list_all q xs) (f x parts.0) (weaker p q f xs parts.1)
+weaker p q f (x ∷ xs) h = let parts = and_parts (p x) (list_all p xs) h in both (q x) (list_all q xs) (f x parts.0)
+    (weaker p q f xs parts.1)
 
 clean_byte : (b : ℕ) → is_clean b ≡ true → (is_unescaped b ≡ true) × (not (b == 127) ≡ true)
 clean_byte b h = and_parts (is_unescaped b) (not (b == 127)) h
 
 byte_is_no_feed : (b : ℕ) → is_clean b ≡ true → not (b == 10) ≡ true
-byte_is_no_feed b h = let low : nat_le 32 b ≡ true = (and_parts (nat_le 32 b) (not (b == 92)) (clean_byte b h).0).0 in grind (arith, nat_tests)
+byte_is_no_feed b h = let low : nat_le 32 b ≡ true = (and_parts (nat_le 32 b) (not (b == 92)) (clean_byte b h).0).0 in
+    grind (arith, nat_tests)
 
 byte_is_clean : (b : ℕ) → is_unescaped_ascii b ≡ true → is_clean b ≡ true
 byte_is_clean b h =
@@ -35,7 +38,8 @@ key_byte b h =
     let above : nat_lt 32 b ≡ true = grind (arith, nat_tests) in
     both (nat_lt 32 b) (not (b == 127)) above clean.1
 
-all_both : (p q : ℕ → Bool) (xs : List ℕ) → list_all p xs ≡ true → list_all q xs ≡ true → list_all (λ b. p b && q b) xs ≡ true
+all_both : (p q : ℕ → Bool) (xs : List ℕ) → list_all p xs ≡ true → list_all q xs ≡ true → list_all (λ b. p b && q b) xs
+    ≡ true
 all_both p q [] h k = refl
 all_both p q (x ∷ xs) h k =
     let left = and_parts (p x) (list_all p xs) h in
@@ -43,7 +47,8 @@ all_both p q (x ∷ xs) h k =
     both (p x && q x) (list_all (λ b. p b && q b) xs) (both (p x) (q x) left.0 right.0) (all_both p q xs left.1 right.1)
 
 byte_is_ascii : (b : ℕ) → is_unescaped_ascii b ≡ true → nat_lt b 128 ≡ true
-byte_is_ascii b h = let high : nat_lt b 127 ≡ true = (and_parts (is_unescaped b) (nat_lt b 127) h).1 in grind (arith, nat_tests)
+byte_is_ascii b h = let high : nat_lt b 127 ≡ true = (and_parts (is_unescaped b) (nat_lt b 127) h).1 in
+    grind (arith, nat_tests)
 
 pub unescaped_only : (xs : List ℕ) → list_all is_clean xs ≡ true → list_all is_unescaped xs ≡ true
 unescaped_only = weaker is_clean is_unescaped (λ b h. (clean_byte b h).0)
@@ -55,20 +60,23 @@ pub clean_feed : (xs : List ℕ) → list_all is_clean xs ≡ true → has_no_fe
 clean_feed = weaker is_clean (λ b. not (b == 10)) byte_is_no_feed
 
 -- what stands before the first space of a clean text is a key, if it is not empty
-pub clean_key : (key : List ℕ) → list_all is_clean key ≡ true → list_all (is_other 32) key ≡ true → 0 < length key → is_key key ≡ true
+pub clean_key : (key : List ℕ) → list_all is_clean key ≡ true → list_all (is_other 32) key ≡ true → 0 < length key
+    → is_key key ≡ true
 clean_key key h k some =
     both (nat_lt 0 (length key)) (list_all is_key_byte key) (lt-ltb 0 (length key) some)
     (weaker (λ b. is_clean b && is_other 32 b) is_key_byte key_byte key (all_both is_clean (is_other 32) key h k))
 
 all_ascii : (xs : List ℕ) → list_all is_unescaped_ascii xs ≡ true → are_ascii xs ≡ true
 all_ascii [] h = refl
-all_ascii (x ∷ xs) h = let parts = and_parts (is_unescaped_ascii x) (list_all is_unescaped_ascii xs) h in both (nat_lt x 128) (are_ascii xs) (byte_is_ascii x parts.0) (all_ascii xs parts.1)
+all_ascii (x ∷ xs) h = let parts = and_parts (is_unescaped_ascii x) (list_all is_unescaped_ascii xs) h in
+    both (nat_lt x 128) (are_ascii xs) (byte_is_ascii x parts.0) (all_ascii xs parts.1)
 
 pub ascii_utf8 : (xs : List ℕ) → list_all is_unescaped_ascii xs ≡ true → IsUtf8 xs
 ascii_utf8 xs h = IsUtf8-are_ascii xs (all_ascii xs h)
 
 -- the parts of a text that passes a test
-pub all_parts : (p : ℕ → Bool) (text front rest : List ℕ) (b : ℕ) → text ≡ front ++ b ∷ rest → list_all p text ≡ true → (list_all p front ≡ true) × (list_all p rest ≡ true)
+pub all_parts : (p : ℕ → Bool) (text front rest : List ℕ) (b : ℕ) → text ≡ front ++ b ∷ rest → list_all p text ≡ true
+    → (list_all p front ≡ true) × (list_all p rest ≡ true)
 all_parts p text front rest b cut h =
     let parts = and_parts _ _ (sym (list_all-append p front (b ∷ rest)) ∙ ap (list_all p) (sym cut) ∙ h) in
     (parts.0, (and_parts (p b) (list_all p rest) parts.1).1)

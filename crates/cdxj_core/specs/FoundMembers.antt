@@ -95,11 +95,13 @@ value_read depth ts = parse_map member_data (converted of_json (value depth ts))
 
 -- what follows the items of an array
 abbrev pub items_passed : ℕ → List Token → Option (List Token)
-items_passed depth ts = option_map (λ p. p.1) (converted of_items (items (value depth) (length ts) ts))
+items_passed depth ts = option_map (λ p. p.1)
+    (converted of_items (items (value depth) (length ts) ts))
 
 -- the members of an object, and the tokens after it
 abbrev pub members_read : ℕ → List Token → Option (Members × List Token)
-members_read depth ts = converted (λ ms. of_members ms no_members) (members (value depth) (length ts) ts)
+members_read depth ts = converted (λ ms. of_members ms no_members)
+    (members (value depth) (length ts) ts)
 
 -- what follows the members of an object
 abbrev pub members_passed : ℕ → List Token → Option (List Token)

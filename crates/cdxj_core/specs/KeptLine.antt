@@ -8,8 +8,8 @@ use Rattle.cdxj_core.specs.Members.{Member, line_entry}
 use Rattle.cdxj_core.specs.Plain.{ArePlain}
 use Rattle.cdxj_core.specs.PlainPlaces.{AreMemberEnds, IsPart, part, texts_in}
 
--- The text begins with the line of this member, and its parts stand there. Behind a line that isn't plain, the text has
--- a plain object with the texts of the line's members.
+-- The text begins with the line of this member, and its parts stand there. Behind a line that isn't
+-- plain, the text has a plain object with the texts of the line's members.
 pub record IsKept (limit : ℕ) (text : List ℕ) (s : Spans) (member : Member) : Type 0 where
   pub entry : line_entry limit (take s.size text) ≡ Some member
   pub line_is : take s.size text ≡ member.line
@@ -30,7 +30,17 @@ pub record IsKept (limit : ℕ) (text : List ℕ) (s : Spans) (member : Member) 
 -- the member of nothing
 abbrev pub no_member : Member
 no_member = record {
-  values = record { key = []; stamp = []; original = []; mimetype = []; statuscode = []; digest = []; length = []; offset = 0; filename = [] };
+  values = record {
+    key = [];
+    stamp = [];
+    original = [];
+    mimetype = [];
+    statuscode = [];
+    digest = [];
+    length = [];
+    offset = 0;
+    filename = [];
+  };
   line = [];
 }
 

@@ -144,7 +144,8 @@ line_object key stamp text = option_and_then (line_from key stamp) (read text)
 
 -- the values of a body that was cut at its first two spaces
 abbrev pub line_parts : List ℕ → List ℕ → List ℕ → Option LineValue
-line_parts key stamp text = if is_key key && is_stamp stamp then line_object key stamp text else None
+line_parts key stamp text =
+    if is_key key && is_stamp stamp then line_object key stamp text else None
 
 -- The values of a line without its line feed; the limit counts the line feed.
 unfoldable pub line_in : ℕ → List ℕ → Option LineValue

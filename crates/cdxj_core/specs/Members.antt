@@ -27,12 +27,15 @@ entry_member e = record { values = entry_values e; line = body_text e }
 abbrev pub line_entry : ℕ → List ℕ → Option Member
 line_entry limit line =
     if is_utf8 (body_of line)
-    then option_map (λ values. record { values = values; line = body_of line }) (line_in limit (body_of line))
+    then option_map (λ values. record { values = values; line = body_of line })
+    (line_in limit (body_of line))
     else None
 
--- What a reading of a line answers. A line that is too long is that first; memory may be refused for any other.
+-- What a reading of a line answers. A line that is too long is that first; memory may be refused
+-- for any other.
 abbrev pub IsReading : ℕ → List ℕ → Result Member LineFault → Type 0
 IsReading limit line (Ok member) = line_entry limit line ≡ Some member
 IsReading limit line (Err faults.LineTooLong) = limit ≤ length (body_of line)
-IsReading limit line (Err faults.BadLine) = (length (body_of line) < limit) × (line_entry limit line ≡ None)
+IsReading limit line (Err faults.BadLine) = (length (body_of line) < limit)
+    × (line_entry limit line ≡ None)
 IsReading limit line (Err faults.Memory) = length (body_of line) < limit

@@ -1,4 +1,5 @@
--- A plain object: seven members in the order and the spelling of a written line, with texts that stand between their quotes as they are.
+-- A plain object: seven members in the order and the spelling of a written line, with texts that
+-- stand between their quotes as they are.
 use Rattle.std.specs.Prelude.{◌≡◌, ℕ, ◌==◌, ◌&&◌, Bool, true, not, nat_le, nat_lt, List, ◌∷◌, ◌++◌, codes}
 use Rattle.std.specs.List.{list_all}
 use Rattle.json.specs.Run.{is_plain}
@@ -11,7 +12,8 @@ is_other byte b = not (b == byte)
 
 -- a text is cut at the first of these bytes
 abbrev pub IsCutAt : ℕ → List ℕ → List ℕ → List ℕ → Type 0
-IsCutAt byte text front rest = (text ≡ front ++ byte ∷ rest) × (list_all (is_other byte) front ≡ true)
+IsCutAt byte text front rest = (text ≡ front ++ byte ∷ rest)
+    × (list_all (is_other byte) front ≡ true)
 
 -- no quote
 abbrev pub is_open : ℕ → Bool
@@ -55,8 +57,10 @@ after front text rest = front ++ (text ++ quote ∷ rest)
 
 abbrev pub plain_text : TextsValue → List ℕ
 plain_text t =
-    after (codes "{\"url\": \"") t.url (after (codes ", \"mime\": \"") t.mime (after (codes ", \"status\": \"") t.status
-    (after (codes ", \"digest\": \"") t.digest (after (codes ", \"length\": \"") t.length (after (codes ", \"offset\": \"") t.offset
+    after (codes "{\"url\": \"") t.url (after (codes ", \"mime\": \"") t.mime
+    (after (codes ", \"status\": \"") t.status
+    (after (codes ", \"digest\": \"") t.digest
+    (after (codes ", \"length\": \"") t.length (after (codes ", \"offset\": \"") t.offset
     (after (codes ", \"filename\": \"") t.filename (codes "}")))))))
 
 -- the values that the texts stand for

@@ -59,6 +59,7 @@ texts_in v = record {
 }
 
 -- the texts that stand there have these values
-pub record AreMemberEnds (text : List ℕ) (start : ℕ) (e : MemberEnds) (values : LineValue) : Type 0 where
-  pub parts : AreParts text start e
-  pub texts_are : values_of_texts (texts_at text start e) ≡ texts_in values
+pub record AreMemberEnds (text : List ℕ) (start : ℕ) (e : MemberEnds) (values : LineValue) : Type 0
+  where
+    pub parts : AreParts text start e
+    pub texts_are : values_of_texts (texts_at text start e) ≡ texts_in values

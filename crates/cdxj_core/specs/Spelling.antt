@@ -33,7 +33,8 @@ found_texts f offset filename = record {
 }
 
 -- the text is the line and a plain object with these texts, which end there
-pub record IsSpelled (line : List ℕ) (f : FoundValue) (offset : ℕ) (filename text : List ℕ) (e : MemberEnds) : Type 0 where
+pub record IsSpelled (line : List ℕ) (f : FoundValue) (offset : ℕ) (filename text : List ℕ)
+    (e : MemberEnds) : Type 0 where
   pub text_is : text ≡ line ++ plain_text (raw_texts f offset filename)
   pub ends : AreEndsOf (length line + OPEN) (raw_texts f offset filename) e
   pub values : values_of_texts (raw_texts f offset filename) ≡ found_texts f offset filename

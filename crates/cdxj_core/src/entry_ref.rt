@@ -28,7 +28,10 @@ impl<'a> EntryRef<'a> {
     /// Returns the texts of the members. `length` and `offset` are the entry's numbers in decimal.
     pub(crate) fn members(self, length: &'a str, offset: &'a str) -> BorrowedMembers<'a>
         ensures { borrowed_view result
-            ≡ record (entry_texts (entry_view self.entry)) { length = length.now; offset = offset.now } }
+            ≡ record (entry_texts (entry_view self.entry)) {
+              length = length.now;
+              offset = offset.now;
+            } }
     {
         BorrowedMembers {
             url: self.url,

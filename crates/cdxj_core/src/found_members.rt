@@ -26,8 +26,8 @@ pub(crate) struct FoundMembers<'a> {
 
 impl<'a> FoundMembers<'a> {
     /// Reads the members of a text that is a JSON object, and lets `scratch` grow to its length in
-    /// bytes. The error is `BadLine` if the text isn't an object, nests more than 127 deep, or has a
-    /// number that is too large for a 64-bit float. It is `Memory` if `scratch` can't grow.
+    /// bytes. The error is `BadLine` if the text isn't an object, nests more than 127 deep, or has
+    /// a number that is too large for a 64-bit float. It is `Memory` if `scratch` can't grow.
     pub(crate) fn of_text(
         text: &'a str,
         scratch: &'a mut Scratch,

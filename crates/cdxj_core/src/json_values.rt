@@ -6,8 +6,8 @@ ghost use Rattle.cdxj_core.specs.FoundViews.{value_view};
 use crate::member_value::{MemberValue, number_value};
 use json::{Invalid, Reader, Token};
 
-/// Reads a value, in which arrays and objects nest up to `depth` deep. Returns `Invalid` if there is
-/// no such value, or if a number in it is too large for a 64-bit float.
+/// Reads a value, in which arrays and objects nest up to `depth` deep. Returns `Invalid` if there
+/// is no such value, or if a number in it is too large for a 64-bit float.
 #[cycle(values)]
 pub(crate) fn read_value<'a>(
     reader: &mut Reader<'a>,

@@ -27,7 +27,8 @@ pub fn line_stays_under_higher_limit()
 
 /// A line that is too long has no entry.
 pub fn long_line_has_no_entry()
-    ensures { (limit : ℕ) → (line : List ℕ) → limit ≤ length (body_of line) → line_entry limit line ≡ None }
+    ensures { (limit : ℕ) → (line : List ℕ) → limit ≤ length (body_of line)
+        → line_entry limit line ≡ None }
 {}
 
 /// A line that has an entry begins with the entry's pair.
@@ -36,7 +37,8 @@ pub fn line_begins_with_its_pair()
         → line_entry limit line ≡ Some member → pair_of line ≡ Some (member_pair member) }
 {}
 
-/// The key of a line is shorter than the line without its line feed, and the file name is no longer than that.
+/// The key of a line is shorter than the line without its line feed, and the file name is no longer
+/// than that.
 pub fn key_and_file_name_are_no_longer_than_their_line()
     ensures key { (limit : ℕ) → (line : List ℕ) → (member : Member)
         → line_entry limit line ≡ Some member → length member.values.key < length member.line }
@@ -44,13 +46,15 @@ pub fn key_and_file_name_are_no_longer_than_their_line()
         → line_entry limit line ≡ Some member → length member.values.filename ≤ length member.line }
 {}
 
-/// The lines of good entries are an index with their members, if their pairs never fall, and so also if their places
-/// rise.
+/// The lines of good entries are an index with their members, if their pairs never fall, and so
+/// also if their places rise.
 pub fn written_lines_are_an_index()
-    ensures pairs { (limit : ℕ) → (entries : List EntryValue) → AllByRecursion (HasLine limit) entries
+    ensures pairs { (limit : ℕ) → (entries : List EntryValue)
+        → AllByRecursion (HasLine limit) entries
         → NeverFalls entry_pair pair_cmp entries
         → IsIndex limit (flat_map line_text entries) (map entry_member entries) }
-    ensures places { (limit : ℕ) → (entries : List EntryValue) → AllByRecursion (HasLine limit) entries
+    ensures places { (limit : ℕ) → (entries : List EntryValue)
+        → AllByRecursion (HasLine limit) entries
         → Rises entry_place place_cmp entries
         → IsIndex limit (flat_map line_text entries) (map entry_member entries) }
 {}

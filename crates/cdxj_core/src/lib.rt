@@ -1,6 +1,7 @@
 //! The keys, lines and places of CDXJ indexes; docs/CDXJ.md has the rules.
 //!
-//! The definitions begin in `specs/Lines.antt`: what a line says. `specs/Indexes.antt` says what an index is.
+//! The definitions begin in `specs/Lines.antt`: what a line says. `specs/Indexes.antt` says what an
+//! index is.
 #![tactic(auto)]
 
 mod body;

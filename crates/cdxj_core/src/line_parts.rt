@@ -37,11 +37,12 @@ impl<'a> Model for LineParts<'a> {
         (member_in LINE_LIMIT (take p.spans.size p.text.now)) };
 }
 
-/// Returns the stamp that begins a text, and what follows the space behind it. It declines a text of
-/// fewer than 16 bytes.
+/// Returns the stamp that begins a text, and what follows the space behind it. It declines a text
+/// of fewer than 16 bytes.
 #[inline(always)]
 fn cut_stamp(text: &str) -> Option<(&str, &str)>
-    ensures { IfSome result (λ p. (text.now ≡ p.0.now ++ 32 ∷ p.1.now) × (is_stamp p.0.now ≡ true)) }
+    ensures { IfSome result (λ p. (text.now ≡ p.0.now ++ 32 ∷ p.1.now)
+        × (is_stamp p.0.now ≡ true)) }
 {
     if text.len() >= 16 && begins_with_stamp(text.as_bytes()) {
         Some((&text[..14], &text[15..]))
@@ -59,7 +60,8 @@ impl<'a> LineParts<'a> {
     ghost use Rattle.cdxj_core.specs.Lines.{field_value};
     ghost use Rattle.cdxj_core.specs.Members.{member_place, line_entry};
 
-    /// Reads a plain line, with or without its line feed. It may decline any line, and takes no memory.
+    /// Reads a plain line, with or without its line feed. It may decline any line, and takes no
+    /// memory.
     #[inline(always)]
     pub(crate) fn read(line: &'a [u8]) -> Option<LineParts<'a>>
         ensures { IfSome result (λ found. line_entry LINE_LIMIT line.now ≡ Some found) }

@@ -51,7 +51,8 @@ fn text_after(text: &str, front: Front) -> Option<(&str, &str)>
     requires some { 0 < front.length }
     requires short { front.length ≤ 16 }
     requires quote { slice_index front.bytes (front.length - 1) ≡ 34 }
-    ensures { IfSome result (λ p. (text.now ≡ take front.length front.bytes ++ (p.0.now ++ 34 ∷ p.1.now))
+    ensures { IfSome result (λ p. (text.now ≡ take front.length front.bytes
+        ++ (p.0.now ++ 34 ∷ p.1.now))
         × (list_all is_open p.0.now ≡ true)) }
 {
     cut_at(without_front(text, front)?, b'"')
@@ -66,7 +67,8 @@ fn is_closed(rest: &str) -> bool
 
 #[inline(always)]
 fn open_texts(object: &str) -> Option<BorrowedMembers<'_>>
-    ensures { IfSome result (λ t. (object.now ≡ plain_text (borrowed_view t)) × AreOpen (borrowed_view t)) }
+    ensures { IfSome result (λ t. (object.now ≡ plain_text (borrowed_view t))
+        × AreOpen (borrowed_view t)) }
 {
     let (url, rest) = text_after(object, URL)?;
     let (mime, rest) = text_after(rest, MIME)?;
@@ -95,7 +97,8 @@ fn open_texts(object: &str) -> Option<BorrowedMembers<'_>>
 #[inline(always)]
 pub(crate) fn unescaped_texts(object: &str) -> Option<BorrowedMembers<'_>>
     requires { list_all is_unescaped object.now ≡ true }
-    ensures { IfSome result (λ t. (object.now ≡ plain_text (borrowed_view t)) × ArePlain (borrowed_view t)) }
+    ensures { IfSome result (λ t. (object.now ≡ plain_text (borrowed_view t))
+        × ArePlain (borrowed_view t)) }
 {
     open_texts(object)
 }

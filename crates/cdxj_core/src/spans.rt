@@ -69,8 +69,8 @@ impl MemberEnds {
 
 /// Where the parts of a line stand in its text, as offsets in bytes from the text's start.
 ///
-/// The text of a plain line is the line. Any other line is followed by a plain object that has the texts of its members,
-/// without escapes.
+/// The text of a plain line is the line. Any other line is followed by a plain object that has the
+/// texts of its members, without escapes.
 #[derive(Clone, Copy, Debug, Drop)]
 pub(crate) struct Spans {
     /// The end of the line, without its line feed.

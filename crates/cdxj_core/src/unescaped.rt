@@ -4,8 +4,8 @@ ghost use Rattle.std.specs.List.{list_all};
 ghost use Rattle.json.specs.Run.{is_plain};
 ghost use Rattle.cdxj_core.specs.Plain.{is_clean, is_unescaped_ascii};
 
-/// Returns `true` if no byte is a control, a backslash or DEL. It is one pass without an early exit,
-/// which compiles to vector tests.
+/// Returns `true` if no byte is a control, a backslash or DEL. It is one pass without an early
+/// exit, which compiles to vector tests.
 pub(crate) fn is_clean(text: &[u8]) -> bool
     ensures { result ≡ list_all is_clean text.now }
 {

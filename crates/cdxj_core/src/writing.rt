@@ -147,8 +147,10 @@ fn line_bytes(alloc: Global, entry: EntryRef<'_>) -> Result<Vec<u8>, AllocError>
 pub fn write_entry(alloc: Global, entry: EntryRef<'_>) -> Result<Vec<u8>, LineFault>
     requires { IsGood (entry_view entry) }
     ensures { MatchResult result
-        (λ line. (line.items ≡ line_text (entry_view entry.entry)) × (length line.items ≤ LINE_LIMIT))
-        (λ fault. (fault ≡ LineFault.LineTooLong → LINE_LIMIT < length (line_text (entry_view entry.entry)))
+        (λ line. (line.items ≡ line_text (entry_view entry.entry))
+        × (length line.items ≤ LINE_LIMIT))
+        (λ fault. (fault ≡ LineFault.LineTooLong
+        → LINE_LIMIT < length (line_text (entry_view entry.entry)))
         × (fault ≢ LineFault.BadLine)) }
 {
     let line = line_bytes(alloc, entry)?;

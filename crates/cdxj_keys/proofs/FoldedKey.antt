@@ -15,7 +15,8 @@ bytes_are_key : (bytes : List ℕ) → All (λ b. b < 256) bytes → list_all is
 bytes_are_key [] h = refl
 bytes_are_key (b ∷ bytes) h =
     list_all-append is_key_byte (key_byte b) (folded bytes)
-    ∙ (λ i. byte_is_key b (h 0 0 (grind (arith, common_steps))) i && bytes_are_key bytes (λ k d below. h (suc k) d (grind (arith, common_steps))) i)
+    ∙ (λ i. byte_is_key b (h 0 0 (grind (arith, common_steps))) i && bytes_are_key bytes
+    (λ k d below. h (suc k) d (grind (arith, common_steps))) i)
 
 byte_is_filled : (b : ℕ) → nat_lt 0 (length (key_byte b)) ≡ true
 byte_is_filled b = grind (arith, common_steps)

@@ -19,7 +19,9 @@ folded-graphic (b ∷ bytes) h =
     rw p.0 (ap (λ rest. to_ascii_lowercase b ∷ rest) (folded-graphic bytes p.1))
 
 byte_is_ascii : (b : ℕ) → is_graphic b ≡ true → b < 128
-byte_is_ascii b h = let high : nat_le b 126 ≡ true = (and_both (nat_le 33 b) (nat_le b 126) h).1 in grind (arith, nat_tests)
+byte_is_ascii b h = let high : nat_le b 126 ≡ true = (and_both (nat_le 33 b) (nat_le b 126) h).1 in
+    grind (arith, nat_tests)
 
 pub graphic_utf8 : (text : List ℕ) → list_all is_graphic text ≡ true → IsUtf8 text
-graphic_utf8 text h = IsUtf8-from_ascii text (IsAscii-from_all text (λ k d within. byte_is_ascii (get_or text k d) (AllPass-from_list_all is_graphic text h k d within)))
+graphic_utf8 text h = IsUtf8-from_ascii text (IsAscii-from_all text (λ k d within. byte_is_ascii (get_or text k d)
+    (AllPass-from_list_all is_graphic text h k d within)))

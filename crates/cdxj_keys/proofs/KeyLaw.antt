@@ -18,17 +18,23 @@ regroup a b c d e = simp append_assoc
 web_begins : (url : Parts) → Begins (folded (key_host (host_or_empty url))) (folded (web_text url))
 web_begins url =
     let host = key_host (host_or_empty url) in
-    let rest = port_text url.port ++ ((41 ∷ []) ++ (url.path ++ query_text url.query)) in
-    (folded rest, ap folded (regroup host (port_text url.port) (41 ∷ []) url.path (query_text url.query)) ∙ flat_map-append key_byte host rest)
+    let rest = port_text url.port ++ ((41 ∷ []) ++ (url.path ++ query_text url.query)) in (
+      folded rest,
+      ap folded (regroup host (port_text url.port) (41 ∷ []) url.path (query_text url.query))
+          ∙ flat_map-append key_byte host rest,
+    )
 
-begins : (read : Result Parts ParseError) (target host : List ℕ) → option_map folded (host_text_of read) ≡ Some host → Begins host (folded (key_text read target))
+begins : (read : Result Parts ParseError) (target host : List ℕ) → option_map folded (host_text_of read) ≡ Some host
+    → Begins host (folded (key_text read target))
 begins (Ok url) target host h = go (is_web url) h
   where
-    go : (web : Bool) → option_map folded (cond web (Some (key_host (host_or_empty url))) None) ≡ Some host → Begins host (folded (cond web (web_text url) target))
+    go : (web : Bool) → option_map folded (cond web (Some (key_host (host_or_empty url))) None) ≡ Some host
+        → Begins host (folded (cond web (web_text url) target))
     go true h = let w = web_begins url in (w.0, w.1 ∙ ap (λ host. host ++ w.0) (some_is _ _ h))
     go false h = absurd (cc)
 begins (Err e) target host h = absurd (cc)
 
-pub host_begins_key : (target host : List ℕ) → host_key_of target ≡ Some host → (rest : List ℕ) × (key_of target ≡ host ++ rest)
+pub host_begins_key : (target host : List ℕ) → host_key_of target ≡ Some host → (rest : List ℕ)
+    × (key_of target ≡ host ++ rest)
 unfolding host_key_of key_of
 host_begins_key target host h = begins (parse_url None target) target host h

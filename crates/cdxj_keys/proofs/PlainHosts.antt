@@ -19,7 +19,8 @@ split_none : (bytes : List ℕ) → has_no_dot bytes → rsplit_once 46 bytes �
 unfolding rsplit_once
 split_none [] h = refl
 split_none (b ∷ bytes) h =
-    ap (λ r. rsplit_step 46 b r.0 r.1) (split_none bytes h.1) ∙ ap (λ dot. if dot then (Some [], bytes) else (None, b ∷ bytes)) h.0
+    ap (λ r. rsplit_step 46 b r.0 r.1) (split_none bytes h.1)
+    ∙ ap (λ dot. if dot then (Some [], bytes) else (None, b ∷ bytes)) h.0
 
 split_at : (front last : List ℕ) → has_no_dot last → rsplit_once 46 (front ++ 46 ∷ last) ≡ (Some front, last)
 unfolding rsplit_once
@@ -28,16 +29,21 @@ split_at (b ∷ front) last h = ap (λ r. rsplit_step 46 b r.0 r.1) (split_at fr
 
 behind : (front last : List ℕ) → has_no_dot last → 0 < length last → last_label (front ++ 46 ∷ last) ≡ last
 behind front [] h some = absurd (omega arith)
-behind front (b ∷ last) h some = ap (λ r. last_label_of r.0 r.1) (split_at front (b ∷ last) h) ∙ cond-false _ _ _ (ne_eqb (length (b ∷ last)) 0 (λ e. omega arith))
+behind front (b ∷ last) h some = ap (λ r. last_label_of r.0 r.1) (split_at front (b ∷ last) h)
+    ∙ cond-false _ _ _ (ne_eqb (length (b ∷ last)) 0 (λ e. omega arith))
 
 -- a host without a dot is its last label
 pub lone_label : (host : List ℕ) → IsLastByte (is_byte 46) host None → host ≡ last_label host
-lone_label host none = sym (ap (λ r. last_label_of r.0 r.1) (split_none host (no_dot host (λ k low. none k (omega arith) low))))
+lone_label host none = sym (ap (λ r. last_label_of r.0 r.1) (split_none host
+    (no_dot host (λ k low. none k (omega arith) low))))
 
 -- what follows the last dot is the last label
-pub label_behind : (host : List ℕ) (dot : ℕ) → IsLastByte (is_byte 46) host (Some dot) → 0 < length (drop (dot + 1) host) → drop (dot + 1) host ≡ last_label host
+pub label_behind : (host : List ℕ) (dot : ℕ) → IsLastByte (is_byte 46) host (Some dot)
+    → 0 < length (drop (dot + 1) host) → drop (dot + 1) host ≡ last_label host
 label_behind host dot found some =
     let last = drop (dot + 1) host in
     let free : has_no_dot last =
-    no_dot last (λ k low here. found.0.after (dot + 1 + k) (omega arith) (omega (arith, low, length-drop (dot + 1) host)) (ap (λ b. b == 46) (sym (get_or-drop (dot + 1) host k 0)) ∙ here)) in
+    no_dot last (λ k low here. found.0.after (dot + 1 + k) (omega arith)
+    (omega (arith, low, length-drop (dot + 1) host)) (ap (λ b. b == 46) (sym (get_or-drop (dot + 1) host k 0))
+    ∙ here)) in
     sym (ap last_label (cut_at host dot found.0.high (eqb-true _ _ found.1)) ∙ behind (take dot host) last free some)

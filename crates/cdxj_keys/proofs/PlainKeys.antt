@@ -11,17 +11,21 @@ use Rattle.cdxj_keys.specs.PlainUrls.{plain_parts, plain_text, is_plain_byte, Is
 use Rattle.cdxj_keys.proofs.PlainLaws.{parses, http_scheme, https_scheme, http_kind, https_kind}
 use Rattle.cdxj_keys.proofs.PlainTails.{spelled}
 
-plain_bytes : (query : Option (List ℕ)) → IfSome query IsPlainQuery → IfSome query (λ text. list_all is_plain_byte text ≡ true)
+plain_bytes : (query : Option (List ℕ)) → IfSome query IsPlainQuery
+    → IfSome query (λ text. list_all is_plain_byte text ≡ true)
 plain_bytes None h = tt
 plain_bytes (Some text) h = h.1
 
 serialized : (scheme host path : List ℕ) (query : Option (List ℕ)) → IfSome query IsPlainQuery
-    → serialize (plain_parts scheme host path query) ≡ scheme ++ (codes "://" ++ (host ++ (47 ∷ (path ++ query_text query))))
+    → serialize (plain_parts scheme host path query) ≡ scheme
+    ++ (codes "://" ++ (host ++ (47 ∷ (path ++ query_text query))))
 serialized scheme host path None h = refl
 serialized scheme host path (Some text) h =
-    ap (λ l. scheme ++ (codes "://" ++ (host ++ (47 ∷ (path ++ l))))) (ap (λ t. 63 ∷ t) (append-nil text) ∙ sym (spelled text h.0))
+    ap (λ l. scheme ++ (codes "://" ++ (host ++ (47 ∷ (path ++ l))))) (ap (λ t. 63 ∷ t) (append-nil text)
+    ∙ sym (spelled text h.0))
 
-key_is : (scheme host path : List ℕ) (query : Option (List ℕ)) → web_text (plain_parts scheme host path query) ≡ domain_text host ++ (codes ")" ++ (47 ∷ (path ++ query_text query)))
+key_is : (scheme host path : List ℕ) (query : Option (List ℕ)) → web_text (plain_parts scheme host path query) ≡
+    domain_text host ++ (codes ")" ++ (47 ∷ (path ++ query_text query)))
 key_is scheme host path query =
     let front = domain_text host in
     let tail = 47 ∷ (path ++ query_text query) in
@@ -29,19 +33,27 @@ key_is scheme host path query =
     ∙ append_assoc (front ++ []) (codes ")") tail
     ∙ ap (λ l. l ++ (codes ")" ++ tail)) (append-nil front)
 
-with_scheme : (scheme target host tail : List ℕ) → IsScheme scheme → scheme_type scheme ≡ SpecialNotFile → ((path : List ℕ) (query : Option (List ℕ)) → is_web (plain_parts scheme host path query) ≡ true)
-    → target ≡ scheme ++ (codes "://" ++ (host ++ tail)) → IsPlainHost host → IsPlainTail tail → key_text (parse_url None target) target ≡ plain_text host tail
+with_scheme : (scheme target host tail : List ℕ) → IsScheme scheme → scheme_type scheme ≡ SpecialNotFile
+    → ((path : List ℕ) (query : Option (List ℕ)) → is_web (plain_parts scheme host path query) ≡ true)
+    → target ≡ scheme ++ (codes "://" ++ (host ++ tail)) → IsPlainHost host → IsPlainTail tail
+    → key_text (parse_url None target) target ≡ plain_text host tail
 with_scheme scheme target host tail is_scheme kind web cut plain_host t =
     let url = plain_parts scheme host t.path t.query in
-    let text : target ≡ serialize url = cut ∙ ap (λ l. scheme ++ (codes "://" ++ (host ++ l))) t.cut ∙ sym (serialized scheme host t.path t.query t.plain_query) in
+    let text : target ≡ serialize url = cut ∙ ap (λ l. scheme ++ (codes "://" ++ (host ++ l))) t.cut
+    ∙ sym (serialized scheme host t.path t.query t.plain_query) in
     let read : parse_url None target ≡ Ok url =
-    ap (parse_url None) text ∙ parses scheme is_scheme kind host t.path t.query plain_host t.plain_path (plain_bytes t.query t.plain_query) in
-    ap (λ r. key_text r target) read ∙ cond-true _ (web_text url) target (web t.path t.query) ∙ key_is scheme host t.path t.query ∙ ap (λ l. domain_text host ++ (codes ")" ++ l)) (sym t.cut)
+    ap (parse_url None) text ∙ parses scheme is_scheme kind host t.path t.query plain_host t.plain_path
+    (plain_bytes t.query t.plain_query) in
+    ap (λ r. key_text r target) read ∙ cond-true _ (web_text url) target (web t.path t.query)
+    ∙ key_is scheme host t.path t.query ∙ ap (λ l. domain_text host ++ (codes ")" ++ l)) (sym t.cut)
 
-pub plain_key_of : (target host tail : List ℕ) → IsPlainUrl target host tail → key_of target ≡ folded (plain_text host tail)
+pub plain_key_of : (target host tail : List ℕ) → IsPlainUrl target host tail → key_of target ≡ folded
+    (plain_text host tail)
 unfolding key_of
 plain_key_of target host tail url =
     ap folded (elim url.cut [
-      | inl http ↦ with_scheme (codes "http") target host tail http_scheme http_kind (λ path query. refl) http url.plain_host url.plain_tail
-      | inr https ↦ with_scheme (codes "https") target host tail https_scheme https_kind (λ path query. refl) https url.plain_host url.plain_tail
+      | inl http ↦ with_scheme (codes "http") target host tail http_scheme http_kind (λ path query. refl) http
+          url.plain_host url.plain_tail
+      | inr https ↦ with_scheme (codes "https") target host tail https_scheme https_kind (λ path query. refl) https
+          url.plain_host url.plain_tail
     ])

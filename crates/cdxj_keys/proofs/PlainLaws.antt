@@ -27,8 +27,10 @@ use Rattle.cdxj_keys.specs.PlainUrls.{is_domain_byte, is_plain_byte, is_path_byt
 -- ---- bytes
 
 -- what holds of each byte that passes a test
-implied : (p q : ℕ → Bool) (b : ℕ) → agree_below (λ b. not (p b) || q b) (λ _. true) 256 ≡ true → b < 256 → p b ≡ true → q b ≡ true
-implied p q b all small h = sym (ap (λ t. not t || q b) h) ∙ agree_below_at (λ b. not (p b) || q b) (λ _. true) 256 b all small
+implied : (p q : ℕ → Bool) (b : ℕ) → agree_below (λ b. not (p b) || q b) (λ _. true) 256 ≡ true → b < 256 → p b ≡ true
+    → q b ≡ true
+implied p q b all small h = sym (ap (λ t. not t || q b) h) ∙ agree_below_at (λ b. not (p b) || q b) (λ _. true) 256 b
+    all small
 
 graphic_small : (b : ℕ) → is_graphic b ≡ true → b < 256
 graphic_small b h = omega (arith, leb-true b 126 (and_parts (nat_le 33 b) (nat_le b 126) h).1)
@@ -39,21 +41,24 @@ domain_small b h = graphic_small b (and_parts _ _ h).0
 plain_small : (b : ℕ) → is_plain_byte b ≡ true → b < 256
 plain_small b h = graphic_small b (and_parts _ _ h).0
 
-all_of : (p : ℕ → Bool) (P : ℕ → Type 0) → ((b : ℕ) → p b ≡ true → P b) → (xs : List ℕ) → list_all p xs ≡ true → All P xs
+all_of : (p : ℕ → Bool) (P : ℕ → Type 0) → ((b : ℕ) → p b ≡ true → P b) → (xs : List ℕ) → list_all p xs ≡ true
+    → All P xs
 all_of p P f xs h = All-weaker (λ b. p b ≡ true) P f xs (AllPass-from_list_all p xs h)
 
 -- ---- hosts
 
 domain_kept : (b : ℕ) → is_domain_byte b ≡ true → IsKept FORBIDDEN_DOMAIN b
 unfolding should_percent_encode
-domain_kept b h = not-true _ (implied is_domain_byte (λ b. not (should_percent_encode FORBIDDEN_DOMAIN b)) b refl (domain_small b h) h)
+domain_kept b h = not-true _ (implied is_domain_byte (λ b. not (should_percent_encode FORBIDDEN_DOMAIN b)) b refl
+    (domain_small b h) h)
 
 lower_same : (b : ℕ) → is_domain_byte b ≡ true → to_ascii_lowercase b ≡ b
 lower_same b h = eqb-true _ _ (implied is_domain_byte (λ b. eqb (to_ascii_lowercase b) b) b refl (domain_small b h) h)
 
 all_lower : (xs : List ℕ) → list_all is_domain_byte xs ≡ true → lowercase xs ≡ xs
 all_lower [] h = refl
-all_lower (x ∷ xs) h = let parts = and_parts (is_domain_byte x) (list_all is_domain_byte xs) h in ap₂ (λ y ys. y ∷ ys) (lower_same x parts.0) (all_lower xs parts.1)
+all_lower (x ∷ xs) h = let parts = and_parts (is_domain_byte x) (list_all is_domain_byte xs) h in
+    ap₂ (λ y ys. y ∷ ys) (lower_same x parts.0) (all_lower xs parts.1)
 
 letter_small : (c : ℕ) → is_ascii_lowercase c ≡ true → c < 256
 letter_small c h = omega (arith, leb-true c 122 (and_parts (nat_le 97 c) (nat_le c 122) h).1)
@@ -64,15 +69,18 @@ radix c rest zero =
     if zero && (slice_index (c ∷ rest) 1 == 120 || slice_index (c ∷ rest) 1 == 88) then (16, drop 2 (c ∷ rest))
     else (if zero then (8, drop 1 (c ∷ rest)) else (10, c ∷ rest))
 
-no_number : (last : List ℕ) → is_ascii_lowercase (slice_index last 0) ≡ true → ((not (is_empty last) && list_all is_ascii_digit last) || is_number (parse_number last)) ≡ false
+no_number : (last : List ℕ) → is_ascii_lowercase (slice_index last 0) ≡ true
+    → ((not (is_empty last) && list_all is_ascii_digit last) || is_number (parse_number last)) ≡ false
 unfolding parse_number
 no_number [] h = absurd (cc)
 no_number (c ∷ rest) h =
     let small = letter_small c h in
     let some : is_empty (c ∷ rest) ≡ false = ne_eqb (length (c ∷ rest)) 0 (λ e. omega arith) in
-    let digit : is_ascii_digit c ≡ false = not-true _ (implied is_ascii_lowercase (λ b. not (is_ascii_digit b)) c refl small h) in
+    let digit : is_ascii_digit c ≡ false = not-true _ (implied is_ascii_lowercase (λ b. not (is_ascii_digit b)) c refl
+    small h) in
     let zero : (c == 48) ≡ false = not-true _ (implied is_ascii_lowercase (λ b. not (b == 48)) c refl small h) in
-    let decimal : is_digit c 10 ≡ false = not-true _ (implied is_ascii_lowercase (λ b. not (is_digit b 10)) c refl small h) in
+    let decimal : is_digit c 10 ≡ false = not-true _ (implied is_ascii_lowercase (λ b. not (is_digit b 10)) c refl small
+    h) in
     or_from _ _
     (λ i. not (some i) && (digit i && list_all is_ascii_digit rest))
     (ap is_number (cond-false _ _ _ some)
@@ -98,10 +106,12 @@ segment_small b h = plain_small b (and_parts _ _ (and_parts _ _ h).0).0
 
 segment_kept : (b : ℕ) → is_segment_byte b ≡ true → IsKept PATH b
 unfolding should_percent_encode
-segment_kept b h = not-true _ (implied is_segment_byte (λ b. not (should_percent_encode PATH b)) b refl (segment_small b h) h)
+segment_kept b h = not-true _ (implied is_segment_byte (λ b. not (should_percent_encode PATH b)) b refl
+    (segment_small b h) h)
 
 segment_whole : (b : ℕ) → is_segment_byte b ≡ true → is_slash SpecialNotFile b ≡ false
-segment_whole b h = not-true _ (implied is_segment_byte (λ b. not (is_slash SpecialNotFile b)) b refl (segment_small b h) h)
+segment_whole b h = not-true _ (implied is_segment_byte (λ b. not (is_slash SpecialNotFile b)) b refl
+    (segment_small b h) h)
 
 -- a segment begins with neither `.` nor an escape
 abbrev Begins : List ℕ → Type 0
@@ -114,11 +124,15 @@ resolved [] h = refl
 resolved (c ∷ segment) h =
     let parts = or_parts (c == 46) (c == 37) (not-true _ h) in
     let none : dot_len (c ∷ segment) ≡ 0 =
-    ap (λ t. if t then 1 else (if c == 37 && slice_index (c ∷ segment) 1 == 50 && (slice_index (c ∷ segment) 2 == 101 || slice_index (c ∷ segment) 2 == 69) then 3 else 0)) parts.0
-    ∙ ap (λ t. if t && slice_index (c ∷ segment) 1 == 50 && (slice_index (c ∷ segment) 2 == 101 || slice_index (c ∷ segment) 2 == 69) then 3 else 0) parts.1 in
-    ap (λ n. if n == 0 then 0 else (if is_empty (drop n (c ∷ segment)) then 1 else (if dot_len (drop n (c ∷ segment)) == length (drop n (c ∷ segment)) then 2 else 0))) none
+    ap (λ t. if t then 1 else (if c == 37 && slice_index (c ∷ segment) 1 == 50 && (slice_index (c ∷ segment) 2 == 101 ||
+    slice_index (c ∷ segment) 2 == 69) then 3 else 0)) parts.0
+    ∙ ap (λ t. if t && slice_index (c ∷ segment) 1 == 50 && (slice_index (c ∷ segment) 2 == 101 || slice_index
+    (c ∷ segment) 2 == 69) then 3 else 0) parts.1 in
+    ap (λ n. if n == 0 then 0 else (if is_empty (drop n (c ∷ segment)) then 1 else (if dot_len (drop n (c ∷ segment)) ==
+    length (drop n (c ∷ segment)) then 2 else 0))) none
 
-plain_segment : (segment : List ℕ) → list_all is_segment_byte segment ≡ true → Begins segment → IsSegment SpecialNotFile segment
+plain_segment : (segment : List ℕ) → list_all is_segment_byte segment ≡ true → Begins segment → IsSegment SpecialNotFile
+    segment
 plain_segment segment bytes begins = record {
   escaped = all_of is_segment_byte (IsKept PATH) segment_kept segment bytes;
   whole = all_of is_segment_byte (λ b. is_slash SpecialNotFile b ≡ false) segment_whole segment bytes;
@@ -131,7 +145,8 @@ segments_of path = slice_split (λ b. b == 47) path
 some_segments : (path : List ℕ) → 0 < length (segments_of path)
 some_segments path = omega (arith, length-slice_split (λ b. b == 47) path)
 
-join_onto : (b : ℕ) (segments : List (List ℕ)) → 0 < length segments → join_segments (onto_first b segments) ≡ 47 ∷ b ∷ drop 1 (join_segments segments)
+join_onto : (b : ℕ) (segments : List (List ℕ)) → 0 < length segments → join_segments (onto_first b segments) ≡ 47 ∷ b ∷
+    drop 1 (join_segments segments)
 join_onto b [] some = absurd (omega arith)
 join_onto b (x ∷ segments) some = refl
 
@@ -139,7 +154,8 @@ joined : (path : List ℕ) → join_segments (segments_of path) ≡ 47 ∷ path
 joined [] = refl
 joined (b ∷ path) = by (b == 47) refl (joined path)
   where
-    by : (t : Bool) → (b == 47) ≡ t → join_segments (segments_of path) ≡ 47 ∷ path → join_segments (cond t ([] ∷ segments_of path) (onto_first b (segments_of path))) ≡ 47 ∷ b ∷ path
+    by : (t : Bool) → (b == 47) ≡ t → join_segments (segments_of path) ≡ 47 ∷ path
+        → join_segments (cond t ([] ∷ segments_of path) (onto_first b (segments_of path))) ≡ 47 ∷ b ∷ path
     by true e rest = ap (λ l. 47 ∷ l) rest ∙ ap (λ c. 47 ∷ c ∷ path) (sym (eqb-true b 47 e))
     by false e rest = join_onto b (segments_of path) (some_segments path) ∙ ap (λ l. 47 ∷ b ∷ drop 1 l) rest
 
@@ -159,7 +175,8 @@ head_of : List (List ℕ) → List ℕ
 head_of [] = []
 head_of (x ∷ segments) = x
 
-onto_begins : (c : ℕ) (segments : List (List ℕ)) → 0 < length segments → begins_plain 47 c ≡ true → Begins (head_of (onto_first c segments))
+onto_begins : (c : ℕ) (segments : List (List ℕ)) → 0 < length segments → begins_plain 47 c ≡ true
+    → Begins (head_of (onto_first c segments))
 unfolding head_of
 onto_begins c [] some h = absurd (omega arith)
 onto_begins c (x ∷ segments) some h = h
@@ -170,11 +187,13 @@ unfolding head_of
 begins_head [] h = tt
 begins_head (c ∷ path) h = by (c == 47) (and_parts _ _ h).0
   where
-    by : (t : Bool) → begins_plain 47 c ≡ true → Begins (head_of (cond t ([] ∷ segments_of path) (onto_first c (segments_of path))))
+    by : (t : Bool) → begins_plain 47 c ≡ true → Begins (head_of
+        (cond t ([] ∷ segments_of path) (onto_first c (segments_of path))))
     by true first = tt
     by false first = onto_begins c (segments_of path) (some_segments path) first
 
-all_good : (segments : List (List ℕ)) → Good segments → Begins (head_of segments) → All (IsSegment SpecialNotFile) segments
+all_good : (segments : List (List ℕ)) → Good segments → Begins (head_of segments) → All (IsSegment SpecialNotFile)
+    segments
 unfolding head_of
 all_good [] g first = absurd g
 all_good (x ∷ segments) g first = All-cons (IsSegment SpecialNotFile) x segments (plain_segment x g.0 first) g.1
@@ -185,9 +204,11 @@ onto_good b (x ∷ segments) byte g = ((λ i. byte i && g.0 i), g.1)
 
 good : (path : List ℕ) → list_all is_path_byte path ≡ true → pairs path ≡ true → Good (segments_of path)
 good [] bytes h = (refl, All-nil (IsSegment SpecialNotFile))
-good (b ∷ path) bytes h = by (b == 47) refl (good path (and_parts _ _ bytes).1 (later_pairs b path h)) (λ e. begins_head path (subst (λ c. pairs (c ∷ path) ≡ true) (eqb-true b 47 e) h)) (and_parts _ _ bytes).0
+good (b ∷ path) bytes h = by (b == 47) refl (good path (and_parts _ _ bytes).1 (later_pairs b path h))
+    (λ e. begins_head path (subst (λ c. pairs (c ∷ path) ≡ true) (eqb-true b 47 e) h)) (and_parts _ _ bytes).0
   where
-    by : (t : Bool) → (b == 47) ≡ t → Good (segments_of path) → ((b == 47) ≡ true → Begins (head_of (segments_of path))) → is_path_byte b ≡ true
+    by : (t : Bool) → (b == 47) ≡ t → Good (segments_of path) → ((b == 47) ≡ true → Begins (head_of (segments_of path)))
+        → is_path_byte b ≡ true
         → Good (cond t ([] ∷ segments_of path) (onto_first b (segments_of path)))
     by true e rest first byte = (refl, all_good (segments_of path) rest (first e))
     by false e rest first byte = onto_good b (segments_of path) (λ i. byte i && not (e i)) rest
@@ -203,9 +224,11 @@ segments_of_plain path h = record {
 
 query_kept : (b : ℕ) → is_plain_byte b ≡ true → IsKept SPECIAL_QUERY b
 unfolding should_percent_encode
-query_kept b h = not-true _ (implied is_plain_byte (λ b. not (should_percent_encode SPECIAL_QUERY b)) b refl (plain_small b h) h)
+query_kept b h = not-true _ (implied is_plain_byte (λ b. not (should_percent_encode SPECIAL_QUERY b)) b refl
+    (plain_small b h) h)
 
-all_query_kept : (query : Option (List ℕ)) → IfSome query (λ text. list_all is_plain_byte text ≡ true) → IfSome query (All (IsKept SPECIAL_QUERY))
+all_query_kept : (query : Option (List ℕ)) → IfSome query (λ text. list_all is_plain_byte text ≡ true)
+    → IfSome query (All (IsKept SPECIAL_QUERY))
 all_query_kept None h = tt
 all_query_kept (Some text) h = all_of is_plain_byte (IsKept SPECIAL_QUERY) query_kept text h
 
@@ -215,10 +238,15 @@ some_host [] h = absurd (cc)
 some_host (b ∷ host) h = omega arith
 
 module _ (scheme : List ℕ) (is_scheme : IsScheme scheme) (kind : scheme_type scheme ≡ SpecialNotFile)
-    (host path : List ℕ) (query : Option (List ℕ)) (plain_host : IsPlainHost host) (plain_path : IsPlainPath (47 ∷ path))
+    (host path : List ℕ) (query : Option (List ℕ)) (plain_host : IsPlainHost host)
+    (plain_path : IsPlainPath (47 ∷ path))
     (plain_query : IfSome query (λ text. list_all is_plain_byte text ≡ true)) where
   valid_host : (kind : SchemeType) → kind ≡ SpecialNotFile → IsHostOf kind (Domain host)
-  valid_host kind is = subst (λ k. IsHostOf k (Domain host)) (sym is) (domain_of_plain host plain_host, some_host host plain_host.letter)
+  valid_host kind is = subst (λ k. IsHostOf k (Domain host)) (sym is) (
+    domain_of_plain host plain_host,
+    some_host host
+        plain_host.letter,
+  )
 
   valid : IsValid (plain_parts scheme host path query)
   valid = record {
@@ -230,7 +258,11 @@ module _ (scheme : List ℕ) (is_scheme : IsScheme scheme) (kind : scheme_type s
       port = tt;
       bare = λ _. (refl, refl, refl);
     };
-    path = inl (subst (λ k. IsSegmentList k (47 ∷ path)) (sym kind) (segments_of_plain path plain_path), λ _. omega arith);
+    path = inl (
+      subst (λ k. IsSegmentList k (47 ∷ path)) (sym kind) (segments_of_plain path plain_path),
+      λ _. omega
+          arith,
+    );
     query = subst (λ k. IfSome query (All (IsKept (query_set k)))) (sym kind) (all_query_kept query plain_query);
     fragment = tt;
   }

@@ -23,7 +23,8 @@ path_alone tail slash plain = record {
 pub spelled : (query : List ℕ) → 0 < length query → query_text (Some query) ≡ 63 ∷ query
 spelled query some = cond-false _ _ _ (ne_eqb (length query) 0 (λ e. omega arith))
 
-pub path_and_query : (tail : List ℕ) (at : ℕ) → slice_index tail 0 ≡ 47 → at < length tail → get_or tail at 0 ≡ 63 → IsPlainPath (take at tail) → IsPlainQuery (drop (at + 1) tail) → IsPlainTail tail
+pub path_and_query : (tail : List ℕ) (at : ℕ) → slice_index tail 0 ≡ 47 → at < length tail → get_or tail at 0 ≡ 63
+    → IsPlainPath (take at tail) → IsPlainQuery (drop (at + 1) tail) → IsPlainTail tail
 path_and_query tail zero slash within mark plain query = absurd (omega (arith, slash, mark))
 path_and_query tail (suc n) slash within mark plain query =
     let front = take (suc n) tail in

@@ -10,7 +10,8 @@ use Rattle.cdxj_keys.specs.Key.{domain_text, is_graphic, query_text}
 
 -- a letter in lower case, a digit, `-` or `.`
 abbrev pub is_domain_byte : ℕ → Bool
-is_domain_byte b = is_graphic b && (is_ascii_lowercase b || is_ascii_digit b || b == hyphen || b == full_stop)
+is_domain_byte b =
+    is_graphic b && (is_ascii_lowercase b || is_ascii_digit b || b == hyphen || b == full_stop)
 
 -- a byte that neither a path nor a query escapes, and that no path reads as `/`
 abbrev pub is_plain_byte : ℕ → Bool
@@ -61,7 +62,8 @@ pub record IsPlainTail (tail : List ℕ) : Type 0 where
 
 -- the text behind `http://` or `https://`
 abbrev pub IsBehindScheme : List ℕ → List ℕ → Type 0
-IsBehindScheme target rest = (target ≡ codes "http" ++ (codes "://" ++ rest)) ⊎ (target ≡ codes "https" ++ (codes "://" ++ rest))
+IsBehindScheme target rest = (target ≡ codes "http" ++ (codes "://" ++ rest))
+    ⊎ (target ≡ codes "https" ++ (codes "://" ++ rest))
 
 -- A target is a web URL that is left as it is, with this host, and this path and query in one text.
 pub record IsPlainUrl (target host tail : List ℕ) : Type 0 where

@@ -1,5 +1,5 @@
-//! Keys in the manner of SURT: URLs with the host's labels reversed, so that the pages of a host are adjacent in an
-//! index.
+//! Keys in the manner of SURT: URLs with the host's labels reversed, so that the pages of a host
+//! are adjacent in an index.
 ghost use Rattle.std.specs.Prelude.{◌≡◌, ◌<◌, ◌++◌, length, option_copied, option_map, true, IfOk, None, Ok, string_bytes};
 ghost use Rattle.std.specs.Char.{digit_char};
 ghost use Rattle.std.specs.List.{list_all};
@@ -38,8 +38,8 @@ fn hex(digit: u8) -> char
     }
 }
 
-/// Returns `true` if every byte is from 0x21 to 0x7E. It is one pass without an early exit, which compiles to vector
-/// tests.
+/// Returns `true` if every byte is from 0x21 to 0x7E. It is one pass without an early exit, which
+/// compiles to vector tests.
 fn is_graphic(bytes: &[u8]) -> bool
     ensures { result ≡ list_all is_graphic bytes.now }
 {
@@ -81,7 +81,8 @@ fn key_from(alloc: Global, text: &[u8]) -> Result<String, AllocError>
 
 /// Returns the key of a URL that the parser leaves as it is.
 fn plain_key(alloc: Global, url: PlainUrl<'_>) -> Result<String, AllocError>
-    ensures value { IfOk result (λ key. string_bytes key ≡ folded (plain_text url.entry.host.now url.entry.tail.now)) }
+    ensures value { IfOk result (λ key. string_bytes key
+        ≡ folded (plain_text url.entry.host.now url.entry.tail.now)) }
     ensures key { IfOk result (λ key. is_key (string_bytes key) ≡ true) }
 {
     let mut text = domain_text(alloc, url.host.as_bytes())?;
@@ -133,7 +134,8 @@ fn web_text(alloc: Global, url: &Url) -> Result<Vec<u8>, AllocError>
 /// Returns the key of a target that the URL parser read as this URL, as `url_key` does.
 #[tactic(auto, using(crate::proofs::FoldedKey::web_text_is_filled), unfolding(crate::specs::Key::key_of))]
 pub fn parsed_url_key(alloc: Global, url: &Url, target: &str) -> Result<String, AllocError>
-    ensures value { IfOk result (λ key. string_bytes key ≡ folded (key_text (Ok url.now) target.now)) }
+    ensures value { IfOk result (λ key. string_bytes key
+        ≡ folded (key_text (Ok url.now) target.now)) }
     ensures parsed { parse_url None target.now ≡ Ok url.now
         → IfOk result (λ key. string_bytes key ≡ key_of target.now) }
     ensures key { IfOk result (λ key. 0 < length target.now → is_key (string_bytes key) ≡ true) }
@@ -145,10 +147,11 @@ pub fn parsed_url_key(alloc: Global, url: &Url, target: &str) -> Result<String, 
     }
 }
 
-/// Returns the key of a target. The key of a web URL, as the URL Standard parses it, is the host text, `:` and the port
-/// unless it is the scheme's default port, `)`, the path, and `?` and the query unless it is empty. The key of any
-/// other target is the target itself. ASCII letters are written in lower case, and bytes outside 0x21 to 0x7E as `%`
-/// and two hexadecimal digits. The key of a target that isn't empty is valid as the key of a line.
+/// Returns the key of a target. The key of a web URL, as the URL Standard parses it, is the host
+/// text, `:` and the port unless it is the scheme's default port, `)`, the path, and `?` and the
+/// query unless it is empty. The key of any other target is the target itself. ASCII letters are
+/// written in lower case, and bytes outside 0x21 to 0x7E as `%` and two hexadecimal digits. The key
+/// of a target that isn't empty is valid as the key of a line.
 ///
 /// Returns `TooLong` only if the URL parser has no room for the URL.
 pub fn url_key(alloc: Global, target: &str) -> Result<String, KeyFault>
@@ -175,7 +178,8 @@ fn any_url_key(alloc: Global, target: &str) -> Result<String, KeyFault>
     }
 }
 
-/// Returns the host text of a target's key, in lower case, if the target is a web URL. Errors are those of `url_key`.
+/// Returns the host text of a target's key, in lower case, if the target is a web URL. Errors are
+/// those of `url_key`.
 #[tactic(auto, unfolding(crate::specs::Key::host_key_of))]
 pub fn host_key(alloc: Global, target: &str) -> Result<Option<String>, KeyFault>
     ensures { IfOk result (λ host. option_map string_bytes host ≡ host_key_of target.now) }

@@ -139,8 +139,8 @@ fn without_scheme(target: &str) -> Option<&str>
     }
 }
 
-/// Returns the host of the target, and the path and query that follow it, if the URL parser leaves the target as it is.
-/// It may decline any target.
+/// Returns the host of the target, and the path and query that follow it, if the URL parser leaves
+/// the target as it is. It may decline any target.
 pub(crate) fn plain_url(target: &str) -> Option<PlainUrl<'_>>
     ensures { IfSome result (λ url. IsPlainUrl target.now url.host.now url.tail.now) }
 {

@@ -10,17 +10,23 @@ use Rattle.std.specs.Str.Pattern.{RFindsChar, SplitsAroundMatch}
 use Rattle.cdxj_places.specs.Pair.{is_space}
 
 -- the place after the last space
-pub last_at : (s : List ℕ) (k : ℕ) → k < length s → get_or s k 0 ≡ 32 → ((i : ℕ) → k < i → i < length s → get_or s i 0 ≢ 32) → suffix_len (λ x. not (is_space x)) s ≡ length s - (k + 1)
+pub last_at : (s : List ℕ) (k : ℕ) → k < length s → get_or s k 0 ≡ 32
+    → ((i : ℕ) → k < i → i < length s → get_or s i 0 ≢ 32) → suffix_len (λ x. not (is_space x)) s ≡ length s - (k + 1)
 last_at s k within here later =
     let back : k + 1 - 1 ≡ k = omega arith in
-    suffix_len_is (λ x. not (is_space x)) s (k + 1) 0 (omega arith) (λ i low high. ap not (ne_eqb (get_or s i 0) 32 (later i (omega arith) high)))
+    suffix_len_is (λ x. not (is_space x)) s (k + 1) 0 (omega arith)
+    (λ i low high. ap not (ne_eqb (get_or s i 0) 32 (later i (omega arith) high)))
     (λ _. ap not (ap (λ n. get_or s n 0 == 32) back ∙ eq-eqb (get_or s k 0) 32 here))
 
-none_at : (s : List ℕ) → ((i : ℕ) → i < length s → get_or s i 0 ≢ 32) → suffix_len (λ x. not (is_space x)) s ≡ length s - 0
-none_at s none = suffix_len_is (λ x. not (is_space x)) s 0 0 (omega arith) (λ i low high. ap not (ne_eqb (get_or s i 0) 32 (none i high))) (λ h. absurd (omega arith))
+none_at : (s : List ℕ) → ((i : ℕ) → i < length s → get_or s i 0 ≢ 32) → suffix_len (λ x. not (is_space x)) s ≡ length s
+    - 0
+none_at s none = suffix_len_is (λ x. not (is_space x)) s 0 0 (omega arith)
+    (λ i low high. ap not (ne_eqb (get_or s i 0) 32 (none i high))) (λ h. absurd (omega arith))
 
-pub cuts_at_last : (s : List ℕ) (r : Option (Bor (List ℕ) × Bor (List ℕ))) → MatchOption r (RFindsChar 32 s None) (λ x. SplitsAroundMatch (RFindsChar 32) s x.0.now x.1.now)
-    → MatchOption r (([] ≡ before_last is_space s) × (s ≡ after_last is_space s)) (λ x. (x.0.now ≡ before_last is_space s) × (x.1.now ≡ after_last is_space s))
+pub cuts_at_last : (s : List ℕ) (r : Option (Bor (List ℕ) × Bor (List ℕ))) → MatchOption r (RFindsChar 32 s None)
+    (λ x. SplitsAroundMatch (RFindsChar 32) s x.0.now x.1.now)
+    → MatchOption r (([] ≡ before_last is_space s) × (s ≡ after_last is_space s))
+    (λ x. (x.0.now ≡ before_last is_space s) × (x.1.now ≡ after_last is_space s))
 cuts_at_last s None h =
     let e = none_at s (λ i. NoCharPasses-char 32 s i h (omega arith)) in
     let front : length s - suffix_len (λ x. not (is_space x)) s - 1 ≡ 0 = omega (arith, e) in
@@ -33,7 +39,8 @@ cuts_at_last s (Some x) h =
     let within : i < length s = omega (arith, h.7, next) in
     let later : (q : ℕ) → i < q → q < length s → get_or s q 0 ≢ 32 = λ q low high e.
     let shifted : j + (q - j) ≡ q = omega (arith, next) in
-    NoCharPasses-char 32 (drop j s) (q - j) h.2.0 (omega arith) (omega (arith, h.7, h.4, ap length h.4, next)) (get_or-drop j s (q - j) 0 ∙ ap (λ n. get_or s n 0) shifted ∙ e) in
+    NoCharPasses-char 32 (drop j s) (q - j) h.2.0 (omega arith) (omega (arith, h.7, h.4, ap length h.4, next))
+    (get_or-drop j s (q - j) 0 ∙ ap (λ n. get_or s n 0) shifted ∙ e) in
     let e = last_at s i within (h.2.1.byte (omega arith)) later in
     let front : length s - suffix_len (λ x. not (is_space x)) s - 1 ≡ i = omega (arith, e, within) in
     let back : length s - suffix_len (λ x. not (is_space x)) s ≡ j = omega (arith, e, within, next) in

@@ -17,30 +17,39 @@ use Rattle.cdxj_places.proofs.PlaceLaw.{key_no_space, before_first_at, after_fir
 -- ---- the pair of a text
 
 -- a key, a space, a stamp and a space begin with the pair
-pub pair_of-parts : (key stamp rest : List ℕ) → is_key key ≡ true → is_stamp stamp ≡ true → pair_of (key ++ 32 ∷ (stamp ++ 32 ∷ rest)) ≡ Some (key, stamp)
+pub pair_of-parts : (key stamp rest : List ℕ) → is_key key ≡ true → is_stamp stamp ≡ true
+    → pair_of (key ++ 32 ∷ (stamp ++ 32 ∷ rest)) ≡ Some (key, stamp)
 pair_of-parts key stamp rest k s =
     let free = key_no_space key k in
     let tail = stamp ++ 32 ∷ rest in
     let before = before_first_at key tail free in
     let after = after_first_at key tail free in
     let len : length stamp ≡ 14 = eqb-true _ _ (and_parts _ _ s).0 in
-    let stamp_is : stamp_part (key ++ 32 ∷ tail) ≡ stamp = ap (take 14) after ∙ ap (λ n. take n tail) (sym len) ∙ take-append_seam stamp (32 ∷ rest) in
-    let tail_is : tail_part (key ++ 32 ∷ tail) ≡ 32 ∷ rest = ap (drop 14) after ∙ ap (λ n. drop n tail) (sym len) ∙ drop-append_seam stamp (32 ∷ rest) in
-    let tests : begins_with_pair (key ++ 32 ∷ tail) ≡ true = both _ _ (both _ _ (ap is_key before ∙ k) (ap is_stamp stamp_is ∙ s)) (ap begins_with_space tail_is) in
+    let stamp_is : stamp_part (key ++ 32 ∷ tail) ≡ stamp = ap (take 14) after ∙ ap (λ n. take n tail) (sym len)
+    ∙ take-append_seam stamp (32 ∷ rest) in
+    let tail_is : tail_part (key ++ 32 ∷ tail) ≡ 32 ∷ rest = ap (drop 14) after ∙ ap (λ n. drop n tail) (sym len)
+    ∙ drop-append_seam stamp (32 ∷ rest) in
+    let tests : begins_with_pair (key ++ 32 ∷ tail) ≡ true =
+    both _ _ (both _ _ (ap is_key before ∙ k) (ap is_stamp stamp_is ∙ s)) (ap begins_with_space tail_is) in
     cond-true _ _ _ tests ∙ (λ i. Some (before i, stamp_is i))
 
 -- the text around its first space, unless nothing follows one
-pub around : (text : List ℕ) → 0 < length (after_first is_space text) → text ≡ before_first is_space text ++ 32 ∷ after_first is_space text
+pub around : (text : List ℕ) → 0 < length (after_first is_space text) → text ≡ before_first is_space text
+    ++ 32 ∷ after_first is_space text
 around text some =
-    let within : position_or_len is_space text < length text = ⊎_elim (λ h. h) (λ h. absurd (let none = drop_all (position_or_len is_space text + 1) text (omega arith) in omega (arith, ap length none))) (cases_lt (position_or_len is_space text) (length text)) in
-    let space : get_or text (position_or_len is_space text) 0 ≡ 32 = eqb-true _ _ (passes_at_first is_space text 0 within) in
+    let within : position_or_len is_space text < length text =
+    ⊎_elim (λ h. h) (λ h. absurd (let none = drop_all (position_or_len is_space text + 1) text (omega arith) in
+    omega (arith, ap length none))) (cases_lt (position_or_len is_space text) (length text)) in
+    let space : get_or text (position_or_len is_space text) 0 ≡ 32 =
+    eqb-true _ _ (passes_at_first is_space text 0 within) in
     split_at_first is_space text 0 within ∙ ap (λ b. before_first is_space text ++ b ∷ after_first is_space text) space
 
 space_first : (s : List ℕ) → begins_with_space s ≡ true → (rest : List ℕ) × (s ≡ 32 ∷ rest)
 space_first [] h = absurd (cc)
 space_first (b ∷ s) h = (s, ap (λ b. b ∷ s) (eqb-true b 32 h))
 
-has_pair : (x : List ℕ) (p : Pair) (b : Bool) → begins_with_pair x ≡ b → cond b (Some (key_part x, stamp_part x)) None ≡ Some p
+has_pair : (x : List ℕ) (p : Pair) (b : Bool) → begins_with_pair x ≡ b → cond b (Some (key_part x, stamp_part x)) None ≡
+    Some p
     → (begins_with_pair x ≡ true) × (Some (key_part x, stamp_part x) ≡ Some p)
 has_pair x p true e h = (e, h)
 has_pair x p false e h = absurd (cc)
@@ -60,7 +69,8 @@ begun x p h =
     let inner = and_parts (is_key (key_part x)) (is_stamp (stamp_part x)) outer.0 in
     let after = after_first is_space x in
     let tail = space_first (tail_part x) outer.1 in
-    let after_is : after ≡ stamp_part x ++ 32 ∷ tail.0 = sym (take-append-drop 14 after) ∙ ap (λ s. stamp_part x ++ s) tail.1 in
+    let after_is : after ≡ stamp_part x ++ 32 ∷ tail.0 = sym (take-append-drop 14 after) ∙ ap (λ s. stamp_part x ++ s)
+    tail.1 in
     let some : 0 < length after = omega (arith, ap length after_is, length-append (stamp_part x) (32 ∷ tail.0)) in
     record {
       key = inner.0;
@@ -90,7 +100,8 @@ pair_longer x y p h =
 -- ---- the order of pairs
 
 pub pair_cmp_total : IsTotalOrder pair_cmp
-pair_cmp_total = then_total (on_total (λ (p : Pair). p.0) nat_list_cmp_total) (on_total (λ (p : Pair). p.1) nat_list_cmp_total)
+pair_cmp_total = then_total (on_total (λ (p : Pair). p.0) nat_list_cmp_total)
+    (on_total (λ (p : Pair). p.1) nat_list_cmp_total)
 
 -- a pair that decides
 abbrev Decides : Ordering → Type 0

@@ -31,7 +31,8 @@ digit_byte : (b : ℕ) → IsDigit b → b ≢ 32
 digit_byte b h e = let bad : is_ascii_digit 32 ≡ true = subst IsDigit e h in cc
 
 pub key_no_space : (key : List ℕ) → is_key key ≡ true → All (λ b. b ≢ 32) key
-key_no_space key h = All-weaker (λ b. is_key_byte b ≡ true) (λ b. b ≢ 32) key_byte key (AllPass-from_list_all is_key_byte key (and_parts _ _ h).1)
+key_no_space key h = All-weaker (λ b. is_key_byte b ≡ true) (λ b. b ≢ 32) key_byte key
+    (AllPass-from_list_all is_key_byte key (and_parts _ _ h).1)
 
 pub digits_no_space : (ds : List ℕ) → list_all is_ascii_digit ds ≡ true → All (λ b. b ≢ 32) ds
 digits_no_space ds h = All-weaker IsDigit (λ b. b ≢ 32) digit_byte ds (AllPass-from_list_all is_ascii_digit ds h)
@@ -50,26 +51,30 @@ before_first_at xs ys none = rw (first_at xs ys none) (take-append_seam xs (32 �
 pub after_first_at : (xs ys : List ℕ) → All (λ b. b ≢ 32) xs → after_first is_space (xs ++ 32 ∷ ys) ≡ ys
 after_first_at xs ys none = rw (first_at xs ys none) (drop-append-add xs (32 ∷ ys) 1)
 
-last_here : (xs ys : List ℕ) → All (λ b. b ≢ 32) ys → suffix_len (λ x. not (is_space x)) (xs ++ 32 ∷ ys) ≡ length (xs ++ 32 ∷ ys) - (length xs + 1)
+last_here : (xs ys : List ℕ) → All (λ b. b ≢ 32) ys → suffix_len (λ x. not (is_space x)) (xs ++ 32 ∷ ys) ≡ length
+    (xs ++ 32 ∷ ys) - (length xs + 1)
 last_here xs ys none =
     let len : length (xs ++ 32 ∷ ys) ≡ length xs + (1 + length ys) = length-append xs (32 ∷ ys) ∙ omega arith in
     last_at (xs ++ 32 ∷ ys) (length xs) (omega (arith, len)) (get_or-append_seam xs 32 ys 0)
     (λ i low high e.
     let next : i - length xs ≡ suc (i - length xs - 1) = omega arith in
-    none (i - length xs - 1) 0 (omega (arith, len)) (sym (get_or-append_right xs (32 ∷ ys) i 0 (omega arith) ∙ ap (λ n. get_or (32 ∷ ys) n 0) next) ∙ e))
+    none (i - length xs - 1) 0 (omega (arith, len)) (sym (get_or-append_right xs (32 ∷ ys) i 0 (omega arith)
+    ∙ ap (λ n. get_or (32 ∷ ys) n 0) next) ∙ e))
 
 pub before_last_at : (xs ys : List ℕ) → All (λ b. b ≢ 32) ys → before_last is_space (xs ++ 32 ∷ ys) ≡ xs
 before_last_at xs ys none =
     let s = xs ++ 32 ∷ ys in
     let len : length s ≡ length xs + (1 + length ys) = length-append xs (32 ∷ ys) ∙ omega arith in
-    let at : length s - suffix_len (λ x. not (is_space x)) s - 1 ≡ length xs = omega (arith, last_here xs ys none, len) in
+    let at : length s - suffix_len (λ x. not (is_space x)) s - 1 ≡ length xs =
+    omega (arith, last_here xs ys none, len) in
     ap (λ n. take n s) at ∙ take-append_seam xs (32 ∷ ys)
 
 pub after_last_at : (xs ys : List ℕ) → All (λ b. b ≢ 32) ys → after_last is_space (xs ++ 32 ∷ ys) ≡ ys
 after_last_at xs ys none =
     let s = xs ++ 32 ∷ ys in
     let len : length s ≡ length xs + (1 + length ys) = length-append xs (32 ∷ ys) ∙ omega arith in
-    let at : length s - suffix_len (λ x. not (is_space x)) s ≡ length xs + 1 = omega (arith, last_here xs ys none, len) in
+    let at : length s - suffix_len (λ x. not (is_space x)) s ≡ length xs + 1 =
+    omega (arith, last_here xs ys none, len) in
     ap (λ n. drop n s) at ∙ drop-append-add xs (32 ∷ ys) 1
 
 -- ---- the offset
@@ -82,16 +87,21 @@ pub offset_text : (n : ℕ) → n < 2 ^ 63 → is_offset (decimal n) ≡ true
 offset_text n small =
     let fits : n < 2 ^ 64 = omega (arith, small) in
     let short : length (decimal n) ≤ 19 = length-decimal-le 19 n (omega arith) (omega (arith, small)) fits in
-    let value : digits_value 10 (decimal n) < 2 ^ 63 = subst (λ v. v < 2 ^ 63) (sym (digits_value-decimal own n fits)) small in
-    both _ _ (both _ _ (both _ _ (lt-ltb 0 (length (decimal n)) (decimal_nonempty n fits)) (le-leb (length (decimal n)) 19 short)) (digits_decimal own n fits)) (lt-ltb (digits_value 10 (decimal n)) (2 ^ 63) value)
+    let value : digits_value 10 (decimal n) < 2 ^ 63 = subst (λ v. v < 2 ^ 63) (sym (digits_value-decimal own n fits))
+    small in
+    both _ _ (both _ _ (both _ _ (lt-ltb 0 (length (decimal n)) (decimal_nonempty n fits))
+    (le-leb (length (decimal n)) 19 short)) (digits_decimal own n fits)) (lt-ltb (digits_value 10 (decimal n))
+    (2 ^ 63) value)
 
 -- ---- the law
 
 place_from-parts : (p : PlaceValue) → IsPlace p → place_from p.key p.stamp p.filename (decimal p.offset) ≡ Some p
 place_from-parts p h =
     let fits : p.offset < 2 ^ 64 = omega (arith, h.offset) in
-    cond-true _ _ _ (both _ _ (both _ _ (both _ _ h.key h.stamp) (lt-ltb 0 (length p.filename) h.filename)) (offset_text p.offset h.offset))
-    ∙ ap (λ n. Some (record { key = p.key; stamp = p.stamp; filename = p.filename; offset = n })) (digits_value-decimal own p.offset fits)
+    cond-true _ _ _ (both _ _ (both _ _ (both _ _ h.key h.stamp) (lt-ltb 0 (length p.filename) h.filename))
+    (offset_text p.offset h.offset))
+    ∙ ap (λ n. Some (record { key = p.key; stamp = p.stamp; filename = p.filename; offset = n }))
+    (digits_value-decimal own p.offset fits)
 
 pub place_in-place_text : (p : PlaceValue) → IsPlace p → place_in (place_text p) ≡ Some p
 unfolding place_in
@@ -101,9 +111,11 @@ place_in-place_text p h =
     let stamp_free = digits_no_space p.stamp (and_parts _ _ h.stamp).1 in
     let digits_free = digits_no_space (decimal p.offset) (digits_decimal own p.offset fits) in
     let after_key = after_first_at p.key (p.stamp ++ 32 ∷ (p.filename ++ 32 ∷ decimal p.offset)) key_free in
-    let after_stamp = ap (after_first is_space) after_key ∙ after_first_at p.stamp (p.filename ++ 32 ∷ decimal p.offset) stamp_free in
+    let after_stamp = ap (after_first is_space) after_key ∙ after_first_at p.stamp (p.filename ++ 32 ∷ decimal p.offset)
+    stamp_free in
     let key_is = before_first_at p.key (p.stamp ++ 32 ∷ (p.filename ++ 32 ∷ decimal p.offset)) key_free in
-    let stamp_is = ap (before_first is_space) after_key ∙ before_first_at p.stamp (p.filename ++ 32 ∷ decimal p.offset) stamp_free in
+    let stamp_is = ap (before_first is_space) after_key ∙ before_first_at p.stamp (p.filename ++ 32 ∷ decimal p.offset)
+    stamp_free in
     let name_is = ap (before_last is_space) after_stamp ∙ before_last_at p.filename (decimal p.offset) digits_free in
     let digits_is = ap (after_last is_space) after_stamp ∙ after_last_at p.filename (decimal p.offset) digits_free in
     (λ i. place_from (key_is i) (stamp_is i) (name_is i) (digits_is i)) ∙ place_from-parts p h
@@ -126,8 +138,18 @@ resume_place-resume_text p h =
     let stamp_digits = (and_parts _ _ h.stamp).1 in
     let decimal_digits = digits_decimal own p.offset fits in
     let B = λ (b : ℕ). b < 256 in
-    let space_text = λ (s : List ℕ) (u : IsUtf8 s). IsUtf8-append (32 ∷ []) s (IsUtf8-from_ascii (32 ∷ []) (IsAscii-from_all (32 ∷ []) (All-cons (λ b. b < 128) 32 [] (omega arith) (All-nil (λ b. b < 128))))) u in
-    let utf8 : IsUtf8 (place_text p) = IsUtf8-append p.key _ h.utf8_key (space_text _ (IsUtf8-append p.stamp _ (digits_utf8 p.stamp stamp_digits) (space_text _ (IsUtf8-append p.filename _ h.utf8_filename (space_text _ (digits_utf8 (decimal p.offset) decimal_digits)))))) in
+    let space_text = λ (s : List ℕ) (u : IsUtf8 s). IsUtf8-append (32 ∷ []) s
+    (IsUtf8-from_ascii (32 ∷ []) (IsAscii-from_all (32 ∷ []) (All-cons (λ b. b < 128) 32 [] (omega arith)
+    (All-nil (λ b. b < 128))))) u in
+    let utf8 : IsUtf8 (place_text p) = IsUtf8-append p.key _ h.utf8_key
+    (space_text _ (IsUtf8-append p.stamp _ (digits_utf8 p.stamp stamp_digits)
+    (space_text _ (IsUtf8-append p.filename _ h.utf8_filename
+    (space_text _ (digits_utf8 (decimal p.offset) decimal_digits)))))) in
     let bytes : All B (place_text p) =
-    All-append B p.key _ h.key_bytes (All-cons B 32 _ (omega arith) (All-append B p.stamp _ (All-weaker (λ b. b < 128) B small_byte p.stamp (digits_ascii p.stamp stamp_digits)) (All-cons B 32 _ (omega arith) (All-append B p.filename _ h.filename_bytes (All-cons B 32 _ (omega arith) (All-weaker (λ b. b < 128) B small_byte (decimal p.offset) (digits_ascii (decimal p.offset) decimal_digits))))))) in
-    ap (λ t. place_in (utf8_lossy t)) (decode-byte_serialize (place_text p) bytes) ∙ ap place_in (utf8_lossy-IsUtf8 (place_text p) utf8) ∙ place_in-place_text p h
+    All-append B p.key _ h.key_bytes (All-cons B 32 _ (omega arith)
+    (All-append B p.stamp _ (All-weaker (λ b. b < 128) B small_byte p.stamp (digits_ascii p.stamp stamp_digits))
+    (All-cons B 32 _ (omega arith) (All-append B p.filename _ h.filename_bytes
+    (All-cons B 32 _ (omega arith) (All-weaker (λ b. b < 128) B small_byte (decimal p.offset)
+    (digits_ascii (decimal p.offset) decimal_digits))))))) in
+    ap (λ t. place_in (utf8_lossy t)) (decode-byte_serialize (place_text p) bytes)
+    ∙ ap place_in (utf8_lossy-IsUtf8 (place_text p) utf8) ∙ place_in-place_text p h

@@ -10,7 +10,8 @@ pub place_cmp_total : IsTotalOrder place_cmp
 place_cmp_total =
     then_total (on_total (λ (p : PlaceValue). p.key) nat_list_cmp_total)
     (then_total (on_total (λ (p : PlaceValue). p.stamp) nat_list_cmp_total)
-    (then_total (on_total (λ (p : PlaceValue). p.filename) nat_list_cmp_total) (on_total (λ (p : PlaceValue). p.offset) nat_cmp_total)))
+    (then_total (on_total (λ (p : PlaceValue). p.filename) nat_list_cmp_total) (on_total (λ (p : PlaceValue). p.offset)
+    nat_cmp_total)))
 
 both_equal : (a b : Ordering) → ordering_then a b ≡ Equal → (a ≡ Equal) × (b ≡ Equal)
 both_equal Less b e = cc

@@ -5,7 +5,8 @@ ghost use Rattle.cdxj_places.specs.Pair.{is_space};
 
 use memchr::memchr;
 
-/// Returns the text before the first space, or the whole text if there is none, and the text after that space.
+/// Returns the text before the first space, or the whole text if there is none, and the text after
+/// that space.
 pub fn cut_first(text: &str) -> (&str, &str)
     ensures before { result.0.now ≡ before_first is_space text.now }
     ensures after { result.1.now ≡ after_first is_space text.now }
@@ -16,7 +17,8 @@ pub fn cut_first(text: &str) -> (&str, &str)
     (&text[..at], &text[at + 1..])
 }
 
-/// Returns the text before the last space, or an empty text if there is none, and the text after that space.
+/// Returns the text before the last space, or an empty text if there is none, and the text after
+/// that space.
 pub fn cut_last(text: &str) -> (&str, &str)
     ensures before { result.0.now ≡ before_last is_space text.now }
     ensures after { result.1.now ≡ after_last is_space text.now }

@@ -22,14 +22,17 @@ pub fn places_are_ordered()
 /// Pairs are totally ordered, and places of different pairs are ordered as their pairs.
 pub fn pairs_are_ordered()
     ensures total { IsTotalOrder pair_cmp }
-    ensures lower { (p q : PlaceValue) → pair_cmp (place_pair p) (place_pair q) ≡ Less → place_cmp p q ≡ Less }
-    ensures higher { (p q : PlaceValue) → pair_cmp (place_pair p) (place_pair q) ≡ Greater → place_cmp p q ≡ Greater }
+    ensures lower { (p q : PlaceValue) → pair_cmp (place_pair p) (place_pair q) ≡ Less
+        → place_cmp p q ≡ Less }
+    ensures higher { (p q : PlaceValue) → pair_cmp (place_pair p) (place_pair q) ≡ Greater
+        → place_cmp p q ≡ Greater }
 {}
 
 /// The pair that a text begins with is also the pair of each longer text that begins with this
 /// text.
 pub fn longer_text_has_the_pair()
-    ensures { (text rest : List ℕ) → (pair : Pair) → pair_of text ≡ Some pair → pair_of (text ++ rest) ≡ Some pair }
+    ensures { (text rest : List ℕ) → (pair : Pair) → pair_of text ≡ Some pair
+        → pair_of (text ++ rest) ≡ Some pair }
 {}
 
 /// The resume key of a place is read as that place.
@@ -56,9 +59,12 @@ pub fn place_is_good(place: Place<'_>)
 /// followed by the list of the others.
 pub fn rising_list_is_unique<T: HasPlace>()
     ensures members { (thing : T) → (things : List T)
-        → IsIn thing (rising T.place_of place_cmp things) ↔ IsFirst T.place_of place_cmp thing things }
-    ensures rises { (things : List T) → Rises T.place_of place_cmp (rising T.place_of place_cmp things) }
-    ensures unique { (these those : List T) → Rises T.place_of place_cmp these → Rises T.place_of place_cmp those
+        → IsIn thing (rising T.place_of place_cmp things) ↔ IsFirst T.place_of place_cmp thing
+        things }
+    ensures rises { (things : List T) → Rises T.place_of place_cmp
+        (rising T.place_of place_cmp things) }
+    ensures unique { (these those : List T) → Rises T.place_of place_cmp these
+        → Rises T.place_of place_cmp those
         → ((thing : T) → IsIn thing these ↔ IsIn thing those) → these ≡ those }
     ensures splits { (is_low : T → Bool) → IsLower T.place_of place_cmp is_low → (things : List T)
         → rising T.place_of place_cmp things
@@ -70,5 +76,6 @@ pub fn rising_list_is_unique<T: HasPlace>()
 /// ordering the things by place and then mapping them.
 pub fn rising_list_of_views<X, Y, P>()
     ensures { (view : X → Y) → (place : Y → P) → (cmp : P → P → Ordering) → (things : List X)
-        → map view (rising (λ thing. place (view thing)) cmp things) ≡ rising place cmp (map view things) }
+        → map view (rising (λ thing. place (view thing)) cmp things)
+        ≡ rising place cmp (map view things) }
 {}

@@ -1,4 +1,5 @@
-//! The places of captures in an index: their order, their resume keys, and the pair that a line begins with.
+//! The places of captures in an index: their order, their resume keys, and the pair that a line
+//! begins with.
 //!
 //! The definitions begin in `specs/Places.antt`: what a place is, and the order of places.
 #![tactic(auto)]

@@ -11,7 +11,8 @@ const MOST_DIGITS: usize = 19;
 /// Returns the number that digits spell. If one of the bytes isn't a digit, there is none.
 fn number_of(text: &[u8]) -> Option<u64>
     requires { length text.now ≤ MOST_DIGITS }
-    ensures { result ≡ if list_all is_ascii_digit text.now then Some (digits_value 10 text.now) else None }
+    ensures { result
+        ≡ if list_all is_ascii_digit text.now then Some (digits_value 10 text.now) else None }
 {
     let mut number: u64 = 0;
     for byte in text {

@@ -42,7 +42,8 @@ fn begins_with_space(bytes: &[u8]) -> bool
     matches!(bytes, [b' ', ..])
 }
 
-/// Returns the key and the 14 digits of the stamp, if the bytes begin with a key, a space, a stamp and a space.
+/// Returns the key and the 14 digits of the stamp, if the bytes begin with a key, a space, a stamp
+/// and a space.
 pub fn split_pair(line: &[u8]) -> Option<(&[u8], &[u8])>
     ensures { option_map (λ p. (p.0.now, p.1.now)) result ≡ pair_of line.now }
 {

@@ -1,4 +1,5 @@
 pub mod PageLaws
 pub mod PageLemmas
 pub mod EscapeLemmas
-pub mod SpecialLemmas
+pub mod HiddenLemmas
+pub mod JsonLemmas

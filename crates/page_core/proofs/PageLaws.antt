@@ -15,11 +15,13 @@ filter_all f [] h = refl
 filter_all f (x ∷ xs) h = cond-true (f x) _ _ h.0 ∙ ap (λ t. x ∷ t) (filter_all f xs h.1)
 
 -- a filter over another that lets all of it pass
-pub filter_filter : {X : Type 0} (f g : X → Bool) (h : (x : X) → f x ≡ true → g x ≡ true) (xs : List X) → filter f (filter g xs) ≡ filter f xs
+pub filter_filter : {X : Type 0} (f g : X → Bool) (h : (x : X) → f x ≡ true → g x ≡ true) (xs : List X)
+    → filter f (filter g xs) ≡ filter f xs
 filter_filter f g h [] = refl
 filter_filter f g h (x ∷ xs) = grind (arith, cases_Bool (f x), cases_Bool (g x), h x, filter_filter f g h xs)
 
-pub each_filter : {X : Type 0} (A : X → Type 0) (f : X → Bool) (xs : List X) → AllByRecursion A xs → AllByRecursion A (filter f xs)
+pub each_filter : {X : Type 0} (A : X → Type 0) (f : X → Bool) (xs : List X) → AllByRecursion A xs
+    → AllByRecursion A (filter f xs)
 each_filter A f [] h = tt
 each_filter A f (x ∷ xs) h =
     elim (f x) as (λ b. AllByRecursion A (cond b (x ∷ filter f xs) (filter f xs)))
@@ -45,25 +47,36 @@ module _ {X P : Type 0} (place : X → P) (R : P → P → Ordering) (same : P �
   above_itself : (x : X) → is_above place R (Some (place x)) x ≡ false
   above_itself x = ap is_gt (tied_itself o (place x))
 
-  pub above_trans : (x : X) (m : X) (p : Option P) → is_above place R p m ≡ true → is_above place R (Some (place m)) x ≡ true → is_above place R p x ≡ true
+  pub above_trans : (x : X) (m : X) (p : Option P) → is_above place R p m ≡ true → is_above place R (Some (place m)) x ≡
+      true → is_above place R p x ≡ true
   above_trans x m None h k = refl
   above_trans x m (Some p) h k = ap is_gt (gt_trans place R o (place x) (place m) p (is_gt-true _ k) (is_gt-true _ h))
 
   -- what is above the one is not below it
-  pub above_not_below : (x m : X) → is_above place R (Some (place x)) m ≡ true → is_above place R (Some (place m)) x ≡ false
+  pub above_not_below : (x m : X) → is_above place R (Some (place x)) m ≡ true → is_above place R (Some (place m)) x ≡
+      false
   above_not_below x m h = ap is_gt (gt_back place R o (place m) (place x) (is_gt-true _ h))
 
-  pub each_kept : (A : X → Type 0) (p : Option P) (xs : List X) → AllByRecursion A xs → AllByRecursion A (kept place same p xs)
+  pub each_kept : (A : X → Type 0) (p : Option P) (xs : List X) → AllByRecursion A xs
+      → AllByRecursion A (kept place same p xs)
   each_kept A p [] h = tt
   each_kept A p (x ∷ xs) h =
-      elim (repeats place same p x) as (λ b. AllByRecursion A (cond b (kept place same (Some (place x)) xs) (x ∷ kept place same (Some (place x)) xs)))
+      elim (repeats place same p x) as (λ b. AllByRecursion A (cond b (kept place same (Some (place x)) xs)
+      (x ∷ kept place same (Some (place x)) xs)))
       [ true ↦ each_kept A (Some (place x)) xs h.1 | false ↦ (h.0, each_kept A (Some (place x)) xs h.1) ]
 
   pub rises_kept : (p : Option P) (l : List X) → Rises place R l → Rises place R (kept place same p l)
   rises_kept p [] h = tt
   rises_kept p (x ∷ xs) h =
-      elim (repeats place same p x) as (λ b. Rises place R (cond b (kept place same (Some (place x)) xs) (x ∷ kept place same (Some (place x)) xs)))
-      [ true ↦ rises_kept (Some (place x)) xs h.1 | false ↦ (each_kept _ (Some (place x)) xs h.0, rises_kept (Some (place x)) xs h.1) ]
+      elim (repeats place same p x) as (λ b. Rises place R (cond b (kept place same (Some (place x)) xs)
+      (x ∷ kept place same (Some (place x)) xs))) [
+        | true ↦ rises_kept (Some (place x)) xs h.1
+        | false ↦ (
+          each_kept _ (Some (place x)) xs h.0,
+          rises_kept
+              (Some (place x)) xs h.1,
+        )
+      ]
 
   pub rises_collapsed : (l : List X) (p : Option P) → Rises place R l → Rises place R (collapsed place R same l p)
   rises_collapsed l p h = rises_kept p _ (rises_filter place R o (is_above place R p) l h)
@@ -71,7 +84,8 @@ module _ {X P : Type 0} (place : X → P) (R : P → P → Ordering) (same : P �
   in_kept : (m : X) (p : Option P) (xs : List X) → IsIn m (kept place same p xs) → IsIn m xs
   in_kept m p [] i = i
   in_kept m p (x ∷ xs) i =
-      (elim (repeats place same p x) as (λ b. IsIn m (cond b (kept place same (Some (place x)) xs) (x ∷ kept place same (Some (place x)) xs)) → IsIn m (x ∷ xs)) [
+      (elim (repeats place same p x) as (λ b. IsIn m (cond b (kept place same (Some (place x)) xs)
+      (x ∷ kept place same (Some (place x)) xs)) → IsIn m (x ∷ xs)) [
         | true ↦ (λ i. inr (in_kept m (Some (place x)) xs i))
         | false ↦ (λ i. elim i [ inl e ↦ inl e | inr j ↦ inr (in_kept m (Some (place x)) xs j) ])
       ]) i
@@ -79,33 +93,49 @@ module _ {X P : Type 0} (place : X → P) (R : P → P → Ordering) (same : P �
   in_filter : (f : X → Bool) (m : X) (xs : List X) → IsIn m (filter f xs) → f m ≡ true
   in_filter f m [] i = absurd i
   in_filter f m (x ∷ xs) i = elim (cases_Bool (f x)) [
-    | inl e ↦ elim (subst (λ b. IsIn m (cond b (x ∷ filter f xs) (filter f xs))) e i) [ inl q ↦ (ap f (sym q) ∙ e) | inr j ↦ in_filter f m xs j ]
+    | inl e ↦ elim (subst (λ b. IsIn m (cond b (x ∷ filter f xs) (filter f xs))) e i) [
+      | inl q ↦ (ap f (sym q) ∙ e)
+      | inr
+          j ↦ in_filter f m xs j
+    ]
     | inr e ↦ in_filter f m xs (subst (λ b. IsIn m (cond b (x ∷ filter f xs) (filter f xs))) e i)
   ]
 
   -- The members above one that is kept, collapsed from it on, are those that were kept above it
   resumes : (p : Option P) (m : X) (xs : List X) → Rises place R xs → IsIn m (kept place same p xs)
-      → kept place same (Some (place m)) (filter (is_above place R (Some (place m))) xs) ≡ filter (is_above place R (Some (place m))) (kept place same p xs)
+      → kept place same (Some (place m)) (filter (is_above place R (Some (place m))) xs) ≡ filter
+      (is_above place R (Some (place m))) (kept place same p xs)
   resumes p m [] h i = refl
   resumes p m (x ∷ xs) h i =
       let below : IsIn m (kept place same (Some (place x)) xs) → is_above place R (Some (place m)) x ≡ false =
       λ j. above_not_below x m (each_at _ m xs h.0 (in_kept m (Some (place x)) xs j)) in
-      let later : (b : Bool) → IsIn m (kept place same (Some (place x)) xs) → kept place same (Some (place m)) (filter (is_above place R (Some (place m))) (x ∷ xs)) ≡ filter (is_above place R (Some (place m))) (cond b (kept place same (Some (place x)) xs) (x ∷ kept place same (Some (place x)) xs)) =
+      let later : (b : Bool) → IsIn m (kept place same (Some (place x)) xs) → kept place same (Some (place m))
+      (filter (is_above place R (Some (place m))) (x ∷ xs)) ≡ filter (is_above place R (Some (place m)))
+      (cond b (kept place same (Some (place x)) xs) (x ∷ kept place same (Some (place x)) xs)) =
       λ b j. ap (kept place same (Some (place m))) (cond-false _ _ _ (below j)) ∙ resumes (Some (place x)) m xs h.1 j ∙
-      elim b as (λ b. filter (is_above place R (Some (place m))) (kept place same (Some (place x)) xs) ≡ filter (is_above place R (Some (place m))) (cond b (kept place same (Some (place x)) xs) (x ∷ kept place same (Some (place x)) xs))) [ true ↦ refl | false ↦ sym (cond-false _ _ _ (below j)) ] in
-      let here : (e : x ≡ m) → kept place same (Some (place m)) (filter (is_above place R (Some (place m))) (x ∷ xs)) ≡ filter (is_above place R (Some (place m))) (x ∷ kept place same (Some (place x)) xs) =
-      λ e. subst (λ (m : X). kept place same (Some (place m)) (filter (is_above place R (Some (place m))) (x ∷ xs)) ≡ filter (is_above place R (Some (place m))) (x ∷ kept place same (Some (place x)) xs)) e
+      elim b as (λ b. filter (is_above place R (Some (place m))) (kept place same (Some (place x)) xs) ≡ filter
+      (is_above place R (Some (place m))) (cond b (kept place same (Some (place x)) xs)
+      (x ∷ kept place same (Some (place x)) xs))) [ true ↦ refl | false ↦ sym (cond-false _ _ _ (below j)) ] in
+      let here : (e : x ≡ m) → kept place same (Some (place m)) (filter (is_above place R (Some (place m))) (x ∷ xs)) ≡
+      filter (is_above place R (Some (place m))) (x ∷ kept place same (Some (place x)) xs) =
+      λ e. subst (λ (m : X). kept place same (Some (place m)) (filter (is_above place R (Some (place m))) (x ∷ xs)) ≡
+      filter (is_above place R (Some (place m))) (x ∷ kept place same (Some (place x)) xs)) e
       (ap (kept place same (Some (place x))) (cond-false _ _ _ (above_itself x) ∙ filter_all _ xs h.0)
       ∙ sym (cond-false _ _ _ (above_itself x) ∙ filter_all _ _ (each_kept _ (Some (place x)) xs h.0))) in
-      (elim (repeats place same p x) as (λ b. IsIn m (cond b (kept place same (Some (place x)) xs) (x ∷ kept place same (Some (place x)) xs)) → kept place same (Some (place m)) (filter (is_above place R (Some (place m))) (x ∷ xs)) ≡ filter (is_above place R (Some (place m))) (cond b (kept place same (Some (place x)) xs) (x ∷ kept place same (Some (place x)) xs)))
+      (elim (repeats place same p x) as (λ b. IsIn m (cond b (kept place same (Some (place x)) xs)
+      (x ∷ kept place same (Some (place x)) xs)) → kept place same (Some (place m))
+      (filter (is_above place R (Some (place m))) (x ∷ xs)) ≡ filter (is_above place R (Some (place m)))
+      (cond b (kept place same (Some (place x)) xs) (x ∷ kept place same (Some (place x)) xs)))
       [ true ↦ later true | false ↦ (λ i. elim i [ inl e ↦ here e | inr j ↦ later false j ]) ]) i
 
   -- The law of collapsing: it goes on from each of its members as it began
   pub collapse_resumes : (l : List X) (p : Option P) (m : X) → Rises place R l → IsIn m (collapsed place R same l p)
-      → collapsed place R same l (Some (place m)) ≡ filter (is_above place R (Some (place m))) (collapsed place R same l p)
+      → collapsed place R same l (Some (place m)) ≡ filter (is_above place R (Some (place m)))
+      (collapsed place R same l p)
   collapse_resumes l p m h i =
       let up : is_above place R p m ≡ true = in_filter (is_above place R p) m l (in_kept m p _ i) in
-      ap (kept place same (Some (place m))) (sym (filter_filter (is_above place R (Some (place m))) (is_above place R p) (λ x k. above_trans x m p up k) l))
+      ap (kept place same (Some (place m))) (sym (filter_filter (is_above place R (Some (place m))) (is_above place R p)
+      (λ x k. above_trans x m p up k) l))
       ∙ resumes p m (filter (is_above place R p) l) (rises_filter place R o (is_above place R p) l h) i
 
   -- where no place follows the n-th member, the first n are all
@@ -118,12 +148,19 @@ module _ {X P : Type 0} (place : X → P) (R : P → P → Ordering) (same : P �
 
   -- where one follows, it is that of a member, the page is full, and the members above it are the rest
   pub split_there : (n : ℕ) (c : List X) (q : P) → Rises place R c → next_after place n c ≡ Some q
-      → (m : X) × IsIn m c × (place m ≡ q) × (length (take n c) ≡ n) × (filter (is_above place R (Some (place m))) c ≡ drop n c)
+      → (m : X) × IsIn m c × (place m ≡ q) × (length (take n c) ≡ n)
+      × (filter (is_above place R (Some (place m))) c ≡ drop n c)
   split_there zero c q r h = cc
   split_there (suc n) [] q r h = cc
   split_there (suc zero) (x ∷ []) q r h = cc
-  split_there (suc zero) (x ∷ y ∷ ys) q r h =
-      (x, inl refl, (let e : place x ≡ q = cc in e), refl, cond-false _ _ _ (above_itself x) ∙ filter_all _ (y ∷ ys) r.0)
+  split_there (suc zero) (x ∷ y ∷ ys) q r h = (
+    x,
+    inl refl,
+    (let e : place x ≡ q = cc in e),
+    refl,
+    cond-false _ _ _ (above_itself x) ∙ filter_all _ (y ∷ ys)
+        r.0,
+  )
   split_there (suc (suc n)) (x ∷ xs) q r h =
       let s = split_there (suc n) xs q r.1 h in
       (s.0, inr s.1, s.2, ap suc s.3, cond-false _ _ _ (above_not_below x s.0 (each_at _ s.0 xs r.0 s.1)) ∙ s.4)
@@ -138,40 +175,56 @@ module _ {X P : Type 0} (place : X → P) (R : P → P → Ordering) (same : P �
   later_positive (n ∷ []) h = h
   later_positive (n ∷ m ∷ ms) h = h.1
 
-  pub chain_law : (l : List X) (p : Option P) (sizes : List ℕ) (pages : List (Page X P)) → Rises place R l → AllPositive sizes
+  pub chain_law : (l : List X) (p : Option P) (sizes : List ℕ) (pages : List (Page X P)) → Rises place R l
+      → AllPositive sizes
       → IsChain place R same l p sizes pages
       → (flat_map (λ (g : Page X P). g.members) pages ≡ collapsed place R same l p) × FullButLast sizes pages
   chain_law l p sizes [] r z h = absurd h
   chain_law l p sizes (page ∷ []) r z h =
       let mem : page.members ≡ take (first_size sizes) (collapsed place R same l p) = ap (λ g. g.members) h.0 in
       let nx : page.next ≡ next_after place (first_size sizes) (collapsed place R same l p) = ap (λ g. g.next) h.0 in
-      (elim page.next as (λ v. page.next ≡ v → MatchOption v (◌≡◌ {A = List (Page X P)} [] []) (λ q. IsChain place R same l (Some q) (later_sizes sizes) []) → (page.members ++ [] ≡ collapsed place R same l p) × (page.next ≡ None)) [
-        | None ↦ (λ e k. (append-nil page.members ∙ mem ∙ all_taken (first_size sizes) _ (first_positive sizes z) (sym nx ∙ e), e))
+      (elim page.next as (λ v. page.next ≡ v → MatchOption v (◌≡◌ {A = List (Page X P)} [] [])
+      (λ q. IsChain place R same l (Some q) (later_sizes sizes) [])
+      → (page.members ++ [] ≡ collapsed place R same l p) × (page.next ≡ None)) [
+        | None ↦ (λ e k. (
+          append-nil page.members ∙ mem ∙ all_taken (first_size sizes) _ (first_positive sizes z)
+              (sym nx ∙ e),
+          e,
+        ))
         | Some q ↦ (λ e k. absurd k)
       ]) refl h.1
   chain_law l p sizes (page ∷ other ∷ more) r z h =
       let mem : page.members ≡ take (first_size sizes) (collapsed place R same l p) = ap (λ g. g.members) h.0 in
       let nx : page.next ≡ next_after place (first_size sizes) (collapsed place R same l p) = ap (λ g. g.next) h.0 in
-      (elim page.next as (λ v. page.next ≡ v → MatchOption v (other ∷ more ≡ []) (λ q. IsChain place R same l (Some q) (later_sizes sizes) (other ∷ more)) → (page.members ++ flat_map (λ (g : Page X P). g.members) (other ∷ more) ≡ collapsed place R same l p) × ((length page.members ≡ first_size sizes) × FullButLast (later_sizes sizes) (other ∷ more))) [
+      (elim page.next as (λ v. page.next ≡ v → MatchOption v (other ∷ more ≡ []) (λ q. IsChain place R same l (Some q)
+      (later_sizes sizes) (other ∷ more)) → (page.members ++ flat_map (λ (g : Page X P). g.members) (other ∷ more) ≡
+      collapsed place R same l p) × ((length page.members ≡ first_size sizes) × FullButLast (later_sizes sizes)
+      (other ∷ more))) [
         | None ↦ (λ e k. cc)
         | Some q ↦ (λ e k.
-            let s = split_there (first_size sizes) (collapsed place R same l p) q (rises_collapsed l p r) (sym nx ∙ e) in
+            let s = split_there (first_size sizes) (collapsed place R same l p) q (rises_collapsed l p r)
+            (sym nx ∙ e) in
             let ih = chain_law l (Some q) (later_sizes sizes) (other ∷ more) r (later_positive sizes z) k in
             let over : collapsed place R same l (Some q) ≡ drop (first_size sizes) (collapsed place R same l p) =
-            ap (λ (q : P). collapsed place R same l (Some q)) (sym s.2) ∙ collapse_resumes l p s.0 r s.1 ∙ s.4 in
-            (ap₂ (λ a b. a ++ b) mem (ih.0 ∙ over) ∙ take-append-drop (first_size sizes) (collapsed place R same l p), (ap length mem ∙ s.3, ih.1)))
+            ap (λ (q : P). collapsed place R same l (Some q)) (sym s.2) ∙ collapse_resumes l p s.0 r s.1 ∙ s.4 in (
+              ap₂ (λ a b. a ++ b) mem (ih.0 ∙ over) ∙ take-append-drop (first_size sizes) (collapsed place R same l p),
+              (ap length mem ∙ s.3, ih.1),
+            ))
       ]) refl h.1
 
   -- there is a chain, and only one
-  pub chain_one : (l : List X) (p : Option P) (sizes : List ℕ) (us vs : List (Page X P)) → IsChain place R same l p sizes us → IsChain place R same l p sizes vs → us ≡ vs
+  pub chain_one : (l : List X) (p : Option P) (sizes : List ℕ) (us vs : List (Page X P)) → IsChain place R same l p
+      sizes us → IsChain place R same l p sizes vs → us ≡ vs
   chain_one l p sizes [] vs h k = absurd h
   chain_one l p sizes (a ∷ us) [] h k = absurd k
   chain_one l p sizes (a ∷ us) (b ∷ vs) h k =
       let e : a ≡ b = h.0 ∙ sym k.0 in
       let g : MatchOption a.next (vs ≡ []) (λ q. IsChain place R same l (Some q) (later_sizes sizes) vs) =
-      subst (λ (b : Page X P). MatchOption b.next (vs ≡ []) (λ q. IsChain place R same l (Some q) (later_sizes sizes) vs)) (sym e) k.1 in
+      subst (λ (b : Page X P). MatchOption b.next (vs ≡ []) (λ q. IsChain place R same l (Some q) (later_sizes sizes)
+      vs)) (sym e) k.1 in
       let rests : us ≡ vs =
-      (elim a.next as (λ v. MatchOption v (us ≡ []) (λ q. IsChain place R same l (Some q) (later_sizes sizes) us) → MatchOption v (vs ≡ []) (λ q. IsChain place R same l (Some q) (later_sizes sizes) vs) → us ≡ vs)
+      (elim a.next as (λ v. MatchOption v (us ≡ []) (λ q. IsChain place R same l (Some q) (later_sizes sizes) us)
+      → MatchOption v (vs ≡ []) (λ q. IsChain place R same l (Some q) (later_sizes sizes) vs) → us ≡ vs)
       [ None ↦ (λ x y. x ∙ sym y) | Some q ↦ (λ x y. chain_one l (Some q) (later_sizes sizes) us vs x y) ]) h.1 g in
       ap₂ (λ x y. x ∷ y) e rests
 
@@ -179,12 +232,14 @@ module _ {X P : Type 0} (place : X → P) (R : P → P → Ordering) (same : P �
   match_at : {A : Type 0} (v w : Option A) (N : Type 0) (S : A → Type 0) → v ≡ w → MatchOption w N S → MatchOption v N S
   match_at v w N S e h = subst (λ u. MatchOption u N S) (sym e) h
 
-  chain_at : (fuel : ℕ) (l : List X) (p : Option P) (sizes : List ℕ) → Rises place R l → AllPositive sizes → length (collapsed place R same l p) < fuel
+  chain_at : (fuel : ℕ) (l : List X) (p : Option P) (sizes : List ℕ) → Rises place R l → AllPositive sizes
+      → length (collapsed place R same l p) < fuel
       → (pages : List (Page X P)) × IsChain place R same l p sizes pages
   chain_at zero l p sizes r z f = absurd (omega arith)
   chain_at (suc fuel) l p sizes r z f =
       (elim (next_after place (first_size sizes) (collapsed place R same l p)) as
-      (λ v. next_after place (first_size sizes) (collapsed place R same l p) ≡ v → (pages : List (Page X P)) × IsChain place R same l p sizes pages) [
+      (λ v. next_after place (first_size sizes) (collapsed place R same l p) ≡ v → (pages : List (Page X P))
+      × IsChain place R same l p sizes pages) [
         | None ↦ (λ e. (page_of place R same l p (Some (first_size sizes)) ∷ [], (refl, match_at _ None _ _ e refl)))
         | Some q ↦ (λ e.
             let s = split_there (first_size sizes) (collapsed place R same l p) q (rises_collapsed l p r) e in
@@ -198,18 +253,23 @@ module _ {X P : Type 0} (place : X → P) (R : P → P → Ordering) (same : P �
             (page_of place R same l p (Some (first_size sizes)) ∷ k.0, (refl, match_at _ (Some q) _ _ e k.1)))
       ]) refl
 
-  pub chain_there : (l : List X) (p : Option P) (sizes : List ℕ) → Rises place R l → AllPositive sizes → (pages : List (Page X P)) × IsChain place R same l p sizes pages
+  pub chain_there : (l : List X) (p : Option P) (sizes : List ℕ) → Rises place R l → AllPositive sizes
+      → (pages : List (Page X P)) × IsChain place R same l p sizes pages
   chain_there l p sizes r z = chain_at (suc (length (collapsed place R same l p))) l p sizes r z (omega arith)
 
   -- Collapsing goes on from where it stands: what a stream of groups keeps
-  pub kept_append : (p : Option P) (us vs : List X) → kept place same p (us ++ vs) ≡ kept place same p us ++ kept place same (end_place place p us) vs
+  pub kept_append : (p : Option P) (us vs : List X) → kept place same p (us ++ vs) ≡ kept place same p us
+      ++ kept place same (end_place place p us) vs
   kept_append p [] vs = refl
   kept_append p (u ∷ us) vs =
-      elim (repeats place same p u) as (λ b. cond b (kept place same (Some (place u)) (us ++ vs)) (u ∷ kept place same (Some (place u)) (us ++ vs)) ≡ cond b (kept place same (Some (place u)) us) (u ∷ kept place same (Some (place u)) us) ++ kept place same (end_place place (Some (place u)) us) vs)
+      elim (repeats place same p u) as (λ b. cond b (kept place same (Some (place u)) (us ++ vs))
+      (u ∷ kept place same (Some (place u)) (us ++ vs)) ≡ cond b (kept place same (Some (place u)) us)
+      (u ∷ kept place same (Some (place u)) us) ++ kept place same (end_place place (Some (place u)) us) vs)
       [ true ↦ kept_append (Some (place u)) us vs | false ↦ ap (λ t. u ∷ t) (kept_append (Some (place u)) us vs) ]
 
   -- A page is known as soon as n members and one more were found, whatever follows
-  pub page_known : (n : ℕ) (us vs : List X) → n < length us → (take n (us ++ vs) ≡ take n us) × (next_after place n (us ++ vs) ≡ next_after place n us)
+  pub page_known : (n : ℕ) (us vs : List X) → n < length us → (take n (us ++ vs) ≡ take n us)
+      × (next_after place n (us ++ vs) ≡ next_after place n us)
   page_known zero us vs h = (refl, refl)
   page_known (suc n) [] vs h = absurd (omega arith)
   page_known (suc zero) (x ∷ []) vs h = absurd (omega arith)

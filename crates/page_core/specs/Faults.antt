@@ -11,4 +11,5 @@ RaisedByText Write old new = new ≡ next_count old
 
 -- the same of a call: Write is answered exactly where the output failed
 abbrev pub CountsWrite : {A : Type 0} → Result A TextFault → ℕ → ℕ → Type 0
-CountsWrite result old new = MatchResult result (λ _. new ≡ old) (λ fault. RaisedByText fault old new)
+CountsWrite result old new = MatchResult result (λ _. new ≡ old)
+    (λ fault. RaisedByText fault old new)

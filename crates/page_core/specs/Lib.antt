@@ -5,4 +5,3 @@ pub mod FormView
 pub mod PageText
 pub mod Faults
 pub mod Laws
-pub mod Special

@@ -1,6 +1,7 @@
 -- The text of a page, in the three outputs, with or without a printed key.
-use Rattle.std.specs.Prelude.{◌≡◌, ℕ, List, [], ◌∷◌, ◌++◌, flat_map, map, Option, None, Some}
+use Rattle.std.specs.Prelude.{◌≡◌, ℕ, List, [], ◌∷◌, ◌++◌, codes, flat_map, map, Option, None, Some}
 use Rattle.std.specs.List.{join_by}
+use Rattle.cdxj_places.specs.Bytes.{line_feed}
 use Rattle.cdxj_core.specs.declared.field.Field.{Field}
 use Rattle.page_core.specs.Form.{Form, Text, Cdxj, Json}
 use Rattle.cdxj_core.specs.Members.{Member}
@@ -9,7 +10,7 @@ use Rattle.page_core.specs.Rows.{value_of, field_name, text_row, line_row, json_
 -- an empty line and the key, where one is printed
 abbrev pub key_lines : Option (List ℕ) → List ℕ
 key_lines None = []
-key_lines (Some key) = 10 ∷ (key ++ 10 ∷ [])
+key_lines (Some key) = line_feed ∷ (key ++ line_feed ∷ [])
 
 -- a row of nothing and a row of the key, where one is printed
 abbrev pub key_rows : Option (List ℕ) → List (List (List ℕ))
@@ -27,8 +28,9 @@ cdxj_page members key = flat_map line_row members ++ key_lines key
 -- one array of rows, the names of the fields first
 abbrev pub json_page : List Field → List Member → Option (List ℕ) → List ℕ
 json_page fields members key =
-    91 ∷ (join_by json_row (44 ∷ 10 ∷ []) (map field_name fields ∷ map (λ m. map (value_of m) fields) members ++ key_rows key)
-    ++ 93 ∷ 10 ∷ [])
+    codes "[" ++ (join_by json_row (codes ",\n")
+    (map field_name fields ∷ map (λ m. map (value_of m) fields) members ++ key_rows key)
+    ++ codes "]\n")
 
 -- the text of a page
 abbrev pub page_text : Form → List Member → Option (List ℕ) → List ℕ
@@ -40,13 +42,13 @@ page_text (Json fields) members key = json_page fields members key
 
 -- a row of a json page after another
 abbrev pub later_row : List (List ℕ) → List ℕ
-later_row texts = 44 ∷ 10 ∷ json_row texts
+later_row texts = codes ",\n" ++ json_row texts
 
 -- what stands before the first capture
 abbrev pub page_start : Form → List ℕ
 page_start (Text fields) = []
 page_start Cdxj = []
-page_start (Json fields) = 91 ∷ json_row (map field_name fields)
+page_start (Json fields) = codes "[" ++ json_row (map field_name fields)
 
 -- what a capture adds
 abbrev pub row_text : Form → Member → List ℕ
@@ -58,7 +60,7 @@ row_text (Json fields) m = later_row (map (value_of m) fields)
 abbrev pub page_end : Form → Option (List ℕ) → List ℕ
 page_end (Text fields) key = key_lines key
 page_end Cdxj key = key_lines key
-page_end (Json fields) key = flat_map later_row (key_rows key) ++ 93 ∷ 10 ∷ []
+page_end (Json fields) key = flat_map later_row (key_rows key) ++ codes "]\n"
 
 -- a page up to these captures, which is the front of each page that begins with them
 abbrev pub begun : Form → List Member → List ℕ
@@ -66,7 +68,8 @@ begun form members = page_start form ++ flat_map (row_text form) members
 
 -- a page is its start, its captures and its end
 abbrev pub PageInPieces : Type 0
-PageInPieces = (form : Form) (members : List Member) (key : Option (List ℕ)) → page_text form members key ≡ begun form members ++ page_end form key
+PageInPieces = (form : Form) (members : List Member) (key : Option (List ℕ))
+    → page_text form members key ≡ begun form members ++ page_end form key
 
 -- what was written so far stands at the front of each page that begins with these captures
 abbrev pub BegunIsFront : Type 0

@@ -2,6 +2,7 @@
 use Rattle.std.specs.Prelude.{ℕ, ◌+◌, ◌/◌, ◌%◌, ◌==◌, ◌||◌, Bool, nat_lt, nat_le, List, [], ◌∷◌, ◌++◌, flat_map, codes, if◌then◌else◌}
 use Rattle.std.specs.List.{join_by}
 use Rattle.json.specs.Print.{quoted}
+use Rattle.cdxj_places.specs.Bytes.{line_feed, space, quote, delete}
 use Rattle.cdxj_core.specs.declared.field.Field.{Field}
 use Rattle.cdxj_core.specs.declared.field.Field.TheVariants.{Urlkey, Timestamp, Original, Mimetype, Statuscode, Digest, Length, Offset, Filename}
 use Rattle.cdxj_core.specs.Lines.{field_value}
@@ -29,27 +30,28 @@ hex_digit d = if nat_lt d 10 then 48 + d else 55 + d
 
 -- a space, a control or the delete
 abbrev pub is_hidden : ℕ → Bool
-is_hidden b = nat_le b 32 || (b == 127)
+is_hidden b = nat_le b space || (b == delete)
 
 -- such a byte as `%XX`, and every other as it is
 abbrev pub escaped_byte : ℕ → List ℕ
-escaped_byte b = if is_hidden b then 37 ∷ hex_digit (b / 16) ∷ hex_digit (b % 16) ∷ [] else b ∷ []
+escaped_byte b =
+    if is_hidden b then codes "%" ++ hex_digit (b / 16) ∷ hex_digit (b % 16) ∷ [] else b ∷ []
 
 abbrev pub escaped : List ℕ → List ℕ
 escaped text = flat_map escaped_byte text
 
 -- the values, with one space between
 abbrev pub text_row : List Field → Member → List ℕ
-text_row fields m = join_by (λ f. escaped (value_of m f)) (32 ∷ []) fields ++ 10 ∷ []
+text_row fields m = join_by (λ f. escaped (value_of m f)) (codes " ") fields ++ line_feed ∷ []
 
 -- the line as it stands
 abbrev pub line_row : Member → List ℕ
-line_row m = m.line ++ 10 ∷ []
+line_row m = m.line ++ line_feed ∷ []
 
 -- a text between quotes as it stands
 abbrev pub between_quotes : List ℕ → List ℕ
-between_quotes text = 34 ∷ (text ++ 34 ∷ [])
+between_quotes text = quote ∷ (text ++ quote ∷ [])
 
 -- texts between brackets, with a comma between
 abbrev pub json_row : List (List ℕ) → List ℕ
-json_row texts = 91 ∷ (join_by quoted (44 ∷ []) texts ++ 93 ∷ [])
+json_row texts = codes "[" ++ (join_by quoted (codes ",") texts ++ codes "]")

@@ -2,6 +2,7 @@
 ghost use Rattle.std.specs.Prelude.{◌≡◌, ◌<◌, ◌++◌, IfOk};
 ghost use Rattle.page_core.specs.Rows.{hex_digit, escaped_byte, escaped};
 
+use crate::hidden::is_hidden;
 use std::alloc::AllocError;
 
 fn hex_digit(digit: u8) -> u8
@@ -18,7 +19,7 @@ fn hex_digit(digit: u8) -> u8
 fn push_escaped_byte(text: &mut Vec<u8>, byte: u8) -> Result<(), AllocError>
     ensures { IfOk result (λ _. text.new.items ≡ text.old.items ++ escaped_byte byte) }
 {
-    if byte <= b' ' || byte == 0x7f {
+    if is_hidden(byte) {
         text.extend_from_slice(&[b'%', hex_digit(byte >> 4), hex_digit(byte & 15)])
     } else {
         text.extend_from_slice(&[byte])

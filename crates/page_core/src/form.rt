@@ -63,7 +63,8 @@ impl PageForm<'_> {
         key: Option<&str>,
     ) -> Result<(), AllocError>
         ensures { IfOk result (λ _. text.new.items
-            ≡ text.old.items ++ page_end (form_view self.entry) (option_map (λ k. k.now) key.entry)) }
+            ≡ text.old.items
+            ++ page_end (form_view self.entry) (option_map (λ k. k.now) key.entry)) }
     {
         match self {
             PageForm::Text(_) | PageForm::Cdxj => push_key_lines(text, key),

@@ -1,11 +1,11 @@
 //! Rows of JSON pages.
-ghost use Rattle.std.specs.Prelude.{◌≡◌, [], ◌∷◌, ◌++◌, map, flat_map, IfOk, option_map};
+ghost use Rattle.std.specs.Prelude.{◌≡◌, [], ◌∷◌, ◌++◌, codes, map, flat_map, IfOk, option_map};
 ghost use Rattle.json.specs.Print.{quoted};
 ghost use Rattle.std.specs.List.{join_by};
+ghost use Rattle.cdxj_places.specs.Bytes.{quote};
 ghost use Rattle.page_core.specs.Rows.{value_of, field_name, json_row, between_quotes};
 ghost use Rattle.page_core.specs.PageText.{key_rows, later_row};
 
-use crate::special::QUOTED;
 use cdxj_core::{Field, LineRef, push_quoted};
 use std::alloc::{AllocError, Global};
 
@@ -27,7 +27,8 @@ pub fn field_name(field: Field) -> &'static str
 }
 
 fn push_later_quoted(text: &mut Vec<u8>, alloc: Global, value: &str) -> Result<(), AllocError>
-    ensures { IfOk result (λ _. text.new.items ≡ text.old.items ++ (44 ∷ [] ++ quoted value.now)) }
+    ensures { IfOk result (λ _. text.new.items
+        ≡ text.old.items ++ (codes "," ++ quoted value.now)) }
 {
     text.extend_from_slice(b",")?;
     push_quoted(text, alloc, value)
@@ -57,7 +58,7 @@ fn push_quoted_values(
     line: &LineRef<'_>,
 ) -> Result<(), AllocError>
     ensures { IfOk result (λ _. text.new.items
-        ≡ text.old.items ++ join_by quoted (44 ∷ []) (map (value_of line.now) fields.now)) }
+        ≡ text.old.items ++ join_by quoted (codes ",") (map (value_of line.now) fields.now)) }
 {
     if let Some((first, later)) = fields.split_first() {
         push_quoted(text, alloc, line.value(*first))?;
@@ -68,13 +69,14 @@ fn push_quoted_values(
     Ok(())
 }
 
+// The end of a value and the next value, each as it stands.
 #[inline(always)]
-fn push_between_quotes(text: &mut Vec<u8>, value: &str) -> Result<(), AllocError>
-    ensures { IfOk result (λ _. text.new.items ≡ text.old.items ++ between_quotes value.now) }
+fn push_later_plain(text: &mut Vec<u8>, value: &str) -> Result<(), AllocError>
+    ensures { IfOk result (λ _. text.new.items ++ quote ∷ []
+        ≡ (text.old.items ++ quote ∷ []) ++ (codes "," ++ between_quotes value.now)) }
 {
-    text.extend_from_slice(b"\"")?;
-    text.extend_from_slice(value.as_bytes())?;
-    text.extend_from_slice(b"\"")
+    text.extend_from_slice(b"\",\"")?;
+    text.extend_from_slice(value.as_bytes())
 }
 
 // The values of the fields as they stand, each between quotes, with a comma between.
@@ -84,20 +86,21 @@ fn push_plain_values(
     line: &LineRef<'_>,
 ) -> Result<(), AllocError>
     ensures { IfOk result (λ _. text.new.items
-        ≡ text.old.items ++ join_by between_quotes (44 ∷ []) (map (value_of line.now) fields.now)) }
+        ≡ text.old.items
+        ++ join_by between_quotes (codes ",") (map (value_of line.now) fields.now)) }
 {
     if let Some((first, later)) = fields.split_first() {
-        push_between_quotes(text, line.value(*first))?;
+        text.extend_from_slice(b"\"")?;
+        text.extend_from_slice(line.value(*first).as_bytes())?;
         for field in later {
-            text.extend_from_slice(b",")?;
-            push_between_quotes(text, line.value(*field))?;
+            push_later_plain(text, line.value(*field))?;
         }
+        text.extend_from_slice(b"\"")?;
     }
     Ok(())
 }
 
-// A row of the values of the fields. They are written by `serde_json` if the row has more quotes, backslashes and
-// controls than the quotes around its values.
+// A row of the values of the fields.
 fn push_values(
     text: &mut Vec<u8>,
     alloc: Global,
@@ -108,10 +111,9 @@ fn push_values(
         ≡ text.old.items ++ json_row (map (value_of line.now) fields.now)) }
 {
     text.extend_from_slice(b"[")?;
-    let start = text.len();
-    push_plain_values(text, fields, line)?;
-    if QUOTED.count(&text[start..]) > fields.len().saturating_mul(2) {
-        text.truncate(start);
+    if line.needs_no_escapes() {
+        push_plain_values(text, fields, line)?;
+    } else {
         push_quoted_values(text, alloc, fields, line)?;
     }
     text.extend_from_slice(b"]")?;
@@ -135,7 +137,7 @@ pub(crate) fn push_json_start(
     fields: &[Field],
 ) -> Result<(), AllocError>
     ensures { IfOk result (λ _. text.new.items
-        ≡ text.old.items ++ (91 ∷ json_row (map field_name fields.now))) }
+        ≡ text.old.items ++ (codes "[" ++ json_row (map field_name fields.now))) }
 {
     text.extend_from_slice(b"[")?;
     push_names(text, alloc, fields)
@@ -162,7 +164,7 @@ pub(crate) fn push_json_end(
     key: Option<&str>,
 ) -> Result<(), AllocError>
     ensures { IfOk result (λ _. text.new.items ≡ text.old.items
-        ++ (flat_map later_row (key_rows (option_map (λ k. k.now) key.entry)) ++ 93 ∷ 10 ∷ [])) }
+        ++ (flat_map later_row (key_rows (option_map (λ k. k.now) key.entry)) ++ codes "]\n")) }
 {
     if let Some(key) = key {
         text.extend_from_slice(b",\n[],\n")?;

@@ -6,10 +6,10 @@
 mod escaping;
 mod fault;
 mod form;
+mod hidden;
 mod json_rows;
 mod laws;
 mod page_output;
-mod special;
 mod text_rows;
 
 pub use crate::fault::TextFault;

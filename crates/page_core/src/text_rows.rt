@@ -1,16 +1,17 @@
 //! Rows of text pages and of pages of lines.
-ghost use Rattle.std.specs.Prelude.{◌≡◌, [], ◌∷◌, ◌++◌, Option, IfOk, option_map};
+ghost use Rattle.std.specs.Prelude.{◌≡◌, ◌++◌, codes, Option, IfOk, option_map};
 ghost use Rattle.std.specs.List.{join_by};
 ghost use Rattle.page_core.specs.Rows.{value_of, escaped, text_row, line_row};
 ghost use Rattle.page_core.specs.PageText.{key_lines};
 
 use crate::escaping::push_escaped;
-use crate::special::HIDDEN;
+use crate::hidden::count_hidden;
 use cdxj_core::{Field, Line, LineRef};
 use std::alloc::AllocError;
 
 fn push_later_escaped(text: &mut Vec<u8>, value: &str) -> Result<(), AllocError>
-    ensures { IfOk result (λ _. text.new.items ≡ text.old.items ++ (32 ∷ [] ++ escaped value.now)) }
+    ensures { IfOk result (λ _. text.new.items
+        ≡ text.old.items ++ (codes " " ++ escaped value.now)) }
 {
     text.extend_from_slice(b" ")?;
     push_escaped(text, value)
@@ -23,7 +24,7 @@ fn push_text_values(
     line: &LineRef<'_>,
 ) -> Result<(), AllocError>
     ensures { IfOk result (λ _. text.new.items ≡ text.old.items
-        ++ join_by (λ f. escaped (value_of line.now f)) (32 ∷ []) fields.now) }
+        ++ join_by (λ f. escaped (value_of line.now f)) (codes " ") fields.now) }
 {
     if let Some((first, later)) = fields.split_first() {
         push_escaped(text, line.value(*first))?;
@@ -41,7 +42,7 @@ fn push_plain_values(
     line: &LineRef<'_>,
 ) -> Result<(), AllocError>
     ensures { IfOk result (λ _. text.new.items
-        ≡ text.old.items ++ join_by (value_of line.now) (32 ∷ []) fields.now) }
+        ≡ text.old.items ++ join_by (value_of line.now) (codes " ") fields.now) }
 {
     if let Some((first, later)) = fields.split_first() {
         text.extend_from_slice(line.value(*first).as_bytes())?;
@@ -53,8 +54,9 @@ fn push_plain_values(
     Ok(())
 }
 
-/// Appends the values of the fields to the text, separated by one space, and a line feed. The values are escaped if they
-/// have hidden bytes, so that the row has more of these than the spaces between its values.
+/// Appends the values of the fields to the text, separated by one space, and a line feed. The
+/// values are escaped if they have hidden bytes, so that the row has more of these than the spaces
+/// between its values.
 pub(crate) fn push_text_row(
     text: &mut Vec<u8>,
     fields: &[Field],
@@ -64,7 +66,7 @@ pub(crate) fn push_text_row(
 {
     let start = text.len();
     push_plain_values(text, fields, line)?;
-    if HIDDEN.count(&text[start..]) >= fields.len() {
+    if count_hidden(&text[start..]) >= fields.len() {
         text.truncate(start);
         push_text_values(text, fields, line)?;
     }

@@ -5,7 +5,8 @@ use Rattle.cdxj_core.proofs.UnescapedAscii.{ascii_clean, ascii_utf8}
 use Rattle.cdxj_core.proofs.body.clean_text.Goals as goal
 
 pub from_utf8_unchecked-requires : goal.from_utf8_unchecked-requires
-from_utf8_unchecked-requires c = ascii_utf8 c.args.body.now (sym c.is_unescaped_ascii.ensures ∙ c.if-is_unescaped_ascii.true)
+from_utf8_unchecked-requires c = ascii_utf8 c.args.body.now (sym c.is_unescaped_ascii.ensures
+    ∙ c.if-is_unescaped_ascii.true)
 
 pub returns-then-is_unescaped_ascii-clause-clean : goal.returns-then-is_unescaped_ascii-clause-clean
 returns-then-is_unescaped_ascii-clause-clean c =

@@ -12,7 +12,8 @@ use Rattle.cdxj_core.proofs.json_values.+values.Goals as goal
 pub read_value-returns-in_err-token-clause-value : goal.read_value-returns-in_err-token-clause-value
 read_value-returns-in_err-token-clause-value t c =
     let empty : c.args.reader.now ≡ [] = grind arith in
-    let none : value_read c.args.depth c.args.reader.now ≡ None = ap (value_read c.args.depth) empty ∙ read_nothing c.args.depth in
+    let none : value_read c.args.depth c.args.reader.now ≡ None = ap (value_read c.args.depth) empty
+    ∙ read_nothing c.args.depth in
     grind (arith, none)
 
 pub read_value-returns-in-String-clause-value : goal.read_value-returns-in-String-clause-value
@@ -25,13 +26,15 @@ pub read_value-returns-in-Some-clause-value : goal.read_value-returns-in-Some-cl
 read_value-returns-in-Some-clause-value t c =
     let first : c.args.reader.now ≡ token_of c.in_ok-token.token ∷ c.next.new.self = grind arith in
     let is : c.args.reader.now ≡ Token.number c.in-Number.text.now ∷ c.next.new.self = grind (arith, first) in
-    ap (value_read c.args.depth) is ∙ read_number c.args.depth c.in-Number.text.now c.next.new.self (Some (value_view c.in-Some.number)) c.in-Some.ensures
+    ap (value_read c.args.depth) is ∙ read_number c.args.depth c.in-Number.text.now c.next.new.self
+    (Some (value_view c.in-Some.number)) c.in-Some.ensures
 
 pub read_value-returns-in-None-clause-value : goal.read_value-returns-in-None-clause-value
 read_value-returns-in-None-clause-value t c =
     let first : c.args.reader.now ≡ token_of c.in_ok-token.token ∷ c.next.new.self = grind arith in
     let is : c.args.reader.now ≡ Token.number c.in-Number.text.now ∷ c.next.new.self = grind (arith, first) in
-    ap (value_read c.args.depth) is ∙ read_number c.args.depth c.in-Number.text.now c.next.new.self None c.in-None.ensures
+    ap (value_read c.args.depth) is ∙ read_number c.args.depth c.in-Number.text.now c.next.new.self None
+    c.in-None.ensures
 
 pub read_value-returns-in-Bool-clause-value : goal.read_value-returns-in-Bool-clause-value
 read_value-returns-in-Bool-clause-value t c =
@@ -48,46 +51,63 @@ read_value-returns-in-Null-clause-value t c =
 pub read_value-returns-in-EndObject-clause-value : goal.read_value-returns-in-EndObject-clause-value
 read_value-returns-in-EndObject-clause-value t c =
     let first : c.args.reader.now ≡ token_of c.in_ok-token.token ∷ c.next.new.self = grind arith in
-    let none : value c.args.depth c.args.reader.now ≡ None = rw (value_is c.args.depth c.args.reader.now, first) (grind arith) in
+    let none : value c.args.depth c.args.reader.now ≡ None = rw (value_is c.args.depth c.args.reader.now, first)
+    (grind arith) in
     ap seen none
 
 pub read_value-returns-then-depth-eq0-clause-value : goal.read_value-returns-then-depth-eq0-clause-value
 read_value-returns-then-depth-eq0-clause-value t c =
     let first : c.args.reader.now ≡ token_of c.in_ok-token.token ∷ c.next.new.self = grind arith in
-    let is : c.args.reader.now ≡ Token.begin_array ∷ c.next.new.self = first ∙ ap (λ k. token_of k ∷ c.next.new.self) c.in-BeginArray.is in
+    let is : c.args.reader.now ≡ Token.begin_array ∷ c.next.new.self = first ∙ ap (λ k. token_of k ∷ c.next.new.self)
+    c.in-BeginArray.is in
     ap (value_read c.args.depth) is ∙ no_array c.args.depth c.next.new.self (omega arith)
 
 pub read_value-returns-then-depth-eq0-2-clause-value : goal.read_value-returns-then-depth-eq0-2-clause-value
 read_value-returns-then-depth-eq0-2-clause-value t c =
     let first : c.args.reader.now ≡ token_of c.in_ok-token.token ∷ c.next.new.self = grind arith in
-    let is : c.args.reader.now ≡ Token.begin_object ∷ c.next.new.self = first ∙ ap (λ k. token_of k ∷ c.next.new.self) c.in-BeginObject.is in
+    let is : c.args.reader.now ≡ Token.begin_object ∷ c.next.new.self = first ∙ ap (λ k. token_of k ∷ c.next.new.self)
+    c.in-BeginObject.is in
     ap (value_read c.args.depth) is ∙ no_object c.args.depth c.next.new.self (omega arith)
 
-pub read_value-returns-in_err-pass_items-in-BeginArray-clause-value : goal.read_value-returns-in_err-pass_items-in-BeginArray-clause-value
+pub read_value-returns-in_err-pass_items-in-BeginArray-clause-value :
+    goal.read_value-returns-in_err-pass_items-in-BeginArray-clause-value
 read_value-returns-in_err-pass_items-in-BeginArray-clause-value t c =
     let first : c.args.reader.now ≡ token_of c.in_ok-token.token ∷ c.next.new.self = grind arith in
-    let is : c.args.reader.now ≡ Token.begin_array ∷ c.next.new.self = first ∙ ap (λ k. token_of k ∷ c.next.new.self) c.in-BeginArray.is in
-    let none : value_read c.args.depth c.args.reader.now ≡ None = ap (value_read c.args.depth) is ∙ read_array c.args.depth c.next.new.self (omega arith) ∙ ap (option_map (λ r. (null, r))) c.in_err-pass_items-in-BeginArray.ensures.value in
+    let is : c.args.reader.now ≡ Token.begin_array ∷ c.next.new.self = first ∙ ap (λ k. token_of k ∷ c.next.new.self)
+    c.in-BeginArray.is in
+    let none : value_read c.args.depth c.args.reader.now ≡ None = ap (value_read c.args.depth) is
+    ∙ read_array c.args.depth c.next.new.self (omega arith) ∙ ap (option_map (λ r. (null, r)))
+    c.in_err-pass_items-in-BeginArray.ensures.value in
     grind (arith, none)
 
-pub read_value-returns-in_ok-pass_items-in-BeginArray-clause-value : goal.read_value-returns-in_ok-pass_items-in-BeginArray-clause-value
+pub read_value-returns-in_ok-pass_items-in-BeginArray-clause-value :
+    goal.read_value-returns-in_ok-pass_items-in-BeginArray-clause-value
 read_value-returns-in_ok-pass_items-in-BeginArray-clause-value t c =
     let first : c.args.reader.now ≡ token_of c.in_ok-token.token ∷ c.next.new.self = grind arith in
-    let is : c.args.reader.now ≡ Token.begin_array ∷ c.next.new.self = first ∙ ap (λ k. token_of k ∷ c.next.new.self) c.in-BeginArray.is in
-    ap (value_read c.args.depth) is ∙ read_array c.args.depth c.next.new.self (omega arith) ∙ ap (option_map (λ r. (null, r))) c.in_ok-pass_items-in-BeginArray.ensures.value
+    let is : c.args.reader.now ≡ Token.begin_array ∷ c.next.new.self = first ∙ ap (λ k. token_of k ∷ c.next.new.self)
+    c.in-BeginArray.is in
+    ap (value_read c.args.depth) is ∙ read_array c.args.depth c.next.new.self (omega arith)
+    ∙ ap (option_map (λ r. (null, r))) c.in_ok-pass_items-in-BeginArray.ensures.value
 
-pub read_value-returns-in_err-pass_members-in-BeginObject-clause-value : goal.read_value-returns-in_err-pass_members-in-BeginObject-clause-value
+pub read_value-returns-in_err-pass_members-in-BeginObject-clause-value :
+    goal.read_value-returns-in_err-pass_members-in-BeginObject-clause-value
 read_value-returns-in_err-pass_members-in-BeginObject-clause-value t c =
     let first : c.args.reader.now ≡ token_of c.in_ok-token.token ∷ c.next.new.self = grind arith in
-    let is : c.args.reader.now ≡ Token.begin_object ∷ c.next.new.self = first ∙ ap (λ k. token_of k ∷ c.next.new.self) c.in-BeginObject.is in
-    let none : value_read c.args.depth c.args.reader.now ≡ None = ap (value_read c.args.depth) is ∙ read_object c.args.depth c.next.new.self (omega arith) ∙ ap (option_map (λ r. (null, r))) c.in_err-pass_members-in-BeginObject.ensures.value in
+    let is : c.args.reader.now ≡ Token.begin_object ∷ c.next.new.self = first ∙ ap (λ k. token_of k ∷ c.next.new.self)
+    c.in-BeginObject.is in
+    let none : value_read c.args.depth c.args.reader.now ≡ None = ap (value_read c.args.depth) is
+    ∙ read_object c.args.depth c.next.new.self (omega arith) ∙ ap (option_map (λ r. (null, r)))
+    c.in_err-pass_members-in-BeginObject.ensures.value in
     grind (arith, none)
 
-pub read_value-returns-in_ok-pass_members-in-BeginObject-clause-value : goal.read_value-returns-in_ok-pass_members-in-BeginObject-clause-value
+pub read_value-returns-in_ok-pass_members-in-BeginObject-clause-value :
+    goal.read_value-returns-in_ok-pass_members-in-BeginObject-clause-value
 read_value-returns-in_ok-pass_members-in-BeginObject-clause-value t c =
     let first : c.args.reader.now ≡ token_of c.in_ok-token.token ∷ c.next.new.self = grind arith in
-    let is : c.args.reader.now ≡ Token.begin_object ∷ c.next.new.self = first ∙ ap (λ k. token_of k ∷ c.next.new.self) c.in-BeginObject.is in
-    ap (value_read c.args.depth) is ∙ read_object c.args.depth c.next.new.self (omega arith) ∙ ap (option_map (λ r. (null, r))) c.in_ok-pass_members-in-BeginObject.ensures.value
+    let is : c.args.reader.now ≡ Token.begin_object ∷ c.next.new.self = first ∙ ap (λ k. token_of k ∷ c.next.new.self)
+    c.in-BeginObject.is in
+    ap (value_read c.args.depth) is ∙ read_object c.args.depth c.next.new.self (omega arith)
+    ∙ ap (option_map (λ r. (null, r))) c.in_ok-pass_members-in-BeginObject.ensures.value
 
 pub pass_items-items-init : goal.pass_items-items-init
 pass_items-items-init t c = (length c.args.reader.now, omega arith, refl, omega arith)
@@ -96,7 +116,8 @@ pub pass_items-returns-in_err-read_value-clause-value : goal.pass_items-returns-
 pass_items-returns-in_err-read_value-clause-value t c =
     let l = c.items in
     let going : (after_end_array l.reader ≡ None) × (c.take_end_array.new.self ≡ l.reader) = grind arith in
-    let none : items_passed c.args.depth c.args.reader.now ≡ None = l.invariant.2 ∙ item_not_passed c.args.depth l.invariant.0 l.reader going.0 (rw (← going.1) c.in_err-read_value.ensures.value) in
+    let none : items_passed c.args.depth c.args.reader.now ≡ None = l.invariant.2 ∙ item_not_passed c.args.depth
+    l.invariant.0 l.reader going.0 (rw (← going.1) c.in_err-read_value.ensures.value) in
     grind (arith, none)
 
 pub pass_items-items-preserved : goal.pass_items-items-preserved
@@ -109,7 +130,8 @@ pass_items-items-preserved t c =
     let less : length r < length l.reader = rw (← going.1) done.shorter in (
       n - 1,
       omega (arith, l.invariant.1),
-      l.invariant.2 ∙ item_passed c.args.depth n l.reader r (value_view c.in_ok-read_value.field-0) (omega (arith, l.invariant.1)) going.0 (rw (← going.1) done.value),
+      l.invariant.2 ∙ item_passed c.args.depth n l.reader r (value_view c.in_ok-read_value.field-0)
+          (omega (arith, l.invariant.1)) going.0 (rw (← going.1) done.value),
       omega (arith, l.invariant.3),
     )
 
@@ -132,7 +154,9 @@ pass_members-members-init t c = (length c.args.reader.now, no_members, omega ari
 pub pass_members-returns-in_err-_name-clause-value : goal.pass_members-returns-in_err-_name-clause-value
 pass_members-returns-in_err-_name-clause-value t c =
     let l = c.members in
-    let none : members_passed c.args.depth c.args.reader.now ≡ None = ap left (l.invariant.3 ∙ no_key c.args.depth l.invariant.0 l.invariant.1 l.reader c.in_err-_name.ensures.value) in
+    let none : members_passed c.args.depth c.args.reader.now ≡ None =
+    ap left (l.invariant.3 ∙ no_key c.args.depth l.invariant.0 l.invariant.1 l.reader
+    c.in_err-_name.ensures.value) in
     grind (arith, none)
 
 pub pass_members-returns-in_err-read_value-clause-value : goal.pass_members-returns-in_err-read_value-clause-value
@@ -141,7 +165,9 @@ pass_members-returns-in_err-read_value-clause-value t c =
     let k = c.in-Some._name.now in
     let s = c.next_key.new.self in
     let named : read_key l.reader ≡ Some (Some k, s) = grind arith in
-    let none : members_passed c.args.depth c.args.reader.now ≡ None = ap left (l.invariant.3 ∙ no_member c.args.depth l.invariant.0 l.invariant.1 k l.reader s named c.in_err-read_value.ensures.value) in
+    let none : members_passed c.args.depth c.args.reader.now ≡ None =
+    ap left (l.invariant.3 ∙ no_member c.args.depth l.invariant.0 l.invariant.1 k l.reader s named
+    c.in_err-read_value.ensures.value) in
     grind (arith, none)
 
 pub pass_members-members-preserved : goal.pass_members-members-preserved
@@ -155,7 +181,8 @@ pass_members-members-preserved t c =
     let r = c.read_value.new.reader in
     let less = read_key-shorter l.reader (Some k) s named in
     let lesser = done.shorter in
-    let one = member_put c.args.depth n l.invariant.1 k l.reader s r (value_view c.in_ok-read_value.field-0) (omega (arith, l.invariant.2)) named done.value in (
+    let one = member_put c.args.depth n l.invariant.1 k l.reader s r (value_view c.in_ok-read_value.field-0)
+    (omega (arith, l.invariant.2)) named done.value in (
       n - 1,
       put k one.0 l.invariant.1,
       omega (arith, l.invariant.2),
@@ -167,7 +194,8 @@ pub pass_members-returns-clause-value : goal.pass_members-returns-clause-value
 pass_members-returns-clause-value t c =
     let l = c.members in
     let r = c.next_key.new.self in
-    ap left (l.invariant.3 ∙ members_end c.args.depth l.invariant.0 l.invariant.1 l.reader r l.invariant.2 (grind arith))
+    ap left (l.invariant.3 ∙ members_end c.args.depth l.invariant.0 l.invariant.1 l.reader r l.invariant.2
+    (grind arith))
 
 pub pass_members-returns-clause-shorter : goal.pass_members-returns-clause-shorter
 pass_members-returns-clause-shorter t c =

@@ -16,8 +16,10 @@ returns c =
     let whole : length front ≡ 16 = search rules in
     let lanes = length-chunk 0 16 bytes c.requires.long in
     let others = zip2 differ (chunk 0 16 bytes) (chunk 0 16 front) in
-    let all : length others ≡ 16 = length-zip2 differ (chunk 0 16 bytes) (chunk 0 16 front) (lanes ∙ sym (length-chunk 0 16 front (omega (arith, whole)))) ∙ lanes in
-    let mask = ap (λ l. mask_l l % 2 ^ 64) (tops_compared w8 differ (chunk 0 16 bytes) (chunk 0 16 front)) ∙ mask_l-mod others 64 (omega (arith, all)) in
+    let all : length others ≡ 16 = length-zip2 differ (chunk 0 16 bytes) (chunk 0 16 front)
+    (lanes ∙ sym (length-chunk 0 16 front (omega (arith, whole)))) ∙ lanes in
+    let mask = ap (λ l. mask_l l % 2 ^ 64) (tops_compared w8 differ (chunk 0 16 bytes) (chunk 0 16 front))
+    ∙ mask_l-mod others 64 (omega (arith, all)) in
     let first : c.first_set.result ≡ prefix_len not others =
     c.first_set.ensures
     ∙ ap (λ m. cond (eqb m 0) 16 (count_trailing_zeros 64 m)) (mask ∙ ap mask_l (sym (map-id others)))

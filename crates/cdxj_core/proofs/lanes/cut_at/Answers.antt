@@ -15,17 +15,20 @@ byte_at : (c : Then-end-text) → get_or c.args.text.now c.length_before-end.res
 byte_at c =
     let text = c.args.text.now in
     ap (λ n. get_or text n 0) (length_is c)
-    ∙ eqb-true _ _ (not-false _ (prefix_len_stops (is_other c.args.byte) text 0 (omega (arith, length_is c, c.if-end-text.true))))
+    ∙ eqb-true _ _ (not-false _ (prefix_len_stops (is_other c.args.byte) text 0
+    (omega (arith, length_is c, c.if-end-text.true))))
 
 pub range-requires-clause-end_boundary : goal.range-requires-clause-end_boundary
 range-requires-clause-end_boundary c =
     let here = (goal.at.range-requires-clause-end_boundary c).Then-end-text in
-    IsCharBoundary-before_ascii c.args.text.now c.length_before-end.result c.if-end-text.true (omega (arith, byte_at here, c.requires))
+    IsCharBoundary-before_ascii c.args.text.now c.length_before-end.result c.if-end-text.true
+    (omega (arith, byte_at here, c.requires))
 
 pub range_from-requires : goal.range_from-requires
 range_from-requires c =
     let here = (goal.at.range_from-requires c).Then-end-text in
-    λ some. IsCharBoundary-after_ascii c.args.text.now c.length_before-end.result c.utf8.text c.if-end-text.true (omega (arith, byte_at here, c.requires))
+    λ some. IsCharBoundary-after_ascii c.args.text.now c.length_before-end.result c.utf8.text c.if-end-text.true
+    (omega (arith, byte_at here, c.requires))
 
 pub returns-then-end-text : goal.returns-then-end-text
 returns-then-end-text c =
@@ -35,5 +38,6 @@ returns-then-end-text c =
     let front : c.range.result.now ≡ take end text = c.range.ensures.value ∙ ap (λ n. take n text) (omega arith) in
     let back = c.range_from.ensures.value in (
       cut_at text end c.if-end-text.true ∙ (λ i. sym front i ++ byte_at here i ∷ sym back i),
-      ap (list_all (is_other c.args.byte)) (front ∙ ap (λ n. take n text) (length_is here)) ∙ front_passes (is_other c.args.byte) text,
+      ap (list_all (is_other c.args.byte)) (front ∙ ap (λ n. take n text) (length_is here))
+          ∙ front_passes (is_other c.args.byte) text,
     )

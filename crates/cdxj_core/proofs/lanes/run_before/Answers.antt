@@ -10,5 +10,6 @@ returns c =
     let lanes = chunk c.args.at 16 c.args.bytes.now in
     let all = length-chunk c.args.at 16 c.args.bytes.now c.requires in
     c.first_set.ensures
-    ∙ ap (λ m. cond (eqb m 0) 16 (count_trailing_zeros 64 m)) (bitmask_splat w8 eqb lanes 16 c.args.byte all (omega arith))
+    ∙ ap (λ m. cond (eqb m 0) 16 (count_trailing_zeros 64 m)) (bitmask_splat w8 eqb lanes 16 c.args.byte all
+    (omega arith))
     ∙ first_set_mask_l (λ b. eqb b c.args.byte) lanes 16 all (omega arith)

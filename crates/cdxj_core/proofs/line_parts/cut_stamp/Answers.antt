@@ -5,5 +5,6 @@ use Rattle.cdxj_core.proofs.line_parts.cut_stamp.Goals as goal
 pub range_from-requires : goal.range_from-requires
 range_from-requires c =
     let text = c.args.text.now in
-    let space : get_or text 14 0 ≡ 32 = ap (λ t. get_or t 14 0) (sym c.as_bytes.ensures.value) ∙ c.begins_with_stamp.ensures.space c.if-begins_with_stamp.true in
+    let space : get_or text 14 0 ≡ 32 = ap (λ t. get_or t 14 0) (sym c.as_bytes.ensures.value)
+    ∙ c.begins_with_stamp.ensures.space c.if-begins_with_stamp.true in
     λ some. IsCharBoundary-after_ascii text 14 c.utf8.text (omega (arith, c.if-text-ge16.true)) (omega (arith, space))

@@ -8,6 +8,8 @@ returns-clause-text c =
     let text = c.args.text.now in
     let value = sym c.read_offset.ensures.value ∙ c.in_ok-offset.was in
     elim c.else-text-ne1.branch [
-      | else-text-ne1-via-then-text-ne1+else-as_bytes-eq48 w ↦ canonical_decimal text c.in_ok-offset.offset value (λ e. absurd (w.if-as_bytes-eq48.false (ap (λ t. get_or t 0 0) w.as_bytes.ensures.value ∙ e)))
-      | else-text-ne1-via-else-text-ne1 w ↦ canonical_decimal text c.in_ok-offset.offset value (λ e. omega (arith, w.if-text-ne1.false))
+      | else-text-ne1-via-then-text-ne1+else-as_bytes-eq48 w ↦ canonical_decimal text c.in_ok-offset.offset value
+          (λ e. absurd (w.if-as_bytes-eq48.false (ap (λ t. get_or t 0 0) w.as_bytes.ensures.value ∙ e)))
+      | else-text-ne1-via-else-text-ne1 w ↦ canonical_decimal text c.in_ok-offset.offset value
+          (λ e. omega (arith, w.if-text-ne1.false))
     ]

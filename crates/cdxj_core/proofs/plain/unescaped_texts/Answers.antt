@@ -7,4 +7,5 @@ use Rattle.cdxj_core.proofs.PlainBytes.{plain_where_unescaped}
 use Rattle.cdxj_core.proofs.plain.unescaped_texts.Goals as goal
 
 pub returns : goal.returns
-returns c = IfSome_then c.open_texts.result c.open_texts.ensures (λ t h. (h.0, plain_where_unescaped (borrowed_view t) h.1 (ap (list_all is_unescaped) (sym h.0) ∙ c.requires)))
+returns c = IfSome_then c.open_texts.result c.open_texts.ensures
+    (λ t h. (h.0, plain_where_unescaped (borrowed_view t) h.1 (ap (list_all is_unescaped) (sym h.0) ∙ c.requires)))

@@ -6,7 +6,10 @@ use Rattle.cdxj_core.proofs.writing.line_bytes.Goals as goal
 
 pub push_object-requires-clause-texts : goal.push_object-requires-clause-texts
 push_object-requires-clause-texts c =
-    c.members-texts.ensures ∙ (λ i. record (entry_texts (entry_view c.args.entry)) { length = c.format.ensures.text i; offset = c.format-2.ensures.text i })
+    c.members-texts.ensures ∙ (λ i. record (entry_texts (entry_view c.args.entry)) {
+      length = c.format.ensures.text i;
+      offset = c.format-2.ensures.text i;
+    })
 
 pub returns : goal.returns
 returns c =

@@ -6,7 +6,9 @@ use Rattle.cdxj_core.proofs.writing.push_escaped_object.Goals as goal
 pub returns : goal.returns
 returns c =
     let t = borrowed_view c.args.texts in
-    let e = object_steps c.args.line.now.items (codes "url", t.url) (codes "mime", t.mime) (codes "status", t.status) (codes "digest", t.digest) (codes "length", t.length) (codes "offset", t.offset) (codes "filename", t.filename) in
+    let e = object_steps c.args.line.now.items (codes "url", t.url) (codes "mime", t.mime) (codes "status", t.status)
+    (codes "digest", t.digest) (codes "length", t.length) (codes "offset", t.offset)
+    (codes "filename", t.filename) in
     let p = c.in_ok-push.ensures.items in
     let m = c.in_ok-push_member.ensures in
     let m1 = c.in_ok-push_later.ensures in

@@ -10,5 +10,6 @@ pub returns-clause-key : goal.returns-clause-key
 returns-clause-key c =
     let text = c.args.text.now in
     let small = All-from_get_or (λ (b : ℕ). b < 256) text 0 (λ i below. omega (arith, c.type_inv.text i)) in
-    IfOk-weaker c.folded.result (λ key. string_bytes key ≡ folded text) (λ key. 0 < length text → is_key (string_bytes key) ≡ true)
+    IfOk-weaker c.folded.result (λ key. string_bytes key ≡ folded text) (λ key. 0 < length text
+    → is_key (string_bytes key) ≡ true)
     (λ key e filled. ap is_key e ∙ folded_is_key text small filled) c.folded.ensures

@@ -6,4 +6,5 @@ use Rattle.cdxj_keys.proofs.key.lowered.Goals as goal
 
 pub returns : goal.returns
 returns c =
-    subst (λ (v : List ℕ). IfOk c.to_ascii_lowercase.result (λ lower. string_bytes lower ≡ v)) (sym (folded-graphic c.args.text.now c.requires)) c.to_ascii_lowercase.ensures.ok
+    subst (λ (v : List ℕ). IfOk c.to_ascii_lowercase.result (λ lower. string_bytes lower ≡ v))
+    (sym (folded-graphic c.args.text.now c.requires)) c.to_ascii_lowercase.ensures.ok

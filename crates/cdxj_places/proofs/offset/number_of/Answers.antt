@@ -5,7 +5,8 @@ use Rattle.cdxj_places.proofs.offset.number_of.Goals.{Else-not-is_ascii_digit}
 
 with_this : (c : Else-not-is_ascii_digit) → OneMore c.args.text.now c.loop-byte.byte-index
 with_this c =
-    one_more c.args.text.now c.loop-byte.byte-index c.loop-byte-test.true c.requires c.loop-byte.invariant.digits (sym c.if-not-is_ascii_digit.ensures.value)
+    one_more c.args.text.now c.loop-byte.byte-index c.loop-byte-test.true c.requires c.loop-byte.invariant.digits
+    (sym c.if-not-is_ascii_digit.ensures.value)
 
 pub overflow_mul-number : goal.overflow_mul-number
 overflow_mul-number c =

@@ -5,4 +5,5 @@ use Rattle.page_core.specs.Rows.{value_of}
 use Rattle.page_core.proofs.json_rows.push_quoted_values.Given as goal
 
 abbrev pub invariant-loop-field : goal.invariant-loop-field
-invariant-loop-field l = l.text.items ≡ l.initial.text.items ++ flat_map (λ t. 44 ∷ [] ++ quoted t) (map (value_of l.line) (take l.field-index l.later))
+invariant-loop-field l = l.text.items ≡ l.initial.text.items ++ flat_map (λ t. 44 ∷ [] ++ quoted t)
+    (map (value_of l.line) (take l.field-index l.later))

@@ -10,8 +10,15 @@ returns-clause-join c = λ same l rises p sizes pages positive chain.
 
 pub returns-clause-one : goal.returns-clause-one
 returns-clause-one c = λ same l rises p sizes positive.
-    let there = chain_there member_place place_cmp same place_cmp_total l p sizes rises positive in
-    (there.0, (there.1, λ others chain. chain_one member_place place_cmp same place_cmp_total l p sizes others there.0 chain there.1))
+    let there = chain_there member_place place_cmp same place_cmp_total l p sizes rises positive in (
+      there.0,
+      (
+        there.1,
+        λ others chain. chain_one member_place place_cmp same place_cmp_total l p sizes others there.0
+            chain there.1,
+      ),
+    )
 
 pub returns-clause-resumes : goal.returns-clause-resumes
-returns-clause-resumes c = λ same l rises p m i. collapse_resumes member_place place_cmp same place_cmp_total l p m rises i
+returns-clause-resumes c = λ same l rises p m i. collapse_resumes member_place place_cmp same place_cmp_total l p m
+    rises i

@@ -1,11 +1,9 @@
 use Rattle.std.proofs.Common.{◌≡◌, ◌∙◌, ◌++◌, ◌∷◌, [], ap, append_assoc, length, take, arith}
 use Rattle.std.specs.List.{join_by, count_by}
-use Rattle.page_core.specs.declared.special.TheConstants.{HIDDEN}
-use Rattle.page_core.specs.Rows.{value_of, escaped}
-use Rattle.page_core.specs.Special.{is_special}
-use Rattle.page_core.proofs.SpecialLemmas.{taken_off, appended, text_same}
+use Rattle.page_core.specs.Rows.{value_of, escaped, is_hidden}
+use Rattle.page_core.proofs.HiddenLemmas.{taken_off, appended, text_same}
 use Rattle.page_core.proofs.text_rows.push_text_row.Goals as goal
-use Rattle.page_core.proofs.text_rows.push_text_row.Goals.{then-count-fields+in_ok-push_text_values, else-count-fields}
+use Rattle.page_core.proofs.text_rows.push_text_row.Goals.{then-count_hidden-fields+in_ok-push_text_values, else-count_hidden-fields}
 
 pub returns : goal.returns
 returns c =
@@ -17,12 +15,14 @@ returns c =
     let start : c.len-start.result ≡ length old = omega (arith, c.len-start.ensures, c.args.text.now.ok) in
     let pushed = c.in_ok-push_plain_values.ensures in
     let taken = ap (take c.len-start.result) pushed ∙ taken_off old plain c.len-start.result start in
-    let written : c.if-count-fields.text.items ≡ old ++ row = elim c.if-count-fields.branch [
-      | then-count-fields+in_ok-push_text_values w ↦
+    let written : c.if-count_hidden-fields.text.items ≡ old ++ row = elim c.if-count_hidden-fields.branch [
+      | then-count_hidden-fields+in_ok-push_text_values w ↦
           ap (λ t. t.items) w.text-is ∙ w.in_ok-push_text_values.ensures
           ∙ ap (λ l. l ++ row) (w.truncate.ensures.items ∙ taken)
-      | else-count-fields w ↦
-          let counted = c.count.ensures ∙ ap (count_by (is_special HIDDEN)) (appended old plain _ c.len-start.result start (c.deref.ensures.value ∙ pushed)) in
-          ap (λ t. t.items) w.text-is ∙ pushed ∙ ap (λ l. old ++ l) (text_same value fields (omega (arith, counted, w.if-count-fields.false)))
+      | else-count_hidden-fields w ↦
+          let counted = c.count_hidden.ensures ∙ ap (count_by is_hidden) (appended old plain _ c.len-start.result start
+          (c.deref.ensures.value ∙ pushed)) in
+          ap (λ t. t.items) w.text-is ∙ pushed ∙ ap (λ l. old ++ l)
+          (text_same value fields (omega (arith, counted, w.if-count_hidden-fields.false)))
     ] in
     c.in_ok-extend_from_slice.ensures.items ∙ ap (λ l. l ++ 10 ∷ []) written ∙ append_assoc old row (10 ∷ [])

@@ -4,4 +4,5 @@ use Rattle.page_core.specs.Rows.{value_of, escaped}
 use Rattle.page_core.proofs.text_rows.push_text_values.Given as goal
 
 abbrev pub invariant-loop-field : goal.invariant-loop-field
-invariant-loop-field l = l.text.items ≡ l.initial.text.items ++ flat_map (λ f. 32 ∷ [] ++ escaped (value_of l.line f)) (take l.field-index l.later)
+invariant-loop-field l = l.text.items ≡ l.initial.text.items ++ flat_map (λ f. 32 ∷ [] ++ escaped (value_of l.line f))
+    (take l.field-index l.later)

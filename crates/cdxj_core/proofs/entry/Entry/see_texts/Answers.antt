@@ -18,4 +18,5 @@ pub returns-clause-digest : goal.returns-clause-digest
 returns-clause-digest c = subst IsUtf8 (ap (λ e. e.digest) c.self.view_is) (IsUtf8-string_bytes c.self.inside.digest)
 
 pub returns-clause-filename : goal.returns-clause-filename
-returns-clause-filename c = subst IsUtf8 (ap (λ e. e.filename) c.self.view_is) (IsUtf8-string_bytes c.self.inside.filename)
+returns-clause-filename c = subst IsUtf8 (ap (λ e. e.filename) c.self.view_is)
+    (IsUtf8-string_bytes c.self.inside.filename)

@@ -14,7 +14,8 @@ members-init c = (length c.args.reader.now, no_members, omega arith, refl, c.non
 pub returns-in_err-name : goal.returns-in_err-name
 returns-in_err-name c =
     let l = c.members in
-    let none : members_found c.args.reader.now ≡ None = ap (parse_map found_of) (l.invariant.3 ∙ no_key 126 l.invariant.0 l.invariant.1 l.reader c.in_err-name.ensures.value) in
+    let none : members_found c.args.reader.now ≡ None = ap (parse_map found_of) (l.invariant.3
+    ∙ no_key 126 l.invariant.0 l.invariant.1 l.reader c.in_err-name.ensures.value) in
     grind (arith, none)
 
 pub returns-in_err-value : goal.returns-in_err-value
@@ -23,7 +24,8 @@ returns-in_err-value c =
     let k = c.in-Some.name.now in
     let s = c.next_key.new.self in
     let named : read_key l.reader ≡ Some (Some k, s) = grind arith in
-    let none : members_found c.args.reader.now ≡ None = ap (parse_map found_of) (l.invariant.3 ∙ no_member 126 l.invariant.0 l.invariant.1 k l.reader s named c.in_err-value.ensures.value) in
+    let none : members_found c.args.reader.now ≡ None = ap (parse_map found_of) (l.invariant.3
+    ∙ no_member 126 l.invariant.0 l.invariant.1 k l.reader s named c.in_err-value.ensures.value) in
     grind (arith, none)
 
 pub members-preserved : goal.members-preserved
@@ -37,12 +39,14 @@ members-preserved c =
     let r = c.read_value.new.reader in
     let less = read_key-shorter l.reader (Some k) s named in
     let lesser = done.shorter in
-    let one = member_put 126 n l.invariant.1 k l.reader s r (value_view c.in_ok-value.value) (omega (arith, l.invariant.2)) named done.value in (
+    let one = member_put 126 n l.invariant.1 k l.reader s r (value_view c.in_ok-value.value)
+    (omega (arith, l.invariant.2)) named done.value in (
       n - 1,
       put k one.0 l.invariant.1,
       omega (arith, l.invariant.2),
       l.invariant.3 ∙ one.2,
-      c.put.ensures ∙ ap (λ v. with_member k v (found_view l.found)) (sym one.1) ∙ ap (with_member k (member_data one.0)) l.invariant.4 ∙ sym (found_put k one.0 l.invariant.1),
+      c.put.ensures ∙ ap (λ v. with_member k v (found_view l.found)) (sym one.1)
+          ∙ ap (with_member k (member_data one.0)) l.invariant.4 ∙ sym (found_put k one.0 l.invariant.1),
     )
 
 pub returns : goal.returns
@@ -50,4 +54,5 @@ returns c =
     let l = c.members in
     let r = c.next_key.new.self in
     let over : read_key l.reader ≡ Some (None, r) = grind arith in
-    ap (parse_map found_of) (l.invariant.3 ∙ members_end 126 l.invariant.0 l.invariant.1 l.reader r l.invariant.2 over) ∙ ap (λ f. Some (f, r)) (sym l.invariant.4)
+    ap (parse_map found_of) (l.invariant.3 ∙ members_end 126 l.invariant.0 l.invariant.1 l.reader r l.invariant.2 over)
+    ∙ ap (λ f. Some (f, r)) (sym l.invariant.4)

@@ -1,4 +1,4 @@
-use Rattle.std.proofs.Common.{◌≡◌, ◌+◌, ◌<◌, true, None, Some, length, string_bytes, IsUtf8, refl, sym, ap, ◌∙◌, subst, arith}
+use Rattle.std.proofs.Common.{◌≡◌, ◌+◌, ◌<◌, None, length, string_bytes, IsUtf8, refl, sym, ap, ◌∙◌, subst, arith}
 use Rattle.std.proofs.lemmas.Grind.{common_steps}
 use Rattle.std.proofs.lemmas.Str.{IsUtf8-string_bytes}
 use Rattle.cdxj_places.specs.Pair.{is_key, is_stamp}
@@ -19,10 +19,12 @@ pub returns-in_default : goal.returns-in_default
 returns-in_default c =
     let its = c.body_of-body.ensures in (
       subst (λ b. length b < LINE_LIMIT) its c.if-body-ge-LINE_LIMIT.false,
-      entry_none LINE_LIMIT c.args.line.now (λ utf8. absurd (c.in_default.ensures.cases.0 (subst IsUtf8 (sym its) utf8))),
+      entry_none LINE_LIMIT c.args.line.now (λ utf8. absurd (c.in_default.ensures.cases.0
+          (subst IsUtf8 (sym its) utf8))),
     )
 
-refused : (c : In_ok-found) → line_object c.cut_first.result.0.now c.cut_first-2.result.0.now c.cut_first-2.result.1.now ≡ None
+refused : (c : In_ok-found) → line_object c.cut_first.result.0.now c.cut_first-2.result.0.now c.cut_first-2.result.1.now
+    ≡ None
     → (length (body_of c.args.line.now) < LINE_LIMIT) × (line_entry LINE_LIMIT c.args.line.now ≡ None)
 refused c none =
     let its = c.body_of-body.ensures in
@@ -30,8 +32,10 @@ refused c none =
       subst (λ b. length b < LINE_LIMIT) its c.if-body-ge-LINE_LIMIT.false,
       entry_none LINE_LIMIT c.args.line.now (λ utf8.
           ap (line_in LINE_LIMIT) (sym body)
-          ∙ body_none LINE_LIMIT c.in-Ok.body.now c.cut_first.result.0.now c.cut_first.result.1.now c.cut_first-2.result.0.now c.cut_first-2.result.1.now
-          c.cut_first.ensures.before c.cut_first.ensures.after c.cut_first-2.ensures.before c.cut_first-2.ensures.after none),
+          ∙ body_none LINE_LIMIT c.in-Ok.body.now c.cut_first.result.0.now c.cut_first.result.1.now
+          c.cut_first-2.result.0.now c.cut_first-2.result.1.now
+          c.cut_first.ensures.before c.cut_first.ensures.after c.cut_first-2.ensures.before c.cut_first-2.ensures.after
+          none),
     )
 
 pub returns-in_default-filename_value : goal.returns-in_default-filename_value
@@ -40,7 +44,8 @@ returns-in_default-filename_value c =
     let key = c.cut_first.result.0.now in
     let stamp = c.cut_first-2.result.0.now in
     refused (goal.at.returns-in_default-filename_value c).In_ok-found
-    (line_found key stamp c.cut_first-2.result.1.now found c.in_ok-found.ensures ∙ no_filename key stamp found (sym c.in_default-filename_value.ensures.value))
+    (line_found key stamp c.cut_first-2.result.1.now found c.in_ok-found.ensures ∙ no_filename key stamp found
+    (sym c.in_default-filename_value.ensures.value))
 
 pub returns-in_default-offset_value : goal.returns-in_default-offset_value
 returns-in_default-offset_value c =
@@ -48,7 +53,8 @@ returns-in_default-offset_value c =
     let key = c.cut_first.result.0.now in
     let stamp = c.cut_first-2.result.0.now in
     refused (goal.at.returns-in_default-offset_value c).In_ok-found
-    (line_found key stamp c.cut_first-2.result.1.now found c.in_ok-found.ensures ∙ no_offset key stamp found (sym c.in_default-offset_value.ensures.value))
+    (line_found key stamp c.cut_first-2.result.1.now found c.in_ok-found.ensures ∙ no_offset key stamp found
+    (sym c.in_default-offset_value.ensures.value))
 
 kept : (c : In_ok-text) → IsKept LINE_LIMIT (string_bytes c.in_ok-text.text) (record {
   size = length c.in-Ok.body.now;
@@ -58,18 +64,25 @@ kept : (c : In_ok-text) → IsKept LINE_LIMIT (string_bytes c.in_ok-text.text) (
   start = length c.in-Ok.body.now + 9;
   ends = c.in_ok-text.ends;
 }) (record {
-  values = line_value c.cut_first.result.0.now c.cut_first-2.result.0.now (values_of_texts (raw_texts (found_view c.in_ok-found.found) c.in-Some-offset_value.offset c.in-Some.filename.now)) c.in-Some-offset_value.offset;
+  values = line_value c.cut_first.result.0.now c.cut_first-2.result.0.now
+      (values_of_texts (raw_texts (found_view c.in_ok-found.found) c.in-Some-offset_value.offset
+      c.in-Some.filename.now)) c.in-Some-offset_value.offset;
   line = c.in-Ok.body.now;
 })
 kept c =
     let same = c.in-Ok.ensures.cases.0 in
     let stamp : c.in-Ok-try_from.stamp ≡ c.cut_first-2.result.0.now = grind (arith, common_steps) in
-    json_kept LINE_LIMIT (string_bytes c.in_ok-text.text) c.in-Ok.body.now c.cut_first.result.0.now c.cut_first.result.1.now c.cut_first-2.result.0.now c.cut_first-2.result.1.now c.in-Some.filename.now
-    (found_view c.in_ok-found.found) c.in-Some-offset_value.offset _ (IsUtf8-string_bytes c.in_ok-text.text) (subst IsUtf8 (sym same) c.in-Ok.ensures.cases.1) (subst (λ b. length b < LINE_LIMIT) (sym same) c.if-body-ge-LINE_LIMIT.false)
+    json_kept LINE_LIMIT (string_bytes c.in_ok-text.text) c.in-Ok.body.now c.cut_first.result.0.now
+    c.cut_first.result.1.now c.cut_first-2.result.0.now c.cut_first-2.result.1.now c.in-Some.filename.now
+    (found_view c.in_ok-found.found) c.in-Some-offset_value.offset _ (IsUtf8-string_bytes c.in_ok-text.text)
+    (subst IsUtf8 (sym same) c.in-Ok.ensures.cases.1) (subst (λ b. length b < LINE_LIMIT) (sym same)
+    c.if-body-ge-LINE_LIMIT.false)
     (c.if-not-has_no_feed.ensures ∙ ap has_no_feed c.as_bytes.ensures.value)
     c.cut_first.ensures.before c.cut_first.ensures.after c.cut_first-2.ensures.before c.cut_first-2.ensures.after
-    (ap is_key (sym c.as_bytes-2.ensures.value) ∙ sym c.if-not-is_key.ensures) (ap is_stamp (sym c.as_bytes-else-not-is_key.ensures.value) ∙ sym c.if-not-is_stamp.ensures)
-    c.in_ok-found.ensures (sym c.in-Some.ensures.value) (sym c.in-Some-offset_value.ensures.value) c.in-Some.ensures.some c.in-Some-offset_value.ensures.small c.in_ok-text.ensures
+    (ap is_key (sym c.as_bytes-2.ensures.value) ∙ sym c.if-not-is_key.ensures)
+    (ap is_stamp (sym c.as_bytes-else-not-is_key.ensures.value) ∙ sym c.if-not-is_stamp.ensures)
+    c.in_ok-found.ensures (sym c.in-Some.ensures.value) (sym c.in-Some-offset_value.ensures.value)
+    c.in-Some.ensures.some c.in-Some-offset_value.ensures.small c.in_ok-text.ensures
     refl refl stamp refl refl
 
 pub invariant_of-result : goal.invariant_of-result
@@ -78,5 +91,7 @@ invariant_of-result c = kept_in LINE_LIMIT _ _ _ (kept (goal.at.invariant_of-res
 pub returns : goal.returns
 returns c =
     let here = (goal.at.returns c).In_ok-text in
-    line_of_body LINE_LIMIT c.args.line.now c.body_of-body.result.now c.in-Ok.body.now _ c.in-Ok.ensures.cases.0 c.body_of-body.ensures
-    (c.if-not-has_no_feed.ensures ∙ ap has_no_feed (c.as_bytes.ensures.value ∙ c.in-Ok.ensures.cases.0)) (kept_entry LINE_LIMIT _ _ _ (kept here))
+    line_of_body LINE_LIMIT c.args.line.now c.body_of-body.result.now c.in-Ok.body.now _ c.in-Ok.ensures.cases.0
+    c.body_of-body.ensures
+    (c.if-not-has_no_feed.ensures ∙ ap has_no_feed (c.as_bytes.ensures.value ∙ c.in-Ok.ensures.cases.0))
+    (kept_entry LINE_LIMIT _ _ _ (kept here))

@@ -1,4 +1,4 @@
-use Rattle.std.proofs.Common.{◌≡◌, ◌+◌, ◌<◌, length, IsUtf8, refl, sym, ap, ◌∙◌, subst, arith}
+use Rattle.std.proofs.Common.{◌≡◌, ◌+◌, ◌<◌, length, refl, sym, ap, ◌∙◌, arith}
 use Rattle.std.proofs.lemmas.Grind.{common_steps}
 use Rattle.cdxj_core.specs.declared.limit.TheConstants.{LINE_LIMIT}
 use Rattle.cdxj_core.specs.KeptLine.{IsKept}
@@ -13,8 +13,10 @@ use Rattle.cdxj_core.proofs.line_parts.LineParts.read.Goals as goal
 
 pub unescaped_texts-requires : goal.unescaped_texts-requires
 unescaped_texts-requires c =
-    let key = all_parts is_clean c.in_ok-text.text.now c.in_ok-key.key.now c.in_ok-key.rest.now 32 c.in_ok-key.ensures.0 c.in_ok-text.ensures.clean in
-    let stamp = all_parts is_clean c.in_ok-key.rest.now c.in_ok-stamp.stamp.now c.in_ok-stamp.object.now 32 c.in_ok-stamp.ensures.0 key.1 in
+    let key = all_parts is_clean c.in_ok-text.text.now c.in_ok-key.key.now c.in_ok-key.rest.now 32 c.in_ok-key.ensures.0
+    c.in_ok-text.ensures.clean in
+    let stamp = all_parts is_clean c.in_ok-key.rest.now c.in_ok-stamp.stamp.now c.in_ok-stamp.object.now 32
+    c.in_ok-stamp.ensures.0 key.1 in
     unescaped_only c.in_ok-stamp.object.now stamp.1
 
 kept : (c : After-of) → IsKept LINE_LIMIT c.in_ok-text.text.now (record {
@@ -25,15 +27,18 @@ kept : (c : After-of) → IsKept LINE_LIMIT c.in_ok-text.text.now (record {
   start = length c.in_ok-key.key.now + 25;
   ends = c.of.result;
 }) (record {
-  values = line_value c.in_ok-key.key.now c.in_ok-stamp.stamp.now (values_of_texts (borrowed_view c.in_ok-texts.texts)) c.in_ok-offset.offset;
+  values = line_value c.in_ok-key.key.now c.in_ok-stamp.stamp.now (values_of_texts (borrowed_view c.in_ok-texts.texts))
+      c.in_ok-offset.offset;
   line = c.in_ok-text.text.now;
 })
 kept c =
     let offset = c.in_ok-offset.ensures in
     let stamp : c.in-Ok.stamp ≡ c.in_ok-stamp.stamp.now = grind (arith, common_steps) in
     let some : 0 < length c.in_ok-key.key.now = grind (arith, common_steps, c.if-is_empty.ensures) in
-    plain_kept LINE_LIMIT c.in_ok-text.text.now c.in_ok-key.key.now c.in_ok-key.rest.now c.in_ok-stamp.stamp.now c.in_ok-stamp.object.now (borrowed_view c.in_ok-texts.texts) c.in_ok-offset.offset _
-    c.in_ok-text.ensures.utf8 c.in_ok-text.ensures.clean c.in_ok-text.ensures.short c.in_ok-key.ensures some c.in_ok-stamp.ensures c.in_ok-texts.ensures
+    plain_kept LINE_LIMIT c.in_ok-text.text.now c.in_ok-key.key.now c.in_ok-key.rest.now c.in_ok-stamp.stamp.now
+    c.in_ok-stamp.object.now (borrowed_view c.in_ok-texts.texts) c.in_ok-offset.offset _
+    c.in_ok-text.ensures.utf8 c.in_ok-text.ensures.clean c.in_ok-text.ensures.short c.in_ok-key.ensures some
+    c.in_ok-stamp.ensures c.in_ok-texts.ensures
     offset.value offset.small offset.text offset.named refl refl stamp refl refl c.of.ensures
 
 pub invariant_of-result : goal.invariant_of-result
@@ -42,5 +47,7 @@ invariant_of-result c = kept_in LINE_LIMIT _ _ _ (kept (goal.at.invariant_of-res
 pub returns : goal.returns
 returns c =
     let same = c.in_ok-text.ensures.value in
-    line_of_body LINE_LIMIT c.args.line.now c.body_of-body.result.now c.in_ok-text.text.now _ same c.body_of-body.ensures
-    (sym (clean_feed c.in_ok-text.text.now c.in_ok-text.ensures.clean) ∙ ap has_no_feed same) (kept_entry LINE_LIMIT _ _ _ (kept (goal.at.returns c).After-of))
+    line_of_body LINE_LIMIT c.args.line.now c.body_of-body.result.now c.in_ok-text.text.now _ same
+    c.body_of-body.ensures
+    (sym (clean_feed c.in_ok-text.text.now c.in_ok-text.ensures.clean) ∙ ap has_no_feed same)
+    (kept_entry LINE_LIMIT _ _ _ (kept (goal.at.returns c).After-of))

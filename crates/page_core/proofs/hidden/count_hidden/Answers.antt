@@ -3,16 +3,23 @@ use Rattle.std.specs.List.{count_by}
 use Rattle.std.proofs.lemmas.List.Sums.{count_by-le-length, sum_by-append}
 use Rattle.std.proofs.lemmas.Simd.{chunk-drop, length-chunk}
 use lib.Lanes.{chunk}
-use Rattle.page_core.specs.Special.{is_special}
-use Rattle.page_core.proofs.special.Special.count.Goals as goal
+use Rattle.page_core.specs.Rows.{is_hidden}
+use Rattle.page_core.proofs.hidden.count_hidden.Goals as goal
 
 pub overflow_add-count : goal.overflow_add-count
 overflow_add-count c =
     let bytes = c.args.bytes.now in
     let lanes = chunk c.by_lanes.end 16 bytes in
     let room : c.by_lanes.end + 16 ≤ length bytes = omega (arith, c.by_lanes.invariant.0, c.by_lanes-test.true) in
-    let few = count_by-le-length (is_special c.args.self) lanes in
-    omega (arith, few, room, length-chunk c.by_lanes.end 16 bytes room, c.count_lanes-count.ensures, c.by_lanes.invariant.1)
+    let few = count_by-le-length is_hidden lanes in
+    omega (
+      arith,
+      few,
+      room,
+      length-chunk c.by_lanes.end 16 bytes room,
+      c.count_lanes-count.ensures,
+      c.by_lanes.invariant.1,
+    )
 
 pub by_lanes-preserved : goal.by_lanes-preserved
 by_lanes-preserved c =
@@ -20,8 +27,8 @@ by_lanes-preserved c =
     let end = c.by_lanes.end in
     let lanes = chunk end 16 bytes in
     let room : end + 16 ≤ length bytes = omega (arith, c.by_lanes.invariant.0, c.by_lanes-test.true) in
-    let few = count_by-le-length (is_special c.args.self) lanes in
-    let cut = ap (count_by (is_special c.args.self)) (chunk-drop end 16 bytes) ∙ sum_by-append _ lanes (drop (end + 16) bytes) in (
+    let few = count_by-le-length is_hidden lanes in
+    let cut = ap (count_by is_hidden) (chunk-drop end 16 bytes) ∙ sum_by-append _ lanes (drop (end + 16) bytes) in (
       room,
       omega (arith, few, length-chunk end 16 bytes room, c.count_lanes-count.ensures, c.by_lanes.invariant.1),
       omega (arith, cut, c.count_lanes-count.ensures, c.by_lanes.invariant.2),

@@ -1,0 +1,21 @@
+-- Values that JSON writes without escapes.
+use Rattle.std.proofs.Common.{◌≡◌, List, [], ◌∷◌, ◌++◌, ℕ, true, map, flat_map, refl, sym, ap}
+use Rattle.std.specs.List.{join_by, list_all}
+use Rattle.json.specs.Print.{quoted}
+use Rattle.json.specs.Run.{is_plain}
+use Rattle.cdxj_core.proofs.PlainLaw.{escape_plain}
+use Rattle.page_core.specs.Rows.{between_quotes}
+
+quoted_plain : (text : List ℕ) → list_all is_plain text ≡ true → between_quotes text ≡ quoted text
+quoted_plain text h = ap (λ t. 34 ∷ (t ++ 34 ∷ [])) (sym (escape_plain text h))
+
+module _ {X : Type 0} (value : X → List ℕ) (plain : (x : X) → list_all is_plain (value x) ≡ true) where
+  later_plain : (xs : List X) → flat_map (λ t. (44 ∷ []) ++ between_quotes t) (map value xs) ≡ flat_map (λ t. (44 ∷ [])
+      ++ quoted t) (map value xs)
+  later_plain [] = refl
+  later_plain (x ∷ xs) = λ i. ((44 ∷ []) ++ quoted_plain (value x) (plain x) i) ++ later_plain xs i
+
+  pub values_plain : (xs : List X) → join_by between_quotes (44 ∷ []) (map value xs) ≡ join_by quoted (44 ∷ [])
+      (map value xs)
+  values_plain [] = refl
+  values_plain (x ∷ xs) = λ i. quoted_plain (value x) (plain x) i ++ later_plain xs i
