@@ -26,7 +26,7 @@ impl LineWriter {
         LineWriter { count: 0 }
     }
 
-    #[tactic(auto, using(crate::proofs::WrittenLemmas::grows_not, crate::proofs::WrittenLemmas::grows_by, crate::proofs::WrittenLemmas::grows_part))]
+    #[tactic(auto, using(crate::proofs::WrittenLemmas::grows_part))]
     fn put_line<O: Output>(&mut self, line: &Line, out: &mut O) -> Result<(), SinkFault>
         ensures text { OnOk result
             (Appends (O.written out.old) (O.written out.new) (line_row line.now)) }

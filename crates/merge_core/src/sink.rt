@@ -108,11 +108,12 @@ fn take_two<K: Sink, O: Output>(
 ) -> Result<bool, SinkFault>
     ensures wrote { (begin : K) (taken : List Member) (start : Option (List ℕ))
         → K.Wrote begin sink.old taken start (O.written out.old)
-        → MatchResult result (λ _.
-        K.Wrote begin sink.new
-        (taken ++ rising member_place place_cmp (first.now ∷ second.now ∷ [])) start (O.written out.new))
+        → MatchResult result (λ _. K.Wrote begin sink.new
+        (taken ++ rising member_place place_cmp (first.now ∷ second.now ∷ []))
+        start (O.written out.new))
         (λ _. K.Broke begin
-        (taken ++ rising member_place place_cmp (first.now ∷ second.now ∷ [])) start (O.written out.new)) }
+        (taken ++ rising member_place place_cmp (first.now ∷ second.now ∷ []))
+        start (O.written out.new)) }
     ensures enough { IfOk result (λ all. all ≡ false → K.Enough sink.new) }
     ensures further { IfOk result (λ all. all ≡ true → K.Enough sink.new → ⊥) }
     ensures grows { Grows (O.written out.old) (O.written out.new) }

@@ -203,6 +203,22 @@ fn the_search_for_the_last_of_100_000_lines_reads_less_than_a_hundredth(
     Ok(())
 }
 
+/// Returns whether the search for the last of 100,000 lines takes more than 20 steps, and no more reads than this.
+fn is_found_in(alloc: Global, text: &[u8], reads: u64) -> Result<bool, SearchFault> {
+    let mut source = Fuse::new(SliceSource::new(text), 8_192, 0);
+    let found = search(alloc, &mut source, b"com,example)/99999", b"20160101000000")?;
+    Ok(found.probes > 20 && source.calls <= reads)
+}
+
+/// The lines have 17,900,000 bytes. Twelve steps leave less than 7,680 of them, which one read gives.
+#[test]
+fn the_last_steps_of_a_search_read_nothing(rt: HostRuntime) -> Result<(), Fail> {
+    let text = keyed_lines(rt.alloc(), 100_000)?;
+    assert!(rt; text.len() == 17_900_000);
+    assert!(rt; is_found_in(rt.alloc(), &text, 13)?);
+    Ok(())
+}
+
 /// The number of bytes in a source's longest good line.
 const LINE: u64 = 16_777_216;
 

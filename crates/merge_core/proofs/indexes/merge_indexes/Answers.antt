@@ -16,7 +16,7 @@ use Rattle.devices.proofs.DeviceLemmas.{Appends-none}
 use Rattle.devices.proofs.WritingLemmas.{prefix_whole, prefix_longer, wrote_nothing}
 use Rattle.merge_core.specs.declared.feed.Feed.{Feed}
 use Rattle.merge_core.specs.WaitingLines.{WaitingLine}
-use Rattle.merge_core.specs.Collections.{Known, collection}
+use Rattle.merge_core.specs.Collections.{KeepsSources, Known, collection}
 use Rattle.merge_core.specs.Feeds.{AreFed}
 use Rattle.merge_core.specs.Reached.{Reached}
 use Rattle.merge_core.specs.Written.{line_row, lines_text}
@@ -25,6 +25,8 @@ use Rattle.merge_core.proofs.ReadLemmas.{read_first}
 use Rattle.merge_core.specs.SourceLines.{AreLinesOf}
 use Rattle.merge_core.proofs.SourceLemmas.{taken_lines}
 use Rattle.merge_core.proofs.WholeLemmas.{are_read, all_lines_are, its_lines, told_known, texts_kept, extents_kept, starts_kept}
+use Rattle.merge_core.proofs.indexes.merge_indexes.Given.{Over}
+use Rattle.merge_core.proofs.indexes.merge_indexes.Goals.{After-merge}
 use Rattle.merge_core.proofs.indexes.merge_indexes.Goals as goal
 
 whole : (old new : Option (List ℕ)) (text : List ℕ) → Appends old new text → AppendsPrefix old new text
@@ -76,8 +78,9 @@ returns-clause-part g c = λ texts indexes known are.
     texts indexes (subst (λ l. Known l texts) (sym opened.text) known) are out new
     (whole out new (lines_text wrote.1) (wrote.3 c.new-writer.result out (Appends-none out, c.new-writer.ensures)).0)
 
-pub returns-in_err-merge-clause-kept : goal.returns-in_err-merge-clause-kept
-returns-in_err-merge-clause-kept g c =
+-- the sources stay as they were
+kept : (g : Over) (c : After-merge g) → KeepsSources g.S.Source.text g.S.Source.extent c.args.sources.now c.merge.new.sources
+kept g c =
     let text = g.S.Source.text in let extent = g.S.Source.extent in let gave = g.S.Source.gave in
     let ss1 = c.open.new.sources in let fs1 = c.in_ok-streams.streams.feeds.items in
     let ss2 = c.merge.new.sources in let fs2 = c.merge.new.streams.feeds.items in
@@ -87,16 +90,11 @@ returns-in_err-merge-clause-kept g c =
       extents_kept text extent gave ss1 ss2 fs1 fs2 opened.ready.same (omega arith) moved ∙ opened.extent,
     )
 
+pub returns-in_err-merge-clause-kept : goal.returns-in_err-merge-clause-kept
+returns-in_err-merge-clause-kept g c = kept g (goal.at.returns-in_err-merge-clause-kept g c).After-merge
+
 pub returns-clause-kept : goal.returns-clause-kept
-returns-clause-kept g c =
-    let text = g.S.Source.text in let extent = g.S.Source.extent in let gave = g.S.Source.gave in
-    let ss1 = c.open.new.sources in let fs1 = c.in_ok-streams.streams.feeds.items in
-    let ss2 = c.merge.new.sources in let fs2 = c.merge.new.streams.feeds.items in
-    let opened = c.in_ok-streams.ensures in
-    let moved = c.merge.ensures.moved in (
-      texts_kept text extent gave ss1 ss2 fs1 fs2 opened.ready.same (omega arith) moved ∙ opened.text,
-      extents_kept text extent gave ss1 ss2 fs1 fs2 opened.ready.same (omega arith) moved ∙ opened.extent,
-    )
+returns-clause-kept g c = kept g (goal.at.returns-clause-kept g c).After-merge
 
 pub returns-clause-merged : goal.returns-clause-merged
 returns-clause-merged g c = λ texts known.

@@ -1,5 +1,5 @@
 use Rattle.std.proofs.lemmas.List.{map-append}
-use Rattle.std.proofs.Common.{◌≡◌, Some, ◌+◌, ◌<◌, ◌∷◌, ◌++◌, [], Box, Global, option_map, map, MatchOption, refl, sym, ap, ◌∙◌, subst, arith}
+use Rattle.std.proofs.Common.{◌≡◌, ℕ, List, Some, ◌+◌, ◌<◌, ◌∷◌, ◌++◌, [], Box, Global, option_map, map, MatchOption, refl, sym, ap, ◌∙◌, subst, arith}
 use Rattle.std.specs.List.{AllByRecursion}
 use Rattle.std.specs.Ordering.{ordering_reverse}
 use Rattle.std.proofs.lemmas.Result.{err_from_is_err_and}
@@ -21,16 +21,41 @@ use Rattle.merge_core.proofs.FailLemmas.{counts_feed, if_err}
 use Rattle.merge_core.proofs.PairOrder.{below_upto, same_upto, same_from}
 use Rattle.merge_core.proofs.FeedLemmas.{each_join, each_next, line_read, same_stays}
 use Rattle.merge_core.proofs.DrainLemmas.{settled, settled_done, taken, taken_done, at_end, taken_more}
+use Rattle.merge_core.proofs.feed.Feed.drain.Given.{Over}
+use Rattle.merge_core.proofs.feed.Feed.drain.Goals.{After-next_line, In-Greater}
 use Rattle.merge_core.proofs.feed.Feed.drain.Goals as goal
+
+-- a line that is above the first one
+above : (g : Over) (c : In-Greater g) → Below (member_pair c.args.first.now) (member_pair c.in-Some.line.value)
+above g c =
+    let first = member_pair c.args.first.now in
+    pair_cmp_total.antisymm first (member_pair c.in-Some.line.value)
+    ∙ ap (λ k. ordering_reverse (pair_cmp (member_pair k) first)) (sym c.deref.ensures)
+    ∙ ap ordering_reverse (sym c.compare_pairs.ensures ∙ c.in-Greater.is)
+
+-- the source's text is what it was
+told : (g : Over) (c : After-next_line g) (t : List ℕ) → g.S.Source.text c.args.source.now ≡ Some t
+    → Fed LINE_LIMIT (g.R.Range.past c.args.range.now) (Some t) (g.S.Source.extent c.loop-line.source) c.loop-line.self []
+told g c t e =
+    let inv = c.loop-line.invariant in
+    subst (λ o. Fed LINE_LIMIT (g.R.Range.past c.args.range.now) o (g.S.Source.extent c.loop-line.source) c.loop-line.self []) (inv.text ∙ e) inv.fed
+
+-- no line was read beyond the next one
+reads : (g : Over) (c : After-next_line g) (t : List ℕ) → g.S.Source.text c.args.source.now ≡ Some t
+    → ReadTo LINE_LIMIT (g.R.Range.past c.args.range.now) (Some (member_pair c.args.first.now)) t c.next_line.new.cursor
+reads g c t e =
+    let inv = c.loop-line.invariant in
+    let next = c.next_line.ensures in
+    read_to LINE_LIMIT (g.R.Range.past c.args.range.now) t (g.S.Source.extent c.loop-line.source) c.loop-line.self []
+    (Some (member_pair c.args.first.now)) (told g c t e) (inv.low t e) c.next_line.new.cursor next.start (next.most t (inv.text ∙ e)) next.ahead
 
 pub returns-in-Greater-clause-later : goal.returns-in-Greater-clause-later
 returns-in-Greater-clause-later g c =
     let first = member_pair c.args.first.now in
     let m = c.in-Some.line.value in
-    let above : Below first (member_pair m) = pair_cmp_total.antisymm first (member_pair m)
-    ∙ ap (λ k. ordering_reverse (pair_cmp (member_pair k) first)) (sym c.deref.ensures) ∙ ap ordering_reverse (sym c.compare_pairs.ensures ∙ c.in-Greater.is) in
+    let over = above g (goal.at.returns-in-Greater-clause-later g c).In-Greater in
     each_next (λ k. Below first (member_pair k)) (g.R.Range.past c.args.range.now) m c.settle.new.self.progress
-    (option_list (option_map (λ (b : Box Line Global). b.value) c.settle.result)) c.settle.ensures.next above
+    (option_list (option_map (λ (b : Box Line Global). b.value) c.settle.result)) c.settle.ensures.next over
 
 pub returns-in-Greater-clause-fed : goal.returns-in-Greater-clause-fed
 returns-in-Greater-clause-fed g c =
@@ -38,12 +63,11 @@ returns-in-Greater-clause-fed g c =
     let inv = c.loop-line.invariant in
     let first = member_pair c.args.first.now in
     let m = c.in-Some.line.value in
-    let above : Below first (member_pair m) = pair_cmp_total.antisymm first (member_pair m)
-    ∙ ap (λ k. ordering_reverse (pair_cmp (member_pair k) first)) (sym c.deref.ensures) ∙ ap ordering_reverse (sym c.compare_pairs.ensures ∙ c.in-Greater.is) in
+    let over = above g (goal.at.returns-in-Greater-clause-fed g c).In-Greater in
     settled LINE_LIMIT (g.R.Range.past c.args.range.now) (λ (b : Box Line Global). b.value) (g.S.Source.text c.loop-line.source) (g.S.Source.text c.next_line.new.source)
     (g.S.Source.extent c.loop-line.source) (g.S.Source.extent c.next_line.new.source) c.loop-line.self c.next_line.new.cursor c.in_ok-line.field-0 ok.text ok.extent
     inv.due inv.fed ok.stands ok.start ok.count ok.given ok.most c.settle.new.self c.settle.ensures.cursor c.in-Some.line c.in-Some.is first
-    (λ t e. inv.low t (sym inv.text ∙ e)) (below_upto first (member_pair m) above)
+    (λ t e. inv.low t (sym inv.text ∙ e)) (below_upto first (member_pair m) over)
     (option_list (option_map (λ (b : Box Line Global). b.value) c.settle.result)) c.settle.ensures.next
 
 pub returns-in-Greater-clause-taken : goal.returns-in-Greater-clause-taken
@@ -52,14 +76,13 @@ returns-in-Greater-clause-taken g c = λ t e.
     let inv = c.loop-line.invariant in
     let first = member_pair c.args.first.now in
     let m = c.in-Some.line.value in
-    let above : Below first (member_pair m) = pair_cmp_total.antisymm first (member_pair m)
-    ∙ ap (λ k. ordering_reverse (pair_cmp (member_pair k) first)) (sym c.deref.ensures) ∙ ap ordering_reverse (sym c.compare_pairs.ensures ∙ c.in-Greater.is) in
+    let over = above g (goal.at.returns-in-Greater-clause-taken g c).In-Greater in
     let h = inv.taken t e in (
       h.0,
       settled_done LINE_LIMIT (g.R.Range.past c.args.range.now) (λ (b : Box Line Global). b.value) (g.S.Source.text c.loop-line.source) (g.S.Source.text c.next_line.new.source)
           (g.S.Source.extent c.loop-line.source) (g.S.Source.extent c.next_line.new.source) c.loop-line.self c.next_line.new.cursor c.in_ok-line.field-0 ok.text ok.extent
           inv.due inv.fed ok.stands ok.start ok.count ok.given ok.most c.settle.new.self c.settle.ensures.cursor c.in-Some.line c.in-Some.is first
-          (λ t e. inv.low t (sym inv.text ∙ e)) (below_upto first (member_pair m) above)
+          (λ t e. inv.low t (sym inv.text ∙ e)) (below_upto first (member_pair m) over)
           (option_list (option_map (λ (b : Box Line Global). b.value) c.settle.result)) c.settle.ensures.next t ∙ h.1,
       h.2,
       h.3,
@@ -116,12 +139,12 @@ returns-in_err-line-clause-fault g c = λ t e.
     let past = g.R.Range.past c.args.range.now in
     let inv = c.loop-line.invariant in
     let extent = g.S.Source.extent c.loop-line.source in
-    let told = inv.text ∙ e in
+    let text = inv.text ∙ e in
     let p = err_from_is_err_and c.from_residual.result c.from_residual.ensures.1 in
     let q : p.0 ≡ c.in_err-line.field-0.0 = p.2 in
     if_err c.from_residual.result p.0 (NamesLine LINE_LIMIT t) p.1
     (subst (NamesLine LINE_LIMIT t) (sym q)
-    (bad_named LINE_LIMIT past t extent c.loop-line.self (subst (λ o. Fed LINE_LIMIT past o extent c.loop-line.self []) told inv.fed) c.in_err-line.field-0.0 (c.in_err-line.ensures.fault t told)))
+    (bad_named LINE_LIMIT past t extent c.loop-line.self (told g (goal.at.returns-in_err-line-clause-fault g c).After-next_line t e) c.in_err-line.field-0.0 (c.in_err-line.ensures.fault t text)))
 
 pub returns-in-Less-clause-fault : goal.returns-in-Less-clause-fault
 returns-in-Less-clause-fault g c = λ t e.
@@ -129,70 +152,31 @@ returns-in-Less-clause-fault g c = λ t e.
     let inv = c.loop-line.invariant in
     let ok = c.in_ok-line.ensures in
     let extent = g.S.Source.extent c.loop-line.source in
-    let told = inv.text ∙ e in
+    let text = inv.text ∙ e in
     let first = member_pair c.args.first.now in
     let m = c.in-Some.line.value in
     let below : Below (member_pair m) first = ap (λ k. pair_cmp (member_pair k) first) (sym c.deref.ensures) ∙ sym c.compare_pairs.ensures ∙ c.in-Less.is in
     let more = subst (λ o. MatchOption o (c.next_line.new.cursor.count ≡ c.loop-line.self.cursor.count) (λ _. c.next_line.new.cursor.count ≡ c.loop-line.self.cursor.count + 1)) c.in-Some.is ok.count in
     subst (IsOutOfOrder LINE_LIMIT t) (sym inv.begin)
-    (order_named LINE_LIMIT past t extent c.loop-line.self (subst (λ o. Fed LINE_LIMIT past o extent c.loop-line.self []) told inv.fed) first c.next_line.new.cursor m inv.due (inv.last t e) ok.start more
-    (line_read LINE_LIMIT t c.loop-line.self.cursor c.next_line.new.cursor (λ (b : Box Line Global). b.value) c.in_ok-line.field-0 c.in-Some.line c.in-Some.is (ok.given t told)) below)
+    (order_named LINE_LIMIT past t extent c.loop-line.self (told g (goal.at.returns-in-Less-clause-fault g c).After-next_line t e) first c.next_line.new.cursor m inv.due (inv.last t e) ok.start more
+    (line_read LINE_LIMIT t c.loop-line.self.cursor c.next_line.new.cursor (λ (b : Box Line Global). b.value) c.in_ok-line.field-0 c.in-Some.line c.in-Some.is (ok.given t text)) below)
 
 pub returns-in_err-line-clause-reads : goal.returns-in_err-line-clause-reads
-returns-in_err-line-clause-reads g c = λ t e.
-    let past = g.R.Range.past c.args.range.now in
-    let inv = c.loop-line.invariant in
-    let extent = g.S.Source.extent c.loop-line.source in
-    let f = c.loop-line.self in
-    let first = member_pair c.args.first.now in
-    let told = inv.text ∙ e in
-    let next = c.next_line.ensures in
-    read_to LINE_LIMIT past t extent f [] (Some first) (subst (λ o. Fed LINE_LIMIT past o extent f []) told inv.fed) (inv.low t e) c.next_line.new.cursor next.start (next.most t told) next.ahead
+returns-in_err-line-clause-reads g c = reads g (goal.at.returns-in_err-line-clause-reads g c).After-next_line
 
 pub returns-in-Less-clause-reads : goal.returns-in-Less-clause-reads
-returns-in-Less-clause-reads g c = λ t e.
-    let past = g.R.Range.past c.args.range.now in
-    let inv = c.loop-line.invariant in
-    let extent = g.S.Source.extent c.loop-line.source in
-    let f = c.loop-line.self in
-    let first = member_pair c.args.first.now in
-    let told = inv.text ∙ e in
-    let next = c.next_line.ensures in
-    read_to LINE_LIMIT past t extent f [] (Some first) (subst (λ o. Fed LINE_LIMIT past o extent f []) told inv.fed) (inv.low t e) c.next_line.new.cursor next.start (next.most t told) next.ahead
+returns-in-Less-clause-reads g c = reads g (goal.at.returns-in-Less-clause-reads g c).After-next_line
 
 pub returns-in-Err-clause-reads : goal.returns-in-Err-clause-reads
-returns-in-Err-clause-reads g c = λ t e.
-    let past = g.R.Range.past c.args.range.now in
-    let inv = c.loop-line.invariant in
-    let extent = g.S.Source.extent c.loop-line.source in
-    let f = c.loop-line.self in
-    let first = member_pair c.args.first.now in
-    let told = inv.text ∙ e in
-    let next = c.next_line.ensures in
-    read_to LINE_LIMIT past t extent f [] (Some first) (subst (λ o. Fed LINE_LIMIT past o extent f []) told inv.fed) (inv.low t e) c.next_line.new.cursor next.start (next.most t told) next.ahead
+returns-in-Err-clause-reads g c = reads g (goal.at.returns-in-Err-clause-reads g c).After-next_line
 
 pub returns-clause-reads : goal.returns-clause-reads
-returns-clause-reads g c = λ t e.
-    let past = g.R.Range.past c.args.range.now in
-    let inv = c.loop-line.invariant in
-    let extent = g.S.Source.extent c.loop-line.source in
-    let f = c.loop-line.self in
-    let first = member_pair c.args.first.now in
-    let told = inv.text ∙ e in
-    let next = c.next_line.ensures in
-    read_to LINE_LIMIT past t extent f [] (Some first) (subst (λ o. Fed LINE_LIMIT past o extent f []) told inv.fed) (inv.low t e) c.next_line.new.cursor next.start (next.most t told) next.ahead
+returns-clause-reads g c = reads g (goal.at.returns-clause-reads g c).After-next_line
 
 pub returns-in-Greater-clause-reads : goal.returns-in-Greater-clause-reads
 returns-in-Greater-clause-reads g c = λ t e.
-    let past = g.R.Range.past c.args.range.now in
-    let inv = c.loop-line.invariant in
-    let extent = g.S.Source.extent c.loop-line.source in
-    let f = c.loop-line.self in
-    let first = member_pair c.args.first.now in
-    let told = inv.text ∙ e in
-    let next = c.next_line.ensures in
-    subst (ReadTo LINE_LIMIT past (Some first) t) (sym c.settle.ensures.cursor)
-    (read_to LINE_LIMIT past t extent f [] (Some first) (subst (λ o. Fed LINE_LIMIT past o extent f []) told inv.fed) (inv.low t e) c.next_line.new.cursor next.start (next.most t told) next.ahead)
+    subst (ReadTo LINE_LIMIT (g.R.Range.past c.args.range.now) (Some (member_pair c.args.first.now)) t) (sym c.settle.ensures.cursor)
+    (reads g (goal.at.returns-in-Greater-clause-reads g c).After-next_line t e)
 
 pub returns-in_err-line-clause-failures : goal.returns-in_err-line-clause-failures
 returns-in_err-line-clause-failures g c =

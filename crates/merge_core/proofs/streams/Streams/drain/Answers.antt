@@ -10,12 +10,14 @@ use Rattle.merge_core.specs.declared.feed.Feed.{Feed}
 use Rattle.merge_core.specs.declared.feed.Progress.TheVariants.{Due}
 use Rattle.merge_core.specs.PairOrders.{Upto}
 use Rattle.merge_core.specs.Feeds.{Fed, Ready, done}
-use Rattle.merge_core.specs.Gathering.{EndsAt, unread}
+use Rattle.merge_core.specs.Gathering.{EndsAt, all_done, unread}
 use Rattle.merge_core.specs.Spending.{AreReadTo}
 use Rattle.merge_core.proofs.SpendLemmas.{are_read_to, read_on}
 use Rattle.merge_core.proofs.FailLemmas.{counts_reads, raised_by_feed}
 use Rattle.merge_core.proofs.Many.{Move, moved_set, map_set_same, unread_set}
 use Rattle.merge_core.proofs.StreamLemmas.{due_fed, waited_ready, waited_length}
+use Rattle.merge_core.proofs.streams.Streams.drain.Given.{Over}
+use Rattle.merge_core.proofs.streams.Streams.drain.Goals.{After-drain}
 use Rattle.merge_core.proofs.streams.Streams.drain.Goals as goal
 
 pub drain-requires-clause-fed : goal.drain-requires-clause-fed
@@ -37,31 +39,47 @@ drain-requires-clause-last g c = λ t e.
     subst (λ (f : Feed). EndsAt (member_pair c.args.first.now) (done LINE_LIMIT t f)) (sym c.index_mut.ensures.value)
     ((c.requires.due c.index-sources-i.result c.index_mut.result.now).last t e)
 
-pub returns-in-Err-clause-moved : goal.returns-in-Err-clause-moved
-returns-in-Err-clause-moved g c =
-    let k = c.in-Err.ensures in
+-- the source and its feed moved, and no other
+moved : (g : Over) (c : After-drain g) → AllZip (Move g.S.Source.text g.S.Source.extent g.S.Source.gave)
+    (zip c.args.sources.now c.args.self.now.feeds.items)
+    (zip (set c.args.sources.now c.args.i c.drain.new.source) (set c.args.self.now.feeds.items c.args.i c.drain.new.self))
+moved g c =
+    let k = c.drain.ensures in
     let ss = c.args.sources.now in let i = c.args.i in let a = c.index-sources-i.result in
-    moved_set g.S.Source.text g.S.Source.extent g.S.Source.gave ss c.args.self.now.feeds.items i a c.drain.new.source c.index_mut.result.now c.drain.new.self c.requires.ready.same c.requires.inside
-    (subst (λ (f : Feed). Move g.S.Source.text g.S.Source.extent g.S.Source.gave (get_or ss i a, f) (c.drain.new.source, c.drain.new.self)) c.index_mut.ensures.value
+    let move = Move g.S.Source.text g.S.Source.extent g.S.Source.gave in
+    moved_set g.S.Source.text g.S.Source.extent g.S.Source.gave ss c.args.self.now.feeds.items i a c.drain.new.source
+    c.index_mut.result.now c.drain.new.self c.requires.ready.same c.requires.inside
+    (subst (λ (f : Feed). move (get_or ss i a, f) (c.drain.new.source, c.drain.new.self)) c.index_mut.ensures.value
     (record { text_kept = k.text; extent_kept = k.extent; spent = k.gave; start_kept = k.start }))
+
+-- no source was read further than the pair
+read : (g : Over) (c : After-drain g)
+    → AllByRecursion (λ m. Upto (member_pair m) (member_pair c.args.first.now)) (all_done LINE_LIMIT g.S.Source.text c.args.sources.now c.args.self.now.feeds.items)
+    → AreReadTo LINE_LIMIT (g.R.Range.past c.args.range.now) g.S.Source.text (Some (member_pair c.args.first.now))
+    (set c.args.sources.now c.args.i c.drain.new.source) (set c.args.self.now.feeds.items c.args.i c.drain.new.self)
+read g c low =
+    let past = g.R.Range.past c.args.range.now in
+    let text = g.S.Source.text in let extent = g.S.Source.extent in
+    let ss = c.args.sources.now in let fs = c.args.self.now.feeds.items in
+    let pair = member_pair c.args.first.now in
+    let all = are_read_to LINE_LIMIT past text extent (Some pair) 0 ss fs c.args.self.now.waiting c.requires.ready.fed low in
+    read_on LINE_LIMIT past text extent (Some pair) ss fs c.args.i c.drain.new.source c.drain.new.self all
+    (λ t e. c.drain.ensures.reads t (sym c.drain.ensures.text ∙ e))
+
+pub returns-in-Err-clause-moved : goal.returns-in-Err-clause-moved
+returns-in-Err-clause-moved g c = moved g (goal.at.returns-in-Err-clause-moved g c).After-drain
 
 pub returns-in_err-let_wait-clause-moved : goal.returns-in_err-let_wait-clause-moved
 returns-in_err-let_wait-clause-moved g c =
-    let k = c.in-Ok.ensures in
-    let ss = c.args.sources.now in let fs = c.args.self.now.feeds.items in let i = c.args.i in let a = c.index-sources-i.result in
-    subst (λ (us : List Feed). AllZip (Move g.S.Source.text g.S.Source.extent g.S.Source.gave) (zip ss fs) (zip (set ss i c.drain.new.source) us)) (sym c.let_wait.ensures.feeds)
-    (moved_set g.S.Source.text g.S.Source.extent g.S.Source.gave ss fs i a c.drain.new.source c.index_mut.result.now c.drain.new.self c.requires.ready.same c.requires.inside
-    (subst (λ (f : Feed). Move g.S.Source.text g.S.Source.extent g.S.Source.gave (get_or ss i a, f) (c.drain.new.source, c.drain.new.self)) c.index_mut.ensures.value
-    (record { text_kept = k.text; extent_kept = k.extent; spent = k.gave; start_kept = k.start })))
+    subst (λ (us : List Feed). AllZip (Move g.S.Source.text g.S.Source.extent g.S.Source.gave) (zip c.args.sources.now c.args.self.now.feeds.items)
+    (zip (set c.args.sources.now c.args.i c.drain.new.source) us)) (sym c.let_wait.ensures.feeds)
+    (moved g (goal.at.returns-in_err-let_wait-clause-moved g c).After-drain)
 
 pub returns-clause-moved : goal.returns-clause-moved
 returns-clause-moved g c =
-    let k = c.in-Ok.ensures in
-    let ss = c.args.sources.now in let fs = c.args.self.now.feeds.items in let i = c.args.i in let a = c.index-sources-i.result in
-    subst (λ (us : List Feed). AllZip (Move g.S.Source.text g.S.Source.extent g.S.Source.gave) (zip ss fs) (zip (set ss i c.drain.new.source) us)) (sym c.let_wait.ensures.feeds)
-    (moved_set g.S.Source.text g.S.Source.extent g.S.Source.gave ss fs i a c.drain.new.source c.index_mut.result.now c.drain.new.self c.requires.ready.same c.requires.inside
-    (subst (λ (f : Feed). Move g.S.Source.text g.S.Source.extent g.S.Source.gave (get_or ss i a, f) (c.drain.new.source, c.drain.new.self)) c.index_mut.ensures.value
-    (record { text_kept = k.text; extent_kept = k.extent; spent = k.gave; start_kept = k.start })))
+    subst (λ (us : List Feed). AllZip (Move g.S.Source.text g.S.Source.extent g.S.Source.gave) (zip c.args.sources.now c.args.self.now.feeds.items)
+    (zip (set c.args.sources.now c.args.i c.drain.new.source) us)) (sym c.let_wait.ensures.feeds)
+    (moved g (goal.at.returns-clause-moved g c).After-drain)
 
 pub returns-clause-ready : goal.returns-clause-ready
 returns-clause-ready g c =
@@ -99,34 +117,19 @@ returns-clause-drained g c =
     )
 
 pub returns-in-Err-clause-reads : goal.returns-in-Err-clause-reads
-returns-in-Err-clause-reads g c = λ low.
-    let past = g.R.Range.past c.args.range.now in
-    let text = g.S.Source.text in let extent = g.S.Source.extent in
-    let ss = c.args.sources.now in let fs = c.args.self.now.feeds.items in let i = c.args.i in let a = c.index-sources-i.result in
-    let pair = member_pair c.args.first.now in
-    let all = are_read_to LINE_LIMIT past text extent (Some pair) 0 ss fs c.args.self.now.waiting c.requires.ready.fed low in
-    let new = read_on LINE_LIMIT past text extent (Some pair) ss fs i c.drain.new.source c.drain.new.self all (λ t e. c.drain.ensures.reads t (sym c.drain.ensures.text ∙ e)) in
-    new
+returns-in-Err-clause-reads g c = read g (goal.at.returns-in-Err-clause-reads g c).After-drain
 
 pub returns-in_err-let_wait-clause-reads : goal.returns-in_err-let_wait-clause-reads
 returns-in_err-let_wait-clause-reads g c = λ low.
-    let past = g.R.Range.past c.args.range.now in
-    let text = g.S.Source.text in let extent = g.S.Source.extent in
-    let ss = c.args.sources.now in let fs = c.args.self.now.feeds.items in let i = c.args.i in let a = c.index-sources-i.result in
-    let pair = member_pair c.args.first.now in
-    let all = are_read_to LINE_LIMIT past text extent (Some pair) 0 ss fs c.args.self.now.waiting c.requires.ready.fed low in
-    let new = read_on LINE_LIMIT past text extent (Some pair) ss fs i c.drain.new.source c.drain.new.self all (λ t e. c.drain.ensures.reads t (sym c.drain.ensures.text ∙ e)) in
-    subst (λ (us : List Feed). AreReadTo LINE_LIMIT past text (Some pair) (set ss i c.drain.new.source) us) (sym c.let_wait.ensures.feeds) new
+    subst (λ (us : List Feed). AreReadTo LINE_LIMIT (g.R.Range.past c.args.range.now) g.S.Source.text (Some (member_pair c.args.first.now))
+    (set c.args.sources.now c.args.i c.drain.new.source) us) (sym c.let_wait.ensures.feeds)
+    (read g (goal.at.returns-in_err-let_wait-clause-reads g c).After-drain low)
 
 pub returns-clause-reads : goal.returns-clause-reads
 returns-clause-reads g c = λ low.
-    let past = g.R.Range.past c.args.range.now in
-    let text = g.S.Source.text in let extent = g.S.Source.extent in
-    let ss = c.args.sources.now in let fs = c.args.self.now.feeds.items in let i = c.args.i in let a = c.index-sources-i.result in
-    let pair = member_pair c.args.first.now in
-    let all = are_read_to LINE_LIMIT past text extent (Some pair) 0 ss fs c.args.self.now.waiting c.requires.ready.fed low in
-    let new = read_on LINE_LIMIT past text extent (Some pair) ss fs i c.drain.new.source c.drain.new.self all (λ t e. c.drain.ensures.reads t (sym c.drain.ensures.text ∙ e)) in
-    subst (λ (us : List Feed). AreReadTo LINE_LIMIT past text (Some pair) (set ss i c.drain.new.source) us) (sym c.let_wait.ensures.feeds) new
+    subst (λ (us : List Feed). AreReadTo LINE_LIMIT (g.R.Range.past c.args.range.now) g.S.Source.text (Some (member_pair c.args.first.now))
+    (set c.args.sources.now c.args.i c.drain.new.source) us) (sym c.let_wait.ensures.feeds)
+    (read g (goal.at.returns-clause-reads g c).After-drain low)
 
 pub returns-in-Err-clause-failures : goal.returns-in-Err-clause-failures
 returns-in-Err-clause-failures g c =

@@ -1,7 +1,7 @@
 use Rattle.std.proofs.lemmas.List.{map-append}
 use Rattle.std.proofs.lemmas.List.{set-set}
 use Rattle.std.specs.List.{AllZip}
-use Rattle.std.proofs.Common.{◌≡◌, Some, ◌+◌, ◌∷◌, ◌++◌, [], Box, Global, List, length, get_or, set, map, zip, false, is_lt, refl, sym, ap, ◌∙◌, subst, arith, length-set}
+use Rattle.std.proofs.Common.{◌≡◌, ◌≤◌, Some, ◌+◌, ◌∷◌, ◌++◌, [], Box, Global, List, length, get_or, set, map, zip, false, is_lt, refl, sym, ap, ◌∙◌, subst, arith, length-set}
 use Rattle.std.specs.List.{AllByRecursion}
 use Rattle.std.specs.List.Sorted.{IsPermutation}
 use Rattle.std.proofs.lemmas.Cmp.{tied_itself}
@@ -26,11 +26,98 @@ use Rattle.merge_core.proofs.WholeLemmas.{texts_kept}
 use Rattle.merge_core.proofs.FailLemmas.{counts_reads, if_err}
 use Rattle.merge_core.proofs.FeedLemmas.{each_join}
 use Rattle.merge_core.proofs.GroupLemmas.{AreAt, from_waited}
-use Rattle.merge_core.proofs.GatherSteps.{Gathers, gathers_start, taken_next, gathers_drained, gathers_all}
+use Rattle.merge_core.proofs.GatherSteps.{Gathers, TakenNext, gathers_start, taken_next, gathers_drained, gathers_all}
 use Rattle.merge_core.proofs.HeapLemmas.{each_permuted}
 use Rattle.merge_core.proofs.Many.{Move, moved_trans, moved_still, set_own, each_replaced}
 use Rattle.merge_core.proofs.TurnLemmas.{above_popped, not_before}
+use Rattle.merge_core.proofs.streams.Streams.gather.Given.{Over}
+use Rattle.merge_core.proofs.streams.Streams.gather.Goals.{After-push, In_ok-drain}
 use Rattle.merge_core.proofs.streams.Streams.gather.Goals as goal
+
+abbrev values : List (Box Line Global) → List Member
+values = map (λ (b : Box Line Global). b.value)
+
+-- the lines are drained at the pair of the group
+same : (g : Over) (c : In_ok-drain g) → member_pair c.deref-in-sources.result.now ≡ member_pair c.new-keyed.result
+same g c = ap member_pair (c.deref-in-sources.ensures ∙ sym (c.new-keyed.ensures ∙ c.deref.ensures))
+
+-- what a source's further lines make of the group
+drained : (g : Over) (c : In_ok-drain g) → Gathers LINE_LIMIT (g.R.Range.past c.args.range.now) g.S.Source.text g.S.Source.extent g.S.Source.gave
+    c.args.sources.now c.args.self.now.feeds.items (member_pair c.new-keyed.result) (c.sources.i + 1)
+    c.drain.new.sources c.drain.new.self.feeds.items c.drain.new.self.waiting (c.new-keyed.result ∷ values c.drain.new.rest.items)
+drained g c =
+    let text = g.S.Source.text in
+    let ss = c.sources.sources in let fs = c.sources.self.feeds.items in let i = c.sources.i in
+    let old = values c.sources.rest.items in let new = values c.drain.new.rest.items in
+    let ok = c.in_ok-drain.ensures in
+    let s = ok.drained.0 in let f = ok.drained.1 in
+    gathers_drained LINE_LIMIT (g.R.Range.past c.args.range.now) text g.S.Source.extent g.S.Source.gave
+    c.args.sources.now c.args.self.now.feeds.items (member_pair c.new-keyed.result) i ss fs c.sources.self.waiting
+    c.new-keyed.result old new c.sources.invariant.gathers s f
+    c.drain.new.sources c.drain.new.self.feeds.items c.drain.new.self.waiting s f
+    c.sources.invariant.inside ok.ready ok.moved ok.drained.2 ok.drained.3 (ok.drained.4 s)
+    (subst (λ p. Drained LINE_LIMIT p (text (get_or ss i s)) (get_or fs i f) f old new) (same g c) (ok.drained.5 s f))
+
+-- and of the feeds
+drained_settled : (g : Over) (c : In_ok-drain g) → AreSettled c.drain.new.self.feeds.items
+drained_settled g c =
+    let ok = c.in_ok-drain.ensures in
+    let f = ok.drained.1 in
+    let own = ap (λ (l : List Feed). get_or l c.sources.i f) ok.drained.3 ∙ set_own c.sources.self.feeds.items c.sources.i f in
+    subst AreSettled (sym ok.drained.3) (c.sources.invariant.settled f (subst IsSettled own (ok.settled f)))
+
+-- its lines have the group's pair
+drained_each : (g : Over) (c : In_ok-drain g) → AreAt (member_pair c.new-keyed.result) (values c.drain.new.rest.items)
+drained_each g c =
+    subst (λ p. AreAt p (values c.sources.rest.items) → AreAt p (values c.drain.new.rest.items)) (same g c)
+    c.in_ok-drain.ensures.each c.sources.invariant.each
+
+-- the lines that wait come after it
+drained_from : (g : Over) (c : In_ok-drain g) → AllByRecursion (IsFrom (member_pair c.new-keyed.result) (c.sources.i + 1)) c.drain.new.self.waiting
+drained_from g c =
+    let pair = member_pair c.new-keyed.result in
+    from_waited pair (c.sources.i + 1) c.sources.i c.sources.self.waiting c.drain.new.self.waiting
+    (subst (λ p. WaitsAbove p c.sources.i c.sources.self.waiting c.drain.new.self.waiting) (same g c) c.in_ok-drain.ensures.waits)
+    c.sources.invariant.from
+
+-- the line that is taken next
+abbrev taken_line : (g : Over) → After-push g → WaitingLine
+taken_line g c = record { member = c.next-in-sources.inside.line.value; source = c.next-in-sources.inside.source }
+
+taken_alike : (g : Over) (c : After-push g) → Alike (waiting_pair (taken_line g c)) (member_pair c.new-keyed.result)
+taken_alike g c =
+    subst (λ (v : WaitingLine). Alike (waiting_pair v) (member_pair c.new-keyed.result)) (sym c.next-in-sources.view_is) c.in-Some-take_at.ensures.alike
+
+taken_feeds : (g : Over) (c : After-push g) (d : Feed) → c.take_at.new.self.feeds.items
+    ≡ set c.drain.new.self.feeds.items (taken_line g c).source (due (get_or c.drain.new.self.feeds.items (taken_line g c).source d))
+taken_feeds g c =
+    let feeds = c.drain.new.self.feeds.items in
+    subst (λ (v : WaitingLine). (d : Feed) → c.take_at.new.self.feeds.items ≡ set feeds v.source (due (get_or feeds v.source d)))
+    (sym c.next-in-sources.view_is) c.in-Some-take_at.ensures.feeds
+
+-- what it makes of the group
+taken : (g : Over) (c : After-push g) (h : Gathers LINE_LIMIT (g.R.Range.past c.args.range.now) g.S.Source.text g.S.Source.extent g.S.Source.gave
+    c.args.sources.now c.args.self.now.feeds.items (member_pair c.new-keyed.result) (c.sources.i + 1)
+    c.drain.new.sources c.drain.new.self.feeds.items c.drain.new.self.waiting (c.new-keyed.result ∷ values c.drain.new.rest.items))
+    → AllByRecursion (IsFrom (member_pair c.new-keyed.result) (c.sources.i + 1)) c.drain.new.self.waiting
+    → TakenNext LINE_LIMIT (g.R.Range.past c.args.range.now) g.S.Source.text g.S.Source.extent g.S.Source.gave
+    c.args.sources.now c.args.self.now.feeds.items (member_pair c.new-keyed.result) (c.sources.i + 1)
+    c.drain.new.sources c.drain.new.self.feeds.items c.drain.new.self.waiting (c.new-keyed.result ∷ values c.drain.new.rest.items) h
+    (taken_line g c) c.take_at.new.self.waiting c.take_at.new.self.feeds.items
+taken g c h from =
+    let pair = member_pair c.new-keyed.result in
+    let left = c.take_at.new.self.waiting in
+    let w = taken_line g c in
+    let is = sym c.next-in-sources.view_is in
+    let took = c.in-Some-take_at.ensures in
+    let out = subst (λ (v : WaitingLine). IsPermutation c.drain.new.self.waiting (v ∷ left)) is took.out in
+    let mine = (each_permuted (IsFrom pair (c.sources.i + 1)) c.drain.new.self.waiting (w ∷ left) out from).0 in
+    taken_next LINE_LIMIT (g.R.Range.past c.args.range.now) g.S.Source.text g.S.Source.extent g.S.Source.gave
+    c.args.sources.now c.args.self.now.feeds.items pair (c.sources.i + 1)
+    c.drain.new.sources c.drain.new.self.feeds.items c.drain.new.self.waiting (c.new-keyed.result ∷ values c.drain.new.rest.items) h
+    w left c.take_at.new.self.feeds.items out (taken_feeds g c)
+    (subst (λ (x : WaitingLine). AllByRecursion (λ v. is_lt (turn_cmp v x) ≡ false) left) is took.first)
+    (mine.1 (taken_alike g c)) (taken_alike g c)
 
 pub returns-in_default-clause-moved : goal.returns-in_default-clause-moved
 returns-in_default-clause-moved g c =
@@ -81,178 +168,90 @@ returns-in_err-drain-clause-moved g c =
 
 pub take_at-requires-clause-from : goal.take_at-requires-clause-from
 take_at-requires-clause-from g c =
-    let inv = c.sources.invariant in
-    let ok = c.in_ok-drain.ensures in
-    let pair = member_pair c.new-keyed.result in
-    let waits = subst (λ p. WaitsAbove p c.sources.i c.sources.self.waiting c.drain.new.self.waiting) (ap member_pair (c.deref-in-sources.ensures ∙ sym (c.new-keyed.ensures ∙ c.deref.ensures))) ok.waits in
-    each_weaker (λ (w : WaitingLine) (h : IsFrom pair (c.sources.i + 1) w). h.0) c.drain.new.self.waiting
-    (from_waited pair (c.sources.i + 1) c.sources.i c.sources.self.waiting c.drain.new.self.waiting waits inv.from)
+    each_weaker (λ (w : WaitingLine) (h : IsFrom (member_pair c.new-keyed.result) (c.sources.i + 1) w). h.0) c.drain.new.self.waiting
+    (drained_from g (goal.at.take_at-requires-clause-from g c).In_ok-drain)
 
 pub returns-in_default-take_at-clause-moved : goal.returns-in_default-take_at-clause-moved
 returns-in_default-take_at-clause-moved g c =
-    let past = g.R.Range.past c.args.range.now in
-    let text = g.S.Source.text in let extent = g.S.Source.extent in let gave = g.S.Source.gave in
-    let inv = c.sources.invariant in
-    let ok = c.in_ok-drain.ensures in
-    let first = c.new-keyed.result in
-    let pair = member_pair first in
-    let values = map (λ (b : Box Line Global). b.value) in
-    let ss = c.sources.sources in let fs = c.sources.self.feeds.items in let i = c.sources.i in
-    let drained : Gathers LINE_LIMIT past text extent gave c.args.sources.now c.args.self.now.feeds.items pair (i + 1) c.drain.new.sources c.drain.new.self.feeds.items c.drain.new.self.waiting (first ∷ values c.drain.new.rest.items) =
-    gathers_drained LINE_LIMIT past text extent gave c.args.sources.now c.args.self.now.feeds.items pair i ss fs c.sources.self.waiting first (values c.sources.rest.items) (values c.drain.new.rest.items) inv.gathers
-    ok.drained.0 ok.drained.1 c.drain.new.sources c.drain.new.self.feeds.items c.drain.new.self.waiting ok.drained.0 ok.drained.1 inv.inside ok.ready ok.moved ok.drained.2 ok.drained.3 (ok.drained.4 ok.drained.0)
-    (subst (λ p. Drained LINE_LIMIT p (text (get_or ss i ok.drained.0)) (get_or fs i ok.drained.1) ok.drained.1 (values c.sources.rest.items) (values c.drain.new.rest.items)) (ap member_pair (c.deref-in-sources.ensures ∙ sym (c.new-keyed.ensures ∙ c.deref.ensures))) (ok.drained.5 ok.drained.0 ok.drained.1)) in
-    subst (λ (us : List Feed). AllZip (Move text extent gave) (zip c.args.sources.now c.args.self.now.feeds.items) (zip c.drain.new.sources us)) (sym c.in_default-take_at.ensures.feeds) drained.moved
+    let now = drained g (goal.at.returns-in_default-take_at-clause-moved g c).In_ok-drain in
+    subst (λ (us : List Feed). AllZip (Move g.S.Source.text g.S.Source.extent g.S.Source.gave)
+    (zip c.args.sources.now c.args.self.now.feeds.items) (zip c.drain.new.sources us)) (sym c.in_default-take_at.ensures.feeds) now.moved
 
 pub returns-in_default-take_at-clause-group : goal.returns-in_default-take_at-clause-group
 returns-in_default-take_at-clause-group g c =
-    let past = g.R.Range.past c.args.range.now in
-    let text = g.S.Source.text in let extent = g.S.Source.extent in let gave = g.S.Source.gave in
+    let here = (goal.at.returns-in_default-take_at-clause-group g c).In_ok-drain in
+    let now = drained g here in
+    let text = g.S.Source.text in let extent = g.S.Source.extent in
+    let old = c.args.sources.now in let old_feeds = c.args.self.now.feeds.items in
+    let ss = c.drain.new.sources in let fs = c.drain.new.self.feeds.items in
     let inv = c.sources.invariant in
     let ok = c.in_ok-drain.ensures in
     let first = c.new-keyed.result in
     let pair = member_pair first in
-    let values = map (λ (b : Box Line Global). b.value) in
-    let ss = c.sources.sources in let fs = c.sources.self.feeds.items in let i = c.sources.i in
-    let drained : Gathers LINE_LIMIT past text extent gave c.args.sources.now c.args.self.now.feeds.items pair (i + 1) c.drain.new.sources c.drain.new.self.feeds.items c.drain.new.self.waiting (first ∷ values c.drain.new.rest.items) =
-    gathers_drained LINE_LIMIT past text extent gave c.args.sources.now c.args.self.now.feeds.items pair i ss fs c.sources.self.waiting first (values c.sources.rest.items) (values c.drain.new.rest.items) inv.gathers
-    ok.drained.0 ok.drained.1 c.drain.new.sources c.drain.new.self.feeds.items c.drain.new.self.waiting ok.drained.0 ok.drained.1 inv.inside ok.ready ok.moved ok.drained.2 ok.drained.3 (ok.drained.4 ok.drained.0)
-    (subst (λ p. Drained LINE_LIMIT p (text (get_or ss i ok.drained.0)) (get_or fs i ok.drained.1) ok.drained.1 (values c.sources.rest.items) (values c.drain.new.rest.items)) (ap member_pair (c.deref-in-sources.ensures ∙ sym (c.new-keyed.ensures ∙ c.deref.ensures))) (ok.drained.5 ok.drained.0 ok.drained.1)) in
+    let group = first ∷ values c.drain.new.rest.items in
     let feeds = c.in_default-take_at.ensures.feeds in
     let out = c.in_default-take_at.ensures.out in
-    let alike = subst (λ p. Alike pair p) refl (tied_itself pair_cmp_total pair) in
-    let each = subst (λ p. AreAt p (values c.sources.rest.items) → AreAt p (values c.drain.new.rest.items)) (ap member_pair (c.deref-in-sources.ensures ∙ sym (c.new-keyed.ensures ∙ c.deref.ensures))) ok.each in
-    let few = ok.fewer in
-    let less = inv.fewer in
-    let same = ap (λ (us : List Feed). unread extent c.drain.new.sources us) feeds in
+    let unread_same = ap (λ (us : List Feed). unread extent ss us) feeds in
     let long = ap (λ (ws : List WaitingLine). length ws) out.0 in
-    subst (λ m. Grouped LINE_LIMIT text extent c.args.sources.now c.args.self.now.feeds.items c.args.self.now.waiting c.drain.new.sources c.take_at.new.self.feeds.items c.take_at.new.self.waiting
+    let inside : c.sources.i + 1 ≤ length ss = omega (arith, inv.inside, ap length ok.drained.2, length-set c.sources.sources c.sources.i ok.drained.0) in
+    subst (λ m. Grouped LINE_LIMIT text extent old old_feeds c.args.self.now.waiting ss c.take_at.new.self.feeds.items c.take_at.new.self.waiting
     (member_pair m) (m ∷ values c.drain.new.rest.items)) (c.new-keyed.ensures ∙ c.deref.ensures) (record {
       above = inv.above;
       least = inv.least;
       later = out.1;
-      each = (alike, each inv.each);
-      fewer = omega (arith, few, less, same, long);
+      each = (tied_itself pair_cmp_total pair, drained_each g here);
+      fewer = omega (arith, ok.fewer, inv.fewer, unread_same, long);
       gathered = λ told low.
-          subst (λ (us : List Feed). Gathered pair (all_done LINE_LIMIT text c.args.sources.now c.args.self.now.feeds.items) (all_done LINE_LIMIT text c.drain.new.sources us) [] (first ∷ values c.drain.new.rest.items)) (sym feeds)
-          (gathers_all LINE_LIMIT past text extent gave c.args.sources.now c.args.self.now.feeds.items pair (i + 1) c.drain.new.sources c.drain.new.self.feeds.items c.drain.new.self.waiting (first ∷ values c.drain.new.rest.items) drained
-          c.requires.ready.same (let l = inv.inside in let e = ap length ok.drained.2 in omega (arith, l, e, length-set ss i ok.drained.0)) told low);
+          subst (λ (us : List Feed). Gathered pair (all_done LINE_LIMIT text old old_feeds) (all_done LINE_LIMIT text ss us) [] group) (sym feeds)
+          (gathers_all LINE_LIMIT (g.R.Range.past c.args.range.now) text extent g.S.Source.gave old old_feeds pair (c.sources.i + 1)
+          ss fs c.drain.new.self.waiting group now c.requires.ready.same inside told low);
     })
 
 pub returns-in-Err-clause-moved : goal.returns-in-Err-clause-moved
 returns-in-Err-clause-moved g c =
-    let past = g.R.Range.past c.args.range.now in
-    let text = g.S.Source.text in let extent = g.S.Source.extent in let gave = g.S.Source.gave in
-    let inv = c.sources.invariant in
-    let ok = c.in_ok-drain.ensures in
-    let first = c.new-keyed.result in
-    let pair = member_pair first in
-    let values = map (λ (b : Box Line Global). b.value) in
-    let ss = c.sources.sources in let fs = c.sources.self.feeds.items in let i = c.sources.i in
-    let drained : Gathers LINE_LIMIT past text extent gave c.args.sources.now c.args.self.now.feeds.items pair (i + 1) c.drain.new.sources c.drain.new.self.feeds.items c.drain.new.self.waiting (first ∷ values c.drain.new.rest.items) =
-    gathers_drained LINE_LIMIT past text extent gave c.args.sources.now c.args.self.now.feeds.items pair i ss fs c.sources.self.waiting first (values c.sources.rest.items) (values c.drain.new.rest.items) inv.gathers
-    ok.drained.0 ok.drained.1 c.drain.new.sources c.drain.new.self.feeds.items c.drain.new.self.waiting ok.drained.0 ok.drained.1 inv.inside ok.ready ok.moved ok.drained.2 ok.drained.3 (ok.drained.4 ok.drained.0)
-    (subst (λ p. Drained LINE_LIMIT p (text (get_or ss i ok.drained.0)) (get_or fs i ok.drained.1) ok.drained.1 (values c.sources.rest.items) (values c.drain.new.rest.items)) (ap member_pair (c.deref-in-sources.ensures ∙ sym (c.new-keyed.ensures ∙ c.deref.ensures))) (ok.drained.5 ok.drained.0 ok.drained.1)) in
-    let waits = subst (λ p. WaitsAbove p i c.sources.self.waiting c.drain.new.self.waiting) (ap member_pair (c.deref-in-sources.ensures ∙ sym (c.new-keyed.ensures ∙ c.deref.ensures))) ok.waits in
-    let from = from_waited pair (i + 1) i c.sources.self.waiting c.drain.new.self.waiting waits inv.from in
-    let w : WaitingLine = record { member = c.next-in-sources.inside.line.value; source = c.next-in-sources.inside.source } in
-    let is = sym c.next-in-sources.view_is in
-    let took = c.in-Some-take_at.ensures in
-    let out = subst (λ (v : WaitingLine). IsPermutation c.drain.new.self.waiting (v ∷ c.take_at.new.self.waiting)) is took.out in
-    let alike = subst (λ (v : WaitingLine). Alike (waiting_pair v) pair) is took.alike in
-    let mine = (each_permuted (IsFrom pair (i + 1)) c.drain.new.self.waiting (w ∷ c.take_at.new.self.waiting) out from).0 in
-    let t = taken_next LINE_LIMIT past text extent gave c.args.sources.now c.args.self.now.feeds.items pair (i + 1) c.drain.new.sources c.drain.new.self.feeds.items c.drain.new.self.waiting (first ∷ values c.drain.new.rest.items) drained
-    w c.take_at.new.self.waiting c.take_at.new.self.feeds.items out
-    (subst (λ (v : WaitingLine). (d : Feed) → c.take_at.new.self.feeds.items ≡ set c.drain.new.self.feeds.items v.source (due (get_or c.drain.new.self.feeds.items v.source d))) is took.feeds)
-    (subst (λ (x : WaitingLine). AllByRecursion (λ v. is_lt (turn_cmp v x) ≡ false) c.take_at.new.self.waiting) is took.first) (mine.1 alike) alike in
-    t.gathers.moved
+    let here = goal.at.returns-in-Err-clause-moved g c in
+    (taken g here.After-push (drained g here.In_ok-drain) (drained_from g here.In_ok-drain)).gathers.moved
 
 pub sources-smaller : goal.sources-smaller
 sources-smaller g c =
-    let past = g.R.Range.past c.args.range.now in
-    let text = g.S.Source.text in let extent = g.S.Source.extent in let gave = g.S.Source.gave in
-    let inv = c.sources.invariant in
-    let ok = c.in_ok-drain.ensures in
-    let first = c.new-keyed.result in
-    let pair = member_pair first in
-    let values = map (λ (b : Box Line Global). b.value) in
-    let ss = c.sources.sources in let fs = c.sources.self.feeds.items in let i = c.sources.i in
-    let drained : Gathers LINE_LIMIT past text extent gave c.args.sources.now c.args.self.now.feeds.items pair (i + 1) c.drain.new.sources c.drain.new.self.feeds.items c.drain.new.self.waiting (first ∷ values c.drain.new.rest.items) =
-    gathers_drained LINE_LIMIT past text extent gave c.args.sources.now c.args.self.now.feeds.items pair i ss fs c.sources.self.waiting first (values c.sources.rest.items) (values c.drain.new.rest.items) inv.gathers
-    ok.drained.0 ok.drained.1 c.drain.new.sources c.drain.new.self.feeds.items c.drain.new.self.waiting ok.drained.0 ok.drained.1 inv.inside ok.ready ok.moved ok.drained.2 ok.drained.3 (ok.drained.4 ok.drained.0)
-    (subst (λ p. Drained LINE_LIMIT p (text (get_or ss i ok.drained.0)) (get_or fs i ok.drained.1) ok.drained.1 (values c.sources.rest.items) (values c.drain.new.rest.items)) (ap member_pair (c.deref-in-sources.ensures ∙ sym (c.new-keyed.ensures ∙ c.deref.ensures))) (ok.drained.5 ok.drained.0 ok.drained.1)) in
-    let waits = subst (λ p. WaitsAbove p i c.sources.self.waiting c.drain.new.self.waiting) (ap member_pair (c.deref-in-sources.ensures ∙ sym (c.new-keyed.ensures ∙ c.deref.ensures))) ok.waits in
-    let from = from_waited pair (i + 1) i c.sources.self.waiting c.drain.new.self.waiting waits inv.from in
-    let w : WaitingLine = record { member = c.next-in-sources.inside.line.value; source = c.next-in-sources.inside.source } in
-    let is = sym c.next-in-sources.view_is in
-    let took = c.in-Some-take_at.ensures in
-    let out = subst (λ (v : WaitingLine). IsPermutation c.drain.new.self.waiting (v ∷ c.take_at.new.self.waiting)) is took.out in
-    let alike = subst (λ (v : WaitingLine). Alike (waiting_pair v) pair) is took.alike in
-    let mine = (each_permuted (IsFrom pair (i + 1)) c.drain.new.self.waiting (w ∷ c.take_at.new.self.waiting) out from).0 in
-    let t = taken_next LINE_LIMIT past text extent gave c.args.sources.now c.args.self.now.feeds.items pair (i + 1) c.drain.new.sources c.drain.new.self.feeds.items c.drain.new.self.waiting (first ∷ values c.drain.new.rest.items) drained
-    w c.take_at.new.self.waiting c.take_at.new.self.feeds.items out
-    (subst (λ (v : WaitingLine). (d : Feed) → c.take_at.new.self.feeds.items ≡ set c.drain.new.self.feeds.items v.source (due (get_or c.drain.new.self.feeds.items v.source d))) is took.feeds)
-    (subst (λ (x : WaitingLine). AllByRecursion (λ v. is_lt (turn_cmp v x) ≡ false) c.take_at.new.self.waiting) is took.first) (mine.1 alike) alike in
-    let fewer = t.fewer in
-    let few = ok.fewer in
-    omega (arith, fewer, few)
+    let here = goal.at.sources-smaller g c in
+    let fewer = (taken g here.After-push (drained g here.In_ok-drain) (drained_from g here.In_ok-drain)).fewer in
+    omega (arith, fewer, c.in_ok-drain.ensures.fewer)
 
 pub sources-preserved : goal.sources-preserved
 sources-preserved g c =
-    let past = g.R.Range.past c.args.range.now in
-    let text = g.S.Source.text in let extent = g.S.Source.extent in let gave = g.S.Source.gave in
+    let here = goal.at.sources-preserved g c in
+    let t = taken g here.After-push (drained g here.In_ok-drain) (drained_from g here.In_ok-drain) in
+    let w = taken_line g here.After-push in
+    let pair = member_pair c.new-keyed.result in
+    let rest = c.drain.new.rest.items in
+    let feeds = c.drain.new.self.feeds.items in
     let inv = c.sources.invariant in
     let ok = c.in_ok-drain.ensures in
-    let first = c.new-keyed.result in
-    let pair = member_pair first in
-    let values = map (λ (b : Box Line Global). b.value) in
-    let ss = c.sources.sources in let fs = c.sources.self.feeds.items in let i = c.sources.i in
-    let drained : Gathers LINE_LIMIT past text extent gave c.args.sources.now c.args.self.now.feeds.items pair (i + 1) c.drain.new.sources c.drain.new.self.feeds.items c.drain.new.self.waiting (first ∷ values c.drain.new.rest.items) =
-    gathers_drained LINE_LIMIT past text extent gave c.args.sources.now c.args.self.now.feeds.items pair i ss fs c.sources.self.waiting first (values c.sources.rest.items) (values c.drain.new.rest.items) inv.gathers
-    ok.drained.0 ok.drained.1 c.drain.new.sources c.drain.new.self.feeds.items c.drain.new.self.waiting ok.drained.0 ok.drained.1 inv.inside ok.ready ok.moved ok.drained.2 ok.drained.3 (ok.drained.4 ok.drained.0)
-    (subst (λ p. Drained LINE_LIMIT p (text (get_or ss i ok.drained.0)) (get_or fs i ok.drained.1) ok.drained.1 (values c.sources.rest.items) (values c.drain.new.rest.items)) (ap member_pair (c.deref-in-sources.ensures ∙ sym (c.new-keyed.ensures ∙ c.deref.ensures))) (ok.drained.5 ok.drained.0 ok.drained.1)) in
-    let waits = subst (λ p. WaitsAbove p i c.sources.self.waiting c.drain.new.self.waiting) (ap member_pair (c.deref-in-sources.ensures ∙ sym (c.new-keyed.ensures ∙ c.deref.ensures))) ok.waits in
-    let from = from_waited pair (i + 1) i c.sources.self.waiting c.drain.new.self.waiting waits inv.from in
-    let w : WaitingLine = record { member = c.next-in-sources.inside.line.value; source = c.next-in-sources.inside.source } in
-    let is = sym c.next-in-sources.view_is in
-    let took = c.in-Some-take_at.ensures in
-    let out = subst (λ (v : WaitingLine). IsPermutation c.drain.new.self.waiting (v ∷ c.take_at.new.self.waiting)) is took.out in
-    let alike = subst (λ (v : WaitingLine). Alike (waiting_pair v) pair) is took.alike in
-    let mine = (each_permuted (IsFrom pair (i + 1)) c.drain.new.self.waiting (w ∷ c.take_at.new.self.waiting) out from).0 in
-    let t = taken_next LINE_LIMIT past text extent gave c.args.sources.now c.args.self.now.feeds.items pair (i + 1) c.drain.new.sources c.drain.new.self.feeds.items c.drain.new.self.waiting (first ∷ values c.drain.new.rest.items) drained
-    w c.take_at.new.self.waiting c.take_at.new.self.feeds.items out
-    (subst (λ (v : WaitingLine). (d : Feed) → c.take_at.new.self.feeds.items ≡ set c.drain.new.self.feeds.items v.source (due (get_or c.drain.new.self.feeds.items v.source d))) is took.feeds)
-    (subst (λ (x : WaitingLine). AllByRecursion (λ v. is_lt (turn_cmp v x) ≡ false) c.take_at.new.self.waiting) is took.first) (mine.1 alike) alike in
-    let each = subst (λ p. AreAt p (values c.sources.rest.items) → AreAt p (values c.drain.new.rest.items)) (ap member_pair (c.deref-in-sources.ensures ∙ sym (c.new-keyed.ensures ∙ c.deref.ensures))) ok.each in
-    let pushed : values c.push.new.self.items ≡ values c.drain.new.rest.items ++ w.member ∷ [] = ap values c.in-Ok.ensures.items ∙ map-append (λ (b : Box Line Global). b.value) c.drain.new.rest.items (c.next-in-sources.inside.line ∷ []) in
-    let fewer = t.fewer in
-    let few = ok.fewer in
-    let less = inv.fewer in
+    let pushed : values c.push.new.self.items ≡ values rest ++ w.member ∷ [] =
+    ap values c.in-Ok.ensures.items ∙ map-append (λ (b : Box Line Global). b.value) rest (c.next-in-sources.inside.line ∷ []) in
     record {
-      gathers = subst (λ l. Gathers LINE_LIMIT past text extent gave c.args.sources.now c.args.self.now.feeds.items pair (w.source + 1) c.drain.new.sources c.take_at.new.self.feeds.items c.take_at.new.self.waiting (first ∷ l)) (sym pushed) t.gathers;
+      gathers = subst (λ l. Gathers LINE_LIMIT (g.R.Range.past c.args.range.now) g.S.Source.text g.S.Source.extent g.S.Source.gave
+          c.args.sources.now c.args.self.now.feeds.items pair (w.source + 1)
+          c.drain.new.sources c.take_at.new.self.feeds.items c.take_at.new.self.waiting (c.new-keyed.result ∷ l)) (sym pushed) t.gathers;
       held = c.take_at.ensures.held ∙ ok.held ∙ inv.held;
       inside = t.inside;
       due = t.due;
       settled = λ f s.
-          let here : IsSettled ok.drained.1 = subst IsSettled (ap (λ (l : List Feed). get_or l i ok.drained.1) ok.drained.3 ∙ set_own fs i ok.drained.1) (ok.settled ok.drained.1) in
-          let all = subst AreSettled (sym ok.drained.3) (inv.settled ok.drained.1 here) in
-          let feeds = c.drain.new.self.feeds.items in
-          let next = (subst (λ (v : WaitingLine). (d : Feed) → c.take_at.new.self.feeds.items ≡ set feeds v.source (due (get_or feeds v.source d))) is took.feeds) f in
-          subst AreSettled (sym (ap (λ (l : List Feed). set l w.source f) next ∙ set-set feeds w.source (due (get_or feeds w.source f)) f)) (each_replaced IsSettled feeds w.source f all s);
+          let next = ap (λ (l : List Feed). set l w.source f) (taken_feeds g here.After-push f) ∙ set-set feeds w.source (due (get_or feeds w.source f)) f in
+          subst AreSettled (sym next) (each_replaced IsSettled feeds w.source f (drained_settled g here.In_ok-drain) s);
       failures = ok.failures ∙ inv.failures;
       from = t.from;
       above = inv.above;
       least = inv.least;
-      each = subst (AreAt pair) (sym pushed) (each_join (λ m. Alike (member_pair m) pair) (values c.drain.new.rest.items) (w.member ∷ []) (each inv.each) (alike, tt));
-      fewer = omega (arith, fewer, few, less);
+      each = subst (AreAt pair) (sym pushed) (each_join (λ m. Alike (member_pair m) pair) (values rest) (w.member ∷ [])
+          (drained_each g here.In_ok-drain) (taken_alike g here.After-push, tt));
+      fewer = omega (arith, t.fewer, ok.fewer, inv.fewer);
     }
 
 pub returns-in_default-take_at-clause-settled : goal.returns-in_default-take_at-clause-settled
 returns-in_default-take_at-clause-settled g c =
-    let inv = c.sources.invariant in
-    let ok = c.in_ok-drain.ensures in
-    let here : IsSettled ok.drained.1 = subst IsSettled (ap (λ (l : List Feed). get_or l c.sources.i ok.drained.1) ok.drained.3 ∙ set_own c.sources.self.feeds.items c.sources.i ok.drained.1) (ok.settled ok.drained.1) in
-    subst AreSettled (sym (c.in_default-take_at.ensures.feeds ∙ ok.drained.3)) (inv.settled ok.drained.1 here)
+    subst AreSettled (sym c.in_default-take_at.ensures.feeds) (drained_settled g (goal.at.returns-in_default-take_at-clause-settled g c).In_ok-drain)
 
 pub returns-in_err-drain-clause-fault : goal.returns-in_err-drain-clause-fault
 returns-in_err-drain-clause-fault g c =
