@@ -1,13 +1,13 @@
 //! Making a key, a line and a resume key, by `cdxj_core` alone.
-ghost use Rattle.std.specs.Prelude.{◌≡◌, ◌∷◌, IfOk, IfSome, Some, string_bytes};
+ghost use Rattle.std.specs.Prelude.{◌≡◌, ℕ, IfOk, IfSome, Some, string_bytes};
 ghost use Rattle.cdxj_core.specs.declared.limit.TheConstants.{LINE_LIMIT};
 ghost use Rattle.cdxj_core.specs.Key.{key_of};
 ghost use Rattle.cdxj_core.specs.Members.{entry_member, line_entry};
-ghost use Rattle.cdxj_core.specs.Places.{offset_of, resume_place};
+ghost use Rattle.cdxj_core.specs.Places.{resume_place};
 
 use cdxj_core::{
-    Entry, KeyFault, LineFault, Place, PlaceFault, is_key, is_stamp, read_offset, resume_text,
-    url_key, write_line, written_line_is_read,
+    Entry, KeyFault, LineFault, Place, PlaceFault, is_key, is_stamp, place_is_good, read_offset,
+    resume_key_is_read, resume_text, url_key, write_line, written_line_is_read,
 };
 use std::alloc::Global;
 
@@ -45,7 +45,11 @@ pub fn resume_key(
     stamp: [u8; 14],
     filename: &str,
     offset: &str,
-) -> Result<Option<String>, PlaceFault> {
+) -> Result<Option<String>, PlaceFault>
+    ensures { IfOk result (λ made. IfSome made (λ text. (number : ℕ)
+        × (resume_place (string_bytes text) ≡ Some
+        (record { key = key.now; stamp = stamp; filename = filename.now; offset = number })))) }
+{
     let Some(offset) = read_offset(offset) else {
         return Ok(None);
     };
@@ -56,6 +60,8 @@ pub fn resume_key(
             filename,
             offset,
         };
+        place_is_good(place);
+        resume_key_is_read();
         let text = resume_text(alloc, place)?;
         Ok(Some(text))
     } else {

@@ -43,7 +43,8 @@ pub fn page_of_two<O: Output>(
     ensures page { (one two : List Member) → IsIndex LINE_LIMIT first.now one
         → IsIndex LINE_LIMIT second.now two
         → IfOk result (λ report. (query : QueryValue) × (query_of QUERY_LIMIT text.now ≡ Ok query)
-        × Answered query (collection (one ∷ two ∷ [])) (O.written out.old) (O.written out.new) report) }
+        × Answered query (collection (one ∷ two ∷ [])) (O.written out.old) (O.written out.new)
+        report) }
 {
     let query = match Query::read(alloc, text) {
         Ok(query) => query,

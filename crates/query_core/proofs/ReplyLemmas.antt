@@ -14,7 +14,7 @@ use Rattle.devices.specs.LineReading.{TakesLine, CountsTaken}
 use Rattle.query_core.specs.Replies.{refusal_text, reply_text, marked_reply, replies}
 use Rattle.devices.proofs.Takings.{taken-join}
 use Rattle.query_core.specs.declared.fault.AnswerFault.{AnswerFault}
-use Rattle.query_core.specs.Conversations.{Converses, IsLineReply, IsMarkedReply, Replied, RepliedInPart, RepliedSoFar, RepliedToAll, RepliedToFirst}
+use Rattle.query_core.specs.Conversations.{Converses, IsLineReply, IsMarkedReply, IsOneReply, Replied, RepliedInPart, RepliedSoFar, RepliedToAll, RepliedToFirst}
 
 -- ---- lists of lines and of their replies
 
@@ -180,8 +180,8 @@ converses_err limit IsReply Q (Err e) input old new h p = p
 -- ---- where each text has one reply
 
 module _ (limit : ℕ) (reply : List ℕ → List ℕ) where
-  abbrev pub Is : List ℕ → List ℕ → Type 0
-  Is text given = given ≡ reply text
+  abbrev Is : List ℕ → List ℕ → Type 0
+  Is = IsOneReply reply
 
   line_is : (line given : List ℕ) → IsLineReply limit Is line given → given ≡ reply_text limit reply line
   line_is line given h =

@@ -21,6 +21,10 @@ abbrev pub RepliedInPart : ℕ → (List ℕ → List ℕ) → Option (List ℕ)
 RepliedInPart limit reply None old new = ⊤
 RepliedInPart limit reply (Some input) old new = AppendsPrefix old new (replies limit reply input)
 
+-- the reply to the text is this one
+abbrev pub IsOneReply : (List ℕ → List ℕ) → List ℕ → List ℕ → Type 0
+IsOneReply reply text given = given ≡ reply text
+
 -- ---- by what is a reply to a text within the limit, in bytes
 
 module _ (limit : ℕ) (IsReply : List ℕ → List ℕ → Type 0) where

@@ -55,7 +55,7 @@ impl Collapsing {
         }
     }
 
-    /// Returns whether a capture of this key and stamp has its part in common with the one before.
+    /// Returns `true` if a capture of this key and stamp has its part in common with the one before.
     pub(crate) fn repeats(&self, key: &str, stamp: &[u8; 14]) -> bool
         ensures { result ≡ has_part self.now.part (part_of self.now.by key.now stamp.now) }
     {

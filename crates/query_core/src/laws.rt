@@ -1,5 +1,5 @@
-// Laws of the definitions that the contracts cite. These functions do nothing: each law is a
-// contract.
+//! Laws of the definitions that the contracts cite. These functions do nothing: each law is a
+//! contract.
 ghost use Rattle.std.specs.Prelude.{◌≡◌};
 ghost use Rattle.query_core.specs.declared.merging.TheConstants.{SOURCES_LIMIT};
 ghost use Rattle.query_core.specs.Limits.{LINE_LIMIT, QUERY_LIMIT};

@@ -46,7 +46,7 @@ pub(crate) fn next_line<S: Source>(
     }
 }
 
-/// Returns whether the key and stamp of a line are below those of the line before it.
+/// Returns `true` if the key and stamp of a line are below those of the line before it.
 pub(crate) fn falls(previous: &Line, line: &Line) -> bool
     ensures { result ≡ is_gt (pair_cmp (member_pair previous.now) (member_pair line.now)) }
 {

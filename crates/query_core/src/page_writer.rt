@@ -137,8 +137,8 @@ impl<'q> PageWriter<'q> {
             × (from_view writer.selection.from ≡ query.now.resume)
             × (writer.limit ≡ query.now.limit)) }
         ensures some { OnOk result (query.now.limit ≡ Some 0 → ⊥) }
-        ensures front { OnErr result
-            (AppendsPrefix (O.written out.old) (O.written out.new) (page_start (form_of query.now))) }
+        ensures front { OnErr result (AppendsPrefix (O.written out.old) (O.written out.new)
+            (page_start (form_of query.now))) }
         ensures failures { CountsWrite result (O.failures out.old) (O.failures out.new) }
     {
         let selection = Selection::begin(alloc, query)?;

@@ -57,8 +57,8 @@ impl<'q> PagesWriter<'q> {
             (writer.selection.query.now ≡ query.now)
             × (from_view writer.selection.from ≡ query.now.resume)
             × (writer.sizes.now ≡ sizes.now)) }
-        ensures front { OnErr result
-            (AppendsPrefix (O.written out.old) (O.written out.new) (page_start (form_of query.now))) }
+        ensures front { OnErr result (AppendsPrefix (O.written out.old) (O.written out.new)
+            (page_start (form_of query.now))) }
         ensures failures { CountsWrite result (O.failures out.old) (O.failures out.new) }
     {
         let selection = Selection::begin(alloc, query)?;

@@ -61,7 +61,7 @@ impl<'q> Selection<'q> {
         }
     }
 
-    /// Returns whether the line is left out because of the capture before it.
+    /// Returns `true` if the line is left out because of the capture before it.
     fn repeats(&self, line: &Line) -> bool
         ensures { result ≡ repeats_part self.now.collapsing (member_place line.now) }
     {
@@ -93,7 +93,7 @@ impl<'q> Selection<'q> {
         }
     }
 
-    /// Takes the next line. Returns whether it is a capture of the query.
+    /// Takes the next line. Returns `true` if it is a capture of the query.
     pub fn takes(&mut self, line: &Line) -> Result<bool, TextFault>
         ensures selects { (taken : List Member) → Selects self.old taken
             → OnOk result (Selects self.new (taken ++ line.now ∷ [])) }

@@ -14,7 +14,7 @@ ghost use Rattle.query_core.specs.QueryPages.{query_page, answer_text};
 ghost use Rattle.query_core.specs.Refusals.{IsEarly, Refuses, too_many};
 ghost use Rattle.query_core.specs.Replies.{reply_of, reply_to};
 ghost use Rattle.query_core.specs.AnyReplies.{IsPageReply, IsQueryReply, IsTextReply};
-ghost use Rattle.query_core.specs.Conversations.{Converses, IsLineReply, IsMarkedReply, Replied, RepliedInPart, WritesSome};
+ghost use Rattle.query_core.specs.Conversations.{Converses, IsLineReply, IsMarkedReply, IsOneReply, Replied, RepliedInPart, WritesSome};
 ghost use Rattle.query_core.specs.ReplyFaults.{CountsReply, CountsReplying, CountsLine, CountsServing};
 
 use crate::answering::answer;
@@ -115,7 +115,7 @@ fn reply_to_line<S: Source, O: Output>(
         (map S.failures sources.new) (O.failures out.old) (O.failures out.new) }
     ensures text { OverIndexes LINE_LIMIT (map S.text sources.old) (λ texts indexes.
         WritesSome result (O.written out.old) (O.written out.new)
-        (IsLineReply QUERY_LIMIT (λ text reply. reply ≡ reply_of QUERY_LIMIT (collection indexes) text)
+        (IsLineReply QUERY_LIMIT (IsOneReply (reply_of QUERY_LIMIT (collection indexes)))
         line.now)) }
     ensures lines { WritesSome result (O.written out.old) (O.written out.new)
         (IsLineReply QUERY_LIMIT (IsTextReply (map S.text sources.old)) line.now) }
@@ -142,7 +142,7 @@ fn reply_and_mark<S: Source, O: Output>(
         (map S.failures sources.new) (O.failures out.old) (O.failures out.new) }
     ensures text { OverIndexes LINE_LIMIT (map S.text sources.old) (λ texts indexes.
         WritesSome result (O.written out.old) (O.written out.new)
-        (IsMarkedReply QUERY_LIMIT (λ text reply. reply ≡ reply_of QUERY_LIMIT (collection indexes) text)
+        (IsMarkedReply QUERY_LIMIT (IsOneReply (reply_of QUERY_LIMIT (collection indexes)))
         line.now)) }
     ensures lines { WritesSome result (O.written out.old) (O.written out.new)
         (IsMarkedReply QUERY_LIMIT (IsTextReply (map S.text sources.old)) line.now) }
@@ -153,7 +153,7 @@ fn reply_and_mark<S: Source, O: Output>(
     }
 }
 
-/// Reads a further line of the input, and holds it. Returns whether there was one.
+/// Reads a further line of the input, and holds it. Returns `true` if there was one.
 fn read_line<I: Input>(lines: &mut InputLines, input: &mut I) -> Result<bool, AnswerFault>
     ensures most { lines.new.most ≡ lines.old.most }
     ensures line { IfOk result (λ found.

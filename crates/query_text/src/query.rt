@@ -186,7 +186,8 @@ impl Query {
     pub fn matches_kept(&self, line: &Line) -> Result<bool, AllocError>
         ensures value { IfOk result (λ found. found ≡ matches self.now line.now.values) }
         ensures unfiltered { self.now.filters ≡ [] → IsOk result }
-        ensures unmatched { matches_pair self.now line.now.values.key line.now.values.stamp ≡ false → IsOk result }
+        ensures unmatched { matches_pair self.now line.now.values.key line.now.values.stamp
+            ≡ false → IsOk result }
     {
         let (key, stamp) = line.pair();
         if !self.matches_pair(key, stamp) {

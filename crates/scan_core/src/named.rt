@@ -1,7 +1,7 @@
 //! Archives and their names.
 
 /// An archive, and the file name that its captures have.
-#[derive(Drop)]
+#[derive(Debug, Drop)]
 pub struct Named<I> {
     /// 1 to 255 bytes, different from the names of the other archives.
     pub name: String,

@@ -3,12 +3,13 @@ use Rattle.cdxj_core.specs.Members.{Member}
 use Rattle.merge_core.specs.Collections.{collection}
 use Rattle.query_text.specs.declared.query.TheConstants.{QUERY_LIMIT}
 use Rattle.query_core.specs.AnyReplies.{IsTextReply}
+use Rattle.query_core.specs.Conversations.{IsOneReply}
 use Rattle.query_core.specs.Replies.{reply_of}
 use Rattle.query_core.proofs.LineReplies.{marked_reply, unmarked_reply}
 use Rattle.query_core.proofs.serving.reply_and_mark.Goals as goal
 
 abbrev Is : List (List Member) → List ℕ → List ℕ → Type 0
-Is indexes text reply = reply ≡ reply_of QUERY_LIMIT (collection indexes) text
+Is indexes = IsOneReply (reply_of QUERY_LIMIT (collection indexes))
 
 pub returns-in-Err-clause-text : goal.returns-in-Err-clause-text
 returns-in-Err-clause-text g c = λ texts indexes known are.

@@ -7,13 +7,13 @@ use Rattle.cdxj_core.specs.Members.{Member}
 use Rattle.merge_core.specs.Collections.{collection}
 use Rattle.query_text.specs.declared.query.TheConstants.{QUERY_LIMIT}
 use Rattle.query_core.specs.AnyReplies.{IsTextReply}
-use Rattle.query_core.specs.Conversations.{IsLineReply}
+use Rattle.query_core.specs.Conversations.{IsLineReply, IsOneReply}
 use Rattle.query_core.specs.Replies.{refusal_text, reply_of}
 use Rattle.query_core.proofs.LineReplies.{long_reply, no_text_reply, text_reply, writes_some, writes_weaker}
 use Rattle.query_core.proofs.serving.reply_to_line.Goals as goal
 
 abbrev Is : List (List Member) → List ℕ → List ℕ → Type 0
-Is indexes text reply = reply ≡ reply_of QUERY_LIMIT (collection indexes) text
+Is indexes = IsOneReply (reply_of QUERY_LIMIT (collection indexes))
 
 pub returns-then-line-gt-QUERY_LIMIT-clause-text : goal.returns-then-line-gt-QUERY_LIMIT-clause-text
 returns-then-line-gt-QUERY_LIMIT-clause-text g c = λ texts indexes known are.

@@ -9,7 +9,7 @@ use Rattle.devices.proofs.Takings.{taken-join}
 use Rattle.query_text.specs.declared.query.TheConstants.{QUERY_LIMIT}
 use Rattle.merge_core.specs.Collections.{Known, collection}
 use Rattle.query_core.specs.AnyReplies.{IsTextReply}
-use Rattle.query_core.specs.Conversations.{IsMarkedReply}
+use Rattle.query_core.specs.Conversations.{IsMarkedReply, IsOneReply}
 use Rattle.query_core.specs.Replies.{reply_of}
 use Rattle.query_core.proofs.ReplyCounts.{counts_after, counts_line}
 use Rattle.query_core.proofs.ReplyLemmas.{converses_err, line-more, line-none, line-within, nothing_replied, one_reply, one_reply_part, replied-front, replied-none}
@@ -19,7 +19,7 @@ abbrev reply : List (List Member) → List ℕ → List ℕ
 reply indexes = reply_of QUERY_LIMIT (collection indexes)
 
 abbrev Is : List (List Member) → List ℕ → List ℕ → Type 0
-Is indexes text given = given ≡ reply indexes text
+Is indexes = IsOneReply (reply indexes)
 
 -- ---- nothing is replied
 

@@ -5,7 +5,7 @@ use Rattle.devices.specs.LineReading.{CountsTaken}
 use Rattle.query_text.specs.declared.query.TheConstants.{QUERY_LIMIT}
 use Rattle.merge_core.specs.Collections.{KeepsSources, OverIndexes, collection}
 use Rattle.query_core.specs.AnyReplies.{IsTextReply}
-use Rattle.query_core.specs.Conversations.{RepliedSoFar}
+use Rattle.query_core.specs.Conversations.{IsOneReply, RepliedSoFar}
 use Rattle.query_core.specs.Replies.{reply_of}
 use Rattle.query_core.proofs.serving.serve.Given as goal
 
@@ -20,7 +20,7 @@ invariant-loop-lines g l = record {
   within : l.lines.taken < 2 ^ 63 - 1;
   fits : l.count ≤ l.lines.taken;
   told : OverIndexes LINE_LIMIT (map g.S.Source.text l.fn.sources) (λ texts indexes.
-      RepliedSoFar QUERY_LIMIT (λ text reply. reply ≡ reply_of QUERY_LIMIT (collection indexes) text) (g.I.Input.remaining l.fn.input) (prepend_known l.lines.buffer (g.I.Input.remaining l.input)) l.count (g.O.Output.written l.fn.out) (g.O.Output.written l.out));
+      RepliedSoFar QUERY_LIMIT (IsOneReply (reply_of QUERY_LIMIT (collection indexes))) (g.I.Input.remaining l.fn.input) (prepend_known l.lines.buffer (g.I.Input.remaining l.input)) l.count (g.O.Output.written l.fn.out) (g.O.Output.written l.out));
   any : RepliedSoFar QUERY_LIMIT (IsTextReply (map g.S.Source.text l.fn.sources)) (g.I.Input.remaining l.fn.input) (prepend_known l.lines.buffer (g.I.Input.remaining l.input)) l.count (g.O.Output.written l.fn.out) (g.O.Output.written l.out);
 }
 
