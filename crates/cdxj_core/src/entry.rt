@@ -7,12 +7,17 @@ use std::marker::Model;
 /// The contents of an index line about one capture.
 #[derive(Debug, Drop)]
 pub struct Entry {
+    /// The key of `url`.
     pub key: String,
     /// 14 digits, `YYYYMMDDhhmmss`.
     pub stamp: [u8; 14],
+    /// The target.
     pub url: String,
+    /// The media type, or `-`.
     pub mime: String,
+    /// The HTTP status in three digits, or `-`.
     pub status: String,
+    /// The digest of the payload, or `-`.
     pub digest: String,
     /// The length of the record in bytes.
     pub length: u64,

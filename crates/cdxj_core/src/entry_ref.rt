@@ -4,12 +4,17 @@ use crate::borrowed_members::BorrowedMembers;
 /// The contents of an index line about one capture. Its texts are borrowed.
 #[derive(Clone, Copy, Debug)]
 pub struct EntryRef<'a> {
+    /// The key of `url`.
     pub key: &'a str,
     /// 14 digits, `YYYYMMDDhhmmss`.
     pub stamp: [u8; 14],
+    /// The target.
     pub url: &'a str,
+    /// The media type, or `-`.
     pub mime: &'a str,
+    /// The HTTP status in three digits, or `-`.
     pub status: &'a str,
+    /// The digest of the payload, or `-`.
     pub digest: &'a str,
     /// The length of the record in bytes.
     pub length: u64,

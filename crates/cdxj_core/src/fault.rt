@@ -7,6 +7,7 @@ use thiserror::Error;
 /// Why a line could not be written or read.
 #[derive(Clone, Copy, Debug, Drop, Error, PartialEq, Eq)]
 pub enum LineFault {
+    /// Memory could not be allocated.
     #[error("out of memory")]
     Memory,
     /// The line is longer than `LINE_LIMIT` bytes.

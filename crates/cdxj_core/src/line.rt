@@ -129,6 +129,7 @@ impl Line {
     }
 
     /// Copies a line that was read.
+    /// The only error is refused memory.
     pub fn new(alloc: Global, line: &LineRef<'_>) -> Result<Line, AllocError>
         ensures { IfOk result (λ kept. kept ≡ line.now) }
     {
@@ -217,6 +218,7 @@ impl Line {
     }
 
     /// Returns the line with all its values.
+    /// The only error is refused memory.
     pub fn values(&self) -> Result<LineRef<'_>, AllocError>
         ensures { IfOk result (λ found. found ≡ self.now) }
     {

@@ -32,6 +32,7 @@ fn push_plain(line: &mut Vec<u8>, text: &str) -> Result<(), AllocError>
 }
 
 /// Appends the text to the line, between quotes, as `serde_json` writes it.
+/// The only error is refused memory.
 pub fn push_quoted(line: &mut Vec<u8>, alloc: Global, text: &str) -> Result<(), AllocError>
     ensures { IfOk result (λ _. line.new.items ≡ line.old.items ++ quoted text.now) }
 {
@@ -144,6 +145,7 @@ fn line_bytes(alloc: Global, entry: EntryRef<'_>) -> Result<Vec<u8>, AllocError>
 }
 
 /// Writes the line of a good entry, as `write_line` does.
+/// Errors are those of `write_line`.
 pub fn write_entry(alloc: Global, entry: EntryRef<'_>) -> Result<Vec<u8>, LineFault>
     requires { IsGood (entry_view entry) }
     ensures { MatchResult result

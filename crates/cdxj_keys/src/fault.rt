@@ -7,6 +7,7 @@ use thiserror::Error;
 /// Why a target has no key.
 #[derive(Clone, Copy, Debug, Drop, Error, PartialEq, Eq)]
 pub enum KeyFault {
+    /// Memory could not be allocated.
     #[error("out of memory")]
     Memory,
     /// The URL is longer than the URL parser can hold.

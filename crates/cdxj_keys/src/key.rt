@@ -132,6 +132,7 @@ fn web_text(alloc: Global, url: &Url) -> Result<Vec<u8>, AllocError>
 }
 
 /// Returns the key of a target that the URL parser read as this URL, as `url_key` does.
+/// Errors are those of `url_key`.
 #[tactic(auto, using(crate::proofs::FoldedKey::web_text_is_filled), unfolding(crate::specs::Key::key_of))]
 pub fn parsed_url_key(alloc: Global, url: &Url, target: &str) -> Result<String, AllocError>
     ensures value { IfOk result (λ key. string_bytes key

@@ -7,6 +7,7 @@ use thiserror::Error;
 /// Why a place could not be kept, written or read.
 #[derive(Clone, Copy, Debug, Drop, Error, PartialEq, Eq)]
 pub enum PlaceFault {
+    /// Memory could not be allocated.
     #[error("out of memory")]
     Memory,
     /// The text isn't a resume key.

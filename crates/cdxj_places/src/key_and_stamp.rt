@@ -15,18 +15,21 @@ fn has_key_bytes(text: &[u8]) -> bool
     good
 }
 
+/// Returns `true` if each byte is an ASCII digit.
 pub fn has_digits(text: &[u8]) -> bool
     ensures { result ≡ list_all is_ascii_digit text.now }
 {
     text.iter().all(|&b| b.is_ascii_digit())
 }
 
+/// Returns `true` if these bytes can be the key of a line: one or more, none of them up to 0x20 or 0x7F.
 pub fn is_key(text: &[u8]) -> bool
     ensures { result ≡ is_key text.now }
 {
     !text.is_empty() && has_key_bytes(text)
 }
 
+/// Returns `true` if these bytes can be the stamp of a line: 14 ASCII digits.
 pub fn is_stamp(text: &[u8]) -> bool
     ensures { result ≡ is_stamp text.now }
 {

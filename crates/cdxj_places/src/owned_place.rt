@@ -46,6 +46,7 @@ impl OwnedPlace {
     ghost use Rattle.cdxj_places.specs.PlaceViews.{place_view};
 
     /// Copies a place.
+    /// The only error is refused memory.
     pub fn new(alloc: Global, place: Place<'_>) -> Result<OwnedPlace, PlaceFault>
         ensures { MatchResult result (λ kept. kept ≡ place_view place.entry)
             (λ fault. fault ≡ PlaceFault.Memory) }

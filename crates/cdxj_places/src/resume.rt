@@ -36,6 +36,7 @@ fn form_text(alloc: Global, bytes: &[u8]) -> Result<String, AllocError>
 
 /// Writes the resume key of a place: key, stamp, file name and offset, joined with spaces, in the
 /// form encoding (URL Standard, "application/x-www-form-urlencoded").
+/// The only error is refused memory.
 pub fn resume_text(alloc: Global, place: Place<'_>) -> Result<String, PlaceFault>
     ensures { MatchResult result
         (λ text. string_bytes text ≡ resume_text (place_view place.entry))

@@ -20,7 +20,7 @@ fn offset_of(alloc: Global, line: &[u8]) -> Result<Option<u64>, LineFault> {
     }
 }
 
-/// Returns whether a line of this length is read, or is too long.
+/// Returns `true` if a line of this length is read, or is too long.
 fn is_limited(alloc: Global, length: usize, feed: bool, is_read: bool) -> Result<bool, LineFault> {
     let line = long_line(alloc, length, feed)?;
     Ok(offset_of(alloc, &line)? == is_read.then_some(7))
@@ -49,7 +49,7 @@ fn a_line_is_read_up_to_the_limit(rt: HostRuntime) -> Result<(), LineFault> {
     Ok(())
 }
 
-/// Returns whether a line of this byte, over the limit, is too long.
+/// Returns `true` if a line of this byte, over the limit, is too long.
 fn is_too_long(alloc: Global, byte: u8) -> Result<bool, LineFault> {
     let line = padded(alloc, b"", byte, b"x", 16_777_217)?;
     Ok(offset_of(alloc, &line)?.is_none())
@@ -88,7 +88,7 @@ const WITHOUT_PAIR: &[&[u8]] = &[
     b"k 20160101000000\n",
 ];
 
-/// Returns whether the line begins with this key and the first stamp of 2016.
+/// Returns `true` if the line begins with this key and the first stamp of 2016.
 pub fn has_pair(line: &[u8], key: &[u8]) -> bool {
     match split_pair(line) {
         Some((found, stamp)) => found == key && stamp == b"20160101000000".as_slice(),

@@ -8,7 +8,7 @@ use std::test::Fail;
 const PLAIN: &[u8] =
     b"k 20160101000000 {\"url\": \"http://x/\", \"mime\": \"text/html\", \"status\": \"200\", \"digest\": \"-\", \"length\": \"1\", \"offset\": \"0\", \"filename\": \"a.warc\"}\n";
 
-/// Returns whether the line has the URL and the file name of the plain line.
+/// Returns `true` if the line has the URL and the file name of the plain line.
 fn is_plain(read: &LineRef<'_>) -> bool {
     read.value(Field::Original) == "http://x/" && read.value(Field::Filename) == "a.warc"
 }
@@ -21,7 +21,7 @@ fn a_plain_line_takes_no_memory(rt: HostRuntime) -> Result<(), Fail> {
     Ok(())
 }
 
-/// Returns whether the plain line is read in place of the line that was held.
+/// Returns `true` if the plain line is read in place of the line that was held.
 fn becomes_plain(kept: &mut Line) -> bool {
     kept.refill(PLAIN).is_ok()
         && kept.place().filename == "a.warc"

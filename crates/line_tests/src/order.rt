@@ -50,7 +50,7 @@ fn is_first_at(entry: &Entry, (filename, offset): (&str, u64)) -> bool {
     entry.filename.as_str() == filename && entry.offset == offset && entry.mime.as_str() == "first"
 }
 
-/// Returns whether these entries rise to those that are first at the places.
+/// Returns `true` if these entries rise to those that are first at the places.
 fn rise_to(alloc: Global, rows: &[Members], places: &[(&str, u64)]) -> Result<bool, AllocError> {
     let entries = entries(alloc, rows)?;
     let order = in_order(alloc, &entries)?;
@@ -81,7 +81,7 @@ const RISING: &[&[&str]] = &[
     &["k"],
 ];
 
-/// Returns whether entries with these keys, passed from the last to the first, are sorted as the keys are.
+/// Returns `true` if entries with these keys, passed from the last to the first, are sorted as the keys are.
 fn rise(alloc: Global, keys: &[&'static str]) -> Result<bool, AllocError> {
     let mut entries = Vec::new(alloc);
     for key in keys.iter().rev() {

@@ -3,12 +3,12 @@ use cdxj_core::{OwnedPlace, Place, PlaceFault, resume_text};
 use std::alloc::Global;
 use std::cmp::Ordering;
 
-/// Returns whether this resume key is written for the place.
+/// Returns `true` if this resume key is written for the place.
 fn is_written(alloc: Global, place: Place<'_>, text: &str) -> Result<bool, PlaceFault> {
     Ok(resume_text(alloc, place)?.as_str() == text)
 }
 
-/// Returns whether the place is the same when it is kept.
+/// Returns `true` if the place is the same when it is kept.
 fn is_kept(alloc: Global, place: Place<'_>) -> Result<bool, PlaceFault> {
     Ok(OwnedPlace::new(alloc, place)?.place() == place)
 }
@@ -68,7 +68,7 @@ const RESUME_KEYS: &[(&str, &str, u64, &str)] = &[
     ),
 ];
 
-/// Returns whether the resume key names a place with this file name and offset, for which this resume key is written.
+/// Returns `true` if the resume key names a place with this file name and offset, for which this resume key is written.
 fn names(
     alloc: Global,
     text: &str,
@@ -145,12 +145,12 @@ const RISING: &[&str] = &[
     "com%2Cexample-shop%29%2F+20150101000000+a.warc+0",
 ];
 
-/// Returns whether two places compare in this order.
+/// Returns `true` if two places compare in this order.
 fn are_ordered(left: Place<'_>, right: Place<'_>, order: Ordering) -> bool {
     left.cmp(&right) == order && (left == right) == order.is_eq()
 }
 
-/// Returns whether the places of these resume keys compare as their numbers do.
+/// Returns `true` if the places of these resume keys compare as their numbers do.
 fn compare_as(
     alloc: Global,
     (i, left): (usize, &str),

@@ -44,7 +44,7 @@ const FIELDS: &[Field] = &[
     Field::Filename,
 ];
 
-/// Returns whether the line has these values of the fields, with `|` between.
+/// Returns `true` if the line has these values of the fields, with `|` between.
 fn has_values(read: &LineRef<'_>, values: &str) -> bool {
     FIELDS
         .iter()
@@ -52,7 +52,7 @@ fn has_values(read: &LineRef<'_>, values: &str) -> bool {
         .all(|(field, value)| read.value(*field) == value)
 }
 
-/// Returns whether the line is read with these values.
+/// Returns `true` if the line is read with these values.
 pub fn is_read(alloc: Global, line: &str, values: &str) -> Result<bool, LineFault> {
     let read = LineRef::read(alloc, line.as_bytes())?;
     let end = line.strip_suffix('\n').unwrap_or(line);
@@ -228,7 +228,7 @@ fn lines_have_their_values(rt: HostRuntime) -> Result<(), LineFault> {
 /// A line whose file name is escaped, so that it doesn't stand in the line as it is.
 const ESCAPED: &[u8] = b"k 20160101000000 {\"offset\": 7, \"filename\": \"\\u00e9.warc\"}\n";
 
-/// Returns whether a kept line is this one, with this pair and at this place.
+/// Returns `true` if a kept line is this one, with this pair and at this place.
 fn keeps(kept: &Line, line: &[u8], key: &str, stamp: &[u8; 14], filename: &str, at: u64) -> bool {
     let place = kept.place();
     kept.line() == line
@@ -254,12 +254,12 @@ fn keeps_escaped(kept: &Line) -> bool {
     keeps(kept, line, "k", b"20160101000000", "\u{e9}.warc", 7)
 }
 
-/// Returns whether a kept line has this value of a field.
+/// Returns `true` if a kept line has this value of a field.
 pub fn has_member(kept: &Line, field: Field, value: &str) -> Result<bool, AllocError> {
     Ok(kept.values()?.value(field) == value)
 }
 
-/// Returns whether a text without a pair is refused.
+/// Returns `true` if a text without a pair is refused.
 fn refuses_key_alone(kept: &mut Line) -> Result<bool, LineFault> {
     match kept.refill(b"k") {
         Err(LineFault::Memory) => Err(LineFault::Memory),

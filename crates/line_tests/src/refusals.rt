@@ -2,7 +2,7 @@
 use cdxj_core::{LineFault, LineRef};
 use std::alloc::Global;
 
-/// Returns whether the line is refused as bad. Failed allocations are errors of the test.
+/// Returns `true` if the line is refused as bad. Failed allocations are errors of the test.
 pub fn is_bad(alloc: Global, line: &[u8]) -> Result<bool, LineFault> {
     match LineRef::read(alloc, line) {
         Err(LineFault::Memory) => Err(LineFault::Memory),

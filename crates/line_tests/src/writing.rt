@@ -71,7 +71,7 @@ const TEXTS: &[Field] = &[
     Field::Filename,
 ];
 
-/// Returns whether a line has the texts and the stamp of these members.
+/// Returns `true` if a line has the texts and the stamp of these members.
 fn has_texts(read: &LineRef<'_>, members: &Members) -> bool {
     let texts = [
         members.key,
@@ -102,7 +102,7 @@ const WRITTEN: &[(Members, &[u8], &str, &str)] = &[
     (ESCAPED, ESCAPED_LINE, "264", "0"),
 ];
 
-/// Returns whether the entry is written as this line, and read back.
+/// Returns `true` if the entry is written as this line, and read back.
 fn is_written(alloc: Global, members: &Members, line: &[u8]) -> Result<bool, Fail> {
     let entry = entry(alloc, members)?;
     if !entry.good() {
@@ -112,7 +112,7 @@ fn is_written(alloc: Global, members: &Members, line: &[u8]) -> Result<bool, Fai
     Ok(written.as_slice() == line && has_texts(&LineRef::read(alloc, line)?, members))
 }
 
-/// Returns whether the line has this length and offset.
+/// Returns `true` if the line has this length and offset.
 fn has_numbers(alloc: Global, line: &[u8], length: &str, offset: &str) -> Result<bool, LineFault> {
     let read = LineRef::read(alloc, line)?;
     Ok(read.value(Field::Length) == length && read.value(Field::Offset) == offset)

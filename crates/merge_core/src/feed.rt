@@ -65,6 +65,7 @@ impl Feed {
     }
 
     /// Reads the first line of the source. Returns it if it waits.
+    /// Errors are `Memory`, `Read` and `BadLine`.
     pub fn begin<S: Source, R: Range>(
         &mut self,
         source: &mut S,
@@ -103,6 +104,7 @@ impl Feed {
 
     /// Reads the further lines of the source that have the pair of this one into `rest`. Returns the line after them if
     /// it waits.
+    /// Errors are `Memory`, `Read`, `BadLine` and `OutOfOrder`.
     pub fn drain<S: Source, R: Range>(
         &mut self,
         source: &mut S,

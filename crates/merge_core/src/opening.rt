@@ -74,6 +74,7 @@ impl Streams {
     }
 
     /// Opens the sources from their start, and reads the first line of each.
+    /// Errors are `Memory`, and `Read`, `BadLine` and `OutOfOrder` with the number of the source.
     pub fn open<S: Source, R: Range>(
         alloc: Global,
         sources: &mut [S],

@@ -49,6 +49,7 @@ impl Queue {
     }
 
     /// Adds a line. If memory can't be allocated, the line is lost.
+    /// The only error is refused memory.
     pub fn push(&mut self, waiting: Waiting) -> Result<(), AllocError>
         ensures ok { OnOk result (IsPermutation (waiting ∷ self.old) self.new) }
         ensures err { OnErr result (self.new ≡ self.old) }
@@ -70,7 +71,7 @@ impl Queue {
         self.heap.pop()
     }
 
-    /// Returns whether the first line has the pair of this one.
+    /// Returns `true` if the first line has the pair of this one.
     fn is_next_at(&self, line: &KeyedLine<'_>) -> bool
         ensures alike { (d : WaitingLine) → 0 < length self.now → result ≡ true
             → Alike (waiting_pair (slice_index_or self.now 0 d)) (member_pair line.now) }

@@ -128,6 +128,7 @@ fn take_two<K: Sink, O: Output>(
 
 /// Passes on the lines of a pair, in the order of places, only the first line at each place. Returns `false` if no more
 /// are wanted.
+/// Errors are `Memory`, and `Write` if the sink returns it.
 #[tactic(auto, using(crate::proofs::WrittenLemmas::grows_not))]
 pub fn hand_on<K: Sink, O: Output>(
     alloc: Global,

@@ -108,6 +108,7 @@ impl Streams {
     }
 
     /// Opens each source at its first line whose pair isn't below this one, and reads that line.
+    /// Errors are `Memory`, and `Read`, `BadLine` and `OutOfOrder` with the number of the source.
     pub fn open_at<S: Source, R: Range>(
         alloc: Global,
         sources: &mut [S],

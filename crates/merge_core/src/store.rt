@@ -77,6 +77,7 @@ impl Store {
     }
 
     /// Reads the next line of a source, if there is one.
+    /// Errors are `Memory`, `Read` and `BadLine`.
     pub fn next_line<S: Source>(
         &mut self,
         source: &mut S,

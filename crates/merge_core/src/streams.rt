@@ -179,6 +179,7 @@ impl Streams {
     }
 
     /// Takes the lines of the least pair from all sources. Returns the first of them, and appends the others to `rest`.
+    /// Errors are `Memory`, and `Read`, `BadLine` and `OutOfOrder` with the number of the source.
     pub fn gather<S: Source, R: Range>(
         &mut self,
         sources: &mut [S],

@@ -5,6 +5,7 @@ ghost use Rattle.page_core.specs.declared.fault.TextFault.TheVariants.{Memory, W
 use devices::DeviceFault;
 use std::alloc::{AllocError, AllocFailed};
 
+/// Why a piece of a page could not be written.
 #[derive(Clone, Copy, Debug, PartialEq, Eq)]
 pub enum TextFault {
     Memory,

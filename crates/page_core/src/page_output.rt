@@ -43,6 +43,7 @@ impl<'f> PageOutput<'f> {
     }
 
     /// Writes what precedes the first capture.
+    /// Errors are `Memory`, and `Write` if the output failed. A prefix of it was then written.
     pub fn put_start<O: Output>(&mut self, out: &mut O) -> Result<(), TextFault>
         ensures form { self.new ≡ self.old }
         ensures text { WritesText result (O.written out.old) (O.written out.new)
@@ -56,6 +57,7 @@ impl<'f> PageOutput<'f> {
     }
 
     /// Writes the row of a capture.
+    /// Errors are `Memory`, and `Write` if the output failed. A prefix of it was then written.
     pub fn put_row<O: Output>(&mut self, line: &Line, out: &mut O) -> Result<(), TextFault>
         ensures form { self.new ≡ self.old }
         ensures text { WritesText result (O.written out.old) (O.written out.new)
@@ -69,6 +71,7 @@ impl<'f> PageOutput<'f> {
     }
 
     /// Writes what follows the last capture, with the resume key if there is one.
+    /// Errors are `Memory`, and `Write` if the output failed. A prefix of it was then written.
     pub fn put_end<O: Output>(&mut self, key: Option<&str>, out: &mut O) -> Result<(), TextFault>
         ensures form { self.new ≡ self.old }
         ensures text { WritesText result (O.written out.old) (O.written out.new)

@@ -125,6 +125,7 @@ impl<'q> PageWriter<'q> {
     ghost use Rattle.query_core.specs.WriterView.{stands, Kept, Broke, from_view};
 
     /// Writes what precedes the first capture of the query's page.
+    /// Errors are `Memory`, and `Write` if the output failed.
     pub fn begin<O: Output>(
         alloc: Global,
         query: &'q Query,
@@ -251,6 +252,7 @@ impl<'q> PageWriter<'q> {
     }
 
     /// Writes what follows the last capture, with the resume key if the query shows it and there is one.
+    /// Errors are `Memory`, and `Write` if the output failed.
     pub fn end<O: Output>(&mut self, alloc: Global, out: &mut O) -> Result<PageEnd, TextFault>
         ensures text { WritesText result (O.written out.old) (O.written out.new)
             (page_end (form_of self.old.selection.query.now)

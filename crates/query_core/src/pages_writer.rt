@@ -44,6 +44,7 @@ impl<'q> PagesWriter<'q> {
     ghost use Rattle.query_core.specs.WriterView.{IsSame, IsFront, are_in_pages, captures_of, from_view, pages_stand};
 
     /// Writes what precedes the first capture of the first page.
+    /// Errors are `Memory`, and `Write` if the output failed.
     pub fn begin<O: Output>(
         alloc: Global,
         query: &'q Query,
@@ -201,6 +202,7 @@ impl<'q> PagesWriter<'q> {
     }
 
     /// Writes what follows the last capture. Returns the number of pages.
+    /// Errors are `Memory`, and `Write` if the output failed.
     pub fn end<O: Output>(&mut self, out: &mut O) -> Result<u64, TextFault>
         ensures text { WritesText result (O.written out.old) (O.written out.new)
             (page_end (form_of self.old.selection.query.now) None) }

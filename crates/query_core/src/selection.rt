@@ -27,6 +27,7 @@ impl<'q> Selection<'q> {
     ghost use Rattle.query_core.specs.WriterView.{Selects, IsSame, captures_of, from_view};
 
     /// Begins after the place of the query's resume key, if it has one.
+    /// The only error is refused memory.
     pub fn begin(alloc: Global, query: &'q Query) -> Result<Selection<'q>, AllocError>
         ensures selects { IfOk result (λ s. Selects s []) }
         ensures query { IfOk result (λ s.
@@ -94,6 +95,7 @@ impl<'q> Selection<'q> {
     }
 
     /// Takes the next line. Returns `true` if it is a capture of the query.
+    /// The only error is refused memory.
     pub fn takes(&mut self, line: &Line) -> Result<bool, TextFault>
         ensures selects { (taken : List Member) → Selects self.old taken
             → OnOk result (Selects self.new (taken ++ line.now ∷ [])) }

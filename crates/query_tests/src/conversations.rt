@@ -11,7 +11,7 @@ const FALLING: Rows = &[
     ("a)/", FIRST_OF_2016, "a.warc", 0),
 ];
 
-/// Returns whether the lines of an input, which is read in pieces of so many bytes and fails at its call `at`, have this
+/// Returns `true` if the lines of an input, which is read in pieces of `piece` bytes and fails at its call `at`, have this
 /// result and these replies.
 fn is_served(
     alloc: Global,

@@ -8,7 +8,7 @@ use fixtures::{
 use query_core::{AnswerFault, SliceSource, merge};
 use std::alloc::Global;
 
-/// Returns whether merging these texts has this result, and writes this text. A failed allocation is an error.
+/// Returns `true` if merging these texts has this result, and writes this text. A failed allocation is an error.
 fn is_merged(
     alloc: Global,
     texts: &[&[u8]],
@@ -74,7 +74,7 @@ fn a_line_at_fault_ends_the_merge(rt: HostRuntime) -> Result<(), Refused> {
     Ok(())
 }
 
-/// Returns whether the merge of a source that fails at this call reports that, after a prefix of the whole text was
+/// Returns `true` if the merge of a source that fails at this call reports that, after a prefix of the whole text was
 /// written.
 fn fails_in_part(alloc: Global, piece: usize, at: u64) -> Result<bool, Refused> {
     let mut sources = [Fuse::new(SliceSource::new(UNENDED_LETTERS), piece, at)];
@@ -86,7 +86,7 @@ fn fails_in_part(alloc: Global, piece: usize, at: u64) -> Result<bool, Refused> 
     }
 }
 
-/// Returns whether that holds of each call, and of none.
+/// Returns `true` if that holds of each call, and of none.
 fn fails_in_part_at_each_call(alloc: Global, piece: usize) -> Result<bool, Refused> {
     for at in 0..440 {
         if !fails_in_part(alloc, piece, at)? {
@@ -104,7 +104,7 @@ fn a_source_that_fails_ends_the_merge(rt: HostRuntime) -> Result<(), Refused> {
     Ok(())
 }
 
-/// Returns whether merging so many empty texts has this result.
+/// Returns `true` if merging `count` empty texts has this result.
 fn is_merged_of(
     alloc: Global,
     count: usize,

@@ -11,7 +11,7 @@ use std::fs::{self, File, Files};
 use std::rt::Runtime;
 use std::test::Fail;
 
-/// Returns whether checking a source has this result. A failed allocation is an error.
+/// Returns `true` if checking a source has this result. A failed allocation is an error.
 fn is_checked<S: Source>(
     alloc: Global,
     source: &mut S,
@@ -68,7 +68,7 @@ fn the_second_of_falling_lines_is_out_of_order(rt: HostRuntime) -> Result<(), Re
     Ok(())
 }
 
-/// Returns whether the check of a source over the letters, which gives so many bytes a call, fails if the call `at`
+/// Returns `true` if the check of a source over the letters, which gives `piece` bytes a call, fails if the call `at`
 /// does.
 fn fails_at(alloc: Global, piece: usize, at: u64) -> Result<bool, Refused> {
     let mut source = Fuse::new(SliceSource::new(UNENDED_LETTERS), piece, at);
@@ -76,7 +76,7 @@ fn fails_at(alloc: Global, piece: usize, at: u64) -> Result<bool, Refused> {
     Ok(is_failed && source.failures == 1)
 }
 
-/// Returns whether the letters are read in so many calls, at each of which the check fails.
+/// Returns `true` if the letters are read in `calls` calls, at each of which the check fails.
 fn fails_at_each_call(alloc: Global, piece: usize, calls: u64) -> Result<bool, Refused> {
     let mut whole = Fuse::new(SliceSource::new(UNENDED_LETTERS), piece, 0);
     if !is_checked(alloc, &mut whole, Ok(3))? || whole.calls != calls {
@@ -108,7 +108,7 @@ fn written<R: Runtime>(
     Ok(FileSource::new(File::open(rt, name)?)?)
 }
 
-/// Returns whether so many bytes are read at this offset into a piece of 145 bytes, which then begins with this byte.
+/// Returns `true` if `count` bytes are read at this offset into a piece of 145 bytes, which then begins with this byte.
 fn gives<S: Source>(source: &mut S, at: u64, count: usize, first: u8) -> bool {
     let mut piece = [0; 145];
     source.read_at(at, &mut piece) == Ok(count) && piece[0] == first
@@ -144,7 +144,7 @@ fn a_file_that_was_cut_after_it_was_opened_fails(rt: HostRuntime) -> Result<(), 
     Ok(())
 }
 
-/// Returns whether the first line at or above this key begins at this offset.
+/// Returns `true` if the first line at or above this key begins at this offset.
 fn is_found(alloc: Global, key: &str, offset: u64) -> Result<bool, SearchFault> {
     let mut source = SliceSource::new(UNENDED_LETTERS);
     let found = search(alloc, &mut source, key.as_bytes(), b"00000000000000")?;
@@ -166,7 +166,7 @@ fn the_search_finds_the_first_line_at_or_above_a_key(rt: HostRuntime) -> Result<
     Ok(())
 }
 
-/// Returns whether the search fails if the first call of its source does.
+/// Returns `true` if the search fails if the first call of its source does.
 fn is_unread(alloc: Global) -> Result<bool, SearchFault> {
     let mut source = Fuse::new(SliceSource::new(UNENDED_LETTERS), 2, 1);
     match search(alloc, &mut source, b"b)/", b"00000000000000") {
@@ -182,7 +182,7 @@ fn the_search_fails_where_its_source_does(rt: HostRuntime) -> Result<(), SearchF
     Ok(())
 }
 
-/// Returns whether the last of 100,000 lines of one length is found, and less than a hundredth of them read.
+/// Returns `true` if the last of 100,000 lines of one length is found, and less than a hundredth of them read.
 fn is_last_found(alloc: Global, text: &[u8]) -> Result<bool, SearchFault> {
     let length = text.len() as u64 / 100_000;
     let mut source = SliceSource::new(text);
@@ -203,7 +203,7 @@ fn the_search_for_the_last_of_100_000_lines_reads_less_than_a_hundredth(
     Ok(())
 }
 
-/// Returns whether the search for the last of 100,000 lines takes more than 20 steps, and no more reads than this.
+/// Returns `true` if the search for the last of 100,000 lines takes more than 20 steps, and no more reads than this.
 fn is_found_in(alloc: Global, text: &[u8], reads: u64) -> Result<bool, SearchFault> {
     let mut source = Fuse::new(SliceSource::new(text), 8_192, 0);
     let found = search(alloc, &mut source, b"com,example)/99999", b"20160101000000")?;
@@ -222,7 +222,7 @@ fn the_last_steps_of_a_search_read_nothing(rt: HostRuntime) -> Result<(), Fail> 
 /// The number of bytes in a source's longest good line.
 const LINE: u64 = 16_777_216;
 
-/// Returns whether a line of 40 MB is bad, and no more of it is read than a good line has and a
+/// Returns `true` if a line of 40 MB is bad, and no more of it is read than a good line has and a
 /// piece of 8,192 bytes.
 fn is_read_up_to_the_limit(alloc: Global) -> Result<bool, Refused> {
     let line = padded(alloc, cut(LETTERS, 100), b'x', b"\n", 40_000_000)?;

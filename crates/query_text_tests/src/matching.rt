@@ -27,13 +27,13 @@ const YEARS: Rows = &[
     ("com,example)/", "20170101000000", "a.warc", 1),
 ];
 
-/// Returns whether the query selects the lines with these numbers.
+/// Returns `true` if the query selects the lines with these numbers.
 fn asks_for(alloc: Global, text: &str, rows: Rows, wanted: &str) -> Result<bool, Fail> {
     let lines = index_lines(alloc, rows)?;
     Ok(selected(alloc, text, &lines)?.as_str() == wanted)
 }
 
-/// Returns whether the query selects the line of another tool.
+/// Returns `true` if the query selects the line of another tool.
 fn asks_for_foreign(alloc: Global, text: &str, wanted: &str) -> Result<bool, Fail> {
     let lines = [FOREIGN.to_vec(alloc)?];
     Ok(selected(alloc, text, &lines)?.as_str() == wanted)
@@ -159,12 +159,12 @@ fn all_filters_have_to_hold(rt: HostRuntime) -> Result<(), Fail> {
     Ok(())
 }
 
-/// Returns whether the key is past the range of a query.
+/// Returns `true` if the key is past the range of a query.
 fn is_past(alloc: Global, text: &str, key: &str) -> Result<bool, QueryFault> {
     Ok(Query::read(alloc, text)?.target().is_past(key))
 }
 
-/// Returns whether the key is in the range of a query.
+/// Returns `true` if the key is in the range of a query.
 fn covers(alloc: Global, text: &str, key: &str) -> Result<bool, QueryFault> {
     Ok(Query::read(alloc, text)?.target().covers(key))
 }
@@ -209,7 +209,7 @@ fn ranges_begin_with_their_target(rt: HostRuntime) -> Result<(), QueryFault> {
     Ok(())
 }
 
-/// Returns whether each of these lines is matched or not, without memory. The lines themselves take some.
+/// Returns `true` if each of these lines is matched or not, without memory. The lines themselves take some.
 fn matches_without_memory(alloc: Global, query: &Query, rows: Rows) -> Result<bool, Fail> {
     for line in &index_lines(alloc, rows)? {
         let kept = Line::read(alloc, line)?;

@@ -31,7 +31,7 @@ fn a_query_has_its_defaults(rt: HostRuntime) -> Result<(), QueryFault> {
 
 const TWO_FIELDS: &[Field] = &[Field::Offset, Field::Filename, Field::Offset];
 
-/// Returns whether the place is that of the resume key.
+/// Returns `true` if the place is that of the resume key.
 fn is_resume_place(place: Place<'_>) -> bool {
     place.key == "k=1" && place.filename == "a b.warc" && place.offset == 5
 }
@@ -64,7 +64,7 @@ fn has_limit(alloc: Global, text: &str, limit: u64) -> Result<bool, QueryFault> 
     Ok(Query::read(alloc, text)?.limit() == Some(limit))
 }
 
-/// Returns whether the query has this output, and doesn't show the resume key.
+/// Returns `true` if the query has this output, and doesn't show the resume key.
 fn has_output(alloc: Global, text: &str, output: OutputFormat) -> Result<bool, QueryFault> {
     let query = Query::read(alloc, text)?;
     Ok(query.output() == output && !query.shows_resume_key())
@@ -100,7 +100,7 @@ fn captures_are_collapsed_by_key_or_stamp(rt: HostRuntime) -> Result<(), QueryFa
     Ok(())
 }
 
-/// Returns whether a query may have so many fields.
+/// Returns `true` if a query may have `count` fields.
 fn has_fields(alloc: Global, count: usize) -> Result<bool, Fail> {
     let fields = repeated(alloc, b",offset", count.saturating_sub(1))?;
     let text = joined(alloc, &[b"key=k&fl=offset", &fields])?;

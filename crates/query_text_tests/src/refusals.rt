@@ -4,7 +4,7 @@ use query_text::{Query, QueryFault};
 use std::alloc::Global;
 use std::test::Fail;
 
-/// Returns whether the text is refused for this reason. Failed allocations are errors of the test.
+/// Returns `true` if the text is refused for this reason. Failed allocations are errors of the test.
 fn is_refused(alloc: Global, text: &str, wanted: QueryFault) -> Result<bool, QueryFault> {
     match Query::read(alloc, text) {
         Ok(_query) => Ok(false),
@@ -13,7 +13,7 @@ fn is_refused(alloc: Global, text: &str, wanted: QueryFault) -> Result<bool, Que
     }
 }
 
-/// Returns whether the text is accepted.
+/// Returns `true` if the text is accepted.
 fn is_accepted(alloc: Global, text: &str) -> Result<bool, QueryFault> {
     match Query::read(alloc, text) {
         Ok(_query) => Ok(true),
@@ -288,7 +288,7 @@ fn around(alloc: Global, front: &str, pattern: &str, end: &str) -> Result<String
     Ok(text)
 }
 
-/// Returns whether a filter with this pattern is refused, or accepted.
+/// Returns `true` if a filter with this pattern is refused, or accepted.
 fn is_no_literal(alloc: Global, pattern: &str) -> Result<bool, QueryFault> {
     let filter = around(alloc, "url=a&filter=original:x", pattern, "y")?;
     let not = around(alloc, "url=a&filter=!original:", pattern, "")?;
@@ -324,7 +324,7 @@ const LENGTHS: &[(&str, usize, Option<QueryFault>)] = &[
     ("key=", 65_533, Some(QueryFault::QueryTooLong)),
 ];
 
-/// Returns whether the text, followed by so many letters, is refused for this reason, or accepted.
+/// Returns `true` if the text, followed by `letters` letters, is refused for this reason, or accepted.
 fn is_limited(
     alloc: Global,
     text: &str,

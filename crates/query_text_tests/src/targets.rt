@@ -87,7 +87,7 @@ const TARGETS: &[(&[(&str, &str)], MatchKind)] = &[
     (DOMAIN, MatchKind::Domain),
 ];
 
-/// Returns whether the query has this target.
+/// Returns `true` if the query has this target.
 fn has_target(
     alloc: Global,
     text: &str,

@@ -67,6 +67,7 @@ fn index_archive<I: Input>(
 }
 
 /// Indexes the archives' records of these types, each archive into its own index.
+/// Errors are the first fault of an archive, or of its name.
 pub fn index_archives<I: Input>(
     alloc: Global,
     inputs: &mut [Named<I>],

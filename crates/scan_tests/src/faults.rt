@@ -10,7 +10,7 @@ use std::alloc::Global;
 use std::test::Fail;
 use warc_core::{Cause, Fault};
 
-/// Returns whether the scan ends if an archive fails at this call, before anything is written.
+/// Returns `true` if the scan ends if an archive fails at this call, before anything is written.
 fn ends_unread(alloc: Global, devices: Devices, offset: u64) -> Result<bool, Fail> {
     let (answer, out) = scanned(alloc, &PAGED, Types::usual(), devices)?;
     let fault = CaptureFault::Archive(Fault {
@@ -35,7 +35,7 @@ fn record_behind(bytes: u64) -> u64 {
     }
 }
 
-/// Returns whether each call of the archive's input ends the scan if it fails. There are this many calls, each of this
+/// Returns `true` if each call of the archive's input ends the scan if it fails. There are this many calls, each of this
 /// many bytes.
 fn ends_at_each_read(
     alloc: Global,
@@ -82,7 +82,7 @@ fn by_one_byte(failing_write: u64) -> Devices {
     }
 }
 
-/// Returns whether the scan ends if its output fails at this call of one byte, with as many bytes written as there were
+/// Returns `true` if the scan ends if its output fails at this call of one byte, with as many bytes written as there were
 /// calls before.
 fn ends_unwritten(alloc: Global, write: usize) -> Result<bool, Fail> {
     let (answer, out) = scanned(alloc, &PAGED, Types::usual(), by_one_byte(write as u64))?;
@@ -90,7 +90,7 @@ fn ends_unwritten(alloc: Global, write: usize) -> Result<bool, Fail> {
     Ok(is_named && PAGES.get(..write.saturating_sub(1)) == Some(out.device.bytes()))
 }
 
-/// Returns whether the pages are written in so many calls of one byte.
+/// Returns `true` if the pages are written in `calls` calls of one byte.
 fn is_written_in(alloc: Global, calls: u64) -> Result<bool, Fail> {
     let devices = by_one_byte(calls.saturating_add(1));
     let (answer, out) = scanned(alloc, &PAGED, Types::usual(), devices)?;
@@ -118,7 +118,7 @@ fn numbered(alloc: Global, count: usize) -> Result<Vec<Named<Fuse<Slice<'static>
     Ok(inputs)
 }
 
-/// Returns whether a scan of this many archives has this result, and writes this many bytes, four for each.
+/// Returns `true` if a scan of this many archives has this result, and writes this many bytes, four for each.
 fn is_scanned_of(
     alloc: Global,
     count: usize,

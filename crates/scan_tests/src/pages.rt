@@ -125,7 +125,7 @@ const CASES: &[Case] = &[
     },
 ];
 
-/// Returns whether the scan returns and writes what the case states.
+/// Returns `true` if the scan returns and writes what the case states.
 fn is_scanned(alloc: Global, case: &Case, types: Types) -> Result<bool, Fail> {
     let (answer, out) = scanned(alloc, case, types, SOUND)?;
     Ok(answer == case.answer && out.device.bytes() == case.written)
@@ -153,7 +153,7 @@ const CHOSEN: &[(&str, &[u8])] = &[
     ("conversion,revisit", b""),
 ];
 
-/// Returns whether a scan for these types writes this.
+/// Returns `true` if a scan for these types writes this.
 fn finds(alloc: Global, types: &str, written: &'static [u8]) -> Result<bool, Fail> {
     let Some(types) = Types::read(types) else {
         return Ok(false);

@@ -104,7 +104,7 @@ fn is_memory(fault: ScanFault) -> bool {
     }
 }
 
-/// Returns whether the fault names what is done while this many of the archives were begun: the query before all, an
+/// Returns `true` if the fault names what is done while this many of the archives were begun: the query before all, an
 /// archive once those before it were begun and none after it, the pages after all.
 fn is_named_rightly(fault: ScanFault, begun: usize, count: usize) -> bool {
     match fault {

@@ -28,6 +28,7 @@ impl Model for Ahead {
 
 impl Ahead {
     /// Creates an empty buffer with room for [`PIECE`] bytes.
+    /// The only error is refused memory.
     pub fn new(alloc: Global) -> Result<Ahead, AllocError>
         ensures { IfOk result (λ ahead. ahead ≡ []) }
     {
@@ -55,6 +56,7 @@ impl Ahead {
     }
 
     /// Reads once at the offset `at` if no bytes are held. Afterwards bytes are held, except at the source's end.
+    /// The only error is that the source failed.
     pub fn fill<S: Source>(&mut self, source: &mut S, at: u64) -> Result<(), SourceFault>
         requires stands { StandsAt (S.text source.old) (S.extent source.old) at self.old }
         ensures text { S.text source.new ≡ S.text source.old }

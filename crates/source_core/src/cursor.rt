@@ -90,7 +90,7 @@ impl Cursor {
         self.count += 1;
     }
 
-    /// Reads the next line, with its line feed, into `line`, whose previous bytes are dropped. Returns whether there
+    /// Reads the next line, with its line feed, into `line`, whose previous bytes are dropped. Returns `true` if there
     /// was one.
     ///
     /// Whatever is returned, `line` holds at most [`LINE_LIMIT`] bytes, and at most 8,192 more were read for it. After an

@@ -32,7 +32,7 @@ pub struct Found {
     pub probes: u64,
 }
 
-/// Returns whether the pair at the start of a line is below this one, if there is a pair.
+/// Returns `true` if the pair at the start of a line is below this one, if there is a pair.
 fn front_is_below(front: &[u8], key: &[u8], stamp: &[u8]) -> Option<bool>
     ensures { result ≡ option_map (is_below (key.now, stamp.now)) (pair_of front.now) }
 {
@@ -48,7 +48,7 @@ fn front_is_below(front: &[u8], key: &[u8], stamp: &[u8]) -> Option<bool>
 }
 
 /// Copies the bytes that the window holds of the line that begins at the offset into `front`, whose previous bytes are
-/// dropped. Returns whether the line ends with them.
+/// dropped. Returns `true` if the line ends with them.
 fn held_front(window: &Window, offset: u64, front: &mut Vec<u8>) -> Result<bool, AllocError>
     ensures within { (text : Option (List ℕ)) → (extent : ℕ) → Holds text extent window.now
         → offset ≤ extent → OnOk result (offset + length front.new.items ≤ extent) }
@@ -100,7 +100,7 @@ fn read_on<S: Source>(
 }
 
 /// Reads more of the line that begins at the offset, until `front` holds `wanted` of its bytes, or the line or the
-/// source ends. Returns whether the line ends with the bytes in `front`.
+/// source ends. Returns `true` if the line ends with the bytes in `front`.
 fn read_to<S: Source>(
     source: &mut S,
     window: &mut Window,
@@ -138,7 +138,7 @@ fn read_to<S: Source>(
     Ok(false)
 }
 
-/// Returns whether the line that begins at the offset isn't below the pair, or the text ends there. Looks at its first
+/// Returns `true` if the line that begins at the offset isn't below the pair, or the text ends there. Looks at its first
 /// [`LINE_LIMIT`] bytes at most; a line that shows no pair in them isn't below.
 ///
 /// It looks first at what the window holds of the line. Each comparison begins at the line's start, so twice as many
@@ -336,6 +336,7 @@ fn hold_few<S: Source>(source: &mut S, window: &mut Window, span: Span) -> Resul
 /// [`PIECE`] bytes gives them all, and the further steps read nothing but what a long line has beyond it.
 ///
 /// In a text that isn't an index it finds the start of some line that isn't below or is too long, or the size.
+/// Errors are `Memory`, and `Read` if the source failed.
 pub fn search<S: Source>(
     alloc: Global,
     source: &mut S,

@@ -55,6 +55,7 @@ impl Model for Window {
 
 impl Window {
     /// Creates an empty window.
+    /// The only error is refused memory.
     pub fn new(alloc: Global) -> Result<Window, AllocError>
         ensures { IfOk result (λ window. window ≡ record { at = 0; bytes = [] }) }
     {
@@ -78,6 +79,7 @@ impl Window {
     }
 
     /// Reads once: at most `most` bytes from the offset `at` on, in place of those that were held.
+    /// The only error is that the source failed.
     pub fn read<S: Source>(
         &mut self,
         source: &mut S,
@@ -104,6 +106,7 @@ impl Window {
     }
 
     /// Reads once, at most `most` bytes, if no byte at the offset `at` is held. Afterwards one is.
+    /// The only error is that the source failed.
     pub fn hold<S: Source>(
         &mut self,
         source: &mut S,

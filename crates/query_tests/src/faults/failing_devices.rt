@@ -139,7 +139,7 @@ fn ended(
     Ok((answer, is_front.then_some(written.len())))
 }
 
-/// Returns whether everything was written.
+/// Returns `true` if everything was written.
 fn is_whole(alloc: Global, row: &Row) -> Result<bool, Refused> {
     let (answer, written) = ended(alloc, row, &mut sources(0, 0, 0), 0)?;
     Ok(answer == Ok(()) && written == Some(row.text.len()))
@@ -152,7 +152,7 @@ fn calls_of(alloc: Global, row: &Row) -> Result<[u64; 3], Refused> {
     Ok([sources[0].calls, sources[1].calls, sources[2].calls])
 }
 
-/// Returns whether this many bytes can be written if a source failed.
+/// Returns `true` if this many bytes can be written if a source failed.
 fn is_unended(row: &Row, written: Option<usize>) -> bool {
     match written {
         Some(count) => count <= row.before_reads,
@@ -160,13 +160,13 @@ fn is_unended(row: &Row, written: Option<usize>) -> bool {
     }
 }
 
-/// Returns whether the call ends if this call of a source fails.
+/// Returns `true` if the call ends if this call of a source fails.
 fn ends_unread(alloc: Global, row: &Row, number: usize, read: u64) -> Result<bool, Refused> {
     let (answer, written) = ended(alloc, row, &mut sources(number, read, 0), 0)?;
     Ok(answer == Err(AnswerFault::Read(number)) && is_unended(row, written))
 }
 
-/// Returns whether the calls after a failure of the source continue as if it hadn't failed, until the source fails
+/// Returns `true` if the calls after a failure of the source continue as if it hadn't failed, until the source fails
 /// again two calls after the first failure, and then write everything.
 fn goes_on(alloc: Global, row: &Row, number: usize, read: u64) -> Result<bool, Refused> {
     let mut sources = sources(number, read, read.saturating_add(1));
@@ -184,7 +184,7 @@ fn goes_on(alloc: Global, row: &Row, number: usize, read: u64) -> Result<bool, R
     Ok(false)
 }
 
-/// Returns whether each of so many reads of this source ends the call if it fails.
+/// Returns `true` if each of the first `calls` reads of this source ends the call if it fails.
 fn ends_at_reads_of(alloc: Global, row: &Row, number: usize, calls: u64) -> Result<bool, Refused> {
     for read in 1..calls.saturating_add(1) {
         if !ends_unread(alloc, row, number, read)? || !goes_on(alloc, row, number, read)? {
@@ -194,7 +194,7 @@ fn ends_at_reads_of(alloc: Global, row: &Row, number: usize, calls: u64) -> Resu
     Ok(true)
 }
 
-/// Returns whether each read of each source ends the call if it fails.
+/// Returns `true` if each read of each source ends the call if it fails.
 fn ends_at_each_read(alloc: Global, row: &Row) -> Result<bool, Refused> {
     let [first, second, third] = calls_of(alloc, row)?;
     Ok(
@@ -213,7 +213,7 @@ fn a_call_ends_at_a_failed_read_of_any_index(rt: HostRuntime) -> Result<(), Refu
     Ok(())
 }
 
-/// Returns whether each write ends the call if it fails, with as many bytes written as there were writes before.
+/// Returns `true` if each write ends the call if it fails, with as many bytes written as there were writes before.
 fn ends_at_each_write(alloc: Global, row: &Row) -> Result<bool, Refused> {
     for before in 0..row.text.len() {
         let write = before as u64 + 1;
@@ -253,7 +253,7 @@ fn is_served_so(
     answer == wanted.0 && written == wanted.1
 }
 
-/// Returns whether a conversation ends in this way if its input gives one byte a call and fails at this call.
+/// Returns `true` if a conversation ends in this way if its input gives one byte a call and fails at this call.
 fn is_served_to(alloc: Global, read: u64) -> Result<bool, Refused> {
     let mut input = Fuse::new(Slice::new(QUERIES), 1, read);
     let mut out = Gather::new(alloc);
@@ -272,7 +272,7 @@ fn a_conversation_ends_at_a_failed_read_of_its_lines(rt: HostRuntime) -> Result<
     Ok(())
 }
 
-/// Returns whether checking the index has this result.
+/// Returns `true` if checking the index has this result.
 fn is_checked(
     alloc: Global,
     source: &mut Failing,
@@ -284,7 +284,7 @@ fn is_checked(
     }
 }
 
-/// Returns whether the check of an index that fails at this call and at the next one fails twice, and then counts its
+/// Returns `true` if the check of an index that fails at this call and at the next one fails twice, and then counts its
 /// line.
 fn is_checked_again(alloc: Global, read: u64) -> Result<bool, Refused> {
     let mut source = failing(OFFSET_5, read, read);

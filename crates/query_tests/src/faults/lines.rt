@@ -43,7 +43,7 @@ const ODD_LINES: &[&[u8]] = &[
     b"a)/ 00000000000000 {\"offset\": 9223372036854775807, \"filename\": \"\\u0000\"}",
 ];
 
-/// Returns whether a check has this result. A failed allocation is an error.
+/// Returns `true` if a check has this result. A failed allocation is an error.
 fn is_checked(
     alloc: Global,
     text: &[u8],
@@ -55,7 +55,7 @@ fn is_checked(
     }
 }
 
-/// Returns whether a merge has this result, and writes so many bytes.
+/// Returns `true` if a merge has this result, and writes `length` bytes.
 fn is_merged<S: Source>(
     alloc: Global,
     sources: &mut [S],
@@ -69,7 +69,7 @@ fn is_merged<S: Source>(
     }
 }
 
-/// Returns whether the query has this result, the number of captures if it succeeds, and writes nothing.
+/// Returns `true` if the query has this result, the number of captures if it succeeds, and writes nothing.
 fn answers_empty<S: Source>(
     alloc: Global,
     sources: &mut [S],
@@ -90,7 +90,7 @@ fn answers_empty<S: Source>(
 
 const ALL: &str = "key=&matchType=prefix";
 
-/// Returns whether a check, a merge and a query of all lines report the line at this offset as bad, before anything is
+/// Returns `true` if a check, a merge and a query of all lines report the line at this offset as bad, before anything is
 /// written.
 fn is_bad_at(alloc: Global, text: &[u8], offset: u64) -> Result<bool, Refused> {
     let fault = Err(AnswerFault::BadLine(0, offset));
@@ -101,7 +101,7 @@ fn is_bad_at(alloc: Global, text: &[u8], offset: u64) -> Result<bool, Refused> {
     )
 }
 
-/// Returns whether the text is an index of one line, which a merge writes with a line feed.
+/// Returns `true` if the text is an index of one line, which a merge writes with a line feed.
 fn is_one_line(alloc: Global, text: &[u8]) -> Result<bool, Refused> {
     let ended = text.len() + usize::from(!text.ends_with(b"\n"));
     Ok(
@@ -203,7 +203,7 @@ fn a_line_has_at_most_16_777_216_bytes_with_its_line_feed(rt: HostRuntime) -> Re
     Ok(())
 }
 
-/// Returns whether a query of the falling lines wrote offsets that rise, all of them above this number.
+/// Returns `true` if a query of the falling lines wrote offsets that rise, all of them above this number.
 fn are_rising_offsets(written: &[u8], above: i64) -> bool {
     let mut last = above;
     for line in written.split(|byte| *byte == b'\n') {
@@ -221,7 +221,7 @@ fn are_rising_offsets(written: &[u8], above: i64) -> bool {
     true
 }
 
-/// Returns whether a query of the falling lines returns, after no more steps of the search than their size allows, with
+/// Returns `true` if a query of the falling lines returns, after no more steps of the search than their size allows, with
 /// offsets that rise above this number.
 fn is_answered_in_part(
     alloc: Global,
@@ -241,7 +241,7 @@ fn is_answered_in_part(
     Ok(is_bounded && are_rising_offsets(out.bytes(), above))
 }
 
-/// Queries of the falling lines, and the number above which captures are asked for.
+/// Queries of the falling lines, and the number above which captures are selected.
 const QUERIES_OF_FALLING: &[(&str, i64)] = &[
     ("url=example.com&fl=offset", -1),
     ("url=example.com&fl=offset&limit=1", -1),

@@ -106,7 +106,7 @@ fn run(alloc: Global, call: Call, piece: usize, read: u64, write: u64) -> Result
     })
 }
 
-/// Returns whether everything was written.
+/// Returns `true` if everything was written.
 fn is_whole(call: Call, ended: &Ended) -> bool {
     ended.answer.is_ok() && ended.out.device.bytes() == wanted(call)
 }
@@ -116,12 +116,12 @@ fn without_end(text: &'static [u8]) -> &'static [u8] {
     cut(text, text.len().saturating_sub(2))
 }
 
-/// Returns whether the call ended with a failed read, before the end of the last page.
+/// Returns `true` if the call ended with a failed read, before the end of the last page.
 fn ends_unread(call: Call, ended: &Ended) -> bool {
     ended.answer == Err(AnswerFault::Read(0)) && unended(call).starts_with(ended.out.device.bytes())
 }
 
-/// Returns whether everything is written if no call fails, and each failed read ends the call with this error.
+/// Returns `true` if everything is written if no call fails, and each failed read ends the call with this error.
 fn ends_at_each_read(alloc: Global, call: Call, piece: usize) -> Result<bool, Refused> {
     let whole = run(alloc, call, piece, 0, 0)?;
     if !is_whole(call, &whole) {
@@ -146,7 +146,7 @@ fn a_page_has_no_end_after_a_failed_read(rt: HostRuntime) -> Result<(), Refused>
     Ok(())
 }
 
-/// Returns whether the call ended with this failed write, before everything was written. At one byte a call, as many
+/// Returns `true` if the call ended with this failed write, before everything was written. At one byte a call, as many
 /// bytes were written as there were calls before.
 fn ends_unwritten(call: Call, piece: usize, write: u64, ended: &Ended) -> bool {
     let written = ended.out.device.bytes();
@@ -156,7 +156,7 @@ fn ends_unwritten(call: Call, piece: usize, write: u64, ended: &Ended) -> bool {
         && (piece > 1 || written.len() as u64 + 1 == write)
 }
 
-/// Returns whether each failed write ends the call with this error.
+/// Returns `true` if each failed write ends the call with this error.
 fn ends_at_each_write(alloc: Global, call: Call, piece: usize) -> Result<bool, Refused> {
     let whole = run(alloc, call, piece, 0, 0)?;
     for write in 1..whole.out.calls.saturating_add(1) {
@@ -194,7 +194,7 @@ const AT_FAULT: &[(&[u8], AnswerFault)] = &[
     ),
 ];
 
-/// Returns whether the page over this text ends with this fault, and has no end.
+/// Returns `true` if the page over this text ends with this fault, and has no end.
 fn ends_open(alloc: Global, text: &[u8], fault: AnswerFault) -> Result<bool, Fail> {
     let query = Query::read(alloc, QUERY)?;
     let mut sources = [SliceSource::new(text)];

@@ -162,7 +162,7 @@ const CASES: &[Case] = &[
     },
 ];
 
-/// Returns whether the sources give this answer.
+/// Returns `true` if the sources give this answer.
 fn answers<S: Source>(alloc: Global, sources: &mut [S], case: &Case) -> Result<bool, Fail> {
     let query = Query::read(alloc, case.query)?;
     let mut out = Gather::new(alloc);
@@ -221,7 +221,7 @@ const TEXTS: &[(&[u8], &[u8], &str, &[u8])] = &[
     ),
 ];
 
-/// Returns whether this page answers a query over these texts.
+/// Returns `true` if this page answers a query over these texts.
 fn is_page(
     alloc: Global,
     first: &[u8],
@@ -261,7 +261,7 @@ const READ_OF_LETTERS: &[(&str, u64, u64)] = &[
     ("key=z)/", 0, 1),
 ];
 
-/// Returns whether the query has so many captures, and reads no more lines of the letters than this.
+/// Returns `true` if the query has `given` captures, and reads no more lines of the letters than this.
 fn reads_little(alloc: Global, query: &str, given: u64, lines: u64) -> Result<bool, Fail> {
     let report = report(alloc, &mut [SliceSource::new(LETTERS)], query)?;
     Ok(report.given == given && report.lines <= lines && report.probes <= 10)
@@ -275,7 +275,7 @@ fn little_is_read_of_an_index(rt: HostRuntime) -> Result<(), Fail> {
     Ok(())
 }
 
-/// Returns whether one capture is given, more follow, and three lines are read and held.
+/// Returns `true` if one capture is given, more follow, and three lines are read and held.
 fn holds_three(alloc: Global, indexes: &[Rows]) -> Result<bool, Fail> {
     let texts = index_texts(alloc, indexes)?;
     let query = "url=example.com&fl=offset&limit=1";
@@ -302,7 +302,7 @@ fn a_page_begins_where_its_resume_key_says(rt: HostRuntime) -> Result<(), Fail> 
     Ok(())
 }
 
-/// Returns whether little more is read than the ten lines of the page.
+/// Returns `true` if little more is read than the ten lines of the page.
 fn reads_the_page(alloc: Global, text: &[u8]) -> Result<bool, Fail> {
     let report = report(alloc, &mut [SliceSource::new(text)], AFTER_499)?;
     Ok(report.lines >= 10 && report.lines <= 13 && report.held <= 2)
@@ -315,7 +315,7 @@ fn what_stands_before_a_resume_key_is_not_read(rt: HostRuntime) -> Result<(), Fa
     Ok(())
 }
 
-/// Returns whether this many empty indexes are too many. Nothing is written then.
+/// Returns `true` if this many empty indexes are too many. Nothing is written then.
 fn are_too_many(alloc: Global, count: usize) -> Result<bool, Fail> {
     let query = Query::read(alloc, "url=example.com&output=json")?;
     let mut sources = empty_sources(alloc, count)?;

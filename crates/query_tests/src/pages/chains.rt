@@ -68,7 +68,7 @@ const CASES: &[Case] = &[
     },
 ];
 
-/// Returns whether the sources give this answer.
+/// Returns `true` if the sources give this answer.
 fn answers<S: Source>(alloc: Global, sources: &mut [S], case: &Case) -> Result<bool, Fail> {
     let query = Query::read(alloc, case.query)?;
     let mut out = Gather::new(alloc);
@@ -103,7 +103,7 @@ fn all_gave(sources: &[SliceSource<'_>]) -> u64 {
     gave
 }
 
-/// Returns whether pages of one capture read as many bytes as one page of all captures.
+/// Returns `true` if pages of one capture read as many bytes as one page of all captures.
 fn reads_once(alloc: Global, text: &str) -> Result<bool, Fail> {
     let texts = index_texts(alloc, &[APART[0], APART[1], APART[2], HOSTS])?;
     let query = Query::read(alloc, text)?;
@@ -182,7 +182,7 @@ fn resume_keys_lead_through_all_captures(rt: HostRuntime) -> Result<(), Fail> {
     Ok(())
 }
 
-/// Returns whether pages over this many empty indexes have this fault, with nothing written, or none.
+/// Returns `true` if pages over this many empty indexes have this fault, with nothing written, or none.
 fn is_early(
     alloc: Global,
     count: usize,

@@ -60,7 +60,7 @@ fn page(alloc: Global, index: &[u8], text: &str) -> Result<Gather, Fail> {
     Ok(out)
 }
 
-/// Returns whether this page answers a query with this rest.
+/// Returns `true` if this page answers a query with this rest.
 fn is_collapsed(alloc: Global, index: &[u8], rest: &str, wanted: &str) -> Result<bool, Fail> {
     let query = format!(in alloc; "url=example.com&matchType=prefix&fl=offset&{rest}")?;
     Ok(page(alloc, index, query.as_str())?.bytes() == wanted.as_bytes())
@@ -114,7 +114,7 @@ const BY_TEN_SECONDS: &str = "url=example.com&fl=offset&collapse=timestamp:13";
 /// Sizes of pages, and the number of pages.
 const SIZES: &[(u64, u64)] = &[(1, 100), (2, 50), (7, 15), (1_000, 1)];
 
-/// Returns whether there are this many pages of this size, and whether they have the captures of one page of all.
+/// Returns `true` if there are this many pages of this size, and whether they have the captures of one page of all.
 fn are_alike(alloc: Global, index: &[u8], size: u64, wanted: u64) -> Result<bool, Fail> {
     let (count, out) = pages_of(alloc, index, BY_TEN_SECONDS, size)?;
     let whole = page(alloc, index, BY_TEN_SECONDS)?;

@@ -6,7 +6,7 @@ use query_core::{AnswerFault, Query, SliceSource, answer};
 use std::alloc::Global;
 use std::test::Fail;
 
-/// Returns whether the exact query for the last line gives its offset and reads at most two lines, and how many bytes
+/// Returns `true` if the exact query for the last line gives its offset and reads at most two lines, and how many bytes
 /// are read.
 fn last_line(alloc: Global, text: &[u8]) -> Result<(bool, u64), Fail> {
     let query = Query::read(alloc, "key=com,example)/99999&fl=offset")?;

@@ -110,7 +110,7 @@ fn merged_from(alloc: Global, text: &[u8], key: &str, stamp: &str) -> Result<(Ga
     Ok((out, opened.probes))
 }
 
-/// Returns whether the merge from this pair on has all lines of the letters but so many bytes, after few steps.
+/// Returns `true` if the merge from this pair on has all lines of the letters but the first `before` bytes, after few steps.
 fn begins_at(alloc: Global, key: &str, stamp: &str, before: usize) -> Result<bool, Fail> {
     let (out, probes) = merged_from(alloc, LETTERS, key, stamp)?;
     Ok(
