@@ -1,4 +1,4 @@
-//! Bytes of a source that are looked at more than once.
+//! Bytes of a source that are read once and used again.
 ghost use Rattle.std.specs.Prelude.{◌≡◌, ◌+◌, ◌-◌, ◌<◌, ◌≤◌, [], length, IfOk, OnOk, OnErr, MatchResult};
 ghost use Rattle.devices.specs.Device.{CountsFailure};
 ghost use Rattle.source_core.specs.Device.{HoldsPart};
