@@ -1,8 +1,11 @@
 -- The line of a good entry is read as that entry.
-use Rattle.std.proofs.Common.{◌≡◌, ℕ, zero, suc, ◌-◌, ◌<◌, ◌≤◌, ◌^◌, ◌==◌, Bool, true, not, List, [], ◌∷◌, ◌++◌, length, take, decimal, Option, Some, None, option_map, option_and_then, get_or, refl, sym, ap, ◌∙◌, subst, arith, flat_map, codes, ◌⊎◌, inl, inr, ⊎_elim}
+use Rattle.std.proofs.Common.{◌≡◌, ℕ, zero, suc, ◌-◌, ◌<◌, ◌≤◌, ◌^◌, ◌==◌, Bool, true, not, List, [], ◌∷◌, ◌++◌, length}
+use Rattle.std.proofs.Common.{take, decimal, Option, Some, None, option_map, option_and_then, get_or, refl, sym, ap}
+use Rattle.std.proofs.Common.{◌∙◌, subst, arith, flat_map, codes, ◌⊎◌, inl, inr, ⊎_elim}
 use Rattle.std.specs.List.{join_by, list_all, before_first, after_first}
 use Rattle.std.specs.Char.{is_ascii_digit}
-use Rattle.std.proofs.lemmas.Bool.{ne_eqb, eq-eqb, and_parts, cond-true, cond-false, lt-ltb, ltb-true, cases_eq, cases_lt}
+use Rattle.std.proofs.lemmas.Bool.{ne_eqb, eq-eqb, and_parts, cond-true, cond-false, lt-ltb, ltb-true, cases_eq}
+use Rattle.std.proofs.lemmas.Bool.{cases_lt}
 use Rattle.std.proofs.lemmas.List.{length-append}
 use Rattle.std.proofs.lemmas.List.Folds.{list_all-append}
 use Rattle.std.proofs.Math.Seq.{take-append_seam, get_or-append_seam}
@@ -14,9 +17,11 @@ use Rattle.serde_json.specs.Find.{get}
 use Rattle.cdxj_places.specs.Pair.{is_space, is_key_byte}
 use Rattle.cdxj_places.specs.Places.{offset_of}
 use Rattle.cdxj_core.specs.Entries.{EntryValue, IsGood, member_text, object_text, members_of, body_text, line_text}
-use Rattle.cdxj_core.specs.Lines.{LineValue, has_no_feed, body_of, line_parts, line_from, line_in, entry_values, value_text, filename_value, offset_value}
+use Rattle.cdxj_core.specs.Lines.{LineValue, has_no_feed, body_of, line_parts, line_from, line_in, entry_values}
+use Rattle.cdxj_core.specs.Lines.{value_text, filename_value, offset_value}
 use Rattle.cdxj_core.proofs.EntryLaw.{Pair, found_in, written, read_object, get_put_all}
-use Rattle.cdxj_places.proofs.PlaceLaw.{key_no_space, digits_no_space, before_first_at, after_first_at, both, offset_text}
+use Rattle.cdxj_places.proofs.PlaceLaw.{key_no_space, digits_no_space, before_first_at, after_first_at, both}
+use Rattle.cdxj_places.proofs.PlaceLaw.{offset_text}
 use Rattle.cdxj_places.proofs.Offsets.{own}
 
 -- ---- no line feed

@@ -1,5 +1,6 @@
 -- The line of an entry is UTF-8.
-use Rattle.std.proofs.Common.{◌≡◌, ℕ, ◌<◌, ◌≤◌, ◌^◌, true, List, [], ◌∷◌, ◌++◌, length, decimal, codes, flat_map, Some, sym, ap, ◌∙◌, subst, arith, IsUtf8, refl, ltb}
+use Rattle.std.proofs.Common.{◌≡◌, ℕ, ◌<◌, ◌≤◌, ◌^◌, true, List, [], ◌∷◌, ◌++◌, length, decimal, codes, flat_map, Some}
+use Rattle.std.proofs.Common.{sym, ap, ◌∙◌, subst, arith, IsUtf8, refl, ltb}
 use Rattle.std.specs.List.{join_by, list_all}
 use Rattle.std.proofs.lemmas.Bool.{and_parts, ltb-true}
 use Rattle.std.proofs.lemmas.Str.{IsUtf8-append, IsUtf8-from_ascii, IsUtf8-nil}

@@ -1,5 +1,7 @@
 -- The file name of a line is no longer than the line: it is a string of the line's object.
-use Rattle.std.proofs.Common.{◌≡◌, ℕ, zero, suc, ◌+◌, ◌≤◌, ◌&&◌, ◌==◌, nat_lt, List, [], ◌∷◌, length, codes, Ordering, Less, Equal, Greater, Option, Some, None, option_map, option_and_then, ap, ◌∙◌, subst, arith}
+use Rattle.std.proofs.Common.{◌≡◌, ℕ, zero, suc, ◌+◌, ◌≤◌, ◌&&◌, ◌==◌, nat_lt, List, [], ◌∷◌, length, codes, Ordering}
+use Rattle.std.proofs.Common.{Less, Equal, Greater, Option, Some, None, option_map, option_and_then, ap, ◌∙◌, subst}
+use Rattle.std.proofs.Common.{arith}
 use Rattle.std.specs.Prelude.{⊤}
 use Rattle.std.specs.List.{before_first, after_first}
 use Rattle.std.specs.Ordering.{nat_cmp, match_ordering}
@@ -8,13 +10,15 @@ use Rattle.std.proofs.lemmas.List.{length-append}
 use Rattle.json.specs.Token.{Token}
 use Rattle.json.specs.Lex.{tokens}
 use Rattle.json.specs.Json as json
-use Rattle.json.specs.Json.{Json, Parse, parse_map, after_end_array, read_key, items_step, members_step, items, members, value_with, value, if_last}
+use Rattle.json.specs.Json.{Json, Parse, parse_map, after_end_array, read_key, items_step, members_step, items, members}
+use Rattle.json.specs.Json.{value_with, value, if_last}
 use Rattle.serde_json.specs.Data.{Data, Members, put}
 use Rattle.serde_json.specs.Read.{number_of, of_json, of_items, of_members, max_depth, read}
 use Rattle.serde_json.specs.Find.{get_member, get}
 use Rattle.cdxj_places.specs.Pair.{is_space, is_key, is_stamp}
 use Rattle.cdxj_places.proofs.PairLemmas.{around}
-use Rattle.cdxj_core.specs.Lines.{LineValue, has_no_feed, body_of, line_object, line_parts, line_from, line_in, values_of, offset_value, filename_value}
+use Rattle.cdxj_core.specs.Lines.{LineValue, has_no_feed, body_of, line_object, line_parts, line_from, line_in}
+use Rattle.cdxj_core.specs.Lines.{values_of, offset_value, filename_value}
 use Rattle.cdxj_core.specs.Members.{Member, line_entry}
 use Rattle.cdxj_core.proofs.PairLaw.{if_test, and_then_some, map_some, some_read}
 use Rattle.cdxj_core.proofs.MemberLemmas.{entered}

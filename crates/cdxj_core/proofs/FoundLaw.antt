@@ -1,5 +1,6 @@
 -- What is found in an object decides what its line says.
-use Rattle.std.proofs.Common.{◌≡◌, ℕ, ◌-◌, List, [], ◌∷◌, Bool, true, false, cond, bytes_eq, codes, decimal, length, Option, Some, None, option_map, option_and_then, refl, sym, ap, ◌∙◌, arith}
+use Rattle.std.proofs.Common.{◌≡◌, ℕ, ◌-◌, List, [], ◌∷◌, Bool, true, false, cond, bytes_eq, codes, decimal, length}
+use Rattle.std.proofs.Common.{Option, Some, None, option_map, option_and_then, refl, sym, ap, ◌∙◌, arith}
 use Rattle.std.proofs.lemmas.Slice.Eq.{bytes_eq-Decides}
 use Rattle.json.specs.Token.{Token}
 use Rattle.json.specs.Json as json
@@ -8,13 +9,16 @@ use Rattle.json.specs.Reads.{token_of, Yields}
 use Rattle.json.specs.declared.token.Token.TheVariants as read
 use Rattle.json.specs.declared.token.Token.{Token as ReadToken}
 use Rattle.json.proofs.Grammar.{value_is, value-begin_array, value-begin_object}
-use Rattle.serde_json.specs.Data.{unsigned, negative, float, Data, null, boolean, number, string, array, object, Members, no_members, put}
+use Rattle.serde_json.specs.Data.{unsigned, negative, float, Data, null, boolean, number, string, array, object}
+use Rattle.serde_json.specs.Data.{Members, no_members, put}
 use Rattle.serde_json.specs.Find.{get_member}
 use Rattle.serde_json.specs.Read.{number_of, of_json, of_items, of_members, converted, read as read_text}
 use Rattle.serde_json.proofs.Views.{get_member-put, get_member-put_other}
-use Rattle.cdxj_core.specs.Lines.{LineValue, line_value, value_text, filename_value, offset_value, line_from, line_object}
+use Rattle.cdxj_core.specs.Lines.{LineValue, line_value, value_text, filename_value, offset_value, line_from}
+use Rattle.cdxj_core.specs.Lines.{line_object}
 use Rattle.cdxj_core.specs.Texts.{TextsValue}
-use Rattle.cdxj_core.specs.FoundMembers.{FoundValue, member_data, found_at, found_of, with_member, object_found, members_in, object_read, members_found}
+use Rattle.cdxj_core.specs.FoundMembers.{FoundValue, member_data, found_at, found_of, with_member, object_found}
+use Rattle.cdxj_core.specs.FoundMembers.{members_in, object_read, members_found}
 use Rattle.cdxj_core.proofs.PairLaw.{and_then_some}
 use Rattle.cdxj_core.proofs.JsonReading.{value_or, rest_or}
 

@@ -1,5 +1,6 @@
 -- The lines of entries are an index.
-use Rattle.std.proofs.Common.{◌≡◌, ◌≤◌, ℕ, ◌==◌, true, false, not, cond, List, [], ◌∷◌, ◌++◌, map, flat_map, Some, refl, sym, ap, ap₂, ◌∙◌, append_assoc, Ordering, Less, Equal, Greater, is_gt}
+use Rattle.std.proofs.Common.{◌≡◌, ◌≤◌, ℕ, ◌==◌, true, false, not, cond, List, [], ◌∷◌, ◌++◌, map, flat_map, Some, refl}
+use Rattle.std.proofs.Common.{sym, ap, ap₂, ◌∙◌, append_assoc, Ordering, Less, Equal, Greater, is_gt}
 use Rattle.std.specs.List.{AllByRecursion, onto_first}
 use Rattle.std.specs.Ordering.{ordering_reverse}
 use Rattle.std.proofs.lemmas.Bool.{and_parts, not-true, true≢false}

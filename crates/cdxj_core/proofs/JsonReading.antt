@@ -1,9 +1,11 @@
 -- Tokens that are read for a value, for items and for members, a turn at a time.
-use Rattle.std.proofs.Common.{◌≡◌, ℕ, zero, suc, ◌-◌, ◌<◌, ◌≤◌, List, [], ◌∷◌, length, Bool, Option, Some, None, option_map, option_and_then, refl, sym, ap, ◌∙◌, arith}
+use Rattle.std.proofs.Common.{◌≡◌, ℕ, zero, suc, ◌-◌, ◌<◌, ◌≤◌, List, [], ◌∷◌, length, Bool, Option, Some, None}
+use Rattle.std.proofs.Common.{option_map, option_and_then, refl, sym, ap, ◌∙◌, arith}
 use Rattle.json.specs.Token.{Token}
 use Rattle.json.specs.Json as json
 use Rattle.json.specs.Json.{Parse, parse_map, after_end_array, read_key, items_step, items, members, value}
-use Rattle.json.proofs.Grammar.{left, value_is, value-begin_array, value-begin_object, items_end as no_more_items, items_more, members_end as no_more_members, members_no_key, members_more}
+use Rattle.json.proofs.Grammar.{left, value_is, value-begin_array, value-begin_object, items_end as no_more_items}
+use Rattle.json.proofs.Grammar.{items_more, members_end as no_more_members, members_no_key, members_more}
 use Rattle.serde_json.specs.Data.{Num, Data, null, number, string, array, object, Items, item, Members, no_members, put}
 use Rattle.serde_json.specs.Read.{number_of, of_json, of_items, of_members, converted}
 use Rattle.cdxj_core.specs.FoundMembers.{number_data, member_data, value_read, items_passed, members_passed}

@@ -1,5 +1,7 @@
 -- A line that is kept in one text.
-use Rattle.std.proofs.Common.{◌≡◌, ℕ, ◌+◌, ◌<◌, ◌≤◌, ◌^◌, ◌==◌, true, false, cond, List, [], ◌∷◌, ◌++◌, take, drop, length, get_or, decimal, Some, unwrap_or, refl, sym, ap, ◌∙◌, subst, arith, append_assoc, append-nil, length-append, drop-drop, IsUtf8}
+use Rattle.std.proofs.Common.{◌≡◌, ℕ, ◌+◌, ◌<◌, ◌≤◌, ◌^◌, ◌==◌, true, false, cond, List, [], ◌∷◌, ◌++◌, take, drop}
+use Rattle.std.proofs.Common.{length, get_or, decimal, Some, unwrap_or, refl, sym, ap, ◌∙◌, subst, arith, append_assoc}
+use Rattle.std.proofs.Common.{append-nil, length-append, drop-drop, IsUtf8}
 use Rattle.std.specs.List.{list_all, before_first, after_first}
 use Rattle.std.specs.Str.{IsCharBoundary}
 use Rattle.std.proofs.lemmas.Bool.{and_parts, cond-true, eqb-true}
@@ -12,12 +14,14 @@ use Rattle.cdxj_places.specs.Places.{offset_of}
 use Rattle.cdxj_places.proofs.PairLemmas.{around, pair_front}
 use Rattle.cdxj_places.proofs.PlaceLaw.{both}
 use Rattle.cdxj_core.specs.declared.field.Field.{Field}
-use Rattle.cdxj_core.specs.declared.field.Field.TheVariants.{Urlkey, Timestamp, Original, Mimetype, Statuscode, Digest, Length, Offset, Filename}
+use Rattle.cdxj_core.specs.declared.field.Field.TheVariants.{Urlkey, Timestamp, Original, Mimetype, Statuscode, Digest}
+use Rattle.cdxj_core.specs.declared.field.Field.TheVariants.{Length, Offset, Filename}
 use Rattle.cdxj_core.specs.declared.spans.Spans.{Spans}
 use Rattle.cdxj_core.specs.declared.spans.TheConstants.{OPEN, TO_STAMP, TO_STAMP_END, TO_URL}
 use Rattle.cdxj_core.specs.FoundMembers.{FoundValue, object_found, members_in}
 use Rattle.cdxj_core.specs.KeptLine.{IsKept, no_member, member_in}
-use Rattle.cdxj_core.specs.Lines.{body_of, has_no_feed, field_value, filename_value, offset_value, line_object, line_value}
+use Rattle.cdxj_core.specs.Lines.{body_of, has_no_feed, field_value, filename_value, offset_value, line_object}
+use Rattle.cdxj_core.specs.Lines.{line_value}
 use Rattle.cdxj_core.specs.Members.{Member, member_pair, line_entry}
 use Rattle.cdxj_core.specs.Plain.{ArePlain, IsCutAt, is_clean, plain_text, values_of_texts}
 use Rattle.cdxj_core.specs.PlainPlaces.{AreEndsOf, texts_in}

@@ -1,5 +1,6 @@
 -- From vectors that were compared to the fronts of lists.
-use Rattle.std.proofs.Common.{◌≡◌, ℕ, zero, suc, ◌+◌, ◌≤◌, ◌%◌, ◌^◌, ◌||◌, Bool, true, false, not, cond, List, [], ◌∷◌, map, length, take, drop, bit_or, refl, ap, ap₂, ◌∙◌, eqb, eqb-true, ltb, arith}
+use Rattle.std.proofs.Common.{◌≡◌, ℕ, zero, suc, ◌+◌, ◌≤◌, ◌%◌, ◌^◌, ◌||◌, Bool, true, false, not, cond, List, [], ◌∷◌}
+use Rattle.std.proofs.Common.{map, length, take, drop, bit_or, refl, ap, ap₂, ◌∙◌, eqb, eqb-true, ltb, arith}
 use Rattle.std.specs.Char.{is_ascii_digit}
 use Rattle.std.specs.List.{prefix_len}
 use Rattle.std.proofs.lemmas.List.{length-map}

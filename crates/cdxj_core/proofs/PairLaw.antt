@@ -1,5 +1,7 @@
 -- A line that has values begins with their pair.
-use Rattle.std.proofs.Common.{◌≡◌, ℕ, ◌-◌, ◌<◌, ◌≤◌, ◌==◌, ◌&&◌, Bool, true, false, cond, List, [], ◌∷◌, ◌++◌, length, take, drop, Option, Some, None, option_map, option_and_then, get_or, append-nil, nat_lt, codes, refl, sym, ap, ◌∙◌, arith, append_assoc, take-append-drop}
+use Rattle.std.proofs.Common.{◌≡◌, ℕ, ◌-◌, ◌<◌, ◌≤◌, ◌==◌, ◌&&◌, Bool, true, false, cond, List, [], ◌∷◌, ◌++◌, length}
+use Rattle.std.proofs.Common.{take, drop, Option, Some, None, option_map, option_and_then, get_or, append-nil, nat_lt}
+use Rattle.std.proofs.Common.{codes, refl, sym, ap, ◌∙◌, arith, append_assoc, take-append-drop}
 use Rattle.std.specs.List.{before_first, after_first}
 use Rattle.std.proofs.lemmas.Bool.{and_parts, cond-true, eqb-true, ltb-true, lt-ltb}
 use Rattle.std.proofs.lemmas.List.{length-append}
@@ -8,7 +10,8 @@ use Rattle.serde_json.specs.Find.{get}
 use Rattle.serde_json.specs.Read.{read}
 use Rattle.serde_json.proofs.OnLiterals.{serde_json_on_literals}
 use Rattle.cdxj_places.specs.Pair.{is_space, is_key, is_stamp, pair_of}
-use Rattle.cdxj_core.specs.Lines.{LineValue, has_no_feed, body_of, line_object, line_parts, line_from, line_in, values_of, offset_value, filename_value}
+use Rattle.cdxj_core.specs.Lines.{LineValue, has_no_feed, body_of, line_object, line_parts, line_from, line_in}
+use Rattle.cdxj_core.specs.Lines.{values_of, offset_value, filename_value}
 use Rattle.cdxj_places.proofs.PlaceLaw.{both}
 use Rattle.cdxj_places.proofs.PairLemmas.{pair_of-parts, around}
 

@@ -1,5 +1,7 @@
 -- What a plain object is read as.
-use Rattle.std.proofs.Common.{◌≡◌, ℕ, zero, suc, ◌<◌, ◌^◌, ◌==◌, Bool, true, false, cond, List, [], ◌∷◌, ◌++◌, length, decimal, Option, Some, None, option_map, option_and_then, get_or, append_assoc, flat_map, codes, refl, sym, ap, ◌∙◌, arith}
+use Rattle.std.proofs.Common.{◌≡◌, ℕ, zero, suc, ◌<◌, ◌^◌, ◌==◌, Bool, true, false, cond, List, [], ◌∷◌, ◌++◌, length}
+use Rattle.std.proofs.Common.{decimal, Option, Some, None, option_map, option_and_then, get_or, append_assoc, flat_map}
+use Rattle.std.proofs.Common.{codes, refl, sym, ap, ◌∙◌, arith}
 use Rattle.std.specs.List.{list_all}
 use Rattle.std.specs.Str.Parse.{digits_value}
 use Rattle.std.proofs.lemmas.Bool.{and_parts, or_parts, not-true, eqb-false, ltb-false, ltb-true, cond-false, ne_eqb}
@@ -11,7 +13,8 @@ use Rattle.serde_json.specs.Data.{Data, string, object, no_members}
 use Rattle.serde_json.specs.Find.{get}
 use Rattle.serde_json.specs.Read.{read}
 use Rattle.cdxj_places.specs.Places.{offset_of, is_offset}
-use Rattle.cdxj_core.specs.Lines.{LineValue, line_value, line_object, line_from, value_text, filename_value, offset_value}
+use Rattle.cdxj_core.specs.Lines.{LineValue, line_value, line_object, line_from, value_text, filename_value}
+use Rattle.cdxj_core.specs.Lines.{offset_value}
 use Rattle.cdxj_core.specs.Entries.{member_text, object_text}
 use Rattle.cdxj_core.specs.Texts.{TextsValue, or_missing, text_members}
 use Rattle.cdxj_core.specs.Plain.{ArePlain, plain_text, values_of_texts}

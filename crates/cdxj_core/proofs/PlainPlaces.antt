@@ -1,10 +1,12 @@
 -- Where the texts of a plain object's members stand.
-use Rattle.std.proofs.Common.{◌≡◌, ℕ, zero, suc, ◌+◌, ◌-◌, ◌<◌, ◌≤◌, List, [], ◌∷◌, ◌++◌, take, drop, length, get_or, decimal, codes, sym, ap, ◌∙◌, subst, arith, length-append, length-drop, drop-drop, IsUtf8}
+use Rattle.std.proofs.Common.{◌≡◌, ℕ, zero, suc, ◌+◌, ◌-◌, ◌<◌, ◌≤◌, List, [], ◌∷◌, ◌++◌, take, drop, length, get_or}
+use Rattle.std.proofs.Common.{decimal, codes, sym, ap, ◌∙◌, subst, arith, length-append, length-drop, drop-drop, IsUtf8}
 use Rattle.std.specs.Str.{IsCharBoundary}
 use Rattle.std.proofs.lemmas.Str.{IsCharBoundary-before_ascii, IsCharBoundary-after_ascii}
 use Rattle.std.proofs.Math.Seq.{take-append_seam, drop-append_seam}
 use Rattle.cdxj_core.specs.declared.spans.MemberEnds.{MemberEnds}
-use Rattle.cdxj_core.specs.declared.spans.TheConstants.{OPEN, TO_MIME, TO_STATUS, TO_DIGEST, TO_LENGTH, TO_OFFSET, TO_FILENAME, CLOSE}
+use Rattle.cdxj_core.specs.declared.spans.TheConstants.{OPEN, TO_MIME, TO_STATUS, TO_DIGEST, TO_LENGTH, TO_OFFSET}
+use Rattle.cdxj_core.specs.declared.spans.TheConstants.{TO_FILENAME, CLOSE}
 use Rattle.cdxj_core.specs.Lines.{line_value}
 use Rattle.cdxj_core.specs.Plain.{after, plain_text, values_of_texts}
 use Rattle.cdxj_core.specs.PlainPlaces.{AreEndsOf, AreMemberEnds, IsPart, part}

@@ -1,8 +1,10 @@
 -- What a line takes from a JSON object: the value of each of its members, the last one of its name.
-use Rattle.std.specs.Prelude.{ℕ, List, [], length, codes, decimal, bytes_eq, Option, None, Some, option_map, option_and_then, if◌then◌else◌}
+use Rattle.std.specs.Prelude.{ℕ, List, [], length, codes, decimal, bytes_eq, Option, None, Some, option_map}
+use Rattle.std.specs.Prelude.{option_and_then, if◌then◌else◌}
 use Rattle.json.specs.Token.{Token}
 use Rattle.json.specs.Json.{parse_map, items, members, value, if_last}
-use Rattle.serde_json.specs.Data.{Num, unsigned, negative, float, Data, null, boolean, number, string, array, object, Members, no_members}
+use Rattle.serde_json.specs.Data.{Num, unsigned, negative, float, Data, null, boolean, number, string, array, object}
+use Rattle.serde_json.specs.Data.{Members, no_members}
 use Rattle.serde_json.specs.Find.{get_member}
 use Rattle.serde_json.specs.Read.{of_json, of_items, of_members, converted, max_depth, read}
 

@@ -2,7 +2,8 @@
 use Rattle.std.specs.Prelude.{◌≡◌, ℕ, ◌+◌, ◌-◌, ◌≤◌, List, take, drop, length, decimal}
 use Rattle.std.specs.Str.{IsCharBoundary}
 use Rattle.cdxj_core.specs.declared.spans.MemberEnds.{MemberEnds}
-use Rattle.cdxj_core.specs.declared.spans.TheConstants.{TO_MIME, TO_STATUS, TO_DIGEST, TO_LENGTH, TO_OFFSET, TO_FILENAME, CLOSE}
+use Rattle.cdxj_core.specs.declared.spans.TheConstants.{TO_MIME, TO_STATUS, TO_DIGEST, TO_LENGTH, TO_OFFSET}
+use Rattle.cdxj_core.specs.declared.spans.TheConstants.{TO_FILENAME, CLOSE}
 use Rattle.cdxj_core.specs.Lines.{LineValue}
 use Rattle.cdxj_core.specs.Plain.{values_of_texts}
 use Rattle.cdxj_core.specs.Texts.{TextsValue}

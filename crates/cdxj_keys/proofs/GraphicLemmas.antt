@@ -1,5 +1,6 @@
 -- Texts that need no escape.
-use Rattle.std.proofs.Common.{◌≡◌, ◌<◌, ℕ, nat_le, get_or, IsUtf8, arith, Bool, true, false, ◌&&◌, List, [], ◌∷◌, map, refl, ap}
+use Rattle.std.proofs.Common.{◌≡◌, ◌<◌, ℕ, nat_le, get_or, IsUtf8, arith, Bool, true, false, ◌&&◌, List, [], ◌∷◌, map}
+use Rattle.std.proofs.Common.{refl, ap}
 use Rattle.std.proofs.lemmas.Bool.Decides.{nat_tests}
 use Rattle.std.proofs.lemmas.List.Sums.{AllPass-from_list_all}
 use Rattle.std.proofs.lemmas.Str.{IsUtf8-from_ascii}

@@ -1,10 +1,12 @@
 -- The host key of a web URL begins its key.
-use Rattle.std.proofs.Common.{◌≡◌, ℕ, Bool, true, false, cond, List, [], ◌∷◌, ◌++◌, Some, None, Result, Ok, Err, option_map, ap, ◌∙◌, append_assoc}
+use Rattle.std.proofs.Common.{◌≡◌, ℕ, Bool, true, false, cond, List, [], ◌∷◌, ◌++◌, Some, None, Result, Ok, Err}
+use Rattle.std.proofs.Common.{option_map, ap, ◌∙◌, append_assoc}
 use Rattle.std.proofs.lemmas.List.Concat.{flat_map-append}
 use Rattle.url.specs.declared.error.ParseError.{ParseError}
 use Rattle.url.specs.Parts.{Parts, host_or_empty}
 use Rattle.url.specs.Parser.{parse_url}
-use Rattle.cdxj_keys.specs.Key.{key_host, port_text, query_text, is_web, web_text, key_text, key_byte, folded, key_of, host_text_of, host_key_of}
+use Rattle.cdxj_keys.specs.Key.{key_host, port_text, query_text, is_web, web_text, key_text, key_byte, folded, key_of}
+use Rattle.cdxj_keys.specs.Key.{host_text_of, host_key_of}
 
 abbrev Begins : List ℕ → List ℕ → Type 0
 Begins host key = (rest : List ℕ) × (key ≡ host ++ rest)

@@ -1,5 +1,6 @@
 -- The key of a URL that the parser leaves as it is.
-use Rattle.std.proofs.Common.{◌≡◌, ℕ, inl, inr, true, List, [], ◌∷◌, ◌++◌, codes, Option, Some, None, IfSome, Ok, refl, sym, ap, ◌∙◌, append-nil, append_assoc}
+use Rattle.std.proofs.Common.{◌≡◌, ℕ, inl, inr, true, List, [], ◌∷◌, ◌++◌, codes, Option, Some, None, IfSome, Ok, refl}
+use Rattle.std.proofs.Common.{sym, ap, ◌∙◌, append-nil, append_assoc}
 use Rattle.std.specs.List.{list_all}
 use Rattle.std.proofs.lemmas.Bool.{cond-true}
 use Rattle.url.specs.Parser.{parse_url}
@@ -7,7 +8,8 @@ use Rattle.url.specs.Parts.{serialize}
 use Rattle.url.specs.Scheme.{IsScheme, scheme_type}
 use Rattle.url.specs.declared.scheme.SchemeType.TheVariants.{SpecialNotFile}
 use Rattle.cdxj_keys.specs.Key.{domain_text, folded, key_of, key_text, is_web, query_text, web_text}
-use Rattle.cdxj_keys.specs.PlainUrls.{plain_parts, plain_text, is_plain_byte, IsPlainHost, IsPlainQuery, IsPlainTail, IsPlainUrl}
+use Rattle.cdxj_keys.specs.PlainUrls.{plain_parts, plain_text, is_plain_byte, IsPlainHost, IsPlainQuery, IsPlainTail}
+use Rattle.cdxj_keys.specs.PlainUrls.{IsPlainUrl}
 use Rattle.cdxj_keys.proofs.PlainLaws.{parses, http_scheme, https_scheme, http_kind, https_kind}
 use Rattle.cdxj_keys.proofs.PlainTails.{spelled}
 

@@ -1,9 +1,12 @@
 -- The URL parser leaves a plain web URL as it is.
-use Rattle.std.proofs.Common.{◌≡◌, ℕ, ◌<◌, ◌==◌, cond, ◌&&◌, ◌||◌, inl, nat_le, eqb, Bool, true, false, not, if◌then◌else◌, List, [], ◌∷◌, codes, zip, drop, length, All, Option, Some, None, IfSome, Ok, refl, sym, ap, ap₂, ◌∙◌, subst, arith}
+use Rattle.std.proofs.Common.{◌≡◌, ℕ, ◌<◌, ◌==◌, cond, ◌&&◌, ◌||◌, inl, nat_le, eqb, Bool, true, false, not}
+use Rattle.std.proofs.Common.{if◌then◌else◌, List, [], ◌∷◌, codes, zip, drop, length, All, Option, Some, None, IfSome}
+use Rattle.std.proofs.Common.{Ok, refl, sym, ap, ap₂, ◌∙◌, subst, arith}
 use Rattle.std.specs.List.{list_all, slice_split, onto_first}
 use Rattle.std.specs.Char.{is_ascii_digit, is_ascii_lowercase, is_digit, to_ascii_lowercase}
 use Rattle.std.specs.Prelude.{slice_index}
-use Rattle.std.proofs.lemmas.Bool.{agree_below, agree_below_at, cond-false, and_parts, not-true, or_from, or_parts, eqb-true, leb-true, ne_eqb}
+use Rattle.std.proofs.lemmas.Bool.{agree_below, agree_below_at, cond-false, and_parts, not-true, or_from, or_parts}
+use Rattle.std.proofs.lemmas.Bool.{eqb-true, leb-true, ne_eqb}
 use Rattle.std.proofs.lemmas.List.Elements.{All-weaker, All-cons, All-nil}
 use Rattle.std.proofs.lemmas.List.Splits.{length-slice_split}
 use Rattle.std.proofs.lemmas.List.Sums.{AllPass-from_list_all}
@@ -22,7 +25,8 @@ use Rattle.url.specs.Ipv4.{ends_in_a_number, last_label, parse_number, number_of
 use Rattle.url.specs.Path.{IsSegment, IsSegmentList, join_segments, dot_count, dot_len}
 use Rattle.url.specs.Scheme.{IsScheme, default_port, is_slash, scheme_len, scheme_type}
 use Rattle.cdxj_keys.specs.Key.{is_graphic}
-use Rattle.cdxj_keys.specs.PlainUrls.{is_domain_byte, is_plain_byte, is_path_byte, begins_plain, plain_parts, IsPlainHost, IsPlainPath}
+use Rattle.cdxj_keys.specs.PlainUrls.{is_domain_byte, is_plain_byte, is_path_byte, begins_plain, plain_parts}
+use Rattle.cdxj_keys.specs.PlainUrls.{IsPlainHost, IsPlainPath}
 
 -- ---- bytes
 

@@ -1,5 +1,7 @@
 -- The pair of a line, and the order of pairs.
-use Rattle.std.proofs.Common.{◌≡◌, ℕ, ◌+◌, ◌<◌, ◌&&◌, Bool, true, false, cond, List, [], ◌∷◌, ◌++◌, length, take, drop, Some, None, unwrap_or, get_or, refl, sym, ap, ◌∙◌, arith, append_assoc, ⊎_elim, take-append-drop, Ordering, Less, Equal, Greater}
+use Rattle.std.proofs.Common.{◌≡◌, ℕ, ◌+◌, ◌<◌, ◌&&◌, Bool, true, false, cond, List, [], ◌∷◌, ◌++◌, length, take, drop}
+use Rattle.std.proofs.Common.{Some, None, unwrap_or, get_or, refl, sym, ap, ◌∙◌, arith, append_assoc, ⊎_elim}
+use Rattle.std.proofs.Common.{take-append-drop, Ordering, Less, Equal, Greater}
 use Rattle.std.specs.List.{position_or_len, before_first, after_first}
 use Rattle.std.specs.Cmp.{IsTotalOrder}
 use Rattle.std.specs.Ordering.{nat_cmp, ordering_then}
@@ -9,7 +11,8 @@ use Rattle.std.proofs.lemmas.Cmp.{nat_list_cmp_total, on_total, then_total}
 use Rattle.std.proofs.lemmas.List.{length-append, drop_all}
 use Rattle.std.proofs.lemmas.List.Sums.{split_at_first, passes_at_first}
 use Rattle.std.proofs.Math.Seq.{take-append_seam, drop-append_seam}
-use Rattle.cdxj_places.specs.Pair.{is_space, is_key, is_stamp, key_part, stamp_part, tail_part, begins_with_space, begins_with_pair, pair_of}
+use Rattle.cdxj_places.specs.Pair.{is_space, is_key, is_stamp, key_part, stamp_part, tail_part, begins_with_space}
+use Rattle.cdxj_places.specs.Pair.{begins_with_pair, pair_of}
 use Rattle.cdxj_places.specs.Pairs.{Pair, pair_cmp, place_pair}
 use Rattle.cdxj_places.specs.Places.{PlaceValue, place_cmp}
 use Rattle.cdxj_places.proofs.PlaceLaw.{key_no_space, before_first_at, after_first_at, both}

@@ -1,5 +1,7 @@
 -- The form text of a place is read as that place.
-use Rattle.std.proofs.Common.{◌≡◌, ◌≢◌, ℕ, suc, ◌+◌, ◌-◌, ◌<◌, ◌≤◌, ◌^◌, ◌&&◌, Bool, true, false, not, List, [], ◌∷◌, ◌++◌, length, take, drop, decimal, Some, get_or, refl, sym, ap, ◌∙◌, subst, arith, All, IsUtf8}
+use Rattle.std.proofs.Common.{◌≡◌, ◌≢◌, ℕ, suc, ◌+◌, ◌-◌, ◌<◌, ◌≤◌, ◌^◌, ◌&&◌, Bool, true, false, not, List, [], ◌∷◌}
+use Rattle.std.proofs.Common.{◌++◌, length, take, drop, decimal, Some, get_or, refl, sym, ap, ◌∙◌, subst, arith, All}
+use Rattle.std.proofs.Common.{IsUtf8}
 use Rattle.std.proofs.lemmas.Bool.{ne_eqb, and_parts, cond-true, lt-ltb, le-leb, ltb-true}
 use Rattle.std.proofs.Math.Seq.{take-append_seam, drop-append-add, get_or-append_seam, get_or-append_right}
 use Rattle.std.proofs.lemmas.List.Elements.{All-weaker, All-append, All-cons, All-nil, All-head, All-tail}
@@ -15,7 +17,8 @@ use Rattle.std.proofs.lemmas.Bool.Decides.{nat_tests}
 use Rattle.std.proofs.lemmas.List.{length-append}
 use Rattle.form_urlencoded.proofs.FormLemmas.{decode-byte_serialize}
 use Rattle.cdxj_places.specs.Pair.{is_space, is_key_byte, is_key}
-use Rattle.cdxj_places.specs.Places.{PlaceValue, IsPlace, place_text, resume_text, is_offset, place_from, place_in, resume_place}
+use Rattle.cdxj_places.specs.Places.{PlaceValue, IsPlace, place_text, resume_text, is_offset, place_from, place_in}
+use Rattle.cdxj_places.specs.Places.{resume_place}
 use Rattle.cdxj_places.proofs.LastSpace.{last_at}
 use Rattle.cdxj_places.proofs.Offsets.{own}
 

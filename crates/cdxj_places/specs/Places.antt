@@ -1,5 +1,6 @@
 -- Places: their order, their form text, and the place that a text names.
-use Rattle.std.specs.Prelude.{◌≡◌, ℕ, ◌^◌, ◌<◌, ◌&&◌, Bool, true, nat_lt, nat_le, List, ◌∷◌, ◌++◌, length, decimal, All, Option, Some, None, if◌then◌else◌}
+use Rattle.std.specs.Prelude.{◌≡◌, ℕ, ◌^◌, ◌<◌, ◌&&◌, Bool, true, nat_lt, nat_le, List, ◌∷◌, ◌++◌, length, decimal, All}
+use Rattle.std.specs.Prelude.{Option, Some, None, if◌then◌else◌}
 use Rattle.std.specs.List.{list_all, before_first, after_first, before_last, after_last}
 use Rattle.std.specs.Char.{is_ascii_digit}
 use Rattle.std.specs.Str.{IsUtf8}

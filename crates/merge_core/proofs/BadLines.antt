@@ -1,5 +1,7 @@
 -- Lines at fault, by where the cursor stands.
-use Rattle.std.proofs.Common.{◌≡◌, ◌≢◌, ℕ, ◌+◌, ◌-◌, ◌<◌, ◌≤◌, List, [], ◌∷◌, ◌++◌, Bool, true, false, cond, length, take, drop, map, None, Some, inl, inr, refl, sym, ap, ap₂, ◌∙◌, subst, arith, length-take, append_assoc, take-append-drop, is_gt}
+use Rattle.std.proofs.Common.{◌≡◌, ◌≢◌, ℕ, ◌+◌, ◌-◌, ◌<◌, ◌≤◌, List, [], ◌∷◌, ◌++◌, Bool, true, false, cond, length}
+use Rattle.std.proofs.Common.{take, drop, map, None, Some, inl, inr, refl, sym, ap, ap₂, ◌∙◌, subst, arith, length-take}
+use Rattle.std.proofs.Common.{append_assoc, take-append-drop, is_gt}
 use Rattle.std.specs.Ordering.{ordering_reverse}
 use Rattle.std.proofs.lemmas.Bool.{cases_lt}
 use Rattle.std.proofs.lemmas.List.{drop_all}
@@ -41,43 +43,52 @@ first_long limit [] long = absurd (omega arith)
 first_long limit (l ∷ ls) long = (l, ls, refl, long_none limit l long)
 
 -- the first of the lines was refused
-pub refused_at : (limit : ℕ) (ls rest : List (List ℕ)) (line : List ℕ) (at begin : ℕ) (e : LineFault) → begin ≡ at → ls ≡ line ∷ rest → (e ≢ reading.Memory → line_entry limit line ≡ None)
+pub refused_at : (limit : ℕ) (ls rest : List (List ℕ)) (line : List ℕ) (at begin : ℕ) (e : LineFault) → begin ≡ at → ls
+    ≡ line ∷ rest → (e ≢ reading.Memory → line_entry limit line ≡ None)
     → IsFaultAt limit ls at (line_fault begin e)
 refused_at limit ls rest line at begin reading.Memory there is bad = tt
-refused_at limit ls rest line at begin reading.LineTooLong there is bad = (there, (line, rest, is, bad (λ q. absurd (cc))))
+refused_at limit ls rest line at begin reading.LineTooLong there is bad =
+    (there, (line, rest, is, bad (λ q. absurd (cc))))
 refused_at limit ls rest line at begin reading.BadLine there is bad = (there, (line, rest, is, bad (λ q. absurd (cc))))
 
 -- where lines are left, the offset lies within the text
-inside : (t : List ℕ) (at : ℕ) (line : List ℕ) (after : List (List ℕ)) → lines (drop at t) ≡ line ∷ after → at ≤ length t
+inside : (t : List ℕ) (at : ℕ) (line : List ℕ) (after : List (List ℕ)) → lines (drop at t) ≡ line ∷ after
+    → at ≤ length t
 inside t at line after e = elim (cases_lt at (length t)) [
   | inl l ↦ omega arith
   | inr l ↦ absurd (let none : lines (drop at t) ≡ [] = ap lines (drop_all at t l) in cc)
 ]
 
 -- the last of these lines has the last of these entries
-last_line : (limit : ℕ) (ls : List (List ℕ)) (before : List Member) (last : Member) → map (line_entry limit) ls ≡ map Some (before ++ last ∷ [])
+last_line : (limit : ℕ) (ls : List (List ℕ)) (before : List Member) (last : Member) → map (line_entry limit) ls
+    ≡ map Some (before ++ last ∷ [])
     → (us : List (List ℕ)) × (line : List ℕ) × (ls ≡ us ++ line ∷ []) × (line_entry limit line ≡ Some last)
 last_line limit [] [] last e = absurd (cc)
 last_line limit [] (m ∷ before) last e = absurd (cc)
 last_line limit (l ∷ []) [] last e = ([], l, refl, let q : line_entry limit l ≡ Some last = cc in q)
 last_line limit (l ∷ k ∷ ls) [] last e = absurd (cc)
 last_line limit (l ∷ ls) (m ∷ before) last e =
-    let rest = last_line limit ls before last (let q : map (line_entry limit) ls ≡ map Some (before ++ last ∷ []) = cc in q) in
+    let rest = last_line limit ls before last (let q : map (line_entry limit) ls
+    ≡ map Some (before ++ last ∷ []) = cc in q) in
     (l ∷ rest.0, rest.1, ap (λ us. l ∷ us) rest.2, rest.3)
 
-module _ (limit : ℕ) (past : List ℕ → Bool) (t : List ℕ) (extent : ℕ) (f : Feed) (fed : Fed limit past (Some t) extent f []) where
+module _ (limit : ℕ) (past : List ℕ → Bool) (t : List ℕ) (extent : ℕ) (f : Feed)
+    (fed : Fed limit past (Some t) extent f []) where
   -- the line at which the cursor stands, after those before it
-  begins_here : (line : List ℕ) (after : List (List ℕ)) → lines (drop f.cursor.at t) ≡ line ∷ after → BeginsAt t f.cursor.at ((fed.told t refl).begins.0 ++ read_lines t f.cursor) line
+  begins_here : (line : List ℕ) (after : List (List ℕ)) → lines (drop f.cursor.at t) ≡ line ∷ after
+      → BeginsAt t f.cursor.at ((fed.told t refl).begins.0 ++ read_lines t f.cursor) line
   begins_here line after e =
       let told = fed.told t refl in
       let from = lines (drop f.cursor.start t) in
       let cut : lines t ≡ (told.begins.0 ++ read_lines t f.cursor) ++ lines (drop f.cursor.at t) =
-      told.begins.1.0 ∙ ap (λ ls. told.begins.0 ++ ls) (sym (take-append-drop f.cursor.count from) ∙ ap (λ ls. take f.cursor.count from ++ ls) (sym (fed.stands.rest t refl)))
+      told.begins.1.0 ∙ ap (λ ls. told.begins.0 ++ ls) (sym (take-append-drop f.cursor.count from)
+      ∙ ap (λ ls. take f.cursor.count from ++ ls) (sym (fed.stands.rest t refl)))
       ∙ sym (append_assoc told.begins.0 (read_lines t f.cursor) (lines (drop f.cursor.at t))) in
       record {
         after = after;
         lines_are = cut ∙ ap (λ ls. (told.begins.0 ++ read_lines t f.cursor) ++ ls) e;
-        offset_is = begins_at t f.cursor.at (told.begins.0 ++ read_lines t f.cursor) cut (inside t f.cursor.at line after e);
+        offset_is = begins_at t f.cursor.at (told.begins.0 ++ read_lines t f.cursor) cut
+            (inside t f.cursor.at line after e);
       }
 
   pub bad_named : (e : FeedFault) → IsFaultAt limit (lines (drop f.cursor.at t)) f.cursor.at e → NamesLine limit t e
@@ -93,15 +104,20 @@ module _ (limit : ℕ) (past : List ℕ → Bool) (t : List ℕ) (extent : ℕ) 
   bad_named (fault.OutOfOrder offset) h = absurd h
 
   -- the next line has a pair below that of the last line before it
-  pub order_named : (pair : Pair) (new : CursorState) (m : Member) → f.progress ≡ Due → EndsAt pair (done limit t f) → new.start ≡ f.cursor.start → new.count ≡ f.cursor.count + 1
+  pub order_named : (pair : Pair) (new : CursorState) (m : Member) → f.progress ≡ Due → EndsAt pair (done limit t f)
+      → new.start ≡ f.cursor.start → new.count ≡ f.cursor.count + 1
       → ReadNext limit t f.cursor new m → Below (member_pair m) pair → IsOutOfOrder limit t f.cursor.at
   order_named pair new m due end start count next below =
       let told = fed.told t refl in
       let from = lines (drop f.cursor.start t) in
-      let last = last_line limit (read_lines t f.cursor) end.0 end.1 (told.run.entries ∙ ap (map Some) (sym (done_due limit t f due) ∙ end.2)) in
-      let after = after_taken f.cursor.count from next.0 (ap₂ (λ n s. take n (lines (drop s t))) (sym count) (sym start) ∙ next.1) in
+      let last = last_line limit (read_lines t f.cursor) end.0 end.1 (told.run.entries
+      ∙ ap (map Some) (sym (done_due limit t f due) ∙ end.2)) in
+      let after = after_taken f.cursor.count from next.0 (ap₂ (λ n s. take n (lines (drop s t))) (sym count) (sym start)
+      ∙ next.1) in
       let here = begins_here next.0 after.0 (fed.stands.rest t refl ∙ after.1) in
-      let front : told.begins.0 ++ read_lines t f.cursor ≡ (told.begins.0 ++ last.0) ++ last.1 ∷ [] = ap (λ ls. told.begins.0 ++ ls) last.2 ∙ sym (append_assoc told.begins.0 last.0 (last.1 ∷ [])) in
+      let front : told.begins.0 ++ read_lines t f.cursor ≡ (told.begins.0 ++ last.0)
+      ++ last.1 ∷ [] = ap (λ ls. told.begins.0 ++ ls) last.2
+      ∙ sym (append_assoc told.begins.0 last.0 (last.1 ∷ [])) in
       record {
         before = told.begins.0 ++ last.0;
         previous = last.1;
@@ -111,5 +127,6 @@ module _ (limit : ℕ) (past : List ℕ → Bool) (t : List ℕ) (extent : ℕ) 
         later = m;
         earlier_is = last.3;
         later_is = next.2;
-        falls = ap is_gt (pair_cmp_total.antisymm (member_pair end.1) (member_pair m) ∙ ap ordering_reverse (below_then (member_pair m) pair (member_pair end.1) below end.3));
+        falls = ap is_gt (pair_cmp_total.antisymm (member_pair end.1) (member_pair m)
+            ∙ ap ordering_reverse (below_then (member_pair m) pair (member_pair end.1) below end.3));
       }

@@ -1,6 +1,7 @@
 -- How many bytes indexes gave.
 use Rattle.std.specs.List.{AllZip}
-use Rattle.std.proofs.Common.{◌≡◌, ℕ, ◌+◌, ◌-◌, ◌≤◌, List, [], ◌∷◌, ◌++◌, length, take, map, filter, zip, Bool, true, false, cond, Option, Some, refl, sym, ap, ◌∙◌, subst, arith, length-append, length-take}
+use Rattle.std.proofs.Common.{◌≡◌, ℕ, ◌+◌, ◌-◌, ◌≤◌, List, [], ◌∷◌, ◌++◌, length, take, map, filter, zip, Bool, true}
+use Rattle.std.proofs.Common.{false, cond, Option, Some, refl, sym, ap, ◌∙◌, subst, arith, length-append, length-take}
 use Rattle.std.specs.List.{AllByRecursion}
 use Rattle.std.proofs.lemmas.List.{map-append}
 use Rattle.std.proofs.lemmas.List.Concat.{flat_map-append}
@@ -42,7 +43,8 @@ row_most limit l m e =
     body_most true line = omega (arith, length-take (length line - 1) line)
     body_most false line = omega arith
 
-rows_most : (limit : ℕ) (ls : List (List ℕ)) (ms : List Member) → map (line_entry limit) ls ≡ map Some ms → bytes_of ls ≤ length (lines_text ms)
+rows_most : (limit : ℕ) (ls : List (List ℕ)) (ms : List Member) → map (line_entry limit) ls ≡ map Some ms
+    → bytes_of ls ≤ length (lines_text ms)
 rows_most limit [] ms e = omega arith
 rows_most limit (l ∷ ls) [] e = cc
 rows_most limit (l ∷ ls) (m ∷ ms) e =
@@ -53,7 +55,8 @@ rows_most limit (l ∷ ls) (m ∷ ms) e =
     omega (arith, bytes_cons l ls, length-append (line_row m) (lines_text ms))
 
 -- of equal lists of entries, the one is a front
-front_of : (us : List Member) (zs : List (Option Member)) (vs : List Member) → map Some us ++ zs ≡ map Some vs → (tail : List Member) × (vs ≡ us ++ tail)
+front_of : (us : List Member) (zs : List (Option Member)) (vs : List Member) → map Some us ++ zs ≡ map Some vs
+    → (tail : List Member) × (vs ≡ us ++ tail)
 front_of [] zs vs e = (vs, refl)
 front_of (u ∷ us) zs [] e = cc
 front_of (u ∷ us) zs (v ∷ vs) e =
@@ -64,26 +67,41 @@ front_of (u ∷ us) zs (v ∷ vs) e =
 -- Indexes were read from where the search for a pair ended; this test holds of all lines that lie within the range, aren't below
 -- the pair and don't stand above the bound
 module _ (limit : ℕ) (past : List ℕ → Bool) (start : Pair) (b : Option Pair) (test : Member → Bool)
-    (passes : (m : Member) → past m.values.key ≡ false → is_low start m ≡ false → IsUpto b (member_pair m) → test m ≡ true) where
-  source_bytes : (t : List ℕ) (ms : List Member) (c : CursorState) → IsIndex limit t ms → IsCut start t ms c.start → (r : ReadTo limit past b t c) → bytes_of r.read ≤ length (lines_text (filter test ms))
+    (passes : (m : Member) → past m.values.key ≡ false → is_low start m ≡ false → IsUpto b (member_pair m) → test m
+    ≡ true) where
+  source_bytes : (t : List ℕ) (ms : List Member) (c : CursorState) → IsIndex limit t ms → IsCut start t ms c.start
+      → (r : ReadTo limit past b t c) → bytes_of r.read ≤ length (lines_text (filter test ms))
   source_bytes t ms c index cut r =
       let run = run_after limit start t ms c.start index cut in
       let both : map Some r.members ++ map (line_entry limit) r.rest ≡ map Some cut.high =
-      ap (λ l. l ++ map (line_entry limit) r.rest) (sym r.entries) ∙ sym (map-append (line_entry limit) r.read r.rest) ∙ ap (map (line_entry limit)) (sym r.cut) ∙ run.0.entries in
+      ap (λ l. l ++ map (line_entry limit) r.rest) (sym r.entries) ∙ sym (map-append (line_entry limit) r.read r.rest)
+      ∙ ap (map (line_entry limit)) (sym r.cut) ∙ run.0.entries in
       let tail = front_of r.members (map (line_entry limit) r.rest) cut.high both in
-      let not_low = (each_cut (λ m. is_low start m ≡ false) r.members tail.0 (subst (AllByRecursion (λ m. is_low start m ≡ false)) tail.1 cut.none_below)).0 in
+      let not_low = (each_cut (λ m. is_low start m ≡ false) r.members tail.0
+      (subst (AllByRecursion (λ m. is_low start m ≡ false)) tail.1 cut.none_below)).0 in
       let all_pass : AllByRecursion (λ m. test m ≡ true) r.members =
-      each_weaker (λ (m : Member) (h : ((past m.values.key ≡ false) × IsUpto b (member_pair m)) × (is_low start m ≡ false)). passes m h.0.0 h.1 h.0.1) r.members
-      (each_both (λ m. (past m.values.key ≡ false) × IsUpto b (member_pair m)) (λ m. is_low start m ≡ false) r.members r.within not_low) in
+      each_weaker (λ (m : Member) (h : ((past m.values.key ≡ false) × IsUpto b (member_pair m))
+      × (is_low start m ≡ false)). passes m h.0.0 h.1 h.0.1) r.members
+      (each_both (λ m. (past m.values.key ≡ false) × IsUpto b (member_pair m)) (λ m. is_low start m ≡ false) r.members
+      r.within not_low) in
       let whole : filter test ms ≡ filter test cut.low ++ (r.members ++ filter test tail.0) =
-      ap (filter test) (cut.members_are ∙ ap (λ l. cut.low ++ l) tail.1) ∙ filter-append test cut.low (r.members ++ tail.0)
-      ∙ ap (λ l. filter test cut.low ++ l) (filter-append test r.members tail.0 ∙ ap (λ l. l ++ filter test tail.0) (filter_all test r.members all_pass)) in
+      ap (filter test) (cut.members_are ∙ ap (λ l. cut.low ++ l) tail.1)
+      ∙ filter-append test cut.low (r.members ++ tail.0)
+      ∙ ap (λ l. filter test cut.low ++ l) (filter-append test r.members tail.0
+      ∙ ap (λ l. l ++ filter test tail.0) (filter_all test r.members all_pass)) in
       let rows = rows_most limit r.read r.members r.entries in
-      omega (arith, ap (λ l. length (lines_text l)) whole, text_append (filter test cut.low) (r.members ++ filter test tail.0), text_append r.members (filter test tail.0))
+      omega (
+        arith,
+        ap (λ l. length (lines_text l)) whole,
+        text_append (filter test cut.low)
+            (r.members ++ filter test tail.0),
+        text_append r.members (filter test tail.0),
+      )
 
   module _ {S : Type 0} (text : S → Option (List ℕ)) (extent gave : S → ℕ) where
     -- sources that tell their bytes, beside their feeds
-    pub tell_both : (ss : List S) (fs : List Feed) (texts : List (List ℕ)) → length ss ≡ length fs → Known (map text ss) texts → AllZip (λ (t : List ℕ) (x : S × Feed). text x.0 ≡ Some t) texts (zip ss fs)
+    pub tell_both : (ss : List S) (fs : List Feed) (texts : List (List ℕ)) → length ss ≡ length fs
+        → Known (map text ss) texts → AllZip (λ (t : List ℕ) (x : S × Feed). text x.0 ≡ Some t) texts (zip ss fs)
     tell_both [] fs [] same known = tt
     tell_both [] fs (t ∷ ts) same known = absurd known
     tell_both (s ∷ ss) [] ts same known = absurd (omega arith)
@@ -91,9 +109,13 @@ module _ (limit : ℕ) (past : List ℕ → Bool) (start : Pair) (b : Option Pai
     tell_both (s ∷ ss) (f ∷ fs) (t ∷ ts) same known = (known.0, tell_both ss fs ts (omega arith) known.1)
 
     -- What sources gave from before they were opened, when they were read up to the bound
-    pub gave_most : (ss0 : List S) (xs1 xs : List (S × Feed)) (texts : List (List ℕ)) (indexes : List (List Member)) → Known (map text ss0) texts → AllZip (λ (t : List ℕ) (x : S × Feed). text x.0 ≡ Some t) texts xs1
-        → AllZip (IsIndex limit) texts indexes → AllZip (λ x y. CameWithin (text x) (extent x) (gave x) (gave y.0) y.1.cursor) ss0 xs1 → AllZip (Move text extent gave) xs1 xs
-        → AllByRecursion (λ x. IsCutAt limit start (text x.0) x.1.cursor) xs1 → AllByRecursion (λ x. (t : List ℕ) → text x.0 ≡ Some t → ReadTo limit past b t x.1.cursor) xs
+    pub gave_most : (ss0 : List S) (xs1 xs : List (S × Feed)) (texts : List (List ℕ)) (indexes : List (List Member))
+        → Known (map text ss0) texts → AllZip (λ (t : List ℕ) (x : S × Feed). text x.0 ≡ Some t) texts xs1
+        → AllZip (IsIndex limit) texts indexes
+        → AllZip (λ x y. CameWithin (text x) (extent x) (gave x) (gave y.0) y.1.cursor) ss0 xs1
+        → AllZip (Move text extent gave) xs1 xs
+        → AllByRecursion (λ x. IsCutAt limit start (text x.0) x.1.cursor) xs1
+        → AllByRecursion (λ x. (t : List ℕ) → text x.0 ≡ Some t → ReadTo limit past b t x.1.cursor) xs
         → AllGaveWithin extent gave test texts indexes ss0 (map (λ x. x.0) xs)
     gave_most [] [] [] [] [] known tells are came moved cut reads = tt
     gave_most [] [] [] [] (i ∷ is) known tells are came moved cut reads = absurd are
@@ -108,8 +130,12 @@ module _ (limit : ℕ) (past : List ℕ → Bool) (start : Pair) (b : Option Pai
         let m = moved.0 in
         let r = reads.0 t (m.text_kept ∙ tells.0) in
         let from = m.start_kept in
-        let here = source_bytes t i x.1.cursor are.0 (subst (λ n. IsCut start t i n) (sym from) (cut.0 t i tells.0 are.0)) r in
+        let here = source_bytes t i x.1.cursor are.0
+        (subst (λ n. IsCut start t i n) (sym from) (cut.0 t i tells.0 are.0)) r in
         let a = came.0 t known.0 in
         let spent = m.spent in
-        let most = r.most in
-        (omega (arith, here, a, spent, most, from), gave_most ss ys xs ts is known.1 tells.1 are.1 came.1 moved.1 cut.1 reads.1)
+        let most = r.most in (
+          omega (arith, here, a, spent, most, from),
+          gave_most ss ys xs ts is known.1 tells.1 are.1 came.1 moved.1 cut.1
+              reads.1,
+        )

@@ -1,7 +1,9 @@
 -- How many lines were read of indexes.
 use Rattle.std.proofs.lemmas.List.{take-map}
 use Rattle.std.specs.List.{AllZip}
-use Rattle.std.proofs.Common.{◌≡◌, ℕ, suc, ◌+◌, ◌-◌, ◌≤◌, List, [], ◌∷◌, length, drop, map, filter, zip, Bool, true, false, Option, Some, refl, sym, ap, subst, arith, length-append, length-take, Less, Equal, Greater}
+use Rattle.std.proofs.Common.{◌≡◌, ℕ, suc, ◌+◌, ◌-◌, ◌≤◌, List, [], ◌∷◌, length, drop, map, filter, zip, Bool, true}
+use Rattle.std.proofs.Common.{false, Option, Some, refl, sym, ap, subst, arith, length-append, length-take, Less, Equal}
+use Rattle.std.proofs.Common.{Greater}
 use Rattle.std.specs.List.{AllByRecursion, sum}
 use Rattle.std.proofs.lemmas.List.{length-map}
 use Rattle.merge_core.proofs.Filters.{each_take, each_both}
@@ -39,8 +41,10 @@ one_held Ended = omega arith
 -- Lines were read of sources that are indexes, from where the search for a pair ended; this test holds of all lines that lie
 -- within the range, aren't below the pair and don't stand above the bound
 module _ (limit : ℕ) (past : List ℕ → Bool) (start : Pair) (b : Option Pair) (test : Member → Bool)
-    (passes : (m : Member) → past m.values.key ≡ false → is_low start m ≡ false → IsUpto b (member_pair m) → test m ≡ true) where
-  source_most : (t : List ℕ) (extent : ℕ) (f : Feed) (ws ms : List Member) → Fed limit past (Some t) extent f ws → IsIndex limit t ms → IsCut start t ms f.cursor.start
+    (passes : (m : Member) → past m.values.key ≡ false → is_low start m ≡ false → IsUpto b (member_pair m) → test m
+    ≡ true) where
+  source_most : (t : List ℕ) (extent : ℕ) (f : Feed) (ws ms : List Member) → Fed limit past (Some t) extent f ws
+      → IsIndex limit t ms → IsCut start t ms f.cursor.start
       → AllByRecursion (λ m. IsUpto b (member_pair m)) (done limit t f) → f.cursor.count ≤ length (filter test ms) + 1
   source_most t extent f ws ms fed index cut upto =
       let told = fed.told t refl in
@@ -49,21 +53,33 @@ module _ (limit : ℕ) (past : List ℕ → Bool) (start : Pair) (b : Option Pai
       let high : map (member_of limit) from ≡ cut.high = members_are limit from cut.high run.0.entries in
       let not_low = each_take (λ m. is_low start m ≡ false) (f.cursor.count - held f.progress) (given limit t f.cursor)
       (subst (AllByRecursion (λ m. is_low start m ≡ false)) (take-map (member_of limit) f.cursor.count from)
-      (each_take (λ m. is_low start m ≡ false) f.cursor.count (map (member_of limit) from) (subst (AllByRecursion (λ m. is_low start m ≡ false)) (sym high) cut.none_below))) in
+      (each_take (λ m. is_low start m ≡ false) f.cursor.count (map (member_of limit) from)
+      (subst (AllByRecursion (λ m. is_low start m ≡ false)) (sym high) cut.none_below))) in
       let all_pass : AllByRecursion (λ m. test m ≡ true) (done limit t f) =
-      each_weaker (λ (m : Member) (h : ((past m.values.key ≡ false) × (is_low start m ≡ false)) × IsUpto b (member_pair m)). passes m h.0.0 h.0.1 h.1) (done limit t f)
-      (each_both (λ m. (past m.values.key ≡ false) × (is_low start m ≡ false)) (λ m. IsUpto b (member_pair m)) (done limit t f)
-      (each_both (λ (m : Member). past m.values.key ≡ false) (λ m. is_low start m ≡ false) (done limit t f) told.within not_low) upto) in
+      each_weaker (λ (m : Member) (h : ((past m.values.key ≡ false) × (is_low start m ≡ false))
+      × IsUpto b (member_pair m)). passes m h.0.0 h.0.1 h.1) (done limit t f)
+      (each_both (λ m. (past m.values.key ≡ false) × (is_low start m ≡ false)) (λ m. IsUpto b (member_pair m))
+      (done limit t f)
+      (each_both (λ (m : Member). past m.values.key ≡ false) (λ m. is_low start m ≡ false) (done limit t f) told.within
+      not_low) upto) in
       let fewer = done_fewer limit past (λ (u : Unit {0}). Some t) (λ u. extent) t extent f ws ms test fed index in
       let one = one_held f.progress in
       let many = told.as_many in
       let as_read = length-map (read_lines t f.cursor) (member_of limit) in
-      omega (arith, ap length (filter_all test (done limit t f) all_pass), length-take (f.cursor.count - held f.progress) (given limit t f.cursor))
+      omega (
+        arith,
+        ap length (filter_all test (done limit t f) all_pass),
+        length-take
+            (f.cursor.count - held f.progress) (given limit t f.cursor),
+      )
 
   module _ {S : Type 0} (text : S → Option (List ℕ)) (extent : S → ℕ) (ws : List WaitingLine) where
     -- No more lines were read than those that pass, and one of each source
-    pub lines_most : (n : ℕ) (ss : List S) (fs : List Feed) (texts : List (List ℕ)) (indexes : List (List Member)) → length ss ≡ length fs → Known (map text ss) texts → AllZip (IsIndex limit) texts indexes
-        → AllByRecursion (λ x. IsCutAt limit start (text x.0) x.1.cursor) (zip ss fs) → AreFed limit past text extent n ss fs ws → AllByRecursion (λ m. IsUpto b (member_pair m)) (all_done limit text ss fs)
+    pub lines_most : (n : ℕ) (ss : List S) (fs : List Feed) (texts : List (List ℕ)) (indexes : List (List Member))
+        → length ss ≡ length fs → Known (map text ss) texts → AllZip (IsIndex limit) texts indexes
+        → AllByRecursion (λ x. IsCutAt limit start (text x.0) x.1.cursor) (zip ss fs)
+        → AreFed limit past text extent n ss fs ws
+        → AllByRecursion (λ m. IsUpto b (member_pair m)) (all_done limit text ss fs)
         → sum (map (λ (f : Feed). f.cursor.count) fs) ≤ length (filter test (all_lines indexes)) + length indexes
     lines_most n [] [] texts indexes same known are cut fed upto = omega arith
     lines_most n [] (f ∷ fs) texts indexes same known are cut fed upto = absurd (omega arith)
@@ -71,11 +87,19 @@ module _ (limit : ℕ) (past : List ℕ → Bool) (start : Pair) (b : Option Pai
     lines_most n (s ∷ ss) (f ∷ fs) [] indexes same known are cut fed upto = absurd known
     lines_most n (s ∷ ss) (f ∷ fs) (t ∷ ts) [] same known are cut fed upto = absurd are
     lines_most n (s ∷ ss) (f ∷ fs) (t ∷ ts) (i ∷ is) same known are cut fed upto =
-        let parts = each_cut (λ m. IsUpto b (member_pair m)) (done limit (text_or (text s)) f) (all_done limit text ss fs) upto in
-        let here = source_most t (extent s) f (waits_of n ws) i (subst (λ o. Fed limit past o (extent s) f (waits_of n ws)) known.0 fed.0) are.0 (cut.0 t i known.0 are.0)
+        let parts = each_cut (λ m. IsUpto b (member_pair m)) (done limit (text_or (text s)) f)
+        (all_done limit text ss fs) upto in
+        let here = source_most t (extent s) f (waits_of n ws) i
+        (subst (λ o. Fed limit past o (extent s) f (waits_of n ws)) known.0 fed.0) are.0 (cut.0 t i known.0 are.0)
         (subst (λ o. AllByRecursion (λ m. IsUpto b (member_pair m)) (done limit (text_or o) f)) known.0 parts.0) in
         let rest = lines_most (n + 1) ss fs ts is (omega arith) known.1 are.1 cut.1 fed.1 parts.1 in
-        omega (arith, sum_by-cons (λ (k : ℕ). k) f.cursor.count (map (λ (f : Feed). f.cursor.count) fs), ap length (filter-append test i (all_lines is)), length-append (filter test i) (filter test (all_lines is)))
+        omega (
+          arith,
+          sum_by-cons (λ (k : ℕ). k) f.cursor.count (map (λ (f : Feed). f.cursor.count) fs),
+          ap length
+              (filter-append test i (all_lines is)),
+          length-append (filter test i) (filter test (all_lines is)),
+        )
 
 -- ---- lines that were taken
 
@@ -83,14 +107,16 @@ put_fewer : (m : Member) (ms : List Member) → length (put member_place place_c
 put_fewer m [] = omega arith
 put_fewer m (k ∷ ms) =
     let h = put_fewer m ms in
-    elim (place_cmp (member_place m) (member_place k)) as (λ r. length (choose r (m ∷ k ∷ ms) (m ∷ ms) (k ∷ put member_place place_cmp m ms)) ≤ suc (suc (length ms)))
+    elim (place_cmp (member_place m) (member_place k)) as (λ r. length
+    (choose r (m ∷ k ∷ ms) (m ∷ ms) (k ∷ put member_place place_cmp m ms)) ≤ suc (suc (length ms)))
     [ Less ↦ omega arith | Equal ↦ omega arith | Greater ↦ omega arith ]
 
 rising_fewer : (ms : List Member) → length (rising member_place place_cmp ms) ≤ length ms
 rising_fewer [] = omega arith
 rising_fewer (m ∷ ms) = let h = rising_fewer ms in let k = put_fewer m (rising member_place place_cmp ms) in omega arith
 
-done_count : {S : Type 0} (limit : ℕ) (text : S → Option (List ℕ)) (ss : List S) (fs : List Feed) → length (all_done limit text ss fs) ≤ sum (map (λ (f : Feed). f.cursor.count) fs)
+done_count : {S : Type 0} (limit : ℕ) (text : S → Option (List ℕ)) (ss : List S) (fs : List Feed)
+    → length (all_done limit text ss fs) ≤ sum (map (λ (f : Feed). f.cursor.count) fs)
 done_count limit text [] fs = omega arith
 done_count limit text (s ∷ ss) [] = omega arith
 done_count limit text (s ∷ ss) (f ∷ fs) =
@@ -104,7 +130,8 @@ done_count limit text (s ∷ ss) (f ∷ fs) =
     )
 
 -- of sources that tell their bytes, no more lines were taken than were read
-pub taken_fewer : {S : Type 0} (limit : ℕ) (text : S → Option (List ℕ)) (old ss : List S) (fs : List Feed) (b : Option Pair) (taken : List Member) → Handed limit text old ss fs b taken → AreTold text old
+pub taken_fewer : {S : Type 0} (limit : ℕ) (text : S → Option (List ℕ)) (old ss : List S) (fs : List Feed)
+    (b : Option Pair) (taken : List Member) → Handed limit text old ss fs b taken → AreTold text old
     → length taken ≤ sum (map (λ (f : Feed). f.cursor.count) fs)
 taken_fewer limit text old ss fs b taken handed told =
     let is = ap length (handed.told told).0 in

@@ -1,15 +1,18 @@
 -- Which device failed.
 use Rattle.std.proofs.lemmas.List.{map-set}
-use Rattle.std.proofs.Common.{◌≡◌, ℕ, zero, suc, ◌<◌, List, [], ◌∷◌, refl, sym, ap, ap₂, ◌∙◌, subst, arith, length, map, get_or, set, Result, Ok, Err, IfErr, IsErrAnd}
+use Rattle.std.proofs.Common.{◌≡◌, ℕ, zero, suc, ◌<◌, List, [], ◌∷◌, refl, sym, ap, ap₂, ◌∙◌, subst, arith, length, map}
+use Rattle.std.proofs.Common.{get_or, set, Result, Ok, Err, IfErr, IsErrAnd}
 use Rattle.devices.specs.Device.{next_count}
 use Rattle.merge_core.specs.declared.fault.FeedFault.{FeedFault}
 use Rattle.merge_core.specs.declared.fault.FeedFault.TheVariants as feed
 use Rattle.merge_core.specs.declared.fault.MergeFault.{MergeFault}
 use Rattle.merge_core.specs.declared.fault.MergeFault.TheVariants as fault
-use Rattle.merge_core.specs.Failures.{RaisedAt, RaisedByFeed, RaisedByRead, RaisedByWrite, RaisedBy, CountsFeed, CountsReads, CountsMerge}
+use Rattle.merge_core.specs.Failures.{RaisedAt, RaisedByFeed, RaisedByRead, RaisedByWrite, RaisedBy, CountsFeed}
+use Rattle.merge_core.specs.Failures.{CountsReads, CountsMerge}
 use Rattle.merge_core.proofs.Many.{map_set_same}
 
-map_get : {X : Type 0} (f : X → ℕ) (xs : List X) (i : ℕ) (a : X) → i < length xs → f (get_or xs i a) ≡ get_or (map f xs) i 0
+map_get : {X : Type 0} (f : X → ℕ) (xs : List X) (i : ℕ) (a : X) → i < length xs → f (get_or xs i a)
+    ≡ get_or (map f xs) i 0
 map_get f [] i a l = absurd (omega arith)
 map_get f (x ∷ xs) zero a l = refl
 map_get f (x ∷ xs) (suc i) a l = map_get f xs i a (omega arith)
@@ -28,7 +31,8 @@ raised f ss0 ss i a s h l k = (
 
 -- a feed's fault, as one of the sources with this number
 pub raised_by_feed : {S : Type 0} (f : S → ℕ) (ss0 ss : List S) (i : ℕ) (a s : S) (e : FeedFault) → map f ss ≡ map f ss0
-    → i < length ss → RaisedByFeed e (f (get_or ss i a)) (f s) → RaisedByRead (fault.Feed i e) (map f ss0) (map f (set ss i s))
+    → i < length ss → RaisedByFeed e (f (get_or ss i a)) (f s)
+    → RaisedByRead (fault.Feed i e) (map f ss0) (map f (set ss i s))
 raised_by_feed f ss0 ss i a s feed.Read h l k = raised f ss0 ss i a s h l k
 raised_by_feed f ss0 ss i a s feed.Memory h l k = map_set_same f ss i a s l k ∙ h
 raised_by_feed f ss0 ss i a s (feed.BadLine o) h l k = map_set_same f ss i a s l k ∙ h
@@ -49,21 +53,27 @@ raised_by_write fault.Write ss o o' h = (refl, h)
 raised_by_write (fault.Feed i e) ss o o' h = absurd h
 
 -- an error that a `?` returns, after calls that changed no count
-pub counts_feed : {A : Type 0} (r : Result A FeedFault) (e : FeedFault) (old was new : ℕ) → IsErrAnd r (λ x. x ≡ e) → was ≡ old
+pub counts_feed : {A : Type 0} (r : Result A FeedFault) (e : FeedFault) (old was new : ℕ) → IsErrAnd r (λ x. x ≡ e)
+    → was ≡ old
     → RaisedByFeed e was new → CountsFeed r old new
 counts_feed (Ok x) e old was new h k q = absurd h
-counts_feed (Err x) e old was new h k q = subst (λ x. RaisedByFeed x old new) (sym h) (subst (λ n. RaisedByFeed e n new) k q)
+counts_feed (Err x) e old was new h k q = subst (λ x. RaisedByFeed x old new) (sym h)
+    (subst (λ n. RaisedByFeed e n new) k q)
 
-pub counts_reads : {A : Type 0} (r : Result A MergeFault) (e : MergeFault) (old was new : List ℕ) → IsErrAnd r (λ x. x ≡ e) → was ≡ old
+pub counts_reads : {A : Type 0} (r : Result A MergeFault) (e : MergeFault) (old was new : List ℕ)
+    → IsErrAnd r (λ x. x ≡ e) → was ≡ old
     → RaisedByRead e was new → CountsReads r old new
 counts_reads (Ok x) e old was new h k q = absurd h
-counts_reads (Err x) e old was new h k q = subst (λ x. RaisedByRead x old new) (sym h) (subst (λ n. RaisedByRead e n new) k q)
+counts_reads (Err x) e old was new h k q = subst (λ x. RaisedByRead x old new) (sym h)
+    (subst (λ n. RaisedByRead e n new) k q)
 
-pub counts_merge : {A : Type 0} (r : Result A MergeFault) (e : MergeFault) (ss was ss' : List ℕ) (o put o' : ℕ) → IsErrAnd r (λ x. x ≡ e)
+pub counts_merge : {A : Type 0} (r : Result A MergeFault) (e : MergeFault) (ss was ss' : List ℕ) (o put o' : ℕ)
+    → IsErrAnd r (λ x. x ≡ e)
     → was ≡ ss → put ≡ o → RaisedBy e was ss' put o' → CountsMerge r ss ss' o o'
 counts_merge (Ok x) e ss was ss' o put o' h k l q = absurd h
 counts_merge (Err x) e ss was ss' o put o' h k l q =
-    subst (λ x. RaisedBy x ss ss' o o') (sym h) (subst (λ n. RaisedBy e ss ss' n o') l (subst (λ ns. RaisedBy e ns ss' put o') k q))
+    subst (λ x. RaisedBy x ss ss' o o') (sym h)
+    (subst (λ n. RaisedBy e ss ss' n o') l (subst (λ ns. RaisedBy e ns ss' put o') k q))
 
 pub if_err : {A E : Type 0} (r : Result A E) (e : E) (Q : E → Type 0) → r ≡ Err e → Q e → IfErr r Q
 if_err (Ok x) e Q h q = cc

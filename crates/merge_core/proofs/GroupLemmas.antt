@@ -1,5 +1,7 @@
 -- The lines of one pair, taken of one source after another.
-use Rattle.std.proofs.Common.{◌≡◌, ◌≢◌, ℕ, ◌+◌, ◌-◌, ◌<◌, ◌≤◌, List, [], ◌∷◌, ◌++◌, length, get_or, set, take, drop, flat_map, filter, Bool, true, false, not, is_lt, Equal, inl, inr, refl, sym, ap, ap₂, ◌∙◌, subst, arith, append-nil, append_assoc, drop-drop, drop-set-lt, take-append-drop}
+use Rattle.std.proofs.Common.{◌≡◌, ◌≢◌, ℕ, ◌+◌, ◌-◌, ◌<◌, ◌≤◌, List, [], ◌∷◌, ◌++◌, length, get_or, set, take, drop}
+use Rattle.std.proofs.Common.{flat_map, filter, Bool, true, false, not, is_lt, Equal, inl, inr, refl, sym, ap, ap₂, ◌∙◌}
+use Rattle.std.proofs.Common.{subst, arith, append-nil, append_assoc, drop-drop, drop-set-lt, take-append-drop}
 use Rattle.std.specs.List.{AllByRecursion}
 use Rattle.std.proofs.Math.Seq.{take-add}
 use Rattle.std.proofs.lemmas.Bool.{cond-false, cond-true}
@@ -33,89 +35,123 @@ pub filter_all : {X : Type 0} (f : X → Bool) (xs : List X) → AllByRecursion 
 filter_all f [] h = refl
 filter_all f (x ∷ xs) h = cond-true (f x) _ _ h.0 ∙ ap (λ l. x ∷ l) (filter_all f xs h.1)
 
-pub each_cut : {Y : Type 0} (A : Y → Type 0) (us vs : List Y) → AllByRecursion A (us ++ vs) → AllByRecursion A us × AllByRecursion A vs
+pub each_cut : {Y : Type 0} (A : Y → Type 0) (us vs : List Y) → AllByRecursion A (us ++ vs) → AllByRecursion A us
+    × AllByRecursion A vs
 each_cut A [] vs h = (tt, h)
 each_cut A (u ∷ us) vs h = let s = each_cut A us vs h.1 in ((h.0, s.0), s.1)
 
 module _ (pair : Pair) where
   -- lines below the pair are done
-  gathered_low : (old now g0 g more : List Member) → Gathered pair old now g0 g → AreBelow pair more → Gathered pair (old ++ more) (now ++ more) g0 g
+  gathered_low : (old now g0 g more : List Member) → Gathered pair old now g0 g → AreBelow pair more
+      → Gathered pair (old ++ more) (now ++ more) g0 g
   gathered_low old now g0 g more h low =
       let is = each_weaker (λ (x : Member) (l : Below (member_pair x) pair). ap is_lt l) more low in record {
         before = filter-append (is_low pair) now more ∙ ap₂ (λ u v. u ++ v) h.before (filter_all (is_low pair) more is);
         taken = h.taken ∙ ap (λ u. g0 ++ u) (sym (filter-append (λ m. not (is_low pair m)) now more
-            ∙ ap (λ u. filter (λ m. not (is_low pair m)) now ++ u) (filter_none _ more (each_weaker (λ (x : Member) (e : is_low pair x ≡ true). ap not e) more is)) ∙ append-nil _));
-        upto = each_join (λ m. Upto (member_pair m) pair) now more h.upto (each_weaker (λ (x : Member) (l : Below (member_pair x) pair). below_upto (member_pair x) pair l) more low);
+            ∙ ap (λ u. filter (λ m. not (is_low pair m)) now ++ u)
+            (filter_none _ more (each_weaker (λ (x : Member) (e : is_low pair x ≡ true). ap not e) more is))
+            ∙ append-nil _));
+        upto = each_join (λ m. Upto (member_pair m) pair) now more h.upto
+            (each_weaker (λ (x : Member) (l : Below (member_pair x) pair). below_upto (member_pair x) pair l) more low);
       }
 
   -- lines at the pair are taken
-  gathered_at : (old now g0 g us : List Member) → Gathered pair old now g0 g → AreAt pair us → Gathered pair old (now ++ us) g0 (g ++ us)
+  gathered_at : (old now g0 g us : List Member) → Gathered pair old now g0 g → AreAt pair us
+      → Gathered pair old (now ++ us) g0 (g ++ us)
   gathered_at old now g0 g us h at =
       let high = each_weaker (λ (x : Member) (e : Alike (member_pair x) pair). ap is_lt e) us at in record {
-        before = filter-append (is_low pair) now us ∙ ap₂ (λ u v. u ++ v) h.before (filter_none (is_low pair) us high) ∙ append-nil old;
+        before = filter-append (is_low pair) now us ∙ ap₂ (λ u v. u ++ v) h.before (filter_none (is_low pair) us high)
+            ∙ append-nil old;
         taken = ap (λ u. u ++ us) h.taken ∙ append_assoc g0 (filter (λ m. not (is_low pair m)) now) us
             ∙ ap (λ u. g0 ++ u) (sym (filter-append (λ m. not (is_low pair m)) now us
-            ∙ ap (λ u. filter (λ m. not (is_low pair m)) now ++ u) (filter_all _ us (each_weaker (λ (x : Member) (e : is_low pair x ≡ false). ap not e) us high))));
-        upto = each_join (λ m. Upto (member_pair m) pair) now us h.upto (each_weaker (λ (x : Member) (e : Alike (member_pair x) pair). same_upto (member_pair x) pair e) us at);
+            ∙ ap (λ u. filter (λ m. not (is_low pair m)) now ++ u)
+            (filter_all _ us (each_weaker (λ (x : Member) (e : is_low pair x ≡ false). ap not e) us high))));
+        upto = each_join (λ m. Upto (member_pair m) pair) now us h.upto
+            (each_weaker (λ (x : Member) (e : Alike (member_pair x) pair). same_upto (member_pair x) pair e) us at);
       }
 
   module _ {X : Type 0} (d : X → List Member) (xs0 xs : List X) (g0 : List Member) where
     -- the sources from n on, up to j, were left alone
     skipped : (n j : ℕ) (g : List Member) → n ≤ j → drop n xs ≡ drop n xs0 → AreBelow pair (flat_map d xs0)
-        → Gathered pair (flat_map d (take n xs0)) (flat_map d (take n xs)) g0 g → Gathered pair (flat_map d (take j xs0)) (flat_map d (take j xs)) g0 g
+        → Gathered pair (flat_map d (take n xs0)) (flat_map d (take n xs)) g0 g
+        → Gathered pair (flat_map d (take j xs0)) (flat_map d (take j xs)) g0 g
     skipped n j g l rest low h =
         let k = j - n in
         let is : j ≡ n + k = omega arith in
         let more = flat_map d (take k (drop n xs0)) in
         let cut : (us : List X) → flat_map d (take j us) ≡ flat_map d (take n us) ++ flat_map d (take k (drop n us)) =
-        λ us. ap (λ m. flat_map d (take m us)) is ∙ ap (flat_map d) (take-add n k us) ∙ flat_map-append d (take n us) (take k (drop n us)) in
+        λ us. ap (λ m. flat_map d (take m us)) is ∙ ap (flat_map d) (take-add n k us)
+        ∙ flat_map-append d (take n us) (take k (drop n us)) in
         let below : AreBelow pair more = (each_cut (λ m. Below (member_pair m) pair) (flat_map d (take n xs0)) more
-        (subst (AreBelow pair) (cut xs0) (each_cut (λ m. Below (member_pair m) pair) (flat_map d (take j xs0)) (flat_map d (drop j xs0))
-        (subst (AreBelow pair) (ap (flat_map d) (sym (take-append-drop j xs0)) ∙ flat_map-append d (take j xs0) (drop j xs0)) low)).0)).1 in
-        let now : flat_map d (take j xs) ≡ flat_map d (take n xs) ++ more = cut xs ∙ ap (λ us. flat_map d (take n xs) ++ flat_map d (take k us)) rest in
+        (subst (AreBelow pair) (cut xs0)
+        (each_cut (λ m. Below (member_pair m) pair) (flat_map d (take j xs0)) (flat_map d (drop j xs0))
+        (subst (AreBelow pair) (ap (flat_map d) (sym (take-append-drop j xs0))
+        ∙ flat_map-append d (take j xs0) (drop j xs0)) low)).0)).1 in
+        let now : flat_map d (take j xs) ≡ flat_map d (take n xs) ++ more = cut xs
+        ∙ ap (λ us. flat_map d (take n xs) ++ flat_map d (take k us)) rest in
         subst (λ u. Gathered pair u (flat_map d (take j xs)) g0 g) (sym (cut xs0))
-        (subst (λ u. Gathered pair (flat_map d (take n xs0) ++ more) u g0 g) (sym now) (gathered_low (flat_map d (take n xs0)) (flat_map d (take n xs)) g0 g more h below))
+        (subst (λ u. Gathered pair (flat_map d (take n xs0) ++ more) u g0 g) (sym now)
+        (gathered_low (flat_map d (take n xs0)) (flat_map d (take n xs)) g0 g more h below))
 
-    pub all_sources : (n : ℕ) (g : List Member) → length xs ≡ length xs0 → n ≤ length xs → drop n xs ≡ drop n xs0 → AreBelow pair (flat_map d xs0)
-        → Gathered pair (flat_map d (take n xs0)) (flat_map d (take n xs)) g0 g → Gathered pair (flat_map d xs0) (flat_map d xs) g0 g
+    pub all_sources : (n : ℕ) (g : List Member) → length xs ≡ length xs0 → n ≤ length xs → drop n xs ≡ drop n xs0
+        → AreBelow pair (flat_map d xs0)
+        → Gathered pair (flat_map d (take n xs0)) (flat_map d (take n xs)) g0 g
+        → Gathered pair (flat_map d xs0) (flat_map d xs) g0 g
     all_sources n g e l rest low h =
         subst (λ u. Gathered pair (flat_map d u) (flat_map d xs) g0 g) (take_all (length xs) xs0 (omega arith))
-        (subst (λ u. Gathered pair (flat_map d (take (length xs) xs0)) (flat_map d u) g0 g) (take_all (length xs) xs (omega arith)) (skipped n (length xs) g l rest low h))
+        (subst (λ u. Gathered pair (flat_map d (take (length xs) xs0)) (flat_map d u) g0 g)
+        (take_all (length xs) xs (omega arith)) (skipped n (length xs) g l rest low h))
 
     -- one source's lines change, the last of those that were gone over
-    pub last_changes : (j : ℕ) (x y : X) (us g : List Member) (old : List Member) → j < length xs → d y ≡ d (get_or xs j x) ++ us → AreAt pair us
-        → Gathered pair old (flat_map d (take (j + 1) xs)) g0 g → Gathered pair old (flat_map d (take (j + 1) (set xs j y))) g0 (g ++ us)
+    pub last_changes : (j : ℕ) (x y : X) (us g : List Member) (old : List Member) → j < length xs → d y
+        ≡ d (get_or xs j x) ++ us → AreAt pair us
+        → Gathered pair old (flat_map d (take (j + 1) xs)) g0 g
+        → Gathered pair old (flat_map d (take (j + 1) (set xs j y))) g0 (g ++ us)
     last_changes j x y us g old l e at h =
-        let was : flat_map d (take (j + 1) xs) ≡ flat_map d (take j xs) ++ d (get_or xs j x) = ap (flat_map d) (take_more xs j x l) ∙ flat_map-append d (take j xs) (get_or xs j x ∷ [])
+        let was : flat_map d (take (j + 1) xs) ≡ flat_map d (take j xs)
+        ++ d (get_or xs j x) = ap (flat_map d) (take_more xs j x l)
+        ∙ flat_map-append d (take j xs) (get_or xs j x ∷ [])
         ∙ ap (λ u. flat_map d (take j xs) ++ u) (append-nil (d (get_or xs j x))) in
-        let now : flat_map d (take (j + 1) (set xs j y)) ≡ flat_map d (take (j + 1) xs) ++ us = ap (flat_map d) (take_more_set xs j y l) ∙ flat_map-append d (take j xs) (y ∷ [])
-        ∙ ap (λ u. flat_map d (take j xs) ++ u) (append-nil (d y) ∙ e) ∙ sym (append_assoc (flat_map d (take j xs)) (d (get_or xs j x)) us) ∙ ap (λ u. u ++ us) (sym was) in
-        subst (λ u. Gathered pair old u g0 (g ++ us)) (sym now) (gathered_at old (flat_map d (take (j + 1) xs)) g0 g us h at)
+        let now : flat_map d (take (j + 1) (set xs j y)) ≡ flat_map d (take (j + 1) xs)
+        ++ us = ap (flat_map d) (take_more_set xs j y l) ∙ flat_map-append d (take j xs) (y ∷ [])
+        ∙ ap (λ u. flat_map d (take j xs) ++ u) (append-nil (d y) ∙ e)
+        ∙ sym (append_assoc (flat_map d (take j xs)) (d (get_or xs j x)) us) ∙ ap (λ u. u ++ us) (sym was) in
+        subst (λ u. Gathered pair old u g0 (g ++ us)) (sym now)
+        (gathered_at old (flat_map d (take (j + 1) xs)) g0 g us h at)
 
     -- the next source of which a line is taken
-    pub next_changes : (n j : ℕ) (x y : X) (us g : List Member) → n ≤ j → j < length xs → drop n xs ≡ drop n xs0 → AreBelow pair (flat_map d xs0) → d y ≡ d (get_or xs j x) ++ us → AreAt pair us
-        → Gathered pair (flat_map d (take n xs0)) (flat_map d (take n xs)) g0 g → Gathered pair (flat_map d (take (j + 1) xs0)) (flat_map d (take (j + 1) (set xs j y))) g0 (g ++ us)
+    pub next_changes : (n j : ℕ) (x y : X) (us g : List Member) → n ≤ j → j < length xs → drop n xs ≡ drop n xs0
+        → AreBelow pair (flat_map d xs0) → d y ≡ d (get_or xs j x) ++ us → AreAt pair us
+        → Gathered pair (flat_map d (take n xs0)) (flat_map d (take n xs)) g0 g
+        → Gathered pair (flat_map d (take (j + 1) xs0)) (flat_map d (take (j + 1) (set xs j y))) g0 (g ++ us)
     next_changes n j x y us g l inside rest low e at h =
-        last_changes j x y us g (flat_map d (take (j + 1) xs0)) inside e at (skipped n (j + 1) g (omega arith) rest low h)
+        last_changes j x y us g (flat_map d (take (j + 1) xs0)) inside e
+        at (skipped n (j + 1) g (omega arith) rest low h)
 
     pub rest_changes : (n j : ℕ) (y : X) → n ≤ j → drop n xs ≡ drop n xs0 → drop (j + 1) (set xs j y) ≡ drop (j + 1) xs0
     rest_changes n j y l rest =
         let k = (j + 1) - n in
         let is : n + k ≡ j + 1 = omega arith in
-        drop-set-lt (j + 1) xs j y (omega arith) ∙ ap (λ m. drop m xs) (sym is) ∙ sym (drop-drop k n xs) ∙ ap (drop k) rest ∙ drop-drop k n xs0 ∙ ap (λ m. drop m xs0) is
+        drop-set-lt (j + 1) xs j y (omega arith) ∙ ap (λ m. drop m xs) (sym is) ∙ sym (drop-drop k n xs)
+        ∙ ap (drop k) rest ∙ drop-drop k n xs0 ∙ ap (λ m. drop m xs0) is
 
 -- ---- whose turn comes later
 
 -- none of the others has the pair, save those of later sources
-pub from_popped : (pair : Pair) (w : WaitingLine) (ws : List WaitingLine) → Alike (waiting_pair w) pair → AllByRecursion (λ v. is_lt (turn_cmp v w) ≡ false) ws → waits_of w.source ws ≡ [] → AllByRecursion (IsFrom pair (w.source + 1)) ws
+pub from_popped : (pair : Pair) (w : WaitingLine) (ws : List WaitingLine) → Alike (waiting_pair w) pair
+    → AllByRecursion (λ v. is_lt (turn_cmp v w) ≡ false) ws → waits_of w.source ws ≡ []
+    → AllByRecursion (IsFrom pair (w.source + 1)) ws
 from_popped pair w ws e first none = both ws first (none_waits w.source ws none)
   where
-    both : (vs : List WaitingLine) → AllByRecursion (λ v. is_lt (turn_cmp v w) ≡ false) vs → AllByRecursion (λ (v : WaitingLine). v.source ≢ w.source) vs → AllByRecursion (IsFrom pair (w.source + 1)) vs
+    both : (vs : List WaitingLine) → AllByRecursion (λ v. is_lt (turn_cmp v w) ≡ false) vs
+        → AllByRecursion (λ (v : WaitingLine). v.source ≢ w.source) vs → AllByRecursion (IsFrom pair (w.source + 1)) vs
     both [] h k = tt
     both (v ∷ vs) h k = (
       (
         upto_upto pair (waiting_pair w) (waiting_pair v) (same_from (waiting_pair w) pair e) (not_before v w h.0),
-        λ a. (let at : pair_cmp (waiting_pair v) (waiting_pair w) ≡ Equal = alike_both (waiting_pair v) pair (waiting_pair w) a (tied_back pair_cmp_total (waiting_pair w) pair e) in
+        λ a. (let at : pair_cmp (waiting_pair v) (waiting_pair w)
+            ≡ Equal = alike_both (waiting_pair v) pair (waiting_pair w) a
+            (tied_back pair_cmp_total (waiting_pair w) pair e) in
             let l = source_after v w h.0 at in let n = k.0 in omega arith),
       ),
       both vs h.1 k.1,
@@ -124,8 +160,15 @@ from_popped pair w ws e first none = both ws first (none_waits w.source ws none)
         alike_both : (p q r : Pair) → Alike p q → Alike q r → Alike p r
         alike_both p q r a b = pair_cmp_total.congr p q r a ∙ b
 
-pub from_waited : (pair : Pair) (n i : ℕ) (old new : List WaitingLine) → WaitsAbove pair i old new → AllByRecursion (IsFrom pair n) old → AllByRecursion (IsFrom pair n) new
+pub from_waited : (pair : Pair) (n i : ℕ) (old new : List WaitingLine) → WaitsAbove pair i old new
+    → AllByRecursion (IsFrom pair n) old → AllByRecursion (IsFrom pair n) new
 from_waited pair n i old new (inl e) h = subst (AllByRecursion (IsFrom pair n)) (sym e) h
 from_waited pair n i old new (inr (w, p, e, b)) h =
-    each_permuted (IsFrom pair n) (w ∷ old) new p
-    ((below_upto pair (waiting_pair w) b, λ a. absurd (not_below_itself pair (waiting_pair w) b (same_upto (waiting_pair w) pair a))), h)
+    each_permuted (IsFrom pair n) (w ∷ old) new p (
+      (
+        below_upto pair (waiting_pair w) b,
+        λ a. absurd
+            (not_below_itself pair (waiting_pair w) b (same_upto (waiting_pair w) pair a)),
+      ),
+      h,
+    )

@@ -1,5 +1,6 @@
 -- Which lines of each source wait, as lines come and go.
-use Rattle.std.proofs.Common.{◌≡◌, ◌≢◌, ℕ, zero, suc, ◌==◌, ◌<◌, ◌≤◌, List, [], ◌∷◌, length, get_or, map, filter, true, false, cond, refl, sym, ap, ◌∙◌, subst, arith, sum_by, inl, inr}
+use Rattle.std.proofs.Common.{◌≡◌, ◌≢◌, ℕ, zero, suc, ◌==◌, ◌<◌, ◌≤◌, List, [], ◌∷◌, length, get_or, map, filter, true}
+use Rattle.std.proofs.Common.{false, cond, refl, sym, ap, ◌∙◌, subst, arith, sum_by, inl, inr}
 use Rattle.std.specs.List.{AllByRecursion, All}
 use Rattle.std.specs.List.Sorted.{IsPermutation}
 use Rattle.std.proofs.lemmas.Bool.{cond-true, cond-false, cases_Bool}
@@ -10,7 +11,8 @@ use Rattle.cdxj_places.proofs.RisingLaws.{each_weaker}
 use Rattle.cdxj_core.specs.Members.{Member}
 use Rattle.merge_core.specs.WaitingLines.{WaitingLine, is_of, waits_of}
 
-pub each_get : {X : Type 0} (P : X → Type 0) (xs : List X) (i : ℕ) (d : X) → AllByRecursion P xs → i < length xs → P (get_or xs i d)
+pub each_get : {X : Type 0} (P : X → Type 0) (xs : List X) (i : ℕ) (d : X) → AllByRecursion P xs → i < length xs
+    → P (get_or xs i d)
 each_get P [] i d h l = absurd (omega arith)
 each_get P (x ∷ xs) zero d h l = h.0
 each_get P (x ∷ xs) (suc i) d h l = each_get P xs i d h.1 (omega arith)
@@ -19,16 +21,20 @@ pub each_of : {X : Type 0} (P : X → Type 0) (xs : List X) → All P xs → All
 each_of P [] h = tt
 each_of P (x ∷ xs) h = (h 0 x (omega arith), each_of P xs (λ k d l. h (suc k) d (omega arith)))
 
-pub each_permuted : {X : Type 0} (P : X → Type 0) (xs ys : List X) → IsPermutation xs ys → AllByRecursion P xs → AllByRecursion P ys
+pub each_permuted : {X : Type 0} (P : X → Type 0) (xs ys : List X) → IsPermutation xs ys → AllByRecursion P xs
+    → AllByRecursion P ys
 each_permuted P xs ys p h = each_of P ys (All-permutation P xs ys p (λ k d l. each_get P xs k d h l))
 
 -- ---- one line at most of each source
 
-pub waits_here : (i : ℕ) (w : WaitingLine) (ws : List WaitingLine) → w.source ≡ i → waits_of i (w ∷ ws) ≡ w.member ∷ waits_of i ws
-waits_here i w ws e = ap (map (λ (w : WaitingLine). w.member)) (cond-true (is_of i w) _ _ (let h : (w.source == i) ≡ true = grind (arith, nat_tests, e) in h))
+pub waits_here : (i : ℕ) (w : WaitingLine) (ws : List WaitingLine) → w.source ≡ i → waits_of i (w ∷ ws)
+    ≡ w.member ∷ waits_of i ws
+waits_here i w ws e = ap (map (λ (w : WaitingLine). w.member))
+    (cond-true (is_of i w) _ _ (let h : (w.source == i) ≡ true = grind (arith, nat_tests, e) in h))
 
 pub waits_other : (i : ℕ) (w : WaitingLine) (ws : List WaitingLine) → w.source ≢ i → waits_of i (w ∷ ws) ≡ waits_of i ws
-waits_other i w ws n = ap (map (λ (w : WaitingLine). w.member)) (cond-false (is_of i w) _ _ (let h : (w.source == i) ≡ false = grind (arith, nat_tests, n) in h))
+waits_other i w ws n = ap (map (λ (w : WaitingLine). w.member))
+    (cond-false (is_of i w) _ _ (let h : (w.source == i) ≡ false = grind (arith, nat_tests, n) in h))
 
 -- how many are of the source
 abbrev many_of : ℕ → List WaitingLine → ℕ
@@ -39,29 +45,40 @@ length_waits i [] = refl
 length_waits i (w ∷ ws) = elim (cases_Bool (is_of i w)) [
   | inl e ↦ (let h = length_waits i ws in let m = sum_by-cons (λ (w : WaitingLine). cond (is_of i w) 1 0) w ws in
       let one : ◌≡◌ {A = ℕ} (cond (is_of i w) 1 0) 1 = cond-true (is_of i w) 1 0 e in
-      let l : length (waits_of i (w ∷ ws)) ≡ length (w.member ∷ waits_of i ws) = ap (λ (vs : List WaitingLine). length (map (λ (w : WaitingLine). w.member) vs)) (cond-true (is_of i w) (w ∷ filter (is_of i) ws) (filter (is_of i) ws) e) in
+      let l : length (waits_of i (w ∷ ws))
+      ≡ length (w.member ∷ waits_of i ws) = ap
+      (λ (vs : List WaitingLine). length (map (λ (w : WaitingLine). w.member) vs))
+      (cond-true (is_of i w) (w ∷ filter (is_of i) ws) (filter (is_of i) ws) e) in
       omega (arith, l, m, one, h))
   | inr e ↦ (let h = length_waits i ws in let m = sum_by-cons (λ (w : WaitingLine). cond (is_of i w) 1 0) w ws in
       let none : ◌≡◌ {A = ℕ} (cond (is_of i w) 1 0) 0 = cond-false (is_of i w) 1 0 e in
-      let l : length (waits_of i (w ∷ ws)) ≡ length (waits_of i ws) = ap (λ (vs : List WaitingLine). length (map (λ (w : WaitingLine). w.member) vs)) (cond-false (is_of i w) (w ∷ filter (is_of i) ws) (filter (is_of i) ws) e) in
+      let l : length (waits_of i (w ∷ ws))
+      ≡ length (waits_of i ws) = ap (λ (vs : List WaitingLine). length (map (λ (w : WaitingLine). w.member) vs))
+      (cond-false (is_of i w) (w ∷ filter (is_of i) ws) (filter (is_of i) ws) e) in
       omega (arith, l, m, none, h))
 ]
 
 module _ (P : Member → Type 0) (i : ℕ) where
-  pub each_waits : (ws : List WaitingLine) → AllByRecursion (λ w. is_of i w ≡ true → P w.member) ws → AllByRecursion P (waits_of i ws)
+  pub each_waits : (ws : List WaitingLine) → AllByRecursion (λ w. is_of i w ≡ true → P w.member) ws
+      → AllByRecursion P (waits_of i ws)
   each_waits [] h = tt
   each_waits (w ∷ ws) h =
-      (elim (is_of i w) as (λ b. (b ≡ true → P w.member) → AllByRecursion P (map (λ (w : WaitingLine). w.member) (cond b (w ∷ filter (is_of i) ws) (filter (is_of i) ws))))
+      (elim (is_of i w) as (λ b. (b ≡ true → P w.member)
+      → AllByRecursion P (map (λ (w : WaitingLine). w.member)
+      (cond b (w ∷ filter (is_of i) ws) (filter (is_of i) ws))))
       [ true ↦ (λ k. (k refl, each_waits ws h.1)) | false ↦ (λ k. each_waits ws h.1) ]) h.0
 
-  pub waits_each : (ws : List WaitingLine) → AllByRecursion P (waits_of i ws) → AllByRecursion (λ w. is_of i w ≡ true → P w.member) ws
+  pub waits_each : (ws : List WaitingLine) → AllByRecursion P (waits_of i ws)
+      → AllByRecursion (λ w. is_of i w ≡ true → P w.member) ws
   waits_each [] h = tt
   waits_each (w ∷ ws) h =
-      (elim (is_of i w) as (λ b. AllByRecursion P (map (λ (w : WaitingLine). w.member) (cond b (w ∷ filter (is_of i) ws) (filter (is_of i) ws)))
+      (elim (is_of i w) as (λ b. AllByRecursion P
+      (map (λ (w : WaitingLine). w.member) (cond b (w ∷ filter (is_of i) ws) (filter (is_of i) ws)))
       → (b ≡ true → P w.member) × AllByRecursion (λ w. is_of i w ≡ true → P w.member) ws)
       [ true ↦ (λ k. (λ e. k.0, waits_each ws k.1)) | false ↦ (λ k. (λ e. absurd (cc), waits_each ws k)) ]) h
 
-all_same : (us vs : List Member) → length us ≤ 1 → length vs ≡ length us → ((m : Member) → us ≡ m ∷ [] → AllByRecursion (λ k. k ≡ m) vs) → vs ≡ us
+all_same : (us vs : List Member) → length us ≤ 1 → length vs ≡ length us
+    → ((m : Member) → us ≡ m ∷ [] → AllByRecursion (λ k. k ≡ m) vs) → vs ≡ us
 all_same [] [] l e h = refl
 all_same [] (v ∷ vs) l e h = absurd (omega arith)
 all_same (u ∷ []) [] l e h = absurd (omega arith)
@@ -70,14 +87,19 @@ all_same (u ∷ []) (v ∷ w ∷ vs) l e h = absurd (omega arith)
 all_same (u ∷ x ∷ us) vs l e h = absurd (omega arith)
 
 -- where one of a source waits at most, their order doesn't matter
-pub waits_permuted : (i : ℕ) (xs ys : List WaitingLine) → IsPermutation xs ys → length (waits_of i xs) ≤ 1 → waits_of i ys ≡ waits_of i xs
+pub waits_permuted : (i : ℕ) (xs ys : List WaitingLine) → IsPermutation xs ys → length (waits_of i xs) ≤ 1
+    → waits_of i ys ≡ waits_of i xs
 waits_permuted i xs ys p few =
     let many = sum_by-IsPermutation (λ (w : WaitingLine). cond (is_of i w) 1 0) xs ys p in
     all_same (waits_of i xs) (waits_of i ys) few (length_waits i ys ∙ many ∙ sym (length_waits i xs))
-    (λ m e. each_waits (λ k. k ≡ m) i ys (each_permuted (λ w. is_of i w ≡ true → w.member ≡ m) xs ys p (waits_each (λ k. k ≡ m) i xs (subst (AllByRecursion (λ k. k ≡ m)) (sym e) (refl, tt)))))
+    (λ m e. each_waits (λ k. k ≡ m) i ys
+    (each_permuted (λ w. is_of i w ≡ true → w.member ≡ m) xs ys p
+    (waits_each (λ k. k ≡ m) i xs (subst (AllByRecursion (λ k. k ≡ m)) (sym e) (refl, tt)))))
 
 -- where none of a source waits, none is of it
-pub none_waits : (i : ℕ) (ws : List WaitingLine) → waits_of i ws ≡ [] → AllByRecursion (λ (w : WaitingLine). w.source ≢ i) ws
+pub none_waits : (i : ℕ) (ws : List WaitingLine) → waits_of i ws ≡ []
+    → AllByRecursion (λ (w : WaitingLine). w.source ≢ i) ws
 none_waits i ws e =
-    each_weaker (λ (w : WaitingLine) (h : is_of i w ≡ true → ⊥). λ (q : w.source ≡ i). h (let t : (w.source == i) ≡ true = grind (arith, nat_tests, q) in t)) ws
+    each_weaker (λ (w : WaitingLine) (h : is_of i w ≡ true → ⊥). λ (q : w.source ≡ i). h (let t : (w.source == i)
+    ≡ true = grind (arith, nat_tests, q) in t)) ws
     (waits_each (λ k. ⊥) i ws (subst (AllByRecursion (λ (k : Member). ⊥)) (sym e) tt))

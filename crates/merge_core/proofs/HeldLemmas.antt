@@ -1,7 +1,10 @@
 -- How many lines are held at once.
 use Rattle.std.proofs.lemmas.List.{take-map}
 use Rattle.std.specs.List.{AllZip}
-use Rattle.std.proofs.Common.{◌≡◌, ◌≢◌, ◌^◌, max, min, ℕ, zero, suc, ◌+◌, ◌-◌, ◌==◌, ◌<◌, ◌≤◌, List, [], ◌∷◌, ◌++◌, length, take, drop, map, filter, Bool, true, false, not, Option, Some, inl, inr, refl, sym, ap, ◌∙◌, subst, arith, length-append, Ordering, Less, Equal, Greater, is_gt, is_lt, is_eq}
+use Rattle.std.proofs.Common.{◌≡◌, ◌≢◌, ◌^◌, max, min, ℕ, zero, suc, ◌+◌, ◌-◌, ◌==◌, ◌<◌, ◌≤◌, List, [], ◌∷◌, ◌++◌}
+use Rattle.std.proofs.Common.{length, take, drop, map, filter, Bool, true, false, not, Option, Some, inl, inr, refl}
+use Rattle.std.proofs.Common.{sym, ap, ◌∙◌, subst, arith, length-append, Ordering, Less, Equal, Greater, is_gt, is_lt}
+use Rattle.std.proofs.Common.{is_eq}
 use Rattle.std.specs.List.{AllByRecursion}
 use Rattle.std.proofs.lemmas.List.{length-map, map-append}
 use Rattle.merge_core.proofs.Filters.{each_filter, filter_split, filter_fewer, filter_weaker, filter_front, filter_back}
@@ -28,7 +31,8 @@ use Rattle.merge_core.proofs.WholeLemmas.{told_known}
 
 -- ---- the lines that wait: one of each source at most
 
-few_of : (n : ℕ) (ws : List WaitingLine) → AllByRecursion (λ (w : WaitingLine). w.source < n) ws → ((i : ℕ) → i < n → length (waits_of i ws) ≤ 1) → length ws ≤ n
+few_of : (n : ℕ) (ws : List WaitingLine) → AllByRecursion (λ (w : WaitingLine). w.source < n) ws
+    → ((i : ℕ) → i < n → length (waits_of i ws) ≤ 1) → length ws ≤ n
 few_of zero [] placed few = omega arith
 few_of zero (w ∷ ws) placed few = absurd (let h = placed.0 in omega arith)
 few_of (suc n) ws placed few =
@@ -37,7 +41,8 @@ few_of (suc n) ws placed few =
     let one = few n (omega arith) in
     let same = length-map (filter (is_of n) ws) (λ (w : WaitingLine). w.member) in
     let fewer = few_of n others
-    (each_weaker (λ (w : WaitingLine) (h : (w.source < suc n) × (not (is_of n w) ≡ true)). before w h) others (each_filter (λ (w : WaitingLine). w.source < suc n) (λ w. not (is_of n w)) ws placed))
+    (each_weaker (λ (w : WaitingLine) (h : (w.source < suc n) × (not (is_of n w) ≡ true)). before w h) others
+    (each_filter (λ (w : WaitingLine). w.source < suc n) (λ w. not (is_of n w)) ws placed))
     (λ i l. let k = few i (omega arith) in
     let p = length-map (filter (is_of i) ws) (λ (w : WaitingLine). w.member) in
     let q = length-map (filter (is_of i) others) (λ (w : WaitingLine). w.member) in
@@ -51,36 +56,48 @@ few_of (suc n) ws placed few =
     ]
 
 module _ (limit : ℕ) (past : List ℕ → Bool) {S : Type 0} (text : S → Option (List ℕ)) (extent : S → ℕ) where
-  few_at : (n i : ℕ) (ss : List S) (fs : List Feed) (ws : List WaitingLine) → length ss ≡ length fs → i < length ss → AreFed limit past text extent n ss fs ws → length (waits_of (n + i) ws) ≤ 1
+  few_at : (n i : ℕ) (ss : List S) (fs : List Feed) (ws : List WaitingLine) → length ss ≡ length fs → i < length ss
+      → AreFed limit past text extent n ss fs ws → length (waits_of (n + i) ws) ≤ 1
   few_at n i [] fs ws e l h = absurd (omega arith)
   few_at n i (s ∷ ss) [] ws e l h = absurd (omega arith)
   few_at n zero (s ∷ ss) (f ∷ fs) ws e l h =
-      subst (λ k. length (waits_of k ws) ≤ 1) (let q : n ≡ n + 0 = omega arith in q) (few_waits f.progress (waits_of n ws) h.0.waits)
+      subst (λ k. length (waits_of k ws) ≤ 1) (let q : n ≡ n + 0 = omega arith in q)
+      (few_waits f.progress (waits_of n ws) h.0.waits)
   few_at n (suc i) (s ∷ ss) (f ∷ fs) ws e l h =
-      subst (λ k. length (waits_of k ws) ≤ 1) (let q : (n + 1) + i ≡ n + suc i = omega arith in q) (few_at (n + 1) i ss fs ws (omega arith) (omega arith) h.1)
+      subst (λ k. length (waits_of k ws) ≤ 1) (let q : (n + 1) + i ≡ n + suc i = omega arith in q)
+      (few_at (n + 1) i ss fs ws (omega arith) (omega arith) h.1)
 
-  pub few_wait : (ss : List S) (fs : List Feed) (ws : List WaitingLine) → Ready limit past text extent ss fs ws → length ws ≤ length fs
+  pub few_wait : (ss : List S) (fs : List Feed) (ws : List WaitingLine) → Ready limit past text extent ss fs ws
+      → length ws ≤ length fs
   few_wait ss fs ws ready =
       few_of (length fs) ws ready.placed (λ i l.
-      subst (λ k. length (waits_of k ws) ≤ 1) (let q : 0 + i ≡ i = omega arith in q) (few_at 0 i ss fs ws ready.same (let e = ready.same in omega arith) ready.fed))
+      subst (λ k. length (waits_of k ws) ≤ 1) (let q : 0 + i ≡ i = omega arith in q)
+      (few_at 0 i ss fs ws ready.same (let e = ready.same in omega arith) ready.fed))
 
   -- ---- the lines of a group
 
   -- what is done of an index is among its lines
-  pub done_fewer : (t : List ℕ) (e : ℕ) (f : Feed) (ws ms : List Member) (test : Member → Bool) → Fed limit past (Some t) e f ws → IsIndex limit t ms → length (filter test (done limit t f)) ≤ length (filter test ms)
+  pub done_fewer : (t : List ℕ) (e : ℕ) (f : Feed) (ws ms : List Member) (test : Member → Bool)
+      → Fed limit past (Some t) e f ws → IsIndex limit t ms
+      → length (filter test (done limit t f)) ≤ length (filter test ms)
   done_fewer t e f ws ms test fed index =
       let told = fed.told t refl in
       let from = lines (drop f.cursor.start t) in
       let whole : ms ≡ map (member_of limit) told.begins.0 ++ map (member_of limit) from =
-      sym (members_are limit (lines t) ms index.entries) ∙ ap (map (member_of limit)) told.begins.1.0 ∙ map-append (member_of limit) told.begins.0 from in
-      let read : given limit t f.cursor ≡ take f.cursor.count (map (member_of limit) from) = sym (take-map (member_of limit) f.cursor.count from) in
+      sym (members_are limit (lines t) ms index.entries) ∙ ap (map (member_of limit)) told.begins.1.0
+      ∙ map-append (member_of limit) told.begins.0 from in
+      let read : given limit t f.cursor
+      ≡ take f.cursor.count (map (member_of limit) from) = sym (take-map (member_of limit) f.cursor.count from) in
       let a = filter_front test (f.cursor.count - held f.progress) (given limit t f.cursor) in
       let b = filter_front test f.cursor.count (map (member_of limit) from) in
       let c = filter_back test (map (member_of limit) told.begins.0) (map (member_of limit) from) in
       omega (arith, ap (λ l. length (filter test l)) read, ap (λ l. length (filter test l)) whole)
 
-  all_fewer : (n : ℕ) (ss : List S) (fs : List Feed) (ws : List WaitingLine) (texts : List (List ℕ)) (indexes : List (List Member)) (test : Member → Bool) → length ss ≡ length fs → Known (map text ss) texts → AllZip (IsIndex limit) texts indexes
-      → AreFed limit past text extent n ss fs ws → length (filter test (all_done limit text ss fs)) ≤ length (filter test (all_lines indexes))
+  all_fewer : (n : ℕ) (ss : List S) (fs : List Feed) (ws : List WaitingLine) (texts : List (List ℕ))
+      (indexes : List (List Member)) (test : Member → Bool) → length ss ≡ length fs → Known (map text ss) texts
+      → AllZip (IsIndex limit) texts indexes
+      → AreFed limit past text extent n ss fs ws
+      → length (filter test (all_done limit text ss fs)) ≤ length (filter test (all_lines indexes))
   all_fewer n [] fs ws texts indexes test e known are fed = omega arith
   all_fewer n (s ∷ ss) [] ws texts indexes test e known are fed = absurd (omega arith)
   all_fewer n (s ∷ ss) (f ∷ fs) ws [] indexes test e known are fed = absurd known
@@ -89,7 +106,8 @@ module _ (limit : ℕ) (past : List ℕ → Bool) {S : Type 0} (text : S → Opt
       let first = done limit (text_or (text s)) f in
       let others = all_done limit text ss fs in
       let is_done : first ≡ done limit t f = ap (λ o. done limit (text_or o) f) known.0 in
-      let here = done_fewer t (extent s) f (waits_of n ws) i test (subst (λ o. Fed limit past o (extent s) f (waits_of n ws)) known.0 fed.0) are.0 in
+      let here = done_fewer t (extent s) f (waits_of n ws) i test
+      (subst (λ o. Fed limit past o (extent s) f (waits_of n ws)) known.0 fed.0) are.0 in
       let rest = all_fewer (n + 1) ss fs ws ts is test (omega arith) known.1 are.1 fed.1 in
       omega (
         arith,
@@ -100,7 +118,8 @@ module _ (limit : ℕ) (past : List ℕ → Bool) {S : Type 0} (text : S → Opt
         length-append (filter test i) (filter test (all_lines is)),
       )
 
-pub held_after : {B : Type 0} (value : B → Member) (ws : List WaitingLine) (first : Member) (rest : List B) (old new bound : ℕ) → new ≡ max old (min (length ws + 1 + length rest) (2 ^ 64 - 1))
+pub held_after : {B : Type 0} (value : B → Member) (ws : List WaitingLine) (first : Member) (rest : List B)
+    (old new bound : ℕ) → new ≡ max old (min (length ws + 1 + length rest) (2 ^ 64 - 1))
     → old ≤ bound → length ws + length (first ∷ map value rest) ≤ bound → new ≤ bound
 held_after value ws first rest old new bound e h k = let l = length-map rest value in omega arith
 
@@ -112,9 +131,15 @@ at_pair pair m u = at_order (pair_cmp (member_pair m) pair) u
     at_order Equal g h = refl
     at_order Greater g h = cc
 
-module _ (limit : ℕ) (past : List ℕ → Bool) {S : Type 0} (text : S → Option (List ℕ)) (extent gave : S → ℕ) (old ss0 ss : List S) (fs0 fs : List Feed) (ws0 ws : List WaitingLine) (b : Option Pair) (pair : Pair) (taken group : List Member)
-    (was : Handed limit text old ss0 fs0 b taken) (above : AllByRecursion (λ w. IsAbove b (waiting_pair w)) ws0) (grouped : Grouped limit text extent ss0 fs0 ws0 ss fs ws pair group) (ready : Ready limit past text extent ss fs ws)
-    (texts : List (List ℕ)) (indexes : List (List Member)) (most : ℕ) (known_old : Known (map text old) texts) (known : Known (map text ss) texts) (kept : AreTold text old → AreTold text ss0) (are : AllZip (IsIndex limit) texts indexes)
+module _ (limit : ℕ) (past : List ℕ → Bool) {S : Type 0} (text : S → Option (List ℕ)) (extent gave : S → ℕ)
+    (old ss0 ss : List S) (fs0 fs : List Feed) (ws0 ws : List WaitingLine) (b : Option Pair) (pair : Pair)
+    (taken group : List Member)
+    (was : Handed limit text old ss0 fs0 b taken) (above : AllByRecursion (λ w. IsAbove b (waiting_pair w)) ws0)
+    (grouped : Grouped limit text extent ss0 fs0 ws0 ss fs ws pair group)
+    (ready : Ready limit past text extent ss fs ws)
+    (texts : List (List ℕ)) (indexes : List (List Member)) (most : ℕ) (known_old : Known (map text old) texts)
+    (known : Known (map text ss) texts) (kept : AreTold text old → AreTold text ss0)
+    (are : AllZip (IsIndex limit) texts indexes)
     (share : ShareAtMost most (all_lines indexes)) where
   group_most : length group ≤ most
   group_most =
@@ -122,11 +147,14 @@ module _ (limit : ℕ) (past : List ℕ → Bool) {S : Type 0} (text : S → Opt
       let low = below_next b pair (grouped.above b above) (all_done limit text ss0 fs0) (was.told told).1 in
       let gathered = grouped.gathered (kept told) low in
       let all = all_done limit text ss fs in
-      let here = filter_weaker (λ m. not (is_low pair m)) (is_at pair) all (each_weaker (λ (m : Member) (u : Upto (member_pair m) pair). at_pair pair m u) all gathered.upto) in
-      let there = all_fewer limit past text extent 0 ss fs ws texts indexes (is_at pair) ready.same known are ready.fed in
+      let here = filter_weaker (λ m. not (is_low pair m)) (is_at pair) all
+      (each_weaker (λ (m : Member) (u : Upto (member_pair m) pair). at_pair pair m u) all gathered.upto) in
+      let there = all_fewer limit past text extent 0 ss fs ws texts indexes (is_at pair) ready.same known are
+      ready.fed in
       let few = share pair in
       omega (arith, ap length gathered.taken)
 
   -- with the lines that wait
   pub held_most : length ws + length group ≤ length ss + most
-  held_most = let g = group_most in let w = few_wait limit past text extent ss fs ws ready in let e = ready.same in omega arith
+  held_most = let g = group_most in let w = few_wait limit past text extent ss fs ws ready in let e = ready.same in
+      omega arith

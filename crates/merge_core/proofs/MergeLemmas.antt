@@ -1,5 +1,6 @@
 -- One group more of a merge.
-use Rattle.std.proofs.Common.{◌≡◌, ℕ, Result, Ok, Err, OnErr, List, [], ◌∷◌, ◌++◌, refl, sym, ap, ap₂, ◌∙◌, subst, Option, Some, None, map, true, Less, Equal, Greater, Ordering, is_lt, is_gt}
+use Rattle.std.proofs.Common.{◌≡◌, ℕ, Result, Ok, Err, OnErr, List, [], ◌∷◌, ◌++◌, refl, sym, ap, ap₂, ◌∙◌, subst}
+use Rattle.std.proofs.Common.{Option, Some, None, map, true, Less, Equal, Greater, Ordering, is_lt, is_gt}
 use Rattle.std.specs.List.{AllByRecursion}
 use Rattle.std.specs.Ordering.{ordering_reverse}
 use Rattle.cdxj_places.specs.Pairs.{Pair}
@@ -25,11 +26,14 @@ above_none [] = tt
 above_none (w ∷ ws) = (tt, above_none ws)
 
 -- what is done stands below what comes next
-pub below_next : (b : Option Pair) (pair : Pair) → IsAbove b pair → (ms : List Member) → AllByRecursion (λ m. IsUpto b (member_pair m)) ms → AreBelow pair ms
+pub below_next : (b : Option Pair) (pair : Pair) → IsAbove b pair → (ms : List Member)
+    → AllByRecursion (λ m. IsUpto b (member_pair m)) ms → AreBelow pair ms
 below_next None pair up ms h = each_weaker (λ (m : Member) (q : ⊥). absurd q) ms h
-below_next (Some bound) pair up ms h = each_weaker (λ (m : Member) (q : Upto (member_pair m) bound). then_below (member_pair m) bound pair q up) ms h
+below_next (Some bound) pair up ms h = each_weaker
+    (λ (m : Member) (q : Upto (member_pair m) bound). then_below (member_pair m) bound pair q up) ms h
 
-pub place_below : (x y : Member) → Below (member_pair x) (member_pair y) → place_cmp (member_place x) (member_place y) ≡ Less
+pub place_below : (x y : Member) → Below (member_pair x) (member_pair y) → place_cmp (member_place x) (member_place y)
+    ≡ Less
 place_below x y h = lower_pair (member_place x) (member_place y) h
 
 pub is_less : (r : Ordering) → is_lt r ≡ true → r ≡ Less
@@ -38,7 +42,8 @@ is_less Equal e = cc
 is_less Greater e = cc
 
 pub lower_by_pair : (pair : Pair) → IsLower member_place place_cmp (is_low pair)
-lower_by_pair pair x y h k = place_below x y (below_then (member_pair x) pair (member_pair y) (is_less _ h) (from_not_below (member_pair y) pair k))
+lower_by_pair pair x y h k = place_below x y
+    (below_then (member_pair x) pair (member_pair y) (is_less _ h) (from_not_below (member_pair y) pair k))
 
 risen_on : (pair : Pair) (old now group : List Member) → Gathered pair old now [] group
     → rising member_place place_cmp old ++ rising member_place place_cmp group ≡ rising member_place place_cmp now
@@ -48,17 +53,27 @@ risen_on pair old now group h =
 
 -- lists that rise, the one below the other
 rises_join : (us vs : List Member) → Rises member_place place_cmp us → Rises member_place place_cmp vs
-    → AllByRecursion (λ u. AllByRecursion (λ v. is_gt (place_cmp (member_place v) (member_place u)) ≡ true) vs) us → Rises member_place place_cmp (us ++ vs)
+    → AllByRecursion (λ u. AllByRecursion (λ v. is_gt (place_cmp (member_place v) (member_place u)) ≡ true) vs) us
+    → Rises member_place place_cmp (us ++ vs)
 rises_join [] vs h k l = k
-rises_join (u ∷ us) vs h k l = (each_join (λ v. is_gt (place_cmp (member_place v) (member_place u)) ≡ true) us vs h.0 l.0, rises_join us vs h.1 k l.1)
+rises_join (u ∷ us) vs h k l = (
+  each_join (λ v. is_gt (place_cmp (member_place v) (member_place u)) ≡ true) us vs h.0
+      l.0,
+  rises_join us vs h.1 k l.1,
+)
 
-place_above : (pair : Pair) (u v : Member) → Below (member_pair u) pair → Alike (member_pair v) pair → is_gt (place_cmp (member_place v) (member_place u)) ≡ true
+place_above : (pair : Pair) (u v : Member) → Below (member_pair u) pair → Alike (member_pair v) pair
+    → is_gt (place_cmp (member_place v) (member_place u)) ≡ true
 place_above pair u v h k =
     ap is_gt (place_cmp_total.antisymm (member_place v) (member_place u)
-    ∙ ap ordering_reverse (place_below u v (below_then (member_pair u) pair (member_pair v) h (same_from (member_pair v) pair k))))
+    ∙ ap ordering_reverse
+    (place_below u v (below_then (member_pair u) pair (member_pair v) h (same_from (member_pair v) pair k))))
 
-module _ {S : Type 0} (limit : ℕ) (text : S → Option (List ℕ)) (extent : S → ℕ) (old ss0 ss : List S) (fs0 fs : List Feed) (ws0 ws : List WaitingLine) (b : Option Pair) (pair : Pair) (taken group : List Member)
-    (was : Handed limit text old ss0 fs0 b taken) (above : AllByRecursion (λ w. IsAbove b (waiting_pair w)) ws0) (grouped : Grouped limit text extent ss0 fs0 ws0 ss fs ws pair group) (kept : AreTold text old → AreTold text ss0) where
+module _ {S : Type 0} (limit : ℕ) (text : S → Option (List ℕ)) (extent : S → ℕ) (old ss0 ss : List S)
+    (fs0 fs : List Feed) (ws0 ws : List WaitingLine) (b : Option Pair) (pair : Pair) (taken group : List Member)
+    (was : Handed limit text old ss0 fs0 b taken) (above : AllByRecursion (λ w. IsAbove b (waiting_pair w)) ws0)
+    (grouped : Grouped limit text extent ss0 fs0 ws0 ss fs ws pair group) (kept : AreTold text old
+    → AreTold text ss0) where
   up : IsAbove b pair
   up = grouped.above b above
 
@@ -68,27 +83,40 @@ module _ {S : Type 0} (limit : ℕ) (text : S → Option (List ℕ)) (extent : S
   at : AreAt pair (rising member_place place_cmp group)
   at = each_rising member_place place_cmp place_cmp_total (λ m. Alike (member_pair m) pair) group grouped.each
 
-  pub handed_next : AllByRecursion (HasEntry limit) group → Handed limit text old ss fs (Some pair) (taken ++ rising member_place place_cmp group)
+  pub handed_next : AllByRecursion (HasEntry limit) group
+      → Handed limit text old ss fs (Some pair) (taken ++ rising member_place place_cmp group)
   handed_next entries = record {
     entries = each_join (HasEntry limit) taken (rising member_place place_cmp group) was.entries
         (each_rising member_place place_cmp place_cmp_total (HasEntry limit) group entries);
     upto = each_join (λ m. Upto (member_pair m) pair) taken (rising member_place place_cmp group)
         (each_weaker (λ (m : Member) (h : Below (member_pair m) pair). below_upto (member_pair m) pair h) taken low)
-        (each_weaker (λ (m : Member) (h : Alike (member_pair m) pair). same_upto (member_pair m) pair h) (rising member_place place_cmp group) at);
-    rises = rises_join taken (rising member_place place_cmp group) was.rises (rises_rising member_place place_cmp place_cmp_total group)
-        (each_weaker (λ (u : Member) (h : Below (member_pair u) pair). each_weaker (λ (v : Member) (k : Alike (member_pair v) pair). place_above pair u v h k) (rising member_place place_cmp group) at) taken low);
+        (each_weaker (λ (m : Member) (h : Alike (member_pair m) pair). same_upto (member_pair m) pair h)
+        (rising member_place place_cmp group) at);
+    rises = rises_join taken (rising member_place place_cmp group) was.rises
+        (rises_rising member_place place_cmp place_cmp_total group)
+        (each_weaker (λ (u : Member) (h : Below (member_pair u) pair). each_weaker
+        (λ (v : Member) (k : Alike (member_pair v) pair). place_above pair u v h k)
+        (rising member_place place_cmp group) at) taken low);
     told = λ t.
         let h = was.told t in
-        let gathered = grouped.gathered (kept t) (below_next b pair up (all_done limit text ss0 fs0) h.1) in
-        (ap (λ l. l ++ rising member_place place_cmp group) h.0 ∙ risen_on pair (all_done limit text ss0 fs0) (all_done limit text ss fs) group gathered, gathered.upto);
+        let gathered = grouped.gathered (kept t) (below_next b pair up (all_done limit text ss0 fs0) h.1) in (
+          ap (λ l. l ++ rising member_place place_cmp group) h.0
+              ∙ risen_on pair (all_done limit text ss0 fs0) (all_done limit text ss fs) group gathered,
+          gathered.upto,
+        );
   }
 
-pub handed_none : {S : Type 0} (limit : ℕ) (text : S → Option (List ℕ)) (ss : List S) (fs : List Feed) → all_done limit text ss fs ≡ [] → Handed limit text ss ss fs None []
+pub handed_none : {S : Type 0} (limit : ℕ) (text : S → Option (List ℕ)) (ss : List S) (fs : List Feed)
+    → all_done limit text ss fs ≡ [] → Handed limit text ss ss fs None []
 handed_none limit text ss fs e = record {
   entries = tt;
   upto = tt;
   rises = tt;
-  told = λ t. (ap (rising member_place place_cmp) (sym e), subst (AllByRecursion (λ m. IsUpto None (member_pair m))) (sym e) tt);
+  told = λ t. (
+    ap (rising member_place place_cmp) (sym e),
+    subst (AllByRecursion (λ m. IsUpto None (member_pair m)))
+        (sym e) tt,
+  );
 }
 
 pub on_err : {A E : Type 0} (r : Result A E) (e : E) (P : Type 0) → r ≡ Err e → P → OnErr r P

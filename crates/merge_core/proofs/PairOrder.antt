@@ -20,7 +20,8 @@ upto_itself p = ap is_gt (tied_itself pair_cmp_total p)
 
 -- not above: below, or the same
 pub not_above : (p q : Pair) → Upto p q → (pair_cmp p q ≡ Less) ⊎ (pair_cmp p q ≡ Equal)
-not_above p q h = (elim (pair_cmp p q) as (λ r. is_gt r ≡ false → (r ≡ Less) ⊎ (r ≡ Equal)) [ Less ↦ (λ e. inl refl) | Equal ↦ (λ e. inr refl) | Greater ↦ (λ e. cc) ]) h
+not_above p q h = (elim (pair_cmp p q) as (λ r. is_gt r ≡ false → (r ≡ Less) ⊎ (r ≡ Equal))
+    [ Less ↦ (λ e. inl refl) | Equal ↦ (λ e. inr refl) | Greater ↦ (λ e. cc) ]) h
 
 pub from_not_below : (p q : Pair) → is_lt (pair_cmp p q) ≡ false → Upto q p
 from_not_below p q h = (elim (pair_cmp p q) as (λ r. pair_cmp p q ≡ r → is_lt r ≡ false → Upto q p) [

@@ -1,6 +1,7 @@
 -- What was taken of sources that are indexes, beside all of their collection.
 use Rattle.std.specs.List.{AllZip}
-use Rattle.std.proofs.Common.{◌≡◌, ℕ, ◌+◌, List, [], ◌∷◌, ◌++◌, length, map, filter, zip, Bool, true, false, not, Option, refl, sym, ap, ap₂, ◌∙◌, subst, arith}
+use Rattle.std.proofs.Common.{◌≡◌, ℕ, ◌+◌, List, [], ◌∷◌, ◌++◌, length, map, filter, zip, Bool, true, false, not}
+use Rattle.std.proofs.Common.{Option, refl, sym, ap, ap₂, ◌∙◌, subst, arith}
 use Rattle.std.specs.List.{AllByRecursion}
 use Rattle.std.proofs.lemmas.List.Elements.{filter-append}
 use Rattle.cdxj_places.specs.Pairs.{Pair}
@@ -29,14 +30,20 @@ use Rattle.merge_core.proofs.StartLemmas.{RunsFrom, runs_whole, runs_sought, run
 
 -- ---- all sources
 
-module _ (limit : ℕ) (past : List ℕ → Bool) (upward : IsUpward past) (upto : Member → Bool) {S : Type 0} (text : S → Option (List ℕ)) (extent : S → ℕ) (ws : List WaitingLine)
+module _ (limit : ℕ) (past : List ℕ → Bool) (upward : IsUpward past) (upto : Member → Bool) {S : Type 0}
+    (text : S → Option (List ℕ)) (extent : S → ℕ) (ws : List WaitingLine)
     (late : AllByRecursion (λ (w : WaitingLine). IsLate limit past upward upto w.member) ws) where
   pub late_of : (n : ℕ) → AllByRecursion (IsLate limit past upward upto) (waits_of n ws)
-  late_of n = each_waits (IsLate limit past upward upto) n ws (each_weaker (λ (w : WaitingLine) (h : IsLate limit past upward upto w.member). λ (e : is_of n w ≡ true). h) ws late)
+  late_of n = each_waits (IsLate limit past upward upto) n ws
+      (each_weaker (λ (w : WaitingLine) (h : IsLate limit past upward upto w.member). λ (e : is_of n w ≡ true). h) ws
+      late)
 
-  all_read : (n : ℕ) (ss : List S) (fs : List Feed) (highs : List (List Member)) → length ss ≡ length fs → AreTold text ss → AllZip (RunsFrom limit text) (zip ss fs) highs
-      → AreFed limit past text extent n ss fs ws → AreSettled fs → AllByRecursion (λ m. upto m ≡ true) (all_done limit text ss fs)
-      → filter (is_read limit past upward upto) (all_lines highs) ≡ filter (stays limit past upward) (all_done limit text ss fs)
+  all_read : (n : ℕ) (ss : List S) (fs : List Feed) (highs : List (List Member)) → length ss ≡ length fs
+      → AreTold text ss → AllZip (RunsFrom limit text) (zip ss fs) highs
+      → AreFed limit past text extent n ss fs ws → AreSettled fs
+      → AllByRecursion (λ m. upto m ≡ true) (all_done limit text ss fs)
+      → filter (is_read limit past upward upto) (all_lines highs)
+      ≡ filter (stays limit past upward) (all_done limit text ss fs)
   all_read n [] fs [] same told runs fed settled each = refl
   all_read n [] fs (i ∷ is) same told runs fed settled each = absurd runs
   all_read n (s ∷ ss) [] highs same told runs fed settled each = absurd (omega arith)
@@ -48,40 +55,54 @@ module _ (limit : ℕ) (past : List ℕ → Bool) (upward : IsUpward past) (upto
       let others = all_done limit text ss fs in
       let parts = each_cut (λ m. upto m ≡ true) first others each in
       let here : filter (is_read limit past upward upto) i ≡ filter (stays limit past upward) first =
-      fed_read limit past upward upto t (extent s) f (waits_of n ws) i (subst (λ o. Fed limit past o (extent s) f (waits_of n ws)) is_text fed.0) settled.0 (runs.0 t is_text) (late_of n) parts.0 in
+      fed_read limit past upward upto t (extent s) f (waits_of n ws) i
+      (subst (λ o. Fed limit past o (extent s) f (waits_of n ws)) is_text fed.0) settled.0 (runs.0 t is_text)
+      (late_of n) parts.0 in
       filter-append (is_read limit past upward upto) i (all_lines is)
       ∙ ap₂ (λ u v. u ++ v) here (all_read (n + 1) ss fs is (omega arith) told.1 runs.1 fed.1 settled.1 parts.1)
       ∙ sym (filter-append (stays limit past upward) first others)
 
 -- ---- where a merge of indexes came to
 
-module _ {S : Type 0} (text : S → Option (List ℕ)) (extent gave : S → ℕ) (limit : ℕ) (past : List ℕ → Bool) (upward : IsUpward past) (ss0 : List S) (fs0 : List Feed) (ss : List S) (fs : List Feed)
-    (ws : List WaitingLine) (b : Option Pair) (taken : List Member) (same : length ss0 ≡ length fs0) (reached : Reached limit text past extent gave ss0 fs0 ss fs ws b taken)
-    (texts : List (List ℕ)) (indexes : List (List Member)) (known : Known (map text ss0) texts) (are : AllZip (IsIndex limit) texts indexes)
+module _ {S : Type 0} (text : S → Option (List ℕ)) (extent gave : S → ℕ) (limit : ℕ) (past : List ℕ → Bool)
+    (upward : IsUpward past) (ss0 : List S) (fs0 : List Feed) (ss : List S) (fs : List Feed)
+    (ws : List WaitingLine) (b : Option Pair) (taken : List Member) (same : length ss0 ≡ length fs0)
+    (reached : Reached limit text past extent gave ss0 fs0 ss fs ws b taken)
+    (texts : List (List ℕ)) (indexes : List (List Member)) (known : Known (map text ss0) texts)
+    (are : AllZip (IsIndex limit) texts indexes)
     (wanted : Member → Bool) (within : (m : Member) → wanted m ≡ true → not (past m.values.key) ≡ true) where
   told_now : AreTold text ss
-  told_now = told_moved text extent gave ss0 ss fs0 fs reached.ready.same reached.moved (told_known text ss0 texts known)
+  told_now = told_moved text extent gave ss0 ss fs0 fs reached.ready.same reached.moved
+      (told_known text ss0 texts known)
 
-  handed : (taken ≡ rising member_place place_cmp (all_done limit text ss fs)) × AllByRecursion (λ m. IsUpto b (member_pair m)) (all_done limit text ss fs)
+  handed : (taken ≡ rising member_place place_cmp (all_done limit text ss fs))
+      × AllByRecursion (λ m. IsUpto b (member_pair m)) (all_done limit text ss fs)
   handed = reached.handed.told (told_known text ss0 texts known)
 
   -- beside the lines that the sources have from where they are read on
   module _ (highs : List (List Member)) (runs : AllZip (RunsFrom limit text) (zip ss0 fs0) highs) where
-    read : (upto : Member → Bool) → AllByRecursion (λ (w : WaitingLine). IsLate limit past upward upto w.member) ws → AllByRecursion (λ m. upto m ≡ true) (all_done limit text ss fs)
-        → filter (is_read limit past upward upto) (all_lines highs) ≡ filter (stays limit past upward) (all_done limit text ss fs)
+    read : (upto : Member → Bool) → AllByRecursion (λ (w : WaitingLine). IsLate limit past upward upto w.member) ws
+        → AllByRecursion (λ m. upto m ≡ true) (all_done limit text ss fs)
+        → filter (is_read limit past upward upto) (all_lines highs)
+        ≡ filter (stays limit past upward) (all_done limit text ss fs)
     read upto late each =
         all_read limit past upward upto text extent ws late 0 ss fs highs reached.ready.same told_now
-        (runs_kept limit text extent gave (zip ss0 fs0) (zip ss fs) highs reached.moved runs) reached.ready.fed reached.settled each
+        (runs_kept limit text extent gave (zip ss0 fs0) (zip ss fs) highs reached.moved runs) reached.ready.fed
+        reached.settled each
 
     first_of : TakenFirst wanted b (rising member_place place_cmp (all_lines highs)) taken
-    first_of = taken_first limit past upward wanted within b ws reached.above (all_done limit text ss fs) taken handed.1 handed.0 (all_lines highs) read
+    first_of = taken_first limit past upward wanted within b ws reached.above (all_done limit text ss fs) taken handed.1
+        handed.0 (all_lines highs) read
 
     whole_of : ws ≡ [] → filter wanted (rising member_place place_cmp (all_lines highs)) ≡ filter wanted taken
-    whole_of = taken_whole limit past upward wanted within b ws reached.above (all_done limit text ss fs) taken handed.1 handed.0 (all_lines highs) read
+    whole_of = taken_whole limit past upward wanted within b ws reached.above (all_done limit text ss fs) taken handed.1
+        handed.0 (all_lines highs) read
 
     before_of : (next : Pair) → IsAbove b next → AllByRecursion (λ w. Upto next (waiting_pair w)) ws
-        → (rest : List Member) × (filter wanted (rising member_place place_cmp (all_lines highs)) ≡ filter wanted taken ++ rest) × AllByRecursion (λ m. (wanted m ≡ true) × Upto next (member_pair m)) rest
-    before_of = taken_before limit past upward wanted within b ws reached.above (all_done limit text ss fs) taken handed.1 handed.0 (all_lines highs) read
+        → (rest : List Member) × (filter wanted (rising member_place place_cmp (all_lines highs)) ≡ filter wanted taken
+        ++ rest) × AllByRecursion (λ m. (wanted m ≡ true) × Upto next (member_pair m)) rest
+    before_of = taken_before limit past upward wanted within b ws reached.above (all_done limit text ss fs) taken
+        handed.1 handed.0 (all_lines highs) read
 
   -- sources that are read from their beginning
   module _ (begun : AllByRecursion (λ (f : Feed). f.cursor.start ≡ 0) fs0) where
@@ -97,12 +118,15 @@ module _ {S : Type 0} (text : S → Option (List ℕ)) (extent gave : S → ℕ)
     read_whole = whole_of indexes runs_all
 
   -- sources that are read from where the search for this pair ended, below which nothing is wanted
-  module _ (start : Pair) (cut : AllByRecursion (λ x. IsCutAt limit start (text x.0) x.1.cursor) (zip ss0 fs0)) (beyond : (m : Member) → wanted m ≡ true → is_low start m ≡ false) where
-    sought : (highs : List (List Member)) × AllZip (RunsFrom limit text) (zip ss0 fs0) highs × (filter (λ m. not (is_low start m)) (all_lines indexes) ≡ all_lines highs)
+  module _ (start : Pair) (cut : AllByRecursion (λ x. IsCutAt limit start (text x.0) x.1.cursor) (zip ss0 fs0))
+      (beyond : (m : Member) → wanted m ≡ true → is_low start m ≡ false) where
+    sought : (highs : List (List Member)) × AllZip (RunsFrom limit text) (zip ss0 fs0) highs
+        × (filter (λ m. not (is_low start m)) (all_lines indexes) ≡ all_lines highs)
     sought = runs_sought limit text start ss0 fs0 texts indexes same known are cut
 
     skipped : filter wanted (collection indexes) ≡ filter wanted (rising member_place place_cmp (all_lines sought.0))
-    skipped = wanted_high wanted (is_low start) (lower_by_pair start) beyond (all_lines indexes) ∙ ap (λ l. filter wanted (rising member_place place_cmp l)) sought.2
+    skipped = wanted_high wanted (is_low start) (lower_by_pair start) beyond (all_lines indexes)
+        ∙ ap (λ l. filter wanted (rising member_place place_cmp l)) sought.2
 
     -- what was taken so far is a front of what is wanted
     pub sought_first : TakenFirst wanted b (collection indexes) taken
@@ -114,5 +138,6 @@ module _ {S : Type 0} (text : S → Option (List ℕ)) (extent gave : S → ℕ)
 
     -- where the lines that wait don't stand below a pair, what is wanted beyond those that were taken doesn't either
     pub sought_before : (next : Pair) → IsAbove b next → AllByRecursion (λ w. Upto next (waiting_pair w)) ws
-        → (rest : List Member) × (filter wanted (collection indexes) ≡ filter wanted taken ++ rest) × AllByRecursion (λ m. (wanted m ≡ true) × Upto next (member_pair m)) rest
+        → (rest : List Member) × (filter wanted (collection indexes) ≡ filter wanted taken ++ rest)
+        × AllByRecursion (λ m. (wanted m ≡ true) × Upto next (member_pair m)) rest
     sought_before next above least = let h = before_of sought.0 sought.1 next above least in (h.0, skipped ∙ h.1, h.2)

@@ -1,7 +1,9 @@
 -- The lines of one source that were come to, among all that it has from its start on.
 use Rattle.std.proofs.lemmas.Bool.{and_right as false_right, not-false, not-true}
 use Rattle.std.proofs.lemmas.List.{take-map}
-use Rattle.std.proofs.Common.{◌≡◌, inl, inr, ℕ, List, [], ◌∷◌, ◌++◌, refl, sym, ap, ap₂, ◌∙◌, subst, Bool, true, false, not, ◌&&◌, Some, unwrap_or, take, drop, map, filter, cond, append-nil, append_assoc, take-append-drop, Less, Equal, Greater, Ordering, is_gt}
+use Rattle.std.proofs.Common.{◌≡◌, inl, inr, ℕ, List, [], ◌∷◌, ◌++◌, refl, sym, ap, ap₂, ◌∙◌, subst, Bool, true, false}
+use Rattle.std.proofs.Common.{not, ◌&&◌, Some, unwrap_or, take, drop, map, filter, cond, append-nil, append_assoc}
+use Rattle.std.proofs.Common.{take-append-drop, Less, Equal, Greater, Ordering, is_gt}
 use Rattle.std.specs.List.{AllByRecursion}
 use Rattle.merge_core.proofs.Filters.{filter_same, filter_out}
 use Rattle.std.specs.Ordering.{ordering_then, ordering_reverse, nat_cmp}
@@ -29,7 +31,8 @@ use Rattle.merge_core.proofs.MergeLemmas.{place_below}
 
 -- ---- lists
 
-falls_after : (us : List Member) (y : Member) (vs : List Member) → NeverFalls member_pair pair_cmp (us ++ y ∷ vs) → AllByRecursion (λ k. Upto (member_pair y) (member_pair k)) vs
+falls_after : (us : List Member) (y : Member) (vs : List Member) → NeverFalls member_pair pair_cmp (us ++ y ∷ vs)
+    → AllByRecursion (λ k. Upto (member_pair y) (member_pair k)) vs
 falls_after [] y vs h = h.0
 falls_after (u ∷ us) y vs h = falls_after us y vs h.1
 
@@ -43,8 +46,11 @@ pub and_right : (a b : Bool) → (a && b) ≡ true → b ≡ true
 and_right true b h = h
 and_right false b h = absurd (true≢false (sym h))
 
-pub not_wanted : {X : Type 0} (f g : X → Bool) → ((x : X) → f x ≡ true → g x ≡ true) → (x : X) → g x ≡ false → f x ≡ false
-not_wanted f g h x e = (elim (f x) as (λ b. f x ≡ b → b ≡ false) [ true ↦ (λ k. absurd (true≢false (sym (h x k) ∙ e))) | false ↦ (λ k. refl) ]) refl
+pub not_wanted : {X : Type 0} (f g : X → Bool) → ((x : X) → f x ≡ true → g x ≡ true) → (x : X) → g x ≡ false → f x
+    ≡ false
+not_wanted f g h x e =
+    (elim (f x) as (λ b. f x ≡ b → b ≡ false)
+    [ true ↦ (λ k. absurd (true≢false (sym (h x k) ∙ e))) | false ↦ (λ k. refl) ]) refl
 
 -- ---- keys
 
@@ -66,36 +72,48 @@ IsUpward past = (key later : List ℕ) → past key ≡ true → is_gt (slice_cm
 
 -- Of lines that rise, what is wanted stands among those that pass a test which what is wanted passes
 module _ (wanted test : Member → Bool) (passes : (m : Member) → wanted m ≡ true → test m ≡ true) where
-  pub none_wanted : (xs : List Member) → AllByRecursion (λ m. test m ≡ false) xs → filter wanted (rising member_place place_cmp xs) ≡ []
+  pub none_wanted : (xs : List Member) → AllByRecursion (λ m. test m ≡ false) xs
+      → filter wanted (rising member_place place_cmp xs) ≡ []
   none_wanted xs h = filter_none wanted (rising member_place place_cmp xs)
-      (each_weaker (not_wanted wanted test passes) (rising member_place place_cmp xs) (each_rising member_place place_cmp place_cmp_total (λ m. test m ≡ false) xs h))
+      (each_weaker (not_wanted wanted test passes) (rising member_place place_cmp xs)
+      (each_rising member_place place_cmp place_cmp_total (λ m. test m ≡ false) xs h))
 
 -- the first lines
-pub wanted_low : (wanted low : Member → Bool) → IsLower member_place place_cmp low → ((m : Member) → wanted m ≡ true → low m ≡ true)
-    → (xs : List Member) → filter wanted (rising member_place place_cmp xs) ≡ filter wanted (rising member_place place_cmp (filter low xs))
+pub wanted_low : (wanted low : Member → Bool) → IsLower member_place place_cmp low
+    → ((m : Member) → wanted m ≡ true → low m ≡ true)
+    → (xs : List Member) → filter wanted (rising member_place place_cmp xs)
+    ≡ filter wanted (rising member_place place_cmp (filter low xs))
 wanted_low wanted low lower passes xs =
     ap (filter wanted) (rising_split member_place place_cmp place_cmp_total low lower xs)
-    ∙ filter-append wanted (rising member_place place_cmp (filter low xs)) (rising member_place place_cmp (filter (λ m. not (low m)) xs))
-    ∙ ap (λ l. filter wanted (rising member_place place_cmp (filter low xs)) ++ l) (none_wanted wanted low passes (filter (λ m. not (low m)) xs) (filter_out low xs))
+    ∙ filter-append wanted (rising member_place place_cmp (filter low xs))
+    (rising member_place place_cmp (filter (λ m. not (low m)) xs))
+    ∙ ap (λ l. filter wanted (rising member_place place_cmp (filter low xs)) ++ l)
+    (none_wanted wanted low passes (filter (λ m. not (low m)) xs) (filter_out low xs))
     ∙ append-nil (filter wanted (rising member_place place_cmp (filter low xs)))
 
 -- the last lines
-pub wanted_high : (wanted low : Member → Bool) → IsLower member_place place_cmp low → ((m : Member) → wanted m ≡ true → low m ≡ false)
-    → (xs : List Member) → filter wanted (rising member_place place_cmp xs) ≡ filter wanted (rising member_place place_cmp (filter (λ m. not (low m)) xs))
+pub wanted_high : (wanted low : Member → Bool) → IsLower member_place place_cmp low
+    → ((m : Member) → wanted m ≡ true → low m ≡ false)
+    → (xs : List Member) → filter wanted (rising member_place place_cmp xs)
+    ≡ filter wanted (rising member_place place_cmp (filter (λ m. not (low m)) xs))
 wanted_high wanted low lower passes xs =
     ap (filter wanted) (rising_split member_place place_cmp place_cmp_total low lower xs)
-    ∙ filter-append wanted (rising member_place place_cmp (filter low xs)) (rising member_place place_cmp (filter (λ m. not (low m)) xs))
+    ∙ filter-append wanted (rising member_place place_cmp (filter low xs))
+    (rising member_place place_cmp (filter (λ m. not (low m)) xs))
     ∙ ap (λ l. l ++ filter wanted (rising member_place place_cmp (filter (λ m. not (low m)) xs)))
-    (none_wanted wanted (λ m. not (low m)) (λ m h. ap not (passes m h)) (filter low xs) (each_weaker (λ (m : Member) (e : low m ≡ true). ap not e) (filter low xs) (filter_in xs)))
+    (none_wanted wanted (λ m. not (low m)) (λ m h. ap not (passes m h)) (filter low xs)
+    (each_weaker (λ (m : Member) (e : low m ≡ true). ap not e) (filter low xs) (filter_in xs)))
   where
     filter_in : (us : List Member) → AllByRecursion (λ m. low m ≡ true) (filter low us)
     filter_in [] = tt
-    filter_in (u ∷ us) = (elim (low u) as (λ b. low u ≡ b → AllByRecursion (λ y. low y ≡ true) (cond b (u ∷ filter low us) (filter low us)))
+    filter_in (u ∷ us) = (elim (low u) as (λ b. low u ≡ b
+        → AllByRecursion (λ y. low y ≡ true) (cond b (u ∷ filter low us) (filter low us)))
         [ true ↦ (λ e. (e, filter_in us)) | false ↦ (λ e. filter_in us) ]) refl
 
 -- ---- one source
 
-pub members_are : (limit : ℕ) (ls : List (List ℕ)) (ms : List Member) → map (line_entry limit) ls ≡ map Some ms → map (member_of limit) ls ≡ ms
+pub members_are : (limit : ℕ) (ls : List (List ℕ)) (ms : List Member) → map (line_entry limit) ls ≡ map Some ms
+    → map (member_of limit) ls ≡ ms
 members_are limit [] [] e = refl
 members_are limit [] (m ∷ ms) e = cc
 members_are limit (l ∷ ls) [] e = cc
@@ -110,10 +128,12 @@ module _ (limit : ℕ) (past : List ℕ → Bool) (upward : IsUpward past) where
   stays m = not (past m.values.key)
 
   later_past : (m k : Member) → past m.values.key ≡ true → Upto (member_pair m) (member_pair k) → stays k ≡ false
-  later_past m k h u = ap not (upward m.values.key k.values.key h (then_gt _ (slice_cmp nat_cmp m.values.stamp k.values.stamp) u))
+  later_past m k h u = ap not
+      (upward m.values.key k.values.key h (then_gt _ (slice_cmp nat_cmp m.values.stamp k.values.stamp) u))
 
   pub stays_lower : IsLower member_place place_cmp stays
-  stays_lower x y h k = place_below x y (key_below (slice_cmp nat_cmp x.values.key y.values.key) (slice_cmp nat_cmp x.values.stamp y.values.stamp) less)
+  stays_lower x y h k = place_below x y
+      (key_below (slice_cmp nat_cmp x.values.key y.values.key) (slice_cmp nat_cmp x.values.stamp y.values.stamp) less)
     where
       key_below : (a b : Ordering) → a ≡ Less → ordering_then a b ≡ Less
       key_below Less b e = refl
@@ -135,52 +155,76 @@ module _ (limit : ℕ) (past : List ℕ → Bool) (upward : IsUpward past) where
     abbrev pub IsLate : Member → Type 0
     IsLate m = (k : Member) → Upto (member_pair m) (member_pair k) → upto k ≡ false
 
-    read_is : (before tail ms : List Member) → ms ≡ before ++ tail → AllByRecursion (λ m. upto m ≡ true) before → AllByRecursion (λ m. is_read m ≡ false) tail
+    read_is : (before tail ms : List Member) → ms ≡ before ++ tail → AllByRecursion (λ m. upto m ≡ true) before
+        → AllByRecursion (λ m. is_read m ≡ false) tail
         → filter is_read ms ≡ filter stays before
     read_is before tail ms e h k =
         ap (filter is_read) e ∙ filter-append is_read before tail
-        ∙ ap₂ (λ u v. u ++ v) (filter_same is_read stays before (each_weaker (λ (m : Member) (q : upto m ≡ true). ap (λ b. b && stays m) q) before h)) (filter_none is_read tail k)
+        ∙ ap₂ (λ u v. u ++ v)
+        (filter_same is_read stays before
+        (each_weaker (λ (m : Member) (q : upto m ≡ true). ap (λ b. b && stays m) q) before h))
+        (filter_none is_read tail k)
         ∙ append-nil (filter stays before)
 
     -- the first line of the rest isn't read, and so none
-    rest_unread : (before : List Member) (m : Member) (rest ms : List Member) → ms ≡ before ++ m ∷ rest → NeverFalls member_pair pair_cmp ms
-        → ((k : Member) → Upto (member_pair m) (member_pair k) → is_read k ≡ false) → AllByRecursion (λ m. is_read m ≡ false) (m ∷ rest)
-    rest_unread before m rest ms e falls f =
-        (f m (upto_itself (member_pair m)), each_weaker (λ (k : Member) (u : Upto (member_pair m) (member_pair k)). f k u) rest (falls_after before m rest (subst (NeverFalls member_pair pair_cmp) e falls)))
+    rest_unread : (before : List Member) (m : Member) (rest ms : List Member) → ms ≡ before ++ m ∷ rest
+        → NeverFalls member_pair pair_cmp ms
+        → ((k : Member) → Upto (member_pair m) (member_pair k) → is_read k ≡ false)
+        → AllByRecursion (λ m. is_read m ≡ false) (m ∷ rest)
+    rest_unread before m rest ms e falls f = (
+      f m (upto_itself (member_pair m)),
+      each_weaker
+          (λ (k : Member) (u : Upto (member_pair m) (member_pair k)). f k u) rest
+          (falls_after before m rest (subst (NeverFalls member_pair pair_cmp) e falls)),
+    )
 
-    head_read : (before all ms rest : List Member) (left : List (List ℕ)) (ws : List Member) (progress : Progress) → (progress ≡ Due → ⊥) → AreWaits progress ws → IsHead limit past before all left ws progress
-        → ms ≡ all ++ rest → NeverFalls member_pair pair_cmp ms → (left ≡ [] → rest ≡ []) → AllByRecursion IsLate ws → AllByRecursion (λ m. upto m ≡ true) before → filter is_read ms ≡ filter stays before
+    head_read : (before all ms rest : List Member) (left : List (List ℕ)) (ws : List Member) (progress : Progress)
+        → (progress ≡ Due → ⊥) → AreWaits progress ws → IsHead limit past before all left ws progress
+        → ms ≡ all ++ rest → NeverFalls member_pair pair_cmp ms → (left ≡ [] → rest ≡ []) → AllByRecursion IsLate ws
+        → AllByRecursion (λ m. upto m ≡ true) before → filter is_read ms ≡ filter stays before
     head_read before all ms rest left ws Due settled waits h e falls end late each = absurd (settled refl)
     head_read before all ms rest left ws Waiting settled waits h e falls end late each =
         let m = waits.0 in
         let first : IsLate m = (subst (AllByRecursion IsLate) waits.1 late).0 in
-        let cut : ms ≡ before ++ m ∷ rest = e ∙ ap (λ l. l ++ rest) (h.0 ∙ ap (λ l. before ++ l) waits.1) ∙ append_assoc before (m ∷ []) rest in
-        read_is before (m ∷ rest) ms cut each (rest_unread before m rest ms cut falls (λ k u. ap (λ b. b && stays k) (first k u)))
+        let cut : ms ≡ before ++ m ∷ rest = e ∙ ap (λ l. l ++ rest) (h.0 ∙ ap (λ l. before ++ l) waits.1)
+        ∙ append_assoc before (m ∷ []) rest in
+        read_is before (m ∷ rest) ms cut each
+        (rest_unread before m rest ms cut falls (λ k u. ap (λ b. b && stays k) (first k u)))
     head_read before all ms rest left ws Past settled waits h e falls end late each =
         let m = h.0 in
         let cut : ms ≡ before ++ m ∷ rest = e ∙ ap (λ l. l ++ rest) h.1 ∙ append_assoc before (m ∷ []) rest in
-        read_is before (m ∷ rest) ms cut each (rest_unread before m rest ms cut falls (λ k u. false_right (upto k) (stays k) (later_past m k h.2 u)))
+        read_is before (m ∷ rest) ms cut each
+        (rest_unread before m rest ms cut falls (λ k u. false_right (upto k) (stays k) (later_past m k h.2 u)))
     head_read before all ms rest left ws Ended settled waits h e falls end late each =
         read_is before [] ms (e ∙ ap₂ (λ u v. u ++ v) h.0 (end h.1)) each tt
 
     -- Of the lines from the start on, those that were come to are those that are done
-    pub fed_read : (t : List ℕ) (extent : ℕ) (f : Feed) (ws ms : List Member) → Fed limit past (Some t) extent f ws → IsSettled f → IsRun limit (lines (drop f.cursor.start t)) ms
-        → AllByRecursion IsLate ws → AllByRecursion (λ m. upto m ≡ true) (done limit t f) → filter is_read ms ≡ filter stays (done limit t f)
+    pub fed_read : (t : List ℕ) (extent : ℕ) (f : Feed) (ws ms : List Member) → Fed limit past (Some t) extent f ws
+        → IsSettled f → IsRun limit (lines (drop f.cursor.start t)) ms
+        → AllByRecursion IsLate ws → AllByRecursion (λ m. upto m ≡ true) (done limit t f) → filter is_read ms
+        ≡ filter stays (done limit t f)
     fed_read t extent f ws ms fed settled run late each =
         let told = fed.told t refl in
         let from = lines (drop f.cursor.start t) in
         let whole : map (member_of limit) from ≡ ms = members_are limit from ms run.entries in
-        let read : given limit t f.cursor ≡ take f.cursor.count ms = sym (take-map (member_of limit) f.cursor.count from) ∙ ap (take f.cursor.count) whole in
+        let read : given limit t f.cursor
+        ≡ take f.cursor.count ms = sym (take-map (member_of limit) f.cursor.count from)
+        ∙ ap (take f.cursor.count) whole in
         let rest : drop f.cursor.count ms ≡ map (member_of limit) (lines (drop f.cursor.at t)) =
-        ap (drop f.cursor.count) (sym whole) ∙ drop-map (member_of limit) f.cursor.count from ∙ ap (map (member_of limit)) (sym (fed.stands.rest t refl)) in
-        head_read (done limit t f) (given limit t f.cursor) ms (drop f.cursor.count ms) (lines (drop f.cursor.at t)) ws f.progress settled fed.waits told.head
+        ap (drop f.cursor.count) (sym whole) ∙ drop-map (member_of limit) f.cursor.count from
+        ∙ ap (map (member_of limit)) (sym (fed.stands.rest t refl)) in
+        head_read (done limit t f) (given limit t f.cursor) ms (drop f.cursor.count ms) (lines (drop f.cursor.at t)) ws
+        f.progress settled fed.waits told.head
         (sym (take-append-drop f.cursor.count ms) ∙ ap (λ l. l ++ drop f.cursor.count ms) (sym read)) run.ordered
         (λ e. rest ∙ ap (map (member_of limit)) e) late each
 
     -- the same of the lines that were read
-    pub given_read : (t : List ℕ) (extent : ℕ) (f : Feed) (ws : List Member) → Fed limit past (Some t) extent f ws → IsSettled f
-        → AllByRecursion IsLate ws → AllByRecursion (λ m. upto m ≡ true) (done limit t f) → filter is_read (given limit t f.cursor) ≡ filter stays (done limit t f)
+    pub given_read : (t : List ℕ) (extent : ℕ) (f : Feed) (ws : List Member) → Fed limit past (Some t) extent f ws
+        → IsSettled f
+        → AllByRecursion IsLate ws → AllByRecursion (λ m. upto m ≡ true) (done limit t f)
+        → filter is_read (given limit t f.cursor) ≡ filter stays (done limit t f)
     given_read t extent f ws fed settled late each =
         let told = fed.told t refl in
-        head_read (done limit t f) (given limit t f.cursor) (given limit t f.cursor) [] (lines (drop f.cursor.at t)) ws f.progress settled fed.waits told.head
+        head_read (done limit t f) (given limit t f.cursor) (given limit t f.cursor) [] (lines (drop f.cursor.at t)) ws
+        f.progress settled fed.waits told.head
         (sym (append-nil (given limit t f.cursor))) told.run.ordered (λ e. refl) late each

@@ -1,6 +1,8 @@
 -- What was taken of sources of any bytes, beside the lines that were read of them.
 use Rattle.std.specs.List.{AllZip}
-use Rattle.std.proofs.Common.{◌≡◌, ◌⊎◌, inl, inr, ℕ, ◌+◌, List, [], ◌∷◌, ◌++◌, length, take, drop, map, filter, Bool, true, not, Option, Some, refl, sym, ap, ap₂, ◌∙◌, subst, arith, take-append-drop, append_assoc}
+use Rattle.std.proofs.Common.{◌≡◌, ◌⊎◌, inl, inr, ℕ, ◌+◌, List, [], ◌∷◌, ◌++◌, length, take, drop, map, filter, Bool}
+use Rattle.std.proofs.Common.{true, not, Option, Some, refl, sym, ap, ap₂, ◌∙◌, subst, arith, take-append-drop}
+use Rattle.std.proofs.Common.{append_assoc}
 use Rattle.std.specs.List.{AllByRecursion, sum}
 use Rattle.std.proofs.lemmas.List.{length-map}
 use Rattle.std.proofs.lemmas.List.Elements.{filter-append}
@@ -16,7 +18,8 @@ use Rattle.merge_core.specs.declared.feed.Feed.{Feed}
 use Rattle.merge_core.specs.PairOrders.{IsUpto}
 use Rattle.merge_core.specs.WaitingLines.{WaitingLine, waits_of}
 use Rattle.merge_core.specs.Collections.{Known, all_lines, collection}
-use Rattle.merge_core.specs.Feeds.{AreFed, AreSettled, AreWaits, IsHead, IsSettled, Fed, done, given, member_of, read_lines}
+use Rattle.merge_core.specs.Feeds.{AreFed, AreSettled, AreWaits, IsHead, IsSettled, Fed, done, given, member_of}
+use Rattle.merge_core.specs.Feeds.{read_lines}
 use Rattle.merge_core.specs.Gathering.{AreTold, text_or, all_done}
 use Rattle.merge_core.specs.Reached.{Reached}
 use Rattle.merge_core.specs.Runs.{IsPart, parts}
@@ -29,14 +32,17 @@ use Rattle.merge_core.proofs.TakenLemmas.{TakenFirst, taken_first, taken_whole}
 -- ---- one source
 
 module _ (limit : ℕ) (past : List ℕ → Bool) where
-  head_ended : (p : Progress) (before all : List Member) (rest : List (List ℕ)) (ws : List Member) → (p ≡ Due → ⊥) → AreWaits p ws → ws ≡ [] → IsHead limit past before all rest ws p
-      → (rest ≡ []) ⊎ ((earlier : List Member) × (last : Member) × (all ≡ earlier ++ last ∷ []) × (past last.values.key ≡ true))
+  head_ended : (p : Progress) (before all : List Member) (rest : List (List ℕ)) (ws : List Member) → (p ≡ Due → ⊥)
+      → AreWaits p ws → ws ≡ [] → IsHead limit past before all rest ws p
+      → (rest ≡ []) ⊎ ((earlier : List Member) × (last : Member) × (all ≡ earlier ++ last ∷ [])
+      × (past last.values.key ≡ true))
   head_ended Due before all rest ws settled waits none h = absurd (settled refl)
   head_ended Waiting before all rest ws settled waits none h = absurd (let e = waits.1 in cc)
   head_ended Past before all rest ws settled waits none h = inr (before, h.0, h.1, h.2)
   head_ended Ended before all rest ws settled waits none h = inl h.1
 
-  part_is : (t : List ℕ) (extent : ℕ) (f : Feed) (ws : List Member) (whole : Bool) → Fed limit past (Some t) extent f ws → IsSettled f → (whole ≡ true → ws ≡ []) → IsPart limit past whole t (given limit t f.cursor)
+  part_is : (t : List ℕ) (extent : ℕ) (f : Feed) (ws : List Member) (whole : Bool) → Fed limit past (Some t) extent f ws
+      → IsSettled f → (whole ≡ true → ws ≡ []) → IsPart limit past whole t (given limit t f.cursor)
   part_is t extent f ws whole fed settled none =
       let told = fed.told t refl in
       let from = lines (drop f.cursor.start t) in
@@ -44,17 +50,22 @@ module _ (limit : ℕ) (past : List ℕ → Bool) where
         before = told.begins.0;
         read = read_lines t f.cursor;
         after = lines (drop f.cursor.at t);
-        cut = told.begins.1.0 ∙ ap (λ ls. told.begins.0 ++ ls) (sym (take-append-drop f.cursor.count from) ∙ ap (λ ls. take f.cursor.count from ++ ls) (sym (fed.stands.rest t refl)))
+        cut = told.begins.1.0
+            ∙ ap (λ ls. told.begins.0 ++ ls) (sym (take-append-drop f.cursor.count from)
+            ∙ ap (λ ls. take f.cursor.count from ++ ls) (sym (fed.stands.rest t refl)))
             ∙ sym (append_assoc told.begins.0 (read_lines t f.cursor) (lines (drop f.cursor.at t)));
         run = told.run;
-        ended = λ e. head_ended f.progress (done limit t f) (given limit t f.cursor) (lines (drop f.cursor.at t)) ws settled fed.waits (none e) told.head;
+        ended = λ e. head_ended f.progress (done limit t f) (given limit t f.cursor) (lines (drop f.cursor.at t)) ws
+            settled fed.waits (none e) told.head;
       }
 
 -- ---- all sources
 
-module _ (limit : ℕ) (past : List ℕ → Bool) {S : Type 0} (text : S → Option (List ℕ)) (extent : S → ℕ) (ws : List WaitingLine) where
+module _ (limit : ℕ) (past : List ℕ → Bool) {S : Type 0} (text : S → Option (List ℕ)) (extent : S → ℕ)
+    (ws : List WaitingLine) where
   -- each is a part of its source
-  pub parts_are : (n : ℕ) (ss : List S) (fs : List Feed) (texts : List (List ℕ)) (whole : Bool) → length ss ≡ length fs → Known (map text ss) texts → AreFed limit past text extent n ss fs ws → AreSettled fs
+  pub parts_are : (n : ℕ) (ss : List S) (fs : List Feed) (texts : List (List ℕ)) (whole : Bool) → length ss ≡ length fs
+      → Known (map text ss) texts → AreFed limit past text extent n ss fs ws → AreSettled fs
       → (whole ≡ true → ws ≡ []) → AllZip (IsPart limit past whole) texts (parts limit text ss fs)
   parts_are n [] [] [] whole same known fed settled none = tt
   parts_are n [] fs (t ∷ ts) whole same known fed settled none = absurd known
@@ -63,13 +74,17 @@ module _ (limit : ℕ) (past : List ℕ → Bool) {S : Type 0} (text : S → Opt
   parts_are n (s ∷ ss) (f ∷ fs) [] whole same known fed settled none = absurd known
   parts_are n (s ∷ ss) (f ∷ fs) (t ∷ ts) whole same known fed settled none = (
     subst (λ o. IsPart limit past whole t (given limit (text_or o) f.cursor)) (sym known.0)
-        (part_is limit past t (extent s) f (waits_of n ws) whole (subst (λ o. Fed limit past o (extent s) f (waits_of n ws)) known.0 fed.0) settled.0 (λ e. ap (waits_of n) (none e))),
+        (part_is limit past t (extent s) f (waits_of n ws) whole
+        (subst (λ o. Fed limit past o (extent s) f (waits_of n ws)) known.0 fed.0) settled.0
+        (λ e. ap (waits_of n) (none e))),
     parts_are (n + 1) ss fs ts whole (omega arith) known.1 fed.1 settled.1 none,
   )
 
   -- they have as many lines as were counted
-  pub parts_count : (n : ℕ) (ss : List S) (fs : List Feed) → length ss ≡ length fs → AreTold text ss → AreFed limit past text extent n ss fs ws
-      → sum (map (λ (f : Feed). f.cursor.count) fs) ≡ sum (map (λ (ms : List Member). length ms) (parts limit text ss fs))
+  pub parts_count : (n : ℕ) (ss : List S) (fs : List Feed) → length ss ≡ length fs → AreTold text ss
+      → AreFed limit past text extent n ss fs ws
+      → sum (map (λ (f : Feed). f.cursor.count) fs)
+      ≡ sum (map (λ (ms : List Member). length ms) (parts limit text ss fs))
   parts_count n [] [] same told fed = refl
   parts_count n [] (f ∷ fs) same told fed = absurd (omega arith)
   parts_count n (s ∷ ss) [] same told fed = absurd (omega arith)
@@ -79,12 +94,17 @@ module _ (limit : ℕ) (past : List ℕ → Bool) {S : Type 0} (text : S → Opt
       let here = length-map (read_lines t f.cursor) (member_of limit) in
       let rest = parts_count (n + 1) ss fs (omega arith) told.1 fed.1 in
       let a = sum_by-cons (λ (k : ℕ). k) f.cursor.count (map (λ (f : Feed). f.cursor.count) fs) in
-      let b = sum_by-cons (λ (k : ℕ). k) (length (given limit t f.cursor)) (map (λ (ms : List Member). length ms) (parts limit text ss fs)) in
+      let b = sum_by-cons (λ (k : ℕ). k) (length (given limit t f.cursor))
+      (map (λ (ms : List Member). length ms) (parts limit text ss fs)) in
       omega arith
 
-  module _ (upward : IsUpward past) (upto : Member → Bool) (late : AllByRecursion (λ (w : WaitingLine). IsLate limit past upward upto w.member) ws) where
-    parts_read : (n : ℕ) (ss : List S) (fs : List Feed) → length ss ≡ length fs → AreTold text ss → AreFed limit past text extent n ss fs ws → AreSettled fs → AllByRecursion (λ m. upto m ≡ true) (all_done limit text ss fs)
-        → filter (is_read limit past upward upto) (all_lines (parts limit text ss fs)) ≡ filter (stays limit past upward) (all_done limit text ss fs)
+  module _ (upward : IsUpward past) (upto : Member → Bool)
+      (late : AllByRecursion (λ (w : WaitingLine). IsLate limit past upward upto w.member) ws) where
+    parts_read : (n : ℕ) (ss : List S) (fs : List Feed) → length ss ≡ length fs → AreTold text ss
+        → AreFed limit past text extent n ss fs ws → AreSettled fs
+        → AllByRecursion (λ m. upto m ≡ true) (all_done limit text ss fs)
+        → filter (is_read limit past upward upto) (all_lines (parts limit text ss fs))
+        ≡ filter (stays limit past upward) (all_done limit text ss fs)
     parts_read n [] fs same told fed settled each = refl
     parts_read n (s ∷ ss) [] same told fed settled each = absurd (omega arith)
     parts_read n (s ∷ ss) (f ∷ fs) same told fed settled each =
@@ -92,8 +112,10 @@ module _ (limit : ℕ) (past : List ℕ → Bool) {S : Type 0} (text : S → Opt
         let first = done limit t f in
         let others = all_done limit text ss fs in
         let cut = each_cut (λ m. upto m ≡ true) first others each in
-        let here : filter (is_read limit past upward upto) (given limit t f.cursor) ≡ filter (stays limit past upward) first =
-        given_read limit past upward upto t (extent s) f (waits_of n ws) (subst (λ o. Fed limit past o (extent s) f (waits_of n ws)) (is_told (text s) told.0) fed.0) settled.0
+        let here : filter (is_read limit past upward upto) (given limit t f.cursor)
+        ≡ filter (stays limit past upward) first =
+        given_read limit past upward upto t (extent s) f (waits_of n ws)
+        (subst (λ o. Fed limit past o (extent s) f (waits_of n ws)) (is_told (text s) told.0) fed.0) settled.0
         (late_of limit past upward upto text extent ws late n) cut.0 in
         filter-append (is_read limit past upward upto) (given limit t f.cursor) (all_lines (parts limit text ss fs))
         ∙ ap₂ (λ u v. u ++ v) here (parts_read (n + 1) ss fs (omega arith) told.1 fed.1 settled.1 cut.1)
@@ -101,23 +123,31 @@ module _ (limit : ℕ) (past : List ℕ → Bool) {S : Type 0} (text : S → Opt
 
 -- ---- where a merge came to
 
-module _ {S : Type 0} (text : S → Option (List ℕ)) (extent gave : S → ℕ) (limit : ℕ) (past : List ℕ → Bool) (upward : IsUpward past) (ss0 : List S) (fs0 : List Feed) (ss : List S) (fs : List Feed)
-    (ws : List WaitingLine) (b : Option Pair) (taken : List Member) (reached : Reached limit text past extent gave ss0 fs0 ss fs ws b taken) (told : AreTold text ss0)
+module _ {S : Type 0} (text : S → Option (List ℕ)) (extent gave : S → ℕ) (limit : ℕ) (past : List ℕ → Bool)
+    (upward : IsUpward past) (ss0 : List S) (fs0 : List Feed) (ss : List S) (fs : List Feed)
+    (ws : List WaitingLine) (b : Option Pair) (taken : List Member)
+    (reached : Reached limit text past extent gave ss0 fs0 ss fs ws b taken) (told : AreTold text ss0)
     (wanted : Member → Bool) (within : (m : Member) → wanted m ≡ true → not (past m.values.key) ≡ true) where
   told_now : AreTold text ss
   told_now = told_moved text extent gave ss0 ss fs0 fs reached.ready.same reached.moved told
 
-  handed : (taken ≡ rising member_place place_cmp (all_done limit text ss fs)) × AllByRecursion (λ m. IsUpto b (member_pair m)) (all_done limit text ss fs)
+  handed : (taken ≡ rising member_place place_cmp (all_done limit text ss fs))
+      × AllByRecursion (λ m. IsUpto b (member_pair m)) (all_done limit text ss fs)
   handed = reached.handed.told told
 
-  read : (upto : Member → Bool) → AllByRecursion (λ (w : WaitingLine). IsLate limit past upward upto w.member) ws → AllByRecursion (λ m. upto m ≡ true) (all_done limit text ss fs)
-      → filter (is_read limit past upward upto) (all_lines (parts limit text ss fs)) ≡ filter (stays limit past upward) (all_done limit text ss fs)
-  read upto late each = parts_read limit past text extent ws upward upto late 0 ss fs reached.ready.same told_now reached.ready.fed reached.settled each
+  read : (upto : Member → Bool) → AllByRecursion (λ (w : WaitingLine). IsLate limit past upward upto w.member) ws
+      → AllByRecursion (λ m. upto m ≡ true) (all_done limit text ss fs)
+      → filter (is_read limit past upward upto) (all_lines (parts limit text ss fs))
+      ≡ filter (stays limit past upward) (all_done limit text ss fs)
+  read upto late each = parts_read limit past text extent ws upward upto late 0 ss fs reached.ready.same told_now
+      reached.ready.fed reached.settled each
 
   -- what was taken is a front of what is wanted of the lines that were read
   pub parts_first : TakenFirst wanted b (collection (parts limit text ss fs)) taken
-  parts_first = taken_first limit past upward wanted within b ws reached.above (all_done limit text ss fs) taken handed.1 handed.0 (all_lines (parts limit text ss fs)) read
+  parts_first = taken_first limit past upward wanted within b ws reached.above (all_done limit text ss fs) taken
+      handed.1 handed.0 (all_lines (parts limit text ss fs)) read
 
   -- where no line waits, it is all
   pub parts_whole : ws ≡ [] → filter wanted (collection (parts limit text ss fs)) ≡ filter wanted taken
-  parts_whole = taken_whole limit past upward wanted within b ws reached.above (all_done limit text ss fs) taken handed.1 handed.0 (all_lines (parts limit text ss fs)) read
+  parts_whole = taken_whole limit past upward wanted within b ws reached.above (all_done limit text ss fs) taken
+      handed.1 handed.0 (all_lines (parts limit text ss fs)) read

@@ -1,6 +1,7 @@
 -- The lines that were taken of sources are lines of theirs.
 use Rattle.std.proofs.lemmas.Slice.Zip.{AllZip-long}
-use Rattle.std.proofs.Common.{◌≡◌, ◌⊎◌, inl, inr, ℕ, zero, suc, ◌+◌, ◌-◌, List, [], ◌∷◌, ◌++◌, length, take, drop, map, zip, Bool, true, Option, None, Some, refl, sym, ◌∙◌, subst}
+use Rattle.std.proofs.Common.{◌≡◌, ◌⊎◌, inl, inr, ℕ, zero, suc, ◌+◌, ◌-◌, List, [], ◌∷◌, ◌++◌, length, take, drop, map}
+use Rattle.std.proofs.Common.{zip, Bool, true, Option, None, Some, refl, sym, ◌∙◌, subst}
 use Rattle.std.specs.List.{AllByRecursion}
 use Rattle.std.specs.Option.{is_some}
 use Rattle.cdxj_places.specs.Pairs.{Pair}
@@ -33,7 +34,8 @@ in_later x (u ∷ us) vs h = inr (in_later x us vs h)
 
 module _ (limit : ℕ) where
   -- each of these entries is that of one of these lines
-  each_entry : (ls all : List (List ℕ)) (ms : List Member) → map (line_entry limit) ls ≡ map Some ms → ((l : List ℕ) → IsIn l ls → IsIn l all)
+  each_entry : (ls all : List (List ℕ)) (ms : List Member) → map (line_entry limit) ls ≡ map Some ms
+      → ((l : List ℕ) → IsIn l ls → IsIn l all)
       → AllByRecursion (λ m. (line : List ℕ) × IsIn line all × (line_entry limit line ≡ Some m)) ms
   each_entry ls all [] e f = tt
   each_entry [] all (m ∷ ms) e f = cc
@@ -43,7 +45,8 @@ module _ (limit : ℕ) where
       ((l, f l (inl refl), here), each_entry ls all ms rest (λ k i. f k (inr i)))
 
   -- what is done of a source are lines of it
-  done_lines : (past : List ℕ → Bool) (t : List ℕ) (extent : ℕ) (f : Feed) (ws : List Member) → Fed limit past (Some t) extent f ws → AllByRecursion (IsLineIn limit t) (done limit t f)
+  done_lines : (past : List ℕ → Bool) (t : List ℕ) (extent : ℕ) (f : Feed) (ws : List Member)
+      → Fed limit past (Some t) extent f ws → AllByRecursion (IsLineIn limit t) (done limit t f)
   done_lines past t extent f ws fed =
       let told = fed.told t refl in
       let from = lines (drop f.cursor.start t) in
@@ -51,24 +54,30 @@ module _ (limit : ℕ) where
       (each_entry (read_lines t f.cursor) (lines t) (given limit t f.cursor) told.run.entries
       (λ l i. subst (IsIn l) (sym told.begins.1.0) (in_later l told.begins.0 from (in_take l f.cursor.count from i))))
 
-  later_source : (o : Option (List ℕ)) (sources : List (Option (List ℕ))) (m : Member) → IsLineOf limit sources m → IsLineOf limit (o ∷ sources) m
+  later_source : (o : Option (List ℕ)) (sources : List (Option (List ℕ))) (m : Member) → IsLineOf limit sources m
+      → IsLineOf limit (o ∷ sources) m
   later_source None sources m h = inr h
   later_source (Some t) sources m h = inr h
 
-  first_source : (o : Option (List ℕ)) (sources : List (Option (List ℕ))) (m : Member) → IsLineIn limit (text_or o) m → IsLineOf limit (o ∷ sources) m
+  first_source : (o : Option (List ℕ)) (sources : List (Option (List ℕ))) (m : Member) → IsLineIn limit (text_or o) m
+      → IsLineOf limit (o ∷ sources) m
   first_source None sources m h = absurd h.1
   first_source (Some t) sources m h = inl h
 
   module _ {S : Type 0} (text : S → Option (List ℕ)) (extent : S → ℕ) where
-    all_lines_of : (past : List ℕ → Bool) (n : ℕ) (ss : List S) (fs : List Feed) (ws : List WaitingLine) → AreTold text ss → AreFed limit past text extent n ss fs ws → AllByRecursion (IsLineOf limit (map text ss)) (all_done limit text ss fs)
+    all_lines_of : (past : List ℕ → Bool) (n : ℕ) (ss : List S) (fs : List Feed) (ws : List WaitingLine)
+        → AreTold text ss → AreFed limit past text extent n ss fs ws
+        → AllByRecursion (IsLineOf limit (map text ss)) (all_done limit text ss fs)
     all_lines_of past n [] fs ws told fed = tt
     all_lines_of past n (s ∷ ss) [] ws told fed = tt
     all_lines_of past n (s ∷ ss) (f ∷ fs) ws told fed =
         let t = text_or (text s) in
         each_join (IsLineOf limit (map text (s ∷ ss))) (done limit t f) (all_done limit text ss fs)
         (each_weaker (λ (m : Member) (h : IsLineIn limit t m). first_source (text s) (map text ss) m h) (done limit t f)
-        (done_lines past t (extent s) f (waits_of n ws) (subst (λ o. Fed limit past o (extent s) f (waits_of n ws)) (is_told (text s) told.0) fed.0)))
-        (each_weaker (λ (m : Member) (h : IsLineOf limit (map text ss) m). later_source (text s) (map text ss) m h) (all_done limit text ss fs) (all_lines_of past (n + 1) ss fs ws told.1 fed.1))
+        (done_lines past t (extent s) f (waits_of n ws)
+        (subst (λ o. Fed limit past o (extent s) f (waits_of n ws)) (is_told (text s) told.0) fed.0)))
+        (each_weaker (λ (m : Member) (h : IsLineOf limit (map text ss) m). later_source (text s) (map text ss) m h)
+        (all_done limit text ss fs) (all_lines_of past (n + 1) ss fs ws told.1 fed.1))
 
     -- all sources tell their bytes, or one doesn't
     told_or : (ss : List S) → AreTold text ss ⊎ ((m : Member) → HasEntry limit m → IsLineOf limit (map text ss) m)
@@ -78,24 +87,30 @@ module _ (limit : ℕ) where
       | inr f ↦ inr (λ m e. later_source (text s) (map text ss) m (f m e))
     ]
       where
-        one : (o : Option (List ℕ)) → (is_some o ≡ true) ⊎ ((m : Member) → HasEntry limit m → IsLineOf limit (o ∷ map text ss) m)
+        one : (o : Option (List ℕ)) → (is_some o ≡ true)
+            ⊎ ((m : Member) → HasEntry limit m → IsLineOf limit (o ∷ map text ss) m)
         one None = inr (λ m e. inl e)
         one (Some t) = inl refl
 
     -- what was taken are lines of the sources
-    pub taken_lines : (past : List ℕ → Bool) (gave : S → ℕ) (ss0 : List S) (fs0 : List Feed) (ss : List S) (fs : List Feed) (ws : List WaitingLine) (b : Option Pair) (taken : List Member) → length ss0 ≡ length fs0
+    pub taken_lines : (past : List ℕ → Bool) (gave : S → ℕ) (ss0 : List S) (fs0 : List Feed) (ss : List S)
+        (fs : List Feed) (ws : List WaitingLine) (b : Option Pair) (taken : List Member) → length ss0 ≡ length fs0
         → Reached limit text past extent gave ss0 fs0 ss fs ws b taken → AreLinesOf limit (map text ss0) taken
     taken_lines past gave ss0 fs0 ss fs ws b taken same reached = record {
       rise = reached.handed.rises;
       each = elim (told_or ss0) [
         | inl told ↦
             subst (AllByRecursion (IsLineOf limit (map text ss0))) (sym (reached.handed.told told).0)
-            (each_rising member_place place_cmp place_cmp_total (IsLineOf limit (map text ss0)) (all_done limit text ss fs)
-            (subst (λ ts. AllByRecursion (IsLineOf limit ts) (all_done limit text ss fs)) (texts_kept text extent gave ss0 ss fs0 fs same long reached.moved)
-            (all_lines_of past 0 ss fs ws (told_moved text extent gave ss0 ss fs0 fs reached.ready.same reached.moved told) reached.ready.fed)))
+            (each_rising member_place place_cmp place_cmp_total (IsLineOf limit (map text ss0))
+            (all_done limit text ss fs)
+            (subst (λ ts. AllByRecursion (IsLineOf limit ts) (all_done limit text ss fs))
+            (texts_kept text extent gave ss0 ss fs0 fs same long reached.moved)
+            (all_lines_of past 0 ss fs ws
+            (told_moved text extent gave ss0 ss fs0 fs reached.ready.same reached.moved told) reached.ready.fed)))
         | inr f ↦ each_weaker f taken reached.handed.entries
       ];
     }
       where
         long : length ss ≡ length ss0
-        long = sym (length_zip ss fs reached.ready.same) ∙ AllZip-long (Move text extent gave) (zip ss0 fs0) (zip ss fs) reached.moved ∙ length_zip ss0 fs0 same
+        long = sym (length_zip ss fs reached.ready.same)
+            ∙ AllZip-long (Move text extent gave) (zip ss0 fs0) (zip ss fs) reached.moved ∙ length_zip ss0 fs0 same

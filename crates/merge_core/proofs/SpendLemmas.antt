@@ -1,7 +1,10 @@
 -- How far sources were read.
 use Rattle.std.proofs.lemmas.List.{take-map}
 use Rattle.std.specs.List.{AllZip}
-use Rattle.std.proofs.Common.{◌≡◌, ℕ, zero, suc, ◌+◌, ◌-◌, ◌*◌, ◌≤◌, List, [], ◌∷◌, ◌++◌, length, take, drop, map, flat_map, zip, get_or, set, Bool, false, Option, None, Some, refl, sym, ap, ◌∙◌, subst, arith, append_assoc, append-nil, take-append-drop, length-append, length-drop, drop-drop, drop-set-lt}
+use Rattle.std.proofs.Common.{◌≡◌, ℕ, zero, suc, ◌+◌, ◌-◌, ◌*◌, ◌≤◌, List, [], ◌∷◌, ◌++◌, length, take, drop, map}
+use Rattle.std.proofs.Common.{flat_map, zip, get_or, set, Bool, false, Option, None, Some, refl, sym, ap, ◌∙◌, subst}
+use Rattle.std.proofs.Common.{arith, append_assoc, append-nil, take-append-drop, length-append, length-drop, drop-drop}
+use Rattle.std.proofs.Common.{drop-set-lt}
 use Rattle.std.specs.List.{AllByRecursion}
 use Rattle.std.proofs.lemmas.List.Concat.{flat_map-append}
 use Rattle.cdxj_places.specs.Pairs.{Pair}
@@ -39,8 +42,11 @@ one_line (l ∷ k ∷ ls) h = absurd (omega arith)
 
 module _ (limit : ℕ) (past : List ℕ → Bool) where
   -- a cursor that passed one line more at most than those that the feed gave
-  pub read_to : (t : List ℕ) (extent : ℕ) (f : Feed) (ws : List Member) (b : Option Pair) → Fed limit past (Some t) extent f ws → AllByRecursion (λ m. IsUpto b (member_pair m)) (done limit t f)
-      → (new : CursorState) → new.start ≡ f.cursor.start → new.at ≤ f.cursor.at + first_length (lines (drop f.cursor.at t)) → length new.ahead ≤ 8192 → ReadTo limit past b t new
+  pub read_to : (t : List ℕ) (extent : ℕ) (f : Feed) (ws : List Member) (b : Option Pair)
+      → Fed limit past (Some t) extent f ws → AllByRecursion (λ m. IsUpto b (member_pair m)) (done limit t f)
+      → (new : CursorState) → new.start ≡ f.cursor.start
+      → new.at ≤ f.cursor.at + first_length (lines (drop f.cursor.at t)) → length new.ahead ≤ 8192
+      → ReadTo limit past b t new
   read_to t extent f ws b fed upto new start near ahead =
       let told = fed.told t refl in
       let from = lines (drop f.cursor.start t) in
@@ -61,34 +67,47 @@ module _ (limit : ℕ) (past : List ℕ → Bool) where
       record {
         read = take k all;
         rest = drop k all ++ drop f.cursor.count from;
-        cut = ap (λ s. lines (drop s t)) start ∙ sym (take-append-drop f.cursor.count from) ∙ ap (λ ls. ls ++ drop f.cursor.count from) (sym (take-append-drop k all))
+        cut = ap (λ s. lines (drop s t)) start ∙ sym (take-append-drop f.cursor.count from)
+            ∙ ap (λ ls. ls ++ drop f.cursor.count from) (sym (take-append-drop k all))
             ∙ append_assoc (take k all) (drop k all) (drop f.cursor.count from);
         members = done limit t f;
-        entries = sym (take-map (line_entry limit) k all) ∙ ap (take k) told.run.entries ∙ take-map Some k (given limit t f.cursor);
-        within = each_both (λ (m : Member). past m.values.key ≡ false) (λ m. IsUpto b (member_pair m)) (done limit t f) told.within upto;
+        entries = sym (take-map (line_entry limit) k all) ∙ ap (take k) told.run.entries
+            ∙ take-map Some k (given limit t f.cursor);
+        within = each_both (λ (m : Member). past m.values.key ≡ false) (λ m. IsUpto b (member_pair m)) (done limit t f)
+            told.within upto;
         most = omega (arith, start, near, ahead, stood, split, parts, sum, last, l1, l2, l3, l4, l5);
       }
 
   module _ {S : Type 0} (text : S → Option (List ℕ)) (extent : S → ℕ) (b : Option Pair) where
     -- sources of which no line above the bound is done
-    pub are_read_to : (n : ℕ) (ss : List S) (fs : List Feed) (ws : List WaitingLine) → AreFed limit past text extent n ss fs ws → AllByRecursion (λ m. IsUpto b (member_pair m)) (all_done limit text ss fs) → AreReadTo limit past text b ss fs
+    pub are_read_to : (n : ℕ) (ss : List S) (fs : List Feed) (ws : List WaitingLine)
+        → AreFed limit past text extent n ss fs ws
+        → AllByRecursion (λ m. IsUpto b (member_pair m)) (all_done limit text ss fs) → AreReadTo limit past text b ss fs
     are_read_to n [] fs ws fed upto = tt
     are_read_to n (s ∷ ss) [] ws fed upto = tt
     are_read_to n (s ∷ ss) (f ∷ fs) ws fed upto =
-        let parts = each_cut (λ m. IsUpto b (member_pair m)) (done limit (text_or (text s)) f) (all_done limit text ss fs) upto in (
-          λ t e. read_to t (extent s) f (waits_of n ws) b (subst (λ o. Fed limit past o (extent s) f (waits_of n ws)) e fed.0) (subst (λ o. AllByRecursion (λ m. IsUpto b (member_pair m)) (done limit (text_or o) f)) e parts.0)
+        let parts = each_cut (λ m. IsUpto b (member_pair m)) (done limit (text_or (text s)) f)
+        (all_done limit text ss fs) upto in (
+          λ t e. read_to t (extent s) f (waits_of n ws) b
+              (subst (λ o. Fed limit past o (extent s) f (waits_of n ws)) e fed.0)
+              (subst (λ o. AllByRecursion (λ m. IsUpto b (member_pair m)) (done limit (text_or o) f)) e parts.0)
               f.cursor refl (omega arith) (fed.0.stands.filled.most),
           are_read_to (n + 1) ss fs ws fed.1 parts.1,
         )
 
     -- one of them was read on
-    pub read_on : (ss : List S) (fs : List Feed) (i : ℕ) (s : S) (f : Feed) → AreReadTo limit past text b ss fs → ((t : List ℕ) → text s ≡ Some t → ReadTo limit past b t f.cursor) → AreReadTo limit past text b (set ss i s) (set fs i f)
+    pub read_on : (ss : List S) (fs : List Feed) (i : ℕ) (s : S) (f : Feed) → AreReadTo limit past text b ss fs
+        → ((t : List ℕ) → text s ≡ Some t → ReadTo limit past b t f.cursor)
+        → AreReadTo limit past text b (set ss i s) (set fs i f)
     read_on ss fs i s f h k =
-        subst (AllByRecursion (λ x. (t : List ℕ) → text x.0 ≡ Some t → ReadTo limit past b t x.1.cursor)) (sym (zip_set ss fs i s f))
-        (each_replaced (λ (x : S × Feed). (t : List ℕ) → text x.0 ≡ Some t → ReadTo limit past b t x.1.cursor) (zip ss fs) i (s, f) h k)
+        subst (AllByRecursion (λ x. (t : List ℕ) → text x.0 ≡ Some t → ReadTo limit past b t x.1.cursor))
+        (sym (zip_set ss fs i s f))
+        (each_replaced (λ (x : S × Feed). (t : List ℕ) → text x.0 ≡ Some t → ReadTo limit past b t x.1.cursor)
+        (zip ss fs) i (s, f) h k)
 
     -- the next line of one of them is to be read
-    pub due_read : (ss : List S) (fs : List Feed) (i : ℕ) (d : Feed) → AreReadTo limit past text b ss fs → AreReadTo limit past text b ss (set fs i (due (get_or fs i d)))
+    pub due_read : (ss : List S) (fs : List Feed) (i : ℕ) (d : Feed) → AreReadTo limit past text b ss fs
+        → AreReadTo limit past text b ss (set fs i (due (get_or fs i d)))
     due_read [] fs i d h = tt
     due_read (s ∷ ss) [] zero d h = h
     due_read (s ∷ ss) [] (suc i) d h = h
@@ -98,10 +117,13 @@ module _ (limit : ℕ) (past : List ℕ → Bool) where
 -- ---- the opening of sources
 
 -- where nothing may be read, little was
-pub read_none : (limit : ℕ) (past : List ℕ → Bool) (t : List ℕ) (c : CursorState) → ReadTo limit past None t c → reach c ≤ c.start + 2 * longest (lines t) + 8192
-read_none limit past t c h = let most = h.most in let none = ap bytes_of (no_lines h.read h.members h.entries (none_of h.members h.within)) in omega arith
+pub read_none : (limit : ℕ) (past : List ℕ → Bool) (t : List ℕ) (c : CursorState) → ReadTo limit past None t c
+    → reach c ≤ c.start + 2 * longest (lines t) + 8192
+read_none limit past t c h = let most = h.most in let none = ap bytes_of
+    (no_lines h.read h.members h.entries (none_of h.members h.within)) in omega arith
   where
-    none_of : (ms : List Member) → AllByRecursion (λ m. (past m.values.key ≡ false) × IsUpto None (member_pair m)) ms → ms ≡ []
+    none_of : (ms : List Member) → AllByRecursion (λ m. (past m.values.key ≡ false) × IsUpto None (member_pair m)) ms
+        → ms ≡ []
     none_of [] k = refl
     none_of (m ∷ ms) k = absurd k.0.1
 
@@ -110,18 +132,21 @@ read_none limit past t c h = let most = h.most in let none = ap bytes_of (no_lin
     no_lines (l ∷ ls) [] e n = cc
     no_lines (l ∷ ls) (m ∷ ms) e n = cc
 
-pub opened_none : {S : Type 0} (text : S → Option (List ℕ)) (extent gave : S → ℕ) (ss : List S) → AllZip (λ x y. OpenedWithin (text x) (extent x) (gave x) (gave y)) ss ss
+pub opened_none : {S : Type 0} (text : S → Option (List ℕ)) (extent gave : S → ℕ) (ss : List S)
+    → AllZip (λ x y. OpenedWithin (text x) (extent x) (gave x) (gave y)) ss ss
 opened_none text extent gave [] = tt
 opened_none text extent gave (s ∷ ss) = ((λ t e. omega arith), opened_none text extent gave ss)
 
-pub two_put : {X Y : Type 0} (R : X → Y → Type 0) (xs : List X) (ys : List Y) (i : ℕ) (d : X) (y : Y) → AllZip R xs ys → R (get_or xs i d) y → AllZip R xs (set ys i y)
+pub two_put : {X Y : Type 0} (R : X → Y → Type 0) (xs : List X) (ys : List Y) (i : ℕ) (d : X) (y : Y) → AllZip R xs ys
+    → R (get_or xs i d) y → AllZip R xs (set ys i y)
 two_put R [] [] i d y h r = tt
 two_put R [] (z ∷ ys) i d y h r = absurd h
 two_put R (x ∷ xs) [] i d y h r = absurd h
 two_put R (x ∷ xs) (z ∷ ys) zero d y h r = (r, h.1)
 two_put R (x ∷ xs) (z ∷ ys) (suc i) d y h r = (h.0, two_put R xs ys i d y h.1 r)
 
-pub two_push : {X Y : Type 0} (R : X → Y → Type 0) (xs : List X) (ys : List Y) (x : X) (y : Y) → AllZip R xs ys → R x y → AllZip R (xs ++ x ∷ []) (ys ++ y ∷ [])
+pub two_push : {X Y : Type 0} (R : X → Y → Type 0) (xs : List X) (ys : List Y) (x : X) (y : Y) → AllZip R xs ys → R x y
+    → AllZip R (xs ++ x ∷ []) (ys ++ y ∷ [])
 two_push R [] [] x y h r = (r, tt)
 two_push R [] (z ∷ ys) x y h r = absurd h
 two_push R (w ∷ xs) [] x y h r = absurd h
@@ -136,9 +161,11 @@ left_here {X = X} old xs i d e = first_left xs i ∙ ap (λ l. get_or l 0 d) e �
     first_left [] (suc k) = refl
     first_left (u ∷ us) (suc k) = first_left us k
 
-pub left_after : {X : Type 0} (old xs : List X) (i : ℕ) (y : X) → drop i xs ≡ drop i old → drop (i + 1) (set xs i y) ≡ drop (i + 1) old
+pub left_after : {X : Type 0} (old xs : List X) (i : ℕ) (y : X) → drop i xs ≡ drop i old → drop (i + 1) (set xs i y)
+    ≡ drop (i + 1) old
 left_after {X = X} old xs i y e =
-    drop-set-lt (i + 1) xs i y (omega arith) ∙ ap (λ n. drop n xs) (let q : i + 1 ≡ 1 + i = omega arith in q) ∙ after 1 i xs ∙ ap (drop 1) e ∙ sym (after 1 i old)
+    drop-set-lt (i + 1) xs i y (omega arith) ∙ ap (λ n. drop n xs) (let q : i + 1 ≡ 1 + i = omega arith in q)
+    ∙ after 1 i xs ∙ ap (drop 1) e ∙ sym (after 1 i old)
     ∙ ap (λ n. drop n old) (let q : 1 + i ≡ i + 1 = omega arith in q)
   where
     after : (k n : ℕ) (us : List X) → drop (k + n) us ≡ drop k (drop n us)

@@ -1,6 +1,7 @@
 -- The lines that the sources have from where they are read on.
 use Rattle.std.specs.List.{AllZip}
-use Rattle.std.proofs.Common.{◌≡◌, ℕ, List, [], ◌∷◌, ◌++◌, length, map, drop, filter, zip, true, false, not, Option, Some, refl, sym, ap, ap₂, ◌∙◌, subst, arith}
+use Rattle.std.proofs.Common.{◌≡◌, ℕ, List, [], ◌∷◌, ◌++◌, length, map, drop, filter, zip, true, false, not, Option}
+use Rattle.std.proofs.Common.{Some, refl, sym, ap, ap₂, ◌∙◌, subst, arith}
 use Rattle.std.specs.List.{AllByRecursion}
 use Rattle.std.proofs.lemmas.List.{length-map, map-append}
 use Rattle.std.proofs.lemmas.List.Elements.{filter-append}
@@ -30,20 +31,28 @@ falls_back [] vs h = h
 falls_back (u ∷ us) vs h = falls_back us vs h.1
 
 -- an index that was cut: its last lines are a run, and they are those that aren't below
-pub run_after : (limit : ℕ) (start : Pair) (t : List ℕ) (ms : List Member) (offset : ℕ) → IsIndex limit t ms → (cut : IsCut start t ms offset)
+pub run_after : (limit : ℕ) (start : Pair) (t : List ℕ) (ms : List Member) (offset : ℕ) → IsIndex limit t ms
+    → (cut : IsCut start t ms offset)
     → IsRun limit (lines (drop offset t)) cut.high × (filter (λ m. not (is_low start m)) ms ≡ cut.high)
 run_after limit start t ms offset index cut =
-    let entries : map (line_entry limit) cut.before ++ map (line_entry limit) (lines (drop offset t)) ≡ map Some cut.low ++ map Some cut.high =
-    sym (map-append (line_entry limit) cut.before (lines (drop offset t))) ∙ ap (map (line_entry limit)) (sym cut.begins.0) ∙ index.entries
+    let entries : map (line_entry limit) cut.before ++ map (line_entry limit) (lines (drop offset t)) ≡ map Some cut.low
+    ++ map Some cut.high =
+    sym (map-append (line_entry limit) cut.before (lines (drop offset t)))
+    ∙ ap (map (line_entry limit)) (sym cut.begins.0) ∙ index.entries
     ∙ ap (map Some) cut.members_are ∙ map-append Some cut.low cut.high in (
       record {
-        entries = after_front (map (line_entry limit) cut.before) (map (line_entry limit) (lines (drop offset t))) (map Some cut.low) (map Some cut.high)
+        entries = after_front (map (line_entry limit) cut.before) (map (line_entry limit) (lines (drop offset t)))
+            (map Some cut.low) (map Some cut.high)
             (length-map cut.before (line_entry limit) ∙ cut.as_many ∙ sym (length-map cut.low Some)) entries;
         ordered = falls_back cut.low cut.high (subst (NeverFalls member_pair pair_cmp) cut.members_are index.ordered);
       },
-      ap (filter (λ m. not (is_low start m))) cut.members_are ∙ filter-append (λ m. not (is_low start m)) cut.low cut.high
-          ∙ ap₂ (λ u v. u ++ v) (filter_none (λ m. not (is_low start m)) cut.low (each_weaker (λ (m : Member) (e : is_low start m ≡ true). ap not e) cut.low cut.all_below))
-          (filter_all (λ m. not (is_low start m)) cut.high (each_weaker (λ (m : Member) (e : is_low start m ≡ false). ap not e) cut.high cut.none_below)),
+      ap (filter (λ m. not (is_low start m))) cut.members_are
+          ∙ filter-append (λ m. not (is_low start m)) cut.low cut.high
+          ∙ ap₂ (λ u v. u ++ v)
+          (filter_none (λ m. not (is_low start m)) cut.low
+          (each_weaker (λ (m : Member) (e : is_low start m ≡ true). ap not e) cut.low cut.all_below))
+          (filter_all (λ m. not (is_low start m)) cut.high
+          (each_weaker (λ (m : Member) (e : is_low start m ≡ false). ap not e) cut.high cut.none_below)),
     )
 
 module _ {S : Type 0} (limit : ℕ) (text : S → Option (List ℕ)) where
@@ -55,7 +64,8 @@ module _ {S : Type 0} (limit : ℕ) (text : S → Option (List ℕ)) where
   told_once t u o e f = let both : Some t ≡ Some u = sym e ∙ f in let q : t ≡ u = cc in q
 
   -- of sources that are read from their beginning, all lines
-  pub runs_whole : (ss : List S) (fs : List Feed) (texts : List (List ℕ)) (indexes : List (List Member)) → length ss ≡ length fs → Known (map text ss) texts → AllZip (IsIndex limit) texts indexes
+  pub runs_whole : (ss : List S) (fs : List Feed) (texts : List (List ℕ)) (indexes : List (List Member)) → length ss
+      ≡ length fs → Known (map text ss) texts → AllZip (IsIndex limit) texts indexes
       → AllByRecursion (λ (f : Feed). f.cursor.start ≡ 0) fs → AllZip RunsFrom (zip ss fs) indexes
   runs_whole [] fs [] [] same known are start = tt
   runs_whole [] fs [] (i ∷ is) same known are start = absurd are
@@ -64,14 +74,17 @@ module _ {S : Type 0} (limit : ℕ) (text : S → Option (List ℕ)) where
   runs_whole (s ∷ ss) (f ∷ fs) [] is same known are start = absurd known
   runs_whole (s ∷ ss) (f ∷ fs) (t ∷ ts) [] same known are start = absurd are
   runs_whole (s ∷ ss) (f ∷ fs) (t ∷ ts) (i ∷ is) same known are start = (
-    λ u e. subst (λ n. IsRun limit (lines (drop n u)) i) (sym start.0) (subst (λ v. IsRun limit (lines v) i) (told_once t u (text s) known.0 e) are.0),
+    λ u e. subst (λ n. IsRun limit (lines (drop n u)) i) (sym start.0)
+        (subst (λ v. IsRun limit (lines v) i) (told_once t u (text s) known.0 e) are.0),
     runs_whole ss fs ts is (omega arith) known.1 are.1 start.1,
   )
 
   -- of sources that are read from where a search ended, those that aren't below the start
-  pub runs_sought : (start : Pair) (ss : List S) (fs : List Feed) (texts : List (List ℕ)) (indexes : List (List Member)) → length ss ≡ length fs → Known (map text ss) texts → AllZip (IsIndex limit) texts indexes
+  pub runs_sought : (start : Pair) (ss : List S) (fs : List Feed) (texts : List (List ℕ)) (indexes : List (List Member))
+      → length ss ≡ length fs → Known (map text ss) texts → AllZip (IsIndex limit) texts indexes
       → AllByRecursion (λ x. IsCutAt limit start (text x.0) x.1.cursor) (zip ss fs)
-      → (highs : List (List Member)) × AllZip RunsFrom (zip ss fs) highs × (filter (λ m. not (is_low start m)) (all_lines indexes) ≡ all_lines highs)
+      → (highs : List (List Member)) × AllZip RunsFrom (zip ss fs) highs
+      × (filter (λ m. not (is_low start m)) (all_lines indexes) ≡ all_lines highs)
   runs_sought start [] fs [] [] same known are cut = ([], tt, refl)
   runs_sought start [] fs [] (i ∷ is) same known are cut = absurd are
   runs_sought start [] fs (t ∷ ts) is same known are cut = absurd known
@@ -83,12 +96,17 @@ module _ {S : Type 0} (limit : ℕ) (text : S → Option (List ℕ)) where
       let run = run_after limit start t i f.cursor.start are.0 here in
       let others = runs_sought start ss fs ts is (omega arith) known.1 are.1 cut.1 in (
         here.high ∷ others.0,
-        (λ u e. subst (λ v. IsRun limit (lines (drop f.cursor.start v)) here.high) (told_once t u (text s) known.0 e) run.0, others.1),
+        (
+          λ u e. subst (λ v. IsRun limit (lines (drop f.cursor.start v)) here.high) (told_once t u (text s) known.0 e)
+              run.0,
+          others.1,
+        ),
         filter-append (λ m. not (is_low start m)) i (all_lines is) ∙ ap₂ (λ u v. u ++ v) run.1 others.2,
       )
 
   -- the same after more was read
-  pub runs_kept : (extent gave : S → ℕ) (xs ys : List (S × Feed)) (highs : List (List Member)) → AllZip (Move text extent gave) xs ys → AllZip RunsFrom xs highs → AllZip RunsFrom ys highs
+  pub runs_kept : (extent gave : S → ℕ) (xs ys : List (S × Feed)) (highs : List (List Member))
+      → AllZip (Move text extent gave) xs ys → AllZip RunsFrom xs highs → AllZip RunsFrom ys highs
   runs_kept extent gave [] [] highs m h = h
   runs_kept extent gave [] (y ∷ ys) highs m h = absurd m
   runs_kept extent gave (x ∷ xs) [] highs m h = absurd m

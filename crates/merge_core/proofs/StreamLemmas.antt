@@ -1,5 +1,7 @@
 -- Sources and feeds, while lines wait.
-use Rattle.std.proofs.Common.{◌≡◌, ◌≢◌, ℕ, zero, suc, ◌+◌, ◌<◌, ◌≤◌, List, [], ◌∷◌, ◌++◌, false, length, get_or, set, drop, Bool, Option, None, Some, MatchOption, option_map, refl, sym, ap, ◌∙◌, subst, arith, add-zero, length-set}
+use Rattle.std.proofs.Common.{◌≡◌, ◌≢◌, ℕ, zero, suc, ◌+◌, ◌<◌, ◌≤◌, List, [], ◌∷◌, ◌++◌, false, length, get_or, set}
+use Rattle.std.proofs.Common.{drop, Bool, Option, None, Some, MatchOption, option_map, refl, sym, ap, ◌∙◌, subst, arith}
+use Rattle.std.proofs.Common.{add-zero, length-set}
 use Rattle.std.specs.List.{AllByRecursion}
 use Rattle.std.specs.List.Sorted.{IsPermutation}
 use Rattle.std.proofs.lemmas.List.{set-get_or}
@@ -33,60 +35,85 @@ only_waits Past m ws h = absurd (cc)
 only_waits Ended m ws h = absurd (cc)
 
 -- what stands before the last of lines that never fall is not above it
-falls_last : (xs : List Member) (y : Member) → NeverFalls member_pair pair_cmp (xs ++ y ∷ []) → AllByRecursion (λ m. Upto (member_pair m) (member_pair y)) xs
+falls_last : (xs : List Member) (y : Member) → NeverFalls member_pair pair_cmp (xs ++ y ∷ [])
+    → AllByRecursion (λ m. Upto (member_pair m) (member_pair y)) xs
 falls_last [] y h = tt
 falls_last (x ∷ xs) y h = (at_end xs h.0, falls_last xs y h.1)
   where
-    at_end : (us : List Member) → AllByRecursion (λ m. Upto (member_pair x) (member_pair m)) (us ++ y ∷ []) → Upto (member_pair x) (member_pair y)
+    at_end : (us : List Member) → AllByRecursion (λ m. Upto (member_pair x) (member_pair m)) (us ++ y ∷ [])
+        → Upto (member_pair x) (member_pair y)
     at_end [] a = a.0
     at_end (u ∷ us) a = at_end us a.1
 
 module _ (limit : ℕ) (past : List ℕ → Bool) {S : Type 0} (text : S → Option (List ℕ)) (extent : S → ℕ) where
-  pub fed_at : (n i : ℕ) (ss : List S) (fs : List Feed) (ws : List WaitingLine) (a : S) (b : Feed) → length ss ≡ length fs → i < length ss → AreFed limit past text extent n ss fs ws
+  pub fed_at : (n i : ℕ) (ss : List S) (fs : List Feed) (ws : List WaitingLine) (a : S) (b : Feed) → length ss
+      ≡ length fs → i < length ss → AreFed limit past text extent n ss fs ws
       → Fed limit past (text (get_or ss i a)) (extent (get_or ss i a)) (get_or fs i b) (waits_of (n + i) ws)
   fed_at n i [] fs ws a b e l h = absurd (omega arith)
   fed_at n i (s ∷ ss) [] ws a b e l h = absurd (omega arith)
-  fed_at n zero (s ∷ ss) (f ∷ fs) ws a b e l h = subst (λ k. Fed limit past (text s) (extent s) f (waits_of k ws)) (sym (add-zero n)) h.0
+  fed_at n zero (s ∷ ss) (f ∷ fs) ws a b e l h = subst (λ k. Fed limit past (text s) (extent s) f (waits_of k ws))
+      (sym (add-zero n)) h.0
   fed_at n (suc i) (s ∷ ss) (f ∷ fs) ws a b e l h =
-      subst (λ k. Fed limit past (text (get_or ss i a)) (extent (get_or ss i a)) (get_or fs i b) (waits_of k ws)) (let q : (n + 1) + i ≡ n + suc i = omega arith in q)
+      subst (λ k. Fed limit past (text (get_or ss i a)) (extent (get_or ss i a)) (get_or fs i b) (waits_of k ws))
+      (let q : (n + 1) + i ≡ n + suc i = omega arith in q)
       (fed_at (n + 1) i ss fs ws a b (omega arith) (omega arith) h.1)
 
   -- where the waiting lines of each source stay the same
-  fed_other : (n i : ℕ) (ss : List S) (fs : List Feed) (ws ws' : List WaitingLine) → i < n → ((j : ℕ) → j ≢ i → waits_of j ws' ≡ waits_of j ws) → AreFed limit past text extent n ss fs ws → AreFed limit past text extent n ss fs ws'
+  fed_other : (n i : ℕ) (ss : List S) (fs : List Feed) (ws ws' : List WaitingLine) → i < n
+      → ((j : ℕ) → j ≢ i → waits_of j ws' ≡ waits_of j ws) → AreFed limit past text extent n ss fs ws
+      → AreFed limit past text extent n ss fs ws'
   fed_other n i [] fs ws ws' l same h = tt
   fed_other n i (s ∷ ss) [] ws ws' l same h = tt
-  fed_other n i (s ∷ ss) (f ∷ fs) ws ws' l same h =
-      (subst (Fed limit past (text s) (extent s) f) (sym (same n (λ e. absurd (omega arith)))) h.0, fed_other (n + 1) i ss fs ws ws' (omega arith) same h.1)
+  fed_other n i (s ∷ ss) (f ∷ fs) ws ws' l same h = (
+    subst (Fed limit past (text s) (extent s) f) (sym (same n (λ e. absurd (omega arith)))) h.0,
+    fed_other (n + 1) i
+        ss fs ws ws' (omega arith) same h.1,
+  )
 
   -- one source, its feed and its waiting lines change
-  pub fed_set : (n i : ℕ) (ss : List S) (fs : List Feed) (ws ws' : List WaitingLine) (s : S) (f : Feed) → ((j : ℕ) → j ≢ n + i → waits_of j ws' ≡ waits_of j ws)
-      → AreFed limit past text extent n ss fs ws → Fed limit past (text s) (extent s) f (waits_of (n + i) ws') → AreFed limit past text extent n (set ss i s) (set fs i f) ws'
+  pub fed_set : (n i : ℕ) (ss : List S) (fs : List Feed) (ws ws' : List WaitingLine) (s : S) (f : Feed)
+      → ((j : ℕ) → j ≢ n + i → waits_of j ws' ≡ waits_of j ws)
+      → AreFed limit past text extent n ss fs ws → Fed limit past (text s) (extent s) f (waits_of (n + i) ws')
+      → AreFed limit past text extent n (set ss i s) (set fs i f) ws'
   fed_set n i [] fs ws ws' s f same h k = tt
   fed_set n zero (x ∷ ss) [] ws ws' s f same h k = tt
   fed_set n (suc i) (x ∷ ss) [] ws ws' s f same h k = tt
-  fed_set n zero (x ∷ ss) (y ∷ fs) ws ws' s f same h k =
-      (subst (λ j. Fed limit past (text s) (extent s) f (waits_of j ws')) (add-zero n) k, fed_other (n + 1) n ss fs ws ws' (omega arith) (λ j q. same j (subst (λ l. j ≢ l) (sym (add-zero n)) q)) h.1)
+  fed_set n zero (x ∷ ss) (y ∷ fs) ws ws' s f same h k = (
+    subst (λ j. Fed limit past (text s) (extent s) f (waits_of j ws')) (add-zero n) k,
+    fed_other (n + 1) n ss fs ws
+        ws' (omega arith) (λ j q. same j (subst (λ l. j ≢ l) (sym (add-zero n)) q)) h.1,
+  )
   fed_set n (suc i) (x ∷ ss) (y ∷ fs) ws ws' s f same h k =
       let e : n + suc i ≡ (n + 1) + i = omega arith in (
         subst (Fed limit past (text x) (extent x) y) (sym (same n (λ q. absurd (omega arith)))) h.0,
-        fed_set (n + 1) i ss fs ws ws' s f (λ j q. same j (subst (λ l. j ≢ l) (sym e) q)) h.1 (subst (λ l. Fed limit past (text s) (extent s) f (waits_of l ws')) e k),
+        fed_set (n + 1) i ss fs ws ws' s f (λ j q. same j (subst (λ l. j ≢ l) (sym e) q)) h.1
+            (subst (λ l. Fed limit past (text s) (extent s) f (waits_of l ws')) e k),
       )
 
-  pub fed_permuted : (n : ℕ) (ss : List S) (fs : List Feed) (ws ws' : List WaitingLine) → IsPermutation ws ws' → AreFed limit past text extent n ss fs ws → AreFed limit past text extent n ss fs ws'
+  pub fed_permuted : (n : ℕ) (ss : List S) (fs : List Feed) (ws ws' : List WaitingLine) → IsPermutation ws ws'
+      → AreFed limit past text extent n ss fs ws → AreFed limit past text extent n ss fs ws'
   fed_permuted n [] fs ws ws' p h = tt
   fed_permuted n (s ∷ ss) [] ws ws' p h = tt
-  fed_permuted n (s ∷ ss) (f ∷ fs) ws ws' p h =
-      (subst (Fed limit past (text s) (extent s) f) (sym (waits_permuted n ws ws' p (few_waits f.progress (waits_of n ws) h.0.waits))) h.0, fed_permuted (n + 1) ss fs ws ws' p h.1)
+  fed_permuted n (s ∷ ss) (f ∷ fs) ws ws' p h = (
+    subst (Fed limit past (text s) (extent s) f)
+        (sym (waits_permuted n ws ws' p (few_waits f.progress (waits_of n ws) h.0.waits))) h.0,
+    fed_permuted (n + 1)
+        ss fs ws ws' p h.1,
+  )
 
   -- the line of a source that waits is taken
-  due_of : (t : List ℕ) (f : Feed) (m : Member) (ws : List Member) → AreWaits f.progress (m ∷ ws) → FedOf limit past t f (m ∷ ws) → (given limit t f.cursor ≡ done limit t f ++ m ∷ []) × (done limit t (due f) ≡ done limit t f ++ m ∷ []) × (past m.values.key ≡ false)
+  due_of : (t : List ℕ) (f : Feed) (m : Member) (ws : List Member) → AreWaits f.progress (m ∷ ws)
+      → FedOf limit past t f (m ∷ ws) → (given limit t f.cursor ≡ done limit t f ++ m ∷ [])
+      × (done limit t (due f) ≡ done limit t f ++ m ∷ []) × (past m.values.key ≡ false)
   due_of t f m ws waits h =
       let only = only_waits f.progress m ws waits in
-      let head = subst (λ (p : Progress). IsHead limit past (done limit t f) (given limit t f.cursor) (lines (drop f.cursor.at t)) (m ∷ ws) p) only.0 h.head in
+      let head = subst (λ (p : Progress). IsHead limit past (done limit t f) (given limit t f.cursor)
+      (lines (drop f.cursor.at t)) (m ∷ ws) p) only.0 h.head in
       let all : given limit t f.cursor ≡ done limit t f ++ m ∷ [] = head.0 ∙ ap (λ l. done limit t f ++ m ∷ l) only.1 in
       (all, done_due limit t (due f) refl ∙ all, head.1.0)
 
-  pub fed_due : (text : Option (List ℕ)) (extent : ℕ) (f : Feed) (m : Member) (ws : List Member) → Fed limit past text extent f (m ∷ ws) → Fed limit past text extent (due f) ws
+  pub fed_due : (text : Option (List ℕ)) (extent : ℕ) (f : Feed) (m : Member) (ws : List Member)
+      → Fed limit past text extent f (m ∷ ws) → Fed limit past text extent (due f) ws
   fed_due text extent f m ws h = record {
     stands = h.stands;
     waits = (only_waits f.progress m ws h.waits).1;
@@ -98,14 +125,16 @@ module _ (limit : ℕ) (past : List ℕ → Bool) {S : Type 0} (text : S → Opt
           begins = was.begins;
           stood = was.stood;
           as_many = was.as_many;
-          within = subst (AllByRecursion (λ (k : Member). past k.values.key ≡ false)) (sym both.1) (each_join (λ (k : Member). past k.values.key ≡ false) (done limit t f) (m ∷ []) was.within (both.2, tt));
+          within = subst (AllByRecursion (λ (k : Member). past k.values.key ≡ false)) (sym both.1)
+              (each_join (λ (k : Member). past k.values.key ≡ false) (done limit t f) (m ∷ []) was.within (both.2, tt));
           run = was.run;
           head = sym (done_due limit t (due f) refl);
         };
   }
 
   -- the first in turn is taken out
-  module _ (ss : List S) (fs : List Feed) (ws0 ws : List WaitingLine) (w : WaitingLine) (a : S) (b : Feed) (ready : Ready limit past text extent ss fs ws0) (p : IsPermutation ws0 (w ∷ ws)) where
+  module _ (ss : List S) (fs : List Feed) (ws0 ws : List WaitingLine) (w : WaitingLine) (a : S) (b : Feed)
+      (ready : Ready limit past text extent ss fs ws0) (p : IsPermutation ws0 (w ∷ ws)) where
     abbrev popped : List Feed
     popped = set fs w.source (due (get_or fs w.source b))
 
@@ -121,9 +150,12 @@ module _ (limit : ℕ) (past : List ℕ → Bool) {S : Type 0} (text : S → Opt
     fed_all : AreFed limit past text extent 0 ss fs (w ∷ ws)
     fed_all = fed_permuted 0 ss fs ws0 (w ∷ ws) p ready.fed
 
-    pub fed_here : Fed limit past (text (get_or ss w.source a)) (extent (get_or ss w.source a)) (get_or fs w.source b) (w.member ∷ waits_of w.source ws)
-    fed_here = subst (Fed limit past (text (get_or ss w.source a)) (extent (get_or ss w.source a)) (get_or fs w.source b))
-        (ap (λ n. waits_of n (w ∷ ws)) (let q : 0 + w.source ≡ w.source = omega arith in q) ∙ waits_here w.source w ws refl)
+    pub fed_here : Fed limit past (text (get_or ss w.source a)) (extent (get_or ss w.source a)) (get_or fs w.source b)
+        (w.member ∷ waits_of w.source ws)
+    fed_here = subst (Fed limit past (text (get_or ss w.source a)) (extent (get_or ss w.source a))
+        (get_or fs w.source b))
+        (ap (λ n. waits_of n (w ∷ ws)) (let q : 0 + w.source ≡ w.source = omega arith in q)
+        ∙ waits_here w.source w ws refl)
         (fed_at 0 w.source ss fs (w ∷ ws) a b ready.same inside_sources fed_all)
 
     pub none_left : waits_of w.source ws ≡ []
@@ -132,71 +164,102 @@ module _ (limit : ℕ) (past : List ℕ → Bool) {S : Type 0} (text : S → Opt
     pub popped_ready : Ready limit past text extent ss popped ws
     popped_ready = record {
       same = ready.same ∙ sym (length-set fs w.source (due (get_or fs w.source b)));
-      placed = subst (λ n. AllByRecursion (λ (v : WaitingLine). v.source < n) ws) (sym (length-set fs w.source (due (get_or fs w.source b)))) placed_all.1;
+      placed = subst (λ n. AllByRecursion (λ (v : WaitingLine). v.source < n) ws)
+          (sym (length-set fs w.source (due (get_or fs w.source b)))) placed_all.1;
       fed = subst (λ us. AreFed limit past text extent 0 us popped ws) (set-get_or ss w.source a)
-          (fed_set 0 w.source ss fs (w ∷ ws) ws (get_or ss w.source a) (due (get_or fs w.source b)) (λ j q. sym (waits_other j w ws (λ e. absurd (omega arith)))) fed_all
-          (subst (λ n. Fed limit past (text (get_or ss w.source a)) (extent (get_or ss w.source a)) (due (get_or fs w.source b)) (waits_of n ws)) (let q : w.source ≡ 0 + w.source = omega arith in q)
-          (fed_due (text (get_or ss w.source a)) (extent (get_or ss w.source a)) (get_or fs w.source b) w.member (waits_of w.source ws) fed_here)));
+          (fed_set 0 w.source ss fs (w ∷ ws) ws (get_or ss w.source a) (due (get_or fs w.source b))
+          (λ j q. sym (waits_other j w ws (λ e. absurd (omega arith)))) fed_all
+          (subst (λ n. Fed limit past (text (get_or ss w.source a)) (extent (get_or ss w.source a))
+          (due (get_or fs w.source b)) (waits_of n ws)) (let q : w.source ≡ 0 + w.source = omega arith in q)
+          (fed_due (text (get_or ss w.source a)) (extent (get_or ss w.source a)) (get_or fs w.source b) w.member
+          (waits_of w.source ws) fed_here)));
     }
 
-    pub popped_done : (t : List ℕ) → text (get_or ss w.source a) ≡ Some t → done limit t (due (get_or fs w.source b)) ≡ done limit t (get_or fs w.source b) ++ w.member ∷ []
-    popped_done t e = (due_of t (get_or fs w.source b) w.member (waits_of w.source ws) fed_here.waits (fed_here.told t e)).1
+    pub popped_done : (t : List ℕ) → text (get_or ss w.source a) ≡ Some t → done limit t (due (get_or fs w.source b))
+        ≡ done limit t (get_or fs w.source b) ++ w.member ∷ []
+    popped_done t e = (due_of t (get_or fs w.source b) w.member (waits_of w.source ws) fed_here.waits
+        (fed_here.told t e)).1
 
-    pub popped_last : (t : List ℕ) → text (get_or ss w.source a) ≡ Some t → EndsAt (member_pair w.member) (done limit t (due (get_or fs w.source b)))
-    popped_last t e = (done limit t (get_or fs w.source b), w.member, popped_done t e, upto_itself (member_pair w.member))
+    pub popped_last : (t : List ℕ) → text (get_or ss w.source a) ≡ Some t
+        → EndsAt (member_pair w.member) (done limit t (due (get_or fs w.source b)))
+    popped_last t e = (
+      done limit t (get_or fs w.source b),
+      w.member,
+      popped_done t e,
+      upto_itself
+          (member_pair w.member),
+    )
 
-    pub popped_low : (t : List ℕ) → text (get_or ss w.source a) ≡ Some t → AllByRecursion (λ m. Upto (member_pair m) (member_pair w.member)) (done limit t (due (get_or fs w.source b)))
+    pub popped_low : (t : List ℕ) → text (get_or ss w.source a) ≡ Some t
+        → AllByRecursion (λ m. Upto (member_pair m) (member_pair w.member)) (done limit t (due (get_or fs w.source b)))
     popped_low t e =
         let f = get_or fs w.source b in
         let both = due_of t f w.member (waits_of w.source ws) fed_here.waits (fed_here.told t e) in
         subst (AllByRecursion (λ m. Upto (member_pair m) (member_pair w.member))) (sym both.1)
         (each_join (λ m. Upto (member_pair m) (member_pair w.member)) (done limit t f) (w.member ∷ [])
-        (falls_last (done limit t f) w.member (subst (NeverFalls member_pair pair_cmp) both.0 (fed_here.told t e).run.ordered)) (upto_itself (member_pair w.member), tt))
+        (falls_last (done limit t f) w.member
+        (subst (NeverFalls member_pair pair_cmp) both.0 (fed_here.told t e).run.ordered))
+        (upto_itself (member_pair w.member), tt))
 
   -- the lines of a source with the pair of a group were taken
-  module _ (ss : List S) (fs : List Feed) (ws : List WaitingLine) (i : ℕ) (a s : S) (b f : Feed) (ready : Ready limit past text extent ss fs ws) (inside : i < length ss) (is_due : (get_or fs i b).progress ≡ Due) where
-    none_waits_here : waits_of i ws ≡ []
-    none_waits_here = subst (λ n. waits_of n ws ≡ []) (let q : 0 + i ≡ i = omega arith in q)
-        (subst (λ (p : Progress). AreWaits p (waits_of (0 + i) ws)) is_due (fed_at 0 i ss fs ws a b ready.same inside ready.fed).waits)
+  module _ (ss : List S) (fs : List Feed) (ws : List WaitingLine) (i : ℕ) (a s : S) (b f : Feed)
+      (ready : Ready limit past text extent ss fs ws) (inside : i < length ss) (is_due : (get_or fs i b).progress ≡ Due)
+    where
+      none_waits_here : waits_of i ws ≡ []
+      none_waits_here = subst (λ n. waits_of n ws ≡ []) (let q : 0 + i ≡ i = omega arith in q)
+          (subst (λ (p : Progress). AreWaits p (waits_of (0 + i) ws)) is_due
+          (fed_at 0 i ss fs ws a b ready.same inside ready.fed).waits)
 
-    same_lengths : length (set ss i s) ≡ length (set fs i f)
-    same_lengths = length-set ss i s ∙ ready.same ∙ sym (length-set fs i f)
+      same_lengths : length (set ss i s) ≡ length (set fs i f)
+      same_lengths = length-set ss i s ∙ ready.same ∙ sym (length-set fs i f)
 
-    placed_still : AllByRecursion (λ (v : WaitingLine). v.source < length (set fs i f)) ws
-    placed_still = subst (λ n. AllByRecursion (λ (v : WaitingLine). v.source < n) ws) (sym (length-set fs i f)) ready.placed
+      placed_still : AllByRecursion (λ (v : WaitingLine). v.source < length (set fs i f)) ws
+      placed_still = subst (λ n. AllByRecursion (λ (v : WaitingLine). v.source < n) ws) (sym (length-set fs i f))
+          ready.placed
 
-    pub drained_ready : Fed limit past (text s) (extent s) f [] → Ready limit past text extent (set ss i s) (set fs i f) ws
-    drained_ready fed = record {
-      same = same_lengths;
-      placed = placed_still;
-      fed = fed_set 0 i ss fs ws ws s f (λ j q. refl) ready.fed
-          (subst (Fed limit past (text s) (extent s) f) (sym none_waits_here ∙ ap (λ n. waits_of n ws) (let q : i ≡ 0 + i = omega arith in q)) fed);
-    }
+      pub drained_ready : Fed limit past (text s) (extent s) f []
+          → Ready limit past text extent (set ss i s) (set fs i f) ws
+      drained_ready fed = record {
+        same = same_lengths;
+        placed = placed_still;
+        fed = fed_set 0 i ss fs ws ws s f (λ j q. refl) ready.fed
+            (subst (Fed limit past (text s) (extent s) f) (sym none_waits_here
+            ∙ ap (λ n. waits_of n ws) (let q : i ≡ 0 + i = omega arith in q)) fed);
+      }
 
-    pub refilled_ready : (w : WaitingLine) (ws' : List WaitingLine) → w.source ≡ i → IsPermutation (w ∷ ws) ws' → Fed limit past (text s) (extent s) f (w.member ∷ []) → Ready limit past text extent (set ss i s) (set fs i f) ws'
-    refilled_ready w ws' e p fed =
-        let here : waits_of i (w ∷ ws) ≡ w.member ∷ [] = waits_here i w ws e ∙ ap (λ l. w.member ∷ l) none_waits_here in
-        record {
-          same = same_lengths;
-          placed = each_permuted (λ (v : WaitingLine). v.source < length (set fs i f)) (w ∷ ws) ws' p
-              (let l = ready.same in omega (arith, length-set fs i f, e), placed_still);
-          fed = fed_permuted 0 (set ss i s) (set fs i f) (w ∷ ws) ws' p
-              (fed_set 0 i ss fs ws (w ∷ ws) s f (λ j q. waits_other j w ws (λ h. absurd (omega arith))) ready.fed
-              (subst (Fed limit past (text s) (extent s) f) (sym here ∙ ap (λ n. waits_of n (w ∷ ws)) (let q : i ≡ 0 + i = omega arith in q)) fed));
-        }
+      pub refilled_ready : (w : WaitingLine) (ws' : List WaitingLine) → w.source ≡ i → IsPermutation (w ∷ ws) ws'
+          → Fed limit past (text s) (extent s) f (w.member ∷ [])
+          → Ready limit past text extent (set ss i s) (set fs i f) ws'
+      refilled_ready w ws' e p fed =
+          let here : waits_of i (w ∷ ws) ≡ w.member ∷ [] = waits_here i w ws e ∙ ap (λ l. w.member ∷ l) none_waits_here in
+          record {
+            same = same_lengths;
+            placed = each_permuted (λ (v : WaitingLine). v.source < length (set fs i f)) (w ∷ ws) ws' p
+                (let l = ready.same in omega (arith, length-set fs i f, e), placed_still);
+            fed = fed_permuted 0 (set ss i s) (set fs i f) (w ∷ ws) ws' p
+                (fed_set 0 i ss fs ws (w ∷ ws) s f (λ j q. waits_other j w ws (λ h. absurd (omega arith))) ready.fed
+                (subst (Fed limit past (text s) (extent s) f)
+                (sym here ∙ ap (λ n. waits_of n (w ∷ ws)) (let q : i ≡ 0 + i = omega arith in q)) fed));
+          }
 
-    pub due_fed : Fed limit past (text (get_or ss i a)) (extent (get_or ss i a)) (get_or fs i b) []
-    due_fed = subst (Fed limit past (text (get_or ss i a)) (extent (get_or ss i a)) (get_or fs i b)) (ap (λ n. waits_of n ws) (let q : 0 + i ≡ i = omega arith in q) ∙ none_waits_here)
-        (fed_at 0 i ss fs ws a b ready.same inside ready.fed)
+      pub due_fed : Fed limit past (text (get_or ss i a)) (extent (get_or ss i a)) (get_or fs i b) []
+      due_fed = subst (Fed limit past (text (get_or ss i a)) (extent (get_or ss i a)) (get_or fs i b))
+          (ap (λ n. waits_of n ws) (let q : 0 + i ≡ i = omega arith in q) ∙ none_waits_here)
+          (fed_at 0 i ss fs ws a b ready.same inside ready.fed)
 
-    module _ {B : Type 0} (value : B → Member) (ws' : List WaitingLine) where
-      abbrev pub Waited : Option B → Type 0
-      Waited o = MatchOption o (ws' ≡ ws) (λ b. IsPermutation (record { member = value b; source = i } ∷ ws) ws')
+      module _ {B : Type 0} (value : B → Member) (ws' : List WaitingLine) where
+        abbrev pub Waited : Option B → Type 0
+        Waited o = MatchOption o (ws' ≡ ws) (λ b. IsPermutation (record { member = value b; source = i } ∷ ws) ws')
 
-      pub waited_ready : (o : Option B) → Waited o → Fed limit past (text s) (extent s) f (option_list (option_map value o)) → Ready limit past text extent (set ss i s) (set fs i f) ws'
-      waited_ready None e fed = subst (Ready limit past text extent (set ss i s) (set fs i f)) (sym e) (drained_ready fed)
-      waited_ready (Some x) p fed = refilled_ready (record { member = value x; source = i }) ws' refl p fed
+        pub waited_ready : (o : Option B) → Waited o
+            → Fed limit past (text s) (extent s) f (option_list (option_map value o))
+            → Ready limit past text extent (set ss i s) (set fs i f) ws'
+        waited_ready None e fed = subst (Ready limit past text extent (set ss i s) (set fs i f)) (sym e)
+            (drained_ready fed)
+        waited_ready (Some x) p fed = refilled_ready (record { member = value x; source = i }) ws' refl p fed
 
-      pub waited_length : (o : Option B) → Waited o → length ws' ≡ length ws + length (option_list (option_map value o))
-      waited_length None e = (let h = ap length e in omega arith)
-      waited_length (Some x) p = (let w : WaitingLine = record { member = value x; source = i } in let h = length_permutation (w ∷ ws) ws' p in omega arith)
+        pub waited_length : (o : Option B) → Waited o → length ws' ≡ length ws + length (option_list (option_map value o))
+        waited_length None e = (let h = ap length e in omega arith)
+        waited_length (Some x) p =
+            (let w : WaitingLine = record { member = value x; source = i } in let h = length_permutation (w ∷ ws) ws' p in
+            omega arith)

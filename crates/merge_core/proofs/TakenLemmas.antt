@@ -1,6 +1,7 @@
 -- What was taken of lines, beside all that is wanted of them.
 use Rattle.std.proofs.lemmas.Bool.{and_cases, not-false, not-true}
-use Rattle.std.proofs.Common.{◌≡◌, inl, inr, ℕ, List, [], ◌∷◌, ◌++◌, filter, Bool, true, false, not, ◌&&◌, Option, None, Some, refl, sym, ap, ◌∙◌, subst, append-nil, is_gt, is_lt, Less, Equal, Greater, Ordering}
+use Rattle.std.proofs.Common.{◌≡◌, inl, inr, ℕ, List, [], ◌∷◌, ◌++◌, filter, Bool, true, false, not, ◌&&◌, Option, None}
+use Rattle.std.proofs.Common.{Some, refl, sym, ap, ◌∙◌, subst, append-nil, is_gt, is_lt, Less, Equal, Greater, Ordering}
 use Rattle.std.specs.List.{AllByRecursion}
 use Rattle.merge_core.proofs.Filters.{filter_out, each_filter}
 use Rattle.std.specs.Ordering.{ordering_reverse}
@@ -17,7 +18,8 @@ use Rattle.merge_core.specs.PairOrders.{Below, Upto, IsAbove, IsUpto, is_low}
 use Rattle.merge_core.specs.WaitingLines.{WaitingLine, waiting_pair}
 use Rattle.merge_core.proofs.PairOrder.{below_then, then_below, from_not_below, upto_upto}
 use Rattle.merge_core.proofs.MergeLemmas.{place_below, below_next, is_less}
-use Rattle.merge_core.proofs.ReadLines.{IsUpward, stays, is_read, IsLate, stays_lower, gt_is, and_left, and_right, none_wanted, wanted_low}
+use Rattle.merge_core.proofs.ReadLines.{IsUpward, stays, is_read, IsLate, stays_lower, gt_is, and_left, and_right}
+use Rattle.merge_core.proofs.ReadLines.{none_wanted, wanted_low}
 
 -- ---- what stands above a bound
 
@@ -32,29 +34,39 @@ bound_upto : (b : Option Pair) (m : Member) → IsUpto b (member_pair m) → upt
 bound_upto None m h = absurd h
 bound_upto (Some p) m h = ap not h
 
-bound_late : (b : Option Pair) (m k : Member) → IsAbove b (member_pair m) → Upto (member_pair m) (member_pair k) → upto_bound b k ≡ false
+bound_late : (b : Option Pair) (m k : Member) → IsAbove b (member_pair m) → Upto (member_pair m) (member_pair k)
+    → upto_bound b k ≡ false
 bound_late None m k h u = refl
-bound_late (Some p) m k h u = ap (λ r. not (is_gt r)) (pair_cmp_total.antisymm (member_pair k) p ∙ ap ordering_reverse (below_then p (member_pair m) (member_pair k) h u))
+bound_late (Some p) m k h u = ap (λ r. not (is_gt r)) (pair_cmp_total.antisymm (member_pair k) p
+    ∙ ap ordering_reverse (below_then p (member_pair m) (member_pair k) h u))
 
 bound_above : (b : Option Pair) (m : Member) → upto_bound b m ≡ false → IsAbove b (member_pair m)
 bound_above None m h = tt
 bound_above (Some p) m h = gt_back (member_pair m) p (not-false _ h)
 
-bound_lower : (b : Option Pair) (x y : Member) → upto_bound b x ≡ true → upto_bound b y ≡ false → Below (member_pair x) (member_pair y)
+bound_lower : (b : Option Pair) (x y : Member) → upto_bound b x ≡ true → upto_bound b y ≡ false
+    → Below (member_pair x) (member_pair y)
 bound_lower None x y h k = absurd (true≢false (sym h))
-bound_lower (Some p) x y h k = then_below (member_pair x) p (member_pair y) (not-true _ h) (gt_back (member_pair y) p (not-false _ k))
+bound_lower (Some p) x y h k = then_below (member_pair x) p (member_pair y) (not-true _ h)
+    (gt_back (member_pair y) p (not-false _ k))
 
 -- ---- what was taken
 
 -- Of all that is wanted, what was taken is a front, and the rest stands above the bound
 abbrev pub TakenFirst : (Member → Bool) → Option Pair → List Member → List Member → Type 0
 TakenFirst wanted b all taken =
-    (rest : List Member) × (filter wanted all ≡ filter wanted taken ++ rest) × AllByRecursion (λ m. (wanted m ≡ true) × IsAbove b (member_pair m)) rest
+    (rest : List Member) × (filter wanted all ≡ filter wanted taken ++ rest)
+    × AllByRecursion (λ m. (wanted m ≡ true) × IsAbove b (member_pair m)) rest
 
 -- what was taken of lines, of which those that were come to are known
-module _ (limit : ℕ) (past : List ℕ → Bool) (upward : IsUpward past) (wanted : Member → Bool) (within : (m : Member) → wanted m ≡ true → not (past m.values.key) ≡ true) (b : Option Pair) (ws : List WaitingLine)
-    (above : AllByRecursion (λ w. IsAbove b (waiting_pair w)) ws) (done taken : List Member) (below : AllByRecursion (λ m. IsUpto b (member_pair m)) done) (taken_is : taken ≡ rising member_place place_cmp done)
-    (all : List Member) (read : (upto : Member → Bool) → AllByRecursion (λ (w : WaitingLine). IsLate limit past upward upto w.member) ws → AllByRecursion (λ m. upto m ≡ true) done
+module _ (limit : ℕ) (past : List ℕ → Bool) (upward : IsUpward past) (wanted : Member → Bool) (within : (m : Member)
+    → wanted m ≡ true → not (past m.values.key) ≡ true) (b : Option Pair) (ws : List WaitingLine)
+    (above : AllByRecursion (λ w. IsAbove b (waiting_pair w)) ws) (done taken : List Member)
+    (below : AllByRecursion (λ m. IsUpto b (member_pair m)) done) (taken_is : taken
+    ≡ rising member_place place_cmp done)
+    (all : List Member) (read : (upto : Member → Bool)
+    → AllByRecursion (λ (w : WaitingLine). IsLate limit past upward upto w.member) ws
+    → AllByRecursion (λ m. upto m ≡ true) done
     → filter (is_read limit past upward upto) all ≡ filter (stays limit past upward) done) where
   abbrev seen : List Member → List Member
   seen xs = filter wanted (rising member_place place_cmp xs)
@@ -62,20 +74,27 @@ module _ (limit : ℕ) (past : List ℕ → Bool) (upward : IsUpward past) (want
   abbrev low : (Member → Bool) → Member → Bool
   low upto m = upto m && not (past m.values.key)
 
-  split : (upto : Member → Bool) → ((x y : Member) → upto x ≡ true → upto y ≡ false → Below (member_pair x) (member_pair y))
-      → AllByRecursion (λ (w : WaitingLine). IsLate limit past upward upto w.member) ws → AllByRecursion (λ m. upto m ≡ true) done
+  split : (upto : Member → Bool)
+      → ((x y : Member) → upto x ≡ true → upto y ≡ false → Below (member_pair x) (member_pair y))
+      → AllByRecursion (λ (w : WaitingLine). IsLate limit past upward upto w.member) ws
+      → AllByRecursion (λ m. upto m ≡ true) done
       → seen all ≡ filter wanted taken ++ seen (filter (λ m. not (low upto m)) all)
   split upto lower late each =
-      let is_lower : IsLower member_place place_cmp (low upto) = λ x y h k. elim (and_cases (upto y) (not (past y.values.key)) k) [
+      let is_lower : IsLower member_place place_cmp (low upto) = λ x y h k.
+      elim (and_cases (upto y) (not (past y.values.key)) k) [
         | inl e ↦ place_below x y (lower x y (and_left (upto x) _ h) e)
         | inr e ↦ stays_lower limit past upward x y (and_right (upto x) _ h) e
       ] in
       ap (filter wanted) (rising_split member_place place_cmp place_cmp_total (low upto) is_lower all)
-      ∙ filter-append wanted (rising member_place place_cmp (filter (low upto) all)) (rising member_place place_cmp (filter (λ m. not (low upto m)) all))
+      ∙ filter-append wanted (rising member_place place_cmp (filter (low upto) all))
+      (rising member_place place_cmp (filter (λ m. not (low upto m)) all))
       ∙ ap (λ l. l ++ seen (filter (λ m. not (low upto m)) all))
-      (ap seen (read upto late each) ∙ sym (wanted_low wanted (stays limit past upward) (stays_lower limit past upward) within done) ∙ ap (filter wanted) (sym taken_is))
+      (ap seen (read upto late each)
+      ∙ sym (wanted_low wanted (stays limit past upward) (stays_lower limit past upward) within done)
+      ∙ ap (filter wanted) (sym taken_is))
 
-  rest_above : (m : Member) → (low (upto_bound b) m ≡ false) × (wanted m ≡ true) → (wanted m ≡ true) × IsAbove b (member_pair m)
+  rest_above : (m : Member) → (low (upto_bound b) m ≡ false) × (wanted m ≡ true) → (wanted m ≡ true)
+      × IsAbove b (member_pair m)
   rest_above m h = (
     h.1,
     elim (and_cases (upto_bound b m) (not (past m.values.key)) h.0) [
@@ -90,10 +109,13 @@ module _ (limit : ℕ) (past : List ℕ → Bool) (upward : IsUpward past) (want
       let others = filter (λ m. not (low (upto_bound b) m)) all in (
         seen others,
         split (upto_bound b) (bound_lower b)
-            (each_weaker (λ (w : WaitingLine) (h : IsAbove b (waiting_pair w)). λ k u. bound_late b w.member k h u) ws above)
+            (each_weaker (λ (w : WaitingLine) (h : IsAbove b (waiting_pair w)). λ k u. bound_late b w.member k h u) ws
+            above)
             (each_weaker (λ (m : Member) (h : IsUpto b (member_pair m)). bound_upto b m h) done below),
-        each_weaker rest_above (seen others) (each_filter (λ m. low (upto_bound b) m ≡ false) wanted (rising member_place place_cmp others)
-            (each_rising member_place place_cmp place_cmp_total (λ m. low (upto_bound b) m ≡ false) others (filter_out (low (upto_bound b)) all))),
+        each_weaker rest_above (seen others)
+            (each_filter (λ m. low (upto_bound b) m ≡ false) wanted (rising member_place place_cmp others)
+            (each_rising member_place place_cmp place_cmp_total (λ m. low (upto_bound b) m ≡ false) others
+            (filter_out (low (upto_bound b)) all))),
       )
 
   -- where no line waits, it is all
@@ -102,7 +124,9 @@ module _ (limit : ℕ) (past : List ℕ → Bool) (upward : IsUpward past) (want
       split (λ m. true) (λ x y h k. absurd (true≢false k))
       (subst (AllByRecursion (λ (w : WaitingLine). IsLate limit past upward (λ m. true) w.member)) (sym none) tt)
       (each_any done)
-      ∙ ap (λ l. filter wanted taken ++ l) (none_wanted wanted (stays limit past upward) within (filter (λ m. not (low (λ k. true) m)) all) (filter_out (stays limit past upward) all))
+      ∙ ap (λ l. filter wanted taken ++ l)
+      (none_wanted wanted (stays limit past upward) within (filter (λ m. not (low (λ k. true) m)) all)
+      (filter_out (stays limit past upward) all))
       ∙ append-nil (filter wanted taken)
     where
       each_any : (xs : List Member) → AllByRecursion (λ m. true ≡ true) xs
@@ -119,7 +143,8 @@ module _ (limit : ℕ) (past : List ℕ → Bool) (upward : IsUpward past) (want
         turned Equal h = refl
         turned Greater h = cc
 
-    from_next : (m : Member) → (low (is_low next) m ≡ false) × (wanted m ≡ true) → (wanted m ≡ true) × Upto next (member_pair m)
+    from_next : (m : Member) → (low (is_low next) m ≡ false) × (wanted m ≡ true) → (wanted m ≡ true)
+        × Upto next (member_pair m)
     from_next m h = (
       h.1,
       elim (and_cases (is_low next m) (not (past m.values.key)) h.0) [
@@ -129,13 +154,20 @@ module _ (limit : ℕ) (past : List ℕ → Bool) (upward : IsUpward past) (want
     )
 
     -- then the rest doesn't stand below it either
-    pub taken_before : (rest : List Member) × (filter wanted (rising member_place place_cmp all) ≡ filter wanted taken ++ rest) × AllByRecursion (λ m. (wanted m ≡ true) × Upto next (member_pair m)) rest
+    pub taken_before : (rest : List Member)
+        × (filter wanted (rising member_place place_cmp all) ≡ filter wanted taken ++ rest)
+        × AllByRecursion (λ m. (wanted m ≡ true) × Upto next (member_pair m)) rest
     taken_before =
         let others = filter (λ m. not (low (is_low next) m)) all in (
           seen others,
-          split (is_low next) (λ x y h k. below_then (member_pair x) next (member_pair y) (is_less _ h) (from_not_below (member_pair y) next k))
-              (each_weaker (λ (w : WaitingLine) (h : Upto next (waiting_pair w)). λ k u. not_low k (upto_upto next (member_pair w.member) (member_pair k) h u)) ws least)
-              (each_weaker (λ (m : Member) (h : Below (member_pair m) next). ap is_lt h) done (below_next b next later done below)),
-          each_weaker from_next (seen others) (each_filter (λ m. low (is_low next) m ≡ false) wanted (rising member_place place_cmp others)
-              (each_rising member_place place_cmp place_cmp_total (λ m. low (is_low next) m ≡ false) others (filter_out (low (is_low next)) all))),
+          split (is_low next) (λ x y h k. below_then (member_pair x) next (member_pair y) (is_less _ h)
+              (from_not_below (member_pair y) next k))
+              (each_weaker (λ (w : WaitingLine) (h : Upto next (waiting_pair w)). λ k u. not_low k
+              (upto_upto next (member_pair w.member) (member_pair k) h u)) ws least)
+              (each_weaker (λ (m : Member) (h : Below (member_pair m) next). ap is_lt h) done
+              (below_next b next later done below)),
+          each_weaker from_next (seen others)
+              (each_filter (λ m. low (is_low next) m ≡ false) wanted (rising member_place place_cmp others)
+              (each_rising member_place place_cmp place_cmp_total (λ m. low (is_low next) m ≡ false) others
+              (filter_out (low (is_low next)) all))),
         )

@@ -1,5 +1,7 @@
 -- Whose turn comes first.
-use Rattle.std.proofs.Common.{◌≡◌, ◌<◌, ◌≤◌, List, [], ◌∷◌, length, Option, Some, None, MatchOption, IfSome, inl, inr, refl, sym, get_or, false, true, subst, arith, Ordering, Less, Equal, Greater, is_lt, is_eq}
+use Rattle.std.proofs.Common.{◌≡◌, ◌<◌, ◌≤◌, List, [], ◌∷◌, length, Option, Some, None, MatchOption, IfSome, inl, inr}
+use Rattle.std.proofs.Common.{refl, sym, get_or, false, true, subst, arith, Ordering, Less, Equal, Greater, is_lt}
+use Rattle.std.proofs.Common.{is_eq}
 use Rattle.std.proofs.lemmas.Cmp.{tied_back}
 use Rattle.cdxj_places.proofs.PairLemmas.{pair_cmp_total}
 use Rattle.std.specs.List.{AllByRecursion}
@@ -25,14 +27,20 @@ then_tied Equal b t e = e
 then_tied Greater b t e = cc
 
 pub not_before : (v w : WaitingLine) → is_lt (turn_cmp v w) ≡ false → Upto (waiting_pair w) (waiting_pair v)
-not_before v w h = from_not_below (waiting_pair v) (waiting_pair w) (then_not_lt (pair_cmp (waiting_pair v) (waiting_pair w)) (nat_cmp v.source w.source) h)
+not_before v w h = from_not_below (waiting_pair v) (waiting_pair w)
+    (then_not_lt (pair_cmp (waiting_pair v) (waiting_pair w)) (nat_cmp v.source w.source) h)
 
-pub source_after : (v w : WaitingLine) → is_lt (turn_cmp v w) ≡ false → pair_cmp (waiting_pair v) (waiting_pair w) ≡ Equal → w.source ≤ v.source
-source_after v w h e = ge_from_not_lt v.source w.source (then_tied (pair_cmp (waiting_pair v) (waiting_pair w)) (nat_cmp v.source w.source) e h)
+pub source_after : (v w : WaitingLine) → is_lt (turn_cmp v w) ≡ false → pair_cmp (waiting_pair v) (waiting_pair w)
+    ≡ Equal → w.source ≤ v.source
+source_after v w h e = ge_from_not_lt v.source w.source
+    (then_tied (pair_cmp (waiting_pair v) (waiting_pair w)) (nat_cmp v.source w.source) e h)
 
 -- where the first in turn is above, all are
-pub all_later : (p : Pair) (w : WaitingLine) (ws : List WaitingLine) → Below p (waiting_pair w) → AllByRecursion (λ v. is_lt (turn_cmp v w) ≡ false) ws → AllByRecursion (λ v. Below p (waiting_pair v)) ws
-all_later p w ws b h = each_weaker (λ (v : WaitingLine) (q : is_lt (turn_cmp v w) ≡ false). below_then p (waiting_pair w) (waiting_pair v) b (not_before v w q)) ws h
+pub all_later : (p : Pair) (w : WaitingLine) (ws : List WaitingLine) → Below p (waiting_pair w)
+    → AllByRecursion (λ v. is_lt (turn_cmp v w) ≡ false) ws → AllByRecursion (λ v. Below p (waiting_pair v)) ws
+all_later p w ws b h = each_weaker
+    (λ (v : WaitingLine) (q : is_lt (turn_cmp v w) ≡ false). below_then p (waiting_pair w) (waiting_pair v) b
+    (not_before v w q)) ws h
 
 pub eq_is : (r : Ordering) → is_eq r ≡ true → r ≡ Equal
 eq_is Less e = cc
@@ -44,21 +52,29 @@ eq_is_not r e p = cc
 
 -- what isn't above and doesn't have the pair is below
 pub below_unless : (p q : Pair) → Upto p q → is_eq (pair_cmp q p) ≡ false → Below p q
-below_unless p q h e = elim (not_above p q h) [ inl b ↦ b | inr b ↦ absurd (eq_is_not (pair_cmp q p) e (tied_back pair_cmp_total p q b)) ]
+below_unless p q h e = elim (not_above p q h)
+    [ inl b ↦ b | inr b ↦ absurd (eq_is_not (pair_cmp q p) e (tied_back pair_cmp_total p q b)) ]
 
 -- where the first in turn doesn't have the pair, all are above it
-pub all_later_unless : (p : Pair) (w : WaitingLine) (ws : List WaitingLine) → w ≡ get_or ws 0 w → is_eq (pair_cmp (waiting_pair w) p) ≡ false
-    → AllByRecursion (λ v. Upto p (waiting_pair v)) ws → AllByRecursion (λ v. is_lt (turn_cmp v w) ≡ false) ws → AllByRecursion (λ v. Below p (waiting_pair v)) ws
+pub all_later_unless : (p : Pair) (w : WaitingLine) (ws : List WaitingLine) → w ≡ get_or ws 0 w
+    → is_eq (pair_cmp (waiting_pair w) p) ≡ false
+    → AllByRecursion (λ v. Upto p (waiting_pair v)) ws → AllByRecursion (λ v. is_lt (turn_cmp v w) ≡ false) ws
+    → AllByRecursion (λ v. Below p (waiting_pair v)) ws
 all_later_unless p w [] e n u h = tt
-all_later_unless p w (v ∷ ws) e n u h = all_later p w (v ∷ ws) (below_unless p (waiting_pair w) (subst (λ (x : WaitingLine). Upto p (waiting_pair x)) (sym e) u.0) n) h
+all_later_unless p w (v ∷ ws) e n u h = all_later p w (v ∷ ws)
+    (below_unless p (waiting_pair w) (subst (λ (x : WaitingLine). Upto p (waiting_pair x)) (sym e) u.0) n) h
 
 -- the line that is taken out has the pair that the first in turn has
-pub popped_alike : (p : Pair) (old new : List WaitingLine) (r : Option WaitingLine) → MatchOption r ((old ≡ []) × (new ≡ [])) (λ w. IsPermutation old (w ∷ new)) → IfSome r (λ w. w ≡ get_or old 0 w)
-    → ((d : WaitingLine) → 0 < length old → Alike (waiting_pair (get_or old 0 d)) p) → IfSome r (λ w. Alike (waiting_pair w) p)
+pub popped_alike : (p : Pair) (old new : List WaitingLine) (r : Option WaitingLine)
+    → MatchOption r ((old ≡ []) × (new ≡ [])) (λ w. IsPermutation old (w ∷ new)) → IfSome r (λ w. w ≡ get_or old 0 w)
+    → ((d : WaitingLine) → 0 < length old → Alike (waiting_pair (get_or old 0 d)) p)
+    → IfSome r (λ w. Alike (waiting_pair w) p)
 popped_alike p old new None out top h = tt
 popped_alike p old new (Some w) out top h =
-    subst (λ (v : WaitingLine). Alike (waiting_pair v) p) (sym top) (h w (omega (arith, length_permutation old (w ∷ new) out)))
+    subst (λ (v : WaitingLine). Alike (waiting_pair v) p) (sym top)
+    (h w (omega (arith, length_permutation old (w ∷ new) out)))
 
 -- the least of lines that all stand above a bound
-pub above_popped : (b : Option Pair) (old new : List WaitingLine) (w : WaitingLine) → IsPermutation old (w ∷ new) → AllByRecursion (λ v. IsAbove b (waiting_pair v)) old → IsAbove b (waiting_pair w)
+pub above_popped : (b : Option Pair) (old new : List WaitingLine) (w : WaitingLine) → IsPermutation old (w ∷ new)
+    → AllByRecursion (λ v. IsAbove b (waiting_pair v)) old → IsAbove b (waiting_pair w)
 above_popped b old new w p h = (each_permuted (λ v. IsAbove b (waiting_pair v)) old (w ∷ new) p h).0

@@ -1,6 +1,7 @@
 -- Sources of which all lines were read: each that tells its bytes is an index, and all its lines are done.
 use Rattle.std.specs.List.{AllZip}
-use Rattle.std.proofs.Common.{◌≡◌, ℕ, ◌+◌, ◌≤◌, List, [], ◌∷◌, length, take, drop, map, Bool, false, true, Option, Some, ◌++◌, flat_map, zip, refl, sym, ap, ap₂, ◌∙◌, subst, arith, length-drop}
+use Rattle.std.proofs.Common.{◌≡◌, ℕ, ◌+◌, ◌≤◌, List, [], ◌∷◌, length, take, drop, map, Bool, false, true, Option, Some}
+use Rattle.std.proofs.Common.{◌++◌, flat_map, zip, refl, sym, ap, ap₂, ◌∙◌, subst, arith, length-drop}
 use Rattle.std.specs.List.{AllByRecursion}
 use Rattle.std.specs.Option.{is_some}
 use Rattle.std.proofs.lemmas.Bool.{true≢false}
@@ -20,20 +21,25 @@ none_left xs n e = omega (arith, length-drop n xs, ap length e)
 
 module _ (limit : ℕ) (past : List ℕ → Bool) (never : (key : List ℕ) → past key ≡ false) where
   -- a feed of which no line waits, and which isn't due, has ended
-  ended : (p : Progress) (before all : List Member) (rest : List (List ℕ)) → (p ≡ Due → ⊥) → AreWaits p [] → IsHead limit past before all rest [] p → (all ≡ before) × (rest ≡ [])
+  ended : (p : Progress) (before all : List Member) (rest : List (List ℕ)) → (p ≡ Due → ⊥) → AreWaits p []
+      → IsHead limit past before all rest [] p → (all ≡ before) × (rest ≡ [])
   ended Due before all rest s w h = absurd (s refl)
   ended Waiting before all rest s w h = cc
   ended Past before all rest s w h = absurd (true≢false (sym h.2 ∙ never h.0.values.key))
   ended Ended before all rest s w h = h
 
   -- then its source is an index
-  index_read : (t : List ℕ) (extent : ℕ) (f : Feed) → f.cursor.start ≡ 0 → IsSettled f → Fed limit past (Some t) extent f [] → IsIndex limit t (done limit t f)
+  index_read : (t : List ℕ) (extent : ℕ) (f : Feed) → f.cursor.start ≡ 0 → IsSettled f
+      → Fed limit past (Some t) extent f [] → IsIndex limit t (done limit t f)
   index_read t extent f zero_start s fed =
       let told = fed.told t refl in
-      let end = ended f.progress (done limit t f) (given limit t f.cursor) (lines (drop f.cursor.at t)) s fed.waits told.head in
+      let end = ended f.progress (done limit t f) (given limit t f.cursor) (lines (drop f.cursor.at t)) s fed.waits
+      told.head in
       let from : lines (drop f.cursor.start t) ≡ lines t = ap (λ n. lines (drop n t)) zero_start in
-      let rest : drop f.cursor.count (lines t) ≡ [] = ap (drop f.cursor.count) (sym from) ∙ sym (fed.stands.rest t refl) ∙ end.1 in
-      let whole : read_lines t f.cursor ≡ lines t = ap (take f.cursor.count) from ∙ take_all f.cursor.count (lines t) (none_left (lines t) f.cursor.count rest) in
+      let rest : drop f.cursor.count (lines t) ≡ [] = ap (drop f.cursor.count) (sym from) ∙ sym (fed.stands.rest t refl)
+      ∙ end.1 in
+      let whole : read_lines t f.cursor ≡ lines t = ap (take f.cursor.count) from
+      ∙ take_all f.cursor.count (lines t) (none_left (lines t) f.cursor.count rest) in
       subst (λ ls. IsRun limit ls (done limit t f)) whole (subst (IsRun limit (read_lines t f.cursor)) end.0 told.run)
 
   module _ {S : Type 0} (text : S → Option (List ℕ)) (extent : S → ℕ) where
@@ -41,8 +47,10 @@ module _ (limit : ℕ) (past : List ℕ → Bool) (never : (key : List ℕ) → 
     abbrev pub its_lines : List S → List Feed → List (List Member)
     its_lines ss fs = map (λ x. done limit (text_or (text x.0)) x.1) (zip ss fs)
 
-    pub are_read : (n : ℕ) (ss : List S) (fs : List Feed) (texts : List (List ℕ)) → length ss ≡ length fs → AllZip (λ told t. told ≡ Some t) (map text ss) texts
-        → AllByRecursion (λ (f : Feed). f.cursor.start ≡ 0) fs → AreSettled fs → AreFed limit past text extent n ss fs [] → AllZip (IsIndex limit) texts (its_lines ss fs)
+    pub are_read : (n : ℕ) (ss : List S) (fs : List Feed) (texts : List (List ℕ)) → length ss ≡ length fs
+        → AllZip (λ told t. told ≡ Some t) (map text ss) texts
+        → AllByRecursion (λ (f : Feed). f.cursor.start ≡ 0) fs → AreSettled fs
+        → AreFed limit past text extent n ss fs [] → AllZip (IsIndex limit) texts (its_lines ss fs)
     are_read n [] [] [] same known start settled fed = tt
     are_read n [] [] (t ∷ texts) same known start settled fed = absurd known
     are_read n [] (f ∷ fs) texts same known start settled fed = absurd (omega arith)
@@ -54,40 +62,51 @@ module _ (limit : ℕ) (past : List ℕ → Bool) (never : (key : List ℕ) → 
       are_read (n + 1) ss fs texts (omega arith) known.1 start.1 settled.1 fed.1,
     )
 
-    pub all_lines_are : (ss : List S) (fs : List Feed) → all_done limit text ss fs ≡ flat_map (λ (members : List Member). members) (its_lines ss fs)
+    pub all_lines_are : (ss : List S) (fs : List Feed) → all_done limit text ss fs
+        ≡ flat_map (λ (members : List Member). members) (its_lines ss fs)
     all_lines_are [] fs = refl
     all_lines_are (s ∷ ss) [] = refl
     all_lines_are (s ∷ ss) (f ∷ fs) = ap (λ l. done limit (text_or (text s)) f ++ l) (all_lines_are ss fs)
 
 -- ---- what a merge keeps of sources and feeds
 
-pub told_known : {S : Type 0} (text : S → Option (List ℕ)) (ss : List S) (texts : List (List ℕ)) → AllZip (λ told t. told ≡ Some t) (map text ss) texts → AllByRecursion (λ s. is_some (text s) ≡ true) ss
+pub told_known : {S : Type 0} (text : S → Option (List ℕ)) (ss : List S) (texts : List (List ℕ))
+    → AllZip (λ told t. told ≡ Some t) (map text ss) texts → AllByRecursion (λ s. is_some (text s) ≡ true) ss
 told_known text [] texts h = tt
 told_known text (s ∷ ss) [] h = absurd h
 told_known text (s ∷ ss) (t ∷ texts) h = (ap is_some h.0, told_known text ss texts h.1)
 
 module _ {S : Type 0} (text : S → Option (List ℕ)) (extent gave : S → ℕ) where
-  pub texts_kept : (ss ss' : List S) (fs fs' : List Feed) → length ss ≡ length fs → length ss' ≡ length ss → AllZip (Move text extent gave) (zip ss fs) (zip ss' fs') → map text ss' ≡ map text ss
+  pub texts_kept : (ss ss' : List S) (fs fs' : List Feed) → length ss ≡ length fs → length ss' ≡ length ss
+      → AllZip (Move text extent gave) (zip ss fs) (zip ss' fs') → map text ss' ≡ map text ss
   texts_kept [] [] fs fs' e e' h = refl
   texts_kept [] (s' ∷ ss') fs fs' e e' h = absurd (omega arith)
   texts_kept (s ∷ ss) [] fs fs' e e' h = absurd (omega arith)
   texts_kept (s ∷ ss) (s' ∷ ss') [] fs' e e' h = absurd (omega arith)
   texts_kept (s ∷ ss) (s' ∷ ss') (f ∷ fs) [] e e' h = absurd h
-  texts_kept (s ∷ ss) (s' ∷ ss') (f ∷ fs) (f' ∷ fs') e e' h = ap₂ (λ t ts. t ∷ ts) h.0.text_kept (texts_kept ss ss' fs fs' (omega arith) (omega arith) h.1)
+  texts_kept (s ∷ ss) (s' ∷ ss') (f ∷ fs) (f' ∷ fs') e e' h = ap₂ (λ t ts. t ∷ ts) h.0.text_kept
+      (texts_kept ss ss' fs fs' (omega arith) (omega arith) h.1)
 
-  pub extents_kept : (ss ss' : List S) (fs fs' : List Feed) → length ss ≡ length fs → length ss' ≡ length ss → AllZip (Move text extent gave) (zip ss fs) (zip ss' fs') → map extent ss' ≡ map extent ss
+  pub extents_kept : (ss ss' : List S) (fs fs' : List Feed) → length ss ≡ length fs → length ss' ≡ length ss
+      → AllZip (Move text extent gave) (zip ss fs) (zip ss' fs') → map extent ss' ≡ map extent ss
   extents_kept [] [] fs fs' e e' h = refl
   extents_kept [] (s' ∷ ss') fs fs' e e' h = absurd (omega arith)
   extents_kept (s ∷ ss) [] fs fs' e e' h = absurd (omega arith)
   extents_kept (s ∷ ss) (s' ∷ ss') [] fs' e e' h = absurd (omega arith)
   extents_kept (s ∷ ss) (s' ∷ ss') (f ∷ fs) [] e e' h = absurd h
-  extents_kept (s ∷ ss) (s' ∷ ss') (f ∷ fs) (f' ∷ fs') e e' h = ap₂ (λ n ns. n ∷ ns) h.0.extent_kept (extents_kept ss ss' fs fs' (omega arith) (omega arith) h.1)
+  extents_kept (s ∷ ss) (s' ∷ ss') (f ∷ fs) (f' ∷ fs') e e' h = ap₂ (λ n ns. n ∷ ns) h.0.extent_kept
+      (extents_kept ss ss' fs fs' (omega arith) (omega arith) h.1)
 
-  pub starts_kept : (ss ss' : List S) (fs fs' : List Feed) → length ss ≡ length fs → length ss' ≡ length fs' → AllZip (Move text extent gave) (zip ss fs) (zip ss' fs')
+  pub starts_kept : (ss ss' : List S) (fs fs' : List Feed) → length ss ≡ length fs → length ss' ≡ length fs'
+      → AllZip (Move text extent gave) (zip ss fs) (zip ss' fs')
       → AllByRecursion (λ (f : Feed). f.cursor.start ≡ 0) fs → AllByRecursion (λ (f : Feed). f.cursor.start ≡ 0) fs'
   starts_kept ss [] fs [] e e' h z = tt
   starts_kept ss [] fs (f' ∷ fs') e e' h z = absurd (omega arith)
   starts_kept ss (s' ∷ ss') fs [] e e' h z = absurd (omega arith)
   starts_kept [] (s' ∷ ss') fs (f' ∷ fs') e e' h z = absurd h
   starts_kept (s ∷ ss) (s' ∷ ss') [] (f' ∷ fs') e e' h z = absurd (omega arith)
-  starts_kept (s ∷ ss) (s' ∷ ss') (f ∷ fs) (f' ∷ fs') e e' h z = (h.0.start_kept ∙ z.0, starts_kept ss ss' fs fs' (omega arith) (omega arith) h.1 z.1)
+  starts_kept (s ∷ ss) (s' ∷ ss') (f ∷ fs) (f' ∷ fs') e e' h z = (
+    h.0.start_kept
+        ∙ z.0,
+    starts_kept ss ss' fs fs' (omega arith) (omega arith) h.1 z.1,
+  )

@@ -1,5 +1,6 @@
 -- What was read of a source.
-use Rattle.std.specs.Prelude.{◌≡◌, ℕ, ◌+◌, ◌-◌, ◌≤◌, ◌<◌, List, [], ◌∷◌, ◌++◌, flat_map, length, take, drop, map, Bool, true, false, Option, Some, None, unwrap_or}
+use Rattle.std.specs.Prelude.{◌≡◌, ℕ, ◌+◌, ◌-◌, ◌≤◌, ◌<◌, List, [], ◌∷◌, ◌++◌, flat_map, length, take, drop, map, Bool}
+use Rattle.std.specs.Prelude.{true, false, Option, Some, None, unwrap_or}
 use Rattle.std.specs.List.{AllByRecursion}
 use Rattle.cdxj_places.specs.TextLines.{lines}
 use Rattle.cdxj_core.specs.Members.{Member, line_entry}
@@ -38,7 +39,17 @@ held Ended = 0
 
 abbrev pub no_member : Member
 no_member = record {
-  values = record { key = []; stamp = []; original = []; mimetype = []; statuscode = []; digest = []; length = []; offset = 0; filename = [] };
+  values = record {
+    key = [];
+    stamp = [];
+    original = [];
+    mimetype = [];
+    statuscode = [];
+    digest = [];
+    length = [];
+    offset = 0;
+    filename = [];
+  };
   line = [];
 }
 
@@ -80,7 +91,8 @@ module _ (limit : ℕ) where
     -- how the lines that were read follow from those that are done, where these wait and those are left
     abbrev pub IsHead : List Member → List Member → List (List ℕ) → List Member → Progress → Type 0
     IsHead before all rest ws Due = all ≡ before
-    IsHead before all rest ws Waiting = (all ≡ before ++ ws) × AllByRecursion (λ (m : Member). past m.values.key ≡ false) ws
+    IsHead before all rest ws Waiting = (all ≡ before ++ ws)
+        × AllByRecursion (λ (m : Member). past m.values.key ≡ false) ws
     IsHead before all rest ws Past = (m : Member) × (all ≡ before ++ m ∷ []) × (past m.values.key ≡ true)
     IsHead before all rest ws Ended = (all ≡ before) × (rest ≡ [])
 
@@ -114,7 +126,8 @@ module _ (limit : ℕ) where
         pub fed : AreFed 0 ss fs ws
 
 -- what may change of a source and its cursor in a call, whatever it answers
-pub record Moved (old_text text : Option (List ℕ)) (old_extent extent old_gave gave : ℕ) (old now : CursorState) : Type 0 where
+pub record Moved (old_text text : Option (List ℕ)) (old_extent extent old_gave gave : ℕ) (old now : CursorState) : Type
+    0 where
   pub text_kept : text ≡ old_text
   pub extent_kept : extent ≡ old_extent
   pub spent : gave + reach old ≤ old_gave + reach now

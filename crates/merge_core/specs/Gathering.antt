@@ -1,5 +1,6 @@
 -- What was taken of several sources.
-use Rattle.std.specs.Prelude.{◌≡◌, ◌⊎◌, ℕ, ◌+◌, ◌-◌, ◌<◌, ◌≤◌, List, [], ◌∷◌, ◌++◌, flat_map, length, map, not, true, Option, None, Some}
+use Rattle.std.specs.Prelude.{◌≡◌, ◌⊎◌, ℕ, ◌+◌, ◌-◌, ◌<◌, ◌≤◌, List, [], ◌∷◌, ◌++◌, flat_map, length, map, not, true}
+use Rattle.std.specs.Prelude.{Option, None, Some}
 use Rattle.std.specs.List.{AllByRecursion, filter, sum, zip}
 use Rattle.std.specs.List.Sorted.{IsPermutation}
 use Rattle.std.specs.Option.{is_some}
@@ -55,10 +56,13 @@ WaitsAbove pair i old new =
 -- what a source's further lines with the pair make of what is done, and of the lines that were taken
 abbrev pub Drained : ℕ → Pair → Option (List ℕ) → Feed → Feed → List Member → List Member → Type 0
 Drained limit pair text old now old_rest rest = (t : List ℕ) → text ≡ Some t → (taken : List Member)
-    × (done limit t now ≡ done limit t old ++ taken) × (rest ≡ old_rest ++ taken) × AllByRecursion (λ m. Alike (member_pair m) pair) taken
+    × (done limit t now ≡ done limit t old ++ taken) × (rest ≡ old_rest ++ taken)
+    × AllByRecursion (λ m. Alike (member_pair m) pair) taken
 
 -- The lines of the least pair were taken from all sources: of those that are done now, the ones that weren't
-pub record Grouped {S : Type 0} (limit : ℕ) (text : S → Option (List ℕ)) (extent : S → ℕ) (ss0 : List S) (fs0 : List Feed) (ws0 : List WaitingLine) (ss : List S) (fs : List Feed) (ws : List WaitingLine) (pair : Pair) (group : List Member) : Type 0 where
+pub record Grouped {S : Type 0} (limit : ℕ) (text : S → Option (List ℕ)) (extent : S → ℕ) (ss0 : List S)
+    (fs0 : List Feed) (ws0 : List WaitingLine) (ss : List S) (fs : List Feed) (ws : List WaitingLine) (pair : Pair)
+    (group : List Member) : Type 0 where
   pub above : (b : Option Pair) → AllByRecursion (λ w. IsAbove b (waiting_pair w)) ws0 → IsAbove b pair
   pub least : AllByRecursion (λ w. Upto pair (waiting_pair w)) ws0
   pub later : AllByRecursion (λ w. Below pair (waiting_pair w)) ws

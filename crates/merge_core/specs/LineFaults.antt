@@ -36,4 +36,5 @@ NamesLine limit text (feed.OutOfOrder offset) = IsOutOfOrder limit text offset
 abbrev pub IsFaultOf : ℕ → List (Option (List ℕ)) → MergeFault → Type 0
 IsFaultOf limit texts fault.Memory = ⊤
 IsFaultOf limit texts fault.Write = ⊤
-IsFaultOf limit texts (fault.Feed i e) = (i < length texts) × ((text : List ℕ) → get_or texts i None ≡ Some text → NamesLine limit text e)
+IsFaultOf limit texts (fault.Feed i e) = (i < length texts)
+    × ((text : List ℕ) → get_or texts i None ≡ Some text → NamesLine limit text e)

@@ -8,4 +8,5 @@ use Rattle.source_core.specs.Search.{IsCut}
 
 -- of an index, the lines before the cursor's start are those below the pair
 abbrev pub IsCutAt : ℕ → Pair → Option (List ℕ) → CursorState → Type 0
-IsCutAt limit start text c = (t : List ℕ) → (members : List Member) → text ≡ Some t → IsIndex limit t members → IsCut start t members c.start
+IsCutAt limit start text c = (t : List ℕ) → (members : List Member) → text ≡ Some t → IsIndex limit t members
+    → IsCut start t members c.start

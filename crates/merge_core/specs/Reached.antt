@@ -35,12 +35,15 @@ module _ {S : Type 0} (limit : ℕ) (text : S → Option (List ℕ)) where
     pub entries : AllByRecursion (HasEntry limit) taken
     pub upto : AllByRecursion (λ m. IsUpto bound (member_pair m)) taken
     pub rises : Rises member_place place_cmp taken
-    pub told : AreTold text old → (taken ≡ rising member_place place_cmp (all_done limit text ss fs)) × AllByRecursion (λ m. IsUpto bound (member_pair m)) (all_done limit text ss fs)
+    pub told : AreTold text old → (taken ≡ rising member_place place_cmp (all_done limit text ss fs))
+        × AllByRecursion (λ m. IsUpto bound (member_pair m)) (all_done limit text ss fs)
 
   -- from these sources and feeds it came to those: the lines that wait stand above the bound
-  pub record Reached (past : List ℕ → Bool) (extent gave : S → ℕ) (old : List S) (old_feeds : List Feed) (ss : List S) (fs : List Feed) (ws : List WaitingLine) (bound : Option Pair) (taken : List Member) : Type 0 where
+  pub record Reached (past : List ℕ → Bool) (extent gave : S → ℕ) (old : List S) (old_feeds : List Feed) (ss : List S)
+      (fs : List Feed) (ws : List WaitingLine) (bound : Option Pair) (taken : List Member) : Type 0 where
     pub ready : Ready limit past text extent ss fs ws
     pub settled : AreSettled fs
-    pub moved : AllZip (λ x y. Moved (text x.0) (text y.0) (extent x.0) (extent y.0) (gave x.0) (gave y.0) x.1.cursor y.1.cursor) (zip old old_feeds) (zip ss fs)
+    pub moved : AllZip (λ x y. Moved (text x.0) (text y.0) (extent x.0) (extent y.0) (gave x.0) (gave y.0) x.1.cursor
+        y.1.cursor) (zip old old_feeds) (zip ss fs)
     pub above : AllByRecursion (λ w. IsAbove bound (waiting_pair w)) ws
     pub handed : Handed old ss fs bound taken

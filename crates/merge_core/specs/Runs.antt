@@ -10,13 +10,15 @@ use Rattle.merge_core.specs.Gathering.{text_or}
 
 -- Consecutive lines of a text are these members, whose pairs never fall. Where they are to be all of the range, they go on to
 -- the text's end, or to a line whose key lies past the range.
-pub record IsPart (limit : ℕ) (past : List ℕ → Bool) (whole : Bool) (text : List ℕ) (members : List Member) : Type 0 where
-  pub before : List (List ℕ)
-  pub read : List (List ℕ)
-  pub after : List (List ℕ)
-  pub cut : lines text ≡ before ++ read ++ after
-  pub run : IsRun limit read members
-  pub ended : whole ≡ true → (after ≡ []) ⊎ ((earlier : List Member) × (last : Member) × (members ≡ earlier ++ last ∷ []) × (past last.values.key ≡ true))
+pub record IsPart (limit : ℕ) (past : List ℕ → Bool) (whole : Bool) (text : List ℕ) (members : List Member) : Type 0
+  where
+    pub before : List (List ℕ)
+    pub read : List (List ℕ)
+    pub after : List (List ℕ)
+    pub cut : lines text ≡ before ++ read ++ after
+    pub run : IsRun limit read members
+    pub ended : whole ≡ true → (after ≡ [])
+        ⊎ ((earlier : List Member) × (last : Member) × (members ≡ earlier ++ last ∷ []) × (past last.values.key ≡ true))
 
 -- the lines that were read, source by source
 abbrev pub parts : {S : Type 0} → ℕ → (S → Option (List ℕ)) → List S → List Feed → List (List Member)

@@ -31,4 +31,5 @@ module _ (limit : ℕ) where
 
   -- such lines were written, the last of them whole or in part
   abbrev pub WroteLinesOf : List (Option (List ℕ)) → Option (List ℕ) → Option (List ℕ) → Type 0
-  WroteLinesOf sources old new = (members : List Member) × AreLinesOf sources members × AppendsPrefix old new (lines_text members)
+  WroteLinesOf sources old new = (members : List Member) × AreLinesOf sources members
+      × AppendsPrefix old new (lines_text members)

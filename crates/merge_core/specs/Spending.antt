@@ -24,8 +24,10 @@ pub record ReadTo (limit : ℕ) (past : List ℕ → Bool) (b : Option Pair) (te
   pub most : reach c ≤ c.start + bytes_of read + 2 * longest (lines text) + 8192
 
 -- the same of each source that tells its bytes
-abbrev pub AreReadTo : {S : Type 0} → ℕ → (List ℕ → Bool) → (S → Option (List ℕ)) → Option Pair → List S → List Feed → Type 0
-AreReadTo limit past text b ss fs = AllByRecursion (λ x. (t : List ℕ) → text x.0 ≡ Some t → ReadTo limit past b t x.1.cursor) (zip ss fs)
+abbrev pub AreReadTo : {S : Type 0} → ℕ → (List ℕ → Bool) → (S → Option (List ℕ)) → Option Pair → List S → List Feed
+    → Type 0
+AreReadTo limit past text b ss fs = AllByRecursion (λ x. (t : List ℕ) → text x.0 ≡ Some t
+    → ReadTo limit past b t x.1.cursor) (zip ss fs)
 
 -- what a search in a source of so many bytes, with this text, takes at most
 abbrev pub search_most : ℕ → List ℕ → ℕ
@@ -33,7 +35,8 @@ search_most extent text = digits extent * (2 * longest (lines text) + 2048)
 
 -- a source gave no more than a search takes, two lines and a piece
 abbrev pub OpenedWithin : Option (List ℕ) → ℕ → ℕ → ℕ → Type 0
-OpenedWithin text extent old new = (t : List ℕ) → text ≡ Some t → new ≤ old + search_most extent t + 2 * longest (lines t) + 8192
+OpenedWithin text extent old new = (t : List ℕ) → text ≡ Some t
+    → new ≤ old + search_most extent t + 2 * longest (lines t) + 8192
 
 -- a source gave no more than a search takes, and what lies between the cursor's start and the offset up to which it was read
 abbrev pub CameWithin : Option (List ℕ) → ℕ → ℕ → ℕ → CursorState → Type 0
@@ -41,9 +44,11 @@ CameWithin text extent old new c = (t : List ℕ) → text ≡ Some t → new + 
 
 -- Sources gave no more than the bytes of those of their lines that pass, what a search takes, two lines and a piece: by their
 -- texts, their indexes, and the sources before and after
-abbrev pub AllGaveWithin : {S : Type 0} → (S → ℕ) → (S → ℕ) → (Member → Bool) → List (List ℕ) → List (List Member) → List S → List S → Type 0
+abbrev pub AllGaveWithin : {S : Type 0} → (S → ℕ) → (S → ℕ) → (Member → Bool) → List (List ℕ) → List (List Member)
+    → List S → List S → Type 0
 AllGaveWithin extent gave test [] [] [] [] = Unit {0}
 AllGaveWithin extent gave test (t ∷ ts) (i ∷ is) (old ∷ olds) (new ∷ news) =
-    (gave new ≤ gave old + length (lines_text (filter test i)) + search_most (extent old) t + 2 * longest (lines t) + 8192)
+    (gave new ≤ gave old + length (lines_text (filter test i)) + search_most (extent old) t + 2 * longest (lines t) +
+    8192)
     × AllGaveWithin extent gave test ts is olds news
 AllGaveWithin extent gave test ts is olds news = ⊥

@@ -26,7 +26,8 @@ impl<'a> Model for KeyedLine<'a> {
 
     ghost view = { λ k. k.line.now };
 
-    ghost invariant = { λ k. (k.key_start ≡ key_words k.line.now.values.key) × IsText k.line.now.values.key };
+    ghost invariant = { λ k. (k.key_start ≡ key_words k.line.now.values.key)
+        × IsText k.line.now.values.key };
 }
 
 impl<'a> KeyedLine<'a> {

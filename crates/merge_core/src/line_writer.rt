@@ -49,7 +49,8 @@ impl Sink for LineWriter {
     ghost use Rattle.devices.specs.Device.{AppendsPrefix};
     ghost use Rattle.merge_core.specs.Written.{lines_text};
 
-    ghost Wrote = { λ _ w taken start now. Appends start now (lines_text taken) × (w.count ≡ min (length taken) (2 ^ 64 - 1)) };
+    ghost Wrote = { λ _ w taken start now. Appends start now (lines_text taken)
+        × (w.count ≡ min (length taken) (2 ^ 64 - 1)) };
 
     ghost Broke = { λ _ taken start now. AppendsPrefix start now (lines_text taken) };
 

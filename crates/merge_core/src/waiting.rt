@@ -32,7 +32,8 @@ impl Model for Waiting {
 
     ghost view = { λ w. record { member = w.line.value; source = w.source } };
 
-    ghost invariant = { λ w. (w.key_start ≡ key_words w.line.value.values.key) × IsText w.line.value.values.key };
+    ghost invariant = { λ w. (w.key_start ≡ key_words w.line.value.values.key)
+        × IsText w.line.value.values.key };
 }
 
 impl Waiting {
@@ -75,7 +76,8 @@ impl Eq for Waiting {
 impl PartialOrd for Waiting {
     ghost partial_cmp = { as_partial_cmp waiting_cmp };
 
-    ghost laws = { partial_order_from_agreeing_total waiting_cmp waiting_cmp_total (λ _ _. refl) (λ _ _. refl) };
+    ghost laws = { partial_order_from_agreeing_total waiting_cmp waiting_cmp_total (λ _ _. refl)
+        (λ _ _. refl) };
 
     fn partial_cmp(&self, other: &Waiting) -> Option<Ordering> {
         Some(self.cmp(other))

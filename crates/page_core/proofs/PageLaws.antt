@@ -1,5 +1,7 @@
 -- The laws of pages.
-use Rattle.std.proofs.Common.{◌≡◌, ℕ, zero, suc, ◌<◌, List, [], ◌∷◌, ◌++◌, Bool, true, false, cond, length, take, drop, inl, inr, refl, sym, ap, ap₂, ◌∙◌, subst, arith, Ordering, Less, Greater, is_gt, filter, Some, None, Option, MatchOption, take-append-drop, append-nil, length-drop, length-take}
+use Rattle.std.proofs.Common.{◌≡◌, ℕ, zero, suc, ◌<◌, List, [], ◌∷◌, ◌++◌, Bool, true, false, cond, length, take, drop}
+use Rattle.std.proofs.Common.{inl, inr, refl, sym, ap, ap₂, ◌∙◌, subst, arith, Ordering, Less, Greater, is_gt, filter}
+use Rattle.std.proofs.Common.{Some, None, Option, MatchOption, take-append-drop, append-nil, length-drop, length-take}
 use Rattle.std.specs.List.{AllByRecursion, flat_map}
 use Rattle.std.specs.Ordering.{ordering_reverse}
 use Rattle.std.specs.Cmp.{IsTotalOrder}
@@ -7,7 +9,8 @@ use Rattle.std.proofs.lemmas.Cmp.{tied_itself}
 use Rattle.std.proofs.lemmas.Bool.{cond-true, cond-false, cases_Bool}
 use Rattle.cdxj_places.specs.Rising.{IsIn, Rises}
 use Rattle.cdxj_places.proofs.RisingLaws.{is_gt-true, each_at}
-use Rattle.page_core.specs.Pages.{Page, AllPositive, later_sizes, first_size, is_above, repeats, end_place, kept, collapsed, next_after, page_of, IsChain, FullButLast}
+use Rattle.page_core.specs.Pages.{Page, AllPositive, later_sizes, first_size, is_above, repeats, end_place, kept}
+use Rattle.page_core.specs.Pages.{collapsed, next_after, page_of, IsChain, FullButLast}
 
 -- a filter that all pass
 pub filter_all : {X : Type 0} (f : X → Bool) (xs : List X) → AllByRecursion (λ y. f y ≡ true) xs → filter f xs ≡ xs

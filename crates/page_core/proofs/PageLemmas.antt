@@ -1,5 +1,6 @@
 -- A page in the pieces in which it is written.
-use Rattle.std.proofs.Common.{◌≡◌, ℕ, List, [], ◌∷◌, ◌++◌, Option, map, refl, sym, ap, ◌∙◌, append_assoc, append-nil, subst}
+use Rattle.std.proofs.Common.{◌≡◌, ℕ, List, [], ◌∷◌, ◌++◌, Option, map, refl, sym, ap, ◌∙◌, append_assoc, append-nil}
+use Rattle.std.proofs.Common.{subst}
 use Rattle.std.specs.Prelude.{flat_map}
 use Rattle.std.proofs.lemmas.List.Concat.{flat_map-append}
 use Rattle.std.specs.Io.KnownBytes.{Appends}
@@ -8,7 +9,8 @@ use Rattle.devices.proofs.DeviceLemmas.{Appends-join}
 use Rattle.cdxj_core.specs.Members.{Member}
 use Rattle.page_core.specs.Rows.{value_of, field_name, json_row}
 use Rattle.page_core.specs.Form.{Form, Text, Cdxj, Json}
-use Rattle.page_core.specs.PageText.{page_text, page_start, row_text, page_end, later_row, key_rows, begun, PageInPieces, BegunIsFront}
+use Rattle.page_core.specs.PageText.{page_text, page_start, row_text, page_end, later_row, key_rows, begun}
+use Rattle.page_core.specs.PageText.{PageInPieces, BegunIsFront}
 use Rattle.devices.proofs.WritingLemmas.{prefix_longer, prefix_after, prefix_whole}
 
 flat_map-map : {X Y A : Type 0} (f : Y → List A) (g : X → Y) (xs : List X) → flat_map f (map g xs) ≡ flat_map

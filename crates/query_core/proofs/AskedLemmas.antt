@@ -1,5 +1,6 @@
 -- One page of a query, by what was taken of its sources.
-use Rattle.std.proofs.Common.{◌≡◌, ℕ, List, [], ◌∷◌, ◌++◌, refl, sym, ap, ◌∙◌, subst, Bool, true, false, not, ◌&&◌, cond, Option, filter, min, length, ◌-◌, ◌^◌}
+use Rattle.std.proofs.Common.{◌≡◌, ℕ, List, [], ◌∷◌, ◌++◌, refl, sym, ap, ◌∙◌, subst, Bool, true, false, not, ◌&&◌}
+use Rattle.std.proofs.Common.{cond, Option, filter, min, length, ◌-◌, ◌^◌}
 use Rattle.std.specs.Option.{is_some}
 use Rattle.std.specs.Io.KnownBytes.{Appends}
 use Rattle.std.proofs.lemmas.Bool.{true≢false}
@@ -27,8 +28,10 @@ pub filter_and : (f g : Member → Bool) (xs : List Member) → filter g (filter
 filter_and f g [] = refl
 filter_and f g (x ∷ xs) =
     let ih = filter_and f g xs in
-    elim (f x) as (λ b. filter g (cond b (x ∷ filter f xs) (filter f xs)) ≡ cond (b && g x) (x ∷ filter (λ m. f m && g m) xs) (filter (λ m. f m && g m) xs)) [
-      | true ↦ (elim (g x) as (λ b. cond b (x ∷ filter g (filter f xs)) (filter g (filter f xs)) ≡ cond b (x ∷ filter (λ m. f m && g m) xs) (filter (λ m. f m && g m) xs))
+    elim (f x) as (λ b. filter g (cond b (x ∷ filter f xs) (filter f xs))
+    ≡ cond (b && g x) (x ∷ filter (λ m. f m && g m) xs) (filter (λ m. f m && g m) xs)) [
+      | true ↦ (elim (g x) as (λ b. cond b (x ∷ filter g (filter f xs)) (filter g (filter f xs))
+          ≡ cond b (x ∷ filter (λ m. f m && g m) xs) (filter (λ m. f m && g m) xs))
           [ true ↦ ap (λ l. x ∷ l) ih | false ↦ ih ])
       | false ↦ ih
     ]
@@ -38,19 +41,22 @@ and_left true b h = refl
 and_left false b h = absurd (true≢false (sym h))
 
 -- what is wanted lies within the target's range
-pub wanted_within : (q : QueryValue) (from : Option PlaceValue) (m : Member) → is_wanted q from m ≡ true → not (is_past q.target m.values.key) ≡ true
+pub wanted_within : (q : QueryValue) (from : Option PlaceValue) (m : Member) → is_wanted q from m ≡ true
+    → not (is_past q.target m.values.key) ≡ true
 wanted_within q from m h =
     let a = key_matches q.target m.values.key in
     let b = not_before q.from m.values.stamp in
     let c = not_after q.to m.values.stamp in
     let d = list_all (holds m.values) q.filters in
     ap not (match_not_past q.target m.values.key
-    (and_left a b (and_left (a && b) c (and_left (a && b && c) d (and_left (matches q m.values) (is_above member_place place_cmp from m) h)))))
+    (and_left a b (and_left (a && b) c
+    (and_left (a && b && c) d (and_left (matches q m.values) (is_above member_place place_cmp from m) h)))))
 
 -- the query's page is that of the lines that are wanted
 pub asked_is : (q : QueryValue) (lines : List Member) → query_page q lines ≡ page_over q q.resume q.limit lines
 asked_is q lines =
-    ap (λ l. page q.limit (kept member_place (same_part q.collapse) q.resume l)) (filter_and (λ m. matches q m.values) (is_above member_place place_cmp q.resume) lines)
+    ap (λ l. page q.limit (kept member_place (same_part q.collapse) q.resume l))
+    (filter_and (λ m. matches q m.values) (is_above member_place place_cmp q.resume) lines)
 
 -- of all lines these were taken
 module _ (q : QueryValue) (all taken : List Member) where
@@ -61,36 +67,51 @@ module _ (q : QueryValue) (all taken : List Member) where
   taken_page = page_over q q.resume q.limit taken
 
   -- they settle the page
-  pub page_settled : (whole more : Bool) (rest : List Member) → captures all ≡ captures taken ++ rest → (whole ≡ true → captures all ≡ captures taken) → (whole ≡ false → more ≡ true)
+  pub page_settled : (whole more : Bool) (rest : List Member) → captures all ≡ captures taken ++ rest
+      → (whole ≡ true → captures all ≡ captures taken) → (whole ≡ false → more ≡ true)
       → more ≡ is_some taken_page.next → query_page q all ≡ taken_page
   page_settled true more rest first ended enough is = asked_is q all ∙ ap (page q.limit) (ended refl)
   page_settled false more rest first ended enough is =
       asked_is q all ∙ ap (page q.limit) first ∙ decided q.limit (captures taken) rest (sym is ∙ enough refl)
 
-  module _ (start mid new : Option (List ℕ)) (given : ℕ) (more : Bool) (last : Option PlaceValue) (s : PageStands (form_of q) q.limit (captures taken) start mid given more last) (same : query_page q all ≡ taken_page) where
+  module _ (start mid new : Option (List ℕ)) (given : ℕ) (more : Bool) (last : Option PlaceValue)
+      (s : PageStands (form_of q) q.limit (captures taken) start mid given more last) (same : query_page q all
+      ≡ taken_page) where
     next_same : next_of more last ≡ (query_page q all).next
-    next_same = next_is q.limit (captures taken) more last s.more_is s.last_is ∙ ap (λ (p : Page Member PlaceValue). p.next) (sym same)
+    next_same = next_is q.limit (captures taken) more last s.more_is s.last_is
+        ∙ ap (λ (p : Page Member PlaceValue). p.next) (sym same)
 
-    text_same : page_text (form_of q) taken_page.members (shown_key q.show_resume_key (next_of more last)) ≡ answer_text q (query_page q all)
+    text_same : page_text (form_of q) taken_page.members (shown_key q.show_resume_key (next_of more last))
+        ≡ answer_text q (query_page q all)
     text_same =
-        ap (λ (p : Page Member PlaceValue). page_text (form_of q) p.members (shown_key q.show_resume_key (next_of more last))) (sym same)
+        ap (λ (p : Page Member PlaceValue). page_text (form_of q) p.members
+        (shown_key q.show_resume_key (next_of more last))) (sym same)
         ∙ ap (λ n. page_text (form_of q) (query_page q all).members (shown_key q.show_resume_key n)) next_same
 
     -- with its end it is written
-    pub page_wrote : (end : PageEnd) (report : Report) → Appends mid new (page_end (form_of q) (shown_key q.show_resume_key (next_of more last))) → end.given ≡ given → end.next ≡ next_of more last
+    pub page_wrote : (end : PageEnd) (report : Report)
+        → Appends mid new (page_end (form_of q) (shown_key q.show_resume_key (next_of more last))) → end.given ≡ given
+        → end.next ≡ next_of more last
         → report.given ≡ end.given → report.more ≡ is_some end.next → Answered q all start new report
     page_wrote end report a g n of_end is_more = record {
-      text = subst (Appends start new) text_same (written-whole start mid new (form_of q) taken_page.members (shown_key q.show_resume_key (next_of more last)) s.text a);
-      given = of_end ∙ g ∙ s.given_is ∙ ap (λ (p : Page Member PlaceValue). min (length p.members) (2 ^ 64 - 1)) (sym same);
+      text = subst (Appends start new) text_same
+          (written-whole start mid new (form_of q) taken_page.members (shown_key q.show_resume_key (next_of more last))
+          s.text a);
+      given = of_end ∙ g ∙ s.given_is ∙ ap (λ (p : Page Member PlaceValue). min (length p.members) (2 ^ 64 - 1))
+          (sym same);
       more = is_more ∙ ap is_some (n ∙ next_same);
     }
 
-    pub page_cut : AppendsPrefix mid new (page_end (form_of q) (shown_key q.show_resume_key (next_of more last))) → AppendsPrefix start new (answer_text q (query_page q all))
-    page_cut p = subst (AppendsPrefix start new) text_same (front-end start mid new (form_of q) taken_page.members (shown_key q.show_resume_key (next_of more last)) s.text p)
+    pub page_cut : AppendsPrefix mid new (page_end (form_of q) (shown_key q.show_resume_key (next_of more last)))
+        → AppendsPrefix start new (answer_text q (query_page q all))
+    page_cut p = subst (AppendsPrefix start new) text_same
+        (front-end start mid new (form_of q) taken_page.members (shown_key q.show_resume_key (next_of more last)) s.text
+        p)
 
   -- a front of what was taken is a front of the page
   pub page_broke : (start now : Option (List ℕ)) (rest : List Member) → captures all ≡ captures taken ++ rest
-      → AppendsPrefix start now (begun (form_of q) taken_page.members) → AppendsPrefix start now (answer_text q (query_page q all))
+      → AppendsPrefix start now (begun (form_of q) taken_page.members)
+      → AppendsPrefix start now (answer_text q (query_page q all))
   page_broke start now rest first p =
       let r = page_front q.limit (captures taken) rest in
       let key = shown_key q.show_resume_key (query_page q all).next in

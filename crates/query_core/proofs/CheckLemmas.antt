@@ -1,5 +1,6 @@
 -- How far a check has come.
-use Rattle.std.proofs.Common.{◌≡◌, ℕ, ◌+◌, ◌≤◌, List, [], ◌∷◌, ◌++◌, length, take, drop, Option, None, Some, refl, sym, ap, ◌∙◌, subst, arith, take-append-drop, length-append, length-drop}
+use Rattle.std.proofs.Common.{◌≡◌, ℕ, ◌+◌, ◌≤◌, List, [], ◌∷◌, ◌++◌, length, take, drop, Option, None, Some, refl, sym}
+use Rattle.std.proofs.Common.{ap, ◌∙◌, subst, arith, take-append-drop, length-append, length-drop}
 use Rattle.std.specs.Prelude.{Err, MatchOption}
 use Rattle.std.proofs.lemmas.List.{take_all}
 use Rattle.cdxj_core.specs.Members.{Member}
@@ -25,23 +26,30 @@ module _ (limit : ℕ) (t : List ℕ) where
   pub checked_none : CheckedTo 0 None
   checked_none = record { members = []; run = record { entries = refl; ordered = tt }; last = refl; as_many = refl }
 
-  module _ (at count : ℕ) (previous : Option Member) (checked : CheckedTo count previous) (rest : lines (drop at t) ≡ drop count (lines t)) where
-    pub checked_more : (to : ℕ) (m : Member) → IsNextLine limit t at to (Some m) → (FallsAfter previous m → ⊥) → CheckedTo (count + 1) (Some m)
+  module _ (at count : ℕ) (previous : Option Member) (checked : CheckedTo count previous) (rest : lines (drop at t)
+      ≡ drop count (lines t)) where
+    pub checked_more : (to : ℕ) (m : Member) → IsNextLine limit t at to (Some m) → (FallsAfter previous m → ⊥)
+        → CheckedTo (count + 1) (Some m)
     checked_more to m next stays =
         let grown = take_next count (lines t) next.0 (lines (drop to t)) (sym rest ∙ next.1) in
         let many = checked.as_many in
         record {
           members = checked.members ++ m ∷ [];
           run = subst (λ ls. IsRun limit ls (checked.members ++ m ∷ [])) (sym grown)
-              (run_push limit (take count (lines t)) checked.members previous next.0 m checked.run checked.last next.2 stays);
+              (run_push limit (take count (lines t)) checked.members previous next.0 m checked.run checked.last next.2
+              stays);
           last = (checked.members, refl);
           as_many = omega (arith, length-append checked.members (m ∷ []));
         }
 
-    pub checked_whole : (to number : ℕ) (found : Option Member) → IsNextLine limit t at to found → MatchOption found (number ≡ count) (λ _. number ≡ count + 1)
-        → ((m : Member) → found ≡ Some m → ⊥) → (members : List Member) × IsIndex limit t members × (number ≡ length members)
+    pub checked_whole : (to number : ℕ) (found : Option Member) → IsNextLine limit t at to found
+        → MatchOption found (number ≡ count) (λ _. number ≡ count + 1)
+        → ((m : Member) → found ≡ Some m → ⊥) → (members : List Member) × IsIndex limit t members
+        × (number ≡ length members)
     checked_whole to number None none counted end =
-        let whole : take count (lines t) ≡ lines t = take_all count (lines t) (omega (arith, ap length (sym rest ∙ none), length-drop count (lines t))) in
+        let whole : take count (lines t)
+        ≡ lines t = take_all count (lines t)
+        (omega (arith, ap length (sym rest ∙ none), length-drop count (lines t))) in
         (checked.members, subst (λ ls. IsRun limit ls checked.members) whole checked.run, counted ∙ checked.as_many)
     checked_whole to number (Some m) next counted end = absurd (end m refl)
 
@@ -49,14 +57,16 @@ module _ (limit : ℕ) (t : List ℕ) where
     cut = sym (take-append-drop count (lines t)) ∙ ap (λ ls. take count (lines t) ++ ls) (sym rest)
 
     module _ (inside : at ≤ length t) where
-      begins : (line : List ℕ) (after : List (List ℕ)) → lines (drop at t) ≡ line ∷ after → BeginsAt t at (take count (lines t)) line
+      begins : (line : List ℕ) (after : List (List ℕ)) → lines (drop at t) ≡ line ∷ after
+          → BeginsAt t at (take count (lines t)) line
       begins line after e = record {
         after = after;
         lines_are = cut ∙ ap (λ ls. take count (lines t) ++ ls) e;
         offset_is = begins_at t at (take count (lines t)) cut inside;
       }
 
-      pub checked_falls : (to : ℕ) (m : Member) → IsNextLine limit t at to (Some m) → FallsAfter previous m → EndsOutOfOrder limit t at
+      pub checked_falls : (to : ℕ) (m : Member) → IsNextLine limit t at to (Some m) → FallsAfter previous m
+          → EndsOutOfOrder limit t at
       checked_falls to m next falls = record {
         before = take count (lines t);
         line = next.0;
@@ -74,14 +84,15 @@ module _ (limit : ℕ) (t : List ℕ) where
       checked_fault fault.Memory known = tt
       checked_fault (fault.Read i) known = tt
       checked_fault fault.Write known = absurd known
-      checked_fault (fault.BadLine i offset) known = let bad = known.2 in subst (EndsInBadLine limit t) (sym known.1) (record {
-        before = take count (lines t);
-        line = bad.0;
-        begins = begins bad.0 bad.1 bad.2;
-        members = checked.members;
-        run = checked.run;
-        bad = bad.3;
-      })
+      checked_fault (fault.BadLine i offset) known = let bad = known.2 in subst (EndsInBadLine limit t) (sym known.1)
+          (record {
+            before = take count (lines t);
+            line = bad.0;
+            begins = begins bad.0 bad.1 bad.2;
+            members = checked.members;
+            run = checked.run;
+            bad = bad.3;
+          })
       checked_fault (fault.OutOfOrder i offset) known = absurd known
       checked_fault fault.TooManySources known = absurd known
       checked_fault fault.BadSizes known = absurd known

@@ -1,6 +1,7 @@
 -- The names of fields.
 use Rattle.std.proofs.Common.{refl}
-use Rattle.cdxj_core.specs.declared.field.Field.TheVariants.{Urlkey, Timestamp, Original, Mimetype, Statuscode, Digest, Length, Offset, Filename}
+use Rattle.cdxj_core.specs.declared.field.Field.TheVariants.{Urlkey, Timestamp, Original, Mimetype, Statuscode, Digest}
+use Rattle.cdxj_core.specs.declared.field.Field.TheVariants.{Length, Offset, Filename}
 use Rattle.query_core.specs.QueryLaws.{NamesNameFields}
 
 pub names_name_fields : NamesNameFields

@@ -1,5 +1,6 @@
 -- The reply to a line, by what the line is.
-use Rattle.std.proofs.Common.{◌≡◌, ℕ, List, [], ◌++◌, length, Bool, true, false, refl, sym, subst, inl, inr, nat_lt, Option, Some, Result, Ok, Err}
+use Rattle.std.proofs.Common.{◌≡◌, ℕ, List, [], ◌++◌, length, Bool, true, false, refl, sym, subst, inl, inr, nat_lt}
+use Rattle.std.proofs.Common.{Option, Some, Result, Ok, Err}
 use Rattle.std.specs.Prelude.{codes, MatchBool}
 use Rattle.std.specs.Str.{is_utf8}
 use Rattle.std.specs.Io.KnownBytes.{Appends}
@@ -22,36 +23,57 @@ use Rattle.query_core.specs.Replies.{refusal_text}
 
 -- ---- what was written
 
-pub writes_some : {A E : Type 0} (r : Result A E) (old new : Option (List ℕ)) (Is : List ℕ → Type 0) (text : List ℕ) → Is text → WritesText r old new text → WritesSome r old new Is
+pub writes_some : {A E : Type 0} (r : Result A E) (old new : Option (List ℕ)) (Is : List ℕ → Type 0) (text : List ℕ)
+    → Is text → WritesText r old new text → WritesSome r old new Is
 writes_some (Ok x) old new Is text is w = (text, is, w)
 writes_some (Err e) old new Is text is w = (text, is, w)
 
-pub writes_weaker : {A E : Type 0} (r : Result A E) (old new : Option (List ℕ)) (Is More : List ℕ → Type 0) → ((text : List ℕ) → Is text → More text)
+pub writes_weaker : {A E : Type 0} (r : Result A E) (old new : Option (List ℕ)) (Is More : List ℕ → Type 0)
+    → ((text : List ℕ) → Is text → More text)
     → WritesSome r old new Is → WritesSome r old new More
 writes_weaker (Ok x) old new Is More f w = (w.0, f w.0 w.1, w.2)
 writes_weaker (Err e) old new Is More f w = (w.0, f w.0 w.1, w.2)
 
 -- a text and then another
-pub marked : {A E : Type 0} (r : Result A E) (old mid new : Option (List ℕ)) (text mark : List ℕ) → Appends old mid text → WritesText r mid new mark → WritesText r old new (text ++ mark)
+pub marked : {A E : Type 0} (r : Result A E) (old mid new : Option (List ℕ)) (text mark : List ℕ) → Appends old mid text
+    → WritesText r mid new mark → WritesText r old new (text ++ mark)
 marked (Ok x) old mid new text mark a w = Appends-join old mid new text mark a w
 marked (Err e) old mid new text mark a w = prefix_after old mid new text mark a w
 
 -- ---- the reply to a query
 
-module _ (told : List (Option (List ℕ))) (q : QueryValue) (lines : List Member) (are : AreLinesOf LINE_LIMIT told lines) where
-  pub page_reply : IsPageReply told q (answer_text q (query_page q lines))
-  page_reply = record { lines = lines; are = are; page = inl refl }
+module _ (told : List (Option (List ℕ))) (q : QueryValue) (lines : List Member) (are : AreLinesOf LINE_LIMIT told lines)
+  where
+    pub page_reply : IsPageReply told q (answer_text q (query_page q lines))
+    page_reply = record { lines = lines; are = are; page = inl refl }
 
-  -- the fault of a line after a front of the page
-  pub fault_reply : {A E : Type 0} (r : Result A E) (old mid new : Option (List ℕ)) (fault : AnswerFault) (line : List ℕ) → AppendsPrefix old mid (answer_text q (query_page q lines))
-      → IsFaultOf LINE_LIMIT told fault → fault_text fault ≡ Some line → WritesText r mid new line → WritesSome r old new (IsPageReply told q)
-  fault_reply r old mid new fault line (rest, wrote) named is w =
-      writes_some r old new (IsPageReply told q) (wrote.front ++ line)
-      (record { lines = lines; are = are; page = inr (record { front = wrote.front; rest = rest; whole = wrote.whole; fault = fault; named = named; line = line; line_is = is; ends = refl }) })
-      (marked r old mid new wrote.front line wrote.grown w)
+    -- the fault of a line after a front of the page
+    pub fault_reply : {A E : Type 0} (r : Result A E) (old mid new : Option (List ℕ)) (fault : AnswerFault)
+        (line : List ℕ) → AppendsPrefix old mid (answer_text q (query_page q lines))
+        → IsFaultOf LINE_LIMIT told fault → fault_text fault ≡ Some line → WritesText r mid new line
+        → WritesSome r old new (IsPageReply told q)
+    fault_reply r old mid new fault line (rest, wrote) named is w =
+        writes_some r old new (IsPageReply told q) (wrote.front ++ line)
+        (record {
+          lines = lines;
+          are = are;
+          page = inr
+              (record {
+                front = wrote.front;
+                rest = rest;
+                whole = wrote.whole;
+                fault = fault;
+                named = named;
+                line = line;
+                line_is = is;
+                ends = refl;
+              });
+        })
+        (marked r old mid new wrote.front line wrote.grown w)
 
 -- there is one
-pub some_reply : (told : List (Option (List ℕ))) (r : Result QueryValue QueryFault) → (reply : List ℕ) × IsQueryReply told r reply
+pub some_reply : (told : List (Option (List ℕ))) (r : Result QueryValue QueryFault) → (reply : List ℕ)
+    × IsQueryReply told r reply
 some_reply told (Ok q) = (answer_text q (query_page q []), page_reply told q [] (record { rise = tt; each = tt }))
 some_reply told (Err fault) = (refusal_text (fault_name fault), refl)
 
@@ -64,21 +86,27 @@ module _ (limit : ℕ) (IsReply : List ℕ → List ℕ → Type 0) (line reply 
   abbrev any : Bool → Type 0
   any b = MatchBool b (reply ≡ refusal_text (codes "QueryTooLong")) (short (is_utf8 line))
 
-  pub long_reply : nat_lt limit (length line) ≡ true → reply ≡ refusal_text (codes "QueryTooLong") → IsLineReply limit IsReply line reply
+  pub long_reply : nat_lt limit (length line) ≡ true → reply ≡ refusal_text (codes "QueryTooLong")
+      → IsLineReply limit IsReply line reply
   long_reply long is = subst any (sym long) is
 
-  pub text_reply : nat_lt limit (length line) ≡ false → is_utf8 line ≡ true → IsReply line reply → IsLineReply limit IsReply line reply
+  pub text_reply : nat_lt limit (length line) ≡ false → is_utf8 line ≡ true → IsReply line reply
+      → IsLineReply limit IsReply line reply
   text_reply fits utf8 is = subst any (sym fits) (subst short (sym utf8) is)
 
-  pub no_text_reply : nat_lt limit (length line) ≡ false → is_utf8 line ≡ false → reply ≡ refusal_text (codes "NotText") → IsLineReply limit IsReply line reply
+  pub no_text_reply : nat_lt limit (length line) ≡ false → is_utf8 line ≡ false → reply ≡ refusal_text (codes "NotText")
+      → IsLineReply limit IsReply line reply
   no_text_reply fits other is = subst any (sym fits) (subst short (sym other) is)
 
 -- with the line `.`
 module _ (limit : ℕ) (IsReply : List ℕ → List ℕ → Type 0) (line : List ℕ) (old mid : Option (List ℕ)) where
-  pub marked_reply : {A E : Type 0} (r : Result A E) (new : Option (List ℕ)) → (reply : List ℕ) × IsLineReply limit IsReply line reply × Appends old mid reply
+  pub marked_reply : {A E : Type 0} (r : Result A E) (new : Option (List ℕ)) → (reply : List ℕ)
+      × IsLineReply limit IsReply line reply × Appends old mid reply
       → WritesText r mid new (codes ".\n") → WritesSome r old new (IsMarkedReply limit IsReply line)
   marked_reply r new (reply, is, a) w =
-      writes_some r old new (IsMarkedReply limit IsReply line) (reply ++ codes ".\n") (reply, is, refl) (marked r old mid new reply (codes ".\n") a w)
+      writes_some r old new (IsMarkedReply limit IsReply line) (reply ++ codes ".\n") (reply, is, refl)
+      (marked r old mid new reply (codes ".\n") a w)
 
-  pub unmarked_reply : (reply : List ℕ) × IsLineReply limit IsReply line reply × AppendsPrefix old mid reply → (text : List ℕ) × IsMarkedReply limit IsReply line text × AppendsPrefix old mid text
+  pub unmarked_reply : (reply : List ℕ) × IsLineReply limit IsReply line reply × AppendsPrefix old mid reply
+      → (text : List ℕ) × IsMarkedReply limit IsReply line text × AppendsPrefix old mid text
   unmarked_reply (reply, is, p) = (reply ++ codes ".\n", (reply, is, refl), prefix_longer old mid reply (codes ".\n") p)

@@ -1,8 +1,10 @@
 -- Every line of an index has a stamp.
-use Rattle.std.proofs.Common.{◌≡◌, inl, inr, ℕ, List, [], ◌∷◌, map, Bool, true, false, ◌&&◌, cond, Some, None, refl, ap, subst}
+use Rattle.std.proofs.Common.{◌≡◌, inl, inr, ℕ, List, [], ◌∷◌, map, Bool, true, false, ◌&&◌, cond, Some, None, refl, ap}
+use Rattle.std.proofs.Common.{subst}
 use Rattle.std.specs.List.{AllByRecursion}
 use Rattle.std.proofs.lemmas.Bool.{and_parts}
-use Rattle.cdxj_places.specs.Pair.{is_key, is_stamp, key_part, stamp_part, tail_part, begins_with_space, begins_with_pair, pair_of}
+use Rattle.cdxj_places.specs.Pair.{is_key, is_stamp, key_part, stamp_part, tail_part, begins_with_space}
+use Rattle.cdxj_places.specs.Pair.{begins_with_pair, pair_of}
 use Rattle.cdxj_places.specs.Pairs.{Pair}
 use Rattle.cdxj_places.specs.Rising.{IsIn}
 use Rattle.cdxj_places.specs.TextLines.{lines}
@@ -15,16 +17,22 @@ use Rattle.merge_core.specs.SourceLines.{IsLineIn}
 pub line_stamp : (limit : ℕ) (t : List ℕ) (m : Member) → IsLineIn limit t m → is_stamp m.values.stamp ≡ true
 line_stamp limit t m h = pair_stamp h.0 m (entry_pair_is limit h.0 m h.2)
   where
-    some_pair : (b : Bool) (key stamp : List ℕ) (pair : Pair) → cond b (Some (key, stamp)) None ≡ Some pair → (b ≡ true) × (stamp ≡ pair.1)
+    some_pair : (b : Bool) (key stamp : List ℕ) (pair : Pair) → cond b (Some (key, stamp)) None ≡ Some pair → (b ≡ true)
+        × (stamp ≡ pair.1)
     some_pair true key stamp pair e = (refl, (let p : (key, stamp) ≡ pair = cc in ap (λ p. p.1) p))
     some_pair false key stamp pair e = cc
 
     pair_stamp : (line : List ℕ) (m : Member) → pair_of line ≡ Some (member_pair m) → is_stamp m.values.stamp ≡ true
     pair_stamp line m e =
         let found = some_pair (begins_with_pair line) (key_part line) (stamp_part line) (member_pair m) e in
-        subst (λ s. is_stamp s ≡ true) found.1 (and_parts (is_key (key_part line)) (is_stamp (stamp_part line)) (and_parts (is_key (key_part line) && is_stamp (stamp_part line)) (begins_with_space (tail_part line)) found.0).0).1
+        subst (λ s. is_stamp s ≡ true) found.1
+        (and_parts (is_key (key_part line)) (is_stamp (stamp_part line))
+        (and_parts (is_key (key_part line) && is_stamp (stamp_part line)) (begins_with_space (tail_part line))
+        found.0).0).1
 
-entries_are : (limit : ℕ) (t : List ℕ) (ls : List (List ℕ)) (ms : List Member) → ((l : List ℕ) → IsIn l ls → IsIn l (lines t)) → map (line_entry limit) ls ≡ map Some ms → AllByRecursion (IsLineIn limit t) ms
+entries_are : (limit : ℕ) (t : List ℕ) (ls : List (List ℕ)) (ms : List Member)
+    → ((l : List ℕ) → IsIn l ls → IsIn l (lines t)) → map (line_entry limit) ls ≡ map Some ms
+    → AllByRecursion (IsLineIn limit t) ms
 entries_are limit t [] [] sub e = tt
 entries_are limit t [] (m ∷ ms) sub e = cc
 entries_are limit t (l ∷ ls) [] sub e = cc
@@ -34,5 +42,6 @@ entries_are limit t (l ∷ ls) (m ∷ ms) sub e =
     ((l, sub l (inl refl), here), entries_are limit t ls ms (λ k i. sub k (inr i)) rest)
 
 -- the members of an index are lines of it
-pub index_lines : (limit : ℕ) (t : List ℕ) (ms : List Member) → IsIndex limit t ms → AllByRecursion (IsLineIn limit t) ms
+pub index_lines : (limit : ℕ) (t : List ℕ) (ms : List Member) → IsIndex limit t ms
+    → AllByRecursion (IsLineIn limit t) ms
 index_lines limit t ms run = entries_are limit t (lines t) ms (λ l i. i) run.entries

@@ -1,5 +1,6 @@
 -- The resume keys of pages.
-use Rattle.std.proofs.Common.{◌≡◌, ℕ, zero, suc, List, [], ◌∷◌, ◌++◌, take, Bool, Option, None, Some, IfSome, MatchOption, refl, sym, ap, ap₂, subst, ◌∙◌}
+use Rattle.std.proofs.Common.{◌≡◌, ℕ, zero, suc, List, [], ◌∷◌, ◌++◌, take, Bool, Option, None, Some, IfSome}
+use Rattle.std.proofs.Common.{MatchOption, refl, sym, ap, ap₂, subst, ◌∙◌}
 use Rattle.std.specs.List.{AllByRecursion}
 use Rattle.cdxj_places.specs.Places.{PlaceValue, place_cmp}
 use Rattle.cdxj_core.specs.Members.{Member, member_place}
@@ -27,7 +28,8 @@ module _ (same : PlaceValue → PlaceValue → Bool) (l : List Member) where
   abbrev shown : Option PlaceValue → List Member
   shown p = collapsed member_place place_cmp same l p
 
-  page_key : (p : Option PlaceValue) (n : ℕ) (page : Page Member PlaceValue) (q : PlaceValue) → page.members ≡ take n (shown p)
+  page_key : (p : Option PlaceValue) (n : ℕ) (page : Page Member PlaceValue) (q : PlaceValue) → page.members
+      ≡ take n (shown p)
       → page.next ≡ next_after member_place n (shown p) → page.next ≡ Some q → HasReadKey page → EndsWithKey page
   page_key p n page q mem nx e keyed =
       let r = ends_at n (shown p) q (sym nx ∙ e) in
@@ -40,16 +42,24 @@ module _ (same : PlaceValue → PlaceValue → Bool) (l : List Member) where
       }
 
   -- every page of a chain but the last has its key, where keys are read as their places
-  pub keys_but_last : (p : Option PlaceValue) (sizes : List ℕ) (pages : List (Page Member PlaceValue)) → AllByRecursion HasReadKey pages
+  pub keys_but_last : (p : Option PlaceValue) (sizes : List ℕ) (pages : List (Page Member PlaceValue))
+      → AllByRecursion HasReadKey pages
       → IsChain member_place place_cmp same l p sizes pages → KeysButLast pages
   keys_but_last p sizes [] keyed h = tt
   keys_but_last p sizes (page ∷ []) keyed h = tt
   keys_but_last p sizes (page ∷ other ∷ more) keyed h =
       let mem : page.members ≡ take (first_size sizes) (shown p) = ap (λ g. g.members) h.0 in
       let nx : page.next ≡ next_after member_place (first_size sizes) (shown p) = ap (λ g. g.next) h.0 in
-      (elim page.next as (λ v. page.next ≡ v → MatchOption v (other ∷ more ≡ []) (λ q. IsChain member_place place_cmp same l (Some q) (later_sizes sizes) (other ∷ more)) → EndsWithKey page × KeysButLast (other ∷ more)) [
+      (elim page.next as (λ v. page.next ≡ v
+      → MatchOption v (other ∷ more ≡ [])
+      (λ q. IsChain member_place place_cmp same l (Some q) (later_sizes sizes) (other ∷ more)) → EndsWithKey page
+      × KeysButLast (other ∷ more)) [
         | None ↦ (λ e k. cc)
-        | Some q ↦ (λ e k. (page_key p (first_size sizes) page q mem nx e keyed.0, keys_but_last (Some q) (later_sizes sizes) (other ∷ more) keyed.1 k))
+        | Some q ↦ (λ e k. (
+          page_key p (first_size sizes) page q mem nx e keyed.0,
+          keys_but_last (Some q)
+              (later_sizes sizes) (other ∷ more) keyed.1 k,
+        ))
       ]) refl h.1
 
 -- ---- where nothing is left
@@ -64,13 +74,16 @@ none_next (suc zero) = refl
 none_next (suc (suc n)) = refl
 
 -- the chain is one empty page
-pub one_empty : (same : PlaceValue → PlaceValue → Bool) (l : List Member) (p : Option PlaceValue) (sizes : List ℕ) (pages : List (Page Member PlaceValue)) → collapsed member_place place_cmp same l p ≡ []
+pub one_empty : (same : PlaceValue → PlaceValue → Bool) (l : List Member) (p : Option PlaceValue) (sizes : List ℕ)
+    (pages : List (Page Member PlaceValue)) → collapsed member_place place_cmp same l p ≡ []
     → IsChain member_place place_cmp same l p sizes pages → pages ≡ empty_page ∷ []
 one_empty same l p sizes [] e h = absurd h
 one_empty same l p sizes (page ∷ rest) e h =
     let n = first_size sizes in
     let mem : page.members ≡ [] = ap (λ g. g.members) h.0 ∙ ap (take n) e ∙ none_taken n in
     let nx : page.next ≡ None = ap (λ g. g.next) h.0 ∙ ap (next_after member_place n) e ∙ none_next n in
-    let last : rest ≡ [] = subst (λ v. MatchOption v (rest ≡ []) (λ q. IsChain member_place place_cmp same l (Some q) (later_sizes sizes) rest)) nx h.1 in
+    let last : rest ≡ [] = subst
+    (λ v. MatchOption v (rest ≡ []) (λ q. IsChain member_place place_cmp same l (Some q) (later_sizes sizes) rest))
+    nx h.1 in
     let first : page ≡ empty_page = ap₂ (λ ms v. record { members = ms; next = v }) mem nx in
     ap₂ (λ g gs. g ∷ gs) first last

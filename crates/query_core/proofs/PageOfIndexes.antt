@@ -1,6 +1,7 @@
 -- What was taken of indexes, beside all that is wanted of their collection.
 use Rattle.std.specs.List.{AllZip}
-use Rattle.std.proofs.Common.{◌≡◌, inl, inr, ℕ, List, [], ◌∷◌, ◌++◌, length, map, filter, zip, Bool, true, false, not, ◌&&◌, cond, Option, refl, sym, ap, ap₂, ◌∙◌, subst}
+use Rattle.std.proofs.Common.{◌≡◌, inl, inr, ℕ, List, [], ◌∷◌, ◌++◌, length, map, filter, zip, Bool, true, false, not}
+use Rattle.std.proofs.Common.{◌&&◌, cond, Option, refl, sym, ap, ap₂, ◌∙◌, subst}
 use Rattle.std.specs.List.{AllByRecursion}
 use Rattle.cdxj_places.specs.Pair.{is_stamp}
 use Rattle.cdxj_places.specs.Pairs.{Pair}
@@ -37,19 +38,24 @@ and_true true b h = h
 and_true false b h = refl
 
 -- every line has a stamp
-stamped : (f : Member → Bool) (xs : List Member) → AllByRecursion (λ m. is_stamp m.values.stamp ≡ true) xs → filter (λ m. f m && is_stamp m.values.stamp) xs ≡ filter f xs
+stamped : (f : Member → Bool) (xs : List Member) → AllByRecursion (λ m. is_stamp m.values.stamp ≡ true) xs
+    → filter (λ m. f m && is_stamp m.values.stamp) xs ≡ filter f xs
 stamped f [] h = refl
 stamped f (x ∷ xs) h = ap₂ (λ b l. cond b (x ∷ l) l) (and_true (f x) (is_stamp x.values.stamp) h.0) (stamped f xs h.1)
 
-index_stamps : (texts : List (List ℕ)) (indexes : List (List Member)) → AllZip (IsIndex LINE_LIMIT) texts indexes → AllByRecursion (λ m. is_stamp m.values.stamp ≡ true) (all_lines indexes)
+index_stamps : (texts : List (List ℕ)) (indexes : List (List Member)) → AllZip (IsIndex LINE_LIMIT) texts indexes
+    → AllByRecursion (λ m. is_stamp m.values.stamp ≡ true) (all_lines indexes)
 index_stamps [] [] are = tt
 index_stamps [] (i ∷ is) are = absurd are
 index_stamps (t ∷ ts) [] are = absurd are
 index_stamps (t ∷ ts) (i ∷ is) are =
-    each_join (λ m. is_stamp m.values.stamp ≡ true) i (all_lines is) (each_weaker (λ (m : Member) (h : IsLineIn LINE_LIMIT t m). line_stamp LINE_LIMIT t m h) i (index_lines LINE_LIMIT t i are.0)) (index_stamps ts is are.1)
+    each_join (λ m. is_stamp m.values.stamp ≡ true) i (all_lines is)
+    (each_weaker (λ (m : Member) (h : IsLineIn LINE_LIMIT t m). line_stamp LINE_LIMIT t m h) i
+    (index_lines LINE_LIMIT t i are.0)) (index_stamps ts is are.1)
 
 -- a line of sources that tell their bytes has one
-known_stamp : (told : List (Option (List ℕ))) (texts : List (List ℕ)) (m : Member) → Known told texts → IsLineOf LINE_LIMIT told m → is_stamp m.values.stamp ≡ true
+known_stamp : (told : List (Option (List ℕ))) (texts : List (List ℕ)) (m : Member) → Known told texts
+    → IsLineOf LINE_LIMIT told m → is_stamp m.values.stamp ≡ true
 known_stamp [] [] m k h = absurd h
 known_stamp [] (t ∷ ts) m k h = absurd k
 known_stamp (o ∷ os) [] m k h = absurd k
@@ -58,10 +64,13 @@ known_stamp (o ∷ os) (t ∷ ts) m k h = elim (subst (λ o. IsLineOf LINE_LIMIT
   | inr later ↦ known_stamp os ts m k.1 later
 ]
 
-module _ {S : Type 0} (text : S → Option (List ℕ)) (extent gave : S → ℕ) (q : QueryValue) (from : Option PlaceValue) (ss0 : List S) (fs0 : List Feed) (ss : List S) (fs : List Feed) (ws : List WaitingLine) (b : Option Pair)
-    (taken : List Member) (same : length ss0 ≡ length fs0) (reached : Reached LINE_LIMIT text (is_past q.target) extent gave ss0 fs0 ss fs ws b taken)
+module _ {S : Type 0} (text : S → Option (List ℕ)) (extent gave : S → ℕ) (q : QueryValue) (from : Option PlaceValue)
+    (ss0 : List S) (fs0 : List Feed) (ss : List S) (fs : List Feed) (ws : List WaitingLine) (b : Option Pair)
+    (taken : List Member) (same : length ss0 ≡ length fs0)
+    (reached : Reached LINE_LIMIT text (is_past q.target) extent gave ss0 fs0 ss fs ws b taken)
     (cut : AllByRecursion (λ x. IsCutAt LINE_LIMIT (start_pair q from) (text x.0) x.1.cursor) (zip ss0 fs0))
-    (texts : List (List ℕ)) (indexes : List (List Member)) (known : Known (map text ss0) texts) (are : AllZip (IsIndex LINE_LIMIT) texts indexes) where
+    (texts : List (List ℕ)) (indexes : List (List Member)) (known : Known (map text ss0) texts)
+    (are : AllZip (IsIndex LINE_LIMIT) texts indexes) where
   abbrev sought : Member → Bool
   sought m = is_wanted q from m && is_stamp m.values.stamp
 
@@ -69,15 +78,18 @@ module _ {S : Type 0} (text : S → Option (List ℕ)) (extent gave : S → ℕ)
   within m h = wanted_within q from m (and_left (is_wanted q from m) (is_stamp m.values.stamp) h)
 
   beyond : (m : Member) → sought m ≡ true → is_low (start_pair q from) m ≡ false
-  beyond m h = start_not_above q from m (and_right (is_wanted q from m) (is_stamp m.values.stamp) h) (and_left (is_wanted q from m) (is_stamp m.values.stamp) h)
+  beyond m h = start_not_above q from m (and_right (is_wanted q from m) (is_stamp m.values.stamp) h)
+      (and_left (is_wanted q from m) (is_stamp m.values.stamp) h)
 
   of_all : filter sought (collection indexes) ≡ filter (is_wanted q from) (collection indexes)
   of_all = stamped (is_wanted q from) (collection indexes)
-      (each_rising member_place place_cmp place_cmp_total (λ m. is_stamp m.values.stamp ≡ true) (all_lines indexes) (index_stamps texts indexes are))
+      (each_rising member_place place_cmp place_cmp_total (λ m. is_stamp m.values.stamp ≡ true) (all_lines indexes)
+      (index_stamps texts indexes are))
 
   of_taken : filter sought taken ≡ filter (is_wanted q from) taken
   of_taken = stamped (is_wanted q from) taken
-      (each_weaker (λ (m : Member) (h : IsLineOf LINE_LIMIT (map text ss0) m). known_stamp (map text ss0) texts m known h) taken
+      (each_weaker (λ (m : Member) (h : IsLineOf LINE_LIMIT (map text ss0) m). known_stamp (map text ss0) texts m known
+      h) taken
       (taken_lines LINE_LIMIT text extent (is_past q.target) gave ss0 fs0 ss fs ws b taken same reached).each)
 
   abbrev captures : List Member → List Member
@@ -88,25 +100,32 @@ module _ {S : Type 0} (text : S → Option (List ℕ)) (extent gave : S → ℕ)
   later rest = kept_after q from (place_before q from taken) rest
 
   later_each : (A : Member → Type 0) (rest : List Member) → AllByRecursion A rest → AllByRecursion A (later rest)
-  later_each A rest = each_kept member_place place_cmp (same_part q.collapse) place_cmp_total A (place_before q from taken) rest
+  later_each A rest = each_kept member_place place_cmp (same_part q.collapse) place_cmp_total A
+      (place_before q from taken) rest
 
   -- what was taken is a front of what is wanted
-  pub wanted_first : (rest : List Member) × (captures (collection indexes) ≡ captures taken ++ rest) × AllByRecursion (λ m. IsAbove b (member_pair m)) rest
+  pub wanted_first : (rest : List Member) × (captures (collection indexes) ≡ captures taken ++ rest)
+      × AllByRecursion (λ m. IsAbove b (member_pair m)) rest
   wanted_first =
-      let f = sought_first text extent gave LINE_LIMIT (is_past q.target) (past_upward q.target) ss0 fs0 ss fs ws b taken same reached texts indexes known are sought within (start_pair q from) cut beyond in (
+      let f = sought_first text extent gave LINE_LIMIT (is_past q.target) (past_upward q.target) ss0 fs0 ss fs ws b
+      taken same reached texts indexes known are sought within (start_pair q from) cut beyond in (
         later f.0,
         captures_split q from (collection indexes) taken f.0 (sym of_all ∙ f.1 ∙ ap (λ l. l ++ f.0) of_taken),
-        later_each (λ m. IsAbove b (member_pair m)) f.0 (each_weaker (λ (m : Member) (h : (sought m ≡ true) × IsAbove b (member_pair m)). h.1) f.0 f.2),
+        later_each (λ m. IsAbove b (member_pair m)) f.0
+            (each_weaker (λ (m : Member) (h : (sought m ≡ true) × IsAbove b (member_pair m)). h.1) f.0 f.2),
       )
 
   -- where the lines that wait don't stand below a pair, the rest doesn't either
   pub wanted_before : (next : Pair) → IsAbove b next → AllByRecursion (λ w. Upto next (waiting_pair w)) ws
-      → (rest : List Member) × (captures (collection indexes) ≡ captures taken ++ rest) × AllByRecursion (λ m. Upto next (member_pair m)) rest
+      → (rest : List Member) × (captures (collection indexes) ≡ captures taken ++ rest)
+      × AllByRecursion (λ m. Upto next (member_pair m)) rest
   wanted_before next above least =
-      let f = sought_before text extent gave LINE_LIMIT (is_past q.target) (past_upward q.target) ss0 fs0 ss fs ws b taken same reached texts indexes known are sought within (start_pair q from) cut beyond next above least in (
+      let f = sought_before text extent gave LINE_LIMIT (is_past q.target) (past_upward q.target) ss0 fs0 ss fs ws b
+      taken same reached texts indexes known are sought within (start_pair q from) cut beyond next above least in (
         later f.0,
         captures_split q from (collection indexes) taken f.0 (sym of_all ∙ f.1 ∙ ap (λ l. l ++ f.0) of_taken),
-        later_each (λ m. Upto next (member_pair m)) f.0 (each_weaker (λ (m : Member) (h : (sought m ≡ true) × Upto next (member_pair m)). h.1) f.0 f.2),
+        later_each (λ m. Upto next (member_pair m)) f.0
+            (each_weaker (λ (m : Member) (h : (sought m ≡ true) × Upto next (member_pair m)). h.1) f.0 f.2),
       )
 
   -- where no line waits, it is all
@@ -114,5 +133,6 @@ module _ {S : Type 0} (text : S → Option (List ℕ)) (extent gave : S → ℕ)
   wanted_whole none =
       ap (kept_after q from from)
       (sym of_all
-      ∙ sought_whole text extent gave LINE_LIMIT (is_past q.target) (past_upward q.target) ss0 fs0 ss fs ws b taken same reached texts indexes known are sought within (start_pair q from) cut beyond none
+      ∙ sought_whole text extent gave LINE_LIMIT (is_past q.target) (past_upward q.target) ss0 fs0 ss fs ws b taken same
+      reached texts indexes known are sought within (start_pair q from) cut beyond none
       ∙ of_taken)

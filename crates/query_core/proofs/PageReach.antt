@@ -1,5 +1,6 @@
 -- What was read for a page, beside its reach.
-use Rattle.std.proofs.Common.{◌≡◌, ℕ, zero, suc, ◌≤◌, List, [], ◌∷◌, ◌++◌, length, take, map, Bool, true, false, not, Option, None, Some, refl, sym, ap, ◌∙◌, subst, arith, length-append, length-take}
+use Rattle.std.proofs.Common.{◌≡◌, ℕ, zero, suc, ◌≤◌, List, [], ◌∷◌, ◌++◌, length, take, map, Bool, true, false, not}
+use Rattle.std.proofs.Common.{Option, None, Some, refl, sym, ap, ◌∙◌, subst, arith, length-append, length-take}
 use Rattle.std.specs.Io.KnownBytes.{Appends}
 use Rattle.std.specs.Option.{is_some}
 use Rattle.std.proofs.lemmas.Bool.{true≢false}
@@ -33,50 +34,71 @@ none_follows (Some zero) = refl
 none_follows (Some (suc n)) = refl
 
 -- captures that don't pass the page are within its limit
-pub within_page : (limit : Option ℕ) (c : List Member) → (limit ≡ Some 0 → ⊥) → is_some (page limit c).next ≡ false → IsWithin limit c
+pub within_page : (limit : Option ℕ) (c : List Member) → (limit ≡ Some 0 → ⊥) → is_some (page limit c).next ≡ false
+    → IsWithin limit c
 within_page None c some none = tt
 within_page (Some zero) c some none = absurd (some refl)
 within_page (Some (suc n)) c some none = next_none (suc n) c (omega arith) none
 
 -- a page has at least the captures that don't pass it
-has_all : (limit : Option ℕ) (c tail : List Member) → IsWithin limit c → length c ≤ length (page limit (c ++ tail)).members
+has_all : (limit : Option ℕ) (c tail : List Member) → IsWithin limit c
+    → length c ≤ length (page limit (c ++ tail)).members
 has_all None c tail most = omega (arith, length-append c tail)
 has_all (Some n) c tail most = omega (arith, most, length-take n (c ++ tail), length-append c tail)
 
 -- where a page is written at least so far
-front_written : (form : Form) (ms : List Member) (old middle new : Option (List ℕ)) → Appends old middle (begun form ms) → Grows middle new → WroteFront old new (captures_text form ms)
-front_written form [] old middle new a g = record { middle = old; front = Appends-none old; grows = grows_on old middle new (grows_by old middle (begun form []) a) g }
+front_written : (form : Form) (ms : List Member) (old middle new : Option (List ℕ)) → Appends old middle (begun form ms)
+    → Grows middle new → WroteFront old new (captures_text form ms)
+front_written form [] old middle new a g =
+    record {
+      middle = old;
+      front = Appends-none old;
+      grows = grows_on old middle new
+          (grows_by old middle (begun form []) a) g;
+    }
 front_written form (m ∷ ms) old middle new a g = record { middle = middle; front = a; grows = g }
 
 -- What was written of the page of these lines, which come first, and what sources gave for the captures of the earlier of them
-pub page_reached : {S : Type 0} (extent gave : S → ℕ) (q : QueryValue) (texts : List (List ℕ)) (indexes : List (List Member)) (old middle new : Option (List ℕ)) (olds news : List S)
-    (taken rest c tail : List Member) → captures_over q q.resume (collection indexes) ≡ captures_over q q.resume taken ++ rest → captures_over q q.resume taken ≡ c ++ tail → IsWithin q.limit c
+pub page_reached : {S : Type 0} (extent gave : S → ℕ) (q : QueryValue) (texts : List (List ℕ))
+    (indexes : List (List Member)) (old middle new : Option (List ℕ)) (olds news : List S)
+    (taken rest c tail : List Member) → captures_over q q.resume (collection indexes) ≡ captures_over q q.resume taken
+    ++ rest → captures_over q q.resume taken ≡ c ++ tail → IsWithin q.limit c
     → Appends old middle (begun (form_of q) (page_over q q.resume q.limit taken).members) → Grows middle new
-    → ((n : ℕ) → length c ≤ n → AllGaveWithin extent gave (in_reach q q.resume (Some n) (collection indexes)) texts indexes olds news)
+    → ((n : ℕ) → length c ≤ n → AllGaveWithin extent gave (in_reach q q.resume (Some n) (collection indexes)) texts
+    indexes olds news)
     → GaveInReach extent gave q texts indexes old new olds news
-page_reached extent gave q texts indexes old middle new olds news taken rest c tail split of_taken most front grows within =
+page_reached extent gave q texts indexes old middle new olds news taken rest c tail split of_taken most front grows
+    within =
     let mine = (page_over q q.resume q.limit taken).members in
     let later = page_front q.limit (captures_over q q.resume taken) rest in
     let members : (query_page q (collection indexes)).members ≡ mine ++ later.0 =
-    ap (λ (p : Page Member PlaceValue). p.members) (asked_is q (collection indexes) ∙ ap (page q.limit) split) ∙ later.1 in
+    ap (λ (p : Page Member PlaceValue). p.members) (asked_is q (collection indexes) ∙ ap (page q.limit) split)
+    ∙ later.1 in
     record {
       whole = length mine;
       most = omega (arith, ap length members, length-append mine later.0);
-      wrote = subst (λ ms. WroteFront old new (captures_text (form_of q) ms)) (sym (ap (take (length mine)) members ∙ take-append_seam mine later.0)) (front_written (form_of q) mine old middle new front grows);
-      within = within (length mine) (subst (λ ms. length c ≤ length (page q.limit ms).members) (sym of_taken) (has_all q.limit c tail most));
+      wrote = subst (λ ms. WroteFront old new (captures_text (form_of q) ms))
+          (sym (ap (take (length mine)) members ∙ take-append_seam mine later.0))
+          (front_written (form_of q) mine old middle new front grows);
+      within = within (length mine)
+          (subst (λ ms. length c ≤ length (page q.limit ms).members) (sym of_taken) (has_all q.limit c tail most));
     }
 
 -- nothing was read at all, and no capture was written
-pub page_not_reached : {S : Type 0} (text : S → Option (List ℕ)) (extent gave : S → ℕ) (q : QueryValue) (texts : List (List ℕ)) (indexes : List (List Member)) (old new : Option (List ℕ)) (sources : List S)
-    → Known (map text sources) texts → AllZip (IsIndex LINE_LIMIT) texts indexes → Grows old new → GaveInReach extent gave q texts indexes old new sources sources
+pub page_not_reached : {S : Type 0} (text : S → Option (List ℕ)) (extent gave : S → ℕ) (q : QueryValue)
+    (texts : List (List ℕ)) (indexes : List (List Member)) (old new : Option (List ℕ)) (sources : List S)
+    → Known (map text sources) texts → AllZip (IsIndex LINE_LIMIT) texts indexes → Grows old new
+    → GaveInReach extent gave q texts indexes old new sources sources
 page_not_reached text extent gave q texts indexes old new sources known are grows = record {
   whole = 0;
   most = omega arith;
   wrote = record { middle = old; front = Appends-none old; grows = grows };
-  within = within_opening text extent gave (in_reach q q.resume (Some 0) (collection indexes)) texts indexes sources sources known are (opened_not text extent gave sources);
+  within = within_opening text extent gave (in_reach q q.resume (Some 0) (collection indexes)) texts indexes sources
+      sources known are (opened_not text extent gave sources);
 }
 
 -- where no capture follows the page, all lines were read
-pub all_read : (all more shown : Bool) (found : Option PlaceValue) → more ≡ is_some found → shown ≡ is_some found → (all ≡ false → more ≡ true) → not shown ≡ true → all ≡ true
+pub all_read : (all more shown : Bool) (found : Option PlaceValue) → more ≡ is_some found → shown ≡ is_some found
+    → (all ≡ false → more ≡ true) → not shown ≡ true → all ≡ true
 all_read true more shown found a b enough e = refl
 all_read false more shown found a b enough e = absurd (true≢false (sym (sym (ap not (b ∙ sym a ∙ enough refl)) ∙ e)))

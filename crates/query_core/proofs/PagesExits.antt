@@ -1,5 +1,6 @@
 -- What a writer has written of pages, where it ends and where it fails.
-use Rattle.std.proofs.Common.{◌≡◌, ◌⊎◌, inl, inr, ℕ, ◌+◌, ◌-◌, ◌^◌, List, min, Bool, true, false, Option, None, refl, ap, ap₂, ◌∙◌, subst}
+use Rattle.std.proofs.Common.{◌≡◌, ◌⊎◌, inl, inr, ℕ, ◌+◌, ◌-◌, ◌^◌, List, min, Bool, true, false, Option, None, refl}
+use Rattle.std.proofs.Common.{ap, ap₂, ◌∙◌, subst}
 use Rattle.std.specs.Io.KnownBytes.{Appends}
 use Rattle.cdxj_core.specs.Members.{Member}
 use Rattle.devices.specs.Device.{AppendsPrefix}
@@ -16,11 +17,13 @@ not_false true h = refl
 not_false false h = absurd (h refl)
 
 -- a writer that began with this query and these sizes
-module _ (first : PagesWriter) (q : QueryValue) (sizes : List ℕ) (query_is : first.selection.query.now ≡ q) (from_is : from_view first.selection.from ≡ q.resume) (sizes_is : first.sizes.now ≡ sizes) where
+module _ (first : PagesWriter) (q : QueryValue) (sizes : List ℕ) (query_is : first.selection.query.now ≡ q)
+    (from_is : from_view first.selection.from ≡ q.resume) (sizes_is : first.sizes.now ≡ sizes) where
   abbrev captures : List Member → List Member
   captures taken = captures_over q q.resume taken
 
-  module _ (w : PagesWriter) (taken : List Member) (start now : Option (List ℕ)) (wrote : PagesWrote first.sizes.now first w taken start now) where
+  module _ (w : PagesWriter) (taken : List Member) (start now : Option (List ℕ))
+      (wrote : PagesWrote first.sizes.now first w taken start now) where
     query_same : w.selection.query.now ≡ q
     query_same = ap (λ r. r.now) wrote.0.0 ∙ query_is
 
@@ -33,28 +36,37 @@ module _ (first : PagesWriter) (q : QueryValue) (sizes : List ℕ) (query_is : f
         subst (λ q. IsFront q sizes (captures taken) start now) query_same
         (subst (λ l. IsFront w.selection.query.now sizes l start now) captures_same
         (subst (λ sizes. IsFront w.selection.query.now sizes (captures_of w.selection taken) start now) sizes_is
-        (stands_front w.selection.query.now first.sizes.now (captures_of w.selection taken) start now w.sizes.now w.given w.last w.count wrote.1.1 wrote.1.2)))
+        (stands_front w.selection.query.now first.sizes.now (captures_of w.selection taken) start now w.sizes.now
+        w.given w.last w.count wrote.1.1 wrote.1.2)))
 
     -- at the end
-    pub all_ended : (new : Option (List ℕ)) (number : ℕ) → Appends now new (page_end (form_of w.selection.query.now) None) → number ≡ min (w.count + 1) (2 ^ 64 - 1) → Ended q sizes (captures taken) start new number
+    pub all_ended : (new : Option (List ℕ)) (number : ℕ)
+        → Appends now new (page_end (form_of w.selection.query.now) None) → number ≡ min (w.count + 1) (2 ^ 64 - 1)
+        → Ended q sizes (captures taken) start new number
     all_ended new number a n =
         subst (λ q. Ended q sizes (captures taken) start new number) query_same
         (subst (λ l. Ended w.selection.query.now sizes l start new number) captures_same
         (subst (λ sizes. Ended w.selection.query.now sizes (captures_of w.selection taken) start new number) sizes_is
-        (ended_stands w.selection.query.now first.sizes.now (captures_of w.selection taken) start now w.sizes.now w.given w.last w.count wrote.1.1 wrote.1.2 new number a n)))
+        (ended_stands w.selection.query.now first.sizes.now (captures_of w.selection taken) start now w.sizes.now
+        w.given w.last w.count wrote.1.1 wrote.1.2 new number a n)))
 
-    pub at_end : (new : Option (List ℕ)) → AppendsPrefix now new (page_end (form_of w.selection.query.now) None) → EndedInPart q sizes (captures taken) start new
+    pub at_end : (new : Option (List ℕ)) → AppendsPrefix now new (page_end (form_of w.selection.query.now) None)
+        → EndedInPart q sizes (captures taken) start new
     at_end new p =
         subst (λ q. EndedInPart q sizes (captures taken) start new) query_same
         (subst (λ l. EndedInPart w.selection.query.now sizes l start new) captures_same
         (subst (λ sizes. EndedInPart w.selection.query.now sizes (captures_of w.selection taken) start new) sizes_is
-        (ending_front w.selection.query.now first.sizes.now (captures_of w.selection taken) start now w.sizes.now w.given w.last w.count wrote.1.1 wrote.1.2 new p)))
+        (ending_front w.selection.query.now first.sizes.now (captures_of w.selection taken) start now w.sizes.now
+        w.given w.last w.count wrote.1.1 wrote.1.2 new p)))
 
   -- between two lines, or in one
-  pub any_front : (taken : List Member) (start now : Option (List ℕ)) → ((k : PagesWriter) × PagesWrote first.sizes.now first k taken start now) ⊎ PagesBroke first taken start now
+  pub any_front : (taken : List Member) (start now : Option (List ℕ))
+      → ((k : PagesWriter) × PagesWrote first.sizes.now first k taken start now) ⊎ PagesBroke first taken start now
       → IsFront q sizes (captures taken) start now
   any_front taken start now (inl k) = between k.0 taken start now k.1
   any_front taken start now (inr p) =
       subst (λ q. IsFront q sizes (captures taken) start now) query_is
-      (subst (λ l. IsFront first.selection.query.now sizes l start now) (ap₂ (λ q from. captures_over q from taken) query_is from_is)
-      (subst (λ sizes. IsFront first.selection.query.now sizes (captures_of first.selection taken) start now) sizes_is p))
+      (subst (λ l. IsFront first.selection.query.now sizes l start now)
+      (ap₂ (λ q from. captures_over q from taken) query_is from_is)
+      (subst (λ sizes. IsFront first.selection.query.now sizes (captures_of first.selection taken) start now) sizes_is
+      p))

@@ -1,5 +1,7 @@
 -- What was read of indexes, beside the reach of a page.
-use Rattle.std.proofs.Common.{◌≡◌, ℕ, zero, suc, ◌+◌, ◌<◌, ◌≤◌, List, [], ◌∷◌, ◌++◌, length, map, filter, zip, Bool, true, false, not, ◌&&◌, cond, Option, None, Some, refl, sym, ap, ◌∙◌, subst, arith, append_assoc, append-nil, Ordering, Less, Equal, Greater, nat_cmp, is_gt, is_lt}
+use Rattle.std.proofs.Common.{◌≡◌, ℕ, zero, suc, ◌+◌, ◌<◌, ◌≤◌, List, [], ◌∷◌, ◌++◌, length, map, filter, zip, Bool}
+use Rattle.std.proofs.Common.{true, false, not, ◌&&◌, cond, Option, None, Some, refl, sym, ap, ◌∙◌, subst, arith}
+use Rattle.std.proofs.Common.{append_assoc, append-nil, Ordering, Less, Equal, Greater, nat_cmp, is_gt, is_lt}
 use Rattle.std.specs.List.{AllByRecursion, sum}
 use Rattle.std.specs.Ordering.{ordering_then, ordering_reverse}
 use Rattle.std.specs.Cmp.Lexicographic.{slice_cmp}
@@ -56,7 +58,8 @@ first_not_less Greater b h = refl
 
 nat_met : (x y : ℕ) → nat_cmp x y ≡ Equal → x ≡ y
 nat_met x y h =
-    by_ranked (x < y) (x ≡ y) (y < x) (nat_cmp x y) (ranked x y (nat_cmp x y) refl) (λ o less. let e : Equal ≡ Less = sym h ∙ o in cc) (λ o met. met) (λ o more. let e : Equal ≡ Greater = sym h ∙ o in cc)
+    by_ranked (x < y) (x ≡ y) (y < x) (nat_cmp x y) (ranked x y (nat_cmp x y) refl) (λ o less. let e : Equal
+    ≡ Less = sym h ∙ o in cc) (λ o met. met) (λ o more. let e : Equal ≡ Greater = sym h ∙ o in cc)
 
 then_met : (a b : Ordering) → ordering_then a b ≡ Equal → (a ≡ Equal) × (b ≡ Equal)
 then_met Less b h = cc
@@ -87,12 +90,15 @@ neither Equal h k = refl
 neither Greater h k = cc
 
 -- a key that isn't past the target, and isn't below it
-covered_where_met : (t : TargetValue) (key : List ℕ) → is_past t key ≡ false → is_lt (slice_cmp nat_cmp key t.text) ≡ false → covers t key ≡ true
+covered_where_met : (t : TargetValue) (key : List ℕ) → is_past t key ≡ false → is_lt (slice_cmp nat_cmp key t.text)
+    ≡ false → covers t key ≡ true
 covered_where_met t key past low =
     (elim (covers t key) as (λ b. covers t key ≡ b → (is_gt (slice_cmp nat_cmp key t.text) && not b) ≡ false → b ≡ true) [
       | true ↦ (λ e h. refl)
       | false ↦ (λ e h.
-          let same : key ≡ t.text = text_met key t.text (neither (slice_cmp nat_cmp key t.text) (sym (and_whole (is_gt (slice_cmp nat_cmp key t.text))) ∙ h) low) in
+          let same : key ≡ t.text = text_met key t.text
+          (neither (slice_cmp nat_cmp key t.text) (sym (and_whole (is_gt (slice_cmp nat_cmp key t.text))) ∙ h)
+          low) in
           sym e ∙ ap (covers t) same ∙ covers_itself t.kind t.text)
     ]) refl past
   where
@@ -108,23 +114,31 @@ turned p q Greater f h = pair_cmp_total.antisymm q p ∙ ap ordering_reverse f
 -- what isn't below a pair that is above this one isn't below this one either
 not_low_above : (p q : Pair) (m : Member) → is_gt (pair_cmp p q) ≡ true → is_low p m ≡ false → is_low q m ≡ false
 not_low_above p q m e k =
-    false_from_ne_true (is_low q m) (λ l. not_below_itself (member_pair m) p (below_below (member_pair m) q p (is_less (pair_cmp (member_pair m) q) l) (turned p q (pair_cmp p q) refl e)) (from_not_below (member_pair m) p k))
+    false_from_ne_true (is_low q m)
+    (λ l. not_below_itself (member_pair m) p
+    (below_below (member_pair m) q p (is_less (pair_cmp (member_pair m) q) l) (turned p q (pair_cmp p q) refl e))
+    (from_not_below (member_pair m) p k))
 
-not_low_later : (pair : Pair) (from : Option PlaceValue) (m : Member) → is_low (later_pair pair from) m ≡ false → is_low pair m ≡ false
+not_low_later : (pair : Pair) (from : Option PlaceValue) (m : Member) → is_low (later_pair pair from) m ≡ false
+    → is_low pair m ≡ false
 not_low_later pair None m h = h
 not_low_later pair (Some p) m h =
-    (elim (is_gt (pair_cmp (place_pair p) pair)) as (λ b. is_gt (pair_cmp (place_pair p) pair) ≡ b → is_low (cond b (place_pair p) pair) m ≡ false → is_low pair m ≡ false)
+    (elim (is_gt (pair_cmp (place_pair p) pair)) as (λ b. is_gt (pair_cmp (place_pair p) pair) ≡ b
+    → is_low (cond b (place_pair p) pair) m ≡ false → is_low pair m ≡ false)
     [ true ↦ (λ e k. not_low_above (place_pair p) pair m e k) | false ↦ (λ e k. k) ]) refl h
 
 -- a line of the range that isn't below the start is covered by the target
-pub covered_from_start : (q : QueryValue) (from : Option PlaceValue) (m : Member) → is_past q.target m.values.key ≡ false → is_low (start_pair q from) m ≡ false → covers q.target m.values.key ≡ true
+pub covered_from_start : (q : QueryValue) (from : Option PlaceValue) (m : Member) → is_past q.target m.values.key
+    ≡ false → is_low (start_pair q from) m ≡ false → covers q.target m.values.key ≡ true
 covered_from_start q from m past low =
     covered_where_met q.target m.values.key past
-    (first_not_less (slice_cmp nat_cmp m.values.key q.target.text) (slice_cmp nat_cmp m.values.stamp first_stamp) (not_low_later (q.target.text, first_stamp) from m low))
+    (first_not_less (slice_cmp nat_cmp m.values.key q.target.text) (slice_cmp nat_cmp m.values.stamp first_stamp)
+    (not_low_later (q.target.text, first_stamp) from m low))
 
 -- ---- the line that follows a page
 
-past_front : (n : ℕ) (c vs : List Member) (x : Pair) → length c ≤ n → AllByRecursion (λ v. Upto x (member_pair v)) vs → is_within (pair_after n (c ++ vs)) x ≡ true
+past_front : (n : ℕ) (c vs : List Member) (x : Pair) → length c ≤ n → AllByRecursion (λ v. Upto x (member_pair v)) vs
+    → is_within (pair_after n (c ++ vs)) x ≡ true
 past_front zero [] [] x h k = refl
 past_front zero [] (v ∷ vs) x h k = ap not k.0
 past_front (suc n) [] [] x h k = refl
@@ -133,22 +147,29 @@ past_front zero (c ∷ cs) vs x h k = absurd (omega arith)
 past_front (suc n) (c ∷ cs) vs x h k = past_front n cs vs x (omega arith) k
 
 -- these captures don't pass the limit, and what is wanted beside them isn't below a pair
-pub within_follower : (q : QueryValue) (from : Option PlaceValue) (limit : Option ℕ) (lines c vs : List Member) → captures_over q from lines ≡ c ++ vs → IsWithin limit c
+pub within_follower : (q : QueryValue) (from : Option PlaceValue) (limit : Option ℕ) (lines c vs : List Member)
+    → captures_over q from lines ≡ c ++ vs → IsWithin limit c
     → (x : Pair) → AllByRecursion (λ v. Upto x (member_pair v)) vs → is_within (follower q from limit lines) x ≡ true
 within_follower q from None lines c vs split most x k = refl
-within_follower q from (Some n) lines c vs split most x k = ap (λ ms. is_within (pair_after n ms) x) split ∙ past_front n c vs x most k
+within_follower q from (Some n) lines c vs split most x k = ap (λ ms. is_within (pair_after n ms) x) split
+    ∙ past_front n c vs x most k
 
-firsts : {X Y : Type 0} (xs : List X) (ys : List Y) → length (zip xs ys) ≡ length xs → map (λ (x : X × Y). x.0) (zip xs ys) ≡ xs
+firsts : {X Y : Type 0} (xs : List X) (ys : List Y) → length (zip xs ys) ≡ length xs
+    → map (λ (x : X × Y). x.0) (zip xs ys) ≡ xs
 firsts [] ys h = refl
 firsts (x ∷ xs) [] h = absurd (omega arith)
 firsts (x ∷ xs) (y ∷ ys) h = ap (λ l. x ∷ l) (firsts xs ys (omega arith))
 
 -- ---- lines that were read
 
-pub reach_passes : (q : QueryValue) (from : Option PlaceValue) (limit : Option ℕ) (lines : List Member) (b : Option Pair) → ((m : Member) → IsUpto b (member_pair m) → is_within (follower q from limit lines) (member_pair m) ≡ true)
-    → (m : Member) → is_past q.target m.values.key ≡ false → is_low (start_pair q from) m ≡ false → IsUpto b (member_pair m) → in_reach q from limit lines m ≡ true
+pub reach_passes : (q : QueryValue) (from : Option PlaceValue) (limit : Option ℕ) (lines : List Member)
+    (b : Option Pair) → ((m : Member) → IsUpto b (member_pair m)
+    → is_within (follower q from limit lines) (member_pair m) ≡ true)
+    → (m : Member) → is_past q.target m.values.key ≡ false → is_low (start_pair q from) m ≡ false
+    → IsUpto b (member_pair m) → in_reach q from limit lines m ≡ true
 reach_passes q from limit lines b bound m past low upto =
-    both (covers q.target m.values.key && not (is_low (start_pair q from) m)) _ (both (covers q.target m.values.key) _ (covered_from_start q from m past low) (ap not low)) (bound m upto)
+    both (covers q.target m.values.key && not (is_low (start_pair q from) m)) _
+    (both (covers q.target m.values.key) _ (covered_from_start q from m past low) (ap not low)) (bound m upto)
 
 as_many : {X Y : Type 0} (R : X → Y → Type 0) (xs : List X) (ys : List Y) → AllZip R xs ys → length xs ≡ length ys
 as_many R [] [] h = refl
@@ -157,10 +178,13 @@ as_many R (x ∷ xs) [] h = absurd h
 as_many R (x ∷ xs) (y ∷ ys) h = ap suc (as_many R xs ys h.1)
 
 -- These lines were taken of indexes that were read from where the search for the page's start ended
-module _ {S : Type 0} (text : S → Option (List ℕ)) (extent gave : S → ℕ) (q : QueryValue) (from : Option PlaceValue) (ss0 : List S) (fs0 : List Feed) (ss : List S) (fs : List Feed)
-    (ws : List WaitingLine) (b : Option Pair) (taken : List Member) (same : length ss0 ≡ length fs0) (reached : Reached LINE_LIMIT text (is_past q.target) extent gave ss0 fs0 ss fs ws b taken)
+module _ {S : Type 0} (text : S → Option (List ℕ)) (extent gave : S → ℕ) (q : QueryValue) (from : Option PlaceValue)
+    (ss0 : List S) (fs0 : List Feed) (ss : List S) (fs : List Feed)
+    (ws : List WaitingLine) (b : Option Pair) (taken : List Member) (same : length ss0 ≡ length fs0)
+    (reached : Reached LINE_LIMIT text (is_past q.target) extent gave ss0 fs0 ss fs ws b taken)
     (cut : AllByRecursion (λ x. IsCutAt LINE_LIMIT (start_pair q from) (text x.0) x.1.cursor) (zip ss0 fs0))
-    (texts : List (List ℕ)) (indexes : List (List Member)) (known : Known (map text ss0) texts) (are : AllZip (IsIndex LINE_LIMIT) texts indexes) where
+    (texts : List (List ℕ)) (indexes : List (List Member)) (known : Known (map text ss0) texts)
+    (are : AllZip (IsIndex LINE_LIMIT) texts indexes) where
   abbrev wanted : List Member → List Member
   wanted lines = captures_over q from lines
 
@@ -168,75 +192,113 @@ module _ {S : Type 0} (text : S → Option (List ℕ)) (extent gave : S → ℕ)
   pub record Cut (bound : Option Pair) (earlier : List Member) : Type 0 where
     pub back : List Member
     pub whole : wanted (collection indexes) ≡ wanted earlier ++ back
-    pub later : (m : Member) → IsUpto bound (member_pair m) → AllByRecursion (λ v. Upto (member_pair m) (member_pair v)) back
+    pub later : (m : Member) → IsUpto bound (member_pair m)
+        → AllByRecursion (λ v. Upto (member_pair m) (member_pair v)) back
 
   -- all was read
   pub cut_all : ws ≡ [] → Cut b taken
   cut_all none = record {
     back = [];
-    whole = wanted_whole text extent gave q from ss0 fs0 ss fs ws b taken same reached cut texts indexes known are none ∙ sym (append-nil (wanted taken));
+    whole = wanted_whole text extent gave q from ss0 fs0 ss fs ws b taken same reached cut texts indexes known are none
+        ∙ sym (append-nil (wanted taken));
     later = λ m upto. tt;
   }
 
   -- behind the lines before the pair that was taken last
-  pub cut_last : (pair : Pair) (earlier others : List Member) → b ≡ Some pair → taken ≡ earlier ++ others → AllByRecursion (λ m. Alike (member_pair m) pair) others → Cut b earlier
+  pub cut_last : (pair : Pair) (earlier others : List Member) → b ≡ Some pair → taken ≡ earlier ++ others
+      → AllByRecursion (λ m. Alike (member_pair m) pair) others → Cut b earlier
   cut_last pair earlier others bound parts alike =
-      let first = wanted_first text extent gave q from ss0 fs0 ss fs ws b taken same reached cut texts indexes known are in
+      let first = wanted_first text extent gave q from ss0 fs0 ss fs ws b taken same reached cut texts indexes known
+      are in
       let group = filter (is_wanted q from) others in
       let p = place_before q from earlier in
       record {
         back = kept_after q from p group ++ first.0;
-        whole = first.1 ∙ ap (λ ms. ms ++ first.0) (ap wanted parts ∙ captures_append q from earlier others) ∙ append_assoc (wanted earlier) (kept_after q from p group) first.0;
+        whole = first.1 ∙ ap (λ ms. ms ++ first.0) (ap wanted parts ∙ captures_append q from earlier others)
+            ∙ append_assoc (wanted earlier) (kept_after q from p group) first.0;
         later = λ m upto.
             let low : Upto (member_pair m) pair = subst (λ o. IsUpto o (member_pair m)) bound upto in
             each_join (λ v. Upto (member_pair m) (member_pair v)) (kept_after q from p group) first.0
-            (each_kept member_place place_cmp (same_part q.collapse) place_cmp_total (λ v. Upto (member_pair m) (member_pair v)) p group
-            (each_weaker (λ (v : Member) (h : Alike (member_pair v) pair × (is_wanted q from v ≡ true)). upto_upto (member_pair m) pair (member_pair v) low (same_from (member_pair v) pair h.0)) group
+            (each_kept member_place place_cmp (same_part q.collapse) place_cmp_total
+            (λ v. Upto (member_pair m) (member_pair v)) p group
+            (each_weaker (λ (v : Member) (h : Alike (member_pair v) pair × (is_wanted q from v ≡ true)). upto_upto
+            (member_pair m) pair (member_pair v) low (same_from (member_pair v) pair h.0)) group
             (each_filter (λ v. Alike (member_pair v) pair) (is_wanted q from) others alike)))
-            (each_weaker (λ (v : Member) (h : IsAbove b (member_pair v)). upto_upto (member_pair m) pair (member_pair v) low (below_upto pair (member_pair v) (subst (λ o. IsAbove o (member_pair v)) bound h))) first.0 first.2);
+            (each_weaker (λ (v : Member) (h : IsAbove b (member_pair v)). upto_upto (member_pair m) pair (member_pair v)
+            low (below_upto pair (member_pair v) (subst (λ o. IsAbove o (member_pair v)) bound h))) first.0
+            first.2);
       }
 
   -- before a pair whose lines couldn't be had or handed on
-  pub cut_before : (next : Pair) → IsAbove b next → AllByRecursion (λ w. Upto next (waiting_pair w)) ws → Cut (Some next) taken
+  pub cut_before : (next : Pair) → IsAbove b next → AllByRecursion (λ w. Upto next (waiting_pair w)) ws
+      → Cut (Some next) taken
   cut_before next above least =
-      let before = wanted_before text extent gave q from ss0 fs0 ss fs ws b taken same reached cut texts indexes known are next above least in
+      let before = wanted_before text extent gave q from ss0 fs0 ss fs ws b taken same reached cut texts indexes known
+      are next above least in
       record {
         back = before.0;
         whole = before.1;
-        later = λ m upto. each_weaker (λ (v : Member) (h : Upto next (member_pair v)). upto_upto (member_pair m) next (member_pair v) upto h) before.0 before.2;
+        later = λ m upto. each_weaker
+            (λ (v : Member) (h : Upto next (member_pair v)). upto_upto (member_pair m) next (member_pair v) upto h)
+            before.0 before.2;
       }
 
-  module _ (bound : Option Pair) (earlier : List Member) (c : Cut bound earlier) (limit : Option ℕ) (most : IsWithin limit (wanted earlier)) where
-    in_bound : (m : Member) → IsUpto bound (member_pair m) → is_within (follower q from limit (collection indexes)) (member_pair m) ≡ true
-    in_bound m upto = within_follower q from limit (collection indexes) (wanted earlier) c.back c.whole most (member_pair m) (c.later m upto)
+  module _ (bound : Option Pair) (earlier : List Member) (c : Cut bound earlier) (limit : Option ℕ)
+      (most : IsWithin limit (wanted earlier)) where
+    in_bound : (m : Member) → IsUpto bound (member_pair m)
+        → is_within (follower q from limit (collection indexes)) (member_pair m) ≡ true
+    in_bound m upto = within_follower q from limit (collection indexes) (wanted earlier) c.back c.whole most
+        (member_pair m) (c.later m upto)
 
-    passes : (m : Member) → is_past q.target m.values.key ≡ false → is_low (start_pair q from) m ≡ false → IsUpto bound (member_pair m) → in_reach q from limit (collection indexes) m ≡ true
+    passes : (m : Member) → is_past q.target m.values.key ≡ false → is_low (start_pair q from) m ≡ false
+        → IsUpto bound (member_pair m) → in_reach q from limit (collection indexes) m ≡ true
     passes = reach_passes q from limit (collection indexes) bound in_bound
 
     -- what sources gave that were read up to the bound
-    pub gave_within : (olds news : List S) (feeds : List Feed) → Known (map text olds) texts → AllZip (λ x y. CameWithin (text x) (extent x) (gave x) (gave y.0) y.1.cursor) olds (zip ss0 fs0)
-        → AllZip (Move text extent gave) (zip ss0 fs0) (zip news feeds) → length news ≡ length ss0 → AreReadTo LINE_LIMIT (is_past q.target) text bound news feeds
+    pub gave_within : (olds news : List S) (feeds : List Feed) → Known (map text olds) texts
+        → AllZip (λ x y. CameWithin (text x) (extent x) (gave x) (gave y.0) y.1.cursor) olds (zip ss0 fs0)
+        → AllZip (Move text extent gave) (zip ss0 fs0) (zip news feeds) → length news ≡ length ss0
+        → AreReadTo LINE_LIMIT (is_past q.target) text bound news feeds
         → AllGaveWithin extent gave (in_reach q from limit (collection indexes)) texts indexes olds news
     gave_within olds news feeds known_old came moved long reads =
         let test = in_reach q from limit (collection indexes) in
         let all = as_many (Move text extent gave) (zip ss0 fs0) (zip news feeds) moved in
-        subst (λ ys. AllGaveWithin extent gave test texts indexes olds ys) (firsts news feeds (omega (arith, all, long, length_zip ss0 fs0 same)))
-        (gave_most LINE_LIMIT (is_past q.target) (start_pair q from) bound test passes text extent gave olds (zip ss0 fs0) (zip news feeds) texts indexes known_old
-        (tell_both LINE_LIMIT (is_past q.target) (start_pair q from) bound test passes text extent gave ss0 fs0 texts same known) are came moved cut reads)
+        subst (λ ys. AllGaveWithin extent gave test texts indexes olds ys)
+        (firsts news feeds (omega (arith, all, long, length_zip ss0 fs0 same)))
+        (gave_most LINE_LIMIT (is_past q.target) (start_pair q from) bound test passes text extent gave olds
+        (zip ss0 fs0) (zip news feeds) texts indexes known_old
+        (tell_both LINE_LIMIT (is_past q.target) (start_pair q from) bound test passes text extent gave ss0 fs0 texts
+        same known) are came moved cut reads)
 
   -- no more lines were read than are in reach, and one of each index
-  pub lines_within : Known (map text ss) texts → (earlier : List Member) → Cut b earlier → (limit : Option ℕ) → IsWithin limit (wanted earlier)
-      → sum (map (λ (f : Feed). f.cursor.count) fs) ≤ length (filter (in_reach q from limit (collection indexes)) (all_lines indexes)) + length ss0
+  pub lines_within : Known (map text ss) texts → (earlier : List Member) → Cut b earlier → (limit : Option ℕ)
+      → IsWithin limit (wanted earlier)
+      → sum (map (λ (f : Feed). f.cursor.count) fs) ≤ length
+      (filter (in_reach q from limit (collection indexes)) (all_lines indexes)) + length ss0
   lines_within known_now earlier c limit most =
-      let h = lines_most LINE_LIMIT (is_past q.target) (start_pair q from) b (in_reach q from limit (collection indexes)) (passes b earlier c limit most) text extent ws 0 ss fs texts indexes reached.ready.same
+      let h = lines_most LINE_LIMIT (is_past q.target) (start_pair q from) b
+      (in_reach q from limit (collection indexes)) (passes b earlier c limit most) text extent ws 0 ss fs texts
+      indexes reached.ready.same
       known_now are
-      (two_each (Move text extent gave) (λ (x : S × Feed). IsCutAt LINE_LIMIT (start_pair q from) (text x.0) x.1.cursor) (λ (x : S × Feed). IsCutAt LINE_LIMIT (start_pair q from) (text x.0) x.1.cursor)
-      (λ x y m c. λ t members e i. subst (λ n. IsCut (start_pair q from) t members n) (sym m.start_kept) (c t members (sym m.text_kept ∙ e) i)) (zip ss0 fs0) (zip ss fs) reached.moved cut)
+      (two_each (Move text extent gave) (λ (x : S × Feed). IsCutAt LINE_LIMIT (start_pair q from) (text x.0) x.1.cursor)
+      (λ (x : S × Feed). IsCutAt LINE_LIMIT (start_pair q from) (text x.0) x.1.cursor)
+      (λ x y m c. λ t members e i. subst (λ n. IsCut (start_pair q from) t members n) (sym m.start_kept)
+      (c t members (sym m.text_kept ∙ e) i)) (zip ss0 fs0) (zip ss fs) reached.moved cut)
       reached.ready.fed (reached.handed.told (told_known text ss0 texts known)).1 in
-      omega (arith, h, as_many (IsIndex LINE_LIMIT) texts indexes are, as_many (λ told t. told ≡ Some t) (map text ss0) texts known, length-map ss0 text)
+      omega (
+        arith,
+        h,
+        as_many (IsIndex LINE_LIMIT) texts indexes are,
+        as_many (λ told t. told ≡ Some t) (map text ss0)
+            texts known,
+        length-map ss0 text,
+      )
 
-pub within_opening : {S : Type 0} (text : S → Option (List ℕ)) (extent gave : S → ℕ) (test : Member → Bool) (texts : List (List ℕ)) (indexes : List (List Member)) (olds news : List S) → Known (map text olds) texts → AllZip (IsIndex LINE_LIMIT) texts indexes
-    → AllZip (λ x y. OpenedWithin (text x) (extent x) (gave x) (gave y)) olds news → AllGaveWithin extent gave test texts indexes olds news
+pub within_opening : {S : Type 0} (text : S → Option (List ℕ)) (extent gave : S → ℕ) (test : Member → Bool)
+    (texts : List (List ℕ)) (indexes : List (List Member)) (olds news : List S) → Known (map text olds) texts
+    → AllZip (IsIndex LINE_LIMIT) texts indexes
+    → AllZip (λ x y. OpenedWithin (text x) (extent x) (gave x) (gave y)) olds news
+    → AllGaveWithin extent gave test texts indexes olds news
 within_opening text extent gave test [] [] [] [] known are opened = tt
 within_opening text extent gave test [] [] [] (y ∷ ys) known are opened = absurd opened
 within_opening text extent gave test [] [] (x ∷ xs) ys known are opened = absurd known
@@ -244,8 +306,14 @@ within_opening text extent gave test [] (i ∷ is) xs ys known are opened = absu
 within_opening text extent gave test (t ∷ ts) [] xs ys known are opened = absurd are
 within_opening text extent gave test (t ∷ ts) (i ∷ is) [] ys known are opened = absurd known
 within_opening text extent gave test (t ∷ ts) (i ∷ is) (x ∷ xs) [] known are opened = absurd opened
-within_opening text extent gave test (t ∷ ts) (i ∷ is) (x ∷ xs) (y ∷ ys) known are opened = (let h = opened.0 t known.0 in omega (arith, h), within_opening text extent gave test ts is xs ys known.1 are.1 opened.1)
+within_opening text extent gave test (t ∷ ts) (i ∷ is) (x ∷ xs) (y ∷ ys) known are opened = (
+  let h = opened.0 t known.0 in omega (arith, h),
+  within_opening text extent gave test ts is xs ys known.1 are.1
+      opened.1,
+)
 
 -- nothing was read at all
-pub opened_not : {S : Type 0} (text : S → Option (List ℕ)) (extent gave : S → ℕ) (xs : List S) → AllZip (λ x y. OpenedWithin (text x) (extent x) (gave x) (gave y)) xs xs
-opened_not text extent gave = two_same (λ x y. OpenedWithin (text x) (extent x) (gave x) (gave y)) (λ x t e. omega arith)
+pub opened_not : {S : Type 0} (text : S → Option (List ℕ)) (extent gave : S → ℕ) (xs : List S)
+    → AllZip (λ x y. OpenedWithin (text x) (extent x) (gave x) (gave y)) xs xs
+opened_not text extent gave = two_same (λ x y. OpenedWithin (text x) (extent x) (gave x) (gave y))
+    (λ x t e. omega arith)

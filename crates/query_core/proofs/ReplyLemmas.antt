@@ -1,5 +1,7 @@
 -- The replies to the lines of an input, so far and at its end.
-use Rattle.std.proofs.Common.{◌≡◌, ℕ, suc, ◌+◌, ◌-◌, ◌^◌, ◌<◌, ◌≤◌, List, [], ◌∷◌, ◌++◌, map, length, length-append, length-take, take, refl, sym, ap, ap₂, ◌∙◌, subst, arith, cond, Bool, true, false, Option, Some, None, append_assoc, append-nil, lt-ltb, ltb-false, nat_lt, slice_index, ltb-true}
+use Rattle.std.proofs.Common.{◌≡◌, ℕ, suc, ◌+◌, ◌-◌, ◌^◌, ◌<◌, ◌≤◌, List, [], ◌∷◌, ◌++◌, map, length, length-append}
+use Rattle.std.proofs.Common.{length-take, take, refl, sym, ap, ap₂, ◌∙◌, subst, arith, cond, Bool, true, false, Option}
+use Rattle.std.proofs.Common.{Some, None, append_assoc, append-nil, lt-ltb, ltb-false, nat_lt, slice_index, ltb-true}
 use Rattle.std.specs.Prelude.{flat_map, ◌==◌, codes, IsErrAnd, MatchBool, Result, Ok, Err}
 use Rattle.std.specs.List.{AllZip}
 use Rattle.std.specs.Str.{is_utf8}
@@ -14,17 +16,20 @@ use Rattle.devices.specs.LineReading.{TakesLine, CountsTaken}
 use Rattle.query_core.specs.Replies.{refusal_text, reply_text, marked_reply, replies}
 use Rattle.devices.proofs.Takings.{taken-join}
 use Rattle.query_core.specs.declared.fault.AnswerFault.{AnswerFault}
-use Rattle.query_core.specs.Conversations.{Converses, IsLineReply, IsMarkedReply, IsOneReply, Replied, RepliedInPart, RepliedSoFar, RepliedToAll, RepliedToFirst}
+use Rattle.query_core.specs.Conversations.{Converses, IsLineReply, IsMarkedReply, IsOneReply, Replied, RepliedInPart}
+use Rattle.query_core.specs.Conversations.{RepliedSoFar, RepliedToAll, RepliedToFirst}
 
 -- ---- lists of lines and of their replies
 
-zip_more : {X Y : Type 0} (P : X → Y → Type 0) (xs : List X) (ys : List Y) (x : X) (y : Y) → AllZip P xs ys → P x y → AllZip P (xs ++ x ∷ []) (ys ++ y ∷ [])
+zip_more : {X Y : Type 0} (P : X → Y → Type 0) (xs : List X) (ys : List Y) (x : X) (y : Y) → AllZip P xs ys → P x y
+    → AllZip P (xs ++ x ∷ []) (ys ++ y ∷ [])
 zip_more P [] [] x y each p = (p, tt)
 zip_more P [] (v ∷ ys) x y each p = absurd each
 zip_more P (u ∷ xs) [] x y each p = absurd each
 zip_more P (u ∷ xs) (v ∷ ys) x y each p = (each.0, zip_more P xs ys x y each.1 p)
 
-zip_map : {X Y Z : Type 0} (P : Y → Z → Type 0) (f : X → Y) (xs : List X) (zs : List Z) → AllZip (λ x z. P (f x) z) xs zs → AllZip P (map f xs) zs
+zip_map : {X Y Z : Type 0} (P : Y → Z → Type 0) (f : X → Y) (xs : List X) (zs : List Z)
+    → AllZip (λ x z. P (f x) z) xs zs → AllZip P (map f xs) zs
 zip_map P f [] [] each = tt
 zip_map P f [] (z ∷ zs) each = absurd each
 zip_map P f (x ∷ xs) [] each = absurd each
@@ -57,10 +62,12 @@ module _ (limit : ℕ) (IsReply : List ℕ → List ℕ → Type 0) where
   module _ (line reply : List ℕ) (long : limit + 1 < length line) where
     abbrev by : Bool → Type 0
     by b = MatchBool b (reply ≡ refusal_text (codes "QueryTooLong"))
-        (MatchBool (is_utf8 (without_carriage_return line)) (IsReply (without_carriage_return line) reply) (reply ≡ refusal_text (codes "NotText")))
+        (MatchBool (is_utf8 (without_carriage_return line)) (IsReply (without_carriage_return line) reply)
+        (reply ≡ refusal_text (codes "NotText")))
 
     is_long : nat_lt limit (length (without_carriage_return line)) ≡ true
-    is_long = let short = shorter (slice_index line (length line - 1) == 13) line in lt-ltb _ _ (omega (arith, long, short))
+    is_long = let short = shorter (slice_index line (length line - 1) == 13) line in lt-ltb _ _
+        (omega (arith, long, short))
 
     refused_long : Reply line reply → reply ≡ refusal_text (codes "QueryTooLong")
     refused_long h = subst by is_long h
@@ -68,7 +75,8 @@ module _ (limit : ℕ) (IsReply : List ℕ → List ℕ → Type 0) where
     long_refused : reply ≡ refusal_text (codes "QueryTooLong") → Reply line reply
     long_refused h = subst by (sym is_long) h
 
-  held_by : (seen reply : List ℕ) (b : Bool) → nat_lt (limit + 2) (length seen) ≡ b → Reply (take (limit + 2) seen) reply → Reply seen reply
+  held_by : (seen reply : List ℕ) (b : Bool) → nat_lt (limit + 2) (length seen) ≡ b
+      → Reply (take (limit + 2) seen) reply → Reply seen reply
   held_by seen reply true e h =
       let long : limit + 2 < length seen = ltb-true _ _ e in
       let held : limit + 1 < length (take (limit + 2) seen) = omega (arith, long, length-take (limit + 2) seen) in
@@ -76,42 +84,54 @@ module _ (limit : ℕ) (IsReply : List ℕ → List ℕ → Type 0) where
   held_by seen reply false e h = subst (λ l. Reply l reply) (take_all (limit + 2) seen (ltb-false _ _ e)) h
 
   held : (line seen text : List ℕ) → line ≡ take (limit + 2) seen → Marked line text → Marked seen text
-  held line seen text is marked =
-      (marked.0, held_by seen marked.0 (nat_lt (limit + 2) (length seen)) refl (subst (λ l. Reply l marked.0) is marked.1), marked.2)
+  held line seen text is marked = (
+    marked.0,
+    held_by seen marked.0 (nat_lt (limit + 2) (length seen)) refl
+        (subst (λ l. Reply l marked.0) is marked.1),
+    marked.2,
+  )
 
   -- ---- the conversation
 
-  pub replied-none : (left : Option (List ℕ)) (buffer : List ℕ) (old : Option (List ℕ)) → buffer ≡ [] → RepliedSoFar limit IsReply left (prepend_known buffer left) 0 old old
+  pub replied-none : (left : Option (List ℕ)) (buffer : List ℕ) (old : Option (List ℕ)) → buffer ≡ []
+      → RepliedSoFar limit IsReply left (prepend_known buffer left) 0 old old
   replied-none None buffer old e = tt
-  replied-none (Some input) buffer old e = ([], [], ap (λ b. cut_lines (b ++ input)) (sym e), refl, tt, Appends-none old)
+  replied-none (Some input) buffer old e =
+      ([], [], ap (λ b. cut_lines (b ++ input)) (sym e), refl, tt, Appends-none old)
 
-  pub replied-more : (input now after : Option (List ℕ)) (count : ℕ) (old new last : Option (List ℕ)) (line text : List ℕ)
-      → RepliedSoFar limit IsReply input now count old new → TakesLine (limit + 2) true now after line → Marked line text → Appends new last text
+  pub replied-more : (input now after : Option (List ℕ)) (count : ℕ) (old new last : Option (List ℕ))
+      (line text : List ℕ)
+      → RepliedSoFar limit IsReply input now count old new → TakesLine (limit + 2) true now after line
+      → Marked line text → Appends new last text
       → RepliedSoFar limit IsReply input after (count + 1) old last
   replied-more None now after count old new last line text s t m a = tt
   replied-more (Some input) None after count old new last line text s t m a = absurd s
   replied-more (Some input) (Some now) None count old new last line text s t m a = absurd t
-  replied-more (Some input) (Some now) (Some rest) count old new last line text (done, texts, cut, counted, each, written) (seen, first, is) m a = (
-    done ++ seen ∷ [],
-    texts ++ text ∷ [],
-    cut ∙ (ap (λ l. done ++ l) first ∙ sym (append_assoc done (seen ∷ []) (cut_lines rest))),
-    omega (arith, counted, length-append done (seen ∷ [])),
-    zip_more Marked done texts seen text each (held line seen text is m),
-    subst (Appends old last) (sym (joined-more texts text)) (Appends-join old new last (joined texts) text written a),
-  )
+  replied-more (Some input) (Some now) (Some rest) count old new last line text
+      (done, texts, cut, counted, each, written) (seen, first, is) m a = (
+        done ++ seen ∷ [],
+        texts ++ text ∷ [],
+        cut ∙ (ap (λ l. done ++ l) first ∙ sym (append_assoc done (seen ∷ []) (cut_lines rest))),
+        omega (arith, counted, length-append done (seen ∷ [])),
+        zip_more Marked done texts seen text each (held line seen text is m),
+        subst (Appends old last) (sym (joined-more texts text)) (Appends-join old new last (joined texts) text written a),
+      )
 
   pub replied-whole : (input now after : Option (List ℕ)) (count taken : ℕ) (old new : Option (List ℕ)) (line : List ℕ)
-      → RepliedSoFar limit IsReply input now count old new → TakesLine (limit + 2) false now after line → CountsTaken input after 0 taken → taken < 2 ^ 63 - 1
+      → RepliedSoFar limit IsReply input now count old new → TakesLine (limit + 2) false now after line
+      → CountsTaken input after 0 taken → taken < 2 ^ 63 - 1
       → RepliedToAll limit IsReply input count old new
   replied-whole None now after count taken old new line s t n small = tt
   replied-whole (Some input) None after count taken old new line s t n small = absurd s
   replied-whole (Some input) (Some now) None count taken old new line s t n small = absurd t
-  replied-whole (Some input) (Some now) (Some rest) count taken old new line (done, texts, cut, counted, each, written) (none, end) n small =
+  replied-whole (Some input) (Some now) (Some rest) count taken old new line (done, texts, cut, counted, each, written)
+      (none, end) n small =
       let all : cut_lines input ≡ done = cut ∙ (ap (λ l. done ++ cut_lines l) none ∙ append-nil done) in (
         omega (arith, n, small, ap length end),
         counted ∙ (ap length (sym all) ∙ sym (many without_carriage_return (cut_lines input))),
         texts,
-        zip_map (IsMarkedReply limit IsReply) without_carriage_return (cut_lines input) texts (subst (λ ls. AllZip Marked ls texts) (sym all) each),
+        zip_map (IsMarkedReply limit IsReply) without_carriage_return (cut_lines input) texts
+            (subst (λ ls. AllZip Marked ls texts) (sym all) each),
         written,
       )
 
@@ -121,7 +141,8 @@ module _ (limit : ℕ) (IsReply : List ℕ → List ℕ → Type 0) where
       → input_lines input ≡ map without_carriage_return done ++ map without_carriage_return later
   split input done later cut = ap (map without_carriage_return) cut ∙ map-append without_carriage_return done later
 
-  pub replied-front : (input now : Option (List ℕ)) (count : ℕ) (old new : Option (List ℕ)) → RepliedSoFar limit IsReply input now count old new → RepliedToFirst limit IsReply input old new
+  pub replied-front : (input now : Option (List ℕ)) (count : ℕ) (old new : Option (List ℕ))
+      → RepliedSoFar limit IsReply input now count old new → RepliedToFirst limit IsReply input old new
   replied-front None now count old new s = tt
   replied-front (Some input) None count old new s = absurd s
   replied-front (Some input) (Some now) count old new (done, texts, cut, counted, each, written) = (
@@ -133,20 +154,26 @@ module _ (limit : ℕ) (IsReply : List ℕ → List ℕ → Type 0) where
     subst (AppendsPrefix old new) (append-nil (joined texts)) (prefix_whole old new (joined texts) [] written),
   )
 
-  pub replied-within : (input now after : Option (List ℕ)) (count : ℕ) (old new last : Option (List ℕ)) (line text : List ℕ)
-      → RepliedSoFar limit IsReply input now count old new → TakesLine (limit + 2) true now after line → Marked line text → AppendsPrefix new last text
+  pub replied-within : (input now after : Option (List ℕ)) (count : ℕ) (old new last : Option (List ℕ))
+      (line text : List ℕ)
+      → RepliedSoFar limit IsReply input now count old new → TakesLine (limit + 2) true now after line
+      → Marked line text → AppendsPrefix new last text
       → RepliedToFirst limit IsReply input old last
   replied-within None now after count old new last line text s t m p = tt
   replied-within (Some input) None after count old new last line text s t m p = absurd s
   replied-within (Some input) (Some now) None count old new last line text s t m p = absurd t
-  replied-within (Some input) (Some now) (Some rest) count old new last line text (done, texts, cut, counted, each, written) (seen, first, is) m p = (
-    map without_carriage_return (done ++ seen ∷ []),
-    map without_carriage_return (cut_lines rest),
-    texts ++ text ∷ [],
-    split input (done ++ seen ∷ []) (cut_lines rest) (cut ∙ (ap (λ l. done ++ l) first ∙ sym (append_assoc done (seen ∷ []) (cut_lines rest)))),
-    zip_map (IsMarkedReply limit IsReply) without_carriage_return (done ++ seen ∷ []) (texts ++ text ∷ []) (zip_more Marked done texts seen text each (held line seen text is m)),
-    subst (AppendsPrefix old last) (sym (joined-more texts text)) (prefix_after old new last (joined texts) text written p),
-  )
+  replied-within (Some input) (Some now) (Some rest) count old new last line text
+      (done, texts, cut, counted, each, written) (seen, first, is) m p = (
+        map without_carriage_return (done ++ seen ∷ []),
+        map without_carriage_return (cut_lines rest),
+        texts ++ text ∷ [],
+        split input (done ++ seen ∷ []) (cut_lines rest)
+            (cut ∙ (ap (λ l. done ++ l) first ∙ sym (append_assoc done (seen ∷ []) (cut_lines rest)))),
+        zip_map (IsMarkedReply limit IsReply) without_carriage_return (done ++ seen ∷ []) (texts ++ text ∷ [])
+            (zip_more Marked done texts seen text each (held line seen text is m)),
+        subst (AppendsPrefix old last) (sym (joined-more texts text))
+            (prefix_after old new last (joined texts) text written p),
+      )
 
   pub nothing_replied : (input old : Option (List ℕ)) → RepliedToFirst limit IsReply input old old
   nothing_replied None old = tt
@@ -154,25 +181,38 @@ module _ (limit : ℕ) (IsReply : List ℕ → List ℕ → Type 0) where
 
 -- ---- the same, in the words of the calls
 
-module _ (limit : ℕ) (IsReply : List ℕ → List ℕ → Type 0) (input now after : Option (List ℕ)) (count : ℕ) (old new last : Option (List ℕ)) (line text : List ℕ) (is : text ≡ without_carriage_return line)
-    (found : Bool) (so_far : RepliedSoFar limit IsReply input now count old new) (takes : TakesLine (limit + 2) found now after line) where
-  pub line-more : found ≡ true → (reply : List ℕ) × IsMarkedReply limit IsReply text reply × Appends new last reply → RepliedSoFar limit IsReply input after (count + 1) old last
+module _ (limit : ℕ) (IsReply : List ℕ → List ℕ → Type 0) (input now after : Option (List ℕ)) (count : ℕ)
+    (old new last : Option (List ℕ)) (line text : List ℕ) (is : text ≡ without_carriage_return line)
+    (found : Bool) (so_far : RepliedSoFar limit IsReply input now count old new)
+    (takes : TakesLine (limit + 2) found now after line) where
+  pub line-more : found ≡ true → (reply : List ℕ) × IsMarkedReply limit IsReply text reply × Appends new last reply
+      → RepliedSoFar limit IsReply input after (count + 1) old last
   line-more there (reply, m, a) =
-      replied-more limit IsReply input now after count old new last line reply so_far (subst (λ f. TakesLine (limit + 2) f now after line) there takes) (subst (λ t. IsMarkedReply limit IsReply t reply) is m) a
+      replied-more limit IsReply input now after count old new last line reply so_far
+      (subst (λ f. TakesLine (limit + 2) f now after line) there takes)
+      (subst (λ t. IsMarkedReply limit IsReply t reply) is m) a
 
-  pub line-within : found ≡ true → (reply : List ℕ) × IsMarkedReply limit IsReply text reply × AppendsPrefix new last reply → RepliedToFirst limit IsReply input old last
+  pub line-within : found ≡ true → (reply : List ℕ) × IsMarkedReply limit IsReply text reply
+      × AppendsPrefix new last reply → RepliedToFirst limit IsReply input old last
   line-within there (reply, m, p) =
-      replied-within limit IsReply input now after count old new last line reply so_far (subst (λ f. TakesLine (limit + 2) f now after line) there takes) (subst (λ t. IsMarkedReply limit IsReply t reply) is m) p
+      replied-within limit IsReply input now after count old new last line reply so_far
+      (subst (λ f. TakesLine (limit + 2) f now after line) there takes)
+      (subst (λ t. IsMarkedReply limit IsReply t reply) is m) p
 
-module _ (limit : ℕ) (IsReply : List ℕ → List ℕ → Type 0) (input now after : Option (List ℕ)) (count taken before : ℕ) (old new : Option (List ℕ)) (line : List ℕ)
-    (found : Bool) (so_far : RepliedSoFar limit IsReply input now count old new) (takes : TakesLine (limit + 2) found now after line) where
-  pub line-none : found ≡ false → CountsTaken input now 0 before → CountsTaken now after before taken → taken < 2 ^ 63 - 1 → RepliedToAll limit IsReply input count old new
+module _ (limit : ℕ) (IsReply : List ℕ → List ℕ → Type 0) (input now after : Option (List ℕ)) (count taken before : ℕ)
+    (old new : Option (List ℕ)) (line : List ℕ)
+    (found : Bool) (so_far : RepliedSoFar limit IsReply input now count old new)
+    (takes : TakesLine (limit + 2) found now after line) where
+  pub line-none : found ≡ false → CountsTaken input now 0 before → CountsTaken now after before taken
+      → taken < 2 ^ 63 - 1 → RepliedToAll limit IsReply input count old new
   line-none none counts more small =
-      replied-whole limit IsReply input now after count taken old new line so_far (subst (λ f. TakesLine (limit + 2) f now after line) none takes)
+      replied-whole limit IsReply input now after count taken old new line so_far
+      (subst (λ f. TakesLine (limit + 2) f now after line) none takes)
       (taken-join input now after 0 before taken counts more) small
 
 -- after a fault
-pub converses_err : (limit : ℕ) (IsReply : List ℕ → List ℕ → Type 0) (Q : AnswerFault → Type 0) (r : Result ℕ AnswerFault) (input old new : Option (List ℕ)) → IsErrAnd r Q
+pub converses_err : (limit : ℕ) (IsReply : List ℕ → List ℕ → Type 0) (Q : AnswerFault → Type 0)
+    (r : Result ℕ AnswerFault) (input old new : Option (List ℕ)) → IsErrAnd r Q
     → RepliedToFirst limit IsReply input old new → Converses limit IsReply r input old new
 converses_err limit IsReply Q (Ok x) input old new h p = absurd h
 converses_err limit IsReply Q (Err e) input old new h p = p
@@ -185,28 +225,36 @@ module _ (limit : ℕ) (reply : List ℕ → List ℕ) where
 
   line_is : (line given : List ℕ) → IsLineReply limit Is line given → given ≡ reply_text limit reply line
   line_is line given h =
-      (elim (nat_lt limit (length line)) as (λ b. MatchBool b (given ≡ refusal_text (codes "QueryTooLong")) (MatchBool (is_utf8 line) (given ≡ reply line) (given ≡ refusal_text (codes "NotText")))
-      → given ≡ cond b (refusal_text (codes "QueryTooLong")) (cond (is_utf8 line) (reply line) (refusal_text (codes "NotText")))) [
+      (elim (nat_lt limit (length line)) as (λ b. MatchBool b (given ≡ refusal_text (codes "QueryTooLong"))
+      (MatchBool (is_utf8 line) (given ≡ reply line) (given ≡ refusal_text (codes "NotText")))
+      → given ≡ cond b (refusal_text (codes "QueryTooLong"))
+      (cond (is_utf8 line) (reply line) (refusal_text (codes "NotText")))) [
         | true ↦ (λ long. long)
         | false ↦ (λ short.
-            (elim (is_utf8 line) as (λ b. MatchBool b (given ≡ reply line) (given ≡ refusal_text (codes "NotText")) → given ≡ cond b (reply line) (refusal_text (codes "NotText")))
+            (elim (is_utf8 line) as (λ b. MatchBool b (given ≡ reply line) (given ≡ refusal_text (codes "NotText"))
+            → given ≡ cond b (reply line) (refusal_text (codes "NotText")))
             [ true ↦ (λ k. k) | false ↦ (λ k. k) ]) short)
       ]) h
 
-  texts_are : (lines texts : List (List ℕ)) → AllZip (IsMarkedReply limit Is) lines texts → joined texts ≡ flat_map (marked_reply limit reply) lines
+  texts_are : (lines texts : List (List ℕ)) → AllZip (IsMarkedReply limit Is) lines texts → joined texts
+      ≡ flat_map (marked_reply limit reply) lines
   texts_are [] [] each = refl
   texts_are [] (text ∷ texts) each = absurd each
   texts_are (line ∷ lines) [] each = absurd each
   texts_are (line ∷ lines) (text ∷ texts) (m, each) =
       ap₂ (λ t l. t ++ l) (m.2 ∙ ap (λ r. r ++ codes ".\n") (line_is line m.0 m.1)) (texts_are lines texts each)
 
-  pub one_reply : (input : Option (List ℕ)) (count : ℕ) (old new : Option (List ℕ)) → RepliedToAll limit Is input count old new → Replied limit reply input count old new
+  pub one_reply : (input : Option (List ℕ)) (count : ℕ) (old new : Option (List ℕ))
+      → RepliedToAll limit Is input count old new → Replied limit reply input count old new
   one_reply None count old new h = tt
-  one_reply (Some input) count old new (short, counted, texts, each, written) = (short, counted, subst (Appends old new) (texts_are (input_lines input) texts each) written)
+  one_reply (Some input) count old new (short, counted, texts, each, written) =
+      (short, counted, subst (Appends old new) (texts_are (input_lines input) texts each) written)
 
-  pub one_reply_part : (input old new : Option (List ℕ)) → RepliedToFirst limit Is input old new → RepliedInPart limit reply input old new
+  pub one_reply_part : (input old new : Option (List ℕ)) → RepliedToFirst limit Is input old new
+      → RepliedInPart limit reply input old new
   one_reply_part None old new h = tt
   one_reply_part (Some input) old new (first, later, texts, split, each, written) =
-      subst (AppendsPrefix old new) (sym (flat_map-append (marked_reply limit reply) first later) ∙ ap (flat_map (marked_reply limit reply)) (sym split))
+      subst (AppendsPrefix old new) (sym (flat_map-append (marked_reply limit reply) first later)
+      ∙ ap (flat_map (marked_reply limit reply)) (sym split))
       (prefix_longer old new (flat_map (marked_reply limit reply) first) (flat_map (marked_reply limit reply) later)
       (subst (AppendsPrefix old new) (texts_are first texts each) written))

@@ -1,5 +1,6 @@
 -- The captures of pages that follow one another rise.
-use Rattle.std.proofs.Common.{◌≡◌, ◌↔◌, Bool, List, [], ◌∷◌, Option, None, Some, filter, true, false, cond, inl, inr, refl, ap, sym, subst, ◌∙◌}
+use Rattle.std.proofs.Common.{◌≡◌, ◌↔◌, Bool, List, [], ◌∷◌, Option, None, Some, filter, true, false, cond, inl, inr}
+use Rattle.std.proofs.Common.{refl, ap, sym, subst, ◌∙◌}
 use Rattle.std.specs.List.{AllByRecursion}
 use Rattle.cdxj_places.specs.Places.{PlaceValue, place_cmp}
 use Rattle.cdxj_places.specs.Rising.{Rises}
@@ -21,14 +22,19 @@ use Rattle.query_core.proofs.PageChains.{captures_are}
 pub pages_rise : PagesRise
 pages_rise q lines sizes pages rise positive chain =
     let selects = rises_filter member_place place_cmp place_cmp_total (λ m. matches q m.values) lines rise in
-    let joined = (chain_law member_place place_cmp (same_part q.collapse) place_cmp_total (selected q lines) q.resume sizes pages selects positive chain).0 in (
-      subst (Rises member_place place_cmp) (sym joined) (rises_collapsed member_place place_cmp (same_part q.collapse) place_cmp_total (selected q lines) q.resume selects),
-      subst (AllByRecursion (λ m. is_wanted q q.resume m ≡ true)) (captures_are q sizes positive lines rise ∙ sym joined) (captures_wanted q.resume q lines),
+    let joined = (chain_law member_place place_cmp (same_part q.collapse) place_cmp_total (selected q lines) q.resume
+    sizes pages selects positive chain).0 in (
+      subst (Rises member_place place_cmp) (sym joined)
+          (rises_collapsed member_place place_cmp (same_part q.collapse) place_cmp_total (selected q lines) q.resume
+          selects),
+      subst (AllByRecursion (λ m. is_wanted q q.resume m ≡ true)) (captures_are q sizes positive lines rise
+          ∙ sym joined) (captures_wanted q.resume q lines),
     )
 
 pub selected_rise : SelectedRise
 selected_rise q indexes =
-    rises_filter member_place place_cmp place_cmp_total (λ m. matches q m.values) (collection indexes) (rises_rising member_place place_cmp place_cmp_total (all_lines indexes))
+    rises_filter member_place place_cmp place_cmp_total (λ m. matches q m.values) (collection indexes)
+    (rises_rising member_place place_cmp place_cmp_total (all_lines indexes))
 
 -- what is in a list and passes a test is in what is left of it, and nothing else is
 filter_members : (f : Member → Bool) (m : Member) (l : List Member) → IsIn m (filter f l) ↔ (IsIn m l × (f m ≡ true))
@@ -42,7 +48,11 @@ filter_members f m (x ∷ l) =
       ))
       | false ↦ (λ e. (
         (λ i. let r = rest.0 i in (inr r.0, r.1)),
-        (λ i. elim i.0 [ inl is ↦ (let never : true ≡ false = sym i.1 ∙ ap f (sym is) ∙ e in cc) | inr j ↦ rest.1 (j, i.1) ]),
+        (λ i. elim i.0 [
+          | inl is ↦ (let never : true ≡ false = sym i.1 ∙ ap f (sym is) ∙ e in cc)
+          | inr j ↦ rest.1
+              (j, i.1)
+        ]),
       ))
     ]) refl
 

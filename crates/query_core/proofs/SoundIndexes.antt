@@ -1,6 +1,7 @@
 -- Of an index no line is at fault.
 use Rattle.std.specs.List.{AllZip}
-use Rattle.std.proofs.Common.{◌≡◌, ◌<◌, ℕ, zero, suc, List, [], ◌∷◌, ◌++◌, length, get_or, map, Option, None, Some, arith, refl, sym, ap, ◌∙◌, subst, append_assoc, true, false, is_gt}
+use Rattle.std.proofs.Common.{◌≡◌, ◌<◌, ℕ, zero, suc, List, [], ◌∷◌, ◌++◌, length, get_or, map, Option, None, Some}
+use Rattle.std.proofs.Common.{arith, refl, sym, ap, ◌∙◌, subst, append_assoc, true, false, is_gt}
 use Rattle.std.specs.List.{AllByRecursion}
 use Rattle.std.proofs.lemmas.Bool.{true≢false}
 use Rattle.cdxj_places.specs.Pairs.{pair_cmp}
@@ -24,44 +25,74 @@ module _ (limit : ℕ) where
     entry : line_entry limit line ≡ Some member
     others : map (line_entry limit) after ≡ map Some later
 
-  entries_at : (before : List (List ℕ)) (line : List ℕ) (after : List (List ℕ)) (members : List Member) → map (line_entry limit) (before ++ line ∷ after) ≡ map Some members → EntriesAt line after members
+  entries_at : (before : List (List ℕ)) (line : List ℕ) (after : List (List ℕ)) (members : List Member)
+      → map (line_entry limit) (before ++ line ∷ after) ≡ map Some members → EntriesAt line after members
   entries_at [] line after [] e = absurd (let f = e in cc)
-  entries_at [] line after (m ∷ members) e = record { earlier = []; member = m; later = members; split = refl; entry = let f = e in cc; others = let f = e in cc }
+  entries_at [] line after (m ∷ members) e =
+      record {
+        earlier = [];
+        member = m;
+        later = members;
+        split = refl;
+        entry = let f = e in cc;
+        others = let f = e in
+            cc;
+      }
   entries_at (b ∷ before) line after [] e = absurd (let f = e in cc)
   entries_at (b ∷ before) line after (m ∷ members) e =
       let rest : map (line_entry limit) (before ++ line ∷ after) ≡ map Some members = (let f = e in cc) in
       let found = entries_at before line after members rest in
-      record { earlier = m ∷ found.earlier; member = found.member; later = found.later; split = ap (λ ms. m ∷ ms) found.split; entry = found.entry; others = found.others }
+      record {
+        earlier = m ∷ found.earlier;
+        member = found.member;
+        later = found.later;
+        split = ap (λ ms. m ∷ ms)
+            found.split;
+        entry = found.entry;
+        others = found.others;
+      }
 
-  pub no_bad_line : (text : List ℕ) (members : List Member) (offset : ℕ) → IsIndex limit text members → IsBadLine limit text offset → ⊥
+  pub no_bad_line : (text : List ℕ) (members : List Member) (offset : ℕ) → IsIndex limit text members
+      → IsBadLine limit text offset → ⊥
   no_bad_line text members offset index bad =
-      let found = entries_at bad.before bad.line bad.begins.after members (ap (map (line_entry limit)) (sym bad.begins.lines_are) ∙ index.entries) in
+      let found = entries_at bad.before bad.line bad.begins.after members
+      (ap (map (line_entry limit)) (sym bad.begins.lines_are) ∙ index.entries) in
       let none : None ≡ Some found.member = sym bad.bad ∙ found.entry in
       cc
 
-  stays : (us : List Member) (m : Member) (vs : List Member) → NeverFalls member_pair pair_cmp (us ++ m ∷ vs) → AllByRecursion (λ v. is_gt (pair_cmp (member_pair m) (member_pair v)) ≡ false) vs
+  stays : (us : List Member) (m : Member) (vs : List Member) → NeverFalls member_pair pair_cmp (us ++ m ∷ vs)
+      → AllByRecursion (λ v. is_gt (pair_cmp (member_pair m) (member_pair v)) ≡ false) vs
   stays [] m vs h = h.0
   stays (u ∷ us) m vs h = stays us m vs h.1
 
-  pub none_out_of_order : (text : List ℕ) (members : List Member) (offset : ℕ) → IsIndex limit text members → IsOutOfOrder limit text offset → ⊥
+  pub none_out_of_order : (text : List ℕ) (members : List Member) (offset : ℕ) → IsIndex limit text members
+      → IsOutOfOrder limit text offset → ⊥
   none_out_of_order text members offset index out =
       let cut = out.begins.lines_are ∙ append_assoc out.before (out.previous ∷ []) (out.line ∷ out.begins.after) in
-      let first = entries_at out.before out.previous (out.line ∷ out.begins.after) members (ap (map (line_entry limit)) (sym cut) ∙ index.entries) in
+      let first = entries_at out.before out.previous (out.line ∷ out.begins.after) members
+      (ap (map (line_entry limit)) (sym cut) ∙ index.entries) in
       let second = entries_at [] out.line out.begins.after first.later first.others in
       let is_earlier : Some out.earlier ≡ Some first.member = sym out.earlier_is ∙ first.entry in
       let is_later : Some out.later ≡ Some second.member = sym out.later_is ∙ second.entry in
-      let ordered = stays first.earlier first.member first.later (subst (NeverFalls member_pair pair_cmp) first.split index.ordered) in
-      after_first first.member second.earlier second.member second.later first.later second.split ordered out.earlier out.later is_earlier is_later out.falls
+      let ordered = stays first.earlier first.member first.later
+      (subst (NeverFalls member_pair pair_cmp) first.split index.ordered) in
+      after_first first.member second.earlier second.member second.later first.later second.split ordered out.earlier
+      out.later is_earlier is_later out.falls
     where
-      after_first : (m : Member) (us : List Member) (n : Member) (vs ws : List Member) → ws ≡ us ++ n ∷ vs → AllByRecursion (λ v. is_gt (pair_cmp (member_pair m) (member_pair v)) ≡ false) ws
-          → (a b : Member) → Some a ≡ Some m → Some b ≡ Some n → is_gt (pair_cmp (member_pair a) (member_pair b)) ≡ true → ⊥
+      after_first : (m : Member) (us : List Member) (n : Member) (vs ws : List Member) → ws ≡ us ++ n ∷ vs
+          → AllByRecursion (λ v. is_gt (pair_cmp (member_pair m) (member_pair v)) ≡ false) ws
+          → (a b : Member) → Some a ≡ Some m → Some b ≡ Some n → is_gt (pair_cmp (member_pair a) (member_pair b)) ≡ true
+          → ⊥
       after_first m us n vs ws split all a b is_a is_b falls =
           let same_a : a ≡ m = (let f = is_a in cc) in
           let same_b : b ≡ n = (let f = is_b in cc) in
-          let here = each_at (λ v. is_gt (pair_cmp (member_pair m) (member_pair v)) ≡ false) us n vs (subst (AllByRecursion (λ v. is_gt (pair_cmp (member_pair m) (member_pair v)) ≡ false)) split all) in
-          true≢false (sym (subst (λ y. is_gt (pair_cmp (member_pair m) (member_pair y)) ≡ true) same_b (subst (λ x. is_gt (pair_cmp (member_pair x) (member_pair b)) ≡ true) same_a falls)) ∙ here)
+          let here = each_at (λ v. is_gt (pair_cmp (member_pair m) (member_pair v)) ≡ false) us n vs
+          (subst (AllByRecursion (λ v. is_gt (pair_cmp (member_pair m) (member_pair v)) ≡ false)) split all) in
+          true≢false (sym (subst (λ y. is_gt (pair_cmp (member_pair m) (member_pair y)) ≡ true) same_b
+          (subst (λ x. is_gt (pair_cmp (member_pair x) (member_pair b)) ≡ true) same_a falls)) ∙ here)
         where
-          each_at : (A : Member → Type 0) (us : List Member) (n : Member) (vs : List Member) → AllByRecursion A (us ++ n ∷ vs) → A n
+          each_at : (A : Member → Type 0) (us : List Member) (n : Member) (vs : List Member)
+              → AllByRecursion A (us ++ n ∷ vs) → A n
           each_at A [] n vs h = h.0
           each_at A (u ∷ us) n vs h = each_at A us n vs h.1
 
@@ -72,15 +103,19 @@ module _ (limit : ℕ) where
     told_is : told ≡ Some text
     index : IsIndex limit text members
 
-  index_at : (tolds : List (Option (List ℕ))) (texts : List (List ℕ)) (indexes : List (List Member)) → Known tolds texts → AllZip (IsIndex limit) texts indexes → (i : ℕ) → i < length tolds → ToldIndex (get_or tolds i None)
+  index_at : (tolds : List (Option (List ℕ))) (texts : List (List ℕ)) (indexes : List (List Member)) → Known tolds texts
+      → AllZip (IsIndex limit) texts indexes → (i : ℕ) → i < length tolds → ToldIndex (get_or tolds i None)
   index_at [] [] indexes known are i inside = absurd (omega (arith, inside))
   index_at [] (t ∷ texts) indexes known are i inside = absurd known
   index_at (told ∷ tolds) [] indexes known are i inside = absurd known
   index_at (told ∷ tolds) (t ∷ texts) [] known are i inside = absurd are
-  index_at (told ∷ tolds) (t ∷ texts) (ms ∷ indexes) known are zero inside = record { text = t; members = ms; told_is = known.0; index = are.0 }
-  index_at (told ∷ tolds) (t ∷ texts) (ms ∷ indexes) known are (suc i) inside = index_at tolds texts indexes known.1 are.1 i (omega (arith, inside))
+  index_at (told ∷ tolds) (t ∷ texts) (ms ∷ indexes) known are zero inside =
+      record { text = t; members = ms; told_is = known.0; index = are.0 }
+  index_at (told ∷ tolds) (t ∷ texts) (ms ∷ indexes) known are (suc i) inside = index_at tolds texts indexes known.1
+      are.1 i (omega (arith, inside))
 
-  module _ (tolds : List (Option (List ℕ))) (texts : List (List ℕ)) (indexes : List (List Member)) (known : Known tolds texts) (are : AllZip (IsIndex limit) texts indexes) (i offset : ℕ) where
+  module _ (tolds : List (Option (List ℕ))) (texts : List (List ℕ)) (indexes : List (List Member))
+      (known : Known tolds texts) (are : AllZip (IsIndex limit) texts indexes) (i offset : ℕ) where
     pub names_no_bad_line : IsFaultOf limit tolds (fault.BadLine i offset) → ⊥
     names_no_bad_line named =
         let at = index_at tolds texts indexes known are i named.0 in
@@ -95,8 +130,10 @@ pub no_line_at_fault : NoLineIsAtFault
 no_line_at_fault told fault.Memory named texts indexes known are = tt
 no_line_at_fault told (fault.Read i) named texts indexes known are = tt
 no_line_at_fault told fault.Write named texts indexes known are = tt
-no_line_at_fault told (fault.BadLine i offset) named texts indexes known are = names_no_bad_line LINE_LIMIT told texts indexes known are i offset named
-no_line_at_fault told (fault.OutOfOrder i offset) named texts indexes known are = names_none_out_of_order LINE_LIMIT told texts indexes known are i offset named
+no_line_at_fault told (fault.BadLine i offset) named texts indexes known are = names_no_bad_line LINE_LIMIT told texts
+    indexes known are i offset named
+no_line_at_fault told (fault.OutOfOrder i offset) named texts indexes known are = names_none_out_of_order LINE_LIMIT
+    told texts indexes known are i offset named
 no_line_at_fault told fault.TooManySources named texts indexes known are = tt
 no_line_at_fault told fault.BadSizes named texts indexes known are = tt
 no_line_at_fault told fault.Input named texts indexes known are = tt

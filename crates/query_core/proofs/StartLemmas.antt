@@ -1,5 +1,7 @@
 -- Nothing that is wanted stands below the start of a page.
-use Rattle.std.proofs.Common.{◌≡◌, ℕ, zero, suc, ◌<◌, ◌≤◌, List, [], ◌∷◌, length, Bool, true, false, ◌&&◌, cond, Option, None, Some, refl, sym, ap, ◌∙◌, arith, Ordering, Less, Equal, Greater, nat_cmp, is_gt, is_lt, All, eqb-true}
+use Rattle.std.proofs.Common.{◌≡◌, ℕ, zero, suc, ◌<◌, ◌≤◌, List, [], ◌∷◌, length, Bool, true, false, ◌&&◌, cond, Option}
+use Rattle.std.proofs.Common.{None, Some, refl, sym, ap, ◌∙◌, arith, Ordering, Less, Equal, Greater, nat_cmp, is_gt}
+use Rattle.std.proofs.Common.{is_lt, All, eqb-true}
 use Rattle.std.specs.Char.{is_ascii_digit}
 use Rattle.std.specs.Ordering.{ordering_then, ordering_reverse}
 use Rattle.std.specs.Cmp.Lexicographic.{slice_cmp}
@@ -46,7 +48,8 @@ not_low : (pair : Pair) (m : Member) → is_gt (pair_cmp pair (member_pair m)) �
 not_low pair m h = ap is_lt (pair_cmp_total.antisymm (member_pair m) pair) ∙ lt_reverse _ h
 
 -- what is above in four parts isn't below in the first two
-above_not_low : (a b c : Ordering) → is_gt (ordering_then a (ordering_then b c)) ≡ true → is_lt (ordering_then a b) ≡ false
+above_not_low : (a b c : Ordering) → is_gt (ordering_then a (ordering_then b c)) ≡ true → is_lt (ordering_then a b)
+    ≡ false
 above_not_low Less b c h = cc
 above_not_low Equal Less c h = cc
 above_not_low Equal Equal c h = refl
@@ -69,7 +72,8 @@ least zero (b ∷ s) e h = absurd (omega arith)
 least (suc n) [] e h = absurd (omega arith)
 least (suc n) (b ∷ s) e h =
     then_not_above (nat_cmp 48 b) (slice_cmp nat_cmp (zeros n) s)
-    (by_ranked (48 < b) (48 ≡ b) (b < 48) (nat_cmp 48 b) (ranked 48 b (nat_cmp 48 b) refl) (λ o less. ap is_gt o) (λ o same. ap is_gt o)
+    (by_ranked (48 < b) (48 ≡ b) (b < 48) (nat_cmp 48 b) (ranked 48 b (nat_cmp 48 b) refl) (λ o less. ap is_gt o)
+    (λ o same. ap is_gt o)
     (λ o more. absurd (let l = All-head (λ b. 48 ≤ b) b s h in omega (arith, l, more))))
     (least n s (omega arith) (All-tail (λ b. 48 ≤ b) b s h))
 
@@ -77,28 +81,38 @@ stamp_not_below : (stamp : List ℕ) → is_stamp stamp ≡ true → is_gt (slic
 unfolding zeros
 stamp_not_below stamp h =
     least 14 stamp (eqb-true (length stamp) 14 (and_parts _ _ h).0)
-    (All-weaker (λ b. is_ascii_digit b ≡ true) (λ b. 48 ≤ b) digit_least stamp (AllPass-from_list_all is_ascii_digit stamp (and_parts _ _ h).1))
+    (All-weaker (λ b. is_ascii_digit b ≡ true) (λ b. 48 ≤ b) digit_least stamp
+    (AllPass-from_list_all is_ascii_digit stamp (and_parts _ _ h).1))
 
 -- ---- the start
 
-above_place : (p : PlaceValue) (m : Member) → is_gt (place_cmp (member_place m) p) ≡ true → is_low (place_pair p) m ≡ false
+above_place : (p : PlaceValue) (m : Member) → is_gt (place_cmp (member_place m) p) ≡ true → is_low (place_pair p) m
+    ≡ false
 above_place p m h = above_not_low (slice_cmp nat_cmp m.values.key p.key) (slice_cmp nat_cmp m.values.stamp p.stamp) _ h
 
-later_not_low : (pair : Pair) (from : Option PlaceValue) (m : Member) → is_low pair m ≡ false → is_above member_place place_cmp from m ≡ true → is_low (later_pair pair from) m ≡ false
+later_not_low : (pair : Pair) (from : Option PlaceValue) (m : Member) → is_low pair m ≡ false
+    → is_above member_place place_cmp from m ≡ true → is_low (later_pair pair from) m ≡ false
 later_not_low pair None m h k = h
 later_not_low pair (Some p) m h k =
-    (elim (is_gt (pair_cmp (place_pair p) pair)) as (λ b. is_low (cond b (place_pair p) pair) m ≡ false) [ true ↦ above_place p m k | false ↦ h ])
+    (elim (is_gt (pair_cmp (place_pair p) pair)) as (λ b. is_low (cond b (place_pair p) pair) m ≡ false)
+    [ true ↦ above_place p m k | false ↦ h ])
 
-wanted_key : (q : QueryValue) (from : Option PlaceValue) (m : Member) → is_wanted q from m ≡ true → key_matches q.target m.values.key ≡ true
+wanted_key : (q : QueryValue) (from : Option PlaceValue) (m : Member) → is_wanted q from m ≡ true
+    → key_matches q.target m.values.key ≡ true
 wanted_key q from m h =
     let a = key_matches q.target m.values.key in
     let b = not_before q.from m.values.stamp in
     let c = not_after q.to m.values.stamp in
-    and_left a b (and_left (a && b) c (and_left (a && b && c) (passes_filters q m.values) (and_left (matches q m.values) (is_above member_place place_cmp from m) h)))
+    and_left a b (and_left (a && b) c
+    (and_left (a && b && c) (passes_filters q m.values)
+    (and_left (matches q m.values) (is_above member_place place_cmp from m) h)))
 
 -- a line with a stamp that is wanted doesn't stand below the start
-pub start_not_above : (q : QueryValue) (from : Option PlaceValue) (m : Member) → is_stamp m.values.stamp ≡ true → is_wanted q from m ≡ true → is_low (start_pair q from) m ≡ false
+pub start_not_above : (q : QueryValue) (from : Option PlaceValue) (m : Member) → is_stamp m.values.stamp ≡ true
+    → is_wanted q from m ≡ true → is_low (start_pair q from) m ≡ false
 start_not_above q from m s h =
     later_not_low (q.target.text, first_stamp) from m
-    (not_low (q.target.text, first_stamp) m (then_not_above _ _ (match_not_below q.target m.values.key (wanted_key q from m h)) (stamp_not_below m.values.stamp s)))
+    (not_low (q.target.text, first_stamp) m
+    (then_not_above _ _ (match_not_below q.target m.values.key (wanted_key q from m h))
+    (stamp_not_below m.values.stamp s)))
     (and_right (matches q m.values) (is_above member_place place_cmp from m) h)

@@ -1,9 +1,11 @@
 -- Lines that are taken one after another.
-use Rattle.std.proofs.Common.{◌≡◌, ℕ, suc, ◌+◌, ◌<◌, List, [], ◌∷◌, ◌++◌, length, get_or, take, drop, map, sym, ap, ◌∙◌, append_assoc, take-append-drop, drop-cons}
+use Rattle.std.proofs.Common.{◌≡◌, ℕ, suc, ◌+◌, ◌<◌, List, [], ◌∷◌, ◌++◌, length, get_or, take, drop, map, sym, ap, ◌∙◌}
+use Rattle.std.proofs.Common.{append_assoc, take-append-drop, drop-cons}
 use Rattle.std.proofs.lemmas.List.{map_more, map-append}
 use Rattle.cdxj_core.specs.Members.{Member}
 
-module _ {B : Type 0} (seen : B → Member) (taken : List Member) (ls : List B) (k : ℕ) (b : B) (inside : k < length ls) (is : b ≡ get_or ls k b) where
+module _ {B : Type 0} (seen : B → Member) (taken : List Member) (ls : List B) (k : ℕ) (b : B) (inside : k < length ls)
+    (is : b ≡ get_or ls k b) where
   abbrev before : List Member
   before = taken ++ map seen (take k ls)
 
@@ -19,7 +21,9 @@ module _ {B : Type 0} (seen : B → Member) (taken : List Member) (ls : List B) 
   -- all of them
   pub parted : taken ++ map seen ls ≡ (before ++ seen b ∷ []) ++ rest_after
   unfolding rest_after
-  parted = ap (λ l. taken ++ map seen l) (sym (take-append-drop k ls)) ∙ ap (λ l. taken ++ l) (map-append seen (take k ls) (drop k ls))
-      ∙ sym (append_assoc taken (map seen (take k ls)) (map seen (drop k ls))) ∙ ap (λ l. before ++ map seen l) (drop-cons ls k b inside)
+  parted = ap (λ l. taken ++ map seen l) (sym (take-append-drop k ls))
+      ∙ ap (λ l. taken ++ l) (map-append seen (take k ls) (drop k ls))
+      ∙ sym (append_assoc taken (map seen (take k ls)) (map seen (drop k ls)))
+      ∙ ap (λ l. before ++ map seen l) (drop-cons ls k b inside)
       ∙ ap (λ x. before ++ seen x ∷ map seen (drop (suc k) ls)) (sym is)
       ∙ sym (append_assoc before (seen b ∷ []) (map seen (drop (suc k) ls)))

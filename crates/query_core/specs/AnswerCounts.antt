@@ -15,7 +15,8 @@ RaisedByAnswer other sources sources' out out' = (sources' ≡ sources) × (out'
 -- the same of a call: without a fault no count changes
 abbrev pub CountsAnswer : {A : Type 0} → Result A AnswerFault → List ℕ → List ℕ → ℕ → ℕ → Type 0
 CountsAnswer result sources sources' out out' =
-    MatchResult result (λ _. (sources' ≡ sources) × (out' ≡ out)) (λ fault. RaisedByAnswer fault sources sources' out out')
+    MatchResult result (λ _. (sources' ≡ sources) × (out' ≡ out))
+    (λ fault. RaisedByAnswer fault sources sources' out out')
 
 -- the same of a call on one source alone
 abbrev pub CountsSource : {A : Type 0} → Result A AnswerFault → ℕ → ℕ → Type 0

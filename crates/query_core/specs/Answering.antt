@@ -1,5 +1,6 @@
 -- What a call that answers a query owes.
-use Rattle.std.specs.Prelude.{◌≡◌, ℕ, ◌+◌, ◌-◌, ◌^◌, ◌≤◌, List, length, map, min, not, Option, Result, IfOk, MatchResult}
+use Rattle.std.specs.Prelude.{◌≡◌, ℕ, ◌+◌, ◌-◌, ◌^◌, ◌≤◌, List, length, map, min, not, Option, Result, IfOk}
+use Rattle.std.specs.Prelude.{MatchResult}
 use Rattle.std.specs.List.{AllZip, filter, sum}
 use Rattle.std.specs.Option.{is_some}
 use Rattle.std.specs.Io.KnownBytes.{Appends}
@@ -30,7 +31,8 @@ Answers q lines result old new =
 
 -- Of each source consecutive lines were read, which are an index by themselves. They are so many together, and the page and its
 -- report are those of these lines. If no capture follows the page, they are all of the query's range.
-pub record AnsweredParts (limit : ℕ) (q : QueryValue) (texts : List (List ℕ)) (old new : Option (List ℕ)) (report : Report) : Type 0 where
+pub record AnsweredParts (limit : ℕ) (q : QueryValue) (texts : List (List ℕ)) (old new : Option (List ℕ))
+    (report : Report) : Type 0 where
   pub parts : List (List Member)
   pub each : AllZip (IsPart limit (is_past q.target) (not report.more)) texts parts
   pub lines : report.lines ≡ min (sum (map length parts)) (2 ^ 64 - 1)
@@ -39,11 +41,14 @@ pub record AnsweredParts (limit : ℕ) (q : QueryValue) (texts : List (List ℕ)
 
 -- How much was read. The searches take no more steps than the sizes have binary digits. Over indexes, no more lines are read than
 -- those in reach of the page and one of each source, and no more are held than one of each source and those that share a pair.
-pub record ReadsInReach {S : Type 0} (text : S → Option (List ℕ)) (extent gave : S → ℕ) (q : QueryValue) (old new : Option (List ℕ))
+pub record ReadsInReach {S : Type 0} (text : S → Option (List ℕ)) (extent gave : S → ℕ) (q : QueryValue)
+    (old new : Option (List ℕ))
     (olds news : List S) (result : Result Report AnswerFault) : Type 0 where
   pub probes : IfOk result (λ report. report.probes ≤ sum (map (λ s. digits (extent s)) olds))
   pub lines : OverIndexes LINE_LIMIT (map text olds) (λ texts indexes. IfOk result (λ report.
-      report.lines ≤ length (filter (in_reach q q.resume q.limit (collection indexes)) (all_lines indexes)) + length olds))
-  pub bytes : OverIndexes LINE_LIMIT (map text olds) (λ texts indexes. GaveInReach extent gave q texts indexes old new olds news)
+      report.lines ≤ length (filter (in_reach q q.resume q.limit (collection indexes)) (all_lines indexes)) + length
+      olds))
+  pub bytes : OverIndexes LINE_LIMIT (map text olds)
+      (λ texts indexes. GaveInReach extent gave q texts indexes old new olds news)
   pub held : OverIndexes LINE_LIMIT (map text olds) (λ texts indexes.
       (most : ℕ) → ShareAtMost most (all_lines indexes) → IfOk result (λ report. report.held ≤ length olds + most))

@@ -1,5 +1,6 @@
 -- The replies to an input, all of them or a front of them.
-use Rattle.std.specs.Prelude.{◌≡◌, ℕ, ◌-◌, ◌^◌, ◌<◌, ⊤, List, ◌++◌, length, flat_map, nat_lt, codes, MatchBool, Option, None, Some, Result, MatchResult}
+use Rattle.std.specs.Prelude.{◌≡◌, ℕ, ◌-◌, ◌^◌, ◌<◌, ⊤, List, ◌++◌, length, flat_map, nat_lt, codes, MatchBool, Option}
+use Rattle.std.specs.Prelude.{None, Some, Result, MatchResult}
 use Rattle.std.specs.List.{AllZip}
 use Rattle.std.specs.Str.{is_utf8}
 use Rattle.std.specs.Io.KnownBytes.{Appends}
@@ -42,7 +43,8 @@ module _ (limit : ℕ) (IsReply : List ℕ → List ℕ → Type 0) where
   RepliedToAll None count old new = ⊤
   RepliedToAll (Some input) count old new =
       (length input < 2 ^ 63 - 1) × (count ≡ length (input_lines input))
-      × (texts : List (List ℕ)) × AllZip IsMarkedReply (input_lines input) texts × Appends old new (flat_map (λ text. text) texts)
+      × (texts : List (List ℕ)) × AllZip IsMarkedReply (input_lines input) texts
+      × Appends old new (flat_map (λ text. text) texts)
 
   -- a front of replies to the first lines was written
   abbrev pub RepliedToFirst : Option (List ℕ) → Option (List ℕ) → Option (List ℕ) → Type 0
@@ -53,19 +55,23 @@ module _ (limit : ℕ) (IsReply : List ℕ → List ℕ → Type 0) where
 
   -- the replies to the input were written, or after a fault a front of replies
   abbrev pub Converses : Result ℕ AnswerFault → Option (List ℕ) → Option (List ℕ) → Option (List ℕ) → Type 0
-  Converses result input old new = MatchResult result (λ count. RepliedToAll input count old new) (λ _. RepliedToFirst input old new)
+  Converses result input old new = MatchResult result (λ count. RepliedToAll input count old new)
+      (λ _. RepliedToFirst input old new)
 
   -- so many lines were answered, and these bytes of the input are left
   abbrev pub RepliedSoFar : Option (List ℕ) → Option (List ℕ) → ℕ → Option (List ℕ) → Option (List ℕ) → Type 0
   RepliedSoFar None now count old new = ⊤
   RepliedSoFar (Some input) None count old new = ⊥
   RepliedSoFar (Some input) (Some rest) count old new =
-      (done : List (List ℕ)) × (texts : List (List ℕ)) × (cut_lines input ≡ done ++ cut_lines rest) × (count ≡ length done)
-      × AllZip (λ line text. IsMarkedReply (without_carriage_return line) text) done texts × Appends old new (flat_map (λ text. text) texts)
+      (done : List (List ℕ)) × (texts : List (List ℕ)) × (cut_lines input ≡ done ++ cut_lines rest)
+      × (count ≡ length done)
+      × AllZip (λ line text. IsMarkedReply (without_carriage_return line) text) done texts
+      × Appends old new (flat_map (λ text. text) texts)
 
 -- ---- the writing of a text that satisfies a fact
 
 -- such a text was written, or after a fault a front of one
 abbrev pub WritesSome : {A E : Type 0} → Result A E → Option (List ℕ) → Option (List ℕ) → (List ℕ → Type 0) → Type 0
 WritesSome result old new Is =
-    MatchResult result (λ _. (text : List ℕ) × Is text × Appends old new text) (λ _. (text : List ℕ) × Is text × AppendsPrefix old new text)
+    MatchResult result (λ _. (text : List ℕ) × Is text × Appends old new text) (λ _. (text : List ℕ) × Is text
+    × AppendsPrefix old new text)

@@ -1,5 +1,6 @@
 -- A page that is being written, by the lines that were taken for it.
-use Rattle.std.specs.Prelude.{◌≡◌, ℕ, zero, suc, ◌-◌, ◌^◌, ◌<◌, ⊤, ◌&&◌, List, [], ◌∷◌, length, min, Bool, false, ◌==◌, Option, None, Some, if◌then◌else◌}
+use Rattle.std.specs.Prelude.{◌≡◌, ℕ, zero, suc, ◌-◌, ◌^◌, ◌<◌, ⊤, ◌&&◌, List, [], ◌∷◌, length, min, Bool, false, ◌==◌}
+use Rattle.std.specs.Prelude.{Option, None, Some, if◌then◌else◌}
 use Rattle.std.specs.List.{filter}
 use Rattle.std.specs.Option.{is_some}
 use Rattle.std.specs.Io.KnownBytes.{Appends}
@@ -42,7 +43,8 @@ last_place (Some n) ms = place_at n ms
 
 -- What stands written of the page of these captures, how many it has, whether a further one follows, and the place of the last that
 -- it has room for
-pub record PageStands (form : Form) (limit : Option ℕ) (captures : List Member) (start now : Option (List ℕ)) (given : ℕ) (more : Bool)
+pub record PageStands (form : Form) (limit : Option ℕ) (captures : List Member) (start now : Option (List ℕ))
+    (given : ℕ) (more : Bool)
     (last : Option PlaceValue) : Type 0 where
   pub text : Appends start now (begun form (at_most member_place limit captures).members)
   pub given_is : given ≡ min (length (at_most member_place limit captures).members) (2 ^ 64 - 1)

@@ -1,5 +1,6 @@
 -- Pages that are being written, one after another.
-use Rattle.std.specs.Prelude.{◌≡◌, ◌⊎◌, ℕ, ◌-◌, ◌^◌, ◌<◌, ◌≤◌, List, [], ◌∷◌, ◌++◌, length, take, drop, min, Option, None, IfSome}
+use Rattle.std.specs.Prelude.{◌≡◌, ◌⊎◌, ℕ, ◌-◌, ◌^◌, ◌<◌, ◌≤◌, List, [], ◌∷◌, ◌++◌, length, take, drop, min, Option}
+use Rattle.std.specs.Prelude.{None, IfSome}
 use Rattle.std.specs.List.{AllByRecursion}
 use Rattle.std.specs.Io.KnownBytes.{Appends}
 use Rattle.cdxj_places.specs.Places.{PlaceValue}
@@ -21,7 +22,8 @@ AreCut sizes (page ∷ []) captures =
     (page ≡ record { members = captures; next = None }) × (length captures ≤ first_size sizes)
 AreCut sizes (page ∷ other ∷ rest) captures =
     (page ≡ record { members = take (first_size sizes) captures; next = last_of (take (first_size sizes) captures) })
-    × (first_size sizes < length captures) × AreCut (later_sizes sizes) (other ∷ rest) (drop (first_size sizes) captures)
+    × (first_size sizes < length captures)
+    × AreCut (later_sizes sizes) (other ∷ rest) (drop (first_size sizes) captures)
 
 -- the page's key, if it has one, is read as its place
 abbrev pub HasReadKey : Page Member PlaceValue → Type 0
@@ -33,7 +35,8 @@ HasNext pages captures = (pages ≡ []) ⊎ (0 < length captures)
 
 -- What stands written of the pages of these captures: whole pages, so many, and the front of a page of the first of the sizes that are
 -- left, which has so many captures; where it is full, the place of the last of them
-pub record PagesStand (q : QueryValue) (sizes : List ℕ) (captures : List Member) (start now : Option (List ℕ)) (left : List ℕ) (given : ℕ)
+pub record PagesStand (q : QueryValue) (sizes : List ℕ) (captures : List Member) (start now : Option (List ℕ))
+    (left : List ℕ) (given : ℕ)
     (last : Option PlaceValue) (count : ℕ) : Type 0 where
   pub whole : List (Page Member PlaceValue)
   pub rows : List Member

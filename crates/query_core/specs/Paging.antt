@@ -1,5 +1,6 @@
 -- What a call that writes the pages of a query owes.
-use Rattle.std.specs.Prelude.{◌≡◌, ℕ, ◌-◌, ◌^◌, ⊤, List, [], ◌∷◌, ◌++◌, length, flat_map, min, Bool, ◌&&◌, nat_lt, true, Option, None, Some, IfSome, Result, MatchResult}
+use Rattle.std.specs.Prelude.{◌≡◌, ℕ, ◌-◌, ◌^◌, ⊤, List, [], ◌∷◌, ◌++◌, length, flat_map, min, Bool, ◌&&◌, nat_lt, true}
+use Rattle.std.specs.Prelude.{Option, None, Some, IfSome, Result, MatchResult}
 use Rattle.std.specs.List.{list_all}
 use Rattle.std.specs.Io.KnownBytes.{Appends}
 use Rattle.cdxj_places.specs.Places.{PlaceValue, place_cmp, resume_place, resume_text}
@@ -48,7 +49,8 @@ empty_page = record { members = []; next = None }
 -- The pages of these sizes were written, of lines that rise by place, and are so many. Joined, they are exactly the captures that the
 -- query asks for, each once, in the order of places. Every page but the last is full and ends with a key from which the next one goes
 -- on. Where there are no captures there is one empty page.
-pub record WrotePages (q : QueryValue) (lines : List Member) (sizes : List ℕ) (old new : Option (List ℕ)) (number : ℕ) : Type 0 where
+pub record WrotePages (q : QueryValue) (lines : List Member) (sizes : List ℕ) (old new : Option (List ℕ)) (number : ℕ) :
+    Type 0 where
   pub pages : List (Page Member PlaceValue)
   pub chain : IsQueryChain q lines sizes pages
   pub joined : flat_map (λ page. page.members) pages ≡ query_captures q lines
@@ -61,16 +63,19 @@ pub record WrotePages (q : QueryValue) (lines : List Member) (sizes : List ℕ) 
 
 -- a front of the texts of such pages was written
 abbrev pub WrotePagesInPart : QueryValue → List Member → List ℕ → Option (List ℕ) → Option (List ℕ) → Type 0
-WrotePagesInPart q lines sizes old new = (pages : List (Page Member PlaceValue)) × IsQueryChain q lines sizes pages × AppendsPrefix old new (pages_text q pages)
+WrotePagesInPart q lines sizes old new = (pages : List (Page Member PlaceValue)) × IsQueryChain q lines sizes pages
+    × AppendsPrefix old new (pages_text q pages)
 
 -- the pages of these lines were written, or after a fault a front of them
-abbrev pub WritesPages : QueryValue → List Member → List ℕ → Result ℕ AnswerFault → Option (List ℕ) → Option (List ℕ) → Type 0
+abbrev pub WritesPages : QueryValue → List Member → List ℕ → Result ℕ AnswerFault → Option (List ℕ) → Option (List ℕ)
+    → Type 0
 WritesPages q lines sizes result old new = MatchResult result (WrotePages q lines sizes old new)
     (λ _. are_sizes sizes ≡ true → WrotePagesInPart q lines sizes old new)
 
 -- Of each source consecutive lines were read, which are an index by themselves: all of the query's range. The pages are those of these
 -- lines.
-pub record WrotePagesOfParts (limit : ℕ) (q : QueryValue) (texts : List (List ℕ)) (sizes : List ℕ) (old new : Option (List ℕ)) (number : ℕ) : Type 0 where
+pub record WrotePagesOfParts (limit : ℕ) (q : QueryValue) (texts : List (List ℕ)) (sizes : List ℕ)
+    (old new : Option (List ℕ)) (number : ℕ) : Type 0 where
   pub parts : List (List Member)
   pub each : AllZip (IsPart limit (is_past q.target) true) texts parts
   pub wrote : WrotePages q (collection parts) sizes old new number

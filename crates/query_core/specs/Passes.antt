@@ -1,5 +1,6 @@
 -- What one pass over sources reads of the lines of a query.
-use Rattle.std.specs.Prelude.{◌≡◌, ◌⊎◌, ℕ, ◌-◌, ◌^◌, ◌+◌, ◌≤◌, ⊤, List, [], ◌++◌, length, map, min, Bool, true, Option, None, Some}
+use Rattle.std.specs.Prelude.{◌≡◌, ◌⊎◌, ℕ, ◌-◌, ◌^◌, ◌+◌, ◌≤◌, ⊤, List, [], ◌++◌, length, map, min, Bool, true, Option}
+use Rattle.std.specs.Prelude.{None, Some}
 use Rattle.std.specs.List.{AllZip, filter, sum}
 use Rattle.cdxj_core.specs.declared.limit.TheConstants.{LINE_LIMIT}
 use Rattle.cdxj_core.specs.Members.{Member}
@@ -28,7 +29,8 @@ module _ (q : QueryValue) where
   -- were read, they have no further captures.
   pub record IsOfParts (texts : List (List ℕ)) (taken : List Member) (all : Bool) (lines : ℕ) : Type 0 where
     pub parts : List (List Member)
-    pub each : (whole : Bool) → (whole ≡ true → all ≡ true) → AllZip (IsPart LINE_LIMIT (is_past q.target) whole) texts parts
+    pub each : (whole : Bool) → (whole ≡ true → all ≡ true)
+        → AllZip (IsPart LINE_LIMIT (is_past q.target) whole) texts parts
     pub count : lines ≡ min (sum (map length parts)) (2 ^ 64 - 1)
     pub first : AreFirst (collection parts) taken
     pub ended : all ≡ true → captures_over q q.resume (collection parts) ≡ captures_over q q.resume taken
@@ -55,7 +57,8 @@ module _ (q : QueryValue) (told : List (Option (List ℕ))) where
 -- one list of states to another; the sink and what was written, before and after.
 module _ {K S : Type 0} (Wrote : K → K → List Member → Option (List ℕ) → Option (List ℕ) → Type 0)
     (Broke : K → List Member → Option (List ℕ) → Option (List ℕ) → Type 0) (Enough : K → Type 0)
-    (text : S → Option (List ℕ)) (extent gave : S → ℕ) (q : QueryValue) (olds news : List S) (sink : K) (old : Option (List ℕ)) where
+    (text : S → Option (List ℕ)) (extent gave : S → ℕ) (q : QueryValue) (olds news : List S) (sink : K)
+    (old : Option (List ℕ)) where
   -- the sink came to this state and this output by these lines
   abbrev pub CameTo : K → Option (List ℕ) → List Member → Type 0
   CameTo state now lines =

@@ -24,21 +24,25 @@ use Rattle.query_core.specs.QueryPages.{IsQueryChain, selected}
 -- without `collapse` nothing is left out
 abbrev pub AllAreKept : Type 0
 AllAreKept = (lines : List Member) (place : Option PlaceValue)
-    → collapsed member_place place_cmp (same_part None) lines place ≡ filter (is_above member_place place_cmp place) lines
+    → collapsed member_place place_cmp (same_part None) lines place
+    ≡ filter (is_above member_place place_cmp place) lines
 
 -- what a query selects of indexes rises by place
 abbrev pub SelectedRise : Type 0
-SelectedRise = (q : QueryValue) (indexes : List (List Member)) → Rises member_place place_cmp (selected q (collection indexes))
+SelectedRise = (q : QueryValue) (indexes : List (List Member))
+    → Rises member_place place_cmp (selected q (collection indexes))
 
 -- these are the lines of the indexes that match, of those at one place the first
 abbrev pub SelectedAreFirst : Type 0
-SelectedAreFirst = (q : QueryValue) (indexes : List (List Member)) (m : Member) → IsIn m (selected q (collection indexes))
+SelectedAreFirst = (q : QueryValue) (indexes : List (List Member)) (m : Member)
+    → IsIn m (selected q (collection indexes))
     ↔ (IsFirst member_place place_cmp m (all_lines indexes) × (matches q m.values ≡ true))
 
 -- the captures of the pages of lines that rise by place rise too, match the query and stand above the place that the first page begins
 -- after
 abbrev pub PagesRise : Type 0
-PagesRise = (q : QueryValue) (lines : List Member) (sizes : List ℕ) (pages : List (Page Member PlaceValue)) → Rises member_place place_cmp lines
+PagesRise = (q : QueryValue) (lines : List Member) (sizes : List ℕ) (pages : List (Page Member PlaceValue))
+    → Rises member_place place_cmp lines
     → AllPositive sizes → IsQueryChain q lines sizes pages
     → Rises member_place place_cmp (flat_map (λ page. page.members) pages)
     × AllByRecursion (λ m. is_wanted q q.resume m ≡ true) (flat_map (λ page. page.members) pages)
@@ -46,9 +50,11 @@ PagesRise = (q : QueryValue) (lines : List Member) (sizes : List ℕ) (pages : L
 -- The resume key that a page ends with continues the page: put into the query's text, in the place of an older one or after all else,
 -- where the text isn't too long, it means the same query after the page's last capture.
 abbrev pub KeysContinue : Type 0
-KeysContinue = (text : List ℕ) (query : QueryValue) (page : Page Member PlaceValue) → query_of QUERY_LIMIT text ≡ Ok query
+KeysContinue = (text : List ℕ) (query : QueryValue) (page : Page Member PlaceValue) → query_of QUERY_LIMIT text
+    ≡ Ok query
     → (ended : EndsWithKey page) → length (text_with_key (resume_text (member_place ended.last)) text) ≤ QUERY_LIMIT
-    → query_of QUERY_LIMIT (text_with_key (resume_text (member_place ended.last)) text) ≡ Ok (record query { resume = Some (member_place ended.last) })
+    → query_of QUERY_LIMIT (text_with_key (resume_text (member_place ended.last)) text)
+    ≡ Ok (record query { resume = Some (member_place ended.last) })
 
 -- over indexes no fault names a line
 abbrev pub NoLineIsAtFault : Type 0

@@ -28,7 +28,8 @@ query_page q lines = page_of member_place place_cmp (same_part q.collapse) (sele
 
 -- the pages of these sizes, of such lines
 abbrev pub IsQueryChain : QueryValue → List Member → List ℕ → List (Page Member PlaceValue) → Type 0
-IsQueryChain q lines sizes pages = IsChain member_place place_cmp (same_part q.collapse) (selected q lines) q.resume sizes pages
+IsQueryChain q lines sizes pages = IsChain member_place place_cmp (same_part q.collapse) (selected q lines) q.resume
+    sizes pages
 
 abbrev pub output_form : OutputFormat → List Field → Form
 output_form output.Text fields = Text fields

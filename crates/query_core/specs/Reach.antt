@@ -38,7 +38,8 @@ is_within (Some bound) pair = not (is_gt (pair_cmp pair bound))
 -- page of so many, of lines that rise by place.
 abbrev pub in_reach : QueryValue → Option PlaceValue → Option ℕ → List Member → Member → Bool
 in_reach q from limit lines m =
-    covers q.target m.values.key && not (is_low (start_pair q from) m) && is_within (follower q from limit lines) (member_pair m)
+    covers q.target m.values.key && not (is_low (start_pair q from) m) && is_within (follower q from limit lines)
+    (member_pair m)
 
 -- what has to stand written where these captures of a page are
 abbrev pub captures_text : Form → List Member → List ℕ
@@ -53,7 +54,8 @@ pub record WroteFront (old new : Option (List ℕ)) (text : List ℕ) : Type 0 w
 
 -- So many captures of the page were written whole. Each source gave no more bytes than its lines have that a page of so many reaches,
 -- and what a search takes, two lines and a piece.
-pub record GaveInReach {S : Type 0} (extent gave : S → ℕ) (q : QueryValue) (texts : List (List ℕ)) (indexes : List (List Member))
+pub record GaveInReach {S : Type 0} (extent gave : S → ℕ) (q : QueryValue) (texts : List (List ℕ))
+    (indexes : List (List Member))
     (old new : Option (List ℕ)) (olds news : List S) : Type 0 where
   pub whole : ℕ
   pub most : whole ≤ length (query_page q (collection indexes)).members

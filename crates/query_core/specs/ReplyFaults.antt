@@ -24,10 +24,12 @@ CountsReplying (Err (fault.OutOfOrder i offset)) sources sources' out out' = ⊥
 CountsReplying other sources sources' out out' = (sources' ≡ sources) × (out' ≡ out)
 
 -- the same of a conversation, and the count of its input, of which these bytes were left: Input where it failed or is too long
-abbrev pub CountsServing : {A : Type 0} → Result A AnswerFault → List ℕ → List ℕ → ℕ → ℕ → ℕ → ℕ → Option (List ℕ) → Type 0
+abbrev pub CountsServing : {A : Type 0} → Result A AnswerFault → List ℕ → List ℕ → ℕ → ℕ → ℕ → ℕ → Option (List ℕ)
+    → Type 0
 CountsServing (Err fault.Input) sources sources' out out' input input' text =
     (sources' ≡ sources) × (out' ≡ out) × ((input' ≡ next_count input) ⊎ ((input' ≡ input) × IsTooLong text 0))
-CountsServing result sources sources' out out' input input' text = CountsReplying result sources sources' out out' × (input' ≡ input)
+CountsServing result sources sources' out out' input input' text = CountsReplying result sources sources' out out'
+    × (input' ≡ input)
 
 -- the count of an input of which a line was read, after so many bytes, while these were left
 abbrev pub CountsLine : {A : Type 0} → Result A AnswerFault → ℕ → ℕ → Option (List ℕ) → ℕ → Type 0

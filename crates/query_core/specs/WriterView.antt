@@ -51,18 +51,22 @@ Wrote first w taken start now = Kept first w × stands w taken start now
 -- a front of what these lines make of the page was written
 abbrev pub Broke : PageWriter → List Member → Option (List ℕ) → Option (List ℕ) → Type 0
 Broke first taken start now =
-    AppendsPrefix start now (begun (form_of first.selection.query.now) (page_over first.selection.query.now (from_view first.selection.from) first.limit taken).members)
+    AppendsPrefix start now
+    (begun (form_of first.selection.query.now)
+    (page_over first.selection.query.now (from_view first.selection.from) first.limit taken).members)
 
 -- ---- pages
 
 -- what stands written of these captures, in pages of these sizes
 abbrev pub are_in_pages : List ℕ → PagesWriter → List Member → Option (List ℕ) → Option (List ℕ) → Type 0
-are_in_pages sizes w captures start now = PagesStand w.selection.query.now sizes captures start now w.sizes.now w.given w.last w.count
+are_in_pages sizes w captures start now = PagesStand w.selection.query.now sizes captures start now w.sizes.now w.given
+    w.last w.count
 
 -- the same between two lines
 abbrev pub pages_stand : List ℕ → PagesWriter → List Member → Option (List ℕ) → Option (List ℕ) → Type 0
 pages_stand sizes w taken start now =
-    Selects w.selection taken × (s : are_in_pages sizes w (captures_of w.selection taken) start now) × HasNext s.whole s.rows
+    Selects w.selection taken × (s : are_in_pages sizes w (captures_of w.selection taken) start now)
+    × HasNext s.whole s.rows
 
 -- the same of a writer that was the first before the lines
 abbrev pub PagesWrote : List ℕ → PagesWriter → PagesWriter → List Member → Option (List ℕ) → Option (List ℕ) → Type 0
@@ -71,7 +75,8 @@ PagesWrote sizes first w taken start now = IsSame first.selection w.selection ×
 -- a front of pages of these captures was written, whatever captures follow
 abbrev pub IsFront : QueryValue → List ℕ → List Member → Option (List ℕ) → Option (List ℕ) → Type 0
 IsFront q sizes captures start now = (later : List Member)
-    → (pages : List (Page Member PlaceValue)) × AreCut sizes pages (captures ++ later) × AppendsPrefix start now (pages_text q pages)
+    → (pages : List (Page Member PlaceValue)) × AreCut sizes pages (captures ++ later)
+    × AppendsPrefix start now (pages_text q pages)
 
 abbrev pub PagesBroke : PagesWriter → List Member → Option (List ℕ) → Option (List ℕ) → Type 0
 PagesBroke first taken start now =

@@ -26,7 +26,11 @@ impl Model for Collapsing {
 
     ghost Value = { CollapsingValue };
 
-    ghost view = { λ c. record { by = c.by; part = option_map (λ stamp. part_of c.by (string_bytes c.key) stamp) c.stamp } };
+    ghost view = { λ c. record {
+      by = c.by;
+      part = option_map
+          (λ stamp. part_of c.by (string_bytes c.key) stamp) c.stamp;
+    } };
 }
 
 impl Collapsing {

@@ -1,5 +1,6 @@
 -- A query text with another resume key.
-use Rattle.std.proofs.Common.{◌≡◌, ℕ, ◌<◌, Bool, true, false, List, [], ◌∷◌, ◌++◌, length, codes, Option, None, Some, is_some, Ok, Err, refl, sym, ap, ◌∙◌, arith, nat_lt, ◌==◌, if◌then◌else◌}
+use Rattle.std.proofs.Common.{◌≡◌, ℕ, ◌<◌, Bool, true, false, List, [], ◌∷◌, ◌++◌, length, codes, Option, None, Some}
+use Rattle.std.proofs.Common.{is_some, Ok, Err, refl, sym, ap, ◌∙◌, arith, nat_lt, ◌==◌, if◌then◌else◌}
 use Rattle.std.specs.List.{before_first, after_first}
 use Rattle.std.specs.Str.{IsUtf8}
 use Rattle.std.proofs.lemmas.Bool.{true≢false, cond-false, ne_eqb, le-ltb, ltb-true}
@@ -20,7 +21,8 @@ use Rattle.query_text.specs.Filters.{filter_of, literal_of}
 use Rattle.query_text.specs.Targets.{kind_of}
 use Rattle.query_text.specs.Outputs.{output_of, flag_of}
 use Rattle.query_text.specs.Collapses.{collapse_of}
-use Rattle.query_text.specs.Parameters.{ParameterValues, no_values, with_filter, with_parameter, with_piece, with_pieces, pieces_of}
+use Rattle.query_text.specs.Parameters.{ParameterValues, no_values, with_filter, with_parameter, with_piece}
+use Rattle.query_text.specs.Parameters.{with_pieces, pieces_of}
 use Rattle.query_text.specs.Queries.{QueryValue, query_with, with_target, target_of}
 use Rattle.query_text.proofs.PlainTexts.{plain_text_stands}
 use Rattle.query_text.specs.Resuming.{is_resume_key, has_resume_key, resume_piece, with_resume_key, GoesOn}
@@ -34,30 +36,43 @@ all_at r a = and_then a (λ v. Ok (at r v))
 
 -- ---- another parameter doesn't look at the resume place
 
-ifs_at : (r : Option PlaceValue) (b : Bool) (e : QueryFault) (x y : Read ParameterValues) → y ≡ all_at r x → (if b then Err e else y) ≡ all_at r (if b then Err e else x)
+ifs_at : (r : Option PlaceValue) (b : Bool) (e : QueryFault) (x y : Read ParameterValues) → y ≡ all_at r x
+    → (if b then Err e else y) ≡ all_at r (if b then Err e else x)
 ifs_at r true e x y h = refl
 ifs_at r false e x y h = h
 
-then_at : {T : Type 0} (r : Option PlaceValue) (m : Read T) (f g : T → ParameterValues) → ((x : T) → g x ≡ at r (f x)) → and_then m (λ x. Ok (g x)) ≡ all_at r (and_then m (λ x. Ok (f x)))
+then_at : {T : Type 0} (r : Option PlaceValue) (m : Read T) (f g : T → ParameterValues) → ((x : T) → g x ≡ at r (f x))
+    → and_then m (λ x. Ok (g x)) ≡ all_at r (and_then m (λ x. Ok (f x)))
 then_at r (Ok x) f g h = ap Ok (h x)
 then_at r (Err e) f g h = refl
 
-parameter_at : (r : Option PlaceValue) (p : Parameter) (v : ParameterValues) (text : Text) → is_resume_key (Some p) ≡ false → with_parameter (Some p) (at r v) text ≡ all_at r (with_parameter (Some p) v text)
+parameter_at : (r : Option PlaceValue) (p : Parameter) (v : ParameterValues) (text : Text) → is_resume_key (Some p)
+    ≡ false → with_parameter (Some p) (at r v) text ≡ all_at r (with_parameter (Some p) v text)
 parameter_at r parameter.Url v text h = ifs_at r (is_some v.url) fault.RepeatedParameter _ _ refl
 parameter_at r parameter.Key v text h = ifs_at r (is_some v.key) fault.RepeatedParameter _ _ refl
-parameter_at r parameter.MatchType v text h = ifs_at r (is_some v.kind) fault.RepeatedParameter _ _ (then_at r (kind_of (decoded text)) (λ x. record v { kind = Some x }) _ (λ x. refl))
-parameter_at r parameter.From v text h = ifs_at r (is_some v.from) fault.RepeatedParameter _ _ (then_at r (stamp_start_of (decoded text)) (λ x. record v { from = Some x }) _ (λ x. refl))
-parameter_at r parameter.To v text h = ifs_at r (is_some v.to) fault.RepeatedParameter _ _ (then_at r (stamp_start_of (decoded text)) (λ x. record v { to = Some x }) _ (λ x. refl))
+parameter_at r parameter.MatchType v text h = ifs_at r (is_some v.kind) fault.RepeatedParameter _ _
+    (then_at r (kind_of (decoded text)) (λ x. record v { kind = Some x }) _ (λ x. refl))
+parameter_at r parameter.From v text h = ifs_at r (is_some v.from) fault.RepeatedParameter _ _
+    (then_at r (stamp_start_of (decoded text)) (λ x. record v { from = Some x }) _ (λ x. refl))
+parameter_at r parameter.To v text h = ifs_at r (is_some v.to) fault.RepeatedParameter _ _
+    (then_at r (stamp_start_of (decoded text)) (λ x. record v { to = Some x }) _ (λ x. refl))
 parameter_at r parameter.Filter v text h = then_at r (literal_of (decoded text)) (λ x. with_filter v x) _ (λ x. refl)
-parameter_at r (parameter.Condition test) v text h = then_at r (filter_of test (decoded text)) (λ x. with_filter v x) _ (λ x. refl)
-parameter_at r parameter.Limit v text h = ifs_at r (is_some v.limit) fault.RepeatedParameter _ _ (then_at r (limit_of (decoded text)) (λ x. record v { limit = Some x }) _ (λ x. refl))
+parameter_at r (parameter.Condition test) v text h = then_at r (filter_of test (decoded text)) (λ x. with_filter v x) _
+    (λ x. refl)
+parameter_at r parameter.Limit v text h = ifs_at r (is_some v.limit) fault.RepeatedParameter _ _
+    (then_at r (limit_of (decoded text)) (λ x. record v { limit = Some x }) _ (λ x. refl))
 parameter_at r parameter.ResumeKey v text h = absurd (true≢false h)
-parameter_at r parameter.ShowResumeKey v text h = ifs_at r (is_some v.show_resume_key) fault.RepeatedParameter _ _ (then_at r (flag_of (decoded text)) (λ x. record v { show_resume_key = Some x }) _ (λ x. refl))
-parameter_at r parameter.Fl v text h = ifs_at r (is_some v.fields) fault.RepeatedParameter _ _ (then_at r (fields_of (decoded text)) (λ x. record v { fields = Some x }) _ (λ x. refl))
-parameter_at r parameter.Output v text h = ifs_at r (is_some v.output) fault.RepeatedParameter _ _ (then_at r (output_of (decoded text)) (λ x. record v { output = Some x }) _ (λ x. refl))
-parameter_at r parameter.Collapse v text h = ifs_at r (is_some v.collapse) fault.RepeatedParameter _ _ (then_at r (collapse_of (decoded text)) (λ x. record v { collapse = Some x }) _ (λ x. refl))
+parameter_at r parameter.ShowResumeKey v text h = ifs_at r (is_some v.show_resume_key) fault.RepeatedParameter _ _
+    (then_at r (flag_of (decoded text)) (λ x. record v { show_resume_key = Some x }) _ (λ x. refl))
+parameter_at r parameter.Fl v text h = ifs_at r (is_some v.fields) fault.RepeatedParameter _ _
+    (then_at r (fields_of (decoded text)) (λ x. record v { fields = Some x }) _ (λ x. refl))
+parameter_at r parameter.Output v text h = ifs_at r (is_some v.output) fault.RepeatedParameter _ _
+    (then_at r (output_of (decoded text)) (λ x. record v { output = Some x }) _ (λ x. refl))
+parameter_at r parameter.Collapse v text h = ifs_at r (is_some v.collapse) fault.RepeatedParameter _ _
+    (then_at r (collapse_of (decoded text)) (λ x. record v { collapse = Some x }) _ (λ x. refl))
 
-named_at : (r : Option PlaceValue) (p : Option Parameter) (v : ParameterValues) (text : Text) → is_resume_key p ≡ false → with_parameter p (at r v) text ≡ all_at r (with_parameter p v text)
+named_at : (r : Option PlaceValue) (p : Option Parameter) (v : ParameterValues) (text : Text) → is_resume_key p ≡ false
+    → with_parameter p (at r v) text ≡ all_at r (with_parameter p v text)
 named_at r None v text h = refl
 named_at r (Some p) v text h = parameter_at r p v text h
 
@@ -65,11 +80,15 @@ named_at r (Some p) v text h = parameter_at r p v text h
 abbrev piece_name : Text → Option Parameter
 piece_name piece = parameter_named (decoded (before_first is_equals piece))
 
-piece_at : (r : Option PlaceValue) (v : ParameterValues) (piece : Text) → has_resume_key piece ≡ false → with_piece (at r v) piece ≡ all_at r (with_piece v piece)
-piece_at r v piece h = unless_empty (length piece == 0) (with_parameter (piece_name piece) v (after_first is_equals piece)) (with_parameter (piece_name piece) (at r v) (after_first is_equals piece))
+piece_at : (r : Option PlaceValue) (v : ParameterValues) (piece : Text) → has_resume_key piece ≡ false
+    → with_piece (at r v) piece ≡ all_at r (with_piece v piece)
+piece_at r v piece h = unless_empty (length piece == 0)
+    (with_parameter (piece_name piece) v (after_first is_equals piece))
+    (with_parameter (piece_name piece) (at r v) (after_first is_equals piece))
     (named_at r (piece_name piece) v (after_first is_equals piece) h)
   where
-    unless_empty : (b : Bool) (x y : Read ParameterValues) → y ≡ all_at r x → (if b then Ok (at r v) else y) ≡ all_at r (if b then Ok v else x)
+    unless_empty : (b : Bool) (x y : Read ParameterValues) → y ≡ all_at r x → (if b then Ok (at r v) else y)
+        ≡ all_at r (if b then Ok v else x)
     unless_empty true x y e = refl
     unless_empty false x y e = e
 
@@ -89,87 +108,110 @@ ok_is : {T : Type 0} (x y : T) → ◌≡◌ {A = Read T} (Ok x) (Ok y) → x �
 ok_is x y h = cc
 
 -- another piece leaves the resume place
-keeps_resume : (v w : ParameterValues) (piece : Text) → has_resume_key piece ≡ false → with_piece v piece ≡ Ok w → w.resume ≡ v.resume
+keeps_resume : (v w : ParameterValues) (piece : Text) → has_resume_key piece ≡ false → with_piece v piece ≡ Ok w
+    → w.resume ≡ v.resume
 keeps_resume v w piece h e =
     let same = sym e ∙ piece_at v.resume v piece h ∙ ap (all_at v.resume) e in
     ap (λ x. x.resume) (ok_is w (at v.resume w) same)
 
 -- an empty piece has no resume key
 empty_has_none : has_resume_key [] ≡ true → ⊥
-empty_has_none h = true≢false (sym h ∙ ap (λ t. is_resume_key (parameter_named t)) (plain_text_stands [] IsUtf8-nil refl))
+empty_has_none h = true≢false
+    (sym h ∙ ap (λ t. is_resume_key (parameter_named t)) (plain_text_stands [] IsUtf8-nil refl))
 
 -- a piece that isn't empty is read
-filled : (v : ParameterValues) (b : ℕ) (piece : Text) → with_piece v (b ∷ piece) ≡ with_parameter (piece_name (b ∷ piece)) v (after_first is_equals (b ∷ piece))
+filled : (v : ParameterValues) (b : ℕ) (piece : Text) → with_piece v (b ∷ piece)
+    ≡ with_parameter (piece_name (b ∷ piece)) v (after_first is_equals (b ∷ piece))
 filled v b piece = cond-false (length (b ∷ piece) == 0) _ _ (ne_eqb (length (b ∷ piece)) 0 (λ e. omega (arith, e)))
 
 -- a resume key that was given isn't given again
-not_again : (r : PlaceValue) (v w : ParameterValues) (piece : Text) → has_resume_key piece ≡ true → with_piece (at (Some r) v) piece ≡ Ok w → ⊥
+not_again : (r : PlaceValue) (v w : ParameterValues) (piece : Text) → has_resume_key piece ≡ true
+    → with_piece (at (Some r) v) piece ≡ Ok w → ⊥
 not_again r v w [] h e = empty_has_none h
 not_again r v w (b ∷ piece) h e = again (piece_name (b ∷ piece)) h (sym (filled (at (Some r) v) b piece) ∙ e)
   where
-    again : (p : Option Parameter) → is_resume_key p ≡ true → with_parameter p (at (Some r) v) (after_first is_equals (b ∷ piece)) ≡ Ok w → ⊥
-    again (Some parameter.ResumeKey) h e = let g : ◌≡◌ {A = Read ParameterValues} (Err fault.RepeatedParameter) (Ok w) = e in cc
+    again : (p : Option Parameter) → is_resume_key p ≡ true
+        → with_parameter p (at (Some r) v) (after_first is_equals (b ∷ piece)) ≡ Ok w → ⊥
+    again (Some parameter.ResumeKey) h e = let g : ◌≡◌ {A = Read ParameterValues} (Err fault.RepeatedParameter) (Ok w) =
+        e in cc
     again p h e = true≢false (sym h)
 
 -- after a resume key, the others read as they do after another one
-pieces_after : (a b : PlaceValue) (v w : ParameterValues) (pieces : List Text) → with_pieces (at (Some a) v) pieces ≡ Ok w → with_pieces (at (Some b) v) pieces ≡ Ok (at (Some b) w)
+pieces_after : (a b : PlaceValue) (v w : ParameterValues) (pieces : List Text) → with_pieces (at (Some a) v) pieces
+    ≡ Ok w → with_pieces (at (Some b) v) pieces ≡ Ok (at (Some b) w)
 pieces_after a b v w [] h = ap Ok (ap (at (Some b)) (ok_is (at (Some a) v) w h))
 pieces_after a b v w (piece ∷ pieces) h =
     let k = went (with_piece (at (Some a) v) piece) (λ next. with_pieces next pieces) w h in
-    (elim (has_resume_key piece) as (λ x. has_resume_key piece ≡ x → with_pieces (at (Some b) v) (piece ∷ pieces) ≡ Ok (at (Some b) w)) [
+    (elim (has_resume_key piece) as (λ x. has_resume_key piece ≡ x → with_pieces (at (Some b) v) (piece ∷ pieces)
+    ≡ Ok (at (Some b) w)) [
       | true ↦ (λ e. absurd (not_again a v k.next piece e k.is))
       | false ↦ (λ e.
           let kept = keeps_resume (at (Some a) v) k.next piece e k.is in
-          let here : with_piece (at (Some b) v) piece ≡ Ok (at (Some b) k.next) = piece_at (Some b) (at (Some a) v) piece e ∙ ap (all_at (Some b)) k.is in
+          let here : with_piece (at (Some b) v) piece
+          ≡ Ok (at (Some b) k.next) = piece_at (Some b) (at (Some a) v) piece e ∙ ap (all_at (Some b)) k.is in
           let same : at (Some a) k.next ≡ k.next = ap (λ r. at r k.next) (sym kept) in
-          ap (λ m. and_then m (λ next. with_pieces next pieces)) here ∙ pieces_after a b k.next w pieces (ap (λ x. with_pieces x pieces) same ∙ k.later))
+          ap (λ m. and_then m (λ next. with_pieces next pieces)) here
+          ∙ pieces_after a b k.next w pieces (ap (λ x. with_pieces x pieces) same ∙ k.later))
     ]) refl
 
 -- the key's piece is read
 name_utf8 : IsUtf8 (codes "resumeKey")
 name_utf8 =
     let name = codes "resumeKey" in
-    IsUtf8-from_ascii name (IsAscii-from_all name (All-weaker (λ b. nat_lt b 128 ≡ true) (λ b. b < 128) (λ b h. ltb-true b 128 h) name (AllPass-from_list_all (λ b. nat_lt b 128) name refl)))
+    IsUtf8-from_ascii name
+    (IsAscii-from_all name
+    (All-weaker (λ b. nat_lt b 128 ≡ true) (λ b. b < 128) (λ b h. ltb-true b 128 h) name
+    (AllPass-from_list_all (λ b. nat_lt b 128) name refl)))
 
 name_is : (key : Text) → piece_name (resume_piece key) ≡ Some parameter.ResumeKey
 name_is key = ap parameter_named (plain_text_stands (codes "resumeKey") name_utf8 refl)
 
-key_read : (key : Text) (place : PlaceValue) (v : ParameterValues) → v.resume ≡ None → resume_of key ≡ Ok place → with_piece v (resume_piece key) ≡ Ok (at (Some place) v)
+key_read : (key : Text) (place : PlaceValue) (v : ParameterValues) → v.resume ≡ None → resume_of key ≡ Ok place
+    → with_piece v (resume_piece key) ≡ Ok (at (Some place) v)
 key_read key place v none e =
     filled v 114 (codes "esumeKey=" ++ key) ∙ ap (λ p. with_parameter p v key) (name_is key)
     ∙ cond-false (is_some v.resume) _ _ (ap is_some none) ∙ ap (λ m. and_then m (λ place. Ok (at (Some place) v))) e
 
 -- what a key's piece gives
-key_given : (v next : ParameterValues) (piece : Text) → v.resume ≡ None → has_resume_key piece ≡ true → with_piece v piece ≡ Ok next → (place : PlaceValue) × (next ≡ at (Some place) v)
+key_given : (v next : ParameterValues) (piece : Text) → v.resume ≡ None → has_resume_key piece ≡ true
+    → with_piece v piece ≡ Ok next → (place : PlaceValue) × (next ≡ at (Some place) v)
 key_given v next [] none h e = absurd (empty_has_none h)
 key_given v next (b ∷ piece) none h e = given (piece_name (b ∷ piece)) h (sym (filled v b piece) ∙ e)
   where
-    given : (p : Option Parameter) → is_resume_key p ≡ true → with_parameter p v (after_first is_equals (b ∷ piece)) ≡ Ok next → (place : PlaceValue) × (next ≡ at (Some place) v)
+    given : (p : Option Parameter) → is_resume_key p ≡ true → with_parameter p v (after_first is_equals (b ∷ piece))
+        ≡ Ok next → (place : PlaceValue) × (next ≡ at (Some place) v)
     given (Some parameter.ResumeKey) h e =
         let read = resume_of (after_first is_equals (b ∷ piece)) in
-        let k = went read (λ place. Ok (at (Some place) v)) next (sym (cond-false (is_some v.resume) _ _ (ap is_some none)) ∙ e) in
+        let k = went read (λ place. Ok (at (Some place) v)) next
+        (sym (cond-false (is_some v.resume) _ _ (ap is_some none)) ∙ e) in
         (k.next, sym (ok_is (at (Some k.next) v) next k.later))
     given p h e = absurd (true≢false (sym h))
 
 -- a resume key among the pieces, or after them
-pieces_with : (key : Text) (place : PlaceValue) → resume_of key ≡ Ok place → (v w : ParameterValues) (pieces : List Text) → v.resume ≡ None → with_pieces v pieces ≡ Ok w
+pieces_with : (key : Text) (place : PlaceValue) → resume_of key ≡ Ok place
+    → (v w : ParameterValues) (pieces : List Text) → v.resume ≡ None → with_pieces v pieces ≡ Ok w
     → with_pieces v (with_resume_key key pieces) ≡ Ok (at (Some place) w)
 pieces_with key place e v w [] none h =
     ap (λ m. and_then m (λ next. Ok next)) (key_read key place v none e) ∙ ap Ok (ap (at (Some place)) (ok_is v w h))
 pieces_with key place e v w (piece ∷ pieces) none h =
     let k = went (with_piece v piece) (λ next. with_pieces next pieces) w h in
-    (elim (has_resume_key piece) as (λ x. has_resume_key piece ≡ x → with_pieces v (if x then resume_piece key ∷ pieces else piece ∷ with_resume_key key pieces) ≡ Ok (at (Some place) w)) [
+    (elim (has_resume_key piece) as (λ x. has_resume_key piece ≡ x
+    → with_pieces v (if x then resume_piece key ∷ pieces else piece ∷ with_resume_key key pieces)
+    ≡ Ok (at (Some place) w)) [
       | true ↦ (λ f. ap (λ m. and_then m (λ next. with_pieces next pieces)) (key_read key place v none e)
-          ∙ (let given = key_given v k.next piece none f k.is in pieces_after given.0 place v w pieces (ap (λ x. with_pieces x pieces) (sym given.1) ∙ k.later)))
+          ∙ (let given = key_given v k.next piece none f k.is in pieces_after given.0 place v w pieces
+          (ap (λ x. with_pieces x pieces) (sym given.1) ∙ k.later)))
       | false ↦ (λ f. ap (λ m. and_then m (λ next. with_pieces next (with_resume_key key pieces))) k.is
           ∙ pieces_with key place e k.next w pieces (keeps_resume v k.next piece f k.is ∙ none) k.later)
     ]) refl
 
 -- the query of such values
-query_at : (place : PlaceValue) (w : ParameterValues) (query : QueryValue) → query_with w ≡ Ok query → query_with (at (Some place) w) ≡ Ok (record query { resume = Some place })
+query_at : (place : PlaceValue) (w : ParameterValues) (query : QueryValue) → query_with w ≡ Ok query
+    → query_with (at (Some place) w) ≡ Ok (record query { resume = Some place })
 query_at place w query h =
     let k = went (target_of w.url w.key w.kind) (λ target. Ok (with_target w target)) query h in
-    ap (λ m. and_then m (λ target. Ok (with_target (at (Some place) w) target))) k.is ∙ ap Ok (ap (λ (q : QueryValue). record q { resume = Some place }) (ok_is (with_target w k.next) query k.later))
+    ap (λ m. and_then m (λ target. Ok (with_target (at (Some place) w) target))) k.is
+    ∙ ap Ok (ap (λ (q : QueryValue). record q { resume = Some place }) (ok_is (with_target w k.next) query k.later))
 
 not_refused : {T : Type 0} (b : Bool) (e : QueryFault) (m : Read T) (x : T) → (if b then Err e else m) ≡ Ok x → m ≡ Ok x
 not_refused true e m x h = absurd (let g : ◌≡◌ {A = Read _} (Err e) (Ok x) = h in cc)
@@ -178,7 +220,8 @@ not_refused false e m x h = h
 pub goes_on : GoesOn
 goes_on limit text new key query place meaning named short pieces =
     let read : resume_of key ≡ Ok place = ap (or_refused (Err fault.BadResume)) named in
-    let k = went (with_pieces no_values (pieces_of text)) query_with query (not_refused (nat_lt limit (length text)) fault.QueryTooLong _ query meaning) in
+    let k = went (with_pieces no_values (pieces_of text)) query_with query
+    (not_refused (nat_lt limit (length text)) fault.QueryTooLong _ query meaning) in
     cond-false (nat_lt limit (length new)) _ _ (le-ltb limit (length new) short)
     ∙ ap (λ ps. and_then (with_pieces no_values ps) query_with) pieces
     ∙ ap (λ m. and_then m query_with) (pieces_with key place read no_values k.next (pieces_of text) refl k.is)

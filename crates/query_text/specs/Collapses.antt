@@ -1,5 +1,6 @@
 -- By what captures are collapsed that follow one another: which part of theirs is compared.
-use Rattle.std.specs.Prelude.{◌&&◌, Bool, false, nat_eq, nat_lt, nat_le, take, drop, codes, bytes_eq, Option, None, Some, Ok, Err, if◌then◌else◌}
+use Rattle.std.specs.Prelude.{◌&&◌, Bool, false, nat_eq, nat_lt, nat_le, take, drop, codes, bytes_eq, Option, None}
+use Rattle.std.specs.Prelude.{Some, Ok, Err, if◌then◌else◌}
 use Rattle.std.specs.List.{starts_with}
 use Rattle.std.specs.Str.Parse.{digits_value}
 use Rattle.cdxj_core.specs.Places.{PlaceValue}

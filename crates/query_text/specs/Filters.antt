@@ -1,5 +1,6 @@
 -- Filters: how they are written, and what they ask of a line.
-use Rattle.std.specs.Prelude.{ℕ, ◌==◌, ◌||◌, Bool, not, nat_eq, [], ◌∷◌, bytes_eq, Option, Some, None, Ok, Err, if◌then◌else◌}
+use Rattle.std.specs.Prelude.{ℕ, ◌==◌, ◌||◌, Bool, not, nat_eq, [], ◌∷◌, bytes_eq, Option, Some, None, Ok, Err}
+use Rattle.std.specs.Prelude.{if◌then◌else◌}
 use Rattle.std.specs.List.{list_all, list_any, before_first, after_first, starts_with}
 use Rattle.cdxj_core.specs.declared.field.Field.{Field}
 use Rattle.cdxj_core.specs.Lines.{LineValue}

@@ -1,5 +1,6 @@
 -- Which lines a query asks for, and which keys are past them.
-use Rattle.std.specs.Prelude.{◌==◌, ◌&&◌, ◌||◌, Bool, true, false, not, nat_eq, [], ◌∷◌, take, drop, length, bytes_eq, Option, Some, None}
+use Rattle.std.specs.Prelude.{◌==◌, ◌&&◌, ◌||◌, Bool, true, false, not, nat_eq, [], ◌∷◌, take, drop, length, bytes_eq}
+use Rattle.std.specs.Prelude.{Option, Some, None}
 use Rattle.std.specs.List.{list_all, starts_with}
 use Rattle.std.specs.Ordering.{nat_cmp, is_gt, is_ge, is_le}
 use Rattle.std.specs.Cmp.Lexicographic.{slice_cmp}

@@ -2,7 +2,9 @@
 use Rattle.std.specs.Prelude.{codes, bytes_eq, Option, Some, None, if◌then◌else◌}
 use Rattle.query_text.specs.declared.filter.Test.TheVariants as test
 use Rattle.query_text.specs.declared.parameter.Parameter.{Parameter}
-use Rattle.query_text.specs.declared.parameter.Parameter.TheVariants.{Url, Key, MatchType, From, To, Filter, Condition, Limit, ResumeKey, ShowResumeKey, Fl, Output, Collapse}
+use Rattle.query_text.specs.declared.parameter.Parameter.TheVariants.{Url, Key, MatchType, From, To, Filter, Condition}
+use Rattle.query_text.specs.declared.parameter.Parameter.TheVariants.{Limit, ResumeKey, ShowResumeKey, Fl, Output}
+use Rattle.query_text.specs.declared.parameter.Parameter.TheVariants.{Collapse}
 use Rattle.query_text.specs.Readings.{Text}
 
 abbrev pub parameter_named : Text → Option Parameter

@@ -1,5 +1,6 @@
 -- The parameters of a query text, and their values.
-use Rattle.std.specs.Prelude.{ℕ, ◌==◌, ◌++◌, Bool, false, List, [], ◌∷◌, length, Option, Some, None, is_some, Ok, Err, if◌then◌else◌}
+use Rattle.std.specs.Prelude.{ℕ, ◌==◌, ◌++◌, Bool, false, List, [], ◌∷◌, length, Option, Some, None, is_some, Ok, Err}
+use Rattle.std.specs.Prelude.{if◌then◌else◌}
 use Rattle.std.specs.List.{slice_split, before_first, after_first}
 use Rattle.cdxj_core.specs.declared.field.Field.{Field}
 use Rattle.cdxj_core.specs.Places.{PlaceValue}

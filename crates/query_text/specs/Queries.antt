@@ -1,5 +1,6 @@
 -- The query of a text.
-use Rattle.std.specs.Prelude.{ℕ, Bool, false, List, [], ◌∷◌, nat_lt, length, Option, Some, None, unwrap_or, Ok, Err, if◌then◌else◌}
+use Rattle.std.specs.Prelude.{ℕ, Bool, false, List, [], ◌∷◌, nat_lt, length, Option, Some, None, unwrap_or, Ok, Err}
+use Rattle.std.specs.Prelude.{if◌then◌else◌}
 use Rattle.cdxj_core.specs.declared.field.Field.{Field}
 use Rattle.cdxj_core.specs.declared.field.Field.TheVariants as field
 use Rattle.cdxj_core.specs.Places.{PlaceValue}

@@ -1,5 +1,6 @@
 -- A resume key that is put into a query text, in the place of an older one.
-use Rattle.std.specs.Prelude.{◌≡◌, ℕ, ◌≤◌, Bool, true, false, List, [], ◌∷◌, ◌++◌, length, codes, Option, Some, Ok, if◌then◌else◌}
+use Rattle.std.specs.Prelude.{◌≡◌, ℕ, ◌≤◌, Bool, true, false, List, [], ◌∷◌, ◌++◌, length, codes, Option, Some, Ok}
+use Rattle.std.specs.Prelude.{if◌then◌else◌}
 use Rattle.std.specs.List.{before_first, join_with_byte}
 use Rattle.cdxj_core.specs.Places.{PlaceValue}
 use Rattle.cdxj_places.specs.Places.{resume_place, resume_text}
@@ -27,7 +28,8 @@ resume_piece key = codes "resumeKey=" ++ key
 -- the pieces with this key in the place of the first one, or after them where there is none
 abbrev pub with_resume_key : Text → List Text → List Text
 with_resume_key key [] = resume_piece key ∷ []
-with_resume_key key (piece ∷ pieces) = if has_resume_key piece then resume_piece key ∷ pieces else piece ∷ with_resume_key key pieces
+with_resume_key key (piece ∷ pieces) = if has_resume_key piece then resume_piece key ∷ pieces else piece ∷
+    with_resume_key key pieces
 
 -- the text with this key so
 abbrev pub text_with_key : Text → Text → Text
@@ -42,4 +44,5 @@ GoesOn = (limit : ℕ) (text new key : Text) (query : QueryValue) (place : Place
 
 -- the text with a place's printed key is cut into the pieces with it
 abbrev pub IsCutWithKey : Type 0
-IsCutWithKey = (text : Text) (place : PlaceValue) → pieces_of (text_with_key (resume_text place) text) ≡ with_resume_key (resume_text place) (pieces_of text)
+IsCutWithKey = (text : Text) (place : PlaceValue) → pieces_of (text_with_key (resume_text place) text)
+    ≡ with_resume_key (resume_text place) (pieces_of text)

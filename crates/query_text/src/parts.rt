@@ -15,7 +15,8 @@ use std::borrow::CowStr;
 /// one.
 pub(crate) fn cut_part(text: &str, sign: char) -> (&str, Option<&str>)
     requires { sign < 128 }
-    ensures parts { slice_split (λ b. b == sign) text.now ≡ result.0.now ∷ parts_left sign result.1 }
+    ensures parts { slice_split (λ b. b == sign) text.now
+        ≡ result.0.now ∷ parts_left sign result.1 }
     ensures smaller { IfSome result.1 (λ later. length later.now < length text.now) }
 {
     match text.split_once(sign) {

@@ -1,5 +1,6 @@
 -- An archive that was added to an indexer, or wasn't.
-use Rattle.std.proofs.Common.{◌≡◌, ◌↔◌, ℕ, Bool, true, false, List, [], ◌++◌, length, Option, None, Some, IfSome, Result, Ok, Err, IfOk, refl, sym, ap, ◌∙◌, subst, arith, nat_lt, nat_le}
+use Rattle.std.proofs.Common.{◌≡◌, ◌↔◌, ℕ, Bool, true, false, List, [], ◌++◌, length, Option, None, Some, IfSome}
+use Rattle.std.proofs.Common.{Result, Ok, Err, IfOk, refl, sym, ap, ◌∙◌, subst, arith, nat_lt, nat_le}
 use Rattle.std.proofs.lemmas.Bool.{true≢false}
 use Rattle.std.proofs.lemmas.Bool.Decides.{nat_tests}
 use Rattle.warc_core.specs.Kind.{Kind}
@@ -21,11 +22,16 @@ is_name name h = go (nat_lt 0 (length name)) refl (nat_le (length name) 255) ref
   where
     go : (a : Bool) → nat_lt 0 (length name) ≡ a → (b : Bool) → nat_le (length name) 255 ≡ b → IsName name
     go true e true f = (grind (arith, nat_tests), grind (arith, nat_tests))
-    go false e b f = absurd (h (λ k. let some = k.0 in let t : nat_lt 0 (length name) ≡ true = grind (arith, nat_tests) in true≢false (sym t ∙ e)))
-    go a e false f = absurd (h (λ k. let few = k.1 in let t : nat_le (length name) 255 ≡ true = grind (arith, nat_tests) in true≢false (sym t ∙ f)))
+    go false e b f = absurd
+        (h (λ k. let some = k.0 in let t : nat_lt 0 (length name)
+        ≡ true = grind (arith, nat_tests) in true≢false (sym t ∙ e)))
+    go a e false f = absurd
+        (h (λ k. let few = k.1 in let t : nat_le (length name) 255
+        ≡ true = grind (arith, nat_tests) in true≢false (sym t ∙ f)))
 
 -- a name that is neither bad nor used
-pub is_new : (names : List (List ℕ)) (name : List ℕ) (r : Result ℕ IndexFault) → (r ≡ Err index.BadName) ↔ ¬ (IsName name) → (r ≡ Err index.DuplicateName) ↔ (IsName name × (is_among names name ≡ true))
+pub is_new : (names : List (List ℕ)) (name : List ℕ) (r : Result ℕ IndexFault) → (r ≡ Err index.BadName)
+    ↔ ¬ (IsName name) → (r ≡ Err index.DuplicateName) ↔ (IsName name × (is_among names name ≡ true))
     → (r ≡ Err index.BadName → ⊥) → (r ≡ Err index.DuplicateName → ⊥) → IsNewName names name
 is_new names name r bad duplicate not_bad not_duplicate =
     let good = is_name name (λ k. not_bad (bad.1 k)) in
@@ -35,30 +41,49 @@ is_new names name r bad duplicate not_bad not_duplicate =
     go true e unlike = absurd (unlike e)
     go false e unlike = e
 
-accepted_to : (types : Kind → Bool) (name : List ℕ) (input : Option (List ℕ)) (fault : CaptureFault) (captures : List EntryValue)
+accepted_to : (types : Kind → Bool) (name : List ℕ) (input : Option (List ℕ)) (fault : CaptureFault)
+    (captures : List EntryValue)
     → IfSome input (λ archive. IsAcceptedTo types usual_limits HEAD_LIMIT name fault archive captures)
-    → IfSome input (λ archive. (these : List EntryValue) × IsAcceptedTo types usual_limits HEAD_LIMIT name fault archive these)
+    → IfSome input (λ archive. (these : List EntryValue)
+    × IsAcceptedTo types usual_limits HEAD_LIMIT name fault archive these)
 accepted_to types name None fault captures h = tt
 accepted_to types name (Some archive) fault captures h = (captures, h)
 
 -- why an archive wasn't added is why it isn't indexed
-pub fault_of : (types : Kind → Bool) (names : List (List ℕ)) (name : List ℕ) (input : Option (List ℕ)) (old new : Held) (fault : IndexFault)
-    → (◌≡◌ {A = Result ℕ IndexFault} (Err fault) (Err index.BadName)) ↔ ¬ (IsName name) → (◌≡◌ {A = Result ℕ IndexFault} (Err fault) (Err index.DuplicateName)) ↔ (IsName name × (is_among names name ≡ true))
+pub fault_of : (types : Kind → Bool) (names : List (List ℕ)) (name : List ℕ) (input : Option (List ℕ)) (old new : Held)
+    (fault : IndexFault)
+    → (◌≡◌ {A = Result ℕ IndexFault} (Err fault) (Err index.BadName)) ↔ ¬ (IsName name)
+    → (◌≡◌ {A = Result ℕ IndexFault} (Err fault) (Err index.DuplicateName))
+    ↔ (IsName name × (is_among names name ≡ true))
     → Adds types usual_limits HEAD_LIMIT name input old new (Err fault) → IsFaultOfArchive types names name input fault
 fault_of types names name input old new index.BadName bad duplicate adds = bad.0 refl
 fault_of types names name input old new index.DuplicateName bad duplicate adds = duplicate.0 refl
-fault_of types names name input old new index.Memory bad duplicate adds = is_new names name (Err index.Memory) bad duplicate (λ e. cc) (λ e. cc)
-fault_of types names name input old new (index.Capture fault) bad duplicate adds =
-    (is_new names name (Err (index.Capture fault)) bad duplicate (λ e. cc) (λ e. cc), accepted_to types name input fault adds.0 adds.2)
+fault_of types names name input old new index.Memory bad duplicate adds = is_new names name (Err index.Memory) bad
+    duplicate (λ e. cc) (λ e. cc)
+fault_of types names name input old new (index.Capture fault) bad duplicate adds = (
+  is_new names name (Err (index.Capture fault)) bad duplicate (λ e. cc) (λ e. cc),
+  accepted_to types name input fault
+      adds.0 adds.2,
+)
 fault_of types names name input old new index.Write bad duplicate adds = absurd adds
 fault_of types names name input old new index.NoRecord bad duplicate adds = absurd adds
 
 -- the index of what an indexer without captures gained by an archive
-pub index_of_added : {I : Type 0} (text : I → List ℕ) (types : Kind → Bool) (names : List (List ℕ)) (name : List ℕ) (input : Option (List ℕ)) (old new : Held) (captures : List EntryValue) (r : Result I IndexFault)
-    → old.captures ≡ [] → IsNewName names name → new ≡ with_archive name captures old → IfSome input (λ archive. IsAccepted types usual_limits HEAD_LIMIT name archive captures)
+pub index_of_added : {I : Type 0} (text : I → List ℕ) (types : Kind → Bool) (names : List (List ℕ)) (name : List ℕ)
+    (input : Option (List ℕ)) (old new : Held) (captures : List EntryValue) (r : Result I IndexFault)
+    → old.captures ≡ [] → IsNewName names name → new ≡ with_archive name captures old
+    → IfSome input (λ archive. IsAccepted types usual_limits HEAD_LIMIT name archive captures)
     → HaveLines new.captures → IfOk r (λ index. IsIndex LINE_LIMIT (text index) (index_members new.captures))
-    → IfOk r (λ index. IsNewName names name × (these : List EntryValue) × IsAcceptedAs types name input these × HaveLines these × IsIndex LINE_LIMIT (text index) (index_members these))
+    → IfOk r (λ index. IsNewName names name × (these : List EntryValue) × IsAcceptedAs types name input these
+    × HaveLines these × IsIndex LINE_LIMIT (text index) (index_members these))
 index_of_added text types names name input old new captures (Err fault) none fresh is accepted lines written = tt
 index_of_added text types names name input old new captures (Ok index) none fresh is accepted lines written =
-    let same : new.captures ≡ captures = ap (λ (h : Held). h.captures) is ∙ ap (λ (es : List EntryValue). es ++ captures) none in
-    (fresh, captures, accepted, subst HaveLines same lines, subst (λ es. IsIndex LINE_LIMIT (text index) (index_members es)) same written)
+    let same : new.captures ≡ captures = ap (λ (h : Held). h.captures) is
+    ∙ ap (λ (es : List EntryValue). es ++ captures) none in (
+      fresh,
+      captures,
+      accepted,
+      subst HaveLines same lines,
+      subst
+          (λ es. IsIndex LINE_LIMIT (text index) (index_members es)) same written,
+    )

@@ -1,6 +1,7 @@
 -- Archives that are indexed one after another.
 use Rattle.std.specs.List.{AllZip}
-use Rattle.std.proofs.Common.{◌≡◌, ℕ, zero, suc, ◌+◌, ◌<◌, List, [], ◌∷◌, ◌++◌, length, map, take, drop, get_or, set, Option, None, Err, refl, sym, ap, ap₂, Bool, ◌∙◌, subst, arith, append_assoc, append-nil}
+use Rattle.std.proofs.Common.{◌≡◌, ℕ, zero, suc, ◌+◌, ◌<◌, List, [], ◌∷◌, ◌++◌, length, map, take, drop, get_or, set}
+use Rattle.std.proofs.Common.{Option, None, Err, refl, sym, ap, ap₂, Bool, ◌∙◌, subst, arith, append_assoc, append-nil}
 use Rattle.std.proofs.lemmas.List.{take_more}
 use Rattle.warc_core.specs.Kind.{Kind}
 use Rattle.cdxj_core.specs.Entries.{EntryValue}
@@ -11,46 +12,65 @@ use Rattle.index_core.specs.Counting.{CountsIndex}
 use Rattle.merge_core.proofs.FeedLemmas.{each_join}
 use Rattle.merge_core.proofs.SpendLemmas.{left_after}
 use Rattle.scan_core.specs.declared.fault.ScanFault.TheVariants.{Archive}
-use Rattle.scan_core.specs.Archives.{IsNewName, AreNewNames, IsAcceptedAs, AreAcceptedAs, HaveLines, AreIndexed, IsFaultOfArchive, IsFirstFault, IsNameFault, index_members}
+use Rattle.scan_core.specs.Archives.{IsNewName, AreNewNames, IsAcceptedAs, AreAcceptedAs, HaveLines, AreIndexed}
+use Rattle.scan_core.specs.Archives.{IsFaultOfArchive, IsFirstFault, IsNameFault, index_members}
 use Rattle.scan_core.specs.Failures.{CountsAt}
 use Rattle.scan_core.specs.Scanning.{LeavesUnread}
 
-names_push : (earlier names : List (List ℕ)) (name : List ℕ) → AreNewNames earlier names → IsNewName (earlier ++ names) name → AreNewNames earlier (names ++ name ∷ [])
+names_push : (earlier names : List (List ℕ)) (name : List ℕ) → AreNewNames earlier names
+    → IsNewName (earlier ++ names) name → AreNewNames earlier (names ++ name ∷ [])
 names_push earlier [] name h k = (subst (λ ns. IsNewName ns name) (append-nil earlier) k, tt)
-names_push earlier (n ∷ names) name h k = (h.0, names_push (earlier ++ n ∷ []) names name h.1 (subst (λ ns. IsNewName ns name) (sym (append_assoc earlier (n ∷ []) names)) k))
+names_push earlier (n ∷ names) name h k = (
+  h.0,
+  names_push (earlier ++ n ∷ []) names name h.1
+      (subst (λ ns. IsNewName ns name) (sym (append_assoc earlier (n ∷ []) names)) k),
+)
 
-accepted_push : (types : Kind → Bool) (names : List (List ℕ)) (inputs : List (Option (List ℕ))) (archives : List (List EntryValue)) (name : List ℕ) (input : Option (List ℕ)) (captures : List EntryValue)
-    → AreAcceptedAs types names inputs archives → IsAcceptedAs types name input captures → AreAcceptedAs types (names ++ name ∷ []) (inputs ++ input ∷ []) (archives ++ captures ∷ [])
+accepted_push : (types : Kind → Bool) (names : List (List ℕ)) (inputs : List (Option (List ℕ)))
+    (archives : List (List EntryValue)) (name : List ℕ) (input : Option (List ℕ)) (captures : List EntryValue)
+    → AreAcceptedAs types names inputs archives → IsAcceptedAs types name input captures
+    → AreAcceptedAs types (names ++ name ∷ []) (inputs ++ input ∷ []) (archives ++ captures ∷ [])
 accepted_push types [] [] [] name input captures h k = (k, tt)
 accepted_push types [] [] (c ∷ archives) name input captures h k = absurd h
 accepted_push types [] (i ∷ inputs) archives name input captures h k = absurd h
 accepted_push types (n ∷ names) [] archives name input captures h k = absurd h
 accepted_push types (n ∷ names) (i ∷ inputs) [] name input captures h k = absurd h
-accepted_push types (n ∷ names) (i ∷ inputs) (c ∷ archives) name input captures h k = (h.0, accepted_push types names inputs archives name input captures h.1 k)
+accepted_push types (n ∷ names) (i ∷ inputs) (c ∷ archives) name input captures h k =
+    (h.0, accepted_push types names inputs archives name input captures h.1 k)
 
 -- one archive more
-pub indexed_push : (types : Kind → Bool) (names : List (List ℕ)) (inputs : List (Option (List ℕ))) (archives : List (List EntryValue)) (i : ℕ) (captures : List EntryValue) → i < length names → i < length inputs
-    → AreIndexed types (take i names) (take i inputs) archives → IsNewName (take i names) (get_or names i []) → IsAcceptedAs types (get_or names i []) (get_or inputs i None) captures → HaveLines captures
+pub indexed_push : (types : Kind → Bool) (names : List (List ℕ)) (inputs : List (Option (List ℕ)))
+    (archives : List (List EntryValue)) (i : ℕ) (captures : List EntryValue) → i < length names → i < length inputs
+    → AreIndexed types (take i names) (take i inputs) archives → IsNewName (take i names) (get_or names i [])
+    → IsAcceptedAs types (get_or names i []) (get_or inputs i None) captures → HaveLines captures
     → AreIndexed types (take (i + 1) names) (take (i + 1) inputs) (archives ++ captures ∷ [])
 indexed_push types names inputs archives i captures l m h new accepted lines = record {
-  named = subst (AreNewNames []) (sym (take_more names i [] l)) (names_push [] (take i names) (get_or names i []) h.named new);
-  accepted = subst (λ ns. AreAcceptedAs types ns (take (i + 1) inputs) (archives ++ captures ∷ [])) (sym (take_more names i [] l))
-      (subst (λ is. AreAcceptedAs types (take i names ++ get_or names i [] ∷ []) is (archives ++ captures ∷ [])) (sym (take_more inputs i None m))
-      (accepted_push types (take i names) (take i inputs) archives (get_or names i []) (get_or inputs i None) captures h.accepted accepted));
+  named = subst (AreNewNames []) (sym (take_more names i [] l))
+      (names_push [] (take i names) (get_or names i []) h.named new);
+  accepted = subst (λ ns. AreAcceptedAs types ns (take (i + 1) inputs) (archives ++ captures ∷ []))
+      (sym (take_more names i [] l))
+      (subst (λ is. AreAcceptedAs types (take i names ++ get_or names i [] ∷ []) is (archives ++ captures ∷ []))
+      (sym (take_more inputs i None m))
+      (accepted_push types (take i names) (take i inputs) archives (get_or names i []) (get_or inputs i None) captures
+      h.accepted accepted));
   lines = each_join HaveLines archives (captures ∷ []) h.lines (lines, tt);
 }
 
 -- an index more
-pub indexes_push : {I : Type 0} (limit : ℕ) (text : I → List ℕ) (indexes : List I) (archives : List (List EntryValue)) (index : I) (captures : List EntryValue)
-    → AllZip (IsIndex limit) (map text indexes) (map index_members archives) → IsIndex limit (text index) (index_members captures)
+pub indexes_push : {I : Type 0} (limit : ℕ) (text : I → List ℕ) (indexes : List I) (archives : List (List EntryValue))
+    (index : I) (captures : List EntryValue)
+    → AllZip (IsIndex limit) (map text indexes) (map index_members archives)
+    → IsIndex limit (text index) (index_members captures)
     → AllZip (IsIndex limit) (map text (indexes ++ index ∷ [])) (map index_members (archives ++ captures ∷ []))
 indexes_push limit text [] [] index captures h k = (k, tt)
 indexes_push limit text [] (c ∷ archives) index captures h k = absurd h
 indexes_push limit text (x ∷ indexes) [] index captures h k = absurd h
-indexes_push limit text (x ∷ indexes) (c ∷ archives) index captures h k = (h.0, indexes_push limit text indexes archives index captures h.1 k)
+indexes_push limit text (x ∷ indexes) (c ∷ archives) index captures h k =
+    (h.0, indexes_push limit text indexes archives index captures h.1 k)
 
 -- what a function shows of the i-th
-pub shown_at : {X Y : Type 0} (f : X → Y) (xs : List X) (i : ℕ) (x : X) (d : Y) → i < length xs → f (get_or xs i x) ≡ get_or (map f xs) i d
+pub shown_at : {X Y : Type 0} (f : X → Y) (xs : List X) (i : ℕ) (x : X) (d : Y) → i < length xs → f (get_or xs i x)
+    ≡ get_or (map f xs) i d
 shown_at f [] i x d l = absurd (omega arith)
 shown_at f (y ∷ xs) zero x d l = refl
 shown_at f (y ∷ xs) (suc i) x d l = shown_at f xs i x d (omega arith)
@@ -59,13 +79,15 @@ pub map_length : {X Y : Type 0} (f : X → Y) (xs : List X) → length (map f xs
 map_length f [] = refl
 map_length f (x ∷ xs) = ap suc (map_length f xs)
 
-pub map_replaced : {X Y : Type 0} (f : X → Y) (xs : List X) (i : ℕ) (x : X) → map f (set xs i x) ≡ set (map f xs) i (f x)
+pub map_replaced : {X Y : Type 0} (f : X → Y) (xs : List X) (i : ℕ) (x : X) → map f (set xs i x)
+    ≡ set (map f xs) i (f x)
 map_replaced f [] i x = refl
 map_replaced f (y ∷ xs) zero x = refl
 map_replaced f (y ∷ xs) (suc i) x = ap (λ ys. f y ∷ ys) (map_replaced f xs i x)
 
 -- An archive x among archives of which those before the i-th were gone over
-module _ {X : Type 0} (types : Kind → Bool) (name : X → List ℕ) (input : X → Option (List ℕ)) (xs0 : List X) (i : ℕ) (d x : X) (inside : i < length xs0) (is : x ≡ get_or xs0 i d) where
+module _ {X : Type 0} (types : Kind → Bool) (name : X → List ℕ) (input : X → Option (List ℕ)) (xs0 : List X) (i : ℕ)
+    (d x : X) (inside : i < length xs0) (is : x ≡ get_or xs0 i d) where
   name_at : name x ≡ get_or (map name xs0) i []
   name_at = ap name is ∙ shown_at name xs0 i d [] inside
 
@@ -78,32 +100,41 @@ module _ {X : Type 0} (types : Kind → Bool) (name : X → List ℕ) (input : X
   inputs_inside : i < length (map input xs0)
   inputs_inside = let e = map_length input xs0 in omega arith
 
-  module _ (earlier : List (List ℕ)) (archives : List (List EntryValue)) (names_are : earlier ≡ take i (map name xs0)) (before : AreIndexed types (take i (map name xs0)) (take i (map input xs0)) archives) where
+  module _ (earlier : List (List ℕ)) (archives : List (List EntryValue)) (names_are : earlier ≡ take i (map name xs0))
+      (before : AreIndexed types (take i (map name xs0)) (take i (map input xs0)) archives) where
     -- it isn't indexed
-    pub first_fault : (fault : IndexFault) → IsFaultOfArchive types earlier (name x) (input x) fault → IsFirstFault types (map name xs0) (map input xs0) i fault
+    pub first_fault : (fault : IndexFault) → IsFaultOfArchive types earlier (name x) (input x) fault
+        → IsFirstFault types (map name xs0) (map input xs0) i fault
     first_fault fault h = record {
       inside = names_inside;
       captures = archives;
       before = before;
-      refused = subst (λ ns. IsFaultOfArchive types ns (get_or (map name xs0) i []) (get_or (map input xs0) i None) fault) names_are
-          (subst (λ n. IsFaultOfArchive types earlier n (get_or (map input xs0) i None) fault) name_at (subst (λ o. IsFaultOfArchive types earlier (name x) o fault) input_at h));
+      refused = subst (λ ns. IsFaultOfArchive types ns (get_or (map name xs0) i []) (get_or (map input xs0) i None)
+          fault) names_are
+          (subst (λ n. IsFaultOfArchive types earlier n (get_or (map input xs0) i None) fault) name_at
+          (subst (λ o. IsFaultOfArchive types earlier (name x) o fault) input_at h));
     }
 
     -- it is
-    pub one_more_indexed : (captures : List EntryValue) → IsNewName earlier (name x) → IsAcceptedAs types (name x) (input x) captures → HaveLines captures
+    pub one_more_indexed : (captures : List EntryValue) → IsNewName earlier (name x)
+        → IsAcceptedAs types (name x) (input x) captures → HaveLines captures
         → AreIndexed types (take (i + 1) (map name xs0)) (take (i + 1) (map input xs0)) (archives ++ captures ∷ [])
     one_more_indexed captures new accepted lines =
         indexed_push types (map name xs0) (map input xs0) archives i captures names_inside inputs_inside before
         (subst (λ ns. IsNewName ns (get_or (map name xs0) i [])) names_are (subst (IsNewName earlier) name_at new))
-        (subst (λ n. IsAcceptedAs types n (get_or (map input xs0) i None) captures) name_at (subst (λ o. IsAcceptedAs types (name x) o captures) input_at accepted)) lines
+        (subst (λ n. IsAcceptedAs types n (get_or (map input xs0) i None) captures) name_at
+        (subst (λ o. IsAcceptedAs types (name x) o captures) input_at accepted)) lines
 
   -- the names up to it
-  pub names_after : (earlier : List (List ℕ)) → earlier ≡ take i (map name xs0) → earlier ++ name x ∷ [] ≡ take (i + 1) (map name xs0)
+  pub names_after : (earlier : List (List ℕ)) → earlier ≡ take i (map name xs0) → earlier ++ name x ∷ []
+      ≡ take (i + 1) (map name xs0)
   names_after earlier e = ap₂ (λ ns n. ns ++ n ∷ []) e name_at ∙ sym (take_more (map name xs0) i [] names_inside)
 
 -- the i-th changed alone, and its count as its fault says
-pub counts_at : {X : Type 0} (count : X → ℕ) (xs0 xs : List X) (i : ℕ) (d x y : X) (fault : IndexFault) → map count xs ≡ map count xs0 → i < length xs0 → x ≡ get_or xs0 i d
-    → CountsIndex {A = Unit {0}} (Err fault) (count x) (count y) → CountsAt i fault (map count xs0) (map count (set xs i y))
+pub counts_at : {X : Type 0} (count : X → ℕ) (xs0 xs : List X) (i : ℕ) (d x y : X) (fault : IndexFault) → map count xs
+    ≡ map count xs0 → i < length xs0 → x ≡ get_or xs0 i d
+    → CountsIndex {A = Unit {0}} (Err fault) (count x) (count y)
+    → CountsAt i fault (map count xs0) (map count (set xs i y))
 counts_at count xs0 xs i d x y fault same inside is h = (
   (let e = map_length count xs0 in omega arith),
   count y,
@@ -112,7 +143,8 @@ counts_at count xs0 xs i d x y fault same inside is h = (
 )
 
 -- nothing from the i-th on changed, where the i-th didn't
-pub same_from : {X : Type 0} (old xs : List X) (i : ℕ) (d x y : X) → drop i xs ≡ drop i old → x ≡ get_or xs i d → y ≡ x → drop i (set xs i y) ≡ drop i old
+pub same_from : {X : Type 0} (old xs : List X) (i : ℕ) (d x y : X) → drop i xs ≡ drop i old → x ≡ get_or xs i d → y ≡ x
+    → drop i (set xs i y) ≡ drop i old
 same_from old xs i d x y rest is same = ap (λ z. drop i (set xs i z)) same ∙ unchanged xs i d x is ∙ rest
   where
     unchanged : {X : Type 0} (us : List X) (k : ℕ) (b v : X) → v ≡ get_or us k b → drop k (set us k v) ≡ drop k us
@@ -120,15 +152,19 @@ same_from old xs i d x y rest is same = ap (λ z. drop i (set xs i z)) same ∙ 
     unchanged (u ∷ us) zero b v e = ap (λ w. w ∷ us) e
     unchanged (u ∷ us) (suc k) b v e = unchanged us k b v e
 
-unread_after : {X : Type 0} (old xs : List X) (i : ℕ) (y : X) → drop i xs ≡ drop i old → drop (suc i) (set xs i y) ≡ drop (suc i) old
-unread_after old xs i y rest = ap (λ n. drop n (set xs i y)) (let e : suc i ≡ i + 1 = omega arith in e) ∙ left_after old xs i y rest ∙ ap (λ n. drop n old) (let e : i + 1 ≡ suc i = omega arith in e)
+unread_after : {X : Type 0} (old xs : List X) (i : ℕ) (y : X) → drop i xs ≡ drop i old → drop (suc i) (set xs i y)
+    ≡ drop (suc i) old
+unread_after old xs i y rest = ap (λ n. drop n (set xs i y)) (let e : suc i ≡ i + 1 = omega arith in e)
+    ∙ left_after old xs i y rest ∙ ap (λ n. drop n old) (let e : i + 1 ≡ suc i = omega arith in e)
 
 -- the list of no things has the texts of none
-pub no_indexes : {I : Type 0} (limit : ℕ) (text : I → List ℕ) (indexes : List I) → indexes ≡ [] → AllZip (IsIndex limit) (map text indexes) []
+pub no_indexes : {I : Type 0} (limit : ℕ) (text : I → List ℕ) (indexes : List I) → indexes ≡ []
+    → AllZip (IsIndex limit) (map text indexes) []
 no_indexes limit text indexes e = subst (λ is. AllZip (IsIndex limit) (map text is) []) (sym e) tt
 
 -- what a fault at the i-th leaves unread
-pub unread_at : {X : Type 0} (old xs : List X) (i : ℕ) (d x y : X) (fault : IndexFault) → drop i xs ≡ drop i old → x ≡ get_or xs i d → (IsNameFault fault → y ≡ x)
+pub unread_at : {X : Type 0} (old xs : List X) (i : ℕ) (d x y : X) (fault : IndexFault) → drop i xs ≡ drop i old → x
+    ≡ get_or xs i d → (IsNameFault fault → y ≡ x)
     → LeavesUnread old (set xs i y) (Archive i fault)
 unread_at old xs i d x y index.BadName rest is same = same_from old xs i d x y rest is (same tt)
 unread_at old xs i d x y index.DuplicateName rest is same = same_from old xs i d x y rest is (same tt)

@@ -1,5 +1,6 @@
 -- The collection of several indexes is that of all captures.
-use Rattle.std.proofs.Common.{◌≡◌, List, [], ◌∷◌, ◌++◌, map, ◌⊎◌, inl, inr, refl, sym, ap, ◌∙◌, subst, Ordering, Less, Equal, Greater, is_gt, true}
+use Rattle.std.proofs.Common.{◌≡◌, List, [], ◌∷◌, ◌++◌, map, ◌⊎◌, inl, inr, refl, sym, ap, ◌∙◌, subst, Ordering, Less}
+use Rattle.std.proofs.Common.{Equal, Greater, is_gt, true}
 use Rattle.std.specs.List.{AllByRecursion, flat_map}
 use Rattle.std.specs.Cmp.{IsTotalOrder}
 use Rattle.std.proofs.lemmas.Bool.{true≢false}
@@ -25,9 +26,18 @@ module _ {X P : Type 0} (place : X → P) (R : P → P → Ordering) (o : IsTota
   absent_put : (x y : X) (c : List X) → Absent x (put place R y c) → (R (place x) (place y) ≡ Equal → ⊥) × Absent x c
   absent_put x y [] h = (h.0, tt)
   absent_put x y (z ∷ zs) h =
-      (elim (R (place y) (place z)) as (λ r. R (place y) (place z) ≡ r → Absent x (choose r (y ∷ z ∷ zs) (y ∷ zs) (z ∷ put place R y zs)) → (R (place x) (place y) ≡ Equal → ⊥) × Absent x (z ∷ zs)) [
+      (elim (R (place y) (place z)) as (λ r. R (place y) (place z) ≡ r
+      → Absent x (choose r (y ∷ z ∷ zs) (y ∷ zs) (z ∷ put place R y zs)) → (R (place x) (place y) ≡ Equal → ⊥)
+      × Absent x (z ∷ zs)) [
         | Less ↦ (λ e k. (k.0, k.1))
-        | Equal ↦ (λ e k. (k.0, ((λ (q : R (place x) (place z) ≡ Equal). k.0 (o.congr (place x) (place z) (place y) q ∙ tied_back o (place y) (place z) e)), k.1)))
+        | Equal ↦ (λ e k. (
+          k.0,
+          (
+            (λ (q : R (place x) (place z) ≡ Equal). k.0 (o.congr (place x) (place z) (place y) q
+                ∙ tied_back o (place y) (place z) e)),
+            k.1,
+          ),
+        ))
         | Greater ↦ (λ e k. let r = absent_put x y zs k.1 in (r.0, (k.0, r.1)))
       ]) refl h
 
@@ -36,14 +46,16 @@ module _ {X P : Type 0} (place : X → P) (R : P → P → Ordering) (o : IsTota
   absent_rising x (u ∷ us) h = let r = absent_put x u (rising place R us) h in (r.0, absent_rising x us r.1)
 
   -- the first with its place of two lists
-  first_of : (x : X) (us vs : List X) → IsFirst place R x (us ++ vs) → IsFirst place R x us ⊎ (Absent x us × IsFirst place R x vs)
+  first_of : (x : X) (us vs : List X) → IsFirst place R x (us ++ vs) → IsFirst place R x us
+      ⊎ (Absent x us × IsFirst place R x vs)
   first_of x [] vs h = inr (tt, h)
   first_of x (u ∷ us) vs h = elim h [
     | inl e ↦ inl (inl e)
     | inr w ↦ elim (first_of x us vs w.1) [ inl f ↦ inl (inr (w.0, f)) | inr v ↦ inr ((w.0, v.0), v.1) ]
   ]
 
-  of_first : (x : X) (us vs : List X) → IsFirst place R x us ⊎ (Absent x us × IsFirst place R x vs) → IsFirst place R x (us ++ vs)
+  of_first : (x : X) (us vs : List X) → IsFirst place R x us ⊎ (Absent x us × IsFirst place R x vs)
+      → IsFirst place R x (us ++ vs)
   of_first x [] vs h = elim h [ inl f ↦ absurd f | inr v ↦ v.1 ]
   of_first x (u ∷ us) vs h = elim h [
     | inl f ↦ elim f [ inl e ↦ inl e | inr w ↦ inr (w.0, of_first x us vs (inl w.1)) ]
@@ -59,9 +71,14 @@ module _ {X P : Type 0} (place : X → P) (R : P → P → Ordering) (o : IsTota
   is_first x [] h i = i
   is_first x (u ∷ us) h i = elim i [ inl e ↦ inl e | inr j ↦ inr (apart us h.0 j, is_first x us h.1 j) ]
     where
-      apart : (ys : List X) → AllByRecursion (λ y. is_gt (R (place y) (place u)) ≡ true) ys → IsIn x ys → R (place x) (place u) ≡ Equal → ⊥
+      apart : (ys : List X) → AllByRecursion (λ y. is_gt (R (place y) (place u)) ≡ true) ys → IsIn x ys
+          → R (place x) (place u) ≡ Equal → ⊥
       apart [] a j q = absurd j
-      apart (y ∷ ys) a j q = elim j [ inl e ↦ true≢false (sym (subst (λ v. is_gt (R (place v) (place u)) ≡ true) e a.0) ∙ ap is_gt q) | inr k ↦ apart ys a.1 k q ]
+      apart (y ∷ ys) a j q = elim j [
+        | inl e ↦ true≢false (sym (subst (λ v. is_gt (R (place v) (place u)) ≡ true) e a.0) ∙ ap is_gt q)
+        | inr k ↦
+            apart ys a.1 k q
+      ]
 
   -- the first with their places of a list are those of its rising list
   first_risen : (x : X) (us : List X) → IsFirst place R x us → IsFirst place R x (rising place R us)
@@ -73,28 +90,37 @@ module _ {X P : Type 0} (place : X → P) (R : P → P → Ordering) (o : IsTota
   -- what rises already may stand in the stead of a list
   rising_left : (us vs : List X) → rising place R (rising place R us ++ vs) ≡ rising place R (us ++ vs)
   rising_left us vs =
-      rising_same place R o (rising place R (rising place R us ++ vs)) (rising place R (us ++ vs)) (rises_rising place R o (rising place R us ++ vs)) (rises_rising place R o (us ++ vs)) (λ x. (
-        (λ i. (rising_members place R o x (us ++ vs)).1 (of_first x us vs (elim (first_of x (rising place R us) vs ((rising_members place R o x (rising place R us ++ vs)).0 i)) [
-          | inl f ↦ inl (risen_first x us f)
-          | inr v ↦ inr (absent_rising x us v.0, v.1)
-        ]))),
-        (λ i. (rising_members place R o x (rising place R us ++ vs)).1 (of_first x (rising place R us) vs (elim (first_of x us vs ((rising_members place R o x (us ++ vs)).0 i)) [
-          | inl f ↦ inl (first_risen x us f)
-          | inr v ↦ inr (each_rising place R o _ us v.0, v.1)
-        ]))),
+      rising_same place R o (rising place R (rising place R us ++ vs)) (rising place R (us ++ vs))
+      (rises_rising place R o (rising place R us ++ vs)) (rises_rising place R o (us ++ vs)) (λ x. (
+        (λ i. (rising_members place R o x (us ++ vs)).1
+            (of_first x us vs (elim
+            (first_of x (rising place R us) vs ((rising_members place R o x (rising place R us ++ vs)).0 i)) [
+              | inl f ↦ inl (risen_first x us f)
+              | inr v ↦ inr (absent_rising x us v.0, v.1)
+            ]))),
+        (λ i. (rising_members place R o x (rising place R us ++ vs)).1
+            (of_first x (rising place R us) vs (elim (first_of x us vs ((rising_members place R o x (us ++ vs)).0 i)) [
+              | inl f ↦ inl (first_risen x us f)
+              | inr v ↦ inr (each_rising place R o _ us v.0, v.1)
+            ]))),
       ))
 
-  rising_right : (xs us vs : List X) → rising place R us ≡ rising place R vs → rising place R (xs ++ us) ≡ rising place R (xs ++ vs)
+  rising_right : (xs us vs : List X) → rising place R us ≡ rising place R vs → rising place R (xs ++ us)
+      ≡ rising place R (xs ++ vs)
   rising_right [] us vs e = e
   rising_right (x ∷ xs) us vs e = ap (put place R x) (rising_right xs us vs e)
 
-  pub rising_parts : (parts : List (List X)) → rising place R (flat_map (rising place R) parts) ≡ rising place R (flat_map (λ part. part) parts)
+  pub rising_parts : (parts : List (List X)) → rising place R (flat_map (rising place R) parts)
+      ≡ rising place R (flat_map (λ part. part) parts)
   rising_parts [] = refl
-  rising_parts (part ∷ parts) = rising_left part (flat_map (rising place R) parts) ∙ rising_right part (flat_map (rising place R) parts) (flat_map (λ part. part) parts) (rising_parts parts)
+  rising_parts (part ∷ parts) = rising_left part (flat_map (rising place R) parts)
+      ∙ rising_right part (flat_map (rising place R) parts) (flat_map (λ part. part) parts) (rising_parts parts)
 
-all_members : (archives : List (List EntryValue)) → flat_map (λ members. members) (map index_members archives) ≡ map entry_member (flat_map in_places archives)
+all_members : (archives : List (List EntryValue)) → flat_map (λ members. members) (map index_members archives)
+    ≡ map entry_member (flat_map in_places archives)
 all_members [] = refl
-all_members (captures ∷ archives) = ap (λ ms. index_members captures ++ ms) (all_members archives) ∙ sym (map-append entry_member (in_places captures) (flat_map in_places archives))
+all_members (captures ∷ archives) = ap (λ ms. index_members captures ++ ms) (all_members archives)
+    ∙ sym (map-append entry_member (in_places captures) (flat_map in_places archives))
 
 pub collected : (archives : List (List EntryValue)) → collection (map index_members archives) ≡ captured_lines archives
 collected archives =

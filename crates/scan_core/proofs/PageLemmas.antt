@@ -1,6 +1,8 @@
 -- Pages over indexes in memory.
 use Rattle.std.specs.List.{AllZip}
-use Rattle.std.proofs.Common.{◌≡◌, ◌≢◌, ℕ, zero, suc, ◌<◌, ◌≤◌, nat_lt, true, false, List, [], ◌∷◌, length, map, get_or, set, Option, None, Some, Result, Ok, Err, IfErr, if◌then◌else◌, refl, sym, ap, ◌∙◌, subst, arith}
+use Rattle.std.proofs.Common.{◌≡◌, ◌≢◌, ℕ, zero, suc, ◌<◌, ◌≤◌, nat_lt, true, false, List, [], ◌∷◌, length, map, get_or}
+use Rattle.std.proofs.Common.{set, Option, None, Some, Result, Ok, Err, IfErr, if◌then◌else◌, refl, sym, ap, ◌∙◌, subst}
+use Rattle.std.proofs.Common.{arith}
 use Rattle.std.proofs.lemmas.Bool.Decides.{nat_tests}
 use Rattle.cdxj_core.specs.declared.limit.TheConstants.{LINE_LIMIT}
 use Rattle.cdxj_core.specs.Indexes.{IsIndex}
@@ -21,7 +23,8 @@ use Rattle.scan_core.specs.Failures.{CountsWriting}
 use Rattle.scan_core.specs.Scanning.{IsPagesFault}
 
 -- sources in memory tell their bytes
-pub known_texts : {S : Type 0} (text : S → List ℕ) (sources : List S) (texts : List (List ℕ)) → map text sources ≡ texts → Known (map (λ s. Some (text s)) sources) texts
+pub known_texts : {S : Type 0} (text : S → List ℕ) (sources : List S) (texts : List (List ℕ)) → map text sources ≡ texts
+    → Known (map (λ s. Some (text s)) sources) texts
 known_texts text sources texts e = subst (Known (map (λ s. Some (text s)) sources)) e (known_own sources)
   where
     known_own : (ss : List _) → Known (map (λ s. Some (text s)) ss) (map text ss)
@@ -29,7 +32,8 @@ known_texts text sources texts e = subst (Known (map (λ s. Some (text s)) sourc
     known_own (s ∷ ss) = (refl, known_own ss)
 
 -- lists that show one list are of one length
-pub same_length : {X Y Z : Type 0} (f : X → Z) (g : Y → Z) (xs : List X) (ys : List Y) → map f xs ≡ map g ys → length xs ≡ length ys
+pub same_length : {X Y Z : Type 0} (f : X → Z) (g : Y → Z) (xs : List X) (ys : List Y) → map f xs ≡ map g ys → length xs
+    ≡ length ys
 same_length f g xs ys e = sym (map_length f xs) ∙ ap length e ∙ map_length g ys
 
 abbrev zeros : {S : Type 0} → List S → List ℕ
@@ -48,25 +52,33 @@ put_at (m ∷ ns) (suc i) n l = put_at ns i n (omega arith)
 -- no count of 0 rises where all stay 0
 pub none_raised : {S : Type 0} (i : ℕ) (old new : List S) → RaisedAt i (zeros old) (zeros new) → ⊥
 none_raised i old new h =
-    let raised : 0 ≡ next_count (get_or (zeros old) i 0) = sym (zero_at new i) ∙ ap (λ ns. get_or ns i 0) h.1 ∙ put_at (zeros old) i (next_count (get_or (zeros old) i 0)) h.0 in
+    let raised : 0 ≡ next_count (get_or (zeros old) i 0) = sym (zero_at new i) ∙ ap (λ ns. get_or ns i 0) h.1
+    ∙ put_at (zeros old) i (next_count (get_or (zeros old) i 0)) h.0 in
     let none : 0 ≡ next_count 0 = raised ∙ ap next_count (zero_at old i) in
     omega (arith, none)
 
 -- pages over indexes meet no fault of a line or of a source
-pub pages_fault : {S : Type 0} → NoLineIsAtFault → (r : Result ℕ AnswerFault) (tolds : List (Option (List ℕ))) (texts : List (List ℕ)) (members : List (List Member)) (old new : List S) (o o' : ℕ) → Known tolds texts → AllZip (IsIndex LINE_LIMIT) texts members
-    → IfErr r (IsFaultOf LINE_LIMIT tolds) → CountsAnswer r (zeros old) (zeros new) o o' → IfErr r (λ e. IsEarly e → ⊥) → IfErr r IsPagesFault
+pub pages_fault : {S : Type 0} → NoLineIsAtFault
+    → (r : Result ℕ AnswerFault) (tolds : List (Option (List ℕ))) (texts : List (List ℕ)) (members : List (List Member))
+    (old new : List S) (o o' : ℕ) → Known tolds texts → AllZip (IsIndex LINE_LIMIT) texts members
+    → IfErr r (IsFaultOf LINE_LIMIT tolds) → CountsAnswer r (zeros old) (zeros new) o o' → IfErr r (λ e. IsEarly e → ⊥)
+    → IfErr r IsPagesFault
 pages_fault law (Ok n) tolds texts members old new o o' known are f counts late = tt
 pages_fault law (Err answer.Memory) tolds texts members old new o o' known are f counts late = tt
-pages_fault law (Err (answer.Read i)) tolds texts members old new o o' known are f counts late = none_raised i old new counts.0
+pages_fault law (Err (answer.Read i)) tolds texts members old new o o' known are f counts late = none_raised i old new
+    counts.0
 pages_fault law (Err answer.Write) tolds texts members old new o o' known are f counts late = tt
-pages_fault law (Err (answer.BadLine i n)) tolds texts members old new o o' known are f counts late = law tolds (answer.BadLine i n) f texts members known are
-pages_fault law (Err (answer.OutOfOrder i n)) tolds texts members old new o o' known are f counts late = law tolds (answer.OutOfOrder i n) f texts members known are
+pages_fault law (Err (answer.BadLine i n)) tolds texts members old new o o' known are f counts late = law tolds
+    (answer.BadLine i n) f texts members known are
+pages_fault law (Err (answer.OutOfOrder i n)) tolds texts members old new o o' known are f counts late = law tolds
+    (answer.OutOfOrder i n) f texts members known are
 pages_fault law (Err answer.TooManySources) tolds texts members old new o o' known are f counts late = late tt
 pages_fault law (Err answer.BadSizes) tolds texts members old new o o' known are f counts late = late tt
 pages_fault law (Err answer.Input) tolds texts members old new o o' known are f counts late = counts
 
 -- the output's count is that of the pages
-pub counts_writing : (r : Result ℕ AnswerFault) (ss ss' : List ℕ) (o o' : ℕ) → CountsAnswer r ss ss' o o' → CountsWriting r o o'
+pub counts_writing : (r : Result ℕ AnswerFault) (ss ss' : List ℕ) (o o' : ℕ) → CountsAnswer r ss ss' o o'
+    → CountsWriting r o o'
 counts_writing (Ok n) ss ss' o o' counts = counts.1
 counts_writing (Err answer.Memory) ss ss' o o' counts = counts.1
 counts_writing (Err (answer.Read i)) ss ss' o o' counts = counts.1
@@ -81,7 +93,8 @@ few : (limit count : ℕ) → count ≤ limit → nat_lt limit count ≡ false
 few limit count h = grind (arith, nat_tests)
 
 -- sizes and sources that are accepted are not refused
-pub not_refused : (r : Result ℕ AnswerFault) (sizes : List ℕ) (count : ℕ) (X : Type 0) → are_sizes sizes ≡ true → count ≤ SOURCES_LIMIT
+pub not_refused : (r : Result ℕ AnswerFault) (sizes : List ℕ) (count : ℕ) (X : Type 0) → are_sizes sizes ≡ true
+    → count ≤ SOURCES_LIMIT
     → Refuses (bad_sizes_or_too_many sizes count) r X → IfErr r (λ e. IsEarly e → ⊥)
 not_refused r sizes count X sized h refused =
     subst (λ b. Refuses (if b then Some answer.TooManySources else None) r X) (few SOURCES_LIMIT count h)

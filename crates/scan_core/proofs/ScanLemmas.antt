@@ -10,9 +10,11 @@ use Rattle.scan_core.specs.Scanning.{IsAsked, Scanned, ScannedInPart}
 use Rattle.scan_core.proofs.CollectionLemmas.{collected}
 use Rattle.scan_core.proofs.OnceLemmas.{once}
 
-module _ (types : Kind → Bool) (names : List (List ℕ)) (inputs : List (Option (List ℕ))) (sizes text : List ℕ) (query : QueryValue) (archives : List (List EntryValue)) (old new : Option (List ℕ))
+module _ (types : Kind → Bool) (names : List (List ℕ)) (inputs : List (Option (List ℕ))) (sizes text : List ℕ)
+    (query : QueryValue) (archives : List (List EntryValue)) (old new : Option (List ℕ))
     (asked : IsAsked sizes text (length names) query) (indexed : AreIndexed types names inputs archives) where
-  pub scanned_whole : (number : ℕ) → WrotePages query (collection (map index_members archives)) sizes old new number → Scanned types names inputs sizes text old new number
+  pub scanned_whole : (number : ℕ) → WrotePages query (collection (map index_members archives)) sizes old new number
+      → Scanned types names inputs sizes text old new number
   scanned_whole number w = record {
     query = query;
     asked = asked;
@@ -22,7 +24,8 @@ module _ (types : Kind → Bool) (names : List (List ℕ)) (inputs : List (Optio
     wrote = subst (λ lines. WrotePages query lines sizes old new number) (collected archives) w;
   }
 
-  pub scanned_part : WrotePagesInPart query (collection (map index_members archives)) sizes old new → ScannedInPart types names inputs sizes text old new
+  pub scanned_part : WrotePagesInPart query (collection (map index_members archives)) sizes old new
+      → ScannedInPart types names inputs sizes text old new
   scanned_part w = record {
     query = query;
     asked = asked;

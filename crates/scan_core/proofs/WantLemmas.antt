@@ -1,6 +1,8 @@
 -- A scan of which nothing is at fault is refused for want of memory.
 use Rattle.std.specs.List.{AllZip}
-use Rattle.std.proofs.Common.{◌≡◌, ℕ, zero, suc, ◌<◌, Bool, List, [], ◌∷◌, ◌++◌, length, take, get_or, set, Option, None, Some, IfSome, Result, Ok, Err, refl, sym, ap, ◌∙◌, subst, arith, append_assoc, append-nil}
+use Rattle.std.proofs.Common.{◌≡◌, ℕ, zero, suc, ◌<◌, Bool, List, [], ◌∷◌, ◌++◌, length, take, get_or, set, Option}
+use Rattle.std.proofs.Common.{None, Some, IfSome, Result, Ok, Err, refl, sym, ap, ◌∙◌, subst, arith, append_assoc}
+use Rattle.std.proofs.Common.{append-nil}
 use Rattle.std.specs.List.{AllByRecursion}
 use Rattle.std.proofs.lemmas.Bool.{true≢false}
 use Rattle.warc_core.specs.Kind.{Kind}
@@ -31,10 +33,12 @@ use Rattle.scan_core.proofs.PageLemmas.{put_at}
 
 -- ---- what is known of each archive
 
-new_at : (earlier names : List (List ℕ)) (i : ℕ) → AreNewNames earlier names → i < length names → IsNewName (earlier ++ take i names) (get_or names i [])
+new_at : (earlier names : List (List ℕ)) (i : ℕ) → AreNewNames earlier names → i < length names
+    → IsNewName (earlier ++ take i names) (get_or names i [])
 new_at earlier [] i h l = absurd (omega arith)
 new_at earlier (n ∷ names) zero h l = subst (λ ns. IsNewName ns n) (sym (append-nil earlier)) h.0
-new_at earlier (n ∷ names) (suc i) h l = subst (λ ns. IsNewName ns (get_or names i [])) (append_assoc earlier (n ∷ []) (take i names)) (new_at (earlier ++ n ∷ []) names i h.1 (omega arith))
+new_at earlier (n ∷ names) (suc i) h l = subst (λ ns. IsNewName ns (get_or names i []))
+    (append_assoc earlier (n ∷ []) (take i names)) (new_at (earlier ++ n ∷ []) names i h.1 (omega arith))
 
 -- the archive with this number is told, and accepted whole
 record ToldWhole (types : Kind → Bool) (name : List ℕ) (input : Option (List ℕ)) : Type 0 where
@@ -42,13 +46,16 @@ record ToldWhole (types : Kind → Bool) (name : List ℕ) (input : Option (List
   told : input ≡ Some archive
   whole : IsAcceptedWhole types usual_limits HEAD_LIMIT name archive
 
-whole_at : (types : Kind → Bool) (names : List (List ℕ)) (inputs : List (Option (List ℕ))) (archives : List (List ℕ)) (i : ℕ) → Known inputs archives → AllZip (IsAcceptedWhole types usual_limits HEAD_LIMIT) names archives
+whole_at : (types : Kind → Bool) (names : List (List ℕ)) (inputs : List (Option (List ℕ))) (archives : List (List ℕ))
+    (i : ℕ) → Known inputs archives → AllZip (IsAcceptedWhole types usual_limits HEAD_LIMIT) names archives
     → i < length names → ToldWhole types (get_or names i []) (get_or inputs i None)
 whole_at types [] inputs archives i known whole l = absurd (omega arith)
 whole_at types (n ∷ names) inputs [] i known whole l = absurd whole
 whole_at types (n ∷ names) [] (a ∷ archives) i known whole l = absurd known
-whole_at types (n ∷ names) (o ∷ inputs) (a ∷ archives) zero known whole l = record { archive = a; told = known.0; whole = whole.0 }
-whole_at types (n ∷ names) (o ∷ inputs) (a ∷ archives) (suc i) known whole l = whole_at types names inputs archives i known.1 whole.1 (omega arith)
+whole_at types (n ∷ names) (o ∷ inputs) (a ∷ archives) zero known whole l =
+    record { archive = a; told = known.0; whole = whole.0 }
+whole_at types (n ∷ names) (o ∷ inputs) (a ∷ archives) (suc i) known whole l = whole_at types names inputs archives i
+    known.1 whole.1 (omega arith)
 
 -- ---- no device failed
 
@@ -61,7 +68,8 @@ each_at (n ∷ ns) zero h l = h.0
 each_at (n ∷ ns) (suc i) h l = each_at ns i h.1 (omega arith)
 
 -- the count of an input stays, so it didn't fail
-stayed : (i : ℕ) (counts : List ℕ) (n : ℕ) → AllByRecursion MayRise counts → i < length counts → counts ≡ set counts i n → n ≡ next_count (get_or counts i 0) → ⊥
+stayed : (i : ℕ) (counts : List ℕ) (n : ℕ) → AllByRecursion MayRise counts → i < length counts → counts ≡ set counts i n
+    → n ≡ next_count (get_or counts i 0) → ⊥
 stayed i counts n may l same e =
     let here : get_or counts i 0 ≡ n = ap (λ ns. get_or ns i 0) same ∙ put_at counts i n l in
     not_next (get_or counts i 0) (each_at counts i may l) (here ∙ e)
@@ -73,37 +81,54 @@ memory_cause c h n = absurd h
 
 -- ---- an archive's fault
 
-module _ (whole_is_not_refused : WholeIsNotRefused) (types : Kind → Bool) (names archives : List (List ℕ)) (inputs : List (Option (List ℕ))) (i : ℕ) (counts : List ℕ) (new : AreNewNames [] names) (known : Known inputs archives)
-    (whole : AllZip (IsAcceptedWhole types usual_limits HEAD_LIMIT) names archives) (inside : i < length names) (may : AllByRecursion MayRise counts) where
-  no_fault : (fault : CaptureFault) → IfSome (get_or inputs i None) (λ archive. (captures : List EntryValue) × IsAcceptedTo types usual_limits HEAD_LIMIT (get_or names i []) fault archive captures) → IsNoFaultOfArchive fault
+module _ (whole_is_not_refused : WholeIsNotRefused) (types : Kind → Bool) (names archives : List (List ℕ))
+    (inputs : List (Option (List ℕ))) (i : ℕ) (counts : List ℕ) (new : AreNewNames [] names)
+    (known : Known inputs archives)
+    (whole : AllZip (IsAcceptedWhole types usual_limits HEAD_LIMIT) names archives) (inside : i < length names)
+    (may : AllByRecursion MayRise counts) where
+  no_fault : (fault : CaptureFault)
+      → IfSome (get_or inputs i None) (λ archive. (captures : List EntryValue)
+      × IsAcceptedTo types usual_limits HEAD_LIMIT (get_or names i []) fault archive captures)
+      → IsNoFaultOfArchive fault
   no_fault fault h =
       let w = whole_at types names inputs archives i known whole inside in
-      let found = subst (λ o. IfSome o (λ archive. (captures : List EntryValue) × IsAcceptedTo types usual_limits HEAD_LIMIT (get_or names i []) fault archive captures)) w.told h in
+      let found = subst (λ o. IfSome o (λ archive. (captures : List EntryValue)
+      × IsAcceptedTo types usual_limits HEAD_LIMIT (get_or names i []) fault archive captures)) w.told h in
       whole_is_not_refused types usual_limits HEAD_LIMIT (get_or names i []) w.archive found.0 fault w.whole found.1
 
-  read_counts : (offset : ℕ) (c : Cause) → CountsAt i (index.Capture (capture.Archive (record { offset = offset; cause = c }))) counts counts → c ≡ causes.Read → ⊥
-  read_counts offset c h e = stayed i counts h.1 may h.0 h.2 (subst (λ x. CountsRead {A = Unit {0}} (Err x) (get_or counts i 0) h.1) e h.3)
+  read_counts : (offset : ℕ) (c : Cause)
+      → CountsAt i (index.Capture (capture.Archive (record { offset = offset; cause = c }))) counts counts → c
+      ≡ causes.Read → ⊥
+  read_counts offset c h e = stayed i counts h.1 may h.0 h.2
+      (subst (λ x. CountsRead {A = Unit {0}} (Err x) (get_or counts i 0) h.1) e h.3)
 
-  archive_want : (fault : IndexFault) → IsFaultOfArchive types (take i names) (get_or names i []) (get_or inputs i None) fault → CountsAt i fault counts counts → IsWantOfMemory (Archive i fault)
+  archive_want : (fault : IndexFault) → IsFaultOfArchive types (take i names) (get_or names i []) (get_or inputs i None)
+      fault → CountsAt i fault counts counts → IsWantOfMemory (Archive i fault)
   archive_want index.Memory h k = tt
   archive_want index.BadName h k = h (new_at [] names i new inside).good
   archive_want index.DuplicateName h k = true≢false (sym h.1 ∙ (new_at [] names i new inside).unused)
-  archive_want (index.Capture (capture.Archive f)) h k = memory_cause f.cause (no_fault (capture.Archive f) h.1) (read_counts f.offset f.cause k)
+  archive_want (index.Capture (capture.Archive f)) h k = memory_cause f.cause (no_fault (capture.Archive f) h.1)
+      (read_counts f.offset f.cause k)
   archive_want (index.Capture (capture.LineTooLong o)) h k = no_fault (capture.LineTooLong o) h.1
   archive_want (index.Capture (capture.KeyTooLong o)) h k = tt
   archive_want index.Write h k = h
   archive_want index.NoRecord h k = h
 
-ok_not_err : (query : QueryValue) (fault : QueryFault) (r : Result QueryValue QueryFault) → r ≡ Ok query → r ≡ Err fault → ⊥
+ok_not_err : (query : QueryValue) (fault : QueryFault) (r : Result QueryValue QueryFault) → r ≡ Ok query → r ≡ Err fault
+    → ⊥
 ok_not_err query fault r e f = let g : ◌≡◌ {A = Result QueryValue QueryFault} (Ok query) (Err fault) = sym e ∙ f in cc
 
 pub only_memory : WholeIsNotRefused → OnlyMemoryIsWanting
 only_memory law types names archives inputs sizes text (Query refusal.Memory) counts count s known h may k may' k' = tt
-only_memory law types names archives inputs sizes text (Query fault) counts count s known h may k may' k' = absurd (ok_not_err s.query _ _ s.asked.meaning h.1)
+only_memory law types names archives inputs sizes text (Query fault) counts count s known h may k may' k' = absurd
+    (ok_not_err s.query _ _ s.asked.meaning h.1)
 only_memory law types names archives inputs sizes text (Archive i fault) counts count s known h may k may' k' =
     archive_want law types names archives inputs i counts s.named known s.whole h.2.inside may fault h.2.refused k
 only_memory law types names archives inputs sizes text (Answer answer.Memory) counts count s known h may k may' k' = tt
-only_memory law types names archives inputs sizes text (Answer answer.Write) counts count s known h may k may' k' = not_next count may' k'
-only_memory law types names archives inputs sizes text (Answer answer.BadSizes) counts count s known h may k may' k' = true≢false (sym s.asked.sizes ∙ h)
-only_memory law types names archives inputs sizes text (Answer answer.TooManySources) counts count s known h may k may' k' = let few = s.asked.few in let many = h.3 in omega (arith, few, many)
+only_memory law types names archives inputs sizes text (Answer answer.Write) counts count s known h may k may' k' =
+    not_next count may' k'
+only_memory law types names archives inputs sizes text (Answer answer.BadSizes) counts count s known h may k may' k' =
+    true≢false (sym s.asked.sizes ∙ h)
+only_memory law types names archives inputs sizes text (Answer answer.TooManySources) counts count s known h may k may'
+    k' = let few = s.asked.few in let many = h.3 in omega (arith, few, many)
 only_memory law types names archives inputs sizes text (Answer fault) counts count s known h may k may' k' = absurd h

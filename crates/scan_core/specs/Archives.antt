@@ -1,5 +1,6 @@
 -- The archives of a scan: with which captures they are accepted, and why one isn't.
-use Rattle.std.specs.Prelude.{◌≡◌, ℕ, ◌<◌, ⊤, Bool, List, [], ◌∷◌, ◌++◌, length, map, take, get_or, false, true, Option, None, IfSome}
+use Rattle.std.specs.Prelude.{◌≡◌, ℕ, ◌<◌, ⊤, Bool, List, [], ◌∷◌, ◌++◌, length, map, take, get_or, false, true, Option}
+use Rattle.std.specs.Prelude.{None, IfSome}
 use Rattle.std.specs.List.{AllByRecursion}
 use Rattle.warc_core.specs.Kind.{Kind}
 use Rattle.warc_core.specs.declared.next.TheConstants.{HEAD_LIMIT}
@@ -24,12 +25,14 @@ AreNewNames earlier (name ∷ names) = IsNewName earlier name × AreNewNames (ea
 
 -- what the input holds, where that is known, is accepted whole under the name, with these captures of records of these types
 abbrev pub IsAcceptedAs : (Kind → Bool) → List ℕ → Option (List ℕ) → List EntryValue → Type 0
-IsAcceptedAs types name input captures = IfSome input (λ archive. IsAccepted types usual_limits HEAD_LIMIT name archive captures)
+IsAcceptedAs types name input captures = IfSome input
+    (λ archive. IsAccepted types usual_limits HEAD_LIMIT name archive captures)
 
 -- the same of each archive
 abbrev pub AreAcceptedAs : (Kind → Bool) → List (List ℕ) → List (Option (List ℕ)) → List (List EntryValue) → Type 0
 AreAcceptedAs types [] [] [] = ⊤
-AreAcceptedAs types (name ∷ names) (input ∷ inputs) (captures ∷ others) = IsAcceptedAs types name input captures × AreAcceptedAs types names inputs others
+AreAcceptedAs types (name ∷ names) (input ∷ inputs) (captures ∷ others) = IsAcceptedAs types name input captures
+    × AreAcceptedAs types names inputs others
 AreAcceptedAs types names inputs captures = ⊥
 
 -- an archive's captures have lines, each at a place of its own
@@ -38,7 +41,8 @@ pub record HaveLines (captures : List EntryValue) : Type 0 where
   pub places : HaveOwnPlaces captures
 
 -- the archives are accepted under names of their own, with these captures
-pub record AreIndexed (types : Kind → Bool) (names : List (List ℕ)) (inputs : List (Option (List ℕ))) (captures : List (List EntryValue)) : Type 0 where
+pub record AreIndexed (types : Kind → Bool) (names : List (List ℕ)) (inputs : List (Option (List ℕ)))
+    (captures : List (List EntryValue)) : Type 0 where
   pub named : AreNewNames [] names
   pub accepted : AreAcceptedAs types names inputs captures
   pub lines : AllByRecursion HaveLines captures
@@ -49,12 +53,14 @@ IsFaultOfArchive types earlier name input index.BadName = ¬ (IsName name)
 IsFaultOfArchive types earlier name input index.DuplicateName = IsName name × (is_among earlier name ≡ true)
 IsFaultOfArchive types earlier name input (index.Capture fault) =
     IsNewName earlier name
-    × IfSome input (λ archive. (captures : List EntryValue) × IsAcceptedTo types usual_limits HEAD_LIMIT name fault archive captures)
+    × IfSome input (λ archive. (captures : List EntryValue)
+    × IsAcceptedTo types usual_limits HEAD_LIMIT name fault archive captures)
 IsFaultOfArchive types earlier name input index.Memory = IsNewName earlier name
 IsFaultOfArchive types earlier name input other = ⊥
 
 -- the archive with this number is the first that isn't indexed
-pub record IsFirstFault (types : Kind → Bool) (names : List (List ℕ)) (inputs : List (Option (List ℕ))) (i : ℕ) (fault : IndexFault) : Type 0 where
+pub record IsFirstFault (types : Kind → Bool) (names : List (List ℕ)) (inputs : List (Option (List ℕ))) (i : ℕ)
+    (fault : IndexFault) : Type 0 where
   pub inside : i < length names
   pub captures : List (List EntryValue)
   pub before : AreIndexed types (take i names) (take i inputs) captures

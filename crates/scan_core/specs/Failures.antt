@@ -10,7 +10,8 @@ use Rattle.scan_core.specs.declared.fault.ScanFault.TheVariants.{Archive, Answer
 
 -- the count of this input changes as its archive's fault says, and no other does
 abbrev pub CountsAt : ℕ → IndexFault → List ℕ → List ℕ → Type 0
-CountsAt i fault old new = (i < length old) × (count : ℕ) × (new ≡ set old i count) × CountsIndex {A = Unit {0}} (Err fault) (get_or old i 0) count
+CountsAt i fault old new = (i < length old) × (count : ℕ) × (new ≡ set old i count)
+    × CountsIndex {A = Unit {0}} (Err fault) (get_or old i 0) count
 
 -- the input of the archive at fault failed, where the fault says so, and no other
 abbrev pub CountsInputs : {A : Type 0} → Result A ScanFault → List ℕ → List ℕ → Type 0

@@ -42,7 +42,9 @@ MayRise count = count < 2 ^ 64 - 1
 
 -- where nothing is at fault and no device failed, a scan is refused only for want of memory
 abbrev pub OnlyMemoryIsWanting : Type 0
-OnlyMemoryIsWanting = (types : Kind → Bool) (names archives : List (List ℕ)) (inputs : List (Option (List ℕ))) (sizes text : List ℕ) (fault : ScanFault) (counts : List ℕ) (count : ℕ)
-    → IsScannable types names archives sizes text → Known inputs archives → IsScanFault types names inputs sizes text fault
+OnlyMemoryIsWanting = (types : Kind → Bool) (names archives : List (List ℕ)) (inputs : List (Option (List ℕ)))
+    (sizes text : List ℕ) (fault : ScanFault) (counts : List ℕ) (count : ℕ)
+    → IsScannable types names archives sizes text → Known inputs archives
+    → IsScanFault types names inputs sizes text fault
     → AllByRecursion MayRise counts → CountsInputs {A = Unit {0}} (Err fault) counts counts
     → MayRise count → CountsOutput {A = Unit {0}} (Err fault) count count → IsWantOfMemory fault

@@ -50,8 +50,10 @@ module _ (types : Kind → Bool) (names : List (List ℕ)) (inputs : List (Optio
   IsScanFault (Query refusal.Memory) = are_sizes sizes ≡ true
   IsScanFault (Query fault) = (are_sizes sizes ≡ true) × (query_of QUERY_LIMIT text ≡ Err fault)
   IsScanFault (Answer answer.TooManySources) =
-      (are_sizes sizes ≡ true) × (query : QueryValue) × (query_of QUERY_LIMIT text ≡ Ok query) × (SOURCES_LIMIT < length names)
-  IsScanFault (Archive i fault) = (query : QueryValue) × IsAsked sizes text (length names) query × IsFirstFault types names inputs i fault
+      (are_sizes sizes ≡ true) × (query : QueryValue) × (query_of QUERY_LIMIT text ≡ Ok query)
+      × (SOURCES_LIMIT < length names)
+  IsScanFault (Archive i fault) = (query : QueryValue) × IsAsked sizes text (length names) query
+      × IsFirstFault types names inputs i fault
   IsScanFault (Answer answer.Memory) = ⊤
   IsScanFault (Answer answer.Write) = ⊤
   IsScanFault (Answer fault) = ⊥

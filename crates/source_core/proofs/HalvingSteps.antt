@@ -1,5 +1,6 @@
 -- The steps of a search.
-use Rattle.std.proofs.Common.{◌≡◌, ℕ, ◌+◌, ◌-◌, ◌/◌, ◌<◌, ◌≤◌, List, length, drop, true, false, Option, Some, None, IfSome, IfNone, inl, inr, sym, ap, ◌∙◌, subst, arith}
+use Rattle.std.proofs.Common.{◌≡◌, ℕ, ◌+◌, ◌-◌, ◌/◌, ◌<◌, ◌≤◌, List, length, drop, true, false, Option, Some, None}
+use Rattle.std.proofs.Common.{IfSome, IfNone, inl, inr, sym, ap, ◌∙◌, subst, arith}
 use Rattle.std.proofs.lemmas.List.{drop_all}
 use Rattle.cdxj_core.specs.Indexes.{IsIndex}
 use Rattle.cdxj_core.specs.Members.{Member}
@@ -13,11 +14,13 @@ use Rattle.source_core.proofs.FarLines.{far_first, far_here, far_longest, none_f
 use Rattle.source_core.proofs.Halves.{digits_below, from_line_end, half_step, stops_end}
 use Rattle.source_core.proofs.SortedCuts.{begins_there, cut_there, lines_are_short}
 
-module _ (limit : ℕ) (start : Pair) (text : Option (List ℕ)) (extent : ℕ) (s : Span) (h : Halved limit start text extent s) (some : s.low < s.high) (middle : ℕ)
+module _ (limit : ℕ) (start : Pair) (text : Option (List ℕ)) (extent : ℕ) (s : Span)
+    (h : Halved limit start text extent s) (some : s.low < s.high) (middle : ℕ)
     (half : middle ≡ s.low + (s.high - s.low) / 2) (probes : ℕ) (next : probes ≡ s.probes + 1) where
   -- the line that begins there isn't below the pair
   pub halves_down : (offset : ℕ) → offset ≤ extent
-      → ((t : List ℕ) → text ≡ Some t → (drop offset t ≡ from_line middle t) × (stops (line_below limit start) middle t ≡ true))
+      → ((t : List ℕ) → text ≡ Some t → (drop offset t ≡ from_line middle t)
+      × (stops (line_below limit start) middle t ≡ true))
       → Halved limit start text extent (record { low = s.low; high = middle; line = Some offset; probes = probes })
   halves_down offset inside told =
       let w = half_step (s.high - s.low) h.left.0 h.left.2 (omega arith) in
@@ -39,7 +42,8 @@ module _ (limit : ℕ) (start : Pair) (text : Option (List ℕ)) (extent : ℕ) 
 
   -- it is below the pair
   pub halves_up : (offset : ℕ) → middle ≤ offset → offset < s.high
-      → ((t : List ℕ) → text ≡ Some t → (drop offset t ≡ from_line middle t) × (drop offset t ≡ from_line offset t) × (stops (line_below limit start) middle t ≡ false))
+      → ((t : List ℕ) → text ≡ Some t → (drop offset t ≡ from_line middle t) × (drop offset t ≡ from_line offset t)
+      × (stops (line_below limit start) middle t ≡ false))
       → Halved limit start text extent (record { low = offset + 1; high = s.high; line = s.line; probes = probes })
   halves_up offset after within told =
       let w = half_step (s.high - s.low) h.left.0 h.left.2 (omega arith) in
@@ -96,7 +100,8 @@ module _ (limit : ℕ) (start : Pair) (text : Option (List ℕ)) (extent : ℕ) 
         told = λ t e. let d = h.told t e in record {
           long = d.long;
           from = subst (λ u. IfSome s.line (λ o. drop o t ≡ u)) (told t e) d.from;
-          here = subst (λ u. IfSome s.line (λ _. stops_lines (line_below limit start) (lines u) ≡ true)) (told t e) d.here;
+          here = subst (λ u. IfSome s.line (λ _. stops_lines (line_below limit start) (lines u) ≡ true)) (told t e)
+              d.here;
           far = none_far s.line limit t middle s.high (omega arith) (told t e) d.far;
           before = d.before;
           begins = d.begins;
@@ -104,19 +109,26 @@ module _ (limit : ℕ) (start : Pair) (text : Option (List ℕ)) (extent : ℕ) 
       }
 
 -- a source that stayed as it was
-pub halved_kept : (limit : ℕ) (start : Pair) (text text' : Option (List ℕ)) (extent extent' : ℕ) (s : Span) → text' ≡ text → extent' ≡ extent
+pub halved_kept : (limit : ℕ) (start : Pair) (text text' : Option (List ℕ)) (extent extent' : ℕ) (s : Span) → text'
+    ≡ text → extent' ≡ extent
     → Halved limit start text extent s → Halved limit start text' extent' s
-halved_kept limit start text text' extent extent' s e f h = subst (λ n. Halved limit start text' n s) (sym f) (subst (λ o. Halved limit start o extent s) (sym e) h)
+halved_kept limit start text text' extent extent' s e f h = subst (λ n. Halved limit start text' n s) (sym f)
+    (subst (λ o. Halved limit start o extent s) (sym e) h)
 
 -- before the first step
-pub halves_none_yet : (limit : ℕ) (start : Pair) (text : Option (List ℕ)) (extent : ℕ) → IfSome text (λ t. length t ≡ extent)
+pub halves_none_yet : (limit : ℕ) (start : Pair) (text : Option (List ℕ)) (extent : ℕ)
+    → IfSome text (λ t. length t ≡ extent)
     → Halved limit start text extent (record { low = 0; high = extent; line = Some extent; probes = 0 })
 halves_none_yet limit start text extent long = record {
   ordered = omega arith;
   within = omega arith;
   inside = omega arith;
   some = tt;
-  left = (digits extent, (let z : digits extent + 0 ≡ digits extent = omega arith in z), (let d = (digits_below extent).0 in omega arith));
+  left = (
+    digits extent,
+    (let z : digits extent + 0 ≡ digits extent = omega arith in z),
+    (let d = (digits_below extent).0 in omega arith),
+  );
   told = λ t e.
       let whole : length t ≡ extent = subst (λ o. IfSome o (λ (t : List ℕ). length t ≡ extent)) e long in
       record {
@@ -132,7 +144,8 @@ halves_none_yet limit start text extent long = record {
 -- ---- the end
 
 -- where it ends, and whether a line was hidden
-module _ (limit : ℕ) (start : Pair) (text : Option (List ℕ)) (extent : ℕ) (s : Span) (h : Halved limit start text extent s) (end : s.high ≤ s.low) where
+module _ (limit : ℕ) (start : Pair) (text : Option (List ℕ)) (extent : ℕ) (s : Span)
+    (h : Halved limit start text extent s) (end : s.high ≤ s.low) where
   -- the line that was found, or the last one that was below the pair
   abbrev pub IsEnd : Option ℕ → ℕ → Type 0
   IsEnd None offset = (s.line ≡ None) × (offset ≡ s.low - 1)
@@ -143,7 +156,8 @@ module _ (limit : ℕ) (start : Pair) (text : Option (List ℕ)) (extent : ℕ) 
   ends_within (Some o) offset e =
       let inside : o ≤ extent = subst (λ u. IfSome u (λ o. o ≤ extent)) e.0 h.inside in omega (arith, inside, e.1)
 
-  pub ends_begins : (o : Option ℕ) (offset : ℕ) → IsEnd o offset → (t : List ℕ) → text ≡ Some t → (before : List (List ℕ)) × BeginsAfter t offset before
+  pub ends_begins : (o : Option ℕ) (offset : ℕ) → IsEnd o offset → (t : List ℕ) → text ≡ Some t
+      → (before : List (List ℕ)) × BeginsAfter t offset before
   ends_begins None offset e t w =
       let d = h.told t w in
       let some : 0 < s.high = subst (λ u. IfNone u (0 < s.high)) e.0 h.some in
@@ -151,11 +165,13 @@ module _ (limit : ℕ) (start : Pair) (text : Option (List ℕ)) (extent : ℕ) 
       begins_there t offset offset (d.begins offset (omega (arith, h.ordered, e.1))) (omega (arith, d.long))
   ends_begins (Some o) offset e t w =
       let d = h.told t w in
-      let from : drop o t ≡ from_line s.high t = subst (λ u. IfSome u (λ o. drop o t ≡ from_line s.high t)) e.0 d.from in
+      let from : drop o t ≡ from_line s.high t = subst (λ u. IfSome u (λ o. drop o t ≡ from_line s.high t)) e.0
+      d.from in
       let inside = ends_within (Some o) offset e in
       begins_there t offset s.high (ap (λ k. drop k t) e.1 ∙ from) (omega (arith, d.long))
 
-  pub ends_stops : (o : Option ℕ) (offset : ℕ) → IsEnd o offset → (t : List ℕ) → text ≡ Some t → IsStop limit start (lines (drop offset t))
+  pub ends_stops : (o : Option ℕ) (offset : ℕ) → IsEnd o offset → (t : List ℕ) → text ≡ Some t
+      → IsStop limit start (lines (drop offset t))
   ends_stops None offset e t w =
       let d = h.told t w in
       let some : 0 < s.high = subst (λ u. IfNone u (0 < s.high)) e.0 h.some in
@@ -164,11 +180,14 @@ module _ (limit : ℕ) (start : Pair) (text : Option (List ℕ)) (extent : ℕ) 
       inr (subst (λ k. limit < first_length (lines (drop k t))) before (far_first limit t s.high some far))
   ends_stops (Some o) offset e t w =
       let d = h.told t w in
-      let from : drop o t ≡ from_line s.high t = subst (λ u. IfSome u (λ o. drop o t ≡ from_line s.high t)) e.0 d.from in
-      let here : stops (line_below limit start) s.high t ≡ true = subst (λ u. IfSome u (λ _. stops (line_below limit start) s.high t ≡ true)) e.0 d.here in
+      let from : drop o t ≡ from_line s.high t = subst (λ u. IfSome u (λ o. drop o t ≡ from_line s.high t)) e.0
+      d.from in
+      let here : stops (line_below limit start) s.high t
+      ≡ true = subst (λ u. IfSome u (λ _. stops (line_below limit start) s.high t ≡ true)) e.0 d.here in
       inl (ap (λ u. stops_lines (line_below limit start) (lines u)) (ap (λ k. drop k t) e.1 ∙ from) ∙ here)
 
-  pub ends_cut : (o : Option ℕ) (offset : ℕ) → IsEnd o offset → (t : List ℕ) (members : List Member) → text ≡ Some t → IsIndex limit t members → IsCut start t members offset
+  pub ends_cut : (o : Option ℕ) (offset : ℕ) → IsEnd o offset → (t : List ℕ) (members : List Member) → text ≡ Some t
+      → IsIndex limit t members → IsCut start t members offset
   ends_cut None offset e t members w index =
       let d = h.told t w in
       let some : 0 < s.high = subst (λ u. IfNone u (0 < s.high)) e.0 h.some in
@@ -178,8 +197,11 @@ module _ (limit : ℕ) (start : Pair) (text : Option (List ℕ)) (extent : ℕ) 
       absurd (omega arith)
   ends_cut (Some o) offset e t members w index =
       let d = h.told t w in
-      let from : drop o t ≡ from_line s.high t = subst (λ u. IfSome u (λ o. drop o t ≡ from_line s.high t)) e.0 d.from in
-      let here : stops (line_below limit start) s.high t ≡ true = subst (λ u. IfSome u (λ _. stops (line_below limit start) s.high t ≡ true)) e.0 d.here in
+      let from : drop o t ≡ from_line s.high t = subst (λ u. IfSome u (λ o. drop o t ≡ from_line s.high t)) e.0
+      d.from in
+      let here : stops (line_below limit start) s.high t
+      ≡ true = subst (λ u. IfSome u (λ _. stops (line_below limit start) s.high t ≡ true)) e.0 d.here in
       let inside = ends_within (Some o) offset e in
       let same : s.low ≡ s.high = omega (arith, h.ordered) in
-      cut_there limit start t members s.high offset index (omega (arith, d.long)) (ap (λ k. drop k t) e.1 ∙ from) here (λ k z. d.before k (same ∙ z))
+      cut_there limit start t members s.high offset index (omega (arith, d.long)) (ap (λ k. drop k t) e.1 ∙ from) here
+      (λ k z. d.before k (same ∙ z))

@@ -7,7 +7,8 @@ use Rattle.source_core.proofs.LongestLines.{no_feed_first}
 
 -- a line's bytes so far, and n of those held, are as many as the line's, or fewer
 pub first_at_least : (t held : List ℕ) (m at n at0 : ℕ) (line : List ℕ) → held ≡ take m (drop at t) → n ≤ m
-    → drop at0 t ≡ line ++ drop at t → NoFeed line → (ends : Bool) → PartOf held n ends → length (line ++ take n held) ≤ first_length (lines (drop at0 t))
+    → drop at0 t ≡ line ++ drop at t → NoFeed line → (ends : Bool) → PartOf held n ends
+    → length (line ++ take n held) ≤ first_length (lines (drop at0 t))
 first_at_least t held m at n at0 line bytes inside is clean ends part =
     (elim ends as (λ ends. PartOf held n ends → length (line ++ take n held) ≤ first_length (lines (drop at0 t))) [
       | true ↦ (λ p. let same = ap first_length (ended t held m at n bytes inside at0 line is clean p) in omega arith)
@@ -19,7 +20,8 @@ first_at_least t held m at n at0 line bytes inside is clean ends part =
     ]) part
 
 -- the bytes of a line so far end where the line ends, or before
-pub part_of_first : (t : List ℕ) (at0 at : ℕ) (line : List ℕ) → drop at0 t ≡ line ++ drop at t → NoFeed line → at ≡ at0 + length line → at ≤ at0 + first_length (lines (drop at0 t))
+pub part_of_first : (t : List ℕ) (at0 at : ℕ) (line : List ℕ) → drop at0 t ≡ line ++ drop at t → NoFeed line
+    → at ≡ at0 + length line → at ≤ at0 + first_length (lines (drop at0 t))
 part_of_first t at0 at line is clean e =
     let same = ap (λ s. first_length (lines s)) is in
     let most = no_feed_first line (drop at t) clean in

@@ -1,5 +1,7 @@
 -- Indexes, cut at a pair.
-use Rattle.std.proofs.Common.{◌≡◌, ℕ, zero, suc, ◌+◌, ◌-◌, ◌*◌, ◌^◌, ◌<◌, ◌≤◌, List, [], ◌∷◌, ◌++◌, Bool, true, false, cond, length, take, drop, flat_map, map, Some, refl, sym, ap, inl, inr, ◌∙◌, arith, eqb, length-append, length-drop, length-take, Less, Equal, Greater, is_gt, is_lt}
+use Rattle.std.proofs.Common.{◌≡◌, ℕ, zero, suc, ◌+◌, ◌-◌, ◌*◌, ◌^◌, ◌<◌, ◌≤◌, List, [], ◌∷◌, ◌++◌, Bool, true, false}
+use Rattle.std.proofs.Common.{cond, length, take, drop, flat_map, map, Some, refl, sym, ap, inl, inr, ◌∙◌, arith, eqb}
+use Rattle.std.proofs.Common.{length-append, length-drop, length-take, Less, Equal, Greater, is_gt, is_lt}
 use Rattle.std.specs.List.{onto_first, AllByRecursion}
 use Rattle.std.proofs.lemmas.Bool.{cases_lt, true≢false}
 use Rattle.std.proofs.lemmas.Grind.{flat_map-append}
@@ -22,7 +24,8 @@ use Rattle.source_core.proofs.Seeks.{from_line_rest, sought, BelowFirst}
 
 -- ---- where lines begin
 
-concat_onto : (b : ℕ) (ls : List (List ℕ)) → length (flat_map (λ l. l) (onto_first b ls)) ≡ suc (length (flat_map (λ l. l) ls))
+concat_onto : (b : ℕ) (ls : List (List ℕ)) → length (flat_map (λ l. l) (onto_first b ls))
+    ≡ suc (length (flat_map (λ l. l) ls))
 concat_onto b [] = refl
 concat_onto b (l ∷ ls) = refl
 
@@ -30,18 +33,28 @@ lines_length : (s : List ℕ) → length (flat_map (λ l. l) (lines s)) ≡ leng
 lines_length [] = refl
 lines_length (b ∷ bs) =
     let ih = lines_length bs in
-    elim (eqb b 10) as (λ t. length (flat_map (λ l. l) (cond t ((b ∷ []) ∷ lines bs) (onto_first b (lines bs)))) ≡ suc (length bs))
+    elim (eqb b 10) as (λ t. length (flat_map (λ l. l) (cond t ((b ∷ []) ∷ lines bs) (onto_first b (lines bs))))
+    ≡ suc (length bs))
     [ true ↦ ap suc ih | false ↦ concat_onto b (lines bs) ∙ ap suc ih ]
 
-pub begins_at : (t : List ℕ) (offset : ℕ) (before : List (List ℕ)) → lines t ≡ before ++ lines (drop offset t) → offset ≤ length t → offset ≡ length (flat_map (λ l. l) before)
+pub begins_at : (t : List ℕ) (offset : ℕ) (before : List (List ℕ)) → lines t ≡ before ++ lines (drop offset t)
+    → offset ≤ length t → offset ≡ length (flat_map (λ l. l) before)
 begins_at t offset before e inside =
     let whole = lines_length t in
     let rest = lines_length (drop offset t) in
-    let cut : length (flat_map (λ (l : List ℕ). l) (lines t)) ≡ length (flat_map (λ (l : List ℕ). l) before ++ flat_map (λ (l : List ℕ). l) (lines (drop offset t))) =
-    ap (λ ls. length (flat_map (λ (l : List ℕ). l) ls)) e ∙ ap length (flat_map-append (λ (l : List ℕ). l) before (lines (drop offset t))) in
-    omega (arith, length-append (flat_map (λ (l : List ℕ). l) before) (flat_map (λ (l : List ℕ). l) (lines (drop offset t))), length-drop offset t)
+    let cut : length (flat_map (λ (l : List ℕ). l) (lines t))
+    ≡ length (flat_map (λ (l : List ℕ). l) before ++ flat_map (λ (l : List ℕ). l) (lines (drop offset t))) =
+    ap (λ ls. length (flat_map (λ (l : List ℕ). l) ls)) e
+    ∙ ap length (flat_map-append (λ (l : List ℕ). l) before (lines (drop offset t))) in
+    omega (
+      arith,
+      length-append (flat_map (λ (l : List ℕ). l) before)
+          (flat_map (λ (l : List ℕ). l) (lines (drop offset t))),
+      length-drop offset t,
+    )
 
-pub begins_there : (t : List ℕ) (offset m : ℕ) → drop offset t ≡ from_line m t → offset ≤ length t → (before : List (List ℕ)) × BeginsAfter t offset before
+pub begins_there : (t : List ℕ) (offset m : ℕ) → drop offset t ≡ from_line m t → offset ≤ length t
+    → (before : List (List ℕ)) × BeginsAfter t offset before
 begins_there t offset m e inside =
     let front = from_line_rest m t in
     let cut : lines t ≡ front.0 ++ lines (drop offset t) = front.1 ∙ ap (λ s. front.0 ++ lines s) (sym e) in
@@ -50,7 +63,8 @@ begins_there t offset m e inside =
 -- ---- the order of pairs
 
 -- what is not below a start has nothing below it after it
-not_below_later : (start p q : Pair) → is_below start p ≡ false → is_gt (pair_cmp p q) ≡ false → is_below start q ≡ false
+not_below_later : (start p q : Pair) → is_below start p ≡ false → is_gt (pair_cmp p q) ≡ false → is_below start q
+    ≡ false
 not_below_later start p q low up =
     (elim (pair_cmp q start) as (λ r. pair_cmp q start ≡ r → is_lt r ≡ false) [
       | Less ↦ (λ e. absurd ((elim (pair_cmp p q) as (λ r. pair_cmp p q ≡ r → is_gt r ≡ false → ⊥) [
@@ -69,7 +83,8 @@ body_length true line = omega (arith, length-take (length line - 1) line)
 body_length false line = omega arith
 
 module _ (limit : ℕ) (start : Pair) where
-  entry_below : (line : List ℕ) (m : Member) → line_entry limit line ≡ Some m → line_below limit start line ≡ is_below start (member_pair m)
+  entry_below : (line : List ℕ) (m : Member) → line_entry limit line ≡ Some m → line_below limit start line
+      ≡ is_below start (member_pair m)
   unfolding line_below
   entry_below line m h =
       let short = entry_is_short limit line m h in
@@ -80,10 +95,12 @@ module _ (limit : ℕ) (start : Pair) where
   abbrev HaveEntries : List (List ℕ) → List Member → Type 0
   HaveEntries ls ms = map (line_entry limit) ls ≡ map Some ms
 
-  same_head : (l : List ℕ) (ls : List (List ℕ)) (m : Member) (ms : List Member) → HaveEntries (l ∷ ls) (m ∷ ms) → line_entry limit l ≡ Some m
+  same_head : (l : List ℕ) (ls : List (List ℕ)) (m : Member) (ms : List Member) → HaveEntries (l ∷ ls) (m ∷ ms)
+      → line_entry limit l ≡ Some m
   same_head l ls m ms h = cc
 
-  same_tail : (l : List ℕ) (ls : List (List ℕ)) (m : Member) (ms : List Member) → HaveEntries (l ∷ ls) (m ∷ ms) → HaveEntries ls ms
+  same_tail : (l : List ℕ) (ls : List (List ℕ)) (m : Member) (ms : List Member) → HaveEntries (l ∷ ls) (m ∷ ms)
+      → HaveEntries ls ms
   same_tail l ls m ms h = cc
 
   entries_short : (ls : List (List ℕ)) (ms : List Member) → HaveEntries ls ms → longest ls ≤ limit
@@ -98,7 +115,8 @@ module _ (limit : ℕ) (start : Pair) where
   pub lines_are_short : (t : List ℕ) (ms : List Member) → IsIndex limit t ms → longest (lines t) ≤ limit
   lines_are_short t ms index = entries_short (lines t) ms index.entries
 
-  later_high : (m : Member) (ls : List (List ℕ)) (ms : List Member) → HaveEntries ls ms → AllByRecursion (λ k. is_gt (pair_cmp (member_pair m) (member_pair k)) ≡ false) ms
+  later_high : (m : Member) (ls : List (List ℕ)) (ms : List Member) → HaveEntries ls ms
+      → AllByRecursion (λ k. is_gt (pair_cmp (member_pair m) (member_pair k)) ≡ false) ms
       → is_below start (member_pair m) ≡ false → AllByRecursion (λ k. line_below limit start k ≡ false) ls
   later_high m [] ms h up low = tt
   later_high m (l ∷ ls) [] h up low = absurd (cc)
@@ -107,7 +125,8 @@ module _ (limit : ℕ) (start : Pair) where
     later_high m ls ms (same_tail l ls k ms h) up.1 low,
   )
 
-  below_first : (ls : List (List ℕ)) (ms : List Member) → HaveEntries ls ms → NeverFalls member_pair pair_cmp ms → BelowFirst (line_below limit start) ls
+  below_first : (ls : List (List ℕ)) (ms : List Member) → HaveEntries ls ms → NeverFalls member_pair pair_cmp ms
+      → BelowFirst (line_below limit start) ls
   below_first [] ms h n = tt
   below_first (l ∷ ls) [] h n = absurd (cc)
   below_first (l ∷ ls) (m ∷ ms) h n = (
@@ -123,16 +142,30 @@ module _ (limit : ℕ) (start : Pair) where
     all_below : AllByRecursion (λ m. is_below start (member_pair m) ≡ true) low
     none_below : AllByRecursion (λ m. is_below start (member_pair m) ≡ false) high
 
-  all_high : (ls : List (List ℕ)) (ms : List Member) → HaveEntries ls ms → AllByRecursion (λ k. line_below limit start k ≡ false) ls
+  all_high : (ls : List (List ℕ)) (ms : List Member) → HaveEntries ls ms
+      → AllByRecursion (λ k. line_below limit start k ≡ false) ls
       → AllByRecursion (λ m. is_below start (member_pair m) ≡ false) ms
   all_high ls [] h a = tt
   all_high [] (m ∷ ms) h a = absurd (cc)
-  all_high (l ∷ ls) (m ∷ ms) h a = (sym (entry_below l m (same_head l ls m ms h)) ∙ a.0, all_high ls ms (same_tail l ls m ms h) a.1)
+  all_high (l ∷ ls) (m ∷ ms) h a = (
+    sym (entry_below l m (same_head l ls m ms h))
+        ∙ a.0,
+    all_high ls ms (same_tail l ls m ms h) a.1,
+  )
 
-  split : (before rest : List (List ℕ)) (ms : List Member) → HaveEntries (before ++ rest) ms → AllByRecursion (λ k. line_below limit start k ≡ true) before
+  split : (before rest : List (List ℕ)) (ms : List Member) → HaveEntries (before ++ rest) ms
+      → AllByRecursion (λ k. line_below limit start k ≡ true) before
       → AllByRecursion (λ k. line_below limit start k ≡ false) rest → Split before ms
   split [] rest ms h low high =
-      record { low = []; high = ms; members_are = refl; as_many = refl; all_below = tt; none_below = all_high rest ms h high }
+      record {
+        low = [];
+        high = ms;
+        members_are = refl;
+        as_many = refl;
+        all_below = tt;
+        none_below = all_high rest ms h
+            high;
+      }
   split (l ∷ before) rest [] h low high = absurd (cc)
   split (l ∷ before) rest (m ∷ ms) h low high =
       let ih = split before rest ms (same_tail l (before ++ rest) m ms h) low.1 high in
@@ -145,12 +178,15 @@ module _ (limit : ℕ) (start : Pair) where
         none_below = ih.none_below;
       }
 
-  pub cut_there : (t : List ℕ) (ms : List Member) (r offset : ℕ) → IsIndex limit t ms → offset ≤ length t → drop offset t ≡ from_line r t
-      → stops (line_below limit start) r t ≡ true → ((k : ℕ) → r ≡ k + 1 → stops (line_below limit start) k t ≡ false) → IsCut start t ms offset
+  pub cut_there : (t : List ℕ) (ms : List Member) (r offset : ℕ) → IsIndex limit t ms → offset ≤ length t
+      → drop offset t ≡ from_line r t
+      → stops (line_below limit start) r t ≡ true → ((k : ℕ) → r ≡ k + 1 → stops (line_below limit start) k t ≡ false)
+      → IsCut start t ms offset
   cut_there t ms r offset index inside from here before =
       let s = sought (line_below limit start) t r (below_first (lines t) ms index.entries index.ordered) here before in
       let cut : lines t ≡ s.before ++ lines (drop offset t) = s.cut ∙ ap (λ u. s.before ++ lines u) (sym from) in
-      let parts = split s.before (lines (from_line r t)) ms (ap (map (line_entry limit)) (sym s.cut) ∙ index.entries) s.low s.high in
+      let parts = split s.before (lines (from_line r t)) ms (ap (map (line_entry limit)) (sym s.cut) ∙ index.entries)
+      s.low s.high in
       record {
         before = s.before;
         begins = (cut, begins_at t offset s.before cut inside);

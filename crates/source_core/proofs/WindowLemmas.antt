@@ -1,5 +1,6 @@
 -- Bytes that a window holds.
-use Rattle.std.proofs.Common.{◌≡◌, ℕ, ◌+◌, ◌-◌, ◌≤◌, Bool, List, [], ◌++◌, length, take, drop, min, Option, Some, inl, inr, refl, sym, ap, ◌∙◌, subst, arith, length-take, length-append}
+use Rattle.std.proofs.Common.{◌≡◌, ℕ, ◌+◌, ◌-◌, ◌≤◌, Bool, List, [], ◌++◌, length, take, drop, min, Option, Some, inl}
+use Rattle.std.proofs.Common.{inr, refl, sym, ap, ◌∙◌, subst, arith, length-take, length-append}
 use Rattle.std.proofs.lemmas.Bool.{cases_lt, cond_both, ltb-false}
 use Rattle.std.specs.Prelude.{ltb}
 use Rattle.std.proofs.lemmas.List.{drop-take, drop_all, take-take, take_all}
@@ -15,7 +16,8 @@ none_held text extent at inside = record { within = omega arith; most = omega ar
 held_past : (text : Option (List ℕ)) (extent : ℕ) (w : HeldBytes) (k : ℕ) → Holds text extent w → w.at + k ≤ extent
     → StandsAt text extent (w.at + k) (drop k w.bytes)
 held_past text extent w k h inside = elim (cases_lt (length w.bytes) k) [
-  | inl l ↦ subst (StandsAt text extent (w.at + k)) (sym (drop_all k w.bytes (omega arith))) (none_held text extent (w.at + k) inside)
+  | inl l ↦ subst (StandsAt text extent (w.at + k)) (sym (drop_all k w.bytes (omega arith)))
+      (none_held text extent (w.at + k) inside)
   | inr l ↦ given_out text extent w.at k w.bytes h l
 ]
 
@@ -23,18 +25,22 @@ held_past text extent w k h inside = elim (cases_lt (length w.bytes) k) [
 pub held_stands : (text : Option (List ℕ)) (extent : ℕ) (w : HeldBytes) (at : ℕ) → Holds text extent w → at ≤ extent
     → StandsAt text extent at (held_from w at)
 held_stands text extent w at h inside =
-    cond_both (ltb at w.at) [] (drop (at - w.at) w.bytes) (StandsAt text extent at) (λ e. none_held text extent at inside) (λ e.
+    cond_both (ltb at w.at) [] (drop (at - w.at) w.bytes) (StandsAt text extent at)
+    (λ e. none_held text extent at inside) (λ e.
     let low = ltb-false at w.at e in
     let there : w.at + (at - w.at) ≡ at = omega arith in
-    subst (λ k. StandsAt text extent k (drop (at - w.at) w.bytes)) there (held_past text extent w (at - w.at) h (omega arith)))
+    subst (λ k. StandsAt text extent k (drop (at - w.at) w.bytes)) there
+    (held_past text extent w (at - w.at) h (omega arith)))
 
 -- a part of it
-pub held_part : (text : Option (List ℕ)) (extent at n : ℕ) (held t : List ℕ) → StandsAt text extent at held → text ≡ Some t → n ≤ length held
+pub held_part : (text : Option (List ℕ)) (extent at n : ℕ) (held t : List ℕ) → StandsAt text extent at held → text
+    ≡ Some t → n ≤ length held
     → take n held ≡ take n (drop at t)
 held_part text extent at n held t s e short = ap (take n) (s.bytes t e) ∙ take-take n (length held) (drop at t) short
 
 -- what is left of the first `count` bytes of a buffer behind n of them
-pub held_rest : (n count skipped : ℕ) (xs : List ℕ) → skipped ≡ min count n → take (count - skipped) (drop skipped xs) ≡ drop n (take count xs)
+pub held_rest : (n count skipped : ℕ) (xs : List ℕ) → skipped ≡ min count n → take (count - skipped) (drop skipped xs)
+    ≡ drop n (take count xs)
 held_rest n count skipped xs e = elim (cases_lt count n) [
   | inl l ↦ (
       let all : skipped ≡ count = omega arith in
@@ -43,19 +49,27 @@ held_rest n count skipped xs e = elim (cases_lt count n) [
   | inr l ↦ (
       let same : skipped ≡ n = omega arith in
       let whole : n + (count - n) ≡ count = omega arith in
-      ap (λ k. take (count - k) (drop k xs)) same ∙ sym (drop-take n (count - n) xs) ∙ ap (λ k. drop n (take k xs)) whole)
+      ap (λ k. take (count - k) (drop k xs)) same ∙ sym (drop-take n (count - n) xs)
+      ∙ ap (λ k. drop n (take k xs)) whole)
 ]
 
 -- ---- the line that begins there
 
 pub nothing_read : (t : List ℕ) (offset : ℕ) → BeginsWith t offset []
-nothing_read t offset = record { is = ap (λ k. drop k t) (let none : offset ≡ offset + 0 = omega arith in none); goes_on = tt }
+nothing_read t offset = record {
+  is = ap (λ k. drop k t) (let none : offset ≡ offset + 0 = omega arith in none);
+  goes_on = tt;
+}
 
 -- it goes on with a part of what is held
-pub held_reads : (text : Option (List ℕ)) (extent offset n : ℕ) (front held new t : List ℕ) (ends : Bool) → StandsAt text extent (offset + length front) held → text ≡ Some t
-    → n ≤ length held → new ≡ front ++ take n held → PartOf held n ends → BeginsWith t offset front → ReadsOn t offset new ends
+pub held_reads : (text : Option (List ℕ)) (extent offset n : ℕ) (front held new t : List ℕ) (ends : Bool)
+    → StandsAt text extent (offset + length front) held → text ≡ Some t
+    → n ≤ length held → new ≡ front ++ take n held → PartOf held n ends → BeginsWith t offset front
+    → ReadsOn t offset new ends
 held_reads text extent offset n front held new t ends s e inside grown part begins =
     let all = take_all (length held) held (omega arith) in
-    let long : length new ≡ length front + n = omega (arith, ap length grown, length-append front (take n held), length-take n held) in
-    reads_on t held front new offset (length held) n ends (held_part text extent (offset + length front) (length held) held t s e (omega arith)) inside grown long
+    let long : length new
+    ≡ length front + n = omega (arith, ap length grown, length-append front (take n held), length-take n held) in
+    reads_on t held front new offset (length held) n ends
+    (held_part text extent (offset + length front) (length held) held t s e (omega arith)) inside grown long
     (subst (λ u. PartOf u n ends) (sym all) part) begins

@@ -1,5 +1,6 @@
 -- How far a search has come.
-use Rattle.std.specs.Prelude.{◌≡◌, ℕ, ◌+◌, ◌-◌, ◌^◌, ◌<◌, ◌≤◌, List, length, drop, true, false, Option, Some, IfSome, IfNone}
+use Rattle.std.specs.Prelude.{◌≡◌, ℕ, ◌+◌, ◌-◌, ◌^◌, ◌<◌, ◌≤◌, List, length, drop, true, false, Option, Some, IfSome}
+use Rattle.std.specs.Prelude.{IfNone}
 use Rattle.cdxj_places.specs.Pairs.{Pair}
 use Rattle.source_core.specs.Halving.{stops, digits}
 use Rattle.source_core.specs.IndexLines.{from_line}

@@ -1,5 +1,6 @@
 -- The lines of a text, cut after each line feed.
-use Rattle.std.specs.Prelude.{◌≡◌, ℕ, zero, suc, List, [], ◌∷◌, ◌++◌, length, flat_map, max, cond, drop, nat_eq, Bool, true, false, Option, Some, None}
+use Rattle.std.specs.Prelude.{◌≡◌, ℕ, zero, suc, List, [], ◌∷◌, ◌++◌, length, flat_map, max, cond, drop, nat_eq, Bool}
+use Rattle.std.specs.Prelude.{true, false, Option, Some, None}
 pub use Rattle.cdxj_places.specs.TextLines.{lines}
 
 -- what follows the first line feed
@@ -34,4 +35,5 @@ longest (l ∷ ls) = max (length l) (longest ls)
 
 -- these lines stand before the offset; there a line begins, or the text ends
 abbrev pub BeginsAfter : List ℕ → ℕ → List (List ℕ) → Type 0
-BeginsAfter text offset front = (lines text ≡ front ++ lines (drop offset text)) × (offset ≡ length (flat_map (λ l. l) front))
+BeginsAfter text offset front = (lines text ≡ front ++ lines (drop offset text))
+    × (offset ≡ length (flat_map (λ l. l) front))

@@ -23,7 +23,8 @@ impl Model for Ahead {
 
     ghost view = { λ a. take (a.to - a.from) (drop a.from a.bytes.items) };
 
-    ghost invariant = { λ a. (a.from ≤ a.to) × (a.to ≤ length a.bytes.items) × (length a.bytes.items ≡ 8192) };
+    ghost invariant = { λ a. (a.from ≤ a.to) × (a.to ≤ length a.bytes.items)
+        × (length a.bytes.items ≡ 8192) };
 }
 
 impl Ahead {

@@ -72,7 +72,7 @@ impl Cursor {
         if ends { Some(&held[..length]) } else { None }
     }
 
-    /// Goes on behind the next line, of `length` bytes, which [`Cursor::held_line`] returned.
+    /// Goes on behind the next line, of `size` bytes, which [`Cursor::held_line`] returned.
     pub fn pass_line<S: Source>(&mut self, source: &S, size: usize)
         requires stands { Stands (S.text source.now) (S.extent source.now) self.old }
         requires line { IsHeldLine self.old.ahead size }

@@ -6,7 +6,9 @@ use Rattle.json.proofs.Grammar.{left, value_is, after_end_array-shorter, read_ke
 use Rattle.serde_json.specs.Data.{null, no_members, put}
 use Rattle.cdxj_core.specs.FoundMembers.{value_read, items_passed, members_passed}
 use Rattle.cdxj_core.specs.FoundViews.{value_view}
-use Rattle.cdxj_core.proofs.JsonReading.{seen, read_nothing, read_string, read_number, read_boolean, read_null, read_array, read_object, no_array, no_object, item_passed, item_not_passed, items_end, member_put, no_member, no_key, members_end}
+use Rattle.cdxj_core.proofs.JsonReading.{seen, read_nothing, read_string, read_number, read_boolean, read_null}
+use Rattle.cdxj_core.proofs.JsonReading.{read_array, read_object, no_array, no_object, item_passed, item_not_passed}
+use Rattle.cdxj_core.proofs.JsonReading.{items_end, member_put, no_member, no_key, members_end}
 use Rattle.cdxj_core.proofs.json_values.+values.Goals as goal
 
 pub read_value-returns-in_err-token-clause-value : goal.read_value-returns-in_err-token-clause-value

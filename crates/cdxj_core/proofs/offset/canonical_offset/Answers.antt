@@ -1,6 +1,7 @@
 use Rattle.std.proofs.Common.{get_or, sym, ap, ◌∙◌, arith}
 use Rattle.cdxj_core.proofs.PlainLaw.{canonical_decimal}
-use Rattle.cdxj_core.proofs.offset.canonical_offset.Goals.{else-text-ne1-via-then-text-ne1+else-as_bytes-eq48, else-text-ne1-via-else-text-ne1}
+use Rattle.cdxj_core.proofs.offset.canonical_offset.Goals.{else-text-ne1-via-then-text-ne1+else-as_bytes-eq48}
+use Rattle.cdxj_core.proofs.offset.canonical_offset.Goals.{else-text-ne1-via-else-text-ne1}
 use Rattle.cdxj_core.proofs.offset.canonical_offset.Goals as goal
 
 pub returns-clause-text : goal.returns-clause-text

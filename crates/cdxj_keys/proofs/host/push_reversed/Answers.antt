@@ -1,4 +1,5 @@
-use Rattle.std.proofs.Common.{◌≡◌, ◌∙◌, List, ℕ, Result, Ok, Err, is_ok, cond, IfOk, ◌+◌, ◌<◌, ◌++◌, [], ◌∷◌, arith, ap, sym, take, length}
+use Rattle.std.proofs.Common.{◌≡◌, ◌∙◌, List, ℕ, Result, Ok, Err, is_ok, cond, IfOk, ◌+◌, ◌<◌, ◌++◌, [], ◌∷◌, arith, ap}
+use Rattle.std.proofs.Common.{sym, take, length}
 use Rattle.std.proofs.lemmas.List.{take_rest, length-take-le}
 use Rattle.cdxj_keys.proofs.Labels.{reversed_text, more_text, lone_text}
 use Rattle.cdxj_keys.proofs.host.push_reversed.Goals as goal

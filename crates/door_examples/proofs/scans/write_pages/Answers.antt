@@ -5,6 +5,9 @@ use Rattle.door_examples.proofs.scans.write_pages.Goals as goal
 
 pub returns : goal.returns
 returns g c = record {
-  pages = subst (λ types. IfOk c.scan.result (Scanned (includes types) (map (λ n. string_bytes n.name) c.args.archives.now) (map (λ n. g.I.Input.remaining n.input) c.args.archives.now)
-      (100 ∷ []) c.args.query.now (g.O.Output.written c.args.out.now) (g.O.Output.written c.scan.new.out))) c.usual.ensures c.scan.ensures.scanned;
+  pages = subst (λ types. IfOk c.scan.result
+      (Scanned (includes types) (map (λ n. string_bytes n.name) c.args.archives.now)
+      (map (λ n. g.I.Input.remaining n.input) c.args.archives.now)
+      (100 ∷ []) c.args.query.now (g.O.Output.written c.args.out.now) (g.O.Output.written c.scan.new.out)))
+      c.usual.ensures c.scan.ensures.scanned;
 }

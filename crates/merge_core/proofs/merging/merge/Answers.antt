@@ -1,5 +1,6 @@
 use Rattle.std.specs.List.{AllByRecursion, AllZip}
-use Rattle.std.proofs.Common.{arith, ◌≡◌, ℕ, ◌+◌, ◌≤◌, length, ◌∷◌, ◌++◌, [], inl, inr, Box, Global, List, Some, None, MatchOption, map, zip, refl, sym, ap₂, ◌∙◌, subst}
+use Rattle.std.proofs.Common.{arith, ◌≡◌, ℕ, ◌+◌, ◌≤◌, length, ◌∷◌, ◌++◌, [], inl, inr, Box, Global, List, Some, None}
+use Rattle.std.proofs.Common.{MatchOption, map, zip, refl, sym, ap₂, ◌∙◌, subst}
 use Rattle.std.proofs.lemmas.Bool.{true≢false}
 use Rattle.std.proofs.lemmas.Result.{err_from_is_err_and}
 use Rattle.cdxj_core.specs.declared.limit.TheConstants.{LINE_LIMIT}
@@ -42,34 +43,56 @@ group g c = c.in-Some.first.value ∷ values c.gather.new.rest.items
 abbrev taken : (g : Over) → In-Some g → List Member
 taken g c = c.loop-rest.invariant.came.1 ++ rising member_place place_cmp (group g c)
 
-grouped : (g : Over) (c : In-Some g) → Grouped LINE_LIMIT g.S.Source.text g.S.Source.extent c.loop-rest.sources c.loop-rest.streams.feeds.items c.loop-rest.streams.waiting c.gather.new.sources c.gather.new.self.feeds.items c.gather.new.self.waiting (member_pair c.in-Some.first.value) (group g c)
-grouped g c = subst (λ o. MatchOption o ((c.gather.new.sources ≡ c.loop-rest.sources) × (c.gather.new.self.feeds.items ≡ c.loop-rest.streams.feeds.items) × (c.loop-rest.streams.waiting ≡ []) × (c.gather.new.self.waiting ≡ []))
-    (λ (b : Box Line Global). Grouped LINE_LIMIT g.S.Source.text g.S.Source.extent c.loop-rest.sources c.loop-rest.streams.feeds.items c.loop-rest.streams.waiting c.gather.new.sources c.gather.new.self.feeds.items c.gather.new.self.waiting (member_pair b.value) (b.value ∷ values c.gather.new.rest.items)))
+grouped : (g : Over) (c : In-Some g) → Grouped LINE_LIMIT g.S.Source.text g.S.Source.extent c.loop-rest.sources
+    c.loop-rest.streams.feeds.items c.loop-rest.streams.waiting c.gather.new.sources c.gather.new.self.feeds.items
+    c.gather.new.self.waiting (member_pair c.in-Some.first.value) (group g c)
+grouped g c = subst (λ o. MatchOption o ((c.gather.new.sources ≡ c.loop-rest.sources)
+    × (c.gather.new.self.feeds.items ≡ c.loop-rest.streams.feeds.items) × (c.loop-rest.streams.waiting ≡ [])
+    × (c.gather.new.self.waiting ≡ []))
+    (λ (b : Box Line Global). Grouped LINE_LIMIT g.S.Source.text g.S.Source.extent c.loop-rest.sources
+    c.loop-rest.streams.feeds.items c.loop-rest.streams.waiting c.gather.new.sources c.gather.new.self.feeds.items
+    c.gather.new.self.waiting (member_pair b.value) (b.value ∷ values c.gather.new.rest.items)))
     c.in-Some.is c.in_ok-first.ensures.group
 
-told : (g : Over) (c : In-Some g) → AreTold g.S.Source.text c.args.sources.now → AreTold g.S.Source.text c.loop-rest.sources
-told g c = told_moved g.S.Source.text g.S.Source.extent g.S.Source.gave c.args.sources.now c.loop-rest.sources c.args.streams.now.feeds.items c.loop-rest.streams.feeds.items c.loop-rest.invariant.came.2.ready.same c.loop-rest.invariant.came.2.moved
+told : (g : Over) (c : In-Some g) → AreTold g.S.Source.text c.args.sources.now
+    → AreTold g.S.Source.text c.loop-rest.sources
+told g c = told_moved g.S.Source.text g.S.Source.extent g.S.Source.gave c.args.sources.now c.loop-rest.sources
+    c.args.streams.now.feeds.items c.loop-rest.streams.feeds.items c.loop-rest.invariant.came.2.ready.same
+    c.loop-rest.invariant.came.2.moved
 
-reached : (g : Over) (c : In-Some g) → AllByRecursion (HasEntry LINE_LIMIT) (group g c) → Reached LINE_LIMIT g.S.Source.text (g.R.Range.past c.args.range.now) g.S.Source.extent g.S.Source.gave c.args.sources.now c.args.streams.now.feeds.items c.gather.new.sources c.gather.new.self.feeds.items c.gather.new.self.waiting (Some (member_pair c.in-Some.first.value)) (taken g c)
+reached : (g : Over) (c : In-Some g) → AllByRecursion (HasEntry LINE_LIMIT) (group g c)
+    → Reached LINE_LIMIT g.S.Source.text (g.R.Range.past c.args.range.now) g.S.Source.extent g.S.Source.gave
+    c.args.sources.now c.args.streams.now.feeds.items c.gather.new.sources c.gather.new.self.feeds.items
+    c.gather.new.self.waiting (Some (member_pair c.in-Some.first.value)) (taken g c)
 reached g c entries =
     let came = c.loop-rest.invariant.came in
     let ok = c.in_ok-first.ensures in
     record {
       ready = ok.ready;
       settled = ok.settled;
-      moved = moved_trans g.S.Source.text g.S.Source.extent g.S.Source.gave (zip c.args.sources.now c.args.streams.now.feeds.items) (zip c.loop-rest.sources c.loop-rest.streams.feeds.items) (zip c.gather.new.sources c.gather.new.self.feeds.items) came.2.moved ok.moved;
+      moved = moved_trans g.S.Source.text g.S.Source.extent g.S.Source.gave
+          (zip c.args.sources.now c.args.streams.now.feeds.items)
+          (zip c.loop-rest.sources c.loop-rest.streams.feeds.items)
+          (zip c.gather.new.sources c.gather.new.self.feeds.items) came.2.moved ok.moved;
       above = (grouped g c).later;
-      handed = handed_next LINE_LIMIT g.S.Source.text g.S.Source.extent c.args.sources.now c.loop-rest.sources c.gather.new.sources c.loop-rest.streams.feeds.items c.gather.new.self.feeds.items c.loop-rest.streams.waiting c.gather.new.self.waiting
-          came.0 (member_pair c.in-Some.first.value) came.1 (group g c) came.2.handed came.2.above (grouped g c) (told g c) entries;
+      handed = handed_next LINE_LIMIT g.S.Source.text g.S.Source.extent c.args.sources.now c.loop-rest.sources
+          c.gather.new.sources c.loop-rest.streams.feeds.items c.gather.new.self.feeds.items c.loop-rest.streams.waiting
+          c.gather.new.self.waiting
+          came.0 (member_pair c.in-Some.first.value) came.1 (group g c) came.2.handed came.2.above (grouped g c)
+          (told g c) entries;
     }
 
-entries : (g : Over) (c : After-hand_on g) → AllByRecursion (HasEntry LINE_LIMIT) (c.in-Some.first.value ∷ values c.gather.new.rest.items)
+entries : (g : Over) (c : After-hand_on g)
+    → AllByRecursion (HasEntry LINE_LIMIT) (c.in-Some.first.value ∷ values c.gather.new.rest.items)
 entries g c =
     subst (λ m. AllByRecursion (HasEntry LINE_LIMIT) (m ∷ values c.gather.new.rest.items)) c.deref.ensures
-    (subst (λ l. AllByRecursion (HasEntry LINE_LIMIT) (c.deref.result.now ∷ values l)) c.deref-in-Some.ensures.value c.hand_on.ensures.entries)
+    (subst (λ l. AllByRecursion (HasEntry LINE_LIMIT) (c.deref.result.now ∷ values l)) c.deref-in-Some.ensures.value
+    c.hand_on.ensures.entries)
 
 -- the waiting lines and the group are one line of each source, and as many as share a pair
-group_most : (g : Over) (c : In-Some g) (texts : List (List ℕ)) (indexes : List (List Member)) (most : ℕ) → Known (map g.S.Source.text c.args.sources.now) texts → AllZip (IsIndex LINE_LIMIT) texts indexes → ShareAtMost most (all_lines indexes)
+group_most : (g : Over) (c : In-Some g) (texts : List (List ℕ)) (indexes : List (List Member)) (most : ℕ)
+    → Known (map g.S.Source.text c.args.sources.now) texts → AllZip (IsIndex LINE_LIMIT) texts indexes
+    → ShareAtMost most (all_lines indexes)
     → length c.gather.new.self.waiting + length (group g c) ≤ length c.args.sources.now + most
 group_most g c texts indexes most known are share =
     let came = c.loop-rest.invariant.came in
@@ -77,21 +100,36 @@ group_most g c texts indexes most known are share =
     let text = g.S.Source.text in let extent = g.S.Source.extent in let gave = g.S.Source.gave in
     let old = c.args.sources.now in let was = c.loop-rest.sources in let now = c.gather.new.sources in
     let was_feeds = c.loop-rest.streams.feeds.items in let feeds = c.gather.new.self.feeds.items in
-    let kept_old = texts_kept text extent gave old was c.args.streams.now.feeds.items was_feeds c.requires.ready.same (omega arith) came.2.moved in
+    let kept_old = texts_kept text extent gave old was c.args.streams.now.feeds.items was_feeds c.requires.ready.same
+    (omega arith) came.2.moved in
     let kept_new = texts_kept text extent gave was now was_feeds feeds came.2.ready.same (omega arith) ok.moved in
-    let most_here = held_most LINE_LIMIT (g.R.Range.past c.args.range.now) text extent gave old was now was_feeds feeds c.loop-rest.streams.waiting c.gather.new.self.waiting came.0 (member_pair c.in-Some.first.value) came.1 (group g c) came.2.handed came.2.above (grouped g c) ok.ready
+    let most_here = held_most LINE_LIMIT (g.R.Range.past c.args.range.now) text extent gave old was now was_feeds feeds
+    c.loop-rest.streams.waiting c.gather.new.self.waiting came.0 (member_pair c.in-Some.first.value) came.1
+    (group g c) came.2.handed came.2.above (grouped g c) ok.ready
     texts indexes most known (subst (λ l. Known l texts) (sym (kept_new ∙ kept_old)) known) (told g c) are share in
     let e : length now ≡ length old = omega arith in
     subst (λ n. length c.gather.new.self.waiting + length (group g c) ≤ n + most) e most_here
 
-order : (g : Over) (c : After-deref-in-Some g) → rising member_place place_cmp (c.deref.result.now ∷ values c.deref-in-Some.result.now) ≡ rising member_place place_cmp (c.in-Some.first.value ∷ values c.gather.new.rest.items)
-order g c = ap₂ (λ (m : Member) (l : List (Box Line Global)). rising member_place place_cmp (m ∷ values l)) c.deref.ensures c.deref-in-Some.ensures.value
+order : (g : Over) (c : After-deref-in-Some g)
+    → rising member_place place_cmp (c.deref.result.now ∷ values c.deref-in-Some.result.now)
+    ≡ rising member_place place_cmp (c.in-Some.first.value ∷ values c.gather.new.rest.items)
+order g c = ap₂ (λ (m : Member) (l : List (Box Line Global)). rising member_place place_cmp (m ∷ values l))
+    c.deref.ensures c.deref-in-Some.ensures.value
 
-kept : (g : Over) (c : After-put_back g) (pair : Pair) (ms : List Member) → Reached LINE_LIMIT g.S.Source.text (g.R.Range.past c.args.range.now) g.S.Source.extent g.S.Source.gave c.args.sources.now c.args.streams.now.feeds.items c.gather.new.sources c.gather.new.self.feeds.items c.gather.new.self.waiting (Some pair) ms
-    → Reached LINE_LIMIT g.S.Source.text (g.R.Range.past c.args.range.now) g.S.Source.extent g.S.Source.gave c.args.sources.now c.args.streams.now.feeds.items c.gather.new.sources c.put_back.new.self.feeds.items c.put_back.new.self.waiting (Some pair) ms
+kept : (g : Over) (c : After-put_back g) (pair : Pair) (ms : List Member)
+    → Reached LINE_LIMIT g.S.Source.text (g.R.Range.past c.args.range.now) g.S.Source.extent g.S.Source.gave
+    c.args.sources.now c.args.streams.now.feeds.items c.gather.new.sources c.gather.new.self.feeds.items
+    c.gather.new.self.waiting (Some pair) ms
+    → Reached LINE_LIMIT g.S.Source.text (g.R.Range.past c.args.range.now) g.S.Source.extent g.S.Source.gave
+    c.args.sources.now c.args.streams.now.feeds.items c.gather.new.sources c.put_back.new.self.feeds.items
+    c.put_back.new.self.waiting (Some pair) ms
 kept g c pair ms r =
-    subst (λ (fs : List Feed). Reached LINE_LIMIT g.S.Source.text (g.R.Range.past c.args.range.now) g.S.Source.extent g.S.Source.gave c.args.sources.now c.args.streams.now.feeds.items c.gather.new.sources fs c.put_back.new.self.waiting (Some pair) ms) (sym c.put_back.ensures.feeds)
-    (subst (λ (ws : List WaitingLine). Reached LINE_LIMIT g.S.Source.text (g.R.Range.past c.args.range.now) g.S.Source.extent g.S.Source.gave c.args.sources.now c.args.streams.now.feeds.items c.gather.new.sources c.gather.new.self.feeds.items ws (Some pair) ms) (sym c.put_back.ensures.waiting) r)
+    subst (λ (fs : List Feed). Reached LINE_LIMIT g.S.Source.text (g.R.Range.past c.args.range.now) g.S.Source.extent
+    g.S.Source.gave c.args.sources.now c.args.streams.now.feeds.items c.gather.new.sources fs
+    c.put_back.new.self.waiting (Some pair) ms) (sym c.put_back.ensures.feeds)
+    (subst (λ (ws : List WaitingLine). Reached LINE_LIMIT g.S.Source.text (g.R.Range.past c.args.range.now)
+    g.S.Source.extent g.S.Source.gave c.args.sources.now c.args.streams.now.feeds.items c.gather.new.sources
+    c.gather.new.self.feeds.items ws (Some pair) ms) (sym c.put_back.ensures.waiting) r)
 
 pub loop-rest-init : goal.loop-rest-init
 loop-rest-init g c = record {
@@ -107,9 +145,11 @@ loop-rest-init g c = record {
     record {
       ready = c.requires.ready;
       settled = c.requires.settled;
-      moved = moved_still g.S.Source.text g.S.Source.extent g.S.Source.gave (zip c.args.sources.now c.args.streams.now.feeds.items);
+      moved = moved_still g.S.Source.text g.S.Source.extent g.S.Source.gave
+          (zip c.args.sources.now c.args.streams.now.feeds.items);
       above = above_none c.args.streams.now.waiting;
-      handed = handed_none LINE_LIMIT g.S.Source.text c.args.sources.now c.args.streams.now.feeds.items c.requires.fresh;
+      handed = handed_none LINE_LIMIT g.S.Source.text c.args.sources.now c.args.streams.now.feeds.items
+          c.requires.fresh;
     },
     λ begin start w. w,
   );
@@ -117,18 +157,29 @@ loop-rest-init g c = record {
 
 pub returns-in_err-first-clause-moved : goal.returns-in_err-first-clause-moved
 returns-in_err-first-clause-moved g c =
-    moved_trans g.S.Source.text g.S.Source.extent g.S.Source.gave (zip c.args.sources.now c.args.streams.now.feeds.items) (zip c.loop-rest.sources c.loop-rest.streams.feeds.items) (zip c.gather.new.sources c.gather.new.self.feeds.items)
+    moved_trans g.S.Source.text g.S.Source.extent g.S.Source.gave
+    (zip c.args.sources.now c.args.streams.now.feeds.items)
+    (zip c.loop-rest.sources c.loop-rest.streams.feeds.items)
+    (zip c.gather.new.sources c.gather.new.self.feeds.items)
     c.loop-rest.invariant.came.2.moved c.gather.ensures.moved
 
 pub returns-in_err-more-clause-moved : goal.returns-in_err-more-clause-moved
 returns-in_err-more-clause-moved g c =
-    moved_trans g.S.Source.text g.S.Source.extent g.S.Source.gave (zip c.args.sources.now c.args.streams.now.feeds.items) (zip c.loop-rest.sources c.loop-rest.streams.feeds.items) (zip c.gather.new.sources c.gather.new.self.feeds.items)
+    moved_trans g.S.Source.text g.S.Source.extent g.S.Source.gave
+    (zip c.args.sources.now c.args.streams.now.feeds.items)
+    (zip c.loop-rest.sources c.loop-rest.streams.feeds.items)
+    (zip c.gather.new.sources c.gather.new.self.feeds.items)
     c.loop-rest.invariant.came.2.moved c.gather.ensures.moved
 
 pub returns-then-not-more-clause-moved : goal.returns-then-not-more-clause-moved
 returns-then-not-more-clause-moved g c =
-    subst (λ (fs : List Feed). AllZip (Move g.S.Source.text g.S.Source.extent g.S.Source.gave) (zip c.args.sources.now c.args.streams.now.feeds.items) (zip c.gather.new.sources fs)) (sym c.put_back.ensures.feeds)
-    (moved_trans g.S.Source.text g.S.Source.extent g.S.Source.gave (zip c.args.sources.now c.args.streams.now.feeds.items) (zip c.loop-rest.sources c.loop-rest.streams.feeds.items) (zip c.gather.new.sources c.gather.new.self.feeds.items)
+    subst (λ (fs : List Feed). AllZip (Move g.S.Source.text g.S.Source.extent g.S.Source.gave)
+    (zip c.args.sources.now c.args.streams.now.feeds.items) (zip c.gather.new.sources fs))
+    (sym c.put_back.ensures.feeds)
+    (moved_trans g.S.Source.text g.S.Source.extent g.S.Source.gave
+    (zip c.args.sources.now c.args.streams.now.feeds.items)
+    (zip c.loop-rest.sources c.loop-rest.streams.feeds.items)
+    (zip c.gather.new.sources c.gather.new.self.feeds.items)
     c.loop-rest.invariant.came.2.moved c.gather.ensures.moved)
 
 pub returns-in_err-more-clause-broke : goal.returns-in_err-more-clause-broke
@@ -145,7 +196,12 @@ returns-in_err-more-clause-broke g c =
         came.0,
         came.1,
         came.2,
-        λ begin start w. inl (c.loop-rest.sink, subst (λ o. g.K.Sink.Wrote begin c.loop-rest.sink came.1 start (g.O.Output.written o)) (sym k.1) (came.3 begin start w)),
+        λ begin start w. inl (
+          c.loop-rest.sink,
+          subst
+              (λ o. g.K.Sink.Wrote begin c.loop-rest.sink came.1 start (g.O.Output.written o)) (sym k.1)
+              (came.3 begin start w),
+        ),
       )
       | inr k ↦ (
         c.gather.new.sources,
@@ -154,7 +210,9 @@ returns-in_err-more-clause-broke g c =
         Some (member_pair c.in-Some.first.value),
         taken g here.In-Some,
         reached g here.In-Some (entries g here.After-hand_on),
-        λ begin start w. inr (subst (λ l. g.K.Sink.Broke begin (came.1 ++ l) start (g.O.Output.written c.hand_on.new.out)) (order g here.After-deref-in-Some) (k begin came.1 start (came.3 begin start w))),
+        λ begin start w. inr (subst
+            (λ l. g.K.Sink.Broke begin (came.1 ++ l) start (g.O.Output.written c.hand_on.new.out))
+            (order g here.After-deref-in-Some) (k begin came.1 start (came.3 begin start w))),
       )
     ])
 
@@ -166,7 +224,9 @@ returns-then-not-more-clause-wrote g c =
       Some pair,
       taken g here.In-Some,
       kept g here.After-put_back pair (taken g here.In-Some) (reached g here.In-Some (entries g here.After-hand_on)),
-      λ begin start w. subst (λ l. g.K.Sink.Wrote begin c.hand_on.new.sink (came.1 ++ l) start (g.O.Output.written c.hand_on.new.out)) (order g here.After-deref-in-Some) (c.in_ok-more.ensures.wrote begin came.1 start (came.3 begin start w)),
+      λ begin start w. subst
+          (λ l. g.K.Sink.Wrote begin c.hand_on.new.sink (came.1 ++ l) start (g.O.Output.written c.hand_on.new.out))
+          (order g here.After-deref-in-Some) (c.in_ok-more.ensures.wrote begin came.1 start (came.3 begin start w)),
       λ e. (
         pair,
         came.1,
@@ -176,7 +236,8 @@ returns-then-not-more-clause-wrote g c =
         refl,
         refl,
         below_next came.0 pair ((grouped g here.In-Some).above came.0 came.2.above) came.1 came.2.handed.upto,
-        each_rising member_place place_cmp place_cmp_total (λ m. Alike (member_pair m) pair) (group g here.In-Some) (grouped g here.In-Some).each,
+        each_rising member_place place_cmp place_cmp_total (λ m. Alike (member_pair m) pair) (group g here.In-Some)
+            (grouped g here.In-Some).each,
         c.loop-rest.invariant.further,
         came.3,
       ),
@@ -197,13 +258,17 @@ loop-rest-preserved g c =
       held = λ texts indexes known are most share h.
           let before = c.loop-rest.invariant.held texts indexes known are most share h in
           let same = ok.held in
-          held_after (λ (b : Box Line Global). b.value) c.gather.new.self.waiting c.in-Some.first.value c.gather.new.rest.items c.gather.new.self.held c.put_back.new.self.held (length c.args.sources.now + most) c.put_back.ensures.held
+          held_after (λ (b : Box Line Global). b.value) c.gather.new.self.waiting c.in-Some.first.value
+          c.gather.new.rest.items c.gather.new.self.held c.put_back.new.self.held (length c.args.sources.now + most)
+          c.put_back.ensures.held
           (omega (arith, before, same)) (group_most g here.In-Some texts indexes most known are share);
       came = (
         Some pair,
         taken g here.In-Some,
         kept g here.After-put_back pair (taken g here.In-Some) (reached g here.In-Some (entries g here.After-hand_on)),
-        λ begin start w. subst (λ l. g.K.Sink.Wrote begin c.hand_on.new.sink (came.1 ++ l) start (g.O.Output.written c.hand_on.new.out)) (order g here.After-deref-in-Some) (c.in_ok-more.ensures.wrote begin came.1 start (came.3 begin start w)),
+        λ begin start w. subst
+            (λ l. g.K.Sink.Wrote begin c.hand_on.new.sink (came.1 ++ l) start (g.O.Output.written c.hand_on.new.out))
+            (order g here.After-deref-in-Some) (c.in_ok-more.ensures.wrote begin came.1 start (came.3 begin start w)),
       );
     }
 
@@ -211,18 +276,22 @@ pub returns-in_err-first-clause-fault : goal.returns-in_err-first-clause-fault
 returns-in_err-first-clause-fault g c =
     let text = g.S.Source.text in let extent = g.S.Source.extent in let gave = g.S.Source.gave in
     let texts = map text c.args.sources.now in
-    let kept = texts_kept text extent gave c.args.sources.now c.loop-rest.sources c.args.streams.now.feeds.items c.loop-rest.streams.feeds.items c.requires.ready.same (omega arith) c.loop-rest.invariant.came.2.moved in
+    let kept = texts_kept text extent gave c.args.sources.now c.loop-rest.sources c.args.streams.now.feeds.items
+    c.loop-rest.streams.feeds.items c.requires.ready.same (omega arith) c.loop-rest.invariant.came.2.moved in
     let p = err_from_is_err_and c.from_residual.result c.from_residual.ensures.1 in
     let q : p.0 ≡ c.in_err-first.field-0.0 = p.2 in
     if_err c.from_residual.result p.0 (IsFaultOf LINE_LIMIT texts) p.1
-    (subst (IsFaultOf LINE_LIMIT texts) (sym q) (subst (λ ts. IsFaultOf LINE_LIMIT ts c.in_err-first.field-0.0) kept c.in_err-first.ensures.fault))
+    (subst (IsFaultOf LINE_LIMIT texts) (sym q)
+    (subst (λ ts. IsFaultOf LINE_LIMIT ts c.in_err-first.field-0.0) kept c.in_err-first.ensures.fault))
 
 pub returns-then-not-more-clause-held : goal.returns-then-not-more-clause-held
 returns-then-not-more-clause-held g c = λ texts indexes known are most share h.
     let here = goal.at.returns-then-not-more-clause-held g c in
     let before = c.loop-rest.invariant.held texts indexes known are most share h in
     let same = c.in_ok-first.ensures.held in
-    held_after (λ (b : Box Line Global). b.value) c.gather.new.self.waiting c.in-Some.first.value c.gather.new.rest.items c.gather.new.self.held c.put_back.new.self.held (length c.args.sources.now + most) c.put_back.ensures.held
+    held_after (λ (b : Box Line Global). b.value) c.gather.new.self.waiting c.in-Some.first.value
+    c.gather.new.rest.items c.gather.new.self.held c.put_back.new.self.held (length c.args.sources.now + most)
+    c.put_back.ensures.held
     (omega (arith, before, same)) (group_most g here.In-Some texts indexes most known are share)
 
 pub returns-in_err-first-clause-held : goal.returns-in_err-first-clause-held
@@ -247,8 +316,15 @@ pub returns-in_err-first-clause-broke : goal.returns-in_err-first-clause-broke
 returns-in_err-first-clause-broke g c =
     let came = c.loop-rest.invariant.came in
     let p = err_from_is_err_and c.from_residual.result c.from_residual.ensures.1 in
-    on_err c.from_residual.result p.0 _ p.1
-    (c.loop-rest.sources, c.loop-rest.streams.feeds.items, c.loop-rest.streams.waiting, came.0, came.1, came.2, λ begin start w. inl (c.loop-rest.sink, came.3 begin start w))
+    on_err c.from_residual.result p.0 _ p.1 (
+      c.loop-rest.sources,
+      c.loop-rest.streams.feeds.items,
+      c.loop-rest.streams.waiting,
+      came.0,
+      came.1,
+      came.2,
+      λ begin start w. inl (c.loop-rest.sink, came.3 begin start w),
+    )
 
 pub returns-in_err-first-clause-halted : goal.returns-in_err-first-clause-halted
 returns-in_err-first-clause-halted g c =
@@ -272,7 +348,8 @@ returns-in_err-first-clause-halted g c =
         reads.2,
         λ told.
             reads.3 (told_moved text extent gave old was old_feeds was_feeds came.2.ready.same came.2.moved told)
-            (below_next came.0 reads.0 (reads.1 came.0 came.2.above) (all_done LINE_LIMIT text was was_feeds) (came.2.handed.told told).1),
+            (below_next came.0 reads.0 (reads.1 came.0 came.2.above) (all_done LINE_LIMIT text was was_feeds)
+            (came.2.handed.told told).1),
       ),
     )
 
@@ -290,12 +367,20 @@ returns-in_err-more-clause-halted g c =
       came.0,
       came.1,
       came.2,
-      (c.loop-rest.sink, g.O.Output.written c.loop-rest.out, c.loop-rest.invariant.further, c.hand_on.ensures.grows, came.3),
+      (
+        c.loop-rest.sink,
+        g.O.Output.written c.loop-rest.out,
+        c.loop-rest.invariant.further,
+        c.hand_on.ensures.grows,
+        came.3,
+      ),
       (
         pair,
         (grouped g here).above came.0 came.2.above,
         (grouped g here).least,
-        λ t. are_read_to LINE_LIMIT (g.R.Range.past c.args.range.now) g.S.Source.text g.S.Source.extent (Some pair) 0 c.gather.new.sources c.gather.new.self.feeds.items c.gather.new.self.waiting c.in_ok-first.ensures.ready.fed ((reached g here (entries g all.After-hand_on)).handed.told t).1,
+        λ t. are_read_to LINE_LIMIT (g.R.Range.past c.args.range.now) g.S.Source.text g.S.Source.extent (Some pair) 0
+            c.gather.new.sources c.gather.new.self.feeds.items c.gather.new.self.waiting c.in_ok-first.ensures.ready.fed
+            ((reached g here (entries g all.After-hand_on)).handed.told t).1,
       ),
     )
 
@@ -304,17 +389,22 @@ returns-clause-wrote g c =
     let past = g.R.Range.past c.args.range.now in
     let text = g.S.Source.text in let extent = g.S.Source.extent in let gave = g.S.Source.gave in
     let old = c.args.sources.now in let old_feeds = c.args.streams.now.feeds.items in
-    let was = c.loop-rest.sources in let was_feeds = c.loop-rest.streams.feeds.items in let waits = c.loop-rest.streams.waiting in
-    let now = c.gather.new.sources in let feeds = c.gather.new.self.feeds.items in let left = c.gather.new.self.waiting in
+    let was = c.loop-rest.sources in let was_feeds = c.loop-rest.streams.feeds.items in let waits =
+    c.loop-rest.streams.waiting in
+    let now = c.gather.new.sources in let feeds = c.gather.new.self.feeds.items in let left =
+    c.gather.new.self.waiting in
     let came = c.loop-rest.invariant.came in
     let none = subst (λ o. MatchOption o ((now ≡ was) × (feeds ≡ was_feeds) × (waits ≡ []) × (left ≡ []))
-    (λ (b : Box Line Global). Grouped LINE_LIMIT text extent was was_feeds waits now feeds left (member_pair b.value) (b.value ∷ map (λ (b : Box Line Global). b.value) c.gather.new.rest.items)))
+    (λ (b : Box Line Global). Grouped LINE_LIMIT text extent was was_feeds waits now feeds left (member_pair b.value)
+    (b.value ∷ map (λ (b : Box Line Global). b.value) c.gather.new.rest.items)))
     c.in_default.is c.in_ok-first.ensures.group in (
       came.0,
       came.1,
       subst (λ us. Reached LINE_LIMIT text past extent gave old old_feeds us feeds left came.0 came.1) (sym none.0)
-          (subst (λ (us : List Feed). Reached LINE_LIMIT text past extent gave old old_feeds was us left came.0 came.1) (sym none.1)
-          (subst (λ (us : List WaitingLine). Reached LINE_LIMIT text past extent gave old old_feeds was was_feeds us came.0 came.1) (none.2 ∙ sym none.3) came.2)),
+          (subst (λ (us : List Feed). Reached LINE_LIMIT text past extent gave old old_feeds was us left came.0 came.1)
+          (sym none.1)
+          (subst (λ (us : List WaitingLine). Reached LINE_LIMIT text past extent gave old old_feeds was was_feeds us
+          came.0 came.1) (none.2 ∙ sym none.3) came.2)),
       came.3,
       λ e. absurd (true≢false e),
     )
@@ -325,8 +415,10 @@ returns-in_err-first-clause-failures g c =
     let out = g.O.Output.failures c.loop-rest.out in
     let e = c.in_err-first.field-0.0 in
     let inv = c.loop-rest.invariant in
-    counts_merge c.from_residual.result e (f c.args.sources.now) (f c.loop-rest.sources) (f c.gather.new.sources) (g.O.Output.failures c.args.out.now) out out
-    c.from_residual.ensures.1 inv.reads inv.writes (raised_by_read e (f c.loop-rest.sources) (f c.gather.new.sources) out c.in_err-first.ensures.failures)
+    counts_merge c.from_residual.result e (f c.args.sources.now) (f c.loop-rest.sources) (f c.gather.new.sources)
+    (g.O.Output.failures c.args.out.now) out out
+    c.from_residual.ensures.1 inv.reads inv.writes
+    (raised_by_read e (f c.loop-rest.sources) (f c.gather.new.sources) out c.in_err-first.ensures.failures)
 
 pub returns-in_err-more-clause-failures : goal.returns-in_err-more-clause-failures
 returns-in_err-more-clause-failures g c =
@@ -335,5 +427,7 @@ returns-in_err-more-clause-failures g c =
     let out = g.O.Output.failures c.hand_on.new.out in
     let e = c.in_err-more.field-0.0 in
     let inv = c.loop-rest.invariant in
-    counts_merge c.from_residual-in_err-more.result e (map g.S.Source.failures c.args.sources.now) now now (g.O.Output.failures c.args.out.now) was out
-    c.from_residual-in_err-more.ensures.1 (c.in_ok-first.ensures.failures ∙ inv.reads) inv.writes (raised_by_write e now was out c.in_err-more.ensures.failures)
+    counts_merge c.from_residual-in_err-more.result e (map g.S.Source.failures c.args.sources.now) now now
+    (g.O.Output.failures c.args.out.now) was out
+    c.from_residual-in_err-more.ensures.1 (c.in_ok-first.ensures.failures ∙ inv.reads) inv.writes
+    (raised_by_write e now was out c.in_err-more.ensures.failures)

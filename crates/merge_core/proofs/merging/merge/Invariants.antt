@@ -16,11 +16,15 @@ invariant-loop-rest g l = record {
   reads : map g.S.Source.failures l.sources ≡ map g.S.Source.failures l.fn.sources;
   writes : g.O.Output.failures l.out ≡ g.O.Output.failures l.fn.out;
   further : (g.K.Sink.Enough l.fn.sink → ⊥) → g.K.Sink.Enough l.sink → ⊥;
-  held : OverIndexes LINE_LIMIT (map g.S.Source.text l.fn.sources) (λ texts indexes. (most : ℕ) → ShareAtMost most (all_lines indexes)
+  held : OverIndexes LINE_LIMIT (map g.S.Source.text l.fn.sources) (λ texts indexes. (most : ℕ)
+      → ShareAtMost most (all_lines indexes)
       → l.fn.streams.held ≤ length l.fn.sources + most → l.streams.held ≤ length l.fn.sources + most);
   came : (b : Option Pair) × (taken : List Member)
-      × Reached LINE_LIMIT g.S.Source.text (g.R.Range.past l.range) g.S.Source.extent g.S.Source.gave l.fn.sources l.fn.streams.feeds.items l.sources l.streams.feeds.items l.streams.waiting b taken
-      × ((begin : g.row.K.Denot) → (start : Option (List ℕ)) → g.K.Sink.Wrote begin l.fn.sink [] start (g.O.Output.written l.fn.out) → g.K.Sink.Wrote begin l.sink taken start (g.O.Output.written l.out));
+      × Reached LINE_LIMIT g.S.Source.text (g.R.Range.past l.range) g.S.Source.extent g.S.Source.gave l.fn.sources
+      l.fn.streams.feeds.items l.sources l.streams.feeds.items l.streams.waiting b taken
+      × ((begin : g.row.K.Denot) → (start : Option (List ℕ))
+      → g.K.Sink.Wrote begin l.fn.sink [] start (g.O.Output.written l.fn.out)
+      → g.K.Sink.Wrote begin l.sink taken start (g.O.Output.written l.out));
 }
 
 abbrev pub decreases-loop-rest : goal.decreases-loop-rest

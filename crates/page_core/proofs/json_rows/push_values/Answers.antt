@@ -4,7 +4,8 @@ use Rattle.json.specs.Print.{quoted}
 use Rattle.page_core.specs.Rows.{value_of}
 use Rattle.page_core.proofs.JsonLemmas.{values_plain}
 use Rattle.page_core.proofs.json_rows.push_values.Goals as goal
-use Rattle.page_core.proofs.json_rows.push_values.Goals.{then-needs_no_escapes+in_ok-push_plain_values, else-needs_no_escapes+in_ok-push_quoted_values}
+use Rattle.page_core.proofs.json_rows.push_values.Goals.{then-needs_no_escapes+in_ok-push_plain_values}
+use Rattle.page_core.proofs.json_rows.push_values.Goals.{else-needs_no_escapes+in_ok-push_quoted_values}
 
 closed : (old row : List ℕ) → ((old ++ 91 ∷ []) ++ row) ++ 93 ∷ [] ≡ old ++ 91 ∷ (row ++ 93 ∷ [])
 closed old row = simp append_assoc

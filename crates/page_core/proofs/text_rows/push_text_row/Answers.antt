@@ -3,7 +3,8 @@ use Rattle.std.specs.List.{join_by, count_by}
 use Rattle.page_core.specs.Rows.{value_of, escaped, is_hidden}
 use Rattle.page_core.proofs.HiddenLemmas.{taken_off, appended, text_same}
 use Rattle.page_core.proofs.text_rows.push_text_row.Goals as goal
-use Rattle.page_core.proofs.text_rows.push_text_row.Goals.{then-count_hidden-fields+in_ok-push_text_values, else-count_hidden-fields}
+use Rattle.page_core.proofs.text_rows.push_text_row.Goals.{then-count_hidden-fields+in_ok-push_text_values}
+use Rattle.page_core.proofs.text_rows.push_text_row.Goals.{else-count_hidden-fields}
 
 pub returns : goal.returns
 returns c =

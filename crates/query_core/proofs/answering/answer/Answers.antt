@@ -1,4 +1,5 @@
-use Rattle.std.proofs.Common.{◌≡◌, ◌++◌, ℕ, length, map, List, [], Option, Some, true, not, refl, sym, ap, ◌∙◌, subst, append-nil, arith}
+use Rattle.std.proofs.Common.{◌≡◌, ◌++◌, ℕ, length, map, List, [], Option, Some, true, not, refl, sym, ap, ◌∙◌, subst}
+use Rattle.std.proofs.Common.{append-nil, arith}
 use Rattle.std.proofs.lemmas.Bool.{true≢false, false_from_ne_true}
 use Rattle.std.proofs.lemmas.List.{length-map}
 use Rattle.std.specs.Option.{is_some}
@@ -33,35 +34,54 @@ no_lines texts = record { rise = tt; each = tt }
 
 -- ---- the writer
 
-begun : (g : Over) (c : In-Ok g) → Wrote c.in-Ok.writer c.in-Ok.writer [] (g.O.Output.written c.args.out.now) (g.O.Output.written c.begin.new.out)
+begun : (g : Over) (c : In-Ok g) → Wrote c.in-Ok.writer c.in-Ok.writer [] (g.O.Output.written c.args.out.now)
+    (g.O.Output.written c.begin.new.out)
 begun g c = (((refl, refl), refl), c.in-Ok.ensures.stands)
 
-at : (g : Over) (c : In-Ok g) (w : PageWriter) (lines : List Member) (now : Option (List ℕ)) → Wrote c.in-Ok.writer w lines (g.O.Output.written c.args.out.now) now
-    → PageStands (form_of c.args.query.now) c.args.query.now.limit (captures_over c.args.query.now c.args.query.now.resume lines) (g.O.Output.written c.args.out.now) now w.given w.more w.last
-at g c w lines now wrote = stood c.in-Ok.writer c.args.query.now c.in-Ok.ensures.query w lines (g.O.Output.written c.args.out.now) now wrote
+at : (g : Over) (c : In-Ok g) (w : PageWriter) (lines : List Member) (now : Option (List ℕ))
+    → Wrote c.in-Ok.writer w lines (g.O.Output.written c.args.out.now) now
+    → PageStands (form_of c.args.query.now) c.args.query.now.limit
+    (captures_over c.args.query.now c.args.query.now.resume lines) (g.O.Output.written c.args.out.now) now w.given
+    w.more w.last
+at g c w lines now wrote = stood c.in-Ok.writer c.args.query.now c.in-Ok.ensures.query w lines
+    (g.O.Output.written c.args.out.now) now wrote
 
 -- captures after which it wanted more don't pass the page
-within : (g : Over) (c : In-Ok g) (w : PageWriter) (lines : List Member) (now : Option (List ℕ)) → Wrote c.in-Ok.writer w lines (g.O.Output.written c.args.out.now) now
-    → ((c.in-Ok.writer.more ≡ true → ⊥) → w.more ≡ true → ⊥) → IsWithin c.args.query.now.limit (captures_over c.args.query.now c.args.query.now.resume lines)
+within : (g : Over) (c : In-Ok g) (w : PageWriter) (lines : List Member) (now : Option (List ℕ))
+    → Wrote c.in-Ok.writer w lines (g.O.Output.written c.args.out.now) now
+    → ((c.in-Ok.writer.more ≡ true → ⊥) → w.more ≡ true → ⊥)
+    → IsWithin c.args.query.now.limit (captures_over c.args.query.now c.args.query.now.resume lines)
 within g c w lines now wrote more =
     let q = c.args.query.now in
-    let fresh : c.in-Ok.writer.more ≡ true → ⊥ = λ e. true≢false (sym e ∙ (at g c c.in-Ok.writer [] (g.O.Output.written c.begin.new.out) (begun g c)).more_is ∙ none_follows q.limit) in
-    within_page q.limit (captures_over q q.resume lines) c.in-Ok.ensures.some (sym (at g c w lines now wrote).more_is ∙ false_from_ne_true _ (more fresh))
+    let fresh : c.in-Ok.writer.more ≡ true
+    → ⊥ = λ e. true≢false
+    (sym e ∙ (at g c c.in-Ok.writer [] (g.O.Output.written c.begin.new.out) (begun g c)).more_is
+    ∙ none_follows q.limit) in
+    within_page q.limit (captures_over q q.resume lines) c.in-Ok.ensures.some (sym (at g c w lines now wrote).more_is
+    ∙ false_from_ne_true _ (more fresh))
 
 -- all lines that were taken
-came : (g : Over) (c : In-Ok-read_lines g) → Wrote c.in-Ok.writer c.read_lines.new.sink c.in-Ok-read_lines.ensures.took.lines (g.O.Output.written c.args.out.now) (g.O.Output.written c.read_lines.new.out)
-came g c = c.in-Ok-read_lines.ensures.took.came c.in-Ok.writer (g.O.Output.written c.args.out.now) (((refl, refl), refl), c.in-Ok.ensures.stands)
+came : (g : Over) (c : In-Ok-read_lines g)
+    → Wrote c.in-Ok.writer c.read_lines.new.sink c.in-Ok-read_lines.ensures.took.lines
+    (g.O.Output.written c.args.out.now) (g.O.Output.written c.read_lines.new.out)
+came g c = c.in-Ok-read_lines.ensures.took.came c.in-Ok.writer (g.O.Output.written c.args.out.now)
+    (((refl, refl), refl), c.in-Ok.ensures.stands)
 
 -- the page of lines of which these were taken, if they settle it
 settled : (g : Over) (c : In-Ok-read_lines g) (all rest : List Member)
-    → captures_over c.args.query.now c.args.query.now.resume all ≡ captures_over c.args.query.now c.args.query.now.resume c.in-Ok-read_lines.ensures.took.lines ++ rest
-    → (c.in-Ok-read_lines.pass.all ≡ true → captures_over c.args.query.now c.args.query.now.resume all ≡ captures_over c.args.query.now c.args.query.now.resume c.in-Ok-read_lines.ensures.took.lines)
-    → query_page c.args.query.now all ≡ page_over c.args.query.now c.args.query.now.resume c.args.query.now.limit c.in-Ok-read_lines.ensures.took.lines
+    → captures_over c.args.query.now c.args.query.now.resume all
+    ≡ captures_over c.args.query.now c.args.query.now.resume c.in-Ok-read_lines.ensures.took.lines ++ rest
+    → (c.in-Ok-read_lines.pass.all ≡ true → captures_over c.args.query.now c.args.query.now.resume all
+    ≡ captures_over c.args.query.now c.args.query.now.resume c.in-Ok-read_lines.ensures.took.lines)
+    → query_page c.args.query.now all ≡ page_over c.args.query.now c.args.query.now.resume c.args.query.now.limit
+    c.in-Ok-read_lines.ensures.took.lines
 settled g c all rest split ended =
     let took = c.in-Ok-read_lines.ensures.took in
     let sink = c.read_lines.new.sink in
-    page_settled c.args.query.now all took.lines c.in-Ok-read_lines.pass.all sink.more rest split ended (λ e. c.in-Ok-read_lines.ensures.enough e)
-    (stood c.in-Ok.writer c.args.query.now c.in-Ok.ensures.query sink took.lines (g.O.Output.written c.args.out.now) (g.O.Output.written c.read_lines.new.out) (came g c)).more_is
+    page_settled c.args.query.now all took.lines c.in-Ok-read_lines.pass.all sink.more rest split ended
+    (λ e. c.in-Ok-read_lines.ensures.enough e)
+    (stood c.in-Ok.writer c.args.query.now c.in-Ok.ensures.query sink took.lines (g.O.Output.written c.args.out.now)
+    (g.O.Output.written c.read_lines.new.out) (came g c)).more_is
 
 -- ---- what is refused, and failures
 
@@ -70,25 +90,31 @@ returns-then-sources-gt-SOURCES_LIMIT-clause-refused g c =
     refuses_many _ (length c.args.sources.now) _ c.if-sources-gt-SOURCES_LIMIT.true (refl, refl)
 
 pub returns-in-Err-clause-refused : goal.returns-in-Err-clause-refused
-returns-in-Err-clause-refused g c = refuses_few (length c.args.sources.now) _ _ c.if-sources-gt-SOURCES_LIMIT.false c.text_fault.ensures.late
+returns-in-Err-clause-refused g c = refuses_few (length c.args.sources.now) _ _ c.if-sources-gt-SOURCES_LIMIT.false
+    c.text_fault.ensures.late
 
 pub returns-in-Err-read_lines-clause-refused : goal.returns-in-Err-read_lines-clause-refused
-returns-in-Err-read_lines-clause-refused g c = refuses_few (length c.args.sources.now) _ _ c.if-sources-gt-SOURCES_LIMIT.false c.in-Err-read_lines.ensures.late
+returns-in-Err-read_lines-clause-refused g c = refuses_few (length c.args.sources.now) _ _
+    c.if-sources-gt-SOURCES_LIMIT.false c.in-Err-read_lines.ensures.late
 
 pub returns-in-Err-end-clause-refused : goal.returns-in-Err-end-clause-refused
-returns-in-Err-end-clause-refused g c = refuses_few (length c.args.sources.now) _ _ c.if-sources-gt-SOURCES_LIMIT.false c.text_fault-in-Err-end.ensures.late
+returns-in-Err-end-clause-refused g c = refuses_few (length c.args.sources.now) _ _ c.if-sources-gt-SOURCES_LIMIT.false
+    c.text_fault-in-Err-end.ensures.late
 
 pub returns-clause-refused : goal.returns-clause-refused
 returns-clause-refused g c = refuses_few (length c.args.sources.now) _ _ c.if-sources-gt-SOURCES_LIMIT.false tt
 
 pub returns-in-Err-clause-failures : goal.returns-in-Err-clause-failures
 returns-in-Err-clause-failures g c =
-    c.text_fault.ensures.raised (map g.S.Source.failures c.args.sources.now) (g.O.Output.failures c.args.out.now) (g.O.Output.failures c.begin.new.out) c.in-Err.ensures.failures
+    c.text_fault.ensures.raised (map g.S.Source.failures c.args.sources.now) (g.O.Output.failures c.args.out.now)
+    (g.O.Output.failures c.begin.new.out) c.in-Err.ensures.failures
 
 pub returns-in-Err-read_lines-clause-failures : goal.returns-in-Err-read_lines-clause-failures
 returns-in-Err-read_lines-clause-failures g c =
     let ss = map g.S.Source.failures c.args.sources.now in
-    raised_after c.in-Err-read_lines.fault ss ss (map g.S.Source.failures c.read_lines.new.sources) (g.O.Output.failures c.args.out.now) (g.O.Output.failures c.begin.new.out) (g.O.Output.failures c.read_lines.new.out)
+    raised_after c.in-Err-read_lines.fault ss ss (map g.S.Source.failures c.read_lines.new.sources)
+    (g.O.Output.failures c.args.out.now) (g.O.Output.failures c.begin.new.out)
+    (g.O.Output.failures c.read_lines.new.out)
     refl c.in-Ok.ensures.failures c.in-Err-read_lines.ensures.failures
 
 pub returns-in-Err-end-clause-failures : goal.returns-in-Err-end-clause-failures
@@ -97,8 +123,10 @@ returns-in-Err-end-clause-failures g c =
     let mid = g.O.Output.failures c.read_lines.new.out in
     let new = g.O.Output.failures c.end.new.out in
     let read = c.in-Ok-read_lines.ensures.failures in
-    raised_after c.text_fault-in-Err-end.result (map g.S.Source.failures c.args.sources.now) now now (g.O.Output.failures c.args.out.now) mid new
-    read.0 (read.1 ∙ c.in-Ok.ensures.failures) (c.text_fault-in-Err-end.ensures.raised now mid new c.in-Err-end.ensures.failures)
+    raised_after c.text_fault-in-Err-end.result (map g.S.Source.failures c.args.sources.now) now now
+    (g.O.Output.failures c.args.out.now) mid new
+    read.0 (read.1 ∙ c.in-Ok.ensures.failures)
+    (c.text_fault-in-Err-end.ensures.raised now mid new c.in-Err-end.ensures.failures)
 
 pub returns-in-Err-clause-fault : goal.returns-in-Err-clause-fault
 returns-in-Err-clause-fault g c = c.text_fault.ensures.line (map g.S.Source.text c.args.sources.now)
@@ -109,13 +137,15 @@ returns-in-Err-end-clause-fault g c = c.text_fault-in-Err-end.ensures.line (map 
 -- ---- the page of lines of the sources
 
 pub returns-then-sources-gt-SOURCES_LIMIT-clause-lines : goal.returns-then-sources-gt-SOURCES_LIMIT-clause-lines
-returns-then-sources-gt-SOURCES_LIMIT-clause-lines g c = ([], no_lines (map g.S.Source.text c.args.sources.now), wrote_nothing _ _)
+returns-then-sources-gt-SOURCES_LIMIT-clause-lines g c =
+    ([], no_lines (map g.S.Source.text c.args.sources.now), wrote_nothing _ _)
 
 pub returns-in-Err-clause-lines : goal.returns-in-Err-clause-lines
 returns-in-Err-clause-lines g c = (
   [],
   no_lines (map g.S.Source.text c.args.sources.now),
-  start_front c.args.query.now [] (g.O.Output.written c.args.out.now) (g.O.Output.written c.begin.new.out) c.in-Err.ensures.front,
+  start_front c.args.query.now [] (g.O.Output.written c.args.out.now) (g.O.Output.written c.begin.new.out)
+      c.in-Err.ensures.front,
 )
 
 pub returns-in-Err-read_lines-clause-lines : goal.returns-in-Err-read_lines-clause-lines
@@ -127,7 +157,8 @@ returns-in-Err-read_lines-clause-lines g c =
       broke.lines,
       broke.took.lines,
       page_broke q broke.lines broke.lines start now [] (sym (append-nil (captures_over q q.resume broke.lines)))
-          (rows_front c.in-Ok.writer q c.in-Ok.ensures.query broke.lines start now (broke.wrote c.in-Ok.writer start (((refl, refl), refl), c.in-Ok.ensures.stands))),
+          (rows_front c.in-Ok.writer q c.in-Ok.ensures.query broke.lines start now
+          (broke.wrote c.in-Ok.writer start (((refl, refl), refl), c.in-Ok.ensures.stands))),
     )
 
 pub returns-in-Err-end-clause-lines : goal.returns-in-Err-end-clause-lines
@@ -137,7 +168,9 @@ returns-in-Err-end-clause-lines g c =
     let here = (goal.at.returns-in-Err-end-clause-lines g c).In-Ok-read_lines in (
       took.lines,
       took.took.lines,
-      end_front c.in-Ok.writer q c.in-Ok.ensures.query c.read_lines.new.sink took.lines took.lines (g.O.Output.written c.args.out.now) (g.O.Output.written c.read_lines.new.out) (g.O.Output.written c.end.new.out)
+      end_front c.in-Ok.writer q c.in-Ok.ensures.query c.read_lines.new.sink took.lines took.lines
+          (g.O.Output.written c.args.out.now) (g.O.Output.written c.read_lines.new.out)
+          (g.O.Output.written c.end.new.out)
           (came g here) (asked_is q took.lines) c.in-Err-end.ensures.text,
     )
 
@@ -149,7 +182,9 @@ returns-clause-lines g c =
     let here = (goal.at.returns-clause-lines g c).In-Ok-read_lines in (
       took.lines,
       took.took.lines,
-      page_ended c.in-Ok.writer q c.in-Ok.ensures.query c.read_lines.new.sink took.lines took.lines (g.O.Output.written c.args.out.now) (g.O.Output.written c.read_lines.new.out) (g.O.Output.written c.end.new.out)
+      page_ended c.in-Ok.writer q c.in-Ok.ensures.query c.read_lines.new.sink took.lines took.lines
+          (g.O.Output.written c.args.out.now) (g.O.Output.written c.read_lines.new.out)
+          (g.O.Output.written c.end.new.out)
           (came g here) (asked_is q took.lines) c.in-Ok-end.end _ end.text end.end.0 end.end.1 refl c.is_some.ensures,
     )
 
@@ -160,7 +195,8 @@ returns-then-sources-gt-SOURCES_LIMIT-clause-page g c = λ texts indexes known a
 
 pub returns-in-Err-clause-page : goal.returns-in-Err-clause-page
 returns-in-Err-clause-page g c = λ texts indexes known are.
-    start_front c.args.query.now (collection indexes) (g.O.Output.written c.args.out.now) (g.O.Output.written c.begin.new.out) c.in-Err.ensures.front
+    start_front c.args.query.now (collection indexes) (g.O.Output.written c.args.out.now)
+    (g.O.Output.written c.begin.new.out) c.in-Err.ensures.front
 
 pub returns-in-Err-read_lines-clause-page : goal.returns-in-Err-read_lines-clause-page
 returns-in-Err-read_lines-clause-page g c = λ texts indexes known are.
@@ -170,15 +206,19 @@ returns-in-Err-read_lines-clause-page g c = λ texts indexes known are.
     let broke = c.in-Err-read_lines.ensures.broke in
     let first = broke.took.first texts indexes known are in
     page_broke q (collection indexes) broke.lines start now first.0 first.1
-    (rows_front c.in-Ok.writer q c.in-Ok.ensures.query broke.lines start now (broke.wrote c.in-Ok.writer start (((refl, refl), refl), c.in-Ok.ensures.stands)))
+    (rows_front c.in-Ok.writer q c.in-Ok.ensures.query broke.lines start now
+    (broke.wrote c.in-Ok.writer start (((refl, refl), refl), c.in-Ok.ensures.stands)))
 
 pub returns-in-Err-end-clause-page : goal.returns-in-Err-end-clause-page
 returns-in-Err-end-clause-page g c = λ texts indexes known are.
     let took = c.in-Ok-read_lines.ensures.took in
     let first = took.took.first texts indexes known are in
     let here = (goal.at.returns-in-Err-end-clause-page g c).In-Ok-read_lines in
-    end_front c.in-Ok.writer c.args.query.now c.in-Ok.ensures.query c.read_lines.new.sink (collection indexes) took.lines (g.O.Output.written c.args.out.now) (g.O.Output.written c.read_lines.new.out) (g.O.Output.written c.end.new.out)
-    (came g here) (settled g here (collection indexes) first.0 first.1 (λ e. took.whole e texts indexes known are)) c.in-Err-end.ensures.text
+    end_front c.in-Ok.writer c.args.query.now c.in-Ok.ensures.query c.read_lines.new.sink (collection indexes)
+    took.lines (g.O.Output.written c.args.out.now) (g.O.Output.written c.read_lines.new.out)
+    (g.O.Output.written c.end.new.out)
+    (came g here) (settled g here (collection indexes) first.0 first.1 (λ e. took.whole e texts indexes known are))
+    c.in-Err-end.ensures.text
 
 pub returns-clause-page : goal.returns-clause-page
 returns-clause-page g c = λ texts indexes known are.
@@ -186,8 +226,11 @@ returns-clause-page g c = λ texts indexes known are.
     let end = c.in-Ok-end.ensures in
     let first = took.took.first texts indexes known are in
     let here = (goal.at.returns-clause-page g c).In-Ok-read_lines in
-    page_ended c.in-Ok.writer c.args.query.now c.in-Ok.ensures.query c.read_lines.new.sink (collection indexes) took.lines (g.O.Output.written c.args.out.now) (g.O.Output.written c.read_lines.new.out) (g.O.Output.written c.end.new.out)
-    (came g here) (settled g here (collection indexes) first.0 first.1 (λ e. took.whole e texts indexes known are)) c.in-Ok-end.end _ end.text end.end.0 end.end.1 refl c.is_some.ensures
+    page_ended c.in-Ok.writer c.args.query.now c.in-Ok.ensures.query c.read_lines.new.sink (collection indexes)
+    took.lines (g.O.Output.written c.args.out.now) (g.O.Output.written c.read_lines.new.out)
+    (g.O.Output.written c.end.new.out)
+    (came g here) (settled g here (collection indexes) first.0 first.1 (λ e. took.whole e texts indexes known are))
+    c.in-Ok-end.end _ end.text end.end.0 end.end.1 refl c.is_some.ensures
 
 pub returns-clause-parts : goal.returns-clause-parts
 returns-clause-parts g c = λ texts known.
@@ -198,12 +241,17 @@ returns-clause-parts g c = λ texts known.
     let read = took.parts texts known in
     let here = (goal.at.returns-clause-parts g c).In-Ok-read_lines in
     let is = settled g here (collection read.parts) read.first.0 read.first.1 read.ended in
-    let page = page_ended c.in-Ok.writer q c.in-Ok.ensures.query sink (collection read.parts) took.lines (g.O.Output.written c.args.out.now) (g.O.Output.written c.read_lines.new.out) (g.O.Output.written c.end.new.out)
+    let page = page_ended c.in-Ok.writer q c.in-Ok.ensures.query sink (collection read.parts) took.lines
+    (g.O.Output.written c.args.out.now) (g.O.Output.written c.read_lines.new.out) (g.O.Output.written c.end.new.out)
     (came g here) is c.in-Ok-end.end _ end.text end.end.0 end.end.1 refl c.is_some.ensures in
-    let stands = stood c.in-Ok.writer q c.in-Ok.ensures.query sink took.lines (g.O.Output.written c.args.out.now) (g.O.Output.written c.read_lines.new.out) (came g here) in
+    let stands = stood c.in-Ok.writer q c.in-Ok.ensures.query sink took.lines (g.O.Output.written c.args.out.now)
+    (g.O.Output.written c.read_lines.new.out) (came g here) in
     record {
       parts = read.parts;
-      each = read.each _ (all_read c.in-Ok-read_lines.pass.all sink.more _ (page_over q q.resume q.limit took.lines).next stands.more_is (page.more ∙ ap (λ (p : Page Member PlaceValue). is_some p.next) is) (λ e. c.in-Ok-read_lines.ensures.enough e));
+      each = read.each _ (all_read c.in-Ok-read_lines.pass.all sink.more _
+          (page_over q q.resume q.limit took.lines).next stands.more_is
+          (page.more ∙ ap (λ (p : Page Member PlaceValue). is_some p.next) is)
+          (λ e. c.in-Ok-read_lines.ensures.enough e));
       lines = read.count;
       answered = page;
       least = page_fewer q read.parts _ _ page.given read.count;
@@ -216,7 +264,9 @@ returns-then-sources-gt-SOURCES_LIMIT-clause-reads g c = record {
   probes = tt;
   lines = λ texts indexes known are. tt;
   bytes = λ texts indexes known are.
-      page_not_reached g.S.Source.text g.S.Source.extent g.S.Source.gave c.args.query.now texts indexes (g.O.Output.written c.args.out.now) (g.O.Output.written c.args.out.now) c.args.sources.now known are (grows_not _);
+      page_not_reached g.S.Source.text g.S.Source.extent g.S.Source.gave c.args.query.now texts indexes
+      (g.O.Output.written c.args.out.now) (g.O.Output.written c.args.out.now) c.args.sources.now known are
+      (grows_not _);
   held = λ texts indexes known are most share. tt;
 }
 
@@ -225,7 +275,9 @@ returns-in-Err-clause-reads g c = record {
   probes = tt;
   lines = λ texts indexes known are. tt;
   bytes = λ texts indexes known are.
-      page_not_reached g.S.Source.text g.S.Source.extent g.S.Source.gave c.args.query.now texts indexes (g.O.Output.written c.args.out.now) (g.O.Output.written c.begin.new.out) c.args.sources.now known are (grows_part _ _ _ c.in-Err.ensures.front);
+      page_not_reached g.S.Source.text g.S.Source.extent g.S.Source.gave c.args.query.now texts indexes
+      (g.O.Output.written c.args.out.now) (g.O.Output.written c.begin.new.out) c.args.sources.now known are
+      (grows_part _ _ _ c.in-Err.ensures.front);
   held = λ texts indexes known are most share. tt;
 }
 
@@ -242,10 +294,13 @@ returns-in-Err-read_lines-clause-reads g c =
       lines = λ texts indexes known are. tt;
       bytes = λ texts indexes known are.
           let first = halted.first texts indexes known are in
-          page_reached g.S.Source.extent g.S.Source.gave q texts indexes start before.middle (g.O.Output.written c.read_lines.new.out) c.args.sources.now c.read_lines.new.sources
-          halted.earlier first.0 (captures_over q q.resume halted.earlier) [] first.1 (sym (append-nil (captures_over q q.resume halted.earlier)))
+          page_reached g.S.Source.extent g.S.Source.gave q texts indexes start before.middle
+          (g.O.Output.written c.read_lines.new.out) c.args.sources.now c.read_lines.new.sources
+          halted.earlier first.0 (captures_over q q.resume halted.earlier) [] first.1
+          (sym (append-nil (captures_over q q.resume halted.earlier)))
           (within g here before.state halted.earlier before.middle wrote before.more)
-          (at g here before.state halted.earlier before.middle wrote).text halted.grows (λ n most. before.within texts indexes known are (Some n) most);
+          (at g here before.state halted.earlier before.middle wrote).text halted.grows
+          (λ n most. before.within texts indexes known are (Some n) most);
       held = λ texts indexes known are most share. tt;
     }
 
@@ -263,9 +318,13 @@ returns-in-Err-end-clause-reads g c =
       lines = λ texts indexes known are. tt;
       bytes = λ texts indexes known are.
           let first = took.took.first texts indexes known are in
-          page_reached g.S.Source.extent g.S.Source.gave q texts indexes start mid (g.O.Output.written c.end.new.out) c.args.sources.now c.read_lines.new.sources
-          took.lines first.0 (captures_over q q.resume took.earlier) took.later first.1 took.split (within g here took.before.state took.earlier took.before.middle wrote took.before.more)
-          (at g here c.read_lines.new.sink took.lines mid (came g all.In-Ok-read_lines)).text (grows_part _ _ _ c.in-Err-end.ensures.text) (λ n most. took.before.within texts indexes known are (Some n) most);
+          page_reached g.S.Source.extent g.S.Source.gave q texts indexes start mid (g.O.Output.written c.end.new.out)
+          c.args.sources.now c.read_lines.new.sources
+          took.lines first.0 (captures_over q q.resume took.earlier) took.later first.1 took.split
+          (within g here took.before.state took.earlier took.before.middle wrote took.before.more)
+          (at g here c.read_lines.new.sink took.lines mid (came g all.In-Ok-read_lines)).text
+          (grows_part _ _ _ c.in-Err-end.ensures.text)
+          (λ n most. took.before.within texts indexes known are (Some n) most);
       held = λ texts indexes known are most share. tt;
     }
 
@@ -286,8 +345,11 @@ returns-clause-reads g c =
           omega (arith, most, length-map c.args.sources.now g.S.Source.text);
       bytes = λ texts indexes known are.
           let first = took.took.first texts indexes known are in
-          page_reached g.S.Source.extent g.S.Source.gave q texts indexes start mid (g.O.Output.written c.end.new.out) c.args.sources.now c.read_lines.new.sources
+          page_reached g.S.Source.extent g.S.Source.gave q texts indexes start mid (g.O.Output.written c.end.new.out)
+          c.args.sources.now c.read_lines.new.sources
           took.lines first.0 (captures_over q q.resume took.earlier) took.later first.1 took.split room
-          (at g here c.read_lines.new.sink took.lines mid (came g all.In-Ok-read_lines)).text (grows_by _ _ _ c.in-Ok-end.ensures.text) (λ n most. took.before.within texts indexes known are (Some n) most);
+          (at g here c.read_lines.new.sink took.lines mid (came g all.In-Ok-read_lines)).text
+          (grows_by _ _ _ c.in-Ok-end.ensures.text)
+          (λ n most. took.before.within texts indexes known are (Some n) most);
       held = λ texts indexes known are most share. c.in-Ok-read_lines.ensures.held texts indexes known are most share;
     }

@@ -1,4 +1,5 @@
-use Rattle.std.proofs.Common.{◌≡◌, ◌+◌, ℕ, Box, Global, Option, None, Some, drop, option_map, refl, sym, ap, ◌∙◌, subst, arith}
+use Rattle.std.proofs.Common.{◌≡◌, ◌+◌, ℕ, Box, Global, Option, None, Some, drop, option_map, refl, sym, ap, ◌∙◌, subst}
+use Rattle.std.proofs.Common.{arith}
 use Rattle.std.specs.Prelude.{Err, MatchOption}
 use Rattle.std.proofs.lemmas.Result.{err_from_is_err_and}
 use Rattle.cdxj_core.specs.declared.limit.TheConstants.{LINE_LIMIT}
@@ -23,15 +24,19 @@ returns-in_err-line-clause-checked g c =
     let rest = inv.stands.rest t told ∙ ap (λ s. drop c.loop-previous.cursor.count (lines (drop s t))) inv.start in
     let long = inv.long t e in
     let known = c.in_err-line.ensures in
-    rw (given.1, given.2) (checked_fault LINE_LIMIT t c.loop-previous.cursor.at c.loop-previous.cursor.count (value c.loop-previous.previous) (inv.told t e) rest
+    rw (given.1, given.2)
+    (checked_fault LINE_LIMIT t c.loop-previous.cursor.at c.loop-previous.cursor.count
+    (value c.loop-previous.previous) (inv.told t e) rest
     (omega (arith, long, inv.stands.filled.within, inv.extent)) c.in_err-line.field-0.0 (known.fault t told))
 
 pub returns-in_err-line-clause-failures : goal.returns-in_err-line-clause-failures
 returns-in_err-line-clause-failures g c =
     let inv = c.loop-previous.invariant in
     let given = err_from_is_err_and c.from_residual-in_err-line.result c.from_residual-in_err-line.ensures.1 in
-    let counts : CountsSource {A = ℕ} (Err c.in_err-line.field-0.0) (g.S.Source.failures c.args.source.now) (g.S.Source.failures c.next_line.new.source) =
-    subst (λ n. CountsSource {A = ℕ} (Err c.in_err-line.field-0.0) n (g.S.Source.failures c.next_line.new.source)) inv.failures c.in_err-line.ensures.failures in
+    let counts : CountsSource {A = ℕ} (Err c.in_err-line.field-0.0) (g.S.Source.failures c.args.source.now)
+    (g.S.Source.failures c.next_line.new.source) =
+    subst (λ n. CountsSource {A = ℕ} (Err c.in_err-line.field-0.0) n (g.S.Source.failures c.next_line.new.source))
+    inv.failures c.in_err-line.ensures.failures in
     rw (given.1, given.2) counts
 
 pub returns-then-falls_after-clause-checked : goal.returns-then-falls_after-clause-checked
@@ -41,16 +46,21 @@ returns-then-falls_after-clause-checked g c =
     let told : g.S.Source.text c.loop-previous.source ≡ Some t = inv.text ∙ e in
     let rest = inv.stands.rest t told ∙ ap (λ s. drop c.loop-previous.cursor.count (lines (drop s t))) inv.start in
     let long = inv.long t e in
-    let next = subst (λ o. IsNextLine LINE_LIMIT t c.loop-previous.cursor.at c.next_line.new.cursor.at (value o)) c.in-Some.is (c.in_ok-line.ensures.line t told) in
+    let next = subst (λ o. IsNextLine LINE_LIMIT t c.loop-previous.cursor.at c.next_line.new.cursor.at (value o))
+    c.in-Some.is (c.in_ok-line.ensures.line t told) in
     subst (EndsOutOfOrder LINE_LIMIT t) (sym inv.offset)
-    (checked_falls LINE_LIMIT t c.loop-previous.cursor.at c.loop-previous.cursor.count (value c.loop-previous.previous) (inv.told t e) rest
-    (omega (arith, long, inv.stands.filled.within, inv.extent)) c.next_line.new.cursor.at c.in-Some.line.value next (subst (FallsAfter (value c.loop-previous.previous)) c.deref.ensures (c.falls_after.ensures.falls c.if-falls_after.true)))
+    (checked_falls LINE_LIMIT t c.loop-previous.cursor.at c.loop-previous.cursor.count (value c.loop-previous.previous)
+    (inv.told t e) rest
+    (omega (arith, long, inv.stands.filled.within, inv.extent)) c.next_line.new.cursor.at c.in-Some.line.value next
+    (subst (FallsAfter (value c.loop-previous.previous)) c.deref.ensures
+    (c.falls_after.ensures.falls c.if-falls_after.true)))
 
 pub loop-previous-preserved : goal.loop-previous-preserved
 loop-previous-preserved g c =
     let inv = c.loop-previous.invariant in
     let ok = c.in_ok-line.ensures in
-    let counted = subst (λ o. MatchOption o (c.next_line.new.cursor.count ≡ c.loop-previous.cursor.count) (λ _. c.next_line.new.cursor.count ≡ c.loop-previous.cursor.count + 1)) c.in-Some.is ok.count in
+    let counted = subst (λ o. MatchOption o (c.next_line.new.cursor.count ≡ c.loop-previous.cursor.count)
+    (λ _. c.next_line.new.cursor.count ≡ c.loop-previous.cursor.count + 1)) c.in-Some.is ok.count in
     record {
       text = ok.text ∙ inv.text;
       extent = ok.extent ∙ inv.extent;
@@ -61,18 +71,27 @@ loop-previous-preserved g c =
       long = inv.long;
       told = λ t e.
           let told : g.S.Source.text c.loop-previous.source ≡ Some t = inv.text ∙ e in
-          let rest = inv.stands.rest t told ∙ ap (λ s. drop c.loop-previous.cursor.count (lines (drop s t))) inv.start in
-          let next = subst (λ o. IsNextLine LINE_LIMIT t c.loop-previous.cursor.at c.next_line.new.cursor.at (value o)) c.in-Some.is (ok.line t told) in
-          let more = checked_more LINE_LIMIT t c.loop-previous.cursor.at c.loop-previous.cursor.count (value c.loop-previous.previous) (inv.told t e) rest
-          c.next_line.new.cursor.at c.in-Some.line.value next (subst (λ m. FallsAfter (value c.loop-previous.previous) m → ⊥) c.deref.ensures (c.falls_after.ensures.stays c.if-falls_after.false)) in
-          subst (λ n. CheckedTo LINE_LIMIT t n (value c.replace.new.self)) (sym counted) (subst (λ o. CheckedTo LINE_LIMIT t (c.loop-previous.cursor.count + 1) (value o)) (sym c.replace.ensures.after) more);
+          let rest = inv.stands.rest t told
+          ∙ ap (λ s. drop c.loop-previous.cursor.count (lines (drop s t))) inv.start in
+          let next = subst (λ o. IsNextLine LINE_LIMIT t c.loop-previous.cursor.at c.next_line.new.cursor.at (value o))
+          c.in-Some.is (ok.line t told) in
+          let more = checked_more LINE_LIMIT t c.loop-previous.cursor.at c.loop-previous.cursor.count
+          (value c.loop-previous.previous) (inv.told t e) rest
+          c.next_line.new.cursor.at c.in-Some.line.value next
+          (subst (λ m. FallsAfter (value c.loop-previous.previous) m → ⊥) c.deref.ensures
+          (c.falls_after.ensures.stays c.if-falls_after.false)) in
+          subst (λ n. CheckedTo LINE_LIMIT t n (value c.replace.new.self)) (sym counted)
+          (subst (λ o. CheckedTo LINE_LIMIT t (c.loop-previous.cursor.count + 1) (value o))
+          (sym c.replace.ensures.after) more);
     }
 
-counted : (found : Option (Box Line Global)) (n count : ℕ) → MatchOption found (n ≡ count) (λ _. n ≡ count + 1) → MatchOption (value found) (n ≡ count) (λ _. n ≡ count + 1)
+counted : (found : Option (Box Line Global)) (n count : ℕ) → MatchOption found (n ≡ count) (λ _. n ≡ count + 1)
+    → MatchOption (value found) (n ≡ count) (λ _. n ≡ count + 1)
 counted None n count h = h
 counted (Some b) n count h = h
 
-not_some : (found : Option (Box Line Global)) → ((b : Box Line Global) → found ≡ Some b → ⊥) → (m : Member) → value found ≡ Some m → ⊥
+not_some : (found : Option (Box Line Global)) → ((b : Box Line Global) → found ≡ Some b → ⊥) → (m : Member)
+    → value found ≡ Some m → ⊥
 not_some None h m e = cc
 not_some (Some b) h m e = h b refl
 
@@ -83,8 +102,10 @@ returns-clause-checked g c =
     λ t e.
     let told : g.S.Source.text c.loop-previous.source ≡ Some t = inv.text ∙ e in
     let rest = inv.stands.rest t told ∙ ap (λ s. drop c.loop-previous.cursor.count (lines (drop s t))) inv.start in
-    checked_whole LINE_LIMIT t c.loop-previous.cursor.at c.loop-previous.cursor.count (value c.loop-previous.previous) (inv.told t e) rest
+    checked_whole LINE_LIMIT t c.loop-previous.cursor.at c.loop-previous.cursor.count (value c.loop-previous.previous)
+    (inv.told t e) rest
     c.next_line.new.cursor.at c.count.result (value c.in_ok-line.field-0) (ok.line t told)
     (counted c.in_ok-line.field-0 c.count.result c.loop-previous.cursor.count
-    (subst (λ n. MatchOption c.in_ok-line.field-0 (n ≡ c.loop-previous.cursor.count) (λ _. n ≡ c.loop-previous.cursor.count + 1)) (sym c.count.ensures) ok.count))
+    (subst (λ n. MatchOption c.in_ok-line.field-0 (n ≡ c.loop-previous.cursor.count)
+    (λ _. n ≡ c.loop-previous.cursor.count + 1)) (sym c.count.ensures) ok.count))
     (not_some c.in_ok-line.field-0 c.in_default.not-Some)

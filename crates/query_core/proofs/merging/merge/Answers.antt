@@ -18,7 +18,8 @@ pub returns-in-Err-clause-failures : goal.returns-in-Err-clause-failures
 returns-in-Err-clause-failures g c = c.merge_fault.ensures.raised _ _ _ _ c.in-Err.ensures.failures
 
 pub returns-in-Err-clause-fault : goal.returns-in-Err-clause-fault
-returns-in-Err-clause-fault g c = c.merge_fault.ensures.line (map g.S.Source.text c.args.sources.now) c.in-Err.ensures.fault
+returns-in-Err-clause-fault g c = c.merge_fault.ensures.line (map g.S.Source.text c.args.sources.now)
+    c.in-Err.ensures.fault
 
 pub returns-then-sources-gt-SOURCES_LIMIT-clause-part : goal.returns-then-sources-gt-SOURCES_LIMIT-clause-part
 returns-then-sources-gt-SOURCES_LIMIT-clause-part g c = λ texts indexes known are. wrote_nothing _ _

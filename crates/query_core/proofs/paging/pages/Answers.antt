@@ -1,4 +1,5 @@
-use Rattle.std.proofs.Common.{rules, ◌≡◌, ◌++◌, ◌∙◌, ℕ, List, [], append-nil, Bool, length, true, false, refl, sym, map, Option, None}
+use Rattle.std.proofs.Common.{rules, ◌≡◌, ◌++◌, ◌∙◌, ℕ, List, [], append-nil, Bool, length, true, false, refl, sym, map}
+use Rattle.std.proofs.Common.{Option, None}
 use Rattle.std.proofs.lemmas.Bool.{true≢false}
 use Rattle.cdxj_places.specs.Places.{place_cmp}
 use Rattle.cdxj_places.specs.Rising.{Rises}
@@ -27,8 +28,10 @@ no_lines texts = record { rise = tt; each = tt }
 
 -- nothing was read
 unread : {S : Type 0} (text : S → Option (List ℕ)) (extent gave : S → ℕ) (test : Member → Bool) (sources : List S)
-    → OverIndexes LINE_LIMIT (map text sources) (λ texts indexes. AllGaveWithin extent gave test texts indexes sources sources)
-unread text extent gave test sources texts indexes known are = within_opening text extent gave test texts indexes sources sources known are (opened_not text extent gave sources)
+    → OverIndexes LINE_LIMIT (map text sources)
+    (λ texts indexes. AllGaveWithin extent gave test texts indexes sources sources)
+unread text extent gave test sources texts indexes known are = within_opening text extent gave test texts indexes
+    sources sources known are (opened_not text extent gave sources)
 
 collection_rises : (indexes : List (List Member)) → Rises member_place place_cmp (collection indexes)
 collection_rises indexes = rises_rising member_place place_cmp place_cmp_total (all_lines indexes)
@@ -36,38 +39,49 @@ collection_rises indexes = rises_rising member_place place_cmp place_cmp_total (
 -- ---- what is refused
 
 pub returns-then-not-are_sizes-clause-refused : goal.returns-then-not-are_sizes-clause-refused
-returns-then-not-are_sizes-clause-refused g c = refuses_sizes _ (length c.args.sources.now) _ c.args.sizes.now (search rules) (refl, refl)
+returns-then-not-are_sizes-clause-refused g c = refuses_sizes _ (length c.args.sources.now) _ c.args.sizes.now
+    (search rules) (refl, refl)
 
 pub returns-then-sources-gt-SOURCES_LIMIT-clause-refused : goal.returns-then-sources-gt-SOURCES_LIMIT-clause-refused
 returns-then-sources-gt-SOURCES_LIMIT-clause-refused g c =
-    refuses_sized (length c.args.sources.now) _ _ c.args.sizes.now (search rules) (refuses_many _ (length c.args.sources.now) _ c.if-sources-gt-SOURCES_LIMIT.true (refl, refl))
+    refuses_sized (length c.args.sources.now) _ _ c.args.sizes.now (search rules)
+    (refuses_many _ (length c.args.sources.now) _ c.if-sources-gt-SOURCES_LIMIT.true (refl, refl))
 
 pub returns-in-Err-clause-refused : goal.returns-in-Err-clause-refused
 returns-in-Err-clause-refused g c =
-    refuses_sized (length c.args.sources.now) _ _ c.args.sizes.now (search rules) (refuses_few (length c.args.sources.now) _ _ c.if-sources-gt-SOURCES_LIMIT.false c.text_fault.ensures.late)
+    refuses_sized (length c.args.sources.now) _ _ c.args.sizes.now (search rules)
+    (refuses_few (length c.args.sources.now) _ _ c.if-sources-gt-SOURCES_LIMIT.false c.text_fault.ensures.late)
 
 pub returns-in-Err-read_lines-clause-refused : goal.returns-in-Err-read_lines-clause-refused
 returns-in-Err-read_lines-clause-refused g c =
-    refuses_sized (length c.args.sources.now) _ _ c.args.sizes.now (search rules) (refuses_few (length c.args.sources.now) _ _ c.if-sources-gt-SOURCES_LIMIT.false c.in-Err-read_lines.ensures.late)
+    refuses_sized (length c.args.sources.now) _ _ c.args.sizes.now (search rules)
+    (refuses_few (length c.args.sources.now) _ _ c.if-sources-gt-SOURCES_LIMIT.false
+    c.in-Err-read_lines.ensures.late)
 
 pub returns-clause-refused : goal.returns-clause-refused
 returns-clause-refused g c =
-    refuses_sized (length c.args.sources.now) _ _ c.args.sizes.now (search rules) (refuses_few (length c.args.sources.now) _ _ c.if-sources-gt-SOURCES_LIMIT.false c.text_fault-in-Err-end.ensures.late)
+    refuses_sized (length c.args.sources.now) _ _ c.args.sizes.now (search rules)
+    (refuses_few (length c.args.sources.now) _ _ c.if-sources-gt-SOURCES_LIMIT.false
+    c.text_fault-in-Err-end.ensures.late)
 
 pub returns-in-Ok-end-clause-refused : goal.returns-in-Ok-end-clause-refused
 returns-in-Ok-end-clause-refused g c =
-    refuses_sized (length c.args.sources.now) _ _ c.args.sizes.now (search rules) (refuses_few (length c.args.sources.now) _ _ c.if-sources-gt-SOURCES_LIMIT.false tt)
+    refuses_sized (length c.args.sources.now) _ _ c.args.sizes.now (search rules)
+    (refuses_few (length c.args.sources.now) _ _ c.if-sources-gt-SOURCES_LIMIT.false tt)
 
 -- ---- failures, and lines at fault
 
 pub returns-in-Err-clause-failures : goal.returns-in-Err-clause-failures
 returns-in-Err-clause-failures g c =
-    c.text_fault.ensures.raised (map g.S.Source.failures c.args.sources.now) (g.O.Output.failures c.args.out.now) (g.O.Output.failures c.begin.new.out) c.in-Err.ensures.failures
+    c.text_fault.ensures.raised (map g.S.Source.failures c.args.sources.now) (g.O.Output.failures c.args.out.now)
+    (g.O.Output.failures c.begin.new.out) c.in-Err.ensures.failures
 
 pub returns-in-Err-read_lines-clause-failures : goal.returns-in-Err-read_lines-clause-failures
 returns-in-Err-read_lines-clause-failures g c =
     let ss = map g.S.Source.failures c.args.sources.now in
-    raised_after c.in-Err-read_lines.fault ss ss (map g.S.Source.failures c.read_lines.new.sources) (g.O.Output.failures c.args.out.now) (g.O.Output.failures c.begin.new.out) (g.O.Output.failures c.read_lines.new.out)
+    raised_after c.in-Err-read_lines.fault ss ss (map g.S.Source.failures c.read_lines.new.sources)
+    (g.O.Output.failures c.args.out.now) (g.O.Output.failures c.begin.new.out)
+    (g.O.Output.failures c.read_lines.new.out)
     refl c.in-Ok.ensures.failures c.in-Err-read_lines.ensures.failures
 
 pub returns-clause-failures : goal.returns-clause-failures
@@ -76,8 +90,10 @@ returns-clause-failures g c =
     let mid = g.O.Output.failures c.read_lines.new.out in
     let new = g.O.Output.failures c.end.new.out in
     let read = c.in-Ok-read_lines.ensures.failures in
-    raised_after c.text_fault-in-Err-end.result (map g.S.Source.failures c.args.sources.now) now now (g.O.Output.failures c.args.out.now) mid new
-    read.0 (read.1 ∙ c.in-Ok.ensures.failures) (c.text_fault-in-Err-end.ensures.raised now mid new c.in-Err-end.ensures.failures)
+    raised_after c.text_fault-in-Err-end.result (map g.S.Source.failures c.args.sources.now) now now
+    (g.O.Output.failures c.args.out.now) mid new
+    read.0 (read.1 ∙ c.in-Ok.ensures.failures)
+    (c.text_fault-in-Err-end.ensures.raised now mid new c.in-Err-end.ensures.failures)
 
 pub returns-in-Err-clause-fault : goal.returns-in-Err-clause-fault
 returns-in-Err-clause-fault g c = c.text_fault.ensures.line (map g.S.Source.text c.args.sources.now)
@@ -88,37 +104,50 @@ returns-clause-fault g c = c.text_fault-in-Err-end.ensures.line (map g.S.Source.
 -- ---- how much was read
 
 pub returns-then-not-are_sizes-clause-bytes : goal.returns-then-not-are_sizes-clause-bytes
-returns-then-not-are_sizes-clause-bytes g c = λ texts indexes. unread g.S.Source.text g.S.Source.extent g.S.Source.gave (in_reach c.args.query.now c.args.query.now.resume None (collection indexes)) c.args.sources.now texts indexes
+returns-then-not-are_sizes-clause-bytes g c = λ texts indexes. unread g.S.Source.text g.S.Source.extent g.S.Source.gave
+    (in_reach c.args.query.now c.args.query.now.resume None (collection indexes)) c.args.sources.now texts indexes
 
 pub returns-then-sources-gt-SOURCES_LIMIT-clause-bytes : goal.returns-then-sources-gt-SOURCES_LIMIT-clause-bytes
-returns-then-sources-gt-SOURCES_LIMIT-clause-bytes g c = λ texts indexes. unread g.S.Source.text g.S.Source.extent g.S.Source.gave (in_reach c.args.query.now c.args.query.now.resume None (collection indexes)) c.args.sources.now texts indexes
+returns-then-sources-gt-SOURCES_LIMIT-clause-bytes g c = λ texts indexes. unread g.S.Source.text g.S.Source.extent
+    g.S.Source.gave (in_reach c.args.query.now c.args.query.now.resume None (collection indexes)) c.args.sources.now
+    texts indexes
 
 pub returns-in-Err-clause-bytes : goal.returns-in-Err-clause-bytes
-returns-in-Err-clause-bytes g c = λ texts indexes. unread g.S.Source.text g.S.Source.extent g.S.Source.gave (in_reach c.args.query.now c.args.query.now.resume None (collection indexes)) c.args.sources.now texts indexes
+returns-in-Err-clause-bytes g c = λ texts indexes. unread g.S.Source.text g.S.Source.extent g.S.Source.gave
+    (in_reach c.args.query.now c.args.query.now.resume None (collection indexes)) c.args.sources.now texts indexes
 
 pub returns-in-Err-read_lines-clause-bytes : goal.returns-in-Err-read_lines-clause-bytes
-returns-in-Err-read_lines-clause-bytes g c = λ texts indexes known are. c.in-Err-read_lines.ensures.halted.before.within texts indexes known are None tt
+returns-in-Err-read_lines-clause-bytes g c = λ texts indexes known are. c.in-Err-read_lines.ensures.halted.before.within
+    texts indexes known are None tt
 
 pub returns-in-Ok-end-clause-bytes : goal.returns-in-Ok-end-clause-bytes
-returns-in-Ok-end-clause-bytes g c = λ texts indexes known are. c.in-Ok-read_lines.ensures.took.before.within texts indexes known are None tt
+returns-in-Ok-end-clause-bytes g c = λ texts indexes known are. c.in-Ok-read_lines.ensures.took.before.within texts
+    indexes known are None tt
 
 pub returns-clause-bytes : goal.returns-clause-bytes
-returns-clause-bytes g c = λ texts indexes known are. c.in-Ok-read_lines.ensures.took.before.within texts indexes known are None tt
+returns-clause-bytes g c = λ texts indexes known are. c.in-Ok-read_lines.ensures.took.before.within texts indexes known
+    are None tt
 
 -- ---- the pages of lines that rise by place, of which those that were read come first
 
-before : (g : Over) (c : In-Err g) (sized : are_sizes c.args.sizes.now ≡ true) (lines : List Member) → Rises member_place place_cmp lines
-    → WrotePagesInPart c.args.query.now lines c.args.sizes.now (g.O.Output.written c.args.out.now) (g.O.Output.written c.begin.new.out)
+before : (g : Over) (c : In-Err g) (sized : are_sizes c.args.sizes.now ≡ true) (lines : List Member)
+    → Rises member_place place_cmp lines
+    → WrotePagesInPart c.args.query.now lines c.args.sizes.now (g.O.Output.written c.args.out.now)
+    (g.O.Output.written c.begin.new.out)
 before g c sized lines rise =
     let q = c.args.query.now in
     let positive = all_positive c.args.sizes.now sized in
     let old = g.O.Output.written c.args.out.now in
     let new = g.O.Output.written c.begin.new.out in
-    wrote_front q c.args.sizes.now positive lines rise [] old new (captures_over q q.resume lines) refl (start_front q c.args.sizes.now old new positive c.in-Err.ensures.front)
+    wrote_front q c.args.sizes.now positive lines rise [] old new (captures_over q q.resume lines) refl
+    (start_front q c.args.sizes.now old new positive c.in-Err.ensures.front)
 
-broken : (g : Over) (c : In-Err-read_lines g) (sized : are_sizes c.args.sizes.now ≡ true) (lines : List Member) → Rises member_place place_cmp lines → (rest : List Member)
-    → captures_over c.args.query.now c.args.query.now.resume lines ≡ captures_over c.args.query.now c.args.query.now.resume c.in-Err-read_lines.ensures.broke.lines ++ rest
-    → WrotePagesInPart c.args.query.now lines c.args.sizes.now (g.O.Output.written c.args.out.now) (g.O.Output.written c.read_lines.new.out)
+broken : (g : Over) (c : In-Err-read_lines g) (sized : are_sizes c.args.sizes.now ≡ true) (lines : List Member)
+    → Rises member_place place_cmp lines → (rest : List Member)
+    → captures_over c.args.query.now c.args.query.now.resume lines
+    ≡ captures_over c.args.query.now c.args.query.now.resume c.in-Err-read_lines.ensures.broke.lines ++ rest
+    → WrotePagesInPart c.args.query.now lines c.args.sizes.now (g.O.Output.written c.args.out.now)
+    (g.O.Output.written c.read_lines.new.out)
 broken g c sized lines rise rest split =
     let q = c.args.query.now in
     let sizes = c.args.sizes.now in
@@ -128,11 +157,15 @@ broken g c sized lines rise rest split =
     let is = c.in-Ok.ensures.query in
     let broke = c.in-Err-read_lines.ensures.broke in
     wrote_front q sizes positive lines rise (captures_over q q.resume broke.lines) start new rest split
-    (any_front c.in-Ok.writer q sizes is.0 is.1 is.2 broke.lines start new (broke.wrote c.in-Ok.writer start ((refl, refl), c.in-Ok.ensures.stands positive)))
+    (any_front c.in-Ok.writer q sizes is.0 is.1 is.2 broke.lines start new
+    (broke.wrote c.in-Ok.writer start ((refl, refl), c.in-Ok.ensures.stands positive)))
 
-unended : (g : Over) (c : In-Err-end g) (sized : are_sizes c.args.sizes.now ≡ true) (lines : List Member) → Rises member_place place_cmp lines
-    → captures_over c.args.query.now c.args.query.now.resume lines ≡ captures_over c.args.query.now c.args.query.now.resume c.in-Ok-read_lines.ensures.took.lines
-    → WrotePagesInPart c.args.query.now lines c.args.sizes.now (g.O.Output.written c.args.out.now) (g.O.Output.written c.end.new.out)
+unended : (g : Over) (c : In-Err-end g) (sized : are_sizes c.args.sizes.now ≡ true) (lines : List Member)
+    → Rises member_place place_cmp lines
+    → captures_over c.args.query.now c.args.query.now.resume lines
+    ≡ captures_over c.args.query.now c.args.query.now.resume c.in-Ok-read_lines.ensures.took.lines
+    → WrotePagesInPart c.args.query.now lines c.args.sizes.now (g.O.Output.written c.args.out.now)
+    (g.O.Output.written c.end.new.out)
 unended g c sized lines rise all =
     let q = c.args.query.now in
     let sizes = c.args.sizes.now in
@@ -143,11 +176,15 @@ unended g c sized lines rise all =
     let is = c.in-Ok.ensures.query in
     let took = c.in-Ok-read_lines.ensures.took in
     wrote_most q sizes positive lines rise (captures_over q q.resume took.lines) start new all
-    (at_end c.in-Ok.writer q sizes is.0 is.1 is.2 c.read_lines.new.sink took.lines start mid (took.came c.in-Ok.writer start ((refl, refl), c.in-Ok.ensures.stands positive)) new c.in-Err-end.ensures.text)
+    (at_end c.in-Ok.writer q sizes is.0 is.1 is.2 c.read_lines.new.sink took.lines start mid
+    (took.came c.in-Ok.writer start ((refl, refl), c.in-Ok.ensures.stands positive)) new c.in-Err-end.ensures.text)
 
-ended : (g : Over) (c : In-Ok-end g) (sized : are_sizes c.args.sizes.now ≡ true) (lines : List Member) → Rises member_place place_cmp lines
-    → captures_over c.args.query.now c.args.query.now.resume lines ≡ captures_over c.args.query.now c.args.query.now.resume c.in-Ok-read_lines.ensures.took.lines
-    → WrotePages c.args.query.now lines c.args.sizes.now (g.O.Output.written c.args.out.now) (g.O.Output.written c.end.new.out) c.in-Ok-end.count
+ended : (g : Over) (c : In-Ok-end g) (sized : are_sizes c.args.sizes.now ≡ true) (lines : List Member)
+    → Rises member_place place_cmp lines
+    → captures_over c.args.query.now c.args.query.now.resume lines
+    ≡ captures_over c.args.query.now c.args.query.now.resume c.in-Ok-read_lines.ensures.took.lines
+    → WrotePages c.args.query.now lines c.args.sizes.now (g.O.Output.written c.args.out.now)
+    (g.O.Output.written c.end.new.out) c.in-Ok-end.count
 ended g c sized lines rise all =
     let q = c.args.query.now in
     let sizes = c.args.sizes.now in
@@ -159,18 +196,22 @@ ended g c sized lines rise all =
     let took = c.in-Ok-read_lines.ensures.took in
     let end = c.in-Ok-end.ensures in
     wrote_whole q sizes positive lines rise (captures_over q q.resume took.lines) start new all c.in-Ok-end.count
-    (all_ended c.in-Ok.writer q sizes is.0 is.1 is.2 c.read_lines.new.sink took.lines start mid (took.came c.in-Ok.writer start ((refl, refl), c.in-Ok.ensures.stands positive)) new c.in-Ok-end.count end.text end.count)
+    (all_ended c.in-Ok.writer q sizes is.0 is.1 is.2 c.read_lines.new.sink took.lines start mid
+    (took.came c.in-Ok.writer start ((refl, refl), c.in-Ok.ensures.stands positive)) new c.in-Ok-end.count end.text
+    end.count)
 
 -- ---- lines of the sources
 
 pub returns-then-not-are_sizes-clause-lines : goal.returns-then-not-are_sizes-clause-lines
-returns-then-not-are_sizes-clause-lines g c = ([], no_lines (map g.S.Source.text c.args.sources.now), λ sized. absurd (true≢false (sym sized ∙ (search rules))))
+returns-then-not-are_sizes-clause-lines g c =
+    ([], no_lines (map g.S.Source.text c.args.sources.now), λ sized. absurd (true≢false (sym sized ∙ (search rules))))
 
 pub returns-then-sources-gt-SOURCES_LIMIT-clause-lines : goal.returns-then-sources-gt-SOURCES_LIMIT-clause-lines
 returns-then-sources-gt-SOURCES_LIMIT-clause-lines g c = (
   [],
   no_lines (map g.S.Source.text c.args.sources.now),
-  λ sized. wrote_none c.args.query.now c.args.sizes.now (all_positive c.args.sizes.now sized) [] tt (g.O.Output.written c.args.out.now),
+  λ sized. wrote_none c.args.query.now c.args.sizes.now (all_positive c.args.sizes.now sized) [] tt
+      (g.O.Output.written c.args.out.now),
 )
 
 pub returns-in-Err-clause-lines : goal.returns-in-Err-clause-lines
@@ -181,8 +222,12 @@ returns-in-Err-clause-lines g c =
 pub returns-in-Err-read_lines-clause-lines : goal.returns-in-Err-read_lines-clause-lines
 returns-in-Err-read_lines-clause-lines g c =
     let broke = c.in-Err-read_lines.ensures.broke in
-    let here = (goal.at.returns-in-Err-read_lines-clause-lines g c).In-Err-read_lines in
-    (broke.lines, broke.took.lines, λ sized. broken g here sized broke.lines broke.took.lines.rise [] (sym (append-nil (captures_over c.args.query.now c.args.query.now.resume broke.lines))))
+    let here = (goal.at.returns-in-Err-read_lines-clause-lines g c).In-Err-read_lines in (
+      broke.lines,
+      broke.took.lines,
+      λ sized. broken g here sized broke.lines broke.took.lines.rise []
+          (sym (append-nil (captures_over c.args.query.now c.args.query.now.resume broke.lines))),
+    )
 
 pub returns-clause-lines : goal.returns-clause-lines
 returns-clause-lines g c =
@@ -199,29 +244,35 @@ returns-in-Ok-end-clause-lines g c =
 -- ---- the lines of indexes
 
 pub returns-then-not-are_sizes-clause-pages : goal.returns-then-not-are_sizes-clause-pages
-returns-then-not-are_sizes-clause-pages g c = λ texts indexes known are sized. absurd (true≢false (sym sized ∙ (search rules)))
+returns-then-not-are_sizes-clause-pages g c = λ texts indexes known are sized. absurd
+    (true≢false (sym sized ∙ (search rules)))
 
 pub returns-then-sources-gt-SOURCES_LIMIT-clause-pages : goal.returns-then-sources-gt-SOURCES_LIMIT-clause-pages
 returns-then-sources-gt-SOURCES_LIMIT-clause-pages g c = λ texts indexes known are sized.
-    wrote_none c.args.query.now c.args.sizes.now (all_positive c.args.sizes.now sized) (collection indexes) (collection_rises indexes) (g.O.Output.written c.args.out.now)
+    wrote_none c.args.query.now c.args.sizes.now (all_positive c.args.sizes.now sized) (collection indexes)
+    (collection_rises indexes) (g.O.Output.written c.args.out.now)
 
 pub returns-in-Err-clause-pages : goal.returns-in-Err-clause-pages
-returns-in-Err-clause-pages g c = λ texts indexes known are sized. before g (goal.at.returns-in-Err-clause-pages g c).In-Err sized (collection indexes) (collection_rises indexes)
+returns-in-Err-clause-pages g c = λ texts indexes known are sized. before g
+    (goal.at.returns-in-Err-clause-pages g c).In-Err sized (collection indexes) (collection_rises indexes)
 
 pub returns-in-Err-read_lines-clause-pages : goal.returns-in-Err-read_lines-clause-pages
 returns-in-Err-read_lines-clause-pages g c = λ texts indexes known are sized.
     let first = c.in-Err-read_lines.ensures.broke.took.first texts indexes known are in
-    broken g (goal.at.returns-in-Err-read_lines-clause-pages g c).In-Err-read_lines sized (collection indexes) (collection_rises indexes) first.0 first.1
+    broken g (goal.at.returns-in-Err-read_lines-clause-pages g c).In-Err-read_lines sized (collection indexes)
+    (collection_rises indexes) first.0 first.1
 
 pub returns-clause-pages : goal.returns-clause-pages
 returns-clause-pages g c = λ texts indexes known are sized.
     let whole = not_false c.in-Ok-read_lines._pass.all (λ e. c.in-Ok-read_lines.ensures.enough e) in
-    unended g (goal.at.returns-clause-pages g c).In-Err-end sized (collection indexes) (collection_rises indexes) (c.in-Ok-read_lines.ensures.took.whole whole texts indexes known are)
+    unended g (goal.at.returns-clause-pages g c).In-Err-end sized (collection indexes) (collection_rises indexes)
+    (c.in-Ok-read_lines.ensures.took.whole whole texts indexes known are)
 
 pub returns-in-Ok-end-clause-pages : goal.returns-in-Ok-end-clause-pages
 returns-in-Ok-end-clause-pages g c = λ texts indexes known are.
     let whole = not_false c.in-Ok-read_lines._pass.all (λ e. c.in-Ok-read_lines.ensures.enough e) in
-    ended g (goal.at.returns-in-Ok-end-clause-pages g c).In-Ok-end (search rules) (collection indexes) (collection_rises indexes) (c.in-Ok-read_lines.ensures.took.whole whole texts indexes known are)
+    ended g (goal.at.returns-in-Ok-end-clause-pages g c).In-Ok-end (search rules) (collection indexes)
+    (collection_rises indexes) (c.in-Ok-read_lines.ensures.took.whole whole texts indexes known are)
 
 pub returns-in-Ok-end-clause-parts : goal.returns-in-Ok-end-clause-parts
 returns-in-Ok-end-clause-parts g c = λ texts known.
@@ -230,5 +281,6 @@ returns-in-Ok-end-clause-parts g c = λ texts known.
     record {
       parts = read.parts;
       each = read.each true (λ e. whole);
-      wrote = ended g (goal.at.returns-in-Ok-end-clause-parts g c).In-Ok-end (search rules) (collection read.parts) (collection_rises read.parts) (read.ended whole);
+      wrote = ended g (goal.at.returns-in-Ok-end-clause-parts g c).In-Ok-end (search rules) (collection read.parts)
+          (collection_rises read.parts) (read.ended whole);
     }

@@ -1,4 +1,5 @@
-use Rattle.std.proofs.Common.{filter, ◌-◌, ◌^◌, ℕ, min, length, ◌≡◌, Bool, true, false, refl, sym, ◌∙◌, map, arith, subst, List, [], zip, ap, append-nil, Some, inl}
+use Rattle.std.proofs.Common.{filter, ◌-◌, ◌^◌, ℕ, min, length, ◌≡◌, Bool, true, false, refl, sym, ◌∙◌, map, arith}
+use Rattle.std.proofs.Common.{subst, List, [], zip, ap, append-nil, Some, inl}
 use Rattle.std.specs.List.{AllByRecursion, AllZip}
 use Rattle.std.proofs.lemmas.List.{length-map}
 use Rattle.cdxj_core.specs.declared.limit.TheConstants.{LINE_LIMIT}
@@ -65,10 +66,12 @@ returns-in-Err-merge-clause-failures g c =
     let old = g.O.Output.failures c.args.out.now in
     let new = g.O.Output.failures c.merge.new.out in
     c.merge_fault-in-Err-merge.ensures.raised (f c.args.sources.now) (f c.merge.new.sources) old new
-    (subst (λ ns. RaisedBy c.in-Err-merge.fault ns (f c.merge.new.sources) old new) c.in-Ok.ensures.failures c.in-Err-merge.ensures.failures)
+    (subst (λ ns. RaisedBy c.in-Err-merge.fault ns (f c.merge.new.sources) old new) c.in-Ok.ensures.failures
+    c.in-Err-merge.ensures.failures)
 
 pub returns-in-Err-clause-fault : goal.returns-in-Err-clause-fault
-returns-in-Err-clause-fault g c = c.merge_fault.ensures.line (map g.S.Source.text c.args.sources.now) c.in-Err.ensures.fault
+returns-in-Err-clause-fault g c = c.merge_fault.ensures.line (map g.S.Source.text c.args.sources.now)
+    c.in-Err.ensures.fault
 
 pub returns-in-Err-merge-clause-fault : goal.returns-in-Err-merge-clause-fault
 returns-in-Err-merge-clause-fault g c =
@@ -77,8 +80,16 @@ returns-in-Err-merge-clause-fault g c =
 
 pub returns-clause-held : goal.returns-clause-held
 returns-clause-held g c = λ texts indexes known are most share.
-    let h = c.merge.ensures.held texts indexes (subst (λ l. Known l texts) (sym c.open_at.ensures.text) known) are most share (omega (arith, c.in-Ok.ensures.held)) in
-    omega (arith, h, ap length c.open_at.ensures.text, length-map c.open_at.new.sources g.S.Source.text, length-map c.args.sources.now g.S.Source.text)
+    let h = c.merge.ensures.held texts indexes (subst (λ l. Known l texts) (sym c.open_at.ensures.text) known) are most
+    share (omega (arith, c.in-Ok.ensures.held)) in
+    omega (
+      arith,
+      h,
+      ap length c.open_at.ensures.text,
+      length-map c.open_at.new.sources g.S.Source.text,
+      length-map
+          c.args.sources.now g.S.Source.text,
+    )
 
 -- ---- sources that couldn't be opened
 
@@ -88,7 +99,11 @@ returns-in-Err-clause-broke g c =
     record {
       lines = [];
       wrote = λ begin start h. inl (c.args.sink.now, h);
-      took = record { lines = record { rise = tt; each = tt }; first = λ texts indexes known are. (captures_over q q.resume (collection indexes), refl) };
+      took = record {
+        lines = record { rise = tt; each = tt };
+        first = λ texts indexes known are.
+            (captures_over q q.resume (collection indexes), refl);
+      };
     }
 
 pub returns-in-Err-clause-halted : goal.returns-in-Err-clause-halted
@@ -104,7 +119,9 @@ returns-in-Err-clause-halted g c =
         more = λ f. f;
         came = λ begin start h. h;
         within = λ texts indexes known are limit most.
-            within_opening g.S.Source.text g.S.Source.extent g.S.Source.gave (in_reach q from limit (collection indexes)) texts indexes c.args.sources.now c.open_at.new.sources known are c.open_at.ensures.spent;
+            within_opening g.S.Source.text g.S.Source.extent g.S.Source.gave
+            (in_reach q from limit (collection indexes)) texts indexes c.args.sources.now c.open_at.new.sources
+            known are c.open_at.ensures.spent;
       };
       grows = grows_not (g.O.Output.written c.args.out.now);
     }
@@ -120,17 +137,21 @@ returns-in-Err-merge-clause-broke g c =
     let broke = c.in-Err-merge.ensures.broke in
     let taken = broke.4 in
     let same = c.in-Ok.ensures.ready.same in
-    let reached = subst (λ target. Reached LINE_LIMIT text (is_past target) extent gave ss1 fs1 broke.0 broke.1 broke.2 broke.3 taken) c.target.ensures broke.5 in
-    let cut = subst (λ pair. AllByRecursion (λ x. IsCutAt LINE_LIMIT pair (text x.0) x.1.cursor) (zip ss1 fs1)) (ap (λ key. (key, c.start_pair-start.result.stamp)) c.as_bytes.ensures.value ∙ c.start_pair-start.ensures)
+    let reached = subst (λ target. Reached LINE_LIMIT text (is_past target) extent gave ss1 fs1 broke.0 broke.1 broke.2
+    broke.3 taken) c.target.ensures broke.5 in
+    let cut = subst (λ pair. AllByRecursion (λ x. IsCutAt LINE_LIMIT pair (text x.0) x.1.cursor) (zip ss1 fs1))
+    (ap (λ key. (key, c.start_pair-start.result.stamp)) c.as_bytes.ensures.value ∙ c.start_pair-start.ensures)
     c.in-Ok.ensures.cut in
     record {
       lines = taken;
       wrote = broke.6;
       took = record {
         lines = subst (λ texts. AreLinesOf LINE_LIMIT texts taken) c.open_at.ensures.text
-            (taken_lines LINE_LIMIT text extent (is_past q.target) gave ss1 fs1 broke.0 broke.1 broke.2 broke.3 taken same reached);
+            (taken_lines LINE_LIMIT text extent (is_past q.target) gave ss1 fs1 broke.0 broke.1 broke.2 broke.3 taken
+            same reached);
         first = λ texts indexes known are.
-            let f = wanted_first text extent gave q from ss1 fs1 broke.0 broke.1 broke.2 broke.3 taken same reached cut texts indexes (subst (λ l. Known l texts) (sym c.open_at.ensures.text) known) are in (f.0, f.1);
+            let f = wanted_first text extent gave q from ss1 fs1 broke.0 broke.1 broke.2 broke.3 taken same reached cut
+            texts indexes (subst (λ l. Known l texts) (sym c.open_at.ensures.text) known) are in (f.0, f.1);
       };
     }
 
@@ -145,13 +166,16 @@ returns-in-Err-merge-clause-halted g c =
     let state = h.6 in
     let next = h.7 in
     let same = c.in-Ok.ensures.ready.same in
-    let reached = subst (λ target. Reached LINE_LIMIT text (is_past target) extent gave ss1 fs1 h.0 h.1 h.2 h.3 taken) c.target.ensures h.5 in
-    let cut = subst (λ pair. AllByRecursion (λ x. IsCutAt LINE_LIMIT pair (text x.0) x.1.cursor) (zip ss1 fs1)) (ap (λ key. (key, c.start_pair-start.result.stamp)) c.as_bytes.ensures.value ∙ c.start_pair-start.ensures)
+    let reached = subst (λ target. Reached LINE_LIMIT text (is_past target) extent gave ss1 fs1 h.0 h.1 h.2 h.3 taken)
+    c.target.ensures h.5 in
+    let cut = subst (λ pair. AllByRecursion (λ x. IsCutAt LINE_LIMIT pair (text x.0) x.1.cursor) (zip ss1 fs1))
+    (ap (λ key. (key, c.start_pair-start.result.stamp)) c.as_bytes.ensures.value ∙ c.start_pair-start.ensures)
     c.in-Ok.ensures.cut in
     record {
       earlier = taken;
       first = λ texts indexes known are.
-          let f = wanted_first text extent gave q from ss1 fs1 h.0 h.1 h.2 h.3 taken same reached cut texts indexes (subst (λ l. Known l texts) (sym c.open_at.ensures.text) known) are in (f.0, f.1);
+          let f = wanted_first text extent gave q from ss1 fs1 h.0 h.1 h.2 h.3 taken same reached cut texts indexes
+          (subst (λ l. Known l texts) (sym c.open_at.ensures.text) known) are in (f.0, f.1);
       before = record {
         state = state.0;
         middle = state.1;
@@ -159,10 +183,14 @@ returns-in-Err-merge-clause-halted g c =
         came = state.4;
         within = λ texts indexes known are limit most.
             let known1 = subst (λ l. Known l texts) (sym c.open_at.ensures.text) known in
-            let before = cut_before text extent gave q from ss1 fs1 h.0 h.1 h.2 h.3 taken same reached cut texts indexes known1 are next.0 next.1 next.2 in
-            gave_within text extent gave q from ss1 fs1 h.0 h.1 h.2 h.3 taken same reached cut texts indexes known1 are (Some next.0) taken before limit most
-            c.args.sources.now c.merge.new.sources c.merge.new.streams.feeds.items known c.in-Ok.ensures.came c.merge.ensures.moved (omega arith)
-            (subst (λ target. AreReadTo LINE_LIMIT (is_past target) text (Some next.0) c.merge.new.sources c.merge.new.streams.feeds.items) c.target.ensures (next.3 (told_known text ss1 texts known1)));
+            let before = cut_before text extent gave q from ss1 fs1 h.0 h.1 h.2 h.3 taken same reached cut texts indexes
+            known1 are next.0 next.1 next.2 in
+            gave_within text extent gave q from ss1 fs1 h.0 h.1 h.2 h.3 taken same reached cut texts indexes known1 are
+            (Some next.0) taken before limit most
+            c.args.sources.now c.merge.new.sources c.merge.new.streams.feeds.items known c.in-Ok.ensures.came
+            c.merge.ensures.moved (omega arith)
+            (subst (λ target. AreReadTo LINE_LIMIT (is_past target) text (Some next.0) c.merge.new.sources
+            c.merge.new.streams.feeds.items) c.target.ensures (next.3 (told_known text ss1 texts known1)));
       };
       grows = state.3;
     }
@@ -179,35 +207,53 @@ returns-clause-took g c =
     let q = c.args.query.now in
     let from = q.resume in
     let ss1 = c.open_at.new.sources in let fs1 = c.in-Ok.opened.streams.feeds.items in
-    let ss2 = c.merge.new.sources in let fs2 = c.merge.new.streams.feeds.items in let ws = c.merge.new.streams.waiting in
+    let ss2 = c.merge.new.sources in let fs2 = c.merge.new.streams.feeds.items in let ws =
+    c.merge.new.streams.waiting in
     let ok = c.in-Ok-merge.ensures in
     let b = ok.wrote.0 in
     let taken = ok.wrote.1 in
     let same = c.in-Ok.ensures.ready.same in
-    let reached = subst (λ target. Reached LINE_LIMIT text (is_past target) extent gave ss1 fs1 ss2 fs2 ws b taken) c.target.ensures ok.wrote.2 in
-    let cut = subst (λ pair. AllByRecursion (λ x. IsCutAt LINE_LIMIT pair (text x.0) x.1.cursor) (zip ss1 fs1)) (ap (λ key. (key, c.start_pair-start.result.stamp)) c.as_bytes.ensures.value ∙ c.start_pair-start.ensures)
+    let reached = subst (λ target. Reached LINE_LIMIT text (is_past target) extent gave ss1 fs1 ss2 fs2 ws b taken)
+    c.target.ensures ok.wrote.2 in
+    let cut = subst (λ pair. AllByRecursion (λ x. IsCutAt LINE_LIMIT pair (text x.0) x.1.cursor) (zip ss1 fs1))
+    (ap (λ key. (key, c.start_pair-start.result.stamp)) c.as_bytes.ensures.value ∙ c.start_pair-start.ensures)
     c.in-Ok.ensures.cut in
-    let known1 = λ (texts : List (List ℕ)) (known : Known (map text c.args.sources.now) texts). subst (λ l. Known l texts) (sym c.open_at.ensures.text) known in
-    let known2 = λ (texts : List (List ℕ)) (known : Known (map text c.args.sources.now) texts). subst (λ l. Known l texts) (sym (returns-clause-kept g c).0) known in
+    let known1 = λ (texts : List (List ℕ)) (known : Known (map text c.args.sources.now) texts). subst
+    (λ l. Known l texts) (sym c.open_at.ensures.text) known in
+    let known2 = λ (texts : List (List ℕ)) (known : Known (map text c.args.sources.now) texts). subst
+    (λ l. Known l texts) (sym (returns-clause-kept g c).0) known in
     let read = parts LINE_LIMIT text ss2 fs2 in
     let took : Took q (map text c.args.sources.now) taken = record {
       lines = subst (λ texts. AreLinesOf LINE_LIMIT texts taken) c.open_at.ensures.text
           (taken_lines LINE_LIMIT text extent (is_past q.target) gave ss1 fs1 ss2 fs2 ws b taken same reached);
       first = λ texts indexes known are.
-          let f = wanted_first text extent gave q from ss1 fs1 ss2 fs2 ws b taken same reached cut texts indexes (known1 texts known) are in (f.0, f.1);
+          let f = wanted_first text extent gave q from ss1 fs1 ss2 fs2 ws b taken same reached cut texts indexes
+          (known1 texts known) are in (f.0, f.1);
     } in
-    let whole = λ (e : c.in-Ok-merge.all ≡ true) (texts : List (List ℕ)) (indexes : List (List Member)) (known : Known (map text c.args.sources.now) texts) (are : AllZip (IsIndex LINE_LIMIT) texts indexes).
-    wanted_whole text extent gave q from ss1 fs1 ss2 fs2 ws b taken same reached cut texts indexes (known1 texts known) are (ok.ended e) in
+    let whole = λ (e : c.in-Ok-merge.all ≡ true) (texts : List (List ℕ)) (indexes : List (List Member))
+    (known : Known (map text c.args.sources.now) texts) (are : AllZip (IsIndex LINE_LIMIT) texts indexes).
+    wanted_whole text extent gave q from ss1 fs1 ss2 fs2 ws b taken same reached cut texts indexes (known1 texts known)
+    are (ok.ended e) in
     let of_parts = λ (texts : List (List ℕ)) (known : Known (map text c.args.sources.now) texts).
     let told = told_known text ss1 texts (known1 texts known) in
-    let found = parts_first text extent gave LINE_LIMIT (is_past q.target) (past_upward q.target) ss1 fs1 ss2 fs2 ws b taken reached told (is_wanted q from) (wanted_within q from) in
+    let found = parts_first text extent gave LINE_LIMIT (is_past q.target) (past_upward q.target) ss1 fs1 ss2 fs2 ws b
+    taken reached told (is_wanted q from) (wanted_within q from) in
     let p : IsOfParts q texts taken c.in-Ok-merge.all c.lines.result = record {
       parts = read;
-      each = λ whole is. parts_are LINE_LIMIT (is_past q.target) text extent ws 0 ss2 fs2 texts whole reached.ready.same (known2 texts known) reached.ready.fed reached.settled (λ e. ok.ended (is e));
-      count = c.lines.ensures ∙ ap (λ n. min n (2 ^ 64 - 1)) (parts_count LINE_LIMIT (is_past q.target) text extent ws 0 ss2 fs2 reached.ready.same
+      each = λ whole is. parts_are LINE_LIMIT (is_past q.target) text extent ws 0 ss2 fs2 texts whole reached.ready.same
+          (known2 texts known) reached.ready.fed reached.settled (λ e. ok.ended (is e));
+      count = c.lines.ensures
+          ∙ ap (λ n. min n (2 ^ 64 - 1))
+          (parts_count LINE_LIMIT (is_past q.target) text extent ws 0 ss2 fs2 reached.ready.same
           (told_moved text extent gave ss1 ss2 fs1 fs2 reached.ready.same reached.moved told) reached.ready.fed);
-      first = (kept_after q from (place_before q from taken) found.0, captures_split q from (collection read) taken found.0 found.1);
-      ended = λ e. ap (kept_after q from from) (parts_whole text extent gave LINE_LIMIT (is_past q.target) (past_upward q.target) ss1 fs1 ss2 fs2 ws b taken reached told (is_wanted q from) (wanted_within q from) (ok.ended e));
+      first = (
+        kept_after q from (place_before q from taken) found.0,
+        captures_split q from (collection read) taken
+            found.0 found.1,
+      );
+      ended = λ e. ap (kept_after q from from)
+          (parts_whole text extent gave LINE_LIMIT (is_past q.target) (past_upward q.target) ss1 fs1 ss2 fs2 ws b taken
+          reached told (is_wanted q from) (wanted_within q from) (ok.ended e));
     } in
     p in
     by_truth c.in-Ok-merge.all _ (λ e. record {
@@ -225,15 +271,28 @@ returns-clause-took g c =
         more = ok.further e;
         came = ok.wrote.3;
         within = λ texts indexes known are limit most.
-            let all = cut_all text extent gave q from ss1 fs1 ss2 fs2 ws b taken same reached cut texts indexes (known1 texts known) are (ok.ended e) in
-            gave_within text extent gave q from ss1 fs1 ss2 fs2 ws b taken same reached cut texts indexes (known1 texts known) are b taken all limit most
+            let all = cut_all text extent gave q from ss1 fs1 ss2 fs2 ws b taken same reached cut texts indexes
+            (known1 texts known) are (ok.ended e) in
+            gave_within text extent gave q from ss1 fs1 ss2 fs2 ws b taken same reached cut texts indexes
+            (known1 texts known) are b taken all limit most
             c.args.sources.now ss2 fs2 known c.in-Ok.ensures.came c.merge.ensures.moved (omega arith)
-            (are_read_to LINE_LIMIT (is_past q.target) text extent b 0 ss2 fs2 ws reached.ready.fed (reached.handed.told (told_known text ss1 texts (known1 texts known))).1);
+            (are_read_to LINE_LIMIT (is_past q.target) text extent b 0 ss2 fs2 ws reached.ready.fed
+            (reached.handed.told (told_known text ss1 texts (known1 texts known))).1);
       };
       few = λ texts indexes known are limit most.
-          let all = cut_all text extent gave q from ss1 fs1 ss2 fs2 ws b taken same reached cut texts indexes (known1 texts known) are (ok.ended e) in
-          let h = lines_within text extent gave q from ss1 fs1 ss2 fs2 ws b taken same reached cut texts indexes (known1 texts known) are (known2 texts known) taken all limit most in
-          omega (arith, c.lines.ensures, h, length-map ss1 text, length-map c.args.sources.now text, ap length c.open_at.ensures.text);
+          let all = cut_all text extent gave q from ss1 fs1 ss2 fs2 ws b taken same reached cut texts indexes
+          (known1 texts known) are (ok.ended e) in
+          let h = lines_within text extent gave q from ss1 fs1 ss2 fs2 ws b taken same reached cut texts indexes
+          (known1 texts known) are (known2 texts known) taken all limit most in
+          omega (
+            arith,
+            c.lines.ensures,
+            h,
+            length-map ss1 text,
+            length-map c.args.sources.now text,
+            ap length
+                c.open_at.ensures.text,
+          );
     }) (λ e.
     let l = ok.wrote.4 e in
     record {
@@ -251,13 +310,26 @@ returns-clause-took g c =
         more = l.9;
         came = l.10;
         within = λ texts indexes known are limit most.
-            let last = cut_last text extent gave q from ss1 fs1 ss2 fs2 ws b taken same reached cut texts indexes (known1 texts known) are l.0 l.1 l.2 l.5 l.6 l.8 in
-            gave_within text extent gave q from ss1 fs1 ss2 fs2 ws b taken same reached cut texts indexes (known1 texts known) are b l.1 last limit most
+            let last = cut_last text extent gave q from ss1 fs1 ss2 fs2 ws b taken same reached cut texts indexes
+            (known1 texts known) are l.0 l.1 l.2 l.5 l.6 l.8 in
+            gave_within text extent gave q from ss1 fs1 ss2 fs2 ws b taken same reached cut texts indexes
+            (known1 texts known) are b l.1 last limit most
             c.args.sources.now ss2 fs2 known c.in-Ok.ensures.came c.merge.ensures.moved (omega arith)
-            (are_read_to LINE_LIMIT (is_past q.target) text extent b 0 ss2 fs2 ws reached.ready.fed (reached.handed.told (told_known text ss1 texts (known1 texts known))).1);
+            (are_read_to LINE_LIMIT (is_past q.target) text extent b 0 ss2 fs2 ws reached.ready.fed
+            (reached.handed.told (told_known text ss1 texts (known1 texts known))).1);
       };
       few = λ texts indexes known are limit most.
-          let last = cut_last text extent gave q from ss1 fs1 ss2 fs2 ws b taken same reached cut texts indexes (known1 texts known) are l.0 l.1 l.2 l.5 l.6 l.8 in
-          let h = lines_within text extent gave q from ss1 fs1 ss2 fs2 ws b taken same reached cut texts indexes (known1 texts known) are (known2 texts known) l.1 last limit most in
-          omega (arith, c.lines.ensures, h, length-map ss1 text, length-map c.args.sources.now text, ap length c.open_at.ensures.text);
+          let last = cut_last text extent gave q from ss1 fs1 ss2 fs2 ws b taken same reached cut texts indexes
+          (known1 texts known) are l.0 l.1 l.2 l.5 l.6 l.8 in
+          let h = lines_within text extent gave q from ss1 fs1 ss2 fs2 ws b taken same reached cut texts indexes
+          (known1 texts known) are (known2 texts known) l.1 last limit most in
+          omega (
+            arith,
+            c.lines.ensures,
+            h,
+            length-map ss1 text,
+            length-map c.args.sources.now text,
+            ap length
+                c.open_at.ensures.text,
+          );
     })

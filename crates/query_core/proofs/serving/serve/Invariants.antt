@@ -16,12 +16,17 @@ invariant-loop-lines g l = record {
   writes : g.O.Output.failures l.out ≡ g.O.Output.failures l.fn.out;
   reads : g.I.Input.failures l.input ≡ g.I.Input.failures l.fn.input;
   most : l.lines.most ≡ QUERY_LIMIT + 2;
-  taken : CountsTaken (g.I.Input.remaining l.fn.input) (prepend_known l.lines.buffer (g.I.Input.remaining l.input)) 0 l.lines.taken;
+  taken : CountsTaken (g.I.Input.remaining l.fn.input) (prepend_known l.lines.buffer (g.I.Input.remaining l.input)) 0
+      l.lines.taken;
   within : l.lines.taken < 2 ^ 63 - 1;
   fits : l.count ≤ l.lines.taken;
   told : OverIndexes LINE_LIMIT (map g.S.Source.text l.fn.sources) (λ texts indexes.
-      RepliedSoFar QUERY_LIMIT (IsOneReply (reply_of QUERY_LIMIT (collection indexes))) (g.I.Input.remaining l.fn.input) (prepend_known l.lines.buffer (g.I.Input.remaining l.input)) l.count (g.O.Output.written l.fn.out) (g.O.Output.written l.out));
-  any : RepliedSoFar QUERY_LIMIT (IsTextReply (map g.S.Source.text l.fn.sources)) (g.I.Input.remaining l.fn.input) (prepend_known l.lines.buffer (g.I.Input.remaining l.input)) l.count (g.O.Output.written l.fn.out) (g.O.Output.written l.out);
+      RepliedSoFar QUERY_LIMIT (IsOneReply (reply_of QUERY_LIMIT (collection indexes))) (g.I.Input.remaining l.fn.input)
+      (prepend_known l.lines.buffer (g.I.Input.remaining l.input)) l.count (g.O.Output.written l.fn.out)
+      (g.O.Output.written l.out));
+  any : RepliedSoFar QUERY_LIMIT (IsTextReply (map g.S.Source.text l.fn.sources)) (g.I.Input.remaining l.fn.input)
+      (prepend_known l.lines.buffer (g.I.Input.remaining l.input)) l.count (g.O.Output.written l.fn.out)
+      (g.O.Output.written l.out);
 }
 
 abbrev pub decreases-loop-lines : goal.decreases-loop-lines

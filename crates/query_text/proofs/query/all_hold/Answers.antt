@@ -6,4 +6,5 @@ use Rattle.query_text.proofs.query.all_hold.Goals as goal
 
 pub returns : goal.returns
 returns c =
-    all_from_yields_List (holds c.args.line.now.values) _ _ _ c.all.ensures.ran (YieldsList-from_slice c.args.filters.now cc) (λ x b q k. search (rules, tests))
+    all_from_yields_List (holds c.args.line.now.values) _ _ _ c.all.ensures.ran
+    (YieldsList-from_slice c.args.filters.now cc) (λ x b q k. search (rules, tests))

@@ -1,4 +1,5 @@
-use Rattle.std.proofs.Common.{rules, ◌≡◌, ◌≢◌, ◌-◌, ◌==◌, ℕ, suc, false, List, [], ◌∷◌, ◌++◌, None, length, slice_index, refl, ap, ◌∙◌, arith}
+use Rattle.std.proofs.Common.{rules, ◌≡◌, ◌≢◌, ◌-◌, ◌==◌, ℕ, suc, false, List, [], ◌∷◌, ◌++◌, None, length, slice_index}
+use Rattle.std.proofs.Common.{refl, ap, ◌∙◌, arith}
 use Rattle.std.proofs.lemmas.Bool.{ne_eqb}
 use Rattle.std.proofs.lemmas.Str.Pattern.{strip_suffix_char}
 use Rattle.query_text.specs.Targets.{ends_with_star}
@@ -9,7 +10,8 @@ no_star [] h = refl
 no_star (b ∷ []) h = ne_eqb b 42 (λ e. h [] (ap (λ x. x ∷ []) e))
 no_star (b ∷ c ∷ bytes) h =
     let last : length (b ∷ c ∷ bytes) - 1 ≡ suc (length (c ∷ bytes) - 1) = omega arith in
-    ap (λ n. slice_index (b ∷ c ∷ bytes) n == 42) last ∙ no_star (c ∷ bytes) (λ front e. h (b ∷ front) (ap (λ l. b ∷ l) e))
+    ap (λ n. slice_index (b ∷ c ∷ bytes) n == 42) last
+    ∙ no_star (c ∷ bytes) (λ front e. h (b ∷ front) (ap (λ l. b ∷ l) e))
 
 pub returns-in-None : goal.returns-in-None
 returns-in-None c =

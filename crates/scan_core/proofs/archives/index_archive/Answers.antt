@@ -7,11 +7,17 @@ use Rattle.scan_core.proofs.archives.index_archive.Goals as goal
 pub returns-in-Err-clause-refused : goal.returns-in-Err-clause-refused
 returns-in-Err-clause-refused g c =
     let e = c.in-Err.ensures in
-    rw (← c.as_str.ensures.value) (fault_of (includes c.args.indexer.now.types) c.args.indexer.now.names c.as_str.result.now (g.I.Input.remaining c.args.archive.now.input) c.args.indexer.now c.add.new.self c.in-Err.fault e.bad e.duplicate e.adds)
+    rw (← c.as_str.ensures.value)
+    (fault_of (includes c.args.indexer.now.types) c.args.indexer.now.names c.as_str.result.now
+    (g.I.Input.remaining c.args.archive.now.input) c.args.indexer.now c.add.new.self c.in-Err.fault e.bad
+    e.duplicate e.adds)
 
 pub returns-clause-index : goal.returns-clause-index
 returns-clause-index g c =
     let e = c.in-Ok.ensures in
-    let fresh = is_new c.args.indexer.now.names c.as_str.result.now (Ok c.in-Ok._count) e.bad e.duplicate (λ k. cc) (λ k. cc) in
-    rw (← c.as_str.ensures.value) (index_of_added gathered (includes c.args.indexer.now.types) c.args.indexer.now.names c.as_str.result.now (g.I.Input.remaining c.args.archive.now.input) c.args.indexer.now c.add.new.self e.adds.0 c.index_of-index.result
+    let fresh = is_new c.args.indexer.now.names c.as_str.result.now (Ok c.in-Ok._count) e.bad e.duplicate (λ k. cc)
+    (λ k. cc) in
+    rw (← c.as_str.ensures.value) (index_of_added gathered (includes c.args.indexer.now.types) c.args.indexer.now.names
+    c.as_str.result.now (g.I.Input.remaining c.args.archive.now.input) c.args.indexer.now c.add.new.self e.adds.0
+    c.index_of-index.result
     c.requires fresh e.adds.1 e.adds.2.1 c.index_of-index.ensures.lines c.index_of-index.ensures.index)

@@ -1,5 +1,6 @@
 use Rattle.std.specs.List.{AllZip}
-use Rattle.std.proofs.Common.{◌<◌, ◌+◌, ◌∷◌, ◌++◌, [], length, map, refl, sym, ap, ap₂, ◌∙◌, subst, arith, get_or, length-append, string_bytes}
+use Rattle.std.proofs.Common.{◌<◌, ◌+◌, ◌∷◌, ◌++◌, [], length, map, refl, sym, ap, ap₂, ◌∙◌, subst, arith, get_or}
+use Rattle.std.proofs.Common.{length-append, string_bytes}
 use Rattle.capture_core.specs.Types.{includes}
 use Rattle.cdxj_core.specs.declared.limit.TheConstants.{LINE_LIMIT}
 use Rattle.cdxj_core.specs.Indexes.{IsIndex}
@@ -9,7 +10,8 @@ use Rattle.index_core.specs.Indexing.{Held}
 use Rattle.merge_core.proofs.Many.{map_set_same}
 use Rattle.merge_core.proofs.SpendLemmas.{left_here, left_after}
 use Rattle.scan_core.specs.Archives.{index_members}
-use Rattle.scan_core.proofs.ArchiveLemmas.{no_indexes, indexes_push, first_fault, one_more_indexed, names_after, counts_at, unread_at}
+use Rattle.scan_core.proofs.ArchiveLemmas.{no_indexes, indexes_push, first_fault, one_more_indexed, names_after}
+use Rattle.scan_core.proofs.ArchiveLemmas.{counts_at, unread_at}
 use Rattle.scan_core.proofs.archives.index_archives.Goals as goal
 
 pub loop-i-init : goal.loop-i-init
@@ -19,56 +21,75 @@ loop-i-init g c = record {
   failures = refl;
   held = c.new-indexer.ensures;
   number = ap length c.new-indexes.ensures.items;
-  indexed = ([], record { named = tt; accepted = tt; lines = tt }, no_indexes LINE_LIMIT gathered c.new-indexes.result.items c.new-indexes.ensures.items);
+  indexed = (
+    [],
+    record { named = tt; accepted = tt; lines = tt },
+    no_indexes LINE_LIMIT gathered
+        c.new-indexes.result.items c.new-indexes.ensures.items,
+  );
 }
 
 -- ---- an archive isn't indexed
 
 pub returns-in-Err-clause-names : goal.returns-in-Err-clause-names
 returns-in-Err-clause-names g c =
-    map_set_same (λ n. string_bytes n.name) c.loop-i.inputs c.loop-i.i c.index-inputs-i.result c.index_archive.new.archive (omega arith) (ap string_bytes c.index_archive.ensures.name)
+    map_set_same (λ n. string_bytes n.name) c.loop-i.inputs c.loop-i.i c.index-inputs-i.result
+    c.index_archive.new.archive (omega arith) (ap string_bytes c.index_archive.ensures.name)
     ∙ c.loop-i.invariant.names
 
 pub returns-in-Err-clause-refused : goal.returns-in-Err-clause-refused
 returns-in-Err-clause-refused g c =
     let inv = c.loop-i.invariant in
-    first_fault (includes c.args.types) (λ n. string_bytes n.name) (λ n. g.I.Input.remaining n.input) c.args.inputs.now c.loop-i.i c.index-inputs-i.result (get_or c.loop-i.inputs c.loop-i.i c.index-inputs-i.result) (omega arith)
+    first_fault (includes c.args.types) (λ n. string_bytes n.name) (λ n. g.I.Input.remaining n.input) c.args.inputs.now
+    c.loop-i.i c.index-inputs-i.result (get_or c.loop-i.inputs c.loop-i.i c.index-inputs-i.result) (omega arith)
     (left_here c.args.inputs.now c.loop-i.inputs c.loop-i.i c.index-inputs-i.result inv.rest)
-    c.loop-i.indexer.names inv.indexed.0 (ap (λ (h : Held). h.names) inv.held) inv.indexed.1 c.in-Err.fault (rw (ap (λ (h : Held). h.types) inv.held) at c.in-Err.ensures.refused)
+    c.loop-i.indexer.names inv.indexed.0 (ap (λ (h : Held). h.names) inv.held) inv.indexed.1 c.in-Err.fault
+    (rw (ap (λ (h : Held). h.types) inv.held) at c.in-Err.ensures.refused)
 
 pub returns-in-Err-clause-unread : goal.returns-in-Err-clause-unread
 returns-in-Err-clause-unread g c =
-    unread_at c.args.inputs.now c.loop-i.inputs c.loop-i.i c.index-inputs-i.result (get_or c.loop-i.inputs c.loop-i.i c.index-inputs-i.result) c.index_archive.new.archive c.in-Err.fault
+    unread_at c.args.inputs.now c.loop-i.inputs c.loop-i.i c.index-inputs-i.result
+    (get_or c.loop-i.inputs c.loop-i.i c.index-inputs-i.result) c.index_archive.new.archive c.in-Err.fault
     c.loop-i.invariant.rest refl c.in-Err.ensures.unread
 
 pub returns-in-Err-clause-failures : goal.returns-in-Err-clause-failures
 returns-in-Err-clause-failures g c =
-    counts_at (λ n. g.I.Input.failures n.input) c.args.inputs.now c.loop-i.inputs c.loop-i.i c.index-inputs-i.result (get_or c.loop-i.inputs c.loop-i.i c.index-inputs-i.result) c.index_archive.new.archive c.in-Err.fault
-    c.loop-i.invariant.failures (omega arith) (left_here c.args.inputs.now c.loop-i.inputs c.loop-i.i c.index-inputs-i.result c.loop-i.invariant.rest) c.in-Err.ensures.failures
+    counts_at (λ n. g.I.Input.failures n.input) c.args.inputs.now c.loop-i.inputs c.loop-i.i c.index-inputs-i.result
+    (get_or c.loop-i.inputs c.loop-i.i c.index-inputs-i.result) c.index_archive.new.archive c.in-Err.fault
+    c.loop-i.invariant.failures (omega arith)
+    (left_here c.args.inputs.now c.loop-i.inputs c.loop-i.i c.index-inputs-i.result c.loop-i.invariant.rest)
+    c.in-Err.ensures.failures
 
 -- ---- its index can't be kept
 
 pub returns-in-Err-push-clause-names : goal.returns-in-Err-push-clause-names
 returns-in-Err-push-clause-names g c =
-    map_set_same (λ n. string_bytes n.name) c.loop-i.inputs c.loop-i.i c.index-inputs-i.result c.index_archive.new.archive (omega arith) (ap string_bytes c.index_archive.ensures.name)
+    map_set_same (λ n. string_bytes n.name) c.loop-i.inputs c.loop-i.i c.index-inputs-i.result
+    c.index_archive.new.archive (omega arith) (ap string_bytes c.index_archive.ensures.name)
     ∙ c.loop-i.invariant.names
 
 pub returns-in-Err-push-clause-refused : goal.returns-in-Err-push-clause-refused
 returns-in-Err-push-clause-refused g c =
     let inv = c.loop-i.invariant in
-    first_fault (includes c.args.types) (λ n. string_bytes n.name) (λ n. g.I.Input.remaining n.input) c.args.inputs.now c.loop-i.i c.index-inputs-i.result (get_or c.loop-i.inputs c.loop-i.i c.index-inputs-i.result) (omega arith)
+    first_fault (includes c.args.types) (λ n. string_bytes n.name) (λ n. g.I.Input.remaining n.input) c.args.inputs.now
+    c.loop-i.i c.index-inputs-i.result (get_or c.loop-i.inputs c.loop-i.i c.index-inputs-i.result) (omega arith)
     (left_here c.args.inputs.now c.loop-i.inputs c.loop-i.i c.index-inputs-i.result inv.rest)
-    c.loop-i.indexer.names inv.indexed.0 (ap (λ (h : Held). h.names) inv.held) inv.indexed.1 Memory c.in-Ok.ensures.index.0
+    c.loop-i.indexer.names inv.indexed.0 (ap (λ (h : Held). h.names) inv.held) inv.indexed.1 Memory
+    c.in-Ok.ensures.index.0
 
 pub returns-in-Err-push-clause-unread : goal.returns-in-Err-push-clause-unread
 returns-in-Err-push-clause-unread g c =
-    unread_at c.args.inputs.now c.loop-i.inputs c.loop-i.i c.index-inputs-i.result (get_or c.loop-i.inputs c.loop-i.i c.index-inputs-i.result) c.index_archive.new.archive Memory
+    unread_at c.args.inputs.now c.loop-i.inputs c.loop-i.i c.index-inputs-i.result
+    (get_or c.loop-i.inputs c.loop-i.i c.index-inputs-i.result) c.index_archive.new.archive Memory
     c.loop-i.invariant.rest refl (λ n. absurd n)
 
 pub returns-in-Err-push-clause-failures : goal.returns-in-Err-push-clause-failures
 returns-in-Err-push-clause-failures g c =
-    counts_at (λ n. g.I.Input.failures n.input) c.args.inputs.now c.loop-i.inputs c.loop-i.i c.index-inputs-i.result (get_or c.loop-i.inputs c.loop-i.i c.index-inputs-i.result) c.index_archive.new.archive Memory
-    c.loop-i.invariant.failures (omega arith) (left_here c.args.inputs.now c.loop-i.inputs c.loop-i.i c.index-inputs-i.result c.loop-i.invariant.rest) c.in-Ok.ensures.failures
+    counts_at (λ n. g.I.Input.failures n.input) c.args.inputs.now c.loop-i.inputs c.loop-i.i c.index-inputs-i.result
+    (get_or c.loop-i.inputs c.loop-i.i c.index-inputs-i.result) c.index_archive.new.archive Memory
+    c.loop-i.invariant.failures (omega arith)
+    (left_here c.args.inputs.now c.loop-i.inputs c.loop-i.i c.index-inputs-i.result c.loop-i.invariant.rest)
+    c.in-Ok.ensures.failures
 
 -- ---- an archive more
 
@@ -85,17 +106,23 @@ loop-i-preserved g c =
     let found = rw types at c.in-Ok.ensures.index in
     let pushed = c.in-Ok-push.ensures.items in
     record {
-      names = map_set_same (λ n. string_bytes n.name) xs i d y inside (ap string_bytes c.index_archive.ensures.name) ∙ inv.names;
+      names = map_set_same (λ n. string_bytes n.name) xs i d y inside (ap string_bytes c.index_archive.ensures.name)
+          ∙ inv.names;
       rest = left_after xs0 xs i y inv.rest;
       failures = map_set_same (λ n. g.I.Input.failures n.input) xs i d y inside c.in-Ok.ensures.failures ∙ inv.failures;
       held = c.in-Ok.ensures.held ∙ ap₂ (λ t ns. record { types = t; names = ns; captures = [] }) types
-          (names_after (includes c.args.types) (λ n. string_bytes n.name) (λ n. g.I.Input.remaining n.input) xs0 i d (get_or xs i d) inside0 here c.loop-i.indexer.names names);
-      number = ap length pushed ∙ length-append c.loop-i.indexes.items (c.in-Ok.index ∷ []) ∙ ap (λ n. n + 1) inv.number;
+          (names_after (includes c.args.types) (λ n. string_bytes n.name) (λ n. g.I.Input.remaining n.input) xs0 i d
+          (get_or xs i d) inside0 here c.loop-i.indexer.names names);
+      number = ap length pushed ∙ length-append c.loop-i.indexes.items (c.in-Ok.index ∷ [])
+          ∙ ap (λ n. n + 1) inv.number;
       indexed = (
         inv.indexed.0 ++ found.1 ∷ [],
-        one_more_indexed (includes c.args.types) (λ n. string_bytes n.name) (λ n. g.I.Input.remaining n.input) xs0 i d (get_or xs i d) inside0 here
+        one_more_indexed (includes c.args.types) (λ n. string_bytes n.name) (λ n. g.I.Input.remaining n.input) xs0 i d
+            (get_or xs i d) inside0 here
             c.loop-i.indexer.names inv.indexed.0 names inv.indexed.1 found.1 found.0 found.2 found.3,
-        subst (λ is. AllZip (IsIndex LINE_LIMIT) (map gathered is) (map index_members (inv.indexed.0 ++ found.1 ∷ []))) (sym pushed)
-            (indexes_push LINE_LIMIT gathered c.loop-i.indexes.items inv.indexed.0 c.in-Ok.index found.1 inv.indexed.2 found.4),
+        subst (λ is. AllZip (IsIndex LINE_LIMIT) (map gathered is) (map index_members (inv.indexed.0 ++ found.1 ∷ [])))
+            (sym pushed)
+            (indexes_push LINE_LIMIT gathered c.loop-i.indexes.items inv.indexed.0 c.in-Ok.index found.1 inv.indexed.2
+            found.4),
       );
     }

@@ -13,9 +13,14 @@ invariant-loop-i g l = record {
   names : map (λ n. string_bytes n.name) l.inputs ≡ map (λ n. string_bytes n.name) l.fn.inputs;
   rest : drop l.i l.inputs ≡ drop l.i l.fn.inputs;
   failures : map (λ n. g.I.Input.failures n.input) l.inputs ≡ map (λ n. g.I.Input.failures n.input) l.fn.inputs;
-  held : l.indexer ≡ record { types = l.fn.types; names = take l.i (map (λ n. string_bytes n.name) l.fn.inputs); captures = [] };
+  held : l.indexer ≡ record {
+    types = l.fn.types;
+    names = take l.i (map (λ n. string_bytes n.name) l.fn.inputs);
+    captures = [];
+  };
   number : length l.indexes.items ≡ l.i;
   indexed : (archives : List (List EntryValue))
-      × AreIndexed (includes l.fn.types) (take l.i (map (λ n. string_bytes n.name) l.fn.inputs)) (take l.i (map (λ n. g.I.Input.remaining n.input) l.fn.inputs)) archives
+      × AreIndexed (includes l.fn.types) (take l.i (map (λ n. string_bytes n.name) l.fn.inputs))
+      (take l.i (map (λ n. g.I.Input.remaining n.input) l.fn.inputs)) archives
       × AllZip (IsIndex LINE_LIMIT) (map gathered l.indexes.items) (map index_members archives);
 }

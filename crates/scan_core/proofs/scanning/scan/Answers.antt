@@ -13,8 +13,11 @@ pub returns-in-Ok-write_pages-clause-scanned : goal.returns-in-Ok-write_pages-cl
 returns-in-Ok-write_pages-clause-scanned g c =
     let found = c.in-Ok-index_archives.ensures.indexes in
     let same = map_length (λ n. string_bytes n.name) c.args.inputs.now in
-    let are = subst (λ is. AllZip (IsIndex LINE_LIMIT) (map gathered is) (map index_members found.0)) (sym c.deref.ensures.value) found.2 in
-    scanned_whole (includes c.args.types) (map (λ n. string_bytes n.name) c.args.inputs.now) (map (λ n. g.I.Input.remaining n.input) c.args.inputs.now) c.args.sizes.now c.args.query.now c.in-Ok.query found.0
+    let are = subst (λ is. AllZip (IsIndex LINE_LIMIT) (map gathered is) (map index_members found.0))
+    (sym c.deref.ensures.value) found.2 in
+    scanned_whole (includes c.args.types) (map (λ n. string_bytes n.name) c.args.inputs.now)
+    (map (λ n. g.I.Input.remaining n.input) c.args.inputs.now) c.args.sizes.now c.args.query.now c.in-Ok.query
+    found.0
     (g.O.Output.written c.args.out.now) (g.O.Output.written c.write_pages.new.out)
     (record { sizes = sym c.if-not-are_sizes.ensures.value; meaning = c.in-Ok.ensures.value; few = omega arith })
     found.1 c.in-Ok-write_pages.count (c.in-Ok-write_pages.ensures.pages (map index_members found.0) are)
@@ -23,8 +26,11 @@ pub returns-clause-part : goal.returns-clause-part
 returns-clause-part g c = λ late.
     let found = c.in-Ok-index_archives.ensures.indexes in
     let same = map_length (λ n. string_bytes n.name) c.args.inputs.now in
-    let are = subst (λ is. AllZip (IsIndex LINE_LIMIT) (map gathered is) (map index_members found.0)) (sym c.deref.ensures.value) found.2 in
-    scanned_part (includes c.args.types) (map (λ n. string_bytes n.name) c.args.inputs.now) (map (λ n. g.I.Input.remaining n.input) c.args.inputs.now) c.args.sizes.now c.args.query.now c.in-Ok.query found.0
+    let are = subst (λ is. AllZip (IsIndex LINE_LIMIT) (map gathered is) (map index_members found.0))
+    (sym c.deref.ensures.value) found.2 in
+    scanned_part (includes c.args.types) (map (λ n. string_bytes n.name) c.args.inputs.now)
+    (map (λ n. g.I.Input.remaining n.input) c.args.inputs.now) c.args.sizes.now c.args.query.now c.in-Ok.query
+    found.0
     (g.O.Output.written c.args.out.now) (g.O.Output.written c.write_pages.new.out)
     (record { sizes = sym c.if-not-are_sizes.ensures.value; meaning = c.in-Ok.ensures.value; few = omega arith })
     found.1 (c.in-Err-write_pages.ensures.pages (map index_members found.0) are (sym c.if-not-are_sizes.ensures.value))

@@ -13,17 +13,20 @@ use Rattle.scan_core.proofs.scanning.write_pages.Goals as goal
 pub returns-in-Err-clause-pages : goal.returns-in-Err-clause-pages
 returns-in-Err-clause-pages g c = λ members are sized.
     let q = c.args.query.now in
-    let chain = c.pages_join.ensures.one (same_part q.collapse) (selected q (collection members)) (c.pages_are_selected.ensures.rise q members) q.resume c.args.sizes.now c.requires.positive in
+    let chain = c.pages_join.ensures.one (same_part q.collapse) (selected q (collection members))
+    (c.pages_are_selected.ensures.rise q members) q.resume c.args.sizes.now c.requires.positive in
     (chain.0, chain.1.0, wrote_nothing (g.O.Output.written c.args.out.now) (pages_text q chain.0))
 
 pub returns-clause-pages : goal.returns-clause-pages
 returns-clause-pages g c = λ members are.
     c.pages.ensures.pages (map gathered c.args.indexes.now) members
-    (known_texts slice_text c.deref_mut.result.now (map gathered c.args.indexes.now) (ap (map slice_text) c.deref_mut.ensures.value ∙ c.in-Ok.ensures)) are
+    (known_texts slice_text c.deref_mut.result.now (map gathered c.args.indexes.now)
+    (ap (map slice_text) c.deref_mut.ensures.value ∙ c.in-Ok.ensures)) are
 
 pub returns-clause-failures : goal.returns-clause-failures
 returns-clause-failures g c =
-    counts_writing c.pages.result (map (λ s. 0) c.deref_mut.result.now) (map (λ s. 0) c.pages.new.sources) (g.O.Output.failures c.args.out.now) (g.O.Output.failures c.pages.new.out) c.pages.ensures.failures
+    counts_writing c.pages.result (map (λ s. 0) c.deref_mut.result.now) (map (λ s. 0) c.pages.new.sources)
+    (g.O.Output.failures c.args.out.now) (g.O.Output.failures c.pages.new.out) c.pages.ensures.failures
 
 pub returns-clause-refusals : goal.returns-clause-refusals
 returns-clause-refusals g c = λ members are.
@@ -31,7 +34,9 @@ returns-clause-refusals g c = λ members are.
     let texts = ap (map slice_text) c.deref_mut.ensures.value ∙ c.in-Ok.ensures in
     let same = same_length slice_text gathered c.deref_mut.result.now c.args.indexes.now texts in
     let number : length c.deref_mut.result.now ≤ SOURCES_LIMIT = omega arith in
-    pages_fault c.indexes_have_no_line_at_fault.ensures c.pages.result (map (λ s. Some (slice_text s)) c.deref_mut.result.now) (map gathered c.args.indexes.now) members c.deref_mut.result.now c.pages.new.sources
+    pages_fault c.indexes_have_no_line_at_fault.ensures c.pages.result
+    (map (λ s. Some (slice_text s)) c.deref_mut.result.now) (map gathered c.args.indexes.now) members
+    c.deref_mut.result.now c.pages.new.sources
     (g.O.Output.failures c.args.out.now) (g.O.Output.failures c.pages.new.out)
     (known_texts slice_text c.deref_mut.result.now (map gathered c.args.indexes.now) texts) are ok.fault ok.failures
     (not_refused c.pages.result c.args.sizes.now (length c.deref_mut.result.now) _ c.requires.sizes number ok.refused)

@@ -9,24 +9,30 @@ use Rattle.source_core.proofs.line_start.next_line_start.Goals.{After-min-count,
 use Rattle.source_core.proofs.line_start.next_line_start.Goals as goal
 
 -- what was looked through lies in one line
-gap : (g : Over) (c : After-min-most g) (t : List ℕ) → g.S.Source.text c.args.source.now ≡ Some t → c.loop-at.at + 1 ≤ c.args.from + longest (lines t)
+gap : (g : Over) (c : After-min-most g) (t : List ℕ) → g.S.Source.text c.args.source.now ≡ Some t
+    → c.loop-at.at + 1 ≤ c.args.from + longest (lines t)
 gap g c t e =
     let inv = c.loop-at.invariant in
     let told = inv.told t e in
     gap_most t c.args.from c.loop-at.at (omega arith) (omega (arith, told.0, inv.within)) inv.low told.1
 
 -- the window holds bytes of the source from here on
-stands : (g : Over) (c : After-min-count g) → StandsAt (g.S.Source.text c.hold.new.source) (g.S.Source.extent c.hold.new.source) c.loop-at.at c.from-held.result.now
+stands : (g : Over) (c : After-min-count g)
+    → StandsAt (g.S.Source.text c.hold.new.source) (g.S.Source.extent c.hold.new.source) c.loop-at.at
+    c.from-held.result.now
 stands g c =
-    subst (StandsAt (g.S.Source.text c.hold.new.source) (g.S.Source.extent c.hold.new.source) c.loop-at.at) (sym c.from-held.ensures)
-    (held_stands (g.S.Source.text c.hold.new.source) (g.S.Source.extent c.hold.new.source) c.hold.new.self c.loop-at.at c.in_ok-hold.ensures.holds
+    subst (StandsAt (g.S.Source.text c.hold.new.source) (g.S.Source.extent c.hold.new.source) c.loop-at.at)
+    (sym c.from-held.ensures)
+    (held_stands (g.S.Source.text c.hold.new.source) (g.S.Source.extent c.hold.new.source) c.hold.new.self c.loop-at.at
+    c.in_ok-hold.ensures.holds
     (omega (arith, c.in_ok-hold.ensures.extent, c.loop-at.invariant.extent)))
 
 -- and they are its text
 bytes : (g : Over) (c : After-min-count g) (t : List ℕ) → g.S.Source.text c.args.source.now ≡ Some t
     → take c.min-count.result c.from-held.result.now ≡ take c.min-count.result (drop c.loop-at.at t)
 bytes g c t e =
-    held_part (g.S.Source.text c.hold.new.source) (g.S.Source.extent c.hold.new.source) c.loop-at.at c.min-count.result c.from-held.result.now t
+    held_part (g.S.Source.text c.hold.new.source) (g.S.Source.extent c.hold.new.source) c.loop-at.at c.min-count.result
+    c.from-held.result.now t
     (stands g c) (c.in_ok-hold.ensures.text ∙ c.loop-at.invariant.text ∙ e) (omega (arith, c.min-count.ensures))
 
 pub returns-in_err-hold-clause-gave : goal.returns-in_err-hold-clause-gave
@@ -50,16 +56,22 @@ pub returns-in-Some-clause-line : goal.returns-in-Some-clause-line
 returns-in-Some-clause-line g c = λ t e.
     let inv = c.loop-at.invariant in
     let here = (goal.at.returns-in-Some-clause-line g c).After-min-count in
-    found_in t c.from-held.result.now (g.S.Source.extent c.args.source.now) c.loop-at.at c.min-count.result c.args.from (inv.told t e) (bytes g here t e)
-    (omega (arith, c.min-count.ensures)) (omega (arith, (stands g here).within, c.in_ok-hold.ensures.extent, inv.extent, c.min-count.ensures)) (omega arith)
+    found_in t c.from-held.result.now (g.S.Source.extent c.args.source.now) c.loop-at.at c.min-count.result c.args.from
+    (inv.told t e) (bytes g here t e)
+    (omega (arith, c.min-count.ensures))
+    (omega (arith, (stands g here).within, c.in_ok-hold.ensures.extent, inv.extent, c.min-count.ensures))
+    (omega arith)
     c.in-Some.feed c.in-Some.ensures.0 c.in-Some.ensures.1
 
 pub returns-in-Some-clause-begins : goal.returns-in-Some-clause-begins
 returns-in-Some-clause-begins g c = λ t e.
     let inv = c.loop-at.invariant in
     let here = (goal.at.returns-in-Some-clause-begins g c).After-min-count in
-    begins_in t c.from-held.result.now (g.S.Source.extent c.args.source.now) c.loop-at.at c.min-count.result c.args.from (inv.told t e) (bytes g here t e)
-    (omega (arith, c.min-count.ensures)) (omega (arith, (stands g here).within, c.in_ok-hold.ensures.extent, inv.extent, c.min-count.ensures)) (omega arith)
+    begins_in t c.from-held.result.now (g.S.Source.extent c.args.source.now) c.loop-at.at c.min-count.result c.args.from
+    (inv.told t e) (bytes g here t e)
+    (omega (arith, c.min-count.ensures))
+    (omega (arith, (stands g here).within, c.in_ok-hold.ensures.extent, inv.extent, c.min-count.ensures))
+    (omega arith)
     c.in-Some.feed c.in-Some.ensures.0 c.in-Some.ensures.1
 
 pub loop-at-preserved : goal.loop-at-preserved
@@ -68,7 +80,8 @@ loop-at-preserved g c =
     let ok = c.in_ok-hold.ensures in
     let here = (goal.at.loop-at-preserved g c).After-min-count in
     let held = ok.gave in
-    let same = subst (λ u. length u ≡ length c.from-held.result.now) c.from-held.ensures (let r : length c.from-held.result.now ≡ length c.from-held.result.now = omega arith in r) in
+    let same = subst (λ u. length u ≡ length c.from-held.result.now) c.from-held.ensures
+    (let r : length c.from-held.result.now ≡ length c.from-held.result.now = omega arith in r) in
     record {
       text = ok.text ∙ inv.text;
       extent = ok.extent ∙ inv.extent;
@@ -77,6 +90,9 @@ loop-at-preserved g c =
       holds = ok.holds;
       low = omega (arith, inv.low);
       within = omega (arith, inv.within, c.min-count.ensures);
-      told = λ t e. nowhere_in t c.from-held.result.now (g.S.Source.extent c.args.source.now) c.loop-at.at c.min-count.result c.args.from (inv.told t e) (bytes g here t e)
-          (omega (arith, c.min-count.ensures)) (omega (arith, (stands g here).within, ok.extent, inv.extent, c.min-count.ensures)) (omega arith) c.in-None.ensures;
+      told = λ t e. nowhere_in t c.from-held.result.now (g.S.Source.extent c.args.source.now) c.loop-at.at
+          c.min-count.result c.args.from (inv.told t e) (bytes g here t e)
+          (omega (arith, c.min-count.ensures))
+          (omega (arith, (stands g here).within, ok.extent, inv.extent, c.min-count.ensures)) (omega arith)
+          c.in-None.ensures;
     }

@@ -9,7 +9,9 @@ returns-clause-reads c = λ text extent holds inside t e.
     let n = c.line_part-length.result.0 in
     let new = c.extend_from_slice.new.self.items in
     let none : c.args.offset ≡ c.args.offset + 0 = omega arith in
-    let stands = subst (StandsAt text extent c.args.offset) (sym c.from-held.ensures) (held_stands text extent c.args.window.now c.args.offset holds inside) in
+    let stands = subst (StandsAt text extent c.args.offset) (sym c.from-held.ensures)
+    (held_stands text extent c.args.window.now c.args.offset holds inside) in
     held_reads text extent c.args.offset n [] held new t c.line_part-length.result.1
     (subst (λ at. StandsAt text extent at held) none stands) e c.line_part-length.ensures.within
-    (let grown : new ≡ take n held = search rules in grown) c.line_part-length.ensures.part (nothing_read t c.args.offset)
+    (let grown : new ≡ take n held = search rules in grown) c.line_part-length.ensures.part
+    (nothing_read t c.args.offset)

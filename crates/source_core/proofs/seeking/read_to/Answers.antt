@@ -7,7 +7,8 @@ use Rattle.source_core.proofs.seeking.read_to.Goals.{After-len}
 use Rattle.source_core.proofs.seeking.read_to.Goals as goal
 
 -- what was read of the line so far is no longer than the longest line
-most : (g : Over) (c : After-len g) (t : List ℕ) → g.S.Source.text c.args.source.now ≡ Some t → BeginsWith t c.args.offset c.args.front.now.items
+most : (g : Over) (c : After-len g) (t : List ℕ) → g.S.Source.text c.args.source.now ≡ Some t
+    → BeginsWith t c.args.offset c.args.front.now.items
     → length c.loop-front.front.items ≤ longest (lines t)
 most g c t e b = front_most t c.args.offset c.loop-front.front.items (c.loop-front.invariant.told t e b)
 

@@ -14,7 +14,8 @@ invariant-loop-front g l = record {
   within : l.offset + length l.front.items ≤ l.size;
   short : length l.front.items ≤ l.wanted;
   grown : length l.fn.front.items ≤ length l.front.items;
-  told : (t : List ℕ) → g.S.Source.text l.fn.source ≡ Some t → BeginsWith t l.offset l.fn.front.items → BeginsWith t l.offset l.front.items;
+  told : (t : List ℕ) → g.S.Source.text l.fn.source ≡ Some t → BeginsWith t l.offset l.fn.front.items
+      → BeginsWith t l.offset l.front.items;
 }
 
 abbrev pub decreases-loop-front : goal.decreases-loop-front

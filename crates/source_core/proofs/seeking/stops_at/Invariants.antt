@@ -12,7 +12,8 @@ invariant-fronts g l = record {
   failures : g.S.Source.failures l.source ≡ g.S.Source.failures l.fn.source;
   gave : l.ends ≡ false → g.S.Source.gave l.source ≤ g.S.Source.gave l.fn.source + length l.front.items;
   bound : g.S.Source.gave l.source ≤ g.S.Source.gave l.fn.source + LINE_LIMIT;
-  paid : (t : List ℕ) → g.S.Source.text l.fn.source ≡ Some t → g.S.Source.gave l.source ≤ g.S.Source.gave l.fn.source + longest (lines t) + 512;
+  paid : (t : List ℕ) → g.S.Source.text l.fn.source ≡ Some t
+      → g.S.Source.gave l.source ≤ g.S.Source.gave l.fn.source + longest (lines t) + 512;
   size : l.size ≡ g.S.Source.extent l.fn.source;
   holds : Holds (g.S.Source.text l.source) (g.S.Source.extent l.source) l.window;
   within : l.offset + length l.front.items ≤ l.size;

@@ -5,7 +5,8 @@ use Rattle.cdxj_core.specs.FoundMembers.{object_read}
 use Rattle.cdxj_core.specs.FoundViews.{found_view}
 use Rattle.cdxj_core.proofs.FoundLaw.{no_brace, object_ended, object_and_more, object_refused}
 use Rattle.cdxj_core.proofs.found_members.FoundMembers.of_tokens.Goals as goal
-use Rattle.cdxj_core.proofs.found_members.FoundMembers.of_tokens.Goals.{in_default-via-in-Some+in_default, in_default-via-in_default}
+use Rattle.cdxj_core.proofs.found_members.FoundMembers.of_tokens.Goals.{in_default-via-in-Some+in_default}
+use Rattle.cdxj_core.proofs.found_members.FoundMembers.of_tokens.Goals.{in_default-via-in_default}
 
 pub returns-in_default : goal.returns-in_default
 returns-in_default c =

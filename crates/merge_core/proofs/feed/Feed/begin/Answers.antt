@@ -21,18 +21,25 @@ pub returns-in-Some-clause-fed : goal.returns-in-Some-clause-fed
 returns-in-Some-clause-fed g c =
     let ok = c.in_ok-line.ensures in
     let pair = member_pair c.in-Some.line.value in
-    settled LINE_LIMIT (g.R.Range.past c.args.range.now) (λ (b : Box Line Global). b.value) (g.S.Source.text c.args.source.now) (g.S.Source.text c.next_line.new.source)
-    (g.S.Source.extent c.args.source.now) (g.S.Source.extent c.next_line.new.source) c.args.self.now c.next_line.new.cursor c.in_ok-line.field-0 ok.text ok.extent
-    c.requires.due c.requires.fed ok.stands ok.start ok.count ok.given ok.most c.settle.new.self c.settle.ensures.cursor c.in-Some.line c.in-Some.is pair
-    (λ t e. subst (AllByRecursion (λ k. Upto (member_pair k) pair)) (sym (fresh_done LINE_LIMIT t c.args.self.now c.requires.fresh)) tt) (upto_itself pair)
+    settled LINE_LIMIT (g.R.Range.past c.args.range.now) (λ (b : Box Line Global). b.value)
+    (g.S.Source.text c.args.source.now) (g.S.Source.text c.next_line.new.source)
+    (g.S.Source.extent c.args.source.now) (g.S.Source.extent c.next_line.new.source) c.args.self.now
+    c.next_line.new.cursor c.in_ok-line.field-0 ok.text ok.extent
+    c.requires.due c.requires.fed ok.stands ok.start ok.count ok.given ok.most c.settle.new.self c.settle.ensures.cursor
+    c.in-Some.line c.in-Some.is pair
+    (λ t e. subst (AllByRecursion (λ k. Upto (member_pair k) pair))
+    (sym (fresh_done LINE_LIMIT t c.args.self.now c.requires.fresh)) tt) (upto_itself pair)
     (option_list (option_map (λ (b : Box Line Global). b.value) c.settle.result)) c.settle.ensures.next
 
 pub returns-in-None-clause-fed : goal.returns-in-None-clause-fed
 returns-in-None-clause-fed g c =
     let ok = c.in_ok-line.ensures in
-    at_end LINE_LIMIT (g.R.Range.past c.args.range.now) (λ (b : Box Line Global). b.value) (g.S.Source.text c.args.source.now) (g.S.Source.text c.next_line.new.source)
-    (g.S.Source.extent c.args.source.now) (g.S.Source.extent c.next_line.new.source) c.args.self.now c.next_line.new.cursor c.in_ok-line.field-0 ok.text ok.extent
-    c.requires.due c.requires.fed ok.stands ok.start ok.count ok.given ok.most (record { cursor = c.next_line.new.cursor; progress = Ended }) refl c.in-None.is refl
+    at_end LINE_LIMIT (g.R.Range.past c.args.range.now) (λ (b : Box Line Global). b.value)
+    (g.S.Source.text c.args.source.now) (g.S.Source.text c.next_line.new.source)
+    (g.S.Source.extent c.args.source.now) (g.S.Source.extent c.next_line.new.source) c.args.self.now
+    c.next_line.new.cursor c.in_ok-line.field-0 ok.text ok.extent
+    c.requires.due c.requires.fed ok.stands ok.start ok.count ok.given ok.most
+    (record { cursor = c.next_line.new.cursor; progress = Ended }) refl c.in-None.is refl
 
 pub returns-in_err-line-clause-fault : goal.returns-in_err-line-clause-fault
 returns-in_err-line-clause-fault g c = λ t e.
@@ -42,7 +49,9 @@ returns-in_err-line-clause-fault g c = λ t e.
     let q : p.0 ≡ c.in_err-line.field-0.0 = p.2 in
     if_err c.from_residual.result p.0 (NamesLine LINE_LIMIT t) p.1
     (subst (NamesLine LINE_LIMIT t) (sym q)
-    (bad_named LINE_LIMIT past t extent c.args.self.now (subst (λ o. Fed LINE_LIMIT past o extent c.args.self.now []) e c.requires.fed) c.in_err-line.field-0.0 (c.in_err-line.ensures.fault t e)))
+    (bad_named LINE_LIMIT past t extent c.args.self.now
+    (subst (λ o. Fed LINE_LIMIT past o extent c.args.self.now []) e c.requires.fed) c.in_err-line.field-0.0
+    (c.in_err-line.ensures.fault t e)))
 
 pub returns-in_err-line-clause-reads : goal.returns-in_err-line-clause-reads
 returns-in_err-line-clause-reads g c = λ t e.
@@ -51,7 +60,8 @@ returns-in_err-line-clause-reads g c = λ t e.
     let f = c.args.self.now in
     let next = c.next_line.ensures in
     read_to LINE_LIMIT past t extent f [] None (subst (λ o. Fed LINE_LIMIT past o extent f []) e c.requires.fed)
-    (subst (AllByRecursion (λ m. IsUpto None (member_pair m))) (sym (fresh_done LINE_LIMIT t f c.requires.fresh)) tt) c.next_line.new.cursor next.start (next.most t e) next.ahead
+    (subst (AllByRecursion (λ m. IsUpto None (member_pair m))) (sym (fresh_done LINE_LIMIT t f c.requires.fresh)) tt)
+    c.next_line.new.cursor next.start (next.most t e) next.ahead
 
 pub returns-in-None-clause-reads : goal.returns-in-None-clause-reads
 returns-in-None-clause-reads g c = λ t e.
@@ -60,7 +70,8 @@ returns-in-None-clause-reads g c = λ t e.
     let f = c.args.self.now in
     let next = c.next_line.ensures in
     read_to LINE_LIMIT past t extent f [] None (subst (λ o. Fed LINE_LIMIT past o extent f []) e c.requires.fed)
-    (subst (AllByRecursion (λ m. IsUpto None (member_pair m))) (sym (fresh_done LINE_LIMIT t f c.requires.fresh)) tt) c.next_line.new.cursor next.start (next.most t e) next.ahead
+    (subst (AllByRecursion (λ m. IsUpto None (member_pair m))) (sym (fresh_done LINE_LIMIT t f c.requires.fresh)) tt)
+    c.next_line.new.cursor next.start (next.most t e) next.ahead
 
 pub returns-in-Some-clause-reads : goal.returns-in-Some-clause-reads
 returns-in-Some-clause-reads g c = λ t e.
@@ -68,11 +79,14 @@ returns-in-Some-clause-reads g c = λ t e.
     let extent = g.S.Source.extent c.args.source.now in
     let f = c.args.self.now in
     let next = c.next_line.ensures in
-    subst (ReadTo LINE_LIMIT past None t) (sym c.settle.ensures.cursor) (read_to LINE_LIMIT past t extent f [] None (subst (λ o. Fed LINE_LIMIT past o extent f []) e c.requires.fed)
-    (subst (AllByRecursion (λ m. IsUpto None (member_pair m))) (sym (fresh_done LINE_LIMIT t f c.requires.fresh)) tt) c.next_line.new.cursor next.start (next.most t e) next.ahead)
+    subst (ReadTo LINE_LIMIT past None t) (sym c.settle.ensures.cursor)
+    (read_to LINE_LIMIT past t extent f [] None (subst (λ o. Fed LINE_LIMIT past o extent f []) e c.requires.fed)
+    (subst (AllByRecursion (λ m. IsUpto None (member_pair m))) (sym (fresh_done LINE_LIMIT t f c.requires.fresh)) tt)
+    c.next_line.new.cursor next.start (next.most t e) next.ahead)
 
 pub returns-in_err-line-clause-failures : goal.returns-in_err-line-clause-failures
 returns-in_err-line-clause-failures g c =
     let f = g.S.Source.failures in
-    counts_feed c.from_residual.result c.in_err-line.field-0.0 (f c.args.source.now) (f c.args.source.now) (f c.next_line.new.source)
+    counts_feed c.from_residual.result c.in_err-line.field-0.0 (f c.args.source.now) (f c.args.source.now)
+    (f c.next_line.new.source)
     c.from_residual.ensures.1 refl c.in_err-line.ensures.failures

@@ -1,5 +1,6 @@
 use Rattle.std.proofs.lemmas.List.{map-append}
-use Rattle.std.proofs.Common.{◌≡◌, ℕ, List, Some, ◌+◌, ◌<◌, ◌∷◌, ◌++◌, [], Box, Global, option_map, map, MatchOption, refl, sym, ap, ◌∙◌, subst, arith}
+use Rattle.std.proofs.Common.{◌≡◌, ℕ, List, Some, ◌+◌, ◌<◌, ◌∷◌, ◌++◌, [], Box, Global, option_map, map, MatchOption}
+use Rattle.std.proofs.Common.{refl, sym, ap, ◌∙◌, subst, arith}
 use Rattle.std.specs.List.{AllByRecursion}
 use Rattle.std.specs.Ordering.{ordering_reverse}
 use Rattle.std.proofs.lemmas.Result.{err_from_is_err_and}
@@ -35,10 +36,12 @@ above g c =
 
 -- the source's text is what it was
 told : (g : Over) (c : After-next_line g) (t : List ℕ) → g.S.Source.text c.args.source.now ≡ Some t
-    → Fed LINE_LIMIT (g.R.Range.past c.args.range.now) (Some t) (g.S.Source.extent c.loop-line.source) c.loop-line.self []
+    → Fed LINE_LIMIT (g.R.Range.past c.args.range.now) (Some t) (g.S.Source.extent c.loop-line.source) c.loop-line.self
+    []
 told g c t e =
     let inv = c.loop-line.invariant in
-    subst (λ o. Fed LINE_LIMIT (g.R.Range.past c.args.range.now) o (g.S.Source.extent c.loop-line.source) c.loop-line.self []) (inv.text ∙ e) inv.fed
+    subst (λ o. Fed LINE_LIMIT (g.R.Range.past c.args.range.now) o (g.S.Source.extent c.loop-line.source)
+    c.loop-line.self []) (inv.text ∙ e) inv.fed
 
 -- no line was read beyond the next one
 reads : (g : Over) (c : After-next_line g) (t : List ℕ) → g.S.Source.text c.args.source.now ≡ Some t
@@ -47,7 +50,8 @@ reads g c t e =
     let inv = c.loop-line.invariant in
     let next = c.next_line.ensures in
     read_to LINE_LIMIT (g.R.Range.past c.args.range.now) t (g.S.Source.extent c.loop-line.source) c.loop-line.self []
-    (Some (member_pair c.args.first.now)) (told g c t e) (inv.low t e) c.next_line.new.cursor next.start (next.most t (inv.text ∙ e)) next.ahead
+    (Some (member_pair c.args.first.now)) (told g c t e) (inv.low t e) c.next_line.new.cursor next.start
+    (next.most t (inv.text ∙ e)) next.ahead
 
 pub returns-in-Greater-clause-later : goal.returns-in-Greater-clause-later
 returns-in-Greater-clause-later g c =
@@ -64,9 +68,12 @@ returns-in-Greater-clause-fed g c =
     let first = member_pair c.args.first.now in
     let m = c.in-Some.line.value in
     let over = above g (goal.at.returns-in-Greater-clause-fed g c).In-Greater in
-    settled LINE_LIMIT (g.R.Range.past c.args.range.now) (λ (b : Box Line Global). b.value) (g.S.Source.text c.loop-line.source) (g.S.Source.text c.next_line.new.source)
-    (g.S.Source.extent c.loop-line.source) (g.S.Source.extent c.next_line.new.source) c.loop-line.self c.next_line.new.cursor c.in_ok-line.field-0 ok.text ok.extent
-    inv.due inv.fed ok.stands ok.start ok.count ok.given ok.most c.settle.new.self c.settle.ensures.cursor c.in-Some.line c.in-Some.is first
+    settled LINE_LIMIT (g.R.Range.past c.args.range.now) (λ (b : Box Line Global). b.value)
+    (g.S.Source.text c.loop-line.source) (g.S.Source.text c.next_line.new.source)
+    (g.S.Source.extent c.loop-line.source) (g.S.Source.extent c.next_line.new.source) c.loop-line.self
+    c.next_line.new.cursor c.in_ok-line.field-0 ok.text ok.extent
+    inv.due inv.fed ok.stands ok.start ok.count ok.given ok.most c.settle.new.self c.settle.ensures.cursor
+    c.in-Some.line c.in-Some.is first
     (λ t e. inv.low t (sym inv.text ∙ e)) (below_upto first (member_pair m) over)
     (option_list (option_map (λ (b : Box Line Global). b.value) c.settle.result)) c.settle.ensures.next
 
@@ -79,9 +86,12 @@ returns-in-Greater-clause-taken g c = λ t e.
     let over = above g (goal.at.returns-in-Greater-clause-taken g c).In-Greater in
     let h = inv.taken t e in (
       h.0,
-      settled_done LINE_LIMIT (g.R.Range.past c.args.range.now) (λ (b : Box Line Global). b.value) (g.S.Source.text c.loop-line.source) (g.S.Source.text c.next_line.new.source)
-          (g.S.Source.extent c.loop-line.source) (g.S.Source.extent c.next_line.new.source) c.loop-line.self c.next_line.new.cursor c.in_ok-line.field-0 ok.text ok.extent
-          inv.due inv.fed ok.stands ok.start ok.count ok.given ok.most c.settle.new.self c.settle.ensures.cursor c.in-Some.line c.in-Some.is first
+      settled_done LINE_LIMIT (g.R.Range.past c.args.range.now) (λ (b : Box Line Global). b.value)
+          (g.S.Source.text c.loop-line.source) (g.S.Source.text c.next_line.new.source)
+          (g.S.Source.extent c.loop-line.source) (g.S.Source.extent c.next_line.new.source) c.loop-line.self
+          c.next_line.new.cursor c.in_ok-line.field-0 ok.text ok.extent
+          inv.due inv.fed ok.stands ok.start ok.count ok.given ok.most c.settle.new.self c.settle.ensures.cursor
+          c.in-Some.line c.in-Some.is first
           (λ t e. inv.low t (sym inv.text ∙ e)) (below_upto first (member_pair m) over)
           (option_list (option_map (λ (b : Box Line Global). b.value) c.settle.result)) c.settle.ensures.next t ∙ h.1,
       h.2,
@@ -95,12 +105,17 @@ loop-line-preserved g c =
     let first = member_pair c.args.first.now in
     let line = c.in-Some.line in
     let m = line.value in
-    let alike : Alike (member_pair m) first = ap (λ k. pair_cmp (member_pair k) first) (sym c.deref.ensures) ∙ sym c.compare_pairs.ensures ∙ c.in-Equal.is in
+    let alike : Alike (member_pair m) first = ap (λ k. pair_cmp (member_pair k) first) (sym c.deref.ensures)
+    ∙ sym c.compare_pairs.ensures ∙ c.in-Equal.is in
     let f : Feed = record { cursor = c.next_line.new.cursor; progress = c.loop-line.self.progress } in
-    let pushed : map (λ (b : Box Line Global). b.value) c.push.new.self.items ≡ map (λ (b : Box Line Global). b.value) c.loop-line.rest.items ++ m ∷ [] =
-    ap (map (λ (b : Box Line Global). b.value)) c.in-Ok.ensures.items ∙ map-append (λ (b : Box Line Global). b.value) c.loop-line.rest.items (line ∷ []) in
-    let more = taken_done LINE_LIMIT (g.R.Range.past c.args.range.now) (λ (b : Box Line Global). b.value) (g.S.Source.text c.loop-line.source) (g.S.Source.text c.next_line.new.source)
-    (g.S.Source.extent c.loop-line.source) (g.S.Source.extent c.next_line.new.source) c.loop-line.self c.next_line.new.cursor c.in_ok-line.field-0 ok.text ok.extent
+    let pushed : map (λ (b : Box Line Global). b.value) c.push.new.self.items
+    ≡ map (λ (b : Box Line Global). b.value) c.loop-line.rest.items ++ m ∷ [] =
+    ap (map (λ (b : Box Line Global). b.value)) c.in-Ok.ensures.items
+    ∙ map-append (λ (b : Box Line Global). b.value) c.loop-line.rest.items (line ∷ []) in
+    let more = taken_done LINE_LIMIT (g.R.Range.past c.args.range.now) (λ (b : Box Line Global). b.value)
+    (g.S.Source.text c.loop-line.source) (g.S.Source.text c.next_line.new.source)
+    (g.S.Source.extent c.loop-line.source) (g.S.Source.extent c.next_line.new.source) c.loop-line.self
+    c.next_line.new.cursor c.in_ok-line.field-0 ok.text ok.extent
     inv.due inv.fed ok.stands ok.start ok.count ok.given ok.most f refl line c.in-Some.is first
     (λ t e. inv.low t (sym inv.text ∙ e)) (same_from (member_pair m) first alike) inv.due in
     record {
@@ -109,18 +124,31 @@ loop-line-preserved g c =
       failures = ok.failures ∙ inv.failures;
       gave = omega (arith, ok.gave, inv.gave);
       start = ok.start ∙ inv.start;
-      there = (let h = subst (λ o. MatchOption o (c.next_line.new.cursor.at ≡ g.S.Source.extent c.loop-line.source) (λ _. c.loop-line.self.cursor.at < c.next_line.new.cursor.at)) c.in-Some.is ok.there in omega (arith, h, inv.there));
-      fed = taken LINE_LIMIT (g.R.Range.past c.args.range.now) (λ (b : Box Line Global). b.value) (g.S.Source.text c.loop-line.source) (g.S.Source.text c.next_line.new.source)
-          (g.S.Source.extent c.loop-line.source) (g.S.Source.extent c.next_line.new.source) c.loop-line.self c.next_line.new.cursor c.in_ok-line.field-0 ok.text ok.extent
+      there = (let h = subst (λ o. MatchOption o (c.next_line.new.cursor.at ≡ g.S.Source.extent c.loop-line.source)
+          (λ _. c.loop-line.self.cursor.at < c.next_line.new.cursor.at)) c.in-Some.is ok.there in omega
+          (arith, h, inv.there));
+      fed = taken LINE_LIMIT (g.R.Range.past c.args.range.now) (λ (b : Box Line Global). b.value)
+          (g.S.Source.text c.loop-line.source) (g.S.Source.text c.next_line.new.source)
+          (g.S.Source.extent c.loop-line.source) (g.S.Source.extent c.next_line.new.source) c.loop-line.self
+          c.next_line.new.cursor c.in_ok-line.field-0 ok.text ok.extent
           inv.due inv.fed ok.stands ok.start ok.count ok.given ok.most f refl line c.in-Some.is first
           (λ t e. inv.low t (sym inv.text ∙ e)) (same_from (member_pair m) first alike) inv.due
-          (λ t e. same_stays (g.R.Range.past c.args.range.now) first m (done LINE_LIMIT t c.loop-line.self) (inv.fed.told t e).within (inv.low t (sym inv.text ∙ e)) (inv.last t (sym inv.text ∙ e)) alike);
+          (λ t e. same_stays (g.R.Range.past c.args.range.now) first m (done LINE_LIMIT t c.loop-line.self)
+          (inv.fed.told t e).within (inv.low t (sym inv.text ∙ e)) (inv.last t (sym inv.text ∙ e)) alike);
       due = inv.due;
       begin = c.at-begin-in-Some.ensures;
-      last = λ t e. (done LINE_LIMIT t c.loop-line.self, m, more t (inv.text ∙ e), same_from (member_pair m) first alike);
+      last = λ t e. (
+        done LINE_LIMIT t c.loop-line.self,
+        m,
+        more t (inv.text ∙ e),
+        same_from (member_pair m) first
+            alike,
+      );
       low = λ t e. subst (AllByRecursion (λ k. Upto (member_pair k) first)) (sym (more t (inv.text ∙ e)))
-          (each_join (λ k. Upto (member_pair k) first) _ (m ∷ []) (inv.low t e) (same_upto (member_pair m) first alike, tt));
-      each = λ h. subst (AllByRecursion (λ k. Alike (member_pair k) first)) (sym pushed) (each_join (λ k. Alike (member_pair k) first) _ (m ∷ []) (inv.each h) (alike, tt));
+          (each_join (λ k. Upto (member_pair k) first) _ (m ∷ []) (inv.low t e)
+          (same_upto (member_pair m) first alike, tt));
+      each = λ h. subst (AllByRecursion (λ k. Alike (member_pair k) first)) (sym pushed)
+          (each_join (λ k. Alike (member_pair k) first) _ (m ∷ []) (inv.each h) (alike, tt));
       taken = λ t e.
           let h = inv.taken t e in
           taken_more first _ _ _ h.0 _ _ _ m h.1 h.2 h.3 (more t (inv.text ∙ e)) pushed alike;
@@ -130,9 +158,12 @@ pub returns-clause-fed : goal.returns-clause-fed
 returns-clause-fed g c =
     let ok = c.in_ok-line.ensures in
     let inv = c.loop-line.invariant in
-    at_end LINE_LIMIT (g.R.Range.past c.args.range.now) (λ (b : Box Line Global). b.value) (g.S.Source.text c.loop-line.source) (g.S.Source.text c.next_line.new.source)
-    (g.S.Source.extent c.loop-line.source) (g.S.Source.extent c.next_line.new.source) c.loop-line.self c.next_line.new.cursor c.in_ok-line.field-0 ok.text ok.extent
-    inv.due inv.fed ok.stands ok.start ok.count ok.given ok.most (record { cursor = c.next_line.new.cursor; progress = Ended }) refl c.in_default.is refl
+    at_end LINE_LIMIT (g.R.Range.past c.args.range.now) (λ (b : Box Line Global). b.value)
+    (g.S.Source.text c.loop-line.source) (g.S.Source.text c.next_line.new.source)
+    (g.S.Source.extent c.loop-line.source) (g.S.Source.extent c.next_line.new.source) c.loop-line.self
+    c.next_line.new.cursor c.in_ok-line.field-0 ok.text ok.extent
+    inv.due inv.fed ok.stands ok.start ok.count ok.given ok.most
+    (record { cursor = c.next_line.new.cursor; progress = Ended }) refl c.in_default.is refl
 
 pub returns-in_err-line-clause-fault : goal.returns-in_err-line-clause-fault
 returns-in_err-line-clause-fault g c = λ t e.
@@ -144,7 +175,9 @@ returns-in_err-line-clause-fault g c = λ t e.
     let q : p.0 ≡ c.in_err-line.field-0.0 = p.2 in
     if_err c.from_residual.result p.0 (NamesLine LINE_LIMIT t) p.1
     (subst (NamesLine LINE_LIMIT t) (sym q)
-    (bad_named LINE_LIMIT past t extent c.loop-line.self (told g (goal.at.returns-in_err-line-clause-fault g c).After-next_line t e) c.in_err-line.field-0.0 (c.in_err-line.ensures.fault t text)))
+    (bad_named LINE_LIMIT past t extent c.loop-line.self
+    (told g (goal.at.returns-in_err-line-clause-fault g c).After-next_line t e) c.in_err-line.field-0.0
+    (c.in_err-line.ensures.fault t text)))
 
 pub returns-in-Less-clause-fault : goal.returns-in-Less-clause-fault
 returns-in-Less-clause-fault g c = λ t e.
@@ -155,11 +188,16 @@ returns-in-Less-clause-fault g c = λ t e.
     let text = inv.text ∙ e in
     let first = member_pair c.args.first.now in
     let m = c.in-Some.line.value in
-    let below : Below (member_pair m) first = ap (λ k. pair_cmp (member_pair k) first) (sym c.deref.ensures) ∙ sym c.compare_pairs.ensures ∙ c.in-Less.is in
-    let more = subst (λ o. MatchOption o (c.next_line.new.cursor.count ≡ c.loop-line.self.cursor.count) (λ _. c.next_line.new.cursor.count ≡ c.loop-line.self.cursor.count + 1)) c.in-Some.is ok.count in
+    let below : Below (member_pair m) first = ap (λ k. pair_cmp (member_pair k) first) (sym c.deref.ensures)
+    ∙ sym c.compare_pairs.ensures ∙ c.in-Less.is in
+    let more = subst (λ o. MatchOption o (c.next_line.new.cursor.count ≡ c.loop-line.self.cursor.count)
+    (λ _. c.next_line.new.cursor.count ≡ c.loop-line.self.cursor.count + 1)) c.in-Some.is ok.count in
     subst (IsOutOfOrder LINE_LIMIT t) (sym inv.begin)
-    (order_named LINE_LIMIT past t extent c.loop-line.self (told g (goal.at.returns-in-Less-clause-fault g c).After-next_line t e) first c.next_line.new.cursor m inv.due (inv.last t e) ok.start more
-    (line_read LINE_LIMIT t c.loop-line.self.cursor c.next_line.new.cursor (λ (b : Box Line Global). b.value) c.in_ok-line.field-0 c.in-Some.line c.in-Some.is (ok.given t text)) below)
+    (order_named LINE_LIMIT past t extent c.loop-line.self
+    (told g (goal.at.returns-in-Less-clause-fault g c).After-next_line t e) first c.next_line.new.cursor m inv.due
+    (inv.last t e) ok.start more
+    (line_read LINE_LIMIT t c.loop-line.self.cursor c.next_line.new.cursor (λ (b : Box Line Global). b.value)
+    c.in_ok-line.field-0 c.in-Some.line c.in-Some.is (ok.given t text)) below)
 
 pub returns-in_err-line-clause-reads : goal.returns-in_err-line-clause-reads
 returns-in_err-line-clause-reads g c = reads g (goal.at.returns-in_err-line-clause-reads g c).After-next_line
@@ -175,11 +213,13 @@ returns-clause-reads g c = reads g (goal.at.returns-clause-reads g c).After-next
 
 pub returns-in-Greater-clause-reads : goal.returns-in-Greater-clause-reads
 returns-in-Greater-clause-reads g c = λ t e.
-    subst (ReadTo LINE_LIMIT (g.R.Range.past c.args.range.now) (Some (member_pair c.args.first.now)) t) (sym c.settle.ensures.cursor)
+    subst (ReadTo LINE_LIMIT (g.R.Range.past c.args.range.now) (Some (member_pair c.args.first.now)) t)
+    (sym c.settle.ensures.cursor)
     (reads g (goal.at.returns-in-Greater-clause-reads g c).After-next_line t e)
 
 pub returns-in_err-line-clause-failures : goal.returns-in_err-line-clause-failures
 returns-in_err-line-clause-failures g c =
     let f = g.S.Source.failures in
-    counts_feed c.from_residual.result c.in_err-line.field-0.0 (f c.args.source.now) (f c.loop-line.source) (f c.next_line.new.source)
+    counts_feed c.from_residual.result c.in_err-line.field-0.0 (f c.args.source.now) (f c.loop-line.source)
+    (f c.next_line.new.source)
     c.from_residual.ensures.1 c.loop-line.invariant.failures c.in_err-line.ensures.failures

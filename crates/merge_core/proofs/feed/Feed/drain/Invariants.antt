@@ -21,7 +21,8 @@ invariant-loop-line g l = record {
   due : l.self.progress ≡ Due;
   begin : l.begin ≡ l.self.cursor.at;
   last : (t : List ℕ) → g.S.Source.text l.fn.source ≡ Some t → EndsAt (member_pair l.first) (done LINE_LIMIT t l.self);
-  low : (t : List ℕ) → g.S.Source.text l.fn.source ≡ Some t → AllByRecursion (λ m. Upto (member_pair m) (member_pair l.first)) (done LINE_LIMIT t l.self);
+  low : (t : List ℕ) → g.S.Source.text l.fn.source ≡ Some t
+      → AllByRecursion (λ m. Upto (member_pair m) (member_pair l.first)) (done LINE_LIMIT t l.self);
   each : AllByRecursion (λ m. Alike (member_pair m) (member_pair l.first)) (map (λ b. b.value) l.fn.rest.items)
       → AllByRecursion (λ m. Alike (member_pair m) (member_pair l.first)) (map (λ b. b.value) l.rest.items);
   taken : (t : List ℕ) → g.S.Source.text l.fn.source ≡ Some t → (taken : List Member)

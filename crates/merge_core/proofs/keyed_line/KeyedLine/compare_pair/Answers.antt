@@ -10,7 +10,10 @@ pub returns-in_default : goal.returns-in_default
 returns-in_default c =
     let pair = member_pair c.args.self.now in
     let other = member_pair c.args.other.now in
-    let mine = subst (λ m. (c.self.inside.key_start ≡ key_words (member_pair m).0) × IsText (member_pair m).0) c.self.view_is c.self.invariant in
-    let its = subst (λ m. (c.other.inside.key_start ≡ key_words (member_pair m).0) × IsText (member_pair m).0) c.other.view_is c.other.invariant in
+    let mine = subst (λ m. (c.self.inside.key_start ≡ key_words (member_pair m).0) × IsText (member_pair m).0)
+    c.self.view_is c.self.invariant in
+    let its = subst (λ m. (c.other.inside.key_start ≡ key_words (member_pair m).0) × IsText (member_pair m).0)
+    c.other.view_is c.other.invariant in
     let by = starts_decide pair other c.self.inside.key_start c.other.inside.key_start mine.0 its.0 mine.1 its.1 in
-    decided c.cmp.result (pair_cmp pair other) c.in_default.not-Equal (subst (λ o. ordering_then o (pair_cmp pair other) ≡ pair_cmp pair other) (sym c.cmp.ensures) by)
+    decided c.cmp.result (pair_cmp pair other) c.in_default.not-Equal
+    (subst (λ o. ordering_then o (pair_cmp pair other) ≡ pair_cmp pair other) (sym c.cmp.ensures) by)

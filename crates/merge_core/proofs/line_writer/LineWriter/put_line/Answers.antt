@@ -13,7 +13,8 @@ returns-in_err-put-clause-part g c =
     let new = g.O.Output.written c.put.new.out in
     let p = err_from_is_err_and c.from_residual.result c.from_residual.ensures.1 in
     on_err c.from_residual.result p.0 _ p.1
-    (prefix_longer old new c.args.line.now.line (10 ∷ []) (subst (AppendsPrefix old new) c.line.ensures.value c.in_err-put.ensures.prefix))
+    (prefix_longer old new c.args.line.now.line (10 ∷ [])
+    (subst (AppendsPrefix old new) c.line.ensures.value c.in_err-put.ensures.prefix))
 
 pub returns-in_err-put-2-clause-part : goal.returns-in_err-put-2-clause-part
 returns-in_err-put-2-clause-part g c =
@@ -21,16 +22,21 @@ returns-in_err-put-2-clause-part g c =
     let mid = g.O.Output.written c.put.new.out in
     let p = err_from_is_err_and c.from_residual-in_err-put-2.result c.from_residual-in_err-put-2.ensures.1 in
     on_err c.from_residual-in_err-put-2.result p.0 _ p.1
-    (prefix_after old mid (g.O.Output.written c.put-2.new.out) c.args.line.now.line (10 ∷ []) (subst (Appends old mid) c.line.ensures.value c.in_ok-put.ensures.all) c.in_err-put-2.ensures.prefix)
+    (prefix_after old mid (g.O.Output.written c.put-2.new.out) c.args.line.now.line (10 ∷ [])
+    (subst (Appends old mid) c.line.ensures.value c.in_ok-put.ensures.all) c.in_err-put-2.ensures.prefix)
 
 pub returns-in_err-put-2-clause-grows : goal.returns-in_err-put-2-clause-grows
 returns-in_err-put-2-clause-grows g c =
     grows_on (g.O.Output.written c.args.out.now) (g.O.Output.written c.put.new.out) (g.O.Output.written c.put-2.new.out)
-    (grows_by (g.O.Output.written c.args.out.now) (g.O.Output.written c.put.new.out) c.line.result.now c.in_ok-put.ensures.all)
-    (grows_part (g.O.Output.written c.put.new.out) (g.O.Output.written c.put-2.new.out) (10 ∷ []) c.in_err-put-2.ensures.prefix)
+    (grows_by (g.O.Output.written c.args.out.now) (g.O.Output.written c.put.new.out) c.line.result.now
+    c.in_ok-put.ensures.all)
+    (grows_part (g.O.Output.written c.put.new.out) (g.O.Output.written c.put-2.new.out) (10 ∷ [])
+    c.in_err-put-2.ensures.prefix)
 
 pub returns-clause-grows : goal.returns-clause-grows
 returns-clause-grows g c =
     grows_on (g.O.Output.written c.args.out.now) (g.O.Output.written c.put.new.out) (g.O.Output.written c.put-2.new.out)
-    (grows_by (g.O.Output.written c.args.out.now) (g.O.Output.written c.put.new.out) c.line.result.now c.in_ok-put.ensures.all)
-    (grows_by (g.O.Output.written c.put.new.out) (g.O.Output.written c.put-2.new.out) (10 ∷ []) c.in_ok-put-2.ensures.all)
+    (grows_by (g.O.Output.written c.args.out.now) (g.O.Output.written c.put.new.out) c.line.result.now
+    c.in_ok-put.ensures.all)
+    (grows_by (g.O.Output.written c.put.new.out) (g.O.Output.written c.put-2.new.out) (10 ∷ [])
+    c.in_ok-put-2.ensures.all)

@@ -10,8 +10,10 @@ Wrote count taken start now = Appends start now (lines_text taken) × (count ≡
 
 abbrev pub invariant-loop-line : goal.invariant-loop-line
 invariant-loop-line g l = record {
-  wrote : (taken : List Member) (start : Option (List ℕ)) → Wrote l.fn.self.count taken start (g.O.Output.written l.fn.out)
-      → Wrote l.self.count (taken ++ map (λ line. line.now) (take l.line-index l.lines)) start (g.O.Output.written l.out);
+  wrote : (taken : List Member) (start : Option (List ℕ))
+      → Wrote l.fn.self.count taken start (g.O.Output.written l.fn.out)
+      → Wrote l.self.count (taken ++ map (λ line. line.now) (take l.line-index l.lines)) start
+      (g.O.Output.written l.out);
   grows : Grows (g.O.Output.written l.fn.out) (g.O.Output.written l.out);
   failures : g.O.Output.failures l.out ≡ g.O.Output.failures l.fn.out;
 }

@@ -11,13 +11,21 @@ pub returns-in-Some-clause-alike : goal.returns-in-Some-clause-alike
 returns-in-Some-clause-alike c = λ d some same.
     let w = c.in-Some.waiting.now in
     let p = member_pair c.args.line.now in
-    let top : get_or c.args.self.now 0 d ≡ w = get_or_default c.args.self.now 0 d w some ∙ sym (c.in-Some.ensures.lookup ∙ ap (λ (ws : List WaitingLine). get_or ws 0 w) c.self.view_is) in
-    ap (λ (v : WaitingLine). pair_cmp (waiting_pair v) p) top ∙ eq_is (pair_cmp (waiting_pair w) p) (ap is_eq (ap (λ m. pair_cmp (member_pair m) p) (sym c.keyed.ensures) ∙ sym c.compare_pair.ensures) ∙ sym c.is_eq.ensures ∙ same)
+    let top : get_or c.args.self.now 0 d ≡ w = get_or_default c.args.self.now 0 d w some
+    ∙ sym (c.in-Some.ensures.lookup ∙ ap (λ (ws : List WaitingLine). get_or ws 0 w) c.self.view_is) in
+    ap (λ (v : WaitingLine). pair_cmp (waiting_pair v) p) top
+    ∙ eq_is (pair_cmp (waiting_pair w) p)
+    (ap is_eq (ap (λ m. pair_cmp (member_pair m) p) (sym c.keyed.ensures) ∙ sym c.compare_pair.ensures)
+    ∙ sym c.is_eq.ensures ∙ same)
 
 pub returns-in-Some-clause-later : goal.returns-in-Some-clause-later
 returns-in-Some-clause-later c = λ upto not_same.
     let w = c.in-Some.waiting.now in
     let p = member_pair c.args.line.now in
-    let differs : is_eq (pair_cmp (waiting_pair w) p) ≡ false = ap is_eq (ap (λ m. pair_cmp (member_pair m) p) (sym c.keyed.ensures) ∙ sym c.compare_pair.ensures) ∙ sym c.is_eq.ensures ∙ not_same in
-    all_later_unless p w c.args.self.now (c.in-Some.ensures.lookup ∙ ap (λ (ws : List WaitingLine). get_or ws 0 w) c.self.view_is) differs upto
-    (subst (λ (ws : List WaitingLine). AllByRecursion (λ v. is_lt (turn_cmp v w) ≡ false) ws) c.self.view_is (c.in-Some.ensures.greatest c.self.invariant))
+    let differs : is_eq (pair_cmp (waiting_pair w) p)
+    ≡ false = ap is_eq (ap (λ m. pair_cmp (member_pair m) p) (sym c.keyed.ensures) ∙ sym c.compare_pair.ensures)
+    ∙ sym c.is_eq.ensures ∙ not_same in
+    all_later_unless p w c.args.self.now (c.in-Some.ensures.lookup
+    ∙ ap (λ (ws : List WaitingLine). get_or ws 0 w) c.self.view_is) differs upto
+    (subst (λ (ws : List WaitingLine). AllByRecursion (λ v. is_lt (turn_cmp v w) ≡ false) ws) c.self.view_is
+    (c.in-Some.ensures.greatest c.self.invariant))

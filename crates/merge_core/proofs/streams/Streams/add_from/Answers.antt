@@ -13,7 +13,8 @@ returns-clause-added g c =
       added.2,
       added.3,
       added.4,
-      λ t members e index. subst (λ n. IsCut (c.args.key.now, c.args.stamp.now) t members n) (sym added.5) (found.cut t members (sym (ok.text ∙ found.text) ∙ e) index),
+      λ t members e index. subst (λ n. IsCut (c.args.key.now, c.args.stamp.now) t members n) (sym added.5)
+          (found.cut t members (sym (ok.text ∙ found.text) ∙ e) index),
       λ t e. added.6 t (found.text ∙ e),
       λ t e.
           let a = found.gave t e in
@@ -26,11 +27,13 @@ returns-clause-added g c =
 pub returns-in_err-cursor-clause-failures : goal.returns-in_err-cursor-clause-failures
 returns-in_err-cursor-clause-failures g c =
     let f = g.S.Source.failures in
-    counts_feed c.from_residual.result c.in_err-cursor.field-0.0 (f c.args.source.now) (f c.args.source.now) (f c.find_start.new.source)
+    counts_feed c.from_residual.result c.in_err-cursor.field-0.0 (f c.args.source.now) (f c.args.source.now)
+    (f c.find_start.new.source)
     c.from_residual.ensures.1 refl c.in_err-cursor.ensures.failures
 
 pub returns-in_err-add-clause-failures : goal.returns-in_err-add-clause-failures
 returns-in_err-add-clause-failures g c =
     let f = g.S.Source.failures in
-    counts_feed c.from_residual-in_err-add.result c.in_err-add.field-0.0 (f c.args.source.now) (f c.find_start.new.source) (f c.add.new.source)
+    counts_feed c.from_residual-in_err-add.result c.in_err-add.field-0.0 (f c.args.source.now)
+    (f c.find_start.new.source) (f c.add.new.source)
     c.from_residual-in_err-add.ensures.1 c.in_ok-cursor.ensures.failures c.in_err-add.ensures.failures

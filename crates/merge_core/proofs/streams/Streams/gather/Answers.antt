@@ -1,7 +1,8 @@
 use Rattle.std.proofs.lemmas.List.{map-append}
 use Rattle.std.proofs.lemmas.List.{set-set}
 use Rattle.std.specs.List.{AllZip}
-use Rattle.std.proofs.Common.{◌≡◌, ◌≤◌, Some, ◌+◌, ◌∷◌, ◌++◌, [], Box, Global, List, length, get_or, set, map, zip, false, is_lt, refl, sym, ap, ◌∙◌, subst, arith, length-set}
+use Rattle.std.proofs.Common.{◌≡◌, ◌≤◌, Some, ◌+◌, ◌∷◌, ◌++◌, [], Box, Global, List, length, get_or, set, map, zip}
+use Rattle.std.proofs.Common.{false, is_lt, refl, sym, ap, ◌∙◌, subst, arith, length-set}
 use Rattle.std.specs.List.{AllByRecursion}
 use Rattle.std.specs.List.Sorted.{IsPermutation}
 use Rattle.std.proofs.lemmas.Cmp.{tied_itself}
@@ -42,9 +43,11 @@ same : (g : Over) (c : In_ok-drain g) → member_pair c.deref-in-sources.result.
 same g c = ap member_pair (c.deref-in-sources.ensures ∙ sym (c.new-keyed.ensures ∙ c.deref.ensures))
 
 -- what a source's further lines make of the group
-drained : (g : Over) (c : In_ok-drain g) → Gathers LINE_LIMIT (g.R.Range.past c.args.range.now) g.S.Source.text g.S.Source.extent g.S.Source.gave
+drained : (g : Over) (c : In_ok-drain g)
+    → Gathers LINE_LIMIT (g.R.Range.past c.args.range.now) g.S.Source.text g.S.Source.extent g.S.Source.gave
     c.args.sources.now c.args.self.now.feeds.items (member_pair c.new-keyed.result) (c.sources.i + 1)
-    c.drain.new.sources c.drain.new.self.feeds.items c.drain.new.self.waiting (c.new-keyed.result ∷ values c.drain.new.rest.items)
+    c.drain.new.sources c.drain.new.self.feeds.items c.drain.new.self.waiting
+    (c.new-keyed.result ∷ values c.drain.new.rest.items)
 drained g c =
     let text = g.S.Source.text in
     let ss = c.sources.sources in let fs = c.sources.self.feeds.items in let i = c.sources.i in
@@ -63,7 +66,8 @@ drained_settled : (g : Over) (c : In_ok-drain g) → AreSettled c.drain.new.self
 drained_settled g c =
     let ok = c.in_ok-drain.ensures in
     let f = ok.drained.1 in
-    let own = ap (λ (l : List Feed). get_or l c.sources.i f) ok.drained.3 ∙ set_own c.sources.self.feeds.items c.sources.i f in
+    let own = ap (λ (l : List Feed). get_or l c.sources.i f) ok.drained.3
+    ∙ set_own c.sources.self.feeds.items c.sources.i f in
     subst AreSettled (sym ok.drained.3) (c.sources.invariant.settled f (subst IsSettled own (ok.settled f)))
 
 -- its lines have the group's pair
@@ -73,11 +77,13 @@ drained_each g c =
     c.in_ok-drain.ensures.each c.sources.invariant.each
 
 -- the lines that wait come after it
-drained_from : (g : Over) (c : In_ok-drain g) → AllByRecursion (IsFrom (member_pair c.new-keyed.result) (c.sources.i + 1)) c.drain.new.self.waiting
+drained_from : (g : Over) (c : In_ok-drain g)
+    → AllByRecursion (IsFrom (member_pair c.new-keyed.result) (c.sources.i + 1)) c.drain.new.self.waiting
 drained_from g c =
     let pair = member_pair c.new-keyed.result in
     from_waited pair (c.sources.i + 1) c.sources.i c.sources.self.waiting c.drain.new.self.waiting
-    (subst (λ p. WaitsAbove p c.sources.i c.sources.self.waiting c.drain.new.self.waiting) (same g c) c.in_ok-drain.ensures.waits)
+    (subst (λ p. WaitsAbove p c.sources.i c.sources.self.waiting c.drain.new.self.waiting) (same g c)
+    c.in_ok-drain.ensures.waits)
     c.sources.invariant.from
 
 -- the line that is taken next
@@ -86,23 +92,29 @@ taken_line g c = record { member = c.next-in-sources.inside.line.value; source =
 
 taken_alike : (g : Over) (c : After-push g) → Alike (waiting_pair (taken_line g c)) (member_pair c.new-keyed.result)
 taken_alike g c =
-    subst (λ (v : WaitingLine). Alike (waiting_pair v) (member_pair c.new-keyed.result)) (sym c.next-in-sources.view_is) c.in-Some-take_at.ensures.alike
+    subst (λ (v : WaitingLine). Alike (waiting_pair v) (member_pair c.new-keyed.result)) (sym c.next-in-sources.view_is)
+    c.in-Some-take_at.ensures.alike
 
 taken_feeds : (g : Over) (c : After-push g) (d : Feed) → c.take_at.new.self.feeds.items
-    ≡ set c.drain.new.self.feeds.items (taken_line g c).source (due (get_or c.drain.new.self.feeds.items (taken_line g c).source d))
+    ≡ set c.drain.new.self.feeds.items (taken_line g c).source
+    (due (get_or c.drain.new.self.feeds.items (taken_line g c).source d))
 taken_feeds g c =
     let feeds = c.drain.new.self.feeds.items in
-    subst (λ (v : WaitingLine). (d : Feed) → c.take_at.new.self.feeds.items ≡ set feeds v.source (due (get_or feeds v.source d)))
+    subst (λ (v : WaitingLine). (d : Feed) → c.take_at.new.self.feeds.items
+    ≡ set feeds v.source (due (get_or feeds v.source d)))
     (sym c.next-in-sources.view_is) c.in-Some-take_at.ensures.feeds
 
 -- what it makes of the group
-taken : (g : Over) (c : After-push g) (h : Gathers LINE_LIMIT (g.R.Range.past c.args.range.now) g.S.Source.text g.S.Source.extent g.S.Source.gave
+taken : (g : Over) (c : After-push g)
+    (h : Gathers LINE_LIMIT (g.R.Range.past c.args.range.now) g.S.Source.text g.S.Source.extent g.S.Source.gave
     c.args.sources.now c.args.self.now.feeds.items (member_pair c.new-keyed.result) (c.sources.i + 1)
-    c.drain.new.sources c.drain.new.self.feeds.items c.drain.new.self.waiting (c.new-keyed.result ∷ values c.drain.new.rest.items))
+    c.drain.new.sources c.drain.new.self.feeds.items c.drain.new.self.waiting
+    (c.new-keyed.result ∷ values c.drain.new.rest.items))
     → AllByRecursion (IsFrom (member_pair c.new-keyed.result) (c.sources.i + 1)) c.drain.new.self.waiting
     → TakenNext LINE_LIMIT (g.R.Range.past c.args.range.now) g.S.Source.text g.S.Source.extent g.S.Source.gave
     c.args.sources.now c.args.self.now.feeds.items (member_pair c.new-keyed.result) (c.sources.i + 1)
-    c.drain.new.sources c.drain.new.self.feeds.items c.drain.new.self.waiting (c.new-keyed.result ∷ values c.drain.new.rest.items) h
+    c.drain.new.sources c.drain.new.self.feeds.items c.drain.new.self.waiting
+    (c.new-keyed.result ∷ values c.drain.new.rest.items) h
     (taken_line g c) c.take_at.new.self.waiting c.take_at.new.self.feeds.items
 taken g c h from =
     let pair = member_pair c.new-keyed.result in
@@ -114,14 +126,17 @@ taken g c h from =
     let mine = (each_permuted (IsFrom pair (c.sources.i + 1)) c.drain.new.self.waiting (w ∷ left) out from).0 in
     taken_next LINE_LIMIT (g.R.Range.past c.args.range.now) g.S.Source.text g.S.Source.extent g.S.Source.gave
     c.args.sources.now c.args.self.now.feeds.items pair (c.sources.i + 1)
-    c.drain.new.sources c.drain.new.self.feeds.items c.drain.new.self.waiting (c.new-keyed.result ∷ values c.drain.new.rest.items) h
+    c.drain.new.sources c.drain.new.self.feeds.items c.drain.new.self.waiting
+    (c.new-keyed.result ∷ values c.drain.new.rest.items) h
     w left c.take_at.new.self.feeds.items out (taken_feeds g c)
     (subst (λ (x : WaitingLine). AllByRecursion (λ v. is_lt (turn_cmp v x) ≡ false) left) is took.first)
     (mine.1 (taken_alike g c)) (taken_alike g c)
 
 pub returns-in_default-clause-moved : goal.returns-in_default-clause-moved
 returns-in_default-clause-moved g c =
-    subst (λ (fs : List Feed). AllZip (Move g.S.Source.text g.S.Source.extent g.S.Source.gave) (zip c.args.sources.now c.args.self.now.feeds.items) (zip c.args.sources.now fs)) (sym c.in_default.ensures.feeds)
+    subst (λ (fs : List Feed). AllZip (Move g.S.Source.text g.S.Source.extent g.S.Source.gave)
+    (zip c.args.sources.now c.args.self.now.feeds.items) (zip c.args.sources.now fs))
+    (sym c.in_default.ensures.feeds)
     (moved_still g.S.Source.text g.S.Source.extent g.S.Source.gave (zip c.args.sources.now c.args.self.now.feeds.items))
 
 pub sources-init : goal.sources-init
@@ -132,50 +147,69 @@ sources-init g c =
     let w = from c.new-keyed.result in
     let is = sym c.next.view_is ∙ ap from (sym (c.new-keyed.ensures ∙ c.deref.ensures)) in
     let pair = waiting_pair w in
-    let out = subst (λ (v : WaitingLine). IsPermutation ws (v ∷ c.take_first.new.self.waiting)) is c.in-Some.ensures.out in
-    let t = taken_next LINE_LIMIT past g.S.Source.text g.S.Source.extent g.S.Source.gave ss fs pair 0 ss fs ws [] (gathers_start LINE_LIMIT past g.S.Source.text g.S.Source.extent g.S.Source.gave ss fs pair ws c.requires.ready)
+    let out = subst (λ (v : WaitingLine). IsPermutation ws (v ∷ c.take_first.new.self.waiting)) is
+    c.in-Some.ensures.out in
+    let t = taken_next LINE_LIMIT past g.S.Source.text g.S.Source.extent g.S.Source.gave ss fs pair 0 ss fs ws []
+    (gathers_start LINE_LIMIT past g.S.Source.text g.S.Source.extent g.S.Source.gave ss fs pair ws c.requires.ready)
     w c.take_first.new.self.waiting c.take_first.new.self.feeds.items out
-    (subst (λ (v : WaitingLine). (d : Feed) → c.take_first.new.self.feeds.items ≡ set fs v.source (due (get_or fs v.source d))) is c.in-Some.ensures.feeds)
-    (subst (λ (x : WaitingLine). AllByRecursion (λ v. is_lt (turn_cmp v x) ≡ false) c.take_first.new.self.waiting) is c.in-Some.ensures.first) (omega arith) (tied_itself pair_cmp_total pair) in
+    (subst (λ (v : WaitingLine). (d : Feed) → c.take_first.new.self.feeds.items
+    ≡ set fs v.source (due (get_or fs v.source d))) is c.in-Some.ensures.feeds)
+    (subst (λ (x : WaitingLine). AllByRecursion (λ v. is_lt (turn_cmp v x) ≡ false) c.take_first.new.self.waiting) is
+    c.in-Some.ensures.first) (omega arith) (tied_itself pair_cmp_total pair) in
     record {
-      gathers = subst (λ (l : List (Box Line Global)). Gathers LINE_LIMIT past g.S.Source.text g.S.Source.extent g.S.Source.gave ss fs pair (w.source + 1) ss c.take_first.new.self.feeds.items c.take_first.new.self.waiting (w.member ∷ map (λ (b : Box Line Global). b.value) l)) (sym c.requires.empty) t.gathers;
+      gathers = subst (λ (l : List (Box Line Global)). Gathers LINE_LIMIT past g.S.Source.text g.S.Source.extent
+          g.S.Source.gave ss fs pair (w.source + 1) ss c.take_first.new.self.feeds.items c.take_first.new.self.waiting
+          (w.member ∷ map (λ (b : Box Line Global). b.value) l)) (sym c.requires.empty) t.gathers;
       held = c.take_first.ensures.held;
       inside = t.inside;
       due = t.due;
       settled = λ f s.
-          let took = (subst (λ (v : WaitingLine). (d : Feed) → c.take_first.new.self.feeds.items ≡ set fs v.source (due (get_or fs v.source d))) is c.in-Some.ensures.feeds) f in
-          subst AreSettled (sym (ap (λ (l : List Feed). set l w.source f) took ∙ set-set fs w.source (due (get_or fs w.source f)) f)) (each_replaced IsSettled fs w.source f c.requires.settled s);
+          let took = (subst (λ (v : WaitingLine). (d : Feed) → c.take_first.new.self.feeds.items
+          ≡ set fs v.source (due (get_or fs v.source d))) is c.in-Some.ensures.feeds) f in
+          subst AreSettled (sym (ap (λ (l : List Feed). set l w.source f) took
+          ∙ set-set fs w.source (due (get_or fs w.source f)) f))
+          (each_replaced IsSettled fs w.source f c.requires.settled s);
       failures = refl;
       from = t.from;
       above = λ b h. above_popped b ws c.take_first.new.self.waiting w out h;
-      least = each_permuted (λ (v : WaitingLine). Upto pair (waiting_pair v)) (w ∷ c.take_first.new.self.waiting) ws (IsPermutation-sym ws (w ∷ c.take_first.new.self.waiting) out) (
-        upto_itself pair,
-        each_weaker (λ (v : WaitingLine) (q : is_lt (turn_cmp v w) ≡ false). not_before v w q) c.take_first.new.self.waiting
-            (subst (λ (x : WaitingLine). AllByRecursion (λ v. is_lt (turn_cmp v x) ≡ false) c.take_first.new.self.waiting) is c.in-Some.ensures.first),
-      );
-      each = subst (λ (l : List (Box Line Global)). AreAt pair (map (λ (b : Box Line Global). b.value) l)) (sym c.requires.empty) tt;
+      least = each_permuted (λ (v : WaitingLine). Upto pair (waiting_pair v)) (w ∷ c.take_first.new.self.waiting) ws
+          (IsPermutation-sym ws (w ∷ c.take_first.new.self.waiting) out) (
+            upto_itself pair,
+            each_weaker (λ (v : WaitingLine) (q : is_lt (turn_cmp v w) ≡ false). not_before v w q)
+                c.take_first.new.self.waiting
+                (subst (λ (x : WaitingLine). AllByRecursion (λ v. is_lt (turn_cmp v x) ≡ false)
+                c.take_first.new.self.waiting) is c.in-Some.ensures.first),
+          );
+      each = subst (λ (l : List (Box Line Global)). AreAt pair (map (λ (b : Box Line Global). b.value) l))
+          (sym c.requires.empty) tt;
       fewer = t.fewer;
     }
 
 pub drain-requires-clause-due : goal.drain-requires-clause-due
 drain-requires-clause-due g c = λ a d.
-    subst (λ p. IsDue LINE_LIMIT p (g.S.Source.text (get_or c.sources.sources c.sources.i a)) (get_or c.sources.self.feeds.items c.sources.i d)) (sym (ap member_pair (c.deref-in-sources.ensures ∙ sym (c.new-keyed.ensures ∙ c.deref.ensures)))) (c.sources.invariant.due a d)
+    subst (λ p. IsDue LINE_LIMIT p (g.S.Source.text (get_or c.sources.sources c.sources.i a))
+    (get_or c.sources.self.feeds.items c.sources.i d))
+    (sym (ap member_pair (c.deref-in-sources.ensures ∙ sym (c.new-keyed.ensures ∙ c.deref.ensures))))
+    (c.sources.invariant.due a d)
 
 pub returns-in_err-drain-clause-moved : goal.returns-in_err-drain-clause-moved
 returns-in_err-drain-clause-moved g c =
-    moved_trans g.S.Source.text g.S.Source.extent g.S.Source.gave (zip c.args.sources.now c.args.self.now.feeds.items) (zip c.sources.sources c.sources.self.feeds.items) (zip c.drain.new.sources c.drain.new.self.feeds.items)
+    moved_trans g.S.Source.text g.S.Source.extent g.S.Source.gave (zip c.args.sources.now c.args.self.now.feeds.items)
+    (zip c.sources.sources c.sources.self.feeds.items) (zip c.drain.new.sources c.drain.new.self.feeds.items)
     c.sources.invariant.gathers.moved c.drain.ensures.moved
 
 pub take_at-requires-clause-from : goal.take_at-requires-clause-from
 take_at-requires-clause-from g c =
-    each_weaker (λ (w : WaitingLine) (h : IsFrom (member_pair c.new-keyed.result) (c.sources.i + 1) w). h.0) c.drain.new.self.waiting
+    each_weaker (λ (w : WaitingLine) (h : IsFrom (member_pair c.new-keyed.result) (c.sources.i + 1) w). h.0)
+    c.drain.new.self.waiting
     (drained_from g (goal.at.take_at-requires-clause-from g c).In_ok-drain)
 
 pub returns-in_default-take_at-clause-moved : goal.returns-in_default-take_at-clause-moved
 returns-in_default-take_at-clause-moved g c =
     let now = drained g (goal.at.returns-in_default-take_at-clause-moved g c).In_ok-drain in
     subst (λ (us : List Feed). AllZip (Move g.S.Source.text g.S.Source.extent g.S.Source.gave)
-    (zip c.args.sources.now c.args.self.now.feeds.items) (zip c.drain.new.sources us)) (sym c.in_default-take_at.ensures.feeds) now.moved
+    (zip c.args.sources.now c.args.self.now.feeds.items) (zip c.drain.new.sources us))
+    (sym c.in_default-take_at.ensures.feeds) now.moved
 
 pub returns-in_default-take_at-clause-group : goal.returns-in_default-take_at-clause-group
 returns-in_default-take_at-clause-group g c =
@@ -193,8 +227,10 @@ returns-in_default-take_at-clause-group g c =
     let out = c.in_default-take_at.ensures.out in
     let unread_same = ap (λ (us : List Feed). unread extent ss us) feeds in
     let long = ap (λ (ws : List WaitingLine). length ws) out.0 in
-    let inside : c.sources.i + 1 ≤ length ss = omega (arith, inv.inside, ap length ok.drained.2, length-set c.sources.sources c.sources.i ok.drained.0) in
-    subst (λ m. Grouped LINE_LIMIT text extent old old_feeds c.args.self.now.waiting ss c.take_at.new.self.feeds.items c.take_at.new.self.waiting
+    let inside : c.sources.i + 1 ≤ length ss = omega
+    (arith, inv.inside, ap length ok.drained.2, length-set c.sources.sources c.sources.i ok.drained.0) in
+    subst (λ m. Grouped LINE_LIMIT text extent old old_feeds c.args.self.now.waiting ss c.take_at.new.self.feeds.items
+    c.take_at.new.self.waiting
     (member_pair m) (m ∷ values c.drain.new.rest.items)) (c.new-keyed.ensures ∙ c.deref.ensures) (record {
       above = inv.above;
       least = inv.least;
@@ -202,8 +238,10 @@ returns-in_default-take_at-clause-group g c =
       each = (tied_itself pair_cmp_total pair, drained_each g here);
       fewer = omega (arith, ok.fewer, inv.fewer, unread_same, long);
       gathered = λ told low.
-          subst (λ (us : List Feed). Gathered pair (all_done LINE_LIMIT text old old_feeds) (all_done LINE_LIMIT text ss us) [] group) (sym feeds)
-          (gathers_all LINE_LIMIT (g.R.Range.past c.args.range.now) text extent g.S.Source.gave old old_feeds pair (c.sources.i + 1)
+          subst (λ (us : List Feed). Gathered pair (all_done LINE_LIMIT text old old_feeds)
+          (all_done LINE_LIMIT text ss us) [] group) (sym feeds)
+          (gathers_all LINE_LIMIT (g.R.Range.past c.args.range.now) text extent g.S.Source.gave old old_feeds pair
+          (c.sources.i + 1)
           ss fs c.drain.new.self.waiting group now c.requires.ready.same inside told low);
     })
 
@@ -229,16 +267,20 @@ sources-preserved g c =
     let inv = c.sources.invariant in
     let ok = c.in_ok-drain.ensures in
     let pushed : values c.push.new.self.items ≡ values rest ++ w.member ∷ [] =
-    ap values c.in-Ok.ensures.items ∙ map-append (λ (b : Box Line Global). b.value) rest (c.next-in-sources.inside.line ∷ []) in
+    ap values c.in-Ok.ensures.items
+    ∙ map-append (λ (b : Box Line Global). b.value) rest (c.next-in-sources.inside.line ∷ []) in
     record {
-      gathers = subst (λ l. Gathers LINE_LIMIT (g.R.Range.past c.args.range.now) g.S.Source.text g.S.Source.extent g.S.Source.gave
+      gathers = subst (λ l. Gathers LINE_LIMIT (g.R.Range.past c.args.range.now) g.S.Source.text g.S.Source.extent
+          g.S.Source.gave
           c.args.sources.now c.args.self.now.feeds.items pair (w.source + 1)
-          c.drain.new.sources c.take_at.new.self.feeds.items c.take_at.new.self.waiting (c.new-keyed.result ∷ l)) (sym pushed) t.gathers;
+          c.drain.new.sources c.take_at.new.self.feeds.items c.take_at.new.self.waiting (c.new-keyed.result ∷ l))
+          (sym pushed) t.gathers;
       held = c.take_at.ensures.held ∙ ok.held ∙ inv.held;
       inside = t.inside;
       due = t.due;
       settled = λ f s.
-          let next = ap (λ (l : List Feed). set l w.source f) (taken_feeds g here.After-push f) ∙ set-set feeds w.source (due (get_or feeds w.source f)) f in
+          let next = ap (λ (l : List Feed). set l w.source f) (taken_feeds g here.After-push f)
+          ∙ set-set feeds w.source (due (get_or feeds w.source f)) f in
           subst AreSettled (sym next) (each_replaced IsSettled feeds w.source f (drained_settled g here.In_ok-drain) s);
       failures = ok.failures ∙ inv.failures;
       from = t.from;
@@ -251,18 +293,21 @@ sources-preserved g c =
 
 pub returns-in_default-take_at-clause-settled : goal.returns-in_default-take_at-clause-settled
 returns-in_default-take_at-clause-settled g c =
-    subst AreSettled (sym c.in_default-take_at.ensures.feeds) (drained_settled g (goal.at.returns-in_default-take_at-clause-settled g c).In_ok-drain)
+    subst AreSettled (sym c.in_default-take_at.ensures.feeds)
+    (drained_settled g (goal.at.returns-in_default-take_at-clause-settled g c).In_ok-drain)
 
 pub returns-in_err-drain-clause-fault : goal.returns-in_err-drain-clause-fault
 returns-in_err-drain-clause-fault g c =
     let text = g.S.Source.text in let extent = g.S.Source.extent in let gave = g.S.Source.gave in
     let inv = c.sources.invariant in
     let texts = map text c.args.sources.now in
-    let kept = texts_kept text extent gave c.args.sources.now c.sources.sources c.args.self.now.feeds.items c.sources.self.feeds.items c.requires.ready.same inv.gathers.as_many inv.gathers.moved in
+    let kept = texts_kept text extent gave c.args.sources.now c.sources.sources c.args.self.now.feeds.items
+    c.sources.self.feeds.items c.requires.ready.same inv.gathers.as_many inv.gathers.moved in
     let p = err_from_is_err_and c.from_residual.result c.from_residual.ensures.1 in
     let q : p.0 ≡ c.in_err-drain.field-0.0 = p.2 in
     if_err c.from_residual.result p.0 (IsFaultOf LINE_LIMIT texts) p.1
-    (subst (IsFaultOf LINE_LIMIT texts) (sym q) (subst (λ ts. IsFaultOf LINE_LIMIT ts c.in_err-drain.field-0.0) kept c.in_err-drain.ensures.fault))
+    (subst (IsFaultOf LINE_LIMIT texts) (sym q)
+    (subst (λ ts. IsFaultOf LINE_LIMIT ts c.in_err-drain.field-0.0) kept c.in_err-drain.ensures.fault))
 
 pub returns-in_err-drain-clause-reads : goal.returns-in_err-drain-clause-reads
 returns-in_err-drain-clause-reads g c =
@@ -278,9 +323,14 @@ returns-in_err-drain-clause-reads g c =
       inv.above,
       inv.least,
       λ told low.
-          let all = (gathers_all LINE_LIMIT past text extent gave c.args.sources.now c.args.self.now.feeds.items pair (i + 1) ss fs c.sources.self.waiting group inv.gathers c.requires.ready.same (let l = inv.inside in omega arith) told low).upto in
-          subst (λ q. AreReadTo LINE_LIMIT past text (Some q) c.drain.new.sources c.drain.new.self.feeds.items) (ap member_pair (c.deref-in-sources.ensures ∙ sym (c.new-keyed.ensures ∙ c.deref.ensures)))
-          (c.drain.ensures.reads (subst (λ q. AllByRecursion (λ m. Upto (member_pair m) q) (all_done LINE_LIMIT text ss fs)) (sym (ap member_pair (c.deref-in-sources.ensures ∙ sym (c.new-keyed.ensures ∙ c.deref.ensures)))) all)),
+          let all = (gathers_all LINE_LIMIT past text extent gave c.args.sources.now c.args.self.now.feeds.items pair
+          (i + 1) ss fs c.sources.self.waiting group inv.gathers c.requires.ready.same
+          (let l = inv.inside in omega arith) told low).upto in
+          subst (λ q. AreReadTo LINE_LIMIT past text (Some q) c.drain.new.sources c.drain.new.self.feeds.items)
+          (ap member_pair (c.deref-in-sources.ensures ∙ sym (c.new-keyed.ensures ∙ c.deref.ensures)))
+          (c.drain.ensures.reads
+          (subst (λ q. AllByRecursion (λ m. Upto (member_pair m) q) (all_done LINE_LIMIT text ss fs))
+          (sym (ap member_pair (c.deref-in-sources.ensures ∙ sym (c.new-keyed.ensures ∙ c.deref.ensures)))) all)),
     )
 
 pub returns-in-Err-clause-reads : goal.returns-in-Err-clause-reads
@@ -293,21 +343,30 @@ returns-in-Err-clause-reads g c =
     let ss = c.sources.sources in let fs = c.sources.self.feeds.items in let i = c.sources.i in
     let feeds = c.drain.new.self.feeds.items in
     let group = c.new-keyed.result ∷ map (λ (b : Box Line Global). b.value) c.sources.rest.items in
-    let w : WaitingLine = record { member = c.next-in-sources.inside.line.value; source = c.next-in-sources.inside.source } in
+    let w : WaitingLine =
+    record { member = c.next-in-sources.inside.line.value; source = c.next-in-sources.inside.source } in
     let is = sym c.next-in-sources.view_is in
-    let next = (subst (λ (v : WaitingLine). (d : Feed) → c.take_at.new.self.feeds.items ≡ set feeds v.source (due (get_or feeds v.source d))) is c.in-Some-take_at.ensures.feeds) ok.drained.1 in (
+    let next = (subst (λ (v : WaitingLine). (d : Feed) → c.take_at.new.self.feeds.items
+    ≡ set feeds v.source (due (get_or feeds v.source d))) is c.in-Some-take_at.ensures.feeds) ok.drained.1 in (
       pair,
       inv.above,
       inv.least,
       λ told low.
-          let all = (gathers_all LINE_LIMIT past text extent gave c.args.sources.now c.args.self.now.feeds.items pair (i + 1) ss fs c.sources.self.waiting group inv.gathers c.requires.ready.same (let l = inv.inside in omega arith) told low).upto in
-          let here = subst (λ q. AreReadTo LINE_LIMIT past text (Some q) c.drain.new.sources feeds) (ap member_pair (c.deref-in-sources.ensures ∙ sym (c.new-keyed.ensures ∙ c.deref.ensures)))
-          (c.drain.ensures.reads (subst (λ q. AllByRecursion (λ m. Upto (member_pair m) q) (all_done LINE_LIMIT text ss fs)) (sym (ap member_pair (c.deref-in-sources.ensures ∙ sym (c.new-keyed.ensures ∙ c.deref.ensures)))) all)) in
-          subst (λ (us : List Feed). AreReadTo LINE_LIMIT past text (Some pair) c.drain.new.sources us) (sym next) (due_read LINE_LIMIT past text extent (Some pair) c.drain.new.sources feeds w.source ok.drained.1 here),
+          let all = (gathers_all LINE_LIMIT past text extent gave c.args.sources.now c.args.self.now.feeds.items pair
+          (i + 1) ss fs c.sources.self.waiting group inv.gathers c.requires.ready.same
+          (let l = inv.inside in omega arith) told low).upto in
+          let here = subst (λ q. AreReadTo LINE_LIMIT past text (Some q) c.drain.new.sources feeds)
+          (ap member_pair (c.deref-in-sources.ensures ∙ sym (c.new-keyed.ensures ∙ c.deref.ensures)))
+          (c.drain.ensures.reads
+          (subst (λ q. AllByRecursion (λ m. Upto (member_pair m) q) (all_done LINE_LIMIT text ss fs))
+          (sym (ap member_pair (c.deref-in-sources.ensures ∙ sym (c.new-keyed.ensures ∙ c.deref.ensures)))) all)) in
+          subst (λ (us : List Feed). AreReadTo LINE_LIMIT past text (Some pair) c.drain.new.sources us) (sym next)
+          (due_read LINE_LIMIT past text extent (Some pair) c.drain.new.sources feeds w.source ok.drained.1 here),
     )
 
 pub returns-in_err-drain-clause-failures : goal.returns-in_err-drain-clause-failures
 returns-in_err-drain-clause-failures g c =
     let f = map g.S.Source.failures in
-    counts_reads c.from_residual.result c.in_err-drain.field-0.0 (f c.args.sources.now) (f c.sources.sources) (f c.drain.new.sources)
+    counts_reads c.from_residual.result c.in_err-drain.field-0.0 (f c.args.sources.now) (f c.sources.sources)
+    (f c.drain.new.sources)
     c.from_residual.ensures.1 c.sources.invariant.failures c.in_err-drain.ensures.failures

@@ -14,18 +14,23 @@ use Rattle.merge_core.proofs.streams.Streams.gather.Given as goal
 
 abbrev pub invariant-sources : goal.invariant-sources
 invariant-sources g l = record {
-  gathers : Gathers LINE_LIMIT (g.R.Range.past l.range) g.S.Source.text g.S.Source.extent g.S.Source.gave l.fn.sources l.fn.self.feeds.items (member_pair l.keyed)
+  gathers : Gathers LINE_LIMIT (g.R.Range.past l.range) g.S.Source.text g.S.Source.extent g.S.Source.gave l.fn.sources
+      l.fn.self.feeds.items (member_pair l.keyed)
       (l.i + 1) l.sources l.self.feeds.items l.self.waiting (l.keyed ∷ map (λ b. b.value) l.rest.items);
   held : l.self.held ≡ l.fn.self.held;
   inside : l.i < length l.sources;
-  due : (a : g.row.S.Denot) → (d : Feed) → IsDue LINE_LIMIT (member_pair l.keyed) (g.S.Source.text (get_or l.sources l.i a)) (get_or l.self.feeds.items l.i d);
+  due : (a : g.row.S.Denot) → (d : Feed)
+      → IsDue LINE_LIMIT (member_pair l.keyed) (g.S.Source.text (get_or l.sources l.i a))
+      (get_or l.self.feeds.items l.i d);
   settled : (f : Feed) → IsSettled f → AreSettled (set l.self.feeds.items l.i f);
   failures : map g.S.Source.failures l.sources ≡ map g.S.Source.failures l.fn.sources;
   from : AllByRecursion (IsFrom (member_pair l.keyed) (l.i + 1)) l.self.waiting;
-  above : (b : Option Pair) → AllByRecursion (λ w. IsAbove b (waiting_pair w)) l.fn.self.waiting → IsAbove b (member_pair l.keyed);
+  above : (b : Option Pair) → AllByRecursion (λ w. IsAbove b (waiting_pair w)) l.fn.self.waiting
+      → IsAbove b (member_pair l.keyed);
   least : AllByRecursion (λ w. Upto (member_pair l.keyed) (waiting_pair w)) l.fn.self.waiting;
   each : AreAt (member_pair l.keyed) (map (λ b. b.value) l.rest.items);
-  fewer : unread g.S.Source.extent l.sources l.self.feeds.items + length l.self.waiting < unread g.S.Source.extent l.fn.sources l.fn.self.feeds.items + length l.fn.self.waiting;
+  fewer : unread g.S.Source.extent l.sources l.self.feeds.items + length l.self.waiting < unread g.S.Source.extent
+      l.fn.sources l.fn.self.feeds.items + length l.fn.self.waiting;
 }
 
 abbrev pub decreases-sources : goal.decreases-sources

@@ -15,7 +15,8 @@ invariant-loop-i g l = record {
   held : l.streams.held ≡ 0;
   count : length l.streams.feeds.items ≡ l.i;
   placed : AllByRecursion (λ (w : WaitingLine). w.source < length l.streams.feeds.items) l.streams.waiting;
-  fed : AreFed LINE_LIMIT (g.R.Range.past l.range) g.S.Source.text g.S.Source.extent 0 l.sources l.streams.feeds.items l.streams.waiting;
+  fed : AreFed LINE_LIMIT (g.R.Range.past l.range) g.S.Source.text g.S.Source.extent 0 l.sources l.streams.feeds.items
+      l.streams.waiting;
   start : AllByRecursion (λ (f : Feed). f.cursor.start ≡ 0) l.streams.feeds.items;
   settled : AreSettled l.streams.feeds.items;
   fresh : all_done LINE_LIMIT g.S.Source.text l.sources l.streams.feeds.items ≡ [];

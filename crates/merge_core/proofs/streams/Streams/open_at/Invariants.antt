@@ -19,12 +19,16 @@ invariant-loop-i g l = record {
   held : l.streams.held ≡ 0;
   count : length l.streams.feeds.items ≡ l.i;
   placed : AllByRecursion (λ (w : WaitingLine). w.source < length l.streams.feeds.items) l.streams.waiting;
-  fed : AreFed LINE_LIMIT (g.R.Range.past l.range) g.S.Source.text g.S.Source.extent 0 l.sources l.streams.feeds.items l.streams.waiting;
-  cut : AllByRecursion (λ (x : g.row.S.Denot × Feed). IsCutAt LINE_LIMIT (l.key, l.stamp) (g.S.Source.text x.0) x.1.cursor) (zip l.sources l.streams.feeds.items);
+  fed : AreFed LINE_LIMIT (g.R.Range.past l.range) g.S.Source.text g.S.Source.extent 0 l.sources l.streams.feeds.items
+      l.streams.waiting;
+  cut : AllByRecursion (λ (x : g.row.S.Denot × Feed). IsCutAt LINE_LIMIT (l.key, l.stamp) (g.S.Source.text x.0)
+      x.1.cursor) (zip l.sources l.streams.feeds.items);
   settled : AreSettled l.streams.feeds.items;
   fresh : all_done LINE_LIMIT g.S.Source.text l.sources l.streams.feeds.items ≡ [];
   probes : l.probes ≤ sum (map (λ s. digits (g.S.Source.extent s)) (take l.i l.sources));
   left : drop l.i l.sources ≡ drop l.i l.fn.sources;
-  spent : AllZip (λ x y. OpenedWithin (g.S.Source.text x) (g.S.Source.extent x) (g.S.Source.gave x) (g.S.Source.gave y)) l.fn.sources l.sources;
-  came : AllZip (λ x y. CameWithin (g.S.Source.text x) (g.S.Source.extent x) (g.S.Source.gave x) (g.S.Source.gave y.0) y.1.cursor) (take l.i l.fn.sources) (zip l.sources l.streams.feeds.items);
+  spent : AllZip (λ x y. OpenedWithin (g.S.Source.text x) (g.S.Source.extent x) (g.S.Source.gave x) (g.S.Source.gave y))
+      l.fn.sources l.sources;
+  came : AllZip (λ x y. CameWithin (g.S.Source.text x) (g.S.Source.extent x) (g.S.Source.gave x) (g.S.Source.gave y.0)
+      y.1.cursor) (take l.i l.fn.sources) (zip l.sources l.streams.feeds.items);
 }

@@ -23,15 +23,18 @@ loop-line-preserved g c =
           (one_more seen taken ls k c.line-item.result c.loop-line-test.true c.line-item.is)
           (c.in-Ok.ensures.stands (taken ++ map seen (take k ls)) start (inv.stands taken start s));
       kept = (let n = c.take_line.ensures.kept in ((n.0.0 ∙ inv.kept.0.0, n.0.1 ∙ inv.kept.0.1), n.1 ∙ inv.kept.1));
-      grows = grows_on (g.O.Output.written c.args.out.now) (g.O.Output.written c.loop-line.out) (g.O.Output.written c.take_line.new.out) inv.grows c.take_line.ensures.grows;
+      grows = grows_on (g.O.Output.written c.args.out.now) (g.O.Output.written c.loop-line.out)
+          (g.O.Output.written c.take_line.new.out) inv.grows c.take_line.ensures.grows;
       failures = c.in-Ok.ensures.failures ∙ inv.failures;
     }
 
 pub returns-clause-wrote : goal.returns-clause-wrote
 returns-clause-wrote g c = λ first taken start s.
-    let all : take c.loop-line.line-index c.args.lines.now ≡ c.args.lines.now = take_all c.loop-line.line-index c.args.lines.now (omega (arith, c.loop-line-test.false)) in
+    let all : take c.loop-line.line-index c.args.lines.now
+    ≡ c.args.lines.now = take_all c.loop-line.line-index c.args.lines.now (omega (arith, c.loop-line-test.false)) in
     let kept = c.loop-line.invariant.kept in
-    let stood = subst (λ l. stands c.loop-line.self (taken ++ map (λ (l : Bor Line). l.now) l) start (g.O.Output.written c.loop-line.out)) all (c.loop-line.invariant.stands taken start s.1) in
+    let stood = subst (λ l. stands c.loop-line.self (taken ++ map (λ (l : Bor Line). l.now) l) start
+    (g.O.Output.written c.loop-line.out)) all (c.loop-line.invariant.stands taken start s.1) in
     (((kept.0.0 ∙ s.0.0.0, kept.0.1 ∙ s.0.0.1), kept.1 ∙ s.0.1), stood)
 
 pub returns-in-Err-clause-wrote : goal.returns-in-Err-clause-wrote
@@ -47,8 +50,10 @@ returns-in-Err-clause-wrote g c = λ first taken start s.
     let before = taken ++ map seen (take k ls) in
     let rest = rest_after seen taken ls k item c.loop-line-test.true c.line-item.is in
     let now = g.O.Output.written c.take_line.new.out in
-    let broke : AppendsPrefix start now (begun (form_of q) (page_over q from first.limit (before ++ item.now ∷ [])).members) =
-    broke_as w.selection.query.now q (from_view w.selection.from) from w.limit first.limit (before ++ item.now ∷ []) start now
+    let broke : AppendsPrefix start now (begun (form_of q) (page_over q from first.limit (before
+    ++ item.now ∷ [])).members) =
+    broke_as w.selection.query.now q (from_view w.selection.from) from w.limit first.limit (before ++ item.now ∷ [])
+    start now
     (ap (λ r. r.now) (inv.kept.0.0 ∙ s.0.0.0)) (ap from_view (inv.kept.0.1 ∙ s.0.0.1)) (inv.kept.1 ∙ s.0.1)
     (c.in-Err.ensures.broke before start (inv.stands taken start s.1)) in
     subst (λ l. AppendsPrefix start now (begun (form_of q) (page_over q from first.limit l).members))
@@ -56,4 +61,5 @@ returns-in-Err-clause-wrote g c = λ first taken start s.
     (broke_longer q from first.limit (before ++ item.now ∷ []) rest start now broke)
 
 pub returns-in-Err-clause-grows : goal.returns-in-Err-clause-grows
-returns-in-Err-clause-grows g c = grows_on (g.O.Output.written c.args.out.now) (g.O.Output.written c.loop-line.out) (g.O.Output.written c.take_line.new.out) c.loop-line.invariant.grows c.take_line.ensures.grows
+returns-in-Err-clause-grows g c = grows_on (g.O.Output.written c.args.out.now) (g.O.Output.written c.loop-line.out)
+    (g.O.Output.written c.take_line.new.out) c.loop-line.invariant.grows c.take_line.ensures.grows

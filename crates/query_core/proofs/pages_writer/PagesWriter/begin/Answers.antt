@@ -11,7 +11,8 @@ use Rattle.query_core.proofs.pages_writer.PagesWriter.begin.Goals as goal
 pub returns-in_err-selection-clause-front : goal.returns-in_err-selection-clause-front
 returns-in_err-selection-clause-front g c =
     let p = err_from_is_err_and c.from_residual.result c.from_residual.ensures.1 in
-    on_err c.from_residual.result p.0 _ p.1 (wrote_nothing (g.O.Output.written c.args.out.now) (page_start (form_of c.args.query.now)))
+    on_err c.from_residual.result p.0 _ p.1
+    (wrote_nothing (g.O.Output.written c.args.out.now) (page_start (form_of c.args.query.now)))
 
 pub returns-clause-stands : goal.returns-clause-stands
 returns-clause-stands g c = λ positive.
@@ -19,5 +20,6 @@ returns-clause-stands g c = λ positive.
     let old = g.O.Output.written c.args.out.now in
     let new = g.O.Output.written c.put_start.new.out in
     let form = c.new-output.ensures ∙ c.form_of.ensures ∙ ap form_of (sym c.in_ok-selection.ensures.query.0) in
-    let begun = none_stand q c.args.sizes.now old new positive (subst (λ form. Appends old new (page_start form)) form c.in_ok-put_start.ensures.text) in
+    let begun = none_stand q c.args.sizes.now old new positive
+    (subst (λ form. Appends old new (page_start form)) form c.in_ok-put_start.ensures.text) in
     (c.in_ok-selection.ensures.selects, begun.0, begun.1)

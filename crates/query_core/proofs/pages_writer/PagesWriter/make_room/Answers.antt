@@ -18,9 +18,11 @@ returns-in-Ok-clause-stands g c = λ sizes captures start s.
     let new = g.O.Output.written c.turn.new.out in
     let full : (w.given == first_size w.sizes.now) ≡ true = search rules in
     let next = c.in-Ok.ensures.next in
-    let turned = turned_stands w.selection.query.now sizes captures start old w.sizes.now w.given w.last w.count s (eqb-true w.given (first_size w.sizes.now) full)
+    let turned = turned_stands w.selection.query.now sizes captures start old w.sizes.now w.given w.last w.count s
+    (eqb-true w.given (first_size w.sizes.now) full)
     new k.sizes.now k.given k.last k.count c.in-Ok.ensures.text next.0 next.1 next.3 c.turn.ensures.key in (
-      subst (λ selection. PagesStand selection.query.now sizes captures start new k.sizes.now k.given k.last k.count) (sym c.turn.ensures.selection) turned,
+      subst (λ selection. PagesStand selection.query.now sizes captures start new k.sizes.now k.given k.last k.count)
+          (sym c.turn.ensures.selection) turned,
       omega (arith, next.1, first_positive k.sizes.now turned.positive),
     )
 
@@ -28,5 +30,6 @@ pub returns-in-Err-clause-front : goal.returns-in-Err-clause-front
 returns-in-Err-clause-front g c = λ sizes captures start m s.
     let w = c.args.self.now in
     let full : (w.given == first_size w.sizes.now) ≡ true = search rules in
-    turning_front w.selection.query.now sizes captures start (g.O.Output.written c.args.out.now) w.sizes.now w.given w.last w.count s (eqb-true w.given (first_size w.sizes.now) full)
+    turning_front w.selection.query.now sizes captures start (g.O.Output.written c.args.out.now) w.sizes.now w.given
+    w.last w.count s (eqb-true w.given (first_size w.sizes.now) full)
     m (g.O.Output.written c.turn.new.out) c.in-Err.ensures.text

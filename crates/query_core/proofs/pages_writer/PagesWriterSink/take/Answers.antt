@@ -11,7 +11,8 @@ use Rattle.query_core.proofs.pages_writer.PagesWriterSink.take.Goals as goal
 
 pub loop-line-init : goal.loop-line-init
 loop-line-init g c = record {
-  stands = λ sizes taken start s. subst (λ l. pages_stand sizes c.args.self.now l start (g.O.Output.written c.args.out.now)) (sym (append-nil taken)) s;
+  stands = λ sizes taken start s. subst
+      (λ l. pages_stand sizes c.args.self.now l start (g.O.Output.written c.args.out.now)) (sym (append-nil taken)) s;
   same = (refl, refl);
   grows = grows_not (g.O.Output.written c.args.out.now);
   failures = refl;
@@ -29,15 +30,18 @@ loop-line-preserved g c =
           (one_more seen taken ls k c.line-item.result c.loop-line-test.true c.line-item.is)
           (c.in-Ok.ensures.stands sizes (taken ++ map seen (take k ls)) start (inv.stands sizes taken start s));
       same = (let n = c.take_line.ensures.same in (n.0 ∙ inv.same.0, n.1 ∙ inv.same.1));
-      grows = grows_on (g.O.Output.written c.args.out.now) (g.O.Output.written c.loop-line.out) (g.O.Output.written c.take_line.new.out) inv.grows c.take_line.ensures.grows;
+      grows = grows_on (g.O.Output.written c.args.out.now) (g.O.Output.written c.loop-line.out)
+          (g.O.Output.written c.take_line.new.out) inv.grows c.take_line.ensures.grows;
       failures = c.in-Ok.ensures.failures ∙ inv.failures;
     }
 
 pub returns-clause-wrote : goal.returns-clause-wrote
 returns-clause-wrote g c = λ first taken start s.
-    let all : take c.loop-line.line-index c.args.lines.now ≡ c.args.lines.now = take_all c.loop-line.line-index c.args.lines.now (omega (arith, c.loop-line-test.false)) in
+    let all : take c.loop-line.line-index c.args.lines.now
+    ≡ c.args.lines.now = take_all c.loop-line.line-index c.args.lines.now (omega (arith, c.loop-line-test.false)) in
     let same = c.loop-line.invariant.same in
-    let stood = subst (λ l. pages_stand first.sizes.now c.loop-line.self (taken ++ map (λ (l : Bor Line). l.now) l) start (g.O.Output.written c.loop-line.out)) all
+    let stood = subst (λ l. pages_stand first.sizes.now c.loop-line.self (taken ++ map (λ (l : Bor Line). l.now) l)
+    start (g.O.Output.written c.loop-line.out)) all
     (c.loop-line.invariant.stands first.sizes.now taken start s.1) in
     ((same.0 ∙ s.0.0, same.1 ∙ s.0.1), stood)
 
@@ -57,11 +61,16 @@ returns-in-Err-clause-wrote g c = λ first taken start s.
     let now = g.O.Output.written c.take_line.new.out in
     let broke : IsFront q sizes (captures_over q from (before ++ item.now ∷ [])) start now =
     subst (λ r. IsFront r.now sizes (captures_over r.now from (before ++ item.now ∷ [])) start now) (inv.same.0 ∙ s.0.0)
-    (subst (λ f. IsFront w.selection.query.now sizes (captures_over w.selection.query.now (from_view f) (before ++ item.now ∷ [])) start now) (inv.same.1 ∙ s.0.1)
+    (subst (λ f. IsFront w.selection.query.now sizes
+    (captures_over w.selection.query.now (from_view f) (before ++ item.now ∷ [])) start now) (inv.same.1 ∙ s.0.1)
     (c.in-Err.ensures.broke sizes before start (inv.stands sizes taken start s.1))) in
     subst (λ l. IsFront q sizes l start now)
-    (sym (ap (captures_over q from) (parted seen taken ls k item c.loop-line-test.true c.line-item.is) ∙ captures_append q from (before ++ item.now ∷ []) rest))
-    (front_more q sizes (captures_over q from (before ++ item.now ∷ [])) (kept_after q from (place_before q from (before ++ item.now ∷ [])) (filter (is_wanted q from) rest)) start now broke)
+    (sym (ap (captures_over q from) (parted seen taken ls k item c.loop-line-test.true c.line-item.is)
+    ∙ captures_append q from (before ++ item.now ∷ []) rest))
+    (front_more q sizes (captures_over q from (before ++ item.now ∷ []))
+    (kept_after q from (place_before q from (before ++ item.now ∷ [])) (filter (is_wanted q from) rest)) start now
+    broke)
 
 pub returns-in-Err-clause-grows : goal.returns-in-Err-clause-grows
-returns-in-Err-clause-grows g c = grows_on (g.O.Output.written c.args.out.now) (g.O.Output.written c.loop-line.out) (g.O.Output.written c.take_line.new.out) c.loop-line.invariant.grows c.take_line.ensures.grows
+returns-in-Err-clause-grows g c = grows_on (g.O.Output.written c.args.out.now) (g.O.Output.written c.loop-line.out)
+    (g.O.Output.written c.take_line.new.out) c.loop-line.invariant.grows c.take_line.ensures.grows

@@ -6,8 +6,10 @@ use Rattle.query_core.proofs.pages_writer.PagesWriterSink.take.Given as goal
 
 abbrev pub invariant-loop-line : goal.invariant-loop-line
 invariant-loop-line g l = record {
-  stands : (sizes : List ℕ) (taken : List Member) (start : Option (List ℕ)) → pages_stand sizes l.fn.self taken start (g.O.Output.written l.fn.out)
-      → pages_stand sizes l.self (taken ++ map (λ line. line.now) (take l.line-index l.lines)) start (g.O.Output.written l.out);
+  stands : (sizes : List ℕ) (taken : List Member) (start : Option (List ℕ))
+      → pages_stand sizes l.fn.self taken start (g.O.Output.written l.fn.out)
+      → pages_stand sizes l.self (taken ++ map (λ line. line.now) (take l.line-index l.lines)) start
+      (g.O.Output.written l.out);
   same : IsSame l.fn.self.selection l.self.selection;
   grows : Grows (g.O.Output.written l.fn.out) (g.O.Output.written l.out);
   failures : g.O.Output.failures l.out ≡ g.O.Output.failures l.fn.out;

@@ -29,8 +29,10 @@ returns-clause-selects c = λ taken s.
     let m = c.args.line.now in
     let wanted : is_wanted was.query.now (from_view was.from) m ≡ true = search rules in
     let same = c.in_ok-keep_part.ensures.same in
-    capture_compares was.query.now (from_view was.from) was.collapsing taken m s now.collapsing wanted c.in_ok-keep_part.ensures.part
-    ∙ ap₂ (λ q from. collapsing_at q.collapse (place_before q from (taken ++ m ∷ []))) (ap (λ r. r.now) (sym same.0)) (ap from_view (sym same.1))
+    capture_compares was.query.now (from_view was.from) was.collapsing taken m s now.collapsing wanted
+    c.in_ok-keep_part.ensures.part
+    ∙ ap₂ (λ q from. collapsing_at q.collapse (place_before q from (taken ++ m ∷ []))) (ap (λ r. r.now) (sym same.0))
+    (ap from_view (sym same.1))
 
 pub returns-clause-capture : goal.returns-clause-capture
 returns-clause-capture c = λ taken s.

@@ -9,12 +9,21 @@ returns-clause-stands g c =
     let text = g.S.Source.text c.args.source.now in
     let extent = g.S.Source.extent c.args.source.now in
     let inside = c.self.inside in
-    let was : CursorState = record { ahead = inside.ahead; at = inside.at; start = inside.start; count = inside.count } in
-    subst (λ a. Stands text extent (record { ahead = a; at = inside.at + c.args.size; start = inside.start; count = inside.count + 1 })) (sym c.consume.ensures)
-    (passed text extent was c.args.size (subst (Stands text extent) (sym c.self.view_is) c.requires.stands) (subst (λ (s : CursorState). IsHeldLine s.ahead c.args.size) (sym c.self.view_is) c.requires.line))
+    let was : CursorState = record {
+      ahead = inside.ahead;
+      at = inside.at;
+      start = inside.start;
+      count = inside.count;
+    } in
+    subst (λ a. Stands text extent
+    (record { ahead = a; at = inside.at + c.args.size; start = inside.start; count = inside.count + 1 }))
+    (sym c.consume.ensures)
+    (passed text extent was c.args.size (subst (Stands text extent) (sym c.self.view_is) c.requires.stands)
+    (subst (λ (s : CursorState). IsHeldLine s.ahead c.args.size) (sym c.self.view_is) c.requires.line))
 
 pub returns-clause-given : goal.returns-clause-given
 returns-clause-given g c = λ t e.
     let at = ap (λ (s : CursorState). s.at) c.self.view_is in
-    passed_line (g.S.Source.text c.args.source.now) (g.S.Source.extent c.args.source.now) c.args.self.now c.args.size c.requires.stands c.requires.line t e
+    passed_line (g.S.Source.text c.args.source.now) (g.S.Source.extent c.args.source.now) c.args.self.now c.args.size
+    c.requires.stands c.requires.line t e
     ∙ ap (λ k. take c.args.size c.args.self.now.ahead ∷ lines (drop (k + c.args.size) t)) (sym at)

@@ -12,5 +12,6 @@ returns c =
     let past = inside.at in
     ap (λ bytes. take (inside.count - skipped) (drop skipped bytes)) c.as_slice.ensures.value
     ∙ held_rest (c.args.at - past) inside.count skipped inside.buffer.items c.min-skipped.ensures
-    ∙ sym (cond-false (ltb c.args.at past) [] (drop (c.args.at - past) (take inside.count inside.buffer.items)) (le-ltb c.args.at past c.if-at-self.false))
+    ∙ sym (cond-false (ltb c.args.at past) [] (drop (c.args.at - past) (take inside.count inside.buffer.items))
+    (le-ltb c.args.at past c.if-at-self.false))
     ∙ ap (λ (w : HeldBytes). held_from w c.args.at) c.self.view_is
