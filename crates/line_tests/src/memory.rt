@@ -16,7 +16,7 @@ fn is_plain(read: &LineRef<'_>) -> bool {
 #[test]
 fn a_plain_line_takes_no_memory(rt: HostRuntime) -> Result<(), Fail> {
     let read = LineRef::read(rt.alloc(), PLAIN)?;
-    assert!(rt; is_plain(&read));
+    assert!(rt; is_plain(&read) && read.needs_no_escapes());
     assert!(rt; has_pair(PLAIN, b"k"));
     Ok(())
 }
@@ -32,6 +32,7 @@ fn becomes_plain(kept: &mut Line) -> bool {
 fn a_warm_line_takes_no_memory(rt: HostRuntime) -> Result<(), Fail> {
     let mut kept = Line::read(rt.alloc(), FOREIGN)?;
     assert!(rt; kept.line() == FOREIGN);
+    assert!(rt; has_member(&kept, Field::Statuscode, "200")?);
     assert!(rt; becomes_plain(&mut kept));
     Ok(())
 }
