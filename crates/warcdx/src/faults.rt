@@ -56,15 +56,16 @@ pub fn say_source_fault<R: Runtime>(rt: &R, names: &[String], fault: AnswerFault
 
 /// Reports a fault of the index of this name. Memory and a failed output are reported at the command's end.
 pub fn say_answer_fault<R: Runtime>(rt: &R, name: &str, fault: AnswerFault) {
+    let cause = fault.name();
     match fault {
         AnswerFault::Read(_source) => {
-            let _ = eprintln!(rt; "warcdx: {name}: Read");
+            let _ = eprintln!(rt; "warcdx: {name}: {cause}");
         }
         AnswerFault::BadLine(_source, offset) => {
-            let _ = eprintln!(rt; "warcdx: {name}: BadLine {offset}");
+            let _ = eprintln!(rt; "warcdx: {name}: {cause} {offset}");
         }
         AnswerFault::OutOfOrder(_source, offset) => {
-            let _ = eprintln!(rt; "warcdx: {name}: OutOfOrder {offset}");
+            let _ = eprintln!(rt; "warcdx: {name}: {cause} {offset}");
         }
         _ => {}
     }
