@@ -43,7 +43,7 @@ ARRAY_END = "0], " + MEMBERS % ("", 0, "a")
 OBJECTS = '{"":' * DEEP + "0" + "}" * DEEP + ","
 ARRAYS = "[" * DEEP + "]" * DEEP + ","
 TARGET = FRONT + "\x01" * 1_000_000 + BACK  # not a URL: each byte is escaped, and is in the key and in the line
-OF_LINES = ((("check",), 2.2), (("merge",), 4.2), (("query", ALL), 3.3))
+OF_LINES = ((("check",), 3.2), (("merge",), 3.2), (("query", ALL), 3.2))
 INPUTS = (
     Input("a line with nested objects", f'{OBJECT}"a": [', OBJECTS, ARRAY_END, OF_LINES),
     Input("a line with small objects", f'{OBJECT}"a": [', '{"":0},', ARRAY_END, OF_LINES),
