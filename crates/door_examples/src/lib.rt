@@ -1,4 +1,5 @@
-//! Callers of the library's doors: each module uses one crate alone, and promises what that crate promises.
+//! Callers of the library's doors. Each module uses one crate alone, and its contracts follow from
+//! the contracts of that crate. `records::count_records` and `scans::in_memory` have no contract.
 #![tactic(auto)]
 
 pub mod captures;
@@ -7,3 +8,5 @@ pub mod lines;
 pub mod queries;
 pub mod records;
 pub mod scans;
+#[cfg(test)]
+mod tests;
