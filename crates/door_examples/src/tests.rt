@@ -48,7 +48,7 @@ fn a_url_has_a_key(rt: HostRuntime) -> Result<(), KeyFault> {
 }
 
 fn is_of_place(text: &String) -> bool {
-    text.as_str() == "com%2Cexample%29%2F+20160919172024+a.warc+0"
+    text.as_str() == "com%2Cexample%29%2F+20160919172024+a.warc+264"
 }
 
 #[test]
@@ -58,7 +58,7 @@ fn a_place_has_a_resume_key(rt: HostRuntime) -> Result<(), PlaceFault> {
         "com,example)/",
         *b"20160919172024",
         "a.warc",
-        "0",
+        "264",
     )?;
     let none = resume_key(
         rt.alloc(),
