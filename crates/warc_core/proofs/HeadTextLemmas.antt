@@ -7,7 +7,7 @@ use Rattle.warc_head.specs.Answers.{◌>>=◌}
 use Rattle.warc_head.specs.Fields.{Field, fields_of}
 use Rattle.warc_head.specs.Lines.{line_end}
 use Rattle.warc_head.specs.Mandatory.{each_once}
-use Rattle.warc_head.specs.Parts.{HeadParts, parts_in, body_of, length_in, stamp_in, kind_in}
+use Rattle.warc_head.specs.Parts.{HeadParts, parts_in, field_lines_in, length_in, stamp_in, kind_in}
 use Rattle.warc_head.specs.Parts as parts
 use Rattle.warc_head.proofs.FoldingLemmas.{fields_spelled}
 use Rattle.warc_head.proofs.SpellingLemmas.{body}
@@ -47,15 +47,15 @@ parts_in-fields fields p h =
     ap (λ q. q.fields) (sym same)
 
 -- what is read of a text is read of its fields
-read-in : (raw : List ℕ) (p : HeadParts) → parts_of raw ≡ Ok p → (fields_of (body_of raw) ≡ Ok p.fields)
+read-in : (raw : List ℕ) (p : HeadParts) → parts_of raw ≡ Ok p → (fields_of (field_lines_in raw) ≡ Ok p.fields)
     × (parts_in p.fields ≡ Ok p)
 unfolding parts_of parts.parts_of
 read-in raw p h =
-    let e = bind_ok (fields_of (body_of raw)) parts_in p (by_cause-ok (fields_of (body_of raw) >>= parts_in) p h) in
+    let e = bind_ok (fields_of (field_lines_in raw)) parts_in p (by_cause-ok (fields_of (field_lines_in raw) >>= parts_in) p h) in
     let same = parts_in-fields e.0 p e.2 in
     (e.1 ∙ ap Ok (sym same), ap parts_in same ∙ e.2)
 
-read-back : (raw : List ℕ) (p : HeadParts) → fields_of (body_of raw) ≡ Ok p.fields → parts_in p.fields ≡ Ok p
+read-back : (raw : List ℕ) (p : HeadParts) → fields_of (field_lines_in raw) ≡ Ok p.fields → parts_in p.fields ≡ Ok p
     → parts_of raw ≡ Ok p
 unfolding parts_of parts.parts_of
 read-back raw p f h = ap (λ r. by_cause (r >>= parts_in)) f ∙ ap by_cause h
@@ -70,14 +70,14 @@ version-begins text h l =
     ]
 
 -- the last line of a closed text is empty
-last-empty : (text : List ℕ) → is_closed text ≡ true → 12 ≤ length text → drop 10 text ≡ body_of text ++ line_end
+last-empty : (text : List ℕ) → is_closed text ≡ true → 12 ≤ length text → drop 10 text ≡ field_lines_in text ++ line_end
 last-empty text h l =
     let n = length text - 2 - 10 in
     let at : length text - 4 + 2 ≡ 10 + n = omega (arith, l) in
     let end : drop n (drop 10 text) ≡ line_end = drop-drop n 10 text
     ∙ (ap (λ m. drop m text) (sym at)
     ∙ (sym (drop-drop 2 (length text - 4) text) ∙ ap (drop 2) (closed-last text h))) in
-    sym (take-append-drop n (drop 10 text)) ∙ ap (λ t. body_of text ++ t) end
+    sym (take-append-drop n (drop 10 text)) ∙ ap (λ t. field_lines_in text ++ t) end
 
 pub found-spelled : (limit : ℕ) (raw : List ℕ) (p : HeadParts) → IsFoundHead limit raw → parts_of raw ≡ Ok p
     → IsRecordHead limit p raw
@@ -89,10 +89,10 @@ found-spelled limit raw p f h =
     record {
       is_head = record {
         version = v.0;
-        body = body_of raw;
+        body = field_lines_in raw;
         spelled = v.4 ∙ ap (λ t. v.0 ++ t) (sym more ∙ last-empty raw f.closed long);
         is_version = v.2;
-        is_body = (fields_spelled (body_of raw) p.fields).0 r.0;
+        is_body = (fields_spelled (field_lines_in raw) p.fields).0 r.0;
         closed = f.closed;
         first = f.first;
         small = f.small;
@@ -112,7 +112,7 @@ pub spelled-found : (limit : ℕ) (raw : List ℕ) (p : HeadParts) → IsRecordH
 spelled-found limit raw p h =
     let t = h.is_head in
     let v = version-found t.version (t.body ++ line_end) t.is_version in
-    let whole : body_of raw ≡ t.body = ap body_of t.spelled ∙ body t.version t.body v.0 in
+    let whole : field_lines_in raw ≡ t.body = ap field_lines_in t.spelled ∙ body t.version t.body v.0 in
     record {
       found = record {
         version = ap has_version t.spelled ∙ v.1;

@@ -6,11 +6,11 @@ use Rattle.std.specs.List.{ends_with, list_all}
 use Rattle.std.specs.Prelude.{nat_eq, ◌&&◌, take, drop, ◌-◌, ◌+◌}
 use Rattle.std.proofs.lemmas.Bool.{cases_lt}
 use Rattle.std.proofs.lemmas.List.{drop-take, drop_all}
-use Rattle.warc_head.specs.Parts.{body_of}
+use Rattle.warc_head.specs.Parts.{field_lines_in}
 use Rattle.warc_head.specs.declared.fault.HeadFault.{HeadFault}
 use Rattle.warc_head.specs.declared.fault.HeadFault.TheVariants as faults
 use Rattle.warc_head.specs.Answers.{◌>>=◌, IsFound}
-use Rattle.warc_head.specs.Lines.{lines_of, line_content, BeginsWithLine, continues, trim, is_plain, line_end}
+use Rattle.warc_head.specs.Lines.{lines_of, line_content, BeginsWithLine, continues, trim, is_content, line_end}
 use Rattle.warc_head.specs.Names.{is_name}
 use Rattle.warc_head.specs.Fields.{Field, Given, given_by, fields_of, joined, longer, added, begun, field_in}
 use Rattle.warc_head.specs.Fields.{with_piece, with_field, named, at_colon}
@@ -130,7 +130,7 @@ unfolding given_by
 Plain-lines [] = tt
 Plain-lines (line ∷ lines) =
     Plain-then (line_content line) _
-    (Plain-if (ends_with nat_eq line line_end && list_all is_plain (take (length line - 2) line))
+    (Plain-if (ends_with nat_eq line line_end && list_all is_content (take (length line - 2) line))
     (Ok (take (length line - 2) line)) (Err faults.FieldLine) tt tt)
     (λ text. Plain-if (continues text) _ _ (Plain-then (given_by lines) _ (Plain-lines lines) (λ later. tt))
     (Plain-then (field_in text) _ (Plain-name text)
@@ -164,7 +164,7 @@ unfolding going fields_of
 going-start body = refl
 
 content_fault : (line : List ℕ) (t : Bool)
-    → (ends_with nat_eq line line_end && list_all is_plain (take (length line - 2) line)) ≡ t
+    → (ends_with nat_eq line line_end && list_all is_content (take (length line - 2) line)) ≡ t
     → ((text : List ℕ) → IsLine line text → ⊥) → line_content line ≡ Err faults.FieldLine
 content_fault line true e f = absurd
     (f (take (length line - 2) line) (line_if line true (take (length line - 2) line) e refl))
@@ -176,7 +176,7 @@ unended_lines seen text [] e h f = absurd (let n : text ≡ [] = sym (concat-lin
     ∙ ap concat e in omega (arith, h, ap length n))
 unended_lines seen text (line ∷ lines) e h f =
     line-fault seen line lines faults.FieldLine
-    (content_fault line (ends_with nat_eq line line_end && list_all is_plain (take (length line - 2) line)) refl
+    (content_fault line (ends_with nat_eq line line_end && list_all is_content (take (length line - 2) line)) refl
     (λ t l. f t (concat lines)
     (record {
       spelled = sym (concat-lines text)
@@ -241,7 +241,7 @@ nil_of [] h = refl
 nil_of (x ∷ xs) h = absurd (omega arith)
 
 -- the lines between the version line and the empty line
-pub body_is : (raw : List ℕ) → body_of raw ≡ drop 10 (take (length raw - 2) raw)
+pub body_is : (raw : List ℕ) → field_lines_in raw ≡ drop 10 (take (length raw - 2) raw)
 body_is raw =
     elim (cases_lt (length raw - 2) 10) [
       | inl short ↦ (

@@ -10,7 +10,7 @@ use Rattle.std.proofs.lemmas.List.Elements.{All-cons, All-nil}
 use Rattle.warc_head.specs.declared.fault.HeadFault.{HeadFault}
 use Rattle.warc_head.specs.declared.fault.HeadFault.TheVariants as faults
 use Rattle.warc_head.specs.Answers.{◌>>=◌}
-use Rattle.warc_head.specs.Lines.{lines_of, line_content, line_end, continues, is_plain, trim}
+use Rattle.warc_head.specs.Lines.{lines_of, line_content, line_end, continues, is_content, trim}
 use Rattle.warc_head.specs.Names.{is_name}
 use Rattle.warc_head.specs.Fields.{Field, Given, at_colon, field_in, named, given_by, begun, fields_of, with_field}
 use Rattle.warc_head.specs.Fields.{with_piece, added, joined}
@@ -56,8 +56,8 @@ more_read (text ∷ more) rest later h r =
     rw (cut, line_text text one.plain, one.begins, more_read more rest later (all_later IsContinuation text more h) r)
     refl
 
-first_plain : (f : Folded) → IsFolded f → list_all is_plain (f.name ++ (58 ∷ f.rest)) ≡ true
-first_plain f h = list_all-append is_plain f.name (58 ∷ f.rest)
+first_plain : (f : Folded) → IsFolded f → list_all is_content (f.name ++ (58 ∷ f.rest)) ≡ true
+first_plain f h = list_all-append is_content f.name (58 ∷ f.rest)
     ∙ both _ _ (names-plain f.name (name_bytes f.name h.name)) h.plain
 
 first_field : (f : Folded) → IsFolded f → field_in (f.name ++ (58 ∷ f.rest))
@@ -210,11 +210,11 @@ module _ (line : List ℕ) (lines : List (List ℕ)) (given : Given) (ih : (late
       let k : ◌≡◌ {A = Result Given HeadFault} (Ok (with_field field later)) (Ok given) = h in
       let same : with_field field later ≡ given = cc in
       let one : Folded = record { name = field.name; rest = f.rest; more = s.more } in
-      let plain : list_all is_plain (field.name ++ (58 ∷ f.rest))
-      ≡ true = subst (λ t. list_all is_plain t ≡ true) f.spelled l.plain in
-      let rest_plain : list_all is_plain f.rest
-      ≡ true = (and_both (list_all is_plain field.name) (list_all is_plain (58 ∷ f.rest))
-      (sym (list_all-append is_plain field.name (58 ∷ f.rest)) ∙ plain)).1 in
+      let plain : list_all is_content (field.name ++ (58 ∷ f.rest))
+      ≡ true = subst (λ t. list_all is_content t ≡ true) f.spelled l.plain in
+      let rest_plain : list_all is_content f.rest
+      ≡ true = (and_both (list_all is_content field.name) (list_all is_content (58 ∷ f.rest))
+      (sym (list_all-append is_content field.name (58 ∷ f.rest)) ∙ plain)).1 in
       let value : joined field.value (added later.more) ≡ joined (trim f.rest) (joined_all (map trim s.more)) =
       ap (λ v. joined v (added later.more)) f.value ∙ ap (joined (trim f.rest)) (ap added s.adds ∙ added-said s.more) in
       subst (λ v. Spells (line ++ concat lines) v) same

@@ -1,7 +1,7 @@
 pub mod LineLemmas
 pub mod NameLemmas
 pub mod FieldLemmas
-pub mod PlaceLemmas
+pub mod SpanLemmas
 pub mod NumberLemmas
 pub mod DayLemmas
 pub mod DateLemmas

@@ -14,7 +14,7 @@ use Rattle.std.proofs.Math.Seq.{take-append_seam, drop-append_seam}
 use Rattle.memchr.specs.Find.{is_byte2}
 use Rattle.warc_head.specs.declared.fault.HeadFault.{HeadFault}
 use Rattle.warc_head.specs.declared.fault.HeadFault.TheVariants as faults
-use Rattle.warc_head.specs.Lines.{lines_of, with_first, line_content, line_end, is_plain, BeginsWithLine, EndsLine}
+use Rattle.warc_head.specs.Lines.{lines_of, with_first, line_content, line_end, is_content, BeginsWithLine, EndsLine}
 use Rattle.warc_head.specs.Fields.{at_colon}
 use Rattle.warc_head.specs.Folding.{ended}
 use Rattle.warc_head.proofs.DateLemmas.{and_both}
@@ -42,16 +42,16 @@ colon_none (b ∷ bs) f =
     let t : (b == 58) ≡ false = false_of (b == 58) (f 0 (omega arith)) in
     rw t (ap (option_map (λ p. (b ∷ p.0, p.1))) (colon_none bs (λ k l. f (suc k) (omega arith))))
 
-plain-not_lf : (b : ℕ) → is_plain b ≡ true → (b == 10) ≡ false
+plain-not_lf : (b : ℕ) → is_content b ≡ true → (b == 10) ≡ false
 plain-not_lf b h = grind (arith, nat_tests, h)
 
 -- the first line of a text
-pub line_first : (text rest : List ℕ) → list_all is_plain text ≡ true → lines_of (text ++ (line_end ++ rest))
+pub line_first : (text rest : List ℕ) → list_all is_content text ≡ true → lines_of (text ++ (line_end ++ rest))
     ≡ (text ++ line_end) ∷ lines_of rest
 unfolding lines_of
 line_first [] rest h = refl
 line_first (b ∷ bs) rest h =
-    let p = and_both (is_plain b) (list_all is_plain bs) h in
+    let p = and_both (is_content b) (list_all is_content bs) h in
     rw (plain-not_lf b p.0) (ap (with_first b) (line_first bs rest p.1))
 
 front : (text : List ℕ) → take (length (text ++ line_end) - 2) (text ++ line_end) ≡ text
@@ -64,7 +64,7 @@ back text =
     let n : length (text ++ line_end) - 2 ≡ length text = simp length-append (omega arith) in
     rw (n, drop-append_seam text line_end) refl
 
-pub line_text : (text : List ℕ) → list_all is_plain text ≡ true → line_content (text ++ line_end) ≡ Ok text
+pub line_text : (text : List ℕ) → list_all is_content text ≡ true → line_content (text ++ line_end) ≡ Ok text
 line_text text h = rw (back text, front text, h) refl
 
 abbrev pub concat : List (List ℕ) → List ℕ
@@ -102,15 +102,15 @@ line_end_is (a ∷ b ∷ c ∷ d) h = absurd (let e : false
 
 pub record IsLine (line text : List ℕ) : Type 0 where
   pub spelled : line ≡ ended text
-  pub plain : list_all is_plain text ≡ true
+  pub plain : list_all is_content text ≡ true
 
 pub line_if : (line : List ℕ) (t : Bool) (text : List ℕ)
-    → (ends_with nat_eq line line_end && list_all is_plain (take (length line - 2) line)) ≡ t
+    → (ends_with nat_eq line line_end && list_all is_content (take (length line - 2) line)) ≡ t
     → (if t then Ok (take (length line - 2) line) else Err faults.FieldLine) ≡ Ok text → IsLine line text
 line_if line false text e h = absurd
     (let k : ◌≡◌ {A = Result (List ℕ) HeadFault} (Err faults.FieldLine) (Ok text) = h in cc)
 line_if line true text e h =
-    let p = and_both (ends_with nat_eq line line_end) (list_all is_plain (take (length line - 2) line)) e in
+    let p = and_both (ends_with nat_eq line line_end) (list_all is_content (take (length line - 2) line)) e in
     let k : ◌≡◌ {A = Result (List ℕ) HeadFault} (Ok (take (length line - 2) line)) (Ok text) = h in
     let same : take (length line - 2) line ≡ text = cc in
     subst (λ t. IsLine line t) same
@@ -121,22 +121,22 @@ line_if line true text e h =
     })
 
 -- a line without CR and LF has neither at a place
-plain_at : (line : List ℕ) (at : ℕ) → list_all is_plain line ≡ true → at < length line
+plain_at : (line : List ℕ) (at : ℕ) → list_all is_content line ≡ true → at < length line
     → is_byte2 13 10 (get_or line at 0) ≡ true → ⊥
 plain_at [] at p l h = absurd (omega arith)
 plain_at (b ∷ bs) zero p l h = let k : false ≡ true = ap not (sym h)
-    ∙ (and_both (is_plain b) (list_all is_plain bs) p).0 in cc
-plain_at (b ∷ bs) (suc at) p l h = plain_at bs at (and_both (is_plain b) (list_all is_plain bs) p).1 (omega arith) h
+    ∙ (and_both (is_content b) (list_all is_content bs) p).0 in cc
+plain_at (b ∷ bs) (suc at) p l h = plain_at bs at (and_both (is_content b) (list_all is_content bs) p).1 (omega arith) h
 
 -- where a line stands, the first CR or LF is that at its end
-pub line_end_at : (line rest : List ℕ) (at : ℕ) → list_all is_plain line ≡ true
+pub line_end_at : (line rest : List ℕ) (at : ℕ) → list_all is_content line ≡ true
     → is_byte2 13 10 (get_or (line ++ 13 ∷ rest) at 0) ≡ true
     → ((k : ℕ) → k < at → is_byte2 13 10 (get_or (line ++ 13 ∷ rest) k 0) ≡ true → ⊥) → at ≡ length line
 line_end_at [] rest zero p h f = refl
 line_end_at [] rest (suc at) p h f = absurd (f 0 (omega arith) refl)
 line_end_at (b ∷ bs) rest zero p h f = absurd (plain_at (b ∷ bs) 0 p (omega arith) h)
 line_end_at (b ∷ bs) rest (suc at) p h f = ap suc
-    (line_end_at bs rest at (and_both (is_plain b) (list_all is_plain bs) p).1 h (λ k l. f (suc k) (omega arith)))
+    (line_end_at bs rest at (and_both (is_content b) (list_all is_content bs) p).1 h (λ k l. f (suc k) (omega arith)))
 
 -- a text that begins so has a CR or LF
 pub line_end_in : (line rest : List ℕ)
@@ -146,7 +146,7 @@ line_end_in (b ∷ bs) rest f = line_end_in bs rest (λ k l. f (suc k) (omega ar
 
 -- the bytes before the first CR or LF
 pub plain_before : (text : List ℕ) (at : ℕ) → ((k : ℕ) → k < at → is_byte2 13 10 (get_or text k 0) ≡ true → ⊥)
-    → at ≤ length text → list_all is_plain (take at text) ≡ true
+    → at ≤ length text → list_all is_content (take at text) ≡ true
 plain_before text zero f l = refl
 plain_before [] (suc at) f l = absurd (omega arith)
 plain_before (b ∷ bs) (suc at) f l =
@@ -171,10 +171,10 @@ ended_elsewhere text at h f n line rest b =
     ∙ (ap (λ n. drop n (line ++ (line_end ++ rest))) e ∙ drop-append_seam line (line_end ++ rest)))
 
 -- a run of bytes that are no CR and no LF, from one offset to another
-module _ (text : List ℕ) (at end : ℕ) (run : IsRunAt is_plain text at end) where
+module _ (text : List ℕ) (at end : ℕ) (run : IsRunAt is_content text at end) where
   no_break : (k : ℕ) → k < end - at → is_byte2 13 10 (get_or (drop at text) k 0) ≡ true → ⊥
   no_break k l h =
-      let plain : is_plain (get_or (drop at text) k 0) ≡ true = ap is_plain (get_or-drop at text k 0)
+      let plain : is_content (get_or (drop at text) k 0) ≡ true = ap is_content (get_or-drop at text k 0)
       ∙ run.pass (at + k) (omega arith) (omega (arith, l)) in
       let e : false ≡ true = sym (ap not h) ∙ plain in cc
 
@@ -200,7 +200,7 @@ module _ (text : List ℕ) (at end : ℕ) (run : IsRunAt is_plain text at end) w
   broken : end < length text → is_byte2 13 10 (get_or (drop at text) (end - at) 0) ≡ true
   broken inside =
       let same : at + (end - at) ≡ end = omega (arith, run.ordered) in
-      not-false _ (ap is_plain (get_or-drop at text (end - at) 0 ∙ ap (λ n. get_or text n 0) same) ∙ run.stops inside)
+      not-false _ (ap is_content (get_or-drop at text (end - at) 0 ∙ ap (λ n. get_or text n 0) same) ∙ run.stops inside)
 
   pub ends_no_line : ((more : List ℕ) → drop end text ≡ line_end ++ more → ⊥) → (line rest : List ℕ)
       → BeginsWithLine (drop at text) line rest → ⊥

@@ -3,8 +3,8 @@ use Rattle.std.proofs.Common.{◌≡◌, ◌∙◌, ℕ, ◌+◌, ◌-◌, ◌<�
 use Rattle.std.proofs.Common.{length-drop, length-append}
 use Rattle.std.proofs.lemmas.List.{take-append-le, take-append-drop, drop-drop, length-take-le}
 use Rattle.warc_head.specs.Lines.{EndsLine}
-use Rattle.warc_head.specs.Places.{Continues, between}
-use Rattle.warc_head.proofs.PlaceLemmas.{between_more}
+use Rattle.warc_head.specs.Spans.{Continues, between}
+use Rattle.warc_head.proofs.SpanLemmas.{between_more}
 
 module _ (raw text : List ℕ) (held : Continues raw text) (end at : ℕ) (inside : end ≤ length raw) where
   pub size : length (take end raw) ≡ end

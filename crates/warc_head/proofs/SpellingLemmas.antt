@@ -8,22 +8,22 @@ use Rattle.std.proofs.lemmas.Bool.Decides.{nat_tests}
 use Rattle.std.proofs.lemmas.List.Folds.{list_all-append}
 use Rattle.std.proofs.lemmas.List.{drop_at}
 use Rattle.std.proofs.Math.Seq.{take-append_seam}
-use Rattle.warc_head.specs.Lines.{lines_of, line_end, continues, is_space, is_plain}
+use Rattle.warc_head.specs.Lines.{lines_of, line_end, continues, is_white_space, is_content}
 use Rattle.warc_head.specs.Names.{is_name, is_name_byte, is_separator}
 use Rattle.warc_head.specs.Fields.{Field, at_colon, field_in, given_by, fields_of}
-use Rattle.warc_head.specs.Parts.{parts_of, body_of}
+use Rattle.warc_head.specs.Parts.{parts_of, field_lines_in}
 use Rattle.warc_head.specs.Spelling.{IsOneLine, field_text, spelled, SpellingReadsBack}
 use Rattle.warc_head.proofs.DateLemmas.{and_both, both}
 use Rattle.warc_head.proofs.LineLemmas.{line_first, line_text}
 use Rattle.warc_head.proofs.FieldLemmas.{joined-nil}
 
-name-not_space : (b : ℕ) → is_name_byte b ≡ true → is_space b ≡ false
+name-not_space : (b : ℕ) → is_name_byte b ≡ true → is_white_space b ≡ false
 name-not_space b h =
     let p : nat_le 33 b ≡ true =
     (and_both (nat_le 33 b) (nat_le b 126) (and_both (nat_le 33 b && nat_le b 126) (not (is_separator b)) h).0).0 in
     grind (arith, nat_tests, p)
 
-name-plain : (b : ℕ) → is_name_byte b ≡ true → is_plain b ≡ true
+name-plain : (b : ℕ) → is_name_byte b ≡ true → is_content b ≡ true
 name-plain b h =
     let p : nat_le 33 b ≡ true =
     (and_both (nat_le 33 b) (nat_le b 126) (and_both (nat_le 33 b && nat_le b 126) (not (is_separator b)) h).0).0 in
@@ -39,11 +39,11 @@ name-not_colon b h = test_false (b == 58) (λ t.
     let k : is_name_byte 58 ≡ true = subst (λ x. is_name_byte x ≡ true) e h in
     let l : false ≡ true = k in cc)
 
-pub names-plain : (name : List ℕ) → list_all is_name_byte name ≡ true → list_all is_plain name ≡ true
+pub names-plain : (name : List ℕ) → list_all is_name_byte name ≡ true → list_all is_content name ≡ true
 names-plain [] h = refl
 names-plain (b ∷ bs) h =
     let p = and_both (is_name_byte b) (list_all is_name_byte bs) h in
-    both (is_plain b) (list_all is_plain bs) (name-plain b p.0) (names-plain bs p.1)
+    both (is_content b) (list_all is_content bs) (name-plain b p.0) (names-plain bs p.1)
 
 pub colon_after : (name rest : List ℕ) → list_all is_name_byte name ≡ true → at_colon (name ++ (58 ∷ rest))
     ≡ Some (name, rest)
@@ -66,8 +66,8 @@ unfolding field_in
 field_back f h = rw (colon_after f.name (32 ∷ f.value) (name_bytes f.name h.name), h.name)
     (ap (λ v. Ok (record { name = f.name; value = v })) h.trimmed)
 
-text_plain : (f : Field) → IsOneLine f → list_all is_plain (field_text f) ≡ true
-text_plain f h = list_all-append is_plain f.name (58 ∷ 32 ∷ f.value)
+text_plain : (f : Field) → IsOneLine f → list_all is_content (field_text f) ≡ true
+text_plain f h = list_all-append is_content f.name (58 ∷ 32 ∷ f.value)
     ∙ both _ _ (names-plain f.name (name_bytes f.name h.name)) h.plain
 
 given_back : (fields : List Field) → All IsOneLine fields → given_by (lines_of (spelled fields))
@@ -93,7 +93,7 @@ fields_back : (fields : List Field) → All IsOneLine fields → fields_of (spel
 unfolding fields_of
 fields_back fields h = rw (given_back fields h) refl
 
-pub body : (version text : List ℕ) → length version ≡ 10 → body_of (version ++ (text ++ line_end)) ≡ text
+pub body : (version text : List ℕ) → length version ≡ 10 → field_lines_in (version ++ (text ++ line_end)) ≡ text
 body version text h =
     let d : drop 10 (version ++ (text ++ line_end)) ≡ text ++ line_end = drop_at version (text ++ line_end) 10 h in
     let n : length (version ++ (text ++ line_end)) - 2 - 10 ≡ length text = simp length-append (omega (arith, h)) in

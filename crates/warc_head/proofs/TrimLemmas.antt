@@ -1,11 +1,11 @@
--- White space at the ends of a text, and the place of the text between it.
+-- White space at the ends of a text, and where the text between it stands.
 use Rattle.std.proofs.Common.{◌≡◌, ◌∙◌, ℕ, ◌+◌, ◌-◌, ◌≤◌, Bool, true, false, List, [], ◌∷◌, ◌++◌, length, take, drop}
 use Rattle.std.proofs.Common.{reverse, refl, sym, ap, arith, length-append, append_assoc, if◌then◌else◌, subst}
 use Rattle.std.proofs.lemmas.List.{reverse-append, reverse-reverse, length-drop, take-append-drop, drop-drop}
 use Rattle.std.proofs.lemmas.List.{length-take-le}
 use Rattle.std.proofs.Math.Seq.{drop-append_seam, take-append_seam}
-use Rattle.warc_head.specs.Lines.{is_space, trim_front, trim_end}
-use Rattle.warc_head.specs.Places.{between, IsTrimmed}
+use Rattle.warc_head.specs.Lines.{is_white_space, trim_front, trim_end}
+use Rattle.warc_head.specs.Spans.{between, IsTrimmed}
 
 front_if : (t : Bool) (b : ℕ) (bs : List ℕ) → (before : List ℕ) × (bs ≡ before ++ trim_front bs) → (before : List ℕ)
     × (b ∷ bs ≡ before ++ (if t then trim_front bs else b ∷ bs))
@@ -14,7 +14,7 @@ front_if false b bs p = ([], refl)
 
 trimmed_front : (bs : List ℕ) → (before : List ℕ) × (bs ≡ before ++ trim_front bs)
 trimmed_front [] = ([], refl)
-trimmed_front (b ∷ bs) = front_if (is_space b) b bs (trimmed_front bs)
+trimmed_front (b ∷ bs) = front_if (is_white_space b) b bs (trimmed_front bs)
 
 trimmed_end : (bs : List ℕ) → (after : List ℕ) × (bs ≡ trim_end bs ++ after)
 trimmed_end bs =

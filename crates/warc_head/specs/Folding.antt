@@ -2,7 +2,7 @@
 use Rattle.std.specs.Prelude.{◌≡◌, ◌↔◌, ℕ, true, List, [], ◌∷◌, ◌++◌, map, Ok, All}
 use Rattle.std.specs.List.{list_all, flat_map}
 use Rattle.warc_head.specs.Bytes.{colon}
-use Rattle.warc_head.specs.Lines.{line_end, is_plain, continues, trim}
+use Rattle.warc_head.specs.Lines.{line_end, is_content, continues, trim}
 use Rattle.warc_head.specs.Names.{is_name}
 use Rattle.warc_head.specs.Fields.{Field, joined, fields_of}
 
@@ -15,11 +15,11 @@ pub record Folded : Type 0 where
 -- a line that begins with white space, without CR and LF
 pub record IsContinuation (text : List ℕ) : Type 0 where
   pub begins : continues text ≡ true
-  pub plain : list_all is_plain text ≡ true
+  pub plain : list_all is_content text ≡ true
 
 pub record IsFolded (f : Folded) : Type 0 where
   pub name : is_name f.name ≡ true
-  pub plain : list_all is_plain f.rest ≡ true
+  pub plain : list_all is_content f.rest ≡ true
   pub more : All IsContinuation f.more
 
 abbrev pub ended : List ℕ → List ℕ

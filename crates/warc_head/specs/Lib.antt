@@ -9,7 +9,7 @@ pub mod Calendar
 pub mod Date
 pub mod Kind
 pub mod Parts
-pub mod Places
+pub mod Spans
 pub mod Said
 pub mod Spelling
 pub mod Folding

@@ -7,12 +7,12 @@ use Rattle.warc_head.specs.declared.fault.HeadFault.{HeadFault}
 use Rattle.warc_head.specs.declared.fault.HeadFault.TheVariants as faults
 
 -- space or tab
-abbrev pub is_space : ℕ → Bool
-is_space b = b == space || b == tab
+abbrev pub is_white_space : ℕ → Bool
+is_white_space b = b == space || b == tab
 
 -- neither CR nor LF
-abbrev pub is_plain : ℕ → Bool
-is_plain b = not (b == cr || b == lf)
+abbrev pub is_content : ℕ → Bool
+is_content b = not (b == cr || b == lf)
 
 abbrev pub line_end : List ℕ
 line_end = cr ∷ lf ∷ []
@@ -31,12 +31,12 @@ lines_of (b ∷ bs) = if b == lf then (b ∷ []) ∷ lines_of bs else with_first
 abbrev pub line_content : List ℕ → Result (List ℕ) HeadFault
 line_content line =
     let text = take (length line - 2) line in
-    if ends_with nat_eq line line_end && list_all is_plain text then Ok text else Err faults.FieldLine
+    if ends_with nat_eq line line_end && list_all is_content text then Ok text else Err faults.FieldLine
 
 -- the text begins with this line, in which no CR or LF stands, and goes on behind its CR LF
 pub record BeginsWithLine (text line rest : List ℕ) : Type 0 where
   pub spelled : text ≡ line ++ (line_end ++ rest)
-  pub plain : list_all is_plain line ≡ true
+  pub plain : list_all is_content line ≡ true
 
 -- the line from this offset on ends with the CR LF at another
 pub record EndsLine (text : List ℕ) (at end : ℕ) : Type 0 where
@@ -47,12 +47,12 @@ pub record EndsLine (text : List ℕ) (at end : ℕ) : Type 0 where
 -- the line goes on with the field before it
 abbrev pub continues : List ℕ → Bool
 continues [] = false
-continues (b ∷ bs) = is_space b
+continues (b ∷ bs) = is_white_space b
 
 -- without the white space in front
 abbrev pub trim_front : List ℕ → List ℕ
 trim_front [] = []
-trim_front (b ∷ bs) = if is_space b then trim_front bs else b ∷ bs
+trim_front (b ∷ bs) = if is_white_space b then trim_front bs else b ∷ bs
 
 -- without the white space at the end
 abbrev pub trim_end : List ℕ → List ℕ

@@ -9,7 +9,7 @@ use Rattle.warc_head.specs.declared.occurrence.Occurrence.TheVariants.{Never, On
 use Rattle.warc_head.specs.declared.occurrences.Occurrences.{Occurrences}
 use Rattle.warc_head.specs.Fields.{Field, values_of, value_of}
 use Rattle.warc_head.specs.Names.{same_name}
-use Rattle.warc_head.specs.Places.{IsWithin, field_at}
+use Rattle.warc_head.specs.Spans.{IsWithin, field_at}
 
 abbrev pub mandatory : List (List ℕ)
 mandatory = codes "WARC-Record-ID" ∷ codes "Content-Length" ∷ codes "WARC-Date" ∷ codes "WARC-Type" ∷ []
@@ -36,10 +36,10 @@ found (Some value) = Ok value
 unfoldable pub required : List ℕ → List Field → Result (List ℕ) HeadFault
 required name fields = found (value_of name fields)
 
--- a field of these values occurs so often; a place is that of its value in a text
+-- a field of these values occurs so often; a span is that of its value in a text
 abbrev pub Occurs : List ℕ → List (List ℕ) → Occurrence → Type 0
 Occurs text values Never = values ≡ []
-Occurs text values (Once place) = IsWithin (length text) place × (values ≡ (field_at text place).value ∷ [])
+Occurs text values (Once span) = IsWithin (length text) span × (values ≡ (field_at text span).value ∷ [])
 Occurs text values Repeated = 1 < length values
 
 -- the values that one field adds to those of the wanted name

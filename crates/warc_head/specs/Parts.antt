@@ -42,9 +42,9 @@ parts_in fields = do
   Ok (record { kind = kind; stamp = stamp; length = length; fields = fields })
 
 -- the lines between the version line, of ten bytes, and the empty line; a shorter text has none
-abbrev pub body_of : List ℕ → List ℕ
-body_of raw = take (length raw - 2 - 10) (drop 10 raw)
+abbrev pub field_lines_in : List ℕ → List ℕ
+field_lines_in raw = take (length raw - 2 - 10) (drop 10 raw)
 
 -- what the text of a head says: its fields, and what they say
 unfoldable pub parts_of : List ℕ → Result HeadParts HeadFault
-parts_of raw = fields_of (body_of raw) >>= parts_in
+parts_of raw = fields_of (field_lines_in raw) >>= parts_in

@@ -2,7 +2,7 @@
 use Rattle.std.specs.Prelude.{◌≡◌, ℕ, true, List, ◌∷◌, ◌++◌, length, All}
 use Rattle.std.specs.List.{list_all, flat_map}
 use Rattle.warc_head.specs.Bytes.{space, colon}
-use Rattle.warc_head.specs.Lines.{line_end, is_plain, trim}
+use Rattle.warc_head.specs.Lines.{line_end, is_content, trim}
 use Rattle.warc_head.specs.Names.{is_name}
 use Rattle.warc_head.specs.Fields.{Field}
 use Rattle.warc_head.specs.Parts.{parts_of, parts_in}
@@ -10,7 +10,7 @@ use Rattle.warc_head.specs.Parts.{parts_of, parts_in}
 -- a field that needs no folding: its value has no CR or LF, and no white space at its ends
 pub record IsOneLine (f : Field) : Type 0 where
   pub name : is_name f.name ≡ true
-  pub plain : list_all is_plain f.value ≡ true
+  pub plain : list_all is_content f.value ≡ true
   pub trimmed : trim f.value ≡ f.value
 
 -- name, colon, space, value

@@ -3,39 +3,39 @@ ghost use Rattle.std.specs.Prelude.{◌≡◌, ◌⊎◌, ◌≤◌, ◌++◌, L
 ghost use Rattle.warc_head.specs.declared.fault.HeadFault.TheVariants.{FieldLine, Memory};
 ghost use Rattle.warc_head.specs.Fields.{Field, longer};
 ghost use Rattle.warc_head.specs.Lines.{trim};
-ghost use Rattle.warc_head.specs.Places.{Continues, IsWithin, between, field_at, fields_at, joint};
+ghost use Rattle.warc_head.specs.Spans.{Continues, IsWithin, between, field_at, fields_at, joint};
 
 use crate::fault::HeadFault;
 use crate::lines::trimmed;
-use crate::places::Place;
+use crate::spans::FieldSpan;
 use std::alloc::AllocError;
 
 /// Appends the line between two offsets, without the white space at its ends, to the value of the last field. The value
 /// is moved to the end of the text first. The error is `FieldLine` if there is no field.
 pub fn continue_field(
     text: &mut Vec<u8>,
-    places: &mut Vec<Place>,
+    spans: &mut Vec<FieldSpan>,
     from: usize,
     to: usize,
 ) -> Result<(), HeadFault>
     requires order { from ≤ to }
     requires line { to ≤ length text.old.items }
-    requires places { All (IsWithin (length text.old.items)) places.old.items }
+    requires spans { All (IsWithin (length text.old.items)) spans.old.items }
     ensures text { OnOk result (Continues text.old.items text.new.items) }
-    ensures within { OnOk result (All (IsWithin (length text.new.items)) places.new.items) }
+    ensures within { OnOk result (All (IsWithin (length text.new.items)) spans.new.items) }
     ensures fields { OnOk result ((before : List Field) × (last : Field)
-        × (fields_at text.old.items places.old.items ≡ before ++ last ∷ [])
-        × (fields_at text.new.items places.new.items
+        × (fields_at text.old.items spans.old.items ≡ before ++ last ∷ [])
+        × (fields_at text.new.items spans.new.items
         ≡ before ++ longer last (trim (between from to text.old.items)) ∷ [])) }
-    ensures err { IfErr result (λ e. (e ≡ Memory) ⊎ ((e ≡ FieldLine) × (places.old.items ≡ []))) }
+    ensures err { IfErr result (λ e. (e ≡ Memory) ⊎ ((e ≡ FieldLine) × (spans.old.items ≡ []))) }
 {
-    let Some(last) = places.pop() else {
+    let Some(last) = spans.pop() else {
         return Err(HeadFault::FieldLine);
     };
     let (start, end) = trimmed(text, from, to);
     let value_start = value_at_end(text, last)?;
     join(text, value_start, start, end)?;
-    places.push(Place {
+    spans.push(FieldSpan {
         value_start,
         value_end: text.len(),
         ..last
@@ -43,20 +43,20 @@ pub fn continue_field(
     Ok(())
 }
 
-/// Copies the value at a place to the end of the text, if it doesn't stand there yet. Returns the offset at which it
+/// Copies the value at a span to the end of the text, if it doesn't stand there yet. Returns the offset at which it
 /// begins there.
-fn value_at_end(text: &mut Vec<u8>, place: Place) -> Result<usize, AllocError>
-    requires { IsWithin (length text.old.items) place }
+fn value_at_end(text: &mut Vec<u8>, span: FieldSpan) -> Result<usize, AllocError>
+    requires { IsWithin (length text.old.items) span }
     ensures text { OnOk result (Continues text.old.items text.new.items) }
     ensures within { IfOk result (λ start. start ≤ length text.new.items) }
     ensures value { IfOk result (λ start. drop start text.new.items ≡
-        (field_at text.old.items place).value) }
+        (field_at text.old.items span).value) }
 {
-    if place.value_end == text.len() {
-        return Ok(place.value_start);
+    if span.value_end == text.len() {
+        return Ok(span.value_start);
     }
     let start = text.len();
-    text.extend_from_within(place.value_start..place.value_end)?;
+    text.extend_from_within(span.value_start..span.value_end)?;
     Ok(start)
 }
 

@@ -4,15 +4,15 @@ ghost use Rattle.memchr.specs.Find.{IsFirstByte, is_byte};
 ghost use Rattle.warc_head.specs.Answers.{Answers};
 ghost use Rattle.warc_head.specs.declared.fault.HeadFault.TheVariants.{FieldLine};
 ghost use Rattle.warc_head.specs.Fields.{field_in, fields_of};
-ghost use Rattle.warc_head.specs.Parts.{body_of};
-ghost use Rattle.warc_head.specs.Places.{Continues, IsWithin, field_at, fields_at};
+ghost use Rattle.warc_head.specs.Parts.{field_lines_in};
+ghost use Rattle.warc_head.specs.Spans.{Continues, IsWithin, field_at, fields_at};
 
 use crate::continuing::continue_field;
 use crate::fault::HeadFault;
 use crate::lanes::{HALF_LANES, LANES, run_to_colon, run_to_colon_half};
 use crate::lines::{continues, line_end, trimmed};
 use crate::names::is_name;
-use crate::places::Place;
+use crate::spans::FieldSpan;
 use memchr::memchr_iter;
 use std::alloc::Global;
 
@@ -25,15 +25,15 @@ const EMPTY_LINE: usize = 2;
 /// The initial capacity of a list of fields, enough for most heads.
 const USUAL_FIELDS: usize = 16;
 
-/// Returns the places of the fields on the lines between the version line and the empty line of a head's text. The value
+/// Returns the spans of the fields on the lines between the version line and the empty line of a head's text. The value
 /// of a field that takes several lines is appended to the text. The errors are `FieldLine` and `Memory`.
-pub fn read_fields(alloc: Global, text: &mut Vec<u8>) -> Result<Vec<Place>, HeadFault>
-    ensures answer { Answers (λ places. fields_at text.new.items places.items) result
-        (fields_of (body_of text.old.items)) }
+pub fn read_fields(alloc: Global, text: &mut Vec<u8>) -> Result<Vec<FieldSpan>, HeadFault>
+    ensures answer { Answers (λ spans. fields_at text.new.items spans.items) result
+        (fields_of (field_lines_in text.old.items)) }
     ensures text { OnOk result (Continues text.old.items text.new.items) }
-    ensures within { IfOk result (λ places. All (IsWithin (length text.new.items)) places.items) }
+    ensures within { IfOk result (λ spans. All (IsWithin (length text.new.items)) spans.items) }
 {
-    let mut places = Vec::with_capacity(alloc, USUAL_FIELDS)?;
+    let mut spans = Vec::with_capacity(alloc, USUAL_FIELDS)?;
     let end = text.len().saturating_sub(EMPTY_LINE);
     let mut at = VERSION_LINE;
     'lines: while at < end {
@@ -41,21 +41,21 @@ pub fn read_fields(alloc: Global, text: &mut Vec<u8>) -> Result<Vec<Place>, Head
             return Err(HeadFault::FieldLine);
         };
         if continues(&text[at..stop]) {
-            continue_field(text, &mut places, at, stop)?;
+            continue_field(text, &mut spans, at, stop)?;
         } else {
-            let Some(place) = field_in(&text[at..stop]) else {
+            let Some(span) = field_in(&text[at..stop]) else {
                 return Err(HeadFault::FieldLine);
             };
-            places.push(place.moved(at))?;
+            spans.push(span.moved(at))?;
         }
         at = stop + 2;
     }
-    Ok(places)
+    Ok(spans)
 }
 
-/// Returns the place of the field that begins on a line.
+/// Returns the span of the field that begins on a line.
 #[tactic(auto, unfolding(crate::specs::Fields::field_in))]
-fn field_in(line: &[u8]) -> Option<Place>
+fn field_in(line: &[u8]) -> Option<FieldSpan>
     ensures { MatchOption result
         (field_in line.now ≡ Err FieldLine)
         (λ p. IsWithin (length line.now) p × (field_in line.now ≡ Ok (field_at line.now p))) }
@@ -65,7 +65,7 @@ fn field_in(line: &[u8]) -> Option<Place>
         return None;
     }
     let (value_start, value_end) = trimmed(line, name_end + 1, line.len());
-    Some(Place {
+    Some(FieldSpan {
         name_start: 0,
         name_end,
         value_start,

@@ -2,7 +2,7 @@
 ghost use Rattle.std.specs.Prelude.{◌≡◌, ◌+◌, ◌<◌, ◌≤◌, ℕ, length, slice_index};
 ghost use Rattle.httparse.specs.Pieces.{IsRunIn, first_set};
 ghost use Rattle.warc_head.specs.Bytes.{lf};
-ghost use Rattle.warc_head.specs.Lines.{is_plain};
+ghost use Rattle.warc_head.specs.Lines.{is_content};
 ghost use Rattle.warc_head.specs.Fields.{is_no_colon};
 
 use std::simd::prelude::*;
@@ -13,7 +13,7 @@ pub const LANES: usize = 32;
 /// The number of bytes of a shorter step.
 pub(crate) const HALF_LANES: usize = 16;
 
-/// Returns the place of the lowest bit that is set, or the number of lanes if none is.
+/// Returns the position of the lowest bit that is set, or the number of lanes if none is.
 #[inline(always)]
 fn first_set(mask: u64, lanes: usize) -> usize
     ensures { result ≡ first_set mask lanes }
@@ -29,7 +29,7 @@ fn first_set(mask: u64, lanes: usize) -> usize
 #[inline(always)]
 pub(crate) fn run_to_break(text: &[u8], at: usize) -> usize
     requires { at + LANES ≤ length text.now }
-    ensures { IsRunIn is_plain text.now at LANES result }
+    ensures { IsRunIn is_content text.now at LANES result }
 {
     let bytes = u8x32::from_slice(&text[at..]);
     let breaks = bytes.simd_eq(u8x32::splat(b'\r')) | bytes.simd_eq(u8x32::splat(b'\n'));
@@ -40,7 +40,7 @@ pub(crate) fn run_to_break(text: &[u8], at: usize) -> usize
 #[inline(always)]
 pub(crate) fn run_to_break_half(text: &[u8], at: usize) -> usize
     requires { at + HALF_LANES ≤ length text.now }
-    ensures { IsRunIn is_plain text.now at HALF_LANES result }
+    ensures { IsRunIn is_content text.now at HALF_LANES result }
 {
     let bytes = u8x16::from_slice(&text[at..]);
     let breaks = bytes.simd_eq(u8x16::splat(b'\r')) | bytes.simd_eq(u8x16::splat(b'\n'));
@@ -67,8 +67,8 @@ pub(crate) fn run_to_colon_half(text: &[u8], at: usize) -> usize
     first_set(colons.to_bitmask(), HALF_LANES)
 }
 
-/// Returns how many of the 32 places from `at` on precede the first that has an LF one byte and three bytes after it, as
-/// the place of a CR LF CR LF has, or 32 if there is none.
+/// Returns how many of the 32 offsets from `at` on precede the first that has an LF one byte and three bytes after it, as
+/// the start of a CR LF CR LF has, or 32 if there is none.
 #[inline(always)]
 pub fn run_to_closing(text: &[u8], at: usize) -> usize
     requires { at + LANES + 3 ≤ length text.now }

@@ -18,7 +18,7 @@ mod names;
 mod occurrence;
 mod occurrences;
 mod parts;
-mod places;
+mod spans;
 
 pub use fault::HeadFault;
 pub use kind::Kind;

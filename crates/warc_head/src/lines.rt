@@ -1,8 +1,8 @@
 //! The lines of a head.
 ghost use Rattle.std.specs.Prelude.{◌≡◌, ◌≤◌, ℕ, List, MatchOption, length, drop};
 ghost use Rattle.httparse.specs.Pieces.{IsRunAt};
-ghost use Rattle.warc_head.specs.Lines.{BeginsWithLine, EndsLine, continues, is_plain, is_space, trim_front, trim_end, trim};
-ghost use Rattle.warc_head.specs.Places.{IsTrimmed};
+ghost use Rattle.warc_head.specs.Lines.{BeginsWithLine, EndsLine, continues, is_content, is_white_space, trim_front, trim_end, trim};
+ghost use Rattle.warc_head.specs.Spans.{IsTrimmed};
 
 use crate::lanes::{HALF_LANES, LANES, run_to_break, run_to_break_half};
 
@@ -25,7 +25,7 @@ pub fn line_end(text: &[u8], at: usize) -> Option<usize>
 /// Returns the offset of the first CR or LF from `from` on, or the text's length.
 fn plain_end(text: &[u8], from: usize) -> usize
     requires { from ≤ length text.now }
-    ensures { IsRunAt is_plain text.now from result }
+    ensures { IsRunAt is_content text.now from result }
 {
     let mut at = from;
     'wide: while text.len() - at >= LANES {
@@ -42,20 +42,20 @@ fn plain_end(text: &[u8], from: usize) -> usize
         }
         at += HALF_LANES;
     }
-    'bytes: while at < text.len() && is_plain(text[at]) {
+    'bytes: while at < text.len() && is_content(text[at]) {
         at += 1;
     }
     at
 }
 
-fn is_plain(byte: u8) -> bool
-    ensures { result ≡ is_plain byte }
+fn is_content(byte: u8) -> bool
+    ensures { result ≡ is_content byte }
 {
     !(byte == b'\r' || byte == b'\n')
 }
 
-fn is_space(byte: u8) -> bool
-    ensures { result ≡ is_space byte }
+fn is_white_space(byte: u8) -> bool
+    ensures { result ≡ is_white_space byte }
 {
     byte == b' ' || byte == b'\t'
 }
@@ -65,7 +65,7 @@ pub fn continues(text: &[u8]) -> bool
     ensures { result ≡ continues text.now }
 {
     match text.first() {
-        Some(first) => is_space(*first),
+        Some(first) => is_white_space(*first),
         None => false,
     }
 }
@@ -94,7 +94,7 @@ pub fn trim_front(text: &[u8]) -> &[u8]
 {
     let mut rest = text;
     while let Some((first, later)) = rest.split_first() {
-        if !is_space(*first) {
+        if !is_white_space(*first) {
             return rest;
         }
         rest = later;
@@ -108,7 +108,7 @@ pub fn trim_end(text: &[u8]) -> &[u8]
 {
     let mut rest = text;
     while let Some((last, earlier)) = rest.split_last() {
-        if !is_space(*last) {
+        if !is_white_space(*last) {
             return rest;
         }
         rest = earlier;

@@ -1,11 +1,11 @@
 //! The mandatory fields of a record.
 ghost use Rattle.std.specs.Prelude.{◌≡◌, Ok, Err, IfOk, IfErr, All, codes, length};
 ghost use Rattle.warc_head.specs.Mandatory.{each_once, required};
-ghost use Rattle.warc_head.specs.Places.{IsWithin, fields_at};
+ghost use Rattle.warc_head.specs.Spans.{IsWithin, fields_at};
 
 use crate::fault::HeadFault;
 use crate::occurrences::occurrences_in;
-use crate::places::Place;
+use crate::spans::FieldSpan;
 
 /// The values of the mandatory fields, but for the record's identifier.
 #[derive(Clone, Copy)]
@@ -21,18 +21,18 @@ pub struct Mandatory<'a> {
 /// Returns the values of the mandatory fields. Each must occur exactly once. The errors are `Missing` and, if none is
 /// missing, `Repeated`.
 #[tactic(auto, unfolding(crate::specs::Mandatory::each_once))]
-pub fn mandatory_values<'a>(text: &'a [u8], places: &[Place]) -> Result<Mandatory<'a>, HeadFault>
-    requires { All (IsWithin (length text.now)) places.now }
-    ensures once { IfOk result (λ _. each_once (fields_at text.now places.now) ≡ Ok tt) }
+pub fn mandatory_values<'a>(text: &'a [u8], spans: &[FieldSpan]) -> Result<Mandatory<'a>, HeadFault>
+    requires { All (IsWithin (length text.now)) spans.now }
+    ensures once { IfOk result (λ _. each_once (fields_at text.now spans.now) ≡ Ok tt) }
     ensures length { IfOk result (λ m. required (codes "Content-Length")
-        (fields_at text.now places.now) ≡ Ok m.length.now) }
-    ensures date { IfOk result (λ m. required (codes "WARC-Date") (fields_at text.now places.now)
+        (fields_at text.now spans.now) ≡ Ok m.length.now) }
+    ensures date { IfOk result (λ m. required (codes "WARC-Date") (fields_at text.now spans.now)
         ≡ Ok m.date.now) }
-    ensures kind { IfOk result (λ m. required (codes "WARC-Type") (fields_at text.now places.now)
+    ensures kind { IfOk result (λ m. required (codes "WARC-Type") (fields_at text.now spans.now)
         ≡ Ok m.kind.now) }
-    ensures err { IfErr result (λ e. each_once (fields_at text.now places.now) ≡ Err e) }
+    ensures err { IfErr result (λ e. each_once (fields_at text.now spans.now) ≡ Err e) }
 {
-    let found = occurrences_in(text, places);
+    let found = occurrences_in(text, spans);
     if !found.none_missing() {
         return Err(HeadFault::Missing);
     }

@@ -1,14 +1,14 @@
 //! How often a field occurs in a head.
 use crate::names::same_name;
-use crate::places::Place;
+use crate::spans::FieldSpan;
 
-/// How often a field of a name occurs in a head, with its place where it occurs once.
+/// How often a field of a name occurs in a head, with its span where it occurs once.
 #[derive(Clone, Copy)]
 pub enum Occurrence {
     /// It doesn't occur.
     Never,
-    /// It occurs once, at this place.
-    Once(Place),
+    /// It occurs once, at this span.
+    Once(FieldSpan),
     /// It occurs more than once.
     Repeated,
 }
@@ -16,27 +16,27 @@ pub enum Occurrence {
 impl Occurrence {
     ghost use Rattle.std.specs.Prelude.{◌≡◌, ◌<◌, ◌++◌, ℕ, List, [], ◌∷◌, length, nat_lt, not};
     ghost use Rattle.warc_head.specs.Mandatory.{Occurs, values_in};
-    ghost use Rattle.warc_head.specs.Places.{IsWithin, field_at};
+    ghost use Rattle.warc_head.specs.Spans.{IsWithin, field_at};
 
-    /// Counts the field at this place, if it has the wanted name.
+    /// Counts the field at this span, if it has the wanted name.
     #[inline(always)]
-    pub fn count(&mut self, text: &[u8], wanted: &[u8], place: Place)
-        requires { IsWithin (length text.now) place }
+    pub fn count(&mut self, text: &[u8], wanted: &[u8], span: FieldSpan)
+        requires { IsWithin (length text.now) span }
         ensures { (values : List (List ℕ)) → Occurs text.now values self.old
-            → Occurs text.now (values ++ values_in wanted.now (field_at text.now place)) self.new }
+            → Occurs text.now (values ++ values_in wanted.now (field_at text.now span)) self.new }
     {
-        if same_name(place.name(text), wanted) {
-            *self = self.with_place(place);
+        if same_name(span.name(text), wanted) {
+            *self = self.with_span(span);
         }
     }
 
-    fn with_place(self, place: Place) -> Occurrence
-        ensures { (text : List ℕ) (values : List (List ℕ)) → IsWithin (length text) place
+    fn with_span(self, span: FieldSpan) -> Occurrence
+        ensures { (text : List ℕ) (values : List (List ℕ)) → IsWithin (length text) span
             → Occurs text values self
-            → Occurs text (values ++ (field_at text place).value ∷ []) result }
+            → Occurs text (values ++ (field_at text span).value ∷ []) result }
     {
         match self {
-            Occurrence::Never => Occurrence::Once(place),
+            Occurrence::Never => Occurrence::Once(span),
             _ => Occurrence::Repeated,
         }
     }
@@ -64,7 +64,7 @@ impl Occurrence {
             → length values < 2 → values ≡ result.now ∷ [] }
     {
         match self {
-            Occurrence::Once(place) => place.value(text),
+            Occurrence::Once(span) => span.value(text),
             _ => b"",
         }
     }

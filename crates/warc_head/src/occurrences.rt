@@ -1,10 +1,10 @@
 //! How often the mandatory fields occur in a head.
 ghost use Rattle.std.specs.Prelude.{length, All};
 ghost use Rattle.warc_head.specs.Mandatory.{AllOccur};
-ghost use Rattle.warc_head.specs.Places.{IsWithin, fields_at};
+ghost use Rattle.warc_head.specs.Spans.{IsWithin, fields_at};
 
 use crate::occurrence::Occurrence;
-use crate::places::Place;
+use crate::spans::FieldSpan;
 
 /// How often each mandatory field occurs.
 #[derive(Clone, Copy)]
@@ -23,7 +23,7 @@ impl Occurrences {
     ghost use Rattle.std.specs.Prelude.{◌≡◌, ℕ, List, [], ◌∷◌, ◌++◌, length};
     ghost use Rattle.warc_head.specs.Fields.{Field};
     ghost use Rattle.warc_head.specs.Mandatory.{AllOccur, mandatory, none_missing, none_repeated};
-    ghost use Rattle.warc_head.specs.Places.{IsWithin, field_at};
+    ghost use Rattle.warc_head.specs.Spans.{IsWithin, field_at};
 
     fn none() -> Occurrences
         ensures { (text : List ℕ) → AllOccur text [] result }
@@ -36,19 +36,19 @@ impl Occurrences {
         }
     }
 
-    /// Counts the field at this place. Only names of the length of its own are compared with it.
-    fn count(&mut self, text: &[u8], place: Place)
-        requires { IsWithin (length text.now) place }
+    /// Counts the field at this span. Only names of the length of its own are compared with it.
+    fn count(&mut self, text: &[u8], span: FieldSpan)
+        requires { IsWithin (length text.now) span }
         ensures { (fields : List Field) → AllOccur text.now fields self.old
-            → AllOccur text.now (fields ++ field_at text.now place ∷ []) self.new }
+            → AllOccur text.now (fields ++ field_at text.now span ∷ []) self.new }
     {
-        let size = place.name(text).len();
+        let size = span.name(text).len();
         if size == 9 {
-            self.date.count(text, b"WARC-Date", place);
-            self.kind.count(text, b"WARC-Type", place);
+            self.date.count(text, b"WARC-Date", span);
+            self.kind.count(text, b"WARC-Type", span);
         } else if size == 14 {
-            self.record_id.count(text, b"WARC-Record-ID", place);
-            self.length.count(text, b"Content-Length", place);
+            self.record_id.count(text, b"WARC-Record-ID", span);
+            self.length.count(text, b"Content-Length", span);
         }
     }
 
@@ -72,14 +72,14 @@ impl Occurrences {
     }
 }
 
-/// Returns how often each mandatory field occurs among the fields at these places.
-pub fn occurrences_in(text: &[u8], places: &[Place]) -> Occurrences
-    requires { All (IsWithin (length text.now)) places.now }
-    ensures { AllOccur text.now (fields_at text.now places.now) result }
+/// Returns how often each mandatory field occurs among the fields at these spans.
+pub fn occurrences_in(text: &[u8], spans: &[FieldSpan]) -> Occurrences
+    requires { All (IsWithin (length text.now)) spans.now }
+    ensures { AllOccur text.now (fields_at text.now spans.now) result }
 {
     let mut found = Occurrences::none();
-    for place in places {
-        found.count(text, *place);
+    for span in spans {
+        found.count(text, *span);
     }
     found
 }

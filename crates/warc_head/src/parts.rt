@@ -3,7 +3,7 @@ ghost use Rattle.std.specs.Prelude.{◌≡◌, ◌≤◌, ◌^◌, ◌-◌, true
 ghost use Rattle.warc_head.specs.Answers.{Answers};
 ghost use Rattle.warc_head.specs.Length.{all_digits};
 ghost use Rattle.warc_head.specs.Parts.{parts_in, parts_of};
-ghost use Rattle.warc_head.specs.Places.{IsWithin, fields_at};
+ghost use Rattle.warc_head.specs.Spans.{IsWithin, fields_at};
 ghost use Rattle.warc_head.specs.Said.{said_of};
 
 use crate::date::stamp_of;
@@ -12,7 +12,7 @@ use crate::field_lines::read_fields;
 use crate::kind::{Kind, kind_of};
 use crate::length::length_of;
 use crate::mandatory::mandatory_values;
-use crate::places::{Place, value_of};
+use crate::spans::{FieldSpan, value_of};
 use std::alloc::Global;
 use std::marker::Model;
 
@@ -23,7 +23,7 @@ pub struct Parts {
     text: Vec<u8>,
     /// The length of the head's text in bytes.
     size: usize,
-    places: Vec<Place>,
+    spans: Vec<FieldSpan>,
     said: Said,
 }
 
@@ -40,17 +40,17 @@ impl Model for Parts {
     ghost use Rattle.warc_head.specs.Length.{all_digits};
     ghost use Rattle.warc_head.specs.Parts.{HeadRead};
     ghost use Rattle.warc_head.specs.Said.{said_of};
-    ghost use Rattle.warc_head.specs.Places.{IsWithin, fields_at};
+    ghost use Rattle.warc_head.specs.Spans.{IsWithin, fields_at};
 
     ghost Value = { HeadRead };
 
     ghost view = { λ p. record {
       raw = take p.size p.text.items;
-      parts = said_of p.said (fields_at p.text.items p.places.items);
+      parts = said_of p.said (fields_at p.text.items p.spans.items);
     } };
 
     ghost invariant = { λ p. (all_digits p.said.stamp ≡ true)
-        × (p.size ≤ length p.text.items) × All (IsWithin (length p.text.items)) p.places.items };
+        × (p.size ≤ length p.text.items) × All (IsWithin (length p.text.items)) p.spans.items };
 }
 
 impl Parts {
@@ -93,7 +93,7 @@ impl Parts {
             (value_of name.now self.now.parts.fields ≡ None)
             (λ v. value_of name.now self.now.parts.fields ≡ Some v.now) }
     {
-        value_of(&self.text, &self.places, name)
+        value_of(&self.text, &self.spans, name)
     }
 }
 
@@ -110,26 +110,26 @@ pub fn read_parts(alloc: Global, raw: Vec<u8>) -> Result<Parts, HeadFault>
 {
     let size = raw.len();
     let mut text = raw;
-    let places = read_fields(alloc, &mut text)?;
-    let said = said_in(&text, &places)?;
+    let spans = read_fields(alloc, &mut text)?;
+    let said = said_in(&text, &spans)?;
     Ok(Parts {
         text,
         size,
-        places,
+        spans,
         said,
     })
 }
 
-/// Returns what the mandatory fields among the fields at these places say.
+/// Returns what the mandatory fields among the fields at these spans say.
 #[tactic(auto, unfolding(crate::specs::Parts::parts_in))]
-fn said_in(text: &[u8], places: &[Place]) -> Result<Said, HeadFault>
-    requires { All (IsWithin (length text.now)) places.now }
-    ensures answer { Answers (λ s. said_of s (fields_at text.now places.now)) result
-        (parts_in (fields_at text.now places.now)) }
+fn said_in(text: &[u8], spans: &[FieldSpan]) -> Result<Said, HeadFault>
+    requires { All (IsWithin (length text.now)) spans.now }
+    ensures answer { Answers (λ s. said_of s (fields_at text.now spans.now)) result
+        (parts_in (fields_at text.now spans.now)) }
     ensures bound { IfOk result (λ s. s.length ≤ 2 ^ 63 - 1) }
     ensures digits { IfOk result (λ s. all_digits s.stamp ≡ true) }
 {
-    let found = mandatory_values(text, places)?;
+    let found = mandatory_values(text, spans)?;
     let length = length_of(found.length)?;
     let stamp = stamp_of(found.date)?;
     let kind = kind_of(found.kind);

@@ -1,8 +1,8 @@
 use Rattle.std.proofs.Common.{◌≡◌, ◌∙◌, ◌++◌, ap, subst, refl, arith, length, drop}
 use Rattle.std.specs.Prelude.{All}
 use Rattle.warc_head.specs.Lines.{trim}
-use Rattle.warc_head.specs.Places.{IsWithin, IsTrimmed, between, field_at, fields_at, joint}
-use Rattle.warc_head.proofs.PlaceLemmas.{piece_added, old_fields, between_more}
+use Rattle.warc_head.specs.Spans.{IsWithin, IsTrimmed, between, field_at, fields_at, joint}
+use Rattle.warc_head.proofs.SpanLemmas.{piece_added, old_fields, between_more}
 use Rattle.warc_head.proofs.continuing.continue_field.Goals as goal
 
 pub returns-clause-fields : goal.returns-clause-fields
@@ -15,14 +15,14 @@ returns-clause-fields c =
     let value = c.in_ok-value_start.value_start in
     let start = c.trimmed-start.result.0 in
     let end = c.trimmed-start.result.1 in
-    let place : IsTrimmed text c.args.from c.args.to start end = subst
+    let span : IsTrimmed text c.args.from c.args.to start end = subst
     (λ t. IsTrimmed t c.args.from c.args.to start end) c.deref.ensures.value c.trimmed-start.ensures in
     let piece : between start end there ≡ trim (between c.args.from c.args.to text) =
     ap (between start end) longer.1
-    ∙ (between_more text longer.0 start end place.order (omega (arith, place.high, c.requires.line))
-    ∙ place.value) in
+    ∙ (between_more text longer.0 start end span.order (omega (arith, span.high, c.requires.line))
+    ∙ span.value) in
     let new = c.in_ok-join.ensures ∙ ap (λ p. there ++ joint (drop value there) p) piece in
-    let old = subst (All (IsWithin (length text))) c.in-Some.ensures.items c.requires.places in (
+    let old = subst (All (IsWithin (length text))) c.in-Some.ensures.items c.requires.spans in (
       fields_at text before,
       field_at text last,
       ap (fields_at text) c.in-Some.ensures.items ∙ old_fields text before last,

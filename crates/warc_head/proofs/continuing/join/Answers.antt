@@ -1,7 +1,7 @@
 use Rattle.std.proofs.Common.{◌≡◌, ◌∙◌, ◌++◌, drop, sym, ap, append_assoc}
 use Rattle.std.proofs.lemmas.List.{take_rest}
-use Rattle.warc_head.specs.Places.{between, joint}
-use Rattle.warc_head.proofs.PlaceLemmas.{between_more}
+use Rattle.warc_head.specs.Spans.{between, joint}
+use Rattle.warc_head.proofs.SpanLemmas.{between_more}
 use Rattle.warc_head.proofs.continuing.join.Goals as goal
 
 pub returns : goal.returns

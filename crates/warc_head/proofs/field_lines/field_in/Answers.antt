@@ -28,14 +28,14 @@ returns c =
     let f = c.in_ok-name_end.ensures in
     let below : at < length line = f.0.high in
     let good : is_name (take at line) ≡ true = sym c.is_name.ensures ∙ c.if-not-is_name.false in
-    let place = c.trimmed-value_start.ensures in
-    let value = place.value ∙ ap trim (take_rest line (at + 1)) in
+    let span = c.trimmed-value_start.ensures in
+    let value = span.value ∙ ap trim (take_rest line (at + 1)) in
     let whole : at ≡ at - 0 = omega arith in (
       record {
         name = omega arith;
-        order = omega (arith, place.low, place.order);
-        value = place.order;
-        end = place.high;
+        order = omega (arith, span.low, span.order);
+        value = span.order;
+        end = span.high;
       },
       ap named (colon_at line at below f.1 (λ k l. f.0.before k (omega arith) l))
           ∙ rw good (λ i. Ok (record { name = take (whole i) line; value = sym value i })),

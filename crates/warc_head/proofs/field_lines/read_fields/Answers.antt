@@ -7,11 +7,11 @@ use Rattle.std.proofs.lemmas.List.Elements.{All-nil}
 use Rattle.warc_head.specs.declared.fault.HeadFault.TheVariants as faults
 use Rattle.warc_head.specs.Fields.{Field, field_in, fields_of, longer}
 use Rattle.warc_head.specs.Lines.{BeginsWithLine, EndsLine, continues, trim}
-use Rattle.warc_head.specs.Parts.{body_of}
-use Rattle.warc_head.specs.Places.{IsWithin, between, field_at, fields_at, moved}
+use Rattle.warc_head.specs.Parts.{field_lines_in}
+use Rattle.warc_head.specs.Spans.{IsWithin, between, field_at, fields_at, moved}
 use Rattle.warc_head.proofs.FieldLemmas.{going, going-start, going-end, going-fault, going-first, going-unnamed}
 use Rattle.warc_head.proofs.FieldLemmas.{going-began, going-continued, IsFound-either, body_is}
-use Rattle.warc_head.proofs.PlaceLemmas.{field_added, place_added, Continues-trans}
+use Rattle.warc_head.proofs.SpanLemmas.{field_added, span_added, Continues-trans}
 use Rattle.warc_head.proofs.ReadLemmas.{size, lines_held, filled, ended, line_is, line_held, inside_text}
 use Rattle.warc_head.proofs.field_lines.read_fields.Goals as goal
 use Rattle.warc_head.proofs.field_lines.read_fields.Goals.{In-Some, then-continues+in_ok-continue_field}
@@ -20,11 +20,11 @@ use Rattle.warc_head.proofs.field_lines.read_fields.Goals.{else-continues+in-Som
 pub lines-init : goal.lines-init
 lines-init c =
     let raw = c.args.text.now.items in
-    let none = c.in_ok-places.ensures.items in
+    let none = c.in_ok-spans.ensures.items in
     let end : c.saturating_sub-end.result
     ≡ length raw - 2 = omega (arith, c.saturating_sub-end.ensures, c.len.ensures) in
     record {
-      fields = going-start (body_of raw)
+      fields = going-start (field_lines_in raw)
           ∙ (λ i. going (fields_at raw (sym none i)) ((body_is raw ∙ ap (λ n. drop 10 (take n raw)) (sym end)) i));
       text = ([], sym (append-nil raw));
       within = rw none (All-nil (IsWithin (length raw)));
@@ -39,7 +39,7 @@ returns-in_default-clause-answer c =
     let at = c.lines.at in
     let kept = c.lines.invariant in
     let front = ap (take end) c.deref.ensures.value ∙ lines_held raw text kept.text end at kept.end in
-    kept.fields ∙ going-fault (fields_at text c.lines.places.items) (drop at (take end raw))
+    kept.fields ∙ going-fault (fields_at text c.lines.spans.items) (drop at (take end raw))
     (filled raw text kept.text end at kept.end c.lines-test.true)
     (λ line later b. c.in_default.ensures line later (subst (λ t. BeginsWithLine (drop at t) line later) (sym front) b))
 
@@ -61,7 +61,7 @@ module _ (c : In-Some) where
   stop = c.in-Some.stop
 
   abbrev seen : List Field
-  seen = fields_at text c.lines.places.items
+  seen = fields_at text c.lines.spans.items
 
   ends : EndsLine (take end text) at stop
   ends = subst (λ t. EndsLine (take end t) at stop) c.deref.ensures.value c.in-Some.ensures
@@ -80,11 +80,11 @@ returns-in_err-continue_field-clause-answer c =
     let goes_on : continues (between (at d) (stop d) (take (end d) (raw d))) ≡ true =
     ap continues (sym (ap (between (at d) (stop d)) c.deref-in-lines.ensures.value ∙ same d))
     ∙ sym c.if-continues.ensures in
-    rw (p.1, p.2) (IsFound-either c.in_err-continue_field.field-0.0 (fields_of (body_of (raw d)))
+    rw (p.1, p.2) (IsFound-either c.in_err-continue_field.field-0.0 (fields_of (field_lines_in (raw d)))
     (elim c.in_err-continue_field.ensures.err [
       | inl memory ↦ inl memory
       | inr first ↦ inr (c.lines.invariant.fields
-          ∙ (ap (λ places. going (fields_at (text d) places) (drop (at d) (take (end d) (raw d)))) first.1
+          ∙ (ap (λ spans. going (fields_at (text d) spans) (drop (at d) (take (end d) (raw d)))) first.1
           ∙ (going-first _ _ _ (line d).line goes_on ∙ ap Err (sym first.0))))
     ]))
 
@@ -111,7 +111,7 @@ lines-preserved c =
       | then-continues+in_ok-continue_field w ↦ (
           let e = w.in_ok-continue_field.ensures.fields in
           let goes_on : continues this ≡ true = first ∙ sym w.if-continues.ensures in
-          rw (w.text-is, w.places-is) (record {
+          rw (w.text-is, w.spans-is) (record {
             fields = kept.fields ∙ (ap (λ fields. going fields rest) e.2
                 ∙ (going-continued rest this later (line d).line e.0 e.1 goes_on
                 ∙ ap (λ fields. going fields later) (ap (λ piece. e.0 ++ longer e.1 piece ∷ []) (ap trim (sym (same d)))
@@ -123,14 +123,14 @@ lines-preserved c =
           }))
       | else-continues+in-Some-field_in+in_ok-push w ↦ (
           let begins : continues this ≡ false = first ∙ sym w.if-continues.ensures in
-          let place = w.in-Some-field_in.place in
+          let span = w.in-Some-field_in.span in
           let spelled : between (at d) (stop d) w.deref-else-continues.result.now
           ≡ between (at d) (stop d) (text d) = ap (between (at d) (stop d)) w.deref-else-continues.ensures.value in
-          let inside : IsWithin (length (between (at d) (stop d) (text d))) place = subst
-          (λ t. IsWithin (length t) place) spelled w.in-Some-field_in.ensures.0 in
+          let inside : IsWithin (length (between (at d) (stop d) (text d))) span = subst
+          (λ t. IsWithin (length t) span) spelled w.in-Some-field_in.ensures.0 in
           let found : field_in (between (at d) (stop d) (text d))
-          ≡ Ok (field_at (between (at d) (stop d) (text d)) place) =
-          subst (λ t. field_in t ≡ Ok (field_at t place)) spelled w.in-Some-field_in.ensures.1 in
+          ≡ Ok (field_at (between (at d) (stop d) (text d)) span) =
+          subst (λ t. field_in t ≡ Ok (field_at t span)) spelled w.in-Some-field_in.ensures.1 in
           let front : length (take (at d) (text d))
           ≡ at d = length-take-le (at d) (text d)
           (omega (
@@ -140,21 +140,21 @@ lines-preserved c =
                 (ends d),
           )) in
           let held = line_held (raw d) (text d) kept.text (end d) (at d) kept.end (stop d) (ends d) in
-          let moved_is : w.moved.result ≡ moved (length (take (at d) (text d))) place = w.moved.ensures
-          ∙ ap (λ n. moved n place) (sym front) in
-          let pushed = w.in_ok-push.ensures.items ∙ ap (λ p. c.lines.places.items ++ p ∷ []) moved_is in
+          let moved_is : w.moved.result ≡ moved (length (take (at d) (text d))) span = w.moved.ensures
+          ∙ ap (λ n. moved n span) (sym front) in
+          let pushed = w.in_ok-push.ensures.items ∙ ap (λ p. c.lines.spans.items ++ p ∷ []) moved_is in
           let added = ap (fields_at (text d)) pushed
           ∙ field_added (text d) (take (at d) (text d)) (between (at d) (stop d) (text d)) (drop (stop d) (text d))
-          c.lines.places.items place held inside in
-          rw (w.text-is, w.places-is) (record {
+          c.lines.spans.items span held inside in
+          rw (w.text-is, w.spans-is) (record {
             fields = kept.fields ∙
-                (going-began rest this later (line d).line (seen d) (field_at (between (at d) (stop d) (text d)) place)
+                (going-began rest this later (line d).line (seen d) (field_at (between (at d) (stop d) (text d)) span)
                 begins (ap field_in (sym (same d)) ∙ found)
                 ∙ ap (λ fields. going fields later) (sym added));
             text = kept.text;
             within = subst (All (IsWithin (length (text d)))) (sym pushed)
-                (place_added (text d) (take (at d) (text d)) (between (at d) (stop d) (text d)) (drop (stop d) (text d))
-                c.lines.places.items place held inside kept.within);
+                (span_added (text d) (take (at d) (text d)) (between (at d) (stop d) (text d)) (drop (stop d) (text d))
+                c.lines.spans.items span held inside kept.within);
             end = kept.end;
           }))
     ]
@@ -172,5 +172,5 @@ returns-clause-answer c =
           c.lines.invariant.end,
     )) in
     c.lines.invariant.fields
-    ∙ (ap (going (fields_at c.lines.text.items c.lines.places.items)) none
-    ∙ going-end (fields_at c.lines.text.items c.lines.places.items))
+    ∙ (ap (going (fields_at c.lines.text.items c.lines.spans.items)) none
+    ∙ going-end (fields_at c.lines.text.items c.lines.spans.items))

@@ -1,17 +1,17 @@
 use Rattle.std.proofs.Common.{◌≡◌, ◌-◌, ◌≤◌, length, take, drop}
 use Rattle.std.specs.Prelude.{All}
 use Rattle.warc_head.specs.Fields.{fields_of}
-use Rattle.warc_head.specs.Parts.{body_of}
-use Rattle.warc_head.specs.Places.{Continues, IsWithin, fields_at}
+use Rattle.warc_head.specs.Parts.{field_lines_in}
+use Rattle.warc_head.specs.Spans.{Continues, IsWithin, fields_at}
 use Rattle.warc_head.proofs.FieldLemmas.{going}
 use Rattle.warc_head.proofs.field_lines.read_fields.Given as goal
 
 abbrev pub invariant-lines : goal.invariant-lines
 invariant-lines l = record {
-  fields : fields_of (body_of l.fn.text.items)
-      ≡ going (fields_at l.text.items l.places.items) (drop l.at (take l.end l.fn.text.items));
+  fields : fields_of (field_lines_in l.fn.text.items)
+      ≡ going (fields_at l.text.items l.spans.items) (drop l.at (take l.end l.fn.text.items));
   text : Continues l.fn.text.items l.text.items;
-  within : All (IsWithin (length l.text.items)) l.places.items;
+  within : All (IsWithin (length l.text.items)) l.spans.items;
   end : l.end ≤ length l.fn.text.items;
 }
 

@@ -1,22 +1,22 @@
 use Rattle.std.proofs.Common.{◌-◌, ◌≤◌, length}
 use Rattle.httparse.specs.Pieces.{AllPassBetween}
-use Rattle.warc_head.specs.Lines.{is_plain}
+use Rattle.warc_head.specs.Lines.{is_content}
 use Rattle.warc_head.proofs.lines.plain_end.Given as goal
 
 abbrev pub invariant-wide : goal.invariant-wide
-invariant-wide l = (l.from ≤ l.at) × (l.at ≤ length l.text) × AllPassBetween is_plain l.text l.from l.at
+invariant-wide l = (l.from ≤ l.at) × (l.at ≤ length l.text) × AllPassBetween is_content l.text l.from l.at
 
 abbrev pub decreases-wide : goal.decreases-wide
 decreases-wide l = length l.text - l.at
 
 abbrev pub invariant-narrow : goal.invariant-narrow
-invariant-narrow l = (l.from ≤ l.at) × (l.at ≤ length l.text) × AllPassBetween is_plain l.text l.from l.at
+invariant-narrow l = (l.from ≤ l.at) × (l.at ≤ length l.text) × AllPassBetween is_content l.text l.from l.at
 
 abbrev pub decreases-narrow : goal.decreases-narrow
 decreases-narrow l = length l.text - l.at
 
 abbrev pub invariant-bytes : goal.invariant-bytes
-invariant-bytes l = (l.from ≤ l.at) × (l.at ≤ length l.text) × AllPassBetween is_plain l.text l.from l.at
+invariant-bytes l = (l.from ≤ l.at) × (l.at ≤ length l.text) × AllPassBetween is_content l.text l.from l.at
 
 abbrev pub decreases-bytes : goal.decreases-bytes
 decreases-bytes l = length l.text - l.at

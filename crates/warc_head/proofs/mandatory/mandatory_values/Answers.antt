@@ -1,14 +1,14 @@
 use Rattle.std.proofs.Common.{◌≡◌, ◌∙◌, List, true, false, codes, refl, sym}
 use Rattle.warc_head.specs.Fields.{Field, values_of}
 use Rattle.warc_head.specs.Mandatory.{each_once, none_missing, none_repeated, mandatory}
-use Rattle.warc_head.specs.Places.{fields_at}
+use Rattle.warc_head.specs.Spans.{fields_at}
 use Rattle.warc_head.proofs.MandatoryLemmas.{required_is, length_once, date_once, kind_once}
 use Rattle.warc_head.proofs.mandatory.mandatory_values.Goals as goal
 
 pub returns-then-not-none_missing-clause-err : goal.returns-then-not-none_missing-clause-err
 unfolding each_once
 returns-then-not-none_missing-clause-err c =
-    let fields = fields_at c.args.text.now c.args.places.now in
+    let fields = fields_at c.args.text.now c.args.spans.now in
     let missing : none_missing mandatory fields
     ≡ false = sym (c.none_missing.ensures c.args.text.now fields c.occurrences_in-found.ensures)
     ∙ c.if-not-none_missing.true in
@@ -18,7 +18,7 @@ pub returns-then-not-none_repeated-clause-err : goal.returns-then-not-none_repea
 unfolding each_once
 returns-then-not-none_repeated-clause-err c =
     let text = c.args.text.now in
-    let fields = fields_at text c.args.places.now in
+    let fields = fields_at text c.args.spans.now in
     let all = c.occurrences_in-found.ensures in
     let some : none_missing mandatory fields ≡ true = sym (c.none_missing.ensures text fields all)
     ∙ c.if-not-none_missing.false in
@@ -29,7 +29,7 @@ returns-then-not-none_repeated-clause-err c =
 -- at the end, none is missing and none is repeated
 module _ (c : goal.After-value-3) where
   abbrev fields : List Field
-  fields = fields_at c.args.text.now c.args.places.now
+  fields = fields_at c.args.text.now c.args.spans.now
 
   some : none_missing mandatory fields ≡ true
   some = sym (c.none_missing.ensures c.args.text.now fields c.occurrences_in-found.ensures)

@@ -1,7 +1,7 @@
 use Rattle.std.proofs.Common.{take}
 use Rattle.warc_head.specs.Mandatory.{AllOccur}
-use Rattle.warc_head.specs.Places.{fields_at}
+use Rattle.warc_head.specs.Spans.{fields_at}
 use Rattle.warc_head.proofs.occurrences.occurrences_in.Given as goal
 
-abbrev pub invariant-loop-place : goal.invariant-loop-place
-invariant-loop-place l = AllOccur l.text (fields_at l.text (take l.place-index l.places)) l.found
+abbrev pub invariant-loop-span : goal.invariant-loop-span
+invariant-loop-span l = AllOccur l.text (fields_at l.text (take l.span-index l.spans)) l.found

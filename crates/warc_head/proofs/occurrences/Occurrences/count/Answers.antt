@@ -2,7 +2,7 @@ use Rattle.std.proofs.Common.{◌≡◌, ◌∙◌, ◌++◌, ◌∷◌, [], Lis
 use Rattle.warc_head.specs.declared.occurrence.Occurrence.{Occurrence}
 use Rattle.warc_head.specs.Fields.{Field, values_of}
 use Rattle.warc_head.specs.Mandatory.{Occurs, values_in}
-use Rattle.warc_head.specs.Places.{field_at}
+use Rattle.warc_head.specs.Spans.{field_at}
 use Rattle.warc_head.proofs.MandatoryLemmas.{values_more, values_same}
 use Rattle.warc_head.proofs.occurrences.Occurrences.count.Goals as goal
 
@@ -23,7 +23,7 @@ kept text wanted last fields o other h = subst (λ (values : List (List ℕ)). O
 pub returns-then-size-eq9 : goal.returns-then-size-eq9
 returns-then-size-eq9 c =
     let text = c.args.text.now in
-    let last = field_at text c.args.place in
+    let last = field_at text c.args.span in
     let size : length last.name ≡ 9 = sym (ap length c.name-size.ensures) ∙ c.if-size-eq9.true in
     λ fields all. record {
       record_id = kept text (codes "WARC-Record-ID") last fields _ (λ e. omega (arith, e, size)) all.record_id;
@@ -37,7 +37,7 @@ returns-then-size-eq9 c =
 pub returns-then-size-eq14 : goal.returns-then-size-eq14
 returns-then-size-eq14 c =
     let text = c.args.text.now in
-    let last = field_at text c.args.place in
+    let last = field_at text c.args.span in
     let size : length last.name ≡ 14 = sym (ap length c.name-size.ensures) ∙ c.if-size-eq14.true in
     λ fields all. record {
       record_id = counted text (codes "WARC-Record-ID") last fields _
@@ -51,7 +51,7 @@ returns-then-size-eq14 c =
 pub returns-else-size-eq14 : goal.returns-else-size-eq14
 returns-else-size-eq14 c =
     let text = c.args.text.now in
-    let last = field_at text c.args.place in
+    let last = field_at text c.args.span in
     let size = ap length c.name-size.ensures in
     λ fields all. record {
       record_id = kept text (codes "WARC-Record-ID") last fields _ (λ e. c.if-size-eq14.false (size ∙ e)) all.record_id;

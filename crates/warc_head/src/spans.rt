@@ -1,34 +1,34 @@
-//! Fields at places in one text.
+//! Where fields stand in a text.
 ghost use Rattle.std.specs.Prelude.{◌≡◌, length, All, MatchOption, None, Some};
 ghost use Rattle.warc_head.specs.Fields.{value_of};
-ghost use Rattle.warc_head.specs.Places.{IsWithin, fields_at};
+ghost use Rattle.warc_head.specs.Spans.{IsWithin, fields_at};
 
 use crate::names::same_name;
 
-/// The place of a field in a text, in bytes from the text's start.
+/// Where a field stands in a text, as offsets in bytes from the text's start.
 #[derive(Clone, Copy, Debug)]
-pub struct Place {
-    /// The place of the name's first byte.
+pub struct FieldSpan {
+    /// The start of the name.
     pub name_start: usize,
-    /// The place after the name.
+    /// The end of the name.
     pub name_end: usize,
-    /// The place of the value's first byte.
+    /// The start of the value.
     pub value_start: usize,
-    /// The place after the value.
+    /// The end of the value.
     pub value_end: usize,
 }
 
-impl Place {
+impl FieldSpan {
     ghost use Rattle.std.specs.Prelude.{◌≡◌, ◌+◌, ◌<◌, ◌^◌, length};
-    ghost use Rattle.warc_head.specs.Places.{IsWithin, field_at, moved};
+    ghost use Rattle.warc_head.specs.Spans.{IsWithin, field_at, moved};
 
-    /// Returns the place in a text that begins `offset` bytes earlier.
-    pub fn moved(self, offset: usize) -> Place
+    /// Returns the span in a text that begins `offset` bytes earlier.
+    pub fn moved(self, offset: usize) -> FieldSpan
         requires ordered { IsWithin self.value_end self }
         requires fits { offset + self.value_end < 2 ^ 64 }
         ensures { result ≡ moved offset self }
     {
-        Place {
+        FieldSpan {
             name_start: offset + self.name_start,
             name_end: offset + self.name_end,
             value_start: offset + self.value_start,
@@ -55,13 +55,13 @@ impl Place {
 
 /// Returns the value of the first field of this name.
 #[tactic(auto, unfolding(crate::specs::Fields::value_of))]
-pub fn value_of<'a>(text: &'a [u8], places: &[Place], name: &[u8]) -> Option<&'a [u8]>
-    requires { All (IsWithin (length text.now)) places.now }
+pub fn value_of<'a>(text: &'a [u8], spans: &[FieldSpan], name: &[u8]) -> Option<&'a [u8]>
+    requires { All (IsWithin (length text.now)) spans.now }
     ensures { MatchOption result
-        (value_of name.now (fields_at text.now places.now) ≡ None)
-        (λ v. value_of name.now (fields_at text.now places.now) ≡ Some v.now) }
+        (value_of name.now (fields_at text.now spans.now) ≡ None)
+        (λ v. value_of name.now (fields_at text.now spans.now) ≡ Some v.now) }
 {
-    let mut rest = places;
+    let mut rest = spans;
     while let Some((first, later)) = rest.split_first() {
         if same_name(first.name(text), name) {
             return Some(first.value(text));

@@ -1,7 +1,7 @@
 use Rattle.std.proofs.Common.{◌≡◌, ◌∙◌, ◌∷◌, sym, ap, length}
 use Rattle.warc_head.specs.Names.{same_name}
-use Rattle.warc_head.proofs.PlaceLemmas.{value_later, within_later}
-use Rattle.warc_head.proofs.places.value_of.Goals as goal
+use Rattle.warc_head.proofs.SpanLemmas.{value_later, within_later}
+use Rattle.warc_head.proofs.spans.value_of.Goals as goal
 
 pub loop-first-preserved : goal.loop-first-preserved
 loop-first-preserved c =

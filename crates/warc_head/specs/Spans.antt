@@ -1,12 +1,12 @@
--- Fields that are stored at places in one text.
+-- Where fields stand in a text.
 use Rattle.std.specs.Prelude.{◌≡◌, ℕ, ◌+◌, ◌-◌, ◌≤◌, List, [], ◌∷◌, ◌++◌, take, drop, map}
 use Rattle.warc_head.specs.Bytes.{space}
-use Rattle.warc_head.specs.declared.places.Place.{Place}
+use Rattle.warc_head.specs.declared.spans.FieldSpan.{FieldSpan}
 use Rattle.warc_head.specs.Fields.{Field}
 use Rattle.warc_head.specs.Lines.{trim}
 
--- a place in a text of this length
-pub record IsWithin (size : ℕ) (p : Place) : Type 0 where
+-- a span in a text of this length
+pub record IsWithin (size : ℕ) (p : FieldSpan) : Type 0 where
   pub name : p.name_start ≤ p.name_end
   pub order : p.name_end ≤ p.value_end
   pub value : p.value_start ≤ p.value_end
@@ -16,12 +16,12 @@ pub record IsWithin (size : ℕ) (p : Place) : Type 0 where
 abbrev pub between : ℕ → ℕ → List ℕ → List ℕ
 between start end text = take (end - start) (drop start text)
 
--- the field at a place
-abbrev pub field_at : List ℕ → Place → Field
+-- the field at a span
+abbrev pub field_at : List ℕ → FieldSpan → Field
 field_at text p = record { name = between p.name_start p.name_end text; value = between p.value_start p.value_end text }
 
-abbrev pub fields_at : List ℕ → List Place → List Field
-fields_at text places = map (field_at text) places
+abbrev pub fields_at : List ℕ → List FieldSpan → List Field
+fields_at text spans = map (field_at text) spans
 
 -- from one offset to another the bytes stand that are left of those between two offsets without the white space at both ends
 pub record IsTrimmed (text : List ℕ) (from to start end : ℕ) : Type 0 where
@@ -30,8 +30,8 @@ pub record IsTrimmed (text : List ℕ) (from to start end : ℕ) : Type 0 where
   pub high : end ≤ to
   pub value : between start end text ≡ trim (between from to text)
 
--- a place in a text that begins so many bytes earlier
-abbrev pub moved : ℕ → Place → Place
+-- a span in a text that begins so many bytes earlier
+abbrev pub moved : ℕ → FieldSpan → FieldSpan
 moved offset p = record {
   name_start = offset + p.name_start;
   name_end = offset + p.name_end;

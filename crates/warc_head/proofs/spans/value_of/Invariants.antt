@@ -1,12 +1,12 @@
 use Rattle.std.proofs.Common.{◌≡◌, length}
 use Rattle.std.specs.Prelude.{All}
 use Rattle.warc_head.specs.Fields.{value_of}
-use Rattle.warc_head.specs.Places.{IsWithin, fields_at}
-use Rattle.warc_head.proofs.places.value_of.Given as goal
+use Rattle.warc_head.specs.Spans.{IsWithin, fields_at}
+use Rattle.warc_head.proofs.spans.value_of.Given as goal
 
 abbrev pub invariant-loop-first : goal.invariant-loop-first
 invariant-loop-first l = record {
-  value : value_of l.name (fields_at l.text l.places) ≡ value_of l.name (fields_at l.text l.rest);
+  value : value_of l.name (fields_at l.text l.spans) ≡ value_of l.name (fields_at l.text l.rest);
   within : All (IsWithin (length l.text)) l.rest;
 }
 

@@ -1,24 +1,24 @@
--- Fields that are stored at places in one text.
+-- Fields that are stored at spans in one text.
 use Rattle.std.proofs.Common.{◌≡◌, ◌∙◌, ℕ, suc, ◌+◌, ◌-◌, ◌≤◌, List, [], ◌∷◌, ◌++◌, length, take, drop, refl, sym, ap}
 use Rattle.std.proofs.Common.{subst, arith, append-nil, append_assoc, length-append, false}
 use Rattle.std.specs.Prelude.{All}
 use Rattle.std.proofs.lemmas.List.{take-append-le, drop-append-le, map-append, length-drop, take_all}
 use Rattle.std.proofs.lemmas.List.Elements.{All-append, All-cons, All-nil}
-use Rattle.warc_head.specs.declared.places.Place.{Place}
+use Rattle.warc_head.specs.declared.spans.FieldSpan.{FieldSpan}
 use Rattle.warc_head.specs.Names.{same_name}
 use Rattle.warc_head.specs.Fields.{joined, longer, value_of}
-use Rattle.warc_head.specs.Places.{IsWithin, between, field_at, fields_at, moved, Continues, joint}
+use Rattle.warc_head.specs.Spans.{IsWithin, between, field_at, fields_at, moved, Continues, joint}
 
 joined_is : (a b : List ℕ) → joined a b ≡ a ++ joint a b
 joined_is [] b = refl
 joined_is (x ∷ a) [] = sym (append-nil (x ∷ a))
 joined_is (x ∷ a) (y ∷ b) = refl
 
-within_more : (n m : ℕ) (p : Place) → n ≤ m → IsWithin n p → IsWithin m p
+within_more : (n m : ℕ) (p : FieldSpan) → n ≤ m → IsWithin n p → IsWithin m p
 within_more n m p l h = record { name = h.name; order = h.order; value = h.value; end = omega (arith, l, h.end) }
 
-all_within : (n m : ℕ) (places : List Place) → n ≤ m → All (IsWithin n) places → All (IsWithin m) places
-all_within n m places l h = λ k d b. within_more n m _ l (h k d b)
+all_within : (n m : ℕ) (spans : List FieldSpan) → n ≤ m → All (IsWithin n) spans → All (IsWithin m) spans
+all_within n m spans l h = λ k d b. within_more n m _ l (h k d b)
 
 -- bytes that are appended change nothing before them
 pub between_more : (text more : List ℕ) (i j : ℕ) → i ≤ j → j ≤ length text → between i j (text ++ more)
@@ -27,37 +27,37 @@ between_more text more i j l m =
     ap (take (j - i)) (drop-append-le i text more (omega arith))
     ∙ take-append-le (j - i) (drop i text) more (simp length-drop (omega arith))
 
-field_more : (text more : List ℕ) (p : Place) → IsWithin (length text) p → field_at (text ++ more) p ≡ field_at text p
+field_more : (text more : List ℕ) (p : FieldSpan) → IsWithin (length text) p → field_at (text ++ more) p ≡ field_at text p
 field_more text more p h = λ i. record {
   name = between_more text more p.name_start p.name_end h.name (omega (arith, h.order, h.end)) i;
   value = between_more text more p.value_start p.value_end h.value h.end i;
 }
 
-first_of : (P : Place → Type 0) (p : Place) (places : List Place) → All P (p ∷ places) → P p
-first_of P p places h = h 0 p (omega arith)
+first_of : (P : FieldSpan → Type 0) (p : FieldSpan) (spans : List FieldSpan) → All P (p ∷ spans) → P p
+first_of P p spans h = h 0 p (omega arith)
 
-later_of : (P : Place → Type 0) (p : Place) (places : List Place) → All P (p ∷ places) → All P places
-later_of P p places h = λ k d l. h (suc k) d (omega (arith, l))
+later_of : (P : FieldSpan → Type 0) (p : FieldSpan) (spans : List FieldSpan) → All P (p ∷ spans) → All P spans
+later_of P p spans h = λ k d l. h (suc k) d (omega (arith, l))
 
-last_of : (P : Place → Type 0) (before : List Place) (p : Place) → All P (before ++ p ∷ []) → P p
+last_of : (P : FieldSpan → Type 0) (before : List FieldSpan) (p : FieldSpan) → All P (before ++ p ∷ []) → P p
 last_of P [] p h = first_of P p [] h
 last_of P (q ∷ before) p h = last_of P before p (later_of P q (before ++ p ∷ []) h)
 
-before_of : (P : Place → Type 0) (before : List Place) (p : Place) → All P (before ++ p ∷ []) → All P before
+before_of : (P : FieldSpan → Type 0) (before : List FieldSpan) (p : FieldSpan) → All P (before ++ p ∷ []) → All P before
 before_of P [] p h = All-nil P
 before_of P (q ∷ before) p h = All-cons P q before (first_of P q (before ++ p ∷ []) h)
     (before_of P before p (later_of P q (before ++ p ∷ []) h))
 
-fields_more : (text more : List ℕ) (places : List Place) → All (IsWithin (length text)) places
-    → fields_at (text ++ more) places ≡ fields_at text places
+fields_more : (text more : List ℕ) (spans : List FieldSpan) → All (IsWithin (length text)) spans
+    → fields_at (text ++ more) spans ≡ fields_at text spans
 fields_more text more [] h = refl
-fields_more text more (p ∷ places) h = λ i. field_more text more p (first_of (IsWithin (length text)) p places h) i ∷
-    fields_more text more places (later_of (IsWithin (length text)) p places h) i
+fields_more text more (p ∷ spans) h = λ i. field_more text more p (first_of (IsWithin (length text)) p spans h) i ∷
+    fields_more text more spans (later_of (IsWithin (length text)) p spans h) i
 
-one : (P : Place → Type 0) (p : Place) → P p → All P (p ∷ [])
+one : (P : FieldSpan → Type 0) (p : FieldSpan) → P p → All P (p ∷ [])
 one P p h = All-cons P p [] h (All-nil P)
 
-pub within_later : (size : ℕ) (rest later : List Place) (first : Place) → rest ≡ first ∷ later
+pub within_later : (size : ℕ) (rest later : List FieldSpan) (first : FieldSpan) → rest ≡ first ∷ later
     → All (IsWithin size) rest → All (IsWithin size) later
 within_later size rest later first e h = later_of (IsWithin size) first later (subst (All (IsWithin size)) e h)
 
@@ -74,7 +74,7 @@ between_moved front text i j =
     let e : length front + j - (length front + i) ≡ j - i = omega arith in
     λ k. take (e k) (drop_moved front text i k)
 
-field_moved : (front text : List ℕ) (p : Place) → field_at (front ++ text) (moved (length front) p) ≡ field_at text p
+field_moved : (front text : List ℕ) (p : FieldSpan) → field_at (front ++ text) (moved (length front) p) ≡ field_at text p
 field_moved front text p = λ i.
     record {
       name = between_moved front text p.name_start p.name_end i;
@@ -83,7 +83,7 @@ field_moved front text p = λ i.
     }
 
 -- a field of a line that stands in a text
-module _ (text front line back : List ℕ) (places : List Place) (p : Place) (held : text ≡ front ++ (line ++ back))
+module _ (text front line back : List ℕ) (spans : List FieldSpan) (p : FieldSpan) (held : text ≡ front ++ (line ++ back))
     (inside : IsWithin (length line) p) where
   size : length text ≡ length front + length line + length back
   size = ap length held ∙ simp length-append (omega arith)
@@ -92,14 +92,14 @@ module _ (text front line back : List ℕ) (places : List Place) (p : Place) (he
   new_field = ap (λ t. field_at t (moved (length front) p)) held
       ∙ (field_moved front (line ++ back) p ∙ field_more line back p inside)
 
-  pub field_added : fields_at text (places ++ moved (length front) p ∷ []) ≡ fields_at text places
+  pub field_added : fields_at text (spans ++ moved (length front) p ∷ []) ≡ fields_at text spans
       ++ field_at line p ∷ []
-  field_added = map-append (field_at text) places (moved (length front) p ∷ [])
-      ∙ ap (λ f. fields_at text places ++ f ∷ []) new_field
+  field_added = map-append (field_at text) spans (moved (length front) p ∷ [])
+      ∙ ap (λ f. fields_at text spans ++ f ∷ []) new_field
 
-  pub place_added : All (IsWithin (length text)) places
-      → All (IsWithin (length text)) (places ++ moved (length front) p ∷ [])
-  place_added h = All-append (IsWithin (length text)) places (moved (length front) p ∷ []) h
+  pub span_added : All (IsWithin (length text)) spans
+      → All (IsWithin (length text)) (spans ++ moved (length front) p ∷ [])
+  span_added h = All-append (IsWithin (length text)) spans (moved (length front) p ∷ []) h
       (one (IsWithin (length text)) (moved (length front) p)
       (record {
         name = omega (arith, inside.name);
@@ -109,8 +109,8 @@ module _ (text front line back : List ℕ) (places : List Place) (p : Place) (he
         end = omega (arith, inside.end, size);
       }))
 
--- the value at the last of some places, at the end of a longer text, and a piece that is appended to it
-module _ (text there text' piece more : List ℕ) (before : List Place) (last p : Place)
+-- the value at the last of some spans, at the end of a longer text, and a piece that is appended to it
+module _ (text there text' piece more : List ℕ) (before : List FieldSpan) (last p : FieldSpan)
     (old : All (IsWithin (length text)) (before ++ last ∷ [])) (copied : there ≡ text ++ more)
     (value : drop p.value_start there ≡ (field_at text last).value) (start : p.value_start ≤ length there)
     (new : text' ≡ there ++ joint (drop p.value_start there) piece)
@@ -163,16 +163,16 @@ module _ (text there text' piece more : List ℕ) (before : List Place) (last p 
           end = omega (arith, end);
         }))
 
-pub old_fields : (text : List ℕ) (before : List Place) (last : Place) → fields_at text (before ++ last ∷ [])
+pub old_fields : (text : List ℕ) (before : List FieldSpan) (last : FieldSpan) → fields_at text (before ++ last ∷ [])
     ≡ fields_at text before ++ field_at text last ∷ []
 old_fields text before last = map-append (field_at text) before (last ∷ [])
 
 pub Continues-trans : (a b c : List ℕ) → Continues a b → Continues b c → Continues a c
 Continues-trans a b c h k = (h.0 ++ k.0, k.1 ∙ (ap (λ t. t ++ k.0) h.1 ∙ append_assoc a h.0 k.0))
 
--- fields at places, of which the first was looked at
-module _ (text name : List ℕ) (rest later : List Place) (first : Place) (cut : rest ≡ first ∷ later) where
+-- fields at spans, of which the first was looked at
+module _ (text name : List ℕ) (rest later : List FieldSpan) (first : FieldSpan) (cut : rest ≡ first ∷ later) where
   pub value_later : same_name (field_at text first).name name ≡ false → value_of name (fields_at text rest)
       ≡ value_of name (fields_at text later)
   unfolding value_of
-  value_later h = ap (λ places. value_of name (fields_at text places)) cut ∙ rw h refl
+  value_later h = ap (λ spans. value_of name (fields_at text spans)) cut ∙ rw h refl
