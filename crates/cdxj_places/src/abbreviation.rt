@@ -1,6 +1,6 @@
 //! Abbreviated keys, which decide most comparisons without reading the keys.
-ghost use Rattle.std.specs.Prelude.{◌≡◌, ◌≤◌, length, take, All};
-ghost use Rattle.cdxj_places.specs.Abbreviated.{StartsWith, padded};
+ghost use Rattle.std.specs.Prelude.{◌≡◌, ◌+◌, ◌≤◌, length, take, drop, All};
+ghost use Rattle.cdxj_places.specs.Abbreviated.{AreBytes, StartsWith, padded, spelled, start_words, words};
 
 use crate::order::HasPlace;
 
@@ -12,6 +12,37 @@ pub fn abbreviated<const N: usize>(bytes: &[u8]) -> [u8; N]
     let mut abbreviation = [0; N];
     abbreviation[..length].copy_from_slice(&bytes[..length]);
     abbreviation
+}
+
+/// Returns the eight bytes from `at` on as a big-endian number.
+fn word(bytes: &[u8; 16], at: usize) -> u64
+    requires { at + 8 ≤ 16 }
+    ensures { result ≡ spelled 0 (take 8 (drop at bytes.now)) }
+{
+    u64::from_be_bytes([
+        bytes[at],
+        bytes[at + 1],
+        bytes[at + 2],
+        bytes[at + 3],
+        bytes[at + 4],
+        bytes[at + 5],
+        bytes[at + 6],
+        bytes[at + 7],
+    ])
+}
+
+fn words_of(bytes: &[u8; 16]) -> (u64, u64)
+    ensures { result ≡ words 8 bytes.now }
+{
+    (word(bytes, 0), word(bytes, 8))
+}
+
+/// Returns the first sixteen bytes as two numbers, which compare as the bytes do. Fewer bytes are followed by zeros.
+pub(crate) fn start_words(bytes: &[u8]) -> (u64, u64)
+    ensures words { result ≡ start_words 8 bytes.now }
+    ensures bytes { AreBytes bytes.now }
+{
+    words_of(&abbreviated(bytes))
 }
 
 /// Returns the length in bytes of the longest common prefix of two keys.
