@@ -9,7 +9,8 @@ use Rattle.std.proofs.lemmas.List.Elements.{All-cons, All-nil}
 use Rattle.std.proofs.lemmas.Fmt.{digits_decimal}
 use Rattle.json.specs.Print.{quoted}
 use Rattle.json.proofs.Printed.Utf8.{IsUtf8-quoted}
-use Rattle.cdxj_core.specs.Entries.{EntryValue, IsGood, member_text, object_text, members_of, body_text, line_text}
+use Rattle.cdxj_objects.specs.Objects.{member_text, object_text}
+use Rattle.cdxj_core.specs.Entries.{EntryValue, IsGood, members_of, body_text, line_text}
 use Rattle.cdxj_core.specs.Lines.{line_in, body_of, entry_values}
 use Rattle.cdxj_places.proofs.PlaceLaw.{digits_utf8}
 use Rattle.cdxj_core.proofs.EntryRead.{line_in-body_text, body_of-feed}

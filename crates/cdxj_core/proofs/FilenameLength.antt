@@ -18,11 +18,12 @@ use Rattle.serde_json.specs.Find.{get_member, get}
 use Rattle.cdxj_places.specs.Pair.{is_space, is_key, is_stamp}
 use Rattle.cdxj_places.proofs.PairLemmas.{around}
 use Rattle.cdxj_core.specs.Lines.{LineValue, has_no_feed, body_of, line_object, line_parts, line_from, line_in}
-use Rattle.cdxj_core.specs.Lines.{values_of, offset_value, filename_value}
+use Rattle.cdxj_objects.specs.MemberValues.{offset_value, filename_value}
+use Rattle.cdxj_core.specs.Lines.{values_of}
 use Rattle.cdxj_core.specs.Members.{Member, line_entry}
 use Rattle.cdxj_core.proofs.PairLaw.{if_test, and_then_some, map_some, some_read}
 use Rattle.cdxj_core.proofs.MemberLemmas.{entered}
-use Rattle.cdxj_core.proofs.StringLength.{Each, each_map, each_then, either, UpTo, AreShort, short_tokens}
+use Rattle.cdxj_objects.proofs.StringLength.{Each, each_map, each_then, either, UpTo, AreShort, short_tokens}
 
 -- ---- the value that the tokens are: a string, or the strings of an object
 

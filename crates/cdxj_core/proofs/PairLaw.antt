@@ -11,7 +11,8 @@ use Rattle.serde_json.specs.Read.{read}
 use Rattle.serde_json.proofs.OnLiterals.{serde_json_on_literals}
 use Rattle.cdxj_places.specs.Pair.{is_space, is_key, is_stamp, pair_of}
 use Rattle.cdxj_core.specs.Lines.{LineValue, has_no_feed, body_of, line_object, line_parts, line_from, line_in}
-use Rattle.cdxj_core.specs.Lines.{values_of, offset_value, filename_value}
+use Rattle.cdxj_objects.specs.MemberValues.{offset_value, filename_value}
+use Rattle.cdxj_core.specs.Lines.{values_of}
 use Rattle.cdxj_places.proofs.PlaceLaw.{both}
 use Rattle.cdxj_places.proofs.PairLemmas.{pair_of-parts, around}
 

@@ -5,13 +5,11 @@ ghost use Rattle.cdxj_core.specs.declared.limit.TheConstants.{LINE_LIMIT};
 
 use crate::body::{body_of, has_no_feed};
 use crate::fault::LineFault;
-use crate::found_members::FoundMembers;
 use crate::limit::LINE_LIMIT;
 use crate::line_parts::LineParts;
 use crate::line_ref::{LineRef, LineText};
-use crate::member_values::{filename_value, offset_value};
-use crate::spans::{OPEN, Spans};
-use crate::spelling::spelled;
+use crate::spans::Spans;
+use cdxj_objects::{FoundMembers, OPEN, spelled};
 use cdxj_places::{HasPlace, Place, cut_first, is_key, is_stamp};
 use json::Scratch;
 use std::alloc::{AllocError, Global};
@@ -107,10 +105,13 @@ impl Line {
             return Err(LineFault::BadLine);
         };
         let found = FoundMembers::of_text(object, scratch)?;
-        let Some(filename) = filename_value(found.filename) else {
+        let Some(found) = found else {
             return Err(LineFault::BadLine);
         };
-        let Some(offset) = offset_value(found.offset) else {
+        let Some(filename) = found.filename() else {
+            return Err(LineFault::BadLine);
+        };
+        let Some(offset) = found.offset() else {
             return Err(LineFault::BadLine);
         };
         let (text, ends) = spelled(alloc, body, found, offset, filename)?;

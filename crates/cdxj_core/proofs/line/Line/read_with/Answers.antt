@@ -2,14 +2,14 @@ use Rattle.std.proofs.Common.{◌≡◌, ◌+◌, ◌<◌, None, length, string_
 use Rattle.std.proofs.lemmas.Grind.{common_steps}
 use Rattle.std.proofs.lemmas.Str.{IsUtf8-string_bytes}
 use Rattle.cdxj_places.specs.Pair.{is_key, is_stamp}
+use Rattle.cdxj_objects.specs.FoundViews.{found_view}
+use Rattle.cdxj_objects.specs.Plain.{values_of_texts}
+use Rattle.cdxj_objects.specs.Spelling.{raw_texts}
 use Rattle.cdxj_core.specs.declared.limit.TheConstants.{LINE_LIMIT}
-use Rattle.cdxj_core.specs.FoundViews.{found_view}
 use Rattle.cdxj_core.specs.KeptLine.{IsKept}
 use Rattle.cdxj_core.specs.Lines.{body_of, has_no_feed, line_in, line_object, line_value}
 use Rattle.cdxj_core.specs.Members.{line_entry}
-use Rattle.cdxj_core.specs.Plain.{values_of_texts}
-use Rattle.cdxj_core.specs.Spelling.{raw_texts}
-use Rattle.cdxj_core.proofs.FoundLaw.{line_found, no_filename, no_offset}
+use Rattle.cdxj_core.proofs.FoundLines.{line_found, no_filename, no_line, no_offset}
 use Rattle.cdxj_core.proofs.KeptLemmas.{json_kept, kept_entry, kept_in}
 use Rattle.cdxj_core.proofs.MemberLemmas.{body_none, entry_none, line_of_body}
 use Rattle.cdxj_core.proofs.line.Line.read_with.Goals.{In_ok-found, In_ok-text}
