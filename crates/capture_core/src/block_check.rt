@@ -53,7 +53,8 @@ fn pass<I: Input>(reader: &mut Reader, input: &mut I, verdict: Verdict) -> Resul
 fn compare<I: Input>(reader: &mut Reader, input: &mut I, text: &[u8]) -> Result<Verdict, Fault>
     requires { HasLeft 0 reader.old.phase }
     ensures { (left len : ℕ) → reader.old.phase ≡ Open left len →
-        ReadsTo (judge_record (λ block. digest_verdict text.now (sha1 block)) left) (reader.old.offset + len) Between
+        ReadsTo (judge_record (λ block. digest_verdict text.now (sha1 block)) left)
+        (reader.old.offset + len) Between
         (state_of reader.old (I.remaining input.old) (I.failures input.old))
         (state_of reader.new (I.remaining input.new) (I.failures input.new)) result }
 {

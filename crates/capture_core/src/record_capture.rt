@@ -163,7 +163,8 @@ fn read_first<I: Input>(
     requires { first ≤ length front.old }
     ensures { (left len : ℕ) → reader.old.phase ≡ Open left len → GivesBlock left len
         (state_of reader.old (I.remaining input.old) (I.failures input.old))
-        (state_of reader.new (I.remaining input.new) (I.failures input.new)) result (take first front.new) }
+        (state_of reader.new (I.remaining input.new) (I.failures input.new))
+        result (take first front.new) }
 {
     reader.block(input, &mut front[..first])
 }
@@ -182,7 +183,8 @@ fn read_behind<I: Input>(
     ensures { (left len : ℕ) → reader.old.phase ≡ Open left len →
         FillsBehind (take filled front.old) left len
         (state_of reader.old (I.remaining input.old) (I.failures input.old))
-        (state_of reader.new (I.remaining input.new) (I.failures input.new)) result (take goal front.new) }
+        (state_of reader.new (I.remaining input.new) (I.failures input.new))
+        result (take goal front.new) }
 {
     reader.block_exact(input, &mut front[filled..goal])
 }
