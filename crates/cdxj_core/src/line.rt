@@ -155,22 +155,14 @@ impl Line {
             (λ fault. IsReading LINE_LIMIT line.now (Err fault) × (self.new ≡ self.old)) }
     {
         match LineParts::read(line) {
-            Some(parts) => self.take_on(&parts),
+            Some(parts) => {
+                self.keep(&parts)?;
+                Ok(())
+            }
             None => {
                 *self = Line::read_json(self.alloc, line)?;
                 Ok(())
             }
-        }
-    }
-
-    #[inline(always)]
-    fn take_on(&mut self, parts: &LineParts<'_>) -> Result<(), LineFault>
-        ensures { MatchResult result (λ _. self.new ≡ parts.now)
-            (λ fault. (fault ≡ LineFault.Memory) × (self.new ≡ self.old)) }
-    {
-        match self.keep(parts) {
-            Ok(()) => Ok(()),
-            Err(_) => Err(LineFault::Memory),
         }
     }
 
