@@ -7,6 +7,7 @@ pub mod Members
 pub mod KeptLine
 pub mod Indexes
 -- what contracts see of a line's object
+pub use Rattle.cdxj_objects.specs.Names
 pub use Rattle.cdxj_objects.specs.Texts
 pub use Rattle.cdxj_objects.specs.Objects
 pub use Rattle.cdxj_objects.specs.MemberValues

@@ -1,5 +1,5 @@
 -- What a line of an index says, for any limit of a line's bytes.
-use Rattle.std.specs.Prelude.{ℕ, ◌&&◌, ◌==◌, Bool, not, nat_lt, List, take, length, ◌-◌, slice_index, codes}
+use Rattle.std.specs.Prelude.{ℕ, ◌&&◌, ◌==◌, Bool, not, nat_lt, List, take, length, ◌-◌, slice_index}
 use Rattle.std.specs.Prelude.{decimal, Option, None, option_map, option_and_then, if◌then◌else◌}
 use Rattle.std.specs.List.{list_all, before_first, after_first}
 use Rattle.serde_json.specs.Data.{Data}
@@ -12,6 +12,8 @@ use Rattle.cdxj_places.specs.Bytes.{line_feed}
 use Rattle.cdxj_places.specs.Pair.{is_space, is_key, is_stamp}
 use Rattle.cdxj_places.specs.Places.{PlaceValue}
 use Rattle.cdxj_objects.specs.MemberValues.{value_text, filename_value, offset_value}
+use Rattle.cdxj_objects.specs.Names.{url_name, mime_name, status_name, digest_name, length_name, offset_name}
+use Rattle.cdxj_objects.specs.Names.{filename_name}
 use Rattle.cdxj_objects.specs.Texts.{TextsValue}
 use Rattle.cdxj_core.specs.Entries.{EntryValue}
 
@@ -74,11 +76,11 @@ entry_values e = record {
 -- the texts of an object's members
 abbrev pub texts_of : Data → List ℕ → ℕ → TextsValue
 texts_of d filename offset = record {
-  url = value_text (get (codes "url") d);
-  mime = value_text (get (codes "mime") d);
-  status = value_text (get (codes "status") d);
-  digest = value_text (get (codes "digest") d);
-  length = value_text (get (codes "length") d);
+  url = value_text (get url_name d);
+  mime = value_text (get mime_name d);
+  status = value_text (get status_name d);
+  digest = value_text (get digest_name d);
+  length = value_text (get length_name d);
   offset = decimal offset;
   filename = filename;
 }
@@ -91,7 +93,7 @@ values_of key stamp d filename offset = line_value key stamp (texts_of d filenam
 abbrev pub line_from : List ℕ → List ℕ → Data → Option LineValue
 line_from key stamp d =
     option_and_then (λ filename. option_map (values_of key stamp d filename)
-    (offset_value (get (codes "offset") d))) (filename_value (get (codes "filename") d))
+    (offset_value (get offset_name d))) (filename_value (get filename_name d))
 
 -- the line without a line feed at its end
 abbrev pub body_of : List ℕ → List ℕ

@@ -1,12 +1,12 @@
 //! Where the parts of a line stand in its text.
-use cdxj_objects::MemberEnds;
+use cdxj_objects::{MemberEnds, OPEN};
 
 /// The space before the stamp.
 pub(crate) const TO_STAMP: usize = 1;
 
 pub(crate) const TO_STAMP_END: usize = 15;
-/// A space, the stamp, a space and `{"url": "`.
-pub(crate) const TO_URL: usize = 25;
+/// A space, the stamp, a space, and what stands before the url.
+pub(crate) const TO_URL: usize = TO_STAMP_END + 1 + OPEN;
 
 /// Where the parts of a line stand in its text, as offsets in bytes from the text's start.
 ///

@@ -10,7 +10,11 @@ use crate::entry::Entry;
 use crate::entry_ref::EntryRef;
 use crate::fault::LineFault;
 use crate::limit::LINE_LIMIT;
-use cdxj_objects::{BorrowedMembers, is_plain_text, push_escaped_object, push_plain_object};
+use crate::spans::TO_URL;
+use cdxj_objects::{
+    BorrowedMembers, CLOSE, TO_DIGEST, TO_FILENAME, TO_LENGTH, TO_MIME, TO_OFFSET, TO_STATUS,
+    is_plain_text, push_escaped_object, push_plain_object,
+};
 use itoa::Buffer;
 use std::alloc::{AllocError, Global};
 
@@ -57,8 +61,10 @@ fn push_pair(line: &mut Vec<u8>, key: &str, stamp: &[u8; 14]) -> Result<(), Allo
     Ok(())
 }
 
-// What a line has beside its key and its texts: bytes.
-const FRAME: usize = 112;
+/// The length of what a line has beside its key and its texts, in bytes.
+const FRAME: usize = TO_URL
+    + (TO_MIME + TO_STATUS + TO_DIGEST + TO_LENGTH + TO_OFFSET + TO_FILENAME + CLOSE)
+    + 1;
 
 // An empty line with room for one of this key and these texts, where none needs an escape.
 fn room(alloc: Global, key: &str, texts: &BorrowedMembers<'_>) -> Result<Vec<u8>, AllocError>

@@ -1,5 +1,5 @@
 -- What a line takes from a JSON object: the value of each of its members, the last one of its name.
-use Rattle.std.specs.Prelude.{ℕ, List, [], length, codes, decimal, bytes_eq, Option, None, Some, option_map}
+use Rattle.std.specs.Prelude.{ℕ, List, [], length, decimal, bytes_eq, Option, None, Some, option_map}
 use Rattle.std.specs.Prelude.{option_and_then, if◌then◌else◌}
 use Rattle.json.specs.Token.{Token}
 use Rattle.json.specs.Json.{parse_map, items, members, value, if_last}
@@ -7,6 +7,8 @@ use Rattle.serde_json.specs.Data.{Num, unsigned, negative, float, Data, null, bo
 use Rattle.serde_json.specs.Data.{Members, no_members}
 use Rattle.serde_json.specs.Find.{get_member}
 use Rattle.serde_json.specs.Read.{of_json, of_items, of_members, converted, max_depth, read}
+use Rattle.cdxj_objects.specs.Names.{url_name, mime_name, status_name, digest_name, length_name, offset_name}
+use Rattle.cdxj_objects.specs.Names.{filename_name}
 
 abbrev pub number_data : Num → Data
 number_data (unsigned n) = number (unsigned n)
@@ -48,13 +50,13 @@ found_at name ms = option_map member_data (get_member name ms)
 
 abbrev pub found_of : Members → FoundValue
 found_of ms = record {
-  url = found_at (codes "url") ms;
-  mime = found_at (codes "mime") ms;
-  status = found_at (codes "status") ms;
-  digest = found_at (codes "digest") ms;
-  length = found_at (codes "length") ms;
-  offset = found_at (codes "offset") ms;
-  filename = found_at (codes "filename") ms;
+  url = found_at url_name ms;
+  mime = found_at mime_name ms;
+  status = found_at status_name ms;
+  digest = found_at digest_name ms;
+  length = found_at length_name ms;
+  offset = found_at offset_name ms;
+  filename = found_at filename_name ms;
 }
 
 abbrev pub if_named : List ℕ → List ℕ → Data → Option Data → Option Data
@@ -63,13 +65,13 @@ if_named name member d found = if bytes_eq name member then Some d else found
 -- the same, with a value put at a name
 abbrev pub with_member : List ℕ → Data → FoundValue → FoundValue
 with_member name d found = record {
-  url = if_named name (codes "url") d found.url;
-  mime = if_named name (codes "mime") d found.mime;
-  status = if_named name (codes "status") d found.status;
-  digest = if_named name (codes "digest") d found.digest;
-  length = if_named name (codes "length") d found.length;
-  offset = if_named name (codes "offset") d found.offset;
-  filename = if_named name (codes "filename") d found.filename;
+  url = if_named name url_name d found.url;
+  mime = if_named name mime_name d found.mime;
+  status = if_named name status_name d found.status;
+  digest = if_named name digest_name d found.digest;
+  length = if_named name length_name d found.length;
+  offset = if_named name offset_name d found.offset;
+  filename = if_named name filename_name d found.filename;
 }
 
 abbrev pub object_found : Data → Option FoundValue

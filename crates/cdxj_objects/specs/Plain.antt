@@ -4,6 +4,8 @@ use Rattle.std.specs.Prelude.{◌≡◌, ℕ, ◌==◌, ◌&&◌, Bool, true, no
 use Rattle.std.specs.List.{list_all}
 use Rattle.json.specs.Run.{is_plain}
 use Rattle.cdxj_places.specs.Bytes.{space, quote, backslash}
+use Rattle.cdxj_objects.specs.Names.{url_name, mime_name, status_name, digest_name, length_name, offset_name}
+use Rattle.cdxj_objects.specs.Names.{filename_name}
 use Rattle.cdxj_objects.specs.Texts.{TextsValue, or_missing}
 
 -- another byte
@@ -47,13 +49,20 @@ pub record ArePlain (t : TextsValue) : Type 0 where
 abbrev pub after : List ℕ → List ℕ → List ℕ → List ℕ
 after front text rest = front ++ (text ++ quote ∷ rest)
 
+-- `{"name": "`
+abbrev pub first_front : List ℕ → List ℕ
+first_front name = codes "{\"" ++ (name ++ codes "\": \"")
+
+-- `, "name": "`
+abbrev pub later_front : List ℕ → List ℕ
+later_front name = codes ", \"" ++ (name ++ codes "\": \"")
+
 abbrev pub plain_text : TextsValue → List ℕ
 plain_text t =
-    after (codes "{\"url\": \"") t.url (after (codes ", \"mime\": \"") t.mime
-    (after (codes ", \"status\": \"") t.status
-    (after (codes ", \"digest\": \"") t.digest
-    (after (codes ", \"length\": \"") t.length (after (codes ", \"offset\": \"") t.offset
-    (after (codes ", \"filename\": \"") t.filename (codes "}")))))))
+    after (first_front url_name) t.url (after (later_front mime_name) t.mime
+    (after (later_front status_name) t.status (after (later_front digest_name) t.digest
+    (after (later_front length_name) t.length (after (later_front offset_name) t.offset
+    (after (later_front filename_name) t.filename (codes "}")))))))
 
 -- the values that the texts stand for
 abbrev pub values_of_texts : TextsValue → TextsValue

@@ -1,5 +1,7 @@
 -- The texts of a line's members.
 use Rattle.std.specs.Prelude.{ℕ, ◌==◌, List, [], ◌∷◌, length, codes, if◌then◌else◌}
+use Rattle.cdxj_objects.specs.Names.{url_name, mime_name, status_name, digest_name, length_name, offset_name}
+use Rattle.cdxj_objects.specs.Names.{filename_name}
 
 pub record TextsValue : Type 0 where
   pub url : List ℕ
@@ -13,9 +15,9 @@ pub record TextsValue : Type 0 where
 -- the members of these texts, in the order of a written line
 abbrev pub text_members : TextsValue → List (List ℕ × List ℕ)
 text_members t =
-    (codes "url", t.url) ∷ (codes "mime", t.mime) ∷ (codes "status", t.status)
-    ∷ (codes "digest", t.digest) ∷ (codes "length", t.length)
-    ∷ (codes "offset", t.offset) ∷ (codes "filename", t.filename) ∷ []
+    (url_name, t.url) ∷ (mime_name, t.mime) ∷ (status_name, t.status)
+    ∷ (digest_name, t.digest) ∷ (length_name, t.length)
+    ∷ (offset_name, t.offset) ∷ (filename_name, t.filename) ∷ []
 
 -- the text of a value that is missing
 abbrev pub missing : List ℕ

@@ -9,6 +9,7 @@ ghost use Rattle.cdxj_objects.specs.MemberValues.{filename_value, offset_value};
 use crate::json_values::read_value;
 use crate::member_value::MemberValue;
 use crate::member_values::{filename_value, offset_value};
+use crate::members::{DIGEST, FILENAME, LENGTH, MIME, OFFSET, STATUS, URL};
 use json::{Invalid, Reader, Scratch, Token};
 use std::alloc::AllocError;
 
@@ -109,13 +110,13 @@ impl<'a> FoundMembers<'a> {
             (found_view self.old) }
     {
         match name {
-            "url" => self.url = Some(value),
-            "mime" => self.mime = Some(value),
-            "status" => self.status = Some(value),
-            "digest" => self.digest = Some(value),
-            "length" => self.length = Some(value),
-            "offset" => self.offset = Some(value),
-            "filename" => self.filename = Some(value),
+            URL => self.url = Some(value),
+            MIME => self.mime = Some(value),
+            STATUS => self.status = Some(value),
+            DIGEST => self.digest = Some(value),
+            LENGTH => self.length = Some(value),
+            OFFSET => self.offset = Some(value),
+            FILENAME => self.filename = Some(value),
             _ => {}
         }
     }

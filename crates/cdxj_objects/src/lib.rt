@@ -12,6 +12,7 @@ mod lanes;
 mod member_ends;
 mod member_value;
 mod member_values;
+mod members;
 mod offset;
 mod plain;
 mod plain_text;

@@ -8,42 +8,10 @@ ghost use Rattle.cdxj_places.specs.Places.{offset_of};
 
 use crate::borrowed_members::BorrowedMembers;
 use crate::lanes::{Front, cut_at, without_front};
+use crate::members::{
+    DIGEST_FRONT, FILENAME_FRONT, LENGTH_FRONT, MIME_FRONT, OFFSET_FRONT, STATUS_FRONT, URL_FRONT,
+};
 use crate::offset::canonical_offset;
-
-const URL: Front = Front {
-    bytes: *b"{\"url\": \"       ",
-    length: 9,
-};
-
-const MIME: Front = Front {
-    bytes: *b", \"mime\": \"     ",
-    length: 11,
-};
-
-const STATUS: Front = Front {
-    bytes: *b", \"status\": \"   ",
-    length: 13,
-};
-
-const DIGEST: Front = Front {
-    bytes: *b", \"digest\": \"   ",
-    length: 13,
-};
-
-const LENGTH: Front = Front {
-    bytes: *b", \"length\": \"   ",
-    length: 13,
-};
-
-const OFFSET: Front = Front {
-    bytes: *b", \"offset\": \"   ",
-    length: 13,
-};
-
-const FILENAME: Front = Front {
-    bytes: *b", \"filename\": \" ",
-    length: 15,
-};
 
 /// Returns the text after the front, up to its quote, and what follows that quote.
 #[inline(always)]
@@ -70,13 +38,13 @@ fn open_texts(object: &str) -> Option<BorrowedMembers<'_>>
     ensures { IfSome result (λ t. (object.now ≡ plain_text (borrowed_view t))
         × AreOpen (borrowed_view t)) }
 {
-    let (url, rest) = text_after(object, URL)?;
-    let (mime, rest) = text_after(rest, MIME)?;
-    let (status, rest) = text_after(rest, STATUS)?;
-    let (digest, rest) = text_after(rest, DIGEST)?;
-    let (length, rest) = text_after(rest, LENGTH)?;
-    let (offset, rest) = text_after(rest, OFFSET)?;
-    let (filename, rest) = text_after(rest, FILENAME)?;
+    let (url, rest) = text_after(object, URL_FRONT)?;
+    let (mime, rest) = text_after(rest, MIME_FRONT)?;
+    let (status, rest) = text_after(rest, STATUS_FRONT)?;
+    let (digest, rest) = text_after(rest, DIGEST_FRONT)?;
+    let (length, rest) = text_after(rest, LENGTH_FRONT)?;
+    let (offset, rest) = text_after(rest, OFFSET_FRONT)?;
+    let (filename, rest) = text_after(rest, FILENAME_FRONT)?;
     if is_closed(rest) {
         Some(BorrowedMembers {
             url,

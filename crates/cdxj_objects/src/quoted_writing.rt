@@ -8,6 +8,7 @@ ghost use Rattle.cdxj_objects.specs.Objects.{member_text, later_text, object_tex
 ghost use Rattle.cdxj_objects.specs.Texts.{text_members};
 
 use crate::borrowed_members::BorrowedMembers;
+use crate::members::{DIGEST, FILENAME, LENGTH, MIME, OFFSET, STATUS, URL};
 use crate::plain_text::is_plain_text;
 use serde_json::Value;
 use std::alloc::{AllocError, Global};
@@ -64,13 +65,13 @@ pub fn push_escaped_object(
         ≡ line.old.items ++ object_text (text_members (borrowed_view texts.entry))) }
 {
     line.push(b'{')?;
-    push_member(line, alloc, "url", texts.url)?;
-    push_later(line, alloc, "mime", texts.mime)?;
-    push_later(line, alloc, "status", texts.status)?;
-    push_later(line, alloc, "digest", texts.digest)?;
-    push_later(line, alloc, "length", texts.length)?;
-    push_later(line, alloc, "offset", texts.offset)?;
-    push_later(line, alloc, "filename", texts.filename)?;
+    push_member(line, alloc, URL, texts.url)?;
+    push_later(line, alloc, MIME, texts.mime)?;
+    push_later(line, alloc, STATUS, texts.status)?;
+    push_later(line, alloc, DIGEST, texts.digest)?;
+    push_later(line, alloc, LENGTH, texts.length)?;
+    push_later(line, alloc, OFFSET, texts.offset)?;
+    push_later(line, alloc, FILENAME, texts.filename)?;
     line.push(b'}')?;
     Ok(())
 }

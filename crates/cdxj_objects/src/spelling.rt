@@ -8,6 +8,10 @@ ghost use Rattle.cdxj_objects.specs.Texts.{or_missing};
 
 use crate::found_members::FoundMembers;
 use crate::member_value::MemberValue;
+use crate::members::{
+    AFTER_FILENAME, BEFORE_DIGEST, BEFORE_FILENAME, BEFORE_LENGTH, BEFORE_MIME, BEFORE_OFFSET,
+    BEFORE_STATUS, BEFORE_URL,
+};
 use crate::member_ends::MemberEnds;
 use itoa::Buffer;
 use std::alloc::{AllocError, Global};
@@ -73,19 +77,15 @@ pub fn spelled(
 {
     let mut text = String::with_capacity(alloc, line.len().saturating_mul(2))?;
     text.push_str(line)?;
-    let url = push_member(&mut text, "{\"url\": \"", found.url)?;
-    let mime = push_member(&mut text, "\", \"mime\": \"", found.mime)?;
-    let status = push_member(&mut text, "\", \"status\": \"", found.status)?;
-    let digest = push_member(&mut text, "\", \"digest\": \"", found.digest)?;
-    let length = push_member(&mut text, "\", \"length\": \"", found.length)?;
+    let url = push_member(&mut text, BEFORE_URL, found.url)?;
+    let mime = push_member(&mut text, BEFORE_MIME, found.mime)?;
+    let status = push_member(&mut text, BEFORE_STATUS, found.status)?;
+    let digest = push_member(&mut text, BEFORE_DIGEST, found.digest)?;
+    let length = push_member(&mut text, BEFORE_LENGTH, found.length)?;
     let mut digits = Buffer::new();
-    let offset = push_value(
-        &mut text,
-        "\", \"offset\": \"",
-        number_text(offset, &mut digits),
-    )?;
-    push_value(&mut text, "\", \"filename\": \"", filename)?;
-    text.push_str("\"}")?;
+    let offset = push_value(&mut text, BEFORE_OFFSET, number_text(offset, &mut digits))?;
+    push_value(&mut text, BEFORE_FILENAME, filename)?;
+    text.push_str(AFTER_FILENAME)?;
     Ok((
         text,
         MemberEnds {
