@@ -13,8 +13,6 @@ ghost use Rattle.capture_core.specs.CaptureSteps.{IsReadTo, FillsBehind, Capture
 
 use crate::capture_line::memory;
 use crate::closing::capture_closed;
-use crate::digest::digest_rest;
-use crate::digest_text::base32;
 use crate::fault::CaptureFault;
 use crate::held_line::HeldLine;
 use crate::http_head::HTTP_HEAD_LIMIT;
@@ -23,6 +21,7 @@ use crate::payload::{Parted, front_length, part_decided};
 use crate::payload_digest::settled_digest;
 use crate::target::url;
 use crate::types::Types;
+use block_digests::{base32, digest_rest};
 use cdxj_core::{Entry, LINE_LIMIT};
 use std::alloc::{AllocError, Global};
 use warc_core::{Fault, Head, Input, Reader};

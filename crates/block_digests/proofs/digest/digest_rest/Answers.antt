@@ -5,10 +5,10 @@ use Rattle.warc_core.specs.declared.phase.Phase.TheVariants.{Open}
 use Rattle.sha1.specs.Sha1.{Holds}
 use Rattle.warc_core.specs.Calls.{ReadsTo}
 use Rattle.warc_core.specs.ReaderView.{state_of}
-use Rattle.capture_core.specs.Payload.{digest_of_rest}
+use Rattle.block_digests.specs.RestDigest.{digest_of_rest}
 use Rattle.warc_core.proofs.OpenLemmas.{left_in, of_open, zero_of}
-use Rattle.capture_core.proofs.DigestLemmas.{Digesting-start, Digesting-more, Digesting-fault, Digesting-end}
-use Rattle.capture_core.proofs.digest.digest_rest.Goals as goal
+use Rattle.block_digests.proofs.DigestLemmas.{Digesting-start, Digesting-more, Digesting-fault, Digesting-end}
+use Rattle.block_digests.proofs.digest.digest_rest.Goals as goal
 
 pub pieces-init : goal.pieces-init
 pieces-init g c = (

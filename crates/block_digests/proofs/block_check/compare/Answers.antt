@@ -3,11 +3,11 @@ use Rattle.std.proofs.lemmas.Result.{err_from_is_err_and}
 use Rattle.sha1.specs.Sha1.{sha1}
 use Rattle.warc_core.specs.Answers.{CountsRead}
 use Rattle.warc_core.specs.ReaderView.{FailedBy}
-use Rattle.capture_core.specs.declared.verdict.Verdict.{Verdict}
-use Rattle.capture_core.specs.BlockDigest.{digest_verdict}
+use Rattle.block_digests.specs.declared.verdict.Verdict.{Verdict}
+use Rattle.block_digests.specs.BlockDigest.{digest_verdict}
 use Rattle.warc_core.proofs.OpenLemmas.{CountsRead-as}
-use Rattle.capture_core.proofs.VerdictLemmas.{compare-stopped, compare-unclosed, compare-closed}
-use Rattle.capture_core.proofs.block_check.compare.Goals as goal
+use Rattle.block_digests.proofs.VerdictLemmas.{compare-stopped, compare-unclosed, compare-closed}
+use Rattle.block_digests.proofs.block_check.compare.Goals as goal
 
 pub returns-in_err-digest : goal.returns-in_err-digest
 returns-in_err-digest g c left len e =

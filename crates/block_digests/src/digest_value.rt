@@ -1,11 +1,19 @@
 //! The value of a field that gives a digest.
-ghost use Rattle.std.specs.Prelude.{◌≡◌, MatchOption, None, Some};
+ghost use Rattle.std.specs.Prelude.{◌≡◌, codes, MatchOption, None, Some};
 ghost use Rattle.std.specs.List.{list_all};
-ghost use Rattle.capture_core.specs.BlockDigest.{digest_verdict, is_base32_letter, is_base32_text, sha1_text};
+ghost use Rattle.warc_head.specs.Names.{same_name};
+ghost use Rattle.block_digests.specs.BlockDigest.{digest_verdict, is_base32_letter, is_base32_text, sha1_text};
 
 use crate::digest_text::base32;
-use crate::field_value::is_sha1;
 use crate::verdict::Verdict;
+
+/// Returns `true` if the label of a digest is `sha1:`, ignoring ASCII case. Most records write it
+/// in lower case, which is the faster test.
+pub fn is_sha1(label: &[u8]) -> bool
+    ensures { result ≡ same_name label.now (codes "sha1:") }
+{
+    label == b"sha1:".as_slice() || label.eq_ignore_ascii_case(b"sha1:")
+}
 
 /// Returns the text of the SHA-1 digest in a value: 32 characters of base 32 after `sha1:`, each in either case.
 #[tactic(auto, unfolding(crate::specs::BlockDigest::sha1_text))]

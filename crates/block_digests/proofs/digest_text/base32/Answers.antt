@@ -1,6 +1,6 @@
 use Rattle.std.proofs.Common.{refl}
-use Rattle.capture_core.specs.Base32.{base32_of}
-use Rattle.capture_core.proofs.digest_text.base32.Goals as goal
+use Rattle.block_digests.specs.Base32.{base32_of}
+use Rattle.block_digests.proofs.digest_text.base32.Goals as goal
 
 pub returns : goal.returns
 unfolding base32_of

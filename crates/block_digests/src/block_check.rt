@@ -6,7 +6,7 @@ ghost use Rattle.warc_core.specs.HeadView.{record_length};
 ghost use Rattle.warc_core.specs.ReaderView.{IsUnread, HasLeft, state_of};
 ghost use Rattle.sha1.specs.Sha1.{sha1};
 ghost use Rattle.warc_core.specs.Calls.{ReadsTo};
-ghost use Rattle.capture_core.specs.BlockDigest.{verdict_of, digest_verdict, judge_record};
+ghost use Rattle.block_digests.specs.BlockDigest.{verdict_of, digest_verdict, judge_record};
 
 use crate::digest::digest_rest;
 use crate::digest_value::{digest_verdict, sha1_text};

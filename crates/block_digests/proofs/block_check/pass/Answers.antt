@@ -1,9 +1,9 @@
 use Rattle.std.proofs.Common.{refl}
 use Rattle.std.proofs.lemmas.Result.{err_from_is_err_and}
-use Rattle.capture_core.specs.declared.verdict.Verdict.{Verdict}
+use Rattle.block_digests.specs.declared.verdict.Verdict.{Verdict}
 use Rattle.warc_core.proofs.OpenLemmas.{CountsRead-as}
-use Rattle.capture_core.proofs.VerdictLemmas.{judge-passed, judge-stopped}
-use Rattle.capture_core.proofs.block_check.pass.Goals as goal
+use Rattle.block_digests.proofs.VerdictLemmas.{judge-passed, judge-stopped}
+use Rattle.block_digests.proofs.block_check.pass.Goals as goal
 
 pub returns-in_err-finish : goal.returns-in_err-finish
 returns-in_err-finish g c left len e =

@@ -1,7 +1,8 @@
 -- A digest of a block, piece by piece.
-use Rattle.std.proofs.Common.{◌≡◌, ℕ, ◌-◌, ◌≤◌, List, [], ◌++◌, Option, Ok, Err, length, take, drop, refl, ap, ◌∙◌}
+use Rattle.std.proofs.Common.{◌≡◌, ℕ, ◌+◌, ◌-◌, ◌≤◌, List, [], ◌++◌, Option, Ok, Err, length, take, drop, refl, ap, ◌∙◌}
 use Rattle.std.proofs.Common.{subst, arith, append_assoc, append-nil}
 use Rattle.std.proofs.lemmas.List.{length-take-le, drop_all}
+use Rattle.std.proofs.Math.Seq.{take-append-add}
 use Rattle.std.specs.Io.KnownBytes.{prepend_known}
 use Rattle.sha1.specs.declared.Sha1.{Sha1}
 use Rattle.sha1.specs.Sha1.{Holds, sha1}
@@ -15,9 +16,14 @@ use Rattle.warc_core.specs.Calls.{GivesBlock, ReadsTo}
 use Rattle.warc_core.specs.declared.fault.Fault.{Fault}
 use Rattle.warc_core.proofs.CauseLemmas.{stops-record}
 use Rattle.warc_core.proofs.RecordLemmas.{after_block-part, after_block-zero}
-use Rattle.capture_core.specs.Payload.{digest_of_rest}
-use Rattle.capture_core.proofs.HeadLemmas.{take_past}
+use Rattle.block_digests.specs.RestDigest.{digest_of_rest}
 use Rattle.warc_core.proofs.OpenLemmas.{GoesOn-consumes, CountsRead-as}
+
+-- a front that goes past a text takes all of it
+pub take_past : (n : ℕ) (xs ys : List ℕ) → length xs ≤ n → take n (xs ++ ys) ≡ xs ++ take (n - length xs) ys
+take_past n xs ys h =
+    let e : n ≡ length xs + (n - length xs) = omega arith in
+    ap (λ m. take m (xs ++ ys)) e ∙ take-append-add xs ys (n - length xs)
 
 -- what a hasher took of an open record's block, of which rest bytes are left, and where the reader stands
 pub record Digesting (left len rest : ℕ) (start : List ℕ) (old now : ReaderView) (before mid : Option (List ℕ))

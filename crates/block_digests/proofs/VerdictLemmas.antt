@@ -11,10 +11,10 @@ use Rattle.warc_core.specs.Record.{after_block, after_text, after_record, closin
 use Rattle.warc_core.specs.ReaderView.{ReaderView, state_of}
 use Rattle.warc_core.proofs.ReadingLemmas.{answered, IsFoundIn-bind}
 use Rattle.warc_core.proofs.RecordLemmas.{after_block-zero}
-use Rattle.capture_core.specs.declared.verdict.Verdict.{Verdict}
-use Rattle.capture_core.specs.Payload.{digest_of_rest}
+use Rattle.block_digests.specs.declared.verdict.Verdict.{Verdict}
+use Rattle.block_digests.specs.RestDigest.{digest_of_rest}
 use Rattle.warc_core.specs.Calls.{ReadsTo}
-use Rattle.capture_core.specs.BlockDigest.{judge_record}
+use Rattle.block_digests.specs.BlockDigest.{judge_record}
 
 -- what is found of the record is found of its block's verdict
 pub judge-found : (judge : List ℕ → Verdict) (c : Cause) (left : ℕ) (z : List ℕ) → IsFoundIn c (after_record left z)

@@ -3,7 +3,7 @@ ghost use Rattle.std.specs.Prelude.{◌≡◌, ℕ};
 ghost use Rattle.warc_core.specs.declared.phase.Phase.TheVariants.{Open};
 ghost use Rattle.warc_core.specs.ReaderView.{HasLeft, state_of};
 ghost use Rattle.warc_core.specs.Calls.{ReadsTo};
-ghost use Rattle.capture_core.specs.Payload.{digest_of_rest};
+ghost use Rattle.block_digests.specs.RestDigest.{digest_of_rest};
 
 use sha1::Sha1;
 use warc_core::{Fault, Input, Reader};
@@ -11,7 +11,7 @@ use warc_core::{Fault, Input, Reader};
 /// Returns the SHA-1 (FIPS 180-4) of `start` followed by the rest of the open record's block. It takes no memory.
 ///
 /// Errors are those of `Reader::block`.
-pub(crate) fn digest_rest<I: Input>(
+pub fn digest_rest<I: Input>(
     reader: &mut Reader,
     input: &mut I,
     start: &[u8],
