@@ -4,22 +4,35 @@ use crate::lanes::Front;
 // Their names, in the order of a written line.
 
 pub(crate) const URL: &str = "url";
+
 pub(crate) const MIME: &str = "mime";
+
 pub(crate) const STATUS: &str = "status";
+
 pub(crate) const DIGEST: &str = "digest";
+
 pub(crate) const LENGTH: &str = "length";
+
 pub(crate) const OFFSET: &str = "offset";
+
 pub(crate) const FILENAME: &str = "filename";
 
 // What stands before the text of each in a plain object, behind the text before it.
 
 pub(crate) const BEFORE_URL: &str = "{\"url\": \"";
+
 pub(crate) const BEFORE_MIME: &str = "\", \"mime\": \"";
+
 pub(crate) const BEFORE_STATUS: &str = "\", \"status\": \"";
+
 pub(crate) const BEFORE_DIGEST: &str = "\", \"digest\": \"";
+
 pub(crate) const BEFORE_LENGTH: &str = "\", \"length\": \"";
+
 pub(crate) const BEFORE_OFFSET: &str = "\", \"offset\": \"";
+
 pub(crate) const BEFORE_FILENAME: &str = "\", \"filename\": \"";
+
 pub(crate) const AFTER_FILENAME: &str = "\"}";
 
 // The same from the comma on, filled up: a vector of 16 bytes is compared with each.

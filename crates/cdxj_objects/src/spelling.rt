@@ -7,12 +7,12 @@ ghost use Rattle.cdxj_objects.specs.Spelling.{IsSpelled};
 ghost use Rattle.cdxj_objects.specs.Texts.{or_missing};
 
 use crate::found_members::FoundMembers;
+use crate::member_ends::MemberEnds;
 use crate::member_value::MemberValue;
 use crate::members::{
     AFTER_FILENAME, BEFORE_DIGEST, BEFORE_FILENAME, BEFORE_LENGTH, BEFORE_MIME, BEFORE_OFFSET,
     BEFORE_STATUS, BEFORE_URL,
 };
-use crate::member_ends::MemberEnds;
 use itoa::Buffer;
 use std::alloc::{AllocError, Global};
 
