@@ -2,7 +2,7 @@
 use Rattle.std.proofs.Common.{◌≡◌, ℕ, zero, suc, ◌-◌, ◌<◌, ◌≤◌, ◌^◌, ◌==◌, Bool, true, not, List, [], ◌∷◌, ◌++◌, length}
 use Rattle.std.proofs.Common.{take, decimal, Some, option_and_then, get_or, refl, sym, ap, ◌∙◌, subst, arith}
 use Rattle.std.proofs.Common.{flat_map, ◌⊎◌, inl, inr, ⊎_elim}
-use Rattle.std.specs.List.{join_by, list_all, before_first, after_first}
+use Rattle.std.specs.List.{join_by, before_first, after_first}
 use Rattle.std.specs.Char.{is_ascii_digit}
 use Rattle.std.proofs.lemmas.Bool.{ne_eqb, eq-eqb, and_parts, cond-true, lt-ltb, ltb-true, cases_eq}
 use Rattle.std.proofs.lemmas.Bool.{cases_lt}

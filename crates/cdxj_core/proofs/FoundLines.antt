@@ -1,10 +1,12 @@
 -- What is found in an object decides what its line says.
-use Rattle.std.proofs.Common.{◌≡◌, ℕ, List, codes, decimal, Option, Some, None, option_map, option_and_then, refl, ap, ◌∙◌}
+use Rattle.std.proofs.Common.{◌≡◌, ℕ, List, decimal, Option, Some, None, option_map, option_and_then, refl, ap, ◌∙◌}
 use Rattle.serde_json.specs.Data.{unsigned, negative, float, Data, null, boolean, number, string, array, object, Members}
 use Rattle.serde_json.specs.Find.{get_member}
 use Rattle.serde_json.specs.Read.{read as read_text}
 use Rattle.cdxj_objects.specs.FoundMembers.{FoundValue, member_data, found_of, object_found, members_in}
 use Rattle.cdxj_objects.specs.MemberValues.{value_text, filename_value, offset_value}
+use Rattle.cdxj_objects.specs.Names.{url_name, mime_name, status_name, digest_name, length_name, offset_name}
+use Rattle.cdxj_objects.specs.Names.{filename_name}
 use Rattle.cdxj_objects.specs.Texts.{TextsValue}
 use Rattle.cdxj_core.specs.Lines.{LineValue, line_value, line_from, line_object}
 use Rattle.cdxj_core.proofs.PairLaw.{and_then_some}
@@ -92,9 +94,9 @@ seven key stamp url mime status digest length offset filename =
 members_line : (key stamp : List ℕ) (ms : Members) → line_from key stamp (object ms) ≡ found_line key stamp
     (found_of ms)
 members_line key stamp ms =
-    seven key stamp (get_member (codes "url") ms) (get_member (codes "mime") ms) (get_member (codes "status") ms)
-    (get_member (codes "digest") ms) (get_member (codes "length") ms) (get_member (codes "offset") ms)
-    (get_member (codes "filename") ms)
+    seven key stamp (get_member url_name ms) (get_member mime_name ms) (get_member status_name ms)
+    (get_member digest_name ms) (get_member length_name ms) (get_member offset_name ms)
+    (get_member filename_name ms)
 
 object_line : (key stamp : List ℕ) (d : Data) (found : FoundValue) → object_found d ≡ Some found → line_from key stamp d
     ≡ found_line key stamp found

@@ -1,10 +1,12 @@
 -- What the line of an object of seven texts says.
-use Rattle.std.proofs.Common.{◌≡◌, ℕ, ◌<◌, ◌==◌, List, length, codes, Option, Some, option_map, option_and_then, refl}
+use Rattle.std.proofs.Common.{◌≡◌, ℕ, ◌<◌, List, length, Option, Some, option_map, option_and_then, refl}
 use Rattle.std.proofs.Common.{ap, ◌∙◌, arith}
 use Rattle.std.proofs.lemmas.Bool.{cond-false, ne_eqb}
 use Rattle.serde_json.specs.Data.{Data, string}
 use Rattle.cdxj_places.specs.Places.{offset_of}
 use Rattle.cdxj_objects.specs.MemberValues.{value_text, filename_value, offset_value}
+use Rattle.cdxj_objects.specs.Names.{url_name, mime_name, status_name, digest_name, length_name, offset_name}
+use Rattle.cdxj_objects.specs.Names.{filename_name}
 use Rattle.cdxj_objects.specs.Plain.{ArePlain, plain_text, values_of_texts}
 use Rattle.cdxj_objects.specs.Texts.{TextsValue, or_missing}
 use Rattle.cdxj_objects.proofs.PlainLaw.{read_plain}
@@ -31,10 +33,10 @@ pub texts_line : (key stamp : List ℕ) (t : TextsValue) (offset : ℕ) → offs
 texts_line key stamp t offset offset_is some =
     let name_is : filename_value (Some (string t.filename)) ≡ Some t.filename =
     cond-false _ _ _ (ne_eqb (length t.filename) 0 (λ z. omega arith)) in
-    (λ i. opts key stamp (text_at t (codes "url") (string t.url) refl i)
-    (text_at t (codes "mime") (string t.mime) refl i) (text_at t (codes "status") (string t.status) refl i)
-    (text_at t (codes "digest") (string t.digest) refl i) (text_at t (codes "length") (string t.length) refl i)
-    (text_at t (codes "offset") (string t.offset) refl i) (text_at t (codes "filename") (string t.filename) refl i))
+    (λ i. opts key stamp (text_at t url_name (string t.url) refl i)
+    (text_at t mime_name (string t.mime) refl i) (text_at t status_name (string t.status) refl i)
+    (text_at t digest_name (string t.digest) refl i) (text_at t length_name (string t.length) refl i)
+    (text_at t offset_name (string t.offset) refl i) (text_at t filename_name (string t.filename) refl i))
     ∙ (λ i. option_and_then (λ f. option_map (λ o. record {
       key = key;
       stamp = stamp;

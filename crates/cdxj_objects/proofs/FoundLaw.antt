@@ -1,5 +1,5 @@
 -- What is found in an object, as its members and its tokens are read.
-use Rattle.std.proofs.Common.{◌≡◌, ℕ, ◌-◌, List, [], ◌∷◌, Bool, true, false, cond, bytes_eq, codes, length, Option}
+use Rattle.std.proofs.Common.{◌≡◌, ℕ, ◌-◌, List, [], ◌∷◌, Bool, true, false, cond, bytes_eq, length, Option}
 use Rattle.std.proofs.Common.{Some, None, option_map, option_and_then, refl, sym, ap, ◌∙◌, arith}
 use Rattle.std.proofs.lemmas.Slice.Eq.{bytes_eq-Decides}
 use Rattle.json.specs.Token.{Token}
@@ -13,6 +13,8 @@ use Rattle.serde_json.specs.Data.{Data, number, array, object, Members, no_membe
 use Rattle.serde_json.specs.Find.{get_member}
 use Rattle.serde_json.specs.Read.{number_of, of_json, of_items, of_members, converted}
 use Rattle.serde_json.proofs.Views.{get_member-put, get_member-put_other}
+use Rattle.cdxj_objects.specs.Names.{url_name, mime_name, status_name, digest_name, length_name, offset_name}
+use Rattle.cdxj_objects.specs.Names.{filename_name}
 use Rattle.cdxj_objects.specs.FoundMembers.{FoundValue, member_data, found_at, found_of, with_member, object_found}
 use Rattle.cdxj_objects.specs.FoundMembers.{object_read, members_found}
 use Rattle.cdxj_objects.proofs.JsonReading.{value_or, rest_or}
@@ -34,14 +36,13 @@ pub found_put : (k : List ℕ) (d : Data) (ms : Members) → found_of (put k d m
 found_put k d ms =
     let at = λ (q : List ℕ). found_put_at (bytes_eq k q) k q d ms refl in
     rw (
-      at (codes "url"),
-      at (codes "mime"),
-      at (codes "status"),
-      at (codes "digest"),
-      at (codes "length"),
-      at
-          (codes "offset"),
-      at (codes "filename"),
+      at url_name,
+      at mime_name,
+      at status_name,
+      at digest_name,
+      at length_name,
+      at offset_name,
+      at filename_name,
     )
 
 -- ---- the tokens of the object

@@ -1,6 +1,6 @@
 -- Plain bytes are those that are no quote, no backslash and no control.
 use Rattle.std.proofs.Common.{◌≡◌, ℕ, ◌<◌, ◌^◌, decimal, Bool, true, false, not, ◌&&◌, ◌||◌, ◌==◌, nat_lt, nat_le, List}
-use Rattle.std.proofs.Common.{[], ◌∷◌, ◌++◌, refl, sym, ◌∙◌, arith, codes}
+use Rattle.std.proofs.Common.{[], ◌∷◌, ◌++◌, refl, sym, ◌∙◌, arith}
 use Rattle.std.specs.List.{list_all}
 use Rattle.std.specs.Char.{is_ascii_digit}
 use Rattle.std.proofs.lemmas.Bool.{and_parts}
@@ -9,7 +9,10 @@ use Rattle.std.proofs.lemmas.List.Folds.{list_all-append}
 use Rattle.std.proofs.lemmas.Fmt.{digits_decimal}
 use Rattle.json.specs.Run.{is_plain}
 use Rattle.cdxj_objects.specs.Texts.{TextsValue}
-use Rattle.cdxj_objects.specs.Plain.{is_open, is_unescaped, AreOpen, ArePlain, after, plain_text}
+use Rattle.cdxj_objects.specs.Names.{url_name, mime_name, status_name, digest_name, length_name, offset_name}
+use Rattle.cdxj_objects.specs.Names.{filename_name}
+use Rattle.cdxj_objects.specs.Plain.{is_open, is_unescaped, AreOpen, ArePlain, after, first_front, later_front}
+use Rattle.cdxj_objects.specs.Plain.{plain_text}
 use Rattle.cdxj_places.proofs.Offsets.{own}
 use Rattle.cdxj_places.proofs.PlaceLaw.{both}
 
@@ -65,13 +68,13 @@ plain_from xs h k = list_all_plain xs ∙ both _ _ h k
 
 pub plain_where_unescaped : (t : TextsValue) → AreOpen t → list_all is_unescaped (plain_text t) ≡ true → ArePlain t
 plain_where_unescaped t h k =
-    let url = within (codes "{\"url\": \"") t.url _ k in
-    let mime = within (codes ", \"mime\": \"") t.mime _ url.1 in
-    let status = within (codes ", \"status\": \"") t.status _ mime.1 in
-    let digest = within (codes ", \"digest\": \"") t.digest _ status.1 in
-    let size = within (codes ", \"length\": \"") t.length _ digest.1 in
-    let offset = within (codes ", \"offset\": \"") t.offset _ size.1 in
-    let filename = within (codes ", \"filename\": \"") t.filename _ offset.1 in
+    let url = within (first_front url_name) t.url _ k in
+    let mime = within (later_front mime_name) t.mime _ url.1 in
+    let status = within (later_front status_name) t.status _ mime.1 in
+    let digest = within (later_front digest_name) t.digest _ status.1 in
+    let size = within (later_front length_name) t.length _ digest.1 in
+    let offset = within (later_front offset_name) t.offset _ size.1 in
+    let filename = within (later_front filename_name) t.filename _ offset.1 in
     record {
       url = plain_from t.url h.url url.0;
       mime = plain_from t.mime h.mime mime.0;

@@ -11,8 +11,10 @@ use Rattle.json.proofs.Printed.Strings.{escape_byte_plain}
 use Rattle.serde_json.specs.Read.{read}
 use Rattle.cdxj_places.specs.Places.{offset_of, is_offset}
 use Rattle.cdxj_places.proofs.Offsets.{own}
+use Rattle.cdxj_objects.specs.Names.{url_name, mime_name, status_name, digest_name, length_name, offset_name}
+use Rattle.cdxj_objects.specs.Names.{filename_name}
 use Rattle.cdxj_objects.specs.Objects.{member_text, object_text}
-use Rattle.cdxj_objects.specs.Plain.{ArePlain, plain_text}
+use Rattle.cdxj_objects.specs.Plain.{ArePlain, first_front, later_front, plain_text}
 use Rattle.cdxj_objects.specs.Texts.{TextsValue, text_members}
 use Rattle.cdxj_objects.proofs.ObjectLaw.{Pair}
 use Rattle.cdxj_objects.proofs.TextsLaw.{first_of, later_of, data_of, read_texts}
@@ -116,14 +118,18 @@ steps_of old s = simp append_assoc
 pub quoted_plain : (old s : List ℕ) → list_all is_plain s ≡ true → ((old ++ 34 ∷ []) ++ s) ++ 34 ∷ [] ≡ old ++ quoted s
 quoted_plain old s h = steps_of old s ∙ ap (λ e. old ++ 34 ∷ (e ++ 34 ∷ [])) (sym (escape_plain s h))
 
+-- what stands between two texts
+abbrev pub between : List ℕ → List ℕ
+between name = 34 ∷ later_front name
+
 -- fronts and texts by turns; each front but the first begins with the quote of the text before it
 abbrev pub in_pieces : List ℕ → TextsValue → List ℕ
 in_pieces old t =
-    (((((((old ++ (codes "{\"url\": \"" ++ t.url)) ++ (codes "\", \"mime\": \"" ++ t.mime))
-    ++ (codes "\", \"status\": \"" ++ t.status))
-    ++ (codes "\", \"digest\": \"" ++ t.digest)) ++ (codes "\", \"length\": \"" ++ t.length))
-    ++ (codes "\", \"offset\": \"" ++ t.offset))
-    ++ (codes "\", \"filename\": \"" ++ t.filename)) ++ codes "\"}"
+    (((((((old ++ (first_front url_name ++ t.url)) ++ (between mime_name ++ t.mime))
+    ++ (between status_name ++ t.status))
+    ++ (between digest_name ++ t.digest)) ++ (between length_name ++ t.length))
+    ++ (between offset_name ++ t.offset))
+    ++ (between filename_name ++ t.filename)) ++ codes "\"}"
 
 pub in_one : (old : List ℕ) (t : TextsValue) → in_pieces old t ≡ old ++ plain_text t
 in_one old t = simp append_assoc

@@ -7,7 +7,9 @@ use Rattle.std.proofs.Math.Seq.{take-append_seam, drop-append_seam}
 use Rattle.cdxj_objects.specs.declared.member_ends.MemberEnds.{MemberEnds}
 use Rattle.cdxj_objects.specs.declared.member_ends.TheConstants.{OPEN, TO_MIME, TO_STATUS, TO_DIGEST, TO_LENGTH, TO_OFFSET}
 use Rattle.cdxj_objects.specs.declared.member_ends.TheConstants.{TO_FILENAME, CLOSE}
-use Rattle.cdxj_objects.specs.Plain.{after, plain_text}
+use Rattle.cdxj_objects.specs.Names.{url_name, mime_name, status_name, digest_name, length_name, offset_name}
+use Rattle.cdxj_objects.specs.Names.{filename_name}
+use Rattle.cdxj_objects.specs.Plain.{after, later_front, plain_text}
 use Rattle.cdxj_objects.specs.PlainPlaces.{AreEndsOf, AreParts, IsPart, part, texts_at}
 use Rattle.cdxj_objects.specs.Texts.{TextsValue}
 
@@ -27,6 +29,10 @@ pub record Next (text : List ℕ) (start end : ℕ) (name rest : List ℕ) : Typ
   pub is : part text start end ≡ name
   pub goes_on : GoesOn text end rest
 
+-- what stands between two texts but for the last quote
+abbrev to_quote : List ℕ → List ℕ
+to_quote name = 34 ∷ (codes ", \"" ++ (name ++ codes "\": "))
+
 module _ (text : List ℕ) (utf8 : IsUtf8 text) where
   -- a name between two bytes that are the same character of ASCII
   pub next : (mark : ℕ) → mark < 128 → (at : ℕ) (front name rest : List ℕ) (start end : ℕ)
@@ -39,13 +45,13 @@ module _ (text : List ℕ) (utf8 : IsUtf8 text) where
       let left = length-drop at text in
       let whole = ap length here.1 in
       let within = here.0 in
-      let to_quote : drop quote text ≡ mark ∷ (name ++ mark ∷ rest) = sym (drop-drop (length front) at text)
+      let at_quote : drop quote text ≡ mark ∷ (name ++ mark ∷ rest) = sym (drop-drop (length front) at text)
       ∙ ap (drop (length front)) here.1 ∙ drop-append_seam front (mark ∷ (name ++ mark ∷ rest)) in
       let to_name : drop start text ≡ name ++ mark ∷ rest = ap (λ n. drop n text) s ∙ sym (drop-drop 1 quote text)
-      ∙ ap (drop 1) to_quote in
+      ∙ ap (drop 1) at_quote in
       let to_rest : drop end text ≡ mark ∷ rest = ap (λ n. drop n text) e ∙ sym (drop-drop (length name) start text)
       ∙ ap (drop (length name)) to_name ∙ drop-append_seam name (mark ∷ rest) in
-      let first = byte_at text quote mark (name ++ mark ∷ rest) to_quote in
+      let first = byte_at text quote mark (name ++ mark ∷ rest) at_quote in
       let last = byte_at text end mark rest to_rest in
       let low : quote < length text = omega (arith, long, named, left, whole, within) in
       let high : end < length text = omega (arith, s, e, long, named, left, whole, within) in
@@ -65,45 +71,45 @@ module _ (text : List ℕ) (utf8 : IsUtf8 text) where
   module _ (at : ℕ) (t : TextsValue) (start : ℕ) (e : MemberEnds) (here : GoesOn text at (plain_text t))
       (begins : start ≡ at + OPEN) (ends : AreEndsOf start t e) where
     abbrev from_filename : List ℕ
-    from_filename = after (codes ", \"filename\": \"") t.filename (codes "}")
+    from_filename = after (later_front filename_name) t.filename (codes "}")
 
     abbrev from_offset : List ℕ
-    from_offset = after (codes ", \"offset\": \"") t.offset from_filename
+    from_offset = after (later_front offset_name) t.offset from_filename
 
     abbrev from_length : List ℕ
-    from_length = after (codes ", \"length\": \"") t.length from_offset
+    from_length = after (later_front length_name) t.length from_offset
 
     abbrev from_digest : List ℕ
-    from_digest = after (codes ", \"digest\": \"") t.digest from_length
+    from_digest = after (later_front digest_name) t.digest from_length
 
     abbrev from_status : List ℕ
-    from_status = after (codes ", \"status\": \"") t.status from_digest
+    from_status = after (later_front status_name) t.status from_digest
 
     abbrev from_mime : List ℕ
-    from_mime = after (codes ", \"mime\": \"") t.mime from_status
+    from_mime = after (later_front mime_name) t.mime from_status
 
     at_url : Next text start e.url t.url (34 ∷ from_mime)
-    at_url = next 34 (omega arith) at (codes "{\"url\": ") t.url from_mime start e.url here (omega (arith, begins))
+    at_url = next 34 (omega arith) at (codes "{\"" ++ (url_name ++ codes "\": ")) t.url from_mime start e.url here (omega (arith, begins))
         ends.url
 
     at_mime : Next text (e.url + TO_MIME) e.mime t.mime (34 ∷ from_status)
-    at_mime = next 34 (omega arith) e.url (34 ∷ codes ", \"mime\": ") t.mime from_status (e.url + TO_MIME) e.mime
+    at_mime = next 34 (omega arith) e.url (to_quote mime_name) t.mime from_status (e.url + TO_MIME) e.mime
         at_url.goes_on (omega arith) ends.mime
 
     at_status : Next text (e.mime + TO_STATUS) e.status t.status (34 ∷ from_digest)
-    at_status = next 34 (omega arith) e.mime (34 ∷ codes ", \"status\": ") t.status from_digest (e.mime + TO_STATUS)
+    at_status = next 34 (omega arith) e.mime (to_quote status_name) t.status from_digest (e.mime + TO_STATUS)
         e.status at_mime.goes_on (omega arith) ends.status
 
     at_digest : Next text (e.status + TO_DIGEST) e.digest t.digest (34 ∷ from_length)
-    at_digest = next 34 (omega arith) e.status (34 ∷ codes ", \"digest\": ") t.digest from_length (e.status + TO_DIGEST)
+    at_digest = next 34 (omega arith) e.status (to_quote digest_name) t.digest from_length (e.status + TO_DIGEST)
         e.digest at_status.goes_on (omega arith) ends.digest
 
     at_length : Next text (e.digest + TO_LENGTH) e.length t.length (34 ∷ from_offset)
-    at_length = next 34 (omega arith) e.digest (34 ∷ codes ", \"length\": ") t.length from_offset (e.digest + TO_LENGTH)
+    at_length = next 34 (omega arith) e.digest (to_quote length_name) t.length from_offset (e.digest + TO_LENGTH)
         e.length at_digest.goes_on (omega arith) ends.size
 
     at_offset : Next text (e.length + TO_OFFSET) e.offset t.offset (34 ∷ from_filename)
-    at_offset = next 34 (omega arith) e.length (34 ∷ codes ", \"offset\": ") t.offset from_filename
+    at_offset = next 34 (omega arith) e.length (to_quote offset_name) t.offset from_filename
         (e.length + TO_OFFSET) e.offset at_length.goes_on (omega arith) ends.offset
 
     -- the text ends after the file name, a quote and a brace
@@ -117,7 +123,7 @@ module _ (text : List ℕ) (utf8 : IsUtf8 text) where
     )
 
     at_filename : Next text (e.offset + TO_FILENAME) (length text - CLOSE) t.filename (34 ∷ codes "}")
-    at_filename = next 34 (omega arith) e.offset (34 ∷ codes ", \"filename\": ") t.filename (codes "}")
+    at_filename = next 34 (omega arith) e.offset (to_quote filename_name) t.filename (codes "}")
         (e.offset + TO_FILENAME) (length text - CLOSE) at_offset.goes_on (omega arith) (omega (arith, size_is))
 
     pub parts_there : AreParts text start e

@@ -1,14 +1,15 @@
-use Rattle.std.proofs.Common.{codes}
 use Rattle.cdxj_objects.specs.MemberViews.{borrowed_view}
+use Rattle.cdxj_objects.specs.Names.{url_name, mime_name, status_name, digest_name, length_name, offset_name}
+use Rattle.cdxj_objects.specs.Names.{filename_name}
 use Rattle.cdxj_objects.proofs.ObjectWrite.{object_steps}
 use Rattle.cdxj_objects.proofs.quoted_writing.push_escaped_object.Goals as goal
 
 pub returns : goal.returns
 returns c =
     let t = borrowed_view c.args.texts in
-    let e = object_steps c.args.line.now.items (codes "url", t.url) (codes "mime", t.mime) (codes "status", t.status)
-    (codes "digest", t.digest) (codes "length", t.length) (codes "offset", t.offset)
-    (codes "filename", t.filename) in
+    let e = object_steps c.args.line.now.items (url_name, t.url) (mime_name, t.mime) (status_name, t.status)
+    (digest_name, t.digest) (length_name, t.length) (offset_name, t.offset)
+    (filename_name, t.filename) in
     let p = c.in_ok-push.ensures.items in
     let m = c.in_ok-push_member.ensures in
     let m1 = c.in_ok-push_later.ensures in
