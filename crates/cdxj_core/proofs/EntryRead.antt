@@ -1,11 +1,11 @@
 -- The line of a good entry is read as that entry.
-use Rattle.std.proofs.Common.{◌≡◌, ℕ, zero, suc, ◌-◌, ◌<◌, ◌≤◌, ◌^◌, ◌==◌, Bool, true, not, List, [], ◌∷◌, ◌++◌, length}
+use Rattle.std.proofs.Common.{◌≡◌, ℕ, ◌-◌, ◌<◌, ◌≤◌, ◌^◌, ◌==◌, Bool, true, not, List, [], ◌∷◌, ◌++◌, length}
 use Rattle.std.proofs.Common.{take, decimal, Some, option_and_then, get_or, refl, sym, ap, ◌∙◌, subst, arith}
-use Rattle.std.proofs.Common.{flat_map, ◌⊎◌, inl, inr, ⊎_elim}
+use Rattle.std.proofs.Common.{flat_map, ⊎_elim}
 use Rattle.std.specs.List.{join_by, before_first, after_first}
 use Rattle.std.specs.Char.{is_ascii_digit}
-use Rattle.std.proofs.lemmas.Bool.{ne_eqb, eq-eqb, and_parts, cond-true, lt-ltb, ltb-true, cases_eq}
-use Rattle.std.proofs.lemmas.Bool.{cases_lt}
+use Rattle.std.proofs.lemmas.Bool.{ne_eqb, eq-eqb, and_parts, cond-true, lt-ltb, ltb-true, cases_lt}
+use Rattle.std.proofs.lemmas.Bool.{agree_below_at}
 use Rattle.std.proofs.lemmas.List.{length-append}
 use Rattle.std.proofs.lemmas.List.Folds.{list_all-append}
 use Rattle.std.proofs.Math.Seq.{take-append_seam, get_or-append_seam}
@@ -41,120 +41,20 @@ digit_feed : (b : ℕ) → is_ascii_digit b ≡ true → no_feed b ≡ true
 digit_feed b h = ap not (ne_eqb b 10 (λ e. let bad : is_ascii_digit 10 ≡ true = subst (λ x. is_ascii_digit x ≡ true) e
     h in cc))
 
-abbrev Each : (ℕ → Type 0) → ℕ → Type 0
-Each P zero = Unit {0}
-Each P (suc n) = P n × Each P n
-
-each_sound : (P : ℕ → Type 0) (n : ℕ) → Each P n → (x : ℕ) → x < n → P x
-each_sound P zero h x lt = absurd (omega arith)
-each_sound P (suc n) h x lt = ⊎_elim (λ e. subst P (sym e) h.0) (λ ne. each_sound P n h.1 x (omega arith))
-    (cases_eq x n)
-
 abbrev Escapes : ℕ → Type 0
 Escapes x = has_no_feed (escape_byte x) ≡ true
 
-controls : Each Escapes 32
+-- by a computation over the bytes up to the backslash; no other is escaped
+low_escapes : (x : ℕ) → x < 93 → Escapes x
 unfolding escape_byte
-controls = (
-  refl,
-  (
-    refl,
-    (
-      refl,
-      (
-        refl,
-        (
-          refl,
-          (
-            refl,
-            (
-              refl,
-              (
-                refl,
-                (
-                  refl,
-                  (
-                    refl,
-                    (
-                      refl,
-                      (
-                        refl,
-                        (
-                          refl,
-                          (
-                            refl,
-                            (
-                              refl,
-                              (
-                                refl,
-                                (
-                                  refl,
-                                  (
-                                    refl,
-                                    (
-                                      refl,
-                                      (
-                                        refl,
-                                        (
-                                          refl,
-                                          (
-                                            refl,
-                                            (
-                                              refl,
-                                              (
-                                                refl,
-                                                (
-                                                  refl,
-                                                  (refl, (refl, (refl, (refl, (refl, (refl, (refl, tt))))))),
-                                                ),
-                                              ),
-                                            ),
-                                          ),
-                                        ),
-                                      ),
-                                    ),
-                                  ),
-                                ),
-                              ),
-                            ),
-                          ),
-                        ),
-                      ),
-                    ),
-                  ),
-                ),
-              ),
-            ),
-          ),
-        ),
-      ),
-    ),
-  ),
-)
+low_escapes x low = agree_below_at (λ x. has_no_feed (escape_byte x)) (λ _. true) 93 x refl low
 
-quote_escape : Escapes 34
-unfolding escape_byte
-quote_escape = refl
-
-backslash_escape : Escapes 92
-unfolding escape_byte
-backslash_escape = refl
-
-plain_escape : (x : ℕ) → 32 ≤ x → Escapes x
-plain_escape x high =
-    ⊎_elim (λ e. subst Escapes (sym e) quote_escape)
-    (λ not_quote. ⊎_elim (λ e. subst Escapes (sym e) backslash_escape)
-    (λ not_backslash. ap has_no_feed (escape_byte_plain x not_quote not_backslash high) ∙ both (no_feed x) true
-    (ap not (ne_eqb x 10 (λ e. omega arith))) refl)
-    (cases_eq x 92))
-    (cases_eq x 34)
+high_escapes : (x : ℕ) → 93 ≤ x → Escapes x
+high_escapes x high = ap has_no_feed (escape_byte_plain x (λ e. omega arith) (λ e. omega arith) (omega arith))
+    ∙ both (no_feed x) true (ap not (ne_eqb x 10 (λ e. omega arith))) refl
 
 escapes : (x : ℕ) → Escapes x
-escapes x = go (x < 32) (λ low. each_sound Escapes 32 controls x low) (plain_escape x) (cases_lt x 32)
-  where
-    go : (P : Type 0) → (P → Escapes x) → (32 ≤ x → Escapes x) → P ⊎ (32 ≤ x) → Escapes x
-    go P f g (inl h) = f h
-    go P f g (inr h) = g h
+escapes x = ⊎_elim (low_escapes x) (high_escapes x) (cases_lt x 93)
 
 escaped : (s : List ℕ) → has_no_feed (escape s) ≡ true
 escaped [] = refl

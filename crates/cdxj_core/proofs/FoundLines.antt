@@ -70,26 +70,9 @@ seven : (key stamp : List ℕ) (url mime status digest length offset filename : 
     (value_text (option_map member_data length)) (offset_value (option_map member_data offset))
     (filename_value (option_map member_data filename))
 seven key stamp url mime status digest length offset filename =
-    ap (λ t. line_of key stamp t (value_text mime) (value_text status) (value_text digest) (value_text length)
-    (offset_value offset) (filename_value filename)) (value_text-seen url)
-    ∙ ap (λ t. line_of key stamp (value_text (option_map member_data url)) t (value_text status) (value_text digest)
-    (value_text length) (offset_value offset) (filename_value filename)) (value_text-seen mime)
-    ∙ ap (λ t. line_of key stamp (value_text (option_map member_data url)) (value_text (option_map member_data mime)) t
-    (value_text digest) (value_text length) (offset_value offset) (filename_value filename))
-    (value_text-seen status)
-    ∙ ap (λ t. line_of key stamp (value_text (option_map member_data url)) (value_text (option_map member_data mime))
-    (value_text (option_map member_data status)) t (value_text length) (offset_value offset)
-    (filename_value filename)) (value_text-seen digest)
-    ∙ ap (λ t. line_of key stamp (value_text (option_map member_data url)) (value_text (option_map member_data mime))
-    (value_text (option_map member_data status)) (value_text (option_map member_data digest)) t
-    (offset_value offset) (filename_value filename)) (value_text-seen length)
-    ∙ ap (λ o. line_of key stamp (value_text (option_map member_data url)) (value_text (option_map member_data mime))
-    (value_text (option_map member_data status)) (value_text (option_map member_data digest))
-    (value_text (option_map member_data length)) o (filename_value filename)) (offset_value-seen offset)
-    ∙ ap (λ f. line_of key stamp (value_text (option_map member_data url)) (value_text (option_map member_data mime))
-    (value_text (option_map member_data status)) (value_text (option_map member_data digest))
-    (value_text (option_map member_data length)) (offset_value (option_map member_data offset)) f)
-    (filename_value-seen filename)
+    λ i. line_of key stamp (value_text-seen url i) (value_text-seen mime i) (value_text-seen status i)
+    (value_text-seen digest i) (value_text-seen length i) (offset_value-seen offset i)
+    (filename_value-seen filename i)
 
 members_line : (key stamp : List ℕ) (ms : Members) → line_from key stamp (object ms) ≡ found_line key stamp
     (found_of ms)

@@ -76,8 +76,7 @@ impl Line {
     pub(crate) fn read_json(alloc: Global, line: &[u8]) -> Result<Line, LineFault>
         ensures { IsReading LINE_LIMIT line.now result }
     {
-        let mut scratch = Scratch::new(alloc);
-        Line::read_with(alloc, line, &mut scratch)
+        Line::read_with(alloc, line, &mut Scratch::new(alloc))
     }
 
     // The same, with room for the parser: it is large, and stands in a function with one way out.
