@@ -24,8 +24,8 @@ fi
 copy=$(mktemp -d)
 trap 'rm -rf "$copy"' EXIT
 mkdir -p "$copy/crates/bench_lines/src"
-cp -r "$root"/crates/{cdxj_core,cdxj_keys,cdxj_places} "$copy/crates/"
-grep -E '^cdxj_(core|keys|places):' "$root/crates.txt" > "$copy/crates.txt"
+cp -r "$root"/crates/{cdxj_core,cdxj_keys,cdxj_objects,cdxj_places} "$copy/crates/"
+grep -E '^cdxj_(core|keys|objects|places):' "$root/crates.txt" > "$copy/crates.txt"
 echo 'bench_lines: cdxj_core url serde_json anyhow' >> "$copy/crates.txt"
 echo 'Handles allowed: none.' > "$copy/HANDLES"
 git -C "$copy" init -q

@@ -23,8 +23,8 @@ fi
 copy=$(mktemp -d)
 trap 'rm -rf "$copy"' EXIT
 mkdir -p "$copy/crates/bench_queries/src"
-cp -r "$root"/crates/{query_text,cdxj_core,cdxj_keys,cdxj_places} "$copy/crates/"
-grep -E '^(query_text|cdxj_(core|keys|places)):' "$root/crates.txt" > "$copy/crates.txt"
+cp -r "$root"/crates/{query_text,cdxj_core,cdxj_keys,cdxj_objects,cdxj_places} "$copy/crates/"
+grep -E '^(query_text|cdxj_(core|keys|objects|places)):' "$root/crates.txt" > "$copy/crates.txt"
 echo 'bench_queries: query_text cdxj_core url anyhow' >> "$copy/crates.txt"
 echo 'Handles allowed: none.' > "$copy/HANDLES"
 git -C "$copy" init -q

@@ -22,15 +22,15 @@ use Rattle.warc_core.proofs.CauseLemmas.{not-memory}
 use Rattle.cdxj_core.specs.Entries.{EntryValue, HasLine}
 use Rattle.capture_core.specs.declared.fault.CaptureFault.{CaptureFault}
 use Rattle.capture_core.specs.declared.fault.CaptureFault.TheVariants.{Archive, LineTooLong, KeyTooLong}
-use Rattle.capture_core.specs.Base32.{base32_of}
+use Rattle.block_digests.specs.Base32.{base32_of}
 use Rattle.capture_core.specs.HttpHead.{then_more}
-use Rattle.capture_core.specs.Payload.{digest_of_rest}
+use Rattle.block_digests.specs.RestDigest.{digest_of_rest}
 use Rattle.capture_core.specs.Capture.{ResponseValue, IsCaptureUnder, entry_of, response_of, digest_of, settled_digest}
 use Rattle.capture_core.specs.Capture.{payload_of}
 use Rattle.capture_core.specs.RecordReading.{read_to, reading_of, IsFaultAt, Leaves, ReadsRest}
 use Rattle.capture_core.specs.CaptureAnswer.{Limits, IsCaptureOf, IsEntryOf, AnswersEntry, PartsBlock}
-use Rattle.capture_core.proofs.HeadLemmas.{take_past}
-use Rattle.capture_core.proofs.VerdictLemmas.{digest-then, digest-found}
+use Rattle.block_digests.proofs.DigestLemmas.{take_past}
+use Rattle.block_digests.proofs.VerdictLemmas.{digest-then, digest-found}
 
 -- a fault that isn't a refused growth ends the reading
 pub read_to-fault : (c : Cause) → c ≢ causes.Memory → read_to c ≡ Err c

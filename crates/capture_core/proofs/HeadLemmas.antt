@@ -1,10 +1,10 @@
 -- A block's head is the only one, and is found in as many of its first bytes as a head may have.
-use Rattle.std.proofs.Common.{◌≡◌, ℕ, ◌+◌, ◌-◌, ◌≤◌, List, ◌++◌, length, length-append, take, drop, refl, ap, subst}
-use Rattle.std.proofs.Common.{◌∙◌, arith, Some, None}
+use Rattle.std.proofs.Common.{◌≡◌, ℕ, ◌-◌, List, ◌++◌, length, length-append, take, drop, refl, ap, subst, ◌∙◌, arith}
+use Rattle.std.proofs.Common.{Some, None}
 use Rattle.std.proofs.lemmas.List.{take-append-drop}
-use Rattle.std.proofs.Math.Seq.{take-append-add}
 use Rattle.httparse.specs.Grammar.{print_response, ReadsResponse}
 use Rattle.httparse.proofs.GrammarLemmas.{response_unique, ReadsResponse-append}
+use Rattle.block_digests.proofs.DigestLemmas.{take_past}
 use Rattle.capture_core.specs.HttpHead.{FrontDecides, HasNoHead, OneHead}
 
 pub one_head : OneHead
@@ -14,11 +14,6 @@ one_head bytes fields block (Some x) None a b = absurd (b x.0 x.1 a)
 one_head bytes fields block (Some x) (Some y) a b =
     let same = response_unique block x.0 y.0 x.1 y.1 a.reads b.reads in
     λ i. Some (same.0 i, same.1 i)
-
-pub take_past : (n : ℕ) (xs ys : List ℕ) → length xs ≤ n → take n (xs ++ ys) ≡ xs ++ take (n - length xs) ys
-take_past n xs ys h =
-    let e : n ≡ length xs + (n - length xs) = omega arith in
-    ap (λ m. take m (xs ++ ys)) e ∙ take-append-add xs ys (n - length xs)
 
 pub front_decides : FrontDecides
 front_decides bytes fields block None h = λ head payload b. h head (take (bytes - length (print_response head)) payload)

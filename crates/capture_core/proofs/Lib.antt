@@ -1,8 +1,5 @@
 pub mod TypeNames
-pub mod Bits
 pub mod HeadLemmas
-pub mod DigestLemmas
-pub mod VerdictLemmas
 pub mod SpellingLemmas
 pub mod GoodEntries
 pub mod Captures

@@ -5,7 +5,8 @@ use Rattle.std.proofs.lemmas.Bool.{and_parts, eqb-true}
 use Rattle.std.proofs.lemmas.Fmt.{digits_value-decimal}
 use Rattle.std.proofs.Math.Seq.{take-append_seam, drop-append-add}
 use Rattle.cdxj_core.specs.declared.limit.TheConstants.{LINE_LIMIT}
-use Rattle.cdxj_core.specs.Entries.{EntryValue, IsGood, line_text, object_text, members_of, HasLine}
+use Rattle.cdxj_core.specs.Entries.{EntryValue, IsGood, line_text, members_of, HasLine}
+use Rattle.cdxj_core.specs.Objects.{object_text}
 use Rattle.cdxj_core.proofs.EntryUtf8.{line_law}
 use Rattle.cdxj_places.proofs.Offsets.{own}
 use Rattle.capture_core.specs.Spelling.{entry_or_nothing, entry_in, Holds}

@@ -1,7 +1,4 @@
-pub mod Base32
 pub mod HttpHead
-pub mod Payload
-pub mod BlockDigest
 pub mod Utf8Text
 pub mod FieldValue
 pub mod Types
@@ -14,6 +11,10 @@ pub mod CaptureAnswer
 pub mod CaptureSteps
 pub mod Spelling
 pub mod Limits
+-- what contracts see of digests
+pub use Rattle.block_digests.specs.Base32
+pub use Rattle.block_digests.specs.BlockDigest
+pub use Rattle.block_digests.specs.RestDigest
 -- what contracts see of records
 pub use Rattle.warc_core.specs.Answers
 pub use Rattle.warc_core.specs.Calls

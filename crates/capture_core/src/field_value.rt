@@ -1,8 +1,8 @@
 //! The parts of a field's value that an entry contains.
-ghost use Rattle.std.specs.Prelude.{◌≡◌, ◌==◌, ◌<◌, codes, length, position, MatchOption, IfSome, Some, None};
-ghost use Rattle.warc_head.specs.Names.{same_name};
+ghost use Rattle.std.specs.Prelude.{◌≡◌, ◌==◌, ◌<◌, length, position, MatchOption, IfSome, Some, None};
 ghost use Rattle.capture_core.specs.FieldValue.{non_empty, without_brackets, before_semicolon, media_type, without_sha1};
 
+use block_digests::is_sha1;
 use memchr::memchr_iter;
 use warc_head::trim;
 
@@ -34,14 +34,6 @@ pub(crate) fn without_sha1(value: &[u8]) -> &[u8]
         Some((label, digest)) if is_sha1(label) => digest,
         _ => value,
     }
-}
-
-/// Returns `true` if the label of a digest is `sha1:`, ignoring ASCII case. Most records write it in lower case, which is
-/// the faster test.
-pub(crate) fn is_sha1(label: &[u8]) -> bool
-    ensures { result ≡ same_name label.now (codes "sha1:") }
-{
-    label == b"sha1:".as_slice() || label.eq_ignore_ascii_case(b"sha1:")
 }
 
 /// Returns a media type without its parameters and the white space around it.

@@ -143,7 +143,8 @@ ghost use Rattle.std.specs.Prelude.{◌≡◌, ◌+◌, ◌≤◌, length, take,
 /// Returns where this file name stands at the end of the line, if it has no escapes there.
 fn plain_start(line: &[u8], name: &[u8]) -> Option<usize>
     ensures within { IfSome result (λ start. start + length name.now ≤ length line.now) }
-    ensures name { IfSome result (λ start. take (length name.now) (drop start line.now) ≡ name.now) }
+    ensures name { IfSome result (λ start. take (length name.now) (drop start line.now)
+        ≡ name.now) }
 {
     let end = line.len().checked_sub(CLOSING)?;
     let start = end.checked_sub(name.len())?;

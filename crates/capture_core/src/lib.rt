@@ -3,12 +3,8 @@
 //! The definitions begin in `specs/Capture.antt`: the capture of a record.
 #![tactic(auto)]
 
-mod block_check;
 mod capture_line;
 mod closing;
-mod digest;
-mod digest_text;
-mod digest_value;
 mod entry_line;
 mod fault;
 mod field_value;
@@ -25,16 +21,13 @@ mod status;
 mod target;
 mod types;
 mod utf8_text;
-mod verdict;
 
-pub use crate::block_check::block_digest;
-pub use crate::digest_text::base32;
 pub use crate::fault::CaptureFault;
 pub use crate::held_line::HeldLine;
 pub use crate::laws::{block_has_one_head, record_has_one_capture};
 pub use crate::record_capture::{Front, capture, held_capture};
 pub use crate::types::Types;
-pub use crate::verdict::Verdict;
+pub use block_digests::{Verdict, base32, block_digest};
 pub use cdxj_core::{Entry, EntryRef, LINE_LIMIT, LineFault, write_line};
 pub use warc_core::{
     Cause, DeviceFault, Fault, FromFile, FromRead, HEAD_LIMIT, Head, Input, Kind, Reader, Slice,

@@ -45,8 +45,8 @@ pub(crate) fn front_length(head: &Head) -> usize
 pub(crate) fn part_decided<'a>(head: &Head, front: &'a [u8], whole: usize) -> Option<Parted<'a>>
     requires whole { whole ≡ front_length HTTP_HEAD_LIMIT head.now }
     requires front { length front.now ≤ whole }
-    ensures parts { IfSome result (λ p.
-        PartsBlock usual_limits head.now p.bytes.now (option_map response_view p.response) p.payload.now) }
+    ensures parts { IfSome result (λ p. PartsBlock usual_limits head.now p.bytes.now
+        (option_map response_view p.response) p.payload.now) }
     ensures bytes { IfSome result (λ p. p.bytes.now ≡ front.now) }
     ensures code { IfSome result (λ p. IfSome p.response (λ r. r.code < 1000)) }
     ensures open { IfNone result (length front.now < whole) }

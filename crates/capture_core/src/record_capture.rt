@@ -13,8 +13,6 @@ ghost use Rattle.capture_core.specs.CaptureSteps.{IsReadTo, FillsBehind, Capture
 
 use crate::capture_line::memory;
 use crate::closing::capture_closed;
-use crate::digest::digest_rest;
-use crate::digest_text::base32;
 use crate::fault::CaptureFault;
 use crate::held_line::HeldLine;
 use crate::http_head::HTTP_HEAD_LIMIT;
@@ -23,6 +21,7 @@ use crate::payload::{Parted, front_length, part_decided};
 use crate::payload_digest::settled_digest;
 use crate::target::url;
 use crate::types::Types;
+use block_digests::{base32, digest_rest};
 use cdxj_core::{Entry, LINE_LIMIT};
 use std::alloc::{AllocError, Global};
 use warc_core::{Fault, Head, Input, Reader};
@@ -163,7 +162,8 @@ fn read_first<I: Input>(
     requires { first ≤ length front.old }
     ensures { (left len : ℕ) → reader.old.phase ≡ Open left len → GivesBlock left len
         (state_of reader.old (I.remaining input.old) (I.failures input.old))
-        (state_of reader.new (I.remaining input.new) (I.failures input.new)) result (take first front.new) }
+        (state_of reader.new (I.remaining input.new) (I.failures input.new))
+        result (take first front.new) }
 {
     reader.block(input, &mut front[..first])
 }
@@ -182,7 +182,8 @@ fn read_behind<I: Input>(
     ensures { (left len : ℕ) → reader.old.phase ≡ Open left len →
         FillsBehind (take filled front.old) left len
         (state_of reader.old (I.remaining input.old) (I.failures input.old))
-        (state_of reader.new (I.remaining input.new) (I.failures input.new)) result (take goal front.new) }
+        (state_of reader.new (I.remaining input.new) (I.failures input.new))
+        result (take goal front.new) }
 {
     reader.block_exact(input, &mut front[filled..goal])
 }

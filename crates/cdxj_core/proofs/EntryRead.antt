@@ -1,28 +1,30 @@
 -- The line of a good entry is read as that entry.
-use Rattle.std.proofs.Common.{◌≡◌, ℕ, zero, suc, ◌-◌, ◌<◌, ◌≤◌, ◌^◌, ◌==◌, Bool, true, not, List, [], ◌∷◌, ◌++◌, length}
-use Rattle.std.proofs.Common.{take, decimal, Option, Some, None, option_map, option_and_then, get_or, refl, sym, ap}
-use Rattle.std.proofs.Common.{◌∙◌, subst, arith, flat_map, codes, ◌⊎◌, inl, inr, ⊎_elim}
-use Rattle.std.specs.List.{join_by, list_all, before_first, after_first}
+use Rattle.std.proofs.Common.{◌≡◌, ℕ, ◌-◌, ◌<◌, ◌≤◌, ◌^◌, ◌==◌, Bool, true, not, List, [], ◌∷◌, ◌++◌, length}
+use Rattle.std.proofs.Common.{take, decimal, Some, option_and_then, get_or, refl, sym, ap, ◌∙◌, subst, arith}
+use Rattle.std.proofs.Common.{flat_map, ⊎_elim}
+use Rattle.std.specs.List.{join_by, before_first, after_first}
 use Rattle.std.specs.Char.{is_ascii_digit}
-use Rattle.std.proofs.lemmas.Bool.{ne_eqb, eq-eqb, and_parts, cond-true, cond-false, lt-ltb, ltb-true, cases_eq}
-use Rattle.std.proofs.lemmas.Bool.{cases_lt}
+use Rattle.std.proofs.lemmas.Bool.{ne_eqb, eq-eqb, and_parts, cond-true, lt-ltb, ltb-true, cases_lt}
+use Rattle.std.proofs.lemmas.Bool.{agree_below_at}
 use Rattle.std.proofs.lemmas.List.{length-append}
 use Rattle.std.proofs.lemmas.List.Folds.{list_all-append}
 use Rattle.std.proofs.Math.Seq.{take-append_seam, get_or-append_seam}
 use Rattle.std.proofs.lemmas.Fmt.{digits_value-decimal, decimal_nonempty}
 use Rattle.json.specs.Print.{quoted, escape, escape_byte}
 use Rattle.json.proofs.Printed.Strings.{escape_byte_plain}
-use Rattle.serde_json.specs.Data.{Data, string, no_members}
-use Rattle.serde_json.specs.Find.{get}
 use Rattle.cdxj_places.specs.Pair.{is_space, is_key_byte}
 use Rattle.cdxj_places.specs.Places.{offset_of}
-use Rattle.cdxj_core.specs.Entries.{EntryValue, IsGood, member_text, object_text, members_of, body_text, line_text}
-use Rattle.cdxj_core.specs.Lines.{LineValue, has_no_feed, body_of, line_parts, line_from, line_in, entry_values}
-use Rattle.cdxj_core.specs.Lines.{value_text, filename_value, offset_value}
-use Rattle.cdxj_core.proofs.EntryLaw.{Pair, found_in, written, read_object, get_put_all}
 use Rattle.cdxj_places.proofs.PlaceLaw.{key_no_space, digits_no_space, before_first_at, after_first_at, both}
 use Rattle.cdxj_places.proofs.PlaceLaw.{offset_text}
 use Rattle.cdxj_places.proofs.Offsets.{own}
+use Rattle.cdxj_objects.specs.Objects.{member_text, object_text}
+use Rattle.cdxj_objects.proofs.ObjectLaw.{Pair}
+use Rattle.cdxj_objects.proofs.PlainBytes.{weaker}
+use Rattle.cdxj_objects.proofs.SpellingLemmas.{text_stands}
+use Rattle.cdxj_objects.proofs.TextsLaw.{first_of, later_of, data_of, read_texts}
+use Rattle.cdxj_core.specs.Entries.{EntryValue, IsGood, entry_texts, members_of, body_text, line_text}
+use Rattle.cdxj_core.specs.Lines.{has_no_feed, body_of, line_parts, line_from, line_in, entry_values}
+use Rattle.cdxj_core.proofs.ObjectLines.{texts_line}
 
 -- ---- no line feed
 
@@ -32,12 +34,6 @@ no_feed b = not (b == 10)
 joined : (xs ys : List ℕ) → has_no_feed xs ≡ true → has_no_feed ys ≡ true → has_no_feed (xs ++ ys) ≡ true
 joined xs ys h k = list_all-append no_feed xs ys ∙ both _ _ h k
 
-weaker : (test : ℕ → Bool) → ((b : ℕ) → test b ≡ true → no_feed b ≡ true) → (xs : List ℕ) → list_all test xs ≡ true
-    → has_no_feed xs ≡ true
-weaker test step [] h = refl
-weaker test step (x ∷ xs) h = let parts = and_parts (test x) (list_all test xs) h in
-    both _ _ (step x parts.0) (weaker test step xs parts.1)
-
 key_feed : (b : ℕ) → is_key_byte b ≡ true → no_feed b ≡ true
 key_feed b h = let above : 32 < b = ltb-true 32 b (and_parts _ _ h).0 in ap not (ne_eqb b 10 (λ e. omega arith))
 
@@ -45,120 +41,20 @@ digit_feed : (b : ℕ) → is_ascii_digit b ≡ true → no_feed b ≡ true
 digit_feed b h = ap not (ne_eqb b 10 (λ e. let bad : is_ascii_digit 10 ≡ true = subst (λ x. is_ascii_digit x ≡ true) e
     h in cc))
 
-abbrev Each : (ℕ → Type 0) → ℕ → Type 0
-Each P zero = Unit {0}
-Each P (suc n) = P n × Each P n
-
-each_sound : (P : ℕ → Type 0) (n : ℕ) → Each P n → (x : ℕ) → x < n → P x
-each_sound P zero h x lt = absurd (omega arith)
-each_sound P (suc n) h x lt = ⊎_elim (λ e. subst P (sym e) h.0) (λ ne. each_sound P n h.1 x (omega arith))
-    (cases_eq x n)
-
 abbrev Escapes : ℕ → Type 0
 Escapes x = has_no_feed (escape_byte x) ≡ true
 
-controls : Each Escapes 32
+-- by a computation over the bytes up to the backslash; no other is escaped
+low_escapes : (x : ℕ) → x < 93 → Escapes x
 unfolding escape_byte
-controls = (
-  refl,
-  (
-    refl,
-    (
-      refl,
-      (
-        refl,
-        (
-          refl,
-          (
-            refl,
-            (
-              refl,
-              (
-                refl,
-                (
-                  refl,
-                  (
-                    refl,
-                    (
-                      refl,
-                      (
-                        refl,
-                        (
-                          refl,
-                          (
-                            refl,
-                            (
-                              refl,
-                              (
-                                refl,
-                                (
-                                  refl,
-                                  (
-                                    refl,
-                                    (
-                                      refl,
-                                      (
-                                        refl,
-                                        (
-                                          refl,
-                                          (
-                                            refl,
-                                            (
-                                              refl,
-                                              (
-                                                refl,
-                                                (
-                                                  refl,
-                                                  (refl, (refl, (refl, (refl, (refl, (refl, (refl, tt))))))),
-                                                ),
-                                              ),
-                                            ),
-                                          ),
-                                        ),
-                                      ),
-                                    ),
-                                  ),
-                                ),
-                              ),
-                            ),
-                          ),
-                        ),
-                      ),
-                    ),
-                  ),
-                ),
-              ),
-            ),
-          ),
-        ),
-      ),
-    ),
-  ),
-)
+low_escapes x low = agree_below_at (λ x. has_no_feed (escape_byte x)) (λ _. true) 93 x refl low
 
-quote_escape : Escapes 34
-unfolding escape_byte
-quote_escape = refl
-
-backslash_escape : Escapes 92
-unfolding escape_byte
-backslash_escape = refl
-
-plain_escape : (x : ℕ) → 32 ≤ x → Escapes x
-plain_escape x high =
-    ⊎_elim (λ e. subst Escapes (sym e) quote_escape)
-    (λ not_quote. ⊎_elim (λ e. subst Escapes (sym e) backslash_escape)
-    (λ not_backslash. ap has_no_feed (escape_byte_plain x not_quote not_backslash high) ∙ both (no_feed x) true
-    (ap not (ne_eqb x 10 (λ e. omega arith))) refl)
-    (cases_eq x 92))
-    (cases_eq x 34)
+high_escapes : (x : ℕ) → 93 ≤ x → Escapes x
+high_escapes x high = ap has_no_feed (escape_byte_plain x (λ e. omega arith) (λ e. omega arith) (omega arith))
+    ∙ both (no_feed x) true (ap not (ne_eqb x 10 (λ e. omega arith))) refl
 
 escapes : (x : ℕ) → Escapes x
-escapes x = go (x < 32) (λ low. each_sound Escapes 32 controls x low) (plain_escape x) (cases_lt x 32)
-  where
-    go : (P : Type 0) → (P → Escapes x) → (32 ≤ x → Escapes x) → P ⊎ (32 ≤ x) → Escapes x
-    go P f g (inl h) = f h
-    go P f g (inr h) = g h
+escapes x = ⊎_elim (low_escapes x) (high_escapes x) (cases_lt x 93)
 
 escaped : (s : List ℕ) → has_no_feed (escape s) ≡ true
 escaped [] = refl
@@ -180,22 +76,13 @@ object_feed : (m : Pair) (ms : List Pair) → has_no_feed (object_text (m ∷ ms
 object_feed m ms = joined (join_by member_text (44 ∷ 32 ∷ []) (m ∷ ms)) (125 ∷ [])
     (joined (member_text m) _ (member_feed m) (later_feed ms)) refl
 
-abbrev first_member : EntryValue → Pair
-first_member e = (codes "url", e.url)
-
-abbrev later_members : EntryValue → List Pair
-later_members e =
-    (codes "mime", e.mime) ∷ (codes "status", e.status) ∷ (codes "digest", e.digest) ∷
-    (codes "length", decimal e.length) ∷ (codes "offset", decimal e.offset)
-    ∷ (codes "filename", e.filename) ∷ []
-
 pub body_feed : (e : EntryValue) → IsGood e → has_no_feed (body_text e) ≡ true
 body_feed e h =
     let object = object_text (members_of e) in
-    joined e.key (32 ∷ (e.stamp ++ 32 ∷ object)) (weaker is_key_byte key_feed e.key (and_parts _ _ h.key).1)
+    joined e.key (32 ∷ (e.stamp ++ 32 ∷ object)) (weaker is_key_byte no_feed key_feed e.key (and_parts _ _ h.key).1)
     (joined (32 ∷ []) (e.stamp ++ 32 ∷ object) refl (joined e.stamp (32 ∷ object)
-    (weaker is_ascii_digit digit_feed e.stamp (and_parts _ _ h.stamp).1)
-    (joined (32 ∷ []) object refl (object_feed (first_member e) (later_members e)))))
+    (weaker is_ascii_digit no_feed digit_feed e.stamp (and_parts _ _ h.stamp).1)
+    (joined (32 ∷ []) object refl (object_feed (first_of (entry_texts e)) (later_of (entry_texts e))))))
 
 -- ---- the body
 
@@ -208,51 +95,24 @@ body_of-feed xs =
 
 -- ---- the values
 
-abbrev opts : List ℕ → List ℕ → Option Data → Option Data → Option Data → Option Data → Option Data → Option Data
-    → Option Data → Option LineValue
-opts key stamp url mime status digest size offset filename =
-    option_and_then (λ f. option_map (λ o. record {
-      key = key;
-      stamp = stamp;
-      original = value_text url;
-      mimetype = value_text mime;
-      statuscode = value_text status;
-      digest = value_text digest;
-      length = value_text size;
-      offset = o;
-      filename = f;
-    }) (offset_value offset)) (filename_value filename)
-
-found : (e : EntryValue) (name : List ℕ) (d : Data) → found_in name (members_of e) None ≡ Some d → get name (written e)
-    ≡ Some d
-found e name d h = get_put_all name (members_of e) no_members ∙ h
-
-text_value : (s : List ℕ) → 0 < length s → value_text (Some (string s)) ≡ s
-text_value s some = cond-false _ _ _ (ne_eqb (length s) 0 (λ e. omega arith))
-
-values_read : (e : EntryValue) → IsGood e → line_from e.key e.stamp (written e) ≡ Some (entry_values e)
+values_read : (e : EntryValue) → IsGood e → line_from e.key e.stamp (data_of (entry_texts e)) ≡ Some (entry_values e)
 values_read e h =
     let size_fits : e.length < 2 ^ 64 = omega (arith, h.size) in
     let offset_fits : e.offset < 2 ^ 64 = omega (arith, h.offset) in
     let offset_is : offset_of (decimal e.offset) ≡ Some e.offset = cond-true _ _ _ (offset_text e.offset h.offset)
     ∙ ap Some (digits_value-decimal own e.offset offset_fits) in
-    let name_is : filename_value (Some (string e.filename)) ≡ Some e.filename =
-    cond-false _ _ _ (ne_eqb (length e.filename) 0 (λ z. let some = h.filename in omega arith)) in
-    (λ i. opts e.key e.stamp (found e (codes "url") (string e.url) refl i) (found e (codes "mime") (string e.mime) refl
-    i) (found e (codes "status") (string e.status) refl i) (found e (codes "digest") (string e.digest) refl i)
-    (found e (codes "length") (string (decimal e.length)) refl i) (found e (codes "offset") (string (decimal e.offset))
-    refl i) (found e (codes "filename") (string e.filename) refl i))
-    ∙ (λ i. option_and_then (λ f. option_map (λ o. record {
+    texts_line e.key e.stamp (entry_texts e) e.offset offset_is h.filename
+    ∙ (λ i. Some (record {
       key = e.key;
       stamp = e.stamp;
-      original = text_value e.url h.url i;
-      mimetype = text_value e.mime h.mime i;
-      statuscode = text_value e.status h.status i;
-      digest = text_value e.digest h.digest i;
-      length = text_value (decimal e.length) (decimal_nonempty e.length size_fits) i;
-      offset = o;
-      filename = f;
-    }) (offset_is i)) (name_is i))
+      original = text_stands e.url h.url i;
+      mimetype = text_stands e.mime h.mime i;
+      statuscode = text_stands e.status h.status i;
+      digest = text_stands e.digest h.digest i;
+      length = text_stands (decimal e.length) (decimal_nonempty e.length size_fits) i;
+      offset = e.offset;
+      filename = e.filename;
+    }))
 
 pub line_in-body_text : (limit : ℕ) (e : EntryValue) → IsGood e → length (line_text e) ≤ limit
     → line_in limit (body_text e) ≡ Some (entry_values e)
@@ -269,5 +129,5 @@ line_in-body_text limit e h short =
     cond-true _ _ _ (both _ _ (lt-ltb (length (body_text e)) limit below) (body_feed e h))
     ∙ (λ i. line_parts (key_is i) (stamp_is i) (object_is i))
     ∙ cond-true _ _ _ (both _ _ h.key h.stamp)
-    ∙ ap (option_and_then (line_from e.key e.stamp)) (read_object (first_member e) (later_members e))
+    ∙ ap (option_and_then (line_from e.key e.stamp)) (read_texts (entry_texts e))
     ∙ values_read e h

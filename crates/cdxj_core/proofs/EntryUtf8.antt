@@ -1,5 +1,5 @@
 -- The line of an entry is UTF-8.
-use Rattle.std.proofs.Common.{◌≡◌, ℕ, ◌<◌, ◌≤◌, ◌^◌, true, List, [], ◌∷◌, ◌++◌, length, decimal, codes, flat_map, Some}
+use Rattle.std.proofs.Common.{◌≡◌, ℕ, ◌<◌, ◌≤◌, ◌^◌, true, List, [], ◌∷◌, ◌++◌, length, decimal, flat_map, Some}
 use Rattle.std.proofs.Common.{sym, ap, ◌∙◌, subst, arith, IsUtf8, refl, ltb}
 use Rattle.std.specs.List.{join_by, list_all}
 use Rattle.std.proofs.lemmas.Bool.{and_parts, ltb-true}
@@ -9,14 +9,14 @@ use Rattle.std.proofs.lemmas.List.Elements.{All-cons, All-nil}
 use Rattle.std.proofs.lemmas.Fmt.{digits_decimal}
 use Rattle.json.specs.Print.{quoted}
 use Rattle.json.proofs.Printed.Utf8.{IsUtf8-quoted}
-use Rattle.cdxj_core.specs.Entries.{EntryValue, IsGood, member_text, object_text, members_of, body_text, line_text}
-use Rattle.cdxj_core.specs.Lines.{line_in, body_of, entry_values}
-use Rattle.cdxj_places.proofs.PlaceLaw.{digits_utf8}
-use Rattle.cdxj_core.proofs.EntryRead.{line_in-body_text, body_of-feed}
 use Rattle.cdxj_places.proofs.Offsets.{own}
-
-abbrev Pair : Type 0
-Pair = List ℕ × List ℕ
+use Rattle.cdxj_places.proofs.PlaceLaw.{digits_utf8}
+use Rattle.cdxj_objects.specs.Objects.{member_text, object_text}
+use Rattle.cdxj_objects.proofs.ObjectLaw.{Pair}
+use Rattle.cdxj_objects.proofs.TextsLaw.{first_of, later_of}
+use Rattle.cdxj_core.specs.Entries.{EntryValue, IsGood, entry_texts, members_of, body_text, line_text}
+use Rattle.cdxj_core.specs.Lines.{line_in, body_of, entry_values}
+use Rattle.cdxj_core.proofs.EntryRead.{line_in-body_text, body_of-feed}
 
 abbrev AreTexts : List Pair → Type 0
 AreTexts [] = Unit {0}
@@ -47,58 +47,31 @@ object_utf8 m ms h =
     (IsUtf8-append (member_text m) (flat_map (λ m. (44 ∷ 32 ∷ []) ++ member_text m) ms) (member_utf8 m h.0 h.1.0)
     (later_utf8 ms h.1.1)) (byte 125 (omega arith)))
 
-pub ascii_name : (s : List ℕ) → list_all (λ b. ltb b 128) s ≡ true → IsUtf8 s
+ascii_name : (s : List ℕ) → list_all (λ b. ltb b 128) s ≡ true → IsUtf8 s
 ascii_name [] h = IsUtf8-nil
 ascii_name (b ∷ s) h = let parts = and_parts (ltb b 128) (list_all (λ b. ltb b 128) s) h in
     after b s (ltb-true b 128 parts.0) (ascii_name s parts.1)
+
+abbrev AreValues : List Pair → Type 0
+AreValues [] = Unit {0}
+AreValues (m ∷ ms) = IsUtf8 m.1 × AreValues ms
+
+-- names of ASCII, and texts
+named : (ms : List Pair) → list_all (λ m. list_all (λ b. ltb b 128) m.0) ms ≡ true → AreValues ms → AreTexts ms
+named [] ascii values = tt
+named (m ∷ ms) ascii values = let parts = and_parts _ _ ascii in
+    (ascii_name m.0 parts.0, (values.0, named ms parts.1 values.1))
 
 pub body_utf8 : (e : EntryValue) → IsGood e → IsUtf8 (body_text e)
 body_utf8 e h =
     let size_fits : e.length < 2 ^ 64 = let b = h.size in omega (arith, b) in
     let offset_fits : e.offset < 2 ^ 64 = let b = h.offset in omega (arith, b) in
-    let object : IsUtf8 (object_text (members_of e)) =
-    object_utf8 (codes "url", e.url) ((codes "mime", e.mime) ∷ (codes "status", e.status) ∷ (codes "digest", e.digest) ∷
-    (codes "length", decimal e.length) ∷ (codes "offset", decimal e.offset) ∷ (codes "filename", e.filename) ∷ []) (
-      ascii_name (codes "url") refl,
-      (
-        h.utf8_url,
-        (
-          ascii_name (codes "mime") refl,
-          (
-            h.utf8_mime,
-            (
-              ascii_name (codes "status") refl,
-              (
-                h.utf8_status,
-                (
-                  ascii_name (codes "digest") refl,
-                  (
-                    h.utf8_digest,
-                    (
-                      ascii_name (codes "length") refl,
-                      (
-                        digits_utf8 (decimal e.length) (digits_decimal own e.length size_fits),
-                        (
-                          ascii_name (codes "offset") refl,
-                          (
-                            digits_utf8 (decimal e.offset)
-                                (digits_decimal own e.offset offset_fits),
-                            (
-                              ascii_name (codes "filename") refl,
-                              (h.utf8_filename, tt),
-                            ),
-                          ),
-                        ),
-                      ),
-                    ),
-                  ),
-                ),
-              ),
-            ),
-          ),
-        ),
-      ),
-    ) in
+    let size = digits_utf8 (decimal e.length) (digits_decimal own e.length size_fits) in
+    let offset = digits_utf8 (decimal e.offset) (digits_decimal own e.offset offset_fits) in
+    let values : AreValues (members_of e) =
+    (h.utf8_url, (h.utf8_mime, (h.utf8_status, (h.utf8_digest, (size, (offset, (h.utf8_filename, tt))))))) in
+    let object : IsUtf8 (object_text (members_of e)) = object_utf8 (first_of (entry_texts e)) (later_of (entry_texts e))
+    (named (members_of e) refl values) in
     IsUtf8-append e.key (32 ∷ (e.stamp ++ 32 ∷ object_text (members_of e))) h.utf8_key
     (after 32 (e.stamp ++ 32 ∷ object_text (members_of e)) (omega arith)
     (IsUtf8-append e.stamp (32 ∷ object_text (members_of e)) (digits_utf8 e.stamp (and_parts _ _ h.stamp).1)

@@ -1,5 +1,5 @@
 -- The file name of a line is no longer than the line: it is a string of the line's object.
-use Rattle.std.proofs.Common.{◌≡◌, ℕ, zero, suc, ◌+◌, ◌≤◌, ◌&&◌, ◌==◌, nat_lt, List, [], ◌∷◌, length, codes, Ordering}
+use Rattle.std.proofs.Common.{◌≡◌, ℕ, zero, suc, ◌+◌, ◌≤◌, ◌&&◌, ◌==◌, nat_lt, List, [], ◌∷◌, length, Ordering}
 use Rattle.std.proofs.Common.{Less, Equal, Greater, Option, Some, None, option_map, option_and_then, ap, ◌∙◌, subst}
 use Rattle.std.proofs.Common.{arith}
 use Rattle.std.specs.Prelude.{⊤}
@@ -18,11 +18,13 @@ use Rattle.serde_json.specs.Find.{get_member, get}
 use Rattle.cdxj_places.specs.Pair.{is_space, is_key, is_stamp}
 use Rattle.cdxj_places.proofs.PairLemmas.{around}
 use Rattle.cdxj_core.specs.Lines.{LineValue, has_no_feed, body_of, line_object, line_parts, line_from, line_in}
-use Rattle.cdxj_core.specs.Lines.{values_of, offset_value, filename_value}
+use Rattle.cdxj_objects.specs.MemberValues.{offset_value, filename_value}
+use Rattle.cdxj_objects.specs.Names.{offset_name, filename_name}
+use Rattle.cdxj_core.specs.Lines.{values_of}
 use Rattle.cdxj_core.specs.Members.{Member, line_entry}
 use Rattle.cdxj_core.proofs.PairLaw.{if_test, and_then_some, map_some, some_read}
 use Rattle.cdxj_core.proofs.MemberLemmas.{entered}
-use Rattle.cdxj_core.proofs.StringLength.{Each, each_map, each_then, either, UpTo, AreShort, short_tokens}
+use Rattle.cdxj_objects.proofs.StringLength.{Each, each_map, each_then, either, UpTo, AreShort, short_tokens}
 
 -- ---- the value that the tokens are: a string, or the strings of an object
 
@@ -248,12 +250,12 @@ short_filename n (Some (Data.array ds)) h = tt
 short_filename n (Some (Data.object ms)) h = tt
 
 -- the file name of an object is no longer than the object's text
-filename_in : (text filename : List ℕ) (d : Data) → read text ≡ Some d → filename_value (get (codes "filename") d) ≡
+filename_in : (text filename : List ℕ) (d : Data) → read text ≡ Some d → filename_value (get filename_name d) ≡
     Some filename → length filename ≤ length text
 filename_in text filename d is named =
     let n = length text in
     let all = subst (Each (ShortData n)) is (short_read text) in
-    subst (Each (UpTo n)) named (short_filename n (get (codes "filename") d) (short_got n (codes "filename") d all))
+    subst (Each (UpTo n)) named (short_filename n (get filename_name d) (short_got n filename_name d all))
 
 filename_in_body : (limit : ℕ) (body : List ℕ) (v : LineValue) → line_in limit body ≡ Some v
     → length v.filename ≤ length body
@@ -267,9 +269,9 @@ filename_in_body limit body v h =
     let inner = if_test (is_key key && is_stamp stamp) (line_object key stamp object) v outer.1 in
     let was_read = and_then_some (line_from key stamp) (read object) v inner.1 in
     let named = and_then_some (λ filename. option_map (values_of key stamp was_read.0 filename)
-    (offset_value (get (codes "offset") was_read.0))) (filename_value (get (codes "filename") was_read.0)) v
+    (offset_value (get offset_name was_read.0))) (filename_value (get filename_name was_read.0)) v
     was_read.2 in
-    let made = map_some (values_of key stamp was_read.0 named.0) (offset_value (get (codes "offset") was_read.0)) v
+    let made = map_some (values_of key stamp was_read.0 named.0) (offset_value (get offset_name was_read.0)) v
     named.2 in
     let filename_is : named.0 ≡ v.filename = ap (λ w. w.filename) made.1 in
     let within = filename_in object named.0 was_read.0 was_read.1 named.1 in

@@ -13,27 +13,29 @@ use Rattle.cdxj_places.specs.Pair.{is_space, is_key, is_stamp}
 use Rattle.cdxj_places.specs.Places.{offset_of}
 use Rattle.cdxj_places.proofs.PairLemmas.{around, pair_front}
 use Rattle.cdxj_places.proofs.PlaceLaw.{both}
+use Rattle.cdxj_objects.specs.declared.member_ends.TheConstants.{OPEN}
+use Rattle.cdxj_objects.specs.FoundMembers.{FoundValue, object_found, members_in}
+use Rattle.cdxj_objects.specs.MemberValues.{filename_value, offset_value}
+use Rattle.cdxj_objects.specs.Plain.{ArePlain, IsCutAt, plain_text, values_of_texts}
+use Rattle.cdxj_objects.specs.PlainPlaces.{AreEndsOf}
+use Rattle.cdxj_objects.specs.Spelling.{IsSpelled, raw_texts, found_texts}
+use Rattle.cdxj_objects.specs.Texts.{TextsValue, missing, or_missing}
+use Rattle.cdxj_objects.proofs.PlainBytes.{digits_plain, plain_decimal}
+use Rattle.cdxj_objects.proofs.PlainPlaces.{GoesOn, byte_at, next, parts_there, texts_there}
 use Rattle.cdxj_core.specs.declared.field.Field.{Field}
 use Rattle.cdxj_core.specs.declared.field.Field.TheVariants.{Urlkey, Timestamp, Original, Mimetype, Statuscode, Digest}
 use Rattle.cdxj_core.specs.declared.field.Field.TheVariants.{Length, Offset, Filename}
 use Rattle.cdxj_core.specs.declared.spans.Spans.{Spans}
-use Rattle.cdxj_core.specs.declared.spans.TheConstants.{OPEN, TO_STAMP, TO_STAMP_END, TO_URL}
-use Rattle.cdxj_core.specs.FoundMembers.{FoundValue, object_found, members_in}
-use Rattle.cdxj_core.specs.KeptLine.{IsKept, no_member, member_in}
-use Rattle.cdxj_core.specs.Lines.{body_of, has_no_feed, field_value, filename_value, offset_value, line_object}
-use Rattle.cdxj_core.specs.Lines.{line_value}
+use Rattle.cdxj_core.specs.declared.spans.TheConstants.{TO_STAMP, TO_STAMP_END, TO_URL}
+use Rattle.cdxj_core.specs.Clean.{is_clean}
+use Rattle.cdxj_core.specs.KeptLine.{IsKept, no_member, member_in, texts_in}
+use Rattle.cdxj_core.specs.Lines.{body_of, has_no_feed, field_value, line_object, line_value}
 use Rattle.cdxj_core.specs.Members.{Member, member_pair, line_entry}
-use Rattle.cdxj_core.specs.Plain.{ArePlain, IsCutAt, is_clean, plain_text, values_of_texts}
-use Rattle.cdxj_core.specs.PlainPlaces.{AreEndsOf, texts_in}
-use Rattle.cdxj_core.specs.Spelling.{IsSpelled, raw_texts, found_texts}
-use Rattle.cdxj_core.specs.Texts.{TextsValue, missing, or_missing}
-use Rattle.cdxj_core.proofs.FoundLaw.{line_found, line_made}
+use Rattle.cdxj_core.proofs.FoundLines.{line_found, line_made}
+use Rattle.cdxj_core.proofs.LineCuts.{first_cut, first_stamp}
 use Rattle.cdxj_core.proofs.MemberLemmas.{body_entry, entry_pair_is, entry_of-body, entered}
+use Rattle.cdxj_core.proofs.ObjectLines.{line_object-plain}
 use Rattle.cdxj_core.proofs.PairLaw.{and_then_some, some_read}
-use Rattle.cdxj_core.proofs.PlainBytes.{digits_plain, plain_decimal}
-use Rattle.cdxj_core.proofs.PlainCuts.{first_cut, first_stamp}
-use Rattle.cdxj_core.proofs.PlainLaw.{line_object-plain}
-use Rattle.cdxj_core.proofs.PlainPlaces.{GoesOn, byte_at, next, placed}
 use Rattle.cdxj_core.proofs.UnescapedAscii.{all_parts, clean_feed, clean_key}
 
 -- the entry of a line that was cut at its first two spaces, whose object is plain
@@ -66,6 +68,10 @@ plain_values key stamp t offset small h = record {
   offset = plain_decimal offset small;
   filename = h.filename;
 }
+
+values_in : (key stamp : List ℕ) (t : TextsValue) (offset : ℕ) → t.offset ≡ decimal offset
+    → values_of_texts t ≡ texts_in (line_value key stamp (values_of_texts t) offset)
+values_in key stamp t offset digits = λ i. record (values_of_texts t) { offset = digits i }
 
 -- a line that was cut at its first two spaces, and what follows it in its text
 pub kept_line : (limit : ℕ) (text body tail key stamp object : List ℕ) (t : TextsValue) (offset at : ℕ) (s : Spans)
@@ -106,7 +112,11 @@ kept_line limit text body tail key stamp object t offset at s utf8 entry seam cu
       stamp_text = there.is;
       stamp_is = stamp_is;
       offset_is = offset_is;
-      placed = placed text utf8 at t s.start s.ends here begins ends key stamp offset digits;
+      placed = record {
+        parts = parts_there text utf8 at t s.start s.ends here begins ends;
+        texts_are = ap values_of_texts (texts_there text utf8 at t s.start s.ends here begins ends)
+            ∙ values_in key stamp t offset digits;
+      };
       key_rule = good_key;
       stamp_rule = good_stamp;
       filename_rule = named;

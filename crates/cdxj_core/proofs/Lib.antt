@@ -1,20 +1,12 @@
 pub mod PairLaw
 pub mod MemberLemmas
 pub mod KeptLemmas
-pub mod StringLength
 pub mod FilenameLength
 pub mod IndexLemmas
 pub mod EntryUtf8
 pub mod EntryWrite
 pub mod EntryRead
-pub mod EntryLaw
-pub mod PlainBytes
-mod LaneLemmas
-pub mod PlainCuts
-pub mod PlainLaw
+pub mod FoundLines
+pub mod LineCuts
+pub mod ObjectLines
 pub mod UnescapedAscii
-pub mod PlainPlaces
-pub mod NumberTexts
-pub mod JsonReading
-pub mod FoundLaw
-pub mod SpellingLemmas

@@ -1,7 +1,7 @@
 -- A line that has values begins with their pair.
 use Rattle.std.proofs.Common.{◌≡◌, ℕ, ◌-◌, ◌<◌, ◌≤◌, ◌==◌, ◌&&◌, Bool, true, false, cond, List, [], ◌∷◌, ◌++◌, length}
 use Rattle.std.proofs.Common.{take, drop, Option, Some, None, option_map, option_and_then, get_or, append-nil, nat_lt}
-use Rattle.std.proofs.Common.{codes, refl, sym, ap, ◌∙◌, arith, append_assoc, take-append-drop}
+use Rattle.std.proofs.Common.{refl, sym, ap, ◌∙◌, arith, append_assoc, take-append-drop}
 use Rattle.std.specs.List.{before_first, after_first}
 use Rattle.std.proofs.lemmas.Bool.{and_parts, cond-true, eqb-true, ltb-true, lt-ltb}
 use Rattle.std.proofs.lemmas.List.{length-append}
@@ -11,7 +11,9 @@ use Rattle.serde_json.specs.Read.{read}
 use Rattle.serde_json.proofs.OnLiterals.{serde_json_on_literals}
 use Rattle.cdxj_places.specs.Pair.{is_space, is_key, is_stamp, pair_of}
 use Rattle.cdxj_core.specs.Lines.{LineValue, has_no_feed, body_of, line_object, line_parts, line_from, line_in}
-use Rattle.cdxj_core.specs.Lines.{values_of, offset_value, filename_value}
+use Rattle.cdxj_objects.specs.MemberValues.{offset_value, filename_value}
+use Rattle.cdxj_objects.specs.Names.{offset_name, filename_name}
+use Rattle.cdxj_core.specs.Lines.{values_of}
 use Rattle.cdxj_places.proofs.PlaceLaw.{both}
 use Rattle.cdxj_places.proofs.PairLemmas.{pair_of-parts, around}
 
@@ -54,9 +56,9 @@ line_pair line limit v h =
     let tests = and_parts (is_key key) (is_stamp stamp) inner.0 in
     let was_read = and_then_some (line_from key stamp) (read object) v inner.1 in
     let named = and_then_some (λ filename. option_map (values_of key stamp was_read.0 filename)
-    (offset_value (get (codes "offset") was_read.0))) (filename_value (get (codes "filename") was_read.0)) v
+    (offset_value (get offset_name was_read.0))) (filename_value (get filename_name was_read.0)) v
     was_read.2 in
-    let made = map_some (values_of key stamp was_read.0 named.0) (offset_value (get (codes "offset") was_read.0)) v
+    let made = map_some (values_of key stamp was_read.0 named.0) (offset_value (get offset_name was_read.0)) v
     named.2 in
     let object_some : 0 < length object = some_read object was_read.0 was_read.1 in
     let stamp_len : length stamp ≡ 14 = eqb-true (length stamp) 14 (and_parts _ _ tests.1).0 in

@@ -8,14 +8,10 @@ use Rattle.std.proofs.lemmas.List.Folds.{list_all-append}
 use Rattle.json.proofs.Printed.Utf8.{are_ascii, IsUtf8-are_ascii}
 use Rattle.cdxj_places.specs.Pair.{is_key_byte, is_key}
 use Rattle.cdxj_places.proofs.PlaceLaw.{both}
+use Rattle.cdxj_objects.specs.Plain.{is_other, is_unescaped}
+use Rattle.cdxj_objects.proofs.PlainBytes.{weaker}
+use Rattle.cdxj_core.specs.Clean.{is_clean, is_unescaped_ascii}
 use Rattle.cdxj_core.specs.Lines.{has_no_feed}
-use Rattle.cdxj_core.specs.Plain.{is_clean, is_other, is_unescaped, is_unescaped_ascii}
-
-pub weaker : (p q : ℕ → Bool) → ((b : ℕ) → p b ≡ true → q b ≡ true) → (xs : List ℕ) → list_all p xs ≡ true
-    → list_all q xs ≡ true
-weaker p q f [] h = refl
-weaker p q f (x ∷ xs) h = let parts = and_parts (p x) (list_all p xs) h in both (q x) (list_all q xs) (f x parts.0)
-    (weaker p q f xs parts.1)
 
 clean_byte : (b : ℕ) → is_clean b ≡ true → (is_unescaped b ≡ true) × (not (b == 127) ≡ true)
 clean_byte b h = and_parts (is_unescaped b) (not (b == 127)) h

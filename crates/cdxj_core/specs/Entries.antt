@@ -1,13 +1,12 @@
 -- Entries, and the line that an index has of one.
-use Rattle.std.specs.Prelude.{◌≡◌, ℕ, ◌^◌, ◌<◌, ◌≤◌, true, List, [], ◌∷◌, ◌++◌, length, codes, decimal}
-use Rattle.std.specs.List.{join_by}
+use Rattle.std.specs.Prelude.{◌≡◌, ℕ, ◌^◌, ◌<◌, ◌≤◌, true, List, [], ◌∷◌, ◌++◌, length, decimal}
 use Rattle.std.specs.Str.{IsUtf8}
-use Rattle.json.specs.Print.{quoted}
 use Rattle.cdxj_places.specs.Bytes.{line_feed, space}
 use Rattle.cdxj_places.specs.Pair.{is_key, is_stamp}
 use Rattle.cdxj_places.specs.Pairs.{Pair}
 use Rattle.cdxj_places.specs.Places.{PlaceValue}
-use Rattle.cdxj_core.specs.Texts.{TextsValue, text_members}
+use Rattle.cdxj_objects.specs.Objects.{object_text}
+use Rattle.cdxj_objects.specs.Texts.{TextsValue, text_members}
 
 -- what an index says of a capture: texts as the lists of their bytes, length and offset in bytes
 pub record EntryValue : Type 0 where
@@ -60,18 +59,6 @@ entry_texts e = record {
 -- its members, in order
 abbrev pub members_of : EntryValue → List (List ℕ × List ℕ)
 members_of e = text_members (entry_texts e)
-
--- `"name": "value"`
-abbrev pub member_text : List ℕ × List ℕ → List ℕ
-member_text (name, value) = quoted name ++ codes ": " ++ quoted value
-
--- a member after another
-abbrev pub later_text : List ℕ × List ℕ → List ℕ
-later_text member = codes ", " ++ member_text member
-
--- the members between braces, with `, ` between
-abbrev pub object_text : List (List ℕ × List ℕ) → List ℕ
-object_text members = codes "{" ++ (join_by member_text (codes ", ") members ++ codes "}")
 
 -- the line without its line feed
 abbrev pub body_text : EntryValue → List ℕ

@@ -1,12 +1,33 @@
 -- A line that was read: its text, and where its parts stand in it.
-use Rattle.std.specs.Prelude.{◌≡◌, ℕ, ◌+◌, ◌<◌, ◌^◌, true, List, [], take, length, Some, unwrap_or}
+use Rattle.std.specs.Prelude.{◌≡◌, ℕ, ◌+◌, ◌<◌, ◌^◌, true, List, [], take, length, decimal, Some, unwrap_or}
 use Rattle.std.specs.Str.{IsCharBoundary}
 use Rattle.cdxj_places.specs.Pair.{is_key, is_stamp}
+use Rattle.cdxj_objects.specs.declared.member_ends.MemberEnds.{MemberEnds}
+use Rattle.cdxj_objects.specs.Plain.{ArePlain, values_of_texts}
+use Rattle.cdxj_objects.specs.PlainPlaces.{AreParts, IsPart, part, texts_at}
+use Rattle.cdxj_objects.specs.Texts.{TextsValue}
 use Rattle.cdxj_core.specs.declared.spans.Spans.{Spans}
 use Rattle.cdxj_core.specs.declared.spans.TheConstants.{TO_STAMP, TO_STAMP_END}
+use Rattle.cdxj_core.specs.Lines.{LineValue}
 use Rattle.cdxj_core.specs.Members.{Member, line_entry}
-use Rattle.cdxj_core.specs.Plain.{ArePlain}
-use Rattle.cdxj_core.specs.PlainPlaces.{AreMemberEnds, IsPart, part, texts_in}
+
+-- the texts of the members that have these values
+abbrev pub texts_in : LineValue → TextsValue
+texts_in v = record {
+  url = v.original;
+  mime = v.mimetype;
+  status = v.statuscode;
+  digest = v.digest;
+  length = v.length;
+  offset = decimal v.offset;
+  filename = v.filename;
+}
+
+-- the texts that stand there have these values
+pub record AreMemberEnds (text : List ℕ) (start : ℕ) (e : MemberEnds) (values : LineValue) : Type 0
+  where
+    pub parts : AreParts text start e
+    pub texts_are : values_of_texts (texts_at text start e) ≡ texts_in values
 
 -- The text begins with the line of this member, and its parts stand there. Behind a line that isn't
 -- plain, the text has a plain object with the texts of the line's members.

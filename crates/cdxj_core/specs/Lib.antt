@@ -1,17 +1,22 @@
 pub mod Entries
-pub mod Texts
 pub mod Lines
-pub mod Plain
-pub mod FoundMembers
-pub mod FoundViews
-pub mod MemberViews
+pub mod Clean
 pub mod EntryView
 pub mod LineTexts
 pub mod Members
-pub mod PlainPlaces
 pub mod KeptLine
 pub mod Indexes
-pub mod Spelling
+-- what contracts see of a line's object
+pub use Rattle.cdxj_objects.specs.Names
+pub use Rattle.cdxj_objects.specs.Texts
+pub use Rattle.cdxj_objects.specs.Objects
+pub use Rattle.cdxj_objects.specs.MemberValues
+pub use Rattle.cdxj_objects.specs.FoundMembers
+pub use Rattle.cdxj_objects.specs.FoundViews
+pub use Rattle.cdxj_objects.specs.MemberViews
+pub use Rattle.cdxj_objects.specs.Plain
+pub use Rattle.cdxj_objects.specs.PlainPlaces
+pub use Rattle.cdxj_objects.specs.Spelling
 -- what contracts see of places
 pub use Rattle.cdxj_places.specs.Bytes
 pub use Rattle.cdxj_places.specs.Pair

@@ -1,8 +1,8 @@
 -- What a line of an index says, for any limit of a line's bytes.
-use Rattle.std.specs.Prelude.{ℕ, ◌^◌, ◌&&◌, ◌==◌, Bool, not, nat_lt, List, take, length, ◌-◌, slice_index, codes}
-use Rattle.std.specs.Prelude.{decimal, Option, Some, None, option_map, option_and_then, if◌then◌else◌}
+use Rattle.std.specs.Prelude.{ℕ, ◌&&◌, ◌==◌, Bool, not, nat_lt, List, take, length, ◌-◌, slice_index}
+use Rattle.std.specs.Prelude.{decimal, Option, None, option_map, option_and_then, if◌then◌else◌}
 use Rattle.std.specs.List.{list_all, before_first, after_first}
-use Rattle.serde_json.specs.Data.{Num, unsigned, negative, float, Data, null, boolean, number, string, array, object}
+use Rattle.serde_json.specs.Data.{Data}
 use Rattle.serde_json.specs.Read.{read}
 use Rattle.serde_json.specs.Find.{get}
 use Rattle.cdxj_core.specs.declared.field.Field.{Field}
@@ -10,9 +10,12 @@ use Rattle.cdxj_core.specs.declared.field.Field.TheVariants.{Urlkey, Timestamp, 
 use Rattle.cdxj_core.specs.declared.field.Field.TheVariants.{Length, Offset, Filename}
 use Rattle.cdxj_places.specs.Bytes.{line_feed}
 use Rattle.cdxj_places.specs.Pair.{is_space, is_key, is_stamp}
-use Rattle.cdxj_places.specs.Places.{PlaceValue, offset_of}
+use Rattle.cdxj_places.specs.Places.{PlaceValue}
+use Rattle.cdxj_objects.specs.MemberValues.{value_text, filename_value, offset_value}
+use Rattle.cdxj_objects.specs.Names.{url_name, mime_name, status_name, digest_name, length_name, offset_name}
+use Rattle.cdxj_objects.specs.Names.{filename_name}
+use Rattle.cdxj_objects.specs.Texts.{TextsValue}
 use Rattle.cdxj_core.specs.Entries.{EntryValue}
-use Rattle.cdxj_core.specs.Texts.{TextsValue, missing, or_missing}
 
 -- the nine values of a line; the offset is a number, all others are texts
 pub record LineValue : Type 0 where
@@ -70,54 +73,14 @@ entry_values e = record {
   filename = e.filename;
 }
 
-abbrev pub number_value : Num → List ℕ
-number_value (unsigned n) = decimal n
-number_value (negative z) = missing
-number_value (float x) = missing
-
--- a member's value: a text as it is, a number that fits 64 bits in decimal, and `-` for all else
-abbrev pub value_text : Option Data → List ℕ
-value_text None = missing
-value_text (Some null) = missing
-value_text (Some (boolean b)) = missing
-value_text (Some (number n)) = number_value n
-value_text (Some (string s)) = or_missing s
-value_text (Some (array ds)) = missing
-value_text (Some (object ms)) = missing
-
--- the file name: a text that is not empty
-abbrev pub filename_value : Option Data → Option (List ℕ)
-filename_value None = None
-filename_value (Some null) = None
-filename_value (Some (boolean b)) = None
-filename_value (Some (number n)) = None
-filename_value (Some (string s)) = if length s == 0 then None else Some s
-filename_value (Some (array ds)) = None
-filename_value (Some (object ms)) = None
-
-abbrev pub offset_number : Num → Option ℕ
-offset_number (unsigned n) = if nat_lt n (2 ^ 63) then Some n else None
-offset_number (negative z) = None
-offset_number (float x) = None
-
--- the offset: a number below 2^63, or its digits as a text
-abbrev pub offset_value : Option Data → Option ℕ
-offset_value None = None
-offset_value (Some null) = None
-offset_value (Some (boolean b)) = None
-offset_value (Some (number n)) = offset_number n
-offset_value (Some (string s)) = offset_of s
-offset_value (Some (array ds)) = None
-offset_value (Some (object ms)) = None
-
 -- the texts of an object's members
 abbrev pub texts_of : Data → List ℕ → ℕ → TextsValue
 texts_of d filename offset = record {
-  url = value_text (get (codes "url") d);
-  mime = value_text (get (codes "mime") d);
-  status = value_text (get (codes "status") d);
-  digest = value_text (get (codes "digest") d);
-  length = value_text (get (codes "length") d);
+  url = value_text (get url_name d);
+  mime = value_text (get mime_name d);
+  status = value_text (get status_name d);
+  digest = value_text (get digest_name d);
+  length = value_text (get length_name d);
   offset = decimal offset;
   filename = filename;
 }
@@ -130,7 +93,7 @@ values_of key stamp d filename offset = line_value key stamp (texts_of d filenam
 abbrev pub line_from : List ℕ → List ℕ → Data → Option LineValue
 line_from key stamp d =
     option_and_then (λ filename. option_map (values_of key stamp d filename)
-    (offset_value (get (codes "offset") d))) (filename_value (get (codes "filename") d))
+    (offset_value (get offset_name d))) (filename_value (get filename_name d))
 
 -- the line without a line feed at its end
 abbrev pub body_of : List ℕ → List ℕ

@@ -2,8 +2,8 @@
 ghost use Rattle.std.specs.Prelude.{◌≡◌, ◌<◌, length, true, IfSome, IsUtf8};
 ghost use Rattle.std.specs.List.{list_all};
 ghost use Rattle.cdxj_core.specs.declared.limit.TheConstants.{LINE_LIMIT};
+ghost use Rattle.cdxj_core.specs.Clean.{is_clean};
 ghost use Rattle.cdxj_core.specs.Lines.{body_of, has_no_feed};
-ghost use Rattle.cdxj_core.specs.Plain.{is_clean};
 
 use crate::limit::LINE_LIMIT;
 use crate::unescaped::{is_clean, is_unescaped_ascii};

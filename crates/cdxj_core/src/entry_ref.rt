@@ -1,5 +1,5 @@
 //! The entry of a capture, as texts that are borrowed.
-use crate::borrowed_members::BorrowedMembers;
+use cdxj_objects::BorrowedMembers;
 
 /// The contents of an index line about one capture. Its texts are borrowed.
 #[derive(Clone, Copy, Debug)]
@@ -26,9 +26,9 @@ pub struct EntryRef<'a> {
 
 impl<'a> EntryRef<'a> {
     ghost use Rattle.std.specs.Prelude.{◌≡◌};
+    ghost use Rattle.cdxj_objects.specs.MemberViews.{borrowed_view};
     ghost use Rattle.cdxj_core.specs.Entries.{entry_texts};
     ghost use Rattle.cdxj_core.specs.EntryView.{entry_view};
-    ghost use Rattle.cdxj_core.specs.MemberViews.{borrowed_view};
 
     /// Returns the texts of the members. `length` and `offset` are the entry's numbers in decimal.
     pub(crate) fn members(self, length: &'a str, offset: &'a str) -> BorrowedMembers<'a>

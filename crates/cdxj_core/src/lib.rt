@@ -5,26 +5,16 @@
 #![tactic(auto)]
 
 mod body;
-mod borrowed_members;
 mod entry;
 mod entry_ref;
 mod fault;
 mod field;
-mod found_members;
-mod json_values;
-mod lanes;
 mod laws;
 mod limit;
 mod line;
 mod line_parts;
 mod line_ref;
-mod member_value;
-mod member_values;
-mod offset;
-mod plain;
-mod plain_writing;
 mod spans;
-mod spelling;
 mod unescaped;
 mod writing;
 
@@ -40,8 +30,9 @@ pub use crate::laws::{
 pub use crate::limit::LINE_LIMIT;
 pub use crate::line::Line;
 pub use crate::line_ref::LineRef;
-pub use crate::writing::{push_quoted, write_entry, write_line};
+pub use crate::writing::{write_entry, write_line};
 pub use cdxj_keys::{KeyFault, host_key, host_key_begins_key, parsed_url_key, url_key};
+pub use cdxj_objects::push_quoted;
 pub use cdxj_places::{
     HasPlace, OwnedPlace, Place, PlaceFault, in_order, is_key, is_stamp, longer_text_has_the_pair,
     pairs_are_ordered, place_is_good, places_are_ordered, read_offset, resume_key_is_read,

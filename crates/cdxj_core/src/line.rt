@@ -5,13 +5,11 @@ ghost use Rattle.cdxj_core.specs.declared.limit.TheConstants.{LINE_LIMIT};
 
 use crate::body::{body_of, has_no_feed};
 use crate::fault::LineFault;
-use crate::found_members::FoundMembers;
 use crate::limit::LINE_LIMIT;
 use crate::line_parts::LineParts;
 use crate::line_ref::{LineRef, LineText};
-use crate::member_values::{filename_value, offset_value};
-use crate::spans::{OPEN, Spans};
-use crate::spelling::spelled;
+use crate::spans::Spans;
+use cdxj_objects::{FoundMembers, OPEN, spelled};
 use cdxj_places::{HasPlace, Place, cut_first, is_key, is_stamp};
 use json::Scratch;
 use std::alloc::{AllocError, Global};
@@ -78,8 +76,7 @@ impl Line {
     pub(crate) fn read_json(alloc: Global, line: &[u8]) -> Result<Line, LineFault>
         ensures { IsReading LINE_LIMIT line.now result }
     {
-        let mut scratch = Scratch::new(alloc);
-        Line::read_with(alloc, line, &mut scratch)
+        Line::read_with(alloc, line, &mut Scratch::new(alloc))
     }
 
     // The same, with room for the parser: it is large, and stands in a function with one way out.
@@ -107,10 +104,13 @@ impl Line {
             return Err(LineFault::BadLine);
         };
         let found = FoundMembers::of_text(object, scratch)?;
-        let Some(filename) = filename_value(found.filename) else {
+        let Some(found) = found else {
             return Err(LineFault::BadLine);
         };
-        let Some(offset) = offset_value(found.offset) else {
+        let Some(filename) = found.filename() else {
+            return Err(LineFault::BadLine);
+        };
+        let Some(offset) = found.offset() else {
             return Err(LineFault::BadLine);
         };
         let (text, ends) = spelled(alloc, body, found, offset, filename)?;
@@ -154,22 +154,14 @@ impl Line {
             (λ fault. IsReading LINE_LIMIT line.now (Err fault) × (self.new ≡ self.old)) }
     {
         match LineParts::read(line) {
-            Some(parts) => self.take_on(&parts),
+            Some(parts) => {
+                self.keep(&parts)?;
+                Ok(())
+            }
             None => {
                 *self = Line::read_json(self.alloc, line)?;
                 Ok(())
             }
-        }
-    }
-
-    #[inline(always)]
-    fn take_on(&mut self, parts: &LineParts<'_>) -> Result<(), LineFault>
-        ensures { MatchResult result (λ _. self.new ≡ parts.now)
-            (λ fault. (fault ≡ LineFault.Memory) × (self.new ≡ self.old)) }
-    {
-        match self.keep(parts) {
-            Ok(()) => Ok(()),
-            Err(_) => Err(LineFault::Memory),
         }
     }
 

@@ -1,18 +1,14 @@
 //! A line's text, and where its parts stand in it.
-ghost use Rattle.std.specs.Prelude.{◌≡◌, ◌∷◌, ◌++◌, IfSome, true};
+ghost use Rattle.std.specs.Prelude.{◌≡◌, IfSome, true};
 ghost use Rattle.cdxj_core.specs.declared.limit.TheConstants.{LINE_LIMIT};
-ghost use Rattle.cdxj_places.specs.Pair.{is_stamp};
 
 use crate::body::{body_of, clean_text};
-use crate::borrowed_members::or_missing;
 use crate::field::Field;
-use crate::lanes::{begins_with_stamp, cut_at};
-use crate::plain::{plain_offset, unescaped_texts};
-use crate::spans::{
-    CLOSE, MemberEnds, Spans, TO_DIGEST, TO_FILENAME, TO_LENGTH, TO_MIME, TO_OFFSET, TO_STAMP,
-    TO_STAMP_END, TO_STATUS, TO_URL,
+use crate::spans::{Spans, TO_STAMP, TO_STAMP_END, TO_URL};
+use cdxj_objects::{
+    CLOSE, MemberEnds, TO_DIGEST, TO_FILENAME, TO_LENGTH, TO_MIME, TO_OFFSET, TO_STATUS, cut_at,
+    cut_stamp, is_plain_text, or_missing, plain_offset, unescaped_texts,
 };
-use crate::unescaped::is_plain_text;
 use cdxj_places::Place;
 use std::marker::Model;
 
@@ -35,20 +31,6 @@ impl<'a> Model for LineParts<'a> {
 
     ghost invariant = { λ p. IsKept LINE_LIMIT p.text.now p.spans
         (member_in LINE_LIMIT (take p.spans.size p.text.now)) };
-}
-
-/// Returns the stamp that begins a text, and what follows the space behind it. It declines a text
-/// of fewer than 16 bytes.
-#[inline(always)]
-fn cut_stamp(text: &str) -> Option<(&str, &str)>
-    ensures { IfSome result (λ p. (text.now ≡ p.0.now ++ 32 ∷ p.1.now)
-        × (is_stamp p.0.now ≡ true)) }
-{
-    if text.len() >= 16 && begins_with_stamp(text.as_bytes()) {
-        Some((&text[..14], &text[15..]))
-    } else {
-        None
-    }
 }
 
 impl<'a> LineParts<'a> {

@@ -1,84 +1,35 @@
 //! The writing of an entry's line.
-ghost use Rattle.std.specs.Prelude.{◌≡◌, ◌≢◌, ◌<◌, ◌≤◌, ◌++◌, [], ◌∷◌, true, length, IfOk, MatchResult};
-ghost use Rattle.std.specs.List.{list_all};
-ghost use Rattle.json.specs.Run.{is_plain};
-ghost use Rattle.json.specs.Print.{quoted};
+ghost use Rattle.std.specs.Prelude.{◌≡◌, ◌≢◌, ◌<◌, ◌≤◌, ◌↔◌, ◌++◌, [], ◌∷◌, length, IfOk, IsTrue, MatchResult};
+ghost use Rattle.cdxj_objects.specs.MemberViews.{borrowed_view};
+ghost use Rattle.cdxj_objects.specs.Objects.{object_text};
+ghost use Rattle.cdxj_objects.specs.Plain.{ArePlain};
 ghost use Rattle.cdxj_core.specs.Entries.{IsGood, entry_texts, members_of, line_text};
-ghost use Rattle.cdxj_core.specs.Entries.{member_text, later_text, object_text};
-ghost use Rattle.cdxj_core.specs.Texts.{text_members};
 ghost use Rattle.cdxj_core.specs.EntryView.{entry_view};
-ghost use Rattle.cdxj_core.specs.MemberViews.{borrowed_view};
 
-use crate::borrowed_members::BorrowedMembers;
 use crate::entry::Entry;
 use crate::entry_ref::EntryRef;
 use crate::fault::LineFault;
 use crate::limit::LINE_LIMIT;
-use crate::plain_writing::{has_plain_texts, push_plain_object};
-use crate::unescaped::is_plain_text;
+use crate::spans::TO_URL;
+use cdxj_objects::{
+    BorrowedMembers, CLOSE, TO_DIGEST, TO_FILENAME, TO_LENGTH, TO_MIME, TO_OFFSET, TO_STATUS,
+    is_plain_text, push_escaped_object, push_plain_object,
+};
 use itoa::Buffer;
-use serde_json::Value;
 use std::alloc::{AllocError, Global};
 
-// A text that needs no escape.
-fn push_plain(line: &mut Vec<u8>, text: &str) -> Result<(), AllocError>
-    requires { list_all is_plain text.now ≡ true }
-    ensures { IfOk result (λ _. line.new.items ≡ line.old.items ++ quoted text.now) }
+/// Returns `true` if no text of the entry's line needs an escape. Numbers are digits, which never
+/// need one.
+#[tactic(auto, using(cdxj_objects::proofs::PlainBytes::plain_decimal))]
+fn has_plain_texts(entry: EntryRef<'_>) -> bool
+    requires { IsGood (entry_view entry) }
+    ensures { IsTrue result ↔ ArePlain (entry_texts (entry_view entry.entry)) }
 {
-    line.push(b'"')?;
-    line.extend_from_slice(text.as_bytes())?;
-    line.push(b'"')?;
-    Ok(())
-}
-
-/// Appends the text to the line, between quotes, as `serde_json` writes it.
-/// The only error is refused memory.
-pub fn push_quoted(line: &mut Vec<u8>, alloc: Global, text: &str) -> Result<(), AllocError>
-    ensures { IfOk result (λ _. line.new.items ≡ line.old.items ++ quoted text.now) }
-{
-    if is_plain_text(text.as_bytes()) {
-        return push_plain(line, text);
-    }
-    let value = Value::try_from_str(alloc, text)?;
-    let bytes = value.to_vec(alloc)?;
-    line.extend_from_slice(&bytes)
-}
-
-fn push_member(line: &mut Vec<u8>, alloc: Global, name: &str, value: &str) -> Result<(), AllocError>
-    ensures { IfOk result
-        (λ _. line.new.items ≡ line.old.items ++ member_text (name.now, value.now)) }
-{
-    push_quoted(line, alloc, name)?;
-    line.extend_from_slice(b": ")?;
-    push_quoted(line, alloc, value)
-}
-
-fn push_later(line: &mut Vec<u8>, alloc: Global, name: &str, value: &str) -> Result<(), AllocError>
-    ensures { IfOk result
-        (λ _. line.new.items ≡ line.old.items ++ later_text (name.now, value.now)) }
-{
-    line.extend_from_slice(b", ")?;
-    push_member(line, alloc, name, value)
-}
-
-fn push_escaped_object(
-    line: &mut Vec<u8>,
-    alloc: Global,
-    texts: BorrowedMembers<'_>,
-) -> Result<(), AllocError>
-    ensures { IfOk result (λ _. line.new.items
-        ≡ line.old.items ++ object_text (text_members (borrowed_view texts.entry))) }
-{
-    line.push(b'{')?;
-    push_member(line, alloc, "url", texts.url)?;
-    push_later(line, alloc, "mime", texts.mime)?;
-    push_later(line, alloc, "status", texts.status)?;
-    push_later(line, alloc, "digest", texts.digest)?;
-    push_later(line, alloc, "length", texts.length)?;
-    push_later(line, alloc, "offset", texts.offset)?;
-    push_later(line, alloc, "filename", texts.filename)?;
-    line.push(b'}')?;
-    Ok(())
+    is_plain_text(entry.url.as_bytes())
+        && is_plain_text(entry.mime.as_bytes())
+        && is_plain_text(entry.status.as_bytes())
+        && is_plain_text(entry.digest.as_bytes())
+        && is_plain_text(entry.filename.as_bytes())
 }
 
 fn push_object(
@@ -110,8 +61,10 @@ fn push_pair(line: &mut Vec<u8>, key: &str, stamp: &[u8; 14]) -> Result<(), Allo
     Ok(())
 }
 
-// What a line has beside its key and its texts: bytes.
-const FRAME: usize = 112;
+/// The length of what a line has beside its key and its texts, in bytes.
+const FRAME: usize = TO_URL
+    + (TO_MIME + TO_STATUS + TO_DIGEST + TO_LENGTH + TO_OFFSET + TO_FILENAME + CLOSE)
+    + 1;
 
 // An empty line with room for one of this key and these texts, where none needs an escape.
 fn room(alloc: Global, key: &str, texts: &BorrowedMembers<'_>) -> Result<Vec<u8>, AllocError>

@@ -12,8 +12,8 @@ use Rattle.warc_core.specs.Reading.{◌>>=◌, Reads, IsFoundIn}
 use Rattle.warc_core.specs.Record.{after_record}
 use Rattle.warc_core.proofs.ArchiveLemmas.{walk-front, next-spelled}
 use Rattle.warc_core.proofs.ReadingLemmas.{answered}
-use Rattle.capture_core.specs.declared.verdict.Verdict.{Verdict}
-use Rattle.capture_core.specs.declared.verdict.Verdict.TheVariants as verdicts
+use Rattle.block_digests.specs.declared.verdict.Verdict.{Verdict}
+use Rattle.block_digests.specs.declared.verdict.Verdict.TheVariants as verdicts
 use Rattle.capture_core.specs.BlockDigest.{judge_record}
 use Rattle.index_core.specs.Verifying.{verdict_on, verdict_in, verdict_line, verification_line, differing_by}
 use Rattle.index_core.specs.Verifying.{verified_in}

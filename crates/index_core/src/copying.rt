@@ -18,7 +18,8 @@ fn copy_block<I: Input, O: Output>(
 ) -> Result<(), IndexFault>
     requires { HasLeft 0 reader.old.phase }
     ensures copies { (left len : ℕ) → reader.old.phase ≡ Open left len →
-        CopiesBlock left len reader.old reader.new result (I.remaining input.old) (I.remaining input.new) (O.written out.old) (O.written out.new) }
+        CopiesBlock left len reader.old reader.new result
+        (I.remaining input.old) (I.remaining input.new) (O.written out.old) (O.written out.new) }
     ensures reads { CountsIndex result (I.failures input.old) (I.failures input.new) }
     ensures writes { CountsWrite result (O.failures out.old) (O.failures out.new) }
 {

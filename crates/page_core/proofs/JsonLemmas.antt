@@ -3,7 +3,7 @@ use Rattle.std.proofs.Common.{◌≡◌, List, [], ◌∷◌, ◌++◌, ℕ, tru
 use Rattle.std.specs.List.{join_by, list_all}
 use Rattle.json.specs.Print.{quoted}
 use Rattle.json.specs.Run.{is_plain}
-use Rattle.cdxj_core.proofs.PlainLaw.{escape_plain}
+use Rattle.cdxj_objects.proofs.PlainLaw.{escape_plain}
 use Rattle.page_core.specs.Rows.{between_quotes}
 
 quoted_plain : (text : List ℕ) → list_all is_plain text ≡ true → between_quotes text ≡ quoted text

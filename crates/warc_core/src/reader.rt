@@ -85,7 +85,8 @@ impl Reader {
         ensures closed { self.old.phase ≡ Phase.Between →
             (result ≡ Ok 0) × (self.new ≡ self.old) × (input.new ≡ input.old) }
         ensures failed { (c : Cause) → self.old.phase ≡ Phase.Failed c →
-            (result ≡ Err (record { offset = self.old.offset; cause = c })) × (self.new ≡ self.old) × (input.new ≡ input.old) }
+            (result ≡ Err (record { offset = self.old.offset; cause = c }))
+            × (self.new ≡ self.old) × (input.new ≡ input.old) }
         ensures ready { OnOk result (self.new.phase ≡ Phase.Between) }
         ensures rises { self.old.offset ≤ self.new.offset }
         ensures within { self.new.offset ≤ 2 ^ 63 - 1 }
@@ -119,7 +120,8 @@ impl Reader {
         ensures closed { self.old.phase ≡ Phase.Between →
             (result ≡ Ok 0) × (self.new ≡ self.old) × (input.new ≡ input.old) }
         ensures failed { (c : Cause) → self.old.phase ≡ Phase.Failed c →
-            (result ≡ Err (record { offset = self.old.offset; cause = c })) × (self.new ≡ self.old) × (input.new ≡ input.old) }
+            (result ≡ Err (record { offset = self.old.offset; cause = c }))
+            × (self.new ≡ self.old) × (input.new ≡ input.old) }
         ensures stays { self.new.offset ≡ self.old.offset }
         ensures within { self.new.offset ≤ 2 ^ 63 - 1 }
     {
@@ -194,7 +196,8 @@ impl Reader {
             (state_of self.old (I.remaining input.old) (I.failures input.old))
             (state_of self.new (I.remaining input.new) (I.failures input.new)) result }
         ensures failed { (c : Cause) → self.old.phase ≡ Phase.Failed c →
-            (result ≡ Err (record { offset = self.old.offset; cause = c })) × (self.new ≡ self.old) × (input.new ≡ input.old) }
+            (result ≡ Err (record { offset = self.old.offset; cause = c }))
+            × (self.new ≡ self.old) × (input.new ≡ input.old) }
         ensures rises { self.old.offset ≤ self.new.offset }
         ensures within { self.new.offset ≤ 2 ^ 63 - 1 }
     {

@@ -1,6 +1,6 @@
 use Rattle.std.proofs.Common.{ap, ◌∙◌, sym, subst, IsUtf8}
 use Rattle.std.specs.List.{list_all}
-use Rattle.cdxj_core.specs.Plain.{is_clean}
+use Rattle.cdxj_core.specs.Clean.{is_clean}
 use Rattle.cdxj_core.proofs.UnescapedAscii.{ascii_clean, ascii_utf8}
 use Rattle.cdxj_core.proofs.body.clean_text.Goals as goal
 

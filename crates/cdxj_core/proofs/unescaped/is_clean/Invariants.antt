@@ -1,6 +1,6 @@
 use Rattle.std.proofs.Common.{◌≡◌, take}
 use Rattle.std.specs.List.{list_all}
-use Rattle.cdxj_core.specs.Plain.{is_clean}
+use Rattle.cdxj_core.specs.Clean.{is_clean}
 use Rattle.cdxj_core.proofs.unescaped.is_clean.Given as goal
 
 abbrev pub invariant-loop-byte : goal.invariant-loop-byte

@@ -1,5 +1,6 @@
 use Rattle.std.proofs.Common.{◌++◌, ◌∷◌, [], ap, ◌∙◌}
-use Rattle.cdxj_core.specs.Entries.{entry_texts, members_of, object_text}
+use Rattle.cdxj_objects.specs.Objects.{object_text}
+use Rattle.cdxj_core.specs.Entries.{entry_texts, members_of}
 use Rattle.cdxj_core.specs.EntryView.{entry_view}
 use Rattle.cdxj_core.proofs.EntryWrite.{line_steps}
 use Rattle.cdxj_core.proofs.writing.line_bytes.Goals as goal

@@ -4,7 +4,7 @@ use Rattle.std.proofs.lemmas.Result.{err_from_is_err_and}
 use Rattle.warc_core.specs.HeadView.{HeadView, block_at}
 use Rattle.warc_core.specs.declared.next.TheConstants.{HEAD_LIMIT}
 use Rattle.warc_core.proofs.WalkLemmas.{record-stopped, record-end, record-unclosed, record-whole}
-use Rattle.capture_core.specs.declared.verdict.Verdict.{Verdict}
+use Rattle.block_digests.specs.declared.verdict.Verdict.{Verdict}
 use Rattle.index_core.specs.Verifying.{verdict_on}
 use Rattle.index_core.proofs.VerdictLemmas.{judged_reads, judged_met, judged_verdict}
 use Rattle.index_core.proofs.walk.next_verdict.Goals as goal

@@ -1,18 +1,19 @@
-use Rattle.std.proofs.Common.{◌≡◌, ◌+◌, ◌<◌, None, length, string_bytes, IsUtf8, refl, sym, ap, ◌∙◌, subst, arith}
+use Rattle.std.proofs.Common.{◌≡◌, ◌+◌, ◌<◌, None, Some, option_map, length, string_bytes, IsUtf8, refl, sym, ap, ◌∙◌, subst, arith}
 use Rattle.std.proofs.lemmas.Grind.{common_steps}
 use Rattle.std.proofs.lemmas.Str.{IsUtf8-string_bytes}
 use Rattle.cdxj_places.specs.Pair.{is_key, is_stamp}
+use Rattle.cdxj_objects.specs.FoundMembers.{members_in}
+use Rattle.cdxj_objects.specs.FoundViews.{found_view}
+use Rattle.cdxj_objects.specs.Plain.{values_of_texts}
+use Rattle.cdxj_objects.specs.Spelling.{raw_texts}
 use Rattle.cdxj_core.specs.declared.limit.TheConstants.{LINE_LIMIT}
-use Rattle.cdxj_core.specs.FoundViews.{found_view}
 use Rattle.cdxj_core.specs.KeptLine.{IsKept}
 use Rattle.cdxj_core.specs.Lines.{body_of, has_no_feed, line_in, line_object, line_value}
 use Rattle.cdxj_core.specs.Members.{line_entry}
-use Rattle.cdxj_core.specs.Plain.{values_of_texts}
-use Rattle.cdxj_core.specs.Spelling.{raw_texts}
-use Rattle.cdxj_core.proofs.FoundLaw.{line_found, no_filename, no_offset}
+use Rattle.cdxj_core.proofs.FoundLines.{line_found, no_filename, no_offset}
 use Rattle.cdxj_core.proofs.KeptLemmas.{json_kept, kept_entry, kept_in}
 use Rattle.cdxj_core.proofs.MemberLemmas.{body_none, entry_none, line_of_body}
-use Rattle.cdxj_core.proofs.line.Line.read_with.Goals.{In_ok-found, In_ok-text}
+use Rattle.cdxj_core.proofs.line.Line.read_with.Goals.{In-Some, In_ok-found, In_ok-text}
 use Rattle.cdxj_core.proofs.line.Line.read_with.Goals as goal
 
 pub returns-in_default : goal.returns-in_default
@@ -38,52 +39,57 @@ refused c none =
           none),
     )
 
-pub returns-in_default-filename_value : goal.returns-in_default-filename_value
-returns-in_default-filename_value c =
-    let found = found_view c.in_ok-found.found in
-    let key = c.cut_first.result.0.now in
-    let stamp = c.cut_first-2.result.0.now in
-    refused (goal.at.returns-in_default-filename_value c).In_ok-found
-    (line_found key stamp c.cut_first-2.result.1.now found c.in_ok-found.ensures ∙ no_filename key stamp found
-    (sym c.in_default-filename_value.ensures.value))
+found_is : (c : In-Some) → members_in c.cut_first-2.result.1.now ≡ Some (found_view c.in-Some.found)
+found_is c = sym c.in_ok-found.ensures ∙ ap (option_map found_view) c.in-Some.is
 
-pub returns-in_default-offset_value : goal.returns-in_default-offset_value
-returns-in_default-offset_value c =
-    let found = found_view c.in_ok-found.found in
+pub returns-in_default-filename : goal.returns-in_default-filename
+returns-in_default-filename c =
+    let found = found_view c.in-Some.found in
     let key = c.cut_first.result.0.now in
     let stamp = c.cut_first-2.result.0.now in
-    refused (goal.at.returns-in_default-offset_value c).In_ok-found
-    (line_found key stamp c.cut_first-2.result.1.now found c.in_ok-found.ensures ∙ no_offset key stamp found
-    (sym c.in_default-offset_value.ensures.value))
+    let here = goal.at.returns-in_default-filename c in
+    refused here.In_ok-found
+    (line_found key stamp c.cut_first-2.result.1.now found (found_is here.In-Some) ∙ no_filename key stamp found
+    (sym c.in_default-filename.ensures.value))
+
+pub returns-in_default-offset : goal.returns-in_default-offset
+returns-in_default-offset c =
+    let found = found_view c.in-Some.found in
+    let key = c.cut_first.result.0.now in
+    let stamp = c.cut_first-2.result.0.now in
+    let here = goal.at.returns-in_default-offset c in
+    refused here.In_ok-found
+    (line_found key stamp c.cut_first-2.result.1.now found (found_is here.In-Some) ∙ no_offset key stamp found
+    (sym c.in_default-offset.ensures.value))
 
 kept : (c : In_ok-text) → IsKept LINE_LIMIT (string_bytes c.in_ok-text.text) (record {
   size = length c.in-Ok.body.now;
   key = length c.cut_first.result.0.now;
   stamp = c.in-Ok-try_from.stamp;
-  offset = c.in-Some-offset_value.offset;
+  offset = c.in-Some-offset.offset;
   start = length c.in-Ok.body.now + 9;
   ends = c.in_ok-text.ends;
 }) (record {
   values = line_value c.cut_first.result.0.now c.cut_first-2.result.0.now
-      (values_of_texts (raw_texts (found_view c.in_ok-found.found) c.in-Some-offset_value.offset
-      c.in-Some.filename.now)) c.in-Some-offset_value.offset;
+      (values_of_texts (raw_texts (found_view c.in-Some.found) c.in-Some-offset.offset
+      c.in-Some-filename.filename.now)) c.in-Some-offset.offset;
   line = c.in-Ok.body.now;
 })
 kept c =
     let same = c.in-Ok.ensures.cases.0 in
     let stamp : c.in-Ok-try_from.stamp ≡ c.cut_first-2.result.0.now = grind (arith, common_steps) in
     json_kept LINE_LIMIT (string_bytes c.in_ok-text.text) c.in-Ok.body.now c.cut_first.result.0.now
-    c.cut_first.result.1.now c.cut_first-2.result.0.now c.cut_first-2.result.1.now c.in-Some.filename.now
-    (found_view c.in_ok-found.found) c.in-Some-offset_value.offset _ (IsUtf8-string_bytes c.in_ok-text.text)
+    c.cut_first.result.1.now c.cut_first-2.result.0.now c.cut_first-2.result.1.now c.in-Some-filename.filename.now
+    (found_view c.in-Some.found) c.in-Some-offset.offset _ (IsUtf8-string_bytes c.in_ok-text.text)
     (subst IsUtf8 (sym same) c.in-Ok.ensures.cases.1) (subst (λ b. length b < LINE_LIMIT) (sym same)
     c.if-body-ge-LINE_LIMIT.false)
     (c.if-not-has_no_feed.ensures ∙ ap has_no_feed c.as_bytes.ensures.value)
     c.cut_first.ensures.before c.cut_first.ensures.after c.cut_first-2.ensures.before c.cut_first-2.ensures.after
     (ap is_key (sym c.as_bytes-2.ensures.value) ∙ sym c.if-not-is_key.ensures)
     (ap is_stamp (sym c.as_bytes-else-not-is_key.ensures.value) ∙ sym c.if-not-is_stamp.ensures)
-    c.in_ok-found.ensures (sym c.in-Some.ensures.value) (sym c.in-Some-offset_value.ensures.value)
-    c.in-Some.ensures.some c.in-Some-offset_value.ensures.small c.in_ok-text.ensures
-    refl refl stamp refl refl
+    (sym c.in_ok-found.ensures ∙ ap (option_map found_view) c.in-Some.is) (sym c.in-Some-filename.ensures.value)
+    (sym c.in-Some-offset.ensures.value) c.in-Some-filename.ensures.some c.in-Some-offset.ensures.small
+    c.in_ok-text.ensures refl refl stamp refl refl
 
 pub invariant_of-result : goal.invariant_of-result
 invariant_of-result c = kept_in LINE_LIMIT _ _ _ (kept (goal.at.invariant_of-result c).In_ok-text)

@@ -1,10 +1,11 @@
 use Rattle.std.proofs.Common.{◌≡◌, ◌+◌, ◌<◌, length, refl, sym, ap, ◌∙◌, arith}
 use Rattle.std.proofs.lemmas.Grind.{common_steps}
+use Rattle.cdxj_objects.specs.MemberViews.{borrowed_view}
+use Rattle.cdxj_objects.specs.Plain.{values_of_texts}
 use Rattle.cdxj_core.specs.declared.limit.TheConstants.{LINE_LIMIT}
+use Rattle.cdxj_core.specs.Clean.{is_clean}
 use Rattle.cdxj_core.specs.KeptLine.{IsKept}
 use Rattle.cdxj_core.specs.Lines.{has_no_feed, line_value}
-use Rattle.cdxj_core.specs.MemberViews.{borrowed_view}
-use Rattle.cdxj_core.specs.Plain.{is_clean, values_of_texts}
 use Rattle.cdxj_core.proofs.KeptLemmas.{kept_entry, kept_in, plain_kept}
 use Rattle.cdxj_core.proofs.MemberLemmas.{line_of_body}
 use Rattle.cdxj_core.proofs.UnescapedAscii.{all_parts, clean_feed, unescaped_only}

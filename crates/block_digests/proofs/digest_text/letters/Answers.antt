@@ -1,0 +1,21 @@
+use Rattle.std.proofs.Common.{◌<◌, ◌∷◌, [], ◌∙◌, ap, arith}
+use Rattle.block_digests.specs.Base32.{letter_of}
+use Rattle.block_digests.proofs.Bits.{first, second, third, fourth, fifth, sixth, seventh, eighth}
+use Rattle.block_digests.proofs.digest_text.letters.Goals as goal
+
+pub returns : goal.returns
+returns c =
+    let a : c.args.a < 256 = omega arith in
+    let b : c.args.b < 256 = omega arith in
+    let d : c.args.c < 256 = omega arith in
+    let e : c.args.d < 256 = omega arith in
+    let f : c.args.e < 256 = omega arith in
+    let p = c.letter.ensures ∙ ap letter_of (first _ a) in
+    let q = c.letter-2.ensures ∙ ap letter_of (second _ _ a b) in
+    let r = c.letter-3.ensures ∙ ap letter_of (third _ b) in
+    let s = c.letter-4.ensures ∙ ap letter_of (fourth _ _ b d) in
+    let t = c.letter-5.ensures ∙ ap letter_of (fifth _ _ d e) in
+    let u = c.letter-6.ensures ∙ ap letter_of (sixth _ e) in
+    let v = c.letter-7.ensures ∙ ap letter_of (seventh _ _ e f) in
+    let w = c.letter-8.ensures ∙ ap letter_of (eighth _ f) in
+    λ i. p i ∷ q i ∷ r i ∷ s i ∷ t i ∷ u i ∷ v i ∷ w i ∷ []

@@ -1,0 +1,135 @@
+-- What is found in an object decides what its line says.
+use Rattle.std.proofs.Common.{◌≡◌, ℕ, List, decimal, Option, Some, None, option_map, option_and_then, refl, ap, ◌∙◌}
+use Rattle.serde_json.specs.Data.{unsigned, negative, float, Data, null, boolean, number, string, array, object, Members}
+use Rattle.serde_json.specs.Find.{get_member}
+use Rattle.serde_json.specs.Read.{read as read_text}
+use Rattle.cdxj_objects.specs.FoundMembers.{FoundValue, member_data, found_of, object_found, members_in}
+use Rattle.cdxj_objects.specs.MemberValues.{value_text, filename_value, offset_value}
+use Rattle.cdxj_objects.specs.Names.{url_name, mime_name, status_name, digest_name, length_name, offset_name}
+use Rattle.cdxj_objects.specs.Names.{filename_name}
+use Rattle.cdxj_objects.specs.Texts.{TextsValue}
+use Rattle.cdxj_core.specs.Lines.{LineValue, line_value, line_from, line_object}
+use Rattle.cdxj_core.proofs.PairLaw.{and_then_some}
+
+value_text-seen : (o : Option Data) → value_text o ≡ value_text (option_map member_data o)
+value_text-seen None = refl
+value_text-seen (Some null) = refl
+value_text-seen (Some (boolean b)) = refl
+value_text-seen (Some (number (unsigned n))) = refl
+value_text-seen (Some (number (negative z))) = refl
+value_text-seen (Some (number (float x))) = refl
+value_text-seen (Some (string s)) = refl
+value_text-seen (Some (array ds)) = refl
+value_text-seen (Some (object ms)) = refl
+
+filename_value-seen : (o : Option Data) → filename_value o ≡ filename_value (option_map member_data o)
+filename_value-seen None = refl
+filename_value-seen (Some null) = refl
+filename_value-seen (Some (boolean b)) = refl
+filename_value-seen (Some (number (unsigned n))) = refl
+filename_value-seen (Some (number (negative z))) = refl
+filename_value-seen (Some (number (float x))) = refl
+filename_value-seen (Some (string s)) = refl
+filename_value-seen (Some (array ds)) = refl
+filename_value-seen (Some (object ms)) = refl
+
+offset_value-seen : (o : Option Data) → offset_value o ≡ offset_value (option_map member_data o)
+offset_value-seen None = refl
+offset_value-seen (Some null) = refl
+offset_value-seen (Some (boolean b)) = refl
+offset_value-seen (Some (number (unsigned n))) = refl
+offset_value-seen (Some (number (negative z))) = refl
+offset_value-seen (Some (number (float x))) = refl
+offset_value-seen (Some (string s)) = refl
+offset_value-seen (Some (array ds)) = refl
+offset_value-seen (Some (object ms)) = refl
+
+-- the line of these five texts, where the file name and the offset are good
+abbrev line_of : List ℕ → List ℕ → List ℕ → List ℕ → List ℕ → List ℕ → List ℕ → Option ℕ → Option (List ℕ)
+    → Option LineValue
+line_of key stamp url mime status digest length offset filename =
+    option_and_then (λ f. option_map (λ o. line_value key stamp (record {
+      url = url;
+      mime = mime;
+      status = status;
+      digest = digest;
+      length = length;
+      offset = decimal o;
+      filename = f;
+    }) o) offset) filename
+
+abbrev pub found_line : List ℕ → List ℕ → FoundValue → Option LineValue
+found_line key stamp f = line_of key stamp (value_text f.url) (value_text f.mime) (value_text f.status)
+    (value_text f.digest) (value_text f.length) (offset_value f.offset) (filename_value f.filename)
+
+seven : (key stamp : List ℕ) (url mime status digest length offset filename : Option Data)
+    → line_of key stamp (value_text url) (value_text mime) (value_text status) (value_text digest) (value_text length)
+    (offset_value offset) (filename_value filename)
+    ≡ line_of key stamp (value_text (option_map member_data url)) (value_text (option_map member_data mime))
+    (value_text (option_map member_data status)) (value_text (option_map member_data digest))
+    (value_text (option_map member_data length)) (offset_value (option_map member_data offset))
+    (filename_value (option_map member_data filename))
+seven key stamp url mime status digest length offset filename =
+    λ i. line_of key stamp (value_text-seen url i) (value_text-seen mime i) (value_text-seen status i)
+    (value_text-seen digest i) (value_text-seen length i) (offset_value-seen offset i)
+    (filename_value-seen filename i)
+
+members_line : (key stamp : List ℕ) (ms : Members) → line_from key stamp (object ms) ≡ found_line key stamp
+    (found_of ms)
+members_line key stamp ms =
+    seven key stamp (get_member url_name ms) (get_member mime_name ms) (get_member status_name ms)
+    (get_member digest_name ms) (get_member length_name ms) (get_member offset_name ms)
+    (get_member filename_name ms)
+
+object_line : (key stamp : List ℕ) (d : Data) (found : FoundValue) → object_found d ≡ Some found → line_from key stamp d
+    ≡ found_line key stamp found
+object_line key stamp null found e = absurd (cc)
+object_line key stamp (boolean b) found e = absurd (cc)
+object_line key stamp (number n) found e = absurd (cc)
+object_line key stamp (string s) found e = absurd (cc)
+object_line key stamp (array ds) found e = absurd (cc)
+object_line key stamp (object ms) found e = let same : found_of ms ≡ found = cc in members_line key stamp ms
+    ∙ ap (found_line key stamp) same
+
+pub line_found : (key stamp text : List ℕ) (found : FoundValue) → members_in text ≡ Some found → line_object key stamp
+    text ≡ found_line key stamp found
+line_found key stamp text found h =
+    let d = and_then_some object_found (read_text text) found h in
+    ap (option_and_then (line_from key stamp)) d.1 ∙ object_line key stamp d.0 found d.2
+
+no_object : (key stamp : List ℕ) (o : Option Data) → option_and_then object_found o ≡ None
+    → option_and_then (line_from key stamp) o ≡ None
+no_object key stamp None e = refl
+no_object key stamp (Some null) e = refl
+no_object key stamp (Some (boolean b)) e = refl
+no_object key stamp (Some (number n)) e = refl
+no_object key stamp (Some (string s)) e = refl
+no_object key stamp (Some (array ds)) e = refl
+no_object key stamp (Some (object ms)) e = absurd (cc)
+
+pub no_line : (key stamp text : List ℕ) → members_in text ≡ None → line_object key stamp text ≡ None
+no_line key stamp text e = no_object key stamp (read_text text) e
+
+nothing : {A B : Type 0} (o : Option A) → option_and_then {U = B} (λ a. None) o ≡ None
+nothing None = refl
+nothing (Some a) = refl
+
+pub no_filename : (key stamp : List ℕ) (f : FoundValue) → filename_value f.filename ≡ None → found_line key stamp f ≡
+    None
+no_filename key stamp f e = ap (line_of key stamp (value_text f.url) (value_text f.mime) (value_text f.status)
+    (value_text f.digest) (value_text f.length) (offset_value f.offset)) e
+
+pub no_offset : (key stamp : List ℕ) (f : FoundValue) → offset_value f.offset ≡ None → found_line key stamp f ≡ None
+no_offset key stamp f e =
+    ap (λ o. line_of key stamp (value_text f.url) (value_text f.mime) (value_text f.status) (value_text f.digest)
+    (value_text f.length) o (filename_value f.filename)) e
+    ∙ nothing (filename_value f.filename)
+
+-- the texts of the members that were found are those of their line
+pub line_made : (key stamp : List ℕ) (f : FoundValue) (offset : ℕ) (t : TextsValue) → filename_value f.filename ≡ Some
+    t.filename → offset_value f.offset ≡ Some offset
+    → t.url ≡ value_text f.url → t.mime ≡ value_text f.mime → t.status ≡ value_text f.status → t.digest ≡ value_text
+    f.digest → t.length ≡ value_text f.length
+    → found_line key stamp f ≡ Some (line_value key stamp t offset)
+line_made key stamp f offset t named placed url mime status digest size =
+    rw (named, placed, url, mime, status, digest, size)

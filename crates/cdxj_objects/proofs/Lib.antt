@@ -1,0 +1,13 @@
+pub mod ObjectLaw
+pub mod ObjectWrite
+pub mod TextsLaw
+mod LaneLemmas
+pub mod PlainBytes
+pub mod PlainCuts
+pub mod PlainLaw
+pub mod PlainPlaces
+pub mod NumberTexts
+pub mod JsonReading
+pub mod FoundLaw
+pub mod SpellingLemmas
+pub mod StringLength

@@ -1,0 +1,125 @@
+-- The text of an object is read as its members.
+use Rattle.std.proofs.Common.{◌≡◌, ℕ, ◌≤◌, Bool, true, false, cond, List, [], ◌∷◌, ◌++◌, map, Option, Some, option_map}
+use Rattle.std.proofs.Common.{option_and_then, refl, sym, ap, ◌∙◌, arith, append_assoc, append-nil, bytes_eq, flat_map}
+use Rattle.std.proofs.Common.{inl, max}
+use Rattle.std.proofs.lemmas.Slice.Eq.{bytes_eq-Decides}
+use Rattle.json.specs.Token.{Token, begin_object, end_object}
+use Rattle.json.specs.Token as tok
+use Rattle.json.specs.Lex.{tokens}
+use Rattle.json.specs.Json as json
+use Rattle.json.specs.Tree.{json_tokens, members_tokens, depth, members_depth}
+use Rattle.json.specs.Print.{quoted, ArePrintable}
+use Rattle.json.specs.Spaced.{print_spaced, AreGaps, IsGap}
+use Rattle.json.proofs.Printed.Tokens.{tokens-print_spaced}
+use Rattle.json.proofs.Printed.Trees.{value-json_tokens}
+use Rattle.serde_json.specs.Data.{Data, string, object, Members, no_members, put}
+use Rattle.serde_json.specs.Read.{read, of_json, of_members, max_depth}
+use Rattle.serde_json.specs.Find.{get_member}
+use Rattle.serde_json.proofs.Views.{get_member-put, get_member-put_other}
+use Rattle.cdxj_objects.specs.Objects.{member_text, object_text}
+
+abbrev pub Pair : Type 0
+Pair = List ℕ × List ℕ
+
+-- ---- the text, as spaced tokens
+
+-- the tokens of members after the first brace, each with the gap before it
+abbrev spaced : List ℕ → List Pair → List (List ℕ × Token)
+spaced gap [] = ([], end_object) ∷ []
+spaced gap (m ∷ ms) = (gap, tok.key m.0) ∷ (32 ∷ [], tok.string m.1) ∷ spaced (32 ∷ []) ms
+
+abbrev later_text : List Pair → List ℕ
+later_text ms = flat_map (λ m. (44 ∷ 32 ∷ []) ++ member_text m) ms
+
+regroup : (n v p : List ℕ) → (n ++ 58 ∷ []) ++ (32 ∷ (v ++ p)) ≡ (n ++ (58 ∷ 32 ∷ []) ++ v) ++ p
+regroup n v p = simp append_assoc
+
+spaced_later : (ms : List Pair) → print_spaced true (spaced (32 ∷ []) ms) ≡ later_text ms ++ 125 ∷ []
+unfolding print_spaced
+spaced_later [] = refl
+spaced_later ((n, v) ∷ ms) =
+    ap (λ p. 44 ∷ 32 ∷ ((quoted n ++ 58 ∷ []) ++ (32 ∷ (quoted v ++ p)))) (spaced_later ms)
+    ∙ ap (λ p. 44 ∷ 32 ∷ p) (regroup (quoted n) (quoted v) (later_text ms ++ 125 ∷ []))
+    ∙ sym (append_assoc ((44 ∷ 32 ∷ []) ++ member_text (n, v)) (later_text ms) (125 ∷ []))
+
+object_spaced : (m : Pair) (ms : List Pair) → print_spaced false (([], begin_object) ∷ spaced [] (m ∷ ms)) ≡ object_text
+    (m ∷ ms)
+unfolding print_spaced
+object_spaced (n, v) ms =
+    ap (λ p. 123 ∷ ((quoted n ++ 58 ∷ []) ++ (32 ∷ (quoted v ++ p)))) (spaced_later ms)
+    ∙ ap (λ p. 123 ∷ p) (regroup (quoted n) (quoted v) (later_text ms ++ 125 ∷ []))
+    ∙ ap (λ p. 123 ∷ p) (sym (append_assoc (member_text (n, v)) (later_text ms) (125 ∷ [])))
+
+-- ---- the tokens, as those of an object
+
+abbrev jmembers : List Pair → json.Members
+jmembers [] = json.no_members
+jmembers (m ∷ ms) = json.member m.0 (json.string m.1) (jmembers ms)
+
+tokens_spaced : (gap : List ℕ) (ms : List Pair) → map (λ p. p.1) (spaced gap ms) ≡ members_tokens (jmembers ms)
+tokens_spaced gap [] = refl
+tokens_spaced gap (m ∷ ms) = ap (λ ts. tok.key m.0 ∷ tok.string m.1 ∷ ts) (tokens_spaced (32 ∷ []) ms)
+
+gaps : (gap : List ℕ) (ms : List Pair) → IsGap gap → AreGaps (spaced gap ms)
+gaps gap [] h = (tt, tt)
+gaps gap (m ∷ ms) h = (h, ((inl refl, tt), gaps (32 ∷ []) ms (inl refl, tt)))
+
+printable : (gap : List ℕ) (ms : List Pair) → ArePrintable (map (λ p. p.1) (spaced gap ms))
+unfolding ArePrintable
+printable gap [] = (tt, tt)
+printable gap (m ∷ ms) = (tt, (tt, printable (32 ∷ []) ms))
+
+printable_object : (ms : List Pair) → ArePrintable (map (λ p. p.1) (([], begin_object) ∷ spaced [] ms))
+unfolding ArePrintable
+printable_object ms = (tt, printable [] ms)
+
+flat : (ms : List Pair) → members_depth (jmembers ms) ≡ 0
+flat [] = refl
+flat (m ∷ ms) = ap (max 0) (flat ms)
+
+pub tokens_object : (m : Pair) (ms : List Pair) → tokens (object_text (m ∷ ms)) ≡ json_tokens
+    (json.object (jmembers (m ∷ ms)))
+tokens_object m ms =
+    ap tokens (sym (object_spaced m ms)) ∙ tokens-print_spaced (([], begin_object) ∷ spaced [] (m ∷ ms))
+    (tt, gaps [] (m ∷ ms) tt) (printable_object (m ∷ ms))
+    ∙ ap (λ ts. begin_object ∷ ts) (tokens_spaced [] (m ∷ ms))
+
+-- ---- the members that are read
+
+abbrev pub put_all : List Pair → Members → Members
+put_all [] found = found
+put_all (m ∷ ms) found = put_all ms (put m.0 (string m.1) found)
+
+read_members : (ms : List Pair) (found : Members) → of_members (jmembers ms) found ≡ Some (put_all ms found)
+read_members [] found = refl
+read_members (m ∷ ms) found = read_members ms (put m.0 (string m.1) found)
+
+abbrev whole : Option (json.Json × List Token) → Option Data
+whole o = option_and_then of_json (option_and_then (λ p. json.if_last p.0 p.1) o)
+
+pub read_object : (m : Pair) (ms : List Pair) → read (object_text (m ∷ ms)) ≡ Some
+    (object (put_all (m ∷ ms) no_members))
+read_object m ms =
+    let j = json.object (jmembers (m ∷ ms)) in
+    let shallow : depth j ≤ max_depth = omega (arith, flat (m ∷ ms)) in
+    ap whole (ap (json.value max_depth) (tokens_object m ms ∙ sym (append-nil (json_tokens j)))
+    ∙ value-json_tokens j max_depth [] shallow)
+    ∙ ap (option_map object) (read_members (m ∷ ms) no_members)
+
+-- the last text of a name, or what was there
+abbrev pub found_in : List ℕ → List Pair → Option Data → Option Data
+found_in name [] before = before
+found_in name (m ∷ ms) before = found_in name ms (cond (bytes_eq name m.0) (Some (string m.1)) before)
+
+get_put : (b : Bool) (q k : List ℕ) (d : Data) (ms : Members) → bytes_eq q k ≡ b → get_member q (put k d ms) ≡ cond b
+    (Some d) (get_member q ms)
+get_put true q k d ms is = let same : q ≡ k = (bytes_eq-Decides q k).0 is in ap (λ l. get_member l (put k d ms)) same
+    ∙ get_member-put k d ms
+get_put false q k d ms is = get_member-put_other q k d ms (λ same. let bad : true ≡ false =
+    sym ((bytes_eq-Decides q k).1 same) ∙ is in cc)
+
+pub get_put_all : (name : List ℕ) (ms : List Pair) (found : Members) → get_member name (put_all ms found) ≡ found_in
+    name ms (get_member name found)
+get_put_all name [] found = refl
+get_put_all name (m ∷ ms) found = get_put_all name ms (put m.0 (string m.1) found) ∙ ap (found_in name ms)
+    (get_put _ name m.0 (string m.1) found refl)

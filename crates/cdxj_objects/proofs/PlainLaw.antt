@@ -1,0 +1,138 @@
+-- What a plain object is read as.
+use Rattle.std.proofs.Common.{◌≡◌, ℕ, zero, suc, ◌<◌, ◌^◌, ◌==◌, Bool, true, false, cond, List, [], ◌∷◌, ◌++◌, length}
+use Rattle.std.proofs.Common.{decimal, Some, None, get_or, append_assoc, flat_map, codes, refl, sym, ap, ◌∙◌, arith}
+use Rattle.std.specs.List.{list_all}
+use Rattle.std.specs.Str.Parse.{digits_value}
+use Rattle.std.proofs.lemmas.Bool.{and_parts, or_parts, not-true, eqb-false, ltb-false, ltb-true}
+use Rattle.std.proofs.lemmas.Fmt.{decimal-digits_value}
+use Rattle.json.specs.Print.{quoted, escape}
+use Rattle.json.specs.Run.{is_plain, is_stop}
+use Rattle.json.proofs.Printed.Strings.{escape_byte_plain}
+use Rattle.serde_json.specs.Read.{read}
+use Rattle.cdxj_places.specs.Places.{offset_of, is_offset}
+use Rattle.cdxj_places.proofs.Offsets.{own}
+use Rattle.cdxj_objects.specs.Names.{url_name, mime_name, status_name, digest_name, length_name, offset_name}
+use Rattle.cdxj_objects.specs.Names.{filename_name}
+use Rattle.cdxj_objects.specs.Objects.{member_text, object_text}
+use Rattle.cdxj_objects.specs.Plain.{ArePlain, first_front, later_front, plain_text}
+use Rattle.cdxj_objects.specs.Texts.{TextsValue, text_members}
+use Rattle.cdxj_objects.proofs.ObjectLaw.{Pair}
+use Rattle.cdxj_objects.proofs.TextsLaw.{first_of, later_of, data_of, read_texts}
+
+-- ---- plain texts stand as they are
+
+pub escape_plain : (s : List ℕ) → list_all is_plain s ≡ true → escape s ≡ s
+escape_plain [] h = refl
+escape_plain (x ∷ xs) h =
+    let parts = and_parts (is_plain x) (list_all is_plain xs) h in
+    let none = or_parts _ _ (not-true (is_stop x) parts.0) in
+    let tests = or_parts (x == 34) _ none.0 in
+    let rest = escape_plain xs parts.1 in
+    λ i. escape_byte_plain x (eqb-false x 34 tests.0) (eqb-false x 92 tests.1) (ltb-false x 32 none.1) i ++ rest i
+
+-- ---- the text, as that of members
+
+abbrev front : List ℕ → List ℕ → List ℕ → List ℕ
+front n v p = 34 ∷ (n ++ 34 ∷ 58 ∷ 32 ∷ 34 ∷ (v ++ 34 ∷ p))
+
+abbrev rest_text : List Pair → List ℕ
+rest_text [] = 125 ∷ []
+rest_text (m ∷ ms) = 44 ∷ 32 ∷ front m.0 m.1 (rest_text ms)
+
+abbrev Plain : Pair → Type 0
+Plain m = (list_all is_plain m.0 ≡ true) × (list_all is_plain m.1 ≡ true)
+
+abbrev AllPlain : List Pair → Type 0
+AllPlain [] = Unit {0}
+AllPlain (m ∷ ms) = Plain m × AllPlain ms
+
+regroup : (n v p : List ℕ) → ((34 ∷ (n ++ 34 ∷ [])) ++ (58 ∷ 32 ∷ []) ++ (34 ∷ (v ++ 34 ∷ []))) ++ p ≡ front n v p
+regroup n v p = simp append_assoc
+
+member_is : (m : Pair) (p : List ℕ) → Plain m → member_text m ++ p ≡ front m.0 m.1 p
+member_is (n, v) p h =
+    let name = escape_plain n h.0 in
+    let value = escape_plain v h.1 in
+    (λ i. ((34 ∷ (name i ++ 34 ∷ [])) ++ (58 ∷ 32 ∷ []) ++ (34 ∷ (value i ++ 34 ∷ []))) ++ p) ∙ regroup n v p
+
+abbrev later : List Pair → List ℕ
+later ms = flat_map (λ m. (44 ∷ 32 ∷ []) ++ member_text m) ms
+
+rest_is : (ms : List Pair) → AllPlain ms → later ms ++ 125 ∷ [] ≡ rest_text ms
+rest_is [] h = refl
+rest_is (m ∷ ms) h =
+    append_assoc ((44 ∷ 32 ∷ []) ++ member_text m) (later ms) (125 ∷ [])
+    ∙ ap (λ r. 44 ∷ 32 ∷ (member_text m ++ r)) (rest_is ms h.1)
+    ∙ ap (λ r. 44 ∷ 32 ∷ r) (member_is m (rest_text ms) h.0)
+
+object_is : (m : Pair) (ms : List Pair) → AllPlain (m ∷ ms) → object_text (m ∷ ms) ≡ 123 ∷ front m.0 m.1 (rest_text ms)
+object_is m ms h =
+    ap (λ r. 123 ∷ r) (append_assoc (member_text m) (later ms) (125 ∷ []) ∙ ap (λ r. member_text m ++ r)
+    (rest_is ms h.1) ∙ member_is m (rest_text ms) h.0)
+
+-- ---- the seven members
+
+plain_text_is : (t : TextsValue) → ArePlain t → plain_text t ≡ object_text (first_of t ∷ later_of t)
+plain_text_is t h = sym (object_is (first_of t) (later_of t) (
+  (refl, h.url),
+  (
+    (refl, h.mime),
+    (
+      (refl, h.status),
+      (
+        (refl, h.digest),
+        ((refl, h.length), ((refl, h.offset), ((refl, h.filename), tt))),
+      ),
+    ),
+  ),
+))
+
+pub read_plain : (t : TextsValue) → ArePlain t → read (plain_text t) ≡ Some (data_of t)
+read_plain t h = ap read (plain_text_is t h) ∙ read_texts t
+
+-- ---- the offset
+
+if_some : (b : Bool) (v n : ℕ) → cond b (Some v) None ≡ Some n → (b ≡ true) × (v ≡ n)
+if_some true v n h = (refl, let e : v ≡ n = cc in e)
+if_some false v n h = absurd (cc)
+
+pub canonical_decimal : (ds : List ℕ) (n : ℕ) → offset_of ds ≡ Some n → (get_or ds 0 0 ≡ 48 → length ds ≡ 1)
+    → ds ≡ decimal n
+canonical_decimal ds n h single =
+    let parts = if_some (is_offset ds) (digits_value 10 ds) n h in
+    let outer = and_parts _ _ parts.0 in
+    let small : digits_value 10 ds < 2 ^ 63 = ltb-true _ _ outer.1 in
+    let inner = and_parts _ _ outer.0 in
+    let some : 0 < length ds = ltb-true _ _ (and_parts _ _ inner.0).0 in
+    sym (decimal-digits_value own ds inner.1 some single (omega (arith, small))) ∙ ap decimal parts.1
+
+pub some_from : (n : ℕ) → (n == 0) ≡ false → 0 < n
+some_from zero h = absurd (cc)
+some_from (suc n) h = omega arith
+
+-- ---- writing
+
+steps_of : (old s : List ℕ) → ((old ++ 34 ∷ []) ++ s) ++ 34 ∷ [] ≡ old ++ 34 ∷ (s ++ 34 ∷ [])
+steps_of old s = simp append_assoc
+
+pub quoted_plain : (old s : List ℕ) → list_all is_plain s ≡ true → ((old ++ 34 ∷ []) ++ s) ++ 34 ∷ [] ≡ old ++ quoted s
+quoted_plain old s h = steps_of old s ∙ ap (λ e. old ++ 34 ∷ (e ++ 34 ∷ [])) (sym (escape_plain s h))
+
+-- what stands between two texts
+abbrev pub between : List ℕ → List ℕ
+between name = 34 ∷ later_front name
+
+-- fronts and texts by turns; each front but the first begins with the quote of the text before it
+abbrev pub in_pieces : List ℕ → TextsValue → List ℕ
+in_pieces old t =
+    (((((((old ++ (first_front url_name ++ t.url)) ++ (between mime_name ++ t.mime))
+    ++ (between status_name ++ t.status))
+    ++ (between digest_name ++ t.digest)) ++ (between length_name ++ t.length))
+    ++ (between offset_name ++ t.offset))
+    ++ (between filename_name ++ t.filename)) ++ codes "\"}"
+
+pub in_one : (old : List ℕ) (t : TextsValue) → in_pieces old t ≡ old ++ plain_text t
+in_one old t = simp append_assoc
+
+pub plain_object : (old : List ℕ) (t : TextsValue) → ArePlain t → in_pieces old t ≡ old ++ object_text (text_members t)
+plain_object old t h = in_one old t ∙ ap (λ o. old ++ o) (plain_text_is t h)

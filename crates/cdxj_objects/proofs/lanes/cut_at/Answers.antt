@@ -1,0 +1,43 @@
+use Rattle.std.proofs.Common.{◌≡◌, ◌++◌, ◌∷◌, take, get_or, sym, ap, ◌∙◌, arith, eqb-true}
+use Rattle.std.specs.List.{list_all, prefix_len}
+use Rattle.std.proofs.lemmas.Bool.{not-false}
+use Rattle.std.proofs.lemmas.List.Sums.{prefix_len_stops}
+use Rattle.std.proofs.lemmas.Str.{IsCharBoundary-after_ascii, IsCharBoundary-before_ascii}
+use Rattle.cdxj_objects.specs.Plain.{is_other}
+use Rattle.cdxj_objects.proofs.PlainCuts.{cut_at, front_passes}
+use Rattle.cdxj_objects.proofs.lanes.cut_at.Goals as goal
+use Rattle.cdxj_objects.proofs.lanes.cut_at.Goals.{Then-end-text}
+
+length_is : (c : Then-end-text) → c.length_before-end.result ≡ prefix_len (is_other c.args.byte) c.args.text.now
+length_is c = c.length_before-end.ensures ∙ ap (prefix_len (is_other c.args.byte)) c.as_bytes.ensures.value
+
+byte_at : (c : Then-end-text) → get_or c.args.text.now c.length_before-end.result 0 ≡ c.args.byte
+byte_at c =
+    let text = c.args.text.now in
+    ap (λ n. get_or text n 0) (length_is c)
+    ∙ eqb-true _ _ (not-false _ (prefix_len_stops (is_other c.args.byte) text 0
+    (omega (arith, length_is c, c.if-end-text.true))))
+
+pub range-requires-clause-end_boundary : goal.range-requires-clause-end_boundary
+range-requires-clause-end_boundary c =
+    let here = (goal.at.range-requires-clause-end_boundary c).Then-end-text in
+    IsCharBoundary-before_ascii c.args.text.now c.length_before-end.result c.if-end-text.true
+    (omega (arith, byte_at here, c.requires))
+
+pub range_from-requires : goal.range_from-requires
+range_from-requires c =
+    let here = (goal.at.range_from-requires c).Then-end-text in
+    λ some. IsCharBoundary-after_ascii c.args.text.now c.length_before-end.result c.utf8.text c.if-end-text.true
+    (omega (arith, byte_at here, c.requires))
+
+pub returns-then-end-text : goal.returns-then-end-text
+returns-then-end-text c =
+    let here = (goal.at.returns-then-end-text c).Then-end-text in
+    let text = c.args.text.now in
+    let end = c.length_before-end.result in
+    let front : c.range.result.now ≡ take end text = c.range.ensures.value ∙ ap (λ n. take n text) (omega arith) in
+    let back = c.range_from.ensures.value in (
+      cut_at text end c.if-end-text.true ∙ (λ i. sym front i ++ byte_at here i ∷ sym back i),
+      ap (list_all (is_other c.args.byte)) (front ∙ ap (λ n. take n text) (length_is here))
+          ∙ front_passes (is_other c.args.byte) text,
+    )

@@ -1,0 +1,14 @@
+pub mod Names
+pub mod Texts
+pub mod Objects
+pub mod MemberValues
+pub mod FoundMembers
+pub mod FoundViews
+pub mod MemberViews
+pub mod Plain
+pub mod PlainPlaces
+pub mod Spelling
+-- what contracts see of bytes and stamps
+pub use Rattle.cdxj_places.specs.Bytes
+pub use Rattle.cdxj_places.specs.Pair
+pub use Rattle.cdxj_places.specs.Places

@@ -1,0 +1,123 @@
+//! The members that a line takes from its JSON object.
+ghost use Rattle.std.specs.Prelude.{◌≡◌, ◌<◌, ◌^◌, length, Some, None, IfOk, IfSome, MatchResult, option_map};
+ghost use Rattle.serde_json.specs.Data.{no_members};
+ghost use Rattle.cdxj_objects.specs.FoundMembers.{found_of, with_member, members_found};
+ghost use Rattle.cdxj_objects.specs.FoundMembers.{object_read, members_in};
+ghost use Rattle.cdxj_objects.specs.FoundViews.{value_view, found_view};
+ghost use Rattle.cdxj_objects.specs.MemberValues.{filename_value, offset_value};
+
+use crate::json_values::read_value;
+use crate::member_value::MemberValue;
+use crate::member_values::{filename_value, offset_value};
+use crate::members::{DIGEST, FILENAME, LENGTH, MIME, OFFSET, STATUS, URL};
+use json::{Invalid, Reader, Scratch, Token};
+use std::alloc::AllocError;
+
+/// How deep arrays and objects may nest in the object of a line.
+const MEMBER_DEPTH: usize = 126;
+
+/// The members that a line takes from its JSON object: the value of each, the last one of its name.
+#[derive(Clone, Copy, Debug)]
+pub struct FoundMembers<'a> {
+    pub(crate) url: Option<MemberValue<'a>>,
+    pub(crate) mime: Option<MemberValue<'a>>,
+    pub(crate) status: Option<MemberValue<'a>>,
+    pub(crate) digest: Option<MemberValue<'a>>,
+    pub(crate) length: Option<MemberValue<'a>>,
+    offset: Option<MemberValue<'a>>,
+    filename: Option<MemberValue<'a>>,
+}
+
+impl<'a> FoundMembers<'a> {
+    /// Reads the members of a text that is a JSON object, and lets `scratch` grow to its length in
+    /// bytes. Returns `None` if the text isn't an object, nests more than 127 deep, or has a number
+    /// that is too large for a 64-bit float. The only error is refused memory.
+    pub fn of_text(
+        text: &'a str,
+        scratch: &'a mut Scratch,
+    ) -> Result<Option<FoundMembers<'a>>, AllocError>
+        ensures { IfOk result (λ found. option_map found_view found ≡ members_in text.now) }
+    {
+        let mut reader = Reader::new(text, scratch)?;
+        match FoundMembers::of_tokens(&mut reader) {
+            Ok(found) => Ok(Some(found)),
+            Err(Invalid) => Ok(None),
+        }
+    }
+
+    /// Returns the file name, if it is a text that isn't empty.
+    pub fn filename(self) -> Option<&'a str>
+        ensures value { option_map (λ s. s.now) result
+            ≡ filename_value (found_view self.entry).filename }
+        ensures some { IfSome result (λ s. 0 < length s.now) }
+    {
+        filename_value(self.filename)
+    }
+
+    /// Returns the offset, if it is a number or digits, and below 2^63.
+    pub fn offset(self) -> Option<u64>
+        ensures value { result ≡ offset_value (found_view self.entry).offset }
+        ensures small { IfSome result (λ n. n < 2 ^ 63) }
+    {
+        offset_value(self.offset)
+    }
+
+    // Reads an object, after which no token follows.
+    fn of_tokens(reader: &mut Reader<'a>) -> Result<FoundMembers<'a>, Invalid>
+        ensures { MatchResult result (λ found. object_read reader.old ≡ Some (found_view found))
+            (λ _. object_read reader.old ≡ None) }
+    {
+        let Some(Token::BeginObject) = reader.next() else {
+            return Err(Invalid);
+        };
+        let found = FoundMembers::read(reader)?;
+        match reader.next() {
+            Some(_) => Err(Invalid),
+            None => Ok(found),
+        }
+    }
+
+    // Reads the members of an object and its end.
+    fn read(reader: &mut Reader<'a>) -> Result<FoundMembers<'a>, Invalid>
+        ensures { MatchResult result
+            (λ found. members_found reader.old ≡ Some (found_view found, reader.new))
+            (λ _. members_found reader.old ≡ None) }
+    {
+        let mut found = FoundMembers::none();
+        'members: while let Some(name) = reader.next_key()? {
+            let value = read_value(reader, MEMBER_DEPTH)?;
+            found.put(name, value);
+        }
+        Ok(found)
+    }
+
+    fn none() -> FoundMembers<'a>
+        ensures { found_view result ≡ found_of no_members }
+    {
+        FoundMembers {
+            url: None,
+            mime: None,
+            status: None,
+            digest: None,
+            length: None,
+            offset: None,
+            filename: None,
+        }
+    }
+
+    fn put(&mut self, name: &str, value: MemberValue<'a>)
+        ensures { found_view self.new ≡ with_member name.now (value_view value.entry)
+            (found_view self.old) }
+    {
+        match name {
+            URL => self.url = Some(value),
+            MIME => self.mime = Some(value),
+            STATUS => self.status = Some(value),
+            DIGEST => self.digest = Some(value),
+            LENGTH => self.length = Some(value),
+            OFFSET => self.offset = Some(value),
+            FILENAME => self.filename = Some(value),
+            _ => {}
+        }
+    }
+}
