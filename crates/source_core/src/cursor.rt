@@ -41,6 +41,7 @@ impl Cursor {
     ghost use Rattle.source_core.specs.Cursors.{Filled, Stands, reach, CountsLineRead, IsHeldLine};
 
     /// Creates a cursor at the offset `start`, in bytes from the source's start. A line begins there.
+    /// The only error is refused memory.
     pub fn new(alloc: Global, start: u64) -> Result<Cursor, AllocError>
         ensures stands { IfOk result (λ c.
             (text : Option (List ℕ)) → (extent : ℕ) → start ≤ extent → Stands text extent c) }
@@ -99,8 +100,8 @@ impl Cursor {
     /// Reads the next line, with its line feed, into `line`, whose previous bytes are dropped. Returns `true` if there
     /// was one.
     ///
-    /// Whatever is returned, `line` holds at most [`LINE_LIMIT`] bytes, and at most 8,192 more were read for it. After an
-    /// error the cursor must not be used again.
+    /// Whatever is returned, `line` holds at most [`LINE_LIMIT`] bytes, and at most 8,192 more were read for it. Errors are
+    /// `Memory`, `Read` if the source failed, and `Long`. After an error the cursor must not be used again.
     pub fn next<S: Source>(
         &mut self,
         source: &mut S,

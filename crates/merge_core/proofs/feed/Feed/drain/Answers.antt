@@ -11,7 +11,7 @@ use Rattle.cdxj_places.specs.Pairs.{pair_cmp}
 use Rattle.cdxj_places.proofs.PairLemmas.{pair_cmp_total}
 use Rattle.merge_core.specs.declared.feed.Progress.TheVariants.{Ended}
 use Rattle.merge_core.specs.declared.feed.Feed.{Feed}
-use Rattle.merge_core.specs.PairOrders.{Alike, Below, Upto}
+use Rattle.line_queue.specs.PairOrders.{Alike, Below, Upto}
 use Rattle.source_core.specs.LinesAtFault.{IsOutOfOrder}
 use Rattle.merge_core.specs.Feeds.{Fed, done, option_list}
 use Rattle.merge_core.specs.LineFaults.{NamesLine}
@@ -19,7 +19,7 @@ use Rattle.merge_core.specs.Spending.{ReadTo}
 use Rattle.merge_core.proofs.SpendLemmas.{read_to}
 use Rattle.merge_core.proofs.BadLines.{bad_named, order_named}
 use Rattle.merge_core.proofs.FailLemmas.{counts_feed, if_err}
-use Rattle.merge_core.proofs.PairOrder.{below_upto, same_upto, same_from}
+use Rattle.line_queue.proofs.PairOrder.{below_upto, same_upto, same_from}
 use Rattle.merge_core.proofs.FeedLemmas.{each_join, each_next, line_read, same_stays}
 use Rattle.merge_core.proofs.DrainLemmas.{settled, settled_done, taken, taken_done, at_end, taken_more}
 use Rattle.merge_core.proofs.feed.Feed.drain.Given.{Over}

@@ -6,7 +6,7 @@ use Rattle.std.proofs.lemmas.List.{take_all, take_more}
 use Rattle.cdxj_core.specs.declared.limit.TheConstants.{LINE_LIMIT}
 use Rattle.source_core.specs.Halving.{digits}
 use Rattle.merge_core.specs.declared.feed.Feed.{Feed}
-use Rattle.merge_core.specs.WaitingLines.{WaitingLine}
+use Rattle.line_queue.specs.WaitingLines.{WaitingLine}
 use Rattle.merge_core.specs.Feeds.{AreSettled, AreFed, done}
 use Rattle.merge_core.specs.Gathering.{text_or}
 use Rattle.merge_core.specs.Openings.{IsCutAt}
@@ -36,6 +36,7 @@ loop-i-init g c =
       cut = subst (AllByRecursion
           (λ (x : g.row.S.Denot × Feed). IsCutAt LINE_LIMIT (c.args.key.now, c.args.stamp.now) (g.S.Source.text x.0)
           x.1.cursor)) (sym (zip_none c.args.sources.now c.new.result.items none)) tt;
+      start = λ k s. subst (AllByRecursion (λ (f : Feed). f.cursor.start ≡ 0)) (sym none) tt;
       settled = subst AreSettled (sym none) tt;
       fresh = done_none (λ (x : g.row.S.Denot × Feed). done LINE_LIMIT (text_or (g.S.Source.text x.0)) x.1)
           c.args.sources.now c.new.result.items none;
@@ -95,6 +96,8 @@ loop-i-preserved g c =
       cut = subst (λ us. AllByRecursion Cut (zip (set ss i s) us)) (sym added.2)
           (subst (AllByRecursion Cut) (sym (zip_push ss fs i s f inv.count inside))
           (each_join Cut (zip ss fs) ((s, f) ∷ []) inv.cut (added.5, tt)));
+      start = λ k s. subst (AllByRecursion (λ (f : Feed). f.cursor.start ≡ 0)) (sym added.2)
+          (each_join (λ (f : Feed). f.cursor.start ≡ 0) fs (f ∷ []) (inv.start k s) (added.8 k s, tt));
       settled = ok.settled inv.settled;
       fresh = ap (λ us. flat_map of (zip (set ss i s) us)) added.2
           ∙ ap (flat_map of) (zip_push ss fs i s f inv.count inside)
