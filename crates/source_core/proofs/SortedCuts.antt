@@ -1,6 +1,7 @@
 -- Indexes, cut at a pair.
 use Rattle.std.proofs.Common.{◌≡◌, ℕ, zero, suc, ◌+◌, ◌-◌, ◌*◌, ◌^◌, ◌<◌, ◌≤◌, List, [], ◌∷◌, ◌++◌, Bool, true, false}
-use Rattle.std.proofs.Common.{None, Option, not, cond, length, take, drop, flat_map, map, Some, refl, sym, ap, inl, inr, ◌∙◌, arith, eqb}
+use Rattle.std.proofs.Common.{None, Option, not, cond, length, take, drop, flat_map, map, Some, refl, sym, ap, inl}
+use Rattle.std.proofs.Common.{inr, ◌∙◌, arith, eqb}
 use Rattle.std.proofs.Common.{length-append, length-drop, length-take, Less, Equal, Greater, is_gt, is_lt}
 use Rattle.std.specs.List.{onto_first, AllByRecursion}
 use Rattle.std.proofs.lemmas.Bool.{cases_lt, true≢false}

@@ -29,7 +29,8 @@ use Rattle.merge_core.proofs.MergeLemmas.{above_none, below_next, handed_none, h
 use Rattle.merge_core.specs.Feeds.{AreSettled}
 use Rattle.merge_core.proofs.WrittenLemmas.{grows_not}
 use Rattle.merge_core.proofs.merging.merge.Given.{Over}
-use Rattle.merge_core.proofs.merging.merge.Goals.{In-Some, After-deref-in-Some, After-gather, After-hand_on, After-put_back}
+use Rattle.merge_core.proofs.merging.merge.Goals.{In-Some, After-deref-in-Some, After-gather, After-hand_on}
+use Rattle.merge_core.proofs.merging.merge.Goals.{After-put_back}
 use Rattle.merge_core.proofs.merging.merge.Goals as goal
 
 abbrev values : List (Box Line Global) → List Member

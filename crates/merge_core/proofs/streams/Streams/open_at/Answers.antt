@@ -1,4 +1,5 @@
 use Rattle.std.specs.List.{AllZip}
+use Rattle.std.proofs.lemmas.Slice.Zip.{all_zipped_more}
 use Rattle.std.proofs.Common.{◌≡◌, ◌++◌, get_or, take, ◌<◌, ◌+◌, ◌∷◌, [], length, map, refl, sym, ap, ◌∙◌, subst, set}
 use Rattle.std.proofs.Common.{zip, flat_map, length-append, arith}
 use Rattle.std.specs.List.{AllByRecursion, sum}
@@ -11,7 +12,7 @@ use Rattle.merge_core.specs.Feeds.{AreSettled, AreFed, done}
 use Rattle.merge_core.specs.Gathering.{text_or}
 use Rattle.merge_core.specs.Openings.{IsCutAt}
 use Rattle.merge_core.specs.Spending.{CameWithin, OpenedWithin}
-use Rattle.merge_core.proofs.SpendLemmas.{opened_none, two_put, two_push, left_here, left_after}
+use Rattle.merge_core.proofs.SpendLemmas.{opened_none, two_put, left_here, left_after}
 use Rattle.merge_core.proofs.FailLemmas.{raised_by_feed}
 use Rattle.merge_core.proofs.FeedLemmas.{each_join}
 use Rattle.merge_core.proofs.Many.{map_set_same}
@@ -110,7 +111,7 @@ loop-i-preserved g c =
       came = subst (λ us. AllZip Came (take (i + 1) c.args.sources.now) (zip (set ss i s) us)) (sym added.2)
           (subst (AllZip Came (take (i + 1) c.args.sources.now)) (sym (zip_push ss fs i s f inv.count inside))
           (subst (λ us. AllZip Came us (zip ss fs ++ (s, f) ∷ [])) (sym (take_more c.args.sources.now i a inside_old))
-          (two_push Came (take i c.args.sources.now) (zip ss fs) (get_or c.args.sources.now i a) (s, f) inv.came
+          (all_zipped_more Came (take i c.args.sources.now) (zip ss fs) (get_or c.args.sources.now i a) (s, f) inv.came
           (subst (λ x. CameWithin (text x) (extent x) (gave x) (gave s) f.cursor) same_here added.7))));
     }
 
