@@ -1,5 +1,5 @@
 -- Growing twice is growing by both, and what wasn't written is a rest.
-use Rattle.std.proofs.Common.{ℕ, List, [], ◌++◌, Option, None, Some, take, drop, refl, sym, ap, ◌∙◌, append_assoc}
+use Rattle.std.proofs.Common.{ℕ, List, [], ◌++◌, Option, None, Some, take, drop, sym, ap, ◌∙◌, append_assoc}
 use Rattle.std.proofs.Common.{append-nil}
 use Rattle.std.proofs.lemmas.List.{take-append-drop}
 use Rattle.std.specs.Io.KnownBytes.{Appends}
@@ -15,9 +15,6 @@ Appends-join None mid new a b h k = tt
 Appends-join (Some xs) None new a b h k = absurd h
 Appends-join (Some xs) (Some ys) None a b h k = absurd k
 Appends-join (Some xs) (Some ys) (Some zs) a b h k = k ∙ (ap (λ w. w ++ b) h ∙ append_assoc xs a b)
-
-pub WroteUpTo-start : (old : Option (List ℕ)) (bs : List ℕ) → WroteUpTo old old bs bs
-WroteUpTo-start old bs = record { front = []; whole = refl; grown = Appends-none old }
 
 pub WroteUpTo-more : (old mid new : Option (List ℕ)) (bs rest : List ℕ) (n : ℕ) → WroteUpTo old mid bs rest
     → Appends mid new (take n rest) → WroteUpTo old new bs (drop n rest)

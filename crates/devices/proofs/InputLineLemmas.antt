@@ -1,7 +1,6 @@
 -- The line that is being read.
 use Rattle.std.proofs.Common.{◌≡◌, ℕ, zero, suc, ◌<◌, List, [], ◌∷◌, ◌++◌, length, take, refl, sym, ap, ◌∙◌, subst}
 use Rattle.std.proofs.Common.{arith, cond, Bool, true, false, not, Option, Some, None, append_assoc, append-nil}
-use Rattle.std.proofs.lemmas.List.{take_all}
 use Rattle.std.specs.List.{onto_first}
 use Rattle.devices.specs.LineCuts.{HasNoLineFeed, cut_lines}
 use Rattle.devices.specs.LineReading.{TakesPart, TakesLine, LineSoFar}
@@ -39,10 +38,6 @@ take-some : (most : ℕ) (xs : List ℕ) → 0 < length (take most xs) → 0 < l
 take-some zero xs some = absurd (omega arith)
 take-some (suc most) [] some = some
 take-some (suc most) (x ∷ xs) some = omega arith
-
-pub so_far-start : (most : ℕ) (now : Option (List ℕ)) → LineSoFar most now now []
-so_far-start most None = tt
-so_far-start most (Some text) = ([], refl, tt, sym (take_all most [] (omega arith)))
 
 module _ (most : ℕ) where
   pub so_far-more : (before now after : Option (List ℕ)) (line new : List ℕ) → LineSoFar most before now line

@@ -1,10 +1,6 @@
 -- How many bytes of the input were taken.
-use Rattle.std.proofs.Common.{ℕ, List, refl, ◌∙◌, arith, Option, Some, None}
+use Rattle.std.proofs.Common.{ℕ, List, ◌∙◌, arith, Option, Some, None}
 use Rattle.devices.specs.LineReading.{CountsTaken, IsTooLong}
-
-pub taken-none : (now : Option (List ℕ)) (n : ℕ) → CountsTaken now now n n
-taken-none None n = tt
-taken-none (Some text) n = refl
 
 pub taken-join : (before now after : Option (List ℕ)) (k m n : ℕ) → CountsTaken before now k m
     → CountsTaken now after m n → CountsTaken before after k n

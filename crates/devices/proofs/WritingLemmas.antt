@@ -52,10 +52,3 @@ writes_prefix Q (Err e) old new text h p = p
 pub writes_nothing : {A E : Type 0} (Q : E → Type 0) (r : Result A E) (old : Option (List ℕ)) (text : List ℕ)
     → IsErrAnd r Q → WritesText r old old text
 writes_nothing Q r old text h = writes_prefix Q r old old text h (wrote_nothing old text)
-
--- the text is a part of another
-pub writes_whole : {A E : Type 0} (r : Result A E) (old now new : Option (List ℕ)) (part whole : List ℕ)
-    → (Appends now new part → Appends old new whole) → (AppendsPrefix now new part → AppendsPrefix old new whole)
-    → WritesText r now new part → WritesText r old new whole
-writes_whole (Ok x) old now new part whole f g w = f w
-writes_whole (Err e) old now new part whole f g w = g w

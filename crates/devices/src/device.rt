@@ -57,7 +57,8 @@ pub trait Output {
 /// Writes all of `bytes`. The only error is the output's failure. A prefix of them was then written.
 pub fn put<O: Output>(out: &mut O, bytes: &[u8]) -> Result<(), DeviceFault>
     ensures all { OnOk result (Appends (O.written out.old) (O.written out.new) bytes.now) }
-    ensures prefix { OnErr result (AppendsPrefix (O.written out.old) (O.written out.new) bytes.now) }
+    ensures prefix { OnErr result
+        (AppendsPrefix (O.written out.old) (O.written out.new) bytes.now) }
     ensures failures { CountsFailure result (O.failures out.old) (O.failures out.new) }
 {
     let mut rest = bytes;

@@ -8,7 +8,8 @@ use std::alloc::AllocError;
 /// Returns the index of the first line feed, if there is one.
 pub(crate) fn find_line_feed(piece: &[u8]) -> Option<usize>
     ensures { MatchOption result (HasNoLineFeed piece.now)
-        (λ at. (at < length piece.now) × HasNoLineFeed (take at piece.now) × (piece.now ≡ take at piece.now ++ 10 ∷ drop (at + 1) piece.now)) }
+        (λ at. (at < length piece.now) × HasNoLineFeed (take at piece.now)
+        × (piece.now ≡ take at piece.now ++ 10 ∷ drop (at + 1) piece.now)) }
 {
     memchr(b'\n', piece)
 }

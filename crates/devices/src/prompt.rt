@@ -64,7 +64,8 @@ impl<W: io::Write> Output for Prompt<W> {
         ensures failures { CountsFailure result (prompt_failures self.old)
             (prompt_failures self.new) }
         ensures writer { IfOk result (λ n.
-            Appends (W.contents (prompt_writer self.old)) (W.contents (prompt_writer self.new)) (take n piece.now)) }
+            Appends (W.contents (prompt_writer self.old)) (W.contents (prompt_writer self.new))
+            (take n piece.now)) }
     {
         match write_promptly(&mut self.writer, piece) {
             Ok(count) if count > 0 || piece.is_empty() => Ok(count),

@@ -98,7 +98,8 @@ impl<W: io::Write> Output for FromWrite<W> {
     fn write(&mut self, piece: &[u8]) -> Result<usize, DeviceFault>
         ensures some { IfOk result (TakesSome piece.now) }
         ensures bytes { WriteAppends None None result piece.now }
-        ensures failures { CountsFailure result (write_failures self.old) (write_failures self.new) }
+        ensures failures { CountsFailure result (write_failures self.old)
+            (write_failures self.new) }
         ensures writer { WriteAppends (W.contents (writer_of self.old))
             (W.contents (writer_of self.new)) result piece.now }
     {

@@ -19,13 +19,13 @@ use Rattle.merge_core.specs.declared.fault.FeedFault.{FeedFault}
 use Rattle.merge_core.specs.declared.fault.FeedFault.TheVariants as fault
 use Rattle.merge_core.specs.declared.feed.Progress.TheVariants.{Due}
 use Rattle.merge_core.specs.declared.feed.Feed.{Feed}
-use Rattle.merge_core.specs.PairOrders.{Below}
+use Rattle.line_queue.specs.PairOrders.{Below}
 use Rattle.merge_core.specs.Feeds.{Fed, read_lines, done}
 use Rattle.merge_core.specs.Gathering.{EndsAt}
 use Rattle.cdxj_core.specs.declared.fault.LineFault.{LineFault}
 use Rattle.cdxj_core.specs.declared.fault.LineFault.TheVariants as reading
 use Rattle.merge_core.specs.LineFaults.{IsBadFirst, IsFaultAt, NamesLine, line_fault}
-use Rattle.merge_core.proofs.PairOrder.{below_then}
+use Rattle.line_queue.proofs.PairOrder.{below_then}
 use Rattle.merge_core.proofs.FeedLemmas.{ReadNext, done_due, after_taken}
 
 body_length : (b : Bool) (line : List ℕ) → length line ≤ length (cond b (take (length line - 1) line) line) + 1

@@ -18,12 +18,11 @@ use Rattle.source_core.specs.Search.{IsCut}
 use Rattle.merge_core.specs.declared.feed.Progress.{Progress}
 use Rattle.merge_core.specs.declared.feed.Progress.TheVariants.{Due, Waiting, Past, Ended}
 use Rattle.merge_core.specs.declared.feed.Feed.{Feed}
-use Rattle.merge_core.specs.PairOrders.{IsUpto, is_low}
-use Rattle.merge_core.specs.WaitingLines.{WaitingLine, waits_of}
+use Rattle.line_queue.specs.PairOrders.{IsUpto, is_low}
+use Rattle.line_queue.specs.WaitingLines.{WaitingLine, waits_of}
 use Rattle.merge_core.specs.Collections.{Known, all_lines}
 use Rattle.merge_core.specs.Feeds.{AreFed, Fed, done, given, held, member_of, read_lines}
-use Rattle.merge_core.specs.Gathering.{AreTold, text_or, all_done}
-use Rattle.merge_core.specs.Reached.{Handed}
+use Rattle.merge_core.specs.Gathering.{text_or, all_done}
 use Rattle.cdxj_places.specs.Places.{place_cmp}
 use Rattle.cdxj_places.specs.Rising.{choose, put, rising}
 use Rattle.merge_core.specs.Openings.{IsCutAt}
@@ -128,13 +127,3 @@ done_count limit text (s ∷ ss) (f ∷ fs) =
       length-take (f.cursor.count - held f.progress) (given limit t f.cursor),
       sum_by-cons (λ (k : ℕ). k) f.cursor.count (map (λ (f : Feed). f.cursor.count) fs),
     )
-
--- of sources that tell their bytes, no more lines were taken than were read
-pub taken_fewer : {S : Type 0} (limit : ℕ) (text : S → Option (List ℕ)) (old ss : List S) (fs : List Feed)
-    (b : Option Pair) (taken : List Member) → Handed limit text old ss fs b taken → AreTold text old
-    → length taken ≤ sum (map (λ (f : Feed). f.cursor.count) fs)
-taken_fewer limit text old ss fs b taken handed told =
-    let is = ap length (handed.told told).0 in
-    let a = rising_fewer (all_done limit text ss fs) in
-    let c = done_count limit text ss fs in
-    omega arith

@@ -10,7 +10,7 @@ use Rattle.source_core.specs.Cursors.{Stands}
 use Rattle.source_core.specs.IndexLines.{first_length}
 use Rattle.merge_core.specs.declared.feed.Progress.TheVariants.{Due, Ended}
 use Rattle.merge_core.specs.declared.feed.Feed.{Feed}
-use Rattle.merge_core.specs.PairOrders.{Upto, Alike}
+use Rattle.line_queue.specs.PairOrders.{Upto, Alike}
 use Rattle.merge_core.specs.Feeds.{IsNext, Fed, read_lines, done}
 use Rattle.merge_core.proofs.FeedLemmas.{each_join, ReadNext, line_read, fed_same, fed_next, done_next, fed_taken}
 use Rattle.merge_core.proofs.FeedLemmas.{done_taken, fed_ended}

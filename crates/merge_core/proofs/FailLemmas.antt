@@ -1,6 +1,6 @@
 -- Which device failed.
-use Rattle.std.proofs.lemmas.List.{map-set}
-use Rattle.std.proofs.Common.{◌≡◌, ℕ, zero, suc, ◌<◌, List, [], ◌∷◌, refl, sym, ap, ap₂, ◌∙◌, subst, arith, length, map}
+use Rattle.std.proofs.lemmas.List.{get_or-map, length-map, map-set}
+use Rattle.std.proofs.Common.{◌≡◌, ℕ, ◌<◌, List, refl, sym, ap, ap₂, ◌∙◌, subst, arith, length, map}
 use Rattle.std.proofs.Common.{get_or, set, Result, Ok, Err, IfErr, IsErrAnd}
 use Rattle.devices.specs.Device.{next_count}
 use Rattle.merge_core.specs.declared.fault.FeedFault.{FeedFault}
@@ -11,22 +11,12 @@ use Rattle.merge_core.specs.Failures.{RaisedAt, RaisedByFeed, RaisedByRead, Rais
 use Rattle.merge_core.specs.Failures.{CountsReads, CountsMerge}
 use Rattle.merge_core.proofs.Many.{map_set_same}
 
-map_get : {X : Type 0} (f : X → ℕ) (xs : List X) (i : ℕ) (a : X) → i < length xs → f (get_or xs i a)
-    ≡ get_or (map f xs) i 0
-map_get f [] i a l = absurd (omega arith)
-map_get f (x ∷ xs) zero a l = refl
-map_get f (x ∷ xs) (suc i) a l = map_get f xs i a (omega arith)
-
-map_inside : {X : Type 0} (f : X → ℕ) (xs : List X) (i : ℕ) → i < length xs → i < length (map f xs)
-map_inside f [] i l = absurd (omega arith)
-map_inside f (x ∷ xs) zero l = omega arith
-map_inside f (x ∷ xs) (suc i) l = let h = map_inside f xs i (omega arith) in omega arith
-
 raised : {S : Type 0} (f : S → ℕ) (ss0 ss : List S) (i : ℕ) (a s : S) → map f ss ≡ map f ss0 → i < length ss
     → f s ≡ next_count (f (get_or ss i a)) → RaisedAt i (map f ss0) (map f (set ss i s))
 raised f ss0 ss i a s h l k = (
-  subst (λ ns. i < length ns) h (map_inside f ss i l),
-  map-set f ss i s ∙ ap₂ (λ ns n. set ns i n) h (k ∙ ap next_count (map_get f ss i a l ∙ ap (λ ns. get_or ns i 0) h)),
+  omega (arith, l, length-map ss f, ap length h),
+  map-set f ss i s
+      ∙ ap₂ (λ ns n. set ns i n) h (k ∙ ap next_count (sym (get_or-map f ss i a 0 l) ∙ ap (λ ns. get_or ns i 0) h)),
 )
 
 -- a feed's fault, as one of the sources with this number

@@ -23,11 +23,11 @@ use Rattle.source_core.specs.IndexLines.{BeginsAfter, first_length}
 use Rattle.merge_core.specs.declared.feed.Progress.{Progress}
 use Rattle.merge_core.specs.declared.feed.Progress.TheVariants.{Due, Waiting, Past, Ended}
 use Rattle.merge_core.specs.declared.feed.Feed.{Feed}
-use Rattle.merge_core.specs.PairOrders.{Alike, Upto}
+use Rattle.line_queue.specs.PairOrders.{Alike, Upto}
 use Rattle.merge_core.specs.Gathering.{EndsAt}
 use Rattle.merge_core.specs.Feeds.{AreWaits, IsNext, IsHead, Fed, held, bytes_of, read_lines, member_of, no_member}
 use Rattle.merge_core.specs.Feeds.{given, done}
-use Rattle.merge_core.proofs.PairOrder.{upto_upto, upto_both}
+use Rattle.line_queue.proofs.PairOrder.{upto_upto, upto_both}
 
 pub no_entry : (limit : ℕ) (line : List ℕ) (o : Option Member) → o ≡ line_entry limit line
     → limit ≤ length (body_of line) → o ≡ None
@@ -137,14 +137,6 @@ same_stays past pair m ms within low end alike =
     then_equal Less b e = cc
     then_equal Equal b e = refl
     then_equal Greater b e = cc
-
--- at most one waits
-pub next_few : (past : List ℕ → Bool) (m : Member) (p : Progress) (ws : List Member) → IsNext past m p ws
-    → length ws ≤ 1
-next_few past m Due ws n = absurd n
-next_few past m Waiting ws n = omega (arith, ap length n.0)
-next_few past m Past ws n = omega (arith, ap length n.0)
-next_few past m Ended ws n = absurd n
 
 -- the limit of a line, in bytes
 module _ (limit : ℕ) where

@@ -12,12 +12,12 @@ use Rattle.cdxj_places.specs.Pairs.{Pair}
 use Rattle.cdxj_places.proofs.RisingLaws.{each_weaker}
 use Rattle.cdxj_core.specs.Members.{Member, member_pair}
 use Rattle.merge_core.specs.declared.feed.Feed.{Feed}
-use Rattle.merge_core.specs.PairOrders.{Alike, Upto}
-use Rattle.merge_core.specs.WaitingLines.{WaitingLine, waiting_pair, turn_cmp}
+use Rattle.line_queue.specs.PairOrders.{Alike, Upto}
+use Rattle.line_queue.specs.WaitingLines.{WaitingLine, waiting_pair, turn_cmp}
 use Rattle.merge_core.specs.Feeds.{Ready, done, due}
 use Rattle.merge_core.specs.Gathering.{Gathered, AreTold, text_or, all_done, unread, IsFrom, IsDue, Drained}
-use Rattle.merge_core.proofs.PairOrder.{upto_upto, same_upto, same_from}
-use Rattle.merge_core.proofs.HeapLemmas.{each_get, each_permuted}
+use Rattle.line_queue.proofs.PairOrder.{upto_upto, same_upto, same_from}
+use Rattle.line_queue.proofs.HeapLemmas.{each_get, each_permuted}
 use Rattle.merge_core.proofs.Many.{is_told, zip_set, zip_at, length_zip, Move, moved_trans, moved_still, moved_set}
 use Rattle.merge_core.proofs.Many.{moved_not, told_moved, unread_set}
 use Rattle.merge_core.proofs.StreamLemmas.{inside_sources, inside_feeds, none_left, popped_ready, popped_done}

@@ -17,8 +17,8 @@ use Rattle.cdxj_places.proofs.RisingLaws.{each_weaker}
 use Rattle.cdxj_core.specs.Indexes.{IsIndex}
 use Rattle.cdxj_core.specs.Members.{Member, member_pair}
 use Rattle.merge_core.specs.declared.feed.Feed.{Feed}
-use Rattle.merge_core.specs.PairOrders.{Upto, IsAbove, is_low}
-use Rattle.merge_core.specs.WaitingLines.{WaitingLine, waiting_pair, is_of, waits_of}
+use Rattle.line_queue.specs.PairOrders.{Upto, IsAbove, is_low}
+use Rattle.line_queue.specs.WaitingLines.{WaitingLine, waiting_pair, is_of, waits_of}
 use Rattle.merge_core.specs.Collections.{Known, all_lines}
 use Rattle.merge_core.specs.Counts.{is_at, ShareAtMost}
 use Rattle.merge_core.specs.Feeds.{Fed, AreFed, Ready, member_of, given, held, done}

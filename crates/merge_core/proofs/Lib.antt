@@ -1,10 +1,8 @@
 pub mod PairOrder
 pub mod Filters
-pub mod TurnLemmas
 pub mod FeedLemmas
 pub mod DrainLemmas
 pub mod BadLines
-pub mod HeapLemmas
 pub mod StreamLemmas
 pub mod Many
 pub mod FailLemmas
@@ -14,7 +12,6 @@ pub mod MergeLemmas
 pub mod WrittenLemmas
 pub mod OpenLemmas
 pub mod WholeLemmas
-pub mod KeyStarts
 pub mod ReadLines
 pub mod StartLemmas
 pub mod TakenLemmas

@@ -1,6 +1,6 @@
 -- One group more of a merge.
 use Rattle.std.proofs.Common.{◌≡◌, ℕ, Result, Ok, Err, OnErr, List, [], ◌∷◌, ◌++◌, refl, sym, ap, ap₂, ◌∙◌, subst}
-use Rattle.std.proofs.Common.{Option, Some, None, map, true, Less, Equal, Greater, Ordering, is_lt, is_gt}
+use Rattle.std.proofs.Common.{Bool, Option, Some, None, map, true, Less, Equal, Greater, Ordering, is_lt, is_gt}
 use Rattle.std.specs.List.{AllByRecursion}
 use Rattle.std.specs.Ordering.{ordering_reverse}
 use Rattle.cdxj_places.specs.Pairs.{Pair}
@@ -11,12 +11,12 @@ use Rattle.cdxj_places.proofs.PlaceOrder.{place_cmp_total}
 use Rattle.cdxj_places.proofs.RisingLaws.{each_weaker, each_rising, rises_rising, rising_split}
 use Rattle.cdxj_core.specs.Members.{Member, member_pair, member_place}
 use Rattle.merge_core.specs.declared.feed.Feed.{Feed}
-use Rattle.merge_core.specs.PairOrders.{Alike, Below, Upto, IsAbove, IsUpto, is_low}
-use Rattle.merge_core.specs.WaitingLines.{WaitingLine, waiting_pair}
+use Rattle.line_queue.specs.PairOrders.{Alike, Below, Upto, IsAbove, IsUpto, is_low}
+use Rattle.line_queue.specs.WaitingLines.{WaitingLine, waiting_pair}
 use Rattle.merge_core.specs.Gathering.{Gathered, Grouped, AreTold, all_done}
-use Rattle.merge_core.specs.Reached.{Handed}
+use Rattle.merge_core.specs.Reached.{Handed, Reached}
 use Rattle.merge_core.specs.SourceLines.{HasEntry}
-use Rattle.merge_core.proofs.PairOrder.{from_not_below, below_then, then_below, below_upto, same_upto, same_from}
+use Rattle.line_queue.proofs.PairOrder.{from_not_below, below_then, then_below, below_upto, same_upto, same_from}
 use Rattle.merge_core.proofs.FeedLemmas.{each_join}
 use Rattle.merge_core.proofs.GroupLemmas.{AreAt, AreBelow}
 
@@ -126,3 +126,14 @@ on_err (Err x) e P h p = p
 pub map_seen : {A X Y : Type 0} (f : X → Y) (g : A → X) (xs : List A) → map (λ a. f (g a)) xs ≡ map f (map g xs)
 map_seen f g [] = refl
 map_seen f g (x ∷ xs) = ap (λ l. f (g x) ∷ l) (map_seen f g xs)
+
+-- the same of equal lists
+pub reached_same : {S : Type 0} (limit : ℕ) (text : S → Option (List ℕ)) (past : List ℕ → Bool) (extent gave : S → ℕ)
+    (ss0 : List S) (fs0 : List Feed) (ss ss' : List S) (fs fs' : List Feed) (ws ws' : List WaitingLine)
+    (b : Option Pair) (taken : List Member) → ss' ≡ ss → fs' ≡ fs → ws' ≡ ws
+    → Reached limit text past extent gave ss0 fs0 ss fs ws b taken
+    → Reached limit text past extent gave ss0 fs0 ss' fs' ws' b taken
+reached_same limit text past extent gave ss0 fs0 ss ss' fs fs' ws ws' b taken e f h r =
+    subst (λ us. Reached limit text past extent gave ss0 fs0 us fs' ws' b taken) (sym e)
+    (subst (λ us. Reached limit text past extent gave ss0 fs0 ss us ws' b taken) (sym f)
+    (subst (λ us. Reached limit text past extent gave ss0 fs0 ss fs us b taken) (sym h) r))

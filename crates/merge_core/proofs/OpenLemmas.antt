@@ -15,11 +15,11 @@ use Rattle.source_core.specs.Cursors.{CursorState, Stands}
 use Rattle.source_core.specs.IndexLines.{BeginsAfter}
 use Rattle.merge_core.specs.declared.feed.Progress.TheVariants.{Due}
 use Rattle.merge_core.specs.declared.feed.Feed.{Feed}
-use Rattle.merge_core.specs.WaitingLines.{WaitingLine, waits_of}
+use Rattle.line_queue.specs.WaitingLines.{WaitingLine, waits_of}
 use Rattle.merge_core.specs.Feeds.{Fed, AreFed, option_list, given, held, member_of, done}
 use Rattle.merge_core.specs.Gathering.{text_or}
 use Rattle.merge_core.proofs.FeedLemmas.{done_due, fresh_done}
-use Rattle.merge_core.proofs.HeapLemmas.{each_permuted, waits_here, waits_other}
+use Rattle.line_queue.proofs.HeapLemmas.{each_permuted, waits_here, waits_other}
 use Rattle.merge_core.proofs.StreamLemmas.{fed_permuted}
 
 -- none of a later source waits

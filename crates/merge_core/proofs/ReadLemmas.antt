@@ -11,22 +11,22 @@ use Rattle.cdxj_places.proofs.RisingLaws.{each_weaker}
 use Rattle.cdxj_core.specs.Indexes.{IsIndex}
 use Rattle.cdxj_core.specs.Members.{Member, member_pair, member_place}
 use Rattle.merge_core.specs.declared.feed.Feed.{Feed}
-use Rattle.merge_core.specs.PairOrders.{IsAbove, IsUpto, Upto, is_low}
-use Rattle.merge_core.specs.WaitingLines.{WaitingLine, waiting_pair, is_of, waits_of}
+use Rattle.line_queue.specs.PairOrders.{IsAbove, IsUpto, Upto, is_low}
+use Rattle.line_queue.specs.WaitingLines.{WaitingLine, waiting_pair, is_of, waits_of}
 use Rattle.merge_core.specs.Collections.{Known, all_lines, collection}
 use Rattle.merge_core.specs.Feeds.{AreFed, AreSettled, Fed, done}
 use Rattle.merge_core.specs.Gathering.{AreTold, text_or, all_done}
 use Rattle.merge_core.specs.Openings.{IsCutAt}
 use Rattle.merge_core.specs.Reached.{Reached}
 use Rattle.merge_core.proofs.GroupLemmas.{each_cut}
-use Rattle.merge_core.proofs.HeapLemmas.{each_waits}
+use Rattle.line_queue.proofs.HeapLemmas.{each_waits}
 use Rattle.merge_core.proofs.Many.{is_told, told_moved}
 use Rattle.merge_core.proofs.MergeLemmas.{lower_by_pair}
 use Rattle.merge_core.proofs.WholeLemmas.{told_known}
 use Rattle.merge_core.proofs.ReadLines.{IsUpward, stays, is_read, IsLate, fed_read, wanted_high}
 use Rattle.merge_core.proofs.TakenLemmas.{taken_first, taken_whole, taken_before}
 pub use Rattle.merge_core.proofs.TakenLemmas.{TakenFirst}
-use Rattle.merge_core.proofs.StartLemmas.{RunsFrom, runs_whole, runs_sought, runs_kept}
+use Rattle.merge_core.proofs.StartLemmas.{RunsFrom, runs_sought, runs_kept}
 
 -- ---- all sources
 
@@ -103,19 +103,6 @@ module _ {S : Type 0} (text : S → Option (List ℕ)) (extent gave : S → ℕ)
         ++ rest) × AllByRecursion (λ m. (wanted m ≡ true) × Upto next (member_pair m)) rest
     before_of = taken_before limit past upward wanted within b ws reached.above (all_done limit text ss fs) taken
         handed.1 handed.0 (all_lines highs) read
-
-  -- sources that are read from their beginning
-  module _ (begun : AllByRecursion (λ (f : Feed). f.cursor.start ≡ 0) fs0) where
-    runs_all : AllZip (RunsFrom limit text) (zip ss0 fs0) indexes
-    runs_all = runs_whole limit text ss0 fs0 texts indexes same known are begun
-
-    -- what was taken so far is a front of what is wanted
-    pub read_first : TakenFirst wanted b (collection indexes) taken
-    read_first = first_of indexes runs_all
-
-    -- where no line waits, it is all
-    pub read_whole : ws ≡ [] → filter wanted (collection indexes) ≡ filter wanted taken
-    read_whole = whole_of indexes runs_all
 
   -- sources that are read from where the search for this pair ended, below which nothing is wanted
   module _ (start : Pair) (cut : AllByRecursion (λ x. IsCutAt limit start (text x.0) x.1.cursor) (zip ss0 fs0))

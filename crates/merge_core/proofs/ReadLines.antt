@@ -23,9 +23,9 @@ use Rattle.cdxj_core.specs.Members.{Member, member_pair, member_place, line_entr
 use Rattle.merge_core.specs.declared.feed.Progress.{Progress}
 use Rattle.merge_core.specs.declared.feed.Progress.TheVariants.{Due, Waiting, Past, Ended}
 use Rattle.merge_core.specs.declared.feed.Feed.{Feed}
-use Rattle.merge_core.specs.PairOrders.{Upto}
+use Rattle.line_queue.specs.PairOrders.{Upto}
 use Rattle.merge_core.specs.Feeds.{AreWaits, IsHead, IsSettled, Fed, done, given, member_of, no_member}
-use Rattle.merge_core.proofs.PairOrder.{upto_itself}
+use Rattle.line_queue.proofs.PairOrder.{upto_itself}
 use Rattle.merge_core.proofs.GroupLemmas.{filter_none}
 use Rattle.merge_core.proofs.MergeLemmas.{place_below}
 

@@ -15,8 +15,8 @@ use Rattle.cdxj_core.specs.Members.{Member, member_pair, member_place}
 use Rattle.merge_core.specs.declared.feed.Progress.{Progress}
 use Rattle.merge_core.specs.declared.feed.Progress.TheVariants.{Due, Waiting, Past, Ended}
 use Rattle.merge_core.specs.declared.feed.Feed.{Feed}
-use Rattle.merge_core.specs.PairOrders.{IsUpto}
-use Rattle.merge_core.specs.WaitingLines.{WaitingLine, waits_of}
+use Rattle.line_queue.specs.PairOrders.{IsUpto}
+use Rattle.line_queue.specs.WaitingLines.{WaitingLine, waits_of}
 use Rattle.merge_core.specs.Collections.{Known, all_lines, collection}
 use Rattle.merge_core.specs.Feeds.{AreFed, AreSettled, AreWaits, IsHead, IsSettled, Fed, done, given, member_of}
 use Rattle.merge_core.specs.Feeds.{read_lines}

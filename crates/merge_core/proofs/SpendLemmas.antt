@@ -4,7 +4,7 @@ use Rattle.std.specs.List.{AllZip}
 use Rattle.std.proofs.Common.{◌≡◌, ℕ, zero, suc, ◌+◌, ◌-◌, ◌*◌, ◌≤◌, List, [], ◌∷◌, ◌++◌, length, take, drop, map}
 use Rattle.std.proofs.Common.{flat_map, zip, get_or, set, Bool, false, Option, None, Some, refl, sym, ap, ◌∙◌, subst}
 use Rattle.std.proofs.Common.{arith, append_assoc, append-nil, take-append-drop, length-append, length-drop, drop-drop}
-use Rattle.std.proofs.Common.{drop-set-lt}
+use Rattle.std.proofs.Common.{drop-set-lt, get_or-drop}
 use Rattle.std.specs.List.{AllByRecursion}
 use Rattle.std.proofs.lemmas.List.Concat.{flat_map-append}
 use Rattle.cdxj_places.specs.Pairs.{Pair}
@@ -14,8 +14,8 @@ use Rattle.source_core.specs.Cursors.{CursorState, reach}
 use Rattle.source_core.specs.IndexLines.{first_length, longest}
 use Rattle.source_core.proofs.LongestLines.{first_most, longest_drop}
 use Rattle.merge_core.specs.declared.feed.Feed.{Feed}
-use Rattle.merge_core.specs.PairOrders.{IsUpto}
-use Rattle.merge_core.specs.WaitingLines.{WaitingLine, waits_of}
+use Rattle.line_queue.specs.PairOrders.{IsUpto}
+use Rattle.line_queue.specs.WaitingLines.{WaitingLine, waits_of}
 use Rattle.merge_core.specs.Feeds.{Fed, AreFed, bytes_of, read_lines, given, held, done, due}
 use Rattle.merge_core.specs.Gathering.{text_or, all_done}
 use Rattle.merge_core.specs.Spending.{ReadTo, AreReadTo, OpenedWithin}
@@ -145,28 +145,14 @@ two_put R (x ∷ xs) [] i d y h r = absurd h
 two_put R (x ∷ xs) (z ∷ ys) zero d y h r = (r, h.1)
 two_put R (x ∷ xs) (z ∷ ys) (suc i) d y h r = (h.0, two_put R xs ys i d y h.1 r)
 
-pub two_push : {X Y : Type 0} (R : X → Y → Type 0) (xs : List X) (ys : List Y) (x : X) (y : Y) → AllZip R xs ys → R x y
-    → AllZip R (xs ++ x ∷ []) (ys ++ y ∷ [])
-two_push R [] [] x y h r = (r, tt)
-two_push R [] (z ∷ ys) x y h r = absurd h
-two_push R (w ∷ xs) [] x y h r = absurd h
-two_push R (w ∷ xs) (z ∷ ys) x y h r = (h.0, two_push R xs ys x y h.1 r)
-
 -- what is left of a list that was gone over up to an index
 pub left_here : {X : Type 0} (old xs : List X) (i : ℕ) (d : X) → drop i xs ≡ drop i old → get_or xs i d ≡ get_or old i d
-left_here {X = X} old xs i d e = first_left xs i ∙ ap (λ l. get_or l 0 d) e ∙ sym (first_left old i)
+left_here {X = X} old xs i d e = sym (first xs) ∙ ap (λ l. get_or l 0 d) e ∙ first old
   where
-    first_left : (us : List X) (k : ℕ) → get_or us k d ≡ get_or (drop k us) 0 d
-    first_left us zero = refl
-    first_left [] (suc k) = refl
-    first_left (u ∷ us) (suc k) = first_left us k
+    first : (us : List X) → get_or (drop i us) 0 d ≡ get_or us i d
+    first us = get_or-drop i us 0 d ∙ ap (λ k. get_or us k d) (let q : i + 0 ≡ i = omega arith in q)
 
 pub left_after : {X : Type 0} (old xs : List X) (i : ℕ) (y : X) → drop i xs ≡ drop i old → drop (i + 1) (set xs i y)
     ≡ drop (i + 1) old
-left_after {X = X} old xs i y e =
-    drop-set-lt (i + 1) xs i y (omega arith) ∙ ap (λ n. drop n xs) (let q : i + 1 ≡ 1 + i = omega arith in q)
-    ∙ after 1 i xs ∙ ap (drop 1) e ∙ sym (after 1 i old)
-    ∙ ap (λ n. drop n old) (let q : 1 + i ≡ i + 1 = omega arith in q)
-  where
-    after : (k n : ℕ) (us : List X) → drop (k + n) us ≡ drop k (drop n us)
-    after k n us = ap (λ m. drop m us) (let q : k + n ≡ n + k = omega arith in q) ∙ sym (drop-drop k n us)
+left_after old xs i y e = drop-set-lt (i + 1) xs i y (omega arith) ∙ sym (drop-drop 1 i xs) ∙ ap (drop 1) e
+    ∙ drop-drop 1 i old

@@ -13,7 +13,7 @@ use Rattle.cdxj_core.specs.Indexes.{IsRun, IsIndex}
 use Rattle.cdxj_core.specs.Members.{Member, member_pair, line_entry}
 use Rattle.source_core.specs.Search.{IsCut}
 use Rattle.merge_core.specs.declared.feed.Feed.{Feed}
-use Rattle.merge_core.specs.PairOrders.{is_low}
+use Rattle.line_queue.specs.PairOrders.{is_low}
 use Rattle.merge_core.specs.Collections.{Known, all_lines}
 use Rattle.merge_core.specs.Openings.{IsCutAt}
 use Rattle.merge_core.proofs.GroupLemmas.{filter_none, filter_all}
@@ -62,22 +62,6 @@ module _ {S : Type 0} (limit : ℕ) (text : S → Option (List ℕ)) where
 
   told_once : (t u : List ℕ) (o : Option (List ℕ)) → o ≡ Some t → o ≡ Some u → t ≡ u
   told_once t u o e f = let both : Some t ≡ Some u = sym e ∙ f in let q : t ≡ u = cc in q
-
-  -- of sources that are read from their beginning, all lines
-  pub runs_whole : (ss : List S) (fs : List Feed) (texts : List (List ℕ)) (indexes : List (List Member)) → length ss
-      ≡ length fs → Known (map text ss) texts → AllZip (IsIndex limit) texts indexes
-      → AllByRecursion (λ (f : Feed). f.cursor.start ≡ 0) fs → AllZip RunsFrom (zip ss fs) indexes
-  runs_whole [] fs [] [] same known are start = tt
-  runs_whole [] fs [] (i ∷ is) same known are start = absurd are
-  runs_whole [] fs (t ∷ ts) is same known are start = absurd known
-  runs_whole (s ∷ ss) [] texts is same known are start = absurd (omega arith)
-  runs_whole (s ∷ ss) (f ∷ fs) [] is same known are start = absurd known
-  runs_whole (s ∷ ss) (f ∷ fs) (t ∷ ts) [] same known are start = absurd are
-  runs_whole (s ∷ ss) (f ∷ fs) (t ∷ ts) (i ∷ is) same known are start = (
-    λ u e. subst (λ n. IsRun limit (lines (drop n u)) i) (sym start.0)
-        (subst (λ v. IsRun limit (lines v) i) (told_once t u (text s) known.0 e) are.0),
-    runs_whole ss fs ts is (omega arith) known.1 are.1 start.1,
-  )
 
   -- of sources that are read from where a search ended, those that aren't below the start
   pub runs_sought : (start : Pair) (ss : List S) (fs : List Feed) (texts : List (List ℕ)) (indexes : List (List Member))

@@ -13,13 +13,13 @@ use Rattle.cdxj_core.specs.Members.{Member, member_pair}
 use Rattle.merge_core.specs.declared.feed.Progress.{Progress}
 use Rattle.merge_core.specs.declared.feed.Progress.TheVariants.{Due, Waiting, Past, Ended}
 use Rattle.merge_core.specs.declared.feed.Feed.{Feed}
-use Rattle.merge_core.specs.WaitingLines.{WaitingLine, waits_of}
+use Rattle.line_queue.specs.WaitingLines.{WaitingLine, waits_of}
 use Rattle.merge_core.specs.Feeds.{AreWaits, IsHead, FedOf, Fed, AreFed, Ready, given, done, due, option_list}
 use Rattle.merge_core.specs.Gathering.{EndsAt}
-use Rattle.merge_core.specs.PairOrders.{Upto}
-use Rattle.merge_core.proofs.PairOrder.{upto_itself}
+use Rattle.line_queue.specs.PairOrders.{Upto}
+use Rattle.line_queue.proofs.PairOrder.{upto_itself}
 use Rattle.merge_core.proofs.FeedLemmas.{each_join, done_due}
-use Rattle.merge_core.proofs.HeapLemmas.{each_permuted, waits_here, waits_other, waits_permuted}
+use Rattle.line_queue.proofs.HeapLemmas.{each_permuted, waits_here, waits_other, waits_permuted}
 
 pub few_waits : (p : Progress) (ws : List Member) → AreWaits p ws → length ws ≤ 1
 few_waits Due ws h = omega (arith, ap length h)

@@ -1,16 +1,18 @@
 -- What was read of a source.
 use Rattle.std.specs.Prelude.{◌≡◌, ℕ, ◌+◌, ◌-◌, ◌≤◌, ◌<◌, List, [], ◌∷◌, ◌++◌, flat_map, length, take, drop, map, Bool}
-use Rattle.std.specs.Prelude.{true, false, Option, Some, None, unwrap_or}
+use Rattle.std.specs.Prelude.{true, false, Option, Some, None}
 use Rattle.std.specs.List.{AllByRecursion}
 use Rattle.cdxj_places.specs.TextLines.{lines}
-use Rattle.cdxj_core.specs.Members.{Member, line_entry}
+use Rattle.cdxj_core.specs.Members.{Member}
 use Rattle.cdxj_core.specs.Indexes.{IsRun}
+pub use Rattle.cdxj_core.specs.KeptLine.{no_member}
+use Rattle.cdxj_core.specs.KeptLine.{member_in}
 use Rattle.source_core.specs.Cursors.{CursorState, Stands, reach}
 use Rattle.source_core.specs.IndexLines.{BeginsAfter}
 use Rattle.merge_core.specs.declared.feed.Progress.{Progress}
 use Rattle.merge_core.specs.declared.feed.Progress.TheVariants.{Due, Waiting, Past, Ended}
 use Rattle.merge_core.specs.declared.feed.Feed.{Feed}
-use Rattle.merge_core.specs.WaitingLines.{WaitingLine, waits_of}
+use Rattle.line_queue.specs.WaitingLines.{WaitingLine, waits_of}
 
 abbrev pub option_list : {X : Type 0} → Option X → List X
 option_list None = []
@@ -37,22 +39,6 @@ held Waiting = 1
 held Past = 1
 held Ended = 0
 
-abbrev pub no_member : Member
-no_member = record {
-  values = record {
-    key = [];
-    stamp = [];
-    original = [];
-    mimetype = [];
-    statuscode = [];
-    digest = [];
-    length = [];
-    offset = 0;
-    filename = [];
-  };
-  line = [];
-}
-
 -- the lines that were read, of a source with this text
 abbrev pub read_lines : List ℕ → CursorState → List (List ℕ)
 read_lines text c = take c.count (lines (drop c.start text))
@@ -76,7 +62,7 @@ AreSettled = AllByRecursion IsSettled
 module _ (limit : ℕ) where
   -- what a line says that has an entry
   abbrev pub member_of : List ℕ → Member
-  member_of line = unwrap_or (line_entry limit line) no_member
+  member_of line = member_in limit line
 
   -- what the lines say that were read
   abbrev pub given : List ℕ → CursorState → List Member

@@ -1,7 +1,5 @@
 pub mod WaitingLines
-pub mod KeyStarts
 pub mod PairOrders
-pub mod TurnOrder
 pub mod Feeds
 pub mod Gathering
 pub mod Failures

@@ -11,9 +11,9 @@ use Rattle.devices.specs.Device.{next_count}
 use Rattle.merge_core.specs.declared.fault.SinkFault.{SinkFault}
 use Rattle.merge_core.specs.declared.fault.SinkFault.TheVariants.{Memory, Write}
 use Rattle.merge_core.specs.declared.feed.Feed.{Feed}
-use Rattle.merge_core.specs.PairOrders.{IsAbove, IsUpto}
+use Rattle.line_queue.specs.PairOrders.{IsAbove, IsUpto}
 use Rattle.merge_core.specs.SourceLines.{HasEntry}
-use Rattle.merge_core.specs.WaitingLines.{WaitingLine, waiting_pair}
+use Rattle.line_queue.specs.WaitingLines.{WaitingLine, waiting_pair}
 use Rattle.merge_core.specs.Feeds.{Moved, Ready, AreSettled}
 use Rattle.merge_core.specs.Gathering.{AreTold, all_done}
 

@@ -5,7 +5,9 @@ use std::alloc::AllocError;
 /// Why a source's lines couldn't be read.
 #[derive(Clone, Copy, Debug, Drop, PartialEq, Eq)]
 pub enum FeedFault {
+    /// Memory could not be allocated.
     Memory,
+    /// The source failed.
     Read,
     /// The line at this offset has no entry, or is too long.
     BadLine(u64),
@@ -16,7 +18,9 @@ pub enum FeedFault {
 /// Why sources couldn't be merged.
 #[derive(Clone, Copy, Debug, Drop, PartialEq, Eq)]
 pub enum MergeFault {
+    /// Memory could not be allocated.
     Memory,
+    /// The output failed.
     Write,
     /// The lines of the source with this number couldn't be read.
     Feed(usize, FeedFault),
@@ -25,7 +29,9 @@ pub enum MergeFault {
 /// Why lines couldn't be passed on.
 #[derive(Clone, Copy, Debug, Drop, PartialEq, Eq)]
 pub enum SinkFault {
+    /// Memory could not be allocated.
     Memory,
+    /// The output failed.
     Write,
 }
 

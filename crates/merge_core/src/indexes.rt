@@ -31,7 +31,7 @@ pub struct MergedLines {
 ///
 /// One line of each source is held, and the lines of one key and stamp. After an error, lines that rise by place were
 /// written, the last of them in whole or in part. If all sources are indexes, they are the first lines of the
-/// collection.
+/// collection. Errors are `Memory`, `Write` if the output failed, and those of a source, with its number.
 pub fn merge_indexes<S: Source, O: Output>(
     alloc: Global,
     sources: &mut [S],
@@ -52,11 +52,11 @@ pub fn merge_indexes<S: Source, O: Output>(
         (most : ℕ) → ShareAtMost most (all_lines indexes)
         → IfOk result (λ merged. merged.held ≤ length sources.old + most)) }
 {
-    let mut streams = Streams::open(alloc, sources, &All)?;
+    let mut opened = Streams::open_at(alloc, sources, b"", b"", &All)?;
     let mut writer = LineWriter::new();
-    merge(alloc, sources, &mut streams, &All, &mut writer, out)?;
+    merge(alloc, sources, &mut opened.streams, &All, &mut writer, out)?;
     Ok(MergedLines {
         count: writer.count,
-        held: streams.held,
+        held: opened.streams.held,
     })
 }

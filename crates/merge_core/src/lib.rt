@@ -6,26 +6,20 @@
 mod fault;
 mod feed;
 mod indexes;
-mod key_start;
-mod keyed_line;
 mod line_writer;
 mod merging;
 mod opening;
-mod pair;
-mod queue;
 mod range;
 mod sink;
-mod sought;
 mod store;
 mod streams;
-mod waiting;
 
 pub use crate::fault::{FeedFault, MergeFault, SinkFault};
 pub use crate::indexes::{MergedLines, merge_indexes};
 pub use crate::line_writer::LineWriter;
 pub use crate::merging::merge;
+pub use crate::opening::Opened;
 pub use crate::range::{All, Range};
 pub use crate::sink::Sink;
-pub use crate::sought::Opened;
 pub use crate::store::Store;
 pub use crate::streams::Streams;

@@ -12,7 +12,7 @@ use devices::{Output, put};
 use std::alloc::Global;
 
 /// Writes each line that it takes as it stands in its index.
-#[derive(Drop)]
+#[derive(Debug, Drop)]
 pub struct LineWriter {
     /// The number of lines written. It saturates at 2^64 - 1.
     pub count: u64,

@@ -6,14 +6,14 @@ ghost use Rattle.cdxj_core.specs.declared.limit.TheConstants.{LINE_LIMIT};
 ghost use Rattle.cdxj_core.specs.Members.{Member, member_pair};
 ghost use Rattle.cdxj_places.specs.Pairs.{Pair};
 ghost use Rattle.merge_core.specs.declared.feed.Feed.{Feed};
-ghost use Rattle.merge_core.specs.WaitingLines.{WaitingLine, waiting_pair};
+ghost use Rattle.line_queue.specs.WaitingLines.{WaitingLine, waiting_pair};
 ghost use Rattle.merge_core.specs.Collections.{OverIndexes, all_lines};
 ghost use Rattle.merge_core.specs.Counts.{ShareAtMost};
 ghost use Rattle.merge_core.specs.Failures.{CountsMerge};
 ghost use Rattle.merge_core.specs.LineFaults.{IsFaultOf};
 ghost use Rattle.merge_core.specs.Feeds.{Moved, Ready, AreSettled};
 ghost use Rattle.merge_core.specs.Gathering.{AreTold, all_done};
-ghost use Rattle.merge_core.specs.PairOrders.{Alike, Below, IsAbove, Upto};
+ghost use Rattle.line_queue.specs.PairOrders.{Alike, Below, IsAbove, Upto};
 ghost use Rattle.merge_core.specs.Reached.{Grows, Reached};
 ghost use Rattle.merge_core.specs.Spending.{AreReadTo};
 

@@ -1,30 +1,79 @@
-//! The opening of sources.
-ghost use Rattle.std.specs.Prelude.{◌≡◌, ◌≢◌, ◌+◌, ◌*◌, ◌≤◌, ◌++◌, ◌∷◌, ℕ, Option, List, [], length, map, Some, MatchOption, IfOk, IfErr, OnOk};
-ghost use Rattle.std.specs.List.{AllByRecursion};
+//! The opening of sources at a key and stamp.
+ghost use Rattle.std.specs.List.{AllZip};
+ghost use Rattle.std.specs.Prelude.{◌≡◌, ◌≢◌, ◌⊎◌, ◌+◌, ◌*◌, ◌≤◌, ◌++◌, ◌∷◌, ℕ, Option, List, [], length, map, Some, MatchOption, IfOk, IfErr, OnOk};
+ghost use Rattle.std.specs.List.{AllByRecursion, zip, sum};
 ghost use Rattle.std.specs.List.Sorted.{IsPermutation};
 ghost use Rattle.cdxj_core.specs.declared.limit.TheConstants.{LINE_LIMIT};
+ghost use Rattle.cdxj_core.specs.Indexes.{IsIndex};
 ghost use Rattle.cdxj_core.specs.Members.{Member};
 ghost use Rattle.source_core.specs.Cursors.{Stands, reach};
+ghost use Rattle.source_core.specs.Halving.{digits};
 ghost use Rattle.source_core.specs.IndexLines.{BeginsAfter, lines, longest};
+ghost use Rattle.source_core.specs.Search.{IsCut};
 ghost use Rattle.merge_core.specs.Failures.{CountsFeed, CountsReads};
 ghost use Rattle.merge_core.specs.LineFaults.{NamesLine, IsFaultOf};
+ghost use Rattle.merge_core.specs.Spending.{search_most, CameWithin, OpenedWithin};
 
 use crate::fault::{FeedFault, MergeFault};
 use crate::feed::{Feed, Progress};
-use crate::queue::Queue;
 use crate::range::Range;
 use crate::store::Store;
 use crate::streams::Streams;
-use source_core::{Cursor, Source};
+use line_queue::Queue;
+use source_core::{Cursor, SearchFault, Source, search};
 use std::alloc::Global;
+
+/// Returns a cursor at the first line of a source whose pair isn't below this one, and the number of steps of the
+/// search for it.
+fn find_start<S: Source>(
+    alloc: Global,
+    source: &mut S,
+    key: &[u8],
+    stamp: &[u8],
+) -> Result<(Cursor, u64), FeedFault>
+    ensures text { S.text source.new ≡ S.text source.old }
+    ensures extent { S.extent source.new ≡ S.extent source.old }
+    ensures failures { CountsFeed result (S.failures source.old) (S.failures source.new) }
+    ensures stands { IfOk result (λ r. Stands (S.text source.new) (S.extent source.new) r.0) }
+    ensures fresh { IfOk result (λ r. r.0.count ≡ 0) }
+    ensures first { IfOk result (λ r. (r.0.at ≡ r.0.start) × (reach r.0 ≡ r.0.start)) }
+    ensures start { key.now ≡ [] → stamp.now ≡ [] → IfOk result (λ r. r.0.start ≡ 0) }
+    ensures gave { (t : List ℕ) → S.text source.old ≡ Some t → S.gave source.new
+        ≤ S.gave source.old + search_most (S.extent source.old) t }
+    ensures begins { (t : List ℕ) → S.text source.old ≡ Some t
+        → IfOk result (λ r. (before : List (List ℕ)) × BeginsAfter t r.0.start before) }
+    ensures refused { IfErr result (λ e. (e ≡ FeedFault.Memory) ⊎ (e ≡ FeedFault.Read)) }
+    ensures cut { (t : List ℕ) → (members : List Member) → S.text source.old ≡ Some t
+        → IsIndex LINE_LIMIT t members
+        → IfOk result (λ r. IsCut (key.now, stamp.now) t members r.0.start) }
+    ensures probes { IfOk result (λ r. r.1 ≤ digits (S.extent source.old)) }
+{
+    match search(alloc, source, key, stamp) {
+        Ok(found) => match Cursor::new(alloc, found.offset) {
+            Ok(cursor) => Ok((cursor, found.probes)),
+            Err(_) => Err(FeedFault::Memory),
+        },
+        Err(SearchFault::Memory) => Err(FeedFault::Memory),
+        Err(SearchFault::Read) => Err(FeedFault::Read),
+    }
+}
+
+/// Sources that were opened by a search.
+#[derive(Debug, Drop)]
+pub struct Opened {
+    pub streams: Streams,
+    /// The number of steps of the searches. It saturates at 2^64 - 1.
+    pub probes: u64,
+}
 
 impl Streams {
     ghost use Rattle.merge_core.specs.declared.feed.Feed.{Feed};
     ghost use Rattle.merge_core.specs.Feeds.{Fed, Ready, AreSettled, option_list, done};
+    ghost use Rattle.merge_core.specs.Openings.{IsCutAt};
     ghost use Rattle.merge_core.specs.Gathering.{all_done};
 
     /// Adds a source, and reads the first line after the cursor.
-    pub(crate) fn add<S: Source, R: Range>(
+    fn add<S: Source, R: Range>(
         &mut self,
         source: &mut S,
         cursor: Cursor,
@@ -73,25 +122,81 @@ impl Streams {
         }
     }
 
-    /// Opens the sources from their start, and reads the first line of each.
+    /// Adds a source, and reads its first line whose pair isn't below this one. Returns the number of steps of the search
+    /// for that line.
+    fn add_from<S: Source, R: Range>(
+        &mut self,
+        alloc: Global,
+        source: &mut S,
+        key: &[u8],
+        stamp: &[u8],
+        range: &R,
+    ) -> Result<u64, FeedFault>
+        ensures text { S.text source.new ≡ S.text source.old }
+        ensures extent { S.extent source.new ≡ S.extent source.old }
+        ensures failures { CountsFeed result (S.failures source.old) (S.failures source.new) }
+        ensures probes { IfOk result (λ n. n ≤ digits (S.extent source.old)) }
+        ensures fault { (t : List ℕ) → S.text source.old ≡ Some t
+            → IfErr result (NamesLine LINE_LIMIT t) }
+        ensures settled { AreSettled self.old.feeds.items
+            → OnOk result (AreSettled self.new.feeds.items) }
+        ensures held { self.new.held ≡ self.old.held }
+        ensures added { OnOk result
+            ((f : Feed) × (o : Option Member)
+            × (self.new.feeds.items ≡ self.old.feeds.items ++ f ∷ [])
+            × MatchOption o (self.new.waiting ≡ self.old.waiting) (λ m.
+            IsPermutation (record { member = m; source = length self.old.feeds.items } ∷
+            self.old.waiting) self.new.waiting)
+            × Fed LINE_LIMIT (R.past range.now) (S.text source.new) (S.extent source.new) f
+            (option_list o)
+            × IsCutAt LINE_LIMIT (key.now, stamp.now) (S.text source.new) f.cursor
+            × ((t : List ℕ) → S.text source.old ≡ Some t → done LINE_LIMIT t f ≡ [])
+            × CameWithin (S.text source.old) (S.extent source.old) (S.gave source.old)
+            (S.gave source.new) f.cursor
+            × (key.now ≡ [] → stamp.now ≡ [] → f.cursor.start ≡ 0)) }
+        ensures spent { OpenedWithin (S.text source.old) (S.extent source.old) (S.gave source.old)
+            (S.gave source.new) }
+    {
+        let (cursor, probes) = find_start(alloc, source, key, stamp)?;
+        self.add(source, cursor, range)?;
+        Ok(probes)
+    }
+
+    /// Opens each source at its first line whose pair isn't below this one, and reads that line. With an empty key and an
+    /// empty stamp that is the first line of each source, and no search is made for it.
+    ///
     /// Errors are `Memory`, and `Read`, `BadLine` and `OutOfOrder` with the number of the source.
-    pub fn open<S: Source, R: Range>(
+    pub fn open_at<S: Source, R: Range>(
         alloc: Global,
         sources: &mut [S],
+        key: &[u8],
+        stamp: &[u8],
         range: &R,
-    ) -> Result<Streams, MergeFault>
+    ) -> Result<Opened, MergeFault>
         ensures text { map S.text sources.new ≡ map S.text sources.old }
         ensures extent { map S.extent sources.new ≡ map S.extent sources.old }
         ensures failures { CountsReads result (map S.failures sources.old)
             (map S.failures sources.new) }
+        ensures spent { AllZip (λ x y.
+            OpenedWithin (S.text x) (S.extent x) (S.gave x) (S.gave y)) sources.old sources.new }
+        ensures came { IfOk result (λ o.
+            AllZip (λ x y. CameWithin (S.text x) (S.extent x) (S.gave x) (S.gave y.0) y.1.cursor)
+            sources.old (zip sources.new o.streams.feeds.items)) }
         ensures fault { IfErr result (IsFaultOf LINE_LIMIT (map S.text sources.old)) }
-        ensures ready { IfOk result (λ s.
-            Ready LINE_LIMIT (R.past range.now) S.text S.extent sources.new s.feeds.items s.waiting) }
-        ensures start { IfOk result (λ s. AllByRecursion (λ f. f.cursor.start ≡ 0) s.feeds.items) }
-        ensures fresh { IfOk result (λ s.
-            all_done LINE_LIMIT S.text sources.new s.feeds.items ≡ []) }
-        ensures settled { IfOk result (λ s. AreSettled s.feeds.items) }
-        ensures held { IfOk result (λ s. s.held ≡ 0) }
+        ensures ready { IfOk result (λ o.
+            Ready LINE_LIMIT (R.past range.now) S.text S.extent sources.new o.streams.feeds.items
+            o.streams.waiting) }
+        ensures cut { IfOk result (λ o.
+            AllByRecursion (λ x. IsCutAt LINE_LIMIT (key.now, stamp.now) (S.text x.0) x.1.cursor)
+            (zip sources.new o.streams.feeds.items)) }
+        ensures start { key.now ≡ [] → stamp.now ≡ []
+            → IfOk result (λ o. AllByRecursion (λ f. f.cursor.start ≡ 0) o.streams.feeds.items) }
+        ensures fresh { IfOk result (λ o.
+            all_done LINE_LIMIT S.text sources.new o.streams.feeds.items ≡ []) }
+        ensures settled { IfOk result (λ o. AreSettled o.streams.feeds.items) }
+        ensures held { IfOk result (λ o. o.streams.held ≡ 0) }
+        ensures probes { IfOk result (λ o.
+            o.probes ≤ sum (map (λ s. digits (S.extent s)) sources.old)) }
     {
         let mut streams = Streams {
             feeds: Vec::new(alloc),
@@ -99,16 +204,13 @@ impl Streams {
             store: Store::new(alloc),
             held: 0,
         };
+        let mut probes = 0u64;
         for i in 0..sources.len() {
-            let cursor = match Cursor::new(alloc, 0) {
-                Ok(cursor) => cursor,
-                Err(_) => return Err(MergeFault::Memory),
-            };
-            match streams.add(&mut sources[i], cursor, range) {
-                Ok(()) => {}
+            match streams.add_from(alloc, &mut sources[i], key, stamp, range) {
+                Ok(turns) => probes = probes.saturating_add(turns),
                 Err(fault) => return Err(MergeFault::Feed(i, fault)),
             }
         }
-        Ok(streams)
+        Ok(Opened { streams, probes })
     }
 }

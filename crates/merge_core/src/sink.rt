@@ -30,6 +30,7 @@ pub trait Sink {
     ghost Enough: { Self → Type 0 };
 
     /// Takes lines, in the order of places. Returns `false` if no more are wanted.
+    /// Errors are `Memory`, and `Write` if the output failed.
     fn take<O: Output>(
         &mut self,
         alloc: Global,

@@ -54,7 +54,7 @@ fn fault_at(begin: u64, fault: LineFault) -> FeedFault
 }
 
 /// Reads lines into the buffers of lines that aren't needed any more.
-#[derive(Drop)]
+#[derive(Debug, Drop)]
 pub struct Store {
     alloc: Global,
     bytes: Vec<u8>,

@@ -1,12 +1,11 @@
-use Rattle.std.proofs.Common.{◌≡◌, ℕ, zero, suc, ◌+◌, ◌-◌, ◌<◌, ◌≤◌, List, [], ◌∷◌, ◌++◌, length, take, drop, get_or}
-use Rattle.std.proofs.Common.{refl, sym, ap, ap₂, ◌∙◌, subst, arith, cond, eqb, ne_eqb, eqb-true, true, false, Option}
+use Rattle.std.proofs.Common.{◌≡◌, ℕ, ◌+◌, ◌-◌, ◌<◌, ◌≤◌, List, [], ◌∷◌, ◌++◌, length, take, drop}
+use Rattle.std.proofs.Common.{refl, sym, ap, ap₂, ◌∙◌, subst, arith, cond, true, false, Option}
 use Rattle.std.proofs.Common.{append_assoc, append-nil, drop-drop, take-append-drop, length-drop}
 use Rattle.std.proofs.lemmas.List.{drop-take, take-take, take_all, drop_all}
 use Rattle.std.specs.List.{onto_first}
-use Rattle.memchr.specs.Find.{Nowhere, NoneBefore, Passes, is_byte}
 use Rattle.cdxj_places.specs.TextLines.{lines}
 use Rattle.source_core.specs.LineParts.{NoFeed, PartOf}
-use Rattle.source_core.specs.Ahead.{StandsAt}
+use Rattle.source_core.specs.Windows.{StandsAt}
 
 -- a line that ends with its LF
 pub lines_front : (u v : List ℕ) → NoFeed u → lines (u ++ 10 ∷ v) ≡ (u ++ 10 ∷ []) ∷ lines v
@@ -23,35 +22,6 @@ lines_last b (c ∷ u) h = ap (λ t. cond t ((b ∷ []) ∷ lines (c ∷ u)) (on
 pub no_feed-append : (u v : List ℕ) → NoFeed u → NoFeed v → NoFeed (u ++ v)
 no_feed-append [] v h k = k
 no_feed-append (b ∷ u) v h k = (h.0, no_feed-append u v h.1 k)
-
-no_feed_at : (n : ℕ) (u : List ℕ) → n ≤ length u → ((k : ℕ) → k < n → eqb (get_or u k 0) 10 ≡ false) → NoFeed (take n u)
-no_feed_at zero u l h = tt
-no_feed_at (suc n) [] l h = tt
-no_feed_at (suc n) (b ∷ u) l h = (h 0 (omega arith), no_feed_at n u (omega arith) (λ k l. h (suc k) (omega arith)))
-
-take_at_feed : (k : ℕ) (u : List ℕ) → k < length u → get_or u k 0 ≡ 10 → take (suc k) u ≡ take k u ++ 10 ∷ []
-take_at_feed k [] l e = absurd (omega arith)
-take_at_feed zero (b ∷ u) l e = ap (λ b. b ∷ []) e
-take_at_feed (suc k) (b ∷ u) l e = ap (λ v. b ∷ v) (take_at_feed k u (omega arith) e)
-
-pub part_found : (i : ℕ) (piece : List ℕ) → NoneBefore (Passes (is_byte 10) piece) 0 (length piece) i
-    → Passes (is_byte 10) piece i → PartOf piece (i + 1) true
-part_found i piece h e =
-    let l = h.high in (
-      i,
-      (omega arith),
-      no_feed_at i piece (omega arith) (λ k l. ne_eqb _ 10 (λ q. h.before k (omega arith) l (ap (λ b. eqb b 10) q))),
-      ap (λ n. take n piece) (let q : i + 1 ≡ suc i = omega arith in q) ∙ take_at_feed i piece l (eqb-true _ 10 e),
-    )
-
-pub part_none : (piece : List ℕ) → Nowhere (Passes (is_byte 10) piece) 0 (length piece)
-    → PartOf piece (length piece) false
-part_none piece h = (
-  refl,
-  subst NoFeed (take_all (length piece) piece (omega arith))
-      (no_feed_at (length piece) piece (omega arith)
-      (λ k l. ne_eqb _ 10 (λ q. h k (omega arith) l (ap (λ b. eqb b 10) q)))),
-)
 
 -- What is held of a text from an offset on, and n bytes of it
 module _ (t held : List ℕ) (m at n : ℕ) (bytes : held ≡ take m (drop at t)) (inside : n ≤ m) where

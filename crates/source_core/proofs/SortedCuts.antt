@@ -1,6 +1,7 @@
 -- Indexes, cut at a pair.
 use Rattle.std.proofs.Common.{◌≡◌, ℕ, zero, suc, ◌+◌, ◌-◌, ◌*◌, ◌^◌, ◌<◌, ◌≤◌, List, [], ◌∷◌, ◌++◌, Bool, true, false}
-use Rattle.std.proofs.Common.{cond, length, take, drop, flat_map, map, Some, refl, sym, ap, inl, inr, ◌∙◌, arith, eqb}
+use Rattle.std.proofs.Common.{None, Option, not, cond, length, take, drop, flat_map, map, Some, refl, sym, ap, inl}
+use Rattle.std.proofs.Common.{inr, ◌∙◌, arith, eqb}
 use Rattle.std.proofs.Common.{length-append, length-drop, length-take, Less, Equal, Greater, is_gt, is_lt}
 use Rattle.std.specs.List.{onto_first, AllByRecursion}
 use Rattle.std.proofs.lemmas.Bool.{cases_lt, true≢false}
@@ -18,7 +19,7 @@ use Rattle.cdxj_places.specs.Rising.{NeverFalls}
 use Rattle.cdxj_places.proofs.PairLemmas.{pair_cmp_total}
 use Rattle.source_core.specs.IndexLines.{lines, from_line, longest, BeginsAfter}
 use Rattle.source_core.specs.Search.{is_below, is_some_below, line_below, IsCut}
-use Rattle.source_core.specs.Halving.{stops, digits}
+use Rattle.source_core.specs.Halving.{stops, stops_lines, digits}
 use Rattle.source_core.proofs.Halves.{digits_below}
 use Rattle.source_core.proofs.Seeks.{from_line_rest, sought, BelowFirst}
 
@@ -75,6 +76,22 @@ not_below_later start p q low up =
       | Equal ↦ (λ e. refl)
       | Greater ↦ (λ e. refl)
     ]) refl
+
+-- nothing is below the least pair
+pub none_below_least : (key stamp : List ℕ) → is_below ([], []) (key, stamp) ≡ false
+none_below_least [] [] = refl
+none_below_least [] (b ∷ bs) = refl
+none_below_least (b ∷ bs) stamp = refl
+
+pub least_stops : (limit : ℕ) (start : Pair) (ls : List (List ℕ)) → start ≡ ([], [])
+    → stops_lines (line_below limit start) ls ≡ true
+unfolding line_below
+least_stops limit start [] e = refl
+least_stops limit start (l ∷ ls) e = least_not_some (pair_of (take limit l))
+  where
+    least_not_some : (o : Option Pair) → not (is_some_below start o) ≡ true
+    least_not_some None = refl
+    least_not_some (Some p) = ap not (ap (λ s. is_below s p) e ∙ none_below_least p.0 p.1)
 
 -- ---- the pair of a line that has an entry
 

@@ -1,11 +1,10 @@
 -- Bytes that a window holds.
 use Rattle.std.proofs.Common.{◌≡◌, ℕ, ◌+◌, ◌-◌, ◌≤◌, Bool, List, [], ◌++◌, length, take, drop, min, Option, Some, inl}
-use Rattle.std.proofs.Common.{inr, refl, sym, ap, ◌∙◌, subst, arith, length-take, length-append}
-use Rattle.std.proofs.lemmas.Bool.{cases_lt, cond_both, ltb-false}
+use Rattle.std.proofs.Common.{inr, refl, sym, ap, ◌∙◌, subst, arith, drop-drop, length-take, length-append}
+use Rattle.std.proofs.lemmas.Bool.{cases_lt, cond-false, cond-true, cond_both, le-ltb, lt-ltb, ltb-false}
 use Rattle.std.specs.Prelude.{ltb}
 use Rattle.std.proofs.lemmas.List.{drop-take, drop_all, take-take, take_all}
-use Rattle.source_core.specs.Ahead.{StandsAt}
-use Rattle.source_core.specs.Windows.{HeldBytes, Holds, held_from}
+use Rattle.source_core.specs.Windows.{StandsAt, HeldBytes, Holds, held_from}
 use Rattle.source_core.specs.LineParts.{BeginsWith, PartOf, ReadsOn}
 use Rattle.source_core.proofs.FrontLemmas.{reads_on}
 use Rattle.source_core.proofs.Parts.{given_out}
@@ -31,6 +30,27 @@ held_stands text extent w at h inside =
     let there : w.at + (at - w.at) ≡ at = omega arith in
     subst (λ k. StandsAt text extent k (drop (at - w.at) w.bytes)) there
     (held_past text extent w (at - w.at) h (omega arith)))
+
+-- nothing is held at first
+pub none_held_from : (at : ℕ) → held_from (record { at = 0; bytes = [] }) at ≡ []
+none_held_from at = cond_both (ltb at 0) [] (drop (at - 0) []) (λ (held : List ℕ). held ≡ []) (λ e. refl)
+    (λ e. drop_all (at - 0) [] (omega arith))
+
+-- what is held behind the first n bytes of that
+pub held_behind : (w : HeldBytes) (at n : ℕ) → n ≤ length (held_from w at)
+    → held_from w (at + n) ≡ drop n (held_from w at)
+held_behind w at n inside = elim (cases_lt at w.at) [
+  | inl l ↦ (
+      let here : held_from w at ≡ [] = cond-true (ltb at w.at) [] (drop (at - w.at) w.bytes) (lt-ltb at w.at l) in
+      let none : n ≡ 0 = omega (arith, inside, ap length here) in
+      let same : at + n ≡ at = omega arith in
+      ap (held_from w) same ∙ ap (λ k. drop k (held_from w at)) (sym none))
+  | inr l ↦ (
+      let there : at + n - w.at ≡ at - w.at + n = omega arith in
+      cond-false (ltb (at + n) w.at) [] (drop (at + n - w.at) w.bytes) (le-ltb (at + n) w.at (omega arith))
+      ∙ ap (λ k. drop k w.bytes) there ∙ sym (drop-drop n (at - w.at) w.bytes)
+      ∙ ap (drop n) (sym (cond-false (ltb at w.at) [] (drop (at - w.at) w.bytes) (le-ltb at w.at l))))
+]
 
 -- a part of it
 pub held_part : (text : Option (List ℕ)) (extent at n : ℕ) (held t : List ℕ) → StandsAt text extent at held → text

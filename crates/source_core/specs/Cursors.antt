@@ -2,7 +2,7 @@
 use Rattle.std.specs.Prelude.{◌≡◌, ℕ, ◌+◌, ◌<◌, ◌≤◌, List, length, drop, true, Option, Some, Result, Err}
 use Rattle.devices.specs.Device.{next_count}
 use Rattle.cdxj_places.specs.TextLines.{lines}
-use Rattle.source_core.specs.Ahead.{StandsAt}
+use Rattle.source_core.specs.Windows.{StandsAt}
 use Rattle.source_core.specs.LineParts.{PartOf}
 use Rattle.source_core.specs.declared.fault.LineReadFault.{LineReadFault}
 use Rattle.source_core.specs.declared.fault.LineReadFault.TheVariants as fault

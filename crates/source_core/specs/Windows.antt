@@ -1,6 +1,11 @@
--- Bytes of a source that a search holds.
-use Rattle.std.specs.Prelude.{ℕ, ◌-◌, List, [], drop, cond, nat_lt, Option}
-use Rattle.source_core.specs.Ahead.{StandsAt}
+-- Bytes of a source that are held.
+use Rattle.std.specs.Prelude.{◌≡◌, ℕ, ◌+◌, ◌-◌, ◌≤◌, List, [], length, take, drop, cond, nat_lt, Option, Some}
+
+-- these are the bytes of a source from the offset `at` on, as far as they go, and no more than a piece
+pub record StandsAt (text : Option (List ℕ)) (extent at : ℕ) (held : List ℕ) : Type 0 where
+  pub within : at + length held ≤ extent
+  pub most : length held ≤ 8192
+  pub bytes : (t : List ℕ) → text ≡ Some t → held ≡ take (length held) (drop at t)
 
 -- bytes, and the offset of the first of them
 pub record HeldBytes : Type 0 where

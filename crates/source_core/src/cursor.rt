@@ -2,20 +2,21 @@
 ghost use Rattle.std.specs.Prelude.{◌≡◌, ◌+◌, ◌<◌, ◌≤◌, ◌≢◌, ◌∷◌, ℕ, Option, List, length, take, drop, IfOk, IfErr, OnOk, MatchOption, IfSome, Some};
 ghost use Rattle.cdxj_core.specs.declared.limit.TheConstants.{LINE_LIMIT};
 
-use crate::ahead::Ahead;
 use crate::fault::LineReadFault;
 use crate::line_part::line_part;
 use crate::source::Source;
+use crate::window::Window;
 use cdxj_core::LINE_LIMIT;
+use devices::PIECE;
 use std::alloc::{AllocError, Global};
 use std::marker::Model;
 
 /// Reads the lines of a source from an offset on. It does not hold the source; each call takes it.
 ///
-/// It reads pieces of at most [`PIECE`](devices::PIECE) bytes and holds one of them.
-#[derive(Drop)]
+/// It reads pieces of at most [`PIECE`] bytes and holds one of them.
+#[derive(Debug, Drop)]
 pub struct Cursor {
-    ahead: Ahead,
+    window: Window,
     at: u64,
     start: u64,
     count: u64,
@@ -23,10 +24,16 @@ pub struct Cursor {
 
 impl Model for Cursor {
     ghost use Rattle.source_core.specs.Cursors.{CursorState};
+    ghost use Rattle.source_core.specs.Windows.{held_from};
 
     ghost Value = { CursorState };
 
-    ghost view = { λ c. record { ahead = c.ahead; at = c.at; start = c.start; count = c.count } };
+    ghost view = { λ c. record {
+      ahead = held_from c.window c.at;
+      at = c.at;
+      start = c.start;
+      count = c.count;
+    } };
 }
 
 impl Cursor {
@@ -34,6 +41,7 @@ impl Cursor {
     ghost use Rattle.source_core.specs.Cursors.{Filled, Stands, reach, CountsLineRead, IsHeldLine};
 
     /// Creates a cursor at the offset `start`, in bytes from the source's start. A line begins there.
+    /// The only error is refused memory.
     pub fn new(alloc: Global, start: u64) -> Result<Cursor, AllocError>
         ensures stands { IfOk result (λ c.
             (text : Option (List ℕ)) → (extent : ℕ) → start ≤ extent → Stands text extent c) }
@@ -41,7 +49,7 @@ impl Cursor {
         ensures ahead { IfOk result (λ c. reach c ≡ start) }
     {
         Ok(Cursor {
-            ahead: Ahead::new(alloc)?,
+            window: Window::new(alloc)?,
             at: start,
             start,
             count: 0,
@@ -67,7 +75,7 @@ impl Cursor {
         ensures { IfSome result (λ l. (l.now ≡ take (length l.now) self.now.ahead)
             × IsHeldLine self.now.ahead (length l.now)) }
     {
-        let held = self.ahead.as_slice();
+        let held = self.window.from(self.at);
         let (length, ends) = line_part(held);
         if ends { Some(&held[..length]) } else { None }
     }
@@ -85,7 +93,6 @@ impl Cursor {
             ≡ take size self.old.ahead ∷ lines (drop self.new.at t) }
     {
         let _extent = source.size();
-        self.ahead.consume(size);
         self.at += size as u64;
         self.count += 1;
     }
@@ -93,8 +100,8 @@ impl Cursor {
     /// Reads the next line, with its line feed, into `line`, whose previous bytes are dropped. Returns `true` if there
     /// was one.
     ///
-    /// Whatever is returned, `line` holds at most [`LINE_LIMIT`] bytes, and at most 8,192 more were read for it. After an
-    /// error the cursor must not be used again.
+    /// Whatever is returned, `line` holds at most [`LINE_LIMIT`] bytes, and at most 8,192 more were read for it. Errors are
+    /// `Memory`, `Read` if the source failed, and `Long`. After an error the cursor must not be used again.
     pub fn next<S: Source>(
         &mut self,
         source: &mut S,
@@ -127,13 +134,13 @@ impl Cursor {
         line.clear();
         let size = source.size();
         while self.at < size {
-            self.ahead.fill(source, self.at)?;
-            let (length, ends) = line_part(self.ahead.as_slice());
+            self.window.hold(source, self.at, PIECE)?;
+            let held = self.window.from(self.at);
+            let (length, ends) = line_part(held);
             if length > LINE_LIMIT - line.len() {
                 return Err(LineReadFault::Long);
             }
-            line.extend_from_slice(&self.ahead.as_slice()[..length])?;
-            self.ahead.consume(length);
+            line.extend_from_slice(&held[..length])?;
             self.at += length as u64;
             if ends {
                 self.count += 1;

@@ -6,8 +6,10 @@ use thiserror::Error;
 /// Why a line couldn't be read.
 #[derive(Clone, Copy, Debug, Drop, PartialEq, Eq, Error)]
 pub enum LineReadFault {
+    /// Memory could not be allocated.
     #[error("out of memory")]
     Memory,
+    /// The source failed.
     #[error("the source can't be read")]
     Read,
     /// The line is longer than [`LINE_LIMIT`](cdxj_core::LINE_LIMIT) bytes, including its line feed, if it has one.
@@ -40,8 +42,10 @@ impl From<SourceFault> for LineReadFault {
 /// Why a search couldn't be completed.
 #[derive(Clone, Copy, Debug, Drop, PartialEq, Eq, Error)]
 pub enum SearchFault {
+    /// Memory could not be allocated.
     #[error("out of memory")]
     Memory,
+    /// The source failed.
     #[error("the source can't be read")]
     Read,
 }

@@ -1,5 +1,5 @@
 //! The binary search for the line where the reading of an index begins.
-ghost use Rattle.std.specs.Prelude.{◌≡◌, ◌+◌, ◌-◌, ◌*◌, ◌<◌, ◌≤◌, ℕ, Option, List, length, drop, false, option_map, IfOk, OnOk, OnErr, IfSome, IfNone, Some};
+ghost use Rattle.std.specs.Prelude.{◌≡◌, ◌+◌, ◌-◌, ◌*◌, ◌<◌, ◌≤◌, ℕ, Option, List, length, drop, false, option_map, IfOk, OnOk, OnErr, IfSome, IfNone, Some, [], IsTrue, ◌↔◌};
 ghost use Rattle.cdxj_core.specs.declared.limit.TheConstants.{LINE_LIMIT};
 ghost use Rattle.cdxj_core.specs.Indexes.{IsIndex};
 ghost use Rattle.cdxj_core.specs.Members.{Member};
@@ -325,8 +325,16 @@ fn hold_few<S: Source>(source: &mut S, window: &mut Window, span: Span) -> Resul
     Ok(())
 }
 
+/// Returns `true` if no pair is below this one.
+fn is_least(key: &[u8], stamp: &[u8]) -> bool
+    ensures { IsTrue result ↔ ((key.now ≡ []) × (stamp.now ≡ [])) }
+{
+    key.is_empty() && stamp.is_empty()
+}
+
 /// Finds the first line of an index whose pair isn't below this one, by a binary search over the byte offsets. A step
-/// looks at the first line that begins in the upper half of the offsets that are left.
+/// looks at the first line that begins in the upper half of the offsets that are left. For the pair of an empty key and
+/// an empty stamp, which none is below, nothing is read.
 ///
 /// Of a line it looks at the first [`LINE_LIMIT`] bytes at most; a line that shows no pair in them isn't below. It looks
 /// through as many bytes at most for the end of a line. If they have no line feed, the line is too long, and what
@@ -346,6 +354,7 @@ pub fn search<S: Source>(
     ensures text { S.text source.new ≡ S.text source.old }
     ensures extent { S.extent source.new ≡ S.extent source.old }
     ensures within { IfOk result (λ found. found.offset ≤ S.extent source.old) }
+    ensures first { key.now ≡ [] → stamp.now ≡ [] → IfOk result (λ found. found.offset ≡ 0) }
     ensures begins { (t : List ℕ) → S.text source.old ≡ Some t
         → IfOk result (λ found. (before : List (List ℕ)) × BeginsAfter t found.offset before) }
     ensures stops { (t : List ℕ) → S.text source.old ≡ Some t
@@ -361,6 +370,12 @@ pub fn search<S: Source>(
         ≤ S.gave source.old + digits (S.extent source.old) * (2 * LINE_LIMIT) }
     ensures failures { CountsSearch result (S.failures source.old) (S.failures source.new) }
 {
+    if is_least(key, stamp) {
+        return Ok(Found {
+            offset: 0,
+            probes: 0,
+        });
+    }
     let mut window = Window::new(alloc)?;
     let mut front = Vec::new(alloc);
     let size = source.size();

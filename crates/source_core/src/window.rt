@@ -2,7 +2,7 @@
 ghost use Rattle.std.specs.Prelude.{◌≡◌, ◌+◌, ◌-◌, ◌<◌, ◌≤◌, [], length, IfOk, OnOk, OnErr, MatchResult};
 ghost use Rattle.devices.specs.Device.{CountsFailure};
 ghost use Rattle.source_core.specs.Device.{HoldsPart};
-ghost use Rattle.source_core.specs.Windows.{Holds, held_from};
+ghost use Rattle.source_core.specs.Windows.{Holds, StandsAt, held_from};
 
 use crate::source::{Source, SourceFault};
 use devices::PIECE;
@@ -35,7 +35,7 @@ fn read_part<S: Source>(
 }
 
 /// Bytes of a source from an offset on, at most [`PIECE`] of them, which stay held until others are read.
-#[derive(Drop)]
+#[derive(Debug, Drop)]
 pub(crate) struct Window {
     buffer: Vec<u8>,
     at: u64,
@@ -113,16 +113,20 @@ impl Window {
         at: u64,
         most: usize,
     ) -> Result<(), SourceFault>
-        requires holds { Holds (S.text source.old) (S.extent source.old) self.old }
         requires inside { at < S.extent source.old }
         requires some { 0 < most }
         requires room { most ≤ 8192 }
         ensures text { S.text source.new ≡ S.text source.old }
         ensures extent { S.extent source.new ≡ S.extent source.old }
-        ensures holds { Holds (S.text source.new) (S.extent source.new) self.new }
+        ensures holds { Holds (S.text source.old) (S.extent source.old) self.old
+            → Holds (S.text source.new) (S.extent source.new) self.new }
+        ensures stands { StandsAt (S.text source.old) (S.extent source.old) at
+            (held_from self.old at)
+            → StandsAt (S.text source.new) (S.extent source.new) at (held_from self.new at) }
         ensures some { OnOk result (0 < length (held_from self.new at)) }
         ensures most { S.gave source.new ≤ S.gave source.old + most }
-        ensures gave { S.gave source.new ≤ S.gave source.old + length (held_from self.new at) }
+        ensures gave { S.gave source.new + length (held_from self.old at)
+            ≤ S.gave source.old + length (held_from self.new at) }
         ensures failures { CountsFailure result (S.failures source.old) (S.failures source.new) }
     {
         if self.from(at).is_empty() {

@@ -13,12 +13,11 @@ use Rattle.cdxj_places.specs.Rising.{rising}
 use Rattle.cdxj_places.proofs.PlaceOrder.{place_cmp_total}
 use Rattle.cdxj_places.proofs.RisingLaws.{each_rising}
 use Rattle.merge_core.specs.declared.feed.Feed.{Feed}
-use Rattle.merge_core.specs.WaitingLines.{WaitingLine}
 use Rattle.merge_core.proofs.SpendLemmas.{are_read_to}
 use Rattle.merge_core.specs.Collections.{Known, all_lines}
 use Rattle.merge_core.specs.Counts.{ShareAtMost}
 use Rattle.merge_core.specs.Gathering.{Grouped, AreTold, all_done}
-use Rattle.merge_core.specs.PairOrders.{Alike}
+use Rattle.line_queue.specs.PairOrders.{Alike}
 use Rattle.merge_core.specs.Reached.{Reached}
 use Rattle.merge_core.specs.SourceLines.{HasEntry}
 use Rattle.merge_core.specs.LineFaults.{IsFaultOf}
@@ -26,11 +25,12 @@ use Rattle.merge_core.proofs.WholeLemmas.{texts_kept}
 use Rattle.merge_core.proofs.FailLemmas.{counts_merge, if_err, raised_by_read, raised_by_write}
 use Rattle.merge_core.proofs.Many.{Move, moved_trans, moved_still, told_moved}
 use Rattle.merge_core.proofs.HeldLemmas.{held_most, held_after}
-use Rattle.merge_core.proofs.MergeLemmas.{above_none, below_next, handed_none, handed_next, on_err}
+use Rattle.merge_core.proofs.MergeLemmas.{above_none, below_next, handed_none, handed_next, on_err, reached_same}
 use Rattle.merge_core.specs.Feeds.{AreSettled}
 use Rattle.merge_core.proofs.WrittenLemmas.{grows_not}
 use Rattle.merge_core.proofs.merging.merge.Given.{Over}
-use Rattle.merge_core.proofs.merging.merge.Goals.{In-Some, After-deref-in-Some, After-hand_on, After-put_back}
+use Rattle.merge_core.proofs.merging.merge.Goals.{In-Some, After-deref-in-Some, After-gather, After-hand_on}
+use Rattle.merge_core.proofs.merging.merge.Goals.{After-put_back}
 use Rattle.merge_core.proofs.merging.merge.Goals as goal
 
 abbrev values : List (Box Line Global) → List Member
@@ -70,10 +70,7 @@ reached g c entries =
     record {
       ready = ok.ready;
       settled = ok.settled;
-      moved = moved_trans g.S.Source.text g.S.Source.extent g.S.Source.gave
-          (zip c.args.sources.now c.args.streams.now.feeds.items)
-          (zip c.loop-rest.sources c.loop-rest.streams.feeds.items)
-          (zip c.gather.new.sources c.gather.new.self.feeds.items) came.2.moved ok.moved;
+      moved = moved_trans g.S.Source.text g.S.Source.extent g.S.Source.gave _ _ _ came.2.moved ok.moved;
       above = (grouped g c).later;
       handed = handed_next LINE_LIMIT g.S.Source.text g.S.Source.extent c.args.sources.now c.loop-rest.sources
           c.gather.new.sources c.loop-rest.streams.feeds.items c.gather.new.self.feeds.items c.loop-rest.streams.waiting
@@ -123,13 +120,18 @@ kept : (g : Over) (c : After-put_back g) (pair : Pair) (ms : List Member)
     → Reached LINE_LIMIT g.S.Source.text (g.R.Range.past c.args.range.now) g.S.Source.extent g.S.Source.gave
     c.args.sources.now c.args.streams.now.feeds.items c.gather.new.sources c.put_back.new.self.feeds.items
     c.put_back.new.self.waiting (Some pair) ms
-kept g c pair ms r =
-    subst (λ (fs : List Feed). Reached LINE_LIMIT g.S.Source.text (g.R.Range.past c.args.range.now) g.S.Source.extent
-    g.S.Source.gave c.args.sources.now c.args.streams.now.feeds.items c.gather.new.sources fs
-    c.put_back.new.self.waiting (Some pair) ms) (sym c.put_back.ensures.feeds)
-    (subst (λ (ws : List WaitingLine). Reached LINE_LIMIT g.S.Source.text (g.R.Range.past c.args.range.now)
-    g.S.Source.extent g.S.Source.gave c.args.sources.now c.args.streams.now.feeds.items c.gather.new.sources
-    c.gather.new.self.feeds.items ws (Some pair) ms) (sym c.put_back.ensures.waiting) r)
+kept g c pair ms r = reached_same _ _ _ _ _ _ _ _ _ _ _ _ _ _ _ refl c.put_back.ensures.feeds
+    c.put_back.ensures.waiting r
+
+-- the sources moved on
+moved : (g : Over) (c : After-gather g) → AllZip (Move g.S.Source.text g.S.Source.extent g.S.Source.gave)
+    (zip c.args.sources.now c.args.streams.now.feeds.items) (zip c.gather.new.sources c.gather.new.self.feeds.items)
+moved g c =
+    moved_trans g.S.Source.text g.S.Source.extent g.S.Source.gave
+    (zip c.args.sources.now c.args.streams.now.feeds.items)
+    (zip c.loop-rest.sources c.loop-rest.streams.feeds.items)
+    (zip c.gather.new.sources c.gather.new.self.feeds.items)
+    c.loop-rest.invariant.came.2.moved c.gather.ensures.moved
 
 pub loop-rest-init : goal.loop-rest-init
 loop-rest-init g c = record {
@@ -156,31 +158,16 @@ loop-rest-init g c = record {
 }
 
 pub returns-in_err-first-clause-moved : goal.returns-in_err-first-clause-moved
-returns-in_err-first-clause-moved g c =
-    moved_trans g.S.Source.text g.S.Source.extent g.S.Source.gave
-    (zip c.args.sources.now c.args.streams.now.feeds.items)
-    (zip c.loop-rest.sources c.loop-rest.streams.feeds.items)
-    (zip c.gather.new.sources c.gather.new.self.feeds.items)
-    c.loop-rest.invariant.came.2.moved c.gather.ensures.moved
+returns-in_err-first-clause-moved g c = moved g (goal.at.returns-in_err-first-clause-moved g c).After-gather
 
 pub returns-in_err-more-clause-moved : goal.returns-in_err-more-clause-moved
-returns-in_err-more-clause-moved g c =
-    moved_trans g.S.Source.text g.S.Source.extent g.S.Source.gave
-    (zip c.args.sources.now c.args.streams.now.feeds.items)
-    (zip c.loop-rest.sources c.loop-rest.streams.feeds.items)
-    (zip c.gather.new.sources c.gather.new.self.feeds.items)
-    c.loop-rest.invariant.came.2.moved c.gather.ensures.moved
+returns-in_err-more-clause-moved g c = moved g (goal.at.returns-in_err-more-clause-moved g c).After-gather
 
 pub returns-then-not-more-clause-moved : goal.returns-then-not-more-clause-moved
 returns-then-not-more-clause-moved g c =
     subst (λ (fs : List Feed). AllZip (Move g.S.Source.text g.S.Source.extent g.S.Source.gave)
     (zip c.args.sources.now c.args.streams.now.feeds.items) (zip c.gather.new.sources fs))
-    (sym c.put_back.ensures.feeds)
-    (moved_trans g.S.Source.text g.S.Source.extent g.S.Source.gave
-    (zip c.args.sources.now c.args.streams.now.feeds.items)
-    (zip c.loop-rest.sources c.loop-rest.streams.feeds.items)
-    (zip c.gather.new.sources c.gather.new.self.feeds.items)
-    c.loop-rest.invariant.came.2.moved c.gather.ensures.moved)
+    (sym c.put_back.ensures.feeds) (moved g (goal.at.returns-then-not-more-clause-moved g c).After-gather)
 
 pub returns-in_err-more-clause-broke : goal.returns-in_err-more-clause-broke
 returns-in_err-more-clause-broke g c =
@@ -386,9 +373,7 @@ returns-in_err-more-clause-halted g c =
 
 pub returns-clause-wrote : goal.returns-clause-wrote
 returns-clause-wrote g c =
-    let past = g.R.Range.past c.args.range.now in
-    let text = g.S.Source.text in let extent = g.S.Source.extent in let gave = g.S.Source.gave in
-    let old = c.args.sources.now in let old_feeds = c.args.streams.now.feeds.items in
+    let text = g.S.Source.text in let extent = g.S.Source.extent in
     let was = c.loop-rest.sources in let was_feeds = c.loop-rest.streams.feeds.items in let waits =
     c.loop-rest.streams.waiting in
     let now = c.gather.new.sources in let feeds = c.gather.new.self.feeds.items in let left =
@@ -400,11 +385,7 @@ returns-clause-wrote g c =
     c.in_default.is c.in_ok-first.ensures.group in (
       came.0,
       came.1,
-      subst (λ us. Reached LINE_LIMIT text past extent gave old old_feeds us feeds left came.0 came.1) (sym none.0)
-          (subst (λ (us : List Feed). Reached LINE_LIMIT text past extent gave old old_feeds was us left came.0 came.1)
-          (sym none.1)
-          (subst (λ (us : List WaitingLine). Reached LINE_LIMIT text past extent gave old old_feeds was was_feeds us
-          came.0 came.1) (none.2 ∙ sym none.3) came.2)),
+      reached_same _ _ _ _ _ _ _ _ _ _ _ _ _ _ _ none.0 none.1 (none.3 ∙ sym none.2) came.2,
       came.3,
       λ e. absurd (true≢false e),
     )

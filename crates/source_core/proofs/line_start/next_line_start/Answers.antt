@@ -1,5 +1,5 @@
 use Rattle.std.proofs.Common.{◌≡◌, ◌+◌, ◌≤◌, ℕ, Some, List, length, take, drop, arith, sym, ◌∙◌, subst}
-use Rattle.source_core.specs.Ahead.{StandsAt}
+use Rattle.source_core.specs.Windows.{StandsAt}
 use Rattle.source_core.specs.IndexLines.{lines, longest}
 use Rattle.source_core.proofs.Pieces.{nowhere_in, found_in, begins_in}
 use Rattle.source_core.proofs.LongestLines.{gap_most}
@@ -24,7 +24,7 @@ stands g c =
     subst (StandsAt (g.S.Source.text c.hold.new.source) (g.S.Source.extent c.hold.new.source) c.loop-at.at)
     (sym c.from-held.ensures)
     (held_stands (g.S.Source.text c.hold.new.source) (g.S.Source.extent c.hold.new.source) c.hold.new.self c.loop-at.at
-    c.in_ok-hold.ensures.holds
+    (c.in_ok-hold.ensures.holds c.loop-at.invariant.holds)
     (omega (arith, c.in_ok-hold.ensures.extent, c.loop-at.invariant.extent)))
 
 -- and they are its text
@@ -87,7 +87,7 @@ loop-at-preserved g c =
       extent = ok.extent ∙ inv.extent;
       failures = ok.failures ∙ inv.failures;
       gave = omega (arith, held, same, ok.most, inv.gave, c.min-count.ensures, c.min-most.ensures);
-      holds = ok.holds;
+      holds = ok.holds inv.holds;
       low = omega (arith, inv.low);
       within = omega (arith, inv.within, c.min-count.ensures);
       told = λ t e. nowhere_in t c.from-held.result.now (g.S.Source.extent c.args.source.now) c.loop-at.at

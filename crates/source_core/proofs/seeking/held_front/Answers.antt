@@ -1,5 +1,5 @@
 use Rattle.std.proofs.Common.{rules, ◌≡◌, ◌+◌, [], take, arith, sym, subst}
-use Rattle.source_core.specs.Ahead.{StandsAt}
+use Rattle.source_core.specs.Windows.{StandsAt}
 use Rattle.source_core.proofs.WindowLemmas.{held_reads, held_stands, nothing_read}
 use Rattle.source_core.proofs.seeking.held_front.Goals as goal
 

@@ -5,14 +5,14 @@ use Rattle.cdxj_core.specs.declared.limit.TheConstants.{LINE_LIMIT}
 use Rattle.cdxj_core.specs.declared.line.Line.{Line}
 use Rattle.cdxj_core.specs.Members.{member_pair}
 use Rattle.merge_core.specs.declared.feed.Progress.TheVariants.{Ended}
-use Rattle.merge_core.specs.PairOrders.{IsUpto, Upto}
+use Rattle.line_queue.specs.PairOrders.{IsUpto, Upto}
 use Rattle.merge_core.specs.Feeds.{Fed, option_list}
 use Rattle.merge_core.specs.LineFaults.{NamesLine}
 use Rattle.merge_core.specs.Spending.{ReadTo}
 use Rattle.merge_core.proofs.SpendLemmas.{read_to}
 use Rattle.merge_core.proofs.BadLines.{bad_named}
 use Rattle.merge_core.proofs.FailLemmas.{counts_feed, if_err}
-use Rattle.merge_core.proofs.PairOrder.{upto_itself}
+use Rattle.line_queue.proofs.PairOrder.{upto_itself}
 use Rattle.merge_core.proofs.FeedLemmas.{fresh_done}
 use Rattle.merge_core.proofs.DrainLemmas.{settled, at_end}
 use Rattle.merge_core.proofs.feed.Feed.begin.Goals as goal

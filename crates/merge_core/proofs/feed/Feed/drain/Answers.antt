@@ -11,7 +11,7 @@ use Rattle.cdxj_places.specs.Pairs.{pair_cmp}
 use Rattle.cdxj_places.proofs.PairLemmas.{pair_cmp_total}
 use Rattle.merge_core.specs.declared.feed.Progress.TheVariants.{Ended}
 use Rattle.merge_core.specs.declared.feed.Feed.{Feed}
-use Rattle.merge_core.specs.PairOrders.{Alike, Below, Upto}
+use Rattle.line_queue.specs.PairOrders.{Alike, Below, Upto}
 use Rattle.source_core.specs.LinesAtFault.{IsOutOfOrder}
 use Rattle.merge_core.specs.Feeds.{Fed, done, option_list}
 use Rattle.merge_core.specs.LineFaults.{NamesLine}
@@ -19,7 +19,7 @@ use Rattle.merge_core.specs.Spending.{ReadTo}
 use Rattle.merge_core.proofs.SpendLemmas.{read_to}
 use Rattle.merge_core.proofs.BadLines.{bad_named, order_named}
 use Rattle.merge_core.proofs.FailLemmas.{counts_feed, if_err}
-use Rattle.merge_core.proofs.PairOrder.{below_upto, same_upto, same_from}
+use Rattle.line_queue.proofs.PairOrder.{below_upto, same_upto, same_from}
 use Rattle.merge_core.proofs.FeedLemmas.{each_join, each_next, line_read, same_stays}
 use Rattle.merge_core.proofs.DrainLemmas.{settled, settled_done, taken, taken_done, at_end, taken_more}
 use Rattle.merge_core.proofs.feed.Feed.drain.Given.{Over}
@@ -69,10 +69,9 @@ returns-in-Greater-clause-fed g c =
     let m = c.in-Some.line.value in
     let over = above g (goal.at.returns-in-Greater-clause-fed g c).In-Greater in
     settled LINE_LIMIT (g.R.Range.past c.args.range.now) (λ (b : Box Line Global). b.value)
-    (g.S.Source.text c.loop-line.source) (g.S.Source.text c.next_line.new.source)
-    (g.S.Source.extent c.loop-line.source) (g.S.Source.extent c.next_line.new.source) c.loop-line.self
-    c.next_line.new.cursor c.in_ok-line.field-0 ok.text ok.extent
-    inv.due inv.fed ok.stands ok.start ok.count ok.given ok.most c.settle.new.self c.settle.ensures.cursor
+    _ _ _ _ c.loop-line.self c.next_line.new.cursor
+    c.in_ok-line.field-0 ok.text ok.extent inv.due inv.fed ok.stands ok.start ok.count ok.given ok.most
+    c.settle.new.self c.settle.ensures.cursor
     c.in-Some.line c.in-Some.is first
     (λ t e. inv.low t (sym inv.text ∙ e)) (below_upto first (member_pair m) over)
     (option_list (option_map (λ (b : Box Line Global). b.value) c.settle.result)) c.settle.ensures.next
@@ -87,10 +86,9 @@ returns-in-Greater-clause-taken g c = λ t e.
     let h = inv.taken t e in (
       h.0,
       settled_done LINE_LIMIT (g.R.Range.past c.args.range.now) (λ (b : Box Line Global). b.value)
-          (g.S.Source.text c.loop-line.source) (g.S.Source.text c.next_line.new.source)
-          (g.S.Source.extent c.loop-line.source) (g.S.Source.extent c.next_line.new.source) c.loop-line.self
-          c.next_line.new.cursor c.in_ok-line.field-0 ok.text ok.extent
-          inv.due inv.fed ok.stands ok.start ok.count ok.given ok.most c.settle.new.self c.settle.ensures.cursor
+          _ _ _ _ c.loop-line.self c.next_line.new.cursor
+          c.in_ok-line.field-0 ok.text ok.extent inv.due inv.fed ok.stands ok.start ok.count ok.given ok.most
+          c.settle.new.self c.settle.ensures.cursor
           c.in-Some.line c.in-Some.is first
           (λ t e. inv.low t (sym inv.text ∙ e)) (below_upto first (member_pair m) over)
           (option_list (option_map (λ (b : Box Line Global). b.value) c.settle.result)) c.settle.ensures.next t ∙ h.1,
@@ -113,10 +111,9 @@ loop-line-preserved g c =
     ap (map (λ (b : Box Line Global). b.value)) c.in-Ok.ensures.items
     ∙ map-append (λ (b : Box Line Global). b.value) c.loop-line.rest.items (line ∷ []) in
     let more = taken_done LINE_LIMIT (g.R.Range.past c.args.range.now) (λ (b : Box Line Global). b.value)
-    (g.S.Source.text c.loop-line.source) (g.S.Source.text c.next_line.new.source)
-    (g.S.Source.extent c.loop-line.source) (g.S.Source.extent c.next_line.new.source) c.loop-line.self
-    c.next_line.new.cursor c.in_ok-line.field-0 ok.text ok.extent
-    inv.due inv.fed ok.stands ok.start ok.count ok.given ok.most f refl line c.in-Some.is first
+    _ _ _ _ c.loop-line.self c.next_line.new.cursor
+    c.in_ok-line.field-0 ok.text ok.extent inv.due inv.fed ok.stands ok.start ok.count ok.given ok.most
+    f refl line c.in-Some.is first
     (λ t e. inv.low t (sym inv.text ∙ e)) (same_from (member_pair m) first alike) inv.due in
     record {
       text = ok.text ∙ inv.text;
@@ -128,10 +125,9 @@ loop-line-preserved g c =
           (λ _. c.loop-line.self.cursor.at < c.next_line.new.cursor.at)) c.in-Some.is ok.there in omega
           (arith, h, inv.there));
       fed = taken LINE_LIMIT (g.R.Range.past c.args.range.now) (λ (b : Box Line Global). b.value)
-          (g.S.Source.text c.loop-line.source) (g.S.Source.text c.next_line.new.source)
-          (g.S.Source.extent c.loop-line.source) (g.S.Source.extent c.next_line.new.source) c.loop-line.self
-          c.next_line.new.cursor c.in_ok-line.field-0 ok.text ok.extent
-          inv.due inv.fed ok.stands ok.start ok.count ok.given ok.most f refl line c.in-Some.is first
+          _ _ _ _ c.loop-line.self c.next_line.new.cursor
+          c.in_ok-line.field-0 ok.text ok.extent inv.due inv.fed ok.stands ok.start ok.count ok.given ok.most
+          f refl line c.in-Some.is first
           (λ t e. inv.low t (sym inv.text ∙ e)) (same_from (member_pair m) first alike) inv.due
           (λ t e. same_stays (g.R.Range.past c.args.range.now) first m (done LINE_LIMIT t c.loop-line.self)
           (inv.fed.told t e).within (inv.low t (sym inv.text ∙ e)) (inv.last t (sym inv.text ∙ e)) alike);
@@ -159,10 +155,8 @@ returns-clause-fed g c =
     let ok = c.in_ok-line.ensures in
     let inv = c.loop-line.invariant in
     at_end LINE_LIMIT (g.R.Range.past c.args.range.now) (λ (b : Box Line Global). b.value)
-    (g.S.Source.text c.loop-line.source) (g.S.Source.text c.next_line.new.source)
-    (g.S.Source.extent c.loop-line.source) (g.S.Source.extent c.next_line.new.source) c.loop-line.self
-    c.next_line.new.cursor c.in_ok-line.field-0 ok.text ok.extent
-    inv.due inv.fed ok.stands ok.start ok.count ok.given ok.most
+    _ _ _ _ c.loop-line.self c.next_line.new.cursor
+    c.in_ok-line.field-0 ok.text ok.extent inv.due inv.fed ok.stands ok.start ok.count ok.given ok.most
     (record { cursor = c.next_line.new.cursor; progress = Ended }) refl c.in_default.is refl
 
 pub returns-in_err-line-clause-fault : goal.returns-in_err-line-clause-fault

@@ -22,6 +22,7 @@ returns-clause-added g c =
           let c1 = found.first.1 in
           let c2 = added.5 in
           omega (arith, a, b, c1, c2),
+      λ k s. added.5 ∙ found.start k s,
     )
 
 pub returns-in_err-cursor-clause-failures : goal.returns-in_err-cursor-clause-failures

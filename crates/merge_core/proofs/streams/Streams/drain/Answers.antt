@@ -9,7 +9,7 @@ use Rattle.cdxj_core.specs.Members.{member_pair}
 use Rattle.merge_core.specs.Failures.{RaisedByRead}
 use Rattle.merge_core.specs.declared.feed.Feed.{Feed}
 use Rattle.merge_core.specs.declared.feed.Progress.TheVariants.{Due}
-use Rattle.merge_core.specs.PairOrders.{Upto}
+use Rattle.line_queue.specs.PairOrders.{Upto}
 use Rattle.merge_core.specs.Feeds.{Fed, Ready, done}
 use Rattle.merge_core.specs.Gathering.{EndsAt, all_done, unread}
 use Rattle.merge_core.specs.Spending.{AreReadTo}

@@ -14,25 +14,25 @@ use Rattle.cdxj_core.specs.declared.limit.TheConstants.{LINE_LIMIT}
 use Rattle.cdxj_core.specs.declared.line.Line.{Line}
 use Rattle.cdxj_core.specs.Members.{Member, member_pair}
 use Rattle.merge_core.specs.declared.feed.Feed.{Feed}
-use Rattle.merge_core.specs.PairOrders.{Alike, Upto}
-use Rattle.merge_core.specs.WaitingLines.{WaitingLine, waiting_pair, turn_cmp}
+use Rattle.line_queue.specs.PairOrders.{Alike, Upto}
+use Rattle.line_queue.specs.WaitingLines.{WaitingLine, waiting_pair, turn_cmp}
 use Rattle.merge_core.specs.Feeds.{IsSettled, AreSettled, due}
-use Rattle.merge_core.specs.Gathering.{Gathered, Grouped, IsFrom, IsDue, WaitsAbove, Drained, all_done, unread}
+use Rattle.merge_core.specs.Gathering.{Gathered, Grouped, IsFrom, IsDue, WaitsAbove, Drained, AreTold, all_done, unread}
 use Rattle.merge_core.specs.LineFaults.{IsFaultOf}
 use Rattle.merge_core.specs.Spending.{AreReadTo}
-use Rattle.merge_core.proofs.PairOrder.{upto_itself}
+use Rattle.line_queue.proofs.PairOrder.{upto_itself}
 use Rattle.merge_core.proofs.MergeLemmas.{on_err}
 use Rattle.merge_core.proofs.SpendLemmas.{due_read}
 use Rattle.merge_core.proofs.WholeLemmas.{texts_kept}
 use Rattle.merge_core.proofs.FailLemmas.{counts_reads, if_err}
 use Rattle.merge_core.proofs.FeedLemmas.{each_join}
-use Rattle.merge_core.proofs.GroupLemmas.{AreAt, from_waited}
+use Rattle.merge_core.proofs.GroupLemmas.{AreAt, AreBelow, from_waited}
 use Rattle.merge_core.proofs.GatherSteps.{Gathers, TakenNext, gathers_start, taken_next, gathers_drained, gathers_all}
-use Rattle.merge_core.proofs.HeapLemmas.{each_permuted}
+use Rattle.line_queue.proofs.HeapLemmas.{each_permuted}
 use Rattle.merge_core.proofs.Many.{Move, moved_trans, moved_still, set_own, each_replaced}
-use Rattle.merge_core.proofs.TurnLemmas.{above_popped, not_before}
+use Rattle.line_queue.proofs.TurnLemmas.{above_popped, not_before}
 use Rattle.merge_core.proofs.streams.Streams.gather.Given.{Over}
-use Rattle.merge_core.proofs.streams.Streams.gather.Goals.{After-push, In_ok-drain}
+use Rattle.merge_core.proofs.streams.Streams.gather.Goals.{After-drain, After-push, In_ok-drain}
 use Rattle.merge_core.proofs.streams.Streams.gather.Goals as goal
 
 abbrev values : List (Box Line Global) → List Member
@@ -309,59 +309,48 @@ returns-in_err-drain-clause-fault g c =
     (subst (IsFaultOf LINE_LIMIT texts) (sym q)
     (subst (λ ts. IsFaultOf LINE_LIMIT ts c.in_err-drain.field-0.0) kept c.in_err-drain.ensures.fault))
 
+-- the sources were read up to the pair
+read_to : (g : Over) (c : After-drain g) → AreTold g.S.Source.text c.args.sources.now
+    → AreBelow (member_pair c.new-keyed.result)
+    (all_done LINE_LIMIT g.S.Source.text c.args.sources.now c.args.self.now.feeds.items)
+    → AreReadTo LINE_LIMIT (g.R.Range.past c.args.range.now) g.S.Source.text (Some (member_pair c.new-keyed.result))
+    c.drain.new.sources c.drain.new.self.feeds.items
+read_to g c told low =
+    let past = g.R.Range.past c.args.range.now in
+    let text = g.S.Source.text in
+    let inv = c.sources.invariant in
+    let ss = c.sources.sources in let fs = c.sources.self.feeds.items in
+    let is = ap member_pair (c.deref-in-sources.ensures ∙ sym (c.new-keyed.ensures ∙ c.deref.ensures)) in
+    let all = (gathers_all LINE_LIMIT past text g.S.Source.extent g.S.Source.gave c.args.sources.now
+    c.args.self.now.feeds.items (member_pair c.new-keyed.result) (c.sources.i + 1) ss fs c.sources.self.waiting
+    (c.new-keyed.result ∷ values c.sources.rest.items) inv.gathers c.requires.ready.same
+    (let l = inv.inside in omega arith) told low).upto in
+    subst (λ q. AreReadTo LINE_LIMIT past text (Some q) c.drain.new.sources c.drain.new.self.feeds.items) is
+    (c.drain.ensures.reads
+    (subst (λ q. AllByRecursion (λ m. Upto (member_pair m) q) (all_done LINE_LIMIT text ss fs)) (sym is) all))
+
 pub returns-in_err-drain-clause-reads : goal.returns-in_err-drain-clause-reads
 returns-in_err-drain-clause-reads g c =
-    let past = g.R.Range.past c.args.range.now in
-    let text = g.S.Source.text in let extent = g.S.Source.extent in let gave = g.S.Source.gave in
+    let here = (goal.at.returns-in_err-drain-clause-reads g c).After-drain in
     let inv = c.sources.invariant in
-    let pair = member_pair c.new-keyed.result in
-    let ss = c.sources.sources in let fs = c.sources.self.feeds.items in let i = c.sources.i in
-    let group = c.new-keyed.result ∷ map (λ (b : Box Line Global). b.value) c.sources.rest.items in
     let p = err_from_is_err_and c.from_residual.result c.from_residual.ensures.1 in
-    on_err c.from_residual.result p.0 _ p.1 (
-      pair,
-      inv.above,
-      inv.least,
-      λ told low.
-          let all = (gathers_all LINE_LIMIT past text extent gave c.args.sources.now c.args.self.now.feeds.items pair
-          (i + 1) ss fs c.sources.self.waiting group inv.gathers c.requires.ready.same
-          (let l = inv.inside in omega arith) told low).upto in
-          subst (λ q. AreReadTo LINE_LIMIT past text (Some q) c.drain.new.sources c.drain.new.self.feeds.items)
-          (ap member_pair (c.deref-in-sources.ensures ∙ sym (c.new-keyed.ensures ∙ c.deref.ensures)))
-          (c.drain.ensures.reads
-          (subst (λ q. AllByRecursion (λ m. Upto (member_pair m) q) (all_done LINE_LIMIT text ss fs))
-          (sym (ap member_pair (c.deref-in-sources.ensures ∙ sym (c.new-keyed.ensures ∙ c.deref.ensures)))) all)),
-    )
+    on_err c.from_residual.result p.0 _ p.1 (member_pair c.new-keyed.result, inv.above, inv.least, read_to g here)
 
 pub returns-in-Err-clause-reads : goal.returns-in-Err-clause-reads
 returns-in-Err-clause-reads g c =
-    let past = g.R.Range.past c.args.range.now in
-    let text = g.S.Source.text in let extent = g.S.Source.extent in let gave = g.S.Source.gave in
+    let at = goal.at.returns-in-Err-clause-reads g c in
     let inv = c.sources.invariant in
-    let ok = c.in_ok-drain.ensures in
     let pair = member_pair c.new-keyed.result in
-    let ss = c.sources.sources in let fs = c.sources.self.feeds.items in let i = c.sources.i in
-    let feeds = c.drain.new.self.feeds.items in
-    let group = c.new-keyed.result ∷ map (λ (b : Box Line Global). b.value) c.sources.rest.items in
-    let w : WaitingLine =
-    record { member = c.next-in-sources.inside.line.value; source = c.next-in-sources.inside.source } in
-    let is = sym c.next-in-sources.view_is in
-    let next = (subst (λ (v : WaitingLine). (d : Feed) → c.take_at.new.self.feeds.items
-    ≡ set feeds v.source (due (get_or feeds v.source d))) is c.in-Some-take_at.ensures.feeds) ok.drained.1 in (
+    let past = g.R.Range.past c.args.range.now in
+    let f = c.in_ok-drain.ensures.drained.1 in (
       pair,
       inv.above,
       inv.least,
       λ told low.
-          let all = (gathers_all LINE_LIMIT past text extent gave c.args.sources.now c.args.self.now.feeds.items pair
-          (i + 1) ss fs c.sources.self.waiting group inv.gathers c.requires.ready.same
-          (let l = inv.inside in omega arith) told low).upto in
-          let here = subst (λ q. AreReadTo LINE_LIMIT past text (Some q) c.drain.new.sources feeds)
-          (ap member_pair (c.deref-in-sources.ensures ∙ sym (c.new-keyed.ensures ∙ c.deref.ensures)))
-          (c.drain.ensures.reads
-          (subst (λ q. AllByRecursion (λ m. Upto (member_pair m) q) (all_done LINE_LIMIT text ss fs))
-          (sym (ap member_pair (c.deref-in-sources.ensures ∙ sym (c.new-keyed.ensures ∙ c.deref.ensures)))) all)) in
-          subst (λ (us : List Feed). AreReadTo LINE_LIMIT past text (Some pair) c.drain.new.sources us) (sym next)
-          (due_read LINE_LIMIT past text extent (Some pair) c.drain.new.sources feeds w.source ok.drained.1 here),
+          subst (λ (us : List Feed). AreReadTo LINE_LIMIT past g.S.Source.text (Some pair) c.drain.new.sources us)
+          (sym (taken_feeds g at.After-push f))
+          (due_read LINE_LIMIT past g.S.Source.text g.S.Source.extent (Some pair) c.drain.new.sources
+          c.drain.new.self.feeds.items (taken_line g at.After-push).source f (read_to g at.After-drain told low)),
     )
 
 pub returns-in_err-drain-clause-failures : goal.returns-in_err-drain-clause-failures

@@ -1,4 +1,5 @@
 use Rattle.std.specs.List.{AllZip}
+use Rattle.std.proofs.lemmas.Slice.Zip.{all_zipped_more}
 use Rattle.std.proofs.Common.{◌≡◌, ◌++◌, get_or, take, ◌<◌, ◌+◌, ◌∷◌, [], length, map, refl, sym, ap, ◌∙◌, subst, set}
 use Rattle.std.proofs.Common.{zip, flat_map, length-append, arith}
 use Rattle.std.specs.List.{AllByRecursion, sum}
@@ -6,12 +7,12 @@ use Rattle.std.proofs.lemmas.List.{take_all, take_more}
 use Rattle.cdxj_core.specs.declared.limit.TheConstants.{LINE_LIMIT}
 use Rattle.source_core.specs.Halving.{digits}
 use Rattle.merge_core.specs.declared.feed.Feed.{Feed}
-use Rattle.merge_core.specs.WaitingLines.{WaitingLine}
+use Rattle.line_queue.specs.WaitingLines.{WaitingLine}
 use Rattle.merge_core.specs.Feeds.{AreSettled, AreFed, done}
 use Rattle.merge_core.specs.Gathering.{text_or}
 use Rattle.merge_core.specs.Openings.{IsCutAt}
 use Rattle.merge_core.specs.Spending.{CameWithin, OpenedWithin}
-use Rattle.merge_core.proofs.SpendLemmas.{opened_none, two_put, two_push, left_here, left_after}
+use Rattle.merge_core.proofs.SpendLemmas.{opened_none, two_put, left_here, left_after}
 use Rattle.merge_core.proofs.FailLemmas.{raised_by_feed}
 use Rattle.merge_core.proofs.FeedLemmas.{each_join}
 use Rattle.merge_core.proofs.Many.{map_set_same}
@@ -36,6 +37,7 @@ loop-i-init g c =
       cut = subst (AllByRecursion
           (λ (x : g.row.S.Denot × Feed). IsCutAt LINE_LIMIT (c.args.key.now, c.args.stamp.now) (g.S.Source.text x.0)
           x.1.cursor)) (sym (zip_none c.args.sources.now c.new.result.items none)) tt;
+      start = λ k s. subst (AllByRecursion (λ (f : Feed). f.cursor.start ≡ 0)) (sym none) tt;
       settled = subst AreSettled (sym none) tt;
       fresh = done_none (λ (x : g.row.S.Denot × Feed). done LINE_LIMIT (text_or (g.S.Source.text x.0)) x.1)
           c.args.sources.now c.new.result.items none;
@@ -95,6 +97,8 @@ loop-i-preserved g c =
       cut = subst (λ us. AllByRecursion Cut (zip (set ss i s) us)) (sym added.2)
           (subst (AllByRecursion Cut) (sym (zip_push ss fs i s f inv.count inside))
           (each_join Cut (zip ss fs) ((s, f) ∷ []) inv.cut (added.5, tt)));
+      start = λ k s. subst (AllByRecursion (λ (f : Feed). f.cursor.start ≡ 0)) (sym added.2)
+          (each_join (λ (f : Feed). f.cursor.start ≡ 0) fs (f ∷ []) (inv.start k s) (added.8 k s, tt));
       settled = ok.settled inv.settled;
       fresh = ap (λ us. flat_map of (zip (set ss i s) us)) added.2
           ∙ ap (flat_map of) (zip_push ss fs i s f inv.count inside)
@@ -107,7 +111,7 @@ loop-i-preserved g c =
       came = subst (λ us. AllZip Came (take (i + 1) c.args.sources.now) (zip (set ss i s) us)) (sym added.2)
           (subst (AllZip Came (take (i + 1) c.args.sources.now)) (sym (zip_push ss fs i s f inv.count inside))
           (subst (λ us. AllZip Came us (zip ss fs ++ (s, f) ∷ [])) (sym (take_more c.args.sources.now i a inside_old))
-          (two_push Came (take i c.args.sources.now) (zip ss fs) (get_or c.args.sources.now i a) (s, f) inv.came
+          (all_zipped_more Came (take i c.args.sources.now) (zip ss fs) (get_or c.args.sources.now i a) (s, f) inv.came
           (subst (λ x. CameWithin (text x) (extent x) (gave x) (gave s) f.cursor) same_here added.7))));
     }
 

@@ -4,7 +4,7 @@ use Rattle.std.specs.List.{AllByRecursion, sum}
 use Rattle.cdxj_core.specs.declared.limit.TheConstants.{LINE_LIMIT}
 use Rattle.source_core.specs.Halving.{digits}
 use Rattle.merge_core.specs.declared.feed.Feed.{Feed}
-use Rattle.merge_core.specs.WaitingLines.{WaitingLine}
+use Rattle.line_queue.specs.WaitingLines.{WaitingLine}
 use Rattle.merge_core.specs.Feeds.{AreFed, AreSettled}
 use Rattle.merge_core.specs.Gathering.{all_done}
 use Rattle.merge_core.specs.Spending.{CameWithin, OpenedWithin}
@@ -23,6 +23,7 @@ invariant-loop-i g l = record {
       l.streams.waiting;
   cut : AllByRecursion (λ (x : g.row.S.Denot × Feed). IsCutAt LINE_LIMIT (l.key, l.stamp) (g.S.Source.text x.0)
       x.1.cursor) (zip l.sources l.streams.feeds.items);
+  start : l.key ≡ [] → l.stamp ≡ [] → AllByRecursion (λ (f : Feed). f.cursor.start ≡ 0) l.streams.feeds.items;
   settled : AreSettled l.streams.feeds.items;
   fresh : all_done LINE_LIMIT g.S.Source.text l.sources l.streams.feeds.items ≡ [];
   probes : l.probes ≤ sum (map (λ s. digits (g.S.Source.extent s)) (take l.i l.sources));

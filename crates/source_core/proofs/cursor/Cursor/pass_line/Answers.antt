@@ -1,7 +1,9 @@
 use Rattle.std.proofs.Common.{◌+◌, ◌∷◌, take, drop, sym, ap, ◌∙◌, subst}
 use Rattle.cdxj_places.specs.TextLines.{lines}
 use Rattle.source_core.specs.Cursors.{CursorState, IsHeldLine, Stands}
+use Rattle.source_core.specs.Windows.{held_from}
 use Rattle.source_core.proofs.HeldLines.{passed, passed_line}
+use Rattle.source_core.proofs.WindowLemmas.{held_behind}
 use Rattle.source_core.proofs.cursor.Cursor.pass_line.Goals as goal
 
 pub returns-clause-stands : goal.returns-clause-stands
@@ -10,16 +12,16 @@ returns-clause-stands g c =
     let extent = g.S.Source.extent c.args.source.now in
     let inside = c.self.inside in
     let was : CursorState = record {
-      ahead = inside.ahead;
+      ahead = held_from inside.window inside.at;
       at = inside.at;
       start = inside.start;
       count = inside.count;
     } in
+    let line = subst (λ (s : CursorState). IsHeldLine s.ahead c.args.size) (sym c.self.view_is) c.requires.line in
     subst (λ a. Stands text extent
     (record { ahead = a; at = inside.at + c.args.size; start = inside.start; count = inside.count + 1 }))
-    (sym c.consume.ensures)
-    (passed text extent was c.args.size (subst (Stands text extent) (sym c.self.view_is) c.requires.stands)
-    (subst (λ (s : CursorState). IsHeldLine s.ahead c.args.size) (sym c.self.view_is) c.requires.line))
+    (sym (held_behind inside.window inside.at c.args.size line.inside))
+    (passed text extent was c.args.size (subst (Stands text extent) (sym c.self.view_is) c.requires.stands) line)
 
 pub returns-clause-given : goal.returns-clause-given
 returns-clause-given g c = λ t e.

@@ -1,11 +1,11 @@
 //! The starts of keys, as numbers.
 ghost use Rattle.std.specs.Prelude.{◌≡◌, ◌+◌, ◌≤◌, length, take, drop};
-ghost use Rattle.merge_core.specs.KeyStarts.{IsText, key_words, spelled, words};
+ghost use Rattle.line_queue.specs.KeyStarts.{IsText, key_words, spelled, words};
 
 use cdxj_places::abbreviated;
 
 /// The first 32 bytes of a key as two numbers, which compare as the bytes do. A shorter key is followed by zeros.
-pub(crate) type KeyStart = (u128, u128);
+pub type KeyStart = (u128, u128);
 
 /// Returns the sixteen bytes from `at` on as a big-endian number.
 fn word(bytes: &[u8; 32], at: usize) -> u128

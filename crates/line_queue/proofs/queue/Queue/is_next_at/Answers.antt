@@ -3,9 +3,9 @@ use Rattle.std.specs.List.{AllByRecursion}
 use Rattle.std.proofs.lemmas.List.{get_or_default}
 use Rattle.cdxj_places.specs.Pairs.{pair_cmp}
 use Rattle.cdxj_core.specs.Members.{member_pair}
-use Rattle.merge_core.specs.WaitingLines.{WaitingLine, waiting_pair, turn_cmp}
-use Rattle.merge_core.proofs.TurnLemmas.{eq_is, all_later_unless}
-use Rattle.merge_core.proofs.queue.Queue.is_next_at.Goals as goal
+use Rattle.line_queue.specs.WaitingLines.{WaitingLine, waiting_pair, turn_cmp}
+use Rattle.line_queue.proofs.TurnLemmas.{eq_is, all_later_unless}
+use Rattle.line_queue.proofs.queue.Queue.is_next_at.Goals as goal
 
 pub returns-in-Some-clause-alike : goal.returns-in-Some-clause-alike
 returns-in-Some-clause-alike c = λ d some same.

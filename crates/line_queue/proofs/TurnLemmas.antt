@@ -11,10 +11,10 @@ use Rattle.cdxj_places.specs.Pairs.{Pair, pair_cmp}
 use Rattle.std.specs.List.Sorted.{IsPermutation}
 use Rattle.std.proofs.lemmas.List.Sorted.{length_permutation}
 use Rattle.cdxj_places.proofs.RisingLaws.{each_weaker}
-use Rattle.merge_core.specs.PairOrders.{Below, Upto, Alike, IsAbove}
-use Rattle.merge_core.specs.WaitingLines.{WaitingLine, waiting_pair, turn_cmp}
-use Rattle.merge_core.proofs.HeapLemmas.{each_permuted}
-use Rattle.merge_core.proofs.PairOrder.{from_not_below, not_above, below_then}
+use Rattle.line_queue.specs.PairOrders.{Below, Upto, Alike, IsAbove}
+use Rattle.line_queue.specs.WaitingLines.{WaitingLine, waiting_pair, turn_cmp}
+use Rattle.line_queue.proofs.HeapLemmas.{each_permuted}
+use Rattle.line_queue.proofs.PairOrder.{from_not_below, not_above, below_then}
 
 then_not_lt : (a b : Ordering) → is_lt (ordering_then a b) ≡ false → is_lt a ≡ false
 then_not_lt Less b e = e

@@ -2,7 +2,7 @@
 ghost use Rattle.std.specs.Prelude.{◌≡◌};
 ghost use Rattle.cdxj_core.specs.Members.{member_pair};
 ghost use Rattle.cdxj_places.specs.Pairs.{pair_cmp};
-ghost use Rattle.merge_core.specs.KeyStarts.{IsText, key_words};
+ghost use Rattle.line_queue.specs.KeyStarts.{IsText, key_words};
 
 use crate::key_start::KeyStart;
 use crate::pair::compare_pairs;
@@ -11,7 +11,7 @@ use std::cmp::Ordering;
 use std::marker::Model;
 
 /// A line with the start of its key, which decides most comparisons without access to the line.
-#[derive(Drop)]
+#[derive(Debug, Drop)]
 pub struct KeyedLine<'a> {
     pub(crate) key_start: KeyStart,
     pub(crate) line: &'a Line,
@@ -20,7 +20,7 @@ pub struct KeyedLine<'a> {
 impl<'a> Model for KeyedLine<'a> {
     ghost use Rattle.std.specs.Prelude.{◌≡◌};
     ghost use Rattle.cdxj_core.specs.Members.{Member};
-    ghost use Rattle.merge_core.specs.KeyStarts.{IsText, key_words};
+    ghost use Rattle.line_queue.specs.KeyStarts.{IsText, key_words};
 
     ghost Value = { Member };
 
@@ -32,7 +32,7 @@ impl<'a> Model for KeyedLine<'a> {
 
 impl<'a> KeyedLine<'a> {
     /// Creates the value for a line and the start of its key.
-    pub(crate) fn new(key_start: KeyStart, line: &'a Line) -> KeyedLine<'a>
+    pub fn new(key_start: KeyStart, line: &'a Line) -> KeyedLine<'a>
         requires start { key_start ≡ key_words line.now.values.key }
         requires text { IsText line.now.values.key }
         ensures { result ≡ line.now }

@@ -1,0 +1,4 @@
+pub mod PairOrder
+pub mod HeapLemmas
+pub mod TurnLemmas
+pub mod KeyStarts

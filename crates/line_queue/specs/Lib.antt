@@ -1,0 +1,4 @@
+pub mod PairOrders
+pub mod WaitingLines
+pub mod KeyStarts
+pub mod TurnOrder
