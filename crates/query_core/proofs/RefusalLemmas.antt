@@ -5,7 +5,7 @@ use Rattle.std.proofs.lemmas.Bool.Decides.{nat_tests}
 use Rattle.query_core.specs.declared.fault.AnswerFault.{AnswerFault}
 use Rattle.query_core.specs.declared.fault.AnswerFault.TheVariants as fault
 use Rattle.query_core.specs.declared.merging.TheConstants.{SOURCES_LIMIT}
-use Rattle.query_core.specs.Paging.{are_sizes}
+use Rattle.page_writers.specs.WrittenPages.{are_sizes}
 use Rattle.query_core.specs.Refusals.{IsEarly, Refuses, bad_sizes_or_too_many, too_many}
 
 many : (limit count : ℕ) → limit < count → nat_lt limit count ≡ true
