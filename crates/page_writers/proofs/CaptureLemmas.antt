@@ -75,24 +75,10 @@ module _ (q : QueryValue) (from : Option PlaceValue) where
       (filter-append (is_wanted q from) us vs)
 
   module _ (taken : List Member) (m : Member) where
-    passed : is_wanted q from m ≡ false → filter (is_wanted q from) (taken ++ m ∷ []) ≡ filter (is_wanted q from) taken
-    passed h =
-        filter-append (is_wanted q from) taken (m ∷ [])
-        ∙ ap (λ l. filter (is_wanted q from) taken ++ l) (cond-false (is_wanted q from m) (m ∷ []) [] h)
-        ∙ append-nil (filter (is_wanted q from) taken)
-
     joined : is_wanted q from m ≡ true → filter (is_wanted q from) (taken ++ m ∷ []) ≡ filter (is_wanted q from) taken
         ++ m ∷ []
     joined h = filter-append (is_wanted q from) taken (m ∷ [])
         ∙ ap (λ l. filter (is_wanted q from) taken ++ l) (cond-true (is_wanted q from m) (m ∷ []) [] h)
-
-    -- a line that isn't wanted
-    pub captures_passed : is_wanted q from m ≡ false → captures_over q from (taken ++ m ∷ [])
-        ≡ captures_over q from taken
-    captures_passed h = ap (kept_after from) (passed h)
-
-    pub place_passed : is_wanted q from m ≡ false → place_before q from (taken ++ m ∷ []) ≡ place_before q from taken
-    place_passed h = ap (end_place member_place from) (passed h)
 
     -- a line that is
     pub place_joined : is_wanted q from m ≡ true → place_before q from (taken ++ m ∷ []) ≡ Some (member_place m)
@@ -123,10 +109,6 @@ ComparesAfter q from c taken = c ≡ collapsing_at q.collapse (place_before q fr
 
 module _ (q : QueryValue) (from : Option PlaceValue) (c : Option CollapsingValue) (taken : List Member) (m : Member)
     (s : ComparesAfter q from c taken) where
-  -- a line that isn't wanted
-  pub passed_compares : is_wanted q from m ≡ false → ComparesAfter q from c (taken ++ m ∷ [])
-  passed_compares h = s ∙ ap (collapsing_at q.collapse) (sym (place_passed q from taken m h))
-
   repeats_told : (b : Bool) → repeats_part c (member_place m) ≡ b
       → repeats member_place (same_part q.collapse) (place_before q from taken) m ≡ b
   repeats_told b r = sym (repeats_is q.collapse (place_before q from taken) m)

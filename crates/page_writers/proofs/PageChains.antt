@@ -129,8 +129,3 @@ module _ (q : QueryValue) (sizes : List ℕ) (positive : AllPositive sizes) (lin
 
       pub wrote_most : EndedInPart q sizes captures old new → WrotePagesInPart q lines sizes old new
       wrote_most found = (found.0, chain_of found.0 (subst (AreCut sizes found.0) (sym all) found.1), found.2)
-
--- all pages are a front of themselves
-pub in_whole : (q : QueryValue) (lines : List Member) (sizes : List ℕ) (old new : Option (List ℕ)) (number : ℕ)
-    → WrotePages q lines sizes old new number → WrotePagesInPart q lines sizes old new
-in_whole q lines sizes old new number w = (w.pages, w.chain, whole_prefix old new (pages_text q w.pages) w.text)

@@ -340,11 +340,6 @@ next_is (Some n) c false last h k = none_is (next n c) (sym h)
 
 -- ---- answers
 
-pub match_err : {A E : Type 0} (r : Result A E) (e : E) (P : A → Type 0) (Q : E → Type 0) → r ≡ Err e → Q e
-    → MatchResult r P Q
-match_err (Ok x) e P Q h q = cc
-match_err (Err x) e P Q h q = (let is : e ≡ x = cc in subst Q is q)
-
 pub on_err : {A E : Type 0} (r : Result A E) (e : E) (P : Type 0) → r ≡ Err e → P → OnErr r P
 on_err (Ok x) e P h p = cc
 on_err (Err x) e P h p = p
