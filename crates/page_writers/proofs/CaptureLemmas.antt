@@ -1,6 +1,6 @@
 -- The captures of lines, which are collapsed, and what the next line is compared with.
 use Rattle.std.proofs.Common.{◌≡◌, Bool, List, [], ◌∷◌, ◌++◌, refl, sym, ap, ◌∙◌, Option, Some, None, true, false}
-use Rattle.std.proofs.Common.{filter, append-nil}
+use Rattle.std.proofs.Common.{filter, append-nil, cond, ◌&&◌}
 use Rattle.std.proofs.lemmas.Bool.{cond-true, cond-false, true≢false}
 use Rattle.std.proofs.lemmas.List.Elements.{filter-append}
 use Rattle.std.proofs.lemmas.Slice.Eq.{bytes_eq-Decides}

@@ -40,15 +40,6 @@ all_are (suc zero) (x ∷ []) h = (refl, refl)
 all_are (suc zero) (x ∷ y ∷ ys) h = absurd (omega arith)
 all_are (suc (suc n)) (x ∷ xs) h = let r = all_are (suc n) xs (omega arith) in (ap (λ l. x ∷ l) r.0, r.1)
 
-match_none : (o : Option PlaceValue) (N : Type 0) (S : PlaceValue → Type 0) → o ≡ None → N → MatchOption o N S
-match_none None N S e h = h
-match_none (Some p) N S e h = cc
-
-match_some : (o : Option PlaceValue) (p : PlaceValue) (N : Type 0) (S : PlaceValue → Type 0) → o ≡ Some p → S p
-    → MatchOption o N S
-match_some None p N S e h = cc
-match_some (Some r) p N S e h = (let is : r ≡ p = cc in subst S (sym is) h)
-
 module _ (same : PlaceValue → PlaceValue → Bool) (l : List Member) (rises : Rises member_place place_cmp l) where
   abbrev shown : Option PlaceValue → List Member
   shown p = collapsed member_place place_cmp same l p
@@ -60,9 +51,9 @@ module _ (same : PlaceValue → PlaceValue → Bool) (l : List Member) (rises : 
   cut_chain p sizes (page ∷ []) z h =
       let r = all_are (first_size sizes) (shown p) h.1 in (
         h.0 ∙ (λ i. record { members = sym r.0 i; next = sym r.1 i }),
-        match_none page.next (◌≡◌ {A = Pages} [] [])
-            (λ q. IsChain member_place place_cmp same l (Some q) (later_sizes sizes) [])
-            (ap (λ (g : Page Member PlaceValue). g.next) h.0) refl,
+        subst (λ (o : Option PlaceValue). MatchOption o (◌≡◌ {A = Pages} [] [])
+            (λ q. IsChain member_place place_cmp same l (Some q) (later_sizes sizes) []))
+            (sym (ap (λ (g : Page Member PlaceValue). g.next) h.0)) refl,
       )
   cut_chain p sizes (page ∷ other ∷ rest) z h =
       let n = first_size sizes in
@@ -73,9 +64,9 @@ module _ (same : PlaceValue → PlaceValue → Bool) (l : List Member) (rises : 
       ap (λ (q : PlaceValue). shown (Some q)) (sym s.2)
       ∙ collapse_resumes member_place place_cmp same place_cmp_total l p s.0 rises s.1 ∙ s.4 in (
         h.0 ∙ (λ i. record { members = take n (shown p); next = (r.2 ∙ sym r.1) i }),
-        match_some page.next r.0 (other ∷ rest ≡ [])
-            (λ q. IsChain member_place place_cmp same l (Some q) (later_sizes sizes) (other ∷ rest))
-            (ap (λ (g : Page Member PlaceValue). g.next) h.0 ∙ r.2)
+        subst (λ (o : Option PlaceValue). MatchOption o (other ∷ rest ≡ [])
+            (λ q. IsChain member_place place_cmp same l (Some q) (later_sizes sizes) (other ∷ rest)))
+            (sym (ap (λ (g : Page Member PlaceValue). g.next) h.0 ∙ r.2))
             (cut_chain (Some r.0) (later_sizes sizes) (other ∷ rest) (later_positive sizes z)
             (subst (AreCut (later_sizes sizes) (other ∷ rest)) (sym over) h.2)),
       )

@@ -6,6 +6,7 @@ use Rattle.std.proofs.Common.{length-take, take-append-drop}
 use Rattle.std.specs.Io.KnownBytes.{Appends}
 use Rattle.std.proofs.lemmas.Bool.{eqb-false, ltb-true, ltb-false, and_parts}
 use Rattle.std.specs.List.{AllByRecursion, list_all}
+use Rattle.std.proofs.lemmas.List.{take_all, take_at, drop_at}
 use Rattle.std.proofs.lemmas.List.Concat.{flat_map-append}
 use Rattle.cdxj_places.specs.Places.{PlaceValue}
 use Rattle.cdxj_places.specs.Places.{resume_text}
@@ -24,6 +25,7 @@ use Rattle.page_writers.specs.PageWriting.{captures_over}
 use Rattle.page_writers.specs.WriterView.{IsFront, IsSame, captures_of, from_view}
 use Rattle.page_writers.specs.WrittenPages.{IsReadBack, are_sizes, pages_text}
 use Rattle.page_writers.specs.PagesWriting.{AreCut, HasNext, HasReadKey, PagesStand, last_of}
+use Rattle.page_writers.proofs.WriterLemmas.{below, take_front}
 
 abbrev pub Pages : Type 0
 Pages = List (Page Member PlaceValue)
@@ -68,28 +70,16 @@ EndedInPart q sizes captures old new = (pages : Pages) × AreCut sizes pages cap
 
 -- ---- a list that is cut
 
-take_front : {X : Type 0} (n : ℕ) (us vs : List X) → length us ≤ n → (later : List X)
-    × (take n (us ++ vs) ≡ us ++ later)
-take_front n [] vs h = (take n vs, refl)
-take_front zero (u ∷ us) vs h = absurd (omega arith)
-take_front (suc n) (u ∷ us) vs h = let r = take_front n us vs (omega arith) in (r.0, ap (λ l. u ∷ l) r.1)
-
-take_seam : {X : Type 0} (n : ℕ) (us vs : List X) → length us ≡ n → (take n (us ++ vs) ≡ us) × (drop n (us ++ vs) ≡ vs)
-take_seam zero [] vs h = (refl, refl)
-take_seam (suc n) [] vs h = absurd (omega arith)
-take_seam zero (u ∷ us) vs h = absurd (omega arith)
-take_seam (suc n) (u ∷ us) vs h = let r = take_seam n us vs (omega arith) in (ap (λ l. u ∷ l) r.0, r.1)
-
 -- a page more
 pub cut_more : (sizes : List ℕ) (rows later : List Member) (rest : Pages) → length rows ≡ first_size sizes
     → 0 < length later → AreCut (later_sizes sizes) rest later
     → AreCut sizes (record { members = rows; next = last_of rows } ∷ rest) (rows ++ later)
 cut_more sizes rows later [] full some h = absurd h
 cut_more sizes rows later (other ∷ rest) full some h =
-    let seam = take_seam (first_size sizes) rows later full in (
-      ap (λ (l : List Member). record { members = l; next = last_of l }) (sym seam.0),
+    let n = first_size sizes in (
+      ap (λ (l : List Member). record { members = l; next = last_of l }) (sym (take_at rows later n full)),
       omega (arith, full, some, length-append rows later),
-      subst (AreCut (later_sizes sizes) (other ∷ rest)) (sym seam.1) h,
+      subst (AreCut (later_sizes sizes) (other ∷ rest)) (sym (drop_at rows later n full)) h,
     )
 
 -- there is such a cut
@@ -146,11 +136,12 @@ head_text q left (page ∷ []) rows later h k =
           (ap (λ (p : Page Member PlaceValue). p.members) h.0) ∙ f.1,
     )
 head_text q left (page ∷ other ∷ rest) rows later h k =
-    let t = take_front (first_size left) rows later k in
+    let t = take_front (first_size left) rows later in
+    let all = take_all (first_size left) rows k in
     let f = begun_is_front (form_of q) rows t.0 (option_map resume_text page.next) in (
       f.0 ++ pages_text q (other ∷ rest),
       ap (λ (l : List Member). page_text (form_of q) l (option_map resume_text page.next)
-          ++ pages_text q (other ∷ rest)) (ap (λ (p : Page Member PlaceValue). p.members) h.0 ∙ t.1)
+          ++ pages_text q (other ∷ rest)) (ap (λ (p : Page Member PlaceValue). p.members) h.0 ∙ t.1 ∙ ap (λ l. l ++ t.0) all)
           ∙ ap (λ l. l ++ pages_text q (other ∷ rest)) f.1
           ∙ append_assoc (begun (form_of q) rows) f.0 (pages_text q (other ∷ rest)),
     )
@@ -413,12 +404,6 @@ front_as s first sizes taken start now same front =
 pub has_room : (given size : ℕ) (rows : List Member) → eqb given size ≡ false → given ≡ length rows → length rows ≤ size
     → given < size
 has_room given size rows h is room = below given size (omega (arith, is, room)) (eqb-false given size h)
-  where
-    below : (k n : ℕ) → k ≤ n → (k ≡ n → ⊥) → k < n
-    below zero zero h f = absurd (f refl)
-    below zero (suc n) h f = omega arith
-    below (suc k) zero h f = absurd (omega arith)
-    below (suc k) (suc n) h f = let ih = below k n (omega arith) (λ e. f (ap suc e)) in omega arith
 
 -- in the start of the first page
 pub start_front : (q : QueryValue) (sizes : List ℕ) (start new : Option (List ℕ)) → AllPositive sizes

@@ -5,8 +5,8 @@ use Rattle.std.proofs.Common.{Bool, true, false, filter, length, take, min, cond
 use Rattle.std.proofs.Common.{length-take, eqb, eqb-true, ◌⊎◌, inl, inr}
 use Rattle.std.specs.Option.{is_some}
 use Rattle.std.specs.Io.KnownBytes.{Appends}
-use Rattle.std.proofs.lemmas.Bool.{true≢false, eqb-false}
-use Rattle.std.proofs.lemmas.List.{take_all}
+use Rattle.std.proofs.lemmas.Bool.{true≢false, cases_lt, eqb-false}
+use Rattle.std.proofs.lemmas.List.{take_all, take-append-le}
 use Rattle.cdxj_places.specs.Places.{PlaceValue}
 use Rattle.query_text.specs.Queries.{QueryValue}
 use Rattle.cdxj_core.specs.Members.{Member, member_place}
@@ -87,10 +87,9 @@ place_last (suc (suc n)) [] m h = absurd (omega arith)
 place_last (suc zero) (x ∷ xs) m h = absurd (omega arith)
 place_last (suc (suc n)) (x ∷ xs) m h = place_last (suc n) xs m (omega arith)
 
-take_same : {X : Type 0} (n : ℕ) (c vs : List X) → n ≤ length c → take n (c ++ vs) ≡ take n c
-take_same zero c vs h = refl
-take_same (suc n) [] vs h = absurd (omega arith)
-take_same (suc n) (x ∷ xs) vs h = ap (λ l. x ∷ l) (take_same n xs vs (omega arith))
+-- what is at most a number and isn't it is below it
+pub below : (k n : ℕ) → k ≤ n → (k ≡ n → ⊥) → k < n
+below k n h f = elim (cases_lt k n) [ inl less ↦ less | inr more ↦ absurd (f (omega (arith, h, more))) ]
 
 -- ---- one line more
 
@@ -110,7 +109,7 @@ module _ (form : Form) (limit : Option ℕ) (c : List Member) (start now : Optio
   }
 
 at_end : (n : ℕ) (c vs : List Member) → n < length c → page (Some n) (c ++ vs) ≡ page (Some n) c
-at_end n c vs h = (λ i. record { members = take_same n c vs (omega (arith, h)) i; next = next_same n c vs h i })
+at_end n c vs h = (λ i. record { members = take-append-le n c vs (omega (arith, h)) i; next = next_same n c vs h i })
 
 -- captures after a page that has its next
 pub after_end : (form : Form) (limit : Option ℕ) (c later : List Member) (start now : Option (List ℕ)) (given : ℕ)
@@ -155,7 +154,7 @@ at_limit form (Some n) c m start now given more last h f s =
             last_is = s.last_is ∙ sym place;
           })
       | inr e ↦ (
-          let members : take n (c ++ m ∷ []) ≡ take n c = take_same n c (m ∷ []) (omega (arith, e)) in
+          let members : take n (c ++ m ∷ []) ≡ take n c = take-append-le n c (m ∷ []) (omega (arith, e)) in
           record {
             text = subst (λ l. Appends start now (begun form l)) (sym members) s.text;
             given_is = s.given_is ∙ ap (λ l. min (length l) (2 ^ 64 - 1)) (sym members);
@@ -171,13 +170,7 @@ room_is zero c given l f g h = absurd (eqb-false zero given f (omega (arith, g))
 room_is (suc n) c given l f g h =
     let short = next_none (suc n) c (omega arith) h in
     let t = length-take (suc n) c in
-    below (suc n) (length c) short (λ e. eqb-false (suc n) given f (omega (arith, e, g, t, l)))
-  where
-    below : (n k : ℕ) → k ≤ n → (k ≡ n → ⊥) → k < n
-    below zero zero h f = absurd (f refl)
-    below zero (suc k) h f = absurd (omega arith)
-    below (suc n) zero h f = omega arith
-    below (suc n) (suc k) h f = let ih = below n k (omega arith) (λ e. f (ap suc e)) in omega arith
+    below (length c) (suc n) short (λ e. eqb-false (suc n) given f (omega (arith, e, g, t, l)))
 
 -- the place that is kept
 last_of : (n given : ℕ) (c : List Member) (m : Member) (last : Option PlaceValue) → n < 2 ^ 64 → length c < n → given
@@ -188,20 +181,11 @@ last_of n given c m last l room g k =
       | true ↦ (λ e. let f : n ≡ given = eqb-true n given e in sym (place_last n c m (omega (arith, f, g, room, l))))
       | false ↦ (λ e.
           let ne = eqb-false n given e in
-          let less : length (c ++ m ∷ []) < n = further n (length c) (length (c ++ m ∷ []))
-          (omega (arith, length-append c (m ∷ []))) room (λ e. ne (omega (arith, e, g, l))) in
+          let len = length-append c (m ∷ []) in
+          let less : length (c ++ m ∷ []) < n = below (length (c ++ m ∷ [])) n (omega (arith, len, room))
+          (λ e. ne (omega (arith, e, len, g, l))) in
           k ∙ place_short n c room ∙ sym (place_short n (c ++ m ∷ []) less))
     ]) refl
-  where
-    further : (n k j : ℕ) → j ≡ k + 1 → k < n → (n ≡ k + 1 → ⊥) → j < n
-    further zero k j e h f = absurd (omega arith)
-    further (suc n) zero j e h f = step n j e f
-      where
-        step : (n j : ℕ) → j ≡ 0 + 1 → (suc n ≡ 0 + 1 → ⊥) → j < suc n
-        step zero j e f = absurd (f (omega arith))
-        step (suc n) j e f = omega arith
-    further (suc n) (suc k) j e h f =
-        let ih = further n k (k + 1) refl (omega arith) (λ p. f (omega (arith, p))) in omega (arith, ih, e)
 
 -- a capture that was written
 pub written_one : (form : Form) (limit : Option ℕ) (c : List Member) (m : Member) (start now new : Option (List ℕ))
@@ -282,7 +266,7 @@ pub whole_prefix : (old new : Option (List ℕ)) (text : List ℕ) → Appends o
 whole_prefix old new text a = subst (AppendsPrefix old new) (append-nil text) (prefix_whole old new text [] a)
 
 -- more of a list gives a page that begins alike
-take_front : {X : Type 0} (n : ℕ) (us vs : List X) → (later : List X) × (take n (us ++ vs) ≡ take n us ++ later)
+pub take_front : {X : Type 0} (n : ℕ) (us vs : List X) → (later : List X) × (take n (us ++ vs) ≡ take n us ++ later)
 take_front zero us vs = ([], refl)
 take_front (suc n) [] vs = (take (suc n) vs, refl)
 take_front (suc n) (u ∷ us) vs = let r = take_front n us vs in (r.0, ap (λ l. u ∷ l) r.1)

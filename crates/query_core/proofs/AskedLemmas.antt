@@ -23,10 +23,7 @@ use Rattle.query_core.specs.Answering.{Answered}
 use Rattle.page_writers.specs.QueryPages.{answer_text, form_of, shown_key, query_page}
 use Rattle.page_writers.specs.PageWriting.{is_wanted, captures_over, page_over, next_of, PageStands}
 use Rattle.page_writers.proofs.WriterLemmas.{page, decided, next_is, page_front}
-
-and_left : (a b : Bool) → (a && b) ≡ true → a ≡ true
-and_left true b h = refl
-and_left false b h = absurd (true≢false (sym h))
+use Rattle.query_core.proofs.StartLemmas.{and_left}
 
 -- what is wanted lies within the target's range
 pub wanted_within : (q : QueryValue) (from : Option PlaceValue) (m : Member) → is_wanted q from m ≡ true

@@ -13,10 +13,6 @@ use Rattle.page_writers.specs.QueryPages.{form_of}
 use Rattle.page_writers.specs.WriterView.{IsFront, PagesBroke, PagesWrote, captures_of, from_view}
 use Rattle.page_writers.proofs.PagesLemmas.{Ended, EndedInPart, ended_stands, ending_front, stands_front}
 
-pub not_false : (b : Bool) → (b ≡ false → ⊥) → b ≡ true
-not_false true h = refl
-not_false false h = absurd (h refl)
-
 -- a writer that began with this query and these sizes
 module _ (first : PagesWriter) (q : QueryValue) (sizes : List ℕ) (query_is : first.selection.query.now ≡ q)
     (from_is : from_view first.selection.from ≡ q.resume) (sizes_is : first.sizes.now ≡ sizes) where

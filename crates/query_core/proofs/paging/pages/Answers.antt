@@ -1,6 +1,6 @@
 use Rattle.std.proofs.Common.{rules, ◌≡◌, ◌++◌, ◌∙◌, ℕ, List, [], append-nil, Bool, length, true, false, refl, sym, map}
 use Rattle.std.proofs.Common.{Option, None}
-use Rattle.std.proofs.lemmas.Bool.{true≢false}
+use Rattle.std.proofs.lemmas.Bool.{true≢false, true_from_ne_false}
 use Rattle.cdxj_places.specs.Places.{place_cmp}
 use Rattle.cdxj_places.specs.Rising.{Rises}
 use Rattle.cdxj_places.proofs.PlaceOrder.{place_cmp_total}
@@ -15,7 +15,7 @@ use Rattle.page_writers.specs.WrittenPages.{are_sizes, WrotePages, WrotePagesInP
 use Rattle.query_core.specs.Reach.{in_reach}
 use Rattle.query_core.proofs.CountLemmas.{raised_after}
 use Rattle.page_writers.proofs.PageChains.{wrote_front, wrote_most, wrote_none, wrote_whole}
-use Rattle.query_core.proofs.PagesExits.{all_ended, any_front, at_end, not_false}
+use Rattle.query_core.proofs.PagesExits.{all_ended, any_front, at_end}
 use Rattle.page_writers.proofs.PagesLemmas.{all_positive, start_front}
 use Rattle.query_core.proofs.ReachLemmas.{opened_not, within_opening}
 use Rattle.query_core.proofs.RefusalLemmas.{refuses_few, refuses_many, refuses_sized, refuses_sizes}
@@ -264,19 +264,19 @@ returns-in-Err-read_lines-clause-pages g c = λ texts indexes known are sized.
 
 pub returns-clause-pages : goal.returns-clause-pages
 returns-clause-pages g c = λ texts indexes known are sized.
-    let whole = not_false c.in-Ok-read_lines._pass.all (λ e. c.in-Ok-read_lines.ensures.enough e) in
+    let whole = true_from_ne_false c.in-Ok-read_lines._pass.all (λ e. c.in-Ok-read_lines.ensures.enough e) in
     unended g (goal.at.returns-clause-pages g c).In-Err-end sized (collection indexes) (collection_rises indexes)
     (c.in-Ok-read_lines.ensures.took.whole whole texts indexes known are)
 
 pub returns-in-Ok-end-clause-pages : goal.returns-in-Ok-end-clause-pages
 returns-in-Ok-end-clause-pages g c = λ texts indexes known are.
-    let whole = not_false c.in-Ok-read_lines._pass.all (λ e. c.in-Ok-read_lines.ensures.enough e) in
+    let whole = true_from_ne_false c.in-Ok-read_lines._pass.all (λ e. c.in-Ok-read_lines.ensures.enough e) in
     ended g (goal.at.returns-in-Ok-end-clause-pages g c).In-Ok-end (search rules) (collection indexes)
     (collection_rises indexes) (c.in-Ok-read_lines.ensures.took.whole whole texts indexes known are)
 
 pub returns-in-Ok-end-clause-parts : goal.returns-in-Ok-end-clause-parts
 returns-in-Ok-end-clause-parts g c = λ texts known.
-    let whole = not_false c.in-Ok-read_lines._pass.all (λ e. c.in-Ok-read_lines.ensures.enough e) in
+    let whole = true_from_ne_false c.in-Ok-read_lines._pass.all (λ e. c.in-Ok-read_lines.ensures.enough e) in
     let read = c.in-Ok-read_lines.ensures.took.parts texts known in
     record {
       parts = read.parts;
