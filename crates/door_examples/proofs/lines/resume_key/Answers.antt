@@ -9,11 +9,11 @@ use Rattle.door_examples.proofs.lines.resume_key.Goals as goal
 made : (key stamp filename digits : List ℕ) (offset : ℕ) → is_key key ≡ true → is_stamp stamp ≡ true
     → nat_lt 0 (length filename) ≡ true → Some offset ≡ offset_of digits
     → place_from key stamp filename digits ≡ Some (record {
-  key = key;
-  stamp = stamp;
-  filename = filename;
-  offset = offset;
-})
+      key = key;
+      stamp = stamp;
+      filename = filename;
+      offset = offset;
+    })
 made key stamp filename digits offset k s f o =
     rw (k, s, f)
     ((elim (is_offset digits) as (λ b. Some offset ≡ (if b then Some (digits_value 10 digits) else None)
