@@ -7,3 +7,4 @@ pub mod TypedOperands
 pub mod Operands
 pub mod CommandName
 pub mod CommandLine
+pub mod CommandArguments

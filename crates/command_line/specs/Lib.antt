@@ -2,3 +2,4 @@ pub mod Words
 pub mod Sizes
 pub mod Commands
 pub mod Clap
+pub mod Arguments

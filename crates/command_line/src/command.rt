@@ -1,6 +1,7 @@
 //! The command line as a clap command.
-ghost use Rattle.std.specs.Prelude.{◌≡◌, IfOk, false, [], ◌∷◌, codes};
+ghost use Rattle.std.specs.Prelude.{◌≡◌, IfOk, false, map};
 ghost use Rattle.clap.specs.Words.{app_of, rule_of, with_subcommand};
+ghost use Rattle.command_line.specs.Arguments.{rule_for};
 ghost use Rattle.command_line.specs.Clap.{word_rule, names_rule, types_rule, command_with, warcdx};
 
 use crate::help::archives::{GET, INDEX, LIST, SCAN, VERIFY};
@@ -8,6 +9,17 @@ use crate::help::indexes::{CHECK, MERGE, PAGES, QUERY, SERVE};
 use crate::help::{ARCHIVE, CDXJ, OFFSET, Operand, PROGRAM, Page, QUERY_TEXT, SIZES, TYPES};
 use clap::{Arg, Command};
 use std::alloc::{AllocError, Global};
+
+/// An argument of a command.
+#[derive(Clone, Copy)]
+enum Argument<'a> {
+    /// The option `--types`, which takes a value.
+    Types,
+    /// An operand that is given once, under this name of clap's.
+    Word(&'a str, Operand<'a>),
+    /// The last operand, which is given once or more.
+    Names(Operand<'a>),
+}
 
 /// Returns the clap command of the program. The only error is refused memory.
 pub fn command_line<'a>(alloc: Global) -> Result<Command<'a>, AllocError>
@@ -19,138 +31,55 @@ pub fn command_line<'a>(alloc: Global) -> Result<Command<'a>, AllocError>
         .after_help(PROGRAM.details)
         .no_binary_name(true)
         .disable_help_subcommand(true);
-    let list = with_names(program, alloc, "list", LIST, ARCHIVE)?;
-    let verify = with_names(list, alloc, "verify", VERIFY, ARCHIVE)?;
-    let index = with_types(verify, alloc, "index", INDEX, ARCHIVE)?;
-    let merge = with_names(index, alloc, "merge", MERGE, CDXJ)?;
-    let check = with_names(merge, alloc, "check", CHECK, CDXJ)?;
-    let query = with_query(check, alloc, "query", QUERY, CDXJ)?;
-    let pages = with_sizes(query, alloc, "pages", PAGES, CDXJ)?;
-    let serve = with_names(pages, alloc, "serve", SERVE, CDXJ)?;
-    let get = with_offset(serve, alloc, "get", GET, ARCHIVE)?;
-    with_types_and_sizes(get, alloc, "scan", SCAN, ARCHIVE)
+    let text = Argument::Word("query", QUERY_TEXT);
+    let sizes = Argument::Word("sizes", SIZES);
+    let indexes = Argument::Names(CDXJ);
+    let archives = Argument::Names(ARCHIVE);
+    let offset = Argument::Word("offset", OFFSET);
+    let archive = Argument::Word("name", ARCHIVE);
+    let list = with_command(program, alloc, "list", LIST, &[archives])?;
+    let verify = with_command(list, alloc, "verify", VERIFY, &[archives])?;
+    let index = with_command(verify, alloc, "index", INDEX, &[Argument::Types, archives])?;
+    let merge = with_command(index, alloc, "merge", MERGE, &[indexes])?;
+    let check = with_command(merge, alloc, "check", CHECK, &[indexes])?;
+    let query = with_command(check, alloc, "query", QUERY, &[text, indexes])?;
+    let pages = with_command(query, alloc, "pages", PAGES, &[sizes, text, indexes])?;
+    let serve = with_command(pages, alloc, "serve", SERVE, &[indexes])?;
+    let get = with_command(serve, alloc, "get", GET, &[offset, archive])?;
+    let all = &[Argument::Types, sizes, text, archives];
+    let scan = with_command(get, alloc, "scan", SCAN, all)?;
+    Ok(scan)
 }
 
-/// Adds a subcommand that takes one or more operands.
-fn with_names<'a>(
-    command: Command<'a>,
+/// Adds a subcommand that takes these arguments, in this order.
+fn with_command<'a>(
+    program: Command<'a>,
     alloc: Global,
     name: &'a str,
     page: Page<'a>,
-    operand: Operand<'a>,
+    arguments: &[Argument<'a>],
 ) -> Result<Command<'a>, AllocError>
-    ensures { IfOk result (λ more. app_of more
-        ≡ with_subcommand (app_of command.entry) (command_with name.entry.now (names_rule ∷ []))) }
+    ensures { IfOk result (λ more. app_of more ≡ with_subcommand (app_of program.entry)
+        (command_with name.entry.now (map rule_for arguments.now))) }
 {
-    command.subcommand(
-        Command::new(alloc, name)
-            .about(page.about)
-            .after_help(page.details)
-            .arg(names(alloc, operand))?,
-    )
+    let mut command = Command::new(alloc, name)
+        .about(page.about)
+        .after_help(page.details);
+    for argument in arguments {
+        command = command.arg(clap_argument(alloc, *argument))?;
+    }
+    program.subcommand(command)
 }
 
-/// Adds a subcommand that takes a query and one or more other operands.
-fn with_query<'a>(
-    command: Command<'a>,
-    alloc: Global,
-    name: &'a str,
-    page: Page<'a>,
-    operand: Operand<'a>,
-) -> Result<Command<'a>, AllocError>
-    ensures { IfOk result (λ more. app_of more ≡ with_subcommand (app_of command.entry)
-        (command_with name.entry.now (word_rule (codes "query") ∷ names_rule ∷ []))) }
+fn clap_argument<'a>(alloc: Global, argument: Argument<'a>) -> Arg<'a>
+    ensures rule { rule_of result ≡ rule_for argument }
+    ensures local { result.global ≡ false }
 {
-    command.subcommand(
-        Command::new(alloc, name)
-            .about(page.about)
-            .after_help(page.details)
-            .arg(word(alloc, "query", QUERY_TEXT))?
-            .arg(names(alloc, operand))?,
-    )
-}
-
-/// Adds a subcommand that takes sizes, a query, and one or more other operands.
-fn with_sizes<'a>(
-    command: Command<'a>,
-    alloc: Global,
-    name: &'a str,
-    page: Page<'a>,
-    operand: Operand<'a>,
-) -> Result<Command<'a>, AllocError>
-    ensures { IfOk result (λ more. app_of more ≡ with_subcommand (app_of command.entry)
-        (command_with name.entry.now (word_rule (codes "sizes") ∷ word_rule (codes "query") ∷ names_rule ∷ []))) }
-{
-    command.subcommand(
-        Command::new(alloc, name)
-            .about(page.about)
-            .after_help(page.details)
-            .arg(word(alloc, "sizes", SIZES))?
-            .arg(word(alloc, "query", QUERY_TEXT))?
-            .arg(names(alloc, operand))?,
-    )
-}
-
-/// Adds a subcommand that takes an offset and one other operand.
-fn with_offset<'a>(
-    command: Command<'a>,
-    alloc: Global,
-    name: &'a str,
-    page: Page<'a>,
-    operand: Operand<'a>,
-) -> Result<Command<'a>, AllocError>
-    ensures { IfOk result (λ more. app_of more ≡ with_subcommand (app_of command.entry)
-        (command_with name.entry.now (word_rule (codes "offset") ∷ word_rule (codes "name") ∷ []))) }
-{
-    command.subcommand(
-        Command::new(alloc, name)
-            .about(page.about)
-            .after_help(page.details)
-            .arg(word(alloc, "offset", OFFSET))?
-            .arg(word(alloc, "name", operand))?,
-    )
-}
-
-/// Adds a subcommand that takes the option `--types` and one or more operands.
-fn with_types<'a>(
-    command: Command<'a>,
-    alloc: Global,
-    name: &'a str,
-    page: Page<'a>,
-    operand: Operand<'a>,
-) -> Result<Command<'a>, AllocError>
-    ensures { IfOk result (λ more. app_of more ≡ with_subcommand (app_of command.entry)
-        (command_with name.entry.now (types_rule ∷ names_rule ∷ []))) }
-{
-    command.subcommand(
-        Command::new(alloc, name)
-            .about(page.about)
-            .after_help(page.details)
-            .arg(types(alloc))?
-            .arg(names(alloc, operand))?,
-    )
-}
-
-/// Adds a subcommand that takes the option `--types`, sizes, a query, and one or more other operands.
-fn with_types_and_sizes<'a>(
-    command: Command<'a>,
-    alloc: Global,
-    name: &'a str,
-    page: Page<'a>,
-    operand: Operand<'a>,
-) -> Result<Command<'a>, AllocError>
-    ensures { IfOk result (λ more. app_of more ≡ with_subcommand (app_of command.entry)
-        (command_with name.entry.now (types_rule ∷ word_rule (codes "sizes") ∷ word_rule (codes "query") ∷ names_rule ∷ []))) }
-{
-    command.subcommand(
-        Command::new(alloc, name)
-            .about(page.about)
-            .after_help(page.details)
-            .arg(types(alloc))?
-            .arg(word(alloc, "sizes", SIZES))?
-            .arg(word(alloc, "query", QUERY_TEXT))?
-            .arg(names(alloc, operand))?,
-    )
+    match argument {
+        Argument::Types => types(alloc),
+        Argument::Word(id, operand) => word(alloc, id, operand),
+        Argument::Names(operand) => names(alloc, operand),
+    }
 }
 
 /// Returns the option `--types`, which takes a value.

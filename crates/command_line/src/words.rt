@@ -92,7 +92,8 @@ fn help_error(alloc: Global, first: &str, help: &str) -> Error
 
 /// Returns the fault for clap's error, with its text.
 fn fault_of(alloc: Global, error: &Error) -> WordsFault
-    ensures { IfSome (refusal_of result) (λ refusal. refusal_for (kind_of error.now) ≡ Some refusal) }
+    ensures { IfSome (refusal_of result) (λ refusal. refusal_for (kind_of error.now)
+        ≡ Some refusal) }
 {
     let Ok(text) = error.to_string(alloc) else {
         return WordsFault::Memory;

@@ -1,9 +1,9 @@
 //! Making a key, a line and a resume key, by `cdxj_core` alone.
-ghost use Rattle.std.specs.Prelude.{◌≡◌, ℕ, IfOk, IfSome, Some, string_bytes};
+ghost use Rattle.std.specs.Prelude.{◌≡◌, IfOk, IfSome, Some, option_map, string_bytes};
 ghost use Rattle.cdxj_core.specs.declared.limit.TheConstants.{LINE_LIMIT};
 ghost use Rattle.cdxj_core.specs.Key.{key_of};
 ghost use Rattle.cdxj_core.specs.Members.{entry_member, line_entry};
-ghost use Rattle.cdxj_core.specs.Places.{resume_place};
+ghost use Rattle.cdxj_core.specs.Places.{place_from, resume_place, resume_text};
 
 use cdxj_core::{
     Entry, KeyFault, LineFault, Place, PlaceFault, is_key, is_stamp, place_is_good, read_offset,
@@ -46,9 +46,10 @@ pub fn resume_key(
     filename: &str,
     offset: &str,
 ) -> Result<Option<String>, PlaceFault>
-    ensures { IfOk result (λ made. IfSome made (λ text. (number : ℕ)
-        × (resume_place (string_bytes text) ≡ Some
-        (record { key = key.now; stamp = stamp; filename = filename.now; offset = number })))) }
+    ensures text { IfOk result (λ made. option_map string_bytes made
+        ≡ option_map resume_text (place_from key.now stamp filename.now offset.now)) }
+    ensures place { IfOk result (λ made. IfSome made (λ text.
+        resume_place (string_bytes text) ≡ place_from key.now stamp filename.now offset.now)) }
 {
     let Some(offset) = read_offset(offset) else {
         return Ok(None);

@@ -1,11 +1,18 @@
 //! What the callers return, with values worked out by hand.
 use crate::captures::first_capture;
-use crate::lines::{key, resume_key};
+use crate::indexes::write_index;
+use crate::lines::{key, line, resume_key};
+use crate::queries::{PageFault, page, page_of_two};
 use crate::records::{count_records, first_head};
+use crate::scans::{in_memory, write_pages};
 use capture_core::{CaptureFault, Entry};
 use cdxj_core::{KeyFault, PlaceFault};
-use fixtures::RESPONSE;
-use warc_core::{Fault, Head, Kind, Slice};
+use fixtures::{LETTERS, OFFSET_5, OFFSET_10, RESPONSE, RESPONSE_LINE, cut};
+use index_core::IndexFault;
+use query_core::{Query, Report, SliceSource};
+use std::alloc::Global;
+use std::test::Fail;
+use warc_core::{Fault, Gather, Head, Kind, Slice};
 
 fn is_of_response(head: &Head) -> bool {
     head.start() == 0 && head.kind() == Kind::Response && head.length() == 59
@@ -69,5 +76,80 @@ fn a_place_has_a_resume_key(rt: HostRuntime) -> Result<(), PlaceFault> {
     )?;
     assert!(rt; made.as_ref().is_some_and(is_of_place));
     assert!(rt; none.is_none());
+    Ok(())
+}
+
+/// Returns the line of the response at offset 0 of an archive with this file name, if it can be written.
+fn line_of_response(alloc: Global, filename: &str) -> Result<Option<Vec<u8>>, Fail> {
+    let Some(mut entry) = first_capture(alloc, &mut Slice::new(RESPONSE), "b.warc")? else {
+        return Ok(None);
+    };
+    entry.filename = String::from_str(alloc, filename)?;
+    Ok(line(alloc, &entry)?)
+}
+
+fn is_of_response_without_line_feed(line: &Vec<u8>) -> bool {
+    line.as_slice() == cut(RESPONSE_LINE, RESPONSE_LINE.len().saturating_sub(1))
+}
+
+#[test]
+fn a_capture_has_a_line(rt: HostRuntime) -> Result<(), Fail> {
+    let made = line_of_response(rt.alloc(), "b.warc")?;
+    let none = line_of_response(rt.alloc(), "")?;
+    assert!(rt; made.as_ref().is_some_and(is_of_response_without_line_feed));
+    assert!(rt; none.is_none());
+    Ok(())
+}
+
+#[test]
+fn an_archive_has_an_index(rt: HostRuntime) -> Result<(), IndexFault> {
+    let mut out = Gather::new(rt.alloc());
+    let lines = write_index(rt.alloc(), "b.warc", &mut Slice::new(RESPONSE), &mut out)?;
+    assert!(rt; lines == 1);
+    assert!(rt; out.bytes() == RESPONSE_LINE);
+    Ok(())
+}
+
+/// Writes the page of a query over the letters.
+fn write_page_of_letters(alloc: Global, out: &mut Gather) -> Result<Report, Fail> {
+    let query = Query::read(alloc, "key=b&matchType=prefix&fl=urlkey,offset")?;
+    let mut indexes = [SliceSource::new(LETTERS)];
+    Ok(page(alloc, &mut indexes, &query, out)?)
+}
+
+#[test]
+fn an_index_answers_a_query(rt: HostRuntime) -> Result<(), Fail> {
+    let mut out = Gather::new(rt.alloc());
+    let report = write_page_of_letters(rt.alloc(), &mut out)?;
+    assert!(rt; report.given == 1 && !report.more);
+    assert!(rt; out.bytes() == b"b)/ 1\n".as_slice());
+    Ok(())
+}
+
+#[test]
+fn two_indexes_answer_a_query(rt: HostRuntime) -> Result<(), PageFault> {
+    let mut out = Gather::new(rt.alloc());
+    let text = "url=example.com&fl=offset&limit=1";
+    let report = page_of_two(rt.alloc(), OFFSET_10, OFFSET_5, text, &mut out)?;
+    assert!(rt; report.given == 1 && report.more);
+    assert!(rt; out.bytes() == b"5\n".as_slice());
+    Ok(())
+}
+
+/// Writes the pages of a query over two archives in memory, which have the response alone.
+fn write_pages_of_two(alloc: Global, out: &mut Gather) -> Result<u64, Fail> {
+    let mut archives = Vec::new(alloc);
+    archives.push(in_memory(alloc, "b.warc", RESPONSE)?)?;
+    archives.push(in_memory(alloc, "a.warc", RESPONSE)?)?;
+    let query = "url=example.com&fl=filename,offset";
+    Ok(write_pages(alloc, &mut archives, query, out)?)
+}
+
+#[test]
+fn two_archives_are_scanned(rt: HostRuntime) -> Result<(), Fail> {
+    let mut out = Gather::new(rt.alloc());
+    let count = write_pages_of_two(rt.alloc(), &mut out)?;
+    assert!(rt; count == 1);
+    assert!(rt; out.bytes() == b"a.warc 0\nb.warc 0\n".as_slice());
     Ok(())
 }

@@ -82,24 +82,6 @@ front-start old new form members key p =
     (prefix_longer old new (begun form members) (page_end form key) (prefix_longer old new (page_start form)
     (flat_map (row_text form) members) p))
 
--- between two captures
-pub front-so_far : (old new : Option (List ℕ)) (form : Form) (members later : List Member) (key : Option (List ℕ))
-    → Appends old new (begun form members) → AppendsPrefix old new (page_text form (members ++ later) key)
-front-so_far old new form members later key a =
-    let f = begun_is_front form members later key in
-    subst (AppendsPrefix old new) (sym f.1) (prefix_whole old new (begun form members) f.0 a)
-
--- in a capture
-pub front-more : (old now new : Option (List ℕ)) (form : Form) (members : List Member) (m : Member)
-    (later : List Member) (key : Option (List ℕ)) → Appends old now (begun form members) → AppendsPrefix now new
-    (row_text form m) → AppendsPrefix old new (page_text form ((members ++ m ∷ []) ++ later) key)
-front-more old now new form members m later key a p =
-    let f = begun_is_front form (members ++ m ∷ []) later key in
-    subst (AppendsPrefix old new) (sym f.1)
-    (prefix_longer old new (begun form (members ++ m ∷ [])) f.0
-    (subst (AppendsPrefix old new) (sym (begun-more form members m)) (prefix_after old now new (begun form members)
-    (row_text form m) a p)))
-
 -- in the end
 pub front-end : (old now new : Option (List ℕ)) (form : Form) (members : List Member) (key : Option (List ℕ))
     → Appends old now (begun form members) → AppendsPrefix now new (page_end form key) → AppendsPrefix old new

@@ -14,7 +14,7 @@ use std::marker::Model;
 
 /// Writes a page in one form: its start, a row for each capture, and its end. Each piece is built
 /// in one buffer, which is reused, and written whole.
-#[derive(Drop)]
+#[derive(Debug, Drop)]
 pub struct PageOutput<'f> {
     alloc: Global,
     form: PageForm<'f>,

@@ -17,28 +17,13 @@ use Rattle.page_core.specs.Pages.{Page, is_above, kept}
 use Rattle.page_core.specs.PageText.{page_text, page_end, begun}
 use Rattle.page_core.proofs.PageLemmas.{begun_is_front, written-whole, front-end}
 use Rattle.devices.proofs.WritingLemmas.{prefix_longer}
-use Rattle.query_core.specs.declared.page_writer.PageEnd.{PageEnd}
+use Rattle.page_writers.specs.declared.page_writer.PageEnd.{PageEnd}
 use Rattle.query_core.specs.declared.report.Report.{Report}
 use Rattle.query_core.specs.Answering.{Answered}
-use Rattle.query_core.specs.QueryPages.{answer_text, form_of, shown_key, query_page}
-use Rattle.query_core.specs.PageWriting.{is_wanted, captures_over, page_over, next_of, PageStands}
-use Rattle.query_core.proofs.WriterLemmas.{page, decided, next_is, page_front}
-
-pub filter_and : (f g : Member → Bool) (xs : List Member) → filter g (filter f xs) ≡ filter (λ m. f m && g m) xs
-filter_and f g [] = refl
-filter_and f g (x ∷ xs) =
-    let ih = filter_and f g xs in
-    elim (f x) as (λ b. filter g (cond b (x ∷ filter f xs) (filter f xs))
-    ≡ cond (b && g x) (x ∷ filter (λ m. f m && g m) xs) (filter (λ m. f m && g m) xs)) [
-      | true ↦ (elim (g x) as (λ b. cond b (x ∷ filter g (filter f xs)) (filter g (filter f xs))
-          ≡ cond b (x ∷ filter (λ m. f m && g m) xs) (filter (λ m. f m && g m) xs))
-          [ true ↦ ap (λ l. x ∷ l) ih | false ↦ ih ])
-      | false ↦ ih
-    ]
-
-and_left : (a b : Bool) → (a && b) ≡ true → a ≡ true
-and_left true b h = refl
-and_left false b h = absurd (true≢false (sym h))
+use Rattle.page_writers.specs.QueryPages.{answer_text, form_of, shown_key, query_page}
+use Rattle.page_writers.specs.PageWriting.{is_wanted, captures_over, page_over, next_of, PageStands}
+use Rattle.page_writers.proofs.WriterLemmas.{page, decided, next_is, page_front}
+use Rattle.query_core.proofs.StartLemmas.{and_left}
 
 -- what is wanted lies within the target's range
 pub wanted_within : (q : QueryValue) (from : Option PlaceValue) (m : Member) → is_wanted q from m ≡ true

@@ -23,9 +23,6 @@ module _ (limit : ℕ) (t : List ℕ) where
     pub last : IsLastOf members previous
     pub as_many : count ≡ length members
 
-  pub checked_none : CheckedTo 0 None
-  checked_none = record { members = []; run = record { entries = refl; ordered = tt }; last = refl; as_many = refl }
-
   module _ (at count : ℕ) (previous : Option Member) (checked : CheckedTo count previous) (rest : lines (drop at t)
       ≡ drop count (lines t)) where
     pub checked_more : (to : ℕ) (m : Member) → IsNextLine limit t at to (Some m) → (FallsAfter previous m → ⊥)

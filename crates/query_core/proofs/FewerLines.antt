@@ -10,8 +10,8 @@ use Rattle.query_text.specs.Collapses.{same_part}
 use Rattle.query_text.specs.Queries.{QueryValue}
 use Rattle.page_core.specs.Pages.{Page, repeats, kept}
 use Rattle.merge_core.specs.Collections.{all_lines, collection}
-use Rattle.query_core.specs.QueryPages.{query_page}
-use Rattle.query_core.specs.PageWriting.{is_wanted, captures_over, page_over}
+use Rattle.page_writers.specs.QueryPages.{query_page}
+use Rattle.page_writers.specs.PageWriting.{is_wanted, captures_over, page_over}
 use Rattle.query_core.proofs.AskedLemmas.{asked_is}
 
 filter_fewer : (f : Member → Bool) (ms : List Member) → length (filter f ms) ≤ length ms

@@ -7,14 +7,15 @@ use Rattle.devices.specs.Device.{AppendsPrefix}
 use Rattle.query_text.specs.Queries.{QueryValue}
 use Rattle.page_core.specs.PageText.{begun, page_start, page_end}
 use Rattle.page_core.proofs.PageLemmas.{front-start}
-use Rattle.query_core.specs.declared.page_writer.PageEnd.{PageEnd}
-use Rattle.query_core.specs.declared.page_writer.PageWriter.{PageWriter}
-use Rattle.query_core.specs.QueryPages.{answer_text, form_of, query_page, shown_key}
-use Rattle.query_core.specs.PageWriting.{captures_over, page_over, next_of, PageStands}
+use Rattle.page_writers.specs.declared.page_writer.PageEnd.{PageEnd}
+use Rattle.page_writers.specs.declared.page_writer.PageWriter.{PageWriter}
+use Rattle.page_writers.specs.QueryPages.{answer_text, form_of, query_page, shown_key}
+use Rattle.page_writers.specs.PageWriting.{captures_over, page_over, next_of, PageStands}
 use Rattle.query_core.specs.Answering.{Answered}
+use Rattle.query_core.specs.declared.sinks.PageSink.{PageSink}
 use Rattle.query_core.specs.declared.report.Report.{Report}
-use Rattle.query_core.specs.WriterView.{from_view, captures_of, Wrote, Broke}
-use Rattle.query_core.proofs.WriterLemmas.{as_kept, broke_as, whole_prefix}
+use Rattle.page_writers.specs.WriterView.{from_view, captures_of, Wrote, Broke}
+use Rattle.page_writers.proofs.WriterLemmas.{as_kept, broke_as, whole_prefix}
 use Rattle.query_core.proofs.AskedLemmas.{page_wrote, page_cut}
 
 -- its start, or a front of it
@@ -39,10 +40,10 @@ module _ (first : PageWriter) (q : QueryValue) (is : (first.selection.query.now 
 
   -- the rows of these lines, or a front of them
   pub rows_front : (taken : List Member) (start now : Option (List ℕ))
-      → ((k : PageWriter) × Wrote first k taken start now) ⊎ Broke first taken start now
+      → ((k : PageSink) × Wrote first k.writer taken start now) ⊎ Broke first taken start now
       → AppendsPrefix start now (begun (form_of q) (page_over q q.resume q.limit taken).members)
   rows_front taken start now (inl k) = whole_prefix start now
-      (begun (form_of q) (page_over q q.resume q.limit taken).members) (stood k.0 taken start now k.1).text
+      (begun (form_of q) (page_over q q.resume q.limit taken).members) (stood k.0.writer taken start now k.1).text
   rows_front taken start now (inr p) = broke_as first.selection.query.now q (from_view first.selection.from) q.resume
       first.limit q.limit taken start now is.0 is.1 is.2 p
 

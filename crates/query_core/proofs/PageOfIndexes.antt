@@ -24,11 +24,11 @@ use Rattle.merge_core.specs.Openings.{IsCutAt}
 use Rattle.merge_core.specs.Reached.{Reached}
 use Rattle.merge_core.proofs.FeedLemmas.{each_join}
 use Rattle.merge_core.proofs.ReadLemmas.{sought_before, sought_first, sought_whole}
-use Rattle.query_core.specs.PageWriting.{is_wanted, captures_over, place_before}
+use Rattle.page_writers.specs.PageWriting.{is_wanted, captures_over, place_before}
 use Rattle.merge_core.specs.SourceLines.{IsLineIn, IsLineOf}
 use Rattle.query_core.specs.Starts.{start_pair}
 use Rattle.query_core.proofs.AskedLemmas.{wanted_within}
-use Rattle.query_core.proofs.CaptureLemmas.{kept_after, captures_split}
+use Rattle.page_writers.proofs.CaptureLemmas.{kept_after, captures_split}
 use Rattle.query_core.proofs.LineStamps.{index_lines, line_stamp}
 use Rattle.merge_core.proofs.SourceLemmas.{taken_lines}
 use Rattle.query_core.proofs.StartLemmas.{start_not_above, and_left, and_right}

@@ -19,13 +19,13 @@ use Rattle.std.specs.List.{AllZip}
 use Rattle.merge_core.specs.Reached.{Grows}
 use Rattle.merge_core.specs.Spending.{AllGaveWithin}
 use Rattle.merge_core.proofs.WrittenLemmas.{grows_by, grows_on}
-use Rattle.query_core.specs.PageWriting.{captures_over, page_over}
+use Rattle.page_writers.specs.PageWriting.{captures_over, page_over}
 use Rattle.query_core.specs.Passes.{IsWithin}
-use Rattle.query_core.specs.QueryPages.{form_of, query_page}
+use Rattle.page_writers.specs.QueryPages.{form_of, query_page}
 use Rattle.query_core.specs.Reach.{in_reach, captures_text, GaveInReach, WroteFront}
 use Rattle.query_core.proofs.AskedLemmas.{asked_is}
 use Rattle.query_core.proofs.ReachLemmas.{opened_not, within_opening}
-use Rattle.query_core.proofs.WriterLemmas.{page, next_none, page_front}
+use Rattle.page_writers.proofs.WriterLemmas.{page, next_none, page_front}
 
 -- an empty page has none
 pub none_follows : (limit : Option ℕ) → is_some (page limit []).next ≡ false

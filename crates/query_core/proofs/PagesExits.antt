@@ -6,15 +6,12 @@ use Rattle.cdxj_core.specs.Members.{Member}
 use Rattle.devices.specs.Device.{AppendsPrefix}
 use Rattle.query_text.specs.Queries.{QueryValue}
 use Rattle.page_core.specs.PageText.{page_end}
-use Rattle.query_core.specs.declared.pages_writer.PagesWriter.{PagesWriter}
-use Rattle.query_core.specs.PageWriting.{captures_over}
-use Rattle.query_core.specs.QueryPages.{form_of}
-use Rattle.query_core.specs.WriterView.{IsFront, PagesBroke, PagesWrote, captures_of, from_view}
-use Rattle.query_core.proofs.PagesLemmas.{Ended, EndedInPart, ended_stands, ending_front, stands_front}
-
-pub not_false : (b : Bool) → (b ≡ false → ⊥) → b ≡ true
-not_false true h = refl
-not_false false h = absurd (h refl)
+use Rattle.page_writers.specs.declared.pages_writer.PagesWriter.{PagesWriter}
+use Rattle.query_core.specs.declared.sinks.PagesSink.{PagesSink}
+use Rattle.page_writers.specs.PageWriting.{captures_over}
+use Rattle.page_writers.specs.QueryPages.{form_of}
+use Rattle.page_writers.specs.WriterView.{IsFront, PagesBroke, PagesWrote, captures_of, from_view}
+use Rattle.page_writers.proofs.PagesLemmas.{Ended, EndedInPart, ended_stands, ending_front, stands_front}
 
 -- a writer that began with this query and these sizes
 module _ (first : PagesWriter) (q : QueryValue) (sizes : List ℕ) (query_is : first.selection.query.now ≡ q)
@@ -61,9 +58,9 @@ module _ (first : PagesWriter) (q : QueryValue) (sizes : List ℕ) (query_is : f
 
   -- between two lines, or in one
   pub any_front : (taken : List Member) (start now : Option (List ℕ))
-      → ((k : PagesWriter) × PagesWrote first.sizes.now first k taken start now) ⊎ PagesBroke first taken start now
+      → ((k : PagesSink) × PagesWrote first.sizes.now first k.writer taken start now) ⊎ PagesBroke first taken start now
       → IsFront q sizes (captures taken) start now
-  any_front taken start now (inl k) = between k.0 taken start now k.1
+  any_front taken start now (inl k) = between k.0.writer taken start now k.1
   any_front taken start now (inr p) =
       subst (λ q. IsFront q sizes (captures taken) start now) query_is
       (subst (λ l. IsFront first.selection.query.now sizes l start now)

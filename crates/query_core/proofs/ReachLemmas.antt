@@ -42,11 +42,11 @@ use Rattle.merge_core.proofs.Many.{Move, length_zip, two_each, two_same}
 use Rattle.merge_core.proofs.PairOrder.{below_below, below_upto, from_not_below, not_below_itself, same_from, upto_upto}
 use Rattle.merge_core.proofs.MergeLemmas.{is_less}
 use Rattle.merge_core.proofs.WholeLemmas.{told_known}
-use Rattle.query_core.specs.PageWriting.{is_wanted, captures_over, place_before}
+use Rattle.page_writers.specs.PageWriting.{is_wanted, captures_over, place_before}
 use Rattle.query_core.specs.Reach.{pair_after, follower, is_within, in_reach}
 use Rattle.query_core.specs.Passes.{IsWithin}
 use Rattle.query_core.specs.Starts.{first_stamp, later_pair, start_pair}
-use Rattle.query_core.proofs.CaptureLemmas.{kept_after, captures_append}
+use Rattle.page_writers.proofs.CaptureLemmas.{kept_after, captures_append}
 use Rattle.query_core.proofs.PageOfIndexes.{wanted_before, wanted_first, wanted_whole}
 
 -- ---- the range

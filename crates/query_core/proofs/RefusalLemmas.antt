@@ -5,7 +5,7 @@ use Rattle.std.proofs.lemmas.Bool.Decides.{nat_tests}
 use Rattle.query_core.specs.declared.fault.AnswerFault.{AnswerFault}
 use Rattle.query_core.specs.declared.fault.AnswerFault.TheVariants as fault
 use Rattle.query_core.specs.declared.merging.TheConstants.{SOURCES_LIMIT}
-use Rattle.query_core.specs.Paging.{are_sizes}
+use Rattle.page_writers.specs.WrittenPages.{are_sizes}
 use Rattle.query_core.specs.Refusals.{IsEarly, Refuses, bad_sizes_or_too_many, too_many}
 
 many : (limit count : ℕ) → limit < count → nat_lt limit count ≡ true
@@ -44,7 +44,3 @@ module _ {A : Type 0} (count : ℕ) (X : Type 0) (r : Result A AnswerFault) wher
       → Refuses (bad_sizes_or_too_many sizes count) r X
   refuses_sized sizes h refused = subst (λ b. Refuses (if b then too_many count else Some fault.BadSizes) r X) (sym h)
       refused
-
-  pub sized_refused : (sizes : List ℕ) → are_sizes sizes ≡ true → Refuses (bad_sizes_or_too_many sizes count) r X
-      → Refuses (too_many count) r X
-  sized_refused sizes h refused = subst (λ b. Refuses (if b then too_many count else Some fault.BadSizes) r X) h refused

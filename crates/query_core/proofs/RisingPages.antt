@@ -13,11 +13,11 @@ use Rattle.query_text.specs.Matching.{matches}
 use Rattle.page_core.proofs.PageLaws.{chain_law, rises_filter, rises_collapsed}
 use Rattle.merge_core.specs.Collections.{all_lines, collection}
 use Rattle.page_core.specs.Pages.{is_above, kept}
-use Rattle.query_core.specs.QueryPages.{selected}
+use Rattle.page_writers.specs.QueryPages.{selected}
 use Rattle.query_core.specs.QueryLaws.{AllAreKept, PagesRise, SelectedAreFirst, SelectedRise}
-use Rattle.query_core.specs.PageWriting.{is_wanted}
-use Rattle.query_core.proofs.NextPlaces.{captures_wanted}
-use Rattle.query_core.proofs.PageChains.{captures_are}
+use Rattle.page_writers.specs.PageWriting.{is_wanted}
+use Rattle.page_writers.proofs.NextPlaces.{captures_wanted}
+use Rattle.page_writers.proofs.PageChains.{captures_are}
 
 pub pages_rise : PagesRise
 pages_rise q lines sizes pages rise positive chain =

@@ -20,7 +20,7 @@ use Rattle.query_text.specs.Matching.{matches, key_matches, not_before, not_afte
 use Rattle.query_text.proofs.RangeLaw.{match_not_below}
 use Rattle.page_core.specs.Pages.{is_above}
 use Rattle.merge_core.specs.PairOrders.{is_low}
-use Rattle.query_core.specs.PageWriting.{is_wanted}
+use Rattle.page_writers.specs.PageWriting.{is_wanted}
 use Rattle.query_core.specs.Starts.{first_stamp, later_pair, start_pair}
 
 pub and_left : (a b : Bool) → (a && b) ≡ true → a ≡ true

@@ -1,10 +1,5 @@
 pub mod Checking
-pub mod QueryPages
-pub mod Collapsings
-pub mod PageWriting
-pub mod PagesWriting
 pub mod Passes
-pub mod WriterView
 pub mod Answering
 pub mod IndexFaults
 pub mod AnswerCounts
@@ -30,6 +25,9 @@ pub use Rattle.query_text.specs.Resuming
 pub use Rattle.query_text.specs.Targets
 pub use Rattle.query_text.specs.Values
 -- what contracts see of pages
+pub use Rattle.page_writers.specs.PageWriting
+pub use Rattle.page_writers.specs.QueryPages
+pub use Rattle.page_writers.specs.WrittenPages
 pub use Rattle.page_core.specs.Form
 pub use Rattle.page_core.specs.Laws
 pub use Rattle.page_core.specs.Pages

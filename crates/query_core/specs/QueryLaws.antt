@@ -17,9 +17,9 @@ use Rattle.page_core.specs.Rows.{field_name}
 use Rattle.merge_core.specs.Collections.{OverIndexes, all_lines, collection}
 use Rattle.query_core.specs.declared.fault.AnswerFault.{AnswerFault}
 use Rattle.query_core.specs.IndexFaults.{IsFaultOf, NamesNoLine}
-use Rattle.query_core.specs.PageWriting.{is_wanted}
-use Rattle.query_core.specs.Paging.{EndsWithKey}
-use Rattle.query_core.specs.QueryPages.{IsQueryChain, selected}
+use Rattle.page_writers.specs.PageWriting.{is_wanted}
+use Rattle.page_writers.specs.WrittenPages.{EndsWithKey}
+use Rattle.page_writers.specs.QueryPages.{IsQueryChain, selected}
 
 -- without `collapse` nothing is left out
 abbrev pub AllAreKept : Type 0

@@ -12,10 +12,11 @@ ghost use Rattle.query_core.specs.Refusals.{Refuses, too_many};
 use crate::conversions::text_fault;
 use crate::fault::AnswerFault;
 use crate::merging::SOURCES_LIMIT;
-use crate::page_writer::PageWriter;
 use crate::pass::read_lines;
 use crate::report::Report;
+use crate::sinks::PageSink;
 use devices::Output;
+use page_writers::PageWriter;
 use query_text::Query;
 use source_core::Source;
 use std::alloc::Global;
@@ -62,15 +63,15 @@ pub fn answer<S: Source, O: Output>(
         return Err(AnswerFault::TooManySources);
     }
     // The page's start is written before an index is read.
-    let mut writer = match PageWriter::begin(alloc, query, out) {
-        Ok(writer) => writer,
+    let mut sink = match PageWriter::begin(alloc, query, out) {
+        Ok(writer) => PageSink { writer },
         Err(fault) => return Err(text_fault(fault)),
     };
-    let pass = match read_lines(alloc, sources, query, &mut writer, out) {
+    let pass = match read_lines(alloc, sources, query, &mut sink, out) {
         Ok(pass) => pass,
         Err(fault) => return Err(fault),
     };
-    let end = match writer.end(alloc, out) {
+    let end = match sink.writer.end(alloc, out) {
         Ok(end) => end,
         Err(fault) => return Err(text_fault(fault)),
     };

@@ -14,10 +14,10 @@ ghost use Rattle.query_core.specs.Refusals.{Refuses, bad_sizes_or_too_many};
 use crate::conversions::text_fault;
 use crate::fault::AnswerFault;
 use crate::merging::SOURCES_LIMIT;
-use crate::pages_writer::PagesWriter;
 use crate::pass::read_lines;
-use crate::sizes::are_sizes;
+use crate::sinks::PagesSink;
 use devices::Output;
+use page_writers::{PagesWriter, are_sizes};
 use query_text::Query;
 use source_core::Source;
 use std::alloc::Global;
@@ -65,15 +65,15 @@ pub fn pages<S: Source, O: Output>(
     if sources.len() > SOURCES_LIMIT {
         return Err(AnswerFault::TooManySources);
     }
-    let mut writer = match PagesWriter::begin(alloc, query, sizes, out) {
-        Ok(writer) => writer,
+    let mut sink = match PagesWriter::begin(alloc, query, sizes, out) {
+        Ok(writer) => PagesSink { writer },
         Err(fault) => return Err(text_fault(fault)),
     };
-    match read_lines(alloc, sources, query, &mut writer, out) {
+    match read_lines(alloc, sources, query, &mut sink, out) {
         Ok(_pass) => {}
         Err(fault) => return Err(fault),
     }
-    match writer.end(out) {
+    match sink.writer.end(out) {
         Ok(count) => Ok(count),
         Err(fault) => Err(text_fault(fault)),
     }

@@ -72,7 +72,8 @@ impl Parameters {
         parameter: Parameter,
         text: &str,
     ) -> Result<(), QueryFault>
-        ensures { IsReadingInto self.new (with_value parameter (values_of self.old) text.now) result }
+        ensures { IsReadingInto self.new
+            (with_value parameter (values_of self.old) text.now) result }
     {
         let value = decoded(alloc, text)?;
         match parameter {

@@ -44,7 +44,8 @@ fn check_opened<R: Runtime + AllocGlobal, S: Source + Drop, O: Output>(
     out: &mut O,
 ) -> Outcome
     ensures { MatchResult opened
-        (λ source. ChecksIndex name.now (S.text source) result (O.written out.old) (O.written out.new))
+        (λ source. ChecksIndex name.now (S.text source) result (O.written out.old)
+        (O.written out.new))
         (λ outcome. (result ≡ outcome) × (out.new ≡ out.old)) }
 {
     match opened {

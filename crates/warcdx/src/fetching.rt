@@ -37,7 +37,8 @@ fn fetch_opened<R: Runtime + AllocGlobal, I: Input + Drop, O: Output>(
     out: &mut O,
 ) -> Outcome
     ensures record { MatchResult opened
-        (λ archive. WritesRecord offset (I.remaining archive) result (O.written out.old) (O.written out.new))
+        (λ archive. WritesRecord offset (I.remaining archive) result (O.written out.old)
+        (O.written out.new))
         (λ outcome. (result ≡ outcome) × (out.new ≡ out.old)) }
     ensures unwritten { MatchResult opened
         (λ _. IfErr (answer_of result) (λ fault. IsMetBefore offset fault → out.new ≡ out.old))

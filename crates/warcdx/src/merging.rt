@@ -36,7 +36,8 @@ fn merge_opened<R: Runtime + AllocGlobal, S: Source, O: Output>(
     sources: &mut [S],
     out: &mut O,
 ) -> Outcome
-    ensures { MergesIndexes (map S.text sources.old) (O.written out.old) (O.written out.new) result }
+    ensures { MergesIndexes (map S.text sources.old) (O.written out.old) (O.written out.new)
+        result }
 {
     match merge(rt.alloc(), sources, out) {
         Ok(_count) => Outcome::Done,

@@ -66,7 +66,8 @@ fn report_on_opened<I: Input + Drop, O: Output>(
     out: &mut O,
 ) -> Outcome
     ensures report { MatchResult opened
-        (λ archive. WritesBelow (heading_among among name.now) report (I.remaining archive) result (O.written out.old) (O.written out.new))
+        (λ archive. WritesBelow (heading_among among name.now) report (I.remaining archive)
+        result (O.written out.old) (O.written out.new))
         (λ outcome. (result ≡ outcome) × (out.new ≡ out.old)) }
     ensures failures { MatchResult opened
         (λ _. CountsWrite (answer_of result) (O.failures out.old) (O.failures out.new))
@@ -89,7 +90,8 @@ fn report_below<I: Input, O: Output>(
 ) -> Outcome
     ensures report { WritesBelow (heading_among among name.now) report (I.remaining archive.old)
         result (O.written out.old) (O.written out.new) }
-    ensures reads { CountsInput (answer_of result) (I.failures archive.old) (I.failures archive.new) }
+    ensures reads { CountsInput (answer_of result) (I.failures archive.old)
+        (I.failures archive.new) }
     ensures writes { CountsWrite (answer_of result) (O.failures out.old) (O.failures out.new) }
 {
     match put_heading_among(among, name, out) {
@@ -128,7 +130,8 @@ fn write_report<I: Input, O: Output>(
 ) -> Outcome
     ensures report { WritesReport report (I.remaining archive.old) result (O.written out.old)
         (O.written out.new) }
-    ensures reads { CountsInput (answer_of result) (I.failures archive.old) (I.failures archive.new) }
+    ensures reads { CountsInput (answer_of result) (I.failures archive.old)
+        (I.failures archive.new) }
     ensures writes { CountsWrite (answer_of result) (O.failures out.old) (O.failures out.new) }
 {
     match report {

@@ -1,5 +1,4 @@
 use Rattle.std.proofs.Common.{ap, ◌≡◌, ◌∙◌, true, []}
-use Rattle.std.proofs.lemmas.Result.{IfOk-weaker}
 use Rattle.clap.specs.Words.{App, Shape, app_of, with_subcommand}
 use Rattle.command_line.specs.Clap.{program}
 use Rattle.command_line.proofs.command.command_line.Goals as goal
@@ -23,13 +22,11 @@ returns c =
     )
     (ap (λ (a : App). record a { top = record a.top { no_binary_name = true; disable_help_subcommand = true } })
     c.new.ensures.app) in
-    IfOk-weaker c.with_types_and_sizes.result _ _
-    (λ command h. more _ h
+    more _ c.in_ok-scan.ensures
     (more _ c.in_ok-get.ensures
     (more _ c.in_ok-serve.ensures
     (more _ c.in_ok-pages.ensures
     (more _ c.in_ok-query.ensures
     (more _ c.in_ok-check.ensures
     (more _ c.in_ok-merge.ensures
-    (more _ c.in_ok-index.ensures (more _ c.in_ok-verify.ensures (more _ c.in_ok-list.ensures bare))))))))))
-    c.with_types_and_sizes.ensures
+    (more _ c.in_ok-index.ensures (more _ c.in_ok-verify.ensures (more _ c.in_ok-list.ensures bare)))))))))

@@ -15,10 +15,10 @@ use Rattle.merge_core.proofs.WrittenLemmas.{grows_by, grows_not, grows_part}
 use Rattle.merge_core.specs.Collections.{collection}
 use Rattle.query_core.specs.Answering.{Answered}
 use Rattle.query_core.specs.Passes.{IsWithin}
-use Rattle.query_core.specs.PageWriting.{PageStands, captures_over, page_over}
-use Rattle.query_core.specs.QueryPages.{form_of, query_page}
-use Rattle.query_core.specs.WriterView.{Wrote}
-use Rattle.query_core.specs.declared.page_writer.PageWriter.{PageWriter}
+use Rattle.page_writers.specs.PageWriting.{PageStands, captures_over, page_over}
+use Rattle.page_writers.specs.QueryPages.{form_of, query_page}
+use Rattle.page_writers.specs.WriterView.{Wrote}
+use Rattle.page_writers.specs.declared.page_writer.PageWriter.{PageWriter}
 use Rattle.query_core.proofs.AskedLemmas.{asked_is, page_broke, page_settled}
 use Rattle.query_core.proofs.CountLemmas.{raised_after}
 use Rattle.query_core.proofs.FewerLines.{page_fewer}
@@ -62,9 +62,9 @@ within g c w lines now wrote more =
 
 -- all lines that were taken
 came : (g : Over) (c : In-Ok-read_lines g)
-    → Wrote c.in-Ok.writer c.read_lines.new.sink c.in-Ok-read_lines.ensures.took.lines
+    → Wrote c.in-Ok.writer c.read_lines.new.sink.writer c.in-Ok-read_lines.ensures.took.lines
     (g.O.Output.written c.args.out.now) (g.O.Output.written c.read_lines.new.out)
-came g c = c.in-Ok-read_lines.ensures.took.came c.in-Ok.writer (g.O.Output.written c.args.out.now)
+came g c = c.in-Ok-read_lines.ensures.took.came (record { writer = c.in-Ok.writer }) (g.O.Output.written c.args.out.now)
     (((refl, refl), refl), c.in-Ok.ensures.stands)
 
 -- the page of lines of which these were taken, if they settle it
@@ -77,7 +77,7 @@ settled : (g : Over) (c : In-Ok-read_lines g) (all rest : List Member)
     c.in-Ok-read_lines.ensures.took.lines
 settled g c all rest split ended =
     let took = c.in-Ok-read_lines.ensures.took in
-    let sink = c.read_lines.new.sink in
+    let sink = c.read_lines.new.sink.writer in
     page_settled c.args.query.now all took.lines c.in-Ok-read_lines.pass.all sink.more rest split ended
     (λ e. c.in-Ok-read_lines.ensures.enough e)
     (stood c.in-Ok.writer c.args.query.now c.in-Ok.ensures.query sink took.lines (g.O.Output.written c.args.out.now)
@@ -158,7 +158,7 @@ returns-in-Err-read_lines-clause-lines g c =
       broke.took.lines,
       page_broke q broke.lines broke.lines start now [] (sym (append-nil (captures_over q q.resume broke.lines)))
           (rows_front c.in-Ok.writer q c.in-Ok.ensures.query broke.lines start now
-          (broke.wrote c.in-Ok.writer start (((refl, refl), refl), c.in-Ok.ensures.stands))),
+          (broke.wrote (record { writer = c.in-Ok.writer }) start (((refl, refl), refl), c.in-Ok.ensures.stands))),
     )
 
 pub returns-in-Err-end-clause-lines : goal.returns-in-Err-end-clause-lines
@@ -168,7 +168,7 @@ returns-in-Err-end-clause-lines g c =
     let here = (goal.at.returns-in-Err-end-clause-lines g c).In-Ok-read_lines in (
       took.lines,
       took.took.lines,
-      end_front c.in-Ok.writer q c.in-Ok.ensures.query c.read_lines.new.sink took.lines took.lines
+      end_front c.in-Ok.writer q c.in-Ok.ensures.query c.read_lines.new.sink.writer took.lines took.lines
           (g.O.Output.written c.args.out.now) (g.O.Output.written c.read_lines.new.out)
           (g.O.Output.written c.end.new.out)
           (came g here) (asked_is q took.lines) c.in-Err-end.ensures.text,
@@ -182,7 +182,7 @@ returns-clause-lines g c =
     let here = (goal.at.returns-clause-lines g c).In-Ok-read_lines in (
       took.lines,
       took.took.lines,
-      page_ended c.in-Ok.writer q c.in-Ok.ensures.query c.read_lines.new.sink took.lines took.lines
+      page_ended c.in-Ok.writer q c.in-Ok.ensures.query c.read_lines.new.sink.writer took.lines took.lines
           (g.O.Output.written c.args.out.now) (g.O.Output.written c.read_lines.new.out)
           (g.O.Output.written c.end.new.out)
           (came g here) (asked_is q took.lines) c.in-Ok-end.end _ end.text end.end.0 end.end.1 refl c.is_some.ensures,
@@ -207,14 +207,14 @@ returns-in-Err-read_lines-clause-page g c = λ texts indexes known are.
     let first = broke.took.first texts indexes known are in
     page_broke q (collection indexes) broke.lines start now first.0 first.1
     (rows_front c.in-Ok.writer q c.in-Ok.ensures.query broke.lines start now
-    (broke.wrote c.in-Ok.writer start (((refl, refl), refl), c.in-Ok.ensures.stands)))
+    (broke.wrote (record { writer = c.in-Ok.writer }) start (((refl, refl), refl), c.in-Ok.ensures.stands)))
 
 pub returns-in-Err-end-clause-page : goal.returns-in-Err-end-clause-page
 returns-in-Err-end-clause-page g c = λ texts indexes known are.
     let took = c.in-Ok-read_lines.ensures.took in
     let first = took.took.first texts indexes known are in
     let here = (goal.at.returns-in-Err-end-clause-page g c).In-Ok-read_lines in
-    end_front c.in-Ok.writer c.args.query.now c.in-Ok.ensures.query c.read_lines.new.sink (collection indexes)
+    end_front c.in-Ok.writer c.args.query.now c.in-Ok.ensures.query c.read_lines.new.sink.writer (collection indexes)
     took.lines (g.O.Output.written c.args.out.now) (g.O.Output.written c.read_lines.new.out)
     (g.O.Output.written c.end.new.out)
     (came g here) (settled g here (collection indexes) first.0 first.1 (λ e. took.whole e texts indexes known are))
@@ -226,7 +226,7 @@ returns-clause-page g c = λ texts indexes known are.
     let end = c.in-Ok-end.ensures in
     let first = took.took.first texts indexes known are in
     let here = (goal.at.returns-clause-page g c).In-Ok-read_lines in
-    page_ended c.in-Ok.writer c.args.query.now c.in-Ok.ensures.query c.read_lines.new.sink (collection indexes)
+    page_ended c.in-Ok.writer c.args.query.now c.in-Ok.ensures.query c.read_lines.new.sink.writer (collection indexes)
     took.lines (g.O.Output.written c.args.out.now) (g.O.Output.written c.read_lines.new.out)
     (g.O.Output.written c.end.new.out)
     (came g here) (settled g here (collection indexes) first.0 first.1 (λ e. took.whole e texts indexes known are))
@@ -237,7 +237,7 @@ returns-clause-parts g c = λ texts known.
     let q = c.args.query.now in
     let took = c.in-Ok-read_lines.ensures.took in
     let end = c.in-Ok-end.ensures in
-    let sink = c.read_lines.new.sink in
+    let sink = c.read_lines.new.sink.writer in
     let read = took.parts texts known in
     let here = (goal.at.returns-clause-parts g c).In-Ok-read_lines in
     let is = settled g here (collection read.parts) read.first.0 read.first.1 read.ended in
@@ -288,7 +288,7 @@ returns-in-Err-read_lines-clause-reads g c =
     let halted = c.in-Err-read_lines.ensures.halted in
     let before = halted.before in
     let here = (goal.at.returns-in-Err-read_lines-clause-reads g c).In-Ok in
-    let wrote = before.came c.in-Ok.writer start (begun g here) in
+    let wrote = before.came (record { writer = c.in-Ok.writer }) start (begun g here) in
     record {
       probes = tt;
       lines = λ texts indexes known are. tt;
@@ -298,8 +298,8 @@ returns-in-Err-read_lines-clause-reads g c =
           (g.O.Output.written c.read_lines.new.out) c.args.sources.now c.read_lines.new.sources
           halted.earlier first.0 (captures_over q q.resume halted.earlier) [] first.1
           (sym (append-nil (captures_over q q.resume halted.earlier)))
-          (within g here before.state halted.earlier before.middle wrote before.more)
-          (at g here before.state halted.earlier before.middle wrote).text halted.grows
+          (within g here before.state.writer halted.earlier before.middle wrote before.more)
+          (at g here before.state.writer halted.earlier before.middle wrote).text halted.grows
           (λ n most. before.within texts indexes known are (Some n) most);
       held = λ texts indexes known are most share. tt;
     }
@@ -312,7 +312,7 @@ returns-in-Err-end-clause-reads g c =
     let took = c.in-Ok-read_lines.ensures.took in
     let all = goal.at.returns-in-Err-end-clause-reads g c in
     let here = all.In-Ok in
-    let wrote = took.before.came c.in-Ok.writer start (begun g here) in
+    let wrote = took.before.came (record { writer = c.in-Ok.writer }) start (begun g here) in
     record {
       probes = tt;
       lines = λ texts indexes known are. tt;
@@ -321,8 +321,8 @@ returns-in-Err-end-clause-reads g c =
           page_reached g.S.Source.extent g.S.Source.gave q texts indexes start mid (g.O.Output.written c.end.new.out)
           c.args.sources.now c.read_lines.new.sources
           took.lines first.0 (captures_over q q.resume took.earlier) took.later first.1 took.split
-          (within g here took.before.state took.earlier took.before.middle wrote took.before.more)
-          (at g here c.read_lines.new.sink took.lines mid (came g all.In-Ok-read_lines)).text
+          (within g here took.before.state.writer took.earlier took.before.middle wrote took.before.more)
+          (at g here c.read_lines.new.sink.writer took.lines mid (came g all.In-Ok-read_lines)).text
           (grows_part _ _ _ c.in-Err-end.ensures.text)
           (λ n most. took.before.within texts indexes known are (Some n) most);
       held = λ texts indexes known are most share. tt;
@@ -336,8 +336,8 @@ returns-clause-reads g c =
     let took = c.in-Ok-read_lines.ensures.took in
     let all = goal.at.returns-clause-reads g c in
     let here = all.In-Ok in
-    let wrote = took.before.came c.in-Ok.writer start (begun g here) in
-    let room = within g here took.before.state took.earlier took.before.middle wrote took.before.more in
+    let wrote = took.before.came (record { writer = c.in-Ok.writer }) start (begun g here) in
+    let room = within g here took.before.state.writer took.earlier took.before.middle wrote took.before.more in
     record {
       probes = c.in-Ok-read_lines.ensures.probes;
       lines = λ texts indexes known are.
@@ -348,7 +348,7 @@ returns-clause-reads g c =
           page_reached g.S.Source.extent g.S.Source.gave q texts indexes start mid (g.O.Output.written c.end.new.out)
           c.args.sources.now c.read_lines.new.sources
           took.lines first.0 (captures_over q q.resume took.earlier) took.later first.1 took.split room
-          (at g here c.read_lines.new.sink took.lines mid (came g all.In-Ok-read_lines)).text
+          (at g here c.read_lines.new.sink.writer took.lines mid (came g all.In-Ok-read_lines)).text
           (grows_by _ _ _ c.in-Ok-end.ensures.text)
           (λ n most. took.before.within texts indexes known are (Some n) most);
       held = λ texts indexes known are most share. c.in-Ok-read_lines.ensures.held texts indexes known are most share;

@@ -1,6 +1,6 @@
 use Rattle.std.proofs.Common.{rules, ◌≡◌, ◌++◌, ◌∙◌, ℕ, List, [], append-nil, Bool, length, true, false, refl, sym, map}
 use Rattle.std.proofs.Common.{Option, None}
-use Rattle.std.proofs.lemmas.Bool.{true≢false}
+use Rattle.std.proofs.lemmas.Bool.{true≢false, true_from_ne_false}
 use Rattle.cdxj_places.specs.Places.{place_cmp}
 use Rattle.cdxj_places.specs.Rising.{Rises}
 use Rattle.cdxj_places.proofs.PlaceOrder.{place_cmp_total}
@@ -10,13 +10,13 @@ use Rattle.cdxj_core.specs.Members.{Member, member_place}
 use Rattle.merge_core.specs.Collections.{OverIndexes, all_lines, collection}
 use Rattle.merge_core.specs.SourceLines.{AreLinesOf}
 use Rattle.merge_core.specs.Spending.{AllGaveWithin}
-use Rattle.query_core.specs.PageWriting.{captures_over}
-use Rattle.query_core.specs.Paging.{are_sizes, WrotePages, WrotePagesInPart}
+use Rattle.page_writers.specs.PageWriting.{captures_over}
+use Rattle.page_writers.specs.WrittenPages.{are_sizes, WrotePages, WrotePagesInPart}
 use Rattle.query_core.specs.Reach.{in_reach}
 use Rattle.query_core.proofs.CountLemmas.{raised_after}
-use Rattle.query_core.proofs.PageChains.{wrote_front, wrote_most, wrote_none, wrote_whole}
-use Rattle.query_core.proofs.PagesExits.{all_ended, any_front, at_end, not_false}
-use Rattle.query_core.proofs.PagesLemmas.{all_positive, start_front}
+use Rattle.page_writers.proofs.PageChains.{wrote_front, wrote_most, wrote_none, wrote_whole}
+use Rattle.query_core.proofs.PagesExits.{all_ended, any_front, at_end}
+use Rattle.page_writers.proofs.PagesLemmas.{all_positive, start_front}
 use Rattle.query_core.proofs.ReachLemmas.{opened_not, within_opening}
 use Rattle.query_core.proofs.RefusalLemmas.{refuses_few, refuses_many, refuses_sized, refuses_sizes}
 use Rattle.query_core.proofs.paging.pages.Given.{Over}
@@ -158,7 +158,7 @@ broken g c sized lines rise rest split =
     let broke = c.in-Err-read_lines.ensures.broke in
     wrote_front q sizes positive lines rise (captures_over q q.resume broke.lines) start new rest split
     (any_front c.in-Ok.writer q sizes is.0 is.1 is.2 broke.lines start new
-    (broke.wrote c.in-Ok.writer start ((refl, refl), c.in-Ok.ensures.stands positive)))
+    (broke.wrote (record { writer = c.in-Ok.writer }) start ((refl, refl), c.in-Ok.ensures.stands positive)))
 
 unended : (g : Over) (c : In-Err-end g) (sized : are_sizes c.args.sizes.now ≡ true) (lines : List Member)
     → Rises member_place place_cmp lines
@@ -176,8 +176,8 @@ unended g c sized lines rise all =
     let is = c.in-Ok.ensures.query in
     let took = c.in-Ok-read_lines.ensures.took in
     wrote_most q sizes positive lines rise (captures_over q q.resume took.lines) start new all
-    (at_end c.in-Ok.writer q sizes is.0 is.1 is.2 c.read_lines.new.sink took.lines start mid
-    (took.came c.in-Ok.writer start ((refl, refl), c.in-Ok.ensures.stands positive)) new c.in-Err-end.ensures.text)
+    (at_end c.in-Ok.writer q sizes is.0 is.1 is.2 c.read_lines.new.sink.writer took.lines start mid
+    (took.came (record { writer = c.in-Ok.writer }) start ((refl, refl), c.in-Ok.ensures.stands positive)) new c.in-Err-end.ensures.text)
 
 ended : (g : Over) (c : In-Ok-end g) (sized : are_sizes c.args.sizes.now ≡ true) (lines : List Member)
     → Rises member_place place_cmp lines
@@ -196,8 +196,8 @@ ended g c sized lines rise all =
     let took = c.in-Ok-read_lines.ensures.took in
     let end = c.in-Ok-end.ensures in
     wrote_whole q sizes positive lines rise (captures_over q q.resume took.lines) start new all c.in-Ok-end.count
-    (all_ended c.in-Ok.writer q sizes is.0 is.1 is.2 c.read_lines.new.sink took.lines start mid
-    (took.came c.in-Ok.writer start ((refl, refl), c.in-Ok.ensures.stands positive)) new c.in-Ok-end.count end.text
+    (all_ended c.in-Ok.writer q sizes is.0 is.1 is.2 c.read_lines.new.sink.writer took.lines start mid
+    (took.came (record { writer = c.in-Ok.writer }) start ((refl, refl), c.in-Ok.ensures.stands positive)) new c.in-Ok-end.count end.text
     end.count)
 
 -- ---- lines of the sources
@@ -264,19 +264,19 @@ returns-in-Err-read_lines-clause-pages g c = λ texts indexes known are sized.
 
 pub returns-clause-pages : goal.returns-clause-pages
 returns-clause-pages g c = λ texts indexes known are sized.
-    let whole = not_false c.in-Ok-read_lines._pass.all (λ e. c.in-Ok-read_lines.ensures.enough e) in
+    let whole = true_from_ne_false c.in-Ok-read_lines._pass.all (λ e. c.in-Ok-read_lines.ensures.enough e) in
     unended g (goal.at.returns-clause-pages g c).In-Err-end sized (collection indexes) (collection_rises indexes)
     (c.in-Ok-read_lines.ensures.took.whole whole texts indexes known are)
 
 pub returns-in-Ok-end-clause-pages : goal.returns-in-Ok-end-clause-pages
 returns-in-Ok-end-clause-pages g c = λ texts indexes known are.
-    let whole = not_false c.in-Ok-read_lines._pass.all (λ e. c.in-Ok-read_lines.ensures.enough e) in
+    let whole = true_from_ne_false c.in-Ok-read_lines._pass.all (λ e. c.in-Ok-read_lines.ensures.enough e) in
     ended g (goal.at.returns-in-Ok-end-clause-pages g c).In-Ok-end (search rules) (collection indexes)
     (collection_rises indexes) (c.in-Ok-read_lines.ensures.took.whole whole texts indexes known are)
 
 pub returns-in-Ok-end-clause-parts : goal.returns-in-Ok-end-clause-parts
 returns-in-Ok-end-clause-parts g c = λ texts known.
-    let whole = not_false c.in-Ok-read_lines._pass.all (λ e. c.in-Ok-read_lines.ensures.enough e) in
+    let whole = true_from_ne_false c.in-Ok-read_lines._pass.all (λ e. c.in-Ok-read_lines.ensures.enough e) in
     let read = c.in-Ok-read_lines.ensures.took.parts texts known in
     record {
       parts = read.parts;

@@ -22,11 +22,11 @@ use Rattle.merge_core.proofs.SpendLemmas.{are_read_to}
 use Rattle.merge_core.proofs.WholeLemmas.{extents_kept, texts_kept, told_known}
 use Rattle.merge_core.proofs.WrittenLemmas.{grows_not}
 use Rattle.query_core.specs.IndexFaults.{IsFaultOf}
-use Rattle.query_core.specs.PageWriting.{is_wanted, place_before, captures_over}
+use Rattle.page_writers.specs.PageWriting.{is_wanted, place_before, captures_over}
 use Rattle.query_core.specs.Reach.{in_reach}
 use Rattle.query_core.specs.Passes.{IsOfParts, Took}
 use Rattle.query_core.proofs.AskedLemmas.{wanted_within}
-use Rattle.query_core.proofs.CaptureLemmas.{captures_append, captures_split, kept_after}
+use Rattle.page_writers.proofs.CaptureLemmas.{captures_append, captures_split, kept_after}
 use Rattle.query_core.proofs.PageOfIndexes.{wanted_first, wanted_whole}
 use Rattle.query_core.proofs.ReachLemmas.{cut_all, cut_before, cut_last, gave_within, lines_within, within_opening}
 use Rattle.query_core.proofs.pass.read_lines.Goals as goal

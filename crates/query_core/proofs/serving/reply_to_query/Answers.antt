@@ -3,7 +3,7 @@ use Rattle.std.specs.Prelude.{codes}
 use Rattle.cdxj_core.specs.declared.limit.TheConstants.{LINE_LIMIT}
 use Rattle.query_core.specs.declared.fault.AnswerFault.TheVariants as fault
 use Rattle.query_core.specs.IndexFaults.{IsFaultOf}
-use Rattle.query_core.specs.QueryPages.{answer_text, query_page}
+use Rattle.page_writers.specs.QueryPages.{answer_text, query_page}
 use Rattle.query_core.specs.Replies.{fault_line}
 use Rattle.query_core.proofs.LineReplies.{fault_reply, page_reply}
 use Rattle.query_core.proofs.RefusalLemmas.{late_few}

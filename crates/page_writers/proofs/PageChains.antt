@@ -1,0 +1,122 @@
+-- The pages of a query, by how its captures are cut.
+use Rattle.std.proofs.Common.{◌≡◌, ℕ, zero, suc, ◌<◌, ◌≤◌, List, [], ◌∷◌, ◌++◌, length, take, drop, Bool, Option, None}
+use Rattle.std.proofs.Common.{Some, MatchOption, refl, sym, ap, ◌∙◌, subst, arith}
+use Rattle.cdxj_places.specs.Places.{PlaceValue, place_cmp}
+use Rattle.cdxj_places.specs.Rising.{Rises}
+use Rattle.cdxj_places.proofs.PlaceOrder.{place_cmp_total}
+use Rattle.cdxj_core.specs.Members.{Member, member_place}
+use Rattle.devices.proofs.WritingLemmas.{wrote_nothing}
+use Rattle.query_text.specs.Collapses.{same_part}
+use Rattle.query_text.specs.Matching.{matches}
+use Rattle.query_text.specs.Queries.{QueryValue}
+use Rattle.page_core.specs.Pages.{Page, AllPositive, first_size, later_sizes, end_place, next_after, collapsed}
+use Rattle.page_core.specs.Pages.{is_above, kept, IsChain}
+use Rattle.page_core.proofs.PageLaws.{chain_law, split_there, collapse_resumes, rises_collapsed, rises_filter}
+use Rattle.page_writers.specs.QueryPages.{selected, IsQueryChain}
+use Rattle.page_writers.specs.PageWriting.{captures_over}
+use Rattle.page_writers.specs.PagesWriting.{AreCut}
+use Rattle.page_writers.specs.WrittenPages.{pages_text, WrotePages, WrotePagesInPart}
+use Rattle.page_writers.specs.WriterView.{IsFront}
+use Rattle.page_writers.proofs.PageKeys.{keys_but_last, one_empty}
+use Rattle.page_writers.proofs.CaptureLemmas.{filter_and}
+use Rattle.page_writers.proofs.WriterLemmas.{whole_prefix}
+use Rattle.page_writers.proofs.PagesLemmas.{Ended, EndedInPart, Pages, cut_there, first_positive, later_positive}
+
+-- where captures follow the first n, the page's next is the place of the last of them
+next_is : (p : Option PlaceValue) (n : ℕ) (c : List Member) → 0 < n → n < length c → (q : PlaceValue)
+    × (next_after member_place n c ≡ Some q) × (end_place member_place p (take n c) ≡ Some q)
+next_is p zero c z h = absurd (omega arith)
+next_is p (suc n) [] z h = absurd (omega arith)
+next_is p (suc zero) (x ∷ []) z h = absurd (omega arith)
+next_is p (suc zero) (x ∷ y ∷ ys) z h = (member_place x, refl, refl)
+next_is p (suc (suc n)) (x ∷ xs) z h = next_is (Some (member_place x)) (suc n) xs (omega arith) (omega arith)
+
+-- where none follow, they are all
+all_are : (n : ℕ) (c : List Member) → length c ≤ n → (take n c ≡ c) × (next_after member_place n c ≡ None)
+all_are zero [] h = (refl, refl)
+all_are zero (x ∷ xs) h = absurd (omega arith)
+all_are (suc n) [] h = (refl, refl)
+all_are (suc zero) (x ∷ []) h = (refl, refl)
+all_are (suc zero) (x ∷ y ∷ ys) h = absurd (omega arith)
+all_are (suc (suc n)) (x ∷ xs) h = let r = all_are (suc n) xs (omega arith) in (ap (λ l. x ∷ l) r.0, r.1)
+
+module _ (same : PlaceValue → PlaceValue → Bool) (l : List Member) (rises : Rises member_place place_cmp l) where
+  abbrev shown : Option PlaceValue → List Member
+  shown p = collapsed member_place place_cmp same l p
+
+  -- captures that are cut are the pages of a chain
+  pub cut_chain : (p : Option PlaceValue) (sizes : List ℕ) (pages : Pages) → AllPositive sizes
+      → AreCut sizes pages (shown p) → IsChain member_place place_cmp same l p sizes pages
+  cut_chain p sizes [] z h = absurd h
+  cut_chain p sizes (page ∷ []) z h =
+      let r = all_are (first_size sizes) (shown p) h.1 in (
+        h.0 ∙ (λ i. record { members = sym r.0 i; next = sym r.1 i }),
+        subst (λ (o : Option PlaceValue). MatchOption o (◌≡◌ {A = Pages} [] [])
+            (λ q. IsChain member_place place_cmp same l (Some q) (later_sizes sizes) []))
+            (sym (ap (λ (g : Page Member PlaceValue). g.next) h.0)) refl,
+      )
+  cut_chain p sizes (page ∷ other ∷ rest) z h =
+      let n = first_size sizes in
+      let r = next_is None n (shown p) (first_positive sizes z) h.1 in
+      let s = split_there member_place place_cmp same place_cmp_total n (shown p) r.0
+      (rises_collapsed member_place place_cmp same place_cmp_total l p rises) r.1 in
+      let over : shown (Some r.0) ≡ drop n (shown p) =
+      ap (λ (q : PlaceValue). shown (Some q)) (sym s.2)
+      ∙ collapse_resumes member_place place_cmp same place_cmp_total l p s.0 rises s.1 ∙ s.4 in (
+        h.0 ∙ (λ i. record { members = take n (shown p); next = (r.2 ∙ sym r.1) i }),
+        subst (λ (o : Option PlaceValue). MatchOption o (other ∷ rest ≡ [])
+            (λ q. IsChain member_place place_cmp same l (Some q) (later_sizes sizes) (other ∷ rest)))
+            (sym (ap (λ (g : Page Member PlaceValue). g.next) h.0 ∙ r.2))
+            (cut_chain (Some r.0) (later_sizes sizes) (other ∷ rest) (later_positive sizes z)
+            (subst (AreCut (later_sizes sizes) (other ∷ rest)) (sym over) h.2)),
+      )
+
+module _ (q : QueryValue) (sizes : List ℕ) (positive : AllPositive sizes) (lines : List Member)
+    (rise : Rises member_place place_cmp lines) where
+  pub captures_are : captures_over q q.resume lines
+      ≡ collapsed member_place place_cmp (same_part q.collapse) (selected q lines) q.resume
+  captures_are = ap (kept member_place (same_part q.collapse) q.resume)
+      (sym (filter_and (λ m. matches q m.values) (is_above member_place place_cmp q.resume) lines))
+
+  selects : Rises member_place place_cmp (selected q lines)
+  selects = rises_filter member_place place_cmp place_cmp_total (λ m. matches q m.values) lines rise
+
+  chain_of : (pages : Pages) → AreCut sizes pages (captures_over q q.resume lines) → IsQueryChain q lines sizes pages
+  chain_of pages h =
+      cut_chain (same_part q.collapse) (selected q lines) selects q.resume sizes pages positive
+      (subst (AreCut sizes pages) captures_are h)
+
+  -- nothing was written of them
+  pub wrote_none : (old : Option (List ℕ)) → WrotePagesInPart q lines sizes old old
+  wrote_none old = let cut = cut_there sizes (captures_over q q.resume lines) positive in
+      (cut.0, chain_of cut.0 cut.1, wrote_nothing old (pages_text q cut.0))
+
+  module _ (captures : List Member) (old new : Option (List ℕ)) where
+    -- a front of pages that begin with these captures
+    pub wrote_front : (rest : List Member) → captures_over q q.resume lines ≡ captures ++ rest
+        → IsFront q sizes captures old new → WrotePagesInPart q lines sizes old new
+    wrote_front rest split front = let found = front rest in
+        (found.0, chain_of found.0 (subst (AreCut sizes found.0) (sym split) found.1), found.2)
+
+    module _ (all : captures_over q q.resume lines ≡ captures) where
+      -- all of them
+      pub wrote_whole : (number : ℕ) → Ended q sizes captures old new number → WrotePages q lines sizes old new number
+      wrote_whole number found =
+          let same = same_part q.collapse in
+          let chain = chain_of found.0 (subst (AreCut sizes found.0) (sym all) found.1) in
+          let law = chain_law member_place place_cmp same place_cmp_total (selected q lines) q.resume sizes found.0
+          selects positive chain in
+          record {
+            pages = found.0;
+            chain = chain;
+            joined = law.0;
+            rises = rises_collapsed member_place place_cmp same place_cmp_total (selected q lines) q.resume selects;
+            full = law.1;
+            keys = keys_but_last same (selected q lines) q.resume sizes found.0 found.4 chain;
+            empty = λ none. one_empty same (selected q lines) q.resume sizes found.0 none chain;
+            text = found.2;
+            count = found.3;
+          }
+
+      pub wrote_most : EndedInPart q sizes captures old new → WrotePagesInPart q lines sizes old new
+      wrote_most found = (found.0, chain_of found.0 (subst (AreCut sizes found.0) (sym all) found.1), found.2)

@@ -1,0 +1,35 @@
+use Rattle.std.proofs.Common.{rules, ◌≡◌, ◌==◌, true, false, sym, subst, arith, eqb-true}
+use Rattle.page_core.specs.Pages.{first_size}
+use Rattle.page_writers.specs.PagesWriting.{PagesStand}
+use Rattle.page_writers.proofs.PagesLemmas.{first_positive, turned_stands, turning_front, has_room}
+use Rattle.page_writers.proofs.pages_writer.PagesWriter.make_room.Goals as goal
+
+pub returns-then-not-is_full-clause-stands : goal.returns-then-not-is_full-clause-stands
+returns-then-not-is_full-clause-stands g c = λ sizes captures start s.
+    let w = c.args.self.now in
+    let free : (w.given == first_size w.sizes.now) ≡ false = search rules in
+    (s, has_room w.given (first_size w.sizes.now) s.rows free s.given_is s.room)
+
+pub returns-in-Ok-clause-stands : goal.returns-in-Ok-clause-stands
+returns-in-Ok-clause-stands g c = λ sizes captures start s.
+    let w = c.args.self.now in
+    let k = c.turn.new.self in
+    let old = g.O.Output.written c.args.out.now in
+    let new = g.O.Output.written c.turn.new.out in
+    let full : (w.given == first_size w.sizes.now) ≡ true = search rules in
+    let next = c.in-Ok.ensures.next in
+    let turned = turned_stands w.selection.query.now sizes captures start old w.sizes.now w.given w.last w.count s
+    (eqb-true w.given (first_size w.sizes.now) full)
+    new k.sizes.now k.given k.last k.count c.in-Ok.ensures.text next.0 next.1 next.3 c.turn.ensures.key in (
+      subst (λ selection. PagesStand selection.query.now sizes captures start new k.sizes.now k.given k.last k.count)
+          (sym c.turn.ensures.selection) turned,
+      omega (arith, next.1, first_positive k.sizes.now turned.positive),
+    )
+
+pub returns-in-Err-clause-front : goal.returns-in-Err-clause-front
+returns-in-Err-clause-front g c = λ sizes captures start m s.
+    let w = c.args.self.now in
+    let full : (w.given == first_size w.sizes.now) ≡ true = search rules in
+    turning_front w.selection.query.now sizes captures start (g.O.Output.written c.args.out.now) w.sizes.now w.given
+    w.last w.count s (eqb-true w.given (first_size w.sizes.now) full)
+    m (g.O.Output.written c.turn.new.out) c.in-Err.ensures.text

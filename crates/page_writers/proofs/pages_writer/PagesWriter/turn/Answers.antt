@@ -1,0 +1,27 @@
+use Rattle.std.proofs.Common.{rules, true}
+use Rattle.std.specs.Io.KnownBytes.{Appends}
+use Rattle.devices.specs.Device.{AppendsPrefix}
+use Rattle.devices.proofs.WritingLemmas.{prefix_after, prefix_longer}
+use Rattle.page_core.specs.PageText.{page_start, page_end}
+use Rattle.page_writers.specs.QueryPages.{form_of, shown_key}
+use Rattle.page_writers.proofs.pages_writer.PagesWriter.turn.Goals as goal
+
+pub returns-in-Err-clause-text : goal.returns-in-Err-clause-text
+returns-in-Err-clause-text g c =
+    let w = c.args.self.now in
+    let old = g.O.Output.written c.args.out.now in
+    let now = g.O.Output.written c.put_end.new.out in
+    let form = form_of w.selection.query.now in
+    let end : AppendsPrefix old now (page_end form (shown_key true w.last)) = search rules in
+    prefix_longer old now (page_end form (shown_key true w.last)) (page_start form) end
+
+pub returns-in-Err-put_start-clause-text : goal.returns-in-Err-put_start-clause-text
+returns-in-Err-put_start-clause-text g c =
+    let w = c.args.self.now in
+    let old = g.O.Output.written c.args.out.now in
+    let mid = g.O.Output.written c.put_end.new.out in
+    let now = g.O.Output.written c.put_start.new.out in
+    let form = form_of w.selection.query.now in
+    let end : Appends old mid (page_end form (shown_key true w.last)) = search rules in
+    let begin : AppendsPrefix mid now (page_start form) = search rules in
+    prefix_after old mid now (page_end form (shown_key true w.last)) (page_start form) end begin

@@ -1,0 +1,7 @@
+pub mod QueryPages
+pub mod WrittenPages
+pub mod Collapsings
+pub mod PageWriting
+pub mod PagesWriting
+pub mod Growing
+pub mod WriterView
