@@ -1,4 +1,3 @@
 pub mod PairOrders
 pub mod WaitingLines
-pub mod KeyStarts
 pub mod TurnOrder

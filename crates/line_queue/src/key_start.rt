@@ -1,6 +1,6 @@
 //! The starts of keys, as numbers.
 ghost use Rattle.std.specs.Prelude.{◌≡◌, ◌+◌, ◌≤◌, length, take, drop};
-ghost use Rattle.line_queue.specs.KeyStarts.{IsText, key_words, spelled, words};
+ghost use Rattle.cdxj_places.specs.Abbreviated.{AreBytes, spelled, start_words, words};
 
 use cdxj_places::abbreviated;
 
@@ -33,15 +33,15 @@ fn word(bytes: &[u8; 32], at: usize) -> u128
 }
 
 fn words_of(bytes: &[u8; 32]) -> KeyStart
-    ensures { result ≡ words bytes.now }
+    ensures { result ≡ words 16 bytes.now }
 {
     (word(bytes, 0), word(bytes, 16))
 }
 
 /// Returns the start of a key.
 pub(crate) fn key_start(key: &[u8]) -> KeyStart
-    ensures words { result ≡ key_words key.now }
-    ensures text { IsText key.now }
+    ensures words { result ≡ start_words 16 key.now }
+    ensures bytes { AreBytes key.now }
 {
     words_of(&abbreviated(key))
 }

@@ -2,7 +2,7 @@
 ghost use Rattle.std.specs.Prelude.{◌≡◌};
 ghost use Rattle.cdxj_core.specs.Members.{member_pair};
 ghost use Rattle.cdxj_places.specs.Pairs.{pair_cmp};
-ghost use Rattle.line_queue.specs.KeyStarts.{IsText, key_words};
+ghost use Rattle.cdxj_places.specs.Abbreviated.{AreBytes, start_words};
 
 use crate::key_start::KeyStart;
 use crate::pair::compare_pairs;
@@ -20,21 +20,21 @@ pub struct KeyedLine<'a> {
 impl<'a> Model for KeyedLine<'a> {
     ghost use Rattle.std.specs.Prelude.{◌≡◌};
     ghost use Rattle.cdxj_core.specs.Members.{Member};
-    ghost use Rattle.line_queue.specs.KeyStarts.{IsText, key_words};
+    ghost use Rattle.cdxj_places.specs.Abbreviated.{AreBytes, start_words};
 
     ghost Value = { Member };
 
     ghost view = { λ k. k.line.now };
 
-    ghost invariant = { λ k. (k.key_start ≡ key_words k.line.now.values.key)
-        × IsText k.line.now.values.key };
+    ghost invariant = { λ k. (k.key_start ≡ start_words 16 k.line.now.values.key)
+        × AreBytes k.line.now.values.key };
 }
 
 impl<'a> KeyedLine<'a> {
     /// Creates the value for a line and the start of its key.
     pub fn new(key_start: KeyStart, line: &'a Line) -> KeyedLine<'a>
-        requires start { key_start ≡ key_words line.now.values.key }
-        requires text { IsText line.now.values.key }
+        requires start { key_start ≡ start_words 16 line.now.values.key }
+        requires bytes { AreBytes line.now.values.key }
         ensures { result ≡ line.now }
     {
         KeyedLine { key_start, line }

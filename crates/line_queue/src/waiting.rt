@@ -25,15 +25,15 @@ pub struct Waiting {
 
 impl Model for Waiting {
     ghost use Rattle.std.specs.Prelude.{◌≡◌};
-    ghost use Rattle.line_queue.specs.KeyStarts.{IsText, key_words};
+    ghost use Rattle.cdxj_places.specs.Abbreviated.{AreBytes, start_words};
     ghost use Rattle.line_queue.specs.WaitingLines.{WaitingLine};
 
     ghost Value = { WaitingLine };
 
     ghost view = { λ w. record { member = w.line.value; source = w.source } };
 
-    ghost invariant = { λ w. (w.key_start ≡ key_words w.line.value.values.key)
-        × IsText w.line.value.values.key };
+    ghost invariant = { λ w. (w.key_start ≡ start_words 16 w.line.value.values.key)
+        × AreBytes w.line.value.values.key };
 }
 
 impl Waiting {
