@@ -104,7 +104,7 @@ def main() -> int:
     cat, cat_large, index_given, file_given, file_large, sha1sum, index_made, index_half, index_many, writing, sort = times.values()
     figures = [
         Figure("index over cat, digests given", index_given / cat, 3.5),
-        Figure("index over cat, files of pages of 20 kB", file_given / cat, 1.5),
+        Figure("index over cat, files of pages of 20 kB", file_given / cat, 1.2),
         Figure("index over cat, files of pages of 200 kB", file_large / cat_large, 0.2),
         Figure("read of a file of pages of 200 kB", read * 100, 6, "%"),
         Figure("index over sha1sum, digests made", index_made / sha1sum, 1.25),

@@ -75,7 +75,7 @@ def main() -> int:
         Figure("list over cat, records of 20 kB", input_long / cat, 2),
         Figure("cost of a record", a_record * 1e6, 2, "µs"),
         Figure("list of 1 GB over list of 500 MB", input_twice / input_long, 2.2),
-        Figure("list over cat, files of records of 20 kB", file_long / cat, 1),
+        Figure("list over cat, files of records of 20 kB", file_long / cat, 0.5),
         Figure("list over cat, files of records of 200 kB", file_large / cat_large, 0.12),
         Figure("list of a file of one record of 5 GB", hole * 1000, 5, "ms"),
         Figure("get over cat, files of records of 20 kB", get_long / cat, 1),

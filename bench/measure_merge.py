@@ -57,10 +57,10 @@ def main() -> int:
             "check": lambda: run_time([*checking, folder / "whole"]),
         })
         figures = [
-            Figure("merge of 4 over sort -m", times["merge, 4 files"] / times["sort -m, 4 files"], 2.4),
+            Figure("merge of 4 over sort -m", times["merge, 4 files"] / times["sort -m, 4 files"], 1.7),
             Figure("merge of 1,024 over merge of 4", times["merge, 1,024 files"] / times["merge, 4 files"], 2),
             Figure("twice the lines", times["merge, 4 files"] / times["merge, 4 files, half the lines"], 2.2),
-            Figure("check over sort -c", times["check"] / times["sort -c"], 2.5),
+            Figure("check over sort -c", times["check"] / times["sort -c"], 1.6),
             Figure("memory: 4 files", peak([*merging, *parts[4]]) / 1e6, 8, "MB"),
             Figure("memory: 1,024 files", peak([*merging, *parts[1024]]) / 1e6, 32, "MB"),
             Figure("memory: check", peak([*checking, folder / "whole"]) / 1e6, 8, "MB"),

@@ -117,7 +117,7 @@ def main() -> int:
             Figure("exact query, 64 files", milliseconds["64 files"], 15, "ms"),
             Figure("ten times the lines", milliseconds["one file"] / milliseconds["a tenth"], 1.5),
             Figure("slowest page over the first", max(page_times.values()) / page_times[0], 1.2),
-            Figure("all lines as text over merge", times["all as text"] / merge, 1.5),
+            Figure("all lines as text over merge", times["all as text"] / merge, 1.4),
             Figure("all lines as cdxj over merge", times["all as cdxj"] / merge, 1.2),
             Figure("all lines as json over merge", times["all as json"] / merge, 2),
             Figure("all lines by key over as text", times["all by key"] / times["all as text"], 1.1),
