@@ -162,16 +162,6 @@ pub digest-made : (h : HeadView) (digest payload : List ℕ) → settled_digest 
     → base32_of digest ≡ digest_of h payload
 digest-made h digest payload e d = ap base32_of d ∙ sym (ap (λ o. unwrap_or o (base32_of (sha1 payload))) e)
 
--- what is known of the bytes behind the front is known of the block
-pub capture-behind : (url : Option (List ℕ)) (limits : Limits) (h : HeadView) (name front : List ℕ)
-    (before mid : Option (List ℕ)) (r : Result (Option EntryValue) CaptureFault) → Consumes before mid front
-    → IfSome mid (λ bytes. IsCaptureOf url limits h name (front ++ bytes) r)
-    → IfSome before (λ bytes. IsCaptureOf url limits h name bytes r)
-capture-behind url limits h name front None mid r c t = tt
-capture-behind url limits h name front (Some z) None r c t = absurd c
-capture-behind url limits h name front (Some z) (Some w) r c t = subst (λ b. IsCaptureOf url limits h name b r) (sym c)
-    t
-
 -- an entry whose line is within the limit
 pub entry-fits : (h : HeadView) (name : List ℕ) (limit : ℕ) (response : Option ResponseValue) (digest url : List ℕ)
     (e : EntryValue) → e ≡ entry_of h name response digest url → HasLine limit e → IsEntryOf h name limit e

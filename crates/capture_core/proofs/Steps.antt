@@ -7,11 +7,9 @@ use Rattle.std.proofs.lemmas.List.{take_all}
 use Rattle.std.proofs.Math.Nat.{min-le_left, min-le_right, min-eq_left, min-eq_right}
 use Rattle.std.proofs.Math.Seq.{take-append_seam, drop-append_seam}
 use Rattle.std.specs.Io.KnownBytes.{Consumes}
-use borrow.Rule.Slice.PartMut.{put_mid, same_len_mid}
 use Rattle.httparse.specs.Grammar.{ResponseHead}
 use Rattle.httparse.proofs.GrammarLemmas.{ReadsResponse-append}
 use Rattle.warc_core.specs.HeadView.{HeadView}
-use Rattle.warc_core.proofs.FillLemmas.{take-written, part_long}
 use Rattle.warc_core.proofs.OpenLemmas.{behind-front}
 use Rattle.warc_core.proofs.ReadingLemmas.{GoesOn, nil_of}
 use Rattle.warc_core.specs.Record.{after_record}
@@ -23,22 +21,6 @@ use Rattle.capture_core.specs.Capture.{ResponseValue, IsHeadFor, response_of, pa
 use Rattle.capture_core.specs.RecordReading.{front_length}
 use Rattle.capture_core.specs.CaptureAnswer.{Limits, IsCaptureOf, PartsBlock}
 use Rattle.capture_core.proofs.HeadLemmas.{front_decides, no_head_in_nothing}
-
--- ---- the buffer
-
-module _ (count : ℕ) (front piece : List ℕ) where
-  -- what the buffer holds once its rest was filled
-  abbrev pub filled : List ℕ
-  filled = put_mid count (length front - count) front piece
-
-  filled-long : count ≤ length front → length piece ≡ length front - count → length filled ≡ length front
-  filled-long h l = same_len_mid count (length front - count) front piece (omega (arith, part_long count front))
-
-  pub filled-is : count ≤ length front → length piece ≡ length front - count → filled ≡ take count front ++ piece
-  filled-is h l =
-      sym (take_all (count + length piece) filled (omega (arith, filled-long h l)))
-      ∙ (take-written count (length front - count) (length piece) front piece h (omega arith)
-      ∙ ap (λ t. take count front ++ t) (take_all (length piece) piece (omega arith)))
 
 -- ---- the head
 
