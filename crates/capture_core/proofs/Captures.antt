@@ -38,9 +38,7 @@ some_under None limit few h block name f is = (None, refl)
 some_under (Some url) limit few h block name f is =
     let g = head_for (may_have_head h) limit few block f is in (
       Some (entry_of h name (option_map (λ p. response_of p.0) g.0) (digest_of h (payload_of block g.0)) url),
-      g.0,
-      g.1,
-      refl,
+      (g.0, g.1, refl),
     )
 
 pub some_capture : (types : Kind → Bool) (limit few : ℕ) (h : HeadView) (block name : List ℕ)

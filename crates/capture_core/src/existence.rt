@@ -13,6 +13,8 @@ pub fn record_has_a_capture(head: &Head, block: &[u8], name: &str, types: Types)
     ensures { HasCapture (includes types) HTTP_HEAD_LIMIT HTTP_FIELD_LIMIT head.now block.now
         name.now }
 {
-    let _ = (head, name, types);
-    let _ = part(block);
+    let _head = head;
+    let _name = name;
+    let _types = types;
+    let _parted = part(block);
 }
