@@ -3,7 +3,7 @@ use Rattle.std.proofs.Common.{◌≡◌, ◌≢◌, ℕ, ◌+◌, ◌-◌, ◌�
 use Rattle.std.proofs.Common.{IfSome, length, take, option_map, unwrap_or, refl, sym, ap, subst, arith}
 use Rattle.std.proofs.lemmas.List.{length-take}
 use Rattle.std.proofs.Math.Nat.{min-le_left}
-use Rattle.std.specs.Io.KnownBytes.{prepend_known, Consumes}
+use Rattle.std.specs.Io.KnownBytes.{prepend_known}
 use Rattle.httparse.specs.Grammar.{ResponseHead}
 use Rattle.sha1.specs.Sha1.{sha1}
 use Rattle.warc_core.specs.declared.fault.Cause.{Cause}
@@ -27,15 +27,15 @@ use Rattle.capture_core.specs.HttpHead.{then_more}
 use Rattle.block_digests.specs.RestDigest.{digest_of_rest}
 use Rattle.capture_core.specs.Capture.{ResponseValue, IsCaptureUnder, entry_of, response_of, digest_of, settled_digest}
 use Rattle.capture_core.specs.Capture.{payload_of}
-use Rattle.capture_core.specs.RecordReading.{read_to, reading_of, IsFaultAt, Leaves, ReadsRest}
+use Rattle.capture_core.specs.RecordReading.{reading_after, reading_of, IsFaultAt, Leaves, ReadsRest}
 use Rattle.capture_core.specs.CaptureAnswer.{Limits, IsCaptureOf, IsEntryOf, AnswersEntry, PartsBlock}
 use Rattle.block_digests.proofs.DigestLemmas.{take_past}
 use Rattle.block_digests.proofs.VerdictLemmas.{digest-then, digest-found}
 
 -- a fault that isn't a refused growth ends the reading
-pub read_to-fault : (c : Cause) → c ≢ causes.Memory → read_to c ≡ Err c
-read_to-fault causes.Memory n = absurd (n refl)
-read_to-fault c n = refl
+pub reading_after-fault : (c : Cause) → c ≢ causes.Memory → reading_after c ≡ Err c
+reading_after-fault causes.Memory n = absurd (n refl)
+reading_after-fault c n = refl
 
 -- ---- how the record was read
 
@@ -60,11 +60,11 @@ module _ {A : Type 0} (left : ℕ) (h : HeadView) (old new : ReaderView) (before
       → ReadsRest {A = A} left h (state_of old before k) (state_of new after k') (Err (Archive f))
   rest-failed f stops b s c = let m = not-memory f.cause stops in record {
     bytes = subst (λ x. Reads (after_record left) x (prepend_known old.held before) (prepend_known new.held after))
-        (sym (read_to-fault f.cause m)) b;
-    state = subst (Leaves h new) (sym (read_to-fault f.cause m)) s.stands;
+        (sym (reading_after-fault f.cause m)) b;
+    state = subst (Leaves h new) (sym (reading_after-fault f.cause m)) s.stands;
     fault = s.at;
-    cause = subst (λ x. IfErr x StopsRecord) (sym (read_to-fault f.cause m)) stops;
-    failures = subst (λ x. CountsRead x k k') (sym (read_to-fault f.cause m)) c;
+    cause = subst (λ x. IfErr x StopsRecord) (sym (reading_after-fault f.cause m)) stops;
+    failures = subst (λ x. CountsRead x k k') (sym (reading_after-fault f.cause m)) c;
   }
 
 -- reading goes on after what was read of the block
@@ -125,7 +125,7 @@ module _ (limits : Limits) (h : HeadView) (name url front payload bytes digest :
   entry = entry_of h name response digest url
 
   capture-is : PartsBlock limits h front response payload → digest ≡ digest_of h (payload ++ more)
-      → IsCaptureUnder (Some url) limits.head limits.fields h (take h.parts.length (front ++ bytes)) name (Some entry)
+      → IsCaptureUnder (Some url) limits.http_head limits.http_fields h (take h.parts.length (front ++ bytes)) name (Some entry)
   capture-is p d =
       let block : take h.parts.length (front ++ bytes) ≡ front
       ++ more = take_past h.parts.length front bytes p.within in
@@ -133,21 +133,21 @@ module _ (limits : Limits) (h : HeadView) (name url front payload bytes digest :
       (sym (length-take (h.parts.length - length front) bytes))
       (min-le_left (h.parts.length - length front) (length bytes)) in
       let short = p.within in
-      let whole : IsCaptureUnder (Some url) limits.head limits.fields h (front ++ more) name (Some entry) = (
+      let whole : IsCaptureUnder (Some url) limits.http_head limits.http_fields h (front ++ more) name (Some entry) = (
         then_more more p.found,
         p.decides more (omega arith),
         ap Some (ap (λ x. entry_of h name x digest url) (p.response_is ∙ sym (same-response more p.found))
             ∙ ap (λ x. entry_of h name (option_map (λ q. response_of q.0) (then_more more p.found)) x url)
             (d ∙ ap (digest_of h) (ap (λ t. t ++ more) p.payload_is ∙ sym (payload-behind front more p.found)))),
       ) in
-      subst (λ b. IsCaptureUnder (Some url) limits.head limits.fields h b name (Some entry)) (sym block) whole
+      subst (λ b. IsCaptureUnder (Some url) limits.http_head limits.http_fields h b name (Some entry)) (sym block) whole
 
   -- what the entry answers is the capture
   pub capture-known : PartsBlock limits h front response payload → digest ≡ digest_of h (payload ++ more)
       → (r : Result (Option EntryValue) CaptureFault) → AnswersEntry limits.line entry r
       → IsCaptureOf (Some url) limits h name (front ++ bytes) r
   capture-known p d (Ok captured) a = subst
-      (IsCaptureUnder (Some url) limits.head limits.fields h (take h.parts.length (front ++ bytes)) name) (sym a)
+      (IsCaptureUnder (Some url) limits.http_head limits.http_fields h (take h.parts.length (front ++ bytes)) name) (sym a)
       (capture-is p d)
   capture-known p d (Err (Archive x)) a = tt
   capture-known p d (Err (LineTooLong o)) a = (entry, capture-is p d, a)
@@ -161,16 +161,6 @@ digest-settled h digest payload e = sym (ap (λ o. unwrap_or o (base32_of (sha1 
 pub digest-made : (h : HeadView) (digest payload : List ℕ) → settled_digest h ≡ None → digest ≡ sha1 payload
     → base32_of digest ≡ digest_of h payload
 digest-made h digest payload e d = ap base32_of d ∙ sym (ap (λ o. unwrap_or o (base32_of (sha1 payload))) e)
-
--- what is known of the bytes behind the front is known of the block
-pub capture-behind : (url : Option (List ℕ)) (limits : Limits) (h : HeadView) (name front : List ℕ)
-    (before mid : Option (List ℕ)) (r : Result (Option EntryValue) CaptureFault) → Consumes before mid front
-    → IfSome mid (λ bytes. IsCaptureOf url limits h name (front ++ bytes) r)
-    → IfSome before (λ bytes. IsCaptureOf url limits h name bytes r)
-capture-behind url limits h name front None mid r c t = tt
-capture-behind url limits h name front (Some z) None r c t = absurd c
-capture-behind url limits h name front (Some z) (Some w) r c t = subst (λ b. IsCaptureOf url limits h name b r) (sym c)
-    t
 
 -- an entry whose line is within the limit
 pub entry-fits : (h : HeadView) (name : List ℕ) (limit : ℕ) (response : Option ResponseValue) (digest url : List ℕ)

@@ -1,11 +1,12 @@
 -- A record has one capture.
-use Rattle.std.proofs.Common.{◌≡◌, ◌∙◌, ℕ, List, Bool, true, false, cond, Option, None, Some, option_map, sym, ap}
+use Rattle.std.proofs.Common.{◌≡◌, ◌∙◌, ℕ, List, Bool, true, false, cond, Option, None, Some, option_map, refl, sym, ap}
 use Rattle.httparse.specs.Grammar.{ResponseHead}
+use Rattle.warc_core.specs.Kind.{Kind}
 use Rattle.warc_core.specs.HeadView.{HeadView}
 use Rattle.cdxj_core.specs.Entries.{EntryValue}
 use Rattle.capture_core.specs.HttpHead.{IsHeadOf}
 use Rattle.capture_core.specs.Indexed.{may_have_head, url_of}
-use Rattle.capture_core.specs.Capture.{IsCaptureUnder, entry_of, response_of, digest_of, payload_of, OneCapture}
+use Rattle.capture_core.specs.Capture.{IsCaptureUnder, entry_of, response_of, digest_of, payload_of, OneCapture, HasCapture}
 use Rattle.capture_core.proofs.HeadLemmas.{one_head}
 
 one_found : (may : Bool) (limit few : ℕ) (block : List ℕ) (f g : Option (ResponseHead × List ℕ))
@@ -22,3 +23,24 @@ one_under (Some url) limit few h block name a b x y =
 
 pub one_capture : OneCapture
 one_capture types limit few h block name a b x y = one_under (url_of types h) limit few h block name a b x y
+
+-- ---- it has one
+
+head_for : (may : Bool) (limit few : ℕ) (block : List ℕ) (f : Option (ResponseHead × List ℕ)) → IsHeadOf limit few block f
+    → (g : Option (ResponseHead × List ℕ)) × cond may (IsHeadOf limit few block g) (g ≡ None)
+head_for true limit few block f is = (f, is)
+head_for false limit few block f is = (None, refl)
+
+some_under : (url : Option (List ℕ)) (limit few : ℕ) (h : HeadView) (block name : List ℕ)
+    (f : Option (ResponseHead × List ℕ)) → IsHeadOf limit few block f
+    → (captured : Option EntryValue) × IsCaptureUnder url limit few h block name captured
+some_under None limit few h block name f is = (None, refl)
+some_under (Some url) limit few h block name f is =
+    let g = head_for (may_have_head h) limit few block f is in (
+      Some (entry_of h name (option_map (λ p. response_of p.0) g.0) (digest_of h (payload_of block g.0)) url),
+      (g.0, g.1, refl),
+    )
+
+pub some_capture : (types : Kind → Bool) (limit few : ℕ) (h : HeadView) (block name : List ℕ)
+    (f : Option (ResponseHead × List ℕ)) → IsHeadOf limit few block f → HasCapture types limit few h block name
+some_capture types limit few h block name f is = some_under (url_of types h) limit few h block name f is

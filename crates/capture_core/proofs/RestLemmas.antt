@@ -21,13 +21,13 @@ use Rattle.capture_core.specs.declared.http_head.TheConstants.{HTTP_HEAD_LIMIT}
 use Rattle.capture_core.specs.declared.indexed.Indexed.{Indexed}
 use Rattle.capture_core.specs.RecordReading.{front_length}
 use Rattle.capture_core.specs.CaptureAnswer.{usual_limits}
-use Rattle.capture_core.specs.CaptureSteps.{IsReadTo, FillsBehind, CapturesRest}
+use Rattle.capture_core.specs.CaptureSteps.{HasFront, FillsBehind, CapturesRest}
 use Rattle.capture_core.proofs.CaptureLemmas.{rest-failed, rest-behind, some-always}
 use Rattle.capture_core.proofs.Steps.{front-within, goes-on-to, capture-behind-first}
 
 module _ (indexed : Indexed) (first : List ℕ) (old new : ReaderView) (before after : Option (List ℕ)) (k k' : ℕ) where
   -- the reader failed in the rest of the record
-  pub captures-failed : (f : Fault) → IsReadTo indexed first old → StopsRecord f.cause
+  pub captures-failed : (f : Fault) → HasFront indexed first old → StopsRecord f.cause
       → Reads (after_record (indexed.head.now.parts.length - length first)) (Err f.cause)
       (prepend_known old.held before) (prepend_known new.held after) → FailedBy new old.offset f
       → CountsRead {A = Unit {0}} (Err f.cause) k k'
@@ -40,7 +40,7 @@ module _ (indexed : Indexed) (first : List ℕ) (old new : ReaderView) (before a
   }
 
 module _ (indexed : Indexed) (first front : List ℕ) (old mid : ReaderView) (before between : Option (List ℕ)) (k l : ℕ)
-    (ready : IsReadTo indexed first old) where
+    (ready : HasFront indexed first old) where
   -- what is left behind the first bytes of the front was filled
   abbrev pub FillsFront : Result (Unit {0}) Fault → Type 0
   FillsFront r = FillsBehind first (indexed.head.now.parts.length - length first) (record_length indexed.head.now)
@@ -72,7 +72,7 @@ module _ (indexed : Indexed) (first front : List ℕ) (old mid : ReaderView) (be
 
   -- then the reader stands behind the front
   pub filled-ready : length front ≤ front_length HTTP_HEAD_LIMIT indexed.head.now → FillsFront (Ok tt)
-      → IsReadTo indexed front mid
+      → HasFront indexed front mid
   filled-ready within fills =
       let long : length front ≡ length first + length fills.0 = ap length fills.1 ∙ length-append first fills.0 in
       let left : indexed.head.now.parts.length - length first - length fills.0

@@ -3,15 +3,12 @@ use Rattle.std.proofs.Common.{◌≡◌, ℕ, ◌+◌, ◌-◌, ◌≤◌, ◌�
 use Rattle.std.proofs.Common.{Option, None, Some, Result, IfSome, length, take, drop, min, nat_le, option_map, is_some}
 use Rattle.std.proofs.Common.{refl, sym, ap, subst, arith, append-nil, append_assoc, if◌then◌else◌}
 use Rattle.std.proofs.lemmas.Bool.Decides.{nat_tests}
-use Rattle.std.proofs.lemmas.List.{take_all}
 use Rattle.std.proofs.Math.Nat.{min-le_left, min-le_right, min-eq_left, min-eq_right}
 use Rattle.std.proofs.Math.Seq.{take-append_seam, drop-append_seam}
 use Rattle.std.specs.Io.KnownBytes.{Consumes}
-use borrow.Rule.Slice.PartMut.{put_mid, same_len_mid}
 use Rattle.httparse.specs.Grammar.{ResponseHead}
 use Rattle.httparse.proofs.GrammarLemmas.{ReadsResponse-append}
 use Rattle.warc_core.specs.HeadView.{HeadView}
-use Rattle.warc_core.proofs.FillLemmas.{take-written, part_long}
 use Rattle.warc_core.proofs.OpenLemmas.{behind-front}
 use Rattle.warc_core.proofs.ReadingLemmas.{GoesOn, nil_of}
 use Rattle.warc_core.specs.Record.{after_record}
@@ -23,22 +20,6 @@ use Rattle.capture_core.specs.Capture.{ResponseValue, IsHeadFor, response_of, pa
 use Rattle.capture_core.specs.RecordReading.{front_length}
 use Rattle.capture_core.specs.CaptureAnswer.{Limits, IsCaptureOf, PartsBlock}
 use Rattle.capture_core.proofs.HeadLemmas.{front_decides, no_head_in_nothing}
-
--- ---- the buffer
-
-module _ (count : ℕ) (front piece : List ℕ) where
-  -- what the buffer holds once its rest was filled
-  abbrev pub filled : List ℕ
-  filled = put_mid count (length front - count) front piece
-
-  filled-long : count ≤ length front → length piece ≡ length front - count → length filled ≡ length front
-  filled-long h l = same_len_mid count (length front - count) front piece (omega (arith, part_long count front))
-
-  pub filled-is : count ≤ length front → length piece ≡ length front - count → filled ≡ take count front ++ piece
-  filled-is h l =
-      sym (take_all (count + length piece) filled (omega (arith, filled-long h l)))
-      ∙ (take-written count (length front - count) (length piece) front piece h (omega arith)
-      ∙ ap (λ t. take count front ++ t) (take_all (length piece) piece (omega arith)))
 
 -- ---- the head
 
@@ -107,14 +88,14 @@ head-for limit few h front found l e = head-where (may_have_head h) limit few h.
 module _ (limits : Limits) (h : HeadView) (front payload : List ℕ) (response : Option ResponseValue)
     (found : Option (ResponseHead × List ℕ)) where
   -- the whole front parts the block
-  pub parts-front : length front ≡ front_length limits.head h → IsHeadFor limits.head limits.fields h front found
+  pub parts-front : length front ≡ front_length limits.http_head h → IsHeadFor limits.http_head limits.http_fields h front found
       → response ≡ option_map (λ f. response_of f.0) found → payload ≡ payload_of front found
       → PartsBlock limits h front response payload
   parts-front l f r p = record {
     found = found;
     within = subst (λ n. n ≤ h.parts.length) (sym l)
-        (min-le_left h.parts.length (if may_have_head h then limits.head else 0));
-    decides = λ more few. found-front (may_have_head h) limits.head limits.fields h.parts.length front more found l few
+        (min-le_left h.parts.length (if may_have_head h then limits.http_head else 0));
+    decides = λ more few. found-front (may_have_head h) limits.http_head limits.http_fields h.parts.length front more found l few
         f;
     response_is = r;
     payload_is = p;
@@ -122,16 +103,16 @@ module _ (limits : Limits) (h : HeadView) (front payload : List ℕ) (response :
 
 -- first bytes with a head in them part the block
 pub parts-first : {X : Type 0} (view : X → ResponseValue) (limits : Limits) (h : HeadView) (front payload : List ℕ)
-    (response : Option X) (found : Option (ResponseHead × List ℕ)) → length front ≤ front_length limits.head h
-    → IsHeadFor limits.head limits.fields h front found → option_map view response
+    (response : Option X) (found : Option (ResponseHead × List ℕ)) → length front ≤ front_length limits.http_head h
+    → IsHeadFor limits.http_head limits.http_fields h front found → option_map view response
     ≡ option_map (λ f. response_of f.0) found → payload ≡ payload_of front found → is_some response ≡ true
     → PartsBlock limits h front (option_map view response) payload
 parts-first view limits h front payload None found l f r p s = absurd (cc)
 parts-first view limits h front payload (Some x) None l f r p s = absurd (cc)
 parts-first view limits h front payload (Some x) (Some found) l f r p s = record {
   found = Some found;
-  within = (let m = min-le_left h.parts.length (if may_have_head h then limits.head else 0) in omega (arith, l, m));
-  decides = λ more few. found-first (may_have_head h) limits.head limits.fields front more found f;
+  within = (let m = min-le_left h.parts.length (if may_have_head h then limits.http_head else 0) in omega (arith, l, m));
+  decides = λ more few. found-first (may_have_head h) limits.http_head limits.http_fields front more found f;
   response_is = r;
   payload_is = p;
 }

@@ -103,3 +103,8 @@ IsCapture types limit few h block name captured = IsCaptureUnder (url_of types h
 abbrev pub OneCapture : Type 0
 OneCapture = (types : Kind → Bool) (limit few : ℕ) (h : HeadView) (block name : List ℕ) (a b : Option EntryValue)
     → IsCapture types limit few h block name a → IsCapture types limit few h block name b → a ≡ b
+
+-- a record has a capture, or isn't indexed
+abbrev pub HasCapture : (Kind → Bool) → ℕ → ℕ → HeadView → List ℕ → List ℕ → Type 0
+HasCapture types limit few h block name = (captured : Option EntryValue)
+    × IsCapture types limit few h block name captured

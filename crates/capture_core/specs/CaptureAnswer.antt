@@ -13,18 +13,18 @@ use Rattle.capture_core.specs.Capture.{ResponseValue, IsHeadFor, IsCaptureUnder,
 
 -- the limits of an HTTP head, in bytes and fields, and that of a line, in bytes
 pub record Limits : Type 0 where
-  pub head : ℕ
-  pub fields : ℕ
+  pub http_head : ℕ
+  pub http_fields : ℕ
   pub line : ℕ
 
 -- The answer is the capture, under this URL, of the record that begins the bytes, within the limit of a line, or says that its
 -- line is too long. That a key is too long is said only of a record that is indexed.
 abbrev pub IsCaptureOf : Option (List ℕ) → Limits → HeadView → List ℕ → List ℕ → Result (Option EntryValue) CaptureFault
     → Type 0
-IsCaptureOf url limits h name bytes (Ok captured) = IsCaptureUnder url limits.head limits.fields h
+IsCaptureOf url limits h name bytes (Ok captured) = IsCaptureUnder url limits.http_head limits.http_fields h
     (take h.parts.length bytes) name captured
 IsCaptureOf url limits h name bytes (Err (LineTooLong o)) =
-    (entry : EntryValue) × IsCaptureUnder url limits.head limits.fields h (take h.parts.length bytes) name (Some entry)
+    (entry : EntryValue) × IsCaptureUnder url limits.http_head limits.http_fields h (take h.parts.length bytes) name (Some entry)
     × (limits.line < length (line_text entry))
 IsCaptureOf url limits h name bytes (Err (KeyTooLong o)) = IsSome url
 IsCaptureOf url limits h name bytes (Err other) = ⊤
@@ -40,7 +40,7 @@ abbrev pub Captures : Option (List ℕ) → Limits → HeadView → List ℕ →
 Captures url limits h name before r = IfSome before (λ bytes. IsCaptureOf url limits h name bytes r)
 
 abbrev pub usual_limits : Limits
-usual_limits = record { head = HTTP_HEAD_LIMIT; fields = HTTP_FIELD_LIMIT; line = LINE_LIMIT }
+usual_limits = record { http_head = HTTP_HEAD_LIMIT; http_fields = HTTP_FIELD_LIMIT; line = LINE_LIMIT }
 
 -- These first bytes of a record's block are split as the whole block is: the head that was found in them is that of every
 -- block that begins with them and is no longer than the record's.
@@ -49,7 +49,7 @@ pub record PartsBlock (limits : Limits) (h : HeadView) (front : List ℕ) (respo
   pub found : Option (ResponseHead × List ℕ)
   pub within : length front ≤ h.parts.length
   pub decides : (more : List ℕ) → length front + length more ≤ h.parts.length
-      → IsHeadFor limits.head limits.fields h (front ++ more) (then_more more found)
+      → IsHeadFor limits.http_head limits.http_fields h (front ++ more) (then_more more found)
   pub response_is : response ≡ option_map (λ f. response_of f.0) found
   pub payload_is : payload ≡ payload_of front found
 

@@ -14,7 +14,7 @@ use Rattle.capture_core.specs.RecordReading.{ReadsRest, front_length}
 use Rattle.capture_core.specs.CaptureAnswer.{CapturesBehind, IsEntryOf, usual_limits}
 
 -- The record is indexed, and of its block the reader gave this much of the front.
-pub record IsReadTo (indexed : Indexed) (front : List ℕ) (reader : ReaderView) : Type 0 where
+pub record HasFront (indexed : Indexed) (front : List ℕ) (reader : ReaderView) : Type 0 where
   pub named : 0 < length indexed.name.now
   pub target : 0 < length indexed.url.now
   pub within : length front ≤ front_length HTTP_HEAD_LIMIT indexed.head.now

@@ -21,13 +21,13 @@ IsHeadOf bytes fields block None = HasNoHead bytes fields block
 IsHeadOf bytes fields block (Some found) = BeginsWithHead bytes fields block found.0 found.1
 
 -- the value of the first field of that name, without regard to case
-abbrev pub first_value : List ℕ → List (List ℕ × List ℕ) → Option (List ℕ)
-first_value name [] = None
-first_value name (f ∷ fields) = if str_eq_ignore_ascii_case f.0 name then Some f.1 else first_value name fields
+abbrev pub first_field_value : List ℕ → List (List ℕ × List ℕ) → Option (List ℕ)
+first_field_value name [] = None
+first_field_value name (f ∷ fields) = if str_eq_ignore_ascii_case f.0 name then Some f.1 else first_field_value name fields
 
 -- the value of the head's first field of that name
 abbrev pub field_of : List ℕ → ResponseHead → Option (List ℕ)
-field_of name h = first_value name (map name_and_value h.fields)
+field_of name h = first_field_value name (map name_and_value h.fields)
 
 -- what follows the head, once more bytes come
 abbrev pub then_more : List ℕ → Option (ResponseHead × List ℕ) → Option (ResponseHead × List ℕ)

@@ -14,14 +14,14 @@ use Rattle.capture_core.specs.declared.fault.CaptureFault.TheVariants.{Archive, 
 use Rattle.capture_core.specs.Indexed.{may_have_head}
 
 -- how a record was read that ended so: a refused growth leaves it read whole
-abbrev pub read_to : Cause → Result (Unit {0}) Cause
-read_to causes.Memory = Ok tt
-read_to c = Err c
+abbrev pub reading_after : Cause → Result (Unit {0}) Cause
+reading_after causes.Memory = Ok tt
+reading_after c = Err c
 
 -- how a record was read, by what was answered of it: only a fault of the archive ends the reading
 abbrev pub reading_of : {A : Type 0} → Result A CaptureFault → Result (Unit {0}) Cause
 reading_of (Ok x) = Ok tt
-reading_of (Err (Archive f)) = read_to f.cause
+reading_of (Err (Archive f)) = reading_after f.cause
 reading_of (Err (LineTooLong o)) = Ok tt
 reading_of (Err (KeyTooLong o)) = Ok tt
 

@@ -6,8 +6,8 @@ use Rattle.cdxj_core.specs.Entries.{EntryValue, line_text, HasLine}
 use Rattle.cdxj_core.specs.Lines.{LineValue, body_of, line_in}
 
 -- the entry with these values
-abbrev pub entry_of : LineValue → EntryValue
-entry_of l = record {
+abbrev pub entry_of_values : LineValue → EntryValue
+entry_of_values l = record {
   key = l.key;
   stamp = l.stamp;
   url = l.original;
@@ -21,7 +21,7 @@ entry_of l = record {
 
 -- the same, or an entry of nothing where there are no values
 abbrev pub entry_or_nothing : Option LineValue → EntryValue
-entry_or_nothing (Some l) = entry_of l
+entry_or_nothing (Some l) = entry_of_values l
 entry_or_nothing None = record {
   key = [];
   stamp = [];

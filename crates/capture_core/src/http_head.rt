@@ -2,7 +2,7 @@
 ghost use Rattle.std.specs.Prelude.{◌≡◌, ◌<◌, ◌≤◌, length, map, All, IfOk, IfErr, IfSome, IfNone, option_map};
 ghost use Rattle.std.specs.Str.{str_eq_ignore_ascii_case};
 ghost use Rattle.httparse.specs.Spans.{IsHeaderWithin, ResponseOverflows, header_bytes};
-ghost use Rattle.capture_core.specs.HttpHead.{HasNoHead, first_value};
+ghost use Rattle.capture_core.specs.HttpHead.{HasNoHead, first_field_value};
 ghost use Rattle.capture_core.specs.ResponseView.{IsHeadAt};
 
 use httparse::spans::{EMPTY_HEADER_SPAN, HeaderSpan, parse_response};
@@ -81,7 +81,7 @@ fn head_within<'a>(
             if head.len <= HTTP_HEAD_LIMIT {
                 Ok(Some(HttpHead {
                     code: head.code,
-                    content_type: value_of(block, &spans[..head.headers], b"content-type"),
+                    content_type: first_field_value(block, &spans[..head.headers], b"content-type"),
                     len: head.len,
                 }))
             } else {
@@ -95,9 +95,9 @@ fn head_within<'a>(
 }
 
 /// Returns the value of the first field of this name, ignoring ASCII case.
-fn value_of<'a>(bytes: &'a [u8], fields: &[HeaderSpan], name: &[u8]) -> Option<&'a [u8]>
+fn first_field_value<'a>(bytes: &'a [u8], fields: &[HeaderSpan], name: &[u8]) -> Option<&'a [u8]>
     requires { All (IsHeaderWithin (length bytes.now)) fields.now }
-    ensures { option_map (λ v. v.now) result ≡ first_value name.now
+    ensures { option_map (λ v. v.now) result ≡ first_field_value name.now
         (map (header_bytes bytes.now) fields.now) }
 {
     for field in fields {

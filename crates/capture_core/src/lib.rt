@@ -6,6 +6,7 @@
 mod capture_line;
 mod closing;
 mod entry_line;
+mod existence;
 mod fault;
 mod field_value;
 mod held_line;
@@ -22,6 +23,7 @@ mod target;
 mod types;
 mod utf8_text;
 
+pub use crate::existence::record_has_a_capture;
 pub use crate::fault::CaptureFault;
 pub use crate::held_line::HeldLine;
 pub use crate::laws::{block_has_one_head, record_has_one_capture};

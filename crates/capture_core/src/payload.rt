@@ -61,7 +61,7 @@ pub(crate) fn part_decided<'a>(head: &Head, front: &'a [u8], whole: usize) -> Op
 }
 
 /// Splits the first bytes of a record's block.
-fn part(front: &[u8]) -> Parted<'_>
+pub(crate) fn part(front: &[u8]) -> Parted<'_>
     ensures parts { (found : Option (ResponseHead × List ℕ))
         × IsHeadOf HTTP_HEAD_LIMIT HTTP_FIELD_LIMIT front.now found
         × (option_map response_view result.response ≡ option_map (λ f. response_of f.0) found)

@@ -9,7 +9,7 @@ ghost use Rattle.capture_core.specs.Types.{includes};
 ghost use Rattle.capture_core.specs.ResponseView.{response_view};
 ghost use Rattle.capture_core.specs.RecordReading.{ReadsWhole};
 ghost use Rattle.capture_core.specs.CaptureAnswer.{Captures, IsEntryOf, PartsBlock, usual_limits};
-ghost use Rattle.capture_core.specs.CaptureSteps.{IsReadTo, FillsBehind, CapturesRest};
+ghost use Rattle.capture_core.specs.CaptureSteps.{HasFront, FillsBehind, CapturesRest};
 
 use crate::capture_line::memory;
 use crate::closing::capture_closed;
@@ -125,7 +125,7 @@ fn capture_indexed<I: Input>(
     input: &mut I,
     indexed: Indexed<'_>,
 ) -> Result<Option<HeldLine>, CaptureFault>
-    requires { IsReadTo indexed [] reader.old }
+    requires { HasFront indexed [] reader.old }
     ensures { CapturesRest indexed.entry []
         (state_of reader.old (I.remaining input.old) (I.failures input.old))
         (state_of reader.new (I.remaining input.new) (I.failures input.new)) result }
@@ -219,7 +219,7 @@ fn refuse<I: Input>(
     indexed: Indexed<'_>,
 ) -> Result<Option<HeldLine>, CaptureFault>
     requires { HasLeft 0 reader.old.phase }
-    ensures { (first : List ℕ) → IsReadTo indexed.entry first reader.old
+    ensures { (first : List ℕ) → HasFront indexed.entry first reader.old
         → CapturesRest indexed.entry first
         (state_of reader.old (I.remaining input.old) (I.failures input.old))
         (state_of reader.new (I.remaining input.new) (I.failures input.new)) result }
@@ -236,7 +236,7 @@ fn capture_parted<I: Input>(
     indexed: Indexed<'_>,
     parted: Parted<'_>,
 ) -> Result<Option<HeldLine>, CaptureFault>
-    requires ready { IsReadTo indexed parted.bytes.now reader.old }
+    requires ready { HasFront indexed parted.bytes.now reader.old }
     requires parts { PartsBlock usual_limits indexed.head.now parted.bytes.now
         (option_map response_view parted.response) parted.payload.now }
     requires code { IfSome parted.response (λ r. r.code < 1000) }

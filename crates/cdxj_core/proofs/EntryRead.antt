@@ -1,6 +1,6 @@
 -- The line of a good entry is read as that entry.
 use Rattle.std.proofs.Common.{◌≡◌, ℕ, ◌-◌, ◌<◌, ◌≤◌, ◌^◌, ◌==◌, Bool, true, not, List, [], ◌∷◌, ◌++◌, length}
-use Rattle.std.proofs.Common.{take, decimal, Some, option_and_then, get_or, refl, sym, ap, ◌∙◌, subst, arith}
+use Rattle.std.proofs.Common.{take, decimal, Some, option_and_then, get_or, refl, ap, ◌∙◌, subst, arith}
 use Rattle.std.proofs.Common.{flat_map, ⊎_elim}
 use Rattle.std.specs.List.{join_by, before_first, after_first}
 use Rattle.std.specs.Char.{is_ascii_digit}

@@ -97,19 +97,6 @@ line_found key stamp text found h =
     let d = and_then_some object_found (read_text text) found h in
     ap (option_and_then (line_from key stamp)) d.1 ∙ object_line key stamp d.0 found d.2
 
-no_object : (key stamp : List ℕ) (o : Option Data) → option_and_then object_found o ≡ None
-    → option_and_then (line_from key stamp) o ≡ None
-no_object key stamp None e = refl
-no_object key stamp (Some null) e = refl
-no_object key stamp (Some (boolean b)) e = refl
-no_object key stamp (Some (number n)) e = refl
-no_object key stamp (Some (string s)) e = refl
-no_object key stamp (Some (array ds)) e = refl
-no_object key stamp (Some (object ms)) e = absurd (cc)
-
-pub no_line : (key stamp text : List ℕ) → members_in text ≡ None → line_object key stamp text ≡ None
-no_line key stamp text e = no_object key stamp (read_text text) e
-
 nothing : {A B : Type 0} (o : Option A) → option_and_then {U = B} (λ a. None) o ≡ None
 nothing None = refl
 nothing (Some a) = refl

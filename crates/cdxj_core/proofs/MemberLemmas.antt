@@ -1,6 +1,6 @@
 -- The entry of a line.
-use Rattle.std.proofs.Common.{◌≡◌, ◌≢◌, ℕ, ◌-◌, ◌<◌, ◌≤◌, ◌==◌, ◌&&◌, Bool, nat_lt, true, false, not, cond, List, []}
-use Rattle.std.proofs.Common.{◌∷◌, length, take, get_or, Option, Some, None, option_map, Err, refl, sym, ap, ◌∙◌, subst}
+use Rattle.std.proofs.Common.{◌≡◌, ℕ, ◌-◌, ◌<◌, ◌≤◌, ◌==◌, ◌&&◌, Bool, nat_lt, true, false, not, cond, List, []}
+use Rattle.std.proofs.Common.{◌∷◌, length, take, get_or, Option, Some, None, option_map, refl, sym, ap, ◌∙◌, subst}
 use Rattle.std.proofs.Common.{arith}
 use Rattle.std.specs.Str.{IsUtf8, is_utf8}
 use Rattle.std.proofs.lemmas.Bool.{cond-true, cond-false, not-true, lt-ltb, le-ltb}
@@ -11,9 +11,7 @@ use Rattle.cdxj_places.specs.Pair.{is_space, is_key, is_stamp, pair_of}
 use Rattle.cdxj_places.proofs.PlaceLaw.{both}
 use Rattle.cdxj_core.specs.Entries.{EntryValue, HasLine, body_text, line_text}
 use Rattle.cdxj_core.specs.Lines.{LineValue, has_no_feed, line_object, line_parts, line_in, body_of}
-use Rattle.cdxj_core.specs.Members.{Member, member_pair, entry_member, line_entry, IsReading}
-use Rattle.cdxj_core.specs.declared.fault.LineFault.{LineFault}
-use Rattle.cdxj_core.specs.declared.fault.LineFault.TheVariants.{Memory, LineTooLong, BadLine}
+use Rattle.cdxj_core.specs.Members.{Member, member_pair, entry_member, line_entry}
 use Rattle.cdxj_core.proofs.EntryRead.{body_of-feed}
 use Rattle.cdxj_core.proofs.EntryUtf8.{line_law, line_utf8}
 use Rattle.cdxj_core.proofs.PairLaw.{if_test, line_pair, line_in-higher, line_in-feed, line_in-short}
@@ -119,12 +117,6 @@ written_entry limit e h =
     })
 
 -- ---- reading
-
-pub reading_refused : (limit : ℕ) (line : List ℕ) (fault : LineFault) → length (body_of line) < limit
-    → (fault ≡ BadLine → line_in limit (body_of line) ≡ None) → fault ≢ LineTooLong → IsReading limit line (Err fault)
-reading_refused limit line Memory short bad long = short
-reading_refused limit line LineTooLong short bad long = absurd (long refl)
-reading_refused limit line BadLine short bad long = (short, entry_none limit line (λ utf8. bad refl))
 
 body_values : (limit : ℕ) (body key rest stamp object : List ℕ) (v : LineValue) → length body < limit
     → has_no_feed body ≡ true

@@ -1,5 +1,5 @@
 -- What a plain object is read as.
-use Rattle.std.proofs.Common.{◌≡◌, ℕ, zero, suc, ◌<◌, ◌^◌, ◌==◌, Bool, true, false, cond, List, [], ◌∷◌, ◌++◌, length}
+use Rattle.std.proofs.Common.{◌≡◌, ℕ, ◌<◌, ◌^◌, ◌==◌, Bool, true, false, cond, List, [], ◌∷◌, ◌++◌, length}
 use Rattle.std.proofs.Common.{decimal, Some, None, get_or, append_assoc, flat_map, codes, refl, sym, ap, ◌∙◌, arith}
 use Rattle.std.specs.List.{list_all}
 use Rattle.std.specs.Str.Parse.{digits_value}
@@ -105,10 +105,6 @@ canonical_decimal ds n h single =
     let inner = and_parts _ _ outer.0 in
     let some : 0 < length ds = ltb-true _ _ (and_parts _ _ inner.0).0 in
     sym (decimal-digits_value own ds inner.1 some single (omega (arith, small))) ∙ ap decimal parts.1
-
-pub some_from : (n : ℕ) → (n == 0) ≡ false → 0 < n
-some_from zero h = absurd (cc)
-some_from (suc n) h = omega arith
 
 -- ---- writing
 

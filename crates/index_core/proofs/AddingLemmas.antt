@@ -21,7 +21,7 @@ use Rattle.capture_core.specs.declared.fault.CaptureFault.TheVariants.{Archive, 
 use Rattle.capture_core.specs.Indexed.{url_of}
 use Rattle.capture_core.specs.Capture.{IsCapture}
 use Rattle.capture_core.specs.CaptureAnswer.{Limits, IsEntryOf, Captures}
-use Rattle.capture_core.specs.RecordReading.{IsFaultAt, read_to, reading_of}
+use Rattle.capture_core.specs.RecordReading.{IsFaultAt, reading_after, reading_of}
 use Rattle.index_core.specs.Accepted.{IsCaptureAt, IsCaptured, AreCaptured, IsAccepted, IsAcceptedTo, IsRefused}
 use Rattle.capture_core.specs.Fault.{fault_offset}
 use Rattle.capture_core.specs.declared.types.Types.{Types}
@@ -50,7 +50,7 @@ behind_head limit start h z y r = ap (drop (length h.raw)) (next-spelled limit s
 
 -- how a record at fault was read
 record_met : (limit start : ℕ) (h : HeadView) (c : Cause) (before mid after : Option (List ℕ))
-    → Reads (next_at limit start) (Ok (Some h)) before mid → Reads (after_record h.parts.length) (read_to c) mid after
+    → Reads (next_at limit start) (Ok (Some h)) before mid → Reads (after_record h.parts.length) (reading_after c) mid after
     → Reads (record_at limit start) (Err c) before after
 record_met limit start h causes.Memory before mid after r s = stopped_anywhere (record_at limit start) causes.Memory
     before after refl
@@ -72,7 +72,7 @@ module _ (types : Kind → Bool) (limits : Limits) (limit : ℕ) (name : List �
   capture_there start h captured None mid after r s k = tt
   capture_there start h captured (Some z) None after r s k = absurd r
   capture_there start h captured (Some z) (Some y) after r s k =
-      subst (λ bytes. IsCapture types limits.head limits.fields h (take h.parts.length bytes) name captured)
+      subst (λ bytes. IsCapture types limits.http_head limits.http_fields h (take h.parts.length bytes) name captured)
       (sym (behind_head limit start h z y r)) k
 
   -- why a record that was read has no capture
@@ -92,7 +92,7 @@ module _ (types : Kind → Bool) (limits : Limits) (limit : ℕ) (name : List �
     record-whole limit start (Some z) (Some y) (Some w) h r s,
     k.0,
     subst
-        (λ bytes. IsCapture types limits.head limits.fields h (take h.parts.length bytes) name (Some k.0))
+        (λ bytes. IsCapture types limits.http_head limits.http_fields h (take h.parts.length bytes) name (Some k.0))
         (sym (behind_head limit start h z y r)) k.1,
     k.2,
   )

@@ -36,7 +36,7 @@ captured_once : (types : Kind → Bool) (limits : Limits) (limit : ℕ) (name ar
     → AreCaptured types limits limit name archive heads b → a ≡ b
 captured_once types limits limit name archive [] a b v w = v ∙ sym w
 captured_once types limits limit name archive (h ∷ heads) a b v w =
-    let one : v.0 ≡ w.0 = one_capture types limits.head limits.fields h _ name v.0 w.0 v.2.0 w.2.0 in
+    let one : v.0 ≡ w.0 = one_capture types limits.http_head limits.http_fields h _ name v.0 w.0 v.2.0 w.2.0 in
     let others = captured_once types limits limit name archive heads v.1 w.1 v.3 w.3 in
     v.4 ∙ (ap₂ (λ x y. option_to_list x ++ y) one others ∙ sym w.4)
 

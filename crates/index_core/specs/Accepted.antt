@@ -17,7 +17,7 @@ use Rattle.capture_core.specs.CaptureAnswer.{Limits}
 module _ (types : Kind → Bool) (limits : Limits) (limit : ℕ) (name : List ℕ) where
   -- the capture of the record that begins these bytes
   abbrev pub IsCaptureAt : HeadView → List ℕ → Option EntryValue → Type 0
-  IsCaptureAt h bytes captured = IsCapture types limits.head limits.fields h (block_at h bytes) name captured
+  IsCaptureAt h bytes captured = IsCapture types limits.http_head limits.http_fields h (block_at h bytes) name captured
 
   -- the capture of a record of the archive, with a line that isn't too long
   abbrev pub IsCaptured : List ℕ → HeadView → Option EntryValue → Type 0

@@ -39,7 +39,7 @@ pub fn give_block<I: Input>(
         (0 < left → 0 < length piece.new → 0 < n)) }
     ensures bytes { MatchResult result
         (λ n. Consumes (prepend_known buffer.old (I.remaining input.old))
-            (prepend_known buffer.new (I.remaining input.new)) (take n piece.new))
+        (prepend_known buffer.new (I.remaining input.new)) (take n piece.new))
         (λ c. IsFoundAt (after_block left) c (prepend_known buffer.old (I.remaining input.old))) }
     ensures failures { CountsRead result (I.failures input.old) (I.failures input.new) }
 {

@@ -2,13 +2,13 @@ use Rattle.std.proofs.Common.{◌-◌, ◌≤◌, ℕ, List, [], Option, Result,
 use Rattle.warc_core.specs.ReaderView.{ReaderView, state_of}
 use Rattle.cdxj_core.specs.Entries.{EntryValue}
 use Rattle.capture_core.specs.declared.fault.CaptureFault.{CaptureFault}
-use Rattle.capture_core.specs.CaptureSteps.{IsReadTo, CapturesRest}
+use Rattle.capture_core.specs.CaptureSteps.{HasFront, CapturesRest}
 use Rattle.capture_core.proofs.record_capture.capture_indexed.Given as goal
 
 abbrev pub invariant-steps : goal.invariant-steps
 invariant-steps g l = record {
   within : l.filled ≤ length l.front.items;
-  ready : IsReadTo l.indexed (take l.filled l.front.items) l.reader;
+  ready : HasFront l.indexed (take l.filled l.front.items) l.reader;
   rest : (r : Result (Option EntryValue) CaptureFault) (new : ReaderView) (after : Option (List ℕ)) (k : ℕ)
       → CapturesRest l.indexed (take l.filled l.front.items)
       (state_of l.reader (g.I.Input.remaining l.input) (g.I.Input.failures l.input)) (state_of new after k) r
