@@ -65,6 +65,7 @@ counts_merge (Err x) e ss was ss' o put o' h k l q =
     subst (λ x. RaisedBy x ss ss' o o') (sym h)
     (subst (λ n. RaisedBy e ss ss' n o') l (subst (λ ns. RaisedBy e ns ss' put o') k q))
 
-pub if_err : {A E : Type 0} (r : Result A E) (e : E) (Q : E → Type 0) → r ≡ Err e → Q e → IfErr r Q
-if_err (Ok x) e Q h q = cc
-if_err (Err x) e Q h q = (let is : e ≡ x = cc in subst Q is q)
+-- an error that a `?` returns has what the error has
+pub if_err : {A E : Type 0} (r : Result A E) (e : E) (Q : E → Type 0) → IsErrAnd r (λ x. x ≡ e) → Q e → IfErr r Q
+if_err (Ok x) e Q h q = absurd h
+if_err (Err x) e Q h q = subst Q (sym h) q

@@ -1,5 +1,5 @@
 -- One group more of a merge.
-use Rattle.std.proofs.Common.{◌≡◌, ℕ, Result, Ok, Err, OnErr, List, [], ◌∷◌, ◌++◌, refl, sym, ap, ap₂, ◌∙◌, subst}
+use Rattle.std.proofs.Common.{◌≡◌, ℕ, Result, Ok, Err, IsErrAnd, OnErr, List, [], ◌∷◌, ◌++◌, refl, sym, ap, ap₂, ◌∙◌, subst}
 use Rattle.std.proofs.Common.{Bool, Option, Some, None, map, true, Less, Equal, Greater, Ordering, is_lt, is_gt}
 use Rattle.std.specs.List.{AllByRecursion}
 use Rattle.std.specs.Ordering.{ordering_reverse}
@@ -119,8 +119,8 @@ handed_none limit text ss fs e = record {
   );
 }
 
-pub on_err : {A E : Type 0} (r : Result A E) (e : E) (P : Type 0) → r ≡ Err e → P → OnErr r P
-on_err (Ok x) e P h p = cc
+pub on_err : {A E : Type 0} (r : Result A E) (e : E) (P : Type 0) → IsErrAnd r (λ x. x ≡ e) → P → OnErr r P
+on_err (Ok x) e P h p = absurd h
 on_err (Err x) e P h p = p
 
 pub map_seen : {A X Y : Type 0} (f : X → Y) (g : A → X) (xs : List A) → map (λ a. f (g a)) xs ≡ map f (map g xs)

@@ -2,7 +2,6 @@ use Rattle.std.specs.List.{AllByRecursion, AllZip}
 use Rattle.std.proofs.Common.{arith, ◌≡◌, ℕ, ◌+◌, ◌≤◌, length, ◌∷◌, ◌++◌, [], inl, inr, Box, Global, List, Some, None}
 use Rattle.std.proofs.Common.{MatchOption, map, zip, refl, sym, ap₂, ◌∙◌, subst}
 use Rattle.std.proofs.lemmas.Bool.{true≢false}
-use Rattle.std.proofs.lemmas.Result.{err_from_is_err_and}
 use Rattle.cdxj_core.specs.declared.limit.TheConstants.{LINE_LIMIT}
 use Rattle.cdxj_core.specs.declared.line.Line.{Line}
 use Rattle.cdxj_core.specs.Members.{Member, member_pair, member_place}
@@ -173,8 +172,7 @@ pub returns-in_err-more-clause-broke : goal.returns-in_err-more-clause-broke
 returns-in_err-more-clause-broke g c =
     let here = goal.at.returns-in_err-more-clause-broke g c in
     let came = c.loop-rest.invariant.came in
-    let p = err_from_is_err_and c.from_residual-in_err-more.result c.from_residual-in_err-more.ensures.1 in
-    on_err c.from_residual-in_err-more.result p.0 _ p.1 (
+    on_err c.from_residual-in_err-more.result c.in_err-more.field-0.0 _ c.from_residual-in_err-more.ensures.1 (
     elim c.in_err-more.ensures.broke [
       | inl k ↦ (
         c.loop-rest.sources,
@@ -265,11 +263,8 @@ returns-in_err-first-clause-fault g c =
     let texts = map text c.args.sources.now in
     let kept = texts_kept text extent gave c.args.sources.now c.loop-rest.sources c.args.streams.now.feeds.items
     c.loop-rest.streams.feeds.items c.requires.ready.same (omega arith) c.loop-rest.invariant.came.2.moved in
-    let p = err_from_is_err_and c.from_residual.result c.from_residual.ensures.1 in
-    let q : p.0 ≡ c.in_err-first.field-0.0 = p.2 in
-    if_err c.from_residual.result p.0 (IsFaultOf LINE_LIMIT texts) p.1
-    (subst (IsFaultOf LINE_LIMIT texts) (sym q)
-    (subst (λ ts. IsFaultOf LINE_LIMIT ts c.in_err-first.field-0.0) kept c.in_err-first.ensures.fault))
+    if_err c.from_residual.result c.in_err-first.field-0.0 (IsFaultOf LINE_LIMIT texts) c.from_residual.ensures.1
+    (subst (λ ts. IsFaultOf LINE_LIMIT ts c.in_err-first.field-0.0) kept c.in_err-first.ensures.fault)
 
 pub returns-then-not-more-clause-held : goal.returns-then-not-more-clause-held
 returns-then-not-more-clause-held g c = λ texts indexes known are most share h.
@@ -302,8 +297,7 @@ returns-clause-held g c = λ texts indexes known are most share h.
 pub returns-in_err-first-clause-broke : goal.returns-in_err-first-clause-broke
 returns-in_err-first-clause-broke g c =
     let came = c.loop-rest.invariant.came in
-    let p = err_from_is_err_and c.from_residual.result c.from_residual.ensures.1 in
-    on_err c.from_residual.result p.0 _ p.1 (
+    on_err c.from_residual.result c.in_err-first.field-0.0 _ c.from_residual.ensures.1 (
       c.loop-rest.sources,
       c.loop-rest.streams.feeds.items,
       c.loop-rest.streams.waiting,
@@ -320,8 +314,7 @@ returns-in_err-first-clause-halted g c =
     let was = c.loop-rest.sources in let was_feeds = c.loop-rest.streams.feeds.items in
     let came = c.loop-rest.invariant.came in
     let reads = c.in_err-first.ensures.reads in
-    let p = err_from_is_err_and c.from_residual.result c.from_residual.ensures.1 in
-    on_err c.from_residual.result p.0 _ p.1 (
+    on_err c.from_residual.result c.in_err-first.field-0.0 _ c.from_residual.ensures.1 (
       was,
       was_feeds,
       c.loop-rest.streams.waiting,
@@ -346,8 +339,7 @@ returns-in_err-more-clause-halted g c =
     let here = all.In-Some in
     let came = c.loop-rest.invariant.came in
     let pair = member_pair c.in-Some.first.value in
-    let p = err_from_is_err_and c.from_residual-in_err-more.result c.from_residual-in_err-more.ensures.1 in
-    on_err c.from_residual-in_err-more.result p.0 _ p.1 (
+    on_err c.from_residual-in_err-more.result c.in_err-more.field-0.0 _ c.from_residual-in_err-more.ensures.1 (
       c.loop-rest.sources,
       c.loop-rest.streams.feeds.items,
       c.loop-rest.streams.waiting,

@@ -1,6 +1,5 @@
-use Rattle.std.proofs.Common.{◌≡◌, None, [], Box, Global, option_map, refl, subst, sym}
+use Rattle.std.proofs.Common.{◌≡◌, ℕ, List, Some, None, [], Box, Global, option_map, refl, subst, sym}
 use Rattle.std.specs.List.{AllByRecursion}
-use Rattle.std.proofs.lemmas.Result.{err_from_is_err_and}
 use Rattle.cdxj_core.specs.declared.limit.TheConstants.{LINE_LIMIT}
 use Rattle.cdxj_core.specs.declared.line.Line.{Line}
 use Rattle.cdxj_core.specs.Members.{member_pair}
@@ -15,6 +14,8 @@ use Rattle.merge_core.proofs.FailLemmas.{counts_feed, if_err}
 use Rattle.line_queue.proofs.PairOrder.{upto_itself}
 use Rattle.merge_core.proofs.FeedLemmas.{fresh_done}
 use Rattle.merge_core.proofs.DrainLemmas.{settled, at_end}
+use Rattle.merge_core.proofs.feed.Feed.begin.Given.{Over}
+use Rattle.merge_core.proofs.feed.Feed.begin.Goals.{After-next_line}
 use Rattle.merge_core.proofs.feed.Feed.begin.Goals as goal
 
 pub returns-in-Some-clause-fed : goal.returns-in-Some-clause-fed
@@ -22,10 +23,7 @@ returns-in-Some-clause-fed g c =
     let ok = c.in_ok-line.ensures in
     let pair = member_pair c.in-Some.line.value in
     settled LINE_LIMIT (g.R.Range.past c.args.range.now) (λ (b : Box Line Global). b.value)
-    (g.S.Source.text c.args.source.now) (g.S.Source.text c.next_line.new.source)
-    (g.S.Source.extent c.args.source.now) (g.S.Source.extent c.next_line.new.source) c.args.self.now
-    c.next_line.new.cursor c.in_ok-line.field-0 ok.text ok.extent
-    c.requires.due c.requires.fed ok.stands ok.start ok.count ok.given ok.most c.settle.new.self c.settle.ensures.cursor
+    _ _ _ _ c.args.self.now c.next_line.new.cursor c.in_ok-line.field-0 ok.text ok.extent c.requires.due c.requires.fed ok.stands ok.start ok.count ok.given ok.most c.settle.new.self c.settle.ensures.cursor
     c.in-Some.line c.in-Some.is pair
     (λ t e. subst (AllByRecursion (λ k. Upto (member_pair k) pair))
     (sym (fresh_done LINE_LIMIT t c.args.self.now c.requires.fresh)) tt) (upto_itself pair)
@@ -35,54 +33,40 @@ pub returns-in-None-clause-fed : goal.returns-in-None-clause-fed
 returns-in-None-clause-fed g c =
     let ok = c.in_ok-line.ensures in
     at_end LINE_LIMIT (g.R.Range.past c.args.range.now) (λ (b : Box Line Global). b.value)
-    (g.S.Source.text c.args.source.now) (g.S.Source.text c.next_line.new.source)
-    (g.S.Source.extent c.args.source.now) (g.S.Source.extent c.next_line.new.source) c.args.self.now
-    c.next_line.new.cursor c.in_ok-line.field-0 ok.text ok.extent
-    c.requires.due c.requires.fed ok.stands ok.start ok.count ok.given ok.most
+    _ _ _ _ c.args.self.now c.next_line.new.cursor c.in_ok-line.field-0 ok.text ok.extent c.requires.due c.requires.fed ok.stands ok.start ok.count ok.given ok.most
     (record { cursor = c.next_line.new.cursor; progress = Ended }) refl c.in-None.is refl
 
 pub returns-in_err-line-clause-fault : goal.returns-in_err-line-clause-fault
 returns-in_err-line-clause-fault g c = λ t e.
     let past = g.R.Range.past c.args.range.now in
     let extent = g.S.Source.extent c.args.source.now in
-    let p = err_from_is_err_and c.from_residual.result c.from_residual.ensures.1 in
-    let q : p.0 ≡ c.in_err-line.field-0.0 = p.2 in
-    if_err c.from_residual.result p.0 (NamesLine LINE_LIMIT t) p.1
-    (subst (NamesLine LINE_LIMIT t) (sym q)
+    if_err c.from_residual.result c.in_err-line.field-0.0 (NamesLine LINE_LIMIT t) c.from_residual.ensures.1
     (bad_named LINE_LIMIT past t extent c.args.self.now
     (subst (λ o. Fed LINE_LIMIT past o extent c.args.self.now []) e c.requires.fed) c.in_err-line.field-0.0
-    (c.in_err-line.ensures.fault t e)))
+    (c.in_err-line.ensures.fault t e))
+
+-- no line was read but the first
+reads : (g : Over) (c : After-next_line g) (t : List ℕ) → g.S.Source.text c.args.source.now ≡ Some t
+    → ReadTo LINE_LIMIT (g.R.Range.past c.args.range.now) None t c.next_line.new.cursor
+reads g c t e =
+    let past = g.R.Range.past c.args.range.now in
+    let extent = g.S.Source.extent c.args.source.now in
+    let f = c.args.self.now in
+    let next = c.next_line.ensures in
+    read_to LINE_LIMIT past t extent f [] None (subst (λ o. Fed LINE_LIMIT past o extent f []) e c.requires.fed)
+    (subst (AllByRecursion (λ m. IsUpto None (member_pair m))) (sym (fresh_done LINE_LIMIT t f c.requires.fresh)) tt)
+    c.next_line.new.cursor next.start (next.most t e) next.ahead
 
 pub returns-in_err-line-clause-reads : goal.returns-in_err-line-clause-reads
-returns-in_err-line-clause-reads g c = λ t e.
-    let past = g.R.Range.past c.args.range.now in
-    let extent = g.S.Source.extent c.args.source.now in
-    let f = c.args.self.now in
-    let next = c.next_line.ensures in
-    read_to LINE_LIMIT past t extent f [] None (subst (λ o. Fed LINE_LIMIT past o extent f []) e c.requires.fed)
-    (subst (AllByRecursion (λ m. IsUpto None (member_pair m))) (sym (fresh_done LINE_LIMIT t f c.requires.fresh)) tt)
-    c.next_line.new.cursor next.start (next.most t e) next.ahead
+returns-in_err-line-clause-reads g c = reads g (goal.at.returns-in_err-line-clause-reads g c).After-next_line
 
 pub returns-in-None-clause-reads : goal.returns-in-None-clause-reads
-returns-in-None-clause-reads g c = λ t e.
-    let past = g.R.Range.past c.args.range.now in
-    let extent = g.S.Source.extent c.args.source.now in
-    let f = c.args.self.now in
-    let next = c.next_line.ensures in
-    read_to LINE_LIMIT past t extent f [] None (subst (λ o. Fed LINE_LIMIT past o extent f []) e c.requires.fed)
-    (subst (AllByRecursion (λ m. IsUpto None (member_pair m))) (sym (fresh_done LINE_LIMIT t f c.requires.fresh)) tt)
-    c.next_line.new.cursor next.start (next.most t e) next.ahead
+returns-in-None-clause-reads g c = reads g (goal.at.returns-in-None-clause-reads g c).After-next_line
 
 pub returns-in-Some-clause-reads : goal.returns-in-Some-clause-reads
 returns-in-Some-clause-reads g c = λ t e.
-    let past = g.R.Range.past c.args.range.now in
-    let extent = g.S.Source.extent c.args.source.now in
-    let f = c.args.self.now in
-    let next = c.next_line.ensures in
-    subst (ReadTo LINE_LIMIT past None t) (sym c.settle.ensures.cursor)
-    (read_to LINE_LIMIT past t extent f [] None (subst (λ o. Fed LINE_LIMIT past o extent f []) e c.requires.fed)
-    (subst (AllByRecursion (λ m. IsUpto None (member_pair m))) (sym (fresh_done LINE_LIMIT t f c.requires.fresh)) tt)
-    c.next_line.new.cursor next.start (next.most t e) next.ahead)
+    subst (ReadTo LINE_LIMIT (g.R.Range.past c.args.range.now) None t) (sym c.settle.ensures.cursor)
+    (reads g (goal.at.returns-in-Some-clause-reads g c).After-next_line t e)
 
 pub returns-in_err-line-clause-failures : goal.returns-in_err-line-clause-failures
 returns-in_err-line-clause-failures g c =

@@ -3,7 +3,6 @@ use Rattle.std.proofs.Common.{◌≡◌, ℕ, List, Some, ◌+◌, ◌<◌, ◌�
 use Rattle.std.proofs.Common.{refl, sym, ap, ◌∙◌, subst, arith}
 use Rattle.std.specs.List.{AllByRecursion}
 use Rattle.std.specs.Ordering.{ordering_reverse}
-use Rattle.std.proofs.lemmas.Result.{err_from_is_err_and}
 use Rattle.cdxj_core.specs.declared.limit.TheConstants.{LINE_LIMIT}
 use Rattle.cdxj_core.specs.declared.line.Line.{Line}
 use Rattle.cdxj_core.specs.Members.{member_pair}
@@ -165,13 +164,10 @@ returns-in_err-line-clause-fault g c = λ t e.
     let inv = c.loop-line.invariant in
     let extent = g.S.Source.extent c.loop-line.source in
     let text = inv.text ∙ e in
-    let p = err_from_is_err_and c.from_residual.result c.from_residual.ensures.1 in
-    let q : p.0 ≡ c.in_err-line.field-0.0 = p.2 in
-    if_err c.from_residual.result p.0 (NamesLine LINE_LIMIT t) p.1
-    (subst (NamesLine LINE_LIMIT t) (sym q)
+    if_err c.from_residual.result c.in_err-line.field-0.0 (NamesLine LINE_LIMIT t) c.from_residual.ensures.1
     (bad_named LINE_LIMIT past t extent c.loop-line.self
     (told g (goal.at.returns-in_err-line-clause-fault g c).After-next_line t e) c.in_err-line.field-0.0
-    (c.in_err-line.ensures.fault t text)))
+    (c.in_err-line.ensures.fault t text))
 
 pub returns-in-Less-clause-fault : goal.returns-in-Less-clause-fault
 returns-in-Less-clause-fault g c = λ t e.

@@ -1,8 +1,8 @@
 use Rattle.std.proofs.Common.{[], ◌∷◌, subst}
-use Rattle.std.proofs.lemmas.Result.{err_from_is_err_and}
 use Rattle.std.specs.Io.KnownBytes.{Appends}
 use Rattle.devices.specs.Device.{AppendsPrefix}
 use Rattle.devices.proofs.WritingLemmas.{prefix_after, prefix_longer}
+use Rattle.merge_core.specs.declared.fault.SinkFault.TheVariants.{Write}
 use Rattle.merge_core.proofs.MergeLemmas.{on_err}
 use Rattle.merge_core.proofs.WrittenLemmas.{grows_by, grows_on, grows_part}
 use Rattle.merge_core.proofs.line_writer.LineWriter.put_line.Goals as goal
@@ -11,8 +11,7 @@ pub returns-in_err-put-clause-part : goal.returns-in_err-put-clause-part
 returns-in_err-put-clause-part g c =
     let old = g.O.Output.written c.args.out.now in
     let new = g.O.Output.written c.put.new.out in
-    let p = err_from_is_err_and c.from_residual.result c.from_residual.ensures.1 in
-    on_err c.from_residual.result p.0 _ p.1
+    on_err c.from_residual.result Write _ c.from_residual.ensures.1
     (prefix_longer old new c.args.line.now.line (10 ∷ [])
     (subst (AppendsPrefix old new) c.line.ensures.value c.in_err-put.ensures.prefix))
 
@@ -20,8 +19,7 @@ pub returns-in_err-put-2-clause-part : goal.returns-in_err-put-2-clause-part
 returns-in_err-put-2-clause-part g c =
     let old = g.O.Output.written c.args.out.now in
     let mid = g.O.Output.written c.put.new.out in
-    let p = err_from_is_err_and c.from_residual-in_err-put-2.result c.from_residual-in_err-put-2.ensures.1 in
-    on_err c.from_residual-in_err-put-2.result p.0 _ p.1
+    on_err c.from_residual-in_err-put-2.result Write _ c.from_residual-in_err-put-2.ensures.1
     (prefix_after old mid (g.O.Output.written c.put-2.new.out) c.args.line.now.line (10 ∷ [])
     (subst (Appends old mid) c.line.ensures.value c.in_ok-put.ensures.all) c.in_err-put-2.ensures.prefix)
 

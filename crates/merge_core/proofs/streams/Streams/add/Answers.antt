@@ -1,8 +1,12 @@
-use Rattle.std.proofs.Common.{arith, refl}
+use Rattle.std.proofs.Common.{◌≡◌, ℕ, ◌+◌, ◌*◌, ◌≤◌, List, Some, arith, refl}
+use Rattle.source_core.specs.Cursors.{reach}
+use Rattle.source_core.specs.IndexLines.{lines, longest}
 use Rattle.merge_core.proofs.FailLemmas.{counts_feed}
 use Rattle.merge_core.proofs.OpenLemmas.{fed_fresh}
 use Rattle.merge_core.proofs.SpendLemmas.{read_none}
 use Rattle.cdxj_core.specs.declared.limit.TheConstants.{LINE_LIMIT}
+use Rattle.merge_core.proofs.streams.Streams.add.Given.{Over}
+use Rattle.merge_core.proofs.streams.Streams.add.Goals.{After-begin}
 use Rattle.merge_core.proofs.streams.Streams.add.Goals as goal
 
 pub begin-requires-clause-fed : goal.begin-requires-clause-fed
@@ -11,37 +15,26 @@ begin-requires-clause-fed g c =
     (g.S.Source.extent c.args.source.now) c.args.cursor c.requires.stands c.requires.fresh c.requires.first
     c.requires.begins
 
-pub returns-in_err-next-clause-spent : goal.returns-in_err-next-clause-spent
-returns-in_err-next-clause-spent g c = λ t e.
+-- no line was read but the first
+spent : (g : Over) (c : After-begin g) (t : List ℕ) → g.S.Source.text c.args.source.now ≡ Some t
+    → g.S.Source.gave c.begin.new.source + reach c.args.cursor
+    ≤ g.S.Source.gave c.args.source.now + c.args.cursor.start + 2 * longest (lines t) + 8192
+spent g c t e =
     let few = read_none LINE_LIMIT (g.R.Range.past c.args.range.now) t c.begin.new.self.cursor
     (c.begin.ensures.reads t e) in
-    let gave = c.begin.ensures.gave in
-    let start = c.begin.ensures.start in
-    omega (arith, few, gave, start)
+    omega (arith, few, c.begin.ensures.gave, c.begin.ensures.start)
+
+pub returns-in_err-next-clause-spent : goal.returns-in_err-next-clause-spent
+returns-in_err-next-clause-spent g c = spent g (goal.at.returns-in_err-next-clause-spent g c).After-begin
 
 pub returns-in-Err-clause-spent : goal.returns-in-Err-clause-spent
-returns-in-Err-clause-spent g c = λ t e.
-    let few = read_none LINE_LIMIT (g.R.Range.past c.args.range.now) t c.begin.new.self.cursor
-    (c.begin.ensures.reads t e) in
-    let gave = c.begin.ensures.gave in
-    let start = c.begin.ensures.start in
-    omega (arith, few, gave, start)
+returns-in-Err-clause-spent g c = spent g (goal.at.returns-in-Err-clause-spent g c).After-begin
 
 pub returns-in-Ok-let_wait-clause-spent : goal.returns-in-Ok-let_wait-clause-spent
-returns-in-Ok-let_wait-clause-spent g c = λ t e.
-    let few = read_none LINE_LIMIT (g.R.Range.past c.args.range.now) t c.begin.new.self.cursor
-    (c.begin.ensures.reads t e) in
-    let gave = c.begin.ensures.gave in
-    let start = c.begin.ensures.start in
-    omega (arith, few, gave, start)
+returns-in-Ok-let_wait-clause-spent g c = spent g (goal.at.returns-in-Ok-let_wait-clause-spent g c).After-begin
 
 pub returns-in-Err-let_wait-clause-spent : goal.returns-in-Err-let_wait-clause-spent
-returns-in-Err-let_wait-clause-spent g c = λ t e.
-    let few = read_none LINE_LIMIT (g.R.Range.past c.args.range.now) t c.begin.new.self.cursor
-    (c.begin.ensures.reads t e) in
-    let gave = c.begin.ensures.gave in
-    let start = c.begin.ensures.start in
-    omega (arith, few, gave, start)
+returns-in-Err-let_wait-clause-spent g c = spent g (goal.at.returns-in-Err-let_wait-clause-spent g c).After-begin
 
 pub returns-in_err-next-clause-failures : goal.returns-in_err-next-clause-failures
 returns-in_err-next-clause-failures g c =

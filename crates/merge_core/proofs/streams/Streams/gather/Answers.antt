@@ -7,7 +7,6 @@ use Rattle.std.specs.List.{AllByRecursion}
 use Rattle.std.specs.List.Sorted.{IsPermutation}
 use Rattle.std.proofs.lemmas.Cmp.{tied_itself}
 use Rattle.std.proofs.lemmas.List.Sorted.{IsPermutation-sym}
-use Rattle.std.proofs.lemmas.Result.{err_from_is_err_and}
 use Rattle.cdxj_places.proofs.PairLemmas.{pair_cmp_total}
 use Rattle.cdxj_places.proofs.RisingLaws.{each_weaker}
 use Rattle.cdxj_core.specs.declared.limit.TheConstants.{LINE_LIMIT}
@@ -303,11 +302,8 @@ returns-in_err-drain-clause-fault g c =
     let texts = map text c.args.sources.now in
     let kept = texts_kept text extent gave c.args.sources.now c.sources.sources c.args.self.now.feeds.items
     c.sources.self.feeds.items c.requires.ready.same inv.gathers.as_many inv.gathers.moved in
-    let p = err_from_is_err_and c.from_residual.result c.from_residual.ensures.1 in
-    let q : p.0 ≡ c.in_err-drain.field-0.0 = p.2 in
-    if_err c.from_residual.result p.0 (IsFaultOf LINE_LIMIT texts) p.1
-    (subst (IsFaultOf LINE_LIMIT texts) (sym q)
-    (subst (λ ts. IsFaultOf LINE_LIMIT ts c.in_err-drain.field-0.0) kept c.in_err-drain.ensures.fault))
+    if_err c.from_residual.result c.in_err-drain.field-0.0 (IsFaultOf LINE_LIMIT texts) c.from_residual.ensures.1
+    (subst (λ ts. IsFaultOf LINE_LIMIT ts c.in_err-drain.field-0.0) kept c.in_err-drain.ensures.fault)
 
 -- the sources were read up to the pair
 read_to : (g : Over) (c : After-drain g) → AreTold g.S.Source.text c.args.sources.now
@@ -333,8 +329,8 @@ pub returns-in_err-drain-clause-reads : goal.returns-in_err-drain-clause-reads
 returns-in_err-drain-clause-reads g c =
     let here = (goal.at.returns-in_err-drain-clause-reads g c).After-drain in
     let inv = c.sources.invariant in
-    let p = err_from_is_err_and c.from_residual.result c.from_residual.ensures.1 in
-    on_err c.from_residual.result p.0 _ p.1 (member_pair c.new-keyed.result, inv.above, inv.least, read_to g here)
+    on_err c.from_residual.result c.in_err-drain.field-0.0 _ c.from_residual.ensures.1
+    (member_pair c.new-keyed.result, inv.above, inv.least, read_to g here)
 
 pub returns-in-Err-clause-reads : goal.returns-in-Err-clause-reads
 returns-in-Err-clause-reads g c =
