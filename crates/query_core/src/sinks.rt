@@ -58,7 +58,7 @@ impl Sink for PagesSink<'_> {
     ghost use Rattle.page_writers.specs.WriterView.{PagesWrote, PagesBroke};
 
     ghost Wrote = { λ first sink taken start now.
-      PagesWrote first.writer.sizes.now first.writer sink.writer taken start now };
+        PagesWrote first.writer.sizes.now first.writer sink.writer taken start now };
 
     ghost Broke = { λ first taken start now. PagesBroke first.writer taken start now };
 
