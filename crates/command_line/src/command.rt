@@ -72,7 +72,7 @@ fn with_command<'a>(
 }
 
 fn clap_argument<'a>(alloc: Global, argument: Argument<'a>) -> Arg<'a>
-    ensures rule { rule_of result ≡ rule_for argument }
+    ensures rule { rule_of result ≡ rule_for argument.entry }
     ensures local { result.global ≡ false }
 {
     match argument {

@@ -7,7 +7,7 @@ use crate::records::{count_records, first_head};
 use crate::scans::{in_memory, write_pages};
 use capture_core::{CaptureFault, Entry};
 use cdxj_core::{KeyFault, PlaceFault};
-use fixtures::{LETTERS, OFFSET_5, OFFSET_10, RESPONSE, RESPONSE_LINE, cut};
+use fixtures::{LETTERS, OFFSET_5, OFFSET_10, RESPONSE, RESPONSE_LINE};
 use index_core::IndexFault;
 use query_core::{Query, Report, SliceSource};
 use std::alloc::Global;
@@ -88,15 +88,15 @@ fn line_of_response(alloc: Global, filename: &str) -> Result<Option<Vec<u8>>, Fa
     Ok(line(alloc, &entry)?)
 }
 
-fn is_of_response_without_line_feed(line: &Vec<u8>) -> bool {
-    line.as_slice() == cut(RESPONSE_LINE, RESPONSE_LINE.len().saturating_sub(1))
+fn is_response_line(line: &Vec<u8>) -> bool {
+    line.as_slice() == RESPONSE_LINE
 }
 
 #[test]
 fn a_capture_has_a_line(rt: HostRuntime) -> Result<(), Fail> {
     let made = line_of_response(rt.alloc(), "b.warc")?;
     let none = line_of_response(rt.alloc(), "")?;
-    assert!(rt; made.as_ref().is_some_and(is_of_response_without_line_feed));
+    assert!(rt; made.as_ref().is_some_and(is_response_line));
     assert!(rt; none.is_none());
     Ok(())
 }

@@ -22,6 +22,7 @@ use Rattle.query_core.specs.declared.report.Report.{Report}
 use Rattle.query_core.specs.Answering.{Answered}
 use Rattle.page_writers.specs.QueryPages.{answer_text, form_of, shown_key, query_page}
 use Rattle.page_writers.specs.PageWriting.{is_wanted, captures_over, page_over, next_of, PageStands}
+use Rattle.page_writers.proofs.CaptureLemmas.{filter_and}
 use Rattle.page_writers.proofs.WriterLemmas.{page, decided, next_is, page_front}
 use Rattle.query_core.proofs.StartLemmas.{and_left}
 

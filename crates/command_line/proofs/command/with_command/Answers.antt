@@ -8,18 +8,18 @@ use Rattle.command_line.proofs.command.with_command.Goals as goal
 
 pub loop-argument-init : goal.loop-argument-init
 loop-argument-init c = record {
-  app = rw (c.after_help.ensures, c.about.ensures) c.new.ensures.app;
-  globals = rw (c.after_help.ensures, c.about.ensures) c.new.ensures.local;
+  app = rw (c.after_help-command.ensures, c.about.ensures) c.new.ensures.app;
+  globals = rw (c.after_help-command.ensures, c.about.ensures) c.new.ensures.local;
 }
 
 pub loop-argument-preserved : goal.loop-argument-preserved
 loop-argument-preserved c =
     let inv = c.loop-argument.invariant in
-    let added = c.in_ok-arg.ensures in
+    let added = c.in_ok-command.ensures in
     record {
       app = added.shape c.clap_argument.ensures.local ∙ ap₂ with_rule inv.app c.clap_argument.ensures.rule
-          ∙ one_more rule_for c.args.name.now c.args.arguments.now c.loop-argument.argument-index c.argument-item.result
-          c.loop-argument-test.true c.argument-item.is;
+          ∙ one_more rule_for c.args.name.now c.args.arguments.now c.loop-argument.argument-index _
+          c.loop-argument-test.true;
       globals = added.globals ∙ ap₂ ◌||◌ inv.globals c.clap_argument.ensures.local;
     }
 

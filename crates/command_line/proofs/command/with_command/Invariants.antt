@@ -7,6 +7,6 @@ use Rattle.command_line.proofs.command.with_command.Given as goal
 
 abbrev pub invariant-loop-argument : goal.invariant-loop-argument
 invariant-loop-argument l = record {
-  app : app_of l.command ≡ app_with l.name.now (map rule_for (take l.argument-index l.arguments));
+  app : app_of l.command ≡ app_with l.name (map rule_for (take l.argument-index l.arguments));
   globals : (fields_of l.command).has_globals ≡ false;
 }
