@@ -1,6 +1,6 @@
 -- One group more of a merge.
-use Rattle.std.proofs.Common.{◌≡◌, ℕ, Result, Ok, Err, IsErrAnd, OnErr, List, [], ◌∷◌, ◌++◌, refl, sym, ap, ap₂, ◌∙◌, subst}
-use Rattle.std.proofs.Common.{Bool, Option, Some, None, map, true, Less, Equal, Greater, Ordering, is_lt, is_gt}
+use Rattle.std.proofs.Common.{◌≡◌, ℕ, Result, Ok, Err, IsErrAnd, OnErr, List, [], ◌∷◌, ◌++◌, refl, sym, ap, ap₂, ◌∙◌}
+use Rattle.std.proofs.Common.{subst, Bool, Option, Some, None, map, true, Less, Equal, Greater, Ordering, is_lt, is_gt}
 use Rattle.std.specs.List.{AllByRecursion}
 use Rattle.std.specs.Ordering.{ordering_reverse}
 use Rattle.cdxj_places.specs.Pairs.{Pair}

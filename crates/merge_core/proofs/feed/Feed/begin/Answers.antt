@@ -23,7 +23,8 @@ returns-in-Some-clause-fed g c =
     let ok = c.in_ok-line.ensures in
     let pair = member_pair c.in-Some.line.value in
     settled LINE_LIMIT (g.R.Range.past c.args.range.now) (λ (b : Box Line Global). b.value)
-    _ _ _ _ c.args.self.now c.next_line.new.cursor c.in_ok-line.field-0 ok.text ok.extent c.requires.due c.requires.fed ok.stands ok.start ok.count ok.given ok.most c.settle.new.self c.settle.ensures.cursor
+    _ _ _ _ c.args.self.now c.next_line.new.cursor c.in_ok-line.field-0 ok.text ok.extent c.requires.due c.requires.fed
+    ok.stands ok.start ok.count ok.given ok.most c.settle.new.self c.settle.ensures.cursor
     c.in-Some.line c.in-Some.is pair
     (λ t e. subst (AllByRecursion (λ k. Upto (member_pair k) pair))
     (sym (fresh_done LINE_LIMIT t c.args.self.now c.requires.fresh)) tt) (upto_itself pair)
@@ -33,7 +34,8 @@ pub returns-in-None-clause-fed : goal.returns-in-None-clause-fed
 returns-in-None-clause-fed g c =
     let ok = c.in_ok-line.ensures in
     at_end LINE_LIMIT (g.R.Range.past c.args.range.now) (λ (b : Box Line Global). b.value)
-    _ _ _ _ c.args.self.now c.next_line.new.cursor c.in_ok-line.field-0 ok.text ok.extent c.requires.due c.requires.fed ok.stands ok.start ok.count ok.given ok.most
+    _ _ _ _ c.args.self.now c.next_line.new.cursor c.in_ok-line.field-0 ok.text ok.extent c.requires.due c.requires.fed
+    ok.stands ok.start ok.count ok.given ok.most
     (record { cursor = c.next_line.new.cursor; progress = Ended }) refl c.in-None.is refl
 
 pub returns-in_err-line-clause-fault : goal.returns-in_err-line-clause-fault

@@ -148,13 +148,14 @@ sources-init g c =
     let pair = waiting_pair w in
     let out = subst (λ (v : WaitingLine). IsPermutation ws (v ∷ c.take_first.new.self.waiting)) is
     c.in-Some.ensures.out in
+    let feeds = subst (λ (v : WaitingLine). (d : Feed) → c.take_first.new.self.feeds.items
+    ≡ set fs v.source (due (get_or fs v.source d))) is c.in-Some.ensures.feeds in
+    let later = subst (λ (x : WaitingLine). AllByRecursion (λ v. is_lt (turn_cmp v x) ≡ false)
+    c.take_first.new.self.waiting) is c.in-Some.ensures.first in
     let t = taken_next LINE_LIMIT past g.S.Source.text g.S.Source.extent g.S.Source.gave ss fs pair 0 ss fs ws []
     (gathers_start LINE_LIMIT past g.S.Source.text g.S.Source.extent g.S.Source.gave ss fs pair ws c.requires.ready)
-    w c.take_first.new.self.waiting c.take_first.new.self.feeds.items out
-    (subst (λ (v : WaitingLine). (d : Feed) → c.take_first.new.self.feeds.items
-    ≡ set fs v.source (due (get_or fs v.source d))) is c.in-Some.ensures.feeds)
-    (subst (λ (x : WaitingLine). AllByRecursion (λ v. is_lt (turn_cmp v x) ≡ false) c.take_first.new.self.waiting) is
-    c.in-Some.ensures.first) (omega arith) (tied_itself pair_cmp_total pair) in
+    w c.take_first.new.self.waiting c.take_first.new.self.feeds.items out feeds later (omega arith)
+    (tied_itself pair_cmp_total pair) in
     record {
       gathers = subst (λ (l : List (Box Line Global)). Gathers LINE_LIMIT past g.S.Source.text g.S.Source.extent
           g.S.Source.gave ss fs pair (w.source + 1) ss c.take_first.new.self.feeds.items c.take_first.new.self.waiting
@@ -163,9 +164,7 @@ sources-init g c =
       inside = t.inside;
       due = t.due;
       settled = λ f s.
-          let took = (subst (λ (v : WaitingLine). (d : Feed) → c.take_first.new.self.feeds.items
-          ≡ set fs v.source (due (get_or fs v.source d))) is c.in-Some.ensures.feeds) f in
-          subst AreSettled (sym (ap (λ (l : List Feed). set l w.source f) took
+          subst AreSettled (sym (ap (λ (l : List Feed). set l w.source f) (feeds f)
           ∙ set-set fs w.source (due (get_or fs w.source f)) f))
           (each_replaced IsSettled fs w.source f c.requires.settled s);
       failures = refl;
@@ -175,9 +174,7 @@ sources-init g c =
           (IsPermutation-sym ws (w ∷ c.take_first.new.self.waiting) out) (
             upto_itself pair,
             each_weaker (λ (v : WaitingLine) (q : is_lt (turn_cmp v w) ≡ false). not_before v w q)
-                c.take_first.new.self.waiting
-                (subst (λ (x : WaitingLine). AllByRecursion (λ v. is_lt (turn_cmp v x) ≡ false)
-                c.take_first.new.self.waiting) is c.in-Some.ensures.first),
+                c.take_first.new.self.waiting later,
           );
       each = subst (λ (l : List (Box Line Global)). AreAt pair (map (λ (b : Box Line Global). b.value) l))
           (sym c.requires.empty) tt;
