@@ -2,6 +2,7 @@ pub mod GrowLemmas
 pub mod TakenLines
 pub mod CaptureLemmas
 pub mod WriterLemmas
+pub mod SizeLemmas
 pub mod PagesLemmas
 pub mod PageKeys
 pub mod PageChains

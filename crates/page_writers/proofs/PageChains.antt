@@ -20,7 +20,8 @@ use Rattle.page_writers.specs.WriterView.{IsFront}
 use Rattle.page_writers.proofs.PageKeys.{keys_but_last, one_empty}
 use Rattle.page_writers.proofs.CaptureLemmas.{filter_and}
 use Rattle.page_writers.proofs.WriterLemmas.{whole_prefix}
-use Rattle.page_writers.proofs.PagesLemmas.{Ended, EndedInPart, Pages, cut_there, first_positive, later_positive}
+use Rattle.page_writers.proofs.PagesLemmas.{Ended, EndedInPart, Pages, cut_there}
+use Rattle.page_writers.proofs.SizeLemmas.{first_positive, later_positive}
 
 -- where captures follow the first n, the page's next is the place of the last of them
 next_is : (p : Option PlaceValue) (n : ℕ) (c : List Member) → 0 < n → n < length c → (q : PlaceValue)

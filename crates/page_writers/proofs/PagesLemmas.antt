@@ -4,8 +4,8 @@ use Rattle.std.proofs.Common.{◌++◌, length, take, drop, min, true, false, Op
 use Rattle.std.proofs.Common.{sym, ap, ◌∙◌, subst, arith, append_assoc, append-nil, length-append, length-drop}
 use Rattle.std.proofs.Common.{length-take, take-append-drop}
 use Rattle.std.specs.Io.KnownBytes.{Appends}
-use Rattle.std.proofs.lemmas.Bool.{eqb-false, ltb-true, ltb-false, and_parts}
-use Rattle.std.specs.List.{AllByRecursion, list_all}
+use Rattle.std.proofs.lemmas.Bool.{eqb-false, ltb-true, ltb-false}
+use Rattle.std.specs.List.{AllByRecursion}
 use Rattle.std.proofs.lemmas.List.{take_all, take_at, drop_at}
 use Rattle.std.proofs.lemmas.List.Concat.{flat_map-append}
 use Rattle.cdxj_places.specs.Places.{PlaceValue}
@@ -23,8 +23,9 @@ use Rattle.page_writers.specs.QueryPages.{chain_text, form_of, shown_key}
 use Rattle.page_writers.specs.declared.selection.Selection.{Selection}
 use Rattle.page_writers.specs.PageWriting.{captures_over}
 use Rattle.page_writers.specs.WriterView.{IsFront, IsSame, captures_of, from_view}
-use Rattle.page_writers.specs.WrittenPages.{IsReadBack, are_sizes, pages_text}
+use Rattle.page_writers.specs.WrittenPages.{IsReadBack, pages_text}
 use Rattle.page_writers.specs.PagesWriting.{AreCut, HasNext, HasReadKey, PagesStand, last_of}
+use Rattle.page_writers.proofs.SizeLemmas.{first_positive, later_positive}
 use Rattle.page_writers.proofs.WriterLemmas.{below, take_front}
 
 abbrev pub Pages : Type 0
@@ -34,27 +35,6 @@ each_join : {X : Type 0} (A : X → Type 0) (us vs : List X) → AllByRecursion 
     → AllByRecursion A (us ++ vs)
 each_join A [] vs h k = k
 each_join A (u ∷ us) vs h k = (h.0, each_join A us vs h.1 k)
-
-each_positive : (n : ℕ) (ns : List ℕ) → list_all (λ size. nat_lt 0 size) (n ∷ ns) ≡ true → AllPositive (n ∷ ns)
-each_positive n [] h = ltb-true 0 n (and_parts (nat_lt 0 n) true h).0
-each_positive n (m ∷ ms) h =
-    let p = and_parts (nat_lt 0 n) (list_all (λ size. nat_lt 0 size) (m ∷ ms)) h in
-    (ltb-true 0 n p.0, each_positive m ms p.1)
-
-pub all_positive : (sizes : List ℕ) → are_sizes sizes ≡ true → AllPositive sizes
-all_positive [] h = cc
-all_positive (n ∷ ns) h = each_positive n ns
-    (and_parts (nat_lt 0 (length (n ∷ ns))) (list_all (λ size. nat_lt 0 size) (n ∷ ns)) h).1
-
-pub first_positive : (sizes : List ℕ) → AllPositive sizes → 0 < first_size sizes
-first_positive [] h = absurd h
-first_positive (n ∷ []) h = h
-first_positive (n ∷ m ∷ ms) h = h.0
-
-pub later_positive : (sizes : List ℕ) → AllPositive sizes → AllPositive (later_sizes sizes)
-later_positive [] h = h
-later_positive (n ∷ []) h = h
-later_positive (n ∷ m ∷ ms) h = h.1
 
 -- all pages of these captures were written, and are so many
 abbrev pub Ended : QueryValue → List ℕ → List Member → Option (List ℕ) → Option (List ℕ) → ℕ → Type 0

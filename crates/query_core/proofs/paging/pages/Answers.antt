@@ -16,7 +16,8 @@ use Rattle.query_core.specs.Reach.{in_reach}
 use Rattle.query_core.proofs.CountLemmas.{raised_after}
 use Rattle.page_writers.proofs.PageChains.{wrote_front, wrote_most, wrote_none, wrote_whole}
 use Rattle.query_core.proofs.PagesExits.{all_ended, any_front, at_end}
-use Rattle.page_writers.proofs.PagesLemmas.{all_positive, start_front}
+use Rattle.page_writers.proofs.PagesLemmas.{start_front}
+use Rattle.page_writers.proofs.SizeLemmas.{all_positive}
 use Rattle.query_core.proofs.ReachLemmas.{opened_not, within_opening}
 use Rattle.query_core.proofs.RefusalLemmas.{refuses_few, refuses_many, refuses_sized, refuses_sizes}
 use Rattle.query_core.proofs.paging.pages.Given.{Over}

@@ -1,7 +1,8 @@
 use Rattle.std.proofs.Common.{rules, ◌≡◌, ◌==◌, true, false, sym, subst, arith, eqb-true}
 use Rattle.page_core.specs.Pages.{first_size}
 use Rattle.page_writers.specs.PagesWriting.{PagesStand}
-use Rattle.page_writers.proofs.PagesLemmas.{first_positive, turned_stands, turning_front, has_room}
+use Rattle.page_writers.proofs.PagesLemmas.{turned_stands, turning_front, has_room}
+use Rattle.page_writers.proofs.SizeLemmas.{first_positive}
 use Rattle.page_writers.proofs.pages_writer.PagesWriter.make_room.Goals as goal
 
 pub returns-then-not-is_full-clause-stands : goal.returns-then-not-is_full-clause-stands
