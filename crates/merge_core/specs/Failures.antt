@@ -1,6 +1,8 @@
 -- Which device failed in a call.
 use Rattle.std.specs.Prelude.{◌≡◌, ℕ, ◌<◌, List, length, get_or, set, Result, MatchResult}
 use Rattle.devices.specs.Device.{next_count}
+use Rattle.source_core.specs.declared.fault.SearchFault.{SearchFault}
+use Rattle.source_core.specs.declared.fault.SearchFault.TheVariants as search
 use Rattle.merge_core.specs.declared.fault.FeedFault.{FeedFault}
 use Rattle.merge_core.specs.declared.fault.FeedFault.TheVariants as feed
 use Rattle.merge_core.specs.declared.fault.MergeFault.{MergeFault}
@@ -12,6 +14,11 @@ use Rattle.merge_core.specs.declared.fault.SinkFault.TheVariants as sink
 abbrev pub merge_fault : SinkFault → MergeFault
 merge_fault sink.Memory = fault.Memory
 merge_fault sink.Write = fault.Write
+
+-- the fault of a feed whose search has this fault
+abbrev pub search_fault : SearchFault → FeedFault
+search_fault search.Memory = feed.Memory
+search_fault search.Read = feed.Read
 
 -- the count of failures of this source went up, and no other
 abbrev pub RaisedAt : ℕ → List ℕ → List ℕ → Type 0

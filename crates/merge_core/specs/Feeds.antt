@@ -1,7 +1,7 @@
 -- What was read of a source.
 use Rattle.std.specs.Prelude.{◌≡◌, ℕ, ◌+◌, ◌-◌, ◌≤◌, ◌<◌, List, [], ◌∷◌, ◌++◌, flat_map, length, take, drop, map, Bool}
 use Rattle.std.specs.Prelude.{true, false, Option, Some, None}
-use Rattle.std.specs.List.{AllByRecursion}
+use Rattle.std.specs.List.{AllByRecursion, AllZip, zip}
 use Rattle.cdxj_places.specs.TextLines.{lines}
 use Rattle.cdxj_core.specs.Members.{Member}
 use Rattle.cdxj_core.specs.Indexes.{IsRun}
@@ -118,3 +118,9 @@ pub record Moved (old_text text : Option (List ℕ)) (old_extent extent old_gave
   pub extent_kept : extent ≡ old_extent
   pub spent : gave + reach old ≤ old_gave + reach now
   pub start_kept : now.start ≡ old.start
+
+-- the same of each source and its feed
+abbrev pub AllMoved : {S : Type 0} → (S → Option (List ℕ)) → (S → ℕ) → (S → ℕ) → List S → List Feed → List S
+    → List Feed → Type 0
+AllMoved text extent gave olds old_feeds news feeds = AllZip (λ x y. Moved (text x.0) (text y.0) (extent x.0)
+    (extent y.0) (gave x.0) (gave y.0) x.1.cursor y.1.cursor) (zip olds old_feeds) (zip news feeds)

@@ -1,6 +1,6 @@
 -- What was taken of several sources.
 use Rattle.std.specs.Prelude.{◌≡◌, ◌⊎◌, ℕ, ◌+◌, ◌-◌, ◌<◌, ◌≤◌, List, [], ◌∷◌, ◌++◌, flat_map, length, map, not, true}
-use Rattle.std.specs.Prelude.{Option, None, Some}
+use Rattle.std.specs.Prelude.{Option, None, Some, slice_index_or, slice_set}
 use Rattle.std.specs.List.{AllByRecursion, filter, sum, zip}
 use Rattle.std.specs.List.Sorted.{IsPermutation}
 use Rattle.std.specs.Option.{is_some}
@@ -58,6 +58,17 @@ abbrev pub Drained : ℕ → Pair → Option (List ℕ) → Feed → Feed → Li
 Drained limit pair text old now old_rest rest = (t : List ℕ) → text ≡ Some t → (taken : List Member)
     × (done limit t now ≡ done limit t old ++ taken) × (rest ≡ old_rest ++ taken)
     × AllByRecursion (λ m. Alike (member_pair m) pair) taken
+
+-- the further lines with the pair were read of the source of this number, and of no other
+pub record DrainedSource {S : Type 0} (limit : ℕ) (text : S → Option (List ℕ)) (pair : Pair) (i : ℕ) (olds news : List S)
+    (old_feeds feeds : List Feed) (old_rest rest : List Member) : Type 0 where
+  pub source : S
+  pub feed : Feed
+  pub source_is : news ≡ slice_set olds i source
+  pub feed_is : feeds ≡ slice_set old_feeds i feed
+  pub text_is : (other : S) → text source ≡ text (slice_index_or olds i other)
+  pub drained : (other : S) → (old : Feed) → Drained limit pair (text (slice_index_or olds i other))
+      (slice_index_or old_feeds i old) feed old_rest rest
 
 -- The lines of the least pair were taken from all sources: of those that are done now, the ones that weren't
 pub record Grouped {S : Type 0} (limit : ℕ) (text : S → Option (List ℕ)) (extent : S → ℕ) (ss0 : List S)

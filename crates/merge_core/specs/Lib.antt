@@ -13,3 +13,4 @@ pub mod Counts
 pub mod Runs
 pub mod SourceLines
 pub mod Spending
+pub mod Merging

@@ -1,8 +1,7 @@
 -- How far a merge of several sources has come.
-use Rattle.std.specs.List.{AllZip}
 use Rattle.std.specs.Prelude.{◌≡◌, ℕ, List, Bool, Option, Result, Ok, Err}
 use Rattle.std.specs.Io.KnownBytes.{Appends}
-use Rattle.std.specs.List.{AllByRecursion, zip}
+use Rattle.std.specs.List.{AllByRecursion}
 use Rattle.cdxj_places.specs.Pairs.{Pair}
 use Rattle.cdxj_places.specs.Places.{place_cmp}
 use Rattle.cdxj_places.specs.Rising.{rising, Rises}
@@ -14,7 +13,7 @@ use Rattle.merge_core.specs.declared.feed.Feed.{Feed}
 use Rattle.line_queue.specs.PairOrders.{IsAbove, IsUpto}
 use Rattle.merge_core.specs.SourceLines.{HasEntry}
 use Rattle.line_queue.specs.WaitingLines.{WaitingLine, waiting_pair}
-use Rattle.merge_core.specs.Feeds.{Moved, Ready, AreSettled}
+use Rattle.merge_core.specs.Feeds.{AllMoved, Ready, AreSettled}
 use Rattle.merge_core.specs.Gathering.{AreTold, all_done}
 
 -- a refusal of the output adds one to its count of failures, all else none
@@ -43,7 +42,6 @@ module _ {S : Type 0} (limit : ℕ) (text : S → Option (List ℕ)) where
       (fs : List Feed) (ws : List WaitingLine) (bound : Option Pair) (taken : List Member) : Type 0 where
     pub ready : Ready limit past text extent ss fs ws
     pub settled : AreSettled fs
-    pub moved : AllZip (λ x y. Moved (text x.0) (text y.0) (extent x.0) (extent y.0) (gave x.0) (gave y.0) x.1.cursor
-        y.1.cursor) (zip old old_feeds) (zip ss fs)
+    pub moved : AllMoved text extent gave old old_feeds ss fs
     pub above : AllByRecursion (λ w. IsAbove bound (waiting_pair w)) ws
     pub handed : Handed old ss fs bound taken

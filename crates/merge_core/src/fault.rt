@@ -1,6 +1,7 @@
 //! Why sources couldn't be merged.
 use devices::DeviceFault;
-use std::alloc::AllocError;
+use source_core::SearchFault;
+use std::alloc::{AllocError, AllocFailed};
 
 /// Why a source's lines couldn't be read.
 #[derive(Clone, Copy, Debug, Drop, PartialEq, Eq)]
@@ -35,6 +36,42 @@ pub enum SinkFault {
     Write,
 }
 
+impl From<AllocError> for FeedFault {
+    ghost use Rattle.std.specs.Prelude.{◌≡◌};
+    ghost use Rattle.merge_core.specs.declared.fault.FeedFault.TheVariants.{Memory};
+
+    ghost from_gives = { λ _ fault. fault ≡ Memory };
+
+    fn from(_error: AllocError) -> FeedFault {
+        FeedFault::Memory
+    }
+}
+
+impl<T: Drop> From<AllocFailed<T>> for FeedFault {
+    ghost use Rattle.std.specs.Prelude.{◌≡◌};
+    ghost use Rattle.merge_core.specs.declared.fault.FeedFault.TheVariants.{Memory};
+
+    ghost from_gives = { λ _ fault. fault ≡ Memory };
+
+    fn from(_refused: AllocFailed<T>) -> FeedFault {
+        FeedFault::Memory
+    }
+}
+
+impl From<SearchFault> for FeedFault {
+    ghost use Rattle.std.specs.Prelude.{◌≡◌};
+    ghost use Rattle.merge_core.specs.Failures.{search_fault};
+
+    ghost from_gives = { λ search fault. fault ≡ search_fault search };
+
+    fn from(fault: SearchFault) -> FeedFault {
+        match fault {
+            SearchFault::Memory => FeedFault::Memory,
+            SearchFault::Read => FeedFault::Read,
+        }
+    }
+}
+
 impl From<AllocError> for SinkFault {
     ghost use Rattle.std.specs.Prelude.{◌≡◌};
     ghost use Rattle.merge_core.specs.declared.fault.SinkFault.TheVariants.{Memory};
@@ -64,6 +101,17 @@ impl From<AllocError> for MergeFault {
     ghost from_gives = { λ _ fault. fault ≡ Memory };
 
     fn from(_error: AllocError) -> MergeFault {
+        MergeFault::Memory
+    }
+}
+
+impl<T: Drop> From<AllocFailed<T>> for MergeFault {
+    ghost use Rattle.std.specs.Prelude.{◌≡◌};
+    ghost use Rattle.merge_core.specs.declared.fault.MergeFault.TheVariants.{Memory};
+
+    ghost from_gives = { λ _ fault. fault ≡ Memory };
+
+    fn from(_refused: AllocFailed<T>) -> MergeFault {
         MergeFault::Memory
     }
 }

@@ -158,10 +158,7 @@ impl Feed {
             match compare_pairs(&line, first) {
                 Ordering::Less => return Err(FeedFault::OutOfOrder(begin)),
                 Ordering::Greater => return Ok(self.settle(line, range, store)),
-                Ordering::Equal => match rest.push(line) {
-                    Ok(()) => {}
-                    Err(_) => return Err(FeedFault::Memory),
-                },
+                Ordering::Equal => rest.push(line)?,
             }
             begin = self.cursor.at();
         }

@@ -63,10 +63,7 @@ impl Sink for LineWriter {
         out: &mut O,
     ) -> Result<bool, SinkFault> {
         for line in lines {
-            match self.put_line(line, out) {
-                Ok(()) => {}
-                Err(fault) => return Err(fault),
-            }
+            self.put_line(line, out)?;
         }
         Ok(true)
     }

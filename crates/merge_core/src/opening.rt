@@ -1,8 +1,7 @@
 //! The opening of sources at a key and stamp.
 ghost use Rattle.std.specs.List.{AllZip};
-ghost use Rattle.std.specs.Prelude.{◌≡◌, ◌≢◌, ◌⊎◌, ◌+◌, ◌*◌, ◌≤◌, ◌++◌, ◌∷◌, ℕ, Option, List, [], length, map, Some, MatchOption, IfOk, IfErr, OnOk};
+ghost use Rattle.std.specs.Prelude.{◌≡◌, ◌⊎◌, ◌+◌, ◌*◌, ◌≤◌, ℕ, List, [], map, Some, IfOk, IfErr, OnOk};
 ghost use Rattle.std.specs.List.{AllByRecursion, zip, sum};
-ghost use Rattle.std.specs.List.Sorted.{IsPermutation};
 ghost use Rattle.cdxj_core.specs.declared.limit.TheConstants.{LINE_LIMIT};
 ghost use Rattle.cdxj_core.specs.Indexes.{IsIndex};
 ghost use Rattle.cdxj_core.specs.Members.{Member};
@@ -20,7 +19,7 @@ use crate::range::Range;
 use crate::store::Store;
 use crate::streams::Streams;
 use line_queue::Queue;
-use source_core::{Cursor, SearchFault, Source, search};
+use source_core::{Cursor, Source, search};
 use std::alloc::Global;
 
 /// Returns a cursor at the first line of a source whose pair isn't below this one, and the number of steps of the
@@ -48,14 +47,9 @@ fn find_start<S: Source>(
         → IfOk result (λ r. IsCut (key.now, stamp.now) t members r.0.start) }
     ensures probes { IfOk result (λ r. r.1 ≤ digits (S.extent source.old)) }
 {
-    match search(alloc, source, key, stamp) {
-        Ok(found) => match Cursor::new(alloc, found.offset) {
-            Ok(cursor) => Ok((cursor, found.probes)),
-            Err(_) => Err(FeedFault::Memory),
-        },
-        Err(SearchFault::Memory) => Err(FeedFault::Memory),
-        Err(SearchFault::Read) => Err(FeedFault::Read),
-    }
+    let found = search(alloc, source, key, stamp)?;
+    let cursor = Cursor::new(alloc, found.offset)?;
+    Ok((cursor, found.probes))
 }
 
 /// Sources that were opened by a search.
@@ -67,9 +61,8 @@ pub struct Opened {
 }
 
 impl Streams {
-    ghost use Rattle.merge_core.specs.declared.feed.Feed.{Feed};
-    ghost use Rattle.merge_core.specs.Feeds.{Fed, Ready, AreSettled, option_list, done};
-    ghost use Rattle.merge_core.specs.Openings.{IsCutAt};
+    ghost use Rattle.merge_core.specs.Feeds.{Ready, AreSettled};
+    ghost use Rattle.merge_core.specs.Openings.{AddedFeed, IsCutAt};
     ghost use Rattle.merge_core.specs.Gathering.{all_done};
 
     /// Adds a source, and reads the first line after the cursor.
@@ -93,16 +86,10 @@ impl Streams {
             → OnOk result (AreSettled self.new.feeds.items) }
         ensures held { self.new.held ≡ self.old.held }
         ensures added { OnOk result
-            ((f : Feed) × (o : Option Member)
-            × (self.new.feeds.items ≡ self.old.feeds.items ++ f ∷ [])
-            × MatchOption o (self.new.waiting ≡ self.old.waiting) (λ m.
-            IsPermutation (record { member = m; source = length self.old.feeds.items } ∷
-            self.old.waiting) self.new.waiting)
-            × Fed LINE_LIMIT (R.past range.now) (S.text source.new) (S.extent source.new) f
-            (option_list o)
-            × (f.cursor.start ≡ cursor.start)
-            × ((t : List ℕ) → S.text source.old ≡ Some t → done LINE_LIMIT t f ≡ [])
-            × (S.gave source.new + reach cursor ≤ S.gave source.old + reach f.cursor)) }
+            (AddedFeed LINE_LIMIT (R.past range.now) (S.text source.new) (S.extent source.new)
+            (λ c. (c.start ≡ cursor.start)
+            × (S.gave source.new + reach cursor ≤ S.gave source.old + reach c))
+            self.old.feeds.items self.new.feeds.items self.old.waiting self.new.waiting) }
         ensures spent { (t : List ℕ) → S.text source.old ≡ Some t → S.gave source.new + reach cursor
             ≤ S.gave source.old + cursor.start + 2 * longest (lines t) + 8192 }
     {
@@ -112,14 +99,9 @@ impl Streams {
         };
         let next = feed.begin(source, range, &mut self.store)?;
         let number = self.feeds.len();
-        match self.feeds.push(feed) {
-            Ok(()) => {}
-            Err(_) => return Err(FeedFault::Memory),
-        }
-        match self.let_wait(next, number) {
-            Ok(()) => Ok(()),
-            Err(_) => Err(FeedFault::Memory),
-        }
+        self.feeds.push(feed)?;
+        self.let_wait(next, number)?;
+        Ok(())
     }
 
     /// Adds a source, and reads its first line whose pair isn't below this one. Returns the number of steps of the search
@@ -142,18 +124,12 @@ impl Streams {
             → OnOk result (AreSettled self.new.feeds.items) }
         ensures held { self.new.held ≡ self.old.held }
         ensures added { OnOk result
-            ((f : Feed) × (o : Option Member)
-            × (self.new.feeds.items ≡ self.old.feeds.items ++ f ∷ [])
-            × MatchOption o (self.new.waiting ≡ self.old.waiting) (λ m.
-            IsPermutation (record { member = m; source = length self.old.feeds.items } ∷
-            self.old.waiting) self.new.waiting)
-            × Fed LINE_LIMIT (R.past range.now) (S.text source.new) (S.extent source.new) f
-            (option_list o)
-            × IsCutAt LINE_LIMIT (key.now, stamp.now) (S.text source.new) f.cursor
-            × ((t : List ℕ) → S.text source.old ≡ Some t → done LINE_LIMIT t f ≡ [])
+            (AddedFeed LINE_LIMIT (R.past range.now) (S.text source.new) (S.extent source.new)
+            (λ c. IsCutAt LINE_LIMIT (key.now, stamp.now) (S.text source.new) c
             × CameWithin (S.text source.old) (S.extent source.old) (S.gave source.old)
-            (S.gave source.new) f.cursor
-            × (key.now ≡ [] → stamp.now ≡ [] → f.cursor.start ≡ 0)) }
+            (S.gave source.new) c
+            × (key.now ≡ [] → stamp.now ≡ [] → c.start ≡ 0))
+            self.old.feeds.items self.new.feeds.items self.old.waiting self.new.waiting) }
         ensures spent { OpenedWithin (S.text source.old) (S.extent source.old) (S.gave source.old)
             (S.gave source.new) }
     {

@@ -31,14 +31,11 @@ fn line_of(alloc: Global, spare: &mut Vec<Box<Line>>, bytes: &[u8]) -> Result<Bo
         (λ fault. fault ≢ LineFault.Memory → line_entry LINE_LIMIT bytes.now ≡ None) }
 {
     match spare.pop() {
-        Some(mut line) => match line.refill(bytes) {
-            Ok(()) => Ok(line),
-            Err(fault) => Err(fault),
-        },
-        None => match Line::read(alloc, bytes) {
-            Ok(line) => boxed(alloc, line),
-            Err(fault) => Err(fault),
-        },
+        Some(mut line) => {
+            line.refill(bytes)?;
+            Ok(line)
+        }
+        None => boxed(alloc, Line::read(alloc, bytes)?),
     }
 }
 

@@ -1,7 +1,6 @@
 //! Sources that are read side by side.
-ghost use Rattle.std.specs.List.{AllZip};
 ghost use Rattle.std.specs.Prelude.{◌≡◌, ◌≢◌, ◌+◌, ◌-◌, ◌^◌, ◌<◌, ◌≤◌, ◌∷◌, ℕ, false, [], length, map, max, min, slice_index_or, slice_set, Option, Some, IfOk, IfErr, OnOk, OnErr, MatchOption, IfSome};
-ghost use Rattle.std.specs.List.{AllByRecursion, sum, zip};
+ghost use Rattle.std.specs.List.{AllByRecursion, sum};
 ghost use Rattle.std.specs.List.Sorted.{IsPermutation};
 ghost use Rattle.std.specs.Ordering.{is_lt};
 ghost use Rattle.cdxj_core.specs.declared.limit.TheConstants.{LINE_LIMIT};
@@ -13,13 +12,14 @@ ghost use Rattle.merge_core.specs.Failures.{CountsReads};
 ghost use Rattle.merge_core.specs.LineFaults.{IsFaultOf};
 ghost use Rattle.merge_core.specs.Spending.{AreReadTo};
 
-use crate::fault::{FeedFault, MergeFault};
+use crate::fault::MergeFault;
 use crate::feed::{Feed, Progress};
 use crate::range::Range;
 use crate::store::Store;
 use cdxj_core::Line;
 use line_queue::{KeyedLine, Queue, Waiting};
 use source_core::Source;
+use std::alloc::AllocError;
 
 /// Sources that are read side by side: a feed for each, in their order.
 #[derive(Debug, Drop)]
@@ -33,8 +33,9 @@ pub struct Streams {
 
 impl Streams {
     ghost use Rattle.merge_core.specs.declared.feed.Feed.{Feed};
-    ghost use Rattle.merge_core.specs.Feeds.{Moved, Ready, IsSettled, AreSettled, due};
-    ghost use Rattle.merge_core.specs.Gathering.{AreTold, IsDue, WaitsAbove, Drained, Grouped, all_done, unread};
+    ghost use Rattle.merge_core.specs.Feeds.{AllMoved, Ready, IsSettled, AreSettled, due};
+    ghost use Rattle.merge_core.specs.Gathering.{IsDue, WaitsAbove, DrainedSource, Grouped, all_done, unread};
+    ghost use Rattle.merge_core.specs.Merging.{HaltedGroup};
 
     fn mark_due(&mut self, source: usize)
         requires { source < length self.old.feeds.items }
@@ -101,20 +102,16 @@ impl Streams {
         &mut self,
         line: Option<Box<Line>>,
         source: usize,
-    ) -> Result<(), MergeFault>
+    ) -> Result<(), AllocError>
         ensures feeds { self.new.feeds.items ≡ self.old.feeds.items }
         ensures waiting { OnOk result (MatchOption line (self.new.waiting ≡ self.old.waiting)
             (λ b. IsPermutation (record { member = b.value; source = source } ∷ self.old.waiting)
             self.new.waiting)) }
-        ensures refused { IfErr result (λ e. e ≡ MergeFault.Memory) }
         ensures held { self.new.held ≡ self.old.held }
     {
-        let Some(line) = line else {
-            return Ok(());
-        };
-        match self.waiting.push(Waiting::new(line, source)) {
-            Ok(()) => Ok(()),
-            Err(_) => Err(MergeFault::Memory),
+        match line {
+            Some(line) => self.waiting.push(Waiting::new(line, source)),
+            None => Ok(()),
         }
     }
 
@@ -133,10 +130,8 @@ impl Streams {
         requires due { (a : S) → (d : Feed)
             → IsDue LINE_LIMIT (member_pair first.now) (S.text (slice_index_or sources.old i a))
             (slice_index_or self.old.feeds.items i d) }
-        ensures moved { AllZip (λ x y.
-            Moved (S.text x.0) (S.text y.0) (S.extent x.0) (S.extent y.0) (S.gave x.0)
-            (S.gave y.0) x.1.cursor y.1.cursor)
-            (zip sources.old self.old.feeds.items) (zip sources.new self.new.feeds.items) }
+        ensures moved { AllMoved S.text S.extent S.gave sources.old self.old.feeds.items
+            sources.new self.new.feeds.items }
         ensures failures { CountsReads result (map S.failures sources.old)
             (map S.failures sources.new) }
         ensures fault { IfErr result (IsFaultOf LINE_LIMIT (map S.text sources.old)) }
@@ -155,13 +150,9 @@ impl Streams {
         ensures settled { OnOk result
             ((d : Feed) → IsSettled (slice_index_or self.new.feeds.items i d)) }
         ensures drained { OnOk result
-            ((s : S) × (f : Feed) × (sources.new ≡ slice_set sources.old i s)
-            × (self.new.feeds.items ≡ slice_set self.old.feeds.items i f)
-            × ((a : S) → (S.text s ≡ S.text (slice_index_or sources.old i a)))
-            × ((a : S) → (d : Feed)
-            → Drained LINE_LIMIT (member_pair first.now) (S.text (slice_index_or sources.old i a))
-            (slice_index_or self.old.feeds.items i d) f
-            (map (λ b. b.value) rest.old.items) (map (λ b. b.value) rest.new.items))) }
+            (DrainedSource LINE_LIMIT S.text (member_pair first.now) i sources.old sources.new
+            self.old.feeds.items self.new.feeds.items (map (λ b. b.value) rest.old.items)
+            (map (λ b. b.value) rest.new.items)) }
         ensures reads { AllByRecursion (λ m. Upto (member_pair m) (member_pair first.now))
             (all_done LINE_LIMIT S.text sources.old self.old.feeds.items)
             → AreReadTo LINE_LIMIT (R.past range.now) S.text
@@ -188,10 +179,8 @@ impl Streams {
             (R.past range.now) S.text S.extent sources.old self.old.feeds.items self.old.waiting }
         requires settled { AreSettled self.old.feeds.items }
         requires empty { rest.old.items ≡ [] }
-        ensures moved { AllZip (λ x y.
-            Moved (S.text x.0) (S.text y.0) (S.extent x.0) (S.extent y.0) (S.gave x.0)
-            (S.gave y.0) x.1.cursor y.1.cursor)
-            (zip sources.old self.old.feeds.items) (zip sources.new self.new.feeds.items) }
+        ensures moved { AllMoved S.text S.extent S.gave sources.old self.old.feeds.items
+            sources.new self.new.feeds.items }
         ensures failures { CountsReads result (map S.failures sources.old)
             (map S.failures sources.new) }
         ensures fault { IfErr result (IsFaultOf LINE_LIMIT (map S.text sources.old)) }
@@ -206,15 +195,8 @@ impl Streams {
             (λ first. Grouped LINE_LIMIT S.text S.extent sources.old self.old.feeds.items
             self.old.waiting sources.new self.new.feeds.items self.new.waiting
             (member_pair first.value) (first.value ∷ map (λ b. b.value) rest.new.items))) }
-        ensures reads { OnErr result
-            ((pair : Pair) × ((b : Option Pair)
-            → AllByRecursion (λ w. IsAbove b (waiting_pair w)) self.old.waiting → IsAbove b pair)
-            × AllByRecursion (λ w. Upto pair (waiting_pair w)) self.old.waiting
-            × (AreTold S.text sources.old
-            → AllByRecursion (λ m. Below (member_pair m) pair)
-            (all_done LINE_LIMIT S.text sources.old self.old.feeds.items)
-            → AreReadTo LINE_LIMIT (R.past range.now) S.text
-            (Some pair) sources.new self.new.feeds.items)) }
+        ensures reads { OnErr result (HaltedGroup (R.past range.now) S.text sources.old self.old
+            sources.new self.new) }
         ensures held { self.new.held ≡ self.old.held }
     {
         let Some(next) = self.take_first() else {
@@ -230,10 +212,7 @@ impl Streams {
                 return Ok(Some(first));
             };
             i = next.source;
-            match rest.push(next.line) {
-                Ok(()) => {}
-                Err(_) => return Err(MergeFault::Memory),
-            }
+            rest.push(next.line)?;
         }
     }
 

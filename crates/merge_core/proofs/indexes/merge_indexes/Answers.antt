@@ -79,20 +79,20 @@ whole old new text a = subst (AppendsPrefix old new) (append-nil text) (prefix_w
 
 -- all lines that were taken were written
 wrote : (g : Over) (c : In_ok-merge g) → AppendsPrefix (g.O.Output.written c.args.out.now)
-    (g.O.Output.written c.merge.new.out) (lines_text c.in_ok-merge.ensures.wrote.1)
+    (g.O.Output.written c.merge.new.out) (lines_text c.in_ok-merge.ensures.passed.so_far.taken)
 wrote g c =
     let out = g.O.Output.written c.args.out.now in
-    whole out (g.O.Output.written c.merge.new.out) (lines_text c.in_ok-merge.ensures.wrote.1)
-    (c.in_ok-merge.ensures.wrote.3 c.new-writer.result out (Appends-none out, c.new-writer.ensures)).0
+    whole out (g.O.Output.written c.merge.new.out) (lines_text c.in_ok-merge.ensures.passed.so_far.taken)
+    (c.in_ok-merge.ensures.passed.so_far.came c.new-writer.result out (Appends-none out, c.new-writer.ensures)).0
 
 -- or a prefix of them
 broke : (g : Over) (c : In_err-merge g) → AppendsPrefix (g.O.Output.written c.args.out.now)
-    (g.O.Output.written c.merge.new.out) (lines_text c.in_err-merge.ensures.broke.4)
+    (g.O.Output.written c.merge.new.out) (lines_text c.in_err-merge.ensures.broke.taken)
 broke g c =
     let out = g.O.Output.written c.args.out.now in
     let broke = c.in_err-merge.ensures.broke in
-    elim (broke.6 c.new-writer.result out (Appends-none out, c.new-writer.ensures)) [
-      | inl k ↦ whole out (g.O.Output.written c.merge.new.out) (lines_text broke.4) k.1.0
+    elim (broke.wrote c.new-writer.result out (Appends-none out, c.new-writer.ensures)) [
+      | inl k ↦ whole out (g.O.Output.written c.merge.new.out) (lines_text broke.taken) k.1.0
       | inr p ↦ p
     ]
 
@@ -108,27 +108,27 @@ pub returns-in_err-merge-clause-part : goal.returns-in_err-merge-clause-part
 returns-in_err-merge-clause-part g c =
     let at = goal.at.returns-in_err-merge-clause-part g c in
     let b = c.in_err-merge.ensures.broke in
-    front g at.After-merge b.0 b.1 b.2 b.3 b.4 b.5 _ _ (broke g at.In_err-merge)
+    front g at.After-merge b.sources b.streams.feeds.items b.streams.waiting b.bound b.taken b.reached _ _ (broke g at.In_err-merge)
 
 pub returns-in_err-merge-clause-lines : goal.returns-in_err-merge-clause-lines
 returns-in_err-merge-clause-lines g c =
     let at = goal.at.returns-in_err-merge-clause-lines g c in
     let b = c.in_err-merge.ensures.broke in
-    lines g at.After-merge b.0 b.1 b.2 b.3 b.4 b.5 _ _ (broke g at.In_err-merge)
+    lines g at.After-merge b.sources b.streams.feeds.items b.streams.waiting b.bound b.taken b.reached _ _ (broke g at.In_err-merge)
 
 pub returns-clause-part : goal.returns-clause-part
 returns-clause-part g c =
     let at = goal.at.returns-clause-part g c in
-    let w = c.in_ok-merge.ensures.wrote in
-    front g at.After-merge c.merge.new.sources c.merge.new.streams.feeds.items c.merge.new.streams.waiting w.0 w.1 w.2
-    _ _ (wrote g at.In_ok-merge)
+    let w = c.in_ok-merge.ensures.passed.so_far in
+    front g at.After-merge c.merge.new.sources c.merge.new.streams.feeds.items c.merge.new.streams.waiting w.bound w.taken
+    w.reached _ _ (wrote g at.In_ok-merge)
 
 pub returns-clause-lines : goal.returns-clause-lines
 returns-clause-lines g c =
     let at = goal.at.returns-clause-lines g c in
-    let w = c.in_ok-merge.ensures.wrote in
-    lines g at.After-merge c.merge.new.sources c.merge.new.streams.feeds.items c.merge.new.streams.waiting w.0 w.1 w.2
-    _ _ (wrote g at.In_ok-merge)
+    let w = c.in_ok-merge.ensures.passed.so_far in
+    lines g at.After-merge c.merge.new.sources c.merge.new.streams.feeds.items c.merge.new.streams.waiting w.bound w.taken
+    w.reached _ _ (wrote g at.In_ok-merge)
 
 -- the sources stay as they were
 kept : (g : Over) (c : After-merge g)
@@ -158,8 +158,8 @@ returns-clause-merged g c = λ texts known.
     let ok = c.in_ok-merge.ensures in
     let out = g.O.Output.written c.args.out.now in
     let new = g.O.Output.written c.merge.new.out in
-    let taken = ok.wrote.1 in
-    let reached = ok.wrote.2 in
+    let taken = ok.passed.so_far.taken in
+    let reached = ok.passed.so_far.reached in
     let empty : c.merge.new.streams.waiting ≡ [] =
     (elim c.in_ok-merge.field-0 as (λ b. (b ≡ true → c.merge.new.streams.waiting ≡ []) → (b ≡ false → ⊥)
     → c.merge.new.streams.waiting ≡ []) [
@@ -177,7 +177,7 @@ returns-clause-merged g c = λ texts known.
     let all : taken ≡ collection (its_lines LINE_LIMIT never (λ key. refl) text extent ss2 fs2) =
     (reached.handed.told (told_known text ss1 texts known1)).0
     ∙ ap (rising member_place place_cmp) (all_lines_are LINE_LIMIT never (λ key. refl) text extent ss2 fs2) in
-    let w = ok.wrote.3 c.new-writer.result out (Appends-none out, c.new-writer.ensures) in
+    let w = ok.passed.so_far.came c.new-writer.result out (Appends-none out, c.new-writer.ensures) in
     record {
       indexes = its_lines LINE_LIMIT never (λ key. refl) text extent ss2 fs2;
       are = are_read LINE_LIMIT never (λ key. refl) text extent 0 ss2 fs2 texts reached.ready.same known2 starts

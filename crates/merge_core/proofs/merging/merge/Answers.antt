@@ -40,7 +40,7 @@ group g c = c.in-Some.first.value ∷ values c.gather.new.rest.items
 
 -- the lines before this group, and those with it
 abbrev taken : (g : Over) → In-Some g → List Member
-taken g c = c.loop-rest.invariant.came.1 ++ rising member_place place_cmp (group g c)
+taken g c = c.loop-rest.invariant.came.taken ++ rising member_place place_cmp (group g c)
 
 grouped : (g : Over) (c : In-Some g) → Grouped LINE_LIMIT g.S.Source.text g.S.Source.extent c.loop-rest.sources
     c.loop-rest.streams.feeds.items c.loop-rest.streams.waiting c.gather.new.sources c.gather.new.self.feeds.items
@@ -56,8 +56,8 @@ grouped g c = subst (λ o. MatchOption o ((c.gather.new.sources ≡ c.loop-rest.
 told : (g : Over) (c : In-Some g) → AreTold g.S.Source.text c.args.sources.now
     → AreTold g.S.Source.text c.loop-rest.sources
 told g c = told_moved g.S.Source.text g.S.Source.extent g.S.Source.gave c.args.sources.now c.loop-rest.sources
-    c.args.streams.now.feeds.items c.loop-rest.streams.feeds.items c.loop-rest.invariant.came.2.ready.same
-    c.loop-rest.invariant.came.2.moved
+    c.args.streams.now.feeds.items c.loop-rest.streams.feeds.items c.loop-rest.invariant.came.reached.ready.same
+    c.loop-rest.invariant.came.reached.moved
 
 reached : (g : Over) (c : In-Some g) → AllByRecursion (HasEntry LINE_LIMIT) (group g c)
     → Reached LINE_LIMIT g.S.Source.text (g.R.Range.past c.args.range.now) g.S.Source.extent g.S.Source.gave
@@ -69,12 +69,12 @@ reached g c entries =
     record {
       ready = ok.ready;
       settled = ok.settled;
-      moved = moved_trans g.S.Source.text g.S.Source.extent g.S.Source.gave _ _ _ came.2.moved ok.moved;
+      moved = moved_trans g.S.Source.text g.S.Source.extent g.S.Source.gave _ _ _ came.reached.moved ok.moved;
       above = (grouped g c).later;
       handed = handed_next LINE_LIMIT g.S.Source.text g.S.Source.extent c.args.sources.now c.loop-rest.sources
           c.gather.new.sources c.loop-rest.streams.feeds.items c.gather.new.self.feeds.items c.loop-rest.streams.waiting
           c.gather.new.self.waiting
-          came.0 (member_pair c.in-Some.first.value) came.1 (group g c) came.2.handed came.2.above (grouped g c)
+          came.bound (member_pair c.in-Some.first.value) came.taken (group g c) came.reached.handed came.reached.above (grouped g c)
           (told g c) entries;
     }
 
@@ -97,11 +97,11 @@ group_most g c texts indexes most known are share =
     let old = c.args.sources.now in let was = c.loop-rest.sources in let now = c.gather.new.sources in
     let was_feeds = c.loop-rest.streams.feeds.items in let feeds = c.gather.new.self.feeds.items in
     let kept_old = texts_kept text extent gave old was c.args.streams.now.feeds.items was_feeds c.requires.ready.same
-    (omega arith) came.2.moved in
-    let kept_new = texts_kept text extent gave was now was_feeds feeds came.2.ready.same (omega arith) ok.moved in
+    (omega arith) came.reached.moved in
+    let kept_new = texts_kept text extent gave was now was_feeds feeds came.reached.ready.same (omega arith) ok.moved in
     let most_here = held_most LINE_LIMIT (g.R.Range.past c.args.range.now) text extent gave old was now was_feeds feeds
-    c.loop-rest.streams.waiting c.gather.new.self.waiting came.0 (member_pair c.in-Some.first.value) came.1
-    (group g c) came.2.handed came.2.above (grouped g c) ok.ready
+    c.loop-rest.streams.waiting c.gather.new.self.waiting came.bound (member_pair c.in-Some.first.value) came.taken
+    (group g c) came.reached.handed came.reached.above (grouped g c) ok.ready
     texts indexes most known (subst (λ l. Known l texts) (sym (kept_new ∙ kept_old)) known) (told g c) are share in
     let e : length now ≡ length old = omega arith in
     subst (λ n. length c.gather.new.self.waiting + length (group g c) ≤ n + most) e most_here
@@ -130,7 +130,7 @@ moved g c =
     (zip c.args.sources.now c.args.streams.now.feeds.items)
     (zip c.loop-rest.sources c.loop-rest.streams.feeds.items)
     (zip c.gather.new.sources c.gather.new.self.feeds.items)
-    c.loop-rest.invariant.came.2.moved c.gather.ensures.moved
+    c.loop-rest.invariant.came.reached.moved c.gather.ensures.moved
 
 pub loop-rest-init : goal.loop-rest-init
 loop-rest-init g c = record {
@@ -140,10 +140,10 @@ loop-rest-init g c = record {
   writes = refl;
   further = λ f. f;
   held = λ texts indexes known are most share h. h;
-  came = (
-    None,
-    [],
-    record {
+  came = record {
+    bound = None;
+    taken = [];
+    reached = record {
       ready = c.requires.ready;
       settled = c.requires.settled;
       moved = moved_still g.S.Source.text g.S.Source.extent g.S.Source.gave
@@ -151,9 +151,9 @@ loop-rest-init g c = record {
       above = above_none c.args.streams.now.waiting;
       handed = handed_none LINE_LIMIT g.S.Source.text c.args.sources.now c.args.streams.now.feeds.items
           c.requires.fresh;
-    },
-    λ begin start w. w,
-  );
+    };
+    came = λ begin start w. w;
+  };
 }
 
 pub returns-in_err-first-clause-moved : goal.returns-in_err-first-clause-moved
@@ -174,59 +174,63 @@ returns-in_err-more-clause-broke g c =
     let came = c.loop-rest.invariant.came in
     on_err c.from_residual-in_err-more.result c.in_err-more.field-0.0 _ c.from_residual-in_err-more.ensures.1 (
     elim c.in_err-more.ensures.broke [
-      | inl k ↦ (
-        c.loop-rest.sources,
-        c.loop-rest.streams.feeds.items,
-        c.loop-rest.streams.waiting,
-        came.0,
-        came.1,
-        came.2,
-        λ begin start w. inl (
+      | inl k ↦ record {
+        sources = c.loop-rest.sources;
+        streams = c.loop-rest.streams;
+        bound = came.bound;
+        taken = came.taken;
+        reached = came.reached;
+        wrote = λ begin start w. inl (
           c.loop-rest.sink,
           subst
-              (λ o. g.K.Sink.Wrote begin c.loop-rest.sink came.1 start (g.O.Output.written o)) (sym k.1)
-              (came.3 begin start w),
-        ),
-      )
-      | inr k ↦ (
-        c.gather.new.sources,
-        c.gather.new.self.feeds.items,
-        c.gather.new.self.waiting,
-        Some (member_pair c.in-Some.first.value),
-        taken g here.In-Some,
-        reached g here.In-Some (entries g here.After-hand_on),
-        λ begin start w. inr (subst
-            (λ l. g.K.Sink.Broke begin (came.1 ++ l) start (g.O.Output.written c.hand_on.new.out))
-            (order g here.After-deref-in-Some) (k begin came.1 start (came.3 begin start w))),
-      )
+              (λ o. g.K.Sink.Wrote begin c.loop-rest.sink came.taken start (g.O.Output.written o)) (sym k.1)
+              (came.came begin start w),
+        );
+      }
+      | inr k ↦ record {
+        sources = c.gather.new.sources;
+        streams = c.gather.new.self;
+        bound = Some (member_pair c.in-Some.first.value);
+        taken = taken g here.In-Some;
+        reached = reached g here.In-Some (entries g here.After-hand_on);
+        wrote = λ begin start w. inr (subst
+            (λ l. g.K.Sink.Broke begin (came.taken ++ l) start (g.O.Output.written c.hand_on.new.out))
+            (order g here.After-deref-in-Some) (k begin came.taken start (came.came begin start w)));
+      }
     ])
 
-pub returns-then-not-more-clause-wrote : goal.returns-then-not-more-clause-wrote
-returns-then-not-more-clause-wrote g c =
-    let here = goal.at.returns-then-not-more-clause-wrote g c in
+pub returns-then-not-more-clause-passed : goal.returns-then-not-more-clause-passed
+returns-then-not-more-clause-passed g c =
+    let here = goal.at.returns-then-not-more-clause-passed g c in
     let came = c.loop-rest.invariant.came in
-    let pair = member_pair c.in-Some.first.value in (
-      Some pair,
-      taken g here.In-Some,
-      kept g here.After-put_back pair (taken g here.In-Some) (reached g here.In-Some (entries g here.After-hand_on)),
-      λ begin start w. subst
-          (λ l. g.K.Sink.Wrote begin c.hand_on.new.sink (came.1 ++ l) start (g.O.Output.written c.hand_on.new.out))
-          (order g here.After-deref-in-Some) (c.in_ok-more.ensures.wrote begin came.1 start (came.3 begin start w)),
-      λ e. (
-        pair,
-        came.1,
-        rising member_place place_cmp (group g here.In-Some),
-        c.loop-rest.sink,
-        g.O.Output.written c.loop-rest.out,
-        refl,
-        refl,
-        below_next came.0 pair ((grouped g here.In-Some).above came.0 came.2.above) came.1 came.2.handed.upto,
-        each_rising member_place place_cmp place_cmp_total (λ m. Alike (member_pair m) pair) (group g here.In-Some)
-            (grouped g here.In-Some).each,
-        c.loop-rest.invariant.further,
-        came.3,
-      ),
-    )
+    let pair = member_pair c.in-Some.first.value in
+    record {
+      so_far = record {
+        bound = Some pair;
+        taken = taken g here.In-Some;
+        reached = kept g here.After-put_back pair (taken g here.In-Some)
+            (reached g here.In-Some (entries g here.After-hand_on));
+        came = λ begin start w. subst
+            (λ l. g.K.Sink.Wrote begin c.hand_on.new.sink (came.taken ++ l) start (g.O.Output.written c.hand_on.new.out))
+            (order g here.After-deref-in-Some)
+            (c.in_ok-more.ensures.wrote begin came.taken start (came.came begin start w));
+      };
+      last = λ e. record {
+        pair = pair;
+        earlier = came.taken;
+        group = rising member_place place_cmp (group g here.In-Some);
+        state = c.loop-rest.sink;
+        middle = g.O.Output.written c.loop-rest.out;
+        bound_is = refl;
+        split = refl;
+        below = below_next came.bound pair ((grouped g here.In-Some).above came.bound came.reached.above) came.taken
+            came.reached.handed.upto;
+        alike = each_rising member_place place_cmp place_cmp_total (λ m. Alike (member_pair m) pair)
+            (group g here.In-Some) (grouped g here.In-Some).each;
+        more = c.loop-rest.invariant.further;
+        came = came.came;
+      };
+    }
 
 pub loop-rest-preserved : goal.loop-rest-preserved
 loop-rest-preserved g c =
@@ -247,14 +251,16 @@ loop-rest-preserved g c =
           c.gather.new.rest.items c.gather.new.self.held c.put_back.new.self.held (length c.args.sources.now + most)
           c.put_back.ensures.held
           (omega (arith, before, same)) (group_most g here.In-Some texts indexes most known are share);
-      came = (
-        Some pair,
-        taken g here.In-Some,
-        kept g here.After-put_back pair (taken g here.In-Some) (reached g here.In-Some (entries g here.After-hand_on)),
-        λ begin start w. subst
-            (λ l. g.K.Sink.Wrote begin c.hand_on.new.sink (came.1 ++ l) start (g.O.Output.written c.hand_on.new.out))
-            (order g here.After-deref-in-Some) (c.in_ok-more.ensures.wrote begin came.1 start (came.3 begin start w)),
-      );
+      came = record {
+        bound = Some pair;
+        taken = taken g here.In-Some;
+        reached = kept g here.After-put_back pair (taken g here.In-Some)
+            (reached g here.In-Some (entries g here.After-hand_on));
+        came = λ begin start w. subst
+            (λ l. g.K.Sink.Wrote begin c.hand_on.new.sink (came.taken ++ l) start (g.O.Output.written c.hand_on.new.out))
+            (order g here.After-deref-in-Some)
+            (c.in_ok-more.ensures.wrote begin came.taken start (came.came begin start w));
+      };
     }
 
 pub returns-in_err-first-clause-fault : goal.returns-in_err-first-clause-fault
@@ -262,7 +268,7 @@ returns-in_err-first-clause-fault g c =
     let text = g.S.Source.text in let extent = g.S.Source.extent in let gave = g.S.Source.gave in
     let texts = map text c.args.sources.now in
     let kept = texts_kept text extent gave c.args.sources.now c.loop-rest.sources c.args.streams.now.feeds.items
-    c.loop-rest.streams.feeds.items c.requires.ready.same (omega arith) c.loop-rest.invariant.came.2.moved in
+    c.loop-rest.streams.feeds.items c.requires.ready.same (omega arith) c.loop-rest.invariant.came.reached.moved in
     if_err c.from_residual.result c.in_err-first.field-0.0 (IsFaultOf LINE_LIMIT texts) c.from_residual.ensures.1
     (subst (λ ts. IsFaultOf LINE_LIMIT ts c.in_err-first.field-0.0) kept c.in_err-first.ensures.fault)
 
@@ -297,15 +303,14 @@ returns-clause-held g c = λ texts indexes known are most share h.
 pub returns-in_err-first-clause-broke : goal.returns-in_err-first-clause-broke
 returns-in_err-first-clause-broke g c =
     let came = c.loop-rest.invariant.came in
-    on_err c.from_residual.result c.in_err-first.field-0.0 _ c.from_residual.ensures.1 (
-      c.loop-rest.sources,
-      c.loop-rest.streams.feeds.items,
-      c.loop-rest.streams.waiting,
-      came.0,
-      came.1,
-      came.2,
-      λ begin start w. inl (c.loop-rest.sink, came.3 begin start w),
-    )
+    on_err c.from_residual.result c.in_err-first.field-0.0 _ c.from_residual.ensures.1 (record {
+      sources = c.loop-rest.sources;
+      streams = c.loop-rest.streams;
+      bound = came.bound;
+      taken = came.taken;
+      reached = came.reached;
+      wrote = λ begin start w. inl (c.loop-rest.sink, came.came begin start w);
+    })
 
 pub returns-in_err-first-clause-halted : goal.returns-in_err-first-clause-halted
 returns-in_err-first-clause-halted g c =
@@ -314,24 +319,23 @@ returns-in_err-first-clause-halted g c =
     let was = c.loop-rest.sources in let was_feeds = c.loop-rest.streams.feeds.items in
     let came = c.loop-rest.invariant.came in
     let reads = c.in_err-first.ensures.reads in
-    on_err c.from_residual.result c.in_err-first.field-0.0 _ c.from_residual.ensures.1 (
-      was,
-      was_feeds,
-      c.loop-rest.streams.waiting,
-      came.0,
-      came.1,
-      came.2,
-      (c.loop-rest.sink, g.O.Output.written c.loop-rest.out, c.loop-rest.invariant.further, grows_not _, came.3),
-      (
-        reads.0,
-        reads.1 came.0 came.2.above,
-        reads.2,
-        λ told.
-            reads.3 (told_moved text extent gave old was old_feeds was_feeds came.2.ready.same came.2.moved told)
-            (below_next came.0 reads.0 (reads.1 came.0 came.2.above) (all_done LINE_LIMIT text was was_feeds)
-            (came.2.handed.told told).1),
-      ),
-    )
+    on_err c.from_residual.result c.in_err-first.field-0.0 _ c.from_residual.ensures.1 (record {
+      sources = was;
+      stood = c.loop-rest.streams;
+      state = c.loop-rest.sink;
+      middle = g.O.Output.written c.loop-rest.out;
+      so_far = came;
+      more = c.loop-rest.invariant.further;
+      grows = grows_not _;
+      next = reads.pair;
+      above = reads.above came.bound came.reached.above;
+      least = reads.least;
+      read = λ told.
+          reads.read (told_moved text extent gave old was old_feeds was_feeds came.reached.ready.same
+          came.reached.moved told)
+          (below_next came.bound reads.pair (reads.above came.bound came.reached.above)
+          (all_done LINE_LIMIT text was was_feeds) (came.reached.handed.told told).1);
+    })
 
 pub returns-in_err-more-clause-halted : goal.returns-in_err-more-clause-halted
 returns-in_err-more-clause-halted g c =
@@ -339,32 +343,24 @@ returns-in_err-more-clause-halted g c =
     let here = all.In-Some in
     let came = c.loop-rest.invariant.came in
     let pair = member_pair c.in-Some.first.value in
-    on_err c.from_residual-in_err-more.result c.in_err-more.field-0.0 _ c.from_residual-in_err-more.ensures.1 (
-      c.loop-rest.sources,
-      c.loop-rest.streams.feeds.items,
-      c.loop-rest.streams.waiting,
-      came.0,
-      came.1,
-      came.2,
-      (
-        c.loop-rest.sink,
-        g.O.Output.written c.loop-rest.out,
-        c.loop-rest.invariant.further,
-        c.hand_on.ensures.grows,
-        came.3,
-      ),
-      (
-        pair,
-        (grouped g here).above came.0 came.2.above,
-        (grouped g here).least,
-        λ t. are_read_to LINE_LIMIT (g.R.Range.past c.args.range.now) g.S.Source.text g.S.Source.extent (Some pair) 0
-            c.gather.new.sources c.gather.new.self.feeds.items c.gather.new.self.waiting c.in_ok-first.ensures.ready.fed
-            ((reached g here (entries g all.After-hand_on)).handed.told t).1,
-      ),
-    )
+    on_err c.from_residual-in_err-more.result c.in_err-more.field-0.0 _ c.from_residual-in_err-more.ensures.1 (record {
+      sources = c.loop-rest.sources;
+      stood = c.loop-rest.streams;
+      state = c.loop-rest.sink;
+      middle = g.O.Output.written c.loop-rest.out;
+      so_far = came;
+      more = c.loop-rest.invariant.further;
+      grows = c.hand_on.ensures.grows;
+      next = pair;
+      above = (grouped g here).above came.bound came.reached.above;
+      least = (grouped g here).least;
+      read = λ t. are_read_to LINE_LIMIT (g.R.Range.past c.args.range.now) g.S.Source.text g.S.Source.extent
+          (Some pair) 0 c.gather.new.sources c.gather.new.self.feeds.items c.gather.new.self.waiting
+          c.in_ok-first.ensures.ready.fed ((reached g here (entries g all.After-hand_on)).handed.told t).1;
+    })
 
-pub returns-clause-wrote : goal.returns-clause-wrote
-returns-clause-wrote g c =
+pub returns-clause-passed : goal.returns-clause-passed
+returns-clause-passed g c =
     let text = g.S.Source.text in let extent = g.S.Source.extent in
     let was = c.loop-rest.sources in let was_feeds = c.loop-rest.streams.feeds.items in let waits =
     c.loop-rest.streams.waiting in
@@ -374,13 +370,16 @@ returns-clause-wrote g c =
     let none = subst (λ o. MatchOption o ((now ≡ was) × (feeds ≡ was_feeds) × (waits ≡ []) × (left ≡ []))
     (λ (b : Box Line Global). Grouped LINE_LIMIT text extent was was_feeds waits now feeds left (member_pair b.value)
     (b.value ∷ map (λ (b : Box Line Global). b.value) c.gather.new.rest.items)))
-    c.in_default.is c.in_ok-first.ensures.group in (
-      came.0,
-      came.1,
-      reached_same _ _ _ _ _ _ _ _ _ _ _ _ _ _ _ none.0 none.1 (none.3 ∙ sym none.2) came.2,
-      came.3,
-      λ e. absurd (true≢false e),
-    )
+    c.in_default.is c.in_ok-first.ensures.group in
+    record {
+      so_far = record {
+        bound = came.bound;
+        taken = came.taken;
+        reached = reached_same _ _ _ _ _ _ _ _ _ _ _ _ _ _ _ none.0 none.1 (none.3 ∙ sym none.2) came.reached;
+        came = came.came;
+      };
+      last = λ e. absurd (true≢false e);
+    }
 
 pub returns-in_err-first-clause-failures : goal.returns-in_err-first-clause-failures
 returns-in_err-first-clause-failures g c =

@@ -1,12 +1,10 @@
-use Rattle.std.proofs.Common.{◌≡◌, ◌≤◌, ◌+◌, ℕ, List, Option, [], length, map}
+use Rattle.std.proofs.Common.{◌≡◌, ◌≤◌, ◌+◌, ℕ, [], length, map}
 use Rattle.cdxj_core.specs.declared.limit.TheConstants.{LINE_LIMIT}
-use Rattle.cdxj_core.specs.Members.{Member}
-use Rattle.cdxj_places.specs.Pairs.{Pair}
 use Rattle.merge_core.specs.Feeds.{AreSettled}
 use Rattle.merge_core.specs.Collections.{OverIndexes, all_lines}
 use Rattle.merge_core.specs.Counts.{ShareAtMost}
 use Rattle.merge_core.specs.Gathering.{unread}
-use Rattle.merge_core.specs.Reached.{Reached}
+use Rattle.merge_core.specs.Merging.{SoFar}
 use Rattle.merge_core.proofs.merging.merge.Given as goal
 
 abbrev pub invariant-loop-rest : goal.invariant-loop-rest
@@ -19,12 +17,9 @@ invariant-loop-rest g l = record {
   held : OverIndexes LINE_LIMIT (map g.S.Source.text l.fn.sources) (λ texts indexes. (most : ℕ)
       → ShareAtMost most (all_lines indexes)
       → l.fn.streams.held ≤ length l.fn.sources + most → l.streams.held ≤ length l.fn.sources + most);
-  came : (b : Option Pair) × (taken : List Member)
-      × Reached LINE_LIMIT g.S.Source.text (g.R.Range.past l.range) g.S.Source.extent g.S.Source.gave l.fn.sources
-      l.fn.streams.feeds.items l.sources l.streams.feeds.items l.streams.waiting b taken
-      × ((begin : g.row.K.Denot) → (start : Option (List ℕ))
-      → g.K.Sink.Wrote begin l.fn.sink [] start (g.O.Output.written l.fn.out)
-      → g.K.Sink.Wrote begin l.sink taken start (g.O.Output.written l.out));
+  came : SoFar g.K.Sink.Wrote g.K.Sink.Enough (g.R.Range.past l.range) g.S.Source.text g.S.Source.extent
+      g.S.Source.gave l.fn.sources l.fn.streams l.fn.sink (g.O.Output.written l.fn.out) l.sources l.streams l.sink
+      (g.O.Output.written l.out);
 }
 
 abbrev pub decreases-loop-rest : goal.decreases-loop-rest

@@ -107,7 +107,7 @@ loop-line-preserved g c =
     let f : Feed = record { cursor = c.next_line.new.cursor; progress = c.loop-line.self.progress } in
     let pushed : map (λ (b : Box Line Global). b.value) c.push.new.self.items
     ≡ map (λ (b : Box Line Global). b.value) c.loop-line.rest.items ++ m ∷ [] =
-    ap (map (λ (b : Box Line Global). b.value)) c.in-Ok.ensures.items
+    ap (map (λ (b : Box Line Global). b.value)) c.in_ok-push-in-Equal.ensures.items
     ∙ map-append (λ (b : Box Line Global). b.value) c.loop-line.rest.items (line ∷ []) in
     let more = taken_done LINE_LIMIT (g.R.Range.past c.args.range.now) (λ (b : Box Line Global). b.value)
     _ _ _ _ c.loop-line.self c.next_line.new.cursor
@@ -195,8 +195,8 @@ returns-in_err-line-clause-reads g c = reads g (goal.at.returns-in_err-line-clau
 pub returns-in-Less-clause-reads : goal.returns-in-Less-clause-reads
 returns-in-Less-clause-reads g c = reads g (goal.at.returns-in-Less-clause-reads g c).After-next_line
 
-pub returns-in-Err-clause-reads : goal.returns-in-Err-clause-reads
-returns-in-Err-clause-reads g c = reads g (goal.at.returns-in-Err-clause-reads g c).After-next_line
+pub returns-in_err-push-in-Equal-clause-reads : goal.returns-in_err-push-in-Equal-clause-reads
+returns-in_err-push-in-Equal-clause-reads g c = reads g (goal.at.returns-in_err-push-in-Equal-clause-reads g c).After-next_line
 
 pub returns-clause-reads : goal.returns-clause-reads
 returns-clause-reads g c = reads g (goal.at.returns-clause-reads g c).After-next_line

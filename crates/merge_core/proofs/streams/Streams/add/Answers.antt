@@ -27,14 +27,14 @@ spent g c t e =
 pub returns-in_err-next-clause-spent : goal.returns-in_err-next-clause-spent
 returns-in_err-next-clause-spent g c = spent g (goal.at.returns-in_err-next-clause-spent g c).After-begin
 
-pub returns-in-Err-clause-spent : goal.returns-in-Err-clause-spent
-returns-in-Err-clause-spent g c = spent g (goal.at.returns-in-Err-clause-spent g c).After-begin
+pub returns-in_err-push-clause-spent : goal.returns-in_err-push-clause-spent
+returns-in_err-push-clause-spent g c = spent g (goal.at.returns-in_err-push-clause-spent g c).After-begin
 
-pub returns-in-Ok-let_wait-clause-spent : goal.returns-in-Ok-let_wait-clause-spent
-returns-in-Ok-let_wait-clause-spent g c = spent g (goal.at.returns-in-Ok-let_wait-clause-spent g c).After-begin
+pub returns-clause-spent : goal.returns-clause-spent
+returns-clause-spent g c = spent g (goal.at.returns-clause-spent g c).After-begin
 
-pub returns-in-Err-let_wait-clause-spent : goal.returns-in-Err-let_wait-clause-spent
-returns-in-Err-let_wait-clause-spent g c = spent g (goal.at.returns-in-Err-let_wait-clause-spent g c).After-begin
+pub returns-in_err-let_wait-clause-spent : goal.returns-in_err-let_wait-clause-spent
+returns-in_err-let_wait-clause-spent g c = spent g (goal.at.returns-in_err-let_wait-clause-spent g c).After-begin
 
 pub returns-in_err-next-clause-failures : goal.returns-in_err-next-clause-failures
 returns-in_err-next-clause-failures g c =

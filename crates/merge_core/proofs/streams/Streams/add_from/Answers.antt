@@ -7,23 +7,26 @@ pub returns-clause-added : goal.returns-clause-added
 returns-clause-added g c =
     let found = c.in_ok-cursor.ensures in
     let ok = c.in_ok-add.ensures in
-    let added = ok.added in (
-      added.0,
-      added.1,
-      added.2,
-      added.3,
-      added.4,
-      λ t members e index. subst (λ n. IsCut (c.args.key.now, c.args.stamp.now) t members n) (sym added.5)
-          (found.cut t members (sym (ok.text ∙ found.text) ∙ e) index),
-      λ t e. added.6 t (found.text ∙ e),
-      λ t e.
-          let a = found.gave t e in
-          let b = added.7 in
-          let c1 = found.first.1 in
-          let c2 = added.5 in
-          omega (arith, a, b, c1, c2),
-      λ k s. added.5 ∙ found.start k s,
-    )
+    let added = ok.added in
+    let start = added.cursor_is.0 in
+    record {
+      feed = added.feed;
+      first = added.first;
+      feeds_are = added.feeds_are;
+      waits = added.waits;
+      fed = added.fed;
+      fresh = added.fresh;
+      cursor_is = (
+        λ t members e index. subst (λ n. IsCut (c.args.key.now, c.args.stamp.now) t members n) (sym start)
+            (found.cut t members (sym (ok.text ∙ found.text) ∙ e) index),
+        λ t e.
+            let gave = found.gave t e in
+            let more = added.cursor_is.1 in
+            let reached = found.first.1 in
+            omega (arith, gave, more, reached, start),
+        λ k s. start ∙ found.start k s,
+      );
+    }
 
 pub returns-in_err-cursor-clause-failures : goal.returns-in_err-cursor-clause-failures
 returns-in_err-cursor-clause-failures g c =

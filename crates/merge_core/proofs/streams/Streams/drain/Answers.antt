@@ -6,7 +6,7 @@ use Rattle.std.proofs.lemmas.List.{get_or_default}
 use Rattle.cdxj_core.specs.declared.limit.TheConstants.{LINE_LIMIT}
 use Rattle.cdxj_core.specs.declared.line.Line.{Line}
 use Rattle.cdxj_core.specs.Members.{member_pair}
-use Rattle.merge_core.specs.Failures.{RaisedByRead}
+use Rattle.merge_core.specs.declared.fault.MergeFault.TheVariants.{Memory}
 use Rattle.merge_core.specs.declared.feed.Feed.{Feed}
 use Rattle.merge_core.specs.declared.feed.Progress.TheVariants.{Due}
 use Rattle.line_queue.specs.PairOrders.{Upto}
@@ -125,21 +125,22 @@ pub returns-clause-drained : goal.returns-clause-drained
 returns-clause-drained g c =
     let k = c.in-Ok.ensures in
     let a = c.index-sources-i.result in let b = c.index_mut.result.now in
-    let ss = c.args.sources.now in let fs = c.args.self.now.feeds.items in let i = c.args.i in (
-      c.drain.new.source,
-      c.drain.new.self,
-      refl,
-      c.let_wait.ensures.feeds,
-      λ x. k.text ∙ ap g.S.Source.text (get_or_default ss i a x c.requires.inside),
-      λ x d t e.
+    let ss = c.args.sources.now in let fs = c.args.self.now.feeds.items in let i = c.args.i in
+    record {
+      source = c.drain.new.source;
+      feed = c.drain.new.self;
+      source_is = refl;
+      feed_is = c.let_wait.ensures.feeds;
+      text_is = λ x. k.text ∙ ap g.S.Source.text (get_or_default ss i a x c.requires.inside);
+      drained = λ x d t e.
           let h = k.taken t (ap g.S.Source.text (get_or_default ss i a x c.requires.inside) ∙ e) in (
             h.0,
             h.1 ∙ ap (λ (f : Feed). done LINE_LIMIT t f ++ h.0) (c.index_mut.ensures.value
                 ∙ get_or_default fs i b d (let l = c.requires.ready.same in let m = c.requires.inside in omega arith)),
             h.2,
             h.3,
-          ),
-    )
+          );
+    }
 
 pub returns-in-Err-clause-reads : goal.returns-in-Err-clause-reads
 returns-in-Err-clause-reads g c = read g (goal.at.returns-in-Err-clause-reads g c).After-drain
@@ -170,9 +171,8 @@ returns-in_err-let_wait-clause-failures g c =
     let new = f (set c.args.sources.now c.args.i c.drain.new.source) in
     let same = map_set_same g.S.Source.failures c.args.sources.now c.args.i c.index-sources-i.result c.drain.new.source
     c.requires.inside c.in-Ok.ensures.failures in
-    counts_reads c.from_residual.result c.in_err-let_wait.field-0.0 (f c.args.sources.now) (f c.args.sources.now) new
-    c.from_residual.ensures.1 refl
-    (subst (λ e. RaisedByRead e (f c.args.sources.now) new) (sym c.in_err-let_wait.ensures.refused) same)
+    counts_reads c.from_residual.result Memory (f c.args.sources.now) (f c.args.sources.now) new
+    c.from_residual.ensures.1 refl same
 
 pub returns-clause-failures : goal.returns-clause-failures
 returns-clause-failures g c =

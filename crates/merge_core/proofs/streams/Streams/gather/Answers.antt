@@ -18,6 +18,7 @@ use Rattle.line_queue.specs.WaitingLines.{WaitingLine, waiting_pair, turn_cmp}
 use Rattle.merge_core.specs.Feeds.{IsSettled, AreSettled, due}
 use Rattle.merge_core.specs.Gathering.{Gathered, Grouped, IsFrom, IsDue, WaitsAbove, Drained, AreTold, all_done, unread}
 use Rattle.merge_core.specs.LineFaults.{IsFaultOf}
+use Rattle.merge_core.specs.declared.fault.MergeFault.TheVariants.{Memory}
 use Rattle.merge_core.specs.Spending.{AreReadTo}
 use Rattle.line_queue.proofs.PairOrder.{upto_itself}
 use Rattle.merge_core.proofs.MergeLemmas.{on_err}
@@ -52,22 +53,22 @@ drained g c =
     let ss = c.sources.sources in let fs = c.sources.self.feeds.items in let i = c.sources.i in
     let old = values c.sources.rest.items in let new = values c.drain.new.rest.items in
     let ok = c.in_ok-drain.ensures in
-    let s = ok.drained.0 in let f = ok.drained.1 in
+    let s = ok.drained.source in let f = ok.drained.feed in
     gathers_drained LINE_LIMIT (g.R.Range.past c.args.range.now) text g.S.Source.extent g.S.Source.gave
     c.args.sources.now c.args.self.now.feeds.items (member_pair c.new-keyed.result) i ss fs c.sources.self.waiting
     c.new-keyed.result old new c.sources.invariant.gathers s f
     c.drain.new.sources c.drain.new.self.feeds.items c.drain.new.self.waiting s f
-    c.sources.invariant.inside ok.ready ok.moved ok.drained.2 ok.drained.3 (ok.drained.4 s)
-    (subst (λ p. Drained LINE_LIMIT p (text (get_or ss i s)) (get_or fs i f) f old new) (same g c) (ok.drained.5 s f))
+    c.sources.invariant.inside ok.ready ok.moved ok.drained.source_is ok.drained.feed_is (ok.drained.text_is s)
+    (subst (λ p. Drained LINE_LIMIT p (text (get_or ss i s)) (get_or fs i f) f old new) (same g c) (ok.drained.drained s f))
 
 -- and of the feeds
 drained_settled : (g : Over) (c : In_ok-drain g) → AreSettled c.drain.new.self.feeds.items
 drained_settled g c =
     let ok = c.in_ok-drain.ensures in
-    let f = ok.drained.1 in
-    let own = ap (λ (l : List Feed). get_or l c.sources.i f) ok.drained.3
+    let f = ok.drained.feed in
+    let own = ap (λ (l : List Feed). get_or l c.sources.i f) ok.drained.feed_is
     ∙ set_own c.sources.self.feeds.items c.sources.i f in
-    subst AreSettled (sym ok.drained.3) (c.sources.invariant.settled f (subst IsSettled own (ok.settled f)))
+    subst AreSettled (sym ok.drained.feed_is) (c.sources.invariant.settled f (subst IsSettled own (ok.settled f)))
 
 -- its lines have the group's pair
 drained_each : (g : Over) (c : In_ok-drain g) → AreAt (member_pair c.new-keyed.result) (values c.drain.new.rest.items)
@@ -224,7 +225,7 @@ returns-in_default-take_at-clause-group g c =
     let unread_same = ap (λ (us : List Feed). unread extent ss us) feeds in
     let long = ap (λ (ws : List WaitingLine). length ws) out.0 in
     let inside : c.sources.i + 1 ≤ length ss = omega
-    (arith, inv.inside, ap length ok.drained.2, length-set c.sources.sources c.sources.i ok.drained.0) in
+    (arith, inv.inside, ap length ok.drained.source_is, length-set c.sources.sources c.sources.i ok.drained.source) in
     subst (λ m. Grouped LINE_LIMIT text extent old old_feeds c.args.self.now.waiting ss c.take_at.new.self.feeds.items
     c.take_at.new.self.waiting
     (member_pair m) (m ∷ values c.drain.new.rest.items)) (c.new-keyed.ensures ∙ c.deref.ensures) (record {
@@ -241,9 +242,9 @@ returns-in_default-take_at-clause-group g c =
           ss fs c.drain.new.self.waiting group now c.requires.ready.same inside told low);
     })
 
-pub returns-in-Err-clause-moved : goal.returns-in-Err-clause-moved
-returns-in-Err-clause-moved g c =
-    let here = goal.at.returns-in-Err-clause-moved g c in
+pub returns-in_err-push-clause-moved : goal.returns-in_err-push-clause-moved
+returns-in_err-push-clause-moved g c =
+    let here = goal.at.returns-in_err-push-clause-moved g c in
     (taken g here.After-push (drained g here.In_ok-drain) (drained_from g here.In_ok-drain)).gathers.moved
 
 pub sources-smaller : goal.sources-smaller
@@ -263,7 +264,7 @@ sources-preserved g c =
     let inv = c.sources.invariant in
     let ok = c.in_ok-drain.ensures in
     let pushed : values c.push.new.self.items ≡ values rest ++ w.member ∷ [] =
-    ap values c.in-Ok.ensures.items
+    ap values c.in_ok-push.ensures.items
     ∙ map-append (λ (b : Box Line Global). b.value) rest (c.next-in-sources.inside.line ∷ []) in
     record {
       gathers = subst (λ l. Gathers LINE_LIMIT (g.R.Range.past c.args.range.now) g.S.Source.text g.S.Source.extent
@@ -327,24 +328,25 @@ returns-in_err-drain-clause-reads g c =
     let here = (goal.at.returns-in_err-drain-clause-reads g c).After-drain in
     let inv = c.sources.invariant in
     on_err c.from_residual.result c.in_err-drain.field-0.0 _ c.from_residual.ensures.1
-    (member_pair c.new-keyed.result, inv.above, inv.least, read_to g here)
+    (record { pair = member_pair c.new-keyed.result; above = inv.above; least = inv.least; read = read_to g here })
 
-pub returns-in-Err-clause-reads : goal.returns-in-Err-clause-reads
-returns-in-Err-clause-reads g c =
-    let at = goal.at.returns-in-Err-clause-reads g c in
+pub returns-in_err-push-clause-reads : goal.returns-in_err-push-clause-reads
+returns-in_err-push-clause-reads g c =
+    let at = goal.at.returns-in_err-push-clause-reads g c in
     let inv = c.sources.invariant in
     let pair = member_pair c.new-keyed.result in
     let past = g.R.Range.past c.args.range.now in
-    let f = c.in_ok-drain.ensures.drained.1 in (
-      pair,
-      inv.above,
-      inv.least,
-      λ told low.
+    let f = c.in_ok-drain.ensures.drained.feed in
+    on_err c.from_residual-in_err-push.result Memory _ c.from_residual-in_err-push.ensures.1 (record {
+      pair = pair;
+      above = inv.above;
+      least = inv.least;
+      read = λ told low.
           subst (λ (us : List Feed). AreReadTo LINE_LIMIT past g.S.Source.text (Some pair) c.drain.new.sources us)
           (sym (taken_feeds g at.After-push f))
           (due_read LINE_LIMIT past g.S.Source.text g.S.Source.extent (Some pair) c.drain.new.sources
-          c.drain.new.self.feeds.items (taken_line g at.After-push).source f (read_to g at.After-drain told low)),
-    )
+          c.drain.new.self.feeds.items (taken_line g at.After-push).source f (read_to g at.After-drain told low));
+    })
 
 pub returns-in_err-drain-clause-failures : goal.returns-in_err-drain-clause-failures
 returns-in_err-drain-clause-failures g c =

@@ -67,14 +67,14 @@ loop-i-preserved g c =
     let added = ok.added in
     let ss = c.loop-i.sources in let fs = c.loop-i.streams.feeds.items in let ws = c.loop-i.streams.waiting in let i =
     c.loop-i.i in
-    let a = c.index-sources-i.result in let s = c.add_from.new.source in let f = added.0 in
+    let a = c.index-sources-i.result in let s = c.add_from.new.source in let f = added.feed in
     let ws' = c.add_from.new.self.waiting in
     let inside : i < length ss = omega arith in
     let of = λ (x : g.row.S.Denot × Feed). done LINE_LIMIT (text_or (g.S.Source.text x.0)) x.1 in
     let Cut = λ (x : g.row.S.Denot × Feed). IsCutAt LINE_LIMIT (c.args.key.now, c.args.stamp.now) (g.S.Source.text x.0)
     x.1.cursor in
-    let both = fed_added LINE_LIMIT past g.S.Source.text g.S.Source.extent i ss fs ws ws' s f added.1 inv.count inside
-    inv.placed inv.fed added.3 added.4 in
+    let both = fed_added LINE_LIMIT past g.S.Source.text g.S.Source.extent i ss fs ws ws' s f added.first inv.count inside
+    inv.placed inv.fed added.waits added.fed in
     let text = g.S.Source.text in let extent = g.S.Source.extent in let gave = g.S.Source.gave in
     let Came = λ (x : g.row.S.Denot) (y : g.row.S.Denot × Feed). CameWithin (text x) (extent x) (gave x) (gave y.0)
     y.1.cursor in
@@ -90,29 +90,29 @@ loop-i-preserved g c =
       extent = map_set_same g.S.Source.extent ss i a s inside ok.extent ∙ inv.extent;
       failures = map_set_same g.S.Source.failures ss i a s inside ok.failures ∙ inv.failures;
       held = ok.held ∙ inv.held;
-      count = ap length added.2 ∙ length-append fs (f ∷ []) ∙ ap (λ n. n + 1) inv.count;
-      placed = subst (λ us. AllByRecursion (λ (w : WaitingLine). w.source < length us) ws') (sym added.2) both.0;
-      fed = subst (λ us. AreFed LINE_LIMIT past g.S.Source.text g.S.Source.extent 0 (set ss i s) us ws') (sym added.2)
+      count = ap length added.feeds_are ∙ length-append fs (f ∷ []) ∙ ap (λ n. n + 1) inv.count;
+      placed = subst (λ us. AllByRecursion (λ (w : WaitingLine). w.source < length us) ws') (sym added.feeds_are) both.0;
+      fed = subst (λ us. AreFed LINE_LIMIT past g.S.Source.text g.S.Source.extent 0 (set ss i s) us ws') (sym added.feeds_are)
           both.1;
-      cut = subst (λ us. AllByRecursion Cut (zip (set ss i s) us)) (sym added.2)
+      cut = subst (λ us. AllByRecursion Cut (zip (set ss i s) us)) (sym added.feeds_are)
           (subst (AllByRecursion Cut) (sym (zip_push ss fs i s f inv.count inside))
-          (each_join Cut (zip ss fs) ((s, f) ∷ []) inv.cut (added.5, tt)));
-      start = λ k s. subst (AllByRecursion (λ (f : Feed). f.cursor.start ≡ 0)) (sym added.2)
-          (each_join (λ (f : Feed). f.cursor.start ≡ 0) fs (f ∷ []) (inv.start k s) (added.8 k s, tt));
+          (each_join Cut (zip ss fs) ((s, f) ∷ []) inv.cut (added.cursor_is.0, tt)));
+      start = λ k s. subst (AllByRecursion (λ (f : Feed). f.cursor.start ≡ 0)) (sym added.feeds_are)
+          (each_join (λ (f : Feed). f.cursor.start ≡ 0) fs (f ∷ []) (inv.start k s) (added.cursor_is.2 k s, tt));
       settled = ok.settled inv.settled;
-      fresh = ap (λ us. flat_map of (zip (set ss i s) us)) added.2
+      fresh = ap (λ us. flat_map of (zip (set ss i s) us)) added.feeds_are
           ∙ ap (flat_map of) (zip_push ss fs i s f inv.count inside)
           ∙ flat_push of (zip ss fs) (s, f) inv.fresh
-          (fresh_of LINE_LIMIT (g.S.Source.text s) f (λ t e. added.6 t (sym ok.text ∙ e)));
+          (fresh_of LINE_LIMIT (g.S.Source.text s) f added.fresh);
       probes = omega (arith, turns, here, few, before, all);
       left = left_after c.args.sources.now ss i s inv.left;
       spent = two_put (λ x y. OpenedWithin (text x) (extent x) (gave x) (gave y)) c.args.sources.now ss i a s inv.spent
           (subst (λ x. OpenedWithin (text x) (extent x) (gave x) (gave s)) same_here ok.spent);
-      came = subst (λ us. AllZip Came (take (i + 1) c.args.sources.now) (zip (set ss i s) us)) (sym added.2)
+      came = subst (λ us. AllZip Came (take (i + 1) c.args.sources.now) (zip (set ss i s) us)) (sym added.feeds_are)
           (subst (AllZip Came (take (i + 1) c.args.sources.now)) (sym (zip_push ss fs i s f inv.count inside))
           (subst (λ us. AllZip Came us (zip ss fs ++ (s, f) ∷ [])) (sym (take_more c.args.sources.now i a inside_old))
           (all_zipped_more Came (take i c.args.sources.now) (zip ss fs) (get_or c.args.sources.now i a) (s, f) inv.came
-          (subst (λ x. CameWithin (text x) (extent x) (gave x) (gave s) f.cursor) same_here added.7))));
+          (subst (λ x. CameWithin (text x) (extent x) (gave x) (gave s) f.cursor) same_here added.cursor_is.1))));
     }
 
 pub returns-clause-probes : goal.returns-clause-probes
