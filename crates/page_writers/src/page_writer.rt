@@ -222,22 +222,15 @@ impl<'q> PageWriter<'q> {
         if self.more {
             return Ok(());
         }
-        match self.selection.takes(line) {
-            Ok(is_capture) => {
-                if !is_capture {
-                    return Ok(());
-                }
-            }
-            Err(fault) => return Err(fault),
+        if !self.selection.takes(line)? {
+            return Ok(());
         }
         if self.is_full() {
             self.more = self.last.is_some();
             return Ok(());
         }
-        match self.put_capture(alloc, line, out) {
-            Ok(()) => Ok(()),
-            Err(fault) => Err(fault),
-        }
+        self.put_capture(alloc, line, out)?;
+        Ok(())
     }
 
     /// Takes lines, in the order of places. Returns `false` if no more are wanted.
@@ -263,10 +256,7 @@ impl<'q> PageWriter<'q> {
         ensures failures { CountsWrite result (O.failures out.old) (O.failures out.new) }
     {
         for line in lines {
-            match self.take_line(alloc, line, out) {
-                Ok(()) => {}
-                Err(fault) => return Err(fault),
-            }
+            self.take_line(alloc, line, out)?;
         }
         Ok(!self.more)
     }

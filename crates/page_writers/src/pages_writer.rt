@@ -95,14 +95,8 @@ impl<'q> PagesWriter<'q> {
         ensures failures { CountsWrite result (O.failures out.old) (O.failures out.new) }
     {
         key_is_read(self.last.as_ref());
-        match put_end(alloc, &mut self.output, true, self.last.as_ref(), out) {
-            Ok(()) => {}
-            Err(fault) => return Err(fault),
-        }
-        match self.output.put_start(out) {
-            Ok(()) => {}
-            Err(fault) => return Err(fault),
-        }
+        put_end(alloc, &mut self.output, true, self.last.as_ref(), out)?;
+        self.output.put_start(out)?;
         self.sizes = later_sizes(self.sizes);
         self.given = 0;
         self.count = self.count.saturating_add(1);
@@ -123,13 +117,10 @@ impl<'q> PagesWriter<'q> {
         ensures grows { Grows (O.written out.old) (O.written out.new) }
         ensures failures { CountsWrite result (O.failures out.old) (O.failures out.new) }
     {
-        if !self.is_full() {
-            return Ok(());
+        if self.is_full() {
+            self.turn(alloc, out)?;
         }
-        match self.turn(alloc, out) {
-            Ok(()) => Ok(()),
-            Err(fault) => Err(fault),
-        }
+        Ok(())
     }
 
     fn put_capture<O: Output>(
@@ -182,22 +173,11 @@ impl<'q> PagesWriter<'q> {
         ensures grows { Grows (O.written out.old) (O.written out.new) }
         ensures failures { CountsWrite result (O.failures out.old) (O.failures out.new) }
     {
-        match self.selection.takes(line) {
-            Ok(is_capture) => {
-                if !is_capture {
-                    return Ok(());
-                }
-            }
-            Err(fault) => return Err(fault),
+        if self.selection.takes(line)? {
+            self.make_room(alloc, out)?;
+            self.put_capture(alloc, line, out)?;
         }
-        match self.make_room(alloc, out) {
-            Ok(()) => {}
-            Err(fault) => return Err(fault),
-        }
-        match self.put_capture(alloc, line, out) {
-            Ok(()) => Ok(()),
-            Err(fault) => Err(fault),
-        }
+        Ok(())
     }
 
     /// Takes lines, in the order of places.
@@ -222,10 +202,7 @@ impl<'q> PagesWriter<'q> {
         ensures failures { CountsWrite result (O.failures out.old) (O.failures out.new) }
     {
         for line in lines {
-            match self.take_line(alloc, line, out) {
-                Ok(()) => {}
-                Err(fault) => return Err(fault),
-            }
+            self.take_line(alloc, line, out)?;
         }
         Ok(())
     }

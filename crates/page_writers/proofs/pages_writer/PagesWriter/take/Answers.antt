@@ -1,4 +1,5 @@
 use Rattle.std.proofs.Common.{◌≡◌, ◌++◌, ◌∷◌, [], take, map, filter, sym, ap, ◌∙◌, subst, arith, append-nil, refl, Bor}
+use Rattle.std.proofs.lemmas.Result.{err_from_is_err_and}
 use Rattle.std.proofs.lemmas.List.{take_all}
 use Rattle.cdxj_core.specs.declared.line.Line.{Line}
 use Rattle.page_writers.proofs.GrowLemmas.{grows_not, grows_on}
@@ -28,11 +29,11 @@ loop-line-preserved g c =
       stands = λ sizes taken start s.
           subst (λ l. pages_stand sizes c.take_line.new.self l start (g.O.Output.written c.take_line.new.out))
           (one_more seen taken ls k c.line-item.result c.loop-line-test.true c.line-item.is)
-          (c.in-Ok.ensures.stands sizes (taken ++ map seen (take k ls)) start (inv.stands sizes taken start s));
+          (c.in_ok-take_line.ensures.stands sizes (taken ++ map seen (take k ls)) start (inv.stands sizes taken start s));
       same = (let n = c.take_line.ensures.same in (n.0 ∙ inv.same.0, n.1 ∙ inv.same.1));
       grows = grows_on (g.O.Output.written c.args.out.now) (g.O.Output.written c.loop-line.out)
           (g.O.Output.written c.take_line.new.out) inv.grows c.take_line.ensures.grows;
-      failures = c.in-Ok.ensures.failures ∙ inv.failures;
+      failures = c.in_ok-take_line.ensures.failures ∙ inv.failures;
     }
 
 pub returns-clause-stands : goal.returns-clause-stands
@@ -42,8 +43,8 @@ returns-clause-stands g c = λ sizes taken start s.
     subst (λ l. pages_stand sizes c.loop-line.self (taken ++ map (λ (l : Bor Line). l.now) l) start
     (g.O.Output.written c.loop-line.out)) all (c.loop-line.invariant.stands sizes taken start s)
 
-pub returns-in-Err-clause-broke : goal.returns-in-Err-clause-broke
-returns-in-Err-clause-broke g c = λ sizes taken start s.
+pub returns-in_err-take_line-clause-broke : goal.returns-in_err-take_line-clause-broke
+returns-in_err-take_line-clause-broke g c = λ sizes taken start s.
     let inv = c.loop-line.invariant in
     let k = c.loop-line.line-index in
     let ls = c.args.lines.now in
@@ -58,14 +59,15 @@ returns-in-Err-clause-broke g c = λ sizes taken start s.
     let now = g.O.Output.written c.take_line.new.out in
     let broke : IsFront q sizes (captures_over q from (before ++ item.now ∷ [])) start now =
     front_as w.selection old.selection sizes (before ++ item.now ∷ []) start now inv.same
-    (c.in-Err.ensures.broke sizes before start (inv.stands sizes taken start s)) in
-    subst (λ l. IsFront q sizes l start now)
+    (c.in_err-take_line.ensures.broke sizes before start (inv.stands sizes taken start s)) in
+    let p = err_from_is_err_and c.from_residual.result c.from_residual.ensures.1 in
+    rw p.1 (subst (λ l. IsFront q sizes l start now)
     (sym (ap (captures_over q from) (parted seen taken ls k item c.loop-line-test.true c.line-item.is)
     ∙ captures_append q from (before ++ item.now ∷ []) rest))
     (front_more q sizes (captures_over q from (before ++ item.now ∷ []))
     (kept_after q from (place_before q from (before ++ item.now ∷ [])) (filter (is_wanted q from) rest)) start now
-    broke)
+    broke))
 
-pub returns-in-Err-clause-grows : goal.returns-in-Err-clause-grows
-returns-in-Err-clause-grows g c = grows_on (g.O.Output.written c.args.out.now) (g.O.Output.written c.loop-line.out)
+pub returns-in_err-take_line-clause-grows : goal.returns-in_err-take_line-clause-grows
+returns-in_err-take_line-clause-grows g c = grows_on (g.O.Output.written c.args.out.now) (g.O.Output.written c.loop-line.out)
     (g.O.Output.written c.take_line.new.out) c.loop-line.invariant.grows c.take_line.ensures.grows
