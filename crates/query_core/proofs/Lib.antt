@@ -1,4 +1,5 @@
 pub mod CountLemmas
+pub mod ConversionLemmas
 pub mod RefusalLemmas
 pub mod SinkLemmas
 pub mod Runs

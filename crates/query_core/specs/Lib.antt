@@ -2,6 +2,7 @@ pub mod Checking
 pub mod Passes
 pub mod Answering
 pub mod IndexFaults
+pub mod Conversions
 pub mod AnswerCounts
 pub mod Refusals
 pub mod Starts

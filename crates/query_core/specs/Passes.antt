@@ -7,6 +7,7 @@ use Rattle.cdxj_core.specs.Members.{Member}
 use Rattle.query_text.specs.Queries.{QueryValue}
 use Rattle.query_text.specs.Matching.{is_past}
 use Rattle.merge_core.specs.Collections.{OverIndexes, OverTexts, all_lines, collection}
+use Rattle.merge_core.specs.Merging.{CameTo}
 use Rattle.merge_core.specs.Reached.{Grows}
 use Rattle.merge_core.specs.Runs.{IsPart}
 use Rattle.merge_core.specs.SourceLines.{AreLinesOf}
@@ -59,23 +60,18 @@ module _ {K S : Type 0} (Wrote : K → K → List Member → Option (List ℕ) �
     (Broke : K → List Member → Option (List ℕ) → Option (List ℕ) → Type 0) (Enough : K → Type 0)
     (text : S → Option (List ℕ)) (extent gave : S → ℕ) (q : QueryValue) (olds news : List S) (sink : K)
     (old : Option (List ℕ)) where
-  -- the sink came to this state and this output by these lines
-  abbrev pub CameTo : K → Option (List ℕ) → List Member → Type 0
-  CameTo state now lines =
-      (begin : K) → (start : Option (List ℕ)) → Wrote begin sink [] start old → Wrote begin state lines start now
-
   -- after these lines the sink wanted more; the sources gave no more than their captures need
   pub record WantedMore (earlier : List Member) : Type 0 where
     pub state : K
     pub middle : Option (List ℕ)
     pub more : (Enough sink → ⊥) → Enough state → ⊥
-    pub came : CameTo state middle earlier
+    pub came : CameTo Wrote sink old state middle earlier
     pub within : GaveFor q (map text olds) extent gave earlier olds news
 
   -- these lines were taken, all of the range or enough
   pub record TookLines (last : K) (new : Option (List ℕ)) (pass : Pass) : Type 0 where
     pub lines : List Member
-    pub came : CameTo last new lines
+    pub came : CameTo Wrote sink old last new lines
     pub took : Took q (map text olds) lines
     pub whole : pass.all ≡ true → OverIndexes LINE_LIMIT (map text olds) (λ texts indexes.
         captures_over q q.resume (collection indexes) ≡ captures_over q q.resume lines)

@@ -9,7 +9,6 @@ ghost use Rattle.query_core.specs.Answering.{AnsweredParts, Answers, ReadsInReac
 ghost use Rattle.query_core.specs.IndexFaults.{IsFaultOf};
 ghost use Rattle.query_core.specs.Refusals.{Refuses, too_many};
 
-use crate::conversions::text_fault;
 use crate::fault::AnswerFault;
 use crate::merging::SOURCES_LIMIT;
 use crate::pass::read_lines;
@@ -63,18 +62,10 @@ pub fn answer<S: Source, O: Output>(
         return Err(AnswerFault::TooManySources);
     }
     // The page's start is written before an index is read.
-    let mut sink = match PageWriter::begin(alloc, query, out) {
-        Ok(writer) => PageSink { writer },
-        Err(fault) => return Err(text_fault(fault)),
-    };
-    let pass = match read_lines(alloc, sources, query, &mut sink, out) {
-        Ok(pass) => pass,
-        Err(fault) => return Err(fault),
-    };
-    let end = match sink.writer.end(alloc, out) {
-        Ok(end) => end,
-        Err(fault) => return Err(text_fault(fault)),
-    };
+    let writer = PageWriter::begin(alloc, query, out)?;
+    let mut sink = PageSink { writer };
+    let pass = read_lines(alloc, sources, query, &mut sink, out)?;
+    let end = sink.writer.end(alloc, out)?;
     Ok(Report {
         given: end.given,
         more: end.next.is_some(),

@@ -1,25 +1,14 @@
 //! The faults of parts, as faults of the calls on indexes.
-ghost use Rattle.std.specs.Prelude.{◌≡◌, ℕ, List, Option};
-ghost use Rattle.cdxj_core.specs.declared.limit.TheConstants.{LINE_LIMIT};
-ghost use Rattle.merge_core.specs.Failures.{RaisedBy};
-ghost use Rattle.merge_core.specs.LineFaults as feed;
-ghost use Rattle.page_core.specs.Faults.{RaisedByText};
-ghost use Rattle.query_core.specs.AnswerCounts.{RaisedByAnswer};
-ghost use Rattle.query_core.specs.IndexFaults.{IsFaultOf};
-ghost use Rattle.query_core.specs.Refusals.{IsEarly};
+ghost use Rattle.std.specs.Prelude.{◌≡◌};
+ghost use Rattle.query_core.specs.Conversions.{fault_of_index, fault_of_merge, fault_of_text};
 
 use crate::fault::AnswerFault;
 use merge_core::{FeedFault, MergeFault};
 use page_core::TextFault;
 
-fn index_fault(index: usize, fault: FeedFault) -> AnswerFault
-    ensures raised { (olds news : List ℕ) → (old new : ℕ)
-        → RaisedBy (MergeFault.Feed index fault) olds news old new
-        → RaisedByAnswer result olds news old new }
-    ensures late { IsEarly result → ⊥ }
-    ensures line { (texts : List (Option (List ℕ)))
-        → feed.IsFaultOf LINE_LIMIT texts (MergeFault.Feed index fault)
-        → IsFaultOf LINE_LIMIT texts result }
+/// Returns the fault of a call whose index of this number has this fault.
+fn fault_of_index(index: usize, fault: FeedFault) -> AnswerFault
+    ensures { result ≡ fault_of_index index fault }
 {
     match fault {
         FeedFault::Memory => AnswerFault::Memory,
@@ -29,28 +18,25 @@ fn index_fault(index: usize, fault: FeedFault) -> AnswerFault
     }
 }
 
-pub(crate) fn merge_fault(fault: MergeFault) -> AnswerFault
-    ensures raised { (olds news : List ℕ) → (old new : ℕ) → RaisedBy fault olds news old new
-        → RaisedByAnswer result olds news old new }
-    ensures late { IsEarly result → ⊥ }
-    ensures line { (texts : List (Option (List ℕ))) → feed.IsFaultOf LINE_LIMIT texts fault
-        → IsFaultOf LINE_LIMIT texts result }
-{
-    match fault {
-        MergeFault::Memory => AnswerFault::Memory,
-        MergeFault::Write => AnswerFault::Write,
-        MergeFault::Feed(index, fault) => index_fault(index, fault),
+impl From<MergeFault> for AnswerFault {
+    ghost from_gives = { λ fault answer. answer ≡ fault_of_merge fault };
+
+    fn from(fault: MergeFault) -> AnswerFault {
+        match fault {
+            MergeFault::Memory => AnswerFault::Memory,
+            MergeFault::Write => AnswerFault::Write,
+            MergeFault::Feed(index, fault) => fault_of_index(index, fault),
+        }
     }
 }
 
-pub(crate) fn text_fault(fault: TextFault) -> AnswerFault
-    ensures raised { (counts : List ℕ) → (old new : ℕ) → RaisedByText fault old new
-        → RaisedByAnswer result counts counts old new }
-    ensures late { IsEarly result → ⊥ }
-    ensures line { (texts : List (Option (List ℕ))) → IsFaultOf LINE_LIMIT texts result }
-{
-    match fault {
-        TextFault::Memory => AnswerFault::Memory,
-        TextFault::Write => AnswerFault::Write,
+impl From<TextFault> for AnswerFault {
+    ghost from_gives = { λ fault answer. answer ≡ fault_of_text fault };
+
+    fn from(fault: TextFault) -> AnswerFault {
+        match fault {
+            TextFault::Memory => AnswerFault::Memory,
+            TextFault::Write => AnswerFault::Write,
+        }
     }
 }

@@ -1,6 +1,6 @@
 //! Calls on indexes: their merge, the check of one, the page of a query, all its pages, and the replies to queries.
 //!
-//! The definitions begin in `specs/QueryPages.antt`: the pages of a query, and their texts.
+//! The definitions begin in `specs/Answering.antt`: what a call answers, and what it wrote.
 //!
 //! A crate that calls this one needs no other: it passes on the types and the definitions that its contracts name.
 #![tactic(auto)]

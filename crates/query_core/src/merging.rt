@@ -9,7 +9,6 @@ ghost use Rattle.query_core.specs.AnswerCounts.{CountsAnswer};
 ghost use Rattle.query_core.specs.IndexFaults.{IsFaultOf};
 ghost use Rattle.query_core.specs.Refusals.{Refuses, too_many};
 
-use crate::conversions::merge_fault;
 use crate::fault::AnswerFault;
 use devices::Output;
 use merge_core::merge_indexes;
@@ -49,8 +48,6 @@ pub fn merge<S: Source, O: Output>(
     if sources.len() > SOURCES_LIMIT {
         return Err(AnswerFault::TooManySources);
     }
-    match merge_indexes(alloc, sources, out) {
-        Ok(merged) => Ok(merged.count),
-        Err(fault) => Err(merge_fault(fault)),
-    }
+    let merged = merge_indexes(alloc, sources, out)?;
+    Ok(merged.count)
 }

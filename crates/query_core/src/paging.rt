@@ -11,7 +11,6 @@ ghost use Rattle.query_core.specs.Paging.{WritesPages, WrotePagesOfParts};
 ghost use Rattle.query_core.specs.Reach.{in_reach};
 ghost use Rattle.query_core.specs.Refusals.{Refuses, bad_sizes_or_too_many};
 
-use crate::conversions::text_fault;
 use crate::fault::AnswerFault;
 use crate::merging::SOURCES_LIMIT;
 use crate::pass::read_lines;
@@ -65,16 +64,8 @@ pub fn pages<S: Source, O: Output>(
     if sources.len() > SOURCES_LIMIT {
         return Err(AnswerFault::TooManySources);
     }
-    let mut sink = match PagesWriter::begin(alloc, query, sizes, out) {
-        Ok(writer) => PagesSink { writer },
-        Err(fault) => return Err(text_fault(fault)),
-    };
-    match read_lines(alloc, sources, query, &mut sink, out) {
-        Ok(_pass) => {}
-        Err(fault) => return Err(fault),
-    }
-    match sink.writer.end(out) {
-        Ok(count) => Ok(count),
-        Err(fault) => Err(text_fault(fault)),
-    }
+    let writer = PagesWriter::begin(alloc, query, sizes, out)?;
+    let mut sink = PagesSink { writer };
+    read_lines(alloc, sources, query, &mut sink, out)?;
+    Ok(sink.writer.end(out)?)
 }

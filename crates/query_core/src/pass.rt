@@ -10,7 +10,6 @@ ghost use Rattle.query_core.specs.IndexFaults.{IsFaultOf};
 ghost use Rattle.query_core.specs.Passes.{BrokeOff, Halted, TookLines};
 ghost use Rattle.query_core.specs.Refusals.{IsEarly};
 
-use crate::conversions::merge_fault;
 use crate::fault::AnswerFault;
 use crate::start::start_pair;
 use crate::target_range::TargetRange;
@@ -64,20 +63,9 @@ pub(crate) fn read_lines<S: Source, K: Sink, O: Output>(
         target: query.target(),
     };
     let start = start_pair(query);
-    let mut opened = match Streams::open_at(
-        alloc,
-        sources,
-        start.key.as_bytes(),
-        &start.stamp,
-        &range,
-    ) {
-        Ok(opened) => opened,
-        Err(fault) => return Err(merge_fault(fault)),
-    };
-    let all = match merge(alloc, sources, &mut opened.streams, &range, sink, out) {
-        Ok(all) => all,
-        Err(fault) => return Err(merge_fault(fault)),
-    };
+    let key = start.key.as_bytes();
+    let mut opened = Streams::open_at(alloc, sources, key, &start.stamp, &range)?;
+    let all = merge(alloc, sources, &mut opened.streams, &range, sink, out)?;
     Ok(Pass {
         all,
         probes: opened.probes,

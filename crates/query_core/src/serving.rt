@@ -147,10 +147,8 @@ fn reply_and_mark<S: Source, O: Output>(
     ensures lines { WritesSome result (O.written out.old) (O.written out.new)
         (IsMarkedReply QUERY_LIMIT (IsTextReply (map S.text sources.old)) line.now) }
 {
-    match reply_to_line(alloc, sources, line, out) {
-        Ok(()) => put_text(b".\n", out),
-        Err(fault) => Err(fault),
-    }
+    reply_to_line(alloc, sources, line, out)?;
+    put_text(b".\n", out)
 }
 
 /// Reads a further line of the input, and holds it. Returns `true` if there was one.

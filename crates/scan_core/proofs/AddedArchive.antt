@@ -15,7 +15,7 @@ use Rattle.index_core.specs.declared.fault.IndexFault.TheVariants as index
 use Rattle.index_core.specs.Accepted.{IsAccepted, IsAcceptedTo}
 use Rattle.index_core.specs.Adding.{Adds, with_archive}
 use Rattle.index_core.specs.Indexing.{Held, IsName, is_among}
-use Rattle.scan_core.specs.Archives.{IsNewName, IsAcceptedAs, IsFaultOfArchive, HaveLines, index_members}
+use Rattle.scan_core.specs.Archives.{HasIndex, IsNewName, IsFaultOfArchive, HaveLines, index_members}
 
 is_name : (name : List ℕ) → ((IsName name → ⊥) → ⊥) → IsName name
 is_name name h = go (nat_lt 0 (length name)) refl (nat_le (length name) 255) refl
@@ -74,16 +74,15 @@ pub index_of_added : {I : Type 0} (text : I → List ℕ) (types : Kind → Bool
     → old.captures ≡ [] → IsNewName names name → new ≡ with_archive name captures old
     → IfSome input (λ archive. IsAccepted types usual_limits HEAD_LIMIT name archive captures)
     → HaveLines new.captures → IfOk r (λ index. IsIndex LINE_LIMIT (text index) (index_members new.captures))
-    → IfOk r (λ index. IsNewName names name × (these : List EntryValue) × IsAcceptedAs types name input these
-    × HaveLines these × IsIndex LINE_LIMIT (text index) (index_members these))
+    → IfOk r (λ index. HasIndex types names name input (text index))
 index_of_added text types names name input old new captures (Err fault) none fresh is accepted lines written = tt
 index_of_added text types names name input old new captures (Ok index) none fresh is accepted lines written =
     let same : new.captures ≡ captures = ap (λ (h : Held). h.captures) is
-    ∙ ap (λ (es : List EntryValue). es ++ captures) none in (
-      fresh,
-      captures,
-      accepted,
-      subst HaveLines same lines,
-      subst
-          (λ es. IsIndex LINE_LIMIT (text index) (index_members es)) same written,
-    )
+    ∙ ap (λ (es : List EntryValue). es ++ captures) none in
+    record {
+      is_new = fresh;
+      captures = captures;
+      accepted = accepted;
+      lines = subst HaveLines same lines;
+      is_index = subst (λ es. IsIndex LINE_LIMIT (text index) (index_members es)) same written;
+    }

@@ -1,11 +1,12 @@
 -- The archives of a scan: with which captures they are accepted, and why one isn't.
 use Rattle.std.specs.Prelude.{◌≡◌, ℕ, ◌<◌, ⊤, Bool, List, [], ◌∷◌, ◌++◌, length, map, take, get_or, false, true, Option}
 use Rattle.std.specs.Prelude.{None, IfSome}
-use Rattle.std.specs.List.{AllByRecursion}
+use Rattle.std.specs.List.{AllByRecursion, AllZip}
 use Rattle.warc_core.specs.Kind.{Kind}
 use Rattle.warc_core.specs.declared.next.TheConstants.{HEAD_LIMIT}
 use Rattle.cdxj_core.specs.declared.limit.TheConstants.{LINE_LIMIT}
 use Rattle.cdxj_core.specs.Entries.{EntryValue, HasLine}
+use Rattle.cdxj_core.specs.Indexes.{IsIndex}
 use Rattle.cdxj_core.specs.Members.{Member, entry_member}
 use Rattle.capture_core.specs.CaptureAnswer.{usual_limits}
 use Rattle.index_core.specs.declared.fault.IndexFault.{IndexFault}
@@ -40,12 +41,32 @@ pub record HaveLines (captures : List EntryValue) : Type 0 where
   pub lines : AllByRecursion (HasLine LINE_LIMIT) captures
   pub places : HaveOwnPlaces captures
 
+-- the lines of an archive's captures, as its index has them
+abbrev pub index_members : List EntryValue → List Member
+index_members captures = map entry_member (in_places captures)
+
 -- the archives are accepted under names of their own, with these captures
 pub record AreIndexed (types : Kind → Bool) (names : List (List ℕ)) (inputs : List (Option (List ℕ)))
     (captures : List (List EntryValue)) : Type 0 where
   pub named : AreNewNames [] names
   pub accepted : AreAcceptedAs types names inputs captures
   pub lines : AllByRecursion HaveLines captures
+
+-- an archive under a new name is accepted whole, and this is the index of its captures
+pub record HasIndex (types : Kind → Bool) (earlier : List (List ℕ)) (name : List ℕ) (input : Option (List ℕ))
+    (index : List ℕ) : Type 0 where
+  pub is_new : IsNewName earlier name
+  pub captures : List EntryValue
+  pub accepted : IsAcceptedAs types name input captures
+  pub lines : HaveLines captures
+  pub is_index : IsIndex LINE_LIMIT index (index_members captures)
+
+-- the archives are accepted, and these are the indexes of their captures
+pub record HaveIndexes (types : Kind → Bool) (names : List (List ℕ)) (inputs : List (Option (List ℕ)))
+    (indexes : List (List ℕ)) : Type 0 where
+  pub captures : List (List EntryValue)
+  pub indexed : AreIndexed types names inputs captures
+  pub are_indexes : AllZip (IsIndex LINE_LIMIT) indexes (map index_members captures)
 
 -- why an archive isn't indexed: its name is bad, or an earlier one; else its captures end with this fault, or memory is refused
 abbrev pub IsFaultOfArchive : (Kind → Bool) → List (List ℕ) → List ℕ → Option (List ℕ) → IndexFault → Type 0
@@ -65,10 +86,6 @@ pub record IsFirstFault (types : Kind → Bool) (names : List (List ℕ)) (input
   pub captures : List (List EntryValue)
   pub before : AreIndexed types (take i names) (take i inputs) captures
   pub refused : IsFaultOfArchive types (take i names) (get_or names i []) (get_or inputs i None) fault
-
--- the lines of an archive's captures, as its index has them
-abbrev pub index_members : List EntryValue → List Member
-index_members captures = map entry_member (in_places captures)
 
 -- the archive is refused by its name, before it is read
 abbrev pub IsNameFault : IndexFault → Type 0

@@ -1,14 +1,11 @@
 //! Archives that are indexed in memory.
-ghost use Rattle.std.specs.List.{AllZip};
-ghost use Rattle.std.specs.Prelude.{◌≡◌, ◌↔◌, ◌<◌, ◌∷◌, ◌++◌, ℕ, List, [], length, map, drop, suc, true, Err, IfOk, IfErr, OnOk, string_bytes};
+ghost use Rattle.std.specs.Prelude.{◌≡◌, ◌∷◌, ◌++◌, [], length, map, IfOk, IfErr, OnOk, string_bytes};
 ghost use Rattle.capture_core.specs.Types.{includes};
 ghost use Rattle.cdxj_core.specs.declared.limit.TheConstants.{LINE_LIMIT};
-ghost use Rattle.cdxj_core.specs.Entries.{EntryValue};
 ghost use Rattle.cdxj_core.specs.Indexes.{IsIndex};
 ghost use Rattle.devices.specs.Gathered.{gathered};
 ghost use Rattle.index_core.specs.Counting.{CountsIndex};
-ghost use Rattle.index_core.specs.Indexing.{IsName, is_among};
-ghost use Rattle.scan_core.specs.Archives.{IsNewName, IsAcceptedAs, HaveLines, IsFaultOfArchive, IsNameFault, AreIndexed, index_members};
+ghost use Rattle.scan_core.specs.Archives.{HasIndex, HaveIndexes, HaveLines, IsFaultOfArchive, IsNameFault, index_members};
 ghost use Rattle.scan_core.specs.Failures.{CountsInputs};
 ghost use Rattle.scan_core.specs.Scanning.{LeavesUnread, IsArchiveFault};
 
@@ -44,12 +41,8 @@ fn index_archive<I: Input>(
     ensures held { OnOk result
         (indexer.new ≡ record indexer.old
         { names = indexer.old.names ++ string_bytes archive.old.name ∷ []; captures = [] }) }
-    ensures index { IfOk result (λ index.
-        IsNewName indexer.old.names (string_bytes archive.old.name)
-        × (captures : List EntryValue)
-        × IsAcceptedAs (includes indexer.old.types) (string_bytes archive.old.name)
-        (I.remaining archive.old.input) captures
-        × HaveLines captures × IsIndex LINE_LIMIT (gathered index) (index_members captures)) }
+    ensures index { IfOk result (λ index. HasIndex (includes indexer.old.types) indexer.old.names
+        (string_bytes archive.old.name) (I.remaining archive.old.input) (gathered index)) }
     ensures refused { IfErr result
         (IsFaultOfArchive (includes indexer.old.types) indexer.old.names
         (string_bytes archive.old.name) (I.remaining archive.old.input)) }
@@ -57,10 +50,7 @@ fn index_archive<I: Input>(
     ensures failures { CountsIndex result (I.failures archive.old.input)
         (I.failures archive.new.input) }
 {
-    match indexer.add(archive.name.as_str(), &mut archive.input) {
-        Ok(_count) => {}
-        Err(fault) => return Err(fault),
-    }
+    indexer.add(archive.name.as_str(), &mut archive.input)?;
     let index = index_of(alloc, indexer);
     indexer.forget_captures();
     index
@@ -75,10 +65,9 @@ pub fn index_archives<I: Input>(
 ) -> Result<Vec<Gather>, ScanFault>
     ensures names { map (λ n. string_bytes n.name) inputs.new
         ≡ map (λ n. string_bytes n.name) inputs.old }
-    ensures indexes { IfOk result (λ indexes. (captures : List (List EntryValue))
-        × AreIndexed (includes types) (map (λ n. string_bytes n.name) inputs.old)
-        (map (λ n. I.remaining n.input) inputs.old) captures
-        × AllZip (IsIndex LINE_LIMIT) (map gathered indexes.items) (map index_members captures)) }
+    ensures indexes { IfOk result (λ indexes. HaveIndexes (includes types)
+        (map (λ n. string_bytes n.name) inputs.old) (map (λ n. I.remaining n.input) inputs.old)
+        (map gathered indexes.items)) }
     ensures number { IfOk result (λ indexes. length indexes.items ≡ length inputs.old) }
     ensures refused { IfErr result
         (IsArchiveFault (includes types) (map (λ n. string_bytes n.name) inputs.old)

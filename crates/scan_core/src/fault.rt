@@ -8,11 +8,11 @@ use thiserror::Error;
 pub enum ScanFault {
     /// The query's text is refused.
     #[error("{0}")]
-    Query(QueryFault),
+    Query(#[from] QueryFault),
     /// This archive couldn't be indexed.
     #[error("archive {0}: {1}")]
     Archive(usize, IndexFault),
     /// The pages couldn't be written.
     #[error("{0}")]
-    Answer(AnswerFault),
+    Answer(#[from] AnswerFault),
 }

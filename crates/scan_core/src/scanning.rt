@@ -60,10 +60,7 @@ fn write_pages<O: Output>(
     pages_join();
     pages_are_selected();
     indexes_have_no_line_at_fault();
-    let mut sources = match sources_of(alloc, indexes) {
-        Ok(sources) => sources,
-        Err(_) => return Err(AnswerFault::Memory),
-    };
+    let mut sources = sources_of(alloc, indexes)?;
     pages(alloc, &mut sources, query, sizes, out)
 }
 
@@ -108,19 +105,10 @@ pub fn scan<I: Input, O: Output>(
     if !are_sizes(sizes) {
         return Err(ScanFault::Answer(AnswerFault::BadSizes));
     }
-    let query = match Query::read(alloc, query) {
-        Ok(query) => query,
-        Err(fault) => return Err(ScanFault::Query(fault)),
-    };
+    let query = Query::read(alloc, query)?;
     if inputs.len() > SOURCES_LIMIT {
         return Err(ScanFault::Answer(AnswerFault::TooManySources));
     }
-    let indexes = match index_archives(alloc, inputs, types) {
-        Ok(indexes) => indexes,
-        Err(fault) => return Err(fault),
-    };
-    match write_pages(alloc, &indexes, &query, sizes, out) {
-        Ok(count) => Ok(count),
-        Err(fault) => Err(ScanFault::Answer(fault)),
-    }
+    let indexes = index_archives(alloc, inputs, types)?;
+    Ok(write_pages(alloc, &indexes, &query, sizes, out)?)
 }

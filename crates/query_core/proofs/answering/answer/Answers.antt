@@ -2,6 +2,7 @@ use Rattle.std.proofs.Common.{◌≡◌, ◌++◌, ℕ, length, map, List, [], O
 use Rattle.std.proofs.Common.{append-nil, arith}
 use Rattle.std.proofs.lemmas.Bool.{true≢false, false_from_ne_true}
 use Rattle.std.proofs.lemmas.List.{length-map}
+use Rattle.std.proofs.lemmas.Result.{err_from_is_err_and}
 use Rattle.std.specs.Option.{is_some}
 use Rattle.devices.proofs.WritingLemmas.{wrote_nothing}
 use Rattle.cdxj_core.specs.declared.limit.TheConstants.{LINE_LIMIT}
@@ -20,13 +21,15 @@ use Rattle.page_writers.specs.QueryPages.{form_of, query_page}
 use Rattle.page_writers.specs.WriterView.{Wrote}
 use Rattle.page_writers.specs.declared.page_writer.PageWriter.{PageWriter}
 use Rattle.query_core.proofs.AskedLemmas.{asked_is, page_broke, page_settled}
+use Rattle.query_core.specs.Conversions.{fault_of_text}
+use Rattle.query_core.proofs.ConversionLemmas.{text_late, text_line, text_raised}
 use Rattle.query_core.proofs.CountLemmas.{raised_after}
 use Rattle.query_core.proofs.FewerLines.{page_fewer}
 use Rattle.query_core.proofs.PageExits.{end_front, page_ended, rows_front, start_front, stood}
 use Rattle.query_core.proofs.PageReach.{all_read, none_follows, page_not_reached, page_reached, within_page}
 use Rattle.query_core.proofs.RefusalLemmas.{refuses_few, refuses_many}
 use Rattle.query_core.proofs.answering.answer.Given.{Over}
-use Rattle.query_core.proofs.answering.answer.Goals.{In-Ok, In-Ok-read_lines}
+use Rattle.query_core.proofs.answering.answer.Goals.{In_ok-writer, In_ok-pass}
 use Rattle.query_core.proofs.answering.answer.Goals as goal
 
 no_lines : (texts : List (Option (List ℕ))) → AreLinesOf LINE_LIMIT texts []
@@ -34,53 +37,53 @@ no_lines texts = record { rise = tt; each = tt }
 
 -- ---- the writer
 
-begun : (g : Over) (c : In-Ok g) → Wrote c.in-Ok.writer c.in-Ok.writer [] (g.O.Output.written c.args.out.now)
+begun : (g : Over) (c : In_ok-writer g) → Wrote c.in_ok-writer.writer c.in_ok-writer.writer [] (g.O.Output.written c.args.out.now)
     (g.O.Output.written c.begin.new.out)
-begun g c = (((refl, refl), refl), c.in-Ok.ensures.stands)
+begun g c = (((refl, refl), refl), c.in_ok-writer.ensures.stands)
 
-at : (g : Over) (c : In-Ok g) (w : PageWriter) (lines : List Member) (now : Option (List ℕ))
-    → Wrote c.in-Ok.writer w lines (g.O.Output.written c.args.out.now) now
+at : (g : Over) (c : In_ok-writer g) (w : PageWriter) (lines : List Member) (now : Option (List ℕ))
+    → Wrote c.in_ok-writer.writer w lines (g.O.Output.written c.args.out.now) now
     → PageStands (form_of c.args.query.now) c.args.query.now.limit
     (captures_over c.args.query.now c.args.query.now.resume lines) (g.O.Output.written c.args.out.now) now w.given
     w.more w.last
-at g c w lines now wrote = stood c.in-Ok.writer c.args.query.now c.in-Ok.ensures.query w lines
+at g c w lines now wrote = stood c.in_ok-writer.writer c.args.query.now c.in_ok-writer.ensures.query w lines
     (g.O.Output.written c.args.out.now) now wrote
 
 -- captures after which it wanted more don't pass the page
-within : (g : Over) (c : In-Ok g) (w : PageWriter) (lines : List Member) (now : Option (List ℕ))
-    → Wrote c.in-Ok.writer w lines (g.O.Output.written c.args.out.now) now
-    → ((c.in-Ok.writer.more ≡ true → ⊥) → w.more ≡ true → ⊥)
+within : (g : Over) (c : In_ok-writer g) (w : PageWriter) (lines : List Member) (now : Option (List ℕ))
+    → Wrote c.in_ok-writer.writer w lines (g.O.Output.written c.args.out.now) now
+    → ((c.in_ok-writer.writer.more ≡ true → ⊥) → w.more ≡ true → ⊥)
     → IsWithin c.args.query.now.limit (captures_over c.args.query.now c.args.query.now.resume lines)
 within g c w lines now wrote more =
     let q = c.args.query.now in
-    let fresh : c.in-Ok.writer.more ≡ true
+    let fresh : c.in_ok-writer.writer.more ≡ true
     → ⊥ = λ e. true≢false
-    (sym e ∙ (at g c c.in-Ok.writer [] (g.O.Output.written c.begin.new.out) (begun g c)).more_is
+    (sym e ∙ (at g c c.in_ok-writer.writer [] (g.O.Output.written c.begin.new.out) (begun g c)).more_is
     ∙ none_follows q.limit) in
-    within_page q.limit (captures_over q q.resume lines) c.in-Ok.ensures.some (sym (at g c w lines now wrote).more_is
+    within_page q.limit (captures_over q q.resume lines) c.in_ok-writer.ensures.some (sym (at g c w lines now wrote).more_is
     ∙ false_from_ne_true _ (more fresh))
 
 -- all lines that were taken
-came : (g : Over) (c : In-Ok-read_lines g)
-    → Wrote c.in-Ok.writer c.read_lines.new.sink.writer c.in-Ok-read_lines.ensures.took.lines
+came : (g : Over) (c : In_ok-pass g)
+    → Wrote c.in_ok-writer.writer c.read_lines.new.sink.writer c.in_ok-pass.ensures.took.lines
     (g.O.Output.written c.args.out.now) (g.O.Output.written c.read_lines.new.out)
-came g c = c.in-Ok-read_lines.ensures.took.came (record { writer = c.in-Ok.writer }) (g.O.Output.written c.args.out.now)
-    (((refl, refl), refl), c.in-Ok.ensures.stands)
+came g c = c.in_ok-pass.ensures.took.came (record { writer = c.in_ok-writer.writer }) (g.O.Output.written c.args.out.now)
+    (((refl, refl), refl), c.in_ok-writer.ensures.stands)
 
 -- the page of lines of which these were taken, if they settle it
-settled : (g : Over) (c : In-Ok-read_lines g) (all rest : List Member)
+settled : (g : Over) (c : In_ok-pass g) (all rest : List Member)
     → captures_over c.args.query.now c.args.query.now.resume all
-    ≡ captures_over c.args.query.now c.args.query.now.resume c.in-Ok-read_lines.ensures.took.lines ++ rest
-    → (c.in-Ok-read_lines.pass.all ≡ true → captures_over c.args.query.now c.args.query.now.resume all
-    ≡ captures_over c.args.query.now c.args.query.now.resume c.in-Ok-read_lines.ensures.took.lines)
+    ≡ captures_over c.args.query.now c.args.query.now.resume c.in_ok-pass.ensures.took.lines ++ rest
+    → (c.in_ok-pass.pass.all ≡ true → captures_over c.args.query.now c.args.query.now.resume all
+    ≡ captures_over c.args.query.now c.args.query.now.resume c.in_ok-pass.ensures.took.lines)
     → query_page c.args.query.now all ≡ page_over c.args.query.now c.args.query.now.resume c.args.query.now.limit
-    c.in-Ok-read_lines.ensures.took.lines
+    c.in_ok-pass.ensures.took.lines
 settled g c all rest split ended =
-    let took = c.in-Ok-read_lines.ensures.took in
+    let took = c.in_ok-pass.ensures.took in
     let sink = c.read_lines.new.sink.writer in
-    page_settled c.args.query.now all took.lines c.in-Ok-read_lines.pass.all sink.more rest split ended
-    (λ e. c.in-Ok-read_lines.ensures.enough e)
-    (stood c.in-Ok.writer c.args.query.now c.in-Ok.ensures.query sink took.lines (g.O.Output.written c.args.out.now)
+    page_settled c.args.query.now all took.lines c.in_ok-pass.pass.all sink.more rest split ended
+    (λ e. c.in_ok-pass.ensures.enough e)
+    (stood c.in_ok-writer.writer c.args.query.now c.in_ok-writer.ensures.query sink took.lines (g.O.Output.written c.args.out.now)
     (g.O.Output.written c.read_lines.new.out) (came g c)).more_is
 
 -- ---- what is refused, and failures
@@ -89,50 +92,63 @@ pub returns-then-sources-gt-SOURCES_LIMIT-clause-refused : goal.returns-then-sou
 returns-then-sources-gt-SOURCES_LIMIT-clause-refused g c =
     refuses_many _ (length c.args.sources.now) _ c.if-sources-gt-SOURCES_LIMIT.true (refl, refl)
 
-pub returns-in-Err-clause-refused : goal.returns-in-Err-clause-refused
-returns-in-Err-clause-refused g c = refuses_few (length c.args.sources.now) _ _ c.if-sources-gt-SOURCES_LIMIT.false
-    c.text_fault.ensures.late
+pub returns-in_err-writer-clause-refused : goal.returns-in_err-writer-clause-refused
+returns-in_err-writer-clause-refused g c =
+    let p = err_from_is_err_and c.from_residual.result c.from_residual.ensures.1 in
+    rw (p.1, p.2) (refuses_few (length c.args.sources.now) _ _ c.if-sources-gt-SOURCES_LIMIT.false
+    (text_late c.in_err-writer.field-0.0))
 
-pub returns-in-Err-read_lines-clause-refused : goal.returns-in-Err-read_lines-clause-refused
-returns-in-Err-read_lines-clause-refused g c = refuses_few (length c.args.sources.now) _ _
-    c.if-sources-gt-SOURCES_LIMIT.false c.in-Err-read_lines.ensures.late
+pub returns-in_err-pass-clause-refused : goal.returns-in_err-pass-clause-refused
+returns-in_err-pass-clause-refused g c =
+    let p = err_from_is_err_and c.from_residual-in_err-pass.result c.from_residual-in_err-pass.ensures.1 in
+    rw (p.1, p.2) (refuses_few (length c.args.sources.now) _ _
+    c.if-sources-gt-SOURCES_LIMIT.false c.in_err-pass.ensures.late)
 
-pub returns-in-Err-end-clause-refused : goal.returns-in-Err-end-clause-refused
-returns-in-Err-end-clause-refused g c = refuses_few (length c.args.sources.now) _ _ c.if-sources-gt-SOURCES_LIMIT.false
-    c.text_fault-in-Err-end.ensures.late
+pub returns-in_err-end-clause-refused : goal.returns-in_err-end-clause-refused
+returns-in_err-end-clause-refused g c =
+    let p = err_from_is_err_and c.from_residual-in_err-end.result c.from_residual-in_err-end.ensures.1 in
+    rw (p.1, p.2) (refuses_few (length c.args.sources.now) _ _ c.if-sources-gt-SOURCES_LIMIT.false
+    (text_late c.in_err-end.field-0.0))
 
 pub returns-clause-refused : goal.returns-clause-refused
 returns-clause-refused g c = refuses_few (length c.args.sources.now) _ _ c.if-sources-gt-SOURCES_LIMIT.false tt
 
-pub returns-in-Err-clause-failures : goal.returns-in-Err-clause-failures
-returns-in-Err-clause-failures g c =
-    c.text_fault.ensures.raised (map g.S.Source.failures c.args.sources.now) (g.O.Output.failures c.args.out.now)
-    (g.O.Output.failures c.begin.new.out) c.in-Err.ensures.failures
+pub returns-in_err-writer-clause-failures : goal.returns-in_err-writer-clause-failures
+returns-in_err-writer-clause-failures g c =
+    let p = err_from_is_err_and c.from_residual.result c.from_residual.ensures.1 in
+    rw (p.1, p.2) (text_raised c.in_err-writer.field-0.0 (map g.S.Source.failures c.args.sources.now) (g.O.Output.failures c.args.out.now)
+    (g.O.Output.failures c.begin.new.out) c.in_err-writer.ensures.failures)
 
-pub returns-in-Err-read_lines-clause-failures : goal.returns-in-Err-read_lines-clause-failures
-returns-in-Err-read_lines-clause-failures g c =
-    let ss = map g.S.Source.failures c.args.sources.now in
-    raised_after c.in-Err-read_lines.fault ss ss (map g.S.Source.failures c.read_lines.new.sources)
+pub returns-in_err-pass-clause-failures : goal.returns-in_err-pass-clause-failures
+returns-in_err-pass-clause-failures g c =
+    let p = err_from_is_err_and c.from_residual-in_err-pass.result c.from_residual-in_err-pass.ensures.1 in
+    rw (p.1, p.2) (let ss = map g.S.Source.failures c.args.sources.now in
+    raised_after c.in_err-pass.field-0.0 ss ss (map g.S.Source.failures c.read_lines.new.sources)
     (g.O.Output.failures c.args.out.now) (g.O.Output.failures c.begin.new.out)
     (g.O.Output.failures c.read_lines.new.out)
-    refl c.in-Ok.ensures.failures c.in-Err-read_lines.ensures.failures
+    refl c.in_ok-writer.ensures.failures c.in_err-pass.ensures.failures)
 
-pub returns-in-Err-end-clause-failures : goal.returns-in-Err-end-clause-failures
-returns-in-Err-end-clause-failures g c =
-    let now = map g.S.Source.failures c.read_lines.new.sources in
+pub returns-in_err-end-clause-failures : goal.returns-in_err-end-clause-failures
+returns-in_err-end-clause-failures g c =
+    let p = err_from_is_err_and c.from_residual-in_err-end.result c.from_residual-in_err-end.ensures.1 in
+    rw (p.1, p.2) (let now = map g.S.Source.failures c.read_lines.new.sources in
     let mid = g.O.Output.failures c.read_lines.new.out in
     let new = g.O.Output.failures c.end.new.out in
-    let read = c.in-Ok-read_lines.ensures.failures in
-    raised_after c.text_fault-in-Err-end.result (map g.S.Source.failures c.args.sources.now) now now
+    let read = c.in_ok-pass.ensures.failures in
+    raised_after (fault_of_text c.in_err-end.field-0.0) (map g.S.Source.failures c.args.sources.now) now now
     (g.O.Output.failures c.args.out.now) mid new
-    read.0 (read.1 ∙ c.in-Ok.ensures.failures)
-    (c.text_fault-in-Err-end.ensures.raised now mid new c.in-Err-end.ensures.failures)
+    read.0 (read.1 ∙ c.in_ok-writer.ensures.failures)
+    (text_raised c.in_err-end.field-0.0 now mid new c.in_err-end.ensures.failures))
 
-pub returns-in-Err-clause-fault : goal.returns-in-Err-clause-fault
-returns-in-Err-clause-fault g c = c.text_fault.ensures.line (map g.S.Source.text c.args.sources.now)
+pub returns-in_err-writer-clause-fault : goal.returns-in_err-writer-clause-fault
+returns-in_err-writer-clause-fault g c =
+    let p = err_from_is_err_and c.from_residual.result c.from_residual.ensures.1 in
+    rw (p.1, p.2) (text_line LINE_LIMIT (map g.S.Source.text c.args.sources.now) c.in_err-writer.field-0.0)
 
-pub returns-in-Err-end-clause-fault : goal.returns-in-Err-end-clause-fault
-returns-in-Err-end-clause-fault g c = c.text_fault-in-Err-end.ensures.line (map g.S.Source.text c.args.sources.now)
+pub returns-in_err-end-clause-fault : goal.returns-in_err-end-clause-fault
+returns-in_err-end-clause-fault g c =
+    let p = err_from_is_err_and c.from_residual-in_err-end.result c.from_residual-in_err-end.ensures.1 in
+    rw (p.1, p.2) (text_line LINE_LIMIT (map g.S.Source.text c.args.sources.now) c.in_err-end.field-0.0)
 
 -- ---- the page of lines of the sources
 
@@ -140,52 +156,56 @@ pub returns-then-sources-gt-SOURCES_LIMIT-clause-lines : goal.returns-then-sourc
 returns-then-sources-gt-SOURCES_LIMIT-clause-lines g c =
     ([], no_lines (map g.S.Source.text c.args.sources.now), wrote_nothing _ _)
 
-pub returns-in-Err-clause-lines : goal.returns-in-Err-clause-lines
-returns-in-Err-clause-lines g c = (
+pub returns-in_err-writer-clause-lines : goal.returns-in_err-writer-clause-lines
+returns-in_err-writer-clause-lines g c =
+    let p = err_from_is_err_and c.from_residual.result c.from_residual.ensures.1 in
+    rw p.1 ((
   [],
   no_lines (map g.S.Source.text c.args.sources.now),
   start_front c.args.query.now [] (g.O.Output.written c.args.out.now) (g.O.Output.written c.begin.new.out)
-      c.in-Err.ensures.front,
-)
+      c.in_err-writer.ensures.front,
+))
 
-pub returns-in-Err-read_lines-clause-lines : goal.returns-in-Err-read_lines-clause-lines
-returns-in-Err-read_lines-clause-lines g c =
-    let q = c.args.query.now in
+pub returns-in_err-pass-clause-lines : goal.returns-in_err-pass-clause-lines
+returns-in_err-pass-clause-lines g c =
+    let p = err_from_is_err_and c.from_residual-in_err-pass.result c.from_residual-in_err-pass.ensures.1 in
+    rw p.1 (let q = c.args.query.now in
     let start = g.O.Output.written c.args.out.now in
     let now = g.O.Output.written c.read_lines.new.out in
-    let broke = c.in-Err-read_lines.ensures.broke in (
+    let broke = c.in_err-pass.ensures.broke in (
       broke.lines,
       broke.took.lines,
       page_broke q broke.lines broke.lines start now [] (sym (append-nil (captures_over q q.resume broke.lines)))
-          (rows_front c.in-Ok.writer q c.in-Ok.ensures.query broke.lines start now
-          (broke.wrote (record { writer = c.in-Ok.writer }) start (((refl, refl), refl), c.in-Ok.ensures.stands))),
-    )
+          (rows_front c.in_ok-writer.writer q c.in_ok-writer.ensures.query broke.lines start now
+          (broke.wrote (record { writer = c.in_ok-writer.writer }) start (((refl, refl), refl), c.in_ok-writer.ensures.stands))),
+    ))
 
-pub returns-in-Err-end-clause-lines : goal.returns-in-Err-end-clause-lines
-returns-in-Err-end-clause-lines g c =
-    let q = c.args.query.now in
-    let took = c.in-Ok-read_lines.ensures.took in
-    let here = (goal.at.returns-in-Err-end-clause-lines g c).In-Ok-read_lines in (
+pub returns-in_err-end-clause-lines : goal.returns-in_err-end-clause-lines
+returns-in_err-end-clause-lines g c =
+    let p = err_from_is_err_and c.from_residual-in_err-end.result c.from_residual-in_err-end.ensures.1 in
+    rw p.1 (let q = c.args.query.now in
+    let took = c.in_ok-pass.ensures.took in
+    let here = (goal.at.returns-in_err-end-clause-lines g c).In_ok-pass in (
       took.lines,
       took.took.lines,
-      end_front c.in-Ok.writer q c.in-Ok.ensures.query c.read_lines.new.sink.writer took.lines took.lines
+      end_front c.in_ok-writer.writer q c.in_ok-writer.ensures.query c.read_lines.new.sink.writer took.lines took.lines
           (g.O.Output.written c.args.out.now) (g.O.Output.written c.read_lines.new.out)
           (g.O.Output.written c.end.new.out)
-          (came g here) (asked_is q took.lines) c.in-Err-end.ensures.text,
-    )
+          (came g here) (asked_is q took.lines) c.in_err-end.ensures.text,
+    ))
 
 pub returns-clause-lines : goal.returns-clause-lines
 returns-clause-lines g c =
     let q = c.args.query.now in
-    let took = c.in-Ok-read_lines.ensures.took in
-    let end = c.in-Ok-end.ensures in
-    let here = (goal.at.returns-clause-lines g c).In-Ok-read_lines in (
+    let took = c.in_ok-pass.ensures.took in
+    let end = c.in_ok-end.ensures in
+    let here = (goal.at.returns-clause-lines g c).In_ok-pass in (
       took.lines,
       took.took.lines,
-      page_ended c.in-Ok.writer q c.in-Ok.ensures.query c.read_lines.new.sink.writer took.lines took.lines
+      page_ended c.in_ok-writer.writer q c.in_ok-writer.ensures.query c.read_lines.new.sink.writer took.lines took.lines
           (g.O.Output.written c.args.out.now) (g.O.Output.written c.read_lines.new.out)
           (g.O.Output.written c.end.new.out)
-          (came g here) (asked_is q took.lines) c.in-Ok-end.end _ end.text end.end.0 end.end.1 refl c.is_some.ensures,
+          (came g here) (asked_is q took.lines) c.in_ok-end.end _ end.text end.end.0 end.end.1 refl c.is_some.ensures,
     )
 
 -- ---- the page of the indexes' collection
@@ -193,65 +213,71 @@ returns-clause-lines g c =
 pub returns-then-sources-gt-SOURCES_LIMIT-clause-page : goal.returns-then-sources-gt-SOURCES_LIMIT-clause-page
 returns-then-sources-gt-SOURCES_LIMIT-clause-page g c = λ texts indexes known are. wrote_nothing _ _
 
-pub returns-in-Err-clause-page : goal.returns-in-Err-clause-page
-returns-in-Err-clause-page g c = λ texts indexes known are.
+pub returns-in_err-writer-clause-page : goal.returns-in_err-writer-clause-page
+returns-in_err-writer-clause-page g c =
+    let p = err_from_is_err_and c.from_residual.result c.from_residual.ensures.1 in
+    rw p.1 (λ texts indexes known are.
     start_front c.args.query.now (collection indexes) (g.O.Output.written c.args.out.now)
-    (g.O.Output.written c.begin.new.out) c.in-Err.ensures.front
+    (g.O.Output.written c.begin.new.out) c.in_err-writer.ensures.front)
 
-pub returns-in-Err-read_lines-clause-page : goal.returns-in-Err-read_lines-clause-page
-returns-in-Err-read_lines-clause-page g c = λ texts indexes known are.
+pub returns-in_err-pass-clause-page : goal.returns-in_err-pass-clause-page
+returns-in_err-pass-clause-page g c =
+    let p = err_from_is_err_and c.from_residual-in_err-pass.result c.from_residual-in_err-pass.ensures.1 in
+    rw p.1 (λ texts indexes known are.
     let q = c.args.query.now in
     let start = g.O.Output.written c.args.out.now in
     let now = g.O.Output.written c.read_lines.new.out in
-    let broke = c.in-Err-read_lines.ensures.broke in
+    let broke = c.in_err-pass.ensures.broke in
     let first = broke.took.first texts indexes known are in
     page_broke q (collection indexes) broke.lines start now first.0 first.1
-    (rows_front c.in-Ok.writer q c.in-Ok.ensures.query broke.lines start now
-    (broke.wrote (record { writer = c.in-Ok.writer }) start (((refl, refl), refl), c.in-Ok.ensures.stands)))
+    (rows_front c.in_ok-writer.writer q c.in_ok-writer.ensures.query broke.lines start now
+    (broke.wrote (record { writer = c.in_ok-writer.writer }) start (((refl, refl), refl), c.in_ok-writer.ensures.stands))))
 
-pub returns-in-Err-end-clause-page : goal.returns-in-Err-end-clause-page
-returns-in-Err-end-clause-page g c = λ texts indexes known are.
-    let took = c.in-Ok-read_lines.ensures.took in
+pub returns-in_err-end-clause-page : goal.returns-in_err-end-clause-page
+returns-in_err-end-clause-page g c =
+    let p = err_from_is_err_and c.from_residual-in_err-end.result c.from_residual-in_err-end.ensures.1 in
+    rw p.1 (λ texts indexes known are.
+    let took = c.in_ok-pass.ensures.took in
     let first = took.took.first texts indexes known are in
-    let here = (goal.at.returns-in-Err-end-clause-page g c).In-Ok-read_lines in
-    end_front c.in-Ok.writer c.args.query.now c.in-Ok.ensures.query c.read_lines.new.sink.writer (collection indexes)
+    let here = (goal.at.returns-in_err-end-clause-page g c).In_ok-pass in
+    end_front c.in_ok-writer.writer c.args.query.now c.in_ok-writer.ensures.query c.read_lines.new.sink.writer (collection indexes)
     took.lines (g.O.Output.written c.args.out.now) (g.O.Output.written c.read_lines.new.out)
     (g.O.Output.written c.end.new.out)
     (came g here) (settled g here (collection indexes) first.0 first.1 (λ e. took.whole e texts indexes known are))
-    c.in-Err-end.ensures.text
+    c.in_err-end.ensures.text)
 
 pub returns-clause-page : goal.returns-clause-page
 returns-clause-page g c = λ texts indexes known are.
-    let took = c.in-Ok-read_lines.ensures.took in
-    let end = c.in-Ok-end.ensures in
+    let took = c.in_ok-pass.ensures.took in
+    let end = c.in_ok-end.ensures in
     let first = took.took.first texts indexes known are in
-    let here = (goal.at.returns-clause-page g c).In-Ok-read_lines in
-    page_ended c.in-Ok.writer c.args.query.now c.in-Ok.ensures.query c.read_lines.new.sink.writer (collection indexes)
+    let here = (goal.at.returns-clause-page g c).In_ok-pass in
+    page_ended c.in_ok-writer.writer c.args.query.now c.in_ok-writer.ensures.query c.read_lines.new.sink.writer (collection indexes)
     took.lines (g.O.Output.written c.args.out.now) (g.O.Output.written c.read_lines.new.out)
     (g.O.Output.written c.end.new.out)
     (came g here) (settled g here (collection indexes) first.0 first.1 (λ e. took.whole e texts indexes known are))
-    c.in-Ok-end.end _ end.text end.end.0 end.end.1 refl c.is_some.ensures
+    c.in_ok-end.end _ end.text end.end.0 end.end.1 refl c.is_some.ensures
 
 pub returns-clause-parts : goal.returns-clause-parts
 returns-clause-parts g c = λ texts known.
     let q = c.args.query.now in
-    let took = c.in-Ok-read_lines.ensures.took in
-    let end = c.in-Ok-end.ensures in
+    let took = c.in_ok-pass.ensures.took in
+    let end = c.in_ok-end.ensures in
     let sink = c.read_lines.new.sink.writer in
     let read = took.parts texts known in
-    let here = (goal.at.returns-clause-parts g c).In-Ok-read_lines in
+    let here = (goal.at.returns-clause-parts g c).In_ok-pass in
     let is = settled g here (collection read.parts) read.first.0 read.first.1 read.ended in
-    let page = page_ended c.in-Ok.writer q c.in-Ok.ensures.query sink (collection read.parts) took.lines
+    let page = page_ended c.in_ok-writer.writer q c.in_ok-writer.ensures.query sink (collection read.parts) took.lines
     (g.O.Output.written c.args.out.now) (g.O.Output.written c.read_lines.new.out) (g.O.Output.written c.end.new.out)
-    (came g here) is c.in-Ok-end.end _ end.text end.end.0 end.end.1 refl c.is_some.ensures in
-    let stands = stood c.in-Ok.writer q c.in-Ok.ensures.query sink took.lines (g.O.Output.written c.args.out.now)
+    (came g here) is c.in_ok-end.end _ end.text end.end.0 end.end.1 refl c.is_some.ensures in
+    let stands = stood c.in_ok-writer.writer q c.in_ok-writer.ensures.query sink took.lines (g.O.Output.written c.args.out.now)
     (g.O.Output.written c.read_lines.new.out) (came g here) in
     record {
       parts = read.parts;
-      each = read.each _ (all_read c.in-Ok-read_lines.pass.all sink.more _
+      each = read.each _ (all_read c.in_ok-pass.pass.all sink.more _
           (page_over q q.resume q.limit took.lines).next stands.more_is
           (page.more ∙ ap (λ (p : Page Member PlaceValue). is_some p.next) is)
-          (λ e. c.in-Ok-read_lines.ensures.enough e));
+          (λ e. c.in_ok-pass.ensures.enough e));
       lines = read.count;
       answered = page;
       least = page_fewer q read.parts _ _ page.given read.count;
@@ -270,26 +296,29 @@ returns-then-sources-gt-SOURCES_LIMIT-clause-reads g c = record {
   held = λ texts indexes known are most share. tt;
 }
 
-pub returns-in-Err-clause-reads : goal.returns-in-Err-clause-reads
-returns-in-Err-clause-reads g c = record {
-  probes = tt;
-  lines = λ texts indexes known are. tt;
-  bytes = λ texts indexes known are.
-      page_not_reached g.S.Source.text g.S.Source.extent g.S.Source.gave c.args.query.now texts indexes
-      (g.O.Output.written c.args.out.now) (g.O.Output.written c.begin.new.out) c.args.sources.now known are
-      (grows_part _ _ _ c.in-Err.ensures.front);
-  held = λ texts indexes known are most share. tt;
-}
+pub returns-in_err-writer-clause-reads : goal.returns-in_err-writer-clause-reads
+returns-in_err-writer-clause-reads g c =
+    let p = err_from_is_err_and c.from_residual.result c.from_residual.ensures.1 in
+    rw p.1 (record {
+      probes = tt;
+      lines = λ texts indexes known are. tt;
+      bytes = λ texts indexes known are.
+          page_not_reached g.S.Source.text g.S.Source.extent g.S.Source.gave c.args.query.now texts indexes
+          (g.O.Output.written c.args.out.now) (g.O.Output.written c.begin.new.out) c.args.sources.now known are
+          (grows_part _ _ _ c.in_err-writer.ensures.front);
+      held = λ texts indexes known are most share. tt;
+    })
 
-pub returns-in-Err-read_lines-clause-reads : goal.returns-in-Err-read_lines-clause-reads
-returns-in-Err-read_lines-clause-reads g c =
+pub returns-in_err-pass-clause-reads : goal.returns-in_err-pass-clause-reads
+returns-in_err-pass-clause-reads g c =
     let q = c.args.query.now in
     let start = g.O.Output.written c.args.out.now in
-    let halted = c.in-Err-read_lines.ensures.halted in
+    let halted = c.in_err-pass.ensures.halted in
     let before = halted.before in
-    let here = (goal.at.returns-in-Err-read_lines-clause-reads g c).In-Ok in
-    let wrote = before.came (record { writer = c.in-Ok.writer }) start (begun g here) in
-    record {
+    let here = (goal.at.returns-in_err-pass-clause-reads g c).In_ok-writer in
+    let wrote = before.came (record { writer = c.in_ok-writer.writer }) start (begun g here) in
+    let p = err_from_is_err_and c.from_residual-in_err-pass.result c.from_residual-in_err-pass.ensures.1 in
+    rw p.1 (record {
       probes = tt;
       lines = λ texts indexes known are. tt;
       bytes = λ texts indexes known are.
@@ -302,18 +331,19 @@ returns-in-Err-read_lines-clause-reads g c =
           (at g here before.state.writer halted.earlier before.middle wrote).text halted.grows
           (λ n most. before.within texts indexes known are (Some n) most);
       held = λ texts indexes known are most share. tt;
-    }
+    })
 
-pub returns-in-Err-end-clause-reads : goal.returns-in-Err-end-clause-reads
-returns-in-Err-end-clause-reads g c =
+pub returns-in_err-end-clause-reads : goal.returns-in_err-end-clause-reads
+returns-in_err-end-clause-reads g c =
     let q = c.args.query.now in
     let start = g.O.Output.written c.args.out.now in
     let mid = g.O.Output.written c.read_lines.new.out in
-    let took = c.in-Ok-read_lines.ensures.took in
-    let all = goal.at.returns-in-Err-end-clause-reads g c in
-    let here = all.In-Ok in
-    let wrote = took.before.came (record { writer = c.in-Ok.writer }) start (begun g here) in
-    record {
+    let took = c.in_ok-pass.ensures.took in
+    let all = goal.at.returns-in_err-end-clause-reads g c in
+    let here = all.In_ok-writer in
+    let wrote = took.before.came (record { writer = c.in_ok-writer.writer }) start (begun g here) in
+    let p = err_from_is_err_and c.from_residual-in_err-end.result c.from_residual-in_err-end.ensures.1 in
+    rw p.1 (record {
       probes = tt;
       lines = λ texts indexes known are. tt;
       bytes = λ texts indexes known are.
@@ -322,24 +352,24 @@ returns-in-Err-end-clause-reads g c =
           c.args.sources.now c.read_lines.new.sources
           took.lines first.0 (captures_over q q.resume took.earlier) took.later first.1 took.split
           (within g here took.before.state.writer took.earlier took.before.middle wrote took.before.more)
-          (at g here c.read_lines.new.sink.writer took.lines mid (came g all.In-Ok-read_lines)).text
-          (grows_part _ _ _ c.in-Err-end.ensures.text)
+          (at g here c.read_lines.new.sink.writer took.lines mid (came g all.In_ok-pass)).text
+          (grows_part _ _ _ c.in_err-end.ensures.text)
           (λ n most. took.before.within texts indexes known are (Some n) most);
       held = λ texts indexes known are most share. tt;
-    }
+    })
 
 pub returns-clause-reads : goal.returns-clause-reads
 returns-clause-reads g c =
     let q = c.args.query.now in
     let start = g.O.Output.written c.args.out.now in
     let mid = g.O.Output.written c.read_lines.new.out in
-    let took = c.in-Ok-read_lines.ensures.took in
+    let took = c.in_ok-pass.ensures.took in
     let all = goal.at.returns-clause-reads g c in
-    let here = all.In-Ok in
-    let wrote = took.before.came (record { writer = c.in-Ok.writer }) start (begun g here) in
+    let here = all.In_ok-writer in
+    let wrote = took.before.came (record { writer = c.in_ok-writer.writer }) start (begun g here) in
     let room = within g here took.before.state.writer took.earlier took.before.middle wrote took.before.more in
     record {
-      probes = c.in-Ok-read_lines.ensures.probes;
+      probes = c.in_ok-pass.ensures.probes;
       lines = λ texts indexes known are.
           let most = took.few texts indexes known are q.limit room in
           omega (arith, most, length-map c.args.sources.now g.S.Source.text);
@@ -348,8 +378,8 @@ returns-clause-reads g c =
           page_reached g.S.Source.extent g.S.Source.gave q texts indexes start mid (g.O.Output.written c.end.new.out)
           c.args.sources.now c.read_lines.new.sources
           took.lines first.0 (captures_over q q.resume took.earlier) took.later first.1 took.split room
-          (at g here c.read_lines.new.sink.writer took.lines mid (came g all.In-Ok-read_lines)).text
-          (grows_by _ _ _ c.in-Ok-end.ensures.text)
+          (at g here c.read_lines.new.sink.writer took.lines mid (came g all.In_ok-pass)).text
+          (grows_by _ _ _ c.in_ok-end.ensures.text)
           (λ n most. took.before.within texts indexes known are (Some n) most);
-      held = λ texts indexes known are most share. c.in-Ok-read_lines.ensures.held texts indexes known are most share;
+      held = λ texts indexes known are most share. c.in_ok-pass.ensures.held texts indexes known are most share;
     }

@@ -1,6 +1,7 @@
 use Rattle.std.proofs.Common.{rules, ◌≡◌, ◌++◌, ◌∙◌, ℕ, List, [], append-nil, Bool, length, true, false, refl, sym, map}
 use Rattle.std.proofs.Common.{Option, None}
 use Rattle.std.proofs.lemmas.Bool.{true≢false, true_from_ne_false}
+use Rattle.std.proofs.lemmas.Result.{err_from_is_err_and}
 use Rattle.cdxj_places.specs.Places.{place_cmp}
 use Rattle.cdxj_places.specs.Rising.{Rises}
 use Rattle.cdxj_places.proofs.PlaceOrder.{place_cmp_total}
@@ -13,6 +14,8 @@ use Rattle.merge_core.specs.Spending.{AllGaveWithin}
 use Rattle.page_writers.specs.PageWriting.{captures_over}
 use Rattle.page_writers.specs.WrittenPages.{are_sizes, WrotePages, WrotePagesInPart}
 use Rattle.query_core.specs.Reach.{in_reach}
+use Rattle.query_core.specs.Conversions.{fault_of_text}
+use Rattle.query_core.proofs.ConversionLemmas.{text_late, text_line, text_raised}
 use Rattle.query_core.proofs.CountLemmas.{raised_after}
 use Rattle.page_writers.proofs.PageChains.{wrote_front, wrote_most, wrote_none, wrote_whole}
 use Rattle.query_core.proofs.PagesExits.{all_ended, any_front, at_end}
@@ -21,7 +24,7 @@ use Rattle.page_writers.proofs.SizeLemmas.{all_positive}
 use Rattle.query_core.proofs.ReachLemmas.{opened_not, within_opening}
 use Rattle.query_core.proofs.RefusalLemmas.{refuses_few, refuses_many, refuses_sized, refuses_sizes}
 use Rattle.query_core.proofs.paging.pages.Given.{Over}
-use Rattle.query_core.proofs.paging.pages.Goals.{In-Err, In-Err-read_lines, In-Err-end, In-Ok-end}
+use Rattle.query_core.proofs.paging.pages.Goals.{In_err-writer, In_err-read_lines, In_err-end, In_ok-end}
 use Rattle.query_core.proofs.paging.pages.Goals as goal
 
 no_lines : (texts : List (Option (List ℕ))) → AreLinesOf LINE_LIMIT texts []
@@ -48,59 +51,69 @@ returns-then-sources-gt-SOURCES_LIMIT-clause-refused g c =
     refuses_sized (length c.args.sources.now) _ _ c.args.sizes.now (search rules)
     (refuses_many _ (length c.args.sources.now) _ c.if-sources-gt-SOURCES_LIMIT.true (refl, refl))
 
-pub returns-in-Err-clause-refused : goal.returns-in-Err-clause-refused
-returns-in-Err-clause-refused g c =
-    refuses_sized (length c.args.sources.now) _ _ c.args.sizes.now (search rules)
-    (refuses_few (length c.args.sources.now) _ _ c.if-sources-gt-SOURCES_LIMIT.false c.text_fault.ensures.late)
+pub returns-in_err-writer-clause-refused : goal.returns-in_err-writer-clause-refused
+returns-in_err-writer-clause-refused g c =
+    let p = err_from_is_err_and c.from_residual.result c.from_residual.ensures.1 in
+    rw (p.1, p.2) (refuses_sized (length c.args.sources.now) _ _ c.args.sizes.now (search rules)
+    (refuses_few (length c.args.sources.now) _ _ c.if-sources-gt-SOURCES_LIMIT.false (text_late c.in_err-writer.field-0.0)))
 
-pub returns-in-Err-read_lines-clause-refused : goal.returns-in-Err-read_lines-clause-refused
-returns-in-Err-read_lines-clause-refused g c =
-    refuses_sized (length c.args.sources.now) _ _ c.args.sizes.now (search rules)
+pub returns-in_err-read_lines-clause-refused : goal.returns-in_err-read_lines-clause-refused
+returns-in_err-read_lines-clause-refused g c =
+    let p = err_from_is_err_and c.from_residual-in_err-read_lines.result c.from_residual-in_err-read_lines.ensures.1 in
+    rw (p.1, p.2) (refuses_sized (length c.args.sources.now) _ _ c.args.sizes.now (search rules)
     (refuses_few (length c.args.sources.now) _ _ c.if-sources-gt-SOURCES_LIMIT.false
-    c.in-Err-read_lines.ensures.late)
+    c.in_err-read_lines.ensures.late))
+
+pub returns-in_err-end-clause-refused : goal.returns-in_err-end-clause-refused
+returns-in_err-end-clause-refused g c =
+    let p = err_from_is_err_and c.from_residual-in_err-end.result c.from_residual-in_err-end.ensures.1 in
+    rw (p.1, p.2) (refuses_sized (length c.args.sources.now) _ _ c.args.sizes.now (search rules)
+    (refuses_few (length c.args.sources.now) _ _ c.if-sources-gt-SOURCES_LIMIT.false
+    (text_late c.in_err-end.field-0.0)))
 
 pub returns-clause-refused : goal.returns-clause-refused
 returns-clause-refused g c =
-    refuses_sized (length c.args.sources.now) _ _ c.args.sizes.now (search rules)
-    (refuses_few (length c.args.sources.now) _ _ c.if-sources-gt-SOURCES_LIMIT.false
-    c.text_fault-in-Err-end.ensures.late)
-
-pub returns-in-Ok-end-clause-refused : goal.returns-in-Ok-end-clause-refused
-returns-in-Ok-end-clause-refused g c =
     refuses_sized (length c.args.sources.now) _ _ c.args.sizes.now (search rules)
     (refuses_few (length c.args.sources.now) _ _ c.if-sources-gt-SOURCES_LIMIT.false tt)
 
 -- ---- failures, and lines at fault
 
-pub returns-in-Err-clause-failures : goal.returns-in-Err-clause-failures
-returns-in-Err-clause-failures g c =
-    c.text_fault.ensures.raised (map g.S.Source.failures c.args.sources.now) (g.O.Output.failures c.args.out.now)
-    (g.O.Output.failures c.begin.new.out) c.in-Err.ensures.failures
+pub returns-in_err-writer-clause-failures : goal.returns-in_err-writer-clause-failures
+returns-in_err-writer-clause-failures g c =
+    let p = err_from_is_err_and c.from_residual.result c.from_residual.ensures.1 in
+    rw (p.1, p.2) (text_raised c.in_err-writer.field-0.0 (map g.S.Source.failures c.args.sources.now) (g.O.Output.failures c.args.out.now)
+    (g.O.Output.failures c.begin.new.out) c.in_err-writer.ensures.failures)
 
-pub returns-in-Err-read_lines-clause-failures : goal.returns-in-Err-read_lines-clause-failures
-returns-in-Err-read_lines-clause-failures g c =
-    let ss = map g.S.Source.failures c.args.sources.now in
-    raised_after c.in-Err-read_lines.fault ss ss (map g.S.Source.failures c.read_lines.new.sources)
+pub returns-in_err-read_lines-clause-failures : goal.returns-in_err-read_lines-clause-failures
+returns-in_err-read_lines-clause-failures g c =
+    let p = err_from_is_err_and c.from_residual-in_err-read_lines.result c.from_residual-in_err-read_lines.ensures.1 in
+    rw (p.1, p.2) (let ss = map g.S.Source.failures c.args.sources.now in
+    raised_after c.in_err-read_lines.field-0.0 ss ss (map g.S.Source.failures c.read_lines.new.sources)
     (g.O.Output.failures c.args.out.now) (g.O.Output.failures c.begin.new.out)
     (g.O.Output.failures c.read_lines.new.out)
-    refl c.in-Ok.ensures.failures c.in-Err-read_lines.ensures.failures
+    refl c.in_ok-writer.ensures.failures c.in_err-read_lines.ensures.failures)
 
-pub returns-clause-failures : goal.returns-clause-failures
-returns-clause-failures g c =
-    let now = map g.S.Source.failures c.read_lines.new.sources in
+pub returns-in_err-end-clause-failures : goal.returns-in_err-end-clause-failures
+returns-in_err-end-clause-failures g c =
+    let p = err_from_is_err_and c.from_residual-in_err-end.result c.from_residual-in_err-end.ensures.1 in
+    rw (p.1, p.2) (let now = map g.S.Source.failures c.read_lines.new.sources in
     let mid = g.O.Output.failures c.read_lines.new.out in
     let new = g.O.Output.failures c.end.new.out in
-    let read = c.in-Ok-read_lines.ensures.failures in
-    raised_after c.text_fault-in-Err-end.result (map g.S.Source.failures c.args.sources.now) now now
+    let read = c.in_ok-read_lines.ensures.failures in
+    raised_after (fault_of_text c.in_err-end.field-0.0) (map g.S.Source.failures c.args.sources.now) now now
     (g.O.Output.failures c.args.out.now) mid new
-    read.0 (read.1 ∙ c.in-Ok.ensures.failures)
-    (c.text_fault-in-Err-end.ensures.raised now mid new c.in-Err-end.ensures.failures)
+    read.0 (read.1 ∙ c.in_ok-writer.ensures.failures)
+    (text_raised c.in_err-end.field-0.0 now mid new c.in_err-end.ensures.failures))
 
-pub returns-in-Err-clause-fault : goal.returns-in-Err-clause-fault
-returns-in-Err-clause-fault g c = c.text_fault.ensures.line (map g.S.Source.text c.args.sources.now)
+pub returns-in_err-writer-clause-fault : goal.returns-in_err-writer-clause-fault
+returns-in_err-writer-clause-fault g c =
+    let p = err_from_is_err_and c.from_residual.result c.from_residual.ensures.1 in
+    rw (p.1, p.2) (text_line LINE_LIMIT (map g.S.Source.text c.args.sources.now) c.in_err-writer.field-0.0)
 
-pub returns-clause-fault : goal.returns-clause-fault
-returns-clause-fault g c = c.text_fault-in-Err-end.ensures.line (map g.S.Source.text c.args.sources.now)
+pub returns-in_err-end-clause-fault : goal.returns-in_err-end-clause-fault
+returns-in_err-end-clause-fault g c =
+    let p = err_from_is_err_and c.from_residual-in_err-end.result c.from_residual-in_err-end.ensures.1 in
+    rw (p.1, p.2) (text_line LINE_LIMIT (map g.S.Source.text c.args.sources.now) c.in_err-end.field-0.0)
 
 -- ---- how much was read
 
@@ -113,25 +126,25 @@ returns-then-sources-gt-SOURCES_LIMIT-clause-bytes g c = λ texts indexes. unrea
     g.S.Source.gave (in_reach c.args.query.now c.args.query.now.resume None (collection indexes)) c.args.sources.now
     texts indexes
 
-pub returns-in-Err-clause-bytes : goal.returns-in-Err-clause-bytes
-returns-in-Err-clause-bytes g c = λ texts indexes. unread g.S.Source.text g.S.Source.extent g.S.Source.gave
+pub returns-in_err-writer-clause-bytes : goal.returns-in_err-writer-clause-bytes
+returns-in_err-writer-clause-bytes g c = λ texts indexes. unread g.S.Source.text g.S.Source.extent g.S.Source.gave
     (in_reach c.args.query.now c.args.query.now.resume None (collection indexes)) c.args.sources.now texts indexes
 
-pub returns-in-Err-read_lines-clause-bytes : goal.returns-in-Err-read_lines-clause-bytes
-returns-in-Err-read_lines-clause-bytes g c = λ texts indexes known are. c.in-Err-read_lines.ensures.halted.before.within
+pub returns-in_err-read_lines-clause-bytes : goal.returns-in_err-read_lines-clause-bytes
+returns-in_err-read_lines-clause-bytes g c = λ texts indexes known are. c.in_err-read_lines.ensures.halted.before.within
     texts indexes known are None tt
 
-pub returns-in-Ok-end-clause-bytes : goal.returns-in-Ok-end-clause-bytes
-returns-in-Ok-end-clause-bytes g c = λ texts indexes known are. c.in-Ok-read_lines.ensures.took.before.within texts
+pub returns-clause-bytes : goal.returns-clause-bytes
+returns-clause-bytes g c = λ texts indexes known are. c.in_ok-read_lines.ensures.took.before.within texts
     indexes known are None tt
 
-pub returns-clause-bytes : goal.returns-clause-bytes
-returns-clause-bytes g c = λ texts indexes known are. c.in-Ok-read_lines.ensures.took.before.within texts indexes known
-    are None tt
+pub returns-in_err-end-clause-bytes : goal.returns-in_err-end-clause-bytes
+returns-in_err-end-clause-bytes g c = λ texts indexes known are. c.in_ok-read_lines.ensures.took.before.within texts
+    indexes known are None tt
 
 -- ---- the pages of lines that rise by place, of which those that were read come first
 
-before : (g : Over) (c : In-Err g) (sized : are_sizes c.args.sizes.now ≡ true) (lines : List Member)
+before : (g : Over) (c : In_err-writer g) (sized : are_sizes c.args.sizes.now ≡ true) (lines : List Member)
     → Rises member_place place_cmp lines
     → WrotePagesInPart c.args.query.now lines c.args.sizes.now (g.O.Output.written c.args.out.now)
     (g.O.Output.written c.begin.new.out)
@@ -141,12 +154,12 @@ before g c sized lines rise =
     let old = g.O.Output.written c.args.out.now in
     let new = g.O.Output.written c.begin.new.out in
     wrote_front q c.args.sizes.now positive lines rise [] old new (captures_over q q.resume lines) refl
-    (start_front q c.args.sizes.now old new positive c.in-Err.ensures.front)
+    (start_front q c.args.sizes.now old new positive c.in_err-writer.ensures.front)
 
-broken : (g : Over) (c : In-Err-read_lines g) (sized : are_sizes c.args.sizes.now ≡ true) (lines : List Member)
+broken : (g : Over) (c : In_err-read_lines g) (sized : are_sizes c.args.sizes.now ≡ true) (lines : List Member)
     → Rises member_place place_cmp lines → (rest : List Member)
     → captures_over c.args.query.now c.args.query.now.resume lines
-    ≡ captures_over c.args.query.now c.args.query.now.resume c.in-Err-read_lines.ensures.broke.lines ++ rest
+    ≡ captures_over c.args.query.now c.args.query.now.resume c.in_err-read_lines.ensures.broke.lines ++ rest
     → WrotePagesInPart c.args.query.now lines c.args.sizes.now (g.O.Output.written c.args.out.now)
     (g.O.Output.written c.read_lines.new.out)
 broken g c sized lines rise rest split =
@@ -155,16 +168,16 @@ broken g c sized lines rise rest split =
     let positive = all_positive sizes sized in
     let start = g.O.Output.written c.args.out.now in
     let new = g.O.Output.written c.read_lines.new.out in
-    let is = c.in-Ok.ensures.query in
-    let broke = c.in-Err-read_lines.ensures.broke in
+    let is = c.in_ok-writer.ensures.query in
+    let broke = c.in_err-read_lines.ensures.broke in
     wrote_front q sizes positive lines rise (captures_over q q.resume broke.lines) start new rest split
-    (any_front c.in-Ok.writer q sizes is.0 is.1 is.2 broke.lines start new
-    (broke.wrote (record { writer = c.in-Ok.writer }) start ((refl, refl), c.in-Ok.ensures.stands positive)))
+    (any_front c.in_ok-writer.writer q sizes is.0 is.1 is.2 broke.lines start new
+    (broke.wrote (record { writer = c.in_ok-writer.writer }) start ((refl, refl), c.in_ok-writer.ensures.stands positive)))
 
-unended : (g : Over) (c : In-Err-end g) (sized : are_sizes c.args.sizes.now ≡ true) (lines : List Member)
+unended : (g : Over) (c : In_err-end g) (sized : are_sizes c.args.sizes.now ≡ true) (lines : List Member)
     → Rises member_place place_cmp lines
     → captures_over c.args.query.now c.args.query.now.resume lines
-    ≡ captures_over c.args.query.now c.args.query.now.resume c.in-Ok-read_lines.ensures.took.lines
+    ≡ captures_over c.args.query.now c.args.query.now.resume c.in_ok-read_lines.ensures.took.lines
     → WrotePagesInPart c.args.query.now lines c.args.sizes.now (g.O.Output.written c.args.out.now)
     (g.O.Output.written c.end.new.out)
 unended g c sized lines rise all =
@@ -174,18 +187,18 @@ unended g c sized lines rise all =
     let start = g.O.Output.written c.args.out.now in
     let mid = g.O.Output.written c.read_lines.new.out in
     let new = g.O.Output.written c.end.new.out in
-    let is = c.in-Ok.ensures.query in
-    let took = c.in-Ok-read_lines.ensures.took in
+    let is = c.in_ok-writer.ensures.query in
+    let took = c.in_ok-read_lines.ensures.took in
     wrote_most q sizes positive lines rise (captures_over q q.resume took.lines) start new all
-    (at_end c.in-Ok.writer q sizes is.0 is.1 is.2 c.read_lines.new.sink.writer took.lines start mid
-    (took.came (record { writer = c.in-Ok.writer }) start ((refl, refl), c.in-Ok.ensures.stands positive)) new c.in-Err-end.ensures.text)
+    (at_end c.in_ok-writer.writer q sizes is.0 is.1 is.2 c.read_lines.new.sink.writer took.lines start mid
+    (took.came (record { writer = c.in_ok-writer.writer }) start ((refl, refl), c.in_ok-writer.ensures.stands positive)) new c.in_err-end.ensures.text)
 
-ended : (g : Over) (c : In-Ok-end g) (sized : are_sizes c.args.sizes.now ≡ true) (lines : List Member)
+ended : (g : Over) (c : In_ok-end g) (sized : are_sizes c.args.sizes.now ≡ true) (lines : List Member)
     → Rises member_place place_cmp lines
     → captures_over c.args.query.now c.args.query.now.resume lines
-    ≡ captures_over c.args.query.now c.args.query.now.resume c.in-Ok-read_lines.ensures.took.lines
+    ≡ captures_over c.args.query.now c.args.query.now.resume c.in_ok-read_lines.ensures.took.lines
     → WrotePages c.args.query.now lines c.args.sizes.now (g.O.Output.written c.args.out.now)
-    (g.O.Output.written c.end.new.out) c.in-Ok-end.count
+    (g.O.Output.written c.end.new.out) c.in_ok-end.field-0
 ended g c sized lines rise all =
     let q = c.args.query.now in
     let sizes = c.args.sizes.now in
@@ -193,12 +206,12 @@ ended g c sized lines rise all =
     let start = g.O.Output.written c.args.out.now in
     let mid = g.O.Output.written c.read_lines.new.out in
     let new = g.O.Output.written c.end.new.out in
-    let is = c.in-Ok.ensures.query in
-    let took = c.in-Ok-read_lines.ensures.took in
-    let end = c.in-Ok-end.ensures in
-    wrote_whole q sizes positive lines rise (captures_over q q.resume took.lines) start new all c.in-Ok-end.count
-    (all_ended c.in-Ok.writer q sizes is.0 is.1 is.2 c.read_lines.new.sink.writer took.lines start mid
-    (took.came (record { writer = c.in-Ok.writer }) start ((refl, refl), c.in-Ok.ensures.stands positive)) new c.in-Ok-end.count end.text
+    let is = c.in_ok-writer.ensures.query in
+    let took = c.in_ok-read_lines.ensures.took in
+    let end = c.in_ok-end.ensures in
+    wrote_whole q sizes positive lines rise (captures_over q q.resume took.lines) start new all c.in_ok-end.field-0
+    (all_ended c.in_ok-writer.writer q sizes is.0 is.1 is.2 c.read_lines.new.sink.writer took.lines start mid
+    (took.came (record { writer = c.in_ok-writer.writer }) start ((refl, refl), c.in_ok-writer.ensures.stands positive)) new c.in_ok-end.field-0 end.text
     end.count)
 
 -- ---- lines of the sources
@@ -215,31 +228,34 @@ returns-then-sources-gt-SOURCES_LIMIT-clause-lines g c = (
       (g.O.Output.written c.args.out.now),
 )
 
-pub returns-in-Err-clause-lines : goal.returns-in-Err-clause-lines
-returns-in-Err-clause-lines g c =
-    let here = (goal.at.returns-in-Err-clause-lines g c).In-Err in
-    ([], no_lines (map g.S.Source.text c.args.sources.now), λ sized. before g here sized [] tt)
+pub returns-in_err-writer-clause-lines : goal.returns-in_err-writer-clause-lines
+returns-in_err-writer-clause-lines g c =
+    let p = err_from_is_err_and c.from_residual.result c.from_residual.ensures.1 in
+    rw p.1 (let here = (goal.at.returns-in_err-writer-clause-lines g c).In_err-writer in
+    ([], no_lines (map g.S.Source.text c.args.sources.now), λ sized. before g here sized [] tt))
 
-pub returns-in-Err-read_lines-clause-lines : goal.returns-in-Err-read_lines-clause-lines
-returns-in-Err-read_lines-clause-lines g c =
-    let broke = c.in-Err-read_lines.ensures.broke in
-    let here = (goal.at.returns-in-Err-read_lines-clause-lines g c).In-Err-read_lines in (
+pub returns-in_err-read_lines-clause-lines : goal.returns-in_err-read_lines-clause-lines
+returns-in_err-read_lines-clause-lines g c =
+    let p = err_from_is_err_and c.from_residual-in_err-read_lines.result c.from_residual-in_err-read_lines.ensures.1 in
+    rw p.1 (let broke = c.in_err-read_lines.ensures.broke in
+    let here = (goal.at.returns-in_err-read_lines-clause-lines g c).In_err-read_lines in (
       broke.lines,
       broke.took.lines,
       λ sized. broken g here sized broke.lines broke.took.lines.rise []
           (sym (append-nil (captures_over c.args.query.now c.args.query.now.resume broke.lines))),
-    )
+    ))
+
+pub returns-in_err-end-clause-lines : goal.returns-in_err-end-clause-lines
+returns-in_err-end-clause-lines g c =
+    let p = err_from_is_err_and c.from_residual-in_err-end.result c.from_residual-in_err-end.ensures.1 in
+    rw p.1 (let took = c.in_ok-read_lines.ensures.took in
+    let here = (goal.at.returns-in_err-end-clause-lines g c).In_err-end in
+    (took.lines, took.took.lines, λ sized. unended g here sized took.lines took.took.lines.rise refl))
 
 pub returns-clause-lines : goal.returns-clause-lines
 returns-clause-lines g c =
-    let took = c.in-Ok-read_lines.ensures.took in
-    let here = (goal.at.returns-clause-lines g c).In-Err-end in
-    (took.lines, took.took.lines, λ sized. unended g here sized took.lines took.took.lines.rise refl)
-
-pub returns-in-Ok-end-clause-lines : goal.returns-in-Ok-end-clause-lines
-returns-in-Ok-end-clause-lines g c =
-    let took = c.in-Ok-read_lines.ensures.took in
-    let here = (goal.at.returns-in-Ok-end-clause-lines g c).In-Ok-end in
+    let took = c.in_ok-read_lines.ensures.took in
+    let here = (goal.at.returns-clause-lines g c).In_ok-end in
     (took.lines, took.took.lines, ended g here (search rules) took.lines took.took.lines.rise refl)
 
 -- ---- the lines of indexes
@@ -253,35 +269,41 @@ returns-then-sources-gt-SOURCES_LIMIT-clause-pages g c = λ texts indexes known 
     wrote_none c.args.query.now c.args.sizes.now (all_positive c.args.sizes.now sized) (collection indexes)
     (collection_rises indexes) (g.O.Output.written c.args.out.now)
 
-pub returns-in-Err-clause-pages : goal.returns-in-Err-clause-pages
-returns-in-Err-clause-pages g c = λ texts indexes known are sized. before g
-    (goal.at.returns-in-Err-clause-pages g c).In-Err sized (collection indexes) (collection_rises indexes)
+pub returns-in_err-writer-clause-pages : goal.returns-in_err-writer-clause-pages
+returns-in_err-writer-clause-pages g c =
+    let p = err_from_is_err_and c.from_residual.result c.from_residual.ensures.1 in
+    rw p.1 (λ texts indexes known are sized. before g
+    (goal.at.returns-in_err-writer-clause-pages g c).In_err-writer sized (collection indexes) (collection_rises indexes))
 
-pub returns-in-Err-read_lines-clause-pages : goal.returns-in-Err-read_lines-clause-pages
-returns-in-Err-read_lines-clause-pages g c = λ texts indexes known are sized.
-    let first = c.in-Err-read_lines.ensures.broke.took.first texts indexes known are in
-    broken g (goal.at.returns-in-Err-read_lines-clause-pages g c).In-Err-read_lines sized (collection indexes)
-    (collection_rises indexes) first.0 first.1
+pub returns-in_err-read_lines-clause-pages : goal.returns-in_err-read_lines-clause-pages
+returns-in_err-read_lines-clause-pages g c =
+    let p = err_from_is_err_and c.from_residual-in_err-read_lines.result c.from_residual-in_err-read_lines.ensures.1 in
+    rw p.1 (λ texts indexes known are sized.
+    let first = c.in_err-read_lines.ensures.broke.took.first texts indexes known are in
+    broken g (goal.at.returns-in_err-read_lines-clause-pages g c).In_err-read_lines sized (collection indexes)
+    (collection_rises indexes) first.0 first.1)
+
+pub returns-in_err-end-clause-pages : goal.returns-in_err-end-clause-pages
+returns-in_err-end-clause-pages g c =
+    let p = err_from_is_err_and c.from_residual-in_err-end.result c.from_residual-in_err-end.ensures.1 in
+    rw p.1 (λ texts indexes known are sized.
+    let whole = true_from_ne_false c.in_ok-read_lines.field-0.all (λ e. c.in_ok-read_lines.ensures.enough e) in
+    unended g (goal.at.returns-in_err-end-clause-pages g c).In_err-end sized (collection indexes) (collection_rises indexes)
+    (c.in_ok-read_lines.ensures.took.whole whole texts indexes known are))
 
 pub returns-clause-pages : goal.returns-clause-pages
-returns-clause-pages g c = λ texts indexes known are sized.
-    let whole = true_from_ne_false c.in-Ok-read_lines._pass.all (λ e. c.in-Ok-read_lines.ensures.enough e) in
-    unended g (goal.at.returns-clause-pages g c).In-Err-end sized (collection indexes) (collection_rises indexes)
-    (c.in-Ok-read_lines.ensures.took.whole whole texts indexes known are)
+returns-clause-pages g c = λ texts indexes known are.
+    let whole = true_from_ne_false c.in_ok-read_lines.field-0.all (λ e. c.in_ok-read_lines.ensures.enough e) in
+    ended g (goal.at.returns-clause-pages g c).In_ok-end (search rules) (collection indexes)
+    (collection_rises indexes) (c.in_ok-read_lines.ensures.took.whole whole texts indexes known are)
 
-pub returns-in-Ok-end-clause-pages : goal.returns-in-Ok-end-clause-pages
-returns-in-Ok-end-clause-pages g c = λ texts indexes known are.
-    let whole = true_from_ne_false c.in-Ok-read_lines._pass.all (λ e. c.in-Ok-read_lines.ensures.enough e) in
-    ended g (goal.at.returns-in-Ok-end-clause-pages g c).In-Ok-end (search rules) (collection indexes)
-    (collection_rises indexes) (c.in-Ok-read_lines.ensures.took.whole whole texts indexes known are)
-
-pub returns-in-Ok-end-clause-parts : goal.returns-in-Ok-end-clause-parts
-returns-in-Ok-end-clause-parts g c = λ texts known.
-    let whole = true_from_ne_false c.in-Ok-read_lines._pass.all (λ e. c.in-Ok-read_lines.ensures.enough e) in
-    let read = c.in-Ok-read_lines.ensures.took.parts texts known in
+pub returns-clause-parts : goal.returns-clause-parts
+returns-clause-parts g c = λ texts known.
+    let whole = true_from_ne_false c.in_ok-read_lines.field-0.all (λ e. c.in_ok-read_lines.ensures.enough e) in
+    let read = c.in_ok-read_lines.ensures.took.parts texts known in
     record {
       parts = read.parts;
       each = read.each true (λ e. whole);
-      wrote = ended g (goal.at.returns-in-Ok-end-clause-parts g c).In-Ok-end (search rules) (collection read.parts)
+      wrote = ended g (goal.at.returns-clause-parts g c).In_ok-end (search rules) (collection read.parts)
           (collection_rises read.parts) (read.ended whole);
     }

@@ -2,6 +2,7 @@ use Rattle.std.proofs.Common.{filter, ◌-◌, ◌^◌, ℕ, min, length, ◌≡
 use Rattle.std.proofs.Common.{subst, List, [], zip, ap, append-nil, Some, inl}
 use Rattle.std.specs.List.{AllByRecursion, AllZip}
 use Rattle.std.proofs.lemmas.List.{length-map}
+use Rattle.std.proofs.lemmas.Result.{err_from_is_err_and}
 use Rattle.cdxj_core.specs.declared.limit.TheConstants.{LINE_LIMIT}
 use Rattle.cdxj_core.specs.Indexes.{IsIndex}
 use Rattle.cdxj_core.specs.Members.{Member}
@@ -9,6 +10,8 @@ use Rattle.query_text.specs.Matching.{is_past}
 use Rattle.query_text.proofs.RangeLaw.{past_upward}
 use Rattle.merge_core.specs.Collections.{Known, collection}
 use Rattle.merge_core.specs.Failures.{RaisedBy}
+use Rattle.merge_core.specs.LineFaults as merging
+use Rattle.query_core.proofs.ConversionLemmas.{merge_late, merge_line, merge_raised}
 use Rattle.merge_core.specs.Openings.{IsCutAt}
 use Rattle.merge_core.specs.Reached.{Reached}
 use Rattle.merge_core.specs.Runs.{parts}
@@ -33,12 +36,12 @@ use Rattle.query_core.proofs.pass.read_lines.Goals as goal
 
 -- ---- what is kept, and failures
 
-pub returns-in-Err-merge-clause-kept : goal.returns-in-Err-merge-clause-kept
-returns-in-Err-merge-clause-kept g c =
+pub returns-in_err-all-clause-kept : goal.returns-in_err-all-clause-kept
+returns-in_err-all-clause-kept g c =
     let text = g.S.Source.text in let extent = g.S.Source.extent in let gave = g.S.Source.gave in
-    let ss1 = c.open_at.new.sources in let fs1 = c.in-Ok.opened.streams.feeds.items in
+    let ss1 = c.open_at.new.sources in let fs1 = c.in_ok-opened.opened.streams.feeds.items in
     let ss2 = c.merge.new.sources in let fs2 = c.merge.new.streams.feeds.items in
-    let same = c.in-Ok.ensures.ready.same in (
+    let same = c.in_ok-opened.ensures.ready.same in (
       texts_kept text extent gave ss1 ss2 fs1 fs2 same (omega arith) c.merge.ensures.moved ∙ c.open_at.ensures.text,
       extents_kept text extent gave ss1 ss2 fs1 fs2 same (omega arith) c.merge.ensures.moved ∙ c.open_at.ensures.extent,
     )
@@ -46,42 +49,52 @@ returns-in-Err-merge-clause-kept g c =
 pub returns-clause-kept : goal.returns-clause-kept
 returns-clause-kept g c =
     let text = g.S.Source.text in let extent = g.S.Source.extent in let gave = g.S.Source.gave in
-    let ss1 = c.open_at.new.sources in let fs1 = c.in-Ok.opened.streams.feeds.items in
+    let ss1 = c.open_at.new.sources in let fs1 = c.in_ok-opened.opened.streams.feeds.items in
     let ss2 = c.merge.new.sources in let fs2 = c.merge.new.streams.feeds.items in
-    let same = c.in-Ok.ensures.ready.same in (
+    let same = c.in_ok-opened.ensures.ready.same in (
       texts_kept text extent gave ss1 ss2 fs1 fs2 same (omega arith) c.merge.ensures.moved ∙ c.open_at.ensures.text,
       extents_kept text extent gave ss1 ss2 fs1 fs2 same (omega arith) c.merge.ensures.moved ∙ c.open_at.ensures.extent,
     )
 
-pub returns-in-Err-clause-failures : goal.returns-in-Err-clause-failures
-returns-in-Err-clause-failures g c =
-    let f = map g.S.Source.failures in
+pub returns-in_err-opened-clause-failures : goal.returns-in_err-opened-clause-failures
+returns-in_err-opened-clause-failures g c =
+    let p = err_from_is_err_and c.from_residual.result c.from_residual.ensures.1 in
+    rw (p.1, p.2) (let f = map g.S.Source.failures in
     let out = g.O.Output.failures c.args.out.now in
-    c.merge_fault.ensures.raised (f c.args.sources.now) (f c.open_at.new.sources) out out
-    (raised_by_read c.in-Err.fault (f c.args.sources.now) (f c.open_at.new.sources) out c.in-Err.ensures.failures)
+    let e = c.in_err-opened.field-0.0 in
+    let old = f c.args.sources.now in
+    let new = f c.open_at.new.sources in
+    merge_raised e old new out out (raised_by_read e old new out c.in_err-opened.ensures.failures))
 
-pub returns-in-Err-merge-clause-failures : goal.returns-in-Err-merge-clause-failures
-returns-in-Err-merge-clause-failures g c =
-    let f = map g.S.Source.failures in
+pub returns-in_err-all-clause-failures : goal.returns-in_err-all-clause-failures
+returns-in_err-all-clause-failures g c =
+    let p = err_from_is_err_and c.from_residual-in_err-all.result c.from_residual-in_err-all.ensures.1 in
+    rw (p.1, p.2) (let f = map g.S.Source.failures in
     let old = g.O.Output.failures c.args.out.now in
     let new = g.O.Output.failures c.merge.new.out in
-    c.merge_fault-in-Err-merge.ensures.raised (f c.args.sources.now) (f c.merge.new.sources) old new
-    (subst (λ ns. RaisedBy c.in-Err-merge.fault ns (f c.merge.new.sources) old new) c.in-Ok.ensures.failures
-    c.in-Err-merge.ensures.failures)
+    let e = c.in_err-all.field-0.0 in
+    let was = f c.args.sources.now in
+    let now = f c.merge.new.sources in
+    merge_raised e was now old new (subst (λ ns. RaisedBy e ns now old new) c.in_ok-opened.ensures.failures
+    c.in_err-all.ensures.failures))
 
-pub returns-in-Err-clause-fault : goal.returns-in-Err-clause-fault
-returns-in-Err-clause-fault g c = c.merge_fault.ensures.line (map g.S.Source.text c.args.sources.now)
-    c.in-Err.ensures.fault
+pub returns-in_err-opened-clause-fault : goal.returns-in_err-opened-clause-fault
+returns-in_err-opened-clause-fault g c =
+    let p = err_from_is_err_and c.from_residual.result c.from_residual.ensures.1 in
+    rw (p.1, p.2) (merge_line LINE_LIMIT (map g.S.Source.text c.args.sources.now) c.in_err-opened.field-0.0
+    c.in_err-opened.ensures.fault)
 
-pub returns-in-Err-merge-clause-fault : goal.returns-in-Err-merge-clause-fault
-returns-in-Err-merge-clause-fault g c =
-    subst (λ texts. IsFaultOf LINE_LIMIT texts c.merge_fault-in-Err-merge.result) c.open_at.ensures.text
-    (c.merge_fault-in-Err-merge.ensures.line (map g.S.Source.text c.open_at.new.sources) c.in-Err-merge.ensures.fault)
+pub returns-in_err-all-clause-fault : goal.returns-in_err-all-clause-fault
+returns-in_err-all-clause-fault g c =
+    let p = err_from_is_err_and c.from_residual-in_err-all.result c.from_residual-in_err-all.ensures.1 in
+    rw (p.1, p.2) (let e = c.in_err-all.field-0.0 in
+    merge_line LINE_LIMIT (map g.S.Source.text c.args.sources.now) e
+    (subst (λ ts. merging.IsFaultOf LINE_LIMIT ts e) c.open_at.ensures.text c.in_err-all.ensures.fault))
 
 pub returns-clause-held : goal.returns-clause-held
 returns-clause-held g c = λ texts indexes known are most share.
     let h = c.merge.ensures.held texts indexes (subst (λ l. Known l texts) (sym c.open_at.ensures.text) known) are most
-    share (omega (arith, c.in-Ok.ensures.held)) in
+    share (omega (arith, c.in_ok-opened.ensures.held)) in
     omega (
       arith,
       h,
@@ -93,9 +106,10 @@ returns-clause-held g c = λ texts indexes known are most share.
 
 -- ---- sources that couldn't be opened
 
-pub returns-in-Err-clause-broke : goal.returns-in-Err-clause-broke
-returns-in-Err-clause-broke g c =
-    let q = c.args.query.now in
+pub returns-in_err-opened-clause-broke : goal.returns-in_err-opened-clause-broke
+returns-in_err-opened-clause-broke g c =
+    let p = err_from_is_err_and c.from_residual.result c.from_residual.ensures.1 in
+    rw p.1 (let q = c.args.query.now in
     record {
       lines = [];
       wrote = λ begin start h. inl (c.args.sink.now, h);
@@ -104,11 +118,12 @@ returns-in-Err-clause-broke g c =
         first = λ texts indexes known are.
             (captures_over q q.resume (collection indexes), refl);
       };
-    }
+    })
 
-pub returns-in-Err-clause-halted : goal.returns-in-Err-clause-halted
-returns-in-Err-clause-halted g c =
-    let q = c.args.query.now in
+pub returns-in_err-opened-clause-halted : goal.returns-in_err-opened-clause-halted
+returns-in_err-opened-clause-halted g c =
+    let p = err_from_is_err_and c.from_residual.result c.from_residual.ensures.1 in
+    rw p.1 (let q = c.args.query.now in
     let from = q.resume in
     record {
       earlier = [];
@@ -124,76 +139,78 @@ returns-in-Err-clause-halted g c =
             known are c.open_at.ensures.spent;
       };
       grows = grows_not (g.O.Output.written c.args.out.now);
-    }
+    })
 
 -- ---- a merge that failed
 
-pub returns-in-Err-merge-clause-broke : goal.returns-in-Err-merge-clause-broke
-returns-in-Err-merge-clause-broke g c =
-    let text = g.S.Source.text in let extent = g.S.Source.extent in let gave = g.S.Source.gave in
+pub returns-in_err-all-clause-broke : goal.returns-in_err-all-clause-broke
+returns-in_err-all-clause-broke g c =
+    let p = err_from_is_err_and c.from_residual-in_err-all.result c.from_residual-in_err-all.ensures.1 in
+    rw p.1 (let text = g.S.Source.text in let extent = g.S.Source.extent in let gave = g.S.Source.gave in
     let q = c.args.query.now in
     let from = q.resume in
-    let ss1 = c.open_at.new.sources in let fs1 = c.in-Ok.opened.streams.feeds.items in
-    let broke = c.in-Err-merge.ensures.broke in
-    let taken = broke.4 in
-    let same = c.in-Ok.ensures.ready.same in
-    let reached = subst (λ target. Reached LINE_LIMIT text (is_past target) extent gave ss1 fs1 broke.0 broke.1 broke.2
-    broke.3 taken) c.target.ensures broke.5 in
+    let ss1 = c.open_at.new.sources in let fs1 = c.in_ok-opened.opened.streams.feeds.items in
+    let broke = c.in_err-all.ensures.broke in
+    let taken = broke.taken in
+    let ss = broke.sources in let fs = broke.streams.feeds.items in let ws = broke.streams.waiting in
+    let same = c.in_ok-opened.ensures.ready.same in
+    let reached = subst (λ target. Reached LINE_LIMIT text (is_past target) extent gave ss1 fs1 ss fs ws
+    broke.bound taken) c.target.ensures broke.reached in
     let cut = subst (λ pair. AllByRecursion (λ x. IsCutAt LINE_LIMIT pair (text x.0) x.1.cursor) (zip ss1 fs1))
-    (ap (λ key. (key, c.start_pair-start.result.stamp)) c.as_bytes.ensures.value ∙ c.start_pair-start.ensures)
-    c.in-Ok.ensures.cut in
+    (ap (λ key. (key, c.start_pair-start.result.stamp)) c.as_bytes-key.ensures.value ∙ c.start_pair-start.ensures)
+    c.in_ok-opened.ensures.cut in
     record {
       lines = taken;
-      wrote = broke.6;
+      wrote = broke.wrote;
       took = record {
         lines = subst (λ texts. AreLinesOf LINE_LIMIT texts taken) c.open_at.ensures.text
-            (taken_lines LINE_LIMIT text extent (is_past q.target) gave ss1 fs1 broke.0 broke.1 broke.2 broke.3 taken
+            (taken_lines LINE_LIMIT text extent (is_past q.target) gave ss1 fs1 ss fs ws broke.bound taken
             same reached);
         first = λ texts indexes known are.
-            let f = wanted_first text extent gave q from ss1 fs1 broke.0 broke.1 broke.2 broke.3 taken same reached cut
+            let f = wanted_first text extent gave q from ss1 fs1 ss fs ws broke.bound taken same reached cut
             texts indexes (subst (λ l. Known l texts) (sym c.open_at.ensures.text) known) are in (f.0, f.1);
       };
-    }
+    })
 
-pub returns-in-Err-merge-clause-halted : goal.returns-in-Err-merge-clause-halted
-returns-in-Err-merge-clause-halted g c =
-    let text = g.S.Source.text in let extent = g.S.Source.extent in let gave = g.S.Source.gave in
+pub returns-in_err-all-clause-halted : goal.returns-in_err-all-clause-halted
+returns-in_err-all-clause-halted g c =
+    let p = err_from_is_err_and c.from_residual-in_err-all.result c.from_residual-in_err-all.ensures.1 in
+    rw p.1 (let text = g.S.Source.text in let extent = g.S.Source.extent in let gave = g.S.Source.gave in
     let q = c.args.query.now in
     let from = q.resume in
-    let ss1 = c.open_at.new.sources in let fs1 = c.in-Ok.opened.streams.feeds.items in
-    let h = c.in-Err-merge.ensures.halted in
-    let taken = h.4 in
-    let state = h.6 in
-    let next = h.7 in
-    let same = c.in-Ok.ensures.ready.same in
-    let reached = subst (λ target. Reached LINE_LIMIT text (is_past target) extent gave ss1 fs1 h.0 h.1 h.2 h.3 taken)
-    c.target.ensures h.5 in
+    let ss1 = c.open_at.new.sources in let fs1 = c.in_ok-opened.opened.streams.feeds.items in
+    let h = c.in_err-all.ensures.halted in
+    let taken = h.so_far.taken in
+    let ss = h.sources in let fs = h.stood.feeds.items in let ws = h.stood.waiting in let b = h.so_far.bound in
+    let same = c.in_ok-opened.ensures.ready.same in
+    let reached = subst (λ target. Reached LINE_LIMIT text (is_past target) extent gave ss1 fs1 ss fs ws b taken)
+    c.target.ensures h.so_far.reached in
     let cut = subst (λ pair. AllByRecursion (λ x. IsCutAt LINE_LIMIT pair (text x.0) x.1.cursor) (zip ss1 fs1))
-    (ap (λ key. (key, c.start_pair-start.result.stamp)) c.as_bytes.ensures.value ∙ c.start_pair-start.ensures)
-    c.in-Ok.ensures.cut in
+    (ap (λ key. (key, c.start_pair-start.result.stamp)) c.as_bytes-key.ensures.value ∙ c.start_pair-start.ensures)
+    c.in_ok-opened.ensures.cut in
     record {
       earlier = taken;
       first = λ texts indexes known are.
-          let f = wanted_first text extent gave q from ss1 fs1 h.0 h.1 h.2 h.3 taken same reached cut texts indexes
+          let f = wanted_first text extent gave q from ss1 fs1 ss fs ws b taken same reached cut texts indexes
           (subst (λ l. Known l texts) (sym c.open_at.ensures.text) known) are in (f.0, f.1);
       before = record {
-        state = state.0;
-        middle = state.1;
-        more = state.2;
-        came = state.4;
+        state = h.state;
+        middle = h.middle;
+        more = h.more;
+        came = h.so_far.came;
         within = λ texts indexes known are limit most.
             let known1 = subst (λ l. Known l texts) (sym c.open_at.ensures.text) known in
-            let before = cut_before text extent gave q from ss1 fs1 h.0 h.1 h.2 h.3 taken same reached cut texts indexes
-            known1 are next.0 next.1 next.2 in
-            gave_within text extent gave q from ss1 fs1 h.0 h.1 h.2 h.3 taken same reached cut texts indexes known1 are
-            (Some next.0) taken before limit most
-            c.args.sources.now c.merge.new.sources c.merge.new.streams.feeds.items known c.in-Ok.ensures.came
+            let before = cut_before text extent gave q from ss1 fs1 ss fs ws b taken same reached cut texts indexes
+            known1 are h.next h.above h.least in
+            gave_within text extent gave q from ss1 fs1 ss fs ws b taken same reached cut texts indexes known1 are
+            (Some h.next) taken before limit most
+            c.args.sources.now c.merge.new.sources c.merge.new.streams.feeds.items known c.in_ok-opened.ensures.came
             c.merge.ensures.moved (omega arith)
-            (subst (λ target. AreReadTo LINE_LIMIT (is_past target) text (Some next.0) c.merge.new.sources
-            c.merge.new.streams.feeds.items) c.target.ensures (next.3 (told_known text ss1 texts known1)));
+            (subst (λ target. AreReadTo LINE_LIMIT (is_past target) text (Some h.next) c.merge.new.sources
+            c.merge.new.streams.feeds.items) c.target.ensures (h.read (told_known text ss1 texts known1)));
       };
-      grows = state.3;
-    }
+      grows = h.grows;
+    })
 
 -- ---- a merge that came to its end, or to enough
 
@@ -206,18 +223,19 @@ returns-clause-took g c =
     let text = g.S.Source.text in let extent = g.S.Source.extent in let gave = g.S.Source.gave in
     let q = c.args.query.now in
     let from = q.resume in
-    let ss1 = c.open_at.new.sources in let fs1 = c.in-Ok.opened.streams.feeds.items in
+    let ss1 = c.open_at.new.sources in let fs1 = c.in_ok-opened.opened.streams.feeds.items in
     let ss2 = c.merge.new.sources in let fs2 = c.merge.new.streams.feeds.items in let ws =
     c.merge.new.streams.waiting in
-    let ok = c.in-Ok-merge.ensures in
-    let b = ok.wrote.0 in
-    let taken = ok.wrote.1 in
-    let same = c.in-Ok.ensures.ready.same in
+    let ok = c.in_ok-all.ensures in
+    let so_far = ok.passed.so_far in
+    let b = so_far.bound in
+    let taken = so_far.taken in
+    let same = c.in_ok-opened.ensures.ready.same in
     let reached = subst (λ target. Reached LINE_LIMIT text (is_past target) extent gave ss1 fs1 ss2 fs2 ws b taken)
-    c.target.ensures ok.wrote.2 in
+    c.target.ensures so_far.reached in
     let cut = subst (λ pair. AllByRecursion (λ x. IsCutAt LINE_LIMIT pair (text x.0) x.1.cursor) (zip ss1 fs1))
-    (ap (λ key. (key, c.start_pair-start.result.stamp)) c.as_bytes.ensures.value ∙ c.start_pair-start.ensures)
-    c.in-Ok.ensures.cut in
+    (ap (λ key. (key, c.start_pair-start.result.stamp)) c.as_bytes-key.ensures.value ∙ c.start_pair-start.ensures)
+    c.in_ok-opened.ensures.cut in
     let known1 = λ (texts : List (List ℕ)) (known : Known (map text c.args.sources.now) texts). subst
     (λ l. Known l texts) (sym c.open_at.ensures.text) known in
     let known2 = λ (texts : List (List ℕ)) (known : Known (map text c.args.sources.now) texts). subst
@@ -230,7 +248,7 @@ returns-clause-took g c =
           let f = wanted_first text extent gave q from ss1 fs1 ss2 fs2 ws b taken same reached cut texts indexes
           (known1 texts known) are in (f.0, f.1);
     } in
-    let whole = λ (e : c.in-Ok-merge.all ≡ true) (texts : List (List ℕ)) (indexes : List (List Member))
+    let whole = λ (e : c.in_ok-all.all ≡ true) (texts : List (List ℕ)) (indexes : List (List Member))
     (known : Known (map text c.args.sources.now) texts) (are : AllZip (IsIndex LINE_LIMIT) texts indexes).
     wanted_whole text extent gave q from ss1 fs1 ss2 fs2 ws b taken same reached cut texts indexes (known1 texts known)
     are (ok.ended e) in
@@ -238,7 +256,7 @@ returns-clause-took g c =
     let told = told_known text ss1 texts (known1 texts known) in
     let found = parts_first text extent gave LINE_LIMIT (is_past q.target) (past_upward q.target) ss1 fs1 ss2 fs2 ws b
     taken reached told (is_wanted q from) (wanted_within q from) in
-    let p : IsOfParts q texts taken c.in-Ok-merge.all c.lines.result = record {
+    let p : IsOfParts q texts taken c.in_ok-all.all c.lines.result = record {
       parts = read;
       each = λ whole is. parts_are LINE_LIMIT (is_past q.target) text extent ws 0 ss2 fs2 texts whole reached.ready.same
           (known2 texts known) reached.ready.fed reached.settled (λ e. ok.ended (is e));
@@ -256,9 +274,9 @@ returns-clause-took g c =
           reached told (is_wanted q from) (wanted_within q from) (ok.ended e));
     } in
     p in
-    by_truth c.in-Ok-merge.all _ (λ e. record {
+    by_truth c.in_ok-all.all _ (λ e. record {
       lines = taken;
-      came = ok.wrote.3;
+      came = so_far.came;
       took = took;
       whole = whole;
       parts = of_parts;
@@ -269,13 +287,13 @@ returns-clause-took g c =
         state = c.merge.new.sink;
         middle = g.O.Output.written c.merge.new.out;
         more = ok.further e;
-        came = ok.wrote.3;
+        came = so_far.came;
         within = λ texts indexes known are limit most.
             let all = cut_all text extent gave q from ss1 fs1 ss2 fs2 ws b taken same reached cut texts indexes
             (known1 texts known) are (ok.ended e) in
             gave_within text extent gave q from ss1 fs1 ss2 fs2 ws b taken same reached cut texts indexes
             (known1 texts known) are b taken all limit most
-            c.args.sources.now ss2 fs2 known c.in-Ok.ensures.came c.merge.ensures.moved (omega arith)
+            c.args.sources.now ss2 fs2 known c.in_ok-opened.ensures.came c.merge.ensures.moved (omega arith)
             (are_read_to LINE_LIMIT (is_past q.target) text extent b 0 ss2 fs2 ws reached.ready.fed
             (reached.handed.told (told_known text ss1 texts (known1 texts known))).1);
       };
@@ -294,35 +312,35 @@ returns-clause-took g c =
                 c.open_at.ensures.text,
           );
     }) (λ e.
-    let l = ok.wrote.4 e in
+    let l = ok.passed.last e in
     record {
       lines = taken;
-      came = ok.wrote.3;
+      came = so_far.came;
       took = took;
       whole = whole;
       parts = of_parts;
-      earlier = l.1;
-      later = kept_after q from (place_before q from l.1) (filter (is_wanted q from) l.2);
-      split = ap (captures_over q from) l.6 ∙ captures_append q from l.1 l.2;
+      earlier = l.earlier;
+      later = kept_after q from (place_before q from l.earlier) (filter (is_wanted q from) l.group);
+      split = ap (captures_over q from) l.split ∙ captures_append q from l.earlier l.group;
       before = record {
-        state = l.3;
-        middle = l.4;
-        more = l.9;
-        came = l.10;
+        state = l.state;
+        middle = l.middle;
+        more = l.more;
+        came = l.came;
         within = λ texts indexes known are limit most.
             let last = cut_last text extent gave q from ss1 fs1 ss2 fs2 ws b taken same reached cut texts indexes
-            (known1 texts known) are l.0 l.1 l.2 l.5 l.6 l.8 in
+            (known1 texts known) are l.pair l.earlier l.group l.bound_is l.split l.alike in
             gave_within text extent gave q from ss1 fs1 ss2 fs2 ws b taken same reached cut texts indexes
-            (known1 texts known) are b l.1 last limit most
-            c.args.sources.now ss2 fs2 known c.in-Ok.ensures.came c.merge.ensures.moved (omega arith)
+            (known1 texts known) are b l.earlier last limit most
+            c.args.sources.now ss2 fs2 known c.in_ok-opened.ensures.came c.merge.ensures.moved (omega arith)
             (are_read_to LINE_LIMIT (is_past q.target) text extent b 0 ss2 fs2 ws reached.ready.fed
             (reached.handed.told (told_known text ss1 texts (known1 texts known))).1);
       };
       few = λ texts indexes known are limit most.
           let last = cut_last text extent gave q from ss1 fs1 ss2 fs2 ws b taken same reached cut texts indexes
-          (known1 texts known) are l.0 l.1 l.2 l.5 l.6 l.8 in
+          (known1 texts known) are l.pair l.earlier l.group l.bound_is l.split l.alike in
           let h = lines_within text extent gave q from ss1 fs1 ss2 fs2 ws b taken same reached cut texts indexes
-          (known1 texts known) are (known2 texts known) l.1 last limit most in
+          (known1 texts known) are (known2 texts known) l.earlier last limit most in
           omega (
             arith,
             c.lines.ensures,

@@ -21,12 +21,11 @@ loop-i-init g c = record {
   failures = refl;
   held = c.new-indexer.ensures;
   number = ap length c.new-indexes.ensures.items;
-  indexed = (
-    [],
-    record { named = tt; accepted = tt; lines = tt },
-    no_indexes LINE_LIMIT gathered
-        c.new-indexes.result.items c.new-indexes.ensures.items,
-  );
+  indexed = record {
+    captures = [];
+    indexed = record { named = tt; accepted = tt; lines = tt };
+    are_indexes = no_indexes LINE_LIMIT gathered c.new-indexes.result.items c.new-indexes.ensures.items;
+  };
 }
 
 -- ---- an archive isn't indexed
@@ -43,7 +42,7 @@ returns-in-Err-clause-refused g c =
     first_fault (includes c.args.types) (λ n. string_bytes n.name) (λ n. g.I.Input.remaining n.input) c.args.inputs.now
     c.loop-i.i c.index-inputs-i.result (get_or c.loop-i.inputs c.loop-i.i c.index-inputs-i.result) (omega arith)
     (left_here c.args.inputs.now c.loop-i.inputs c.loop-i.i c.index-inputs-i.result inv.rest)
-    c.loop-i.indexer.names inv.indexed.0 (ap (λ (h : Held). h.names) inv.held) inv.indexed.1 c.in-Err.fault
+    c.loop-i.indexer.names inv.indexed.captures (ap (λ (h : Held). h.names) inv.held) inv.indexed.indexed c.in-Err.fault
     (rw (ap (λ (h : Held). h.types) inv.held) at c.in-Err.ensures.refused)
 
 pub returns-in-Err-clause-unread : goal.returns-in-Err-clause-unread
@@ -74,8 +73,8 @@ returns-in-Err-push-clause-refused g c =
     first_fault (includes c.args.types) (λ n. string_bytes n.name) (λ n. g.I.Input.remaining n.input) c.args.inputs.now
     c.loop-i.i c.index-inputs-i.result (get_or c.loop-i.inputs c.loop-i.i c.index-inputs-i.result) (omega arith)
     (left_here c.args.inputs.now c.loop-i.inputs c.loop-i.i c.index-inputs-i.result inv.rest)
-    c.loop-i.indexer.names inv.indexed.0 (ap (λ (h : Held). h.names) inv.held) inv.indexed.1 Memory
-    c.in-Ok.ensures.index.0
+    c.loop-i.indexer.names inv.indexed.captures (ap (λ (h : Held). h.names) inv.held) inv.indexed.indexed Memory
+    c.in-Ok.ensures.index.is_new
 
 pub returns-in-Err-push-clause-unread : goal.returns-in-Err-push-clause-unread
 returns-in-Err-push-clause-unread g c =
@@ -104,6 +103,7 @@ loop-i-preserved g c =
     let names = ap (λ (h : Held). h.names) inv.held in
     let types = ap (λ (h : Held). h.types) inv.held in
     let found = rw types at c.in-Ok.ensures.index in
+    let before = inv.indexed.captures in
     let pushed = c.in-Ok-push.ensures.items in
     record {
       names = map_set_same (λ n. string_bytes n.name) xs i d y inside (ap string_bytes c.index_archive.ensures.name)
@@ -115,14 +115,16 @@ loop-i-preserved g c =
           (get_or xs i d) inside0 here c.loop-i.indexer.names names);
       number = ap length pushed ∙ length-append c.loop-i.indexes.items (c.in-Ok.index ∷ [])
           ∙ ap (λ n. n + 1) inv.number;
-      indexed = (
-        inv.indexed.0 ++ found.1 ∷ [],
-        one_more_indexed (includes c.args.types) (λ n. string_bytes n.name) (λ n. g.I.Input.remaining n.input) xs0 i d
-            (get_or xs i d) inside0 here
-            c.loop-i.indexer.names inv.indexed.0 names inv.indexed.1 found.1 found.0 found.2 found.3,
-        subst (λ is. AllZip (IsIndex LINE_LIMIT) (map gathered is) (map index_members (inv.indexed.0 ++ found.1 ∷ [])))
+      indexed = record {
+        captures = before ++ found.captures ∷ [];
+        indexed = one_more_indexed (includes c.args.types) (λ n. string_bytes n.name)
+            (λ n. g.I.Input.remaining n.input) xs0 i d (get_or xs i d) inside0 here
+            c.loop-i.indexer.names before names inv.indexed.indexed found.captures found.is_new found.accepted
+            found.lines;
+        are_indexes = subst
+            (λ is. AllZip (IsIndex LINE_LIMIT) (map gathered is) (map index_members (before ++ found.captures ∷ [])))
             (sym pushed)
-            (indexes_push LINE_LIMIT gathered c.loop-i.indexes.items inv.indexed.0 c.in-Ok.index found.1 inv.indexed.2
-            found.4),
-      );
+            (indexes_push LINE_LIMIT gathered c.loop-i.indexes.items before c.in-Ok.index found.captures
+            inv.indexed.are_indexes found.is_index);
+      };
     }

@@ -1,11 +1,7 @@
-use Rattle.std.specs.List.{AllZip}
-use Rattle.std.proofs.Common.{◌≡◌, List, [], length, map, take, drop, string_bytes}
+use Rattle.std.proofs.Common.{◌≡◌, [], length, map, take, drop, string_bytes}
 use Rattle.capture_core.specs.Types.{includes}
-use Rattle.cdxj_core.specs.declared.limit.TheConstants.{LINE_LIMIT}
-use Rattle.cdxj_core.specs.Entries.{EntryValue}
-use Rattle.cdxj_core.specs.Indexes.{IsIndex}
 use Rattle.devices.specs.Gathered.{gathered}
-use Rattle.scan_core.specs.Archives.{AreIndexed, index_members}
+use Rattle.scan_core.specs.Archives.{HaveIndexes}
 use Rattle.scan_core.proofs.archives.index_archives.Given as goal
 
 abbrev pub invariant-loop-i : goal.invariant-loop-i
@@ -19,8 +15,6 @@ invariant-loop-i g l = record {
     captures = [];
   };
   number : length l.indexes.items ≡ l.i;
-  indexed : (archives : List (List EntryValue))
-      × AreIndexed (includes l.fn.types) (take l.i (map (λ n. string_bytes n.name) l.fn.inputs))
-      (take l.i (map (λ n. g.I.Input.remaining n.input) l.fn.inputs)) archives
-      × AllZip (IsIndex LINE_LIMIT) (map gathered l.indexes.items) (map index_members archives);
+  indexed : HaveIndexes (includes l.fn.types) (take l.i (map (λ n. string_bytes n.name) l.fn.inputs))
+      (take l.i (map (λ n. g.I.Input.remaining n.input) l.fn.inputs)) (map gathered l.indexes.items);
 }
