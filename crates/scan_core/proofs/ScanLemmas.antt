@@ -6,7 +6,11 @@ use Rattle.merge_core.specs.Collections.{collection}
 use Rattle.query_text.specs.Queries.{QueryValue}
 use Rattle.query_core.specs.Paging.{WrotePages, WrotePagesInPart}
 use Rattle.scan_core.specs.Archives.{AreIndexed, index_members}
-use Rattle.scan_core.specs.Scanning.{IsAsked, Scanned, ScannedInPart}
+use Rattle.query_core.specs.declared.fault.AnswerFault.{AnswerFault}
+use Rattle.query_core.specs.declared.fault.AnswerFault.TheVariants as answer
+use Rattle.scan_core.specs.declared.fault.ScanFault.{ScanFault}
+use Rattle.scan_core.specs.declared.fault.ScanFault.TheVariants as scan
+use Rattle.scan_core.specs.Scanning.{IsArchiveFault, IsAsked, IsPagesFault, IsScanFault, Scanned, ScannedInPart}
 use Rattle.scan_core.proofs.CollectionLemmas.{collected}
 use Rattle.scan_core.proofs.OnceLemmas.{once}
 
@@ -33,3 +37,23 @@ module _ (types : Kind → Bool) (names : List (List ℕ)) (inputs : List (Optio
     indexed = indexed;
     part = subst (λ lines. WrotePagesInPart query lines sizes old new) (collected archives) w;
   }
+
+-- the fault of an archive is one of the scan
+pub archive_fault : (types : Kind → Bool) (names : List (List ℕ)) (inputs : List (Option (List ℕ))) (sizes text : List ℕ)
+    (query : QueryValue) → IsAsked sizes text (length names) query → (fault : ScanFault)
+    → IsArchiveFault types names inputs fault → IsScanFault types names inputs sizes text fault
+archive_fault types names inputs sizes text query asked (scan.Archive i fault) h = (query, asked, h)
+archive_fault types names inputs sizes text query asked (scan.Query fault) h = absurd h
+archive_fault types names inputs sizes text query asked (scan.Answer fault) h = absurd h
+
+-- what holds of the two faults of pages over indexes in memory
+pub of_pages_fault : (P : AnswerFault → Type 0) → P answer.Memory → P answer.Write → (fault : AnswerFault)
+    → IsPagesFault fault → P fault
+of_pages_fault P m w answer.Memory h = m
+of_pages_fault P m w answer.Write h = w
+of_pages_fault P m w (answer.Read i) h = absurd h
+of_pages_fault P m w (answer.BadLine i offset) h = absurd h
+of_pages_fault P m w (answer.OutOfOrder i offset) h = absurd h
+of_pages_fault P m w answer.TooManySources h = absurd h
+of_pages_fault P m w answer.BadSizes h = absurd h
+of_pages_fault P m w answer.Input h = absurd h

@@ -1,21 +1,23 @@
 use Rattle.std.proofs.Common.{Ok}
+use Rattle.std.proofs.lemmas.Result.{err_from_is_err_and}
 use Rattle.devices.specs.Gathered.{gathered}
 use Rattle.capture_core.specs.Types.{includes}
 use Rattle.scan_core.proofs.AddedArchive.{fault_of, is_new, index_of_added}
 use Rattle.scan_core.proofs.archives.index_archive.Goals as goal
 
-pub returns-in-Err-clause-refused : goal.returns-in-Err-clause-refused
-returns-in-Err-clause-refused g c =
-    let e = c.in-Err.ensures in
-    rw (← c.as_str.ensures.value)
+pub returns-in_err-add-clause-refused : goal.returns-in_err-add-clause-refused
+returns-in_err-add-clause-refused g c =
+    let e = c.in_err-add.ensures in
+    let p = err_from_is_err_and c.from_residual.result c.from_residual.ensures.1 in
+    rw (p.1, p.2, ← c.as_str.ensures.value)
     (fault_of (includes c.args.indexer.now.types) c.args.indexer.now.names c.as_str.result.now
-    (g.I.Input.remaining c.args.archive.now.input) c.args.indexer.now c.add.new.self c.in-Err.fault e.bad
+    (g.I.Input.remaining c.args.archive.now.input) c.args.indexer.now c.add.new.self c.in_err-add.field-0.0 e.bad
     e.duplicate e.adds)
 
 pub returns-clause-index : goal.returns-clause-index
 returns-clause-index g c =
-    let e = c.in-Ok.ensures in
-    let fresh = is_new c.args.indexer.now.names c.as_str.result.now (Ok c.in-Ok._count) e.bad e.duplicate (λ k. cc)
+    let e = c.in_ok-add.ensures in
+    let fresh = is_new c.args.indexer.now.names c.as_str.result.now (Ok c.in_ok-add.field-0) e.bad e.duplicate (λ k. cc)
     (λ k. cc) in
     rw (← c.as_str.ensures.value) (index_of_added gathered (includes c.args.indexer.now.types) c.args.indexer.now.names
     c.as_str.result.now (g.I.Input.remaining c.args.archive.now.input) c.args.indexer.now c.add.new.self e.adds.0
