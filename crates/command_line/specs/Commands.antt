@@ -149,6 +149,6 @@ abbrev pub IsUsage : WordsFault → Type 0
 IsUsage fault = IfSome (refusal_of fault) (λ refusal. refusal ≡ Usage)
 
 -- the answer is the one that is wanted, but for memory
-abbrev pub Answers : Result Meaning Refusal → Result Task WordsFault → Type 0
-Answers wanted result = MatchResult result (λ task. wanted ≡ Ok (view task))
+abbrev pub IsMeant : Result Meaning Refusal → Result Task WordsFault → Type 0
+IsMeant wanted result = MatchResult result (λ task. wanted ≡ Ok (view task))
     (λ fault. IfSome (refusal_of fault) (λ refusal. wanted ≡ Err refusal))

@@ -25,8 +25,9 @@ pub record Answered (q : QueryValue) (lines : List Member) (old new : Option (Li
   pub more : report.more ≡ is_some (query_page q lines).next
 
 -- the same, or after a fault a front of the page was written
-abbrev pub Answers : QueryValue → List Member → Result Report AnswerFault → Option (List ℕ) → Option (List ℕ) → Type 0
-Answers q lines result old new =
+abbrev pub WritesAnswer : QueryValue → List Member → Result Report AnswerFault → Option (List ℕ) → Option (List ℕ)
+    → Type 0
+WritesAnswer q lines result old new =
     MatchResult result (Answered q lines old new) (λ _. AppendsPrefix old new (answer_text q (query_page q lines)))
 
 -- Of each source consecutive lines were read, which are an index by themselves. They are so many together, and the page and its

@@ -7,7 +7,7 @@ use Rattle.query_text.specs.Queries.{QueryValue, query_of}
 use Rattle.merge_core.specs.Collections.{OverIndexes, collection}
 use Rattle.query_core.specs.declared.fault.AnswerFault.{AnswerFault}
 use Rattle.query_core.specs.declared.report.Report.{Report}
-use Rattle.query_core.specs.Answering.{Answers}
+use Rattle.query_core.specs.Answering.{WritesAnswer}
 use Rattle.query_core.specs.Conversations.{Replied, RepliedInPart}
 use Rattle.query_core.specs.IndexFaults.{IsFaultOf}
 use Rattle.query_core.specs.Paging.{WritesPages}
@@ -37,7 +37,7 @@ pub record AnswersQuery (query : QueryValue) (told : List (Option (List ℕ))) (
     (outcome : Outcome) : Type 0 where
   pub answer : Result Report AnswerFault
   pub outcome_is : outcome ≡ answered_outcome answer
-  pub page : OverIndexes LINE_LIMIT told (λ texts indexes. Answers query (collection indexes) answer before after)
+  pub page : OverIndexes LINE_LIMIT told (λ texts indexes. WritesAnswer query (collection indexes) answer before after)
   pub fault : IfErr answer (IsFaultOf LINE_LIMIT told)
 
 -- the same of the pages of these sizes
