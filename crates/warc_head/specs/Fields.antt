@@ -81,8 +81,8 @@ fields_of body = do
   begun given.more given.fields
 
 -- the values of the fields of a name, first to last
-abbrev pub values_of : List ℕ → List Field → List (List ℕ)
-values_of name fields = map (λ f. f.value) (filter (λ f. same_name f.name name) fields)
+abbrev pub field_values : List ℕ → List Field → List (List ℕ)
+field_values name fields = map (λ f. f.value) (filter (λ f. same_name f.name name) fields)
 
 abbrev pub first_value : List (List ℕ) → Option (List ℕ)
 first_value [] = None
@@ -90,4 +90,4 @@ first_value (v ∷ vs) = Some v
 
 -- the value of the first field of a name
 unfoldable pub value_of : List ℕ → List Field → Option (List ℕ)
-value_of name fields = first_value (values_of name fields)
+value_of name fields = first_value (field_values name fields)
