@@ -34,9 +34,9 @@ line_entry limit line =
 
 -- What a reading of a line answers. A line that is too long is that first; memory may be refused
 -- for any other.
-abbrev pub IsReading : ℕ → List ℕ → Result Member LineFault → Type 0
-IsReading limit line (Ok member) = line_entry limit line ≡ Some member
-IsReading limit line (Err faults.LineTooLong) = limit ≤ length (body_of line)
-IsReading limit line (Err faults.BadLine) = (length (body_of line) < limit)
+abbrev pub IsLineReading : ℕ → List ℕ → Result Member LineFault → Type 0
+IsLineReading limit line (Ok member) = line_entry limit line ≡ Some member
+IsLineReading limit line (Err faults.LineTooLong) = limit ≤ length (body_of line)
+IsLineReading limit line (Err faults.BadLine) = (length (body_of line) < limit)
     × (line_entry limit line ≡ None)
-IsReading limit line (Err faults.Memory) = length (body_of line) < limit
+IsLineReading limit line (Err faults.Memory) = length (body_of line) < limit
