@@ -6,7 +6,7 @@ ghost use Rattle.merge_core.specs.LineFaults as feed;
 ghost use Rattle.page_core.specs.Faults.{RaisedByText};
 ghost use Rattle.query_core.specs.AnswerCounts.{RaisedByAnswer};
 ghost use Rattle.query_core.specs.IndexFaults.{IsFaultOf};
-ghost use Rattle.query_core.specs.Refusals.{IsEarly};
+ghost use Rattle.query_core.specs.Refusals.{IsBeforeReading};
 
 use crate::fault::AnswerFault;
 use merge_core::{FeedFault, MergeFault};
@@ -16,7 +16,7 @@ fn index_fault(index: usize, fault: FeedFault) -> AnswerFault
     ensures raised { (olds news : List ℕ) → (old new : ℕ)
         → RaisedBy (MergeFault.Feed index fault) olds news old new
         → RaisedByAnswer result olds news old new }
-    ensures late { IsEarly result → ⊥ }
+    ensures late { IsBeforeReading result → ⊥ }
     ensures line { (texts : List (Option (List ℕ)))
         → feed.IsFaultOf LINE_LIMIT texts (MergeFault.Feed index fault)
         → IsFaultOf LINE_LIMIT texts result }
@@ -32,7 +32,7 @@ fn index_fault(index: usize, fault: FeedFault) -> AnswerFault
 pub(crate) fn merge_fault(fault: MergeFault) -> AnswerFault
     ensures raised { (olds news : List ℕ) → (old new : ℕ) → RaisedBy fault olds news old new
         → RaisedByAnswer result olds news old new }
-    ensures late { IsEarly result → ⊥ }
+    ensures late { IsBeforeReading result → ⊥ }
     ensures line { (texts : List (Option (List ℕ))) → feed.IsFaultOf LINE_LIMIT texts fault
         → IsFaultOf LINE_LIMIT texts result }
 {
@@ -46,7 +46,7 @@ pub(crate) fn merge_fault(fault: MergeFault) -> AnswerFault
 pub(crate) fn text_fault(fault: TextFault) -> AnswerFault
     ensures raised { (counts : List ℕ) → (old new : ℕ) → RaisedByText fault old new
         → RaisedByAnswer result counts counts old new }
-    ensures late { IsEarly result → ⊥ }
+    ensures late { IsBeforeReading result → ⊥ }
     ensures line { (texts : List (Option (List ℕ))) → IsFaultOf LINE_LIMIT texts result }
 {
     match fault {

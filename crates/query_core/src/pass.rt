@@ -8,7 +8,7 @@ ghost use Rattle.merge_core.specs.Counts.{ShareAtMost};
 ghost use Rattle.query_core.specs.AnswerCounts.{CountsAnswer};
 ghost use Rattle.query_core.specs.IndexFaults.{IsFaultOf};
 ghost use Rattle.query_core.specs.Passes.{BrokeOff, Halted, TookLines};
-ghost use Rattle.query_core.specs.Refusals.{IsEarly};
+ghost use Rattle.query_core.specs.Refusals.{IsBeforeReading};
 
 use crate::conversions::merge_fault;
 use crate::fault::AnswerFault;
@@ -45,7 +45,7 @@ pub(crate) fn read_lines<S: Source, K: Sink, O: Output>(
     ensures kept { KeepsSources S.text S.extent sources.old sources.new }
     ensures failures { CountsAnswer result (map S.failures sources.old) (map S.failures sources.new)
         (O.failures out.old) (O.failures out.new) }
-    ensures late { IfErr result (λ e. IsEarly e → ⊥) }
+    ensures late { IfErr result (λ e. IsBeforeReading e → ⊥) }
     ensures fault { IfErr result (IsFaultOf LINE_LIMIT (map S.text sources.old)) }
     ensures probes { IfOk result (λ pass.
         pass.probes ≤ sum (map (λ s. digits (S.extent s)) sources.old)) }

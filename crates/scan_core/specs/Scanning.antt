@@ -70,12 +70,12 @@ IsPagesFault answer.Write = ⊤
 IsPagesFault other = ⊥
 
 -- the fault was met before anything was written
-abbrev pub IsEarly : ScanFault → Type 0
-IsEarly (Query fault) = ⊤
-IsEarly (Archive i fault) = ⊤
-IsEarly (Answer answer.BadSizes) = ⊤
-IsEarly (Answer answer.TooManySources) = ⊤
-IsEarly (Answer fault) = ⊥
+abbrev pub IsBeforeWriting : ScanFault → Type 0
+IsBeforeWriting (Query fault) = ⊤
+IsBeforeWriting (Archive i fault) = ⊤
+IsBeforeWriting (Answer answer.BadSizes) = ⊤
+IsBeforeWriting (Answer answer.TooManySources) = ⊤
+IsBeforeWriting (Answer fault) = ⊥
 
 -- the archives that a fault leaves unread: all, those from the one at fault on, or those after it
 abbrev pub LeavesUnread : {X : Type 0} → List X → List X → ScanFault → Type 0
