@@ -33,8 +33,8 @@ NamesLine limit text (feed.BadLine offset) = IsBadLine limit text offset
 NamesLine limit text (feed.OutOfOrder offset) = IsOutOfOrder limit text offset
 
 -- a line that the fault names is such a line of the source that it names, where that source tells its bytes
-abbrev pub IsFaultOf : ℕ → List (Option (List ℕ)) → MergeFault → Type 0
-IsFaultOf limit texts fault.Memory = ⊤
-IsFaultOf limit texts fault.Write = ⊤
-IsFaultOf limit texts (fault.Feed i e) = (i < length texts)
+abbrev pub IsMergeFaultOf : ℕ → List (Option (List ℕ)) → MergeFault → Type 0
+IsMergeFaultOf limit texts fault.Memory = ⊤
+IsMergeFaultOf limit texts fault.Write = ⊤
+IsMergeFaultOf limit texts (fault.Feed i e) = (i < length texts)
     × ((text : List ℕ) → get_or texts i None ≡ Some text → NamesLine limit text e)

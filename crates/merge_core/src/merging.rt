@@ -10,7 +10,7 @@ ghost use Rattle.line_queue.specs.WaitingLines.{WaitingLine, waiting_pair};
 ghost use Rattle.merge_core.specs.Collections.{OverIndexes, all_lines};
 ghost use Rattle.merge_core.specs.Counts.{ShareAtMost};
 ghost use Rattle.merge_core.specs.Failures.{CountsMerge};
-ghost use Rattle.merge_core.specs.LineFaults.{IsFaultOf};
+ghost use Rattle.merge_core.specs.LineFaults.{IsMergeFaultOf};
 ghost use Rattle.merge_core.specs.Feeds.{Moved, Ready, AreSettled};
 ghost use Rattle.merge_core.specs.Gathering.{AreTold, all_done};
 ghost use Rattle.line_queue.specs.PairOrders.{Alike, Below, IsAbove, Upto};
@@ -46,7 +46,7 @@ pub fn merge<S: Source, R: Range, K: Sink, O: Output>(
         (zip sources.old streams.old.feeds.items) (zip sources.new streams.new.feeds.items) }
     ensures failures { CountsMerge result (map S.failures sources.old) (map S.failures sources.new)
         (O.failures out.old) (O.failures out.new) }
-    ensures fault { IfErr result (IsFaultOf LINE_LIMIT (map S.text sources.old)) }
+    ensures fault { IfErr result (IsMergeFaultOf LINE_LIMIT (map S.text sources.old)) }
     ensures settled { OnOk result (AreSettled streams.new.feeds.items) }
     ensures held { OverIndexes LINE_LIMIT (map S.text sources.old) (λ texts indexes.
         (most : ℕ) → ShareAtMost most (all_lines indexes)

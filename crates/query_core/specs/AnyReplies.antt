@@ -9,7 +9,7 @@ use Rattle.query_text.specs.Queries.{QueryValue, query_of}
 use Rattle.merge_core.specs.SourceLines.{AreLinesOf}
 use Rattle.query_core.specs.declared.fault.AnswerFault.{AnswerFault}
 use Rattle.query_core.specs.declared.fault.AnswerFault.TheVariants as fault
-use Rattle.query_core.specs.IndexFaults.{IsFaultOf}
+use Rattle.query_core.specs.IndexFaults.{IsAnswerFaultOf}
 use Rattle.page_writers.specs.QueryPages.{query_page, answer_text}
 use Rattle.query_core.specs.Replies.{fault_line, refusal_text}
 
@@ -27,7 +27,7 @@ module _ (told : List (Option (List ℕ))) where
     pub rest : List ℕ
     pub whole : page ≡ front ++ rest
     pub fault : AnswerFault
-    pub named : IsFaultOf LINE_LIMIT told fault
+    pub named : IsAnswerFaultOf LINE_LIMIT told fault
     pub line : List ℕ
     pub line_is : fault_text fault ≡ Some line
     pub ends : reply ≡ front ++ line

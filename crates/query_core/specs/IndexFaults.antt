@@ -20,10 +20,10 @@ abbrev pub IfTold : List (Option (List ℕ)) → ℕ → (List ℕ → Type 0) �
 IfTold texts i P = (i < length texts) × ((text : List ℕ) → get_or texts i None ≡ Some text → P text)
 
 -- a line that the fault names is such a line of the source that it names, where that source tells its bytes
-abbrev pub IsFaultOf : ℕ → List (Option (List ℕ)) → AnswerFault → Type 0
-IsFaultOf limit texts (fault.BadLine i offset) = IfTold texts i (λ text. IsBadLine limit text offset)
-IsFaultOf limit texts (fault.OutOfOrder i offset) = IfTold texts i (λ text. IsOutOfOrder limit text offset)
-IsFaultOf limit texts other = ⊤
+abbrev pub IsAnswerFaultOf : ℕ → List (Option (List ℕ)) → AnswerFault → Type 0
+IsAnswerFaultOf limit texts (fault.BadLine i offset) = IfTold texts i (λ text. IsBadLine limit text offset)
+IsAnswerFaultOf limit texts (fault.OutOfOrder i offset) = IfTold texts i (λ text. IsOutOfOrder limit text offset)
+IsAnswerFaultOf limit texts other = ⊤
 
 -- the fault names no line
 abbrev pub NamesNoLine : AnswerFault → Type 0

@@ -16,7 +16,7 @@ use Rattle.page_core.specs.Pages.{Page, AllPositive, collapsed, is_above}
 use Rattle.page_core.specs.Rows.{field_name}
 use Rattle.merge_core.specs.Collections.{OverIndexes, all_lines, collection}
 use Rattle.query_core.specs.declared.fault.AnswerFault.{AnswerFault}
-use Rattle.query_core.specs.IndexFaults.{IsFaultOf, NamesNoLine}
+use Rattle.query_core.specs.IndexFaults.{IsAnswerFaultOf, NamesNoLine}
 use Rattle.page_writers.specs.PageWriting.{is_wanted}
 use Rattle.page_writers.specs.WrittenPages.{EndsWithKey}
 use Rattle.page_writers.specs.QueryPages.{IsQueryChain, selected}
@@ -58,7 +58,7 @@ KeysContinue = (text : List ℕ) (query : QueryValue) (page : Page Member PlaceV
 
 -- over indexes no fault names a line
 abbrev pub NoLineIsAtFault : Type 0
-NoLineIsAtFault = (told : List (Option (List ℕ))) (fault : AnswerFault) → IsFaultOf LINE_LIMIT told fault
+NoLineIsAtFault = (told : List (Option (List ℕ))) (fault : AnswerFault) → IsAnswerFaultOf LINE_LIMIT told fault
     → OverIndexes LINE_LIMIT told (λ texts indexes. NamesNoLine fault)
 
 -- a field is named by its name

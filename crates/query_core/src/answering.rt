@@ -6,7 +6,7 @@ ghost use Rattle.merge_core.specs.Collections.{KeepsSources, OverIndexes, OverTe
 ghost use Rattle.merge_core.specs.SourceLines.{AreLinesOf};
 ghost use Rattle.query_core.specs.AnswerCounts.{CountsAnswer};
 ghost use Rattle.query_core.specs.Answering.{AnsweredParts, ReadsInReach, WritesAnswer};
-ghost use Rattle.query_core.specs.IndexFaults.{IsFaultOf};
+ghost use Rattle.query_core.specs.IndexFaults.{IsAnswerFaultOf};
 ghost use Rattle.query_core.specs.Refusals.{Refuses, too_many};
 
 use crate::conversions::text_fault;
@@ -46,7 +46,7 @@ pub fn answer<S: Source, O: Output>(
     ensures kept { KeepsSources S.text S.extent sources.old sources.new }
     ensures failures { CountsAnswer result (map S.failures sources.old) (map S.failures sources.new)
         (O.failures out.old) (O.failures out.new) }
-    ensures fault { IfErr result (IsFaultOf LINE_LIMIT (map S.text sources.old)) }
+    ensures fault { IfErr result (IsAnswerFaultOf LINE_LIMIT (map S.text sources.old)) }
     // Whatever the sources' bytes, these are lines of theirs that rise by place.
     ensures lines { (lines : List Member) × AreLinesOf LINE_LIMIT (map S.text sources.old) lines
         × WritesAnswer query.now lines result (O.written out.old) (O.written out.new) }

@@ -5,7 +5,7 @@ ghost use Rattle.merge_core.specs.Failures.{RaisedBy};
 ghost use Rattle.merge_core.specs.LineFaults as feed;
 ghost use Rattle.page_core.specs.Faults.{RaisedByText};
 ghost use Rattle.query_core.specs.AnswerCounts.{RaisedByAnswer};
-ghost use Rattle.query_core.specs.IndexFaults.{IsFaultOf};
+ghost use Rattle.query_core.specs.IndexFaults.{IsAnswerFaultOf};
 ghost use Rattle.query_core.specs.Refusals.{IsBeforeReading};
 
 use crate::fault::AnswerFault;
@@ -18,8 +18,8 @@ fn index_fault(index: usize, fault: FeedFault) -> AnswerFault
         → RaisedByAnswer result olds news old new }
     ensures late { IsBeforeReading result → ⊥ }
     ensures line { (texts : List (Option (List ℕ)))
-        → feed.IsFaultOf LINE_LIMIT texts (MergeFault.Feed index fault)
-        → IsFaultOf LINE_LIMIT texts result }
+        → feed.IsMergeFaultOf LINE_LIMIT texts (MergeFault.Feed index fault)
+        → IsAnswerFaultOf LINE_LIMIT texts result }
 {
     match fault {
         FeedFault::Memory => AnswerFault::Memory,
@@ -33,8 +33,8 @@ pub(crate) fn merge_fault(fault: MergeFault) -> AnswerFault
     ensures raised { (olds news : List ℕ) → (old new : ℕ) → RaisedBy fault olds news old new
         → RaisedByAnswer result olds news old new }
     ensures late { IsBeforeReading result → ⊥ }
-    ensures line { (texts : List (Option (List ℕ))) → feed.IsFaultOf LINE_LIMIT texts fault
-        → IsFaultOf LINE_LIMIT texts result }
+    ensures line { (texts : List (Option (List ℕ))) → feed.IsMergeFaultOf LINE_LIMIT texts fault
+        → IsAnswerFaultOf LINE_LIMIT texts result }
 {
     match fault {
         MergeFault::Memory => AnswerFault::Memory,
@@ -47,7 +47,7 @@ pub(crate) fn text_fault(fault: TextFault) -> AnswerFault
     ensures raised { (counts : List ℕ) → (old new : ℕ) → RaisedByText fault old new
         → RaisedByAnswer result counts counts old new }
     ensures late { IsBeforeReading result → ⊥ }
-    ensures line { (texts : List (Option (List ℕ))) → IsFaultOf LINE_LIMIT texts result }
+    ensures line { (texts : List (Option (List ℕ))) → IsAnswerFaultOf LINE_LIMIT texts result }
 {
     match fault {
         TextFault::Memory => AnswerFault::Memory,

@@ -13,7 +13,7 @@ use Rattle.merge_core.specs.Failures.{RaisedAt}
 use Rattle.query_core.specs.declared.fault.AnswerFault.{AnswerFault}
 use Rattle.query_core.specs.declared.fault.AnswerFault.TheVariants as answer
 use Rattle.query_core.specs.AnswerCounts.{CountsAnswer}
-use Rattle.query_core.specs.IndexFaults.{IsFaultOf}
+use Rattle.query_core.specs.IndexFaults.{IsAnswerFaultOf}
 use Rattle.query_core.specs.declared.merging.TheConstants.{SOURCES_LIMIT}
 use Rattle.query_core.specs.Paging.{are_sizes}
 use Rattle.query_core.specs.QueryLaws.{NoLineIsAtFault}
@@ -61,7 +61,7 @@ none_raised i old new h =
 pub pages_fault : {S : Type 0} → NoLineIsAtFault
     → (r : Result ℕ AnswerFault) (tolds : List (Option (List ℕ))) (texts : List (List ℕ)) (members : List (List Member))
     (old new : List S) (o o' : ℕ) → Known tolds texts → AllZip (IsIndex LINE_LIMIT) texts members
-    → IfErr r (IsFaultOf LINE_LIMIT tolds) → CountsAnswer r (zeros old) (zeros new) o o' → IfErr r (λ e. IsBeforeReading e → ⊥)
+    → IfErr r (IsAnswerFaultOf LINE_LIMIT tolds) → CountsAnswer r (zeros old) (zeros new) o o' → IfErr r (λ e. IsBeforeReading e → ⊥)
     → IfErr r IsPagesFault
 pages_fault law (Ok n) tolds texts members old new o o' known are f counts late = tt
 pages_fault law (Err answer.Memory) tolds texts members old new o o' known are f counts late = tt

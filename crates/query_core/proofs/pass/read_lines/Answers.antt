@@ -21,7 +21,7 @@ use Rattle.merge_core.proofs.SourceLemmas.{taken_lines}
 use Rattle.merge_core.proofs.SpendLemmas.{are_read_to}
 use Rattle.merge_core.proofs.WholeLemmas.{extents_kept, texts_kept, told_known}
 use Rattle.merge_core.proofs.WrittenLemmas.{grows_not}
-use Rattle.query_core.specs.IndexFaults.{IsFaultOf}
+use Rattle.query_core.specs.IndexFaults.{IsAnswerFaultOf}
 use Rattle.page_writers.specs.PageWriting.{is_wanted, place_before, captures_over}
 use Rattle.query_core.specs.Reach.{in_reach}
 use Rattle.query_core.specs.Passes.{IsOfParts, Took}
@@ -75,7 +75,7 @@ returns-in-Err-clause-fault g c = c.merge_fault.ensures.line (map g.S.Source.tex
 
 pub returns-in-Err-merge-clause-fault : goal.returns-in-Err-merge-clause-fault
 returns-in-Err-merge-clause-fault g c =
-    subst (λ texts. IsFaultOf LINE_LIMIT texts c.merge_fault-in-Err-merge.result) c.open_at.ensures.text
+    subst (λ texts. IsAnswerFaultOf LINE_LIMIT texts c.merge_fault-in-Err-merge.result) c.open_at.ensures.text
     (c.merge_fault-in-Err-merge.ensures.line (map g.S.Source.text c.open_at.new.sources) c.in-Err-merge.ensures.fault)
 
 pub returns-clause-held : goal.returns-clause-held
