@@ -29,12 +29,12 @@ abbrev pub in_places : List EntryValue → List EntryValue
 in_places captures = rising entry_place place_cmp captures
 
 -- the lines of entries
-abbrev pub lines_text : List EntryValue → List ℕ
-lines_text entries = flat_map line_text entries
+abbrev pub entries_text : List EntryValue → List ℕ
+entries_text entries = flat_map line_text entries
 
 -- the index of these captures: their lines, in the order of places
 abbrev pub index_text : List EntryValue → List ℕ
-index_text captures = lines_text (in_places captures)
+index_text captures = entries_text (in_places captures)
 
 -- no two captures have one place
 abbrev pub HaveOwnPlaces : List EntryValue → Type 0
