@@ -1,7 +1,8 @@
 -- The entry of a line: its nine values, and the line.
-use Rattle.std.specs.Prelude.{◌≡◌, ℕ, ◌<◌, ◌≤◌, List, length, Option, None, Some, option_map, Result, Ok, Err}
-use Rattle.std.specs.Prelude.{if◌then◌else◌}
+use Rattle.std.specs.Prelude.{◌≡◌, ℕ, ◌<◌, ◌≤◌, List, [], ◌∷◌, ◌++◌, length, Option, None, Some, option_map, Result, Ok}
+use Rattle.std.specs.Prelude.{Err, if◌then◌else◌}
 use Rattle.std.specs.Str.{is_utf8}
+use Rattle.cdxj_places.specs.Bytes.{line_feed}
 use Rattle.cdxj_places.specs.Pairs.{Pair}
 use Rattle.cdxj_places.specs.Places.{PlaceValue}
 use Rattle.cdxj_core.specs.declared.fault.LineFault.{LineFault}
@@ -19,6 +20,10 @@ member_place m = line_place m.values
 
 abbrev pub member_pair : Member → Pair
 member_pair m = (m.values.key, m.values.stamp)
+
+-- its line with a line feed
+abbrev pub line_row : Member → List ℕ
+line_row m = m.line ++ line_feed ∷ []
 
 -- the member that the line of an entry is
 abbrev pub entry_member : EntryValue → Member

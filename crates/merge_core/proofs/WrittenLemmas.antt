@@ -6,12 +6,12 @@ use Rattle.std.proofs.Common.{take-append-drop, drop-cons}
 use Rattle.std.specs.Io.KnownBytes.{Appends}
 use Rattle.std.proofs.lemmas.List.{map_more}
 use Rattle.std.proofs.lemmas.List.Concat.{flat_map-append}
-use Rattle.cdxj_core.specs.Members.{Member}
+use Rattle.cdxj_core.specs.Members.{Member, line_row}
 use Rattle.devices.specs.Device.{AppendsPrefix}
 use Rattle.devices.proofs.DeviceLemmas.{Appends-none, Appends-join}
 use Rattle.devices.proofs.WritingLemmas.{prefix_longer, prefix_after}
 use Rattle.merge_core.specs.Reached.{Grows}
-use Rattle.merge_core.specs.Written.{line_row, lines_text}
+use Rattle.merge_core.specs.Written.{lines_text}
 
 -- where a line couldn't be written, a front of all stands there
 pub broke_at : {B : Type 0} (seen : B → Member) (start mid new : Option (List ℕ)) (taken : List Member) (ls : List B)

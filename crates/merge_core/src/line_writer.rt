@@ -1,9 +1,9 @@
 //! The writing of lines as they stand in their indexes.
 ghost use Rattle.std.specs.Prelude.{◌≡◌, ◌+◌, ◌-◌, ◌^◌, min, OnOk, OnErr};
 ghost use Rattle.std.specs.Io.KnownBytes.{Appends};
+ghost use Rattle.cdxj_core.specs.Members.{line_row};
 ghost use Rattle.devices.specs.Device.{AppendsPrefix};
 ghost use Rattle.merge_core.specs.Reached.{CountsWrite, Grows};
-ghost use Rattle.merge_core.specs.Written.{line_row};
 
 use crate::fault::SinkFault;
 use crate::sink::Sink;

@@ -4,8 +4,8 @@ use Rattle.std.specs.List.{join_by}
 use Rattle.cdxj_places.specs.Bytes.{line_feed}
 use Rattle.cdxj_core.specs.declared.field.Field.{Field}
 use Rattle.page_core.specs.Form.{Form, Text, Cdxj, Json}
-use Rattle.cdxj_core.specs.Members.{Member}
-use Rattle.page_core.specs.Rows.{value_of, field_name, text_row, line_row, json_row}
+use Rattle.cdxj_core.specs.Members.{Member, line_row}
+use Rattle.page_core.specs.Rows.{value_of, field_name, text_row, json_row}
 
 -- an empty line and the key, where one is printed
 abbrev pub key_lines : Option (List ℕ) → List ℕ

@@ -46,10 +46,6 @@ escaped text = flat_map escaped_byte text
 abbrev pub text_row : List Field → Member → List ℕ
 text_row fields m = join_by (λ f. escaped (value_of m f)) (codes " ") fields ++ line_feed ∷ []
 
--- the line as it stands
-abbrev pub line_row : Member → List ℕ
-line_row m = m.line ++ line_feed ∷ []
-
 -- a text between quotes as it stands
 abbrev pub between_quotes : List ℕ → List ℕ
 between_quotes text = quote ∷ (text ++ quote ∷ [])

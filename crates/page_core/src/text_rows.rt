@@ -1,7 +1,8 @@
 //! Rows of text pages and of pages of lines.
 ghost use Rattle.std.specs.Prelude.{◌≡◌, ◌++◌, codes, Option, IfOk, option_map};
 ghost use Rattle.std.specs.List.{join_by};
-ghost use Rattle.page_core.specs.Rows.{value_of, escaped, text_row, line_row};
+ghost use Rattle.cdxj_core.specs.Members.{line_row};
+ghost use Rattle.page_core.specs.Rows.{value_of, escaped, text_row};
 ghost use Rattle.page_core.specs.PageText.{key_lines};
 
 use crate::escaping::push_escaped;
