@@ -25,6 +25,6 @@ CountsInput (Err faults.Write) old new = (new ≡ old) ⊎ (new ≡ next_count o
 CountsInput (Err other) old new = ⊥
 
 -- An answer of Write goes with one more failure of the output, any other with none.
-abbrev pub CountsWrite : {A : Type 0} → Result A IndexFault → ℕ → ℕ → Type 0
-CountsWrite (Err faults.Write) old new = new ≡ next_count old
-CountsWrite r old new = new ≡ old
+abbrev pub CountsIndexWrite : {A : Type 0} → Result A IndexFault → ℕ → ℕ → Type 0
+CountsIndexWrite (Err faults.Write) old new = new ≡ next_count old
+CountsIndexWrite r old new = new ≡ old

@@ -18,10 +18,10 @@ use Rattle.merge_core.specs.Feeds.{Moved, Ready, AreSettled}
 use Rattle.merge_core.specs.Gathering.{AreTold, all_done}
 
 -- a refusal of the output adds one to its count of failures, all else none
-abbrev pub CountsWrite : {A : Type 0} → Result A SinkFault → ℕ → ℕ → Type 0
-CountsWrite (Ok x) old new = new ≡ old
-CountsWrite (Err Memory) old new = new ≡ old
-CountsWrite (Err Write) old new = new ≡ next_count old
+abbrev pub CountsSinkWrite : {A : Type 0} → Result A SinkFault → ℕ → ℕ → Type 0
+CountsSinkWrite (Ok x) old new = new ≡ old
+CountsSinkWrite (Err Memory) old new = new ≡ old
+CountsSinkWrite (Err Write) old new = new ≡ next_count old
 
 -- known bytes stay at the front, and may grow
 pub record Grows (old new : Option (List ℕ)) : Type 0 where

@@ -3,7 +3,7 @@ ghost use Rattle.std.specs.Prelude.{◌≡◌, ◌+◌, ◌-◌, ◌^◌, min, O
 ghost use Rattle.std.specs.Io.KnownBytes.{Appends};
 ghost use Rattle.cdxj_core.specs.Members.{line_row};
 ghost use Rattle.devices.specs.Device.{AppendsPrefix};
-ghost use Rattle.merge_core.specs.Reached.{CountsWrite, Grows};
+ghost use Rattle.merge_core.specs.Reached.{CountsSinkWrite, Grows};
 
 use crate::fault::SinkFault;
 use crate::sink::Sink;
@@ -34,7 +34,7 @@ impl LineWriter {
             (AppendsPrefix (O.written out.old) (O.written out.new) (line_row line.now)) }
         ensures grows { Grows (O.written out.old) (O.written out.new) }
         ensures count { OnOk result (self.new.count ≡ min (self.old.count + 1) (2 ^ 64 - 1)) }
-        ensures failures { CountsWrite result (O.failures out.old) (O.failures out.new) }
+        ensures failures { CountsSinkWrite result (O.failures out.old) (O.failures out.new) }
     {
         put(out, line.line())?;
         put(out, b"\n")?;

@@ -6,7 +6,7 @@ ghost use Rattle.cdxj_places.specs.Rising.{rising};
 ghost use Rattle.cdxj_core.specs.Members.{Member, member_place};
 ghost use Rattle.cdxj_core.specs.declared.limit.TheConstants.{LINE_LIMIT};
 ghost use Rattle.merge_core.specs.Failures.{CountsHanding};
-ghost use Rattle.merge_core.specs.Reached.{CountsWrite, Grows};
+ghost use Rattle.merge_core.specs.Reached.{CountsSinkWrite, Grows};
 ghost use Rattle.merge_core.specs.SourceLines.{HasEntry};
 
 use crate::fault::{MergeFault, SinkFault};
@@ -45,7 +45,7 @@ pub trait Sink {
         ensures enough { IfOk result (λ all. all ≡ false → Enough self.new) }
         ensures further { IfOk result (λ all. all ≡ true → Enough self.new → ⊥) }
         ensures grows { Grows (O.written out.old) (O.written out.new) }
-        ensures failures { CountsWrite result (O.failures out.old) (O.failures out.new) };
+        ensures failures { CountsSinkWrite result (O.failures out.old) (O.failures out.new) };
 }
 
 fn references<'a>(
@@ -118,7 +118,7 @@ fn take_two<K: Sink, O: Output>(
     ensures enough { IfOk result (λ all. all ≡ false → K.Enough sink.new) }
     ensures further { IfOk result (λ all. all ≡ true → K.Enough sink.new → ⊥) }
     ensures grows { Grows (O.written out.old) (O.written out.new) }
-    ensures failures { CountsWrite result (O.failures out.old) (O.failures out.new) }
+    ensures failures { CountsSinkWrite result (O.failures out.old) (O.failures out.new) }
 {
     match first.compare_place(second) {
         Ordering::Less => sink.take(alloc, &[first, second], out),

@@ -1,7 +1,7 @@
 //! The writing of pages, one after another.
 ghost use Rattle.std.specs.Prelude.{◌≡◌, ◌++◌, ◌∷◌, ◌==◌, [], List, Option, None, ℕ, OnOk, OnErr, IfOk};
 ghost use Rattle.cdxj_core.specs.Members.{Member, member_place};
-ghost use Rattle.page_core.specs.Faults.{CountsWrite};
+ghost use Rattle.page_core.specs.Faults.{CountsTextWrite};
 ghost use Rattle.page_writers.specs.QueryPages.{form_of};
 
 use crate::page_writer::{form_of, key_is_read, put_end};
@@ -59,7 +59,7 @@ impl<'q> PagesWriter<'q> {
             × (writer.sizes.now ≡ sizes.now)) }
         ensures front { OnErr result (AppendsPrefix (O.written out.old) (O.written out.new)
             (page_start (form_of query.now))) }
-        ensures failures { CountsWrite result (O.failures out.old) (O.failures out.new) }
+        ensures failures { CountsTextWrite result (O.failures out.old) (O.failures out.new) }
     {
         let selection = Selection::begin(alloc, query)?;
         let mut output = PageOutput::new(alloc, form_of(query));
@@ -92,7 +92,7 @@ impl<'q> PagesWriter<'q> {
             ((self.new.sizes.now ≡ later_sizes self.old.sizes.now) × (self.new.given ≡ 0)
             × (self.new.last ≡ self.old.last)
             × (self.new.count ≡ min (self.old.count + 1) (2 ^ 64 - 1))) }
-        ensures failures { CountsWrite result (O.failures out.old) (O.failures out.new) }
+        ensures failures { CountsTextWrite result (O.failures out.old) (O.failures out.new) }
     {
         key_is_read(self.last.as_ref());
         match put_end(alloc, &mut self.output, true, self.last.as_ref(), out) {
@@ -121,7 +121,7 @@ impl<'q> PagesWriter<'q> {
             (O.written out.new)) }
         ensures selection { self.new.selection ≡ self.old.selection }
         ensures grows { Grows (O.written out.old) (O.written out.new) }
-        ensures failures { CountsWrite result (O.failures out.old) (O.failures out.new) }
+        ensures failures { CountsTextWrite result (O.failures out.old) (O.failures out.new) }
     {
         if !self.is_full() {
             return Ok(());
@@ -151,7 +151,7 @@ impl<'q> PagesWriter<'q> {
         ensures last { OnOk result
             (self.new.given ≡ first_size self.old.sizes.now → self.new.last
             ≡ Some (member_place line.now)) }
-        ensures failures { CountsWrite result (O.failures out.old) (O.failures out.new) }
+        ensures failures { CountsTextWrite result (O.failures out.old) (O.failures out.new) }
     {
         self.output.put_row(line, out)?;
         self.given = self.given.saturating_add(1);
@@ -180,7 +180,7 @@ impl<'q> PagesWriter<'q> {
             (captures_of self.old.selection (taken ++ line.now ∷ [])) start (O.written out.new)) }
         ensures same { IsSame self.old.selection self.new.selection }
         ensures grows { Grows (O.written out.old) (O.written out.new) }
-        ensures failures { CountsWrite result (O.failures out.old) (O.failures out.new) }
+        ensures failures { CountsTextWrite result (O.failures out.old) (O.failures out.new) }
     {
         match self.selection.takes(line) {
             Ok(is_capture) => {
@@ -219,7 +219,7 @@ impl<'q> PagesWriter<'q> {
             (O.written out.new)) }
         ensures same { IsSame self.old.selection self.new.selection }
         ensures grows { Grows (O.written out.old) (O.written out.new) }
-        ensures failures { CountsWrite result (O.failures out.old) (O.failures out.new) }
+        ensures failures { CountsTextWrite result (O.failures out.old) (O.failures out.new) }
     {
         for line in lines {
             match self.take_line(alloc, line, out) {
@@ -236,7 +236,7 @@ impl<'q> PagesWriter<'q> {
         ensures text { WritesText result (O.written out.old) (O.written out.new)
             (page_end (form_of self.old.selection.query.now) None) }
         ensures count { IfOk result (λ count. count ≡ min (self.old.count + 1) (2 ^ 64 - 1)) }
-        ensures failures { CountsWrite result (O.failures out.old) (O.failures out.new) }
+        ensures failures { CountsTextWrite result (O.failures out.old) (O.failures out.new) }
     {
         self.output.put_end(None, out)?;
         Ok(self.count.saturating_add(1))
