@@ -1,7 +1,6 @@
 -- How far a merge of several sources has come.
 use Rattle.std.specs.List.{AllZip}
 use Rattle.std.specs.Prelude.{◌≡◌, ℕ, List, Bool, Option, Result, Ok, Err}
-use Rattle.std.specs.Io.KnownBytes.{Appends}
 use Rattle.std.specs.List.{AllByRecursion, zip}
 use Rattle.cdxj_places.specs.Pairs.{Pair}
 use Rattle.cdxj_places.specs.Places.{place_cmp}
@@ -22,11 +21,6 @@ abbrev pub CountsSinkWrite : {A : Type 0} → Result A SinkFault → ℕ → ℕ
 CountsSinkWrite (Ok x) old new = new ≡ old
 CountsSinkWrite (Err Memory) old new = new ≡ old
 CountsSinkWrite (Err Write) old new = new ≡ next_count old
-
--- known bytes stay at the front, and may grow
-pub record Grows (old new : Option (List ℕ)) : Type 0 where
-  pub text : List ℕ
-  pub grown : Appends old new text
 
 module _ {S : Type 0} (limit : ℕ) (text : S → Option (List ℕ)) where
   -- These lines were handed on: each was read as an entry, they rise, and none is above the bound. If the bytes of all sources are

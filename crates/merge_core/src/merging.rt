@@ -5,6 +5,7 @@ ghost use Rattle.std.specs.List.{AllByRecursion, zip};
 ghost use Rattle.cdxj_core.specs.declared.limit.TheConstants.{LINE_LIMIT};
 ghost use Rattle.cdxj_core.specs.Members.{Member, member_pair};
 ghost use Rattle.cdxj_places.specs.Pairs.{Pair};
+ghost use Rattle.devices.specs.Device.{Grows};
 ghost use Rattle.merge_core.specs.declared.feed.Feed.{Feed};
 ghost use Rattle.line_queue.specs.WaitingLines.{WaitingLine, waiting_pair};
 ghost use Rattle.merge_core.specs.Collections.{OverIndexes, all_lines};
@@ -14,7 +15,7 @@ ghost use Rattle.merge_core.specs.LineFaults.{IsMergeFaultOf};
 ghost use Rattle.merge_core.specs.Feeds.{Moved, Ready, AreSettled};
 ghost use Rattle.merge_core.specs.Gathering.{AreTold, all_done};
 ghost use Rattle.line_queue.specs.PairOrders.{Alike, Below, IsAbove, Upto};
-ghost use Rattle.merge_core.specs.Reached.{Grows, Reached};
+ghost use Rattle.merge_core.specs.Reached.{Reached};
 ghost use Rattle.merge_core.specs.Spending.{AreReadTo};
 
 use crate::fault::MergeFault;

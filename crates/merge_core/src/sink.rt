@@ -5,8 +5,9 @@ ghost use Rattle.cdxj_places.specs.Places.{place_cmp};
 ghost use Rattle.cdxj_places.specs.Rising.{rising};
 ghost use Rattle.cdxj_core.specs.Members.{Member, member_place};
 ghost use Rattle.cdxj_core.specs.declared.limit.TheConstants.{LINE_LIMIT};
+ghost use Rattle.devices.specs.Device.{Grows};
 ghost use Rattle.merge_core.specs.Failures.{CountsHanding};
-ghost use Rattle.merge_core.specs.Reached.{CountsSinkWrite, Grows};
+ghost use Rattle.merge_core.specs.Reached.{CountsSinkWrite};
 ghost use Rattle.merge_core.specs.SourceLines.{HasEntry};
 
 use crate::fault::{MergeFault, SinkFault};
@@ -130,7 +131,7 @@ fn take_two<K: Sink, O: Output>(
 /// Passes on the lines of a pair, in the order of places, only the first line at each place. Returns `false` if no more
 /// are wanted.
 /// Errors are `Memory`, and `Write` if the sink returns it.
-#[tactic(auto, using(crate::proofs::WrittenLemmas::grows_not))]
+#[tactic(auto, using(devices::proofs::DeviceLemmas::grows_not))]
 pub fn hand_on<K: Sink, O: Output>(
     alloc: Global,
     first: &Line,

@@ -107,9 +107,8 @@ pub struct PageWriter<'q> {
 impl<'q> PageWriter<'q> {
     ghost use Rattle.std.specs.Prelude.{◌+◌, ◌-◌, ◌^◌, map, min, true, false};
     ghost use Rattle.std.specs.Io.KnownBytes.{Appends};
-    ghost use Rattle.devices.specs.Device.{AppendsPrefix};
+    ghost use Rattle.devices.specs.Device.{AppendsPrefix, Grows};
     ghost use Rattle.page_core.specs.PageText.{page_start, row_text};
-    ghost use Rattle.page_writers.specs.Growing.{Grows};
     ghost use Rattle.page_writers.specs.PageWriting.{is_full, last_after, next_of, FitsWord};
     ghost use Rattle.page_writers.specs.WriterView.{stands, Kept, Broke, from_view};
 
@@ -202,7 +201,7 @@ impl<'q> PageWriter<'q> {
     }
 
     /// Takes one more line.
-    #[tactic(auto, using(crate::proofs::GrowLemmas::grows_not, crate::proofs::GrowLemmas::grows_by, crate::proofs::GrowLemmas::grows_part))]
+    #[tactic(auto, using(devices::proofs::DeviceLemmas::grows_not, devices::proofs::DeviceLemmas::grows_by, devices::proofs::DeviceLemmas::grows_part))]
     fn take_line<O: Output>(
         &mut self,
         alloc: Global,

@@ -33,11 +33,10 @@ pub struct PagesWriter<'q> {
 impl<'q> PagesWriter<'q> {
     ghost use Rattle.std.specs.Io.KnownBytes.{Appends};
     ghost use Rattle.std.specs.Prelude.{◌+◌, ◌-◌, ◌^◌, ◌<◌, map, min, true, IfSome, Some};
-    ghost use Rattle.devices.specs.Device.{AppendsPrefix};
+    ghost use Rattle.devices.specs.Device.{AppendsPrefix, Grows};
     ghost use Rattle.devices.specs.Writing.{WritesText};
     ghost use Rattle.page_core.specs.Pages.{AllPositive, first_size, later_sizes};
     ghost use Rattle.page_core.specs.PageText.{page_start, page_end, row_text};
-    ghost use Rattle.page_writers.specs.Growing.{Grows};
     ghost use Rattle.page_writers.specs.WrittenPages.{IsReadBack};
     ghost use Rattle.page_writers.specs.QueryPages.{shown_key};
     ghost use Rattle.page_writers.specs.WriterView.{IsSame, IsFront, are_in_pages, captures_of, from_view, pages_stand};

@@ -1,6 +1,5 @@
 pub mod CountLemmas
 pub mod RefusalLemmas
-pub mod SinkLemmas
 pub mod Runs
 pub mod CheckLemmas
 pub mod StartLemmas

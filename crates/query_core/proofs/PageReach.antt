@@ -7,7 +7,7 @@ use Rattle.std.proofs.lemmas.Bool.{true≢false}
 use Rattle.std.proofs.Math.Seq.{take-append_seam}
 use Rattle.cdxj_places.specs.Places.{PlaceValue}
 use Rattle.cdxj_core.specs.Members.{Member}
-use Rattle.devices.proofs.DeviceLemmas.{Appends-none}
+use Rattle.devices.proofs.DeviceLemmas.{Appends-none, grows_by, grows_on}
 use Rattle.query_text.specs.Queries.{QueryValue}
 use Rattle.page_core.specs.Form.{Form}
 use Rattle.page_core.specs.Pages.{Page}
@@ -16,9 +16,8 @@ use Rattle.cdxj_core.specs.declared.limit.TheConstants.{LINE_LIMIT}
 use Rattle.cdxj_core.specs.Indexes.{IsIndex}
 use Rattle.merge_core.specs.Collections.{Known, collection}
 use Rattle.std.specs.List.{AllZip}
-use Rattle.merge_core.specs.Reached.{Grows}
+use Rattle.devices.specs.Device.{Grows}
 use Rattle.merge_core.specs.Spending.{AllGaveWithin}
-use Rattle.merge_core.proofs.WrittenLemmas.{grows_by, grows_on}
 use Rattle.page_writers.specs.PageWriting.{captures_over, page_over}
 use Rattle.query_core.specs.Passes.{IsWithin}
 use Rattle.page_writers.specs.QueryPages.{form_of, query_page}

@@ -10,7 +10,7 @@ use Rattle.query_text.specs.Matching.{covers}
 use Rattle.page_core.specs.Form.{Form}
 use Rattle.page_core.specs.PageText.{begun}
 use Rattle.merge_core.specs.PairOrders.{is_low}
-use Rattle.merge_core.specs.Reached.{Grows}
+use Rattle.devices.specs.Device.{Grows}
 use Rattle.merge_core.specs.Spending.{AllGaveWithin}
 use Rattle.merge_core.specs.Collections.{collection}
 use Rattle.page_writers.specs.PageWriting.{captures_over}

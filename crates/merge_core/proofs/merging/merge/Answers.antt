@@ -26,7 +26,7 @@ use Rattle.merge_core.proofs.Many.{Move, moved_trans, moved_still, told_moved}
 use Rattle.merge_core.proofs.HeldLemmas.{held_most, held_after}
 use Rattle.merge_core.proofs.MergeLemmas.{above_none, below_next, handed_none, handed_next, on_err, reached_same}
 use Rattle.merge_core.specs.Feeds.{AreSettled}
-use Rattle.merge_core.proofs.WrittenLemmas.{grows_not}
+use Rattle.devices.proofs.DeviceLemmas.{grows_not}
 use Rattle.merge_core.proofs.merging.merge.Given.{Over}
 use Rattle.merge_core.proofs.merging.merge.Goals.{In-Some, After-deref-in-Some, After-gather, After-hand_on}
 use Rattle.merge_core.proofs.merging.merge.Goals.{After-put_back}

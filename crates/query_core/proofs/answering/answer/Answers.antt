@@ -11,7 +11,7 @@ use Rattle.query_text.specs.Matching.{is_past}
 use Rattle.page_core.specs.Pages.{Page}
 use Rattle.merge_core.specs.Runs.{IsPart}
 use Rattle.merge_core.specs.SourceLines.{AreLinesOf}
-use Rattle.merge_core.proofs.WrittenLemmas.{grows_by, grows_not, grows_part}
+use Rattle.devices.proofs.DeviceLemmas.{grows_by, grows_not, grows_part}
 use Rattle.merge_core.specs.Collections.{collection}
 use Rattle.query_core.specs.Answering.{Answered}
 use Rattle.query_core.specs.Passes.{IsWithin}

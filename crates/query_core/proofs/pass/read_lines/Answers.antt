@@ -20,7 +20,7 @@ use Rattle.merge_core.proofs.RunLemmas.{parts_are, parts_count, parts_first, par
 use Rattle.merge_core.proofs.SourceLemmas.{taken_lines}
 use Rattle.merge_core.proofs.SpendLemmas.{are_read_to}
 use Rattle.merge_core.proofs.WholeLemmas.{extents_kept, texts_kept, told_known}
-use Rattle.merge_core.proofs.WrittenLemmas.{grows_not}
+use Rattle.devices.proofs.DeviceLemmas.{grows_not}
 use Rattle.query_core.specs.IndexFaults.{IsAnswerFaultOf}
 use Rattle.page_writers.specs.PageWriting.{is_wanted, place_before, captures_over}
 use Rattle.query_core.specs.Reach.{in_reach}

@@ -1,6 +1,7 @@
 use Rattle.std.proofs.Common.{Bor, ◌∙◌}
 use Rattle.cdxj_core.specs.declared.line.Line.{Line}
-use Rattle.merge_core.proofs.WrittenLemmas.{broke_at, grows_on, wrote_more}
+use Rattle.devices.proofs.DeviceLemmas.{grows_on}
+use Rattle.merge_core.proofs.WrittenLemmas.{broke_at, wrote_more}
 use Rattle.merge_core.proofs.line_writer.LineWriterSink.take.Goals as goal
 
 pub returns-in-Err-clause-wrote : goal.returns-in-Err-clause-wrote

@@ -1,7 +1,7 @@
 use Rattle.std.proofs.Common.{◌≡◌, ◌++◌, ◌∷◌, [], take, map, filter, sym, ap, ◌∙◌, subst, arith, append-nil, refl, Bor}
 use Rattle.std.proofs.lemmas.List.{take_all}
 use Rattle.cdxj_core.specs.declared.line.Line.{Line}
-use Rattle.page_writers.proofs.GrowLemmas.{grows_not, grows_on}
+use Rattle.devices.proofs.DeviceLemmas.{grows_not, grows_on}
 use Rattle.page_writers.specs.PageWriting.{captures_over, is_wanted, place_before}
 use Rattle.page_writers.specs.WriterView.{IsFront, pages_stand, from_view}
 use Rattle.page_writers.proofs.CaptureLemmas.{captures_append, kept_after}
