@@ -18,7 +18,8 @@ use Rattle.merge_core.specs.Feeds.{AreWaits, IsHead, FedOf, Fed, AreFed, Ready, 
 use Rattle.merge_core.specs.Gathering.{EndsAt}
 use Rattle.line_queue.specs.PairOrders.{Upto}
 use Rattle.line_queue.proofs.PairOrder.{upto_itself}
-use Rattle.merge_core.proofs.FeedLemmas.{each_join, done_due}
+use Rattle.cdxj_places.proofs.RisingLaws.{each_join}
+use Rattle.merge_core.proofs.FeedLemmas.{done_due}
 use Rattle.line_queue.proofs.HeapLemmas.{each_permuted, waits_here, waits_other, waits_permuted}
 
 pub few_waits : (p : Progress) (ws : List Member) → AreWaits p ws → length ws ≤ 1

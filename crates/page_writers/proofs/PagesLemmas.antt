@@ -10,6 +10,7 @@ use Rattle.std.proofs.lemmas.List.{take_all, take_at, drop_at}
 use Rattle.std.proofs.lemmas.List.Concat.{flat_map-append}
 use Rattle.cdxj_places.specs.Places.{PlaceValue}
 use Rattle.cdxj_places.specs.Places.{resume_text}
+use Rattle.cdxj_places.proofs.RisingLaws.{each_join}
 use Rattle.cdxj_core.specs.Members.{Member, member_place}
 use Rattle.devices.specs.Device.{AppendsPrefix}
 use Rattle.devices.proofs.DeviceLemmas.{Appends-join}
@@ -30,11 +31,6 @@ use Rattle.page_writers.proofs.WriterLemmas.{below, take_front}
 
 abbrev pub Pages : Type 0
 Pages = List (Page Member PlaceValue)
-
-each_join : {X : Type 0} (A : X → Type 0) (us vs : List X) → AllByRecursion A us → AllByRecursion A vs
-    → AllByRecursion A (us ++ vs)
-each_join A [] vs h k = k
-each_join A (u ∷ us) vs h k = (h.0, each_join A us vs h.1 k)
 
 -- all pages of these captures were written, and are so many
 abbrev pub Ended : QueryValue → List ℕ → List Member → Option (List ℕ) → Option (List ℕ) → ℕ → Type 0

@@ -8,7 +8,7 @@ use Rattle.std.specs.List.Sorted.{IsPermutation}
 use Rattle.std.proofs.lemmas.Cmp.{tied_itself}
 use Rattle.std.proofs.lemmas.List.Sorted.{IsPermutation-sym}
 use Rattle.cdxj_places.proofs.PairLemmas.{pair_cmp_total}
-use Rattle.cdxj_places.proofs.RisingLaws.{each_weaker}
+use Rattle.cdxj_places.proofs.RisingLaws.{each_join, each_weaker}
 use Rattle.cdxj_core.specs.declared.limit.TheConstants.{LINE_LIMIT}
 use Rattle.cdxj_core.specs.declared.line.Line.{Line}
 use Rattle.cdxj_core.specs.Members.{Member, member_pair}
@@ -24,7 +24,6 @@ use Rattle.merge_core.proofs.MergeLemmas.{on_err}
 use Rattle.merge_core.proofs.SpendLemmas.{due_read}
 use Rattle.merge_core.proofs.WholeLemmas.{texts_kept}
 use Rattle.merge_core.proofs.FailLemmas.{counts_reads, if_err}
-use Rattle.merge_core.proofs.FeedLemmas.{each_join}
 use Rattle.merge_core.proofs.GroupLemmas.{AreAt, AreBelow, from_waited}
 use Rattle.merge_core.proofs.GatherSteps.{Gathers, TakenNext, gathers_start, taken_next, gathers_drained, gathers_all}
 use Rattle.line_queue.proofs.HeapLemmas.{each_permuted}
