@@ -14,7 +14,7 @@ use Rattle.merge_core.proofs.store.Store.next_line.Goals as goal
 held : (g : Over) (c : After-pass_line g) (t : List ℕ) → g.S.Source.text c.args.source.now ≡ Some t
     → lines (drop c.args.cursor.now.at t) ≡ c.in-Some.bytes.now ∷ lines (drop c.pass_line.new.self.at t)
 held g c t e = c.pass_line.ensures.given t e
-    ∙ ap (λ l. l ∷ lines (drop c.pass_line.new.self.at t)) (sym c.in-Some.ensures.0)
+    ∙ ap (λ l. l ∷ lines (drop c.pass_line.new.self.at t)) (sym c.in-Some.ensures.line.0)
 
 -- so is the one that was read
 found : (g : Over) (c : After-line_of g) (t : List ℕ) → g.S.Source.text c.args.source.now ≡ Some t
