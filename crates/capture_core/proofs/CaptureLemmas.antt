@@ -125,7 +125,8 @@ module _ (limits : Limits) (h : HeadView) (name url front payload bytes digest :
   entry = entry_of h name response digest url
 
   capture-is : PartsBlock limits h front response payload → digest ≡ digest_of h (payload ++ more)
-      → IsCaptureUnder (Some url) limits.http_head limits.http_fields h (take h.parts.length (front ++ bytes)) name (Some entry)
+      → IsCaptureUnder (Some url) limits.http_head limits.http_fields h (take h.parts.length (front ++ bytes)) name
+          (Some entry)
   capture-is p d =
       let block : take h.parts.length (front ++ bytes) ≡ front
       ++ more = take_past h.parts.length front bytes p.within in
@@ -147,7 +148,8 @@ module _ (limits : Limits) (h : HeadView) (name url front payload bytes digest :
       → (r : Result (Option EntryValue) CaptureFault) → AnswersEntry limits.line entry r
       → IsCaptureOf (Some url) limits h name (front ++ bytes) r
   capture-known p d (Ok captured) a = subst
-      (IsCaptureUnder (Some url) limits.http_head limits.http_fields h (take h.parts.length (front ++ bytes)) name) (sym a)
+      (IsCaptureUnder (Some url) limits.http_head limits.http_fields h (take h.parts.length (front ++ bytes)) name)
+          (sym a)
       (capture-is p d)
   capture-known p d (Err (Archive x)) a = tt
   capture-known p d (Err (LineTooLong o)) a = (entry, capture-is p d, a)

@@ -8,7 +8,8 @@ use Rattle.devices.specs.declared.input_lines.Part.TheVariants.{Within, Ended, A
 use Rattle.devices.specs.declared.input_lines.InputLineFault.{InputLineFault}
 use Rattle.devices.specs.declared.input_lines.InputLineFault.TheVariants.{Memory, Read, TooLong}
 
--- what is held of the input, what is held of the line that was read last, how many bytes of a line are held at most, and how many were taken of the input
+-- what is held of the input, what is held of the line that was read last, how many bytes of a line are held at most,
+-- and how many were taken of the input
 pub record LineState : Type 0 where
   pub buffer : List ℕ
   pub line : List ℕ

@@ -50,7 +50,8 @@ behind_head limit start h z y r = ap (drop (length h.raw)) (next-spelled limit s
 
 -- how a record at fault was read
 record_met : (limit start : ℕ) (h : HeadView) (c : Cause) (before mid after : Option (List ℕ))
-    → Reads (next_at limit start) (Ok (Some h)) before mid → Reads (after_record h.parts.length) (reading_after c) mid after
+    → Reads (next_at limit start) (Ok (Some h)) before mid
+    → Reads (after_record h.parts.length) (reading_after c) mid after
     → Reads (record_at limit start) (Err c) before after
 record_met limit start h causes.Memory before mid after r s = stopped_anywhere (record_at limit start) causes.Memory
     before after refl

@@ -17,7 +17,8 @@ abbrev pub CountsIndex : {A : Type 0} → Result A IndexFault → ℕ → ℕ �
 CountsIndex (Err (faults.Capture (Archive f))) old new = CountsRead {A = Unit {0}} (Err f.cause) old new
 CountsIndex r old new = new ≡ old
 
--- An answer of Read goes with one more failure of the input, any other of the archive's with none. It failed at most once.
+-- An answer of Read goes with one more failure of the input, any other of the archive's with none. It failed at most
+-- once.
 abbrev pub CountsInput : {A : Type 0} → Result A IndexFault → ℕ → ℕ → Type 0
 CountsInput (Ok n) old new = new ≡ old
 CountsInput (Err (faults.Capture (Archive f))) old new = CountsRead {A = Unit {0}} (Err f.cause) old new

@@ -10,7 +10,8 @@ use Rattle.cdxj_places.specs.Rising.{rising}
 use Rattle.index_core.specs.declared.fault.IndexFault.{IndexFault}
 use Rattle.index_core.specs.declared.fault.IndexFault.TheVariants as faults
 
--- the types of records that are indexed, the names of the archives that were added, and their captures, in the order of adding
+-- the types of records that are indexed, the names of the archives that were added, and their captures, in the order of
+-- adding
 pub record Held : Type 0 where
   pub types : Types
   pub names : List (List ℕ)

@@ -64,8 +64,8 @@ front_of (u ∷ us) zs (v ∷ vs) e =
     let rest = front_of us zs vs (let q : map Some us ++ zs ≡ map Some vs = cc in q) in
     (rest.0, ap (λ x. x ∷ vs) first ∙ ap (λ l. u ∷ l) rest.1)
 
--- Indexes were read from where the search for a pair ended; this test holds of all lines that lie within the range, aren't below
--- the pair and don't stand above the bound
+-- Indexes were read from where the search for a pair ended; this test holds of all lines that lie within the range,
+-- aren't below the pair and don't stand above the bound
 module _ (limit : ℕ) (past : List ℕ → Bool) (start : Pair) (b : Option Pair) (test : Member → Bool)
     (passes : (m : Member) → past m.values.key ≡ false → is_low start m ≡ false → IsUpto b (member_pair m) → test m
     ≡ true) where

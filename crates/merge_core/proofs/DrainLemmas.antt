@@ -68,7 +68,8 @@ module _ {L : Type 0} (limit : ℕ) (past : List ℕ → Bool) (seen : L → Mem
       taken d stays = fed_taken limit past t1 e1 old f is_due was_here stands_here start_here near_here (seen line) low
           count_here next_here upto_here up d (λ t e. stays t (sym text ∙ e))
 
-      pub taken_done : f.progress ≡ Due → (t : List ℕ) → t0 ≡ Some t → done limit t f ≡ done limit t old ++ seen line ∷ []
+      pub taken_done : f.progress ≡ Due → (t : List ℕ) → t0 ≡ Some t
+          → done limit t f ≡ done limit t old ++ seen line ∷ []
       taken_done d t e = done_taken limit past t1 e1 old f is_due was_here stands_here start_here near_here (seen line)
           low count_here next_here upto_here up d t (text ∙ e)
 

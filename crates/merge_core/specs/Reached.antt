@@ -23,8 +23,8 @@ CountsSinkWrite (Err Memory) old new = new ≡ old
 CountsSinkWrite (Err Write) old new = new ≡ next_count old
 
 module _ {S : Type 0} (limit : ℕ) (text : S → Option (List ℕ)) where
-  -- These lines were handed on: each was read as an entry, they rise, and none is above the bound. If the bytes of all sources are
-  -- known, they are all that are done
+  -- These lines were handed on: each was read as an entry, they rise, and none is above the bound. If the bytes of all
+  -- sources are known, they are all that are done
   pub record Handed (old ss : List S) (fs : List Feed) (bound : Option Pair) (taken : List Member) : Type 0 where
     pub entries : AllByRecursion (HasEntry limit) taken
     pub upto : AllByRecursion (λ m. IsUpto bound (member_pair m)) taken

@@ -117,7 +117,8 @@ head_text q left (page ∷ other ∷ rest) rows later h k =
     let f = begun_is_front (form_of q) rows t.0 (option_map resume_text page.next) in (
       f.0 ++ pages_text q (other ∷ rest),
       ap (λ (l : List Member). page_text (form_of q) l (option_map resume_text page.next)
-          ++ pages_text q (other ∷ rest)) (ap (λ (p : Page Member PlaceValue). p.members) h.0 ∙ t.1 ∙ ap (λ l. l ++ t.0) all)
+          ++ pages_text q (other ∷ rest)) (ap (λ (p : Page Member PlaceValue). p.members) h.0 ∙ t.1
+          ∙ ap (λ l. l ++ t.0) all)
           ∙ ap (λ l. l ++ pages_text q (other ∷ rest)) f.1
           ∙ append_assoc (begun (form_of q) rows) f.0 (pages_text q (other ∷ rest)),
     )

@@ -41,8 +41,8 @@ abbrev pub last_place : Option ℕ → List Member → Option PlaceValue
 last_place None ms = None
 last_place (Some n) ms = place_at n ms
 
--- What stands written of the page of these captures, how many it has, whether a further one follows, and the place of the last that
--- it has room for
+-- What stands written of the page of these captures, how many it has, whether a further one follows, and the place of
+-- the last that it has room for
 pub record PageStands (form : Form) (limit : Option ℕ) (captures : List Member) (start now : Option (List ℕ))
     (given : ℕ) (more : Bool)
     (last : Option PlaceValue) : Type 0 where

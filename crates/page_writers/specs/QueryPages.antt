@@ -17,8 +17,8 @@ use Rattle.page_core.specs.PageText.{page_text}
 abbrev pub selected : QueryValue → List Member → List Member
 selected q lines = filter (λ m. matches q m.values) lines
 
--- the captures that a query asks for, of lines that rise by place: those that it selects above the place of its resume key, collapsed
--- from there on
+-- the captures that a query asks for, of lines that rise by place: those that it selects above the place of its resume
+-- key, collapsed from there on
 abbrev pub query_captures : QueryValue → List Member → List Member
 query_captures q lines = collapsed member_place place_cmp (same_part q.collapse) (selected q lines) q.resume
 

@@ -57,7 +57,8 @@ front_written form [] old middle new a g =
     }
 front_written form (m ∷ ms) old middle new a g = record { middle = middle; front = a; grows = g }
 
--- What was written of the page of these lines, which come first, and what sources gave for the captures of the earlier of them
+-- What was written of the page of these lines, which come first, and what sources gave for the captures of the earlier
+-- of them
 pub page_reached : {S : Type 0} (extent gave : S → ℕ) (q : QueryValue) (texts : List (List ℕ))
     (indexes : List (List Member)) (old middle new : Option (List ℕ)) (olds news : List S)
     (taken rest c tail : List Member) → captures_over q q.resume (collection indexes) ≡ captures_over q q.resume taken

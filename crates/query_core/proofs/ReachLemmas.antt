@@ -92,7 +92,8 @@ neither Greater h k = cc
 covered_where_met : (t : TargetValue) (key : List ℕ) → is_past t key ≡ false → is_lt (slice_cmp nat_cmp key t.text)
     ≡ false → covers t key ≡ true
 covered_where_met t key past low =
-    (elim (covers t key) as (λ b. covers t key ≡ b → (is_gt (slice_cmp nat_cmp key t.text) && not b) ≡ false → b ≡ true) [
+    (elim (covers t key) as
+    (λ b. covers t key ≡ b → (is_gt (slice_cmp nat_cmp key t.text) && not b) ≡ false → b ≡ true) [
       | true ↦ (λ e h. refl)
       | false ↦ (λ e h.
           let same : key ≡ t.text = text_met key t.text

@@ -31,7 +31,8 @@ module _ (limit : ℕ) (text : List ℕ) (offset : ℕ) where
     pub run : IsRun limit before members
     pub bad : line_entry limit line ≡ None
 
-  -- the lines before the offset are an index by themselves; the pair of the line there is below that of the last of them
+  -- the lines before the offset are an index by themselves; the pair of the line there is below that of the last of
+  -- them
   pub record EndsOutOfOrder : Type 0 where
     pub before : List (List ℕ)
     pub line : List ℕ

@@ -25,8 +25,8 @@ module _ (q : QueryValue) where
   abbrev pub AreFirst : List Member → List Member → Type 0
   AreFirst all taken = (rest : List Member) × (captures_over q q.resume all ≡ captures_over q q.resume taken ++ rest)
 
-  -- Of each source consecutive lines were read, which are an index by themselves, and so many together. If all lines of the range
-  -- were read, they have no further captures.
+  -- Of each source consecutive lines were read, which are an index by themselves, and so many together. If all lines of
+  -- the range were read, they have no further captures.
   pub record IsOfParts (texts : List (List ℕ)) (taken : List Member) (all : Bool) (lines : ℕ) : Type 0 where
     pub parts : List (List Member)
     pub each : (whole : Bool) → (whole ≡ true → all ≡ true)
@@ -53,8 +53,8 @@ module _ (q : QueryValue) (told : List (Option (List ℕ))) where
       (limit : Option ℕ) → IsWithin limit (captures_over q q.resume earlier)
       → lines ≤ length (filter (in_reach q q.resume limit (collection indexes)) (all_lines indexes)) + length told)
 
--- A sink: what it wrote of lines, what it wrote if it failed, and that it wants no more. The query; the sources, which are read from
--- one list of states to another; the sink and what was written, before and after.
+-- A sink: what it wrote of lines, what it wrote if it failed, and that it wants no more. The query; the sources, which
+-- are read from one list of states to another; the sink and what was written, before and after.
 module _ {K S : Type 0} (Wrote : K → K → List Member → Option (List ℕ) → Option (List ℕ) → Type 0)
     (Broke : K → List Member → Option (List ℕ) → Option (List ℕ) → Type 0) (Enough : K → Type 0)
     (text : S → Option (List ℕ)) (extent gave : S → ℕ) (q : QueryValue) (olds news : List S) (sink : K)

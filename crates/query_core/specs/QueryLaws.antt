@@ -38,8 +38,8 @@ SelectedAreFirst = (q : QueryValue) (indexes : List (List Member)) (m : Member)
     → IsIn m (selected q (collection indexes))
     ↔ (IsFirst member_place place_cmp m (all_lines indexes) × (matches q m.values ≡ true))
 
--- the captures of the pages of lines that rise by place rise too, match the query and stand above the place that the first page begins
--- after
+-- the captures of the pages of lines that rise by place rise too, match the query and stand above the place that the
+-- first page begins after
 abbrev pub PagesRise : Type 0
 PagesRise = (q : QueryValue) (lines : List Member) (sizes : List ℕ) (pages : List (Page Member PlaceValue))
     → Rises member_place place_cmp lines
@@ -47,8 +47,8 @@ PagesRise = (q : QueryValue) (lines : List Member) (sizes : List ℕ) (pages : L
     → Rises member_place place_cmp (flat_map (λ page. page.members) pages)
     × AllByRecursion (λ m. is_wanted q q.resume m ≡ true) (flat_map (λ page. page.members) pages)
 
--- The resume key that a page ends with continues the page: put into the query's text, in the place of an older one or after all else,
--- where the text isn't too long, it means the same query after the page's last capture.
+-- The resume key that a page ends with continues the page: put into the query's text, in the place of an older one or
+-- after all else, where the text isn't too long, it means the same query after the page's last capture.
 abbrev pub KeysContinue : Type 0
 KeysContinue = (text : List ℕ) (query : QueryValue) (page : Page Member PlaceValue) → query_of QUERY_LIMIT text
     ≡ Ok query

@@ -34,8 +34,8 @@ abbrev pub is_within : Option Pair → Pair → Bool
 is_within None pair = true
 is_within (Some bound) pair = not (is_gt (pair_cmp pair bound))
 
--- The line is of the target's range. It isn't below the start of the page after a place, nor above the capture that follows the
--- page of so many, of lines that rise by place.
+-- The line is of the target's range. It isn't below the start of the page after a place, nor above the capture that
+-- follows the page of so many, of lines that rise by place.
 abbrev pub in_reach : QueryValue → Option PlaceValue → Option ℕ → List Member → Member → Bool
 in_reach q from limit lines m =
     covers q.target m.values.key && not (is_low (start_pair q from) m) && is_within (follower q from limit lines)
@@ -52,8 +52,8 @@ pub record WroteFront (old new : Option (List ℕ)) (text : List ℕ) : Type 0 w
   pub front : Appends old middle text
   pub grows : Grows middle new
 
--- So many captures of the page were written whole. Each source gave no more bytes than its lines have that a page of so many reaches,
--- and what a search takes, two lines and a piece.
+-- So many captures of the page were written whole. Each source gave no more bytes than its lines have that a page of so
+-- many reaches, and what a search takes, two lines and a piece.
 pub record GaveInReach {S : Type 0} (extent gave : S → ℕ) (q : QueryValue) (texts : List (List ℕ))
     (indexes : List (List Member))
     (old new : Option (List ℕ)) (olds news : List S) : Type 0 where

@@ -69,7 +69,8 @@ is_given parameter.Collapse v = is_some v.collapse
 abbrev pub with_filter : ParameterValues → FilterValue → ParameterValues
 with_filter v filter = record v { filters = v.filters ++ filter ∷ [] }
 
--- The values with that of one more parameter, from its text. Each is form-decoded, but the resume key, which decodes itself.
+-- The values with that of one more parameter, from its text. Each is form-decoded, but the resume key, which decodes
+-- itself.
 abbrev pub with_value : Parameter → ParameterValues → Text → Read ParameterValues
 with_value parameter.Url v text = Ok (record v { url = Some (decoded text) })
 with_value parameter.Key v text = Ok (record v { key = Some (decoded text) })

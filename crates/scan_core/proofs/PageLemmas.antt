@@ -61,7 +61,8 @@ none_raised i old new h =
 pub pages_fault : {S : Type 0} → NoLineIsAtFault
     → (r : Result ℕ AnswerFault) (tolds : List (Option (List ℕ))) (texts : List (List ℕ)) (members : List (List Member))
     (old new : List S) (o o' : ℕ) → Known tolds texts → AllZip (IsIndex LINE_LIMIT) texts members
-    → IfErr r (IsAnswerFaultOf LINE_LIMIT tolds) → CountsAnswer r (zeros old) (zeros new) o o' → IfErr r (λ e. IsBeforeReading e → ⊥)
+    → IfErr r (IsAnswerFaultOf LINE_LIMIT tolds) → CountsAnswer r (zeros old) (zeros new) o o'
+    → IfErr r (λ e. IsBeforeReading e → ⊥)
     → IfErr r IsPagesFault
 pages_fault law (Ok n) tolds texts members old new o o' known are f counts late = tt
 pages_fault law (Err answer.Memory) tolds texts members old new o o' known are f counts late = tt

@@ -23,11 +23,11 @@ pub record IsAsked (ns text : List ℕ) (count : ℕ) (query : QueryValue) : Typ
   pub meaning : query_of QUERY_LIMIT text ≡ Ok query
   pub few : count ≤ SOURCES_LIMIT
 
--- The types of records that are indexed; the archives, by their names and by what their inputs hold; the sizes of pages, and the
--- query's text
+-- The types of records that are indexed; the archives, by their names and by what their inputs hold; the sizes of
+-- pages, and the query's text
 module _ (types : Kind → Bool) (names : List (List ℕ)) (inputs : List (Option (List ℕ))) (sizes text : List ℕ) where
-  -- The pages of the archives' captures were written: joined, they are exactly those that the query selects, each once, in the order of
-  -- places.
+  -- The pages of the archives' captures were written: joined, they are exactly those that the query selects, each once,
+  -- in the order of places.
   pub record Scanned (old new : Option (List ℕ)) (number : ℕ) : Type 0 where
     pub query : QueryValue
     pub asked : IsAsked sizes text (length names) query

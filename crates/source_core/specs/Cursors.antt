@@ -7,7 +7,8 @@ use Rattle.source_core.specs.LineParts.{PartOf}
 use Rattle.source_core.specs.declared.fault.LineReadFault.{LineReadFault}
 use Rattle.source_core.specs.declared.fault.LineReadFault.TheVariants as fault
 
--- a cursor: the bytes that it holds, the offset of the first of them, the offset of its first line, and how many lines it gave
+-- a cursor: the bytes that it holds, the offset of the first of them, the offset of its first line, and how many lines
+-- it gave
 pub record CursorState : Type 0 where
   pub ahead : List ℕ
   pub at : ℕ

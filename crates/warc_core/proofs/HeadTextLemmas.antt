@@ -51,7 +51,8 @@ read-in : (raw : List ℕ) (p : HeadParts) → parts_or_cause raw ≡ Ok p → (
     × (parts_in p.fields ≡ Ok p)
 unfolding parts_or_cause parts.parts_of
 read-in raw p h =
-    let e = bind_ok (fields_of (field_lines_in raw)) parts_in p (by_cause-ok (fields_of (field_lines_in raw) >>= parts_in) p h) in
+    let e = bind_ok (fields_of (field_lines_in raw)) parts_in p
+    (by_cause-ok (fields_of (field_lines_in raw) >>= parts_in) p h) in
     let same = parts_in-fields e.0 p e.2 in
     (e.1 ∙ ap Ok (sym same), ap parts_in same ∙ e.2)
 

@@ -274,7 +274,8 @@ read-spelled limit start bytes rest h e =
     )
 
 -- a head that is there
-head-read-back : (limit start : ℕ) (h : HeadView) (x : List ℕ) → IsFoundHead limit h.raw → parts_or_cause h.raw ≡ Ok h.parts
+head-read-back : (limit start : ℕ) (h : HeadView) (x : List ℕ) → IsFoundHead limit h.raw
+    → parts_or_cause h.raw ≡ Ok h.parts
     → h.start ≡ start → start + record_length h ≤ 2 ^ 63 - 1 → head_at limit start (h.raw ++ x) ≡ Ok (h, x)
 unfolding head_at
 head-read-back limit start h x t p s f =
@@ -317,7 +318,8 @@ no-prefix limit head head' parts parts' block block' text more t u =
     let same : ◌≡◌ {A = Result (List ℕ × List ℕ) Cause} (Ok (head, (block ++ closing) ++ more))
     (Ok (head', block' ++ closing)) = sym p ∙ (ap (head_text limit) (sym a ∙ b) ∙ q) in
     let r = answered head head' ((block ++ closing) ++ more) (block' ++ closing) same in
-    let says : ◌≡◌ {A = Result HeadParts Cause} (Ok parts) (Ok parts') = sym f.says ∙ (ap parts_or_cause r.0 ∙ g.says) in
+    let says : ◌≡◌ {A = Result HeadParts Cause} (Ok parts) (Ok parts') =
+    sym f.says ∙ (ap parts_or_cause r.0 ∙ g.says) in
     let is : parts ≡ parts' = cc in
     let size : length block ≡ length block' = t.block_length ∙ (ap (λ k. k.length) is ∙ sym u.block_length) in
     let sizes : length ((block ++ closing) ++ more) ≡ length (block' ++ closing) = ap length r.1 in

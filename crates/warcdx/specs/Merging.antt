@@ -8,7 +8,8 @@ use Rattle.query_core.specs.IndexFaults.{IsAnswerFaultOf}
 use Rattle.warcdx.specs.declared.outcome.Outcome.{Outcome}
 use Rattle.warcdx.specs.Queries.{answered_outcome}
 
--- sources were merged: they are indexes, and their merge was written, unless it was refused; in any case lines of theirs were written, which rise
+-- sources were merged: they are indexes, and their merge was written, unless it was refused; in any case lines of
+-- theirs were written, which rise
 pub record MergesIndexes (told : List (Option (List ℕ))) (before after : Option (List ℕ)) (outcome : Outcome) : Type 0
   where
     pub answer : Result ℕ AnswerFault

@@ -96,7 +96,8 @@ abbrev pub answer_of : Outcome → Result (Unit {0}) IndexFault
 answer_of (outcomes.Index fault) = Err fault
 answer_of outcome = Ok tt
 
--- how a command ends whose output could be flushed, or couldn't be: memory and a failed write are said in the stead of that
+-- how a command ends whose output could be flushed, or couldn't be: memory and a failed write are said in the stead of
+-- that
 abbrev pub flushed_outcome : Outcome → Bool → Outcome
 flushed_outcome outcome true = outcome
 flushed_outcome (outcomes.Index faults.Memory) false = outcomes.Index faults.Memory

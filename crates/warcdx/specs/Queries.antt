@@ -32,7 +32,8 @@ abbrev pub answered_outcome : {A : Type 0} → Result A AnswerFault → Outcome
 answered_outcome (Ok answer) = outcomes.Done
 answered_outcome (Err fault) = outcomes.Answer fault
 
--- a query was answered over sources: over indexes its page was written, whole or in part; a line that a fault names is at fault
+-- a query was answered over sources: over indexes its page was written, whole or in part; a line that a fault names is
+-- at fault
 pub record AnswersQuery (query : QueryValue) (told : List (Option (List ℕ))) (before after : Option (List ℕ))
     (outcome : Outcome) : Type 0 where
   pub answer : Result Report AnswerFault

@@ -178,7 +178,8 @@ unended g c sized lines rise all =
     let took = c.in-Ok-read_lines.ensures.took in
     wrote_most q sizes positive lines rise (captures_over q q.resume took.lines) start new all
     (at_end c.in-Ok.writer q sizes is.0 is.1 is.2 c.read_lines.new.sink.writer took.lines start mid
-    (took.came (record { writer = c.in-Ok.writer }) start ((refl, refl), c.in-Ok.ensures.stands positive)) new c.in-Err-end.ensures.text)
+    (took.came (record { writer = c.in-Ok.writer }) start ((refl, refl), c.in-Ok.ensures.stands positive)) new
+    c.in-Err-end.ensures.text)
 
 ended : (g : Over) (c : In-Ok-end g) (sized : are_sizes c.args.sizes.now ≡ true) (lines : List Member)
     → Rises member_place place_cmp lines
@@ -198,7 +199,8 @@ ended g c sized lines rise all =
     let end = c.in-Ok-end.ensures in
     wrote_whole q sizes positive lines rise (captures_over q q.resume took.lines) start new all c.in-Ok-end.count
     (all_ended c.in-Ok.writer q sizes is.0 is.1 is.2 c.read_lines.new.sink.writer took.lines start mid
-    (took.came (record { writer = c.in-Ok.writer }) start ((refl, refl), c.in-Ok.ensures.stands positive)) new c.in-Ok-end.count end.text
+    (took.came (record { writer = c.in-Ok.writer }) start ((refl, refl), c.in-Ok.ensures.stands positive)) new
+    c.in-Ok-end.count end.text
     end.count)
 
 -- ---- lines of the sources
