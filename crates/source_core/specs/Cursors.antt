@@ -2,7 +2,7 @@
 use Rattle.std.specs.Prelude.{◌≡◌, ℕ, ◌+◌, ◌<◌, ◌≤◌, List, length, drop, true, Option, Some, Result, Err}
 use Rattle.devices.specs.Device.{next_count}
 use Rattle.cdxj_places.specs.TextLines.{lines}
-use Rattle.source_core.specs.Windows.{StandsAt}
+use Rattle.source_core.specs.Windows.{AreBytesAt}
 use Rattle.source_core.specs.LineParts.{PartOf}
 use Rattle.source_core.specs.declared.fault.LineReadFault.{LineReadFault}
 use Rattle.source_core.specs.declared.fault.LineReadFault.TheVariants as fault
@@ -21,7 +21,7 @@ reach c = c.at + length c.ahead
 
 -- the bytes that it holds are the text's next ones
 abbrev pub Filled : Option (List ℕ) → ℕ → CursorState → Type 0
-Filled text extent c = StandsAt text extent c.at c.ahead
+Filled text extent c = AreBytesAt text extent c.at c.ahead
 
 -- so many lines from the start on were given
 pub record Stands (text : Option (List ℕ)) (extent : ℕ) (c : CursorState) : Type 0 where
