@@ -13,7 +13,7 @@ use Rattle.cdxj_core.specs.Members.{Member, member_pair, line_entry}
 use Rattle.cdxj_core.proofs.MemberLemmas.{long_line_none}
 use Rattle.source_core.specs.Cursors.{CursorState}
 use Rattle.source_core.specs.IndexLines.{first_length}
-use Rattle.source_core.specs.LinesAtFault.{BeginsAt, IsOutOfOrder}
+use Rattle.source_core.specs.LinesAtFault.{IsOutOfOrder, LineBeginsAt}
 use Rattle.source_core.proofs.SortedCuts.{begins_at}
 use Rattle.merge_core.specs.declared.fault.FeedFault.{FeedFault}
 use Rattle.merge_core.specs.declared.fault.FeedFault.TheVariants as fault
@@ -76,7 +76,7 @@ module _ (limit : ℕ) (past : List ℕ → Bool) (t : List ℕ) (extent : ℕ) 
     (fed : Fed limit past (Some t) extent f []) where
   -- the line at which the cursor stands, after those before it
   begins_here : (line : List ℕ) (after : List (List ℕ)) → lines (drop f.cursor.at t) ≡ line ∷ after
-      → BeginsAt t f.cursor.at ((fed.told t refl).begins.0 ++ read_lines t f.cursor) line
+      → LineBeginsAt t f.cursor.at ((fed.told t refl).begins.0 ++ read_lines t f.cursor) line
   begins_here line after e =
       let told = fed.told t refl in
       let from = lines (drop f.cursor.start t) in
@@ -122,7 +122,7 @@ module _ (limit : ℕ) (past : List ℕ → Bool) (t : List ℕ) (extent : ℕ) 
         before = told.begins.0 ++ last.0;
         previous = last.1;
         line = next.0;
-        begins = subst (λ ls. BeginsAt t f.cursor.at ls next.0) front here;
+        begins = subst (λ ls. LineBeginsAt t f.cursor.at ls next.0) front here;
         earlier = end.1;
         later = m;
         earlier_is = last.3;

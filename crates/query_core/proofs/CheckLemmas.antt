@@ -6,7 +6,7 @@ use Rattle.std.proofs.lemmas.List.{take_all}
 use Rattle.cdxj_core.specs.Members.{Member}
 use Rattle.cdxj_core.specs.Indexes.{IsRun, IsIndex}
 use Rattle.source_core.specs.IndexLines.{lines}
-use Rattle.source_core.specs.LinesAtFault.{BeginsAt}
+use Rattle.source_core.specs.LinesAtFault.{LineBeginsAt}
 use Rattle.source_core.proofs.SortedCuts.{begins_at}
 use Rattle.query_core.specs.declared.fault.AnswerFault.{AnswerFault}
 use Rattle.query_core.specs.declared.fault.AnswerFault.TheVariants as fault
@@ -55,7 +55,7 @@ module _ (limit : ℕ) (t : List ℕ) where
 
     module _ (inside : at ≤ length t) where
       begins : (line : List ℕ) (after : List (List ℕ)) → lines (drop at t) ≡ line ∷ after
-          → BeginsAt t at (take count (lines t)) line
+          → LineBeginsAt t at (take count (lines t)) line
       begins line after e = record {
         after = after;
         lines_are = cut ∙ ap (λ ls. take count (lines t) ++ ls) e;

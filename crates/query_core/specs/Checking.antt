@@ -5,7 +5,7 @@ use Rattle.cdxj_places.specs.Pairs.{pair_cmp}
 use Rattle.cdxj_core.specs.Members.{Member, member_pair, line_entry}
 use Rattle.cdxj_core.specs.Indexes.{IsRun, IsIndex}
 use Rattle.source_core.specs.IndexLines.{lines}
-use Rattle.source_core.specs.LinesAtFault.{BeginsAt}
+use Rattle.source_core.specs.LinesAtFault.{LineBeginsAt}
 use Rattle.merge_core.specs.LineFaults.{IsBadFirst}
 use Rattle.query_core.specs.declared.fault.AnswerFault.{AnswerFault}
 use Rattle.query_core.specs.declared.fault.AnswerFault.TheVariants as fault
@@ -26,7 +26,7 @@ module _ (limit : ℕ) (text : List ℕ) (offset : ℕ) where
   pub record EndsInBadLine : Type 0 where
     pub before : List (List ℕ)
     pub line : List ℕ
-    pub begins : BeginsAt text offset before line
+    pub begins : LineBeginsAt text offset before line
     pub members : List Member
     pub run : IsRun limit before members
     pub bad : line_entry limit line ≡ None
@@ -36,7 +36,7 @@ module _ (limit : ℕ) (text : List ℕ) (offset : ℕ) where
   pub record EndsOutOfOrder : Type 0 where
     pub before : List (List ℕ)
     pub line : List ℕ
-    pub begins : BeginsAt text offset before line
+    pub begins : LineBeginsAt text offset before line
     pub members : List Member
     pub run : IsRun limit before members
     pub previous : Option Member
