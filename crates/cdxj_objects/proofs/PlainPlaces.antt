@@ -10,7 +10,7 @@ use Rattle.cdxj_objects.specs.declared.member_ends.TheConstants.{TO_OFFSET, TO_F
 use Rattle.cdxj_objects.specs.Names.{url_name, mime_name, status_name, digest_name, length_name, offset_name}
 use Rattle.cdxj_objects.specs.Names.{filename_name}
 use Rattle.cdxj_objects.specs.Plain.{after, later_front, plain_text}
-use Rattle.cdxj_objects.specs.PlainPlaces.{AreEndsOf, AreParts, IsPart, part, texts_at}
+use Rattle.cdxj_objects.specs.PlainPlaces.{AreEndsOf, AreParts, IsPartBetween, part, texts_at}
 use Rattle.cdxj_objects.specs.Texts.{TextsValue}
 
 pub byte_at : (xs : List ℕ) (i b : ℕ) (ys : List ℕ) → drop i xs ≡ b ∷ ys → get_or xs i 0 ≡ b
@@ -25,7 +25,7 @@ GoesOn text at rest = (at ≤ length text) × (drop at text ≡ rest)
 
 -- a name stands there, and what follows it
 pub record Next (text : List ℕ) (start end : ℕ) (name rest : List ℕ) : Type 0 where
-  pub ends : IsPart text start end
+  pub ends : IsPartBetween text start end
   pub is : part text start end ≡ name
   pub goes_on : GoesOn text end rest
 
