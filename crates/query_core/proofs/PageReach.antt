@@ -19,7 +19,7 @@ use Rattle.std.specs.List.{AllZip}
 use Rattle.devices.specs.Device.{Grows}
 use Rattle.merge_core.specs.Spending.{AllGaveWithin}
 use Rattle.page_writers.specs.PageWriting.{captures_over, page_over}
-use Rattle.query_core.specs.Passes.{IsWithin}
+use Rattle.query_core.specs.Passes.{AreAtMost}
 use Rattle.page_writers.specs.QueryPages.{form_of, query_page}
 use Rattle.query_core.specs.Reach.{in_reach, captures_text, GaveInReach, WroteFront}
 use Rattle.query_core.proofs.AskedLemmas.{asked_is}
@@ -34,13 +34,13 @@ none_follows (Some (suc n)) = refl
 
 -- captures that don't pass the page are within its limit
 pub within_page : (limit : Option ℕ) (c : List Member) → (limit ≡ Some 0 → ⊥) → is_some (page limit c).next ≡ false
-    → IsWithin limit c
+    → AreAtMost limit c
 within_page None c some none = tt
 within_page (Some zero) c some none = absurd (some refl)
 within_page (Some (suc n)) c some none = next_none (suc n) c (omega arith) none
 
 -- a page has at least the captures that don't pass it
-has_all : (limit : Option ℕ) (c tail : List Member) → IsWithin limit c
+has_all : (limit : Option ℕ) (c tail : List Member) → AreAtMost limit c
     → length c ≤ length (page limit (c ++ tail)).members
 has_all None c tail most = omega (arith, length-append c tail)
 has_all (Some n) c tail most = omega (arith, most, length-take n (c ++ tail), length-append c tail)
@@ -62,7 +62,7 @@ front_written form (m ∷ ms) old middle new a g = record { middle = middle; fro
 pub page_reached : {S : Type 0} (extent gave : S → ℕ) (q : QueryValue) (texts : List (List ℕ))
     (indexes : List (List Member)) (old middle new : Option (List ℕ)) (olds news : List S)
     (taken rest c tail : List Member) → captures_over q q.resume (collection indexes) ≡ captures_over q q.resume taken
-    ++ rest → captures_over q q.resume taken ≡ c ++ tail → IsWithin q.limit c
+    ++ rest → captures_over q q.resume taken ≡ c ++ tail → AreAtMost q.limit c
     → Appends old middle (begun (form_of q) (page_over q q.resume q.limit taken).members) → Grows middle new
     → ((n : ℕ) → length c ≤ n → AllGaveWithin extent gave (in_reach q q.resume (Some n) (collection indexes)) texts
     indexes olds news)

@@ -16,9 +16,9 @@ use Rattle.page_writers.specs.PageWriting.{captures_over}
 use Rattle.query_core.specs.Reach.{in_reach}
 
 -- no more captures than the limit, if there is one
-abbrev pub IsWithin : Option ℕ → List Member → Type 0
-IsWithin None captures = ⊤
-IsWithin (Some n) captures = length captures ≤ n
+abbrev pub AreAtMost : Option ℕ → List Member → Type 0
+AreAtMost None captures = ⊤
+AreAtMost (Some n) captures = length captures ≤ n
 
 module _ (q : QueryValue) where
   -- the captures of these lines come first of the others'
@@ -44,13 +44,13 @@ module _ (q : QueryValue) (told : List (Option (List ℕ))) where
   -- what sources gave for so many captures
   abbrev pub GaveFor : {S : Type 0} → (S → ℕ) → (S → ℕ) → List Member → List S → List S → Type 0
   GaveFor extent gave earlier olds news = OverIndexes LINE_LIMIT told (λ texts indexes.
-      (limit : Option ℕ) → IsWithin limit (captures_over q q.resume earlier)
+      (limit : Option ℕ) → AreAtMost limit (captures_over q q.resume earlier)
       → AllGaveWithin extent gave (in_reach q q.resume limit (collection indexes)) texts indexes olds news)
 
   -- so many lines were read, no more than are in reach of as many captures, and one of each source
   abbrev pub ReadFor : List Member → ℕ → Type 0
   ReadFor earlier lines = OverIndexes LINE_LIMIT told (λ texts indexes.
-      (limit : Option ℕ) → IsWithin limit (captures_over q q.resume earlier)
+      (limit : Option ℕ) → AreAtMost limit (captures_over q q.resume earlier)
       → lines ≤ length (filter (in_reach q q.resume limit (collection indexes)) (all_lines indexes)) + length told)
 
 -- A sink: what it wrote of lines, what it wrote if it failed, and that it wants no more. The query; the sources, which

@@ -14,7 +14,7 @@ use Rattle.merge_core.specs.SourceLines.{AreLinesOf}
 use Rattle.devices.proofs.DeviceLemmas.{grows_by, grows_not, grows_part}
 use Rattle.merge_core.specs.Collections.{collection}
 use Rattle.query_core.specs.Answering.{Answered}
-use Rattle.query_core.specs.Passes.{IsWithin}
+use Rattle.query_core.specs.Passes.{AreAtMost}
 use Rattle.page_writers.specs.PageWriting.{PageStands, captures_over, page_over}
 use Rattle.page_writers.specs.QueryPages.{form_of, query_page}
 use Rattle.page_writers.specs.WriterView.{Wrote}
@@ -50,7 +50,7 @@ at g c w lines now wrote = stood c.in-Ok.writer c.args.query.now c.in-Ok.ensures
 within : (g : Over) (c : In-Ok g) (w : PageWriter) (lines : List Member) (now : Option (List ℕ))
     → Wrote c.in-Ok.writer w lines (g.O.Output.written c.args.out.now) now
     → ((c.in-Ok.writer.more ≡ true → ⊥) → w.more ≡ true → ⊥)
-    → IsWithin c.args.query.now.limit (captures_over c.args.query.now c.args.query.now.resume lines)
+    → AreAtMost c.args.query.now.limit (captures_over c.args.query.now c.args.query.now.resume lines)
 within g c w lines now wrote more =
     let q = c.args.query.now in
     let fresh : c.in-Ok.writer.more ≡ true
