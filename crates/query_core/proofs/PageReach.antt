@@ -21,7 +21,7 @@ use Rattle.merge_core.specs.Spending.{AllGaveWithin}
 use Rattle.page_writers.specs.PageWriting.{captures_over, page_over}
 use Rattle.query_core.specs.Passes.{AreAtMost}
 use Rattle.page_writers.specs.QueryPages.{form_of, query_page}
-use Rattle.query_core.specs.Reach.{in_reach, captures_text, GaveInReach, WroteFront}
+use Rattle.query_core.specs.Reach.{in_reach, captures_text, GaveInReach, WroteFirst}
 use Rattle.query_core.proofs.AskedLemmas.{asked_is}
 use Rattle.query_core.proofs.ReachLemmas.{opened_not, within_opening}
 use Rattle.page_writers.proofs.WriterLemmas.{page, next_none, page_front}
@@ -47,7 +47,7 @@ has_all (Some n) c tail most = omega (arith, most, length-take n (c ++ tail), le
 
 -- where a page is written at least so far
 front_written : (form : Form) (ms : List Member) (old middle new : Option (List ℕ)) → Appends old middle (begun form ms)
-    → Grows middle new → WroteFront old new (captures_text form ms)
+    → Grows middle new → WroteFirst old new (captures_text form ms)
 front_written form [] old middle new a g =
     record {
       middle = old;
@@ -77,7 +77,7 @@ page_reached extent gave q texts indexes old middle new olds news taken rest c t
     record {
       whole = length mine;
       most = omega (arith, ap length members, length-append mine later.0);
-      wrote = subst (λ ms. WroteFront old new (captures_text (form_of q) ms))
+      wrote = subst (λ ms. WroteFirst old new (captures_text (form_of q) ms))
           (sym (ap (take (length mine)) members ∙ take-append_seam mine later.0))
           (front_written (form_of q) mine old middle new front grows);
       within = within (length mine)

@@ -47,7 +47,7 @@ captures_text form [] = []
 captures_text form (m ∷ ms) = begun form (m ∷ ms)
 
 -- what was written begins with the text
-pub record WroteFront (old new : Option (List ℕ)) (text : List ℕ) : Type 0 where
+pub record WroteFirst (old new : Option (List ℕ)) (text : List ℕ) : Type 0 where
   pub middle : Option (List ℕ)
   pub front : Appends old middle text
   pub grows : Grows middle new
@@ -59,5 +59,5 @@ pub record GaveInReach {S : Type 0} (extent gave : S → ℕ) (q : QueryValue) (
     (old new : Option (List ℕ)) (olds news : List S) : Type 0 where
   pub whole : ℕ
   pub most : whole ≤ length (query_page q (collection indexes)).members
-  pub wrote : WroteFront old new (captures_text (form_of q) (take whole (query_page q (collection indexes)).members))
+  pub wrote : WroteFirst old new (captures_text (form_of q) (take whole (query_page q (collection indexes)).members))
   pub within : AllGaveWithin extent gave (in_reach q q.resume (Some whole) (collection indexes)) texts indexes olds news
