@@ -21,7 +21,7 @@ use Rattle.capture_core.specs.declared.fault.CaptureFault.TheVariants.{Archive, 
 use Rattle.capture_core.specs.Indexed.{url_of}
 use Rattle.capture_core.specs.Capture.{IsCapture}
 use Rattle.capture_core.specs.CaptureAnswer.{Limits, IsEntryOf, Captures}
-use Rattle.capture_core.specs.RecordReading.{IsFaultAt, reading_after, reading_of}
+use Rattle.capture_core.specs.RecordReading.{IsCaptureFaultAt, reading_after, reading_of}
 use Rattle.index_core.specs.Accepted.{IsCaptureAt, IsCaptured, AreCaptured, IsAccepted, IsAcceptedTo, IsRefused}
 use Rattle.capture_core.specs.Fault.{fault_offset}
 use Rattle.capture_core.specs.declared.types.Types.{Types}
@@ -31,7 +31,7 @@ use Rattle.index_core.specs.Indexing.{Held}
 use Rattle.index_core.proofs.ReportLemmas.{stopped_anywhere}
 use Rattle.index_core.proofs.VerdictLemmas.{behind}
 
-pub fault_at : (start : ℕ) (fault : CaptureFault) → IsFaultAt start fault → fault_offset fault ≡ start
+pub fault_at : (start : ℕ) (fault : CaptureFault) → IsCaptureFaultAt start fault → fault_offset fault ≡ start
 fault_at start (Archive f) h = h
 fault_at start (LineTooLong o) h = h
 fault_at start (KeyTooLong o) h = h

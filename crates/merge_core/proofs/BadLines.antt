@@ -24,7 +24,7 @@ use Rattle.merge_core.specs.Feeds.{Fed, read_lines, done}
 use Rattle.merge_core.specs.Gathering.{EndsAt}
 use Rattle.cdxj_core.specs.declared.fault.LineFault.{LineFault}
 use Rattle.cdxj_core.specs.declared.fault.LineFault.TheVariants as reading
-use Rattle.merge_core.specs.LineFaults.{IsBadFirst, IsFaultAt, NamesLine, line_fault}
+use Rattle.merge_core.specs.LineFaults.{IsBadFirst, IsFeedFaultAt, NamesLine, line_fault}
 use Rattle.line_queue.proofs.PairOrder.{below_then}
 use Rattle.merge_core.proofs.FeedLemmas.{ReadNext, done_due, after_taken}
 
@@ -45,7 +45,7 @@ first_long limit (l ∷ ls) long = (l, ls, refl, long_none limit l long)
 -- the first of the lines was refused
 pub refused_at : (limit : ℕ) (ls rest : List (List ℕ)) (line : List ℕ) (at begin : ℕ) (e : LineFault) → begin ≡ at → ls
     ≡ line ∷ rest → (e ≢ reading.Memory → line_entry limit line ≡ None)
-    → IsFaultAt limit ls at (line_fault begin e)
+    → IsFeedFaultAt limit ls at (line_fault begin e)
 refused_at limit ls rest line at begin reading.Memory there is bad = tt
 refused_at limit ls rest line at begin reading.LineTooLong there is bad =
     (there, (line, rest, is, bad (λ q. absurd (cc))))
@@ -91,7 +91,7 @@ module _ (limit : ℕ) (past : List ℕ → Bool) (t : List ℕ) (extent : ℕ) 
             (inside t f.cursor.at line after e);
       }
 
-  pub bad_named : (e : FeedFault) → IsFaultAt limit (lines (drop f.cursor.at t)) f.cursor.at e → NamesLine limit t e
+  pub bad_named : (e : FeedFault) → IsFeedFaultAt limit (lines (drop f.cursor.at t)) f.cursor.at e → NamesLine limit t e
   bad_named fault.Memory h = tt
   bad_named fault.Read h = tt
   bad_named (fault.BadLine offset) h =

@@ -19,11 +19,11 @@ line_fault at reading.Memory = feed.Memory
 line_fault at other = feed.BadLine at
 
 -- a fault of the reading of the line of a text that begins at this offset
-abbrev pub IsFaultAt : ℕ → List (List ℕ) → ℕ → FeedFault → Type 0
-IsFaultAt limit ls at feed.Memory = ⊤
-IsFaultAt limit ls at feed.Read = ⊤
-IsFaultAt limit ls at (feed.BadLine offset) = (offset ≡ at) × IsBadFirst limit ls
-IsFaultAt limit ls at (feed.OutOfOrder offset) = ⊥
+abbrev pub IsFeedFaultAt : ℕ → List (List ℕ) → ℕ → FeedFault → Type 0
+IsFeedFaultAt limit ls at feed.Memory = ⊤
+IsFeedFaultAt limit ls at feed.Read = ⊤
+IsFeedFaultAt limit ls at (feed.BadLine offset) = (offset ≡ at) × IsBadFirst limit ls
+IsFeedFaultAt limit ls at (feed.OutOfOrder offset) = ⊥
 
 -- a line that the fault names is such a line of the text
 abbrev pub NamesLine : ℕ → List ℕ → FeedFault → Type 0
