@@ -11,7 +11,7 @@ use Rattle.source_core.proofs.SortedCuts.{begins_at}
 use Rattle.query_core.specs.declared.fault.AnswerFault.{AnswerFault}
 use Rattle.query_core.specs.declared.fault.AnswerFault.TheVariants as fault
 use Rattle.merge_core.specs.NextLine.{IsNextLine}
-use Rattle.query_core.specs.Checking.{IsLineFault}
+use Rattle.query_core.specs.Checking.{IsLineFaultAt}
 use Rattle.query_core.specs.Checking.{IsLastOf, FallsAfter, EndsInBadLine, EndsOutOfOrder, IsChecked}
 use Rattle.query_core.proofs.Runs.{run_push, take_next}
 
@@ -77,7 +77,7 @@ module _ (limit : ℕ) (t : List ℕ) where
         falls = falls;
       }
 
-      pub checked_fault : (f : AnswerFault) → IsLineFault limit t at f → IsChecked limit t (Err f)
+      pub checked_fault : (f : AnswerFault) → IsLineFaultAt limit t at f → IsChecked limit t (Err f)
       checked_fault fault.Memory known = tt
       checked_fault (fault.Read i) known = tt
       checked_fault fault.Write known = absurd known

@@ -61,8 +61,8 @@ IsCheckFault (fault.OutOfOrder i offset) = i ≡ 0
 IsCheckFault other = ⊥
 
 -- a fault of the reading of the line that begins at this offset: where the line is called bad, it has no entry
-abbrev pub IsLineFault : ℕ → List ℕ → ℕ → AnswerFault → Type 0
-IsLineFault limit text at fault.Memory = ⊤
-IsLineFault limit text at (fault.Read i) = i ≡ 0
-IsLineFault limit text at (fault.BadLine i offset) = (i ≡ 0) × (offset ≡ at) × IsBadFirst limit (lines (drop at text))
-IsLineFault limit text at other = ⊥
+abbrev pub IsLineFaultAt : ℕ → List ℕ → ℕ → AnswerFault → Type 0
+IsLineFaultAt limit text at fault.Memory = ⊤
+IsLineFaultAt limit text at (fault.Read i) = i ≡ 0
+IsLineFaultAt limit text at (fault.BadLine i offset) = (i ≡ 0) × (offset ≡ at) × IsBadFirst limit (lines (drop at text))
+IsLineFaultAt limit text at other = ⊥
