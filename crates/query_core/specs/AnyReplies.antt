@@ -11,12 +11,12 @@ use Rattle.query_core.specs.declared.fault.AnswerFault.{AnswerFault}
 use Rattle.query_core.specs.declared.fault.AnswerFault.TheVariants as fault
 use Rattle.query_core.specs.IndexFaults.{IsAnswerFaultOf}
 use Rattle.page_writers.specs.QueryPages.{query_page, answer_text}
-use Rattle.query_core.specs.Replies.{fault_line, refusal_text}
+use Rattle.query_core.specs.Replies.{refusal_text, reply_fault_line}
 
 -- what is written of a fault that names a line
 abbrev pub fault_text : AnswerFault → Option (List ℕ)
-fault_text (fault.BadLine i offset) = Some (fault_line (codes "BadLine") i offset)
-fault_text (fault.OutOfOrder i offset) = Some (fault_line (codes "OutOfOrder") i offset)
+fault_text (fault.BadLine i offset) = Some (reply_fault_line (codes "BadLine") i offset)
+fault_text (fault.OutOfOrder i offset) = Some (reply_fault_line (codes "OutOfOrder") i offset)
 fault_text other = None
 
 -- the sources, by their bytes, where those are known

@@ -12,8 +12,8 @@ use Rattle.page_writers.specs.QueryPages.{query_page, answer_text}
 abbrev pub refusal_text : List ℕ → List ℕ
 refusal_text name = codes "refused " ++ name ++ 10 ∷ []
 
-abbrev pub fault_line : List ℕ → ℕ → ℕ → List ℕ
-fault_line name index offset = codes "\nfault " ++ name ++ 32 ∷ decimal index ++ 32 ∷ decimal offset ++ 10 ∷ []
+abbrev pub reply_fault_line : List ℕ → ℕ → ℕ → List ℕ
+reply_fault_line name index offset = codes "\nfault " ++ name ++ 32 ∷ decimal index ++ 32 ∷ decimal offset ++ 10 ∷ []
 
 -- the page of a query over these lines, or the name of its refusal
 abbrev pub reply_to : List Member → Result QueryValue QueryFault → List ℕ

@@ -4,7 +4,7 @@ use Rattle.cdxj_core.specs.declared.limit.TheConstants.{LINE_LIMIT}
 use Rattle.query_core.specs.declared.fault.AnswerFault.TheVariants as fault
 use Rattle.query_core.specs.IndexFaults.{IsAnswerFaultOf}
 use Rattle.page_writers.specs.QueryPages.{answer_text, query_page}
-use Rattle.query_core.specs.Replies.{fault_line}
+use Rattle.query_core.specs.Replies.{reply_fault_line}
 use Rattle.query_core.proofs.LineReplies.{fault_reply, page_reply}
 use Rattle.query_core.proofs.RefusalLemmas.{late_few}
 use Rattle.query_core.proofs.SoundIndexes.{names_no_bad_line, names_none_out_of_order}
@@ -34,7 +34,7 @@ returns-in-Err-BadLine-clause-lines g c =
     let offset = c.in-Err-BadLine.offset in
     fault_reply told c.args.query.now e.lines.0 e.lines.1 c.put_fault_line.result (g.O.Output.written c.args.out.now)
     (g.O.Output.written c.answer.new.out) (g.O.Output.written c.put_fault_line.new.out)
-    (fault.BadLine i offset) (fault_line (codes "BadLine") i offset) e.lines.2
+    (fault.BadLine i offset) (reply_fault_line (codes "BadLine") i offset) e.lines.2
     (subst (IsAnswerFaultOf LINE_LIMIT told) c.in-Err-BadLine.field-0-is e.fault) refl c.put_fault_line.ensures.text
 
 pub returns-in-Err-OutOfOrder-clause-text : goal.returns-in-Err-OutOfOrder-clause-text
@@ -53,7 +53,7 @@ returns-in-Err-OutOfOrder-clause-lines g c =
     fault_reply told c.args.query.now e.lines.0 e.lines.1 c.put_fault_line-in-Err-OutOfOrder.result
     (g.O.Output.written c.args.out.now) (g.O.Output.written c.answer.new.out)
     (g.O.Output.written c.put_fault_line-in-Err-OutOfOrder.new.out)
-    (fault.OutOfOrder i offset) (fault_line (codes "OutOfOrder") i offset) e.lines.2
+    (fault.OutOfOrder i offset) (reply_fault_line (codes "OutOfOrder") i offset) e.lines.2
     (subst (IsAnswerFaultOf LINE_LIMIT told) c.in-Err-OutOfOrder.field-0-is e.fault) refl
     c.put_fault_line-in-Err-OutOfOrder.ensures.text
 
