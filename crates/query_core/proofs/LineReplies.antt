@@ -11,7 +11,7 @@ use Rattle.devices.specs.Writing.{WritesText}
 use Rattle.devices.proofs.DeviceLemmas.{Appends-join}
 use Rattle.devices.proofs.WritingLemmas.{prefix_after, prefix_longer}
 use Rattle.query_text.specs.declared.fault.QueryFault.{QueryFault}
-use Rattle.query_text.specs.FaultNames.{fault_name}
+use Rattle.query_text.specs.FaultNames.{query_fault_name}
 use Rattle.query_text.specs.Queries.{QueryValue}
 use Rattle.merge_core.specs.SourceLines.{AreLinesOf}
 use Rattle.query_core.specs.declared.fault.AnswerFault.{AnswerFault}
@@ -75,7 +75,7 @@ module _ (told : List (Option (List ℕ))) (q : QueryValue) (lines : List Member
 pub some_reply : (told : List (Option (List ℕ))) (r : Result QueryValue QueryFault) → (reply : List ℕ)
     × IsQueryReply told r reply
 some_reply told (Ok q) = (answer_text q (query_page q []), page_reply told q [] (record { rise = tt; each = tt }))
-some_reply told (Err fault) = (refusal_text (fault_name fault), refl)
+some_reply told (Err fault) = (refusal_text (query_fault_name fault), refl)
 
 -- ---- the reply to a line
 

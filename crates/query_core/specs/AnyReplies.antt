@@ -4,7 +4,7 @@ use Rattle.cdxj_core.specs.declared.limit.TheConstants.{LINE_LIMIT}
 use Rattle.cdxj_core.specs.Members.{Member}
 use Rattle.query_text.specs.declared.fault.QueryFault.{QueryFault}
 use Rattle.query_text.specs.declared.query.TheConstants.{QUERY_LIMIT}
-use Rattle.query_text.specs.FaultNames.{fault_name}
+use Rattle.query_text.specs.FaultNames.{query_fault_name}
 use Rattle.query_text.specs.Queries.{QueryValue, query_of}
 use Rattle.merge_core.specs.SourceLines.{AreLinesOf}
 use Rattle.query_core.specs.declared.fault.AnswerFault.{AnswerFault}
@@ -41,7 +41,7 @@ module _ (told : List (Option (List ℕ))) where
   -- the same, or the name of the query's refusal
   abbrev pub IsQueryReply : Result QueryValue QueryFault → List ℕ → Type 0
   IsQueryReply (Ok q) reply = IsPageReply q reply
-  IsQueryReply (Err refusal) reply = reply ≡ refusal_text (fault_name refusal)
+  IsQueryReply (Err refusal) reply = reply ≡ refusal_text (query_fault_name refusal)
 
   -- the same for a text
   abbrev pub IsTextReply : List ℕ → List ℕ → Type 0

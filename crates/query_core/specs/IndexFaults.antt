@@ -5,15 +5,15 @@ use Rattle.query_core.specs.declared.fault.AnswerFault.{AnswerFault}
 use Rattle.query_core.specs.declared.fault.AnswerFault.TheVariants as fault
 
 -- the names of faults
-abbrev pub fault_name : AnswerFault → List ℕ
-fault_name fault.Memory = codes "Memory"
-fault_name (fault.Read i) = codes "Read"
-fault_name fault.Write = codes "Write"
-fault_name (fault.BadLine i offset) = codes "BadLine"
-fault_name (fault.OutOfOrder i offset) = codes "OutOfOrder"
-fault_name fault.TooManySources = codes "TooManySources"
-fault_name fault.BadSizes = codes "BadSizes"
-fault_name fault.Input = codes "Input"
+abbrev pub answer_fault_name : AnswerFault → List ℕ
+answer_fault_name fault.Memory = codes "Memory"
+answer_fault_name (fault.Read i) = codes "Read"
+answer_fault_name fault.Write = codes "Write"
+answer_fault_name (fault.BadLine i offset) = codes "BadLine"
+answer_fault_name (fault.OutOfOrder i offset) = codes "OutOfOrder"
+answer_fault_name fault.TooManySources = codes "TooManySources"
+answer_fault_name fault.BadSizes = codes "BadSizes"
+answer_fault_name fault.Input = codes "Input"
 
 -- what the text of this source is, where it is told
 abbrev pub IfTold : List (Option (List ℕ)) → ℕ → (List ℕ → Type 0) → Type 0
