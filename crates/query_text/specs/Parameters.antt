@@ -13,7 +13,7 @@ use Rattle.query_text.specs.declared.parameter.Parameter.TheVariants as paramete
 use Rattle.query_text.specs.Readings.{Text, Read, and_then}
 use Rattle.query_text.specs.Parts.{is_equals, decoded}
 use Rattle.query_text.specs.ParameterNames.{parameter_named}
-use Rattle.query_text.specs.Values.{stamp_start_of, limit_of, resume_of, fields_of}
+use Rattle.query_text.specs.Values.{stamp_start_of, limit_of, resume_of, listed_fields}
 use Rattle.query_text.specs.Filters.{FilterValue, filter_of, literal_of}
 use Rattle.query_text.specs.Targets.{kind_of}
 use Rattle.query_text.specs.Outputs.{output_of, flag_of}
@@ -91,7 +91,7 @@ with_value parameter.ResumeKey v text =
 with_value parameter.ShowResumeKey v text =
     and_then (flag_of (decoded text)) (λ flag. Ok (record v { show_resume_key = Some flag }))
 with_value parameter.Fl v text =
-    and_then (fields_of (decoded text)) (λ fields. Ok (record v { fields = Some fields }))
+    and_then (listed_fields (decoded text)) (λ fields. Ok (record v { fields = Some fields }))
 with_value parameter.Output v text =
     and_then (output_of (decoded text)) (λ output. Ok (record v { output = Some output }))
 with_value parameter.Collapse v text =
