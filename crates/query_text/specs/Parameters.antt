@@ -15,7 +15,7 @@ use Rattle.query_text.specs.Parts.{is_equals, decoded}
 use Rattle.query_text.specs.ParameterNames.{parameter_named}
 use Rattle.query_text.specs.Values.{stamp_start_of, limit_of, resume_of, listed_fields}
 use Rattle.query_text.specs.Filters.{FilterValue, filter_of, literal_of}
-use Rattle.query_text.specs.Targets.{kind_of}
+use Rattle.query_text.specs.Targets.{match_kind_of}
 use Rattle.query_text.specs.Outputs.{output_of, flag_of}
 use Rattle.query_text.specs.Collapses.{collapse_of}
 
@@ -75,7 +75,7 @@ abbrev pub with_value : Parameter → ParameterValues → Text → Read Paramete
 with_value parameter.Url v text = Ok (record v { url = Some (decoded text) })
 with_value parameter.Key v text = Ok (record v { key = Some (decoded text) })
 with_value parameter.MatchType v text =
-    and_then (kind_of (decoded text)) (λ kind. Ok (record v { kind = Some kind }))
+    and_then (match_kind_of (decoded text)) (λ kind. Ok (record v { kind = Some kind }))
 with_value parameter.From v text =
     and_then (stamp_start_of (decoded text)) (λ digits. Ok (record v { from = Some digits }))
 with_value parameter.To v text =
