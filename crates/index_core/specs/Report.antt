@@ -21,8 +21,8 @@ abbrev pub Line : Type 0
 Line = List ℕ → HeadView → List ℕ
 
 -- the lines of these records
-abbrev pub lines_of : Line → List ℕ → List HeadView → List ℕ
-lines_of line archive heads = flat_map (line archive) heads
+abbrev pub report_lines : Line → List ℕ → List HeadView → List ℕ
+report_lines line archive heads = flat_map (line archive) heads
 
 -- `fault OFFSET CAUSE`
 abbrev pub fault_line : Fault → List ℕ
@@ -31,9 +31,9 @@ fault_line f = codes "fault " ++ decimal f.offset ++ codes " " ++ cause_name f.c
 -- the text is the report on the archive: its records, or those before its damage and the damage
 abbrev pub IsReport : ℕ → Line → List ℕ → List ℕ → Type 0
 IsReport limit line archive text =
-    ((heads : List HeadView) × AreRecords limit archive heads × (text ≡ lines_of line archive heads))
+    ((heads : List HeadView) × AreRecords limit archive heads × (text ≡ report_lines line archive heads))
     ⊎ ((heads : List HeadView) × (f : Fault) × IsDamaged limit archive heads f.offset f.cause
-    × (text ≡ lines_of line archive heads ++ fault_line f))
+    × (text ≡ report_lines line archive heads ++ fault_line f))
 
 -- the cause isn't the archive's
 abbrev pub IsNoDamage : Cause → Type 0
@@ -45,7 +45,7 @@ IsNoDamage c = ⊥
 abbrev pub IsCutReport : ℕ → Line → List ℕ → List ℕ → Type 0
 IsCutReport limit line archive text =
     (heads : List HeadView) × (f : Fault) × (rest : List ℕ) × IsNoDamage f.cause
-    × Walks limit 0 archive heads f.offset rest × (text ≡ lines_of line archive heads ++ fault_line f)
+    × Walks limit 0 archive heads f.offset rest × (text ≡ report_lines line archive heads ++ fault_line f)
 
 -- The lines of all records of the archive were written, where it is known, and the answer is their tally.
 abbrev pub Reported : {A : Type 0} → ℕ → Line → (List ℕ → List HeadView → A) → Option (List ℕ) → A → Option (List ℕ)
@@ -53,7 +53,7 @@ abbrev pub Reported : {A : Type 0} → ℕ → Line → (List ℕ → List HeadV
 Reported limit line tally None answer before after = ⊤
 Reported limit line tally (Some archive) answer before after =
     (heads : List HeadView) × AreRecords limit archive heads × (answer ≡ tally archive heads)
-    × Appends before after (lines_of line archive heads)
+    × Appends before after (report_lines line archive heads)
 
 -- The lines of the records before the fault were written, and the fault's line.
 abbrev pub ReportedToFault : ℕ → Line → Option (List ℕ) → Fault → Option (List ℕ) → Option (List ℕ) → Type 0
@@ -61,7 +61,7 @@ ReportedToFault limit line None f before after = ⊤
 ReportedToFault limit line (Some archive) f before after =
     (heads : List HeadView) × (rest : List ℕ) × Walks limit 0 archive heads f.offset rest
     × IsFoundIn f.cause (record_at limit f.offset rest)
-    × Appends before after (lines_of line archive heads ++ fault_line f)
+    × Appends before after (report_lines line archive heads ++ fault_line f)
 
 -- A prefix of the report was written.
 abbrev pub ReportedInPart : ℕ → Line → Option (List ℕ) → Option (List ℕ) → Option (List ℕ) → Type 0
