@@ -7,7 +7,7 @@ use Rattle.std.specs.Io.KnownBytes.{Appends}
 use Rattle.devices.specs.Device.{AppendsPrefix}
 use Rattle.devices.proofs.DeviceLemmas.{Appends-join}
 use Rattle.cdxj_core.specs.Members.{Member}
-use Rattle.page_core.specs.Rows.{value_of, field_name, json_row}
+use Rattle.page_core.specs.Rows.{row_value, field_name, json_row}
 use Rattle.page_core.specs.Form.{Form, Text, Cdxj, Json}
 use Rattle.page_core.specs.PageText.{page_text, page_start, row_text, page_end, later_row, key_rows, begun}
 use Rattle.page_core.specs.PageText.{PageInPieces, BegunIsFront}
@@ -23,11 +23,11 @@ page_in_pieces (Text fields) members key = refl
 page_in_pieces Cdxj members key = refl
 page_in_pieces (Json fields) members key =
     let names = json_row (map field_name fields) in
-    let rows = map (λ m. map (value_of m) fields) members in
+    let rows = map (λ m. map (row_value m) fields) members in
     let cut : flat_map later_row (rows ++ key_rows key) ≡ flat_map (row_text (Json fields)) members
     ++ flat_map later_row (key_rows key) =
     flat_map-append later_row rows (key_rows key) ∙ ap (λ l. l ++ flat_map later_row (key_rows key))
-    (flat_map-map later_row (λ m. map (value_of m) fields) members) in
+    (flat_map-map later_row (λ m. map (row_value m) fields) members) in
     ap (λ l. 91 ∷ l) (ap (λ l. (names ++ l) ++ 93 ∷ 10 ∷ []) cut ∙ simp append_assoc)
 
 -- a capture more

@@ -5,7 +5,7 @@ use Rattle.cdxj_places.specs.Bytes.{line_feed}
 use Rattle.cdxj_core.specs.declared.field.Field.{Field}
 use Rattle.page_core.specs.Form.{Form, Text, Cdxj, Json}
 use Rattle.cdxj_core.specs.Members.{Member, line_row}
-use Rattle.page_core.specs.Rows.{value_of, field_name, text_row, json_row}
+use Rattle.page_core.specs.Rows.{row_value, field_name, text_row, json_row}
 
 -- an empty line and the key, where one is printed
 abbrev pub key_lines : Option (List ℕ) → List ℕ
@@ -29,7 +29,7 @@ cdxj_page members key = flat_map line_row members ++ key_lines key
 abbrev pub json_page : List Field → List Member → Option (List ℕ) → List ℕ
 json_page fields members key =
     codes "[" ++ (join_by json_row (codes ",\n")
-    (map field_name fields ∷ map (λ m. map (value_of m) fields) members ++ key_rows key)
+    (map field_name fields ∷ map (λ m. map (row_value m) fields) members ++ key_rows key)
     ++ codes "]\n")
 
 -- the text of a page
@@ -54,7 +54,7 @@ page_start (Json fields) = codes "[" ++ json_row (map field_name fields)
 abbrev pub row_text : Form → Member → List ℕ
 row_text (Text fields) m = text_row fields m
 row_text Cdxj m = line_row m
-row_text (Json fields) m = later_row (map (value_of m) fields)
+row_text (Json fields) m = later_row (map (row_value m) fields)
 
 -- what stands after the last capture
 abbrev pub page_end : Form → Option (List ℕ) → List ℕ
