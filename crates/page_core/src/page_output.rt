@@ -22,10 +22,10 @@ pub struct PageOutput<'f> {
 }
 
 impl<'f> Model for PageOutput<'f> {
-    ghost use Rattle.page_core.specs.Form.{Form};
+    ghost use Rattle.page_core.specs.Form.{FormValue};
     ghost use Rattle.page_core.specs.FormView.{form_view};
 
-    ghost Value = { Form };
+    ghost Value = { FormValue };
 
     ghost view = { λ page. form_view page.form };
 }

@@ -17,7 +17,7 @@ use Rattle.devices.proofs.DeviceLemmas.{Appends-join}
 use Rattle.devices.proofs.WritingLemmas.{prefix_after, prefix_longer, prefix_whole}
 use Rattle.query_text.specs.Queries.{QueryValue}
 use Rattle.page_core.specs.Pages.{Page, AllPositive, first_size, later_sizes, end_place}
-use Rattle.page_core.specs.Form.{Form}
+use Rattle.page_core.specs.Form.{FormValue}
 use Rattle.page_core.specs.PageText.{begun, page_text, page_start, page_end, row_text}
 use Rattle.page_core.proofs.PageLemmas.{begun-more, begun_is_front, page_in_pieces}
 use Rattle.page_writers.specs.QueryPages.{chain_text, form_of, shown_key}
@@ -160,7 +160,7 @@ last_joined rows m = end_joined None rows
 
 module _ (q : QueryValue) (sizes : List ℕ) (c : List Member) (start now : Option (List ℕ)) (left : List ℕ) (given : ℕ)
     (last : Option PlaceValue) (count : ℕ) (s : PagesStand q sizes c start now left given last count) where
-  abbrev form : Form
+  abbrev form : FormValue
   form = form_of q
 
   abbrev before : List ℕ

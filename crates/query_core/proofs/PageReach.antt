@@ -9,7 +9,7 @@ use Rattle.cdxj_places.specs.Places.{PlaceValue}
 use Rattle.cdxj_core.specs.Members.{Member}
 use Rattle.devices.proofs.DeviceLemmas.{Appends-none, grows_by, grows_on}
 use Rattle.query_text.specs.Queries.{QueryValue}
-use Rattle.page_core.specs.Form.{Form}
+use Rattle.page_core.specs.Form.{FormValue}
 use Rattle.page_core.specs.Pages.{Page}
 use Rattle.page_core.specs.PageText.{begun}
 use Rattle.cdxj_core.specs.declared.limit.TheConstants.{LINE_LIMIT}
@@ -46,7 +46,7 @@ has_all None c tail most = omega (arith, length-append c tail)
 has_all (Some n) c tail most = omega (arith, most, length-take n (c ++ tail), length-append c tail)
 
 -- where a page is written at least so far
-front_written : (form : Form) (ms : List Member) (old middle new : Option (List ℕ)) → Appends old middle (begun form ms)
+front_written : (form : FormValue) (ms : List Member) (old middle new : Option (List ℕ)) → Appends old middle (begun form ms)
     → Grows middle new → WroteFirst old new (captures_text form ms)
 front_written form [] old middle new a g =
     record {

@@ -7,7 +7,7 @@ use Rattle.cdxj_places.specs.Places.{PlaceValue}
 use Rattle.cdxj_core.specs.Members.{Member, member_pair}
 use Rattle.query_text.specs.Queries.{QueryValue}
 use Rattle.query_text.specs.Matching.{covers}
-use Rattle.page_core.specs.Form.{Form}
+use Rattle.page_core.specs.Form.{FormValue}
 use Rattle.page_core.specs.PageText.{begun}
 use Rattle.merge_core.specs.PairOrders.{is_low}
 use Rattle.devices.specs.Device.{Grows}
@@ -42,7 +42,7 @@ in_reach q from limit lines m =
     (member_pair m)
 
 -- what has to stand written where these captures of a page are
-abbrev pub captures_text : Form → List Member → List ℕ
+abbrev pub captures_text : FormValue → List Member → List ℕ
 captures_text form [] = []
 captures_text form (m ∷ ms) = begun form (m ∷ ms)
 
