@@ -8,8 +8,8 @@ use Rattle.url.specs.Parts.{serialize}
 use Rattle.url.specs.Scheme.{IsScheme, scheme_type}
 use Rattle.url.specs.declared.scheme.SchemeType.TheVariants.{SpecialNotFile}
 use Rattle.cdxj_keys.specs.Key.{domain_text, folded, key_of, key_text, is_web, query_text, web_text}
-use Rattle.cdxj_keys.specs.PlainUrls.{plain_parts, plain_key_text, is_plain_byte, IsPlainHost, IsPlainQuery, IsPlainTail}
-use Rattle.cdxj_keys.specs.PlainUrls.{IsPlainUrl}
+use Rattle.cdxj_keys.specs.PlainUrls.{plain_parts, plain_key_text, is_plain_byte, IsPlainHost, IsPlainQuery}
+use Rattle.cdxj_keys.specs.PlainUrls.{IsPlainTail, IsPlainUrl}
 use Rattle.cdxj_keys.proofs.PlainLaws.{parses, http_scheme, https_scheme, http_kind, https_kind}
 use Rattle.cdxj_keys.proofs.PlainTails.{spelled}
 

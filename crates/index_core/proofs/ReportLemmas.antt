@@ -170,8 +170,10 @@ module _ (limit : ℕ) (line : Line) where
     SoFar-stopped (Some archive) (Some z) (Some y) o x h text w v u s r l a =
         let t = report_behind archive (s.0 ++ h ∷ []) (o + record_length h) y
         (Walks-more limit 0 archive s.0 o z h y s.1 r) in
-        let e : report_lines line archive (s.0 ++ h ∷ []) ++ t.0 ≡ report_lines line archive s.0 ++ (line archive h ++ t.0) =
-        ap (λ x. x ++ t.0) (one_more archive s.0 h) ∙ append_assoc (report_lines line archive s.0) (line archive h) t.0 in (
+        let e : report_lines line archive (s.0 ++ h ∷ []) ++ t.0
+        ≡ report_lines line archive s.0 ++ (line archive h ++ t.0) =
+        ap (λ x. x ++ t.0) (one_more archive s.0 h)
+        ∙ append_assoc (report_lines line archive s.0) (line archive h) t.0 in (
           report_lines line archive s.0 ++ (line archive h ++ t.0),
           inl (subst (IsReport limit line archive) e t.1),
           AppendsPrefix-behind w v u (report_lines line archive s.0) (line archive h) t.0 s.3

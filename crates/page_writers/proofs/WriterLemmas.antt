@@ -133,8 +133,8 @@ full_is (suc n) c given f g h =
     inr (omega (arith, e, g, short, t))
 
 -- the capture after a full page
-pub at_limit : (form : FormValue) (limit : Option ℕ) (c : List Member) (m : Member) (start now : Option (List ℕ)) (given : ℕ)
-    (more : Bool) (last : Option PlaceValue)
+pub at_limit : (form : FormValue) (limit : Option ℕ) (c : List Member) (m : Member) (start now : Option (List ℕ))
+    (given : ℕ) (more : Bool) (last : Option PlaceValue)
     → more ≡ false → is_full limit given ≡ true
     → PageStands form limit c start now given more last
     → PageStands form limit (c ++ m ∷ []) start now given (is_some last) last
@@ -217,7 +217,8 @@ written_one form (Some n) c m start now new given given' more last last' h f l g
     }
 
 -- before the first capture
-pub nothing_taken : (form : FormValue) (limit : Option ℕ) (start now : Option (List ℕ)) → Appends start now (page_start form)
+pub nothing_taken : (form : FormValue) (limit : Option ℕ) (start now : Option (List ℕ))
+    → Appends start now (page_start form)
     → PageStands form limit [] start now 0 false None
 nothing_taken form None start now a =
     record { text = written-start start now form a; given_is = omega arith; more_is = refl; last_is = refl }

@@ -46,7 +46,8 @@ has_all None c tail most = omega (arith, length-append c tail)
 has_all (Some n) c tail most = omega (arith, most, length-take n (c ++ tail), length-append c tail)
 
 -- where a page is written at least so far
-front_written : (form : FormValue) (ms : List Member) (old middle new : Option (List ℕ)) → Appends old middle (begun form ms)
+front_written : (form : FormValue) (ms : List Member) (old middle new : Option (List ℕ))
+    → Appends old middle (begun form ms)
     → Grows middle new → WroteFirst old new (captures_text form ms)
 front_written form [] old middle new a g =
     record {

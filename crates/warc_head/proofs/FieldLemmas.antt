@@ -46,7 +46,8 @@ onto-more (g ∷ []) f read = refl
 onto-more (g ∷ h ∷ seen) f read = ap (λ r. r >>= λ fs. Ok (g ∷ fs)) (onto-more (h ∷ seen) f read)
 
 -- a line that goes on, where a field stands before it
-onto-continued : (seen : List Field) (f : Field) (t : List ℕ) (read : Given) → onto (seen ++ f ∷ []) (with_folded t read)
+onto-continued : (seen : List Field) (f : Field) (t : List ℕ) (read : Given)
+    → onto (seen ++ f ∷ []) (with_folded t read)
     ≡ onto (seen ++ longer f t ∷ []) read
 onto-continued seen f t read =
     onto-more seen f (with_folded t read)

@@ -12,8 +12,8 @@ use Rattle.warc_head.specs.declared.fault.HeadFault.TheVariants as faults
 use Rattle.warc_head.specs.Answers.{◌>>=◌}
 use Rattle.warc_head.specs.Lines.{lines_of, line_content, line_end, continues, is_content, trim}
 use Rattle.warc_head.specs.Names.{is_name}
-use Rattle.warc_head.specs.Fields.{Field, Given, at_colon, field_in, named, given_by, unless_continued, fields_of, with_field}
-use Rattle.warc_head.specs.Fields.{with_folded, added, joined}
+use Rattle.warc_head.specs.Fields.{Field, Given, at_colon, field_in, named, given_by, unless_continued, fields_of}
+use Rattle.warc_head.specs.Fields.{with_field, with_folded, added, joined}
 use Rattle.warc_head.specs.Folding.{Folded, IsContinuation, IsFolded, ended, folded_text, joined_all, unfolded}
 use Rattle.warc_head.specs.Folding.{IsSpelling, FieldsAreSpelled}
 use Rattle.warc_head.proofs.DateLemmas.{and_both, both}
