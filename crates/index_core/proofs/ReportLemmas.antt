@@ -18,11 +18,11 @@ use Rattle.warc_core.proofs.WalkLemmas.{Walks-more, none_at_end, walk-extends}
 use Rattle.capture_core.specs.declared.fault.CaptureFault.TheVariants.{Archive, LineTooLong, KeyTooLong}
 use Rattle.index_core.specs.declared.fault.IndexFault.{IndexFault}
 use Rattle.index_core.specs.declared.fault.IndexFault.TheVariants as faults
-use Rattle.index_core.specs.Report.{Line, report_lines, fault_line, IsReport, IsCutReport, IsNoDamage, Reported}
+use Rattle.index_core.specs.Report.{RecordLine, report_lines, fault_line, IsReport, IsCutReport, IsNoDamage, Reported}
 use Rattle.index_core.specs.Report.{ReportedToFault, ReportedInPart, Reports, WritesFault}
 
 -- this text is the record's line, where the archive is known
-abbrev pub IsLine : Line → Option (List ℕ) → HeadView → List ℕ → Type 0
+abbrev pub IsLine : RecordLine → Option (List ℕ) → HeadView → List ℕ → Type 0
 IsLine line left h text = (archive : List ℕ) → left ≡ Some archive → text ≡ line archive h
 
 -- the answer counts one more record
@@ -31,8 +31,8 @@ CountsOn tally left h old new = (archive : List ℕ) (heads : List HeadView) →
     ≡ tally archive heads → new ≡ tally archive (heads ++ h ∷ [])
 
 -- The lines of the records so far were written; the last of these records ends at the offset.
-abbrev pub SoFar : {A : Type 0} → ℕ → Line → (List ℕ → List HeadView → A) → Option (List ℕ) → Option (List ℕ) → ℕ → A
-    → Option (List ℕ) → Option (List ℕ) → Type 0
+abbrev pub SoFar : {A : Type 0} → ℕ → RecordLine → (List ℕ → List HeadView → A) → Option (List ℕ) → Option (List ℕ) → ℕ
+    → A → Option (List ℕ) → Option (List ℕ) → Type 0
 SoFar limit line tally None now offset answer before after = ⊤
 SoFar limit line tally (Some archive) None offset answer before after = ⊥
 SoFar limit line tally (Some archive) (Some rest) offset answer before after =
@@ -57,7 +57,7 @@ pub CountsRead-same : (A B : Type 0) (c : Cause) (old new : ℕ) → CountsRead 
 CountsRead-same A B causes.Read old new h = h
 CountsRead-same A B c old new h = h
 
-module _ (limit : ℕ) (line : Line) where
+module _ (limit : ℕ) (line : RecordLine) where
   report_to : (archive : List ℕ) (heads : List HeadView) (z : List ℕ) (f : Fault)
       → Walks limit 0 archive heads f.offset z → (record_at limit f.offset z ≡ Err f.cause) ⊎ IsNoDamage f.cause
       → IsReport limit line archive (report_lines line archive heads ++ fault_line f)
