@@ -126,7 +126,7 @@ module _ (limits : Limits) (h : HeadView) (name url front payload bytes digest :
 
   capture-is : PartsBlock limits h front response payload → digest ≡ digest_of h (payload ++ more)
       → IsCaptureUnder (Some url) limits.http_head limits.http_fields h (take h.parts.length (front ++ bytes)) name
-          (Some entry)
+      (Some entry)
   capture-is p d =
       let block : take h.parts.length (front ++ bytes) ≡ front
       ++ more = take_past h.parts.length front bytes p.within in
@@ -149,7 +149,7 @@ module _ (limits : Limits) (h : HeadView) (name url front payload bytes digest :
       → IsCaptureOf (Some url) limits h name (front ++ bytes) r
   capture-known p d (Ok captured) a = subst
       (IsCaptureUnder (Some url) limits.http_head limits.http_fields h (take h.parts.length (front ++ bytes)) name)
-          (sym a)
+      (sym a)
       (capture-is p d)
   capture-known p d (Err (Archive x)) a = tt
   capture-known p d (Err (LineTooLong o)) a = (entry, capture-is p d, a)

@@ -114,7 +114,7 @@ parts-first view limits h front payload (Some x) None l f r p s = absurd (cc)
 parts-first view limits h front payload (Some x) (Some found) l f r p s = record {
   found = Some found;
   within = (let m = min-le_left h.parts.length (if may_have_head h then limits.http_head else 0) in
-          omega (arith, l, m));
+      omega (arith, l, m));
   decides = λ more few. found-first (may_have_head h) limits.http_head limits.http_fields front more found f;
   response_is = r;
   payload_is = p;

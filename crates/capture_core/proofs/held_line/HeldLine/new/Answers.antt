@@ -20,8 +20,8 @@ has_line c = (c.requires, subst (λ t. length t ≤ LINE_LIMIT) c.in_ok-bytes.en
 pub invariant_of-result : goal.invariant_of-result
 invariant_of-result c =
     let h : HoldsLine (entry_view c.args.entry) c.name_start.new.bytes.items c.len-line_length.result
-        (length c.args.entry.key.now) c.in_ok-name_start.name_start (length c.as_bytes-name.result.now)
-        c.args.entry.offset = record {
+    (length c.args.entry.key.now) c.in_ok-name_start.name_start (length c.as_bytes-name.result.now)
+    c.args.entry.offset = record {
       line = record {
         has_line = has_line c;
         line_is = line c;
