@@ -27,7 +27,7 @@ use Rattle.capture_core.specs.HttpHead.{then_more}
 use Rattle.block_digests.specs.RestDigest.{digest_of_rest}
 use Rattle.capture_core.specs.Capture.{ResponseValue, IsCaptureUnder, entry_of, response_of, digest_of, settled_digest}
 use Rattle.capture_core.specs.Capture.{payload_of}
-use Rattle.capture_core.specs.RecordReading.{reading_after, reading_of, IsFaultAt, Leaves, ReadsRest}
+use Rattle.capture_core.specs.RecordReading.{reading_after, reading_of, IsCaptureFaultAt, Leaves, ReadsRest}
 use Rattle.capture_core.specs.CaptureAnswer.{Limits, IsCaptureOf, IsEntryOf, AnswersEntry, PartsBlock}
 use Rattle.block_digests.proofs.DigestLemmas.{take_past}
 use Rattle.block_digests.proofs.VerdictLemmas.{digest-then, digest-found}
@@ -43,7 +43,7 @@ module _ {A : Type 0} (left : ℕ) (h : HeadView) (old new : ReaderView) (before
   -- an open record was read to its end, and then this was answered of it
   pub rest-whole : (r : Result A CaptureFault) (n : ℕ) → old.offset ≡ h.start
       → Finishes left (record_length h) (state_of old before k) (state_of new after k') (Ok n) → reading_of r ≡ Ok tt
-      → IfErr r (IsFaultAt h.start) → ReadsRest left h (state_of old before k) (state_of new after k') r
+      → IfErr r (IsCaptureFaultAt h.start) → ReadsRest left h (state_of old before k) (state_of new after k') r
   rest-whole r n o f own at = record {
     bytes = subst (λ x. Reads (after_record left) x (prepend_known old.held before) (prepend_known new.held after))
         (sym own) f.bytes;
@@ -125,7 +125,8 @@ module _ (limits : Limits) (h : HeadView) (name url front payload bytes digest :
   entry = entry_of h name response digest url
 
   capture-is : PartsBlock limits h front response payload → digest ≡ digest_of h (payload ++ more)
-      → IsCaptureUnder (Some url) limits.http_head limits.http_fields h (take h.parts.length (front ++ bytes)) name (Some entry)
+      → IsCaptureUnder (Some url) limits.http_head limits.http_fields h (take h.parts.length (front ++ bytes)) name
+      (Some entry)
   capture-is p d =
       let block : take h.parts.length (front ++ bytes) ≡ front
       ++ more = take_past h.parts.length front bytes p.within in
@@ -147,7 +148,8 @@ module _ (limits : Limits) (h : HeadView) (name url front payload bytes digest :
       → (r : Result (Option EntryValue) CaptureFault) → AnswersEntry limits.line entry r
       → IsCaptureOf (Some url) limits h name (front ++ bytes) r
   capture-known p d (Ok captured) a = subst
-      (IsCaptureUnder (Some url) limits.http_head limits.http_fields h (take h.parts.length (front ++ bytes)) name) (sym a)
+      (IsCaptureUnder (Some url) limits.http_head limits.http_fields h (take h.parts.length (front ++ bytes)) name)
+      (sym a)
       (capture-is p d)
   capture-known p d (Err (Archive x)) a = tt
   capture-known p d (Err (LineTooLong o)) a = (entry, capture-is p d, a)

@@ -6,7 +6,8 @@ use Rattle.warc_core.specs.HeadView.{HeadView}
 use Rattle.cdxj_core.specs.Entries.{EntryValue}
 use Rattle.capture_core.specs.HttpHead.{IsHeadOf}
 use Rattle.capture_core.specs.Indexed.{may_have_head, url_of}
-use Rattle.capture_core.specs.Capture.{IsCaptureUnder, entry_of, response_of, digest_of, payload_of, OneCapture, HasCapture}
+use Rattle.capture_core.specs.Capture.{IsCaptureUnder, entry_of, response_of, digest_of, payload_of, OneCapture}
+use Rattle.capture_core.specs.Capture.{HasCapture}
 use Rattle.capture_core.proofs.HeadLemmas.{one_head}
 
 one_found : (may : Bool) (limit few : ℕ) (block : List ℕ) (f g : Option (ResponseHead × List ℕ))
@@ -26,7 +27,8 @@ one_capture types limit few h block name a b x y = one_under (url_of types h) li
 
 -- ---- it has one
 
-head_for : (may : Bool) (limit few : ℕ) (block : List ℕ) (f : Option (ResponseHead × List ℕ)) → IsHeadOf limit few block f
+head_for : (may : Bool) (limit few : ℕ) (block : List ℕ) (f : Option (ResponseHead × List ℕ))
+    → IsHeadOf limit few block f
     → (g : Option (ResponseHead × List ℕ)) × cond may (IsHeadOf limit few block g) (g ≡ None)
 head_for true limit few block f is = (f, is)
 head_for false limit few block f is = (None, refl)

@@ -9,7 +9,7 @@ use Rattle.cdxj_core.specs.Entries.{EntryValue, IsGood, line_text, members_of, H
 use Rattle.cdxj_core.specs.Objects.{object_text}
 use Rattle.cdxj_core.proofs.EntryUtf8.{line_law}
 use Rattle.cdxj_places.proofs.Offsets.{own}
-use Rattle.capture_core.specs.Spelling.{entry_or_nothing, entry_in, Holds}
+use Rattle.capture_core.specs.Spelling.{entry_or_nothing, entry_in, HoldsLine}
 
 entry_in_line_text : (e : EntryValue) → HasLine LINE_LIMIT e → entry_in (line_text e) ≡ e
 unfolding entry_in
@@ -23,17 +23,17 @@ pub spells : (e : EntryValue) (line : List ℕ) → HasLine LINE_LIMIT e → lin
 spells e line h is = ap entry_in is ∙ entry_in_line_text e h
 
 -- bytes that hold an entry hold the one that their line spells
-pub holds_spelled : (e : EntryValue) (bytes : List ℕ) (n k s m o : ℕ) → Holds e bytes n k s m o
-    → Holds (entry_in (take n bytes)) bytes n k s m o
-holds_spelled e bytes n k s m o h = subst (λ x. Holds x bytes n k s m o)
+pub holds_spelled : (e : EntryValue) (bytes : List ℕ) (n k s m o : ℕ) → HoldsLine e bytes n k s m o
+    → HoldsLine (entry_in (take n bytes)) bytes n k s m o
+holds_spelled e bytes n k s m o h = subst (λ x. HoldsLine x bytes n k s m o)
     (sym (spells e (take n bytes) h.line.has_line h.line.line_is)) h
 
 -- of the entry that is held, as it is seen
 module _ {e seen : EntryValue} {bytes : List ℕ} {n k s m o : ℕ} where
-  pub held_good : Holds e bytes n k s m o → e ≡ seen → IsGood seen
+  pub held_good : HoldsLine e bytes n k s m o → e ≡ seen → IsGood seen
   held_good h is = subst IsGood is h.line.has_line.0
 
-  pub held_key : Holds e bytes n k s m o → e ≡ seen → k ≡ length seen.key
+  pub held_key : HoldsLine e bytes n k s m o → e ≡ seen → k ≡ length seen.key
   held_key h is = h.line.key_length_is ∙ ap (λ x. length x.key) is
 
 -- ---- the key and the stamp

@@ -88,14 +88,16 @@ head-for limit few h front found l e = head-where (may_have_head h) limit few h.
 module _ (limits : Limits) (h : HeadView) (front payload : List ℕ) (response : Option ResponseValue)
     (found : Option (ResponseHead × List ℕ)) where
   -- the whole front parts the block
-  pub parts-front : length front ≡ front_length limits.http_head h → IsHeadFor limits.http_head limits.http_fields h front found
+  pub parts-front : length front ≡ front_length limits.http_head h
+      → IsHeadFor limits.http_head limits.http_fields h front found
       → response ≡ option_map (λ f. response_of f.0) found → payload ≡ payload_of front found
       → PartsBlock limits h front response payload
   parts-front l f r p = record {
     found = found;
     within = subst (λ n. n ≤ h.parts.length) (sym l)
         (min-le_left h.parts.length (if may_have_head h then limits.http_head else 0));
-    decides = λ more few. found-front (may_have_head h) limits.http_head limits.http_fields h.parts.length front more found l few
+    decides = λ more few. found-front (may_have_head h) limits.http_head limits.http_fields h.parts.length front more
+        found l few
         f;
     response_is = r;
     payload_is = p;
@@ -111,7 +113,8 @@ parts-first view limits h front payload None found l f r p s = absurd (cc)
 parts-first view limits h front payload (Some x) None l f r p s = absurd (cc)
 parts-first view limits h front payload (Some x) (Some found) l f r p s = record {
   found = Some found;
-  within = (let m = min-le_left h.parts.length (if may_have_head h then limits.http_head else 0) in omega (arith, l, m));
+  within = (let m = min-le_left h.parts.length (if may_have_head h then limits.http_head else 0) in
+      omega (arith, l, m));
   decides = λ more few. found-first (may_have_head h) limits.http_head limits.http_fields front more found f;
   response_is = r;
   payload_is = p;

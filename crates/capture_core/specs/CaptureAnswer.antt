@@ -17,14 +17,15 @@ pub record Limits : Type 0 where
   pub http_fields : ℕ
   pub line : ℕ
 
--- The answer is the capture, under this URL, of the record that begins the bytes, within the limit of a line, or says that its
--- line is too long. That a key is too long is said only of a record that is indexed.
+-- The answer is the capture, under this URL, of the record that begins the bytes, within the limit of a line, or says
+-- that its line is too long. That a key is too long is said only of a record that is indexed.
 abbrev pub IsCaptureOf : Option (List ℕ) → Limits → HeadView → List ℕ → List ℕ → Result (Option EntryValue) CaptureFault
     → Type 0
 IsCaptureOf url limits h name bytes (Ok captured) = IsCaptureUnder url limits.http_head limits.http_fields h
     (take h.parts.length bytes) name captured
 IsCaptureOf url limits h name bytes (Err (LineTooLong o)) =
-    (entry : EntryValue) × IsCaptureUnder url limits.http_head limits.http_fields h (take h.parts.length bytes) name (Some entry)
+    (entry : EntryValue) × IsCaptureUnder url limits.http_head limits.http_fields h (take h.parts.length bytes) name
+    (Some entry)
     × (limits.line < length (line_text entry))
 IsCaptureOf url limits h name bytes (Err (KeyTooLong o)) = IsSome url
 IsCaptureOf url limits h name bytes (Err other) = ⊤
@@ -42,8 +43,8 @@ Captures url limits h name before r = IfSome before (λ bytes. IsCaptureOf url l
 abbrev pub usual_limits : Limits
 usual_limits = record { http_head = HTTP_HEAD_LIMIT; http_fields = HTTP_FIELD_LIMIT; line = LINE_LIMIT }
 
--- These first bytes of a record's block are split as the whole block is: the head that was found in them is that of every
--- block that begins with them and is no longer than the record's.
+-- These first bytes of a record's block are split as the whole block is: the head that was found in them is that of
+-- every block that begins with them and is no longer than the record's.
 pub record PartsBlock (limits : Limits) (h : HeadView) (front : List ℕ) (response : Option ResponseValue)
     (payload : List ℕ) : Type 0 where
   pub found : Option (ResponseHead × List ℕ)

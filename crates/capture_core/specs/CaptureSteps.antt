@@ -21,7 +21,8 @@ pub record HasFront (indexed : Indexed) (front : List ℕ) (reader : ReaderView)
   pub stands : StandsAt reader indexed.head.now.start
       (Open (indexed.head.now.parts.length - length front) (record_length indexed.head.now))
 
--- A call filled the front behind its first bytes with the next bytes of an open record's block, or failed by what it met.
+-- A call filled the front behind its first bytes with the next bytes of an open record's block, or failed by what it
+-- met.
 abbrev pub FillsBehind : List ℕ → ℕ → ℕ → ReaderState → ReaderState → Result (Unit {0}) Fault → List ℕ → Type 0
 FillsBehind first left len old new r front = (piece : List ℕ) × (front ≡ first ++ piece)
     × Fills left len old new r piece

@@ -11,7 +11,7 @@ fault_offset (LineTooLong offset) = offset
 fault_offset (KeyTooLong offset) = offset
 
 -- the name of a fault's cause, as listings print it
-abbrev pub fault_name : CaptureFault → List ℕ
-fault_name (Archive f) = cause_name f.cause
-fault_name (LineTooLong offset) = codes "LineTooLong"
-fault_name (KeyTooLong offset) = codes "KeyTooLong"
+abbrev pub capture_fault_name : CaptureFault → List ℕ
+capture_fault_name (Archive f) = cause_name f.cause
+capture_fault_name (LineTooLong offset) = codes "LineTooLong"
+capture_fault_name (KeyTooLong offset) = codes "KeyTooLong"

@@ -1,4 +1,5 @@
--- The HTTP head at the front of a block: a response head (RFC 9112, section 2.1), within a limit of bytes and of fields.
+-- The HTTP head at the front of a block: a response head (RFC 9112, section 2.1), within a limit of bytes and of
+-- fields.
 use Rattle.std.specs.Prelude.{◌≡◌, ℕ, ◌≤◌, List, [], ◌∷◌, ◌++◌, length, take, drop, map, Option, Some, None, option_map}
 use Rattle.std.specs.Prelude.{if◌then◌else◌}
 use Rattle.std.specs.Str.{str_eq_ignore_ascii_case}
@@ -23,7 +24,8 @@ IsHeadOf bytes fields block (Some found) = BeginsWithHead bytes fields block fou
 -- the value of the first field of that name, without regard to case
 abbrev pub first_field_value : List ℕ → List (List ℕ × List ℕ) → Option (List ℕ)
 first_field_value name [] = None
-first_field_value name (f ∷ fields) = if str_eq_ignore_ascii_case f.0 name then Some f.1 else first_field_value name fields
+first_field_value name (f ∷ fields) =
+    if str_eq_ignore_ascii_case f.0 name then Some f.1 else first_field_value name fields
 
 -- the value of the head's first field of that name
 abbrev pub field_of : List ℕ → ResponseHead → Option (List ℕ)

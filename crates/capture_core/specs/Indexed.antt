@@ -13,12 +13,12 @@ abbrev pub field : List ℕ → HeadView → Option (List ℕ)
 field name h = value_of name h.parts.fields
 
 -- the target of the record, without the brackets that some writers put around it
-abbrev pub target_of : HeadView → Option (List ℕ)
-target_of h = option_and_then (λ value. non_empty (without_brackets value)) (field (codes "WARC-Target-URI") h)
+abbrev pub target_uri : HeadView → Option (List ℕ)
+target_uri h = option_and_then (λ value. non_empty (without_brackets value)) (field (codes "WARC-Target-URI") h)
 
 -- the URL under which the record is indexed, where its type is among these and it has a target
 abbrev pub url_of : (Kind → Bool) → HeadView → Option (List ℕ)
-url_of types h = if types h.parts.kind then target_of h else None
+url_of types h = if types h.parts.kind then target_uri h else None
 
 -- the media type is that of an HTTP message (RFC 9112, section 10.2)
 abbrev pub is_http : Option (List ℕ) → Bool

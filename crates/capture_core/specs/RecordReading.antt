@@ -26,10 +26,10 @@ reading_of (Err (LineTooLong o)) = Ok tt
 reading_of (Err (KeyTooLong o)) = Ok tt
 
 -- the fault names this offset
-abbrev pub IsFaultAt : ℕ → CaptureFault → Type 0
-IsFaultAt start (Archive f) = f.offset ≡ start
-IsFaultAt start (LineTooLong o) = o ≡ start
-IsFaultAt start (KeyTooLong o) = o ≡ start
+abbrev pub IsCaptureFaultAt : ℕ → CaptureFault → Type 0
+IsCaptureFaultAt start (Archive f) = f.offset ≡ start
+IsCaptureFaultAt start (LineTooLong o) = o ≡ start
+IsCaptureFaultAt start (KeyTooLong o) = o ≡ start
 
 -- where the reader stands: after the record, or failed at its start
 abbrev pub Leaves : HeadView → ReaderView → Result (Unit {0}) Cause → Type 0
@@ -41,7 +41,7 @@ pub record ReadsRest {A : Type 0} (left : ℕ) (h : HeadView) (old new : ReaderS
   where
     pub bytes : Reads (after_record left) (reading_of r) (ahead old) (ahead new)
     pub state : Leaves h new.reader (reading_of r)
-    pub fault : IfErr r (IsFaultAt h.start)
+    pub fault : IfErr r (IsCaptureFaultAt h.start)
     pub cause : IfErr (reading_of r) StopsRecord
     pub failures : CountsRead (reading_of r) old.failures new.failures
 

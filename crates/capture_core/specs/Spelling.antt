@@ -47,8 +47,8 @@ pub record IsLineOf (e : EntryValue) (line : List ℕ) (key_length : ℕ) (filen
   pub offset_is : offset ≡ e.offset
 
 -- bytes that begin with the line of an entry, and have its file name at this place
-pub record Holds (e : EntryValue) (bytes : List ℕ) (line_length key_length name_start name_length offset : ℕ) : Type 0
-  where
-    pub line : IsLineOf e (take line_length bytes) key_length (take name_length (drop name_start bytes)) offset
-    pub line_within : line_length ≤ length bytes
-    pub name_within : name_start + name_length ≤ length bytes
+pub record HoldsLine (e : EntryValue) (bytes : List ℕ)
+    (line_length key_length name_start name_length offset : ℕ) : Type 0 where
+  pub line : IsLineOf e (take line_length bytes) key_length (take name_length (drop name_start bytes)) offset
+  pub line_within : line_length ≤ length bytes
+  pub name_within : name_start + name_length ≤ length bytes

@@ -3,7 +3,7 @@ ghost use Rattle.std.specs.Prelude.{◌≡◌, ◌<◌, length, Ok, Err, IfOk, I
 ghost use Rattle.cdxj_core.specs.Entries.{line_text};
 ghost use Rattle.capture_core.specs.Capture.{entry_of};
 ghost use Rattle.capture_core.specs.CaptureAnswer.{IsEntryOf};
-ghost use Rattle.capture_core.specs.RecordReading.{IsFaultAt, reading_of};
+ghost use Rattle.capture_core.specs.RecordReading.{IsCaptureFaultAt, reading_of};
 ghost use Rattle.capture_core.specs.ResponseView.{response_view};
 
 use crate::entry_line::{Refusal, entry_line};
@@ -46,7 +46,7 @@ pub(crate) fn capture_line(
     ensures long { result ≡ Err (CaptureFault.LineTooLong indexed.entry.head.now.start) →
         LINE_LIMIT < length (line_text (entry_of indexed.entry.head.now indexed.entry.name.now
         (option_map response_view response.entry) digest.now indexed.entry.url.now)) }
-    ensures fault { IfErr result (IsFaultAt indexed.entry.head.now.start) }
+    ensures fault { IfErr result (IsCaptureFaultAt indexed.entry.head.now.start) }
     ensures own { reading_of result ≡ Ok tt }
 {
     match entry_line(alloc, indexed, response, digest) {

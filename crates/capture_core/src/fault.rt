@@ -22,7 +22,7 @@ pub enum CaptureFault {
 }
 
 impl CaptureFault {
-    ghost use Rattle.capture_core.specs.Fault.{fault_offset, fault_name};
+    ghost use Rattle.capture_core.specs.Fault.{fault_offset, capture_fault_name};
 
     /// Returns the offset of the record at fault, in bytes from the archive's start.
     pub fn offset(self) -> u64
@@ -38,7 +38,7 @@ impl CaptureFault {
     /// Returns the cause as listings print it: that of the archive's fault, `LineTooLong` or
     /// `KeyTooLong`.
     pub fn name(self) -> &'static str
-        ensures { result.now ≡ fault_name self }
+        ensures { result.now ≡ capture_fault_name self }
     {
         match self {
             CaptureFault::Archive(fault) => fault.cause.name(),

@@ -24,13 +24,13 @@ pub struct HeldLine {
 impl Model for HeldLine {
     ghost use Rattle.std.specs.Prelude.{take, drop};
     ghost use Rattle.cdxj_core.specs.Entries.{EntryValue};
-    ghost use Rattle.capture_core.specs.Spelling.{Holds, entry_in};
+    ghost use Rattle.capture_core.specs.Spelling.{HoldsLine, entry_in};
 
     ghost Value = { EntryValue };
 
     ghost view = { λ h. entry_in (take h.line_length h.bytes.items) };
 
-    ghost invariant = { λ h. Holds (entry_in (take h.line_length h.bytes.items)) h.bytes.items
+    ghost invariant = { λ h. HoldsLine (entry_in (take h.line_length h.bytes.items)) h.bytes.items
         h.line_length h.key_length h.name_start h.name_length h.offset };
 }
 

@@ -1,6 +1,6 @@
 //! The records that are indexed, and their URLs.
 ghost use Rattle.std.specs.Prelude.{◌≡◌, ◌<◌, length, MatchOption, IfSome, Some, None};
-ghost use Rattle.capture_core.specs.Indexed.{target_of, url_of};
+ghost use Rattle.capture_core.specs.Indexed.{target_uri, url_of};
 ghost use Rattle.capture_core.specs.Types.{includes};
 
 use crate::field_value::{non_empty, without_brackets};
@@ -10,8 +10,8 @@ use warc_core::Head;
 /// Returns the value of `WARC-Target-URI` without one enclosing pair of `<` and `>`, or `None` if
 /// nothing is left.
 fn target(head: &Head) -> Option<&[u8]>
-    ensures { MatchOption result (target_of head.now ≡ None)
-        (λ t. target_of head.now ≡ Some t.now) }
+    ensures { MatchOption result (target_uri head.now ≡ None)
+        (λ t. target_uri head.now ≡ Some t.now) }
 {
     match head.field(b"WARC-Target-URI") {
         Some(value) => non_empty(without_brackets(value)),

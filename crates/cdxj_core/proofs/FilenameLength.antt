@@ -20,7 +20,7 @@ use Rattle.cdxj_places.proofs.PairLemmas.{around}
 use Rattle.cdxj_core.specs.Lines.{LineValue, has_no_feed, body_of, line_object, line_parts, line_from, line_in}
 use Rattle.cdxj_objects.specs.MemberValues.{offset_value, filename_value}
 use Rattle.cdxj_objects.specs.Names.{offset_name, filename_name}
-use Rattle.cdxj_core.specs.Lines.{values_of}
+use Rattle.cdxj_core.specs.Lines.{object_values}
 use Rattle.cdxj_core.specs.Members.{Member, line_entry}
 use Rattle.cdxj_core.proofs.PairLaw.{if_test, and_then_some, map_some, some_read}
 use Rattle.cdxj_core.proofs.MemberLemmas.{entered}
@@ -268,10 +268,10 @@ filename_in_body limit body v h =
     let outer = if_test (nat_lt (length body) limit && has_no_feed body) (line_parts key stamp object) v h in
     let inner = if_test (is_key key && is_stamp stamp) (line_object key stamp object) v outer.1 in
     let was_read = and_then_some (line_from key stamp) (read object) v inner.1 in
-    let named = and_then_some (λ filename. option_map (values_of key stamp was_read.0 filename)
+    let named = and_then_some (λ filename. option_map (object_values key stamp was_read.0 filename)
     (offset_value (get offset_name was_read.0))) (filename_value (get filename_name was_read.0)) v
     was_read.2 in
-    let made = map_some (values_of key stamp was_read.0 named.0) (offset_value (get offset_name was_read.0)) v
+    let made = map_some (object_values key stamp was_read.0 named.0) (offset_value (get offset_name was_read.0)) v
     named.2 in
     let filename_is : named.0 ≡ v.filename = ap (λ w. w.filename) made.1 in
     let within = filename_in object named.0 was_read.0 was_read.1 named.1 in

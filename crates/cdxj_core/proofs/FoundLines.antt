@@ -1,6 +1,7 @@
 -- What is found in an object decides what its line says.
 use Rattle.std.proofs.Common.{◌≡◌, ℕ, List, decimal, Option, Some, None, option_map, option_and_then, refl, ap, ◌∙◌}
-use Rattle.serde_json.specs.Data.{unsigned, negative, float, Data, null, boolean, number, string, array, object, Members}
+use Rattle.serde_json.specs.Data.{unsigned, negative, float, Data, null, boolean, number, string, array, object}
+use Rattle.serde_json.specs.Data.{Members}
 use Rattle.serde_json.specs.Find.{get_member}
 use Rattle.serde_json.specs.Read.{read as read_text}
 use Rattle.cdxj_objects.specs.FoundMembers.{FoundValue, member_data, found_of, object_found, members_in}

@@ -16,7 +16,7 @@ use Rattle.cdxj_places.proofs.PlaceLaw.{both}
 use Rattle.cdxj_objects.specs.declared.member_ends.TheConstants.{OPEN}
 use Rattle.cdxj_objects.specs.FoundMembers.{FoundValue, object_found, members_in}
 use Rattle.cdxj_objects.specs.MemberValues.{filename_value, offset_value}
-use Rattle.cdxj_objects.specs.Plain.{ArePlain, IsCutAt, plain_text, values_of_texts}
+use Rattle.cdxj_objects.specs.Plain.{ArePlain, IsCutAtByte, plain_text, values_of_texts}
 use Rattle.cdxj_objects.specs.PlainPlaces.{AreEndsOf}
 use Rattle.cdxj_objects.specs.Spelling.{IsSpelled, raw_texts, found_texts}
 use Rattle.cdxj_objects.specs.Texts.{TextsValue, missing, or_missing}
@@ -126,7 +126,7 @@ kept_line limit text body tail key stamp object t offset at s utf8 entry seam cu
 
 -- a plain line is its own text
 pub plain_kept : (limit : ℕ) (text key rest stamp object : List ℕ) (t : TextsValue) (offset : ℕ) (s : Spans)
-    → IsUtf8 text → list_all is_clean text ≡ true → length text < limit → IsCutAt 32 text key rest → 0 < length key
+    → IsUtf8 text → list_all is_clean text ≡ true → length text < limit → IsCutAtByte 32 text key rest → 0 < length key
     → (rest ≡ stamp ++ 32 ∷ object) × (is_stamp stamp ≡ true) → (object ≡ plain_text t) × ArePlain t
     → offset_of t.offset ≡ Some offset → offset < 2 ^ 63 → t.offset ≡ decimal offset → 0 < length t.filename
     → s.size ≡ length text → s.key ≡ length key → s.stamp ≡ stamp → s.offset ≡ offset → s.start ≡ length key + TO_URL

@@ -6,7 +6,7 @@ use Rattle.std.proofs.lemmas.List.Elements.{All-weaker}
 use Rattle.std.proofs.lemmas.List.Sums.{AllPass-from_list_all}
 use Rattle.cdxj_places.specs.Pair.{is_space, is_stamp}
 use Rattle.cdxj_places.proofs.PlaceLaw.{before_first_at, after_first_at, digits_no_space}
-use Rattle.cdxj_objects.specs.Plain.{is_other, IsCutAt}
+use Rattle.cdxj_objects.specs.Plain.{is_other, IsCutAtByte}
 
 -- a stamp and a space cut a text at its first space
 pub first_stamp : (text stamp rest : List ℕ) → (text ≡ stamp ++ 32 ∷ rest) × (is_stamp stamp ≡ true)
@@ -18,7 +18,7 @@ first_stamp text stamp rest cut =
     )
 
 -- what a text is cut at the first of these bytes into
-pub first_cut : (text front rest : List ℕ) → IsCutAt 32 text front rest → (before_first is_space text ≡ front)
+pub first_cut : (text front rest : List ℕ) → IsCutAtByte 32 text front rest → (before_first is_space text ≡ front)
     × (after_first is_space text ≡ rest)
 first_cut text front rest cut =
     let free : All (λ b. b ≢ 32) front = All-weaker (λ b. is_other 32 b ≡ true) (λ b. b ≢ 32)

@@ -13,7 +13,7 @@ use Rattle.cdxj_places.specs.Pair.{is_space, is_key, is_stamp, pair_of}
 use Rattle.cdxj_core.specs.Lines.{LineValue, has_no_feed, body_of, line_object, line_parts, line_from, line_in}
 use Rattle.cdxj_objects.specs.MemberValues.{offset_value, filename_value}
 use Rattle.cdxj_objects.specs.Names.{offset_name, filename_name}
-use Rattle.cdxj_core.specs.Lines.{values_of}
+use Rattle.cdxj_core.specs.Lines.{object_values}
 use Rattle.cdxj_places.proofs.PlaceLaw.{both}
 use Rattle.cdxj_places.proofs.PairLemmas.{pair_of-parts, around}
 
@@ -55,10 +55,10 @@ line_pair line limit v h =
     let inner = if_test (is_key key && is_stamp stamp) (line_object key stamp object) v outer.1 in
     let tests = and_parts (is_key key) (is_stamp stamp) inner.0 in
     let was_read = and_then_some (line_from key stamp) (read object) v inner.1 in
-    let named = and_then_some (λ filename. option_map (values_of key stamp was_read.0 filename)
+    let named = and_then_some (λ filename. option_map (object_values key stamp was_read.0 filename)
     (offset_value (get offset_name was_read.0))) (filename_value (get filename_name was_read.0)) v
     was_read.2 in
-    let made = map_some (values_of key stamp was_read.0 named.0) (offset_value (get offset_name was_read.0)) v
+    let made = map_some (object_values key stamp was_read.0 named.0) (offset_value (get offset_name was_read.0)) v
     named.2 in
     let object_some : 0 < length object = some_read object was_read.0 was_read.1 in
     let stamp_len : length stamp ≡ 14 = eqb-true (length stamp) 14 (and_parts _ _ tests.1).0 in

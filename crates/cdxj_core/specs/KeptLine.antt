@@ -4,7 +4,7 @@ use Rattle.std.specs.Str.{IsCharBoundary}
 use Rattle.cdxj_places.specs.Pair.{is_key, is_stamp}
 use Rattle.cdxj_objects.specs.declared.member_ends.MemberEnds.{MemberEnds}
 use Rattle.cdxj_objects.specs.Plain.{ArePlain, values_of_texts}
-use Rattle.cdxj_objects.specs.PlainPlaces.{AreParts, IsPart, part, texts_at}
+use Rattle.cdxj_objects.specs.PlainPlaces.{AreParts, IsPartBetween, part, texts_at}
 use Rattle.cdxj_objects.specs.Texts.{TextsValue}
 use Rattle.cdxj_core.specs.declared.spans.Spans.{Spans}
 use Rattle.cdxj_core.specs.declared.spans.TheConstants.{TO_STAMP, TO_STAMP_END}
@@ -37,7 +37,7 @@ pub record IsKept (limit : ℕ) (text : List ℕ) (s : Spans) (member : Member) 
   pub line_ends : IsCharBoundary text s.size
   pub key_is : take s.key text ≡ member.values.key
   pub key_ends : IsCharBoundary text s.key
-  pub stamp_ends : IsPart text (s.key + TO_STAMP) (s.key + TO_STAMP_END)
+  pub stamp_ends : IsPartBetween text (s.key + TO_STAMP) (s.key + TO_STAMP_END)
   pub stamp_text : part text (s.key + TO_STAMP) (s.key + TO_STAMP_END) ≡ member.values.stamp
   pub stamp_is : s.stamp ≡ member.values.stamp
   pub offset_is : s.offset ≡ member.values.offset

@@ -86,13 +86,13 @@ texts_of d filename offset = record {
 }
 
 -- the values of an object after a pair
-abbrev pub values_of : List ℕ → List ℕ → Data → List ℕ → ℕ → LineValue
-values_of key stamp d filename offset = line_value key stamp (texts_of d filename offset) offset
+abbrev pub object_values : List ℕ → List ℕ → Data → List ℕ → ℕ → LineValue
+object_values key stamp d filename offset = line_value key stamp (texts_of d filename offset) offset
 
 -- the same, where the file name and the offset are good
 abbrev pub line_from : List ℕ → List ℕ → Data → Option LineValue
 line_from key stamp d =
-    option_and_then (λ filename. option_map (values_of key stamp d filename)
+    option_and_then (λ filename. option_map (object_values key stamp d filename)
     (offset_value (get offset_name d))) (filename_value (get filename_name d))
 
 -- the line without a line feed at its end

@@ -1,7 +1,8 @@
 -- The entry of a line: its nine values, and the line.
-use Rattle.std.specs.Prelude.{◌≡◌, ℕ, ◌<◌, ◌≤◌, List, length, Option, None, Some, option_map, Result, Ok, Err}
-use Rattle.std.specs.Prelude.{if◌then◌else◌}
+use Rattle.std.specs.Prelude.{◌≡◌, ℕ, ◌<◌, ◌≤◌, List, [], ◌∷◌, ◌++◌, length, Option, None, Some, option_map, Result, Ok}
+use Rattle.std.specs.Prelude.{Err, if◌then◌else◌}
 use Rattle.std.specs.Str.{is_utf8}
+use Rattle.cdxj_places.specs.Bytes.{line_feed}
 use Rattle.cdxj_places.specs.Pairs.{Pair}
 use Rattle.cdxj_places.specs.Places.{PlaceValue}
 use Rattle.cdxj_core.specs.declared.fault.LineFault.{LineFault}
@@ -20,6 +21,10 @@ member_place m = line_place m.values
 abbrev pub member_pair : Member → Pair
 member_pair m = (m.values.key, m.values.stamp)
 
+-- its line with a line feed
+abbrev pub line_row : Member → List ℕ
+line_row m = m.line ++ line_feed ∷ []
+
 -- the member that the line of an entry is
 abbrev pub entry_member : EntryValue → Member
 entry_member e = record { values = entry_values e; line = body_text e }
@@ -34,9 +39,9 @@ line_entry limit line =
 
 -- What a reading of a line answers. A line that is too long is that first; memory may be refused
 -- for any other.
-abbrev pub IsReading : ℕ → List ℕ → Result Member LineFault → Type 0
-IsReading limit line (Ok member) = line_entry limit line ≡ Some member
-IsReading limit line (Err faults.LineTooLong) = limit ≤ length (body_of line)
-IsReading limit line (Err faults.BadLine) = (length (body_of line) < limit)
+abbrev pub IsLineReading : ℕ → List ℕ → Result Member LineFault → Type 0
+IsLineReading limit line (Ok member) = line_entry limit line ≡ Some member
+IsLineReading limit line (Err faults.LineTooLong) = limit ≤ length (body_of line)
+IsLineReading limit line (Err faults.BadLine) = (length (body_of line) < limit)
     × (line_entry limit line ≡ None)
-IsReading limit line (Err faults.Memory) = length (body_of line) < limit
+IsLineReading limit line (Err faults.Memory) = length (body_of line) < limit

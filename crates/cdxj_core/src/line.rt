@@ -58,13 +58,13 @@ fn fill(buffer: &mut String, text: &str)
 
 impl Line {
     ghost use Rattle.std.specs.Prelude.{IfOk, OnErr, MatchResult, Ok, Err, Some};
-    ghost use Rattle.cdxj_core.specs.Members.{member_place, line_entry, IsReading};
+    ghost use Rattle.cdxj_core.specs.Members.{member_place, line_entry, IsLineReading};
     ghost use Rattle.cdxj_places.specs.PlaceViews.{place_view};
 
     /// Reads a line, with or without its line feed. Errors are those of `LineRef::read`.
     #[tactic(auto, using(crate::proofs::MemberLemmas::entry_is_short))]
     pub fn read(alloc: Global, line: &[u8]) -> Result<Line, LineFault>
-        ensures { IsReading LINE_LIMIT line.now result }
+        ensures { IsLineReading LINE_LIMIT line.now result }
     {
         match LineParts::read(line) {
             Some(parts) => Ok(Line::of(alloc, &parts)?),
@@ -74,7 +74,7 @@ impl Line {
 
     /// Reads a line that has any JSON object.
     pub(crate) fn read_json(alloc: Global, line: &[u8]) -> Result<Line, LineFault>
-        ensures { IsReading LINE_LIMIT line.now result }
+        ensures { IsLineReading LINE_LIMIT line.now result }
     {
         Line::read_with(alloc, line, &mut Scratch::new(alloc))
     }
@@ -83,7 +83,7 @@ impl Line {
     #[inline(never)]
     #[tactic(auto, unfolding(crate::specs::Lines::line_in))]
     fn read_with(alloc: Global, line: &[u8], scratch: &mut Scratch) -> Result<Line, LineFault>
-        ensures { IsReading LINE_LIMIT line.now result }
+        ensures { IsLineReading LINE_LIMIT line.now result }
     {
         let body = body_of(line);
         if body.len() >= LINE_LIMIT {
@@ -150,8 +150,8 @@ impl Line {
     /// takes no memory. Errors are those of `LineRef::read`; after an error this line is unchanged.
     #[tactic(auto, using(crate::proofs::MemberLemmas::entry_is_short))]
     pub fn refill(&mut self, line: &[u8]) -> Result<(), LineFault>
-        ensures { MatchResult result (λ _. IsReading LINE_LIMIT line.now (Ok self.new))
-            (λ fault. IsReading LINE_LIMIT line.now (Err fault) × (self.new ≡ self.old)) }
+        ensures { MatchResult result (λ _. IsLineReading LINE_LIMIT line.now (Ok self.new))
+            (λ fault. IsLineReading LINE_LIMIT line.now (Err fault) × (self.new ≡ self.old)) }
     {
         match LineParts::read(line) {
             Some(parts) => {

@@ -61,7 +61,7 @@ impl<'a> LineRef<'a> {
     ghost use Rattle.json.specs.Run.{is_plain};
     ghost use Rattle.cdxj_core.specs.declared.field.Field.{Field};
     ghost use Rattle.cdxj_core.specs.Lines.{field_value};
-    ghost use Rattle.cdxj_core.specs.Members.{member_place, line_entry, IsReading};
+    ghost use Rattle.cdxj_core.specs.Members.{member_place, line_entry, IsLineReading};
     ghost use Rattle.cdxj_places.specs.PlaceViews.{place_view};
 
     /// Reads a line, with or without its line feed: a key, a space, a stamp, a space and a JSON
@@ -70,7 +70,7 @@ impl<'a> LineRef<'a> {
     /// The error is `LineTooLong`, which is checked first, if the line has more than `LINE_LIMIT`
     /// bytes, counted with a line feed. It is `BadLine` if the line doesn't have this form.
     pub fn read(alloc: Global, line: &'a [u8]) -> Result<LineRef<'a>, LineFault>
-        ensures { IsReading LINE_LIMIT line.now result }
+        ensures { IsLineReading LINE_LIMIT line.now result }
     {
         match LineParts::read(line) {
             Some(parts) => Ok(LineRef {

@@ -8,8 +8,8 @@ use Rattle.url.specs.Parts.{serialize}
 use Rattle.url.specs.Scheme.{IsScheme, scheme_type}
 use Rattle.url.specs.declared.scheme.SchemeType.TheVariants.{SpecialNotFile}
 use Rattle.cdxj_keys.specs.Key.{domain_text, folded, key_of, key_text, is_web, query_text, web_text}
-use Rattle.cdxj_keys.specs.PlainUrls.{plain_parts, plain_text, is_plain_byte, IsPlainHost, IsPlainQuery, IsPlainTail}
-use Rattle.cdxj_keys.specs.PlainUrls.{IsPlainUrl}
+use Rattle.cdxj_keys.specs.PlainUrls.{plain_parts, plain_key_text, is_plain_byte, IsPlainHost, IsPlainQuery}
+use Rattle.cdxj_keys.specs.PlainUrls.{IsPlainTail, IsPlainUrl}
 use Rattle.cdxj_keys.proofs.PlainLaws.{parses, http_scheme, https_scheme, http_kind, https_kind}
 use Rattle.cdxj_keys.proofs.PlainTails.{spelled}
 
@@ -38,7 +38,7 @@ key_is scheme host path query =
 with_scheme : (scheme target host tail : List ℕ) → IsScheme scheme → scheme_type scheme ≡ SpecialNotFile
     → ((path : List ℕ) (query : Option (List ℕ)) → is_web (plain_parts scheme host path query) ≡ true)
     → target ≡ scheme ++ (codes "://" ++ (host ++ tail)) → IsPlainHost host → IsPlainTail tail
-    → key_text (parse_url None target) target ≡ plain_text host tail
+    → key_text (parse_url None target) target ≡ plain_key_text host tail
 with_scheme scheme target host tail is_scheme kind web cut plain_host t =
     let url = plain_parts scheme host t.path t.query in
     let text : target ≡ serialize url = cut ∙ ap (λ l. scheme ++ (codes "://" ++ (host ++ l))) t.cut
@@ -50,7 +50,7 @@ with_scheme scheme target host tail is_scheme kind web cut plain_host t =
     ∙ key_is scheme host t.path t.query ∙ ap (λ l. domain_text host ++ (codes ")" ++ l)) (sym t.cut)
 
 pub plain_key_of : (target host tail : List ℕ) → IsPlainUrl target host tail → key_of target ≡ folded
-    (plain_text host tail)
+    (plain_key_text host tail)
 unfolding key_of
 plain_key_of target host tail url =
     ap folded (elim url.cut [

@@ -73,5 +73,5 @@ pub record IsPlainUrl (target host tail : List ℕ) : Type 0 where
   pub plain_tail : IsPlainTail tail
 
 -- the key text of a URL that is left as it is
-abbrev pub plain_text : List ℕ → List ℕ → List ℕ
-plain_text host tail = domain_text host ++ (codes ")" ++ tail)
+abbrev pub plain_key_text : List ℕ → List ℕ → List ℕ
+plain_key_text host tail = domain_text host ++ (codes ")" ++ tail)

@@ -5,7 +5,7 @@ ghost use Rattle.std.specs.Char.{digit_char};
 ghost use Rattle.std.specs.List.{list_all};
 ghost use Rattle.url.specs.Parser.{parse_url};
 ghost use Rattle.cdxj_places.specs.Pair.{is_key};
-ghost use Rattle.cdxj_keys.specs.PlainUrls.{plain_text};
+ghost use Rattle.cdxj_keys.specs.PlainUrls.{plain_key_text};
 ghost use Rattle.cdxj_keys.specs.Key.{port_text, query_text, is_web, web_text, key_text, is_graphic, key_byte, folded, key_of, host_key_of};
 
 use crate::fault::KeyFault;
@@ -82,7 +82,7 @@ fn key_from(alloc: Global, text: &[u8]) -> Result<String, AllocError>
 /// Returns the key of a URL that the parser leaves as it is.
 fn plain_key(alloc: Global, url: PlainUrl<'_>) -> Result<String, AllocError>
     ensures value { IfOk result (λ key. string_bytes key
-        ≡ folded (plain_text url.entry.host.now url.entry.tail.now)) }
+        ≡ folded (plain_key_text url.entry.host.now url.entry.tail.now)) }
     ensures key { IfOk result (λ key. is_key (string_bytes key) ≡ true) }
 {
     let mut text = domain_text(alloc, url.host.as_bytes())?;

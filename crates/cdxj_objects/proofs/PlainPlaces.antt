@@ -5,12 +5,12 @@ use Rattle.std.specs.Str.{IsCharBoundary}
 use Rattle.std.proofs.lemmas.Str.{IsCharBoundary-before_ascii, IsCharBoundary-after_ascii}
 use Rattle.std.proofs.Math.Seq.{take-append_seam, drop-append_seam}
 use Rattle.cdxj_objects.specs.declared.member_ends.MemberEnds.{MemberEnds}
-use Rattle.cdxj_objects.specs.declared.member_ends.TheConstants.{OPEN, TO_MIME, TO_STATUS, TO_DIGEST, TO_LENGTH, TO_OFFSET}
-use Rattle.cdxj_objects.specs.declared.member_ends.TheConstants.{TO_FILENAME, CLOSE}
+use Rattle.cdxj_objects.specs.declared.member_ends.TheConstants.{OPEN, TO_MIME, TO_STATUS, TO_DIGEST, TO_LENGTH}
+use Rattle.cdxj_objects.specs.declared.member_ends.TheConstants.{TO_OFFSET, TO_FILENAME, CLOSE}
 use Rattle.cdxj_objects.specs.Names.{url_name, mime_name, status_name, digest_name, length_name, offset_name}
 use Rattle.cdxj_objects.specs.Names.{filename_name}
 use Rattle.cdxj_objects.specs.Plain.{after, later_front, plain_text}
-use Rattle.cdxj_objects.specs.PlainPlaces.{AreEndsOf, AreParts, IsPart, part, texts_at}
+use Rattle.cdxj_objects.specs.PlainPlaces.{AreEndsOf, AreParts, IsPartBetween, part, texts_at}
 use Rattle.cdxj_objects.specs.Texts.{TextsValue}
 
 pub byte_at : (xs : List ℕ) (i b : ℕ) (ys : List ℕ) → drop i xs ≡ b ∷ ys → get_or xs i 0 ≡ b
@@ -25,7 +25,7 @@ GoesOn text at rest = (at ≤ length text) × (drop at text ≡ rest)
 
 -- a name stands there, and what follows it
 pub record Next (text : List ℕ) (start end : ℕ) (name rest : List ℕ) : Type 0 where
-  pub ends : IsPart text start end
+  pub ends : IsPartBetween text start end
   pub is : part text start end ≡ name
   pub goes_on : GoesOn text end rest
 
@@ -89,7 +89,8 @@ module _ (text : List ℕ) (utf8 : IsUtf8 text) where
     from_mime = after (later_front mime_name) t.mime from_status
 
     at_url : Next text start e.url t.url (34 ∷ from_mime)
-    at_url = next 34 (omega arith) at (codes "{\"" ++ (url_name ++ codes "\": ")) t.url from_mime start e.url here (omega (arith, begins))
+    at_url = next 34 (omega arith) at
+        (codes "{\"" ++ (url_name ++ codes "\": ")) t.url from_mime start e.url here (omega (arith, begins))
         ends.url
 
     at_mime : Next text (e.url + TO_MIME) e.mime t.mime (34 ∷ from_status)

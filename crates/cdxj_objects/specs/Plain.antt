@@ -13,8 +13,8 @@ abbrev pub is_other : ℕ → ℕ → Bool
 is_other byte b = not (b == byte)
 
 -- a text is cut at the first of these bytes
-abbrev pub IsCutAt : ℕ → List ℕ → List ℕ → List ℕ → Type 0
-IsCutAt byte text front rest = (text ≡ front ++ byte ∷ rest)
+abbrev pub IsCutAtByte : ℕ → List ℕ → List ℕ → List ℕ → Type 0
+IsCutAtByte byte text front rest = (text ≡ front ++ byte ∷ rest)
     × (list_all (is_other byte) front ≡ true)
 
 -- no quote

@@ -16,7 +16,7 @@ pub record AreEndsOf (start : ℕ) (t : TextsValue) (e : MemberEnds) : Type 0 wh
   pub offset : e.offset ≡ e.length + TO_OFFSET + length t.offset
 
 -- a text begins and ends there, between characters
-pub record IsPart (text : List ℕ) (start end : ℕ) : Type 0 where
+pub record IsPartBetween (text : List ℕ) (start end : ℕ) : Type 0 where
   pub order : start ≤ end
   pub start_is_cut : IsCharBoundary text start
   pub end_is_cut : IsCharBoundary text end
@@ -26,13 +26,13 @@ part text start end = take (end - start) (drop start text)
 
 -- texts begin and end where those of the members do, the first of which begins at the start
 pub record AreParts (text : List ℕ) (start : ℕ) (e : MemberEnds) : Type 0 where
-  pub url : IsPart text start e.url
-  pub mime : IsPart text (e.url + TO_MIME) e.mime
-  pub status : IsPart text (e.mime + TO_STATUS) e.status
-  pub digest : IsPart text (e.status + TO_DIGEST) e.digest
-  pub size : IsPart text (e.digest + TO_LENGTH) e.length
-  pub offset : IsPart text (e.length + TO_OFFSET) e.offset
-  pub filename : IsPart text (e.offset + TO_FILENAME) (length text - CLOSE)
+  pub url : IsPartBetween text start e.url
+  pub mime : IsPartBetween text (e.url + TO_MIME) e.mime
+  pub status : IsPartBetween text (e.mime + TO_STATUS) e.status
+  pub digest : IsPartBetween text (e.status + TO_DIGEST) e.digest
+  pub size : IsPartBetween text (e.digest + TO_LENGTH) e.length
+  pub offset : IsPartBetween text (e.length + TO_OFFSET) e.offset
+  pub filename : IsPartBetween text (e.offset + TO_FILENAME) (length text - CLOSE)
 
 abbrev pub texts_at : List ℕ → ℕ → MemberEnds → TextsValue
 texts_at text start e = record {

@@ -4,7 +4,7 @@ ghost use Rattle.std.specs.Char.{is_ascii_digit};
 ghost use Rattle.std.specs.Int.{trailing_zeros, w64};
 ghost use Rattle.std.specs.List.{prefix_len};
 ghost use Rattle.cdxj_places.specs.Pair.{is_stamp};
-ghost use Rattle.cdxj_objects.specs.Plain.{is_other, IsCutAt};
+ghost use Rattle.cdxj_objects.specs.Plain.{is_other, IsCutAtByte};
 
 use std::simd::prelude::*;
 
@@ -59,7 +59,7 @@ fn length_before(bytes: &[u8], byte: u8) -> usize
 #[inline(always)]
 pub fn cut_at(text: &str, byte: u8) -> Option<(&str, &str)>
     requires { byte < 128 }
-    ensures { IfSome result (λ p. IsCutAt byte text.now p.0.now p.1.now) }
+    ensures { IfSome result (λ p. IsCutAtByte byte text.now p.0.now p.1.now) }
 {
     let end = length_before(text.as_bytes(), byte);
     if end < text.len() {

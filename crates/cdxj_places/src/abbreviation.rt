@@ -1,6 +1,6 @@
 //! Abbreviated keys, which decide most comparisons without reading the keys.
 ghost use Rattle.std.specs.Prelude.{◌≡◌, ◌+◌, ◌≤◌, length, take, drop, All};
-ghost use Rattle.cdxj_places.specs.Abbreviated.{AreBytes, StartsWith, padded, spelled, start_words, words};
+ghost use Rattle.cdxj_places.specs.Abbreviated.{AreBytes, StartsWith, bytes_value, padded, start_words, words};
 
 use crate::order::HasPlace;
 
@@ -17,7 +17,7 @@ pub fn abbreviated<const N: usize>(bytes: &[u8]) -> [u8; N]
 /// Returns the eight bytes from `at` on as a big-endian number.
 fn word(bytes: &[u8; 16], at: usize) -> u64
     requires { at + 8 ≤ 16 }
-    ensures { result ≡ spelled 0 (take 8 (drop at bytes.now)) }
+    ensures { result ≡ bytes_value 0 (take 8 (drop at bytes.now)) }
 {
     u64::from_be_bytes([
         bytes[at],

@@ -29,8 +29,8 @@ pub data Meaning : Type 0 where
   ToGet : ℕ → Text → Meaning
   ToScan : Types → List ℕ → Text → List Text → Meaning
 
--- which operands a command takes, and the task that they make: one name or more; those after a query, or after sizes and a query; an
--- offset and a name; names, or sizes, a query and names, with the types that an option may choose
+-- which operands a command takes, and the task that they make: one name or more; those after a query, or after sizes
+-- and a query; an offset and a name; names, or sizes, a query and names, with the types that an option may choose
 pub data Form : Type 0 where
   Names : (List Text → Meaning) → Form
   Query : (Text → List Text → Meaning) → Form
@@ -64,7 +64,8 @@ abbrev pub types_first : List Text → Option (Types × List Text)
 types_first [] = None
 types_first (text ∷ words) = option_map (λ types. (types, words)) (types_of text)
 
--- the types and the operands of the words after a command: `--types` and its text come first, or the types are the usual ones
+-- the types and the operands of the words after a command: `--types` and its text come first, or the types are the
+-- usual ones
 abbrev pub typed_operands : List Text → Option (Types × List Text)
 typed_operands [] = Some (usual_types, [])
 typed_operands (word ∷ words) = if chooses_types word then types_first words else Some (usual_types, word ∷ words)
@@ -149,6 +150,6 @@ abbrev pub IsUsage : WordsFault → Type 0
 IsUsage fault = IfSome (refusal_of fault) (λ refusal. refusal ≡ Usage)
 
 -- the answer is the one that is wanted, but for memory
-abbrev pub Answers : Result Meaning Refusal → Result Task WordsFault → Type 0
-Answers wanted result = MatchResult result (λ task. wanted ≡ Ok (view task))
+abbrev pub IsMeant : Result Meaning Refusal → Result Task WordsFault → Type 0
+IsMeant wanted result = MatchResult result (λ task. wanted ≡ Ok (view task))
     (λ fault. IfSome (refusal_of fault) (λ refusal. wanted ≡ Err refusal))

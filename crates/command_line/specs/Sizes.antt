@@ -1,9 +1,10 @@
 -- The sizes of pages, as a word gives them.
-use Rattle.std.specs.Prelude.{ℕ, ◌==◌, ◌&&◌, Bool, nat_lt, nat_le, List, [], ◌∷◌, length, Option, Some, None}
+use Rattle.std.specs.Prelude.{ℕ, ◌&&◌, Bool, nat_lt, nat_le, List, [], ◌∷◌, length, Option, Some, None}
 use Rattle.std.specs.Prelude.{if◌then◌else◌, option_map, option_and_then}
 use Rattle.std.specs.List.{list_all, slice_split}
 use Rattle.std.specs.Char.{is_ascii_digit}
 use Rattle.std.specs.Str.Parse.{digits_value}
+use Rattle.capture_core.specs.Types.{is_comma}
 use Rattle.command_line.specs.Words.{Text}
 
 -- 1 to 7 digits of a value from 1 to 1,000,000
@@ -20,10 +21,6 @@ abbrev pub all_sizes : List Text → Option (List ℕ)
 all_sizes [] = Some []
 all_sizes (digits ∷ later) = option_and_then (λ size. option_map (λ sizes. size ∷ sizes) (all_sizes later))
     (size_of digits)
-
--- `b','`
-abbrev pub is_comma : ℕ → Bool
-is_comma b = b == 44
 
 abbrev pub at_most_1000 : List Text → Option (List ℕ)
 at_most_1000 parts = if nat_le (length parts) 1000 then all_sizes parts else None

@@ -1,7 +1,8 @@
 //! The sizes of pages.
 ghost use Rattle.std.specs.Prelude.{◌≡◌, IfOk, map, option_map};
 ghost use Rattle.std.specs.List.{slice_split};
-ghost use Rattle.command_line.specs.Sizes.{all_sizes, is_comma, size_of, sizes_of};
+ghost use Rattle.capture_core.specs.Types.{is_comma};
+ghost use Rattle.command_line.specs.Sizes.{all_sizes, size_of, sizes_of};
 
 use cdxj_places::has_digits;
 use std::alloc::{AllocError, Global};

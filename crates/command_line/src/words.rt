@@ -4,7 +4,7 @@ ghost use Rattle.std.specs.List.{list_any};
 ghost use Rattle.std.specs.Option.{IfSome, ok_or};
 ghost use Rattle.clap.specs.Words.{kind_of, subcommand_rows_of};
 ghost use Rattle.command_line.specs.Words.{texts, asks_for_help, is_unknown_option};
-ghost use Rattle.command_line.specs.Commands.{Answers, IsUsage, Usage, asked, help_or_usage, other_words, refusal_of};
+ghost use Rattle.command_line.specs.Commands.{IsMeant, IsUsage, Usage, asked, help_or_usage, other_words, refusal_of};
 ghost use Rattle.command_line.specs.Clap.{matches_task, refusal_for};
 
 use crate::command::command_line;
@@ -32,7 +32,7 @@ use std::alloc::{AllocError, Global};
 ///   and for types that `Types::read` doesn't accept.
 /// - `Memory` if memory could not be allocated.
 pub fn read_words(alloc: Global, words: &[String]) -> Result<Task, WordsFault>
-    ensures { Answers (asked (texts words.now)) result }
+    ensures { IsMeant (asked (texts words.now)) result }
 {
     let others = other_words(words);
     if let Some(option) = unknown_option(others) {

@@ -3,7 +3,7 @@ use Rattle.std.proofs.Common.{ℕ, List, [], ◌++◌, Option, None, Some, take,
 use Rattle.std.proofs.Common.{append-nil}
 use Rattle.std.proofs.lemmas.List.{take-append-drop}
 use Rattle.std.specs.Io.KnownBytes.{Appends}
-use Rattle.devices.specs.Device.{WroteUpTo, AppendsPrefix}
+use Rattle.devices.specs.Device.{Grows, WroteUpTo, AppendsPrefix}
 
 pub Appends-none : (old : Option (List ℕ)) → Appends old old []
 Appends-none None = tt
@@ -37,3 +37,21 @@ AppendsPrefix-behind old mid new a b more h p = (
     grown = Appends-join old mid new a p.1.front h p.1.grown;
   },
 )
+
+-- ---- outputs that grow
+
+pub grows_not : (old : Option (List ℕ)) → Grows old old
+grows_not old = record { text = []; grown = Appends-none old }
+
+pub grows_on : (old mid new : Option (List ℕ)) → Grows old mid → Grows mid new → Grows old new
+grows_on old mid new h k = record {
+  text = h.text
+      ++ k.text;
+  grown = Appends-join old mid new h.text k.text h.grown k.grown;
+}
+
+pub grows_by : (old new : Option (List ℕ)) (text : List ℕ) → Appends old new text → Grows old new
+grows_by old new text h = record { text = text; grown = h }
+
+pub grows_part : (old new : Option (List ℕ)) (text : List ℕ) → AppendsPrefix old new text → Grows old new
+grows_part old new text (rest, w) = record { text = w.front; grown = w.grown }

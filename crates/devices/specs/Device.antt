@@ -22,6 +22,11 @@ pub record WroteUpTo (old new : Option (List ℕ)) (bs rest : List ℕ) : Type 0
   pub whole : bs ≡ front ++ rest
   pub grown : Appends old new front
 
+-- known bytes stay at the front, and may grow
+pub record Grows (old new : Option (List ℕ)) : Type 0 where
+  pub text : List ℕ
+  pub grown : Appends old new text
+
 -- known bytes grow by a prefix of bs
 abbrev pub AppendsPrefix : Option (List ℕ) → Option (List ℕ) → List ℕ → Type 0
 AppendsPrefix old new bs = (rest : List ℕ) × WroteUpTo old new bs rest

@@ -2,7 +2,8 @@
 use Rattle.std.specs.Prelude.{ℕ, nat_lt, min, if◌then◌else◌}
 use Rattle.devices.specs.declared.file.FromFile.{FromFile}
 
--- the file within, how often it failed, and how many bytes it had left when its size was asked, less those that were moved
+-- the file within, how often it failed, and how many bytes it had left when its size was asked, less those that were
+-- moved
 abbrev pub file_of : {F : Type 0} → FromFile F → F
 file_of f = f.file
 

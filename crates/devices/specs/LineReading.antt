@@ -8,7 +8,8 @@ use Rattle.devices.specs.declared.input_lines.Part.TheVariants.{Within, Ended, A
 use Rattle.devices.specs.declared.input_lines.InputLineFault.{InputLineFault}
 use Rattle.devices.specs.declared.input_lines.InputLineFault.TheVariants.{Memory, Read, TooLong}
 
--- what is held of the input, what is held of the line that was read last, how many bytes of a line are held at most, and how many were taken of the input
+-- what is held of the input, what is held of the line that was read last, how many bytes of a line are held at most,
+-- and how many were taken of the input
 pub record LineState : Type 0 where
   pub buffer : List ℕ
   pub line : List ℕ
@@ -52,11 +53,11 @@ IsTooLong None taken = ⊤
 IsTooLong (Some text) taken = 2 ^ 63 - 1 ≤ taken + length text
 
 -- a fault of reading: the input failed, or is too long
-abbrev pub IsLineFault : InputLineFault → ℕ → ℕ → Option (List ℕ) → ℕ → Type 0
-IsLineFault Memory old new text taken = new ≡ old
-IsLineFault Read old new text taken = new ≡ next_count old
-IsLineFault TooLong old new text taken = (new ≡ old) × IsTooLong text taken
+abbrev pub IsInputLineFault : InputLineFault → ℕ → ℕ → Option (List ℕ) → ℕ → Type 0
+IsInputLineFault Memory old new text taken = new ≡ old
+IsInputLineFault Read old new text taken = new ≡ next_count old
+IsInputLineFault TooLong old new text taken = (new ≡ old) × IsTooLong text taken
 
-abbrev pub CountsLineRead : {A : Type 0} → Result A InputLineFault → ℕ → ℕ → Option (List ℕ) → ℕ → Type 0
-CountsLineRead result old new text taken = MatchResult result (λ _. new ≡ old)
-    (λ fault. IsLineFault fault old new text taken)
+abbrev pub CountsInputLine : {A : Type 0} → Result A InputLineFault → ℕ → ℕ → Option (List ℕ) → ℕ → Type 0
+CountsInputLine result old new text taken = MatchResult result (λ _. new ≡ old)
+    (λ fault. IsInputLineFault fault old new text taken)

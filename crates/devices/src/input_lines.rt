@@ -3,7 +3,7 @@ ghost use Rattle.std.specs.Prelude.{drop, true, ◌≡◌, ◌≢◌, Option, So
 ghost use Rattle.std.specs.Io.KnownBytes.{Keeps, IsAtEnd, prepend_known};
 ghost use Rattle.devices.specs.Device.{next_count};
 ghost use Rattle.devices.specs.LineCuts.{without_carriage_return};
-ghost use Rattle.devices.specs.LineReading.{LineState, TakesPart, TakesLine, CountsTaken, CountsLineRead};
+ghost use Rattle.devices.specs.LineReading.{LineState, TakesPart, TakesLine, CountsTaken, CountsInputLine};
 
 use crate::buffer::Buffer;
 use crate::device::{DeviceFault, Input};
@@ -182,7 +182,7 @@ impl InputLines {
         ensures some { IfOk result (λ part. part ≢ AtEnd → self.old.taken < self.new.taken) }
         ensures end { IfOk result (λ part. part ≡ AtEnd → (self.new.line ≡ self.old.line)
             × (self.new.taken ≡ self.old.taken)) }
-        ensures failures { CountsLineRead result (I.failures input.old) (I.failures input.new)
+        ensures failures { CountsInputLine result (I.failures input.old) (I.failures input.new)
             (prepend_known self.old.buffer (I.remaining input.old)) self.old.taken }
     {
         self.buffer.fill(input)?;
@@ -204,7 +204,7 @@ impl InputLines {
             (CountsTaken (prepend_known self.old.buffer (I.remaining input.old))
             (prepend_known self.new.buffer (I.remaining input.new)) self.old.taken self.new.taken) }
         ensures some { IfOk result (λ found. found ≡ true → self.old.taken < self.new.taken) }
-        ensures failures { CountsLineRead result (I.failures input.old) (I.failures input.new)
+        ensures failures { CountsInputLine result (I.failures input.old) (I.failures input.new)
             (prepend_known self.old.buffer (I.remaining input.old)) self.old.taken }
     {
         self.line.clear();

@@ -1,6 +1,6 @@
 //! Answering a query over two indexes in memory, by `query_core` alone.
 ghost use Rattle.std.specs.Prelude.{◌≡◌, ◌∷◌, [], List, map, Ok, IfOk};
-ghost use Rattle.query_core.specs.Answering.{Answered, Answers};
+ghost use Rattle.query_core.specs.Answering.{Answered, WritesAnswer};
 ghost use Rattle.query_core.specs.Collections.{OverIndexes, collection};
 ghost use Rattle.query_core.specs.Indexes.{IsIndex};
 ghost use Rattle.query_core.specs.Limits.{LINE_LIMIT, QUERY_LIMIT};
@@ -27,7 +27,7 @@ pub fn page<S: Source, O: Output>(
     out: &mut O,
 ) -> Result<Report, AnswerFault>
     ensures page { OverIndexes LINE_LIMIT (map S.text sources.old) (λ texts indexes.
-        Answers query.now (collection indexes) result (O.written out.old) (O.written out.new)) }
+        WritesAnswer query.now (collection indexes) result (O.written out.old) (O.written out.new)) }
 {
     answer(alloc, sources, query, out)
 }

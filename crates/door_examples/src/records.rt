@@ -1,6 +1,6 @@
 //! Reading records, by `warc_core` alone.
 ghost use Rattle.std.specs.Prelude.{IfOk, IfSome};
-ghost use Rattle.warc_core.specs.HeadView.{BeginsAt};
+ghost use Rattle.warc_core.specs.HeadView.{RecordBeginsAt};
 
 use std::alloc::Global;
 use warc_core::{Fault, Head, Input, Kind, Reader};
@@ -9,7 +9,7 @@ use warc_core::{Fault, Head, Input, Kind, Reader};
 ///
 /// The error is `Memory`, `Read` if the input failed, or the cause for which no record begins the archive.
 pub fn first_head<I: Input>(alloc: Global, archive: &mut I) -> Result<Option<Head>, Fault>
-    ensures begins { IfOk result (λ found. IfSome found (BeginsAt 0)) }
+    ensures begins { IfOk result (λ found. IfSome found (RecordBeginsAt 0)) }
 {
     let mut reader = Reader::new(alloc)?;
     let head = reader.next(archive)?;

@@ -17,7 +17,8 @@ all_taken : (types : Kind → Bool) (limits : Limits) (limit : ℕ) (name archiv
 all_taken types limits limit name archive [] captures c = tt
 all_taken types limits limit name archive (h ∷ heads) captures c = (
   λ other is. subst (λ o. IfSome o (FitsLine types limits limit name))
-      (one_capture types limits.http_head limits.http_fields h (block_at h (drop h.start archive)) name c.0 other c.2.0 is) c.2.1,
+      (one_capture types limits.http_head limits.http_fields h (block_at h (drop h.start archive)) name c.0 other c.2.0
+      is) c.2.1,
   all_taken types limits limit name archive heads c.1 c.3,
 )
 

@@ -21,7 +21,7 @@ use Rattle.capture_core.specs.declared.fault.CaptureFault.TheVariants.{Archive, 
 use Rattle.capture_core.specs.Indexed.{url_of}
 use Rattle.capture_core.specs.Capture.{IsCapture}
 use Rattle.capture_core.specs.CaptureAnswer.{Limits, IsEntryOf, Captures}
-use Rattle.capture_core.specs.RecordReading.{IsFaultAt, reading_after, reading_of}
+use Rattle.capture_core.specs.RecordReading.{IsCaptureFaultAt, reading_after, reading_of}
 use Rattle.index_core.specs.Accepted.{IsCaptureAt, IsCaptured, AreCaptured, IsAccepted, IsAcceptedTo, IsRefused}
 use Rattle.capture_core.specs.Fault.{fault_offset}
 use Rattle.capture_core.specs.declared.types.Types.{Types}
@@ -31,7 +31,7 @@ use Rattle.index_core.specs.Indexing.{Held}
 use Rattle.index_core.proofs.ReportLemmas.{stopped_anywhere}
 use Rattle.index_core.proofs.VerdictLemmas.{behind}
 
-pub fault_at : (start : ℕ) (fault : CaptureFault) → IsFaultAt start fault → fault_offset fault ≡ start
+pub fault_at : (start : ℕ) (fault : CaptureFault) → IsCaptureFaultAt start fault → fault_offset fault ≡ start
 fault_at start (Archive f) h = h
 fault_at start (LineTooLong o) h = h
 fault_at start (KeyTooLong o) h = h
@@ -50,7 +50,8 @@ behind_head limit start h z y r = ap (drop (length h.raw)) (next-spelled limit s
 
 -- how a record at fault was read
 record_met : (limit start : ℕ) (h : HeadView) (c : Cause) (before mid after : Option (List ℕ))
-    → Reads (next_at limit start) (Ok (Some h)) before mid → Reads (after_record h.parts.length) (reading_after c) mid after
+    → Reads (next_at limit start) (Ok (Some h)) before mid
+    → Reads (after_record h.parts.length) (reading_after c) mid after
     → Reads (record_at limit start) (Err c) before after
 record_met limit start h causes.Memory before mid after r s = stopped_anywhere (record_at limit start) causes.Memory
     before after refl

@@ -14,15 +14,15 @@ use Rattle.cdxj_places.proofs.PlaceOrder.{place_cmp_total}
 use Rattle.cdxj_places.proofs.RisingLaws.{rises_rising}
 use Rattle.cdxj_places.specs.Places.{place_cmp}
 use Rattle.cdxj_places.specs.Rising.{choose, put}
-use Rattle.index_core.specs.Indexing.{lines_text, index_text, in_places, HaveOwnPlaces}
+use Rattle.index_core.specs.Indexing.{entries_text, index_text, in_places, HaveOwnPlaces}
 
 -- ---- lines
 
 abbrev lines_now : List (Bor EntryValue) → List ℕ
-lines_now xs = lines_text (map (λ e. e.now) xs)
+lines_now xs = entries_text (map (λ e. e.now) xs)
 
 lines_now_append : (xs ys : List (Bor EntryValue)) → lines_now (xs ++ ys) ≡ lines_now xs ++ lines_now ys
-lines_now_append xs ys = ap lines_text (map-append (λ (e : Bor EntryValue). e.now) xs ys)
+lines_now_append xs ys = ap entries_text (map-append (λ (e : Bor EntryValue). e.now) xs ys)
     ∙ flat_map-append line_text (map (λ e. e.now) xs) (map (λ e. e.now) ys)
 
 -- the lines before an entry, its line, and the lines after it

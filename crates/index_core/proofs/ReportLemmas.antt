@@ -18,11 +18,11 @@ use Rattle.warc_core.proofs.WalkLemmas.{Walks-more, none_at_end, walk-extends}
 use Rattle.capture_core.specs.declared.fault.CaptureFault.TheVariants.{Archive, LineTooLong, KeyTooLong}
 use Rattle.index_core.specs.declared.fault.IndexFault.{IndexFault}
 use Rattle.index_core.specs.declared.fault.IndexFault.TheVariants as faults
-use Rattle.index_core.specs.Report.{Line, lines_of, fault_line, IsReport, IsCutReport, IsNoDamage, Reported}
+use Rattle.index_core.specs.Report.{RecordLine, report_lines, fault_line, IsReport, IsCutReport, IsNoDamage, Reported}
 use Rattle.index_core.specs.Report.{ReportedToFault, ReportedInPart, Reports, WritesFault}
 
 -- this text is the record's line, where the archive is known
-abbrev pub IsLine : Line → Option (List ℕ) → HeadView → List ℕ → Type 0
+abbrev pub IsLine : RecordLine → Option (List ℕ) → HeadView → List ℕ → Type 0
 IsLine line left h text = (archive : List ℕ) → left ≡ Some archive → text ≡ line archive h
 
 -- the answer counts one more record
@@ -31,13 +31,13 @@ CountsOn tally left h old new = (archive : List ℕ) (heads : List HeadView) →
     ≡ tally archive heads → new ≡ tally archive (heads ++ h ∷ [])
 
 -- The lines of the records so far were written; the last of these records ends at the offset.
-abbrev pub SoFar : {A : Type 0} → ℕ → Line → (List ℕ → List HeadView → A) → Option (List ℕ) → Option (List ℕ) → ℕ → A
-    → Option (List ℕ) → Option (List ℕ) → Type 0
+abbrev pub SoFar : {A : Type 0} → ℕ → RecordLine → (List ℕ → List HeadView → A) → Option (List ℕ) → Option (List ℕ) → ℕ
+    → A → Option (List ℕ) → Option (List ℕ) → Type 0
 SoFar limit line tally None now offset answer before after = ⊤
 SoFar limit line tally (Some archive) None offset answer before after = ⊥
 SoFar limit line tally (Some archive) (Some rest) offset answer before after =
     (heads : List HeadView) × Walks limit 0 archive heads offset rest × (answer ≡ tally archive heads)
-    × Appends before after (lines_of line archive heads)
+    × Appends before after (report_lines line archive heads)
 
 -- for want of memory any reading may stop
 pub stopped_anywhere : {A : Type 0} (f : List ℕ → Result (A × List ℕ) Cause) (c : Cause)
@@ -57,46 +57,46 @@ pub CountsRead-same : (A B : Type 0) (c : Cause) (old new : ℕ) → CountsRead 
 CountsRead-same A B causes.Read old new h = h
 CountsRead-same A B c old new h = h
 
-module _ (limit : ℕ) (line : Line) where
+module _ (limit : ℕ) (line : RecordLine) where
   report_to : (archive : List ℕ) (heads : List HeadView) (z : List ℕ) (f : Fault)
       → Walks limit 0 archive heads f.offset z → (record_at limit f.offset z ≡ Err f.cause) ⊎ IsNoDamage f.cause
-      → IsReport limit line archive (lines_of line archive heads ++ fault_line f)
-      ⊎ IsCutReport limit line archive (lines_of line archive heads ++ fault_line f)
+      → IsReport limit line archive (report_lines line archive heads ++ fault_line f)
+      ⊎ IsCutReport limit line archive (report_lines line archive heads ++ fault_line f)
   report_to archive heads z f w (inl e) = inl (inr (heads, f, record { rest = z; walks = w; refused = e }, refl))
   report_to archive heads z f w (inr n) = inr (heads, f, z, n, w, refl)
 
   -- the archive's report goes on where the lines of its first records end
   report_behind : (archive : List ℕ) (heads : List HeadView) (o : ℕ) (rest : List ℕ)
       → Walks limit 0 archive heads o rest → (tail : List ℕ)
-      × IsReport limit line archive (lines_of line archive heads ++ tail)
+      × IsReport limit line archive (report_lines line archive heads ++ tail)
   report_behind archive heads o rest w =
       elim (total limit archive) [
         | inl a ↦ (let m = walk-extends limit 0 archive heads a.0 o a.1.end rest [] w a.1.walks (inl refl) in (
-          lines_of line archive m.0,
+          report_lines line archive m.0,
           inl
-              (a.0, a.1, sym (ap (lines_of line archive) m.1 ∙ flat_map-append (line archive) heads m.0)),
+              (a.0, a.1, sym (ap (report_lines line archive) m.1 ∙ flat_map-append (line archive) heads m.0)),
         ))
         | inr d ↦ (let m = walk-extends limit 0 archive heads d.0 o d.1 rest d.3.rest w d.3.walks
             (inr (d.2, d.3.refused)) in
             let f : Fault = record { offset = d.1; cause = d.2 } in (
-              lines_of line archive m.0
+              report_lines line archive m.0
                   ++ fault_line f,
               inr (
                 d.0,
                 f,
                 d.3,
-                sym (ap (λ hs. lines_of line archive hs ++ fault_line f) m.1
+                sym (ap (λ hs. report_lines line archive hs ++ fault_line f) m.1
                     ∙ (ap (λ t. t ++ fault_line f) (flat_map-append (line archive) heads m.0)
-                    ∙ append_assoc (lines_of line archive heads) (lines_of line archive m.0) (fault_line f))),
+                    ∙ append_assoc (report_lines line archive heads) (report_lines line archive m.0) (fault_line f))),
               ),
             ))
       ]
 
   -- the lines with one more
-  one_more : (archive : List ℕ) (heads : List HeadView) (h : HeadView) → lines_of line archive (heads ++ h ∷ [])
-      ≡ lines_of line archive heads ++ line archive h
+  one_more : (archive : List ℕ) (heads : List HeadView) (h : HeadView) → report_lines line archive (heads ++ h ∷ [])
+      ≡ report_lines line archive heads ++ line archive h
   one_more archive heads h = flat_map-append (line archive) heads (h ∷ [])
-      ∙ ap (λ t. lines_of line archive heads ++ t) (append-nil (line archive h))
+      ∙ ap (λ t. report_lines line archive heads ++ t) (append-nil (line archive h))
 
   module _ {A : Type 0} (tally : List ℕ → List HeadView → A) where
     pub SoFar-start : (left written : Option (List ℕ)) (x : A) → ((archive : List ℕ) → x ≡ tally archive [])
@@ -116,7 +116,7 @@ module _ (limit : ℕ) (line : Line) where
       Walks-more limit 0 archive s.0 o z h later s.1 r,
       k archive s.0 refl s.2,
       subst (Appends w u) (sym (one_more archive s.0 h))
-          (Appends-join w v u (lines_of line archive s.0) (line archive h) s.3
+          (Appends-join w v u (report_lines line archive s.0) (line archive h) s.3
           (subst (Appends v u) (l archive refl) a)),
     )
 
@@ -140,7 +140,7 @@ module _ (limit : ℕ) (line : Line) where
       subst (λ p. Walks limit 0 archive s.0 p z) (sym e) s.1,
       subst
           (λ p. IsFoundIn f.cause (record_at limit p z)) (sym e) r,
-      Appends-join w v u (lines_of line archive s.0)
+      Appends-join w v u (report_lines line archive s.0)
           (fault_line f) s.3 a,
     )
 
@@ -151,12 +151,12 @@ module _ (limit : ℕ) (line : Line) where
     SoFar-cut None now after o x f w v u s r e a = tt
     SoFar-cut (Some archive) None after o x f w v u s r e a = absurd s
     SoFar-cut (Some archive) (Some z) after o x f w v u s r e a = (
-      lines_of line archive s.0 ++ fault_line f,
+      report_lines line archive s.0 ++ fault_line f,
       report_to archive s.0 z f (subst (λ p. Walks limit 0 archive s.0 p z) (sym e) s.1)
           (found_or_not f.cause (record_at limit f.offset z)
           (subst (λ p. IsFoundIn f.cause (record_at limit p z)) (sym e) r)),
-      subst (λ t. AppendsPrefix w u (lines_of line archive s.0 ++ t)) (append-nil (fault_line f))
-          (AppendsPrefix-behind w v u (lines_of line archive s.0) (fault_line f) [] s.3 a),
+      subst (λ t. AppendsPrefix w u (report_lines line archive s.0 ++ t)) (append-nil (fault_line f))
+          (AppendsPrefix-behind w v u (report_lines line archive s.0) (fault_line f) [] s.3 a),
     )
 
     -- the output failed in the line of a record
@@ -170,11 +170,13 @@ module _ (limit : ℕ) (line : Line) where
     SoFar-stopped (Some archive) (Some z) (Some y) o x h text w v u s r l a =
         let t = report_behind archive (s.0 ++ h ∷ []) (o + record_length h) y
         (Walks-more limit 0 archive s.0 o z h y s.1 r) in
-        let e : lines_of line archive (s.0 ++ h ∷ []) ++ t.0 ≡ lines_of line archive s.0 ++ (line archive h ++ t.0) =
-        ap (λ x. x ++ t.0) (one_more archive s.0 h) ∙ append_assoc (lines_of line archive s.0) (line archive h) t.0 in (
-          lines_of line archive s.0 ++ (line archive h ++ t.0),
+        let e : report_lines line archive (s.0 ++ h ∷ []) ++ t.0
+        ≡ report_lines line archive s.0 ++ (line archive h ++ t.0) =
+        ap (λ x. x ++ t.0) (one_more archive s.0 h)
+        ∙ append_assoc (report_lines line archive s.0) (line archive h) t.0 in (
+          report_lines line archive s.0 ++ (line archive h ++ t.0),
           inl (subst (IsReport limit line archive) e t.1),
-          AppendsPrefix-behind w v u (lines_of line archive s.0) (line archive h) t.0 s.3
+          AppendsPrefix-behind w v u (report_lines line archive s.0) (line archive h) t.0 s.3
               (subst (AppendsPrefix v u) (l archive refl) a),
         )
 

@@ -37,7 +37,8 @@ module _ (types : Kind → Bool) (limits : Limits) (limit : ℕ) (name : List �
     pub whole : AreRecords limit archive heads
     pub captured : AreCaptured archive heads captures
 
-  -- why no capture is taken of what begins at this offset with these bytes: no record does, or its line is too long, or its key
+  -- why no capture is taken of what begins at this offset with these bytes: no record does, or its line is too long, or
+  -- its key
   abbrev pub IsRefused : ℕ → List ℕ → CaptureFault → Type 0
   IsRefused offset bytes (Archive f) = IsFoundIn f.cause (record_at limit offset bytes)
   IsRefused offset bytes (LineTooLong o) =

@@ -3,7 +3,7 @@ use Rattle.std.specs.Prelude.{◌≡◌, ℕ, ◌+◌, ◌<◌, Bool, List, Opti
 use Rattle.std.specs.List.{AllByRecursion}
 use Rattle.warc_core.specs.Kind.{Kind}
 use Rattle.warc_core.specs.declared.phase.Phase.TheVariants.{Between}
-use Rattle.warc_core.specs.HeadView.{HeadView, record_length, BeginsAt}
+use Rattle.warc_core.specs.HeadView.{HeadView, record_length, RecordBeginsAt}
 use Rattle.warc_core.specs.Reading.{Reads}
 use Rattle.warc_core.specs.ReaderView.{ReaderView, StandsAt}
 use Rattle.warc_core.specs.Walk.{record_at}
@@ -23,7 +23,7 @@ module _ (types : Kind → Bool) (limits : Limits) (limit : ℕ) (name : List �
       (before after : Option (List ℕ)) : Type 0 where
     pub bytes : Reads (record_at limit offset) (Ok (Some h)) before after
     pub stands : StandsAt new (offset + record_length h) Between
-    pub begins : BeginsAt offset h
+    pub begins : RecordBeginsAt offset h
     pub capture : IfSome before (λ bytes. IsCaptureAt types limits limit name h bytes captured)
     pub entry : IfSome captured (IsEntryOf h name limits.line)
 

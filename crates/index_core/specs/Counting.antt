@@ -17,7 +17,8 @@ abbrev pub CountsIndex : {A : Type 0} → Result A IndexFault → ℕ → ℕ �
 CountsIndex (Err (faults.Capture (Archive f))) old new = CountsRead {A = Unit {0}} (Err f.cause) old new
 CountsIndex r old new = new ≡ old
 
--- An answer of Read goes with one more failure of the input, any other of the archive's with none. It failed at most once.
+-- An answer of Read goes with one more failure of the input, any other of the archive's with none. It failed at most
+-- once.
 abbrev pub CountsInput : {A : Type 0} → Result A IndexFault → ℕ → ℕ → Type 0
 CountsInput (Ok n) old new = new ≡ old
 CountsInput (Err (faults.Capture (Archive f))) old new = CountsRead {A = Unit {0}} (Err f.cause) old new
@@ -25,6 +26,6 @@ CountsInput (Err faults.Write) old new = (new ≡ old) ⊎ (new ≡ next_count o
 CountsInput (Err other) old new = ⊥
 
 -- An answer of Write goes with one more failure of the output, any other with none.
-abbrev pub CountsWrite : {A : Type 0} → Result A IndexFault → ℕ → ℕ → Type 0
-CountsWrite (Err faults.Write) old new = new ≡ next_count old
-CountsWrite r old new = new ≡ old
+abbrev pub CountsIndexWrite : {A : Type 0} → Result A IndexFault → ℕ → ℕ → Type 0
+CountsIndexWrite (Err faults.Write) old new = new ≡ next_count old
+CountsIndexWrite r old new = new ≡ old

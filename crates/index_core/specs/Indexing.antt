@@ -10,7 +10,8 @@ use Rattle.cdxj_places.specs.Rising.{rising}
 use Rattle.index_core.specs.declared.fault.IndexFault.{IndexFault}
 use Rattle.index_core.specs.declared.fault.IndexFault.TheVariants as faults
 
--- the types of records that are indexed, the names of the archives that were added, and their captures, in the order of adding
+-- the types of records that are indexed, the names of the archives that were added, and their captures, in the order of
+-- adding
 pub record Held : Type 0 where
   pub types : Types
   pub names : List (List ℕ)
@@ -29,12 +30,12 @@ abbrev pub in_places : List EntryValue → List EntryValue
 in_places captures = rising entry_place place_cmp captures
 
 -- the lines of entries
-abbrev pub lines_text : List EntryValue → List ℕ
-lines_text entries = flat_map line_text entries
+abbrev pub entries_text : List EntryValue → List ℕ
+entries_text entries = flat_map line_text entries
 
 -- the index of these captures: their lines, in the order of places
 abbrev pub index_text : List EntryValue → List ℕ
-index_text captures = lines_text (in_places captures)
+index_text captures = entries_text (in_places captures)
 
 -- no two captures have one place
 abbrev pub HaveOwnPlaces : List EntryValue → Type 0

@@ -30,8 +30,8 @@ IsNoFaultOfArchive (Archive f) = IsNoDamage f.cause
 IsNoFaultOfArchive (LineTooLong offset) = ⊥
 IsNoFaultOfArchive (KeyTooLong offset) = ⊤
 
--- an archive that is accepted whole is refused for want of memory, by its input's failure or for a key that is too long, and no
--- other cause
+-- an archive that is accepted whole is refused for want of memory, by its input's failure or for a key that is too
+-- long, and no other cause
 abbrev pub WholeIsNotRefused : Type 0
 WholeIsNotRefused = (types : Kind → Bool) (limits : Limits) (limit : ℕ) (name archive : List ℕ)
     (gained : List EntryValue) (fault : CaptureFault)

@@ -17,23 +17,23 @@ use Rattle.index_core.specs.declared.fault.IndexFault.{IndexFault}
 use Rattle.index_core.specs.declared.fault.IndexFault.TheVariants as faults
 
 -- what a report says of a record of an archive, by the record's head
-abbrev pub Line : Type 0
-Line = List ℕ → HeadView → List ℕ
+abbrev pub RecordLine : Type 0
+RecordLine = List ℕ → HeadView → List ℕ
 
 -- the lines of these records
-abbrev pub lines_of : Line → List ℕ → List HeadView → List ℕ
-lines_of line archive heads = flat_map (line archive) heads
+abbrev pub report_lines : RecordLine → List ℕ → List HeadView → List ℕ
+report_lines line archive heads = flat_map (line archive) heads
 
 -- `fault OFFSET CAUSE`
 abbrev pub fault_line : Fault → List ℕ
 fault_line f = codes "fault " ++ decimal f.offset ++ codes " " ++ cause_name f.cause ++ codes "\n"
 
 -- the text is the report on the archive: its records, or those before its damage and the damage
-abbrev pub IsReport : ℕ → Line → List ℕ → List ℕ → Type 0
+abbrev pub IsReport : ℕ → RecordLine → List ℕ → List ℕ → Type 0
 IsReport limit line archive text =
-    ((heads : List HeadView) × AreRecords limit archive heads × (text ≡ lines_of line archive heads))
+    ((heads : List HeadView) × AreRecords limit archive heads × (text ≡ report_lines line archive heads))
     ⊎ ((heads : List HeadView) × (f : Fault) × IsDamaged limit archive heads f.offset f.cause
-    × (text ≡ lines_of line archive heads ++ fault_line f))
+    × (text ≡ report_lines line archive heads ++ fault_line f))
 
 -- the cause isn't the archive's
 abbrev pub IsNoDamage : Cause → Type 0
@@ -42,37 +42,37 @@ IsNoDamage causes.Read = ⊤
 IsNoDamage c = ⊥
 
 -- the text is the report up to a record that couldn't be read, for want of memory or by the input's failure
-abbrev pub IsCutReport : ℕ → Line → List ℕ → List ℕ → Type 0
+abbrev pub IsCutReport : ℕ → RecordLine → List ℕ → List ℕ → Type 0
 IsCutReport limit line archive text =
     (heads : List HeadView) × (f : Fault) × (rest : List ℕ) × IsNoDamage f.cause
-    × Walks limit 0 archive heads f.offset rest × (text ≡ lines_of line archive heads ++ fault_line f)
+    × Walks limit 0 archive heads f.offset rest × (text ≡ report_lines line archive heads ++ fault_line f)
 
 -- The lines of all records of the archive were written, where it is known, and the answer is their tally.
-abbrev pub Reported : {A : Type 0} → ℕ → Line → (List ℕ → List HeadView → A) → Option (List ℕ) → A → Option (List ℕ)
-    → Option (List ℕ) → Type 0
+abbrev pub Reported : {A : Type 0} → ℕ → RecordLine → (List ℕ → List HeadView → A) → Option (List ℕ) → A
+    → Option (List ℕ) → Option (List ℕ) → Type 0
 Reported limit line tally None answer before after = ⊤
 Reported limit line tally (Some archive) answer before after =
     (heads : List HeadView) × AreRecords limit archive heads × (answer ≡ tally archive heads)
-    × Appends before after (lines_of line archive heads)
+    × Appends before after (report_lines line archive heads)
 
 -- The lines of the records before the fault were written, and the fault's line.
-abbrev pub ReportedToFault : ℕ → Line → Option (List ℕ) → Fault → Option (List ℕ) → Option (List ℕ) → Type 0
+abbrev pub ReportedToFault : ℕ → RecordLine → Option (List ℕ) → Fault → Option (List ℕ) → Option (List ℕ) → Type 0
 ReportedToFault limit line None f before after = ⊤
 ReportedToFault limit line (Some archive) f before after =
     (heads : List HeadView) × (rest : List ℕ) × Walks limit 0 archive heads f.offset rest
     × IsFoundIn f.cause (record_at limit f.offset rest)
-    × Appends before after (lines_of line archive heads ++ fault_line f)
+    × Appends before after (report_lines line archive heads ++ fault_line f)
 
 -- A prefix of the report was written.
-abbrev pub ReportedInPart : ℕ → Line → Option (List ℕ) → Option (List ℕ) → Option (List ℕ) → Type 0
+abbrev pub ReportedInPart : ℕ → RecordLine → Option (List ℕ) → Option (List ℕ) → Option (List ℕ) → Type 0
 ReportedInPart limit line None before after = ⊤
 ReportedInPart limit line (Some archive) before after =
     (text : List ℕ) × (IsReport limit line archive text ⊎ IsCutReport limit line archive text)
     × AppendsPrefix before after text
 
 -- What a call wrote that reports on an archive, by its answer.
-abbrev pub Reports : {A : Type 0} → ℕ → Line → (List ℕ → List HeadView → A) → Option (List ℕ) → Result A IndexFault
-    → Option (List ℕ) → Option (List ℕ) → Type 0
+abbrev pub Reports : {A : Type 0} → ℕ → RecordLine → (List ℕ → List HeadView → A) → Option (List ℕ)
+    → Result A IndexFault → Option (List ℕ) → Option (List ℕ) → Type 0
 Reports limit line tally left (Ok answer) before after = Reported limit line tally left answer before after
 Reports limit line tally left (Err (faults.Capture (Archive f))) before after = ReportedToFault limit line left f before
     after

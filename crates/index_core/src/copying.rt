@@ -3,7 +3,7 @@ ghost use Rattle.std.specs.Prelude.{◌≡◌, ℕ};
 ghost use Rattle.std.specs.Io.KnownBytes.{prepend_known};
 ghost use Rattle.warc_core.specs.declared.phase.Phase.TheVariants.{Open};
 ghost use Rattle.warc_core.specs.ReaderView.{IsUnread, HasLeft};
-ghost use Rattle.index_core.specs.Counting.{CountsIndex, CountsWrite};
+ghost use Rattle.index_core.specs.Counting.{CountsIndex, CountsIndexWrite};
 ghost use Rattle.index_core.specs.Copying.{CopiesBlock, CopiesRecord};
 
 use crate::fault::IndexFault;
@@ -21,7 +21,7 @@ fn copy_block<I: Input, O: Output>(
         CopiesBlock left len reader.old reader.new result
         (I.remaining input.old) (I.remaining input.new) (O.written out.old) (O.written out.new) }
     ensures reads { CountsIndex result (I.failures input.old) (I.failures input.new) }
-    ensures writes { CountsWrite result (O.failures out.old) (O.failures out.new) }
+    ensures writes { CountsIndexWrite result (O.failures out.old) (O.failures out.new) }
 {
     let mut piece = [0; 8192];
     loop {
@@ -48,7 +48,7 @@ pub fn copy_record<I: Input, O: Output>(
         (prepend_known reader.new.held (I.remaining input.new)) (O.written out.old)
         (O.written out.new) }
     ensures reads { CountsIndex result (I.failures input.old) (I.failures input.new) }
-    ensures writes { CountsWrite result (O.failures out.old) (O.failures out.new) }
+    ensures writes { CountsIndexWrite result (O.failures out.old) (O.failures out.new) }
 {
     put_bytes(out, head.raw())?;
     copy_block(reader, input, out)?;

@@ -2,7 +2,7 @@
 ghost use Rattle.std.specs.Prelude.{◌≡◌, ℕ, ◌-◌, ◌^◌, ◌≤◌, Err, IfErr};
 ghost use Rattle.std.specs.Io.KnownBytes.{prepend_known};
 ghost use Rattle.warc_core.specs.Answers.{causes_of, CountsRead};
-ghost use Rattle.index_core.specs.Counting.{CountsIndex, CountsWrite};
+ghost use Rattle.index_core.specs.Counting.{CountsIndex, CountsIndexWrite};
 ghost use Rattle.index_core.specs.Copying.{CopiesNext, Reaches};
 ghost use Rattle.index_core.specs.Fetching.{Fetches, IsFetchFault, IsMetBefore};
 
@@ -31,7 +31,7 @@ pub fn get<I: Input, O: Output>(
     ensures refusals { IfErr result IsFetchFault }
     ensures unwritten { IfErr result (λ fault. IsMetBefore offset fault → out.new ≡ out.old) }
     ensures reads { CountsIndex result (I.failures input.old) (I.failures input.new) }
-    ensures writes { CountsWrite result (O.failures out.old) (O.failures out.new) }
+    ensures writes { CountsIndexWrite result (O.failures out.old) (O.failures out.new) }
 {
     match reader_at(alloc, input, offset)? {
         Some(mut reader) => copy_next(&mut reader, input, out),
@@ -72,7 +72,7 @@ fn copy_next<I: Input, O: Output>(
         (O.written out.new) }
     ensures unwritten { result ≡ Err IndexFault.NoRecord → out.new ≡ out.old }
     ensures reads { CountsIndex result (I.failures input.old) (I.failures input.new) }
-    ensures writes { CountsWrite result (O.failures out.old) (O.failures out.new) }
+    ensures writes { CountsIndexWrite result (O.failures out.old) (O.failures out.new) }
 {
     match reader.next(input)? {
         Some(head) => copy_record(reader, input, &head, out),

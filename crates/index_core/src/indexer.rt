@@ -40,7 +40,7 @@ impl Indexer {
     ghost use Rattle.capture_core.specs.Types.{includes};
     ghost use Rattle.capture_core.specs.CaptureAnswer.{usual_limits};
     ghost use Rattle.index_core.specs.Adding.{Adds, IsAddFault, IsRefusal};
-    ghost use Rattle.index_core.specs.Counting.{CountsIndex, CountsWrite};
+    ghost use Rattle.index_core.specs.Counting.{CountsIndex, CountsIndexWrite};
     ghost use Rattle.index_core.specs.Indexing.{IsWriteFault, IsName, is_among, index_text, in_places, AreSound};
 
     /// Creates an indexer of records of these types, which holds nothing. It takes no memory.
@@ -113,7 +113,7 @@ impl Indexer {
         ensures sound { AreSound LINE_LIMIT self.now.names self.now.captures }
         ensures all { length (in_places self.now.captures) ≡ length self.now.captures }
         ensures refusals { IfErr result IsWriteFault }
-        ensures failures { CountsWrite result (O.failures out.old) (O.failures out.new) }
+        ensures failures { CountsIndexWrite result (O.failures out.old) (O.failures out.new) }
     {
         put_index(self.alloc, out, &self.captures)
     }

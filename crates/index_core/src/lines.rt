@@ -12,14 +12,14 @@ use itoa::Buffer;
 use warc_core::{Fault, Head};
 
 /// A line of a report, with its LF.
-pub type Line = ArrayString<64>;
+pub type ReportLine = ArrayString<64>;
 
 /// Returns the line `OFFSET LENGTH KIND`.
-pub fn record_line(head: &Head) -> Line
+pub fn record_line(head: &Head) -> ReportLine
     ensures { result.bytes ≡ record_line head.now }
 {
     let mut digits = Buffer::new();
-    let mut line = Line::new();
+    let mut line = ReportLine::new();
     line.push_str(digits.format(head.start()));
     line.push_str(" ");
     line.push_str(digits.format(head.record_length()));
@@ -30,11 +30,11 @@ pub fn record_line(head: &Head) -> Line
 }
 
 /// Returns the line `OFFSET VERDICT`.
-pub fn verdict_line(offset: u64, verdict: Verdict) -> Line
+pub fn verdict_line(offset: u64, verdict: Verdict) -> ReportLine
     ensures { result.bytes ≡ verdict_line offset verdict }
 {
     let mut digits = Buffer::new();
-    let mut line = Line::new();
+    let mut line = ReportLine::new();
     line.push_str(digits.format(offset));
     line.push_str(" ");
     line.push_str(verdict.name());
@@ -43,11 +43,11 @@ pub fn verdict_line(offset: u64, verdict: Verdict) -> Line
 }
 
 /// Returns the line `fault OFFSET CAUSE`.
-pub fn fault_line(fault: Fault) -> Line
+pub fn fault_line(fault: Fault) -> ReportLine
     ensures { result.bytes ≡ fault_line fault }
 {
     let mut digits = Buffer::new();
-    let mut line = Line::new();
+    let mut line = ReportLine::new();
     line.push_str("fault ");
     line.push_str(digits.format(fault.offset));
     line.push_str(" ");

@@ -1,6 +1,6 @@
 //! The verification of an archive: a line for the digest of each block.
 ghost use Rattle.std.specs.Prelude.{◌≡◌, IfErr};
-ghost use Rattle.index_core.specs.Counting.{CountsWrite, CountsInput};
+ghost use Rattle.index_core.specs.Counting.{CountsIndexWrite, CountsInput};
 ghost use Rattle.index_core.specs.Report.{IsReportFault};
 ghost use Rattle.index_core.specs.Verifying.{Verifies, differing_by};
 
@@ -28,7 +28,7 @@ pub fn verify<I: Input, O: Output>(
         (O.written out.new) }
     ensures refusals { IfErr result IsReportFault }
     ensures reads { CountsInput result (I.failures input.old) (I.failures input.new) }
-    ensures writes { CountsWrite result (O.failures out.old) (O.failures out.new) }
+    ensures writes { CountsIndexWrite result (O.failures out.old) (O.failures out.new) }
 {
     let mut reader = match Reader::new(alloc) {
         Ok(reader) => reader,

@@ -1,7 +1,7 @@
 //! The reading of an archive's records, one after another.
 ghost use Rattle.std.specs.Prelude.{◌≡◌, ℕ, List, Some, Ok, IfOk, IfSome, MatchResult};
 ghost use Rattle.std.specs.Io.KnownBytes.{prepend_known};
-ghost use Rattle.warc_core.specs.HeadView.{HeadView, BeginsAt, block_at};
+ghost use Rattle.warc_core.specs.HeadView.{HeadView, RecordBeginsAt, block_at};
 ghost use Rattle.block_digests.specs.declared.verdict.Verdict.{Verdict};
 ghost use Rattle.warc_core.specs.Answers.{causes_of, CountsRead};
 ghost use Rattle.warc_core.specs.Reading.{Reads};
@@ -21,7 +21,7 @@ pub fn next_record<I: Input>(reader: &mut Reader, input: &mut I) -> Result<Optio
         (prepend_known reader.new.held (I.remaining input.new)) }
     ensures state { MatchResult result (Passes reader.new reader.old.offset)
         (FailedBy reader.new reader.old.offset) }
-    ensures begins { IfOk result (λ o. IfSome o (BeginsAt reader.old.offset)) }
+    ensures begins { IfOk result (λ o. IfSome o (RecordBeginsAt reader.old.offset)) }
     ensures failures { CountsRead (causes_of result) (I.failures input.old) (I.failures input.new) }
 {
     match reader.next(input)? {
@@ -48,7 +48,7 @@ pub fn next_verdict<I: Input>(
         (λ bytes. v ≡ verdict_on h (block_at h bytes)) }
     ensures state { MatchResult (heads_of result) (Passes reader.new reader.old.offset)
         (FailedBy reader.new reader.old.offset) }
-    ensures begins { IfOk (heads_of result) (λ o. IfSome o (BeginsAt reader.old.offset)) }
+    ensures begins { IfOk (heads_of result) (λ o. IfSome o (RecordBeginsAt reader.old.offset)) }
     ensures failures { CountsRead (causes_of result) (I.failures input.old) (I.failures input.new) }
 {
     match reader.next(input)? {

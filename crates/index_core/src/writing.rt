@@ -5,7 +5,7 @@ ghost use Rattle.devices.specs.Writing.{WritesText};
 ghost use Rattle.index_core.specs.Report.{WritesFault};
 
 use crate::fault::IndexFault;
-use crate::lines::{Line, fault_line};
+use crate::lines::{ReportLine, fault_line};
 use warc_core::{Fault, Output, put};
 
 /// Writes these bytes. The only error is `Write`. A prefix of them was then written.
@@ -21,7 +21,7 @@ pub fn put_bytes<O: Output>(out: &mut O, bytes: &[u8]) -> Result<(), IndexFault>
 }
 
 /// Writes a line. The only error is `Write`. A prefix of it was then written.
-pub fn put_line<O: Output>(out: &mut O, line: &Line) -> Result<(), IndexFault>
+pub fn put_line<O: Output>(out: &mut O, line: &ReportLine) -> Result<(), IndexFault>
     ensures line { WritesText result (O.written out.old) (O.written out.new) line.now.bytes }
     ensures refusal { IfErr result (λ fault. fault ≡ IndexFault.Write) }
     ensures failures { CountsFailure result (O.failures out.old) (O.failures out.new) }

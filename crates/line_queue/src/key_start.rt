@@ -1,6 +1,6 @@
 //! The starts of keys, as numbers.
 ghost use Rattle.std.specs.Prelude.{◌≡◌, ◌+◌, ◌≤◌, length, take, drop};
-ghost use Rattle.cdxj_places.specs.Abbreviated.{AreBytes, spelled, start_words, words};
+ghost use Rattle.cdxj_places.specs.Abbreviated.{AreBytes, bytes_value, start_words, words};
 
 use cdxj_places::abbreviated;
 
@@ -10,7 +10,7 @@ pub type KeyStart = (u128, u128);
 /// Returns the sixteen bytes from `at` on as a big-endian number.
 fn word(bytes: &[u8; 32], at: usize) -> u128
     requires { at + 16 ≤ 32 }
-    ensures { result ≡ spelled 0 (take 16 (drop at bytes.now)) }
+    ensures { result ≡ bytes_value 0 (take 16 (drop at bytes.now)) }
 {
     u128::from_be_bytes([
         bytes[at],

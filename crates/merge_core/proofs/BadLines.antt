@@ -13,7 +13,7 @@ use Rattle.cdxj_core.specs.Members.{Member, member_pair, line_entry}
 use Rattle.cdxj_core.proofs.MemberLemmas.{long_line_none}
 use Rattle.source_core.specs.Cursors.{CursorState}
 use Rattle.source_core.specs.IndexLines.{first_length}
-use Rattle.source_core.specs.LinesAtFault.{BeginsAt, IsOutOfOrder}
+use Rattle.source_core.specs.LinesAtFault.{IsOutOfOrder, LineBeginsAt}
 use Rattle.source_core.proofs.SortedCuts.{begins_at}
 use Rattle.merge_core.specs.declared.fault.FeedFault.{FeedFault}
 use Rattle.merge_core.specs.declared.fault.FeedFault.TheVariants as fault
@@ -24,7 +24,7 @@ use Rattle.merge_core.specs.Feeds.{Fed, read_lines, done}
 use Rattle.merge_core.specs.Gathering.{EndsAt}
 use Rattle.cdxj_core.specs.declared.fault.LineFault.{LineFault}
 use Rattle.cdxj_core.specs.declared.fault.LineFault.TheVariants as reading
-use Rattle.merge_core.specs.LineFaults.{IsBadFirst, IsFaultAt, NamesLine, line_fault}
+use Rattle.merge_core.specs.LineFaults.{IsBadFirst, IsFeedFaultAt, NamesLine, line_fault}
 use Rattle.line_queue.proofs.PairOrder.{below_then}
 use Rattle.merge_core.proofs.FeedLemmas.{ReadNext, done_due, after_taken}
 
@@ -45,7 +45,7 @@ first_long limit (l ∷ ls) long = (l, ls, refl, long_none limit l long)
 -- the first of the lines was refused
 pub refused_at : (limit : ℕ) (ls rest : List (List ℕ)) (line : List ℕ) (at begin : ℕ) (e : LineFault) → begin ≡ at → ls
     ≡ line ∷ rest → (e ≢ reading.Memory → line_entry limit line ≡ None)
-    → IsFaultAt limit ls at (line_fault begin e)
+    → IsFeedFaultAt limit ls at (line_fault begin e)
 refused_at limit ls rest line at begin reading.Memory there is bad = tt
 refused_at limit ls rest line at begin reading.LineTooLong there is bad =
     (there, (line, rest, is, bad (λ q. absurd (cc))))
@@ -76,7 +76,7 @@ module _ (limit : ℕ) (past : List ℕ → Bool) (t : List ℕ) (extent : ℕ) 
     (fed : Fed limit past (Some t) extent f []) where
   -- the line at which the cursor stands, after those before it
   begins_here : (line : List ℕ) (after : List (List ℕ)) → lines (drop f.cursor.at t) ≡ line ∷ after
-      → BeginsAt t f.cursor.at ((fed.told t refl).begins.0 ++ read_lines t f.cursor) line
+      → LineBeginsAt t f.cursor.at ((fed.told t refl).begins.0 ++ read_lines t f.cursor) line
   begins_here line after e =
       let told = fed.told t refl in
       let from = lines (drop f.cursor.start t) in
@@ -91,7 +91,7 @@ module _ (limit : ℕ) (past : List ℕ → Bool) (t : List ℕ) (extent : ℕ) 
             (inside t f.cursor.at line after e);
       }
 
-  pub bad_named : (e : FeedFault) → IsFaultAt limit (lines (drop f.cursor.at t)) f.cursor.at e → NamesLine limit t e
+  pub bad_named : (e : FeedFault) → IsFeedFaultAt limit (lines (drop f.cursor.at t)) f.cursor.at e → NamesLine limit t e
   bad_named fault.Memory h = tt
   bad_named fault.Read h = tt
   bad_named (fault.BadLine offset) h =
@@ -122,7 +122,7 @@ module _ (limit : ℕ) (past : List ℕ → Bool) (t : List ℕ) (extent : ℕ) 
         before = told.begins.0 ++ last.0;
         previous = last.1;
         line = next.0;
-        begins = subst (λ ls. BeginsAt t f.cursor.at ls next.0) front here;
+        begins = subst (λ ls. LineBeginsAt t f.cursor.at ls next.0) front here;
         earlier = end.1;
         later = m;
         earlier_is = last.3;

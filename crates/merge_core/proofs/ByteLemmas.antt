@@ -10,7 +10,7 @@ use Rattle.cdxj_places.specs.Pairs.{Pair}
 use Rattle.cdxj_places.proofs.RisingLaws.{each_weaker}
 use Rattle.cdxj_core.specs.Indexes.{IsIndex}
 use Rattle.cdxj_core.specs.Lines.{body_of}
-use Rattle.cdxj_core.specs.Members.{Member, member_pair, line_entry}
+use Rattle.cdxj_core.specs.Members.{Member, line_row, member_pair, line_entry}
 use Rattle.cdxj_core.proofs.MemberLemmas.{entered}
 use Rattle.source_core.specs.Cursors.{CursorState}
 use Rattle.source_core.specs.Search.{IsCut}
@@ -20,7 +20,7 @@ use Rattle.merge_core.specs.Collections.{Known}
 use Rattle.merge_core.specs.Feeds.{bytes_of}
 use Rattle.merge_core.specs.Openings.{IsCutAt}
 use Rattle.merge_core.specs.Spending.{ReadTo, CameWithin, AllGaveWithin}
-use Rattle.merge_core.specs.Written.{line_row, lines_text}
+use Rattle.merge_core.specs.Written.{lines_text}
 use Rattle.merge_core.proofs.Filters.{each_both}
 use Rattle.merge_core.proofs.GroupLemmas.{each_cut, filter_all}
 use Rattle.merge_core.proofs.Many.{Move}
@@ -64,8 +64,8 @@ front_of (u ∷ us) zs (v ∷ vs) e =
     let rest = front_of us zs vs (let q : map Some us ++ zs ≡ map Some vs = cc in q) in
     (rest.0, ap (λ x. x ∷ vs) first ∙ ap (λ l. u ∷ l) rest.1)
 
--- Indexes were read from where the search for a pair ended; this test holds of all lines that lie within the range, aren't below
--- the pair and don't stand above the bound
+-- Indexes were read from where the search for a pair ended; this test holds of all lines that lie within the range,
+-- aren't below the pair and don't stand above the bound
 module _ (limit : ℕ) (past : List ℕ → Bool) (start : Pair) (b : Option Pair) (test : Member → Bool)
     (passes : (m : Member) → past m.values.key ≡ false → is_low start m ≡ false → IsUpto b (member_pair m) → test m
     ≡ true) where

@@ -37,8 +37,8 @@ one_held Waiting = omega arith
 one_held Past = omega arith
 one_held Ended = omega arith
 
--- Lines were read of sources that are indexes, from where the search for a pair ended; this test holds of all lines that lie
--- within the range, aren't below the pair and don't stand above the bound
+-- Lines were read of sources that are indexes, from where the search for a pair ended; this test holds of all lines
+-- that lie within the range, aren't below the pair and don't stand above the bound
 module _ (limit : ℕ) (past : List ℕ → Bool) (start : Pair) (b : Option Pair) (test : Member → Bool)
     (passes : (m : Member) → past m.values.key ≡ false → is_low start m ≡ false → IsUpto b (member_pair m) → test m
     ≡ true) where

@@ -12,7 +12,8 @@ use Rattle.merge_core.specs.declared.feed.Progress.TheVariants.{Due, Ended}
 use Rattle.merge_core.specs.declared.feed.Feed.{Feed}
 use Rattle.line_queue.specs.PairOrders.{Upto, Alike}
 use Rattle.merge_core.specs.Feeds.{IsNext, Fed, read_lines, done}
-use Rattle.merge_core.proofs.FeedLemmas.{each_join, ReadNext, line_read, fed_same, fed_next, done_next, fed_taken}
+use Rattle.cdxj_places.proofs.RisingLaws.{each_join}
+use Rattle.merge_core.proofs.FeedLemmas.{ReadNext, line_read, fed_same, fed_next, done_next, fed_taken}
 use Rattle.merge_core.proofs.FeedLemmas.{done_taken, fed_ended}
 
 module _ {L : Type 0} (limit : ℕ) (past : List ℕ → Bool) (seen : L → Member) (t0 t1 : Option (List ℕ)) (e0 e1 : ℕ)
@@ -67,7 +68,8 @@ module _ {L : Type 0} (limit : ℕ) (past : List ℕ → Bool) (seen : L → Mem
       taken d stays = fed_taken limit past t1 e1 old f is_due was_here stands_here start_here near_here (seen line) low
           count_here next_here upto_here up d (λ t e. stays t (sym text ∙ e))
 
-      pub taken_done : f.progress ≡ Due → (t : List ℕ) → t0 ≡ Some t → done limit t f ≡ done limit t old ++ seen line ∷ []
+      pub taken_done : f.progress ≡ Due → (t : List ℕ) → t0 ≡ Some t
+          → done limit t f ≡ done limit t old ++ seen line ∷ []
       taken_done d t e = done_taken limit past t1 e1 old f is_due was_here stands_here start_here near_here (seen line)
           low count_here next_here upto_here up d t (text ∙ e)
 

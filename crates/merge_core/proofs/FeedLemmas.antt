@@ -10,7 +10,7 @@ use Rattle.std.specs.FinMap.{nat_cmp-IsAntisymmetric, slice_cmp-IsAntisymmetric}
 use Rattle.std.proofs.lemmas.Cmp.{tied_back}
 use Rattle.std.proofs.lemmas.List.Concat.{flat_map-append}
 use Rattle.cdxj_places.proofs.PairLemmas.{pair_cmp_total}
-use Rattle.cdxj_places.proofs.RisingLaws.{each_weaker}
+use Rattle.cdxj_places.proofs.RisingLaws.{each_join, each_weaker}
 use Rattle.cdxj_places.specs.Pairs.{Pair, pair_cmp}
 use Rattle.cdxj_places.specs.Rising.{NeverFalls}
 use Rattle.cdxj_places.specs.TextLines.{lines}
@@ -33,11 +33,6 @@ pub no_entry : (limit : ℕ) (line : List ℕ) (o : Option Member) → o ≡ lin
     → limit ≤ length (body_of line) → o ≡ None
 no_entry limit line None e h = refl
 no_entry limit line (Some m) e h = absurd (let short = entry_is_short limit line m (sym e) in omega arith)
-
-pub each_join : {X : Type 0} (A : X → Type 0) (us vs : List X) → AllByRecursion A us → AllByRecursion A vs
-    → AllByRecursion A (us ++ vs)
-each_join A [] vs h k = k
-each_join A (u ∷ us) vs h k = (h.0, each_join A us vs h.1 k)
 
 take_suc_at : {X : Type 0} (n : ℕ) (all : List X) (x : X) (rest : List X) → drop n all ≡ x ∷ rest → take (suc n) all
     ≡ take n all ++ x ∷ []

@@ -11,14 +11,13 @@ use Rattle.std.proofs.lemmas.List.Concat.{flat_map-append}
 use Rattle.std.proofs.lemmas.List.Elements.{filter-append}
 use Rattle.cdxj_places.specs.Pairs.{Pair, pair_cmp}
 use Rattle.cdxj_places.proofs.PairLemmas.{pair_cmp_total}
-use Rattle.cdxj_places.proofs.RisingLaws.{each_weaker}
+use Rattle.cdxj_places.proofs.RisingLaws.{each_join, each_weaker}
 use Rattle.cdxj_core.specs.Members.{Member, member_pair}
 use Rattle.line_queue.specs.PairOrders.{Alike, Below, Upto, is_low}
 use Rattle.line_queue.specs.WaitingLines.{WaitingLine, waiting_pair, turn_cmp, waits_of}
 use Rattle.merge_core.specs.Gathering.{Gathered, IsFrom, WaitsAbove}
 use Rattle.line_queue.proofs.PairOrder.{below_upto, same_upto, same_from, upto_upto, not_below_itself}
 use Rattle.line_queue.proofs.TurnLemmas.{not_before, source_after}
-use Rattle.merge_core.proofs.FeedLemmas.{each_join}
 use Rattle.line_queue.proofs.HeapLemmas.{each_permuted, none_waits}
 
 abbrev pub AreAt : Pair → List Member → Type 0

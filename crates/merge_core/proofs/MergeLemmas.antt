@@ -8,7 +8,7 @@ use Rattle.cdxj_places.specs.Places.{place_cmp}
 use Rattle.cdxj_places.specs.Rising.{IsLower, Rises, rising}
 use Rattle.cdxj_places.proofs.PairLemmas.{lower_pair}
 use Rattle.cdxj_places.proofs.PlaceOrder.{place_cmp_total}
-use Rattle.cdxj_places.proofs.RisingLaws.{each_weaker, each_rising, rises_rising, rising_split}
+use Rattle.cdxj_places.proofs.RisingLaws.{each_weaker, each_rising, rises_rising, rising_split, each_join}
 use Rattle.cdxj_core.specs.Members.{Member, member_pair, member_place}
 use Rattle.merge_core.specs.declared.feed.Feed.{Feed}
 use Rattle.line_queue.specs.PairOrders.{Alike, Below, Upto, IsAbove, IsUpto, is_low}
@@ -17,7 +17,6 @@ use Rattle.merge_core.specs.Gathering.{Gathered, Grouped, AreTold, all_done}
 use Rattle.merge_core.specs.Reached.{Handed, Reached}
 use Rattle.merge_core.specs.SourceLines.{HasEntry}
 use Rattle.line_queue.proofs.PairOrder.{from_not_below, below_then, then_below, below_upto, same_upto, same_from}
-use Rattle.merge_core.proofs.FeedLemmas.{each_join}
 use Rattle.merge_core.proofs.GroupLemmas.{AreAt, AreBelow}
 
 -- where there is no bound, all stand above it

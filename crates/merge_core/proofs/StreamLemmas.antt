@@ -18,7 +18,8 @@ use Rattle.merge_core.specs.Feeds.{AreWaits, IsHead, FedOf, Fed, AreFed, Ready, 
 use Rattle.merge_core.specs.Gathering.{EndsAt}
 use Rattle.line_queue.specs.PairOrders.{Upto}
 use Rattle.line_queue.proofs.PairOrder.{upto_itself}
-use Rattle.merge_core.proofs.FeedLemmas.{each_join, done_due}
+use Rattle.cdxj_places.proofs.RisingLaws.{each_join}
+use Rattle.merge_core.proofs.FeedLemmas.{done_due}
 use Rattle.line_queue.proofs.HeapLemmas.{each_permuted, waits_here, waits_other, waits_permuted}
 
 pub few_waits : (p : Progress) (ws : List Member) → AreWaits p ws → length ws ≤ 1
@@ -231,7 +232,8 @@ module _ (limit : ℕ) (past : List ℕ → Bool) {S : Type 0} (text : S → Opt
           → Fed limit past (text s) (extent s) f (w.member ∷ [])
           → Ready limit past text extent (set ss i s) (set fs i f) ws'
       refilled_ready w ws' e p fed =
-          let here : waits_of i (w ∷ ws) ≡ w.member ∷ [] = waits_here i w ws e ∙ ap (λ l. w.member ∷ l) none_waits_here in
+          let here : waits_of i (w ∷ ws) ≡ w.member ∷ [] =
+          waits_here i w ws e ∙ ap (λ l. w.member ∷ l) none_waits_here in
           record {
             same = same_lengths;
             placed = each_permuted (λ (v : WaitingLine). v.source < length (set fs i f)) (w ∷ ws) ws' p
@@ -258,8 +260,10 @@ module _ (limit : ℕ) (past : List ℕ → Bool) {S : Type 0} (text : S → Opt
             (drained_ready fed)
         waited_ready (Some x) p fed = refilled_ready (record { member = value x; source = i }) ws' refl p fed
 
-        pub waited_length : (o : Option B) → Waited o → length ws' ≡ length ws + length (option_list (option_map value o))
+        pub waited_length : (o : Option B) → Waited o
+            → length ws' ≡ length ws + length (option_list (option_map value o))
         waited_length None e = (let h = ap length e in omega arith)
         waited_length (Some x) p =
-            (let w : WaitingLine = record { member = value x; source = i } in let h = length_permutation (w ∷ ws) ws' p in
+            (let w : WaitingLine = record { member = value x; source = i } in
+            let h = length_permutation (w ∷ ws) ws' p in
             omega arith)

@@ -6,12 +6,11 @@ use Rattle.std.proofs.Common.{take-append-drop, drop-cons}
 use Rattle.std.specs.Io.KnownBytes.{Appends}
 use Rattle.std.proofs.lemmas.List.{map_more}
 use Rattle.std.proofs.lemmas.List.Concat.{flat_map-append}
-use Rattle.cdxj_core.specs.Members.{Member}
+use Rattle.cdxj_core.specs.Members.{Member, line_row}
 use Rattle.devices.specs.Device.{AppendsPrefix}
-use Rattle.devices.proofs.DeviceLemmas.{Appends-none, Appends-join}
+use Rattle.devices.proofs.DeviceLemmas.{Appends-join}
 use Rattle.devices.proofs.WritingLemmas.{prefix_longer, prefix_after}
-use Rattle.merge_core.specs.Reached.{Grows}
-use Rattle.merge_core.specs.Written.{line_row, lines_text}
+use Rattle.merge_core.specs.Written.{lines_text}
 
 -- where a line couldn't be written, a front of all stands there
 pub broke_at : {B : Type 0} (seen : B → Member) (start mid new : Option (List ℕ)) (taken : List Member) (ls : List B)
@@ -52,21 +51,3 @@ wrote_more seen start mid new taken ls k b count count' l is h row next =
       subst (Appends start new) (sym text) (Appends-join start mid new (lines_text front) (line_row (seen b)) h.0 row),
       omega (arith, h.1, next, ap length more, length-append front (seen b ∷ [])),
     )
-
--- ---- outputs that grow
-
-pub grows_not : (old : Option (List ℕ)) → Grows old old
-grows_not old = record { text = []; grown = Appends-none old }
-
-pub grows_on : (old mid new : Option (List ℕ)) → Grows old mid → Grows mid new → Grows old new
-grows_on old mid new h k = record {
-  text = h.text
-      ++ k.text;
-  grown = Appends-join old mid new h.text k.text h.grown k.grown;
-}
-
-pub grows_by : (old new : Option (List ℕ)) (text : List ℕ) → Appends old new text → Grows old new
-grows_by old new text h = record { text = text; grown = h }
-
-pub grows_part : (old new : Option (List ℕ)) (text : List ℕ) → AppendsPrefix old new text → Grows old new
-grows_part old new text (rest, w) = record { text = w.front; grown = w.grown }

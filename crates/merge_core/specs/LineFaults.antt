@@ -19,11 +19,11 @@ line_fault at reading.Memory = feed.Memory
 line_fault at other = feed.BadLine at
 
 -- a fault of the reading of the line of a text that begins at this offset
-abbrev pub IsFaultAt : ℕ → List (List ℕ) → ℕ → FeedFault → Type 0
-IsFaultAt limit ls at feed.Memory = ⊤
-IsFaultAt limit ls at feed.Read = ⊤
-IsFaultAt limit ls at (feed.BadLine offset) = (offset ≡ at) × IsBadFirst limit ls
-IsFaultAt limit ls at (feed.OutOfOrder offset) = ⊥
+abbrev pub IsFeedFaultAt : ℕ → List (List ℕ) → ℕ → FeedFault → Type 0
+IsFeedFaultAt limit ls at feed.Memory = ⊤
+IsFeedFaultAt limit ls at feed.Read = ⊤
+IsFeedFaultAt limit ls at (feed.BadLine offset) = (offset ≡ at) × IsBadFirst limit ls
+IsFeedFaultAt limit ls at (feed.OutOfOrder offset) = ⊥
 
 -- a line that the fault names is such a line of the text
 abbrev pub NamesLine : ℕ → List ℕ → FeedFault → Type 0
@@ -33,8 +33,8 @@ NamesLine limit text (feed.BadLine offset) = IsBadLine limit text offset
 NamesLine limit text (feed.OutOfOrder offset) = IsOutOfOrder limit text offset
 
 -- a line that the fault names is such a line of the source that it names, where that source tells its bytes
-abbrev pub IsFaultOf : ℕ → List (Option (List ℕ)) → MergeFault → Type 0
-IsFaultOf limit texts fault.Memory = ⊤
-IsFaultOf limit texts fault.Write = ⊤
-IsFaultOf limit texts (fault.Feed i e) = (i < length texts)
+abbrev pub IsMergeFaultOf : ℕ → List (Option (List ℕ)) → MergeFault → Type 0
+IsMergeFaultOf limit texts fault.Memory = ⊤
+IsMergeFaultOf limit texts fault.Write = ⊤
+IsMergeFaultOf limit texts (fault.Feed i e) = (i < length texts)
     × ((text : List ℕ) → get_or texts i None ≡ Some text → NamesLine limit text e)

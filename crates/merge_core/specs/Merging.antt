@@ -8,7 +8,8 @@ use Rattle.line_queue.specs.PairOrders.{Alike, Below, IsAbove, Upto}
 use Rattle.line_queue.specs.WaitingLines.{waiting_pair}
 use Rattle.merge_core.specs.declared.streams.Streams.{Streams}
 use Rattle.merge_core.specs.Gathering.{AreTold, all_done}
-use Rattle.merge_core.specs.Reached.{Grows, Reached}
+use Rattle.devices.specs.Device.{Grows}
+use Rattle.merge_core.specs.Reached.{Reached}
 use Rattle.merge_core.specs.Spending.{AreReadTo}
 
 -- The lines of this pair, which no waiting line is below, were being taken: no source that tells its bytes was read beyond them

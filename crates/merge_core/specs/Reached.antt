@@ -1,6 +1,5 @@
 -- How far a merge of several sources has come.
 use Rattle.std.specs.Prelude.{◌≡◌, ℕ, List, Bool, Option, Result, Ok, Err}
-use Rattle.std.specs.Io.KnownBytes.{Appends}
 use Rattle.std.specs.List.{AllByRecursion}
 use Rattle.cdxj_places.specs.Pairs.{Pair}
 use Rattle.cdxj_places.specs.Places.{place_cmp}
@@ -17,19 +16,14 @@ use Rattle.merge_core.specs.Feeds.{AllMoved, Ready, AreSettled}
 use Rattle.merge_core.specs.Gathering.{AreTold, all_done}
 
 -- a refusal of the output adds one to its count of failures, all else none
-abbrev pub CountsWrite : {A : Type 0} → Result A SinkFault → ℕ → ℕ → Type 0
-CountsWrite (Ok x) old new = new ≡ old
-CountsWrite (Err Memory) old new = new ≡ old
-CountsWrite (Err Write) old new = new ≡ next_count old
-
--- known bytes stay at the front, and may grow
-pub record Grows (old new : Option (List ℕ)) : Type 0 where
-  pub text : List ℕ
-  pub grown : Appends old new text
+abbrev pub CountsSinkWrite : {A : Type 0} → Result A SinkFault → ℕ → ℕ → Type 0
+CountsSinkWrite (Ok x) old new = new ≡ old
+CountsSinkWrite (Err Memory) old new = new ≡ old
+CountsSinkWrite (Err Write) old new = new ≡ next_count old
 
 module _ {S : Type 0} (limit : ℕ) (text : S → Option (List ℕ)) where
-  -- These lines were handed on: each was read as an entry, they rise, and none is above the bound. If the bytes of all sources are
-  -- known, they are all that are done
+  -- These lines were handed on: each was read as an entry, they rise, and none is above the bound. If the bytes of all
+  -- sources are known, they are all that are done
   pub record Handed (old ss : List S) (fs : List Feed) (bound : Option Pair) (taken : List Member) : Type 0 where
     pub entries : AllByRecursion (HasEntry limit) taken
     pub upto : AllByRecursion (λ m. IsUpto bound (member_pair m)) taken

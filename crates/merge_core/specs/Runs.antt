@@ -8,8 +8,8 @@ use Rattle.merge_core.specs.declared.feed.Feed.{Feed}
 use Rattle.merge_core.specs.Feeds.{given}
 use Rattle.merge_core.specs.Gathering.{text_or}
 
--- Consecutive lines of a text are these members, whose pairs never fall. Where they are to be all of the range, they go on to
--- the text's end, or to a line whose key lies past the range.
+-- Consecutive lines of a text are these members, whose pairs never fall. Where they are to be all of the range, they go
+-- on to the text's end, or to a line whose key lies past the range.
 pub record IsPart (limit : ℕ) (past : List ℕ → Bool) (whole : Bool) (text : List ℕ) (members : List Member) : Type 0
   where
     pub before : List (List ℕ)

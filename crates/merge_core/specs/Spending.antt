@@ -12,8 +12,8 @@ use Rattle.merge_core.specs.Feeds.{bytes_of}
 use Rattle.line_queue.specs.PairOrders.{IsUpto}
 use Rattle.merge_core.specs.Written.{lines_text}
 
--- Of a source with this text, lines were read that lie within the range and aren't above the bound; beyond them, two lines and
--- a piece of 8,192 bytes at most
+-- Of a source with this text, lines were read that lie within the range and aren't above the bound; beyond them, two
+-- lines and a piece of 8,192 bytes at most
 pub record ReadTo (limit : ℕ) (past : List ℕ → Bool) (b : Option Pair) (text : List ℕ) (c : CursorState) : Type 0 where
   pub read : List (List ℕ)
   pub rest : List (List ℕ)
@@ -38,12 +38,13 @@ abbrev pub OpenedWithin : Option (List ℕ) → ℕ → ℕ → ℕ → Type 0
 OpenedWithin text extent old new = (t : List ℕ) → text ≡ Some t
     → new ≤ old + search_most extent t + 2 * longest (lines t) + 8192
 
--- a source gave no more than a search takes, and what lies between the cursor's start and the offset up to which it was read
+-- a source gave no more than a search takes, and what lies between the cursor's start and the offset up to which it was
+-- read
 abbrev pub CameWithin : Option (List ℕ) → ℕ → ℕ → ℕ → CursorState → Type 0
 CameWithin text extent old new c = (t : List ℕ) → text ≡ Some t → new + c.start ≤ old + search_most extent t + reach c
 
--- Sources gave no more than the bytes of those of their lines that pass, what a search takes, two lines and a piece: by their
--- texts, their indexes, and the sources before and after
+-- Sources gave no more than the bytes of those of their lines that pass, what a search takes, two lines and a piece: by
+-- their texts, their indexes, and the sources before and after
 abbrev pub AllGaveWithin : {S : Type 0} → (S → ℕ) → (S → ℕ) → (Member → Bool) → List (List ℕ) → List (List Member)
     → List S → List S → Type 0
 AllGaveWithin extent gave test [] [] [] [] = Unit {0}

@@ -1,10 +1,6 @@
 -- The text of lines.
-use Rattle.std.specs.Prelude.{ℕ, List, [], ◌∷◌, ◌++◌, flat_map}
-use Rattle.cdxj_core.specs.Members.{Member}
-
--- a line with its line feed
-abbrev pub line_row : Member → List ℕ
-line_row m = m.line ++ 10 ∷ []
+use Rattle.std.specs.Prelude.{ℕ, List, flat_map}
+use Rattle.cdxj_core.specs.Members.{Member, line_row}
 
 -- the lines one after another
 abbrev pub lines_text : List Member → List ℕ

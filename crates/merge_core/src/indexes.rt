@@ -5,7 +5,7 @@ ghost use Rattle.devices.specs.Device.{AppendsPrefix};
 ghost use Rattle.merge_core.specs.Collections.{KeepsSources, Merged, OverIndexes, OverTexts, all_lines, collection};
 ghost use Rattle.merge_core.specs.Counts.{ShareAtMost};
 ghost use Rattle.merge_core.specs.Failures.{CountsMerge};
-ghost use Rattle.merge_core.specs.LineFaults.{IsFaultOf};
+ghost use Rattle.merge_core.specs.LineFaults.{IsMergeFaultOf};
 ghost use Rattle.merge_core.specs.SourceLines.{WroteLinesOf};
 ghost use Rattle.merge_core.specs.Written.{lines_text};
 
@@ -40,7 +40,7 @@ pub fn merge_indexes<S: Source, O: Output>(
     ensures kept { KeepsSources S.text S.extent sources.old sources.new }
     ensures failures { CountsMerge result (map S.failures sources.old) (map S.failures sources.new)
         (O.failures out.old) (O.failures out.new) }
-    ensures fault { IfErr result (IsFaultOf LINE_LIMIT (map S.text sources.old)) }
+    ensures fault { IfErr result (IsMergeFaultOf LINE_LIMIT (map S.text sources.old)) }
     ensures merged { OverTexts (map S.text sources.old) (λ texts.
         IfOk result (λ merged.
         Merged LINE_LIMIT texts (O.written out.old) (O.written out.new) merged.count)) }

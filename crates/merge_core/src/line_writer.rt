@@ -1,9 +1,9 @@
 //! The writing of lines as they stand in their indexes.
 ghost use Rattle.std.specs.Prelude.{◌≡◌, ◌+◌, ◌-◌, ◌^◌, min, OnOk, OnErr};
 ghost use Rattle.std.specs.Io.KnownBytes.{Appends};
-ghost use Rattle.devices.specs.Device.{AppendsPrefix};
-ghost use Rattle.merge_core.specs.Reached.{CountsWrite, Grows};
-ghost use Rattle.merge_core.specs.Written.{line_row};
+ghost use Rattle.cdxj_core.specs.Members.{line_row};
+ghost use Rattle.devices.specs.Device.{AppendsPrefix, Grows};
+ghost use Rattle.merge_core.specs.Reached.{CountsSinkWrite};
 
 use crate::fault::SinkFault;
 use crate::sink::Sink;
@@ -26,7 +26,7 @@ impl LineWriter {
         LineWriter { count: 0 }
     }
 
-    #[tactic(auto, using(crate::proofs::WrittenLemmas::grows_part))]
+    #[tactic(auto, using(devices::proofs::DeviceLemmas::grows_part))]
     fn put_line<O: Output>(&mut self, line: &Line, out: &mut O) -> Result<(), SinkFault>
         ensures text { OnOk result
             (Appends (O.written out.old) (O.written out.new) (line_row line.now)) }
@@ -34,7 +34,7 @@ impl LineWriter {
             (AppendsPrefix (O.written out.old) (O.written out.new) (line_row line.now)) }
         ensures grows { Grows (O.written out.old) (O.written out.new) }
         ensures count { OnOk result (self.new.count ≡ min (self.old.count + 1) (2 ^ 64 - 1)) }
-        ensures failures { CountsWrite result (O.failures out.old) (O.failures out.new) }
+        ensures failures { CountsSinkWrite result (O.failures out.old) (O.failures out.new) }
     {
         put(out, line.line())?;
         put(out, b"\n")?;

@@ -4,7 +4,7 @@ ghost use Rattle.cdxj_core.specs.declared.limit.TheConstants.{LINE_LIMIT};
 ghost use Rattle.merge_core.specs.Collections.{OverIndexes, all_lines};
 ghost use Rattle.merge_core.specs.Counts.{ShareAtMost};
 ghost use Rattle.merge_core.specs.Failures.{CountsMerge};
-ghost use Rattle.merge_core.specs.LineFaults.{IsFaultOf};
+ghost use Rattle.merge_core.specs.LineFaults.{IsMergeFaultOf};
 ghost use Rattle.merge_core.specs.Feeds.{AllMoved, Ready, AreSettled};
 ghost use Rattle.merge_core.specs.Gathering.{all_done};
 ghost use Rattle.merge_core.specs.Merging.{BrokenMerge, HaltedMerge, Passed};
@@ -36,7 +36,7 @@ pub fn merge<S: Source, R: Range, K: Sink, O: Output>(
         sources.new streams.new.feeds.items }
     ensures failures { CountsMerge result (map S.failures sources.old) (map S.failures sources.new)
         (O.failures out.old) (O.failures out.new) }
-    ensures fault { IfErr result (IsFaultOf LINE_LIMIT (map S.text sources.old)) }
+    ensures fault { IfErr result (IsMergeFaultOf LINE_LIMIT (map S.text sources.old)) }
     ensures settled { OnOk result (AreSettled streams.new.feeds.items) }
     ensures held { OverIndexes LINE_LIMIT (map S.text sources.old) (λ texts indexes.
         (most : ℕ) → ShareAtMost most (all_lines indexes)

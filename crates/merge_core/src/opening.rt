@@ -10,7 +10,7 @@ ghost use Rattle.source_core.specs.Halving.{digits};
 ghost use Rattle.source_core.specs.IndexLines.{BeginsAfter, lines, longest};
 ghost use Rattle.source_core.specs.Search.{IsCut};
 ghost use Rattle.merge_core.specs.Failures.{CountsFeed, CountsReads};
-ghost use Rattle.merge_core.specs.LineFaults.{NamesLine, IsFaultOf};
+ghost use Rattle.merge_core.specs.LineFaults.{NamesLine, IsMergeFaultOf};
 ghost use Rattle.merge_core.specs.Spending.{search_most, CameWithin, OpenedWithin};
 
 use crate::fault::{FeedFault, MergeFault};
@@ -158,7 +158,7 @@ impl Streams {
         ensures came { IfOk result (λ o.
             AllZip (λ x y. CameWithin (S.text x) (S.extent x) (S.gave x) (S.gave y.0) y.1.cursor)
             sources.old (zip sources.new o.streams.feeds.items)) }
-        ensures fault { IfErr result (IsFaultOf LINE_LIMIT (map S.text sources.old)) }
+        ensures fault { IfErr result (IsMergeFaultOf LINE_LIMIT (map S.text sources.old)) }
         ensures ready { IfOk result (λ o.
             Ready LINE_LIMIT (R.past range.now) S.text S.extent sources.new o.streams.feeds.items
             o.streams.waiting) }

@@ -5,8 +5,9 @@ ghost use Rattle.cdxj_places.specs.Places.{place_cmp};
 ghost use Rattle.cdxj_places.specs.Rising.{rising};
 ghost use Rattle.cdxj_core.specs.Members.{Member, member_place};
 ghost use Rattle.cdxj_core.specs.declared.limit.TheConstants.{LINE_LIMIT};
+ghost use Rattle.devices.specs.Device.{Grows};
 ghost use Rattle.merge_core.specs.Failures.{CountsHanding};
-ghost use Rattle.merge_core.specs.Reached.{CountsWrite, Grows};
+ghost use Rattle.merge_core.specs.Reached.{CountsSinkWrite};
 ghost use Rattle.merge_core.specs.SourceLines.{HasEntry};
 
 use crate::fault::{MergeFault, SinkFault};
@@ -45,7 +46,7 @@ pub trait Sink {
         ensures enough { IfOk result (λ all. all ≡ false → Enough self.new) }
         ensures further { IfOk result (λ all. all ≡ true → Enough self.new → ⊥) }
         ensures grows { Grows (O.written out.old) (O.written out.new) }
-        ensures failures { CountsWrite result (O.failures out.old) (O.failures out.new) };
+        ensures failures { CountsSinkWrite result (O.failures out.old) (O.failures out.new) };
 }
 
 fn references<'a>(
@@ -118,7 +119,7 @@ fn take_two<K: Sink, O: Output>(
     ensures enough { IfOk result (λ all. all ≡ false → K.Enough sink.new) }
     ensures further { IfOk result (λ all. all ≡ true → K.Enough sink.new → ⊥) }
     ensures grows { Grows (O.written out.old) (O.written out.new) }
-    ensures failures { CountsWrite result (O.failures out.old) (O.failures out.new) }
+    ensures failures { CountsSinkWrite result (O.failures out.old) (O.failures out.new) }
 {
     match first.compare_place(second) {
         Ordering::Less => sink.take(alloc, &[first, second], out),
@@ -130,7 +131,7 @@ fn take_two<K: Sink, O: Output>(
 /// Passes on the lines of a pair, in the order of places, only the first line at each place. Returns `false` if no more
 /// are wanted.
 /// Errors are `Memory`, and `Write` if the sink returns it.
-#[tactic(auto, using(crate::proofs::WrittenLemmas::grows_not))]
+#[tactic(auto, using(devices::proofs::DeviceLemmas::grows_not))]
 pub fn hand_on<K: Sink, O: Output>(
     alloc: Global,
     first: &Line,

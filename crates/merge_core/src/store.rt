@@ -7,7 +7,7 @@ ghost use Rattle.merge_core.specs.Failures.{CountsFeed};
 ghost use Rattle.source_core.specs.Cursors.{Stands, reach};
 ghost use Rattle.source_core.specs.IndexLines.{first_length};
 ghost use Rattle.merge_core.specs.Feeds.{read_lines};
-ghost use Rattle.merge_core.specs.LineFaults.{IsFaultAt, line_fault};
+ghost use Rattle.merge_core.specs.LineFaults.{IsFeedFaultAt, line_fault};
 ghost use Rattle.merge_core.specs.NextLine.{IsNextLine};
 
 use crate::fault::FeedFault;
@@ -105,7 +105,7 @@ impl Store {
             ≤ cursor.old.at + first_length (lines (drop cursor.old.at t)) }
         ensures ahead { length cursor.new.ahead ≤ 8192 }
         ensures fault { (t : List ℕ) → S.text source.old ≡ Some t
-            → IfErr result (IsFaultAt LINE_LIMIT (lines (drop cursor.old.at t)) cursor.old.at) }
+            → IfErr result (IsFeedFaultAt LINE_LIMIT (lines (drop cursor.old.at t)) cursor.old.at) }
     {
         let begin = cursor.at();
         if let Some(bytes) = cursor.held_line() {

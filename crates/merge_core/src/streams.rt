@@ -9,7 +9,7 @@ ghost use Rattle.cdxj_places.specs.Pairs.{Pair};
 ghost use Rattle.line_queue.specs.PairOrders.{Alike, Below, IsAbove, Upto};
 ghost use Rattle.line_queue.specs.WaitingLines.{waiting_pair, turn_cmp};
 ghost use Rattle.merge_core.specs.Failures.{CountsReads};
-ghost use Rattle.merge_core.specs.LineFaults.{IsFaultOf};
+ghost use Rattle.merge_core.specs.LineFaults.{IsMergeFaultOf};
 ghost use Rattle.merge_core.specs.Spending.{AreReadTo};
 
 use crate::fault::MergeFault;
@@ -134,7 +134,7 @@ impl Streams {
             sources.new self.new.feeds.items }
         ensures failures { CountsReads result (map S.failures sources.old)
             (map S.failures sources.new) }
-        ensures fault { IfErr result (IsFaultOf LINE_LIMIT (map S.text sources.old)) }
+        ensures fault { IfErr result (IsMergeFaultOf LINE_LIMIT (map S.text sources.old)) }
         ensures ready { OnOk result
             (Ready LINE_LIMIT (R.past range.now) S.text S.extent sources.new self.new.feeds.items
             self.new.waiting) }
@@ -183,7 +183,7 @@ impl Streams {
             sources.new self.new.feeds.items }
         ensures failures { CountsReads result (map S.failures sources.old)
             (map S.failures sources.new) }
-        ensures fault { IfErr result (IsFaultOf LINE_LIMIT (map S.text sources.old)) }
+        ensures fault { IfErr result (IsMergeFaultOf LINE_LIMIT (map S.text sources.old)) }
         ensures ready { OnOk result
             (Ready LINE_LIMIT (R.past range.now) S.text S.extent sources.new self.new.feeds.items
             self.new.waiting) }

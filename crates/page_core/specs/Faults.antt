@@ -10,6 +10,6 @@ RaisedByText Memory old new = new ≡ old
 RaisedByText Write old new = new ≡ next_count old
 
 -- the same of a call: Write is answered exactly where the output failed
-abbrev pub CountsWrite : {A : Type 0} → Result A TextFault → ℕ → ℕ → Type 0
-CountsWrite result old new = MatchResult result (λ _. new ≡ old)
+abbrev pub CountsTextWrite : {A : Type 0} → Result A TextFault → ℕ → ℕ → Type 0
+CountsTextWrite result old new = MatchResult result (λ _. new ≡ old)
     (λ fault. RaisedByText fault old new)

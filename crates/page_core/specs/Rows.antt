@@ -11,8 +11,8 @@ use Rattle.cdxj_core.specs.Lines.{field_value}
 use Rattle.cdxj_core.specs.Members.{Member}
 
 -- the value of a field
-abbrev pub value_of : Member → Field → List ℕ
-value_of m field = field_value field m.values
+abbrev pub row_value : Member → Field → List ℕ
+row_value m field = field_value field m.values
 
 -- the name of a field
 abbrev pub field_name : Field → List ℕ
@@ -44,11 +44,7 @@ escaped text = flat_map escaped_byte text
 
 -- the values, with one space between
 abbrev pub text_row : List Field → Member → List ℕ
-text_row fields m = join_by (λ f. escaped (value_of m f)) (codes " ") fields ++ line_feed ∷ []
-
--- the line as it stands
-abbrev pub line_row : Member → List ℕ
-line_row m = m.line ++ line_feed ∷ []
+text_row fields m = join_by (λ f. escaped (row_value m f)) (codes " ") fields ++ line_feed ∷ []
 
 -- a text between quotes as it stands
 abbrev pub between_quotes : List ℕ → List ℕ

@@ -3,7 +3,7 @@ ghost use Rattle.std.specs.Prelude.{◌≡◌, [], ◌∷◌, ◌++◌, codes, m
 ghost use Rattle.json.specs.Print.{quoted};
 ghost use Rattle.std.specs.List.{join_by};
 ghost use Rattle.cdxj_places.specs.Bytes.{quote};
-ghost use Rattle.page_core.specs.Rows.{value_of, field_name, json_row, between_quotes};
+ghost use Rattle.page_core.specs.Rows.{row_value, field_name, json_row, between_quotes};
 ghost use Rattle.page_core.specs.PageText.{key_rows, later_row};
 
 use cdxj_core::{Field, LineRef, push_quoted};
@@ -58,7 +58,7 @@ fn push_quoted_values(
     line: &LineRef<'_>,
 ) -> Result<(), AllocError>
     ensures { IfOk result (λ _. text.new.items
-        ≡ text.old.items ++ join_by quoted (codes ",") (map (value_of line.now) fields.now)) }
+        ≡ text.old.items ++ join_by quoted (codes ",") (map (row_value line.now) fields.now)) }
 {
     if let Some((first, later)) = fields.split_first() {
         push_quoted(text, alloc, line.value(*first))?;
@@ -87,7 +87,7 @@ fn push_plain_values(
 ) -> Result<(), AllocError>
     ensures { IfOk result (λ _. text.new.items
         ≡ text.old.items
-        ++ join_by between_quotes (codes ",") (map (value_of line.now) fields.now)) }
+        ++ join_by between_quotes (codes ",") (map (row_value line.now) fields.now)) }
 {
     if let Some((first, later)) = fields.split_first() {
         text.extend_from_slice(b"\"")?;
@@ -108,7 +108,7 @@ fn push_values(
     line: &LineRef<'_>,
 ) -> Result<(), AllocError>
     ensures { IfOk result (λ _. text.new.items
-        ≡ text.old.items ++ json_row (map (value_of line.now) fields.now)) }
+        ≡ text.old.items ++ json_row (map (row_value line.now) fields.now)) }
 {
     text.extend_from_slice(b"[")?;
     if line.needs_no_escapes() {
@@ -151,7 +151,7 @@ pub(crate) fn push_json_row(
     line: &LineRef<'_>,
 ) -> Result<(), AllocError>
     ensures { IfOk result (λ _. text.new.items
-        ≡ text.old.items ++ later_row (map (value_of line.now) fields.now)) }
+        ≡ text.old.items ++ later_row (map (row_value line.now) fields.now)) }
 {
     text.extend_from_slice(b",\n")?;
     push_values(text, alloc, fields, line)

@@ -1,7 +1,7 @@
 //! The text of a page, written piece by piece.
 ghost use Rattle.std.specs.Prelude.{◌≡◌, option_map};
 ghost use Rattle.devices.specs.Writing.{WritesText};
-ghost use Rattle.page_core.specs.Faults.{CountsWrite};
+ghost use Rattle.page_core.specs.Faults.{CountsTextWrite};
 ghost use Rattle.page_core.specs.FormView.{form_view};
 ghost use Rattle.page_core.specs.PageText.{page_start, row_text, page_end};
 
@@ -22,10 +22,10 @@ pub struct PageOutput<'f> {
 }
 
 impl<'f> Model for PageOutput<'f> {
-    ghost use Rattle.page_core.specs.Form.{Form};
+    ghost use Rattle.page_core.specs.Form.{FormValue};
     ghost use Rattle.page_core.specs.FormView.{form_view};
 
-    ghost Value = { Form };
+    ghost Value = { FormValue };
 
     ghost view = { λ page. form_view page.form };
 }
@@ -48,7 +48,7 @@ impl<'f> PageOutput<'f> {
         ensures form { self.new ≡ self.old }
         ensures text { WritesText result (O.written out.old) (O.written out.new)
             (page_start self.old) }
-        ensures failures { CountsWrite result (O.failures out.old) (O.failures out.new) }
+        ensures failures { CountsTextWrite result (O.failures out.old) (O.failures out.new) }
     {
         self.text.clear();
         self.form.push_start(&mut self.text, self.alloc)?;
@@ -62,7 +62,7 @@ impl<'f> PageOutput<'f> {
         ensures form { self.new ≡ self.old }
         ensures text { WritesText result (O.written out.old) (O.written out.new)
             (row_text self.old line.now) }
-        ensures failures { CountsWrite result (O.failures out.old) (O.failures out.new) }
+        ensures failures { CountsTextWrite result (O.failures out.old) (O.failures out.new) }
     {
         self.text.clear();
         self.form.push_row(&mut self.text, self.alloc, line)?;
@@ -76,7 +76,7 @@ impl<'f> PageOutput<'f> {
         ensures form { self.new ≡ self.old }
         ensures text { WritesText result (O.written out.old) (O.written out.new)
             (page_end self.old (option_map (λ k. k.now) key.entry)) }
-        ensures failures { CountsWrite result (O.failures out.old) (O.failures out.new) }
+        ensures failures { CountsTextWrite result (O.failures out.old) (O.failures out.new) }
     {
         self.text.clear();
         self.form.push_end(&mut self.text, self.alloc, key)?;

@@ -1,7 +1,8 @@
 //! Rows of text pages and of pages of lines.
 ghost use Rattle.std.specs.Prelude.{◌≡◌, ◌++◌, codes, Option, IfOk, option_map};
 ghost use Rattle.std.specs.List.{join_by};
-ghost use Rattle.page_core.specs.Rows.{value_of, escaped, text_row, line_row};
+ghost use Rattle.cdxj_core.specs.Members.{line_row};
+ghost use Rattle.page_core.specs.Rows.{row_value, escaped, text_row};
 ghost use Rattle.page_core.specs.PageText.{key_lines};
 
 use crate::escaping::push_escaped;
@@ -24,7 +25,7 @@ fn push_text_values(
     line: &LineRef<'_>,
 ) -> Result<(), AllocError>
     ensures { IfOk result (λ _. text.new.items ≡ text.old.items
-        ++ join_by (λ f. escaped (value_of line.now f)) (codes " ") fields.now) }
+        ++ join_by (λ f. escaped (row_value line.now f)) (codes " ") fields.now) }
 {
     if let Some((first, later)) = fields.split_first() {
         push_escaped(text, line.value(*first))?;
@@ -42,7 +43,7 @@ fn push_plain_values(
     line: &LineRef<'_>,
 ) -> Result<(), AllocError>
     ensures { IfOk result (λ _. text.new.items
-        ≡ text.old.items ++ join_by (value_of line.now) (codes " ") fields.now) }
+        ≡ text.old.items ++ join_by (row_value line.now) (codes " ") fields.now) }
 {
     if let Some((first, later)) = fields.split_first() {
         text.extend_from_slice(line.value(*first).as_bytes())?;

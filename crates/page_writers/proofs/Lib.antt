@@ -1,4 +1,3 @@
-pub mod GrowLemmas
 pub mod TakenLines
 pub mod CaptureLemmas
 pub mod WriterLemmas

@@ -10,13 +10,14 @@ use Rattle.std.proofs.lemmas.List.{take_all, take_at, drop_at}
 use Rattle.std.proofs.lemmas.List.Concat.{flat_map-append}
 use Rattle.cdxj_places.specs.Places.{PlaceValue}
 use Rattle.cdxj_places.specs.Places.{resume_text}
+use Rattle.cdxj_places.proofs.RisingLaws.{each_join}
 use Rattle.cdxj_core.specs.Members.{Member, member_place}
 use Rattle.devices.specs.Device.{AppendsPrefix}
 use Rattle.devices.proofs.DeviceLemmas.{Appends-join}
 use Rattle.devices.proofs.WritingLemmas.{prefix_after, prefix_longer, prefix_whole}
 use Rattle.query_text.specs.Queries.{QueryValue}
 use Rattle.page_core.specs.Pages.{Page, AllPositive, first_size, later_sizes, end_place}
-use Rattle.page_core.specs.Form.{Form}
+use Rattle.page_core.specs.Form.{FormValue}
 use Rattle.page_core.specs.PageText.{begun, page_text, page_start, page_end, row_text}
 use Rattle.page_core.proofs.PageLemmas.{begun-more, begun_is_front, page_in_pieces}
 use Rattle.page_writers.specs.QueryPages.{chain_text, form_of, shown_key}
@@ -30,11 +31,6 @@ use Rattle.page_writers.proofs.WriterLemmas.{below, take_front}
 
 abbrev pub Pages : Type 0
 Pages = List (Page Member PlaceValue)
-
-each_join : {X : Type 0} (A : X → Type 0) (us vs : List X) → AllByRecursion A us → AllByRecursion A vs
-    → AllByRecursion A (us ++ vs)
-each_join A [] vs h k = k
-each_join A (u ∷ us) vs h k = (h.0, each_join A us vs h.1 k)
 
 -- all pages of these captures were written, and are so many
 abbrev pub Ended : QueryValue → List ℕ → List Member → Option (List ℕ) → Option (List ℕ) → ℕ → Type 0
@@ -121,7 +117,8 @@ head_text q left (page ∷ other ∷ rest) rows later h k =
     let f = begun_is_front (form_of q) rows t.0 (option_map resume_text page.next) in (
       f.0 ++ pages_text q (other ∷ rest),
       ap (λ (l : List Member). page_text (form_of q) l (option_map resume_text page.next)
-          ++ pages_text q (other ∷ rest)) (ap (λ (p : Page Member PlaceValue). p.members) h.0 ∙ t.1 ∙ ap (λ l. l ++ t.0) all)
+          ++ pages_text q (other ∷ rest)) (ap (λ (p : Page Member PlaceValue). p.members) h.0 ∙ t.1
+          ∙ ap (λ l. l ++ t.0) all)
           ∙ ap (λ l. l ++ pages_text q (other ∷ rest)) f.1
           ∙ append_assoc (begun (form_of q) rows) f.0 (pages_text q (other ∷ rest)),
     )
@@ -163,7 +160,7 @@ last_joined rows m = end_joined None rows
 
 module _ (q : QueryValue) (sizes : List ℕ) (c : List Member) (start now : Option (List ℕ)) (left : List ℕ) (given : ℕ)
     (last : Option PlaceValue) (count : ℕ) (s : PagesStand q sizes c start now left given last count) where
-  abbrev form : Form
+  abbrev form : FormValue
   form = form_of q
 
   abbrev before : List ℕ

@@ -12,7 +12,7 @@ use Rattle.query_text.specs.Queries.{QueryValue}
 use Rattle.cdxj_core.specs.Members.{Member, member_place}
 use Rattle.page_core.specs.Pages.{Page, at_most, next_after}
 use Rattle.page_core.specs.PageText.{begun, page_start, row_text}
-use Rattle.page_core.specs.Form.{Form}
+use Rattle.page_core.specs.Form.{FormValue}
 use Rattle.page_core.proofs.PageLemmas.{written-start, written-more, begun-more}
 use Rattle.devices.proofs.WritingLemmas.{prefix_after, prefix_longer, prefix_whole}
 use Rattle.devices.specs.Device.{AppendsPrefix}
@@ -93,7 +93,7 @@ below k n h f = elim (cases_lt k n) [ inl less ↦ less | inr more ↦ absurd (f
 
 -- ---- one line more
 
-module _ (form : Form) (limit : Option ℕ) (c : List Member) (start now : Option (List ℕ)) (given : ℕ) (more : Bool)
+module _ (form : FormValue) (limit : Option ℕ) (c : List Member) (start now : Option (List ℕ)) (given : ℕ) (more : Bool)
     (last : Option PlaceValue) where
   abbrev Stands : List Member → Option (List ℕ) → ℕ → Bool → Option PlaceValue → Type 0
   Stands d now given more last = PageStands form limit d start now given more last
@@ -112,7 +112,7 @@ at_end : (n : ℕ) (c vs : List Member) → n < length c → page (Some n) (c ++
 at_end n c vs h = (λ i. record { members = take-append-le n c vs (omega (arith, h)) i; next = next_same n c vs h i })
 
 -- captures after a page that has its next
-pub after_end : (form : Form) (limit : Option ℕ) (c later : List Member) (start now : Option (List ℕ)) (given : ℕ)
+pub after_end : (form : FormValue) (limit : Option ℕ) (c later : List Member) (start now : Option (List ℕ)) (given : ℕ)
     (more : Bool) (last : Option PlaceValue)
     → more ≡ true → PageStands form limit c start now given more last
     → PageStands form limit (c ++ later) start now given more last
@@ -133,8 +133,8 @@ full_is (suc n) c given f g h =
     inr (omega (arith, e, g, short, t))
 
 -- the capture after a full page
-pub at_limit : (form : Form) (limit : Option ℕ) (c : List Member) (m : Member) (start now : Option (List ℕ)) (given : ℕ)
-    (more : Bool) (last : Option PlaceValue)
+pub at_limit : (form : FormValue) (limit : Option ℕ) (c : List Member) (m : Member) (start now : Option (List ℕ))
+    (given : ℕ) (more : Bool) (last : Option PlaceValue)
     → more ≡ false → is_full limit given ≡ true
     → PageStands form limit c start now given more last
     → PageStands form limit (c ++ m ∷ []) start now given (is_some last) last
@@ -188,7 +188,7 @@ last_of n given c m last l room g k =
     ]) refl
 
 -- a capture that was written
-pub written_one : (form : Form) (limit : Option ℕ) (c : List Member) (m : Member) (start now new : Option (List ℕ))
+pub written_one : (form : FormValue) (limit : Option ℕ) (c : List Member) (m : Member) (start now new : Option (List ℕ))
     (given given' : ℕ) (more : Bool) (last last' : Option PlaceValue)
     → more ≡ false → is_full limit given ≡ false → FitsWord limit → given' ≡ min (given + 1) (2 ^ 64 - 1)
     → last' ≡ last_after limit given' last (member_place m) → Appends now new (row_text form m)
@@ -217,7 +217,8 @@ written_one form (Some n) c m start now new given given' more last last' h f l g
     }
 
 -- before the first capture
-pub nothing_taken : (form : Form) (limit : Option ℕ) (start now : Option (List ℕ)) → Appends start now (page_start form)
+pub nothing_taken : (form : FormValue) (limit : Option ℕ) (start now : Option (List ℕ))
+    → Appends start now (page_start form)
     → PageStands form limit [] start now 0 false None
 nothing_taken form None start now a =
     record { text = written-start start now form a; given_is = omega arith; more_is = refl; last_is = refl }
@@ -227,7 +228,7 @@ nothing_taken form (Some (suc n)) start now a =
     record { text = written-start start now form a; given_is = omega arith; more_is = refl; last_is = refl }
 
 -- the same, of a writer that kept these
-pub as_kept : (form form' : Form) (limit limit' : Option ℕ) (c c' : List Member) (start now : Option (List ℕ))
+pub as_kept : (form form' : FormValue) (limit limit' : Option ℕ) (c c' : List Member) (start now : Option (List ℕ))
     (given given' : ℕ) (more more' : Bool) (last last' : Option PlaceValue)
     → form' ≡ form → limit' ≡ limit → c' ≡ c → given' ≡ given → more' ≡ more → last' ≡ last
     → PageStands form limit c start now given more last → PageStands form' limit' c' start now given' more' last'
@@ -242,7 +243,7 @@ as_kept form form' limit limit' c c' start now given given' more more' last last
 -- ---- after a fault
 
 -- in the row of a capture more, or after it
-pub broke_row : (form : Form) (limit : Option ℕ) (c : List Member) (m : Member) (start now new : Option (List ℕ))
+pub broke_row : (form : FormValue) (limit : Option ℕ) (c : List Member) (m : Member) (start now new : Option (List ℕ))
     (given : ℕ) (more : Bool) (last : Option PlaceValue)
     → more ≡ false → is_full limit given ≡ false → FitsWord limit → AppendsPrefix now new (row_text form m)
     → PageStands form limit c start now given more last
@@ -276,7 +277,7 @@ pub page_front : (limit : Option ℕ) (us vs : List Member) → (later : List Me
 page_front None us vs = (vs, refl)
 page_front (Some n) us vs = take_front n us vs
 
-begun-append : (form : Form) (members later : List Member) → begun form (members ++ later) ≡ begun form members
+begun-append : (form : FormValue) (members later : List Member) → begun form (members ++ later) ≡ begun form members
     ++ flat_map (row_text form) later
 begun-append form members later =
     ap (λ l. page_start form ++ l) (flat_map-append (row_text form) members later)

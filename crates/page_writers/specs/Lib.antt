@@ -3,5 +3,4 @@ pub mod WrittenPages
 pub mod Collapsings
 pub mod PageWriting
 pub mod PagesWriting
-pub mod Growing
 pub mod WriterView

@@ -11,7 +11,7 @@ use Rattle.query_text.specs.Collapses.{same_part}
 use Rattle.cdxj_core.specs.Members.{Member, member_place}
 use Rattle.page_core.specs.Pages.{Page, is_above, end_place, kept, at_most}
 use Rattle.page_core.specs.PageText.{begun}
-use Rattle.page_core.specs.Form.{Form}
+use Rattle.page_core.specs.Form.{FormValue}
 
 -- the line matches the query and stands above the place
 abbrev pub is_wanted : QueryValue → Option PlaceValue → Member → Bool
@@ -41,9 +41,9 @@ abbrev pub last_place : Option ℕ → List Member → Option PlaceValue
 last_place None ms = None
 last_place (Some n) ms = place_at n ms
 
--- What stands written of the page of these captures, how many it has, whether a further one follows, and the place of the last that
--- it has room for
-pub record PageStands (form : Form) (limit : Option ℕ) (captures : List Member) (start now : Option (List ℕ))
+-- What stands written of the page of these captures, how many it has, whether a further one follows, and the place of
+-- the last that it has room for
+pub record PageStands (form : FormValue) (limit : Option ℕ) (captures : List Member) (start now : Option (List ℕ))
     (given : ℕ) (more : Bool)
     (last : Option PlaceValue) : Type 0 where
   pub text : Appends start now (begun form (at_most member_place limit captures).members)

@@ -33,8 +33,8 @@ HasReadKey page = IfSome page.next IsReadBack
 abbrev pub HasNext : List (Page Member PlaceValue) → List Member → Type 0
 HasNext pages captures = (pages ≡ []) ⊎ (0 < length captures)
 
--- What stands written of the pages of these captures: whole pages, so many, and the front of a page of the first of the sizes that are
--- left, which has so many captures; where it is full, the place of the last of them
+-- What stands written of the pages of these captures: whole pages, so many, and the front of a page of the first of the
+-- sizes that are left, which has so many captures; where it is full, the place of the last of them
 pub record PagesStand (q : QueryValue) (sizes : List ℕ) (captures : List Member) (start now : Option (List ℕ))
     (left : List ℕ) (given : ℕ)
     (last : Option PlaceValue) (count : ℕ) : Type 0 where

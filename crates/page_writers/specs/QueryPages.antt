@@ -9,7 +9,7 @@ use Rattle.query_text.specs.declared.output.OutputFormat.TheVariants as output
 use Rattle.query_text.specs.Queries.{QueryValue}
 use Rattle.query_text.specs.Matching.{matches}
 use Rattle.cdxj_core.specs.Members.{Member, member_place}
-use Rattle.page_core.specs.Form.{Form, Text, Cdxj, Json}
+use Rattle.page_core.specs.Form.{FormValue, Text, Cdxj, Json}
 use Rattle.page_core.specs.Pages.{Page, collapsed, page_of, IsChain}
 use Rattle.page_core.specs.PageText.{page_text}
 
@@ -17,8 +17,8 @@ use Rattle.page_core.specs.PageText.{page_text}
 abbrev pub selected : QueryValue → List Member → List Member
 selected q lines = filter (λ m. matches q m.values) lines
 
--- the captures that a query asks for, of lines that rise by place: those that it selects above the place of its resume key, collapsed
--- from there on
+-- the captures that a query asks for, of lines that rise by place: those that it selects above the place of its resume
+-- key, collapsed from there on
 abbrev pub query_captures : QueryValue → List Member → List Member
 query_captures q lines = collapsed member_place place_cmp (same_part q.collapse) (selected q lines) q.resume
 
@@ -31,12 +31,12 @@ abbrev pub IsQueryChain : QueryValue → List Member → List ℕ → List (Page
 IsQueryChain q lines sizes pages = IsChain member_place place_cmp (same_part q.collapse) (selected q lines) q.resume
     sizes pages
 
-abbrev pub output_form : OutputFormat → List Field → Form
+abbrev pub output_form : OutputFormat → List Field → FormValue
 output_form output.Text fields = Text fields
 output_form output.Json fields = Json fields
 output_form output.Cdxj fields = Cdxj
 
-abbrev pub form_of : QueryValue → Form
+abbrev pub form_of : QueryValue → FormValue
 form_of q = output_form q.output q.fields
 
 -- the resume key, where it is to be shown and there is one

@@ -41,9 +41,9 @@ KeysButLast (page ∷ other ∷ rest) = EndsWithKey page × KeysButLast (other �
 abbrev pub empty_page : Page Member PlaceValue
 empty_page = record { members = []; next = None }
 
--- The pages of these sizes were written, of lines that rise by place, and are so many. Joined, they are exactly the captures that the
--- query asks for, each once, in the order of places. Every page but the last is full and ends with a key from which the next one goes
--- on. Where there are no captures there is one empty page.
+-- The pages of these sizes were written, of lines that rise by place, and are so many. Joined, they are exactly the
+-- captures that the query asks for, each once, in the order of places. Every page but the last is full and ends with a
+-- key from which the next one goes on. Where there are no captures there is one empty page.
 pub record WrotePages (q : QueryValue) (lines : List Member) (sizes : List ℕ) (old new : Option (List ℕ)) (number : ℕ) :
     Type 0 where
   pub pages : List (Page Member PlaceValue)

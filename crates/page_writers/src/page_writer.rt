@@ -3,7 +3,7 @@ ghost use Rattle.std.specs.Prelude.{◌≡◌, ◌++◌, ◌∷◌, [], List, Op
 ghost use Rattle.cdxj_places.specs.PlaceViews.{place_view};
 ghost use Rattle.cdxj_core.specs.Members.{Member, member_place};
 ghost use Rattle.page_core.specs.FormView.{form_view};
-ghost use Rattle.page_core.specs.Faults.{CountsWrite};
+ghost use Rattle.page_core.specs.Faults.{CountsTextWrite};
 ghost use Rattle.page_core.specs.PageText.{page_end};
 ghost use Rattle.devices.specs.Writing.{WritesText};
 ghost use Rattle.page_writers.specs.WrittenPages.{IsReadBack};
@@ -74,7 +74,7 @@ pub(crate) fn put_end<O: Output>(
     ensures form { output.new ≡ output.old }
     ensures text { WritesText result (O.written out.old) (O.written out.new)
         (page_end output.old (shown_key shows (option_map (λ p. p.now) next.entry))) }
-    ensures failures { CountsWrite result (O.failures out.old) (O.failures out.new) }
+    ensures failures { CountsTextWrite result (O.failures out.old) (O.failures out.new) }
 {
     let key = key_text(alloc, shows, next)?;
     output.put_end(key.as_deref(), out)?;
@@ -107,9 +107,8 @@ pub struct PageWriter<'q> {
 impl<'q> PageWriter<'q> {
     ghost use Rattle.std.specs.Prelude.{◌+◌, ◌-◌, ◌^◌, map, min, true, false};
     ghost use Rattle.std.specs.Io.KnownBytes.{Appends};
-    ghost use Rattle.devices.specs.Device.{AppendsPrefix};
+    ghost use Rattle.devices.specs.Device.{AppendsPrefix, Grows};
     ghost use Rattle.page_core.specs.PageText.{page_start, row_text};
-    ghost use Rattle.page_writers.specs.Growing.{Grows};
     ghost use Rattle.page_writers.specs.PageWriting.{is_full, last_after, next_of, FitsWord};
     ghost use Rattle.page_writers.specs.WriterView.{stands, Kept, Broke, from_view};
 
@@ -129,7 +128,7 @@ impl<'q> PageWriter<'q> {
         ensures some { OnOk result (query.now.limit ≡ Some 0 → ⊥) }
         ensures front { OnErr result (AppendsPrefix (O.written out.old) (O.written out.new)
             (page_start (form_of query.now))) }
-        ensures failures { CountsWrite result (O.failures out.old) (O.failures out.new) }
+        ensures failures { CountsTextWrite result (O.failures out.old) (O.failures out.new) }
     {
         let selection = Selection::begin(alloc, query)?;
         let mut page = PageOutput::new(alloc, form_of(query));
@@ -193,7 +192,7 @@ impl<'q> PageWriter<'q> {
         ensures last { OnOk result
             (self.new.last ≡ last_after self.old.limit self.new.given self.old.last
             (member_place line.now)) }
-        ensures failures { CountsWrite result (O.failures out.old) (O.failures out.new) }
+        ensures failures { CountsTextWrite result (O.failures out.old) (O.failures out.new) }
     {
         self.page.put_row(line, out)?;
         self.given = self.given.saturating_add(1);
@@ -202,7 +201,7 @@ impl<'q> PageWriter<'q> {
     }
 
     /// Takes one more line.
-    #[tactic(auto, using(crate::proofs::GrowLemmas::grows_not, crate::proofs::GrowLemmas::grows_by, crate::proofs::GrowLemmas::grows_part))]
+    #[tactic(auto, using(devices::proofs::DeviceLemmas::grows_not, devices::proofs::DeviceLemmas::grows_by, devices::proofs::DeviceLemmas::grows_part))]
     fn take_line<O: Output>(
         &mut self,
         alloc: Global,
@@ -217,7 +216,7 @@ impl<'q> PageWriter<'q> {
             → OnErr result (Broke self.old (taken ++ line.now ∷ []) start (O.written out.new)) }
         ensures kept { Kept self.old self.new }
         ensures grows { Grows (O.written out.old) (O.written out.new) }
-        ensures failures { CountsWrite result (O.failures out.old) (O.failures out.new) }
+        ensures failures { CountsTextWrite result (O.failures out.old) (O.failures out.new) }
     {
         if self.more {
             return Ok(());
@@ -253,7 +252,7 @@ impl<'q> PageWriter<'q> {
         ensures enough { IfOk result (λ all. all ≡ false → self.new.more ≡ true) }
         ensures further { IfOk result (λ all. all ≡ true → self.new.more ≡ true → ⊥) }
         ensures grows { Grows (O.written out.old) (O.written out.new) }
-        ensures failures { CountsWrite result (O.failures out.old) (O.failures out.new) }
+        ensures failures { CountsTextWrite result (O.failures out.old) (O.failures out.new) }
     {
         for line in lines {
             self.take_line(alloc, line, out)?;
@@ -270,7 +269,7 @@ impl<'q> PageWriter<'q> {
             (next_of self.old.more self.old.last))) }
         ensures end { IfOk result (λ end.
             (end.given ≡ self.old.given) × (end.next ≡ next_of self.old.more self.old.last)) }
-        ensures failures { CountsWrite result (O.failures out.old) (O.failures out.new) }
+        ensures failures { CountsTextWrite result (O.failures out.old) (O.failures out.new) }
     {
         let next = self.take_next();
         let shows = self.selection.query.shows_resume_key();

@@ -1,7 +1,7 @@
 //! The writing of pages, one after another.
 ghost use Rattle.std.specs.Prelude.{◌≡◌, ◌++◌, ◌∷◌, ◌==◌, [], List, Option, None, ℕ, OnOk, OnErr, IfOk};
 ghost use Rattle.cdxj_core.specs.Members.{Member, member_place};
-ghost use Rattle.page_core.specs.Faults.{CountsWrite};
+ghost use Rattle.page_core.specs.Faults.{CountsTextWrite};
 ghost use Rattle.page_writers.specs.QueryPages.{form_of};
 
 use crate::page_writer::{form_of, key_is_read, put_end};
@@ -33,11 +33,10 @@ pub struct PagesWriter<'q> {
 impl<'q> PagesWriter<'q> {
     ghost use Rattle.std.specs.Io.KnownBytes.{Appends};
     ghost use Rattle.std.specs.Prelude.{◌+◌, ◌-◌, ◌^◌, ◌<◌, map, min, true, IfSome, Some};
-    ghost use Rattle.devices.specs.Device.{AppendsPrefix};
+    ghost use Rattle.devices.specs.Device.{AppendsPrefix, Grows};
     ghost use Rattle.devices.specs.Writing.{WritesText};
     ghost use Rattle.page_core.specs.Pages.{AllPositive, first_size, later_sizes};
     ghost use Rattle.page_core.specs.PageText.{page_start, page_end, row_text};
-    ghost use Rattle.page_writers.specs.Growing.{Grows};
     ghost use Rattle.page_writers.specs.WrittenPages.{IsReadBack};
     ghost use Rattle.page_writers.specs.QueryPages.{shown_key};
     ghost use Rattle.page_writers.specs.WriterView.{IsSame, IsFront, are_in_pages, captures_of, from_view, pages_stand};
@@ -59,7 +58,7 @@ impl<'q> PagesWriter<'q> {
             × (writer.sizes.now ≡ sizes.now)) }
         ensures front { OnErr result (AppendsPrefix (O.written out.old) (O.written out.new)
             (page_start (form_of query.now))) }
-        ensures failures { CountsWrite result (O.failures out.old) (O.failures out.new) }
+        ensures failures { CountsTextWrite result (O.failures out.old) (O.failures out.new) }
     {
         let selection = Selection::begin(alloc, query)?;
         let mut output = PageOutput::new(alloc, form_of(query));
@@ -92,7 +91,7 @@ impl<'q> PagesWriter<'q> {
             ((self.new.sizes.now ≡ later_sizes self.old.sizes.now) × (self.new.given ≡ 0)
             × (self.new.last ≡ self.old.last)
             × (self.new.count ≡ min (self.old.count + 1) (2 ^ 64 - 1))) }
-        ensures failures { CountsWrite result (O.failures out.old) (O.failures out.new) }
+        ensures failures { CountsTextWrite result (O.failures out.old) (O.failures out.new) }
     {
         key_is_read(self.last.as_ref());
         put_end(alloc, &mut self.output, true, self.last.as_ref(), out)?;
@@ -115,7 +114,7 @@ impl<'q> PagesWriter<'q> {
             (O.written out.new)) }
         ensures selection { self.new.selection ≡ self.old.selection }
         ensures grows { Grows (O.written out.old) (O.written out.new) }
-        ensures failures { CountsWrite result (O.failures out.old) (O.failures out.new) }
+        ensures failures { CountsTextWrite result (O.failures out.old) (O.failures out.new) }
     {
         if self.is_full() {
             self.turn(alloc, out)?;
@@ -142,7 +141,7 @@ impl<'q> PagesWriter<'q> {
         ensures last { OnOk result
             (self.new.given ≡ first_size self.old.sizes.now → self.new.last
             ≡ Some (member_place line.now)) }
-        ensures failures { CountsWrite result (O.failures out.old) (O.failures out.new) }
+        ensures failures { CountsTextWrite result (O.failures out.old) (O.failures out.new) }
     {
         self.output.put_row(line, out)?;
         self.given = self.given.saturating_add(1);
@@ -171,7 +170,7 @@ impl<'q> PagesWriter<'q> {
             (captures_of self.old.selection (taken ++ line.now ∷ [])) start (O.written out.new)) }
         ensures same { IsSame self.old.selection self.new.selection }
         ensures grows { Grows (O.written out.old) (O.written out.new) }
-        ensures failures { CountsWrite result (O.failures out.old) (O.failures out.new) }
+        ensures failures { CountsTextWrite result (O.failures out.old) (O.failures out.new) }
     {
         if self.selection.takes(line)? {
             self.make_room(alloc, out)?;
@@ -199,7 +198,7 @@ impl<'q> PagesWriter<'q> {
             (O.written out.new)) }
         ensures same { IsSame self.old.selection self.new.selection }
         ensures grows { Grows (O.written out.old) (O.written out.new) }
-        ensures failures { CountsWrite result (O.failures out.old) (O.failures out.new) }
+        ensures failures { CountsTextWrite result (O.failures out.old) (O.failures out.new) }
     {
         for line in lines {
             self.take_line(alloc, line, out)?;
@@ -213,7 +212,7 @@ impl<'q> PagesWriter<'q> {
         ensures text { WritesText result (O.written out.old) (O.written out.new)
             (page_end (form_of self.old.selection.query.now) None) }
         ensures count { IfOk result (λ count. count ≡ min (self.old.count + 1) (2 ^ 64 - 1)) }
-        ensures failures { CountsWrite result (O.failures out.old) (O.failures out.new) }
+        ensures failures { CountsTextWrite result (O.failures out.old) (O.failures out.new) }
     {
         self.output.put_end(None, out)?;
         Ok(self.count.saturating_add(1))

@@ -6,12 +6,12 @@ use Rattle.std.proofs.lemmas.List.{take_all}
 use Rattle.cdxj_core.specs.Members.{Member}
 use Rattle.cdxj_core.specs.Indexes.{IsRun, IsIndex}
 use Rattle.source_core.specs.IndexLines.{lines}
-use Rattle.source_core.specs.LinesAtFault.{BeginsAt}
+use Rattle.source_core.specs.LinesAtFault.{LineBeginsAt}
 use Rattle.source_core.proofs.SortedCuts.{begins_at}
 use Rattle.query_core.specs.declared.fault.AnswerFault.{AnswerFault}
 use Rattle.query_core.specs.declared.fault.AnswerFault.TheVariants as fault
 use Rattle.merge_core.specs.NextLine.{IsNextLine}
-use Rattle.query_core.specs.Checking.{IsLineFault}
+use Rattle.query_core.specs.Checking.{IsLineFaultAt}
 use Rattle.query_core.specs.Checking.{IsLastOf, FallsAfter, EndsInBadLine, EndsOutOfOrder, IsChecked}
 use Rattle.query_core.proofs.Runs.{run_push, take_next}
 
@@ -55,7 +55,7 @@ module _ (limit : ℕ) (t : List ℕ) where
 
     module _ (inside : at ≤ length t) where
       begins : (line : List ℕ) (after : List (List ℕ)) → lines (drop at t) ≡ line ∷ after
-          → BeginsAt t at (take count (lines t)) line
+          → LineBeginsAt t at (take count (lines t)) line
       begins line after e = record {
         after = after;
         lines_are = cut ∙ ap (λ ls. take count (lines t) ++ ls) e;
@@ -77,7 +77,7 @@ module _ (limit : ℕ) (t : List ℕ) where
         falls = falls;
       }
 
-      pub checked_fault : (f : AnswerFault) → IsLineFault limit t at f → IsChecked limit t (Err f)
+      pub checked_fault : (f : AnswerFault) → IsLineFaultAt limit t at f → IsChecked limit t (Err f)
       checked_fault fault.Memory known = tt
       checked_fault (fault.Read i) known = tt
       checked_fault fault.Write known = absurd known

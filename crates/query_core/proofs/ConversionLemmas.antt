@@ -12,10 +12,10 @@ use Rattle.page_core.specs.Faults.{RaisedByText}
 use Rattle.query_core.specs.declared.fault.AnswerFault.{AnswerFault}
 use Rattle.query_core.specs.AnswerCounts.{RaisedByAnswer}
 use Rattle.query_core.specs.Conversions.{fault_of_merge, fault_of_text}
-use Rattle.query_core.specs.IndexFaults.{IsFaultOf}
-use Rattle.query_core.specs.Refusals.{IsEarly}
+use Rattle.query_core.specs.IndexFaults.{IsAnswerFaultOf}
+use Rattle.query_core.specs.Refusals.{IsBeforeReading}
 
-pub merge_late : (e : MergeFault) → IsEarly (fault_of_merge e) → ⊥
+pub merge_late : (e : MergeFault) → IsBeforeReading (fault_of_merge e) → ⊥
 merge_late merge.Memory h = h
 merge_late merge.Write h = h
 merge_late (merge.Feed i feed.Memory) h = h
@@ -32,8 +32,8 @@ merge_raised (merge.Feed i feed.Read) ss ss' o o' h = h
 merge_raised (merge.Feed i (feed.BadLine at)) ss ss' o o' h = h
 merge_raised (merge.Feed i (feed.OutOfOrder at)) ss ss' o o' h = h
 
-pub merge_line : (limit : ℕ) (texts : List (Option (List ℕ))) (e : MergeFault) → lines.IsFaultOf limit texts e
-    → IsFaultOf limit texts (fault_of_merge e)
+pub merge_line : (limit : ℕ) (texts : List (Option (List ℕ))) (e : MergeFault) → lines.IsMergeFaultOf limit texts e
+    → IsAnswerFaultOf limit texts (fault_of_merge e)
 merge_line limit texts merge.Memory h = h
 merge_line limit texts merge.Write h = h
 merge_line limit texts (merge.Feed i feed.Memory) h = tt
@@ -41,7 +41,7 @@ merge_line limit texts (merge.Feed i feed.Read) h = tt
 merge_line limit texts (merge.Feed i (feed.BadLine at)) h = h
 merge_line limit texts (merge.Feed i (feed.OutOfOrder at)) h = h
 
-pub text_late : (e : TextFault) → IsEarly (fault_of_text e) → ⊥
+pub text_late : (e : TextFault) → IsBeforeReading (fault_of_text e) → ⊥
 text_late text.Memory h = h
 text_late text.Write h = h
 
@@ -51,6 +51,6 @@ text_raised text.Memory ss o o' h = (refl, h)
 text_raised text.Write ss o o' h = (refl, h)
 
 pub text_line : (limit : ℕ) (texts : List (Option (List ℕ))) (e : TextFault)
-    → IsFaultOf limit texts (fault_of_text e)
+    → IsAnswerFaultOf limit texts (fault_of_text e)
 text_line limit texts text.Memory = tt
 text_line limit texts text.Write = tt

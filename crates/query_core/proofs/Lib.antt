@@ -1,7 +1,6 @@
 pub mod CountLemmas
 pub mod ConversionLemmas
 pub mod RefusalLemmas
-pub mod SinkLemmas
 pub mod Runs
 pub mod CheckLemmas
 pub mod StartLemmas

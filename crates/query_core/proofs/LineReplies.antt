@@ -11,13 +11,13 @@ use Rattle.devices.specs.Writing.{WritesText}
 use Rattle.devices.proofs.DeviceLemmas.{Appends-join}
 use Rattle.devices.proofs.WritingLemmas.{prefix_after, prefix_longer}
 use Rattle.query_text.specs.declared.fault.QueryFault.{QueryFault}
-use Rattle.query_text.specs.FaultNames.{fault_name}
+use Rattle.query_text.specs.FaultNames.{query_fault_name}
 use Rattle.query_text.specs.Queries.{QueryValue}
 use Rattle.merge_core.specs.SourceLines.{AreLinesOf}
 use Rattle.query_core.specs.declared.fault.AnswerFault.{AnswerFault}
 use Rattle.query_core.specs.AnyReplies.{EndsInFault, IsPageReply, IsQueryReply, fault_text}
 use Rattle.query_core.specs.Conversations.{IsLineReply, IsMarkedReply, WritesSome}
-use Rattle.query_core.specs.IndexFaults.{IsFaultOf}
+use Rattle.query_core.specs.IndexFaults.{IsAnswerFaultOf}
 use Rattle.page_writers.specs.QueryPages.{query_page, answer_text}
 use Rattle.query_core.specs.Replies.{refusal_text}
 
@@ -50,7 +50,7 @@ module _ (told : List (Option (List ℕ))) (q : QueryValue) (lines : List Member
     -- the fault of a line after a front of the page
     pub fault_reply : {A E : Type 0} (r : Result A E) (old mid new : Option (List ℕ)) (fault : AnswerFault)
         (line : List ℕ) → AppendsPrefix old mid (answer_text q (query_page q lines))
-        → IsFaultOf LINE_LIMIT told fault → fault_text fault ≡ Some line → WritesText r mid new line
+        → IsAnswerFaultOf LINE_LIMIT told fault → fault_text fault ≡ Some line → WritesText r mid new line
         → WritesSome r old new (IsPageReply told q)
     fault_reply r old mid new fault line (rest, wrote) named is w =
         writes_some r old new (IsPageReply told q) (wrote.front ++ line)
@@ -75,7 +75,7 @@ module _ (told : List (Option (List ℕ))) (q : QueryValue) (lines : List Member
 pub some_reply : (told : List (Option (List ℕ))) (r : Result QueryValue QueryFault) → (reply : List ℕ)
     × IsQueryReply told r reply
 some_reply told (Ok q) = (answer_text q (query_page q []), page_reply told q [] (record { rise = tt; each = tt }))
-some_reply told (Err fault) = (refusal_text (fault_name fault), refl)
+some_reply told (Err fault) = (refusal_text (query_fault_name fault), refl)
 
 -- ---- the reply to a line
 

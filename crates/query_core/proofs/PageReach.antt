@@ -7,22 +7,21 @@ use Rattle.std.proofs.lemmas.Bool.{true≢false}
 use Rattle.std.proofs.Math.Seq.{take-append_seam}
 use Rattle.cdxj_places.specs.Places.{PlaceValue}
 use Rattle.cdxj_core.specs.Members.{Member}
-use Rattle.devices.proofs.DeviceLemmas.{Appends-none}
+use Rattle.devices.proofs.DeviceLemmas.{Appends-none, grows_by, grows_on}
 use Rattle.query_text.specs.Queries.{QueryValue}
-use Rattle.page_core.specs.Form.{Form}
+use Rattle.page_core.specs.Form.{FormValue}
 use Rattle.page_core.specs.Pages.{Page}
 use Rattle.page_core.specs.PageText.{begun}
 use Rattle.cdxj_core.specs.declared.limit.TheConstants.{LINE_LIMIT}
 use Rattle.cdxj_core.specs.Indexes.{IsIndex}
 use Rattle.merge_core.specs.Collections.{Known, collection}
 use Rattle.std.specs.List.{AllZip}
-use Rattle.merge_core.specs.Reached.{Grows}
+use Rattle.devices.specs.Device.{Grows}
 use Rattle.merge_core.specs.Spending.{AllGaveWithin}
-use Rattle.merge_core.proofs.WrittenLemmas.{grows_by, grows_on}
 use Rattle.page_writers.specs.PageWriting.{captures_over, page_over}
-use Rattle.query_core.specs.Passes.{IsWithin}
+use Rattle.query_core.specs.Passes.{AreAtMost}
 use Rattle.page_writers.specs.QueryPages.{form_of, query_page}
-use Rattle.query_core.specs.Reach.{in_reach, captures_text, GaveInReach, WroteFront}
+use Rattle.query_core.specs.Reach.{in_reach, captures_text, GaveInReach, WroteFirst}
 use Rattle.query_core.proofs.AskedLemmas.{asked_is}
 use Rattle.query_core.proofs.ReachLemmas.{opened_not, within_opening}
 use Rattle.page_writers.proofs.WriterLemmas.{page, next_none, page_front}
@@ -35,20 +34,21 @@ none_follows (Some (suc n)) = refl
 
 -- captures that don't pass the page are within its limit
 pub within_page : (limit : Option ℕ) (c : List Member) → (limit ≡ Some 0 → ⊥) → is_some (page limit c).next ≡ false
-    → IsWithin limit c
+    → AreAtMost limit c
 within_page None c some none = tt
 within_page (Some zero) c some none = absurd (some refl)
 within_page (Some (suc n)) c some none = next_none (suc n) c (omega arith) none
 
 -- a page has at least the captures that don't pass it
-has_all : (limit : Option ℕ) (c tail : List Member) → IsWithin limit c
+has_all : (limit : Option ℕ) (c tail : List Member) → AreAtMost limit c
     → length c ≤ length (page limit (c ++ tail)).members
 has_all None c tail most = omega (arith, length-append c tail)
 has_all (Some n) c tail most = omega (arith, most, length-take n (c ++ tail), length-append c tail)
 
 -- where a page is written at least so far
-front_written : (form : Form) (ms : List Member) (old middle new : Option (List ℕ)) → Appends old middle (begun form ms)
-    → Grows middle new → WroteFront old new (captures_text form ms)
+front_written : (form : FormValue) (ms : List Member) (old middle new : Option (List ℕ))
+    → Appends old middle (begun form ms)
+    → Grows middle new → WroteFirst old new (captures_text form ms)
 front_written form [] old middle new a g =
     record {
       middle = old;
@@ -58,11 +58,12 @@ front_written form [] old middle new a g =
     }
 front_written form (m ∷ ms) old middle new a g = record { middle = middle; front = a; grows = g }
 
--- What was written of the page of these lines, which come first, and what sources gave for the captures of the earlier of them
+-- What was written of the page of these lines, which come first, and what sources gave for the captures of the earlier
+-- of them
 pub page_reached : {S : Type 0} (extent gave : S → ℕ) (q : QueryValue) (texts : List (List ℕ))
     (indexes : List (List Member)) (old middle new : Option (List ℕ)) (olds news : List S)
     (taken rest c tail : List Member) → captures_over q q.resume (collection indexes) ≡ captures_over q q.resume taken
-    ++ rest → captures_over q q.resume taken ≡ c ++ tail → IsWithin q.limit c
+    ++ rest → captures_over q q.resume taken ≡ c ++ tail → AreAtMost q.limit c
     → Appends old middle (begun (form_of q) (page_over q q.resume q.limit taken).members) → Grows middle new
     → ((n : ℕ) → length c ≤ n → AllGaveWithin extent gave (in_reach q q.resume (Some n) (collection indexes)) texts
     indexes olds news)
@@ -77,7 +78,7 @@ page_reached extent gave q texts indexes old middle new olds news taken rest c t
     record {
       whole = length mine;
       most = omega (arith, ap length members, length-append mine later.0);
-      wrote = subst (λ ms. WroteFront old new (captures_text (form_of q) ms))
+      wrote = subst (λ ms. WroteFirst old new (captures_text (form_of q) ms))
           (sym (ap (take (length mine)) members ∙ take-append_seam mine later.0))
           (front_written (form_of q) mine old middle new front grows);
       within = within (length mine)

@@ -14,7 +14,7 @@ use Rattle.cdxj_places.specs.Places.{PlaceValue, place_cmp}
 use Rattle.cdxj_places.proofs.PlaceLaw.{both}
 use Rattle.cdxj_places.proofs.PlaceOrder.{place_cmp_total}
 use Rattle.cdxj_places.proofs.PairLemmas.{pair_cmp_total}
-use Rattle.cdxj_places.proofs.RisingLaws.{each_weaker}
+use Rattle.cdxj_places.proofs.RisingLaws.{each_join, each_weaker}
 use Rattle.cdxj_core.specs.declared.limit.TheConstants.{LINE_LIMIT}
 use Rattle.cdxj_core.specs.Indexes.{IsIndex}
 use Rattle.cdxj_core.specs.Members.{Member, member_pair, member_place}
@@ -35,7 +35,6 @@ use Rattle.merge_core.specs.Openings.{IsCutAt}
 use Rattle.merge_core.specs.Reached.{Reached}
 use Rattle.merge_core.specs.Spending.{AllGaveWithin, AreReadTo, CameWithin, OpenedWithin}
 use Rattle.merge_core.proofs.CountLemmas.{lines_most}
-use Rattle.merge_core.proofs.FeedLemmas.{each_join}
 use Rattle.merge_core.proofs.Filters.{each_filter}
 use Rattle.merge_core.proofs.ByteLemmas.{gave_most, tell_both}
 use Rattle.merge_core.proofs.Many.{Move, length_zip, two_each, two_same}
@@ -44,7 +43,7 @@ use Rattle.merge_core.proofs.MergeLemmas.{is_less}
 use Rattle.merge_core.proofs.WholeLemmas.{told_known}
 use Rattle.page_writers.specs.PageWriting.{is_wanted, captures_over, place_before}
 use Rattle.query_core.specs.Reach.{pair_after, follower, is_within, in_reach}
-use Rattle.query_core.specs.Passes.{IsWithin}
+use Rattle.query_core.specs.Passes.{AreAtMost}
 use Rattle.query_core.specs.Starts.{first_stamp, later_pair, start_pair}
 use Rattle.page_writers.proofs.CaptureLemmas.{kept_after, captures_append}
 use Rattle.query_core.proofs.PageOfIndexes.{wanted_before, wanted_first, wanted_whole}
@@ -93,7 +92,8 @@ neither Greater h k = cc
 covered_where_met : (t : TargetValue) (key : List ℕ) → is_past t key ≡ false → is_lt (slice_cmp nat_cmp key t.text)
     ≡ false → covers t key ≡ true
 covered_where_met t key past low =
-    (elim (covers t key) as (λ b. covers t key ≡ b → (is_gt (slice_cmp nat_cmp key t.text) && not b) ≡ false → b ≡ true) [
+    (elim (covers t key) as
+    (λ b. covers t key ≡ b → (is_gt (slice_cmp nat_cmp key t.text) && not b) ≡ false → b ≡ true) [
       | true ↦ (λ e h. refl)
       | false ↦ (λ e h.
           let same : key ≡ t.text = text_met key t.text
@@ -148,7 +148,7 @@ past_front (suc n) (c ∷ cs) vs x h k = past_front n cs vs x (omega arith) k
 
 -- these captures don't pass the limit, and what is wanted beside them isn't below a pair
 pub within_follower : (q : QueryValue) (from : Option PlaceValue) (limit : Option ℕ) (lines c vs : List Member)
-    → captures_over q from lines ≡ c ++ vs → IsWithin limit c
+    → captures_over q from lines ≡ c ++ vs → AreAtMost limit c
     → (x : Pair) → AllByRecursion (λ v. Upto x (member_pair v)) vs → is_within (follower q from limit lines) x ≡ true
 within_follower q from None lines c vs split most x k = refl
 within_follower q from (Some n) lines c vs split most x k = ap (λ ms. is_within (pair_after n ms) x) split
@@ -244,7 +244,7 @@ module _ {S : Type 0} (text : S → Option (List ℕ)) (extent gave : S → ℕ)
       }
 
   module _ (bound : Option Pair) (earlier : List Member) (c : Cut bound earlier) (limit : Option ℕ)
-      (most : IsWithin limit (wanted earlier)) where
+      (most : AreAtMost limit (wanted earlier)) where
     in_bound : (m : Member) → IsUpto bound (member_pair m)
         → is_within (follower q from limit (collection indexes)) (member_pair m) ≡ true
     in_bound m upto = within_follower q from limit (collection indexes) (wanted earlier) c.back c.whole most
@@ -272,7 +272,7 @@ module _ {S : Type 0} (text : S → Option (List ℕ)) (extent gave : S → ℕ)
 
   -- no more lines were read than are in reach, and one of each index
   pub lines_within : Known (map text ss) texts → (earlier : List Member) → Cut b earlier → (limit : Option ℕ)
-      → IsWithin limit (wanted earlier)
+      → AreAtMost limit (wanted earlier)
       → sum (map (λ (f : Feed). f.cursor.count) fs) ≤ length
       (filter (in_reach q from limit (collection indexes)) (all_lines indexes)) + length ss0
   lines_within known_now earlier c limit most =

@@ -6,7 +6,7 @@ use Rattle.query_core.specs.declared.fault.AnswerFault.{AnswerFault}
 use Rattle.query_core.specs.declared.fault.AnswerFault.TheVariants as fault
 use Rattle.query_core.specs.declared.merging.TheConstants.{SOURCES_LIMIT}
 use Rattle.page_writers.specs.WrittenPages.{are_sizes}
-use Rattle.query_core.specs.Refusals.{IsEarly, Refuses, bad_sizes_or_too_many, too_many}
+use Rattle.query_core.specs.Refusals.{IsBeforeReading, Refuses, bad_sizes_or_too_many, too_many}
 
 many : (limit count : ℕ) → limit < count → nat_lt limit count ≡ true
 many limit count h = grind (arith, nat_tests)
@@ -32,11 +32,11 @@ module _ (A : Type 0) (count : ℕ) (X : Type 0) where
 
 module _ {A : Type 0} (count : ℕ) (X : Type 0) (r : Result A AnswerFault) where
   -- others are not, and what refuses none returns no such fault
-  pub refuses_few : count ≤ SOURCES_LIMIT → IfErr r (λ e. IsEarly e → ⊥) → Refuses (too_many count) r X
+  pub refuses_few : count ≤ SOURCES_LIMIT → IfErr r (λ e. IsBeforeReading e → ⊥) → Refuses (too_many count) r X
   refuses_few h late = subst (λ b. Refuses (if b then Some fault.TooManySources else None) r X)
       (sym (few SOURCES_LIMIT count h)) late
 
-  pub late_few : count ≤ SOURCES_LIMIT → Refuses (too_many count) r X → IfErr r (λ e. IsEarly e → ⊥)
+  pub late_few : count ≤ SOURCES_LIMIT → Refuses (too_many count) r X → IfErr r (λ e. IsBeforeReading e → ⊥)
   late_few h refused = subst (λ b. Refuses (if b then Some fault.TooManySources else None) r X)
       (few SOURCES_LIMIT count h) refused
 

@@ -114,7 +114,8 @@ module _ (limit : ℕ) (IsReply : List ℕ → List ℕ → Type 0) where
         cut ∙ (ap (λ l. done ++ l) first ∙ sym (append_assoc done (seen ∷ []) (cut_lines rest))),
         omega (arith, counted, length-append done (seen ∷ [])),
         zip_more Marked done texts seen text each (held line seen text is m),
-        subst (Appends old last) (sym (joined-more texts text)) (Appends-join old new last (joined texts) text written a),
+        subst (Appends old last) (sym (joined-more texts text))
+            (Appends-join old new last (joined texts) text written a),
       )
 
   pub replied-whole : (input now after : Option (List ℕ)) (count taken : ℕ) (old new : Option (List ℕ)) (line : List ℕ)

@@ -8,7 +8,7 @@ use Rattle.std.proofs.lemmas.Cmp.{alike_right, tied_itself}
 use Rattle.cdxj_places.specs.Pairs.{Pair, pair_cmp}
 use Rattle.cdxj_places.specs.Rising.{NeverFalls}
 use Rattle.cdxj_places.proofs.PairLemmas.{pair_cmp_total}
-use Rattle.cdxj_places.proofs.RisingLaws.{each_weaker}
+use Rattle.cdxj_places.proofs.RisingLaws.{each_join, each_weaker}
 use Rattle.cdxj_core.specs.Members.{Member, member_pair, line_entry}
 use Rattle.cdxj_core.specs.Indexes.{IsRun}
 use Rattle.query_core.specs.Checking.{IsLastOf, FallsAfter}
@@ -32,11 +32,6 @@ upto_upto p q r h k = elim (not_above p q h) [
 ]
 
 -- ---- one member more
-
-each_join : {X : Type 0} (A : X → Type 0) (us vs : List X) → AllByRecursion A us → AllByRecursion A vs
-    → AllByRecursion A (us ++ vs)
-each_join A [] vs h k = k
-each_join A (u ∷ us) vs h k = (h.0, each_join A us vs h.1 k)
 
 falls_push : (xs : List Member) (y : Member) → NeverFalls member_pair pair_cmp xs
     → AllByRecursion (λ m. Upto (member_pair m) (member_pair y)) xs → NeverFalls member_pair pair_cmp (xs ++ y ∷ [])

@@ -12,7 +12,7 @@ use Rattle.cdxj_core.specs.Indexes.{IsIndex}
 use Rattle.source_core.specs.LinesAtFault.{IsBadLine, IsOutOfOrder}
 use Rattle.merge_core.specs.Collections.{Known}
 use Rattle.query_core.specs.declared.fault.AnswerFault.TheVariants as fault
-use Rattle.query_core.specs.IndexFaults.{IsFaultOf}
+use Rattle.query_core.specs.IndexFaults.{IsAnswerFaultOf}
 use Rattle.query_core.specs.QueryLaws.{NoLineIsAtFault}
 
 module _ (limit : ℕ) where
@@ -116,12 +116,12 @@ module _ (limit : ℕ) where
 
   module _ (tolds : List (Option (List ℕ))) (texts : List (List ℕ)) (indexes : List (List Member))
       (known : Known tolds texts) (are : AllZip (IsIndex limit) texts indexes) (i offset : ℕ) where
-    pub names_no_bad_line : IsFaultOf limit tolds (fault.BadLine i offset) → ⊥
+    pub names_no_bad_line : IsAnswerFaultOf limit tolds (fault.BadLine i offset) → ⊥
     names_no_bad_line named =
         let at = index_at tolds texts indexes known are i named.0 in
         no_bad_line at.text at.members offset at.index (named.1 at.text at.told_is)
 
-    pub names_none_out_of_order : IsFaultOf limit tolds (fault.OutOfOrder i offset) → ⊥
+    pub names_none_out_of_order : IsAnswerFaultOf limit tolds (fault.OutOfOrder i offset) → ⊥
     names_none_out_of_order named =
         let at = index_at tolds texts indexes known are i named.0 in
         none_out_of_order at.text at.members offset at.index (named.1 at.text at.told_is)

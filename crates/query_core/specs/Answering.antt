@@ -25,12 +25,13 @@ pub record Answered (q : QueryValue) (lines : List Member) (old new : Option (Li
   pub more : report.more ≡ is_some (query_page q lines).next
 
 -- the same, or after a fault a front of the page was written
-abbrev pub Answers : QueryValue → List Member → Result Report AnswerFault → Option (List ℕ) → Option (List ℕ) → Type 0
-Answers q lines result old new =
+abbrev pub WritesAnswer : QueryValue → List Member → Result Report AnswerFault → Option (List ℕ) → Option (List ℕ)
+    → Type 0
+WritesAnswer q lines result old new =
     MatchResult result (Answered q lines old new) (λ _. AppendsPrefix old new (answer_text q (query_page q lines)))
 
--- Of each source consecutive lines were read, which are an index by themselves. They are so many together, and the page and its
--- report are those of these lines. If no capture follows the page, they are all of the query's range.
+-- Of each source consecutive lines were read, which are an index by themselves. They are so many together, and the page
+-- and its report are those of these lines. If no capture follows the page, they are all of the query's range.
 pub record AnsweredParts (limit : ℕ) (q : QueryValue) (texts : List (List ℕ)) (old new : Option (List ℕ))
     (report : Report) : Type 0 where
   pub parts : List (List Member)
@@ -39,8 +40,9 @@ pub record AnsweredParts (limit : ℕ) (q : QueryValue) (texts : List (List ℕ)
   pub answered : Answered q (collection parts) old new report
   pub least : report.given ≤ report.lines
 
--- How much was read. The searches take no more steps than the sizes have binary digits. Over indexes, no more lines are read than
--- those in reach of the page and one of each source, and no more are held than one of each source and those that share a pair.
+-- How much was read. The searches take no more steps than the sizes have binary digits. Over indexes, no more lines are
+-- read than those in reach of the page and one of each source, and no more are held than one of each source and those
+-- that share a pair.
 pub record ReadsInReach {S : Type 0} (text : S → Option (List ℕ)) (extent gave : S → ℕ) (q : QueryValue)
     (old new : Option (List ℕ))
     (olds news : List S) (result : Result Report AnswerFault) : Type 0 where

@@ -4,19 +4,19 @@ use Rattle.cdxj_core.specs.declared.limit.TheConstants.{LINE_LIMIT}
 use Rattle.cdxj_core.specs.Members.{Member}
 use Rattle.query_text.specs.declared.fault.QueryFault.{QueryFault}
 use Rattle.query_text.specs.declared.query.TheConstants.{QUERY_LIMIT}
-use Rattle.query_text.specs.FaultNames.{fault_name}
+use Rattle.query_text.specs.FaultNames.{query_fault_name}
 use Rattle.query_text.specs.Queries.{QueryValue, query_of}
 use Rattle.merge_core.specs.SourceLines.{AreLinesOf}
 use Rattle.query_core.specs.declared.fault.AnswerFault.{AnswerFault}
 use Rattle.query_core.specs.declared.fault.AnswerFault.TheVariants as fault
-use Rattle.query_core.specs.IndexFaults.{IsFaultOf}
+use Rattle.query_core.specs.IndexFaults.{IsAnswerFaultOf}
 use Rattle.page_writers.specs.QueryPages.{query_page, answer_text}
-use Rattle.query_core.specs.Replies.{fault_line, refusal_text}
+use Rattle.query_core.specs.Replies.{refusal_text, reply_fault_line}
 
 -- what is written of a fault that names a line
 abbrev pub fault_text : AnswerFault → Option (List ℕ)
-fault_text (fault.BadLine i offset) = Some (fault_line (codes "BadLine") i offset)
-fault_text (fault.OutOfOrder i offset) = Some (fault_line (codes "OutOfOrder") i offset)
+fault_text (fault.BadLine i offset) = Some (reply_fault_line (codes "BadLine") i offset)
+fault_text (fault.OutOfOrder i offset) = Some (reply_fault_line (codes "OutOfOrder") i offset)
 fault_text other = None
 
 -- the sources, by their bytes, where those are known
@@ -27,7 +27,7 @@ module _ (told : List (Option (List ℕ))) where
     pub rest : List ℕ
     pub whole : page ≡ front ++ rest
     pub fault : AnswerFault
-    pub named : IsFaultOf LINE_LIMIT told fault
+    pub named : IsAnswerFaultOf LINE_LIMIT told fault
     pub line : List ℕ
     pub line_is : fault_text fault ≡ Some line
     pub ends : reply ≡ front ++ line
@@ -41,7 +41,7 @@ module _ (told : List (Option (List ℕ))) where
   -- the same, or the name of the query's refusal
   abbrev pub IsQueryReply : Result QueryValue QueryFault → List ℕ → Type 0
   IsQueryReply (Ok q) reply = IsPageReply q reply
-  IsQueryReply (Err refusal) reply = reply ≡ refusal_text (fault_name refusal)
+  IsQueryReply (Err refusal) reply = reply ≡ refusal_text (query_fault_name refusal)
 
   -- the same for a text
   abbrev pub IsTextReply : List ℕ → List ℕ → Type 0

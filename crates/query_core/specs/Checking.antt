@@ -5,7 +5,7 @@ use Rattle.cdxj_places.specs.Pairs.{pair_cmp}
 use Rattle.cdxj_core.specs.Members.{Member, member_pair, line_entry}
 use Rattle.cdxj_core.specs.Indexes.{IsRun, IsIndex}
 use Rattle.source_core.specs.IndexLines.{lines}
-use Rattle.source_core.specs.LinesAtFault.{BeginsAt}
+use Rattle.source_core.specs.LinesAtFault.{LineBeginsAt}
 use Rattle.merge_core.specs.LineFaults.{IsBadFirst}
 use Rattle.query_core.specs.declared.fault.AnswerFault.{AnswerFault}
 use Rattle.query_core.specs.declared.fault.AnswerFault.TheVariants as fault
@@ -26,16 +26,17 @@ module _ (limit : ℕ) (text : List ℕ) (offset : ℕ) where
   pub record EndsInBadLine : Type 0 where
     pub before : List (List ℕ)
     pub line : List ℕ
-    pub begins : BeginsAt text offset before line
+    pub begins : LineBeginsAt text offset before line
     pub members : List Member
     pub run : IsRun limit before members
     pub bad : line_entry limit line ≡ None
 
-  -- the lines before the offset are an index by themselves; the pair of the line there is below that of the last of them
+  -- the lines before the offset are an index by themselves; the pair of the line there is below that of the last of
+  -- them
   pub record EndsOutOfOrder : Type 0 where
     pub before : List (List ℕ)
     pub line : List ℕ
-    pub begins : BeginsAt text offset before line
+    pub begins : LineBeginsAt text offset before line
     pub members : List Member
     pub run : IsRun limit before members
     pub previous : Option Member
@@ -60,8 +61,8 @@ IsCheckFault (fault.OutOfOrder i offset) = i ≡ 0
 IsCheckFault other = ⊥
 
 -- a fault of the reading of the line that begins at this offset: where the line is called bad, it has no entry
-abbrev pub IsLineFault : ℕ → List ℕ → ℕ → AnswerFault → Type 0
-IsLineFault limit text at fault.Memory = ⊤
-IsLineFault limit text at (fault.Read i) = i ≡ 0
-IsLineFault limit text at (fault.BadLine i offset) = (i ≡ 0) × (offset ≡ at) × IsBadFirst limit (lines (drop at text))
-IsLineFault limit text at other = ⊥
+abbrev pub IsLineFaultAt : ℕ → List ℕ → ℕ → AnswerFault → Type 0
+IsLineFaultAt limit text at fault.Memory = ⊤
+IsLineFaultAt limit text at (fault.Read i) = i ≡ 0
+IsLineFaultAt limit text at (fault.BadLine i offset) = (i ≡ 0) × (offset ≡ at) × IsBadFirst limit (lines (drop at text))
+IsLineFaultAt limit text at other = ⊥

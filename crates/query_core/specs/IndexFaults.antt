@@ -5,25 +5,25 @@ use Rattle.query_core.specs.declared.fault.AnswerFault.{AnswerFault}
 use Rattle.query_core.specs.declared.fault.AnswerFault.TheVariants as fault
 
 -- the names of faults
-abbrev pub fault_name : AnswerFault → List ℕ
-fault_name fault.Memory = codes "Memory"
-fault_name (fault.Read i) = codes "Read"
-fault_name fault.Write = codes "Write"
-fault_name (fault.BadLine i offset) = codes "BadLine"
-fault_name (fault.OutOfOrder i offset) = codes "OutOfOrder"
-fault_name fault.TooManySources = codes "TooManySources"
-fault_name fault.BadSizes = codes "BadSizes"
-fault_name fault.Input = codes "Input"
+abbrev pub answer_fault_name : AnswerFault → List ℕ
+answer_fault_name fault.Memory = codes "Memory"
+answer_fault_name (fault.Read i) = codes "Read"
+answer_fault_name fault.Write = codes "Write"
+answer_fault_name (fault.BadLine i offset) = codes "BadLine"
+answer_fault_name (fault.OutOfOrder i offset) = codes "OutOfOrder"
+answer_fault_name fault.TooManySources = codes "TooManySources"
+answer_fault_name fault.BadSizes = codes "BadSizes"
+answer_fault_name fault.Input = codes "Input"
 
 -- what the text of this source is, where it is told
 abbrev pub IfTold : List (Option (List ℕ)) → ℕ → (List ℕ → Type 0) → Type 0
 IfTold texts i P = (i < length texts) × ((text : List ℕ) → get_or texts i None ≡ Some text → P text)
 
 -- a line that the fault names is such a line of the source that it names, where that source tells its bytes
-abbrev pub IsFaultOf : ℕ → List (Option (List ℕ)) → AnswerFault → Type 0
-IsFaultOf limit texts (fault.BadLine i offset) = IfTold texts i (λ text. IsBadLine limit text offset)
-IsFaultOf limit texts (fault.OutOfOrder i offset) = IfTold texts i (λ text. IsOutOfOrder limit text offset)
-IsFaultOf limit texts other = ⊤
+abbrev pub IsAnswerFaultOf : ℕ → List (Option (List ℕ)) → AnswerFault → Type 0
+IsAnswerFaultOf limit texts (fault.BadLine i offset) = IfTold texts i (λ text. IsBadLine limit text offset)
+IsAnswerFaultOf limit texts (fault.OutOfOrder i offset) = IfTold texts i (λ text. IsOutOfOrder limit text offset)
+IsAnswerFaultOf limit texts other = ⊤
 
 -- the fault names no line
 abbrev pub NamesNoLine : AnswerFault → Type 0

@@ -16,8 +16,8 @@ abbrev pub WritesPages : QueryValue → List Member → List ℕ → Result ℕ 
 WritesPages q lines sizes result old new = MatchResult result (WrotePages q lines sizes old new)
     (λ _. are_sizes sizes ≡ true → WrotePagesInPart q lines sizes old new)
 
--- Of each source consecutive lines were read, which are an index by themselves: all of the query's range. The pages are those of these
--- lines.
+-- Of each source consecutive lines were read, which are an index by themselves: all of the query's range. The pages are
+-- those of these lines.
 pub record WrotePagesOfParts (limit : ℕ) (q : QueryValue) (texts : List (List ℕ)) (sizes : List ℕ)
     (old new : Option (List ℕ)) (number : ℕ) : Type 0 where
   pub parts : List (List Member)

@@ -8,7 +8,7 @@ use Rattle.query_text.specs.Queries.{QueryValue}
 use Rattle.query_text.specs.Matching.{is_past}
 use Rattle.merge_core.specs.Collections.{OverIndexes, OverTexts, all_lines, collection}
 use Rattle.merge_core.specs.Merging.{CameTo}
-use Rattle.merge_core.specs.Reached.{Grows}
+use Rattle.devices.specs.Device.{Grows}
 use Rattle.merge_core.specs.Runs.{IsPart}
 use Rattle.merge_core.specs.SourceLines.{AreLinesOf}
 use Rattle.merge_core.specs.Spending.{AllGaveWithin}
@@ -17,17 +17,17 @@ use Rattle.page_writers.specs.PageWriting.{captures_over}
 use Rattle.query_core.specs.Reach.{in_reach}
 
 -- no more captures than the limit, if there is one
-abbrev pub IsWithin : Option ℕ → List Member → Type 0
-IsWithin None captures = ⊤
-IsWithin (Some n) captures = length captures ≤ n
+abbrev pub AreAtMost : Option ℕ → List Member → Type 0
+AreAtMost None captures = ⊤
+AreAtMost (Some n) captures = length captures ≤ n
 
 module _ (q : QueryValue) where
   -- the captures of these lines come first of the others'
   abbrev pub AreFirst : List Member → List Member → Type 0
   AreFirst all taken = (rest : List Member) × (captures_over q q.resume all ≡ captures_over q q.resume taken ++ rest)
 
-  -- Of each source consecutive lines were read, which are an index by themselves, and so many together. If all lines of the range
-  -- were read, they have no further captures.
+  -- Of each source consecutive lines were read, which are an index by themselves, and so many together. If all lines of
+  -- the range were read, they have no further captures.
   pub record IsOfParts (texts : List (List ℕ)) (taken : List Member) (all : Bool) (lines : ℕ) : Type 0 where
     pub parts : List (List Member)
     pub each : (whole : Bool) → (whole ≡ true → all ≡ true)
@@ -45,17 +45,17 @@ module _ (q : QueryValue) (told : List (Option (List ℕ))) where
   -- what sources gave for so many captures
   abbrev pub GaveFor : {S : Type 0} → (S → ℕ) → (S → ℕ) → List Member → List S → List S → Type 0
   GaveFor extent gave earlier olds news = OverIndexes LINE_LIMIT told (λ texts indexes.
-      (limit : Option ℕ) → IsWithin limit (captures_over q q.resume earlier)
+      (limit : Option ℕ) → AreAtMost limit (captures_over q q.resume earlier)
       → AllGaveWithin extent gave (in_reach q q.resume limit (collection indexes)) texts indexes olds news)
 
   -- so many lines were read, no more than are in reach of as many captures, and one of each source
   abbrev pub ReadFor : List Member → ℕ → Type 0
   ReadFor earlier lines = OverIndexes LINE_LIMIT told (λ texts indexes.
-      (limit : Option ℕ) → IsWithin limit (captures_over q q.resume earlier)
+      (limit : Option ℕ) → AreAtMost limit (captures_over q q.resume earlier)
       → lines ≤ length (filter (in_reach q q.resume limit (collection indexes)) (all_lines indexes)) + length told)
 
--- A sink: what it wrote of lines, what it wrote if it failed, and that it wants no more. The query; the sources, which are read from
--- one list of states to another; the sink and what was written, before and after.
+-- A sink: what it wrote of lines, what it wrote if it failed, and that it wants no more. The query; the sources, which
+-- are read from one list of states to another; the sink and what was written, before and after.
 module _ {K S : Type 0} (Wrote : K → K → List Member → Option (List ℕ) → Option (List ℕ) → Type 0)
     (Broke : K → List Member → Option (List ℕ) → Option (List ℕ) → Type 0) (Enough : K → Type 0)
     (text : S → Option (List ℕ)) (extent gave : S → ℕ) (q : QueryValue) (olds news : List S) (sink : K)

@@ -16,7 +16,7 @@ use Rattle.page_core.specs.Pages.{Page, AllPositive, collapsed, is_above}
 use Rattle.page_core.specs.Rows.{field_name}
 use Rattle.merge_core.specs.Collections.{OverIndexes, all_lines, collection}
 use Rattle.query_core.specs.declared.fault.AnswerFault.{AnswerFault}
-use Rattle.query_core.specs.IndexFaults.{IsFaultOf, NamesNoLine}
+use Rattle.query_core.specs.IndexFaults.{IsAnswerFaultOf, NamesNoLine}
 use Rattle.page_writers.specs.PageWriting.{is_wanted}
 use Rattle.page_writers.specs.WrittenPages.{EndsWithKey}
 use Rattle.page_writers.specs.QueryPages.{IsQueryChain, selected}
@@ -38,8 +38,8 @@ SelectedAreFirst = (q : QueryValue) (indexes : List (List Member)) (m : Member)
     → IsIn m (selected q (collection indexes))
     ↔ (IsFirst member_place place_cmp m (all_lines indexes) × (matches q m.values ≡ true))
 
--- the captures of the pages of lines that rise by place rise too, match the query and stand above the place that the first page begins
--- after
+-- the captures of the pages of lines that rise by place rise too, match the query and stand above the place that the
+-- first page begins after
 abbrev pub PagesRise : Type 0
 PagesRise = (q : QueryValue) (lines : List Member) (sizes : List ℕ) (pages : List (Page Member PlaceValue))
     → Rises member_place place_cmp lines
@@ -47,8 +47,8 @@ PagesRise = (q : QueryValue) (lines : List Member) (sizes : List ℕ) (pages : L
     → Rises member_place place_cmp (flat_map (λ page. page.members) pages)
     × AllByRecursion (λ m. is_wanted q q.resume m ≡ true) (flat_map (λ page. page.members) pages)
 
--- The resume key that a page ends with continues the page: put into the query's text, in the place of an older one or after all else,
--- where the text isn't too long, it means the same query after the page's last capture.
+-- The resume key that a page ends with continues the page: put into the query's text, in the place of an older one or
+-- after all else, where the text isn't too long, it means the same query after the page's last capture.
 abbrev pub KeysContinue : Type 0
 KeysContinue = (text : List ℕ) (query : QueryValue) (page : Page Member PlaceValue) → query_of QUERY_LIMIT text
     ≡ Ok query
@@ -58,7 +58,7 @@ KeysContinue = (text : List ℕ) (query : QueryValue) (page : Page Member PlaceV
 
 -- over indexes no fault names a line
 abbrev pub NoLineIsAtFault : Type 0
-NoLineIsAtFault = (told : List (Option (List ℕ))) (fault : AnswerFault) → IsFaultOf LINE_LIMIT told fault
+NoLineIsAtFault = (told : List (Option (List ℕ))) (fault : AnswerFault) → IsAnswerFaultOf LINE_LIMIT told fault
     → OverIndexes LINE_LIMIT told (λ texts indexes. NamesNoLine fault)
 
 -- a field is named by its name

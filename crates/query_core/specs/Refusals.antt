@@ -6,10 +6,10 @@ use Rattle.query_core.specs.declared.merging.TheConstants.{SOURCES_LIMIT}
 use Rattle.page_writers.specs.WrittenPages.{are_sizes}
 
 -- the faults that come before anything is read or written
-abbrev pub IsEarly : AnswerFault → Type 0
-IsEarly fault.TooManySources = ⊤
-IsEarly fault.BadSizes = ⊤
-IsEarly other = ⊥
+abbrev pub IsBeforeReading : AnswerFault → Type 0
+IsBeforeReading fault.TooManySources = ⊤
+IsBeforeReading fault.BadSizes = ⊤
+IsBeforeReading other = ⊥
 
 -- that of so many sources, if there is one
 abbrev pub too_many : ℕ → Option AnswerFault
@@ -21,5 +21,5 @@ bad_sizes_or_too_many sizes count = if are_sizes sizes then too_many count else 
 
 -- the call returns the fault if there is one, and nothing changes; else it returns none of them
 abbrev pub Refuses : {A : Type 0} → Option AnswerFault → Result A AnswerFault → Type 0 → Type 0
-Refuses None result unchanged = IfErr result (λ e. IsEarly e → ⊥)
+Refuses None result unchanged = IfErr result (λ e. IsBeforeReading e → ⊥)
 Refuses (Some fault) result unchanged = (result ≡ Err fault) × unchanged

@@ -5,20 +5,20 @@ use Rattle.std.specs.Str.{is_utf8}
 use Rattle.cdxj_core.specs.Members.{Member}
 use Rattle.devices.specs.LineCuts.{input_lines}
 use Rattle.query_text.specs.declared.fault.QueryFault.{QueryFault}
-use Rattle.query_text.specs.FaultNames.{fault_name}
+use Rattle.query_text.specs.FaultNames.{query_fault_name}
 use Rattle.query_text.specs.Queries.{QueryValue, query_of}
 use Rattle.page_writers.specs.QueryPages.{query_page, answer_text}
 
 abbrev pub refusal_text : List ℕ → List ℕ
 refusal_text name = codes "refused " ++ name ++ 10 ∷ []
 
-abbrev pub fault_line : List ℕ → ℕ → ℕ → List ℕ
-fault_line name index offset = codes "\nfault " ++ name ++ 32 ∷ decimal index ++ 32 ∷ decimal offset ++ 10 ∷ []
+abbrev pub reply_fault_line : List ℕ → ℕ → ℕ → List ℕ
+reply_fault_line name index offset = codes "\nfault " ++ name ++ 32 ∷ decimal index ++ 32 ∷ decimal offset ++ 10 ∷ []
 
 -- the page of a query over these lines, or the name of its refusal
 abbrev pub reply_to : List Member → Result QueryValue QueryFault → List ℕ
 reply_to lines (Ok q) = answer_text q (query_page q lines)
-reply_to lines (Err fault) = refusal_text (fault_name fault)
+reply_to lines (Err fault) = refusal_text (query_fault_name fault)
 
 -- the limit of a query, in bytes
 module _ (limit : ℕ) where

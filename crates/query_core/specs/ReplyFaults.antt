@@ -23,7 +23,8 @@ CountsReplying (Err (fault.BadLine i offset)) sources sources' out out' = ⊥
 CountsReplying (Err (fault.OutOfOrder i offset)) sources sources' out out' = ⊥
 CountsReplying other sources sources' out out' = (sources' ≡ sources) × (out' ≡ out)
 
--- the same of a conversation, and the count of its input, of which these bytes were left: Input where it failed or is too long
+-- the same of a conversation, and the count of its input, of which these bytes were left: Input where it failed or is
+-- too long
 abbrev pub CountsServing : {A : Type 0} → Result A AnswerFault → List ℕ → List ℕ → ℕ → ℕ → ℕ → ℕ → Option (List ℕ)
     → Type 0
 CountsServing (Err fault.Input) sources sources' out out' input input' text =

@@ -5,8 +5,8 @@ ghost use Rattle.cdxj_core.specs.Members.{Member};
 ghost use Rattle.merge_core.specs.Collections.{KeepsSources, OverIndexes, OverTexts, collection};
 ghost use Rattle.merge_core.specs.SourceLines.{AreLinesOf};
 ghost use Rattle.query_core.specs.AnswerCounts.{CountsAnswer};
-ghost use Rattle.query_core.specs.Answering.{AnsweredParts, Answers, ReadsInReach};
-ghost use Rattle.query_core.specs.IndexFaults.{IsFaultOf};
+ghost use Rattle.query_core.specs.Answering.{AnsweredParts, ReadsInReach, WritesAnswer};
+ghost use Rattle.query_core.specs.IndexFaults.{IsAnswerFaultOf};
 ghost use Rattle.query_core.specs.Refusals.{Refuses, too_many};
 
 use crate::fault::AnswerFault;
@@ -45,15 +45,15 @@ pub fn answer<S: Source, O: Output>(
     ensures kept { KeepsSources S.text S.extent sources.old sources.new }
     ensures failures { CountsAnswer result (map S.failures sources.old) (map S.failures sources.new)
         (O.failures out.old) (O.failures out.new) }
-    ensures fault { IfErr result (IsFaultOf LINE_LIMIT (map S.text sources.old)) }
+    ensures fault { IfErr result (IsAnswerFaultOf LINE_LIMIT (map S.text sources.old)) }
     // Whatever the sources' bytes, these are lines of theirs that rise by place.
     ensures lines { (lines : List Member) × AreLinesOf LINE_LIMIT (map S.text sources.old) lines
-        × Answers query.now lines result (O.written out.old) (O.written out.new) }
+        × WritesAnswer query.now lines result (O.written out.old) (O.written out.new) }
     ensures parts { OverTexts (map S.text sources.old) (λ texts.
         IfOk result (AnsweredParts LINE_LIMIT query.now texts (O.written out.old)
         (O.written out.new))) }
     ensures page { OverIndexes LINE_LIMIT (map S.text sources.old) (λ texts indexes.
-        Answers query.now (collection indexes) result (O.written out.old) (O.written out.new)) }
+        WritesAnswer query.now (collection indexes) result (O.written out.old) (O.written out.new)) }
     ensures reads { ReadsInReach S.text S.extent S.gave query.now (O.written out.old)
         (O.written out.new)
         sources.old sources.new result }

@@ -33,11 +33,11 @@ pub enum AnswerFault {
 
 impl AnswerFault {
     ghost use Rattle.std.specs.Prelude.{◌≡◌};
-    ghost use Rattle.query_core.specs.IndexFaults.{fault_name};
+    ghost use Rattle.query_core.specs.IndexFaults.{answer_fault_name};
 
     /// Returns the fault's name.
     pub fn name(self) -> &'static str
-        ensures { result.now ≡ fault_name self }
+        ensures { result.now ≡ answer_fault_name self }
     {
         match self {
             AnswerFault::Memory => "Memory",

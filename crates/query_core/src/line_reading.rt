@@ -7,7 +7,7 @@ ghost use Rattle.cdxj_places.specs.Pairs.{pair_cmp};
 ghost use Rattle.source_core.specs.Cursors.{Stands};
 ghost use Rattle.merge_core.specs.NextLine.{IsNextLine};
 ghost use Rattle.query_core.specs.AnswerCounts.{CountsSource};
-ghost use Rattle.query_core.specs.Checking.{IsCheckFault, IsLineFault};
+ghost use Rattle.query_core.specs.Checking.{IsCheckFault, IsLineFaultAt};
 
 use crate::fault::AnswerFault;
 use cdxj_core::Line;
@@ -33,7 +33,7 @@ pub(crate) fn next_line<S: Source>(
         → IfOk result (λ found.
         IsNextLine LINE_LIMIT t cursor.old.at cursor.new.at (option_map (λ b. b.value) found)) }
     ensures fault { (t : List ℕ) → S.text source.old ≡ Some t
-        → IfErr result (IsLineFault LINE_LIMIT t cursor.old.at) }
+        → IfErr result (IsLineFaultAt LINE_LIMIT t cursor.old.at) }
     ensures kind { IfErr result IsCheckFault }
     ensures failures { CountsSource result (S.failures source.old) (S.failures source.new) }
 {

@@ -6,7 +6,7 @@ ghost use Rattle.merge_core.specs.Collections.{KeepsSources, Merged, OverIndexes
 ghost use Rattle.merge_core.specs.SourceLines.{WroteLinesOf};
 ghost use Rattle.merge_core.specs.Written.{lines_text};
 ghost use Rattle.query_core.specs.AnswerCounts.{CountsAnswer};
-ghost use Rattle.query_core.specs.IndexFaults.{IsFaultOf};
+ghost use Rattle.query_core.specs.IndexFaults.{IsAnswerFaultOf};
 ghost use Rattle.query_core.specs.Refusals.{Refuses, too_many};
 
 use crate::fault::AnswerFault;
@@ -37,7 +37,7 @@ pub fn merge<S: Source, O: Output>(
     ensures kept { KeepsSources S.text S.extent sources.old sources.new }
     ensures failures { CountsAnswer result (map S.failures sources.old) (map S.failures sources.new)
         (O.failures out.old) (O.failures out.new) }
-    ensures fault { IfErr result (IsFaultOf LINE_LIMIT (map S.text sources.old)) }
+    ensures fault { IfErr result (IsAnswerFaultOf LINE_LIMIT (map S.text sources.old)) }
     ensures merged { OverTexts (map S.text sources.old) (λ texts.
         IfOk result (Merged LINE_LIMIT texts (O.written out.old) (O.written out.new))) }
     ensures part { OverIndexes LINE_LIMIT (map S.text sources.old) (λ texts indexes.

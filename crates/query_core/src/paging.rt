@@ -6,7 +6,7 @@ ghost use Rattle.merge_core.specs.Collections.{KeepsSources, OverIndexes, OverTe
 ghost use Rattle.merge_core.specs.SourceLines.{AreLinesOf};
 ghost use Rattle.merge_core.specs.Spending.{AllGaveWithin};
 ghost use Rattle.query_core.specs.AnswerCounts.{CountsAnswer};
-ghost use Rattle.query_core.specs.IndexFaults.{IsFaultOf};
+ghost use Rattle.query_core.specs.IndexFaults.{IsAnswerFaultOf};
 ghost use Rattle.query_core.specs.Paging.{WritesPages, WrotePagesOfParts};
 ghost use Rattle.query_core.specs.Reach.{in_reach};
 ghost use Rattle.query_core.specs.Refusals.{Refuses, bad_sizes_or_too_many};
@@ -43,7 +43,7 @@ pub fn pages<S: Source, O: Output>(
     ensures kept { KeepsSources S.text S.extent sources.old sources.new }
     ensures failures { CountsAnswer result (map S.failures sources.old) (map S.failures sources.new)
         (O.failures out.old) (O.failures out.new) }
-    ensures fault { IfErr result (IsFaultOf LINE_LIMIT (map S.text sources.old)) }
+    ensures fault { IfErr result (IsAnswerFaultOf LINE_LIMIT (map S.text sources.old)) }
     // Whatever the sources' bytes, these are lines of theirs that rise by place.
     ensures lines { (lines : List Member) × AreLinesOf LINE_LIMIT (map S.text sources.old) lines
         × WritesPages query.now lines sizes.now result (O.written out.old) (O.written out.new) }

@@ -6,9 +6,9 @@ ghost use Rattle.source_core.specs.Halving.{digits};
 ghost use Rattle.merge_core.specs.Collections.{KeepsSources, OverIndexes, all_lines};
 ghost use Rattle.merge_core.specs.Counts.{ShareAtMost};
 ghost use Rattle.query_core.specs.AnswerCounts.{CountsAnswer};
-ghost use Rattle.query_core.specs.IndexFaults.{IsFaultOf};
+ghost use Rattle.query_core.specs.IndexFaults.{IsAnswerFaultOf};
 ghost use Rattle.query_core.specs.Passes.{BrokeOff, Halted, TookLines};
-ghost use Rattle.query_core.specs.Refusals.{IsEarly};
+ghost use Rattle.query_core.specs.Refusals.{IsBeforeReading};
 
 use crate::fault::AnswerFault;
 use crate::start::start_pair;
@@ -44,8 +44,8 @@ pub(crate) fn read_lines<S: Source, K: Sink, O: Output>(
     ensures kept { KeepsSources S.text S.extent sources.old sources.new }
     ensures failures { CountsAnswer result (map S.failures sources.old) (map S.failures sources.new)
         (O.failures out.old) (O.failures out.new) }
-    ensures late { IfErr result (λ e. IsEarly e → ⊥) }
-    ensures fault { IfErr result (IsFaultOf LINE_LIMIT (map S.text sources.old)) }
+    ensures late { IfErr result (λ e. IsBeforeReading e → ⊥) }
+    ensures fault { IfErr result (IsAnswerFaultOf LINE_LIMIT (map S.text sources.old)) }
     ensures probes { IfOk result (λ pass.
         pass.probes ≤ sum (map (λ s. digits (S.extent s)) sources.old)) }
     ensures held { OverIndexes LINE_LIMIT (map S.text sources.old) (λ texts indexes.

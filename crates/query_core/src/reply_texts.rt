@@ -1,7 +1,7 @@
 //! The texts of replies that aren't pages.
 ghost use Rattle.std.specs.Prelude.{◌≡◌, ◌∷◌, ◌++◌, [], IfOk, IfErr, codes};
 ghost use Rattle.devices.specs.Writing.{WritesText};
-ghost use Rattle.query_core.specs.Replies.{refusal_text, fault_line};
+ghost use Rattle.query_core.specs.Replies.{refusal_text, reply_fault_line};
 ghost use Rattle.query_core.specs.ReplyFaults.{CountsReply};
 
 use crate::fault::AnswerFault;
@@ -47,7 +47,7 @@ pub(crate) fn put_refusal<O: Output>(
 }
 
 fn fault_line(alloc: Global, name: &str, index: usize, offset: u64) -> Result<Vec<u8>, AllocError>
-    ensures { IfOk result (λ text. text.items ≡ fault_line name.now index offset) }
+    ensures { IfOk result (λ text. text.items ≡ reply_fault_line name.now index offset) }
 {
     let mut text = Vec::new(alloc);
     text.extend_from_slice(b"\nfault ")?;
@@ -69,7 +69,7 @@ pub(crate) fn put_fault_line<O: Output>(
     out: &mut O,
 ) -> Result<(), AnswerFault>
     ensures text { WritesText result (O.written out.old) (O.written out.new)
-        (fault_line name.now index offset) }
+        (reply_fault_line name.now index offset) }
     ensures failures { CountsReply result (O.failures out.old) (O.failures out.new) }
 {
     match fault_line(alloc, name, index, offset) {

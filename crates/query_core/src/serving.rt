@@ -11,7 +11,7 @@ ghost use Rattle.query_text.specs.Queries.{QueryValue};
 ghost use Rattle.merge_core.specs.Collections.{KeepsSources, OverIndexes, collection};
 ghost use Rattle.query_core.specs.declared.merging.TheConstants.{SOURCES_LIMIT};
 ghost use Rattle.page_writers.specs.QueryPages.{query_page, answer_text};
-ghost use Rattle.query_core.specs.Refusals.{IsEarly, Refuses, too_many};
+ghost use Rattle.query_core.specs.Refusals.{IsBeforeReading, Refuses, too_many};
 ghost use Rattle.query_core.specs.Replies.{reply_of, reply_to};
 ghost use Rattle.query_core.specs.AnyReplies.{IsPageReply, IsQueryReply, IsTextReply};
 ghost use Rattle.query_core.specs.Conversations.{Converses, IsLineReply, IsMarkedReply, IsOneReply, Replied, RepliedInPart, WritesSome};
@@ -38,7 +38,7 @@ fn reply_to_query<S: Source, O: Output>(
     out: &mut O,
 ) -> Result<(), AnswerFault>
     ensures kept { KeepsSources S.text S.extent sources.old sources.new }
-    ensures late { length sources.old ≤ SOURCES_LIMIT → IfErr result (λ e. IsEarly e → ⊥) }
+    ensures late { length sources.old ≤ SOURCES_LIMIT → IfErr result (λ e. IsBeforeReading e → ⊥) }
     ensures failures { CountsReplying result (map S.failures sources.old)
         (map S.failures sources.new) (O.failures out.old) (O.failures out.new) }
     ensures text { OverIndexes LINE_LIMIT (map S.text sources.old) (λ texts indexes.
@@ -87,7 +87,7 @@ fn reply_to_text<S: Source, O: Output>(
     out: &mut O,
 ) -> Result<(), AnswerFault>
     ensures kept { KeepsSources S.text S.extent sources.old sources.new }
-    ensures late { length sources.old ≤ SOURCES_LIMIT → IfErr result (λ e. IsEarly e → ⊥) }
+    ensures late { length sources.old ≤ SOURCES_LIMIT → IfErr result (λ e. IsBeforeReading e → ⊥) }
     ensures failures { CountsReplying result (map S.failures sources.old)
         (map S.failures sources.new) (O.failures out.old) (O.failures out.new) }
     ensures text { OverIndexes LINE_LIMIT (map S.text sources.old) (λ texts indexes.
@@ -110,7 +110,7 @@ fn reply_to_line<S: Source, O: Output>(
     out: &mut O,
 ) -> Result<(), AnswerFault>
     ensures kept { KeepsSources S.text S.extent sources.old sources.new }
-    ensures late { length sources.old ≤ SOURCES_LIMIT → IfErr result (λ e. IsEarly e → ⊥) }
+    ensures late { length sources.old ≤ SOURCES_LIMIT → IfErr result (λ e. IsBeforeReading e → ⊥) }
     ensures failures { CountsReplying result (map S.failures sources.old)
         (map S.failures sources.new) (O.failures out.old) (O.failures out.new) }
     ensures text { OverIndexes LINE_LIMIT (map S.text sources.old) (λ texts indexes.
@@ -137,7 +137,7 @@ fn reply_and_mark<S: Source, O: Output>(
     out: &mut O,
 ) -> Result<(), AnswerFault>
     ensures kept { KeepsSources S.text S.extent sources.old sources.new }
-    ensures late { length sources.old ≤ SOURCES_LIMIT → IfErr result (λ e. IsEarly e → ⊥) }
+    ensures late { length sources.old ≤ SOURCES_LIMIT → IfErr result (λ e. IsBeforeReading e → ⊥) }
     ensures failures { CountsReplying result (map S.failures sources.old)
         (map S.failures sources.new) (O.failures out.old) (O.failures out.new) }
     ensures text { OverIndexes LINE_LIMIT (map S.text sources.old) (λ texts indexes.
@@ -162,7 +162,7 @@ fn read_line<I: Input>(lines: &mut InputLines, input: &mut I) -> Result<bool, An
         (prepend_known lines.new.buffer (I.remaining input.new)) lines.old.taken lines.new.taken) }
     ensures some { IfOk result (λ found. found ≡ true → lines.old.taken < lines.new.taken) }
     ensures within { OnOk result (lines.new.taken < 2 ^ 63 - 1) }
-    ensures late { IfErr result (λ e. IsEarly e → ⊥) }
+    ensures late { IfErr result (λ e. IsBeforeReading e → ⊥) }
     ensures failures { CountsLine result (I.failures input.old) (I.failures input.new)
         (prepend_known lines.old.buffer (I.remaining input.old)) lines.old.taken }
 {

@@ -34,7 +34,6 @@ impl Sink for PageSink<'_> {
 
     ghost Enough = { λ sink. sink.writer.more ≡ true };
 
-    #[tactic(auto, using(crate::proofs::SinkLemmas::as_grows))]
     fn take<O: Output>(
         &mut self,
         alloc: Global,
@@ -64,7 +63,6 @@ impl Sink for PagesSink<'_> {
 
     ghost Enough = { λ _. ⊥ };
 
-    #[tactic(auto, using(crate::proofs::SinkLemmas::as_grows))]
     fn take<O: Output>(
         &mut self,
         alloc: Global,

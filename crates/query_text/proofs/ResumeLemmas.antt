@@ -16,9 +16,9 @@ use Rattle.query_text.specs.declared.parameter.Parameter.TheVariants as paramete
 use Rattle.query_text.specs.Readings.{Text, Read, and_then}
 use Rattle.query_text.specs.Parts.{is_equals, decoded}
 use Rattle.query_text.specs.ParameterNames.{parameter_named}
-use Rattle.query_text.specs.Values.{or_refused, stamp_start_of, limit_of, resume_of, fields_of}
+use Rattle.query_text.specs.Values.{or_refused, stamp_start_of, limit_of, resume_of, listed_fields}
 use Rattle.query_text.specs.Filters.{filter_of, literal_of}
-use Rattle.query_text.specs.Targets.{kind_of}
+use Rattle.query_text.specs.Targets.{match_kind_of}
 use Rattle.query_text.specs.Outputs.{output_of, flag_of}
 use Rattle.query_text.specs.Collapses.{collapse_of}
 use Rattle.query_text.specs.Parameters.{ParameterValues, no_values, with_filter, with_parameter, with_piece}
@@ -51,7 +51,7 @@ parameter_at : (r : Option PlaceValue) (p : Parameter) (v : ParameterValues) (te
 parameter_at r parameter.Url v text h = ifs_at r (is_some v.url) fault.RepeatedParameter _ _ refl
 parameter_at r parameter.Key v text h = ifs_at r (is_some v.key) fault.RepeatedParameter _ _ refl
 parameter_at r parameter.MatchType v text h = ifs_at r (is_some v.kind) fault.RepeatedParameter _ _
-    (then_at r (kind_of (decoded text)) (λ x. record v { kind = Some x }) _ (λ x. refl))
+    (then_at r (match_kind_of (decoded text)) (λ x. record v { kind = Some x }) _ (λ x. refl))
 parameter_at r parameter.From v text h = ifs_at r (is_some v.from) fault.RepeatedParameter _ _
     (then_at r (stamp_start_of (decoded text)) (λ x. record v { from = Some x }) _ (λ x. refl))
 parameter_at r parameter.To v text h = ifs_at r (is_some v.to) fault.RepeatedParameter _ _
@@ -65,7 +65,7 @@ parameter_at r parameter.ResumeKey v text h = absurd (true≢false h)
 parameter_at r parameter.ShowResumeKey v text h = ifs_at r (is_some v.show_resume_key) fault.RepeatedParameter _ _
     (then_at r (flag_of (decoded text)) (λ x. record v { show_resume_key = Some x }) _ (λ x. refl))
 parameter_at r parameter.Fl v text h = ifs_at r (is_some v.fields) fault.RepeatedParameter _ _
-    (then_at r (fields_of (decoded text)) (λ x. record v { fields = Some x }) _ (λ x. refl))
+    (then_at r (listed_fields (decoded text)) (λ x. record v { fields = Some x }) _ (λ x. refl))
 parameter_at r parameter.Output v text h = ifs_at r (is_some v.output) fault.RepeatedParameter _ _
     (then_at r (output_of (decoded text)) (λ x. record v { output = Some x }) _ (λ x. refl))
 parameter_at r parameter.Collapse v text h = ifs_at r (is_some v.collapse) fault.RepeatedParameter _ _

@@ -50,12 +50,12 @@ abbrev pub key_matches : TargetValue → Text → Bool
 key_matches t key = covers t key && may_follow t.kind (drop (length t.text) key)
 
 -- the first text is above the second, by bytes
-abbrev pub is_above : Text → Text → Bool
-is_above text other = is_gt (slice_cmp nat_cmp text other)
+abbrev pub is_text_above : Text → Text → Bool
+is_text_above text other = is_gt (slice_cmp nat_cmp text other)
 
 -- the key is past the range of the target
 abbrev pub is_past : TargetValue → Text → Bool
-is_past t key = is_above key t.text && not (covers t key)
+is_past t key = is_text_above key t.text && not (covers t key)
 
 -- ---- stamps
 

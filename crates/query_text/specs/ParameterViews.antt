@@ -6,8 +6,8 @@ use Rattle.query_text.specs.declared.parameters.Parameters.{Parameters}
 use Rattle.query_text.specs.Readings.{Read}
 use Rattle.query_text.specs.Parameters.{ParameterValues}
 
-abbrev pub values_of : Parameters → ParameterValues
-values_of p = record {
+abbrev pub parameter_values : Parameters → ParameterValues
+parameter_values p = record {
   url = option_map string_bytes p.url;
   key = option_map string_bytes p.key;
   kind = p.kind;
@@ -25,4 +25,4 @@ values_of p = record {
 -- What is read into parameters is what is expected; memory may be refused for any.
 abbrev pub IsReadingInto : {T : Type 0} → Parameters → Read ParameterValues → Result T QueryFault → Type 0
 IsReadingInto parameters expected result =
-    MatchResult result (λ _. expected ≡ Ok (values_of parameters)) (λ e. e ≢ Memory → expected ≡ Err e)
+    MatchResult result (λ _. expected ≡ Ok (parameter_values parameters)) (λ e. e ≢ Memory → expected ≡ Err e)

@@ -13,9 +13,9 @@ use Rattle.query_text.specs.declared.parameter.Parameter.TheVariants as paramete
 use Rattle.query_text.specs.Readings.{Text, Read, and_then}
 use Rattle.query_text.specs.Parts.{is_equals, decoded}
 use Rattle.query_text.specs.ParameterNames.{parameter_named}
-use Rattle.query_text.specs.Values.{stamp_start_of, limit_of, resume_of, fields_of}
+use Rattle.query_text.specs.Values.{stamp_start_of, limit_of, resume_of, listed_fields}
 use Rattle.query_text.specs.Filters.{FilterValue, filter_of, literal_of}
-use Rattle.query_text.specs.Targets.{kind_of}
+use Rattle.query_text.specs.Targets.{match_kind_of}
 use Rattle.query_text.specs.Outputs.{output_of, flag_of}
 use Rattle.query_text.specs.Collapses.{collapse_of}
 
@@ -69,12 +69,13 @@ is_given parameter.Collapse v = is_some v.collapse
 abbrev pub with_filter : ParameterValues → FilterValue → ParameterValues
 with_filter v filter = record v { filters = v.filters ++ filter ∷ [] }
 
--- The values with that of one more parameter, from its text. Each is form-decoded, but the resume key, which decodes itself.
+-- The values with that of one more parameter, from its text. Each is form-decoded, but the resume key, which decodes
+-- itself.
 abbrev pub with_value : Parameter → ParameterValues → Text → Read ParameterValues
 with_value parameter.Url v text = Ok (record v { url = Some (decoded text) })
 with_value parameter.Key v text = Ok (record v { key = Some (decoded text) })
 with_value parameter.MatchType v text =
-    and_then (kind_of (decoded text)) (λ kind. Ok (record v { kind = Some kind }))
+    and_then (match_kind_of (decoded text)) (λ kind. Ok (record v { kind = Some kind }))
 with_value parameter.From v text =
     and_then (stamp_start_of (decoded text)) (λ digits. Ok (record v { from = Some digits }))
 with_value parameter.To v text =
@@ -90,7 +91,7 @@ with_value parameter.ResumeKey v text =
 with_value parameter.ShowResumeKey v text =
     and_then (flag_of (decoded text)) (λ flag. Ok (record v { show_resume_key = Some flag }))
 with_value parameter.Fl v text =
-    and_then (fields_of (decoded text)) (λ fields. Ok (record v { fields = Some fields }))
+    and_then (listed_fields (decoded text)) (λ fields. Ok (record v { fields = Some fields }))
 with_value parameter.Output v text =
     and_then (output_of (decoded text)) (λ output. Ok (record v { output = Some output }))
 with_value parameter.Collapse v text =

@@ -35,8 +35,9 @@ with_resume_key key (piece ∷ pieces) = if has_resume_key piece then resume_pie
 abbrev pub text_with_key : Text → Text → Text
 text_with_key key text = join_with_byte 38 (with_resume_key key (pieces_of text))
 
--- A query goes on from a place: where a text that names the place is put into the query's text for its resume key, in the place of
--- an older one or after all else, and the query's text isn't too long, it means the same query from that place on.
+-- A query goes on from a place: where a text that names the place is put into the query's text for its resume key, in
+-- the place of an older one or after all else, and the query's text isn't too long, it means the same query from that
+-- place on.
 abbrev pub GoesOn : Type 0
 GoesOn = (limit : ℕ) (text new key : Text) (query : QueryValue) (place : PlaceValue) → query_of limit text ≡ Ok query
     → resume_place key ≡ Some place → length new ≤ limit → pieces_of new ≡ with_resume_key key (pieces_of text)

@@ -18,8 +18,8 @@ pub record TargetValue : Type 0 where
   pub kind : MatchKind
   pub text : Text
 
-abbrev pub kind_of : Text → Read MatchKind
-kind_of name = if bytes_eq name (codes "exact") then Ok Exact
+abbrev pub match_kind_of : Text → Read MatchKind
+match_kind_of name = if bytes_eq name (codes "exact") then Ok Exact
     else (if bytes_eq name (codes "prefix") then Ok Prefix
     else (if bytes_eq name (codes "host") then Ok Host
     else (if bytes_eq name (codes "domain") then Ok Domain else Err fault.BadMatch)))

@@ -58,5 +58,5 @@ fields_named [] = Ok []
 fields_named (name ∷ names) = field_before (field_named name) (fields_named names)
 
 -- fields with a comma between
-abbrev pub fields_of : Text → Read (List Field)
-fields_of text = fields_named (slice_split (λ b. b == 44) text)
+abbrev pub listed_fields : Text → Read (List Field)
+listed_fields text = fields_named (slice_split (λ b. b == 44) text)

@@ -82,11 +82,11 @@ impl From<KeyFault> for QueryFault {
 }
 
 impl QueryFault {
-    ghost use Rattle.query_text.specs.FaultNames.{fault_name};
+    ghost use Rattle.query_text.specs.FaultNames.{query_fault_name};
 
     /// Returns the fault's name, as replies write it.
     pub fn name(self) -> &'static str
-        ensures { result.now ≡ fault_name self }
+        ensures { result.now ≡ query_fault_name self }
     {
         match self {
             QueryFault::Memory => "Memory",

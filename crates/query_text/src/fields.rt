@@ -1,7 +1,7 @@
 //! The fields that a query names.
 ghost use Rattle.std.specs.Prelude.{◌≡◌};
 ghost use Rattle.query_text.specs.Readings.{IsReadingBy};
-ghost use Rattle.query_text.specs.Values.{field_named, fields_of};
+ghost use Rattle.query_text.specs.Values.{field_named, listed_fields};
 
 use crate::fault::QueryFault;
 use crate::parts::cut_part;
@@ -28,7 +28,7 @@ pub(crate) fn field_named(name: &str) -> Option<Field>
 
 /// Reads the fields of a list of names, separated by commas.
 pub(crate) fn read_fields(alloc: Global, names: &str) -> Result<Vec<Field>, QueryFault>
-    ensures { IsReadingBy (λ fields. fields.items) (fields_of names.now) result }
+    ensures { IsReadingBy (λ fields. fields.items) (listed_fields names.now) result }
 {
     let mut fields = Vec::new(alloc);
     let mut left = Some(names);

@@ -1,7 +1,7 @@
 //! The parameters of a query text, read from left to right.
 ghost use Rattle.std.specs.Prelude.{◌≡◌, Ok};
 ghost use Rattle.query_text.specs.Readings.{IsReadingBy};
-ghost use Rattle.query_text.specs.ParameterViews.{IsReadingInto, values_of};
+ghost use Rattle.query_text.specs.ParameterViews.{IsReadingInto, parameter_values};
 ghost use Rattle.query_text.specs.Parameters.{no_values, is_given, with_filter, with_value, with_piece, with_pieces, pieces_of};
 
 use crate::collapse::{Collapse, read_collapse};
@@ -38,7 +38,7 @@ pub(crate) struct Parameters {
 impl Parameters {
     /// Returns `true` if the parameter was given and may not be given again.
     fn is_given(&self, parameter: Parameter) -> bool
-        ensures { result ≡ is_given parameter (values_of self.now) }
+        ensures { result ≡ is_given parameter (parameter_values self.now) }
     {
         match parameter {
             Parameter::Url => self.url.is_some(),
@@ -57,7 +57,7 @@ impl Parameters {
     }
 
     fn add_filter(&mut self, filter: Filter) -> Result<(), QueryFault>
-        ensures { IsReadingInto self.new (Ok (with_filter (values_of self.old) filter)) result }
+        ensures { IsReadingInto self.new (Ok (with_filter (parameter_values self.old) filter)) result }
     {
         match self.filters.push(filter) {
             Ok(()) => Ok(()),
@@ -73,7 +73,7 @@ impl Parameters {
         text: &str,
     ) -> Result<(), QueryFault>
         ensures { IsReadingInto self.new
-            (with_value parameter (values_of self.old) text.now) result }
+            (with_value parameter (parameter_values self.old) text.now) result }
     {
         let value = decoded(alloc, text)?;
         match parameter {
@@ -100,7 +100,7 @@ impl Parameters {
 
     /// Reads one more piece of the text: a name, `=` and a value.
     fn read_piece(&mut self, alloc: Global, piece: &str) -> Result<(), QueryFault>
-        ensures { IsReadingInto self.new (with_piece (values_of self.old) piece.now) result }
+        ensures { IsReadingInto self.new (with_piece (parameter_values self.old) piece.now) result }
     {
         if piece.is_empty() {
             return Ok(());
@@ -118,7 +118,7 @@ impl Parameters {
 
     /// Reads the parameters of a text, or returns the first error.
     pub(crate) fn read(alloc: Global, text: &str) -> Result<Parameters, QueryFault>
-        ensures { IsReadingBy values_of (with_pieces no_values (pieces_of text.now)) result }
+        ensures { IsReadingBy parameter_values (with_pieces no_values (pieces_of text.now)) result }
     {
         let mut parameters = Parameters {
             url: None,

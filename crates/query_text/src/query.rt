@@ -101,12 +101,12 @@ impl Query {
     ghost use Rattle.std.specs.Prelude.{◌≢◌, ◌<◌, ◌≤◌, [], false, length, IsOk, IfSome, MatchResult, Ok, Err};
     ghost use Rattle.cdxj_core.specs.PlaceViews.{place_view};
     ghost use Rattle.query_text.specs.declared.query.TheConstants.{QUERY_LIMIT};
-    ghost use Rattle.query_text.specs.ParameterViews.{values_of};
+    ghost use Rattle.query_text.specs.ParameterViews.{parameter_values};
     ghost use Rattle.query_text.specs.Queries.{query_with, query_of};
     ghost use Rattle.query_text.specs.Matching.{matches_pair, matches};
 
     fn with_parameters(alloc: Global, parameters: Parameters) -> Result<Query, QueryFault>
-        ensures { IsReading (query_with (values_of parameters)) result }
+        ensures { IsReading (query_with (parameter_values parameters)) result }
     {
         let Parameters {
             url,

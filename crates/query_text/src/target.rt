@@ -1,7 +1,7 @@
 //! Targets: the keys that a query matches.
 ghost use Rattle.std.specs.Prelude.{◌≡◌, ◌≤◌, IsTrue, length, string_bytes};
 ghost use Rattle.query_text.specs.Readings.{IsReading};
-ghost use Rattle.query_text.specs.Targets.{kind_of, star_cut};
+ghost use Rattle.query_text.specs.Targets.{match_kind_of, star_cut};
 ghost use Rattle.query_text.specs.Matching.{may_follow};
 
 use crate::address::{address_host, address_key, web_address};
@@ -24,7 +24,7 @@ pub enum MatchKind {
 
 /// Reads the name of a match type. The error is `BadMatch` if there is none of that name.
 pub(crate) fn read_kind(name: &str) -> Result<MatchKind, QueryFault>
-    ensures { IsReading (kind_of name.now) result }
+    ensures { IsReading (match_kind_of name.now) result }
 {
     match name {
         "exact" => Ok(MatchKind::Exact),

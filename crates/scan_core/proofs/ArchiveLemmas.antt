@@ -9,7 +9,7 @@ use Rattle.cdxj_core.specs.Indexes.{IsIndex}
 use Rattle.index_core.specs.declared.fault.IndexFault.{IndexFault}
 use Rattle.index_core.specs.declared.fault.IndexFault.TheVariants as index
 use Rattle.index_core.specs.Counting.{CountsIndex}
-use Rattle.merge_core.proofs.FeedLemmas.{each_join}
+use Rattle.cdxj_places.proofs.RisingLaws.{each_join}
 use Rattle.merge_core.proofs.SpendLemmas.{left_after}
 use Rattle.scan_core.specs.declared.fault.ScanFault.TheVariants.{Archive}
 use Rattle.scan_core.specs.Archives.{IsNewName, AreNewNames, IsAcceptedAs, AreAcceptedAs, HaveLines, AreIndexed}

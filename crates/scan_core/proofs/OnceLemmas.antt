@@ -8,7 +8,7 @@ use Rattle.warc_core.specs.HeadView.{HeadView}
 use Rattle.warc_core.specs.Kind.{Kind}
 use Rattle.cdxj_places.specs.Places.{PlaceValue, place_cmp}
 use Rattle.cdxj_places.proofs.PlaceOrder.{same_place}
-use Rattle.cdxj_places.proofs.RisingLaws.{each_weaker}
+use Rattle.cdxj_places.proofs.RisingLaws.{each_join, each_weaker}
 use Rattle.cdxj_core.specs.Entries.{EntryValue, entry_place}
 use Rattle.capture_core.specs.Capture.{IsCaptureUnder}
 use Rattle.capture_core.specs.CaptureAnswer.{usual_limits}
@@ -17,7 +17,6 @@ use Rattle.index_core.specs.Accepted.{IsAccepted, AreCaptured}
 use Rattle.index_core.specs.Indexing.{HaveOwnPlaces, is_among}
 use Rattle.index_core.proofs.SoundLemmas.{among_more, among_last}
 use Rattle.merge_core.specs.Collections.{Known}
-use Rattle.merge_core.proofs.FeedLemmas.{each_join}
 use Rattle.scan_core.specs.Archives.{AreNewNames, AreAcceptedAs, HaveLines}
 use Rattle.scan_core.specs.Captures.{all_captures}
 

@@ -13,11 +13,11 @@ use Rattle.merge_core.specs.Failures.{RaisedAt}
 use Rattle.query_core.specs.declared.fault.AnswerFault.{AnswerFault}
 use Rattle.query_core.specs.declared.fault.AnswerFault.TheVariants as answer
 use Rattle.query_core.specs.AnswerCounts.{CountsAnswer}
-use Rattle.query_core.specs.IndexFaults.{IsFaultOf}
+use Rattle.query_core.specs.IndexFaults.{IsAnswerFaultOf}
 use Rattle.query_core.specs.declared.merging.TheConstants.{SOURCES_LIMIT}
 use Rattle.query_core.specs.Paging.{are_sizes}
 use Rattle.query_core.specs.QueryLaws.{NoLineIsAtFault}
-use Rattle.query_core.specs.Refusals.{IsEarly, Refuses, bad_sizes_or_too_many, too_many}
+use Rattle.query_core.specs.Refusals.{IsBeforeReading, Refuses, bad_sizes_or_too_many, too_many}
 use Rattle.scan_core.proofs.ArchiveLemmas.{map_length}
 use Rattle.scan_core.specs.Failures.{CountsWriting}
 use Rattle.scan_core.specs.Scanning.{IsPagesFault}
@@ -61,7 +61,8 @@ none_raised i old new h =
 pub pages_fault : {S : Type 0} → NoLineIsAtFault
     → (r : Result ℕ AnswerFault) (tolds : List (Option (List ℕ))) (texts : List (List ℕ)) (members : List (List Member))
     (old new : List S) (o o' : ℕ) → Known tolds texts → AllZip (IsIndex LINE_LIMIT) texts members
-    → IfErr r (IsFaultOf LINE_LIMIT tolds) → CountsAnswer r (zeros old) (zeros new) o o' → IfErr r (λ e. IsEarly e → ⊥)
+    → IfErr r (IsAnswerFaultOf LINE_LIMIT tolds) → CountsAnswer r (zeros old) (zeros new) o o'
+    → IfErr r (λ e. IsBeforeReading e → ⊥)
     → IfErr r IsPagesFault
 pages_fault law (Ok n) tolds texts members old new o o' known are f counts late = tt
 pages_fault law (Err answer.Memory) tolds texts members old new o o' known are f counts late = tt
@@ -95,7 +96,7 @@ few limit count h = grind (arith, nat_tests)
 -- sizes and sources that are accepted are not refused
 pub not_refused : (r : Result ℕ AnswerFault) (sizes : List ℕ) (count : ℕ) (X : Type 0) → are_sizes sizes ≡ true
     → count ≤ SOURCES_LIMIT
-    → Refuses (bad_sizes_or_too_many sizes count) r X → IfErr r (λ e. IsEarly e → ⊥)
+    → Refuses (bad_sizes_or_too_many sizes count) r X → IfErr r (λ e. IsBeforeReading e → ⊥)
 not_refused r sizes count X sized h refused =
     subst (λ b. Refuses (if b then Some answer.TooManySources else None) r X) (few SOURCES_LIMIT count h)
     (subst (λ b. Refuses (if b then too_many count else Some answer.BadSizes) r X) sized refused)

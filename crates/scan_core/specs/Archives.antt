@@ -24,7 +24,8 @@ abbrev pub AreNewNames : List (List ℕ) → List (List ℕ) → Type 0
 AreNewNames earlier [] = ⊤
 AreNewNames earlier (name ∷ names) = IsNewName earlier name × AreNewNames (earlier ++ name ∷ []) names
 
--- what the input holds, where that is known, is accepted whole under the name, with these captures of records of these types
+-- what the input holds, where that is known, is accepted whole under the name, with these captures of records of these
+-- types
 abbrev pub IsAcceptedAs : (Kind → Bool) → List ℕ → Option (List ℕ) → List EntryValue → Type 0
 IsAcceptedAs types name input captures = IfSome input
     (λ archive. IsAccepted types usual_limits HEAD_LIMIT name archive captures)
@@ -68,7 +69,8 @@ pub record HaveIndexes (types : Kind → Bool) (names : List (List ℕ)) (inputs
   pub indexed : AreIndexed types names inputs captures
   pub are_indexes : AllZip (IsIndex LINE_LIMIT) indexes (map index_members captures)
 
--- why an archive isn't indexed: its name is bad, or an earlier one; else its captures end with this fault, or memory is refused
+-- why an archive isn't indexed: its name is bad, or an earlier one; else its captures end with this fault, or memory is
+-- refused
 abbrev pub IsFaultOfArchive : (Kind → Bool) → List (List ℕ) → List ℕ → Option (List ℕ) → IndexFault → Type 0
 IsFaultOfArchive types earlier name input index.BadName = ¬ (IsName name)
 IsFaultOfArchive types earlier name input index.DuplicateName = IsName name × (is_among earlier name ≡ true)

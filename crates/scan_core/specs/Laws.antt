@@ -19,8 +19,8 @@ use Rattle.scan_core.specs.Archives.{AreNewNames}
 use Rattle.scan_core.specs.Failures.{CountsInputs, CountsOutput}
 use Rattle.scan_core.specs.Scanning.{IsAsked, IsScanFault}
 
--- nothing that is asked of a scan is at fault: the archives are accepted whole under names of their own, the sizes are given and
--- positive, and the text means a query
+-- nothing that is asked of a scan is at fault: the archives are accepted whole under names of their own, the sizes are
+-- given and positive, and the text means a query
 pub record IsScannable (types : Kind → Bool) (names archives : List (List ℕ)) (sizes text : List ℕ) : Type 0 where
   pub query : QueryValue
   pub asked : IsAsked sizes text (length names) query

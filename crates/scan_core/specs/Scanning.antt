@@ -23,11 +23,11 @@ pub record IsAsked (ns text : List ℕ) (count : ℕ) (query : QueryValue) : Typ
   pub meaning : query_of QUERY_LIMIT text ≡ Ok query
   pub few : count ≤ SOURCES_LIMIT
 
--- The types of records that are indexed; the archives, by their names and by what their inputs hold; the sizes of pages, and the
--- query's text
+-- The types of records that are indexed; the archives, by their names and by what their inputs hold; the sizes of
+-- pages, and the query's text
 module _ (types : Kind → Bool) (names : List (List ℕ)) (inputs : List (Option (List ℕ))) (sizes text : List ℕ) where
-  -- The pages of the archives' captures were written: joined, they are exactly those that the query selects, each once, in the order of
-  -- places.
+  -- The pages of the archives' captures were written: joined, they are exactly those that the query selects, each once,
+  -- in the order of places.
   pub record Scanned (old new : Option (List ℕ)) (number : ℕ) : Type 0 where
     pub query : QueryValue
     pub asked : IsAsked sizes text (length names) query
@@ -70,12 +70,12 @@ IsPagesFault answer.Write = ⊤
 IsPagesFault other = ⊥
 
 -- the fault was met before anything was written
-abbrev pub IsEarly : ScanFault → Type 0
-IsEarly (Query fault) = ⊤
-IsEarly (Archive i fault) = ⊤
-IsEarly (Answer answer.BadSizes) = ⊤
-IsEarly (Answer answer.TooManySources) = ⊤
-IsEarly (Answer fault) = ⊥
+abbrev pub IsBeforeWriting : ScanFault → Type 0
+IsBeforeWriting (Query fault) = ⊤
+IsBeforeWriting (Archive i fault) = ⊤
+IsBeforeWriting (Answer answer.BadSizes) = ⊤
+IsBeforeWriting (Answer answer.TooManySources) = ⊤
+IsBeforeWriting (Answer fault) = ⊥
 
 -- the archives that a fault leaves unread: all, those from the one at fault on, or those after it
 abbrev pub LeavesUnread : {X : Type 0} → List X → List X → ScanFault → Type 0

@@ -12,7 +12,7 @@ ghost use Rattle.page_core.specs.Pages.{AllPositive};
 ghost use Rattle.query_core.specs.declared.merging.TheConstants.{SOURCES_LIMIT};
 ghost use Rattle.query_core.specs.Paging.{are_sizes, WritesPages};
 ghost use Rattle.scan_core.specs.Failures.{CountsWriting, CountsInputs, CountsOutput};
-ghost use Rattle.scan_core.specs.Scanning.{IsPagesFault, Scanned, ScannedInPart, IsScanFault, IsEarly, LeavesUnread};
+ghost use Rattle.scan_core.specs.Scanning.{IsPagesFault, Scanned, ScannedInPart, IsScanFault, IsBeforeWriting, LeavesUnread};
 
 use crate::archives::index_archives;
 use crate::fault::ScanFault;
@@ -92,11 +92,11 @@ pub fn scan<I: Input, O: Output>(
         (IsScanFault (includes types) (map (λ n. string_bytes n.name) inputs.old)
         (map (λ n. I.remaining n.input) inputs.old) sizes.now query.now) }
     ensures part { IfErr result (λ fault.
-        (IsEarly fault → ⊥) → ScannedInPart (includes types)
+        (IsBeforeWriting fault → ⊥) → ScannedInPart (includes types)
         (map (λ n. string_bytes n.name) inputs.old)
         (map (λ n. I.remaining n.input) inputs.old) sizes.now query.now
         (O.written out.old) (O.written out.new)) }
-    ensures unwritten { IfErr result (λ fault. IsEarly fault → out.new ≡ out.old) }
+    ensures unwritten { IfErr result (λ fault. IsBeforeWriting fault → out.new ≡ out.old) }
     ensures unread { IfErr result (LeavesUnread inputs.old inputs.new) }
     ensures inputs { CountsInputs result (map (λ n. I.failures n.input) inputs.old)
         (map (λ n. I.failures n.input) inputs.new) }

@@ -5,7 +5,7 @@ use Rattle.std.proofs.lemmas.List.{drop-take, take-take, take_all, drop_all}
 use Rattle.std.specs.List.{onto_first}
 use Rattle.cdxj_places.specs.TextLines.{lines}
 use Rattle.source_core.specs.LineParts.{NoFeed, PartOf}
-use Rattle.source_core.specs.Windows.{StandsAt}
+use Rattle.source_core.specs.Windows.{AreBytesAt}
 
 -- a line that ends with its LF
 pub lines_front : (u v : List ℕ) → NoFeed u → lines (u ++ 10 ∷ v) ≡ (u ++ 10 ∷ []) ∷ lines v
@@ -73,8 +73,8 @@ pub given_more : {X : Type 0} (all now later : List X) (l : X) (n : ℕ) → now
 given_more all now later l n e f = sym (ap (drop 1) (sym e ∙ f)) ∙ drop-drop 1 n all
 
 -- n bytes of those held were given out
-pub given_out : (text : Option (List ℕ)) (extent at n : ℕ) (held : List ℕ) → StandsAt text extent at held
-    → n ≤ length held → StandsAt text extent (at + n) (drop n held)
+pub given_out : (text : Option (List ℕ)) (extent at n : ℕ) (held : List ℕ) → AreBytesAt text extent at held
+    → n ≤ length held → AreBytesAt text extent (at + n) (drop n held)
 given_out text extent at n held f l =
     let within = f.within in
     let most = f.most in

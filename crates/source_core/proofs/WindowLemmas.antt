@@ -4,31 +4,31 @@ use Rattle.std.proofs.Common.{inr, refl, sym, ap, ◌∙◌, subst, arith, drop-
 use Rattle.std.proofs.lemmas.Bool.{cases_lt, cond-false, cond-true, cond_both, le-ltb, lt-ltb, ltb-false}
 use Rattle.std.specs.Prelude.{ltb}
 use Rattle.std.proofs.lemmas.List.{drop-take, drop_all, take-take, take_all}
-use Rattle.source_core.specs.Windows.{StandsAt, HeldBytes, Holds, held_from}
+use Rattle.source_core.specs.Windows.{AreBytesAt, HeldBytes, Holds, held_from}
 use Rattle.source_core.specs.LineParts.{BeginsWith, PartOf, ReadsOn}
 use Rattle.source_core.proofs.FrontLemmas.{reads_on}
 use Rattle.source_core.proofs.Parts.{given_out}
 
-pub none_held : (text : Option (List ℕ)) (extent at : ℕ) → at ≤ extent → StandsAt text extent at []
+pub none_held : (text : Option (List ℕ)) (extent at : ℕ) → at ≤ extent → AreBytesAt text extent at []
 none_held text extent at inside = record { within = omega arith; most = omega arith; bytes = λ t e. refl }
 
 held_past : (text : Option (List ℕ)) (extent : ℕ) (w : HeldBytes) (k : ℕ) → Holds text extent w → w.at + k ≤ extent
-    → StandsAt text extent (w.at + k) (drop k w.bytes)
+    → AreBytesAt text extent (w.at + k) (drop k w.bytes)
 held_past text extent w k h inside = elim (cases_lt (length w.bytes) k) [
-  | inl l ↦ subst (StandsAt text extent (w.at + k)) (sym (drop_all k w.bytes (omega arith)))
+  | inl l ↦ subst (AreBytesAt text extent (w.at + k)) (sym (drop_all k w.bytes (omega arith)))
       (none_held text extent (w.at + k) inside)
   | inr l ↦ given_out text extent w.at k w.bytes h l
 ]
 
 -- what is held from an offset on
 pub held_stands : (text : Option (List ℕ)) (extent : ℕ) (w : HeldBytes) (at : ℕ) → Holds text extent w → at ≤ extent
-    → StandsAt text extent at (held_from w at)
+    → AreBytesAt text extent at (held_from w at)
 held_stands text extent w at h inside =
-    cond_both (ltb at w.at) [] (drop (at - w.at) w.bytes) (StandsAt text extent at)
+    cond_both (ltb at w.at) [] (drop (at - w.at) w.bytes) (AreBytesAt text extent at)
     (λ e. none_held text extent at inside) (λ e.
     let low = ltb-false at w.at e in
     let there : w.at + (at - w.at) ≡ at = omega arith in
-    subst (λ k. StandsAt text extent k (drop (at - w.at) w.bytes)) there
+    subst (λ k. AreBytesAt text extent k (drop (at - w.at) w.bytes)) there
     (held_past text extent w (at - w.at) h (omega arith)))
 
 -- nothing is held at first
@@ -53,7 +53,7 @@ held_behind w at n inside = elim (cases_lt at w.at) [
 ]
 
 -- a part of it
-pub held_part : (text : Option (List ℕ)) (extent at n : ℕ) (held t : List ℕ) → StandsAt text extent at held → text
+pub held_part : (text : Option (List ℕ)) (extent at n : ℕ) (held t : List ℕ) → AreBytesAt text extent at held → text
     ≡ Some t → n ≤ length held
     → take n held ≡ take n (drop at t)
 held_part text extent at n held t s e short = ap (take n) (s.bytes t e) ∙ take-take n (length held) (drop at t) short
@@ -83,7 +83,7 @@ nothing_read t offset = record {
 
 -- it goes on with a part of what is held
 pub held_reads : (text : Option (List ℕ)) (extent offset n : ℕ) (front held new t : List ℕ) (ends : Bool)
-    → StandsAt text extent (offset + length front) held → text ≡ Some t
+    → AreBytesAt text extent (offset + length front) held → text ≡ Some t
     → n ≤ length held → new ≡ front ++ take n held → PartOf held n ends → BeginsWith t offset front
     → ReadsOn t offset new ends
 held_reads text extent offset n front held new t ends s e inside grown part begins =

@@ -2,12 +2,13 @@
 use Rattle.std.specs.Prelude.{◌≡◌, ℕ, ◌+◌, ◌<◌, ◌≤◌, List, length, drop, true, Option, Some, Result, Err}
 use Rattle.devices.specs.Device.{next_count}
 use Rattle.cdxj_places.specs.TextLines.{lines}
-use Rattle.source_core.specs.Windows.{StandsAt}
+use Rattle.source_core.specs.Windows.{AreBytesAt}
 use Rattle.source_core.specs.LineParts.{PartOf}
 use Rattle.source_core.specs.declared.fault.LineReadFault.{LineReadFault}
 use Rattle.source_core.specs.declared.fault.LineReadFault.TheVariants as fault
 
--- a cursor: the bytes that it holds, the offset of the first of them, the offset of its first line, and how many lines it gave
+-- a cursor: the bytes that it holds, the offset of the first of them, the offset of its first line, and how many lines
+-- it gave
 pub record CursorState : Type 0 where
   pub ahead : List ℕ
   pub at : ℕ
@@ -20,7 +21,7 @@ reach c = c.at + length c.ahead
 
 -- the bytes that it holds are the text's next ones
 abbrev pub Filled : Option (List ℕ) → ℕ → CursorState → Type 0
-Filled text extent c = StandsAt text extent c.at c.ahead
+Filled text extent c = AreBytesAt text extent c.at c.ahead
 
 -- so many lines from the start on were given
 pub record Stands (text : Option (List ℕ)) (extent : ℕ) (c : CursorState) : Type 0 where

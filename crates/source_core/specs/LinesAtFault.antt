@@ -6,7 +6,7 @@ use Rattle.cdxj_core.specs.Members.{Member, member_pair, line_entry}
 use Rattle.source_core.specs.IndexLines.{lines}
 
 -- these lines stand before the line, which begins at the offset
-pub record BeginsAt (text : List ℕ) (offset : ℕ) (before : List (List ℕ)) (line : List ℕ) : Type 0 where
+pub record LineBeginsAt (text : List ℕ) (offset : ℕ) (before : List (List ℕ)) (line : List ℕ) : Type 0 where
   pub after : List (List ℕ)
   pub lines_are : lines text ≡ before ++ line ∷ after
   pub offset_is : offset ≡ length (flat_map (λ l. l) before)
@@ -15,7 +15,7 @@ pub record BeginsAt (text : List ℕ) (offset : ℕ) (before : List (List ℕ)) 
 pub record IsBadLine (limit : ℕ) (text : List ℕ) (offset : ℕ) : Type 0 where
   pub before : List (List ℕ)
   pub line : List ℕ
-  pub begins : BeginsAt text offset before line
+  pub begins : LineBeginsAt text offset before line
   pub bad : line_entry limit line ≡ None
 
 -- a line begins at the offset whose pair is below that of the line directly before it
@@ -23,7 +23,7 @@ pub record IsOutOfOrder (limit : ℕ) (text : List ℕ) (offset : ℕ) : Type 0 
   pub before : List (List ℕ)
   pub previous : List ℕ
   pub line : List ℕ
-  pub begins : BeginsAt text offset (before ++ previous ∷ []) line
+  pub begins : LineBeginsAt text offset (before ++ previous ∷ []) line
   pub earlier : Member
   pub later : Member
   pub earlier_is : line_entry limit previous ≡ Some earlier

@@ -1,5 +1,5 @@
 //! The lines of a source, one after another.
-ghost use Rattle.std.specs.Prelude.{◌≡◌, ◌+◌, ◌<◌, ◌≤◌, ◌≢◌, ◌∷◌, ℕ, Option, List, length, take, drop, IfOk, IfErr, OnOk, MatchOption, IfSome, Some};
+ghost use Rattle.std.specs.Prelude.{◌≡◌, ◌+◌, ◌<◌, ◌≤◌, ◌≢◌, ◌∷◌, ℕ, Option, List, length, take, drop, IfOk, IfErr, OnOk, MatchOption, IfSome, IfNone, Some};
 ghost use Rattle.cdxj_core.specs.declared.limit.TheConstants.{LINE_LIMIT};
 
 use crate::fault::LineReadFault;
@@ -39,6 +39,7 @@ impl Model for Cursor {
 impl Cursor {
     ghost use Rattle.source_core.specs.IndexLines.{lines, first_length, first_then, line_found};
     ghost use Rattle.source_core.specs.Cursors.{Filled, Stands, reach, CountsLineRead, IsHeldLine};
+    ghost use Rattle.source_core.specs.LineParts.{NoFeed};
 
     /// Creates a cursor at the offset `start`, in bytes from the source's start. A line begins there.
     /// The only error is refused memory.
@@ -72,8 +73,9 @@ impl Cursor {
 
     /// Returns the next line, with its line feed, if all of it was read ahead.
     pub fn held_line(&self) -> Option<&[u8]>
-        ensures { IfSome result (λ l. (l.now ≡ take (length l.now) self.now.ahead)
+        ensures line { IfSome result (λ l. (l.now ≡ take (length l.now) self.now.ahead)
             × IsHeldLine self.now.ahead (length l.now)) }
+        ensures none { IfNone result (NoFeed self.now.ahead) }
     {
         let held = self.window.from(self.at);
         let (length, ends) = line_part(held);

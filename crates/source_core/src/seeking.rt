@@ -1,11 +1,10 @@
 //! The binary search for the line where the reading of an index begins.
-ghost use Rattle.std.specs.Prelude.{◌≡◌, ◌+◌, ◌-◌, ◌*◌, ◌<◌, ◌≤◌, ℕ, Option, List, length, drop, false, option_map, IfOk, OnOk, OnErr, IfSome, IfNone, Some, [], IsTrue, ◌↔◌};
+ghost use Rattle.std.specs.Prelude.{◌≡◌, ◌+◌, ◌-◌, ◌*◌, ◌<◌, ◌≤◌, ℕ, Option, List, length, drop, false, IfOk, OnOk, OnErr, IfSome, IfNone, Some, []};
 ghost use Rattle.cdxj_core.specs.declared.limit.TheConstants.{LINE_LIMIT};
 ghost use Rattle.cdxj_core.specs.Indexes.{IsIndex};
 ghost use Rattle.cdxj_core.specs.Members.{Member};
-ghost use Rattle.cdxj_places.specs.Pair.{pair_of};
 ghost use Rattle.source_core.specs.IndexLines.{lines, from_line, longest, BeginsAfter};
-ghost use Rattle.source_core.specs.Search.{is_below, line_below, IsStop, IsCut, CountsSearch};
+ghost use Rattle.source_core.specs.Search.{line_below, IsStop, IsCut, CountsSearch};
 ghost use Rattle.source_core.specs.Halving.{stops, stops_lines, digits};
 ghost use Rattle.source_core.specs.Halved.{Halved};
 ghost use Rattle.source_core.specs.LineParts.{BeginsWith, ReadsOn};
@@ -15,8 +14,9 @@ use crate::fault::SearchFault;
 use crate::line_part::line_part;
 use crate::line_start::next_line_start;
 use crate::source::Source;
+use crate::start_pair::{front_is_below, is_least};
 use crate::window::{SEARCH_PIECE, Window};
-use cdxj_core::{LINE_LIMIT, split_pair};
+use cdxj_core::LINE_LIMIT;
 use devices::PIECE;
 use std::alloc::{AllocError, Global};
 
@@ -30,21 +30,6 @@ pub struct Found {
     pub offset: u64,
     /// The number of steps of the search.
     pub probes: u64,
-}
-
-/// Returns `true` if the pair at the start of a line is below this one, if there is a pair.
-fn front_is_below(front: &[u8], key: &[u8], stamp: &[u8]) -> Option<bool>
-    ensures { result ≡ option_map (is_below (key.now, stamp.now)) (pair_of front.now) }
-{
-    match split_pair(front) {
-        Some((front_key, front_stamp)) => Some(
-            front_key
-                .cmp(key)
-                .then_with(|| front_stamp.cmp(stamp))
-                .is_lt(),
-        ),
-        None => None,
-    }
 }
 
 /// Copies the bytes that the window holds of the line that begins at the offset into `front`, whose previous bytes are
@@ -323,13 +308,6 @@ fn hold_few<S: Source>(source: &mut S, window: &mut Window, span: Span) -> Resul
         window.read(source, span.low.saturating_sub(1), PIECE)?;
     }
     Ok(())
-}
-
-/// Returns `true` if no pair is below this one.
-fn is_least(key: &[u8], stamp: &[u8]) -> bool
-    ensures { IsTrue result ↔ ((key.now ≡ []) × (stamp.now ≡ [])) }
-{
-    key.is_empty() && stamp.is_empty()
 }
 
 /// Finds the first line of an index whose pair isn't below this one, by a binary search over the byte offsets. A step

@@ -2,7 +2,7 @@
 ghost use Rattle.std.specs.Prelude.{◌≡◌, ◌+◌, ◌-◌, ◌<◌, ◌≤◌, [], length, IfOk, OnOk, OnErr, MatchResult};
 ghost use Rattle.devices.specs.Device.{CountsFailure};
 ghost use Rattle.source_core.specs.Device.{HoldsPart};
-ghost use Rattle.source_core.specs.Windows.{Holds, StandsAt, held_from};
+ghost use Rattle.source_core.specs.Windows.{AreBytesAt, Holds, held_from};
 
 use crate::source::{Source, SourceFault};
 use devices::PIECE;
@@ -120,9 +120,9 @@ impl Window {
         ensures extent { S.extent source.new ≡ S.extent source.old }
         ensures holds { Holds (S.text source.old) (S.extent source.old) self.old
             → Holds (S.text source.new) (S.extent source.new) self.new }
-        ensures stands { StandsAt (S.text source.old) (S.extent source.old) at
+        ensures stands { AreBytesAt (S.text source.old) (S.extent source.old) at
             (held_from self.old at)
-            → StandsAt (S.text source.new) (S.extent source.new) at (held_from self.new at) }
+            → AreBytesAt (S.text source.new) (S.extent source.new) at (held_from self.new at) }
         ensures some { OnOk result (0 < length (held_from self.new at)) }
         ensures most { S.gave source.new ≤ S.gave source.old + most }
         ensures gave { S.gave source.new + length (held_from self.old at)

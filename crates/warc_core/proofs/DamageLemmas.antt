@@ -8,7 +8,7 @@ use Rattle.warc_head.specs.Parts as heads
 use Rattle.warc_core.specs.declared.fault.Cause.{Cause}
 use Rattle.warc_core.specs.declared.fault.Cause.TheVariants as causes
 use Rattle.warc_core.specs.Cause.{StopsHead}
-use Rattle.warc_core.specs.Head.{parts_of, by_cause, cause_of}
+use Rattle.warc_core.specs.Head.{parts_or_cause, by_cause, cause_of}
 use Rattle.warc_core.specs.HeadText.{shortest, found_head, head_text, has_version, is_closed}
 use Rattle.warc_core.specs.HeadView.{HeadView, record_length}
 use Rattle.warc_core.specs.Laws.{HeadIsSpelled, HeadAtDamage}
@@ -76,8 +76,8 @@ by_cause-stops : (r : Result HeadParts HeadFault) (c : Cause) → by_cause r ≡
 by_cause-stops (Ok p) c e = absurd (no_err p c e)
 by_cause-stops (Err f) c e = stops (cause_of f) c (fault-stops f) e
 
-parts-stops : (raw : List ℕ) (c : Cause) → parts_of raw ≡ Err c → StopsHead c
-unfolding parts_of
+parts-stops : (raw : List ℕ) (c : Cause) → parts_or_cause raw ≡ Err c → StopsHead c
+unfolding parts_or_cause
 parts-stops raw c e = by_cause-stops (heads.parts_of raw) c e
 
 limit-stops : (test : Bool) (h : HeadView) (rest : List ℕ) (c : Cause)
@@ -90,7 +90,7 @@ head-stops : (limit start : ℕ) (bytes : List ℕ) (c : Cause) → head_at limi
 unfolding head_at
 head-stops limit start bytes c e =
     bind-stops c (head_text limit bytes) _ (text-stops limit bytes c)
-    (λ text k. bind-stops c (parts_of text.0)
+    (λ text k. bind-stops c (parts_or_cause text.0)
     (λ parts. within_limit (record { start = start; raw = text.0; parts = parts }) text.1) (parts-stops text.0 c)
     (λ parts k'. limit-stops
     (nat_lt (2 ^ 63 - 1) (start + record_length (record { start = start; raw = text.0; parts = parts })))

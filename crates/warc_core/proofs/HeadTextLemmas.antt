@@ -12,7 +12,7 @@ use Rattle.warc_head.specs.Parts as parts
 use Rattle.warc_head.proofs.FoldingLemmas.{fields_spelled}
 use Rattle.warc_head.proofs.SpellingLemmas.{body}
 use Rattle.warc_core.specs.declared.fault.Cause.{Cause}
-use Rattle.warc_core.specs.Head.{parts_of, by_cause, cause_of}
+use Rattle.warc_core.specs.Head.{parts_or_cause, by_cause, cause_of}
 use Rattle.warc_core.specs.HeadText.{version_1_1, version_1_0, agrees, has_version, is_closed, IsFoundHead}
 use Rattle.warc_core.specs.RecordText.{IsVersionLine, IsRecordHead}
 use Rattle.warc_core.proofs.ClosingLemmas.{closed-last}
@@ -21,7 +21,7 @@ use Rattle.warc_core.proofs.HeadLemmas.{or_true, agrees-begins, closed-long, has
 -- a text that was found as a head, and read as these parts
 pub record IsFoundOf (limit : ℕ) (parts : HeadParts) (text : List ℕ) : Type 0 where
   pub found : IsFoundHead limit text
-  pub says : parts_of text ≡ Ok parts
+  pub says : parts_or_cause text ≡ Ok parts
 
 by_cause-ok : (r : Result HeadParts HeadFault) (p : HeadParts) → by_cause r ≡ Ok p → r ≡ Ok p
 by_cause-ok (Ok q) p h = let e : ◌≡◌ {A = Result HeadParts Cause} (Ok q) (Ok p) = h in let same : q
@@ -47,17 +47,18 @@ parts_in-fields fields p h =
     ap (λ q. q.fields) (sym same)
 
 -- what is read of a text is read of its fields
-read-in : (raw : List ℕ) (p : HeadParts) → parts_of raw ≡ Ok p → (fields_of (field_lines_in raw) ≡ Ok p.fields)
+read-in : (raw : List ℕ) (p : HeadParts) → parts_or_cause raw ≡ Ok p → (fields_of (field_lines_in raw) ≡ Ok p.fields)
     × (parts_in p.fields ≡ Ok p)
-unfolding parts_of parts.parts_of
+unfolding parts_or_cause parts.parts_of
 read-in raw p h =
-    let e = bind_ok (fields_of (field_lines_in raw)) parts_in p (by_cause-ok (fields_of (field_lines_in raw) >>= parts_in) p h) in
+    let e = bind_ok (fields_of (field_lines_in raw)) parts_in p
+    (by_cause-ok (fields_of (field_lines_in raw) >>= parts_in) p h) in
     let same = parts_in-fields e.0 p e.2 in
     (e.1 ∙ ap Ok (sym same), ap parts_in same ∙ e.2)
 
 read-back : (raw : List ℕ) (p : HeadParts) → fields_of (field_lines_in raw) ≡ Ok p.fields → parts_in p.fields ≡ Ok p
-    → parts_of raw ≡ Ok p
-unfolding parts_of parts.parts_of
+    → parts_or_cause raw ≡ Ok p
+unfolding parts_or_cause parts.parts_of
 read-back raw p f h = ap (λ r. by_cause (r >>= parts_in)) f ∙ ap by_cause h
 
 -- a text with a version begins with a version line
@@ -79,7 +80,7 @@ last-empty text h l =
     ∙ (sym (drop-drop 2 (length text - 4) text) ∙ ap (drop 2) (closed-last text h))) in
     sym (take-append-drop n (drop 10 text)) ∙ ap (λ t. field_lines_in text ++ t) end
 
-pub found-spelled : (limit : ℕ) (raw : List ℕ) (p : HeadParts) → IsFoundHead limit raw → parts_of raw ≡ Ok p
+pub found-spelled : (limit : ℕ) (raw : List ℕ) (p : HeadParts) → IsFoundHead limit raw → parts_or_cause raw ≡ Ok p
     → IsRecordHead limit p raw
 found-spelled limit raw p f h =
     let r = read-in raw p h in

@@ -12,7 +12,7 @@ use Rattle.warc_core.proofs.ReadingLemmas.{GoesOn-renamed, IsFoundIn-bind, IsFou
 use Rattle.warc_core.proofs.ReadingLemmas.{Reads-stopped}
 use Rattle.warc_core.specs.Answers.{IsFoundPurely}
 use Rattle.warc_core.specs.HeadText.{head_text}
-use Rattle.warc_core.specs.Head.{parts_of}
+use Rattle.warc_core.specs.Head.{parts_or_cause}
 use Rattle.warc_core.specs.HeadView.{HeadView, record_length}
 use Rattle.warc_core.specs.Next.{head_at, next_at, within_limit}
 
@@ -22,7 +22,7 @@ head_of start raw parts = record { start = start; raw = raw; parts = parts }
 
 -- what is read of a head once its text is there
 abbrev pub of_text : ℕ → List ℕ × List ℕ → Result (HeadView × List ℕ) Cause
-of_text start text = parts_of text.0 >>= λ parts. within_limit (head_of start text.0 parts) text.1
+of_text start text = parts_or_cause text.0 >>= λ parts. within_limit (head_of start text.0 parts) text.1
 
 within-yes : (h : HeadView) (rest : List ℕ) → h.start + record_length h ≤ 2 ^ 63 - 1 → within_limit h rest
     ≡ Ok (h, rest)
@@ -40,17 +40,17 @@ module _ (limit start : ℕ) (raw : List ℕ) (before now : Option (List ℕ))
   unfolding head_at
   text-there = GoesOn-then (head_text limit) (of_text start) raw before now got
 
-  pub head-unread : (c : Cause) → IsFoundPurely c (parts_of raw) → Reads (head_at limit start) (Err c) before now
+  pub head-unread : (c : Cause) → IsFoundPurely c (parts_or_cause raw) → Reads (head_at limit start) (Err c) before now
   head-unread c h = GoesOn-fault (head_at limit start) (λ z. of_text start (raw, z)) c before now now text-there
-      (λ w k. IsFoundIn-bind c (parts_of raw) (λ parts. within_limit (head_of start raw parts) w)
-      (IsFoundIn-purely c (parts_of raw) h))
+      (λ w k. IsFoundIn-bind c (parts_or_cause raw) (λ parts. within_limit (head_of start raw parts) w)
+      (IsFoundIn-purely c (parts_or_cause raw) h))
 
-  pub head-far : (p : HeadParts) → parts_of raw ≡ Ok p → 2 ^ 63 - 1 < start + (length raw + p.length + 4)
+  pub head-far : (p : HeadParts) → parts_or_cause raw ≡ Ok p → 2 ^ 63 - 1 < start + (length raw + p.length + 4)
       → Reads (head_at limit start) (Err causes.TooFar) before now
   head-far p e l = GoesOn-fault (head_at limit start) (λ z. of_text start (raw, z)) causes.TooFar before now now
       text-there (λ w k. rw e (within-no (head_of start raw p) w l))
 
-  pub head-read : (p : HeadParts) → parts_of raw ≡ Ok p → start + (length raw + p.length + 4) ≤ 2 ^ 63 - 1
+  pub head-read : (p : HeadParts) → parts_or_cause raw ≡ Ok p → start + (length raw + p.length + 4) ≤ 2 ^ 63 - 1
       → Reads (head_at limit start) (Ok (head_of start raw p)) before now
   head-read p e l = GoesOn-done (head_at limit start) (λ z. of_text start (raw, z)) (head_of start raw p) before now
       text-there (λ w. rw e (within-yes (head_of start raw p) w l))

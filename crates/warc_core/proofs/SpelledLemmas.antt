@@ -12,7 +12,7 @@ use Rattle.warc_head.specs.Parts.{HeadParts}
 use Rattle.warc_core.specs.Record.{after_text, after_block, after_record, closing}
 use Rattle.warc_core.specs.HeadText.{shortest, found_head, head_text, has_version, is_closed, IsFoundHead}
 use Rattle.warc_core.specs.Reading.{◌>>=◌}
-use Rattle.warc_core.specs.Head.{parts_of}
+use Rattle.warc_core.specs.Head.{parts_or_cause}
 use Rattle.warc_core.specs.HeadView.{HeadView, record_length}
 use Rattle.warc_core.specs.Next.{head_at, next_at}
 use Rattle.warc_core.specs.Walk.{record_at, closed_at, Walks}
@@ -203,13 +203,13 @@ no_room {A} false c x y e = (refl, (let f : ◌≡◌ {A = Result A Cause} (Ok x
 
 -- what is read as a head here
 pub head-read-there : (limit start : ℕ) (bytes rest : List ℕ) (h : HeadView) → head_at limit start bytes ≡ Ok (h, rest)
-    → (head_text limit bytes ≡ Ok (h.raw, rest)) × (parts_of h.raw ≡ Ok h.parts) × (h.start ≡ start)
+    → (head_text limit bytes ≡ Ok (h.raw, rest)) × (parts_or_cause h.raw ≡ Ok h.parts) × (h.start ≡ start)
     × (start + record_length h ≤ 2 ^ 63 - 1)
 unfolding head_at
 head-read-there limit start bytes rest h e =
     let p = bind_ok (head_text limit bytes) _ (h, rest) e in
     let text = p.0 in
-    let q = bind_ok (parts_of text.0) _ (h, rest) p.2 in
+    let q = bind_ok (parts_or_cause text.0) _ (h, rest) p.2 in
     let head : HeadView = record { start = start; raw = text.0; parts = q.0 } in
     let r = no_room (nat_lt (2 ^ 63 - 1) (start + record_length head)) causes.TooFar (head, text.1) (h, rest) q.2 in
     let is : head ≡ h = ap (λ x. x.0) r.1 in
@@ -219,7 +219,7 @@ head-read-there limit start bytes rest h e =
     let t = r.0 in
     let small : start + record_length head ≤ 2 ^ 63 - 1 = grind (arith, nat_tests) in (
       p.1 ∙ (ap (λ a. Ok (a, text.1)) raw ∙ ap (λ b. Ok (h.raw, b)) after),
-      ap parts_of (sym raw) ∙ (q.1 ∙ ap Ok parts),
+      ap parts_or_cause (sym raw) ∙ (q.1 ∙ ap Ok parts),
       ap (λ k. k.start) (sym is),
       subst (λ k. start + record_length k ≤ 2 ^ 63 - 1) is small,
     )
@@ -274,7 +274,8 @@ read-spelled limit start bytes rest h e =
     )
 
 -- a head that is there
-head-read-back : (limit start : ℕ) (h : HeadView) (x : List ℕ) → IsFoundHead limit h.raw → parts_of h.raw ≡ Ok h.parts
+head-read-back : (limit start : ℕ) (h : HeadView) (x : List ℕ) → IsFoundHead limit h.raw
+    → parts_or_cause h.raw ≡ Ok h.parts
     → h.start ≡ start → start + record_length h ≤ 2 ^ 63 - 1 → head_at limit start (h.raw ++ x) ≡ Ok (h, x)
 unfolding head_at
 head-read-back limit start h x t p s f =
@@ -317,7 +318,8 @@ no-prefix limit head head' parts parts' block block' text more t u =
     let same : ◌≡◌ {A = Result (List ℕ × List ℕ) Cause} (Ok (head, (block ++ closing) ++ more))
     (Ok (head', block' ++ closing)) = sym p ∙ (ap (head_text limit) (sym a ∙ b) ∙ q) in
     let r = answered head head' ((block ++ closing) ++ more) (block' ++ closing) same in
-    let says : ◌≡◌ {A = Result HeadParts Cause} (Ok parts) (Ok parts') = sym f.says ∙ (ap parts_of r.0 ∙ g.says) in
+    let says : ◌≡◌ {A = Result HeadParts Cause} (Ok parts) (Ok parts') =
+    sym f.says ∙ (ap parts_or_cause r.0 ∙ g.says) in
     let is : parts ≡ parts' = cc in
     let size : length block ≡ length block' = t.block_length ∙ (ap (λ k. k.length) is ∙ sym u.block_length) in
     let sizes : length ((block ++ closing) ++ more) ≡ length (block' ++ closing) = ap length r.1 in

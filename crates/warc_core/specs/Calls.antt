@@ -8,7 +8,7 @@ use Rattle.warc_core.specs.declared.phase.Phase.{Phase}
 use Rattle.warc_core.specs.declared.phase.Phase.TheVariants.{Between, Open}
 use Rattle.warc_core.specs.Answers.{CountsRead, causes_of, cause_only}
 use Rattle.warc_core.specs.Cause.{StopsBlock, StopsRecord, StopsHead}
-use Rattle.warc_core.specs.HeadView.{HeadView, BeginsAt}
+use Rattle.warc_core.specs.HeadView.{HeadView, RecordBeginsAt}
 use Rattle.warc_core.specs.Next.{next_at}
 use Rattle.warc_core.specs.ReaderView.{ReaderView, ReaderState, ahead, StandsAt, IsUnread, FailedBy}
 use Rattle.warc_core.specs.Reading.{Reads, IsFoundAt}
@@ -61,7 +61,7 @@ pub record GoesNext (limit : ℕ) (old new : ReaderState) (r : Result (Option He
   pub state : MatchResult r (Opens new.reader old.reader.offset) (FailedBy new.reader old.reader.offset)
   pub cause : IfErr r (λ f. StopsHead f.cause)
   pub failures : CountsRead (causes_of r) old.failures new.failures
-  pub begins : IfOk r (λ o. IfSome o (BeginsAt old.reader.offset))
+  pub begins : IfOk r (λ o. IfSome o (RecordBeginsAt old.reader.offset))
 
 -- a call in an open record finished it, and then read what comes next, unless finishing failed
 pub record FinishesAndGoesNext (limit left len : ℕ) (old new : ReaderState) (r : Result (Option HeadView) Fault) : Type

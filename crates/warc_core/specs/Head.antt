@@ -20,5 +20,5 @@ by_cause (Ok parts) = Ok parts
 by_cause (Err fault) = Err (cause_of fault)
 
 -- what a head's text says, by the rules on its fields
-unfoldable pub parts_of : List ℕ → Result HeadParts Cause
-parts_of raw = by_cause (heads.parts_of raw)
+unfoldable pub parts_or_cause : List ℕ → Result HeadParts Cause
+parts_or_cause raw = by_cause (heads.parts_of raw)

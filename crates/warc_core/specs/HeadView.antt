@@ -26,6 +26,6 @@ abbrev pub IsWithinOffsets : HeadView → Type 0
 IsWithinOffsets h = h.start + record_length h ≤ 2 ^ 63 - 1
 
 -- the head of a record that begins here, and ends by the greatest offset
-pub record BeginsAt (start : ℕ) (h : HeadView) : Type 0 where
+pub record RecordBeginsAt (start : ℕ) (h : HeadView) : Type 0 where
   pub start_is : h.start ≡ start
   pub fits : start + record_length h ≤ 2 ^ 63 - 1

@@ -59,7 +59,8 @@ abbrev pub HeadIsSpelled : Type 0
 HeadIsSpelled = (limit start : ℕ) (bytes rest : List ℕ) (h : HeadView) → next_at limit start bytes ≡ Ok (Some h, rest)
     → IsHead limit h × (h.start ≡ start) × (bytes ≡ h.raw ++ rest)
 
--- where an archive is damaged behind a head, in a block or its closing, the head is read, and stands in front of what is left
+-- where an archive is damaged behind a head, in a block or its closing, the head is read, and stands in front of what
+-- is left
 abbrev pub HeadAtDamage : Type 0
 HeadAtDamage = (limit : ℕ) (archive : List ℕ) (heads : List HeadView) (offset : ℕ) (cause : Cause)
     (d : IsDamaged limit archive heads offset cause) → (StopsHead cause → ⊥) →

@@ -5,7 +5,7 @@ use Rattle.warc_core.specs.declared.fault.Cause.{Cause}
 use Rattle.warc_core.specs.declared.fault.Cause.TheVariants as causes
 use Rattle.warc_core.specs.Reading.{◌>>=◌}
 use Rattle.warc_core.specs.HeadText.{head_text}
-use Rattle.warc_core.specs.Head.{parts_of}
+use Rattle.warc_core.specs.Head.{parts_or_cause}
 use Rattle.warc_core.specs.HeadView.{HeadView, record_length}
 
 -- a head whose record ends by the greatest offset
@@ -16,7 +16,7 @@ within_limit h rest = if nat_lt (2 ^ 63 - 1) (h.start + record_length h) then Er
 unfoldable pub head_at : ℕ → ℕ → List ℕ → Result (HeadView × List ℕ) Cause
 head_at limit start bytes = do
   text ← head_text limit bytes
-  parts ← parts_of text.0
+  parts ← parts_or_cause text.0
   within_limit (record { start = start; raw = text.0; parts = parts }) text.1
 
 -- the same, or the end

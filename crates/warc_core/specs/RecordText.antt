@@ -12,8 +12,8 @@ use Rattle.warc_core.specs.Record.{closing}
 abbrev pub IsVersionLine : List ℕ → Type 0
 IsVersionLine line = (line ≡ version_1_1) ⊎ (line ≡ version_1_0)
 
--- a text is a version line, the lines of these fields and an empty line, within the limit; it ends with CR LF CR LF, and no
--- shorter front of it does
+-- a text is a version line, the lines of these fields and an empty line, within the limit; it ends with CR LF CR LF,
+-- and no shorter front of it does
 pub record IsHeadText (limit : ℕ) (fields : List Field) (text : List ℕ) : Type 0 where
   pub version : List ℕ
   pub body : List ℕ

@@ -5,7 +5,7 @@ ghost use Rattle.std.specs.Io.KnownBytes.{prepend_known};
 ghost use Rattle.warc_core.specs.Reading.{Reads};
 ghost use Rattle.warc_core.specs.Answers.{CountsRead, seen_as};
 ghost use Rattle.warc_core.specs.Next.{head_at, next_at};
-ghost use Rattle.warc_core.specs.HeadView.{BeginsAt};
+ghost use Rattle.warc_core.specs.HeadView.{RecordBeginsAt};
 ghost use Rattle.warc_core.specs.Cause.{StopsHead};
 
 use crate::fault::Cause;
@@ -32,7 +32,7 @@ fn read_head<I: Input>(
         (prepend_known buffer.old (I.remaining input.old))
         (prepend_known buffer.new (I.remaining input.new)) }
     ensures cause { IfErr result StopsHead }
-    ensures begins { IfOk result (BeginsAt start) }
+    ensures begins { IfOk result (RecordBeginsAt start) }
     ensures failures { CountsRead result (I.failures input.old) (I.failures input.new) }
 {
     let raw = read_head_text(alloc, buffer, input, HEAD_LIMIT)?;
@@ -54,7 +54,7 @@ pub fn read_next<I: Input>(
 ) -> Result<Option<Head>, Cause>
     requires { start ≤ 2 ^ 63 - 1 }
     ensures cause { IfErr result StopsHead }
-    ensures begins { IfOk result (λ o. IfSome o (BeginsAt start)) }
+    ensures begins { IfOk result (λ o. IfSome o (RecordBeginsAt start)) }
     ensures bytes { Reads (next_at HEAD_LIMIT start) result
         (prepend_known buffer.old (I.remaining input.old))
         (prepend_known buffer.new (I.remaining input.new)) }

@@ -12,13 +12,13 @@ use Rattle.warc_head.specs.declared.fault.HeadFault.TheVariants as faults
 use Rattle.warc_head.specs.Answers.{◌>>=◌, IsFound}
 use Rattle.warc_head.specs.Lines.{lines_of, line_content, BeginsWithLine, continues, trim, is_content, line_end}
 use Rattle.warc_head.specs.Names.{is_name}
-use Rattle.warc_head.specs.Fields.{Field, Given, given_by, fields_of, joined, longer, added, begun, field_in}
-use Rattle.warc_head.specs.Fields.{with_piece, with_field, named, at_colon}
+use Rattle.warc_head.specs.Fields.{Field, Given, given_by, fields_of, joined, longer, added, unless_continued, field_in}
+use Rattle.warc_head.specs.Fields.{with_folded, with_field, named, at_colon}
 use Rattle.warc_head.proofs.LineLemmas.{line_first, line_text, concat, concat-lines, IsLine, line_if}
 
 -- fields that were read, and what the lines after them give
 abbrev pub onto : List Field → Given → Result (List Field) HeadFault
-onto [] read = begun read.more read.fields
+onto [] read = unless_continued read.more read.fields
 onto (f ∷ []) read = Ok (longer f (added read.more) ∷ read.fields)
 onto (f ∷ g ∷ seen) read = onto (g ∷ seen) read >>= λ fs. Ok (f ∷ fs)
 
@@ -46,10 +46,11 @@ onto-more (g ∷ []) f read = refl
 onto-more (g ∷ h ∷ seen) f read = ap (λ r. r >>= λ fs. Ok (g ∷ fs)) (onto-more (h ∷ seen) f read)
 
 -- a line that goes on, where a field stands before it
-onto-continued : (seen : List Field) (f : Field) (t : List ℕ) (read : Given) → onto (seen ++ f ∷ []) (with_piece t read)
+onto-continued : (seen : List Field) (f : Field) (t : List ℕ) (read : Given)
+    → onto (seen ++ f ∷ []) (with_folded t read)
     ≡ onto (seen ++ longer f t ∷ []) read
 onto-continued seen f t read =
-    onto-more seen f (with_piece t read)
+    onto-more seen f (with_folded t read)
     ∙ (ap (λ v. Ok (seen ++ record { name = f.name; value = v } ∷ read.fields))
     (sym (joined-assoc f.value t (added read.more)))
     ∙ sym (onto-more seen (longer f t) read))
@@ -76,7 +77,7 @@ line-fault : (seen : List Field) (line : List ℕ) (lines : List (List ℕ)) (e 
     → going_lines seen (line ∷ lines) ≡ Err e
 unfolding given_by
 line-fault seen line lines e h = ap
-    (λ r. (r >>= λ text. if continues text then (given_by lines >>= λ later. Ok (with_piece (trim text) later)) else
+    (λ r. (r >>= λ text. if continues text then (given_by lines >>= λ later. Ok (with_folded (trim text) later)) else
     (field_in text >>= λ field. given_by lines >>= λ later. Ok (with_field field later))) >>= onto seen) h
 
 line-continued : (seen : List Field) (f : Field) (line text : List ℕ) (lines : List (List ℕ)) → line_content line
@@ -84,7 +85,7 @@ line-continued : (seen : List Field) (f : Field) (line text : List ℕ) (lines :
     ≡ going_lines (seen ++ longer f (trim text) ∷ []) lines
 unfolding given_by
 line-continued seen f line text lines h c =
-    rw (h, c) (then_ok (given_by lines) (with_piece (trim text)) (onto (seen ++ f ∷ []))
+    rw (h, c) (then_ok (given_by lines) (with_folded (trim text)) (onto (seen ++ f ∷ []))
     ∙ same_then (given_by lines) _ _ (λ read. onto-continued seen f (trim text) read))
 
 line-unnamed : (seen : List Field) (line text : List ℕ) (lines : List (List ℕ)) (e : HeadFault) → line_content line
@@ -146,7 +147,7 @@ line-first : (line text : List ℕ) (lines : List (List ℕ)) → line_content l
     → going_lines [] (line ∷ lines) ≡ Err faults.FieldLine
 unfolding given_by
 line-first line text lines h c =
-    rw (h, c) (then_ok (given_by lines) (with_piece (trim text)) (onto [])
+    rw (h, c) (then_ok (given_by lines) (with_folded (trim text)) (onto [])
     ∙ all_refused (given_by lines) (Plain-lines lines))
 
 -- at the end

@@ -12,8 +12,8 @@ use Rattle.warc_head.specs.declared.fault.HeadFault.TheVariants as faults
 use Rattle.warc_head.specs.Answers.{◌>>=◌}
 use Rattle.warc_head.specs.Lines.{lines_of, line_content, line_end, continues, is_content, trim}
 use Rattle.warc_head.specs.Names.{is_name}
-use Rattle.warc_head.specs.Fields.{Field, Given, at_colon, field_in, named, given_by, begun, fields_of, with_field}
-use Rattle.warc_head.specs.Fields.{with_piece, added, joined}
+use Rattle.warc_head.specs.Fields.{Field, Given, at_colon, field_in, named, given_by, unless_continued, fields_of}
+use Rattle.warc_head.specs.Fields.{with_field, with_folded, added, joined}
 use Rattle.warc_head.specs.Folding.{Folded, IsContinuation, IsFolded, ended, folded_text, joined_all, unfolded}
 use Rattle.warc_head.specs.Folding.{IsSpelling, FieldsAreSpelled}
 use Rattle.warc_head.proofs.DateLemmas.{and_both, both}
@@ -23,7 +23,7 @@ use Rattle.warc_head.proofs.SpellingLemmas.{begins, colon_after, name_bytes, nam
 -- lines that go on with the field before what the later lines give
 abbrev with_pieces : List (List ℕ) → Given → Given
 with_pieces [] later = later
-with_pieces (text ∷ more) later = with_piece (trim text) (with_pieces more later)
+with_pieces (text ∷ more) later = with_folded (trim text) (with_pieces more later)
 
 pieces-added : (more : List (List ℕ)) (fields : List Field)
     → added (with_pieces more (record { more = None; fields = fields })).more ≡ joined_all (map trim more)
@@ -182,12 +182,12 @@ module _ (line : List ℕ) (lines : List (List ℕ)) (given : Given) (ih : (late
     → Spells (concat lines) later) where
   goes_on : (text : List ℕ) → IsLine line text → continues text ≡ true → (r : Result Given HeadFault) → given_by lines
       ≡ r
-      → (r >>= λ later. Ok (with_piece (trim text) later)) ≡ Ok given → Spells (line ++ concat lines) given
+      → (r >>= λ later. Ok (with_folded (trim text) later)) ≡ Ok given → Spells (line ++ concat lines) given
   goes_on text l c (Err e) g h = absurd (let k : ◌≡◌ {A = Result Given HeadFault} (Err e) (Ok given) = h in cc)
   goes_on text l c (Ok later) g h =
       let s = ih later g in
-      let k : ◌≡◌ {A = Result Given HeadFault} (Ok (with_piece (trim text) later)) (Ok given) = h in
-      let same : with_piece (trim text) later ≡ given = cc in
+      let k : ◌≡◌ {A = Result Given HeadFault} (Ok (with_folded (trim text) later)) (Ok given) = h in
+      let same : with_folded (trim text) later ≡ given = cc in
       subst (λ v. Spells (line ++ concat lines) v) same
       (record {
         more = text ∷ s.more;
@@ -237,14 +237,14 @@ module _ (line : List ℕ) (lines : List (List ℕ)) (given : Given) (ih : (late
   from_field text l (Ok field) f h = begins_field text field l (first_of_field text field f) (given_by lines) refl h
 
   from_text : (text : List ℕ) → IsLine line text → (t : Bool) → continues text ≡ t
-      → (if t then (given_by lines >>= λ later. Ok (with_piece (trim text) later)) else
+      → (if t then (given_by lines >>= λ later. Ok (with_folded (trim text) later)) else
       (field_in text >>= λ field. given_by lines >>= λ later. Ok (with_field field later))) ≡ Ok given
       → Spells (line ++ concat lines) given
   from_text text l true c h = goes_on text l c (given_by lines) refl h
   from_text text l false c h = from_field text l (field_in text) refl h
 
   from_line : (r : Result (List ℕ) HeadFault) → line_content line ≡ r
-      → (r >>= λ text. if continues text then (given_by lines >>= λ later. Ok (with_piece (trim text) later)) else
+      → (r >>= λ text. if continues text then (given_by lines >>= λ later. Ok (with_folded (trim text) later)) else
       (field_in text >>= λ field. given_by lines >>= λ later. Ok (with_field field later))) ≡ Ok given
       → Spells (line ++ concat lines) given
   from_line (Err e) l h = absurd (let k : ◌≡◌ {A = Result Given HeadFault} (Err e) (Ok given) = h in cc)
@@ -273,7 +273,7 @@ no_more (text ∷ more) h = absurd (let k : ◌≡◌ {A = Option (List ℕ)} No
     h in cc)
 
 from_begun : (body : List ℕ) (fields : List Field) (given : Given) → Spells body given → (o : Option (List ℕ))
-    → given.more ≡ o → begun o given.fields ≡ Ok fields → IsSpelling body fields
+    → given.more ≡ o → unless_continued o given.fields ≡ Ok fields → IsSpelling body fields
 from_begun body fields given s (Some text) e h = absurd
     (let k : ◌≡◌ {A = Result (List Field) HeadFault} (Err faults.FieldLine) (Ok fields) = h in cc)
 from_begun body fields given s None e h =
@@ -289,7 +289,7 @@ from_begun body fields given s None e h =
     }
 
 from_given : (body : List ℕ) (fields : List Field) (r : Result Given HeadFault) → given_by (lines_of body) ≡ r
-    → (r >>= λ given. begun given.more given.fields) ≡ Ok fields → IsSpelling body fields
+    → (r >>= λ given. unless_continued given.more given.fields) ≡ Ok fields → IsSpelling body fields
 from_given body fields (Err e) g h = absurd
     (let k : ◌≡◌ {A = Result (List Field) HeadFault} (Err e) (Ok fields) = h in cc)
 from_given body fields (Ok given) g h =

@@ -7,7 +7,7 @@ use Rattle.std.proofs.lemmas.Slice.Eq.{bytes_eq-Decides}
 use Rattle.std.specs.Char.{to_ascii_lowercase}
 use Rattle.std.specs.Str.{str_to_ascii_lowercase}
 use Rattle.warc_head.proofs.LineLemmas.{false_of}
-use Rattle.warc_head.specs.Fields.{Field, first_value, value_of, values_of}
+use Rattle.warc_head.specs.Fields.{Field, field_values, first_value, value_of}
 use Rattle.warc_head.specs.Names.{same_name}
 use Rattle.warc_head.specs.Mandatory.{found, mandatory, none_missing, none_repeated, required, values_in}
 
@@ -19,17 +19,17 @@ other_length name wanted other = false_of _ (λ same. other
     ∙ length-map wanted to_ascii_lowercase)))
 
 module _ (wanted : List ℕ) (last : Field) where
-  last_is : (t : Bool) → same_name last.name wanted ≡ t → values_of wanted (last ∷ []) ≡ values_in wanted last
+  last_is : (t : Bool) → same_name last.name wanted ≡ t → field_values wanted (last ∷ []) ≡ values_in wanted last
   last_is true h = rw h refl
   last_is false h = rw h refl
 
   first_is : (t : Bool) (first : Field) (fields more : List Field) → same_name first.name wanted ≡ t
-      → values_of wanted (fields ++ more) ≡ values_of wanted fields ++ values_in wanted last
-      → values_of wanted (first ∷ fields ++ more) ≡ values_of wanted (first ∷ fields) ++ values_in wanted last
+      → field_values wanted (fields ++ more) ≡ field_values wanted fields ++ values_in wanted last
+      → field_values wanted (first ∷ fields ++ more) ≡ field_values wanted (first ∷ fields) ++ values_in wanted last
   first_is true first fields more h rest = rw h (ap (λ values. first.value ∷ values) rest)
   first_is false first fields more h rest = rw h rest
 
-  pub values_more : (fields : List Field) → values_of wanted (fields ++ last ∷ []) ≡ values_of wanted fields
+  pub values_more : (fields : List Field) → field_values wanted (fields ++ last ∷ []) ≡ field_values wanted fields
       ++ values_in wanted last
   values_more [] = last_is (same_name last.name wanted) refl
   values_more (first ∷ fields) = first_is (same_name first.name wanted) first fields (last ∷ []) refl
@@ -37,12 +37,12 @@ module _ (wanted : List ℕ) (last : Field) where
 
   -- a field of a name of another length adds none
   pub values_same : (fields : List Field) → (length last.name ≡ length wanted → ⊥)
-      → values_of wanted (fields ++ last ∷ []) ≡ values_of wanted fields
+      → field_values wanted (fields ++ last ∷ []) ≡ field_values wanted fields
   values_same fields other = values_more fields
-      ∙ rw (other_length last.name wanted other) (append-nil (values_of wanted fields))
+      ∙ rw (other_length last.name wanted other) (append-nil (field_values wanted fields))
 
 -- the value of a field that occurs once is the one that is required
-pub required_is : (name : List ℕ) (fields : List Field) (value : List ℕ) → values_of name fields ≡ value ∷ []
+pub required_is : (name : List ℕ) (fields : List Field) (value : List ℕ) → field_values name fields ≡ value ∷ []
     → required name fields ≡ Ok value
 unfolding required value_of
 required_is name fields value h = ap (λ values. found (first_value values)) h
@@ -60,10 +60,10 @@ abbrev pub kind_name : List ℕ
 kind_name = codes "WARC-Type"
 
 abbrev pub stands : List Field → List ℕ → Bool
-stands fields name = nat_lt 0 (length (values_of name fields))
+stands fields name = nat_lt 0 (length (field_values name fields))
 
 abbrev pub is_single : List Field → List ℕ → Bool
-is_single fields name = nat_lt (length (values_of name fields)) 2
+is_single fields name = nat_lt (length (field_values name fields)) 2
 
 regrouped : (a b c d : Bool) → (((a && b) && c) && d) ≡ (a && (b && (c && (d && true))))
 regrouped true true true true = refl
@@ -101,13 +101,13 @@ is_below_two : (n : ℕ) → nat_lt n 2 ≡ true → n < 2
 is_below_two n h = grind (arith, nat_tests, h)
 
 abbrev pub IsOnce : List ℕ → List Field → Type 0
-IsOnce name fields = (0 < length (values_of name fields)) × (length (values_of name fields) < 2)
+IsOnce name fields = (0 < length (field_values name fields)) × (length (field_values name fields) < 2)
 
 once_if : (name : List ℕ) (fields : List Field) → stands fields name ≡ true → is_single fields name ≡ true
     → IsOnce name fields
 once_if name fields h k = (
-  is_filled (length (values_of name fields)) h,
-  is_below_two (length (values_of name fields))
+  is_filled (length (field_values name fields)) h,
+  is_below_two (length (field_values name fields))
       k,
 )
 

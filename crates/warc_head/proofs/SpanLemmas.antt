@@ -27,7 +27,8 @@ between_more text more i j l m =
     ap (take (j - i)) (drop-append-le i text more (omega arith))
     ∙ take-append-le (j - i) (drop i text) more (simp length-drop (omega arith))
 
-field_more : (text more : List ℕ) (p : FieldSpan) → IsWithin (length text) p → field_at (text ++ more) p ≡ field_at text p
+field_more : (text more : List ℕ) (p : FieldSpan) → IsWithin (length text) p
+    → field_at (text ++ more) p ≡ field_at text p
 field_more text more p h = λ i. record {
   name = between_more text more p.name_start p.name_end h.name (omega (arith, h.order, h.end)) i;
   value = between_more text more p.value_start p.value_end h.value h.end i;
@@ -74,7 +75,8 @@ between_moved front text i j =
     let e : length front + j - (length front + i) ≡ j - i = omega arith in
     λ k. take (e k) (drop_moved front text i k)
 
-field_moved : (front text : List ℕ) (p : FieldSpan) → field_at (front ++ text) (moved (length front) p) ≡ field_at text p
+field_moved : (front text : List ℕ) (p : FieldSpan)
+    → field_at (front ++ text) (moved (length front) p) ≡ field_at text p
 field_moved front text p = λ i.
     record {
       name = between_moved front text p.name_start p.name_end i;
@@ -83,7 +85,8 @@ field_moved front text p = λ i.
     }
 
 -- a field of a line that stands in a text
-module _ (text front line back : List ℕ) (spans : List FieldSpan) (p : FieldSpan) (held : text ≡ front ++ (line ++ back))
+module _ (text front line back : List ℕ) (spans : List FieldSpan) (p : FieldSpan)
+    (held : text ≡ front ++ (line ++ back))
     (inside : IsWithin (length line) p) where
   size : length text ≡ length front + length line + length back
   size = ap length held ∙ simp length-append (omega arith)
@@ -147,7 +150,8 @@ module _ (text there text' piece more : List ℕ) (before : List FieldSpan) (las
         ∙ (drop-append-le p.value_start there _ start
         ∙ (sym (joined_is (drop p.value_start there) piece) ∙ ap (λ v. joined v piece) value)))
 
-    pub piece_added : fields_at text' (before ++ p ∷ []) ≡ fields_at text before ++ longer (field_at text last) piece ∷ []
+    pub piece_added : fields_at text' (before ++ p ∷ [])
+        ≡ fields_at text before ++ longer (field_at text last) piece ∷ []
     piece_added =
         map-append (field_at text') before (p ∷ [])
         ∙ (λ i. (ap (λ t. fields_at t before) whole ∙ fields_more text _ before before_within) i

@@ -13,6 +13,6 @@ abbrev pub IsFound : {A : Type 0} → HeadFault → Result A HeadFault → Type 
 IsFound faults.Memory defined = ⊤
 IsFound e defined = defined ≡ Err e
 
--- the call answered what the definition gives, or that memory ran out
-abbrev pub Answers : {X A : Type 0} → (X → A) → Result X HeadFault → Result A HeadFault → Type 0
-Answers view r defined = MatchResult r (λ x. defined ≡ Ok (view x)) (λ e. IsFound e defined)
+-- the result, seen by the view, is what the definition gives, or memory ran out
+abbrev pub AgreesWith : {X A : Type 0} → (X → A) → Result X HeadFault → Result A HeadFault → Type 0
+AgreesWith view r defined = MatchResult r (λ x. defined ≡ Ok (view x)) (λ e. IsFound e defined)

@@ -41,7 +41,8 @@ date_length text =
     else (if fits (codes "0000-00-00T00:00:00Z") text then Some 19
     else (if has_fraction text then Some 19 else None)))))
 
--- the date and time whose first n bytes the text gives: an absent month or day is 01, an absent hour, minute or second 00
+-- the date and time whose first n bytes the text gives: an absent month or day is 01, an absent hour, minute or second
+-- 00
 abbrev pub full_date : List ℕ → ℕ → List ℕ
 full_date text n = take n text ++ drop n (codes "0000-01-01T00:00:00")
 

@@ -50,8 +50,8 @@ added None = []
 added (Some text) = text
 
 -- a piece that goes on with the field before, and what follows it
-abbrev pub with_piece : List ℕ → Given → Given
-with_piece piece later = record { more = Some (joined piece (added later.more)); fields = later.fields }
+abbrev pub with_folded : List ℕ → Given → Given
+with_folded piece later = record { more = Some (joined piece (added later.more)); fields = later.fields }
 
 -- a field, with what the lines after it add to its value, and what follows it
 abbrev pub with_field : Field → Given → Given
@@ -66,23 +66,23 @@ unfoldable pub given_by : List (List ℕ) → Result Given HeadFault
 given_by [] = Ok (record { more = None; fields = [] })
 given_by (line ∷ lines) = do
   text ← line_content line
-  if continues text then (given_by lines >>= λ later. Ok (with_piece (trim text) later))
+  if continues text then (given_by lines >>= λ later. Ok (with_folded (trim text) later))
       else (field_in text >>= λ field. given_by lines >>= λ later. Ok (with_field field later))
 
 -- before the first field there is none to go on with
-abbrev pub begun : Option (List ℕ) → List Field → Result (List Field) HeadFault
-begun None fields = Ok fields
-begun (Some text) fields = Err faults.FieldLine
+abbrev pub unless_continued : Option (List ℕ) → List Field → Result (List Field) HeadFault
+unless_continued None fields = Ok fields
+unless_continued (Some text) fields = Err faults.FieldLine
 
 -- the fields of the lines between the version line and the empty line
 unfoldable pub fields_of : List ℕ → Result (List Field) HeadFault
 fields_of body = do
   given ← given_by (lines_of body)
-  begun given.more given.fields
+  unless_continued given.more given.fields
 
 -- the values of the fields of a name, first to last
-abbrev pub values_of : List ℕ → List Field → List (List ℕ)
-values_of name fields = map (λ f. f.value) (filter (λ f. same_name f.name name) fields)
+abbrev pub field_values : List ℕ → List Field → List (List ℕ)
+field_values name fields = map (λ f. f.value) (filter (λ f. same_name f.name name) fields)
 
 abbrev pub first_value : List (List ℕ) → Option (List ℕ)
 first_value [] = None
@@ -90,4 +90,4 @@ first_value (v ∷ vs) = Some v
 
 -- the value of the first field of a name
 unfoldable pub value_of : List ℕ → List Field → Option (List ℕ)
-value_of name fields = first_value (values_of name fields)
+value_of name fields = first_value (field_values name fields)

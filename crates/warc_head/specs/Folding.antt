@@ -1,4 +1,5 @@
--- The grammar of named fields (ISO 28500:2017, clause 4): a name, a colon, and a value that further lines may go on with.
+-- The grammar of named fields (ISO 28500:2017, clause 4): a name, a colon, and a value that further lines may go on
+-- with.
 use Rattle.std.specs.Prelude.{◌≡◌, ◌↔◌, ℕ, true, List, [], ◌∷◌, ◌++◌, map, Ok, All}
 use Rattle.std.specs.List.{list_all, flat_map}
 use Rattle.warc_head.specs.Bytes.{colon}

@@ -7,7 +7,7 @@ use Rattle.warc_head.specs.declared.fault.HeadFault.TheVariants as faults
 use Rattle.warc_head.specs.declared.occurrence.Occurrence.{Occurrence}
 use Rattle.warc_head.specs.declared.occurrence.Occurrence.TheVariants.{Never, Once, Repeated}
 use Rattle.warc_head.specs.declared.occurrences.Occurrences.{Occurrences}
-use Rattle.warc_head.specs.Fields.{Field, values_of, value_of}
+use Rattle.warc_head.specs.Fields.{Field, field_values, value_of}
 use Rattle.warc_head.specs.Names.{same_name}
 use Rattle.warc_head.specs.Spans.{IsWithin, field_at}
 
@@ -16,11 +16,11 @@ mandatory = codes "WARC-Record-ID" ∷ codes "Content-Length" ∷ codes "WARC-Da
 
 -- each of these names stands at least once
 abbrev pub none_missing : List (List ℕ) → List Field → Bool
-none_missing names fields = list_all (λ name. nat_lt 0 (length (values_of name fields))) names
+none_missing names fields = list_all (λ name. nat_lt 0 (length (field_values name fields))) names
 
 -- each of these names stands at most once
 abbrev pub none_repeated : List (List ℕ) → List Field → Bool
-none_repeated names fields = list_all (λ name. nat_lt (length (values_of name fields)) 2) names
+none_repeated names fields = list_all (λ name. nat_lt (length (field_values name fields)) 2) names
 
 -- each mandatory name stands once; a missing one comes before a repeated one
 unfoldable pub each_once : List Field → Result (Unit {0}) HeadFault
@@ -48,7 +48,7 @@ values_in wanted field = if same_name field.name wanted then field.value ∷ [] 
 
 -- the mandatory fields occur so often among these
 pub record AllOccur (text : List ℕ) (fields : List Field) (o : Occurrences) : Type 0 where
-  pub record_id : Occurs text (values_of (codes "WARC-Record-ID") fields) o.record_id
-  pub length : Occurs text (values_of (codes "Content-Length") fields) o.length
-  pub date : Occurs text (values_of (codes "WARC-Date") fields) o.date
-  pub kind : Occurs text (values_of (codes "WARC-Type") fields) o.kind
+  pub record_id : Occurs text (field_values (codes "WARC-Record-ID") fields) o.record_id
+  pub length : Occurs text (field_values (codes "Content-Length") fields) o.length
+  pub date : Occurs text (field_values (codes "WARC-Date") fields) o.date
+  pub kind : Occurs text (field_values (codes "WARC-Type") fields) o.kind

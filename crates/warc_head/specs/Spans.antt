@@ -23,7 +23,8 @@ field_at text p = record { name = between p.name_start p.name_end text; value = 
 abbrev pub fields_at : List ℕ → List FieldSpan → List Field
 fields_at text spans = map (field_at text) spans
 
--- from one offset to another the bytes stand that are left of those between two offsets without the white space at both ends
+-- from one offset to another the bytes stand that are left of those between two offsets without the white space at both
+-- ends
 pub record IsTrimmed (text : List ℕ) (from to start end : ℕ) : Type 0 where
   pub low : from ≤ start
   pub order : start ≤ end

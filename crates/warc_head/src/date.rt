@@ -1,7 +1,7 @@
 //! The date of a record, and its stamp.
 ghost use Rattle.std.specs.List.{list_all, zip};
 ghost use Rattle.std.specs.Prelude.{◌≡◌, ⊤, ◌≤◌, ◌<◌, ◌+◌, length, MatchOption, true, IfOk};
-ghost use Rattle.warc_head.specs.Answers.{Answers};
+ghost use Rattle.warc_head.specs.Answers.{AgreesWith};
 ghost use Rattle.warc_head.specs.Length.{all_digits};
 ghost use Rattle.warc_head.specs.Date.{fits, fits_byte, is_fraction, has_fraction, date_length, full_date, two, to_the_second, is_moment, digits_of, stamp_of};
 
@@ -12,7 +12,7 @@ use crate::length::all_digits;
 /// Returns the stamp of a date text: year, month, day, hour, minute and second in 14 digits. The only error is `BadDate`.
 #[tactic(auto, unfolding(crate::specs::Date::stamp_of))]
 pub fn stamp_of(text: &[u8]) -> Result<[u8; 14], HeadFault>
-    ensures answer { Answers (λ s. s) result (stamp_of text.now) }
+    ensures answer { AgreesWith (λ s. s) result (stamp_of text.now) }
     ensures digits { IfOk result (λ s. all_digits s ≡ true) }
 {
     let Some(size) = date_length(text) else {

@@ -1,7 +1,7 @@
 //! The lines of a head's fields.
 ghost use Rattle.std.specs.Prelude.{◌≡◌, length, All, MatchOption, Some, IfOk, OnOk, Ok, Err};
 ghost use Rattle.memchr.specs.Find.{IsFirstByte, is_byte};
-ghost use Rattle.warc_head.specs.Answers.{Answers};
+ghost use Rattle.warc_head.specs.Answers.{AgreesWith};
 ghost use Rattle.warc_head.specs.declared.fault.HeadFault.TheVariants.{FieldLine};
 ghost use Rattle.warc_head.specs.Fields.{field_in, fields_of};
 ghost use Rattle.warc_head.specs.Parts.{field_lines_in};
@@ -28,7 +28,7 @@ const USUAL_FIELDS: usize = 16;
 /// Returns the spans of the fields on the lines between the version line and the empty line of a head's text. The value
 /// of a field that takes several lines is appended to the text. The errors are `FieldLine` and `Memory`.
 pub fn read_fields(alloc: Global, text: &mut Vec<u8>) -> Result<Vec<FieldSpan>, HeadFault>
-    ensures answer { Answers (λ spans. fields_at text.new.items spans.items) result
+    ensures answer { AgreesWith (λ spans. fields_at text.new.items spans.items) result
         (fields_of (field_lines_in text.old.items)) }
     ensures text { OnOk result (Continues text.old.items text.new.items) }
     ensures within { IfOk result (λ spans. All (IsWithin (length text.new.items)) spans.items) }

@@ -1,6 +1,6 @@
 //! The length of a block.
 ghost use Rattle.std.specs.Prelude.{◌≡◌, ◌≤◌, ◌^◌, ◌-◌, length, true, IfOk};
-ghost use Rattle.warc_head.specs.Answers.{Answers};
+ghost use Rattle.warc_head.specs.Answers.{AgreesWith};
 ghost use Rattle.warc_head.specs.Length.{all_digits, number_of, length_of};
 
 use crate::fault::HeadFault;
@@ -8,7 +8,7 @@ use crate::fault::HeadFault;
 /// Returns the length in bytes that a value of `Content-Length` gives. The only error is `BadLength`.
 #[tactic(auto, unfolding(crate::specs::Length::length_of))]
 pub fn length_of(value: &[u8]) -> Result<u64, HeadFault>
-    ensures answer { Answers (λ n. n) result (length_of value.now) }
+    ensures answer { AgreesWith (λ n. n) result (length_of value.now) }
     ensures bound { IfOk result (λ n. n ≤ 2 ^ 63 - 1) }
 {
     if value.is_empty() || value.len() > 19 || !all_digits(value) {

@@ -1,6 +1,6 @@
 //! The contents of a record's head.
 ghost use Rattle.std.specs.Prelude.{◌≡◌, ◌≤◌, ◌^◌, ◌-◌, true, length, All, IfOk};
-ghost use Rattle.warc_head.specs.Answers.{Answers};
+ghost use Rattle.warc_head.specs.Answers.{AgreesWith};
 ghost use Rattle.warc_head.specs.Length.{all_digits};
 ghost use Rattle.warc_head.specs.Parts.{parts_in, parts_of};
 ghost use Rattle.warc_head.specs.Spans.{IsWithin, fields_at};
@@ -103,7 +103,7 @@ impl Parts {
 /// first and the last of these lines has no fields. The error is the head's first fault, or `Memory`.
 #[tactic(auto, unfolding(crate::specs::Parts::parts_of))]
 pub fn read_parts(alloc: Global, raw: Vec<u8>) -> Result<Parts, HeadFault>
-    ensures answer { Answers (λ p. p.parts) result (parts_of raw.items) }
+    ensures answer { AgreesWith (λ p. p.parts) result (parts_of raw.items) }
     ensures raw { IfOk result (λ p. p.raw ≡ raw.items) }
     ensures bound { IfOk result (λ p. p.parts.length ≤ 2 ^ 63 - 1) }
     ensures digits { IfOk result (λ p. all_digits p.parts.stamp ≡ true) }
@@ -124,7 +124,7 @@ pub fn read_parts(alloc: Global, raw: Vec<u8>) -> Result<Parts, HeadFault>
 #[tactic(auto, unfolding(crate::specs::Parts::parts_in))]
 fn said_in(text: &[u8], spans: &[FieldSpan]) -> Result<Said, HeadFault>
     requires { All (IsWithin (length text.now)) spans.now }
-    ensures answer { Answers (λ s. said_of s (fields_at text.now spans.now)) result
+    ensures answer { AgreesWith (λ s. said_of s (fields_at text.now spans.now)) result
         (parts_in (fields_at text.now spans.now)) }
     ensures bound { IfOk result (λ s. s.length ≤ 2 ^ 63 - 1) }
     ensures digits { IfOk result (λ s. all_digits s.stamp ≡ true) }

@@ -7,8 +7,9 @@ use Rattle.warcdx.specs.Outcome.{ends_command, worse_of}
 
 -- a step takes a state and a name to an outcome and the state after it
 module _ {S : Type 0} (Step : S → List ℕ → Outcome → S → Type 0) where
-  -- how a command ends that has reached an outcome and a state, and has these names left: with that outcome where none is left; else
-  -- it takes a step for the first of them, and ends there if that outcome ends commands, or goes on with the worse outcome
+  -- how a command ends that has reached an outcome and a state, and has these names left: with that outcome where none
+  -- is left; else it takes a step for the first of them, and ends there if that outcome ends commands, or goes on with
+  -- the worse outcome
   abbrev pub GoesOver : Outcome → S → List (List ℕ) → Outcome → S → Type 0
   GoesOver reached state [] result last = (result ≡ reached) × (last ≡ state)
   GoesOver reached state (name ∷ names) result last =

@@ -53,8 +53,8 @@ AddsOne bytes_of old name outcome new =
 abbrev pub nothing_of : Types → Held
 nothing_of chosen = record { types = chosen; names = []; captures = [] }
 
--- the archives of these names were added, one after another, and the index of what was added was written, unless adding ended the
--- command
+-- the archives of these names were added, one after another, and the index of what was added was written, unless adding
+-- ended the command
 abbrev pub IndexesArchives : (List ℕ → Option (List ℕ)) → Types → List (List ℕ) → Option (List ℕ) → Option (List ℕ)
     → Type 0 → Outcome → Type 0
 IndexesArchives bytes_of types names before after unchanged outcome =

@@ -49,15 +49,15 @@ answer_status answers.TooManySources = 1
 answer_status answers.BadSizes = 2
 answer_status answers.Input = 3
 
-abbrev pub status_of : Outcome → ℕ
-status_of outcomes.Done = 0
-status_of outcomes.Differs = 1
-status_of outcomes.Usage = 2
-status_of (outcomes.Index f) = index_status f
-status_of (outcomes.Query f) = query_status f
-status_of (outcomes.Answer f) = answer_status f
-status_of outcomes.CannotOpen = 3
-status_of outcomes.CannotFlush = 3
+abbrev pub exit_status_of : Outcome → ℕ
+exit_status_of outcomes.Done = 0
+exit_status_of outcomes.Differs = 1
+exit_status_of outcomes.Usage = 2
+exit_status_of (outcomes.Index f) = index_status f
+exit_status_of (outcomes.Query f) = query_status f
+exit_status_of (outcomes.Answer f) = answer_status f
+exit_status_of outcomes.CannotOpen = 3
+exit_status_of outcomes.CannotFlush = 3
 
 -- memory and writing end a command at once; after any other fault it goes on with the next file
 abbrev pub is_memory : Cause → Bool
@@ -79,7 +79,7 @@ ends_command o = false
 
 -- of two outcomes the one with the greater status, the first where it is one
 abbrev pub worse_of : Outcome → Outcome → Outcome
-worse_of a b = if nat_lt (status_of a) (status_of b) then b else a
+worse_of a b = if nat_lt (exit_status_of a) (exit_status_of b) then b else a
 
 -- how a call on an archive ended
 abbrev pub outcome_of : {A : Type 0} → Result A IndexFault → Outcome
@@ -96,7 +96,8 @@ abbrev pub answer_of : Outcome → Result (Unit {0}) IndexFault
 answer_of (outcomes.Index fault) = Err fault
 answer_of outcome = Ok tt
 
--- how a command ends whose output could be flushed, or couldn't be: memory and a failed write are said in the stead of that
+-- how a command ends whose output could be flushed, or couldn't be: memory and a failed write are said in the stead of
+-- that
 abbrev pub flushed_outcome : Outcome → Bool → Outcome
 flushed_outcome outcome true = outcome
 flushed_outcome (outcomes.Index faults.Memory) false = outcomes.Index faults.Memory

@@ -14,8 +14,8 @@ use Rattle.warcdx.specs.Queries.{AnswersLines, AnswersPages, AnswersQuery, Reads
 use Rattle.warcdx.specs.Reports.{ReportsOn}
 use Rattle.warcdx.specs.Scanning.{ScansNamed}
 
--- the bytes of the archive and of the index of a name, and those of standard input, as far as they are known; what was written before and
--- after; that the output is unchanged; and the outcome
+-- the bytes of the archive and of the index of a name, and those of standard input, as far as they are known; what was
+-- written before and after; that the output is unchanged; and the outcome
 module _ (archive_of index_of : List ℕ → Option (List ℕ)) (input before after : Option (List ℕ)) (unchanged : Type 0)
     (outcome : Outcome) where
   abbrev pub Performs : Meaning → Type 0

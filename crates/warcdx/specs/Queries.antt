@@ -7,9 +7,9 @@ use Rattle.query_text.specs.Queries.{QueryValue, query_of}
 use Rattle.merge_core.specs.Collections.{OverIndexes, collection}
 use Rattle.query_core.specs.declared.fault.AnswerFault.{AnswerFault}
 use Rattle.query_core.specs.declared.report.Report.{Report}
-use Rattle.query_core.specs.Answering.{Answers}
+use Rattle.query_core.specs.Answering.{WritesAnswer}
 use Rattle.query_core.specs.Conversations.{Replied, RepliedInPart}
-use Rattle.query_core.specs.IndexFaults.{IsFaultOf}
+use Rattle.query_core.specs.IndexFaults.{IsAnswerFaultOf}
 use Rattle.query_core.specs.Paging.{WritesPages}
 use Rattle.query_core.specs.Replies.{reply_of}
 use Rattle.warcdx.specs.declared.outcome.Outcome.{Outcome}
@@ -32,13 +32,14 @@ abbrev pub answered_outcome : {A : Type 0} → Result A AnswerFault → Outcome
 answered_outcome (Ok answer) = outcomes.Done
 answered_outcome (Err fault) = outcomes.Answer fault
 
--- a query was answered over sources: over indexes its page was written, whole or in part; a line that a fault names is at fault
+-- a query was answered over sources: over indexes its page was written, whole or in part; a line that a fault names is
+-- at fault
 pub record AnswersQuery (query : QueryValue) (told : List (Option (List ℕ))) (before after : Option (List ℕ))
     (outcome : Outcome) : Type 0 where
   pub answer : Result Report AnswerFault
   pub outcome_is : outcome ≡ answered_outcome answer
-  pub page : OverIndexes LINE_LIMIT told (λ texts indexes. Answers query (collection indexes) answer before after)
-  pub fault : IfErr answer (IsFaultOf LINE_LIMIT told)
+  pub page : OverIndexes LINE_LIMIT told (λ texts indexes. WritesAnswer query (collection indexes) answer before after)
+  pub fault : IfErr answer (IsAnswerFaultOf LINE_LIMIT told)
 
 -- the same of the pages of these sizes
 pub record AnswersPages (query : QueryValue) (sizes : List ℕ) (told : List (Option (List ℕ)))
@@ -47,7 +48,7 @@ pub record AnswersPages (query : QueryValue) (sizes : List ℕ) (told : List (Op
   pub outcome_is : outcome ≡ answered_outcome answer
   pub pages : OverIndexes LINE_LIMIT told
       (λ texts indexes. WritesPages query (collection indexes) sizes answer before after)
-  pub fault : IfErr answer (IsFaultOf LINE_LIMIT told)
+  pub fault : IfErr answer (IsAnswerFaultOf LINE_LIMIT told)
 
 -- lines of an input were answered over sources: over indexes the replies were written, whole or in part
 pub record AnswersLines (told : List (Option (List ℕ))) (lines : Option (List ℕ)) (before after : Option (List ℕ))

@@ -4,7 +4,7 @@ use Rattle.warc_core.specs.Kind.{Kind}
 use Rattle.scan_core.specs.declared.fault.ScanFault.{ScanFault}
 use Rattle.scan_core.specs.declared.fault.ScanFault.TheVariants as scans
 use Rattle.scan_core.specs.declared.named.Named.{Named}
-use Rattle.scan_core.specs.Scanning.{Scanned, ScannedInPart, IsScanFault, IsEarly}
+use Rattle.scan_core.specs.Scanning.{Scanned, ScannedInPart, IsScanFault, IsBeforeWriting}
 use Rattle.warcdx.specs.Indexing.{file_name}
 use Rattle.warcdx.specs.Opening.{IsUnopened, OpensFirst}
 use Rattle.warcdx.specs.Queries.{ReadsFirst}
@@ -32,18 +32,20 @@ scan_outcome (Err (scans.Query fault)) = outcomes.Query fault
 scan_outcome (Err (scans.Archive archive fault)) = outcomes.Index fault
 scan_outcome (Err (scans.Answer fault)) = outcomes.Answer fault
 
--- archives of these names were scanned for records of these types: the pages were written, or none or no more of them for this fault
+-- archives of these names were scanned for records of these types: the pages were written, or none or no more of them
+-- for this fault
 pub record ScansArchives (types : Kind → Bool) (names : List (List ℕ)) (inputs : List (Option (List ℕ)))
     (sizes query : List ℕ) (before after : Option (List ℕ)) (outcome : Outcome) : Type 0 where
   pub answer : Result ℕ ScanFault
   pub outcome_is : outcome ≡ scan_outcome answer
   pub scanned : IfOk answer (Scanned types names inputs sizes query before after)
   pub fault : IfErr answer (IsScanFault types names inputs sizes query)
-  pub part : IfErr answer (λ fault. (IsEarly fault → ⊥) → ScannedInPart types names inputs sizes query before after)
-  pub unwritten : IfErr answer (λ fault. IsEarly fault → after ≡ before)
+  pub part : IfErr answer (λ fault. (IsBeforeWriting fault → ⊥)
+      → ScannedInPart types names inputs sizes query before after)
+  pub unwritten : IfErr answer (λ fault. IsBeforeWriting fault → after ≡ before)
 
--- the query text was read, the archives of these names were opened, and then they were scanned under their file names; or nothing was
--- written, as the query is refused or an archive can't be opened
+-- the query text was read, the archives of these names were opened, and then they were scanned under their file names;
+-- or nothing was written, as the query is refused or an archive can't be opened
 abbrev pub ScansNamed : (List ℕ → Option (List ℕ)) → (Kind → Bool) → List ℕ → List ℕ → List (List ℕ) → Option (List ℕ)
     → Option (List ℕ) → Type 0 → Outcome → Type 0
 ScansNamed bytes_of types sizes query names before after unchanged outcome = ReadsFirst query outcome unchanged (λ _.

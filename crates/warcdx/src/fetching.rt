@@ -1,7 +1,7 @@
 //! The writing of one record.
 ghost use Rattle.std.specs.Prelude.{◌≡◌, IfErr, MatchResult};
 ghost use Rattle.index_core.specs.Fetching.{IsMetBefore};
-ghost use Rattle.index_core.specs.Counting.{CountsWrite};
+ghost use Rattle.index_core.specs.Counting.{CountsIndexWrite};
 ghost use Rattle.warcdx.specs.Fetching.{WritesRecord};
 ghost use Rattle.warcdx.specs.Opening.{IsUnopened, OpensFirst};
 ghost use Rattle.warcdx.specs.Outcome.{answer_of};
@@ -44,7 +44,7 @@ fn fetch_opened<R: Runtime + AllocGlobal, I: Input + Drop, O: Output>(
         (λ _. IfErr (answer_of result) (λ fault. IsMetBefore offset fault → out.new ≡ out.old))
         (λ _. out.new ≡ out.old) }
     ensures failures { MatchResult opened
-        (λ _. CountsWrite (answer_of result) (O.failures out.old) (O.failures out.new))
+        (λ _. CountsIndexWrite (answer_of result) (O.failures out.old) (O.failures out.new))
         (λ _. out.new ≡ out.old) }
 {
     match opened {

@@ -1,6 +1,6 @@
 //! The indexing of archives.
 ghost use Rattle.std.specs.Prelude.{◌≡◌, true, false, MatchResult};
-ghost use Rattle.index_core.specs.Counting.{CountsWrite};
+ghost use Rattle.index_core.specs.Counting.{CountsIndexWrite};
 ghost use Rattle.command_line.specs.Words.{texts};
 ghost use Rattle.warcdx.specs.Indexing.{AddsArchive, AddsOne, IndexesArchives, WritesIndex};
 ghost use Rattle.warcdx.specs.Outcome.{answer_of, ends_command};
@@ -66,7 +66,7 @@ fn write_index<O: Output>(indexer: &Indexer, added: Outcome, out: &mut O) -> Out
     ensures written { ends_command added ≡ false →
         WritesIndex indexer.now added (O.written out.old) (O.written out.new) result }
     ensures failures { ends_command added ≡ false →
-        CountsWrite (answer_of result) (O.failures out.old) (O.failures out.new) }
+        CountsIndexWrite (answer_of result) (O.failures out.old) (O.failures out.new) }
 {
     if ends_command(&added) {
         return added;

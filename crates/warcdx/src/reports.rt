@@ -2,7 +2,7 @@
 ghost use Rattle.std.specs.Prelude.{◌≡◌, MatchResult};
 ghost use Rattle.devices.specs.Device.{CountsFailure};
 ghost use Rattle.devices.specs.Writing.{WritesText};
-ghost use Rattle.index_core.specs.Counting.{CountsWrite, CountsInput};
+ghost use Rattle.index_core.specs.Counting.{CountsIndexWrite, CountsInput};
 ghost use Rattle.command_line.specs.Words.{texts};
 ghost use Rattle.warcdx.specs.Outcome.{answer_of};
 ghost use Rattle.warcdx.specs.Reports.{ReportsOn, ReportsOnOne, WritesReport, WritesBelow, heading, heading_among};
@@ -70,7 +70,7 @@ fn report_on_opened<I: Input + Drop, O: Output>(
         result (O.written out.old) (O.written out.new))
         (λ outcome. (result ≡ outcome) × (out.new ≡ out.old)) }
     ensures failures { MatchResult opened
-        (λ _. CountsWrite (answer_of result) (O.failures out.old) (O.failures out.new))
+        (λ _. CountsIndexWrite (answer_of result) (O.failures out.old) (O.failures out.new))
         (λ _. out.new ≡ out.old) }
 {
     match opened {
@@ -92,7 +92,7 @@ fn report_below<I: Input, O: Output>(
         result (O.written out.old) (O.written out.new) }
     ensures reads { CountsInput (answer_of result) (I.failures archive.old)
         (I.failures archive.new) }
-    ensures writes { CountsWrite (answer_of result) (O.failures out.old) (O.failures out.new) }
+    ensures writes { CountsIndexWrite (answer_of result) (O.failures out.old) (O.failures out.new) }
 {
     match put_heading_among(among, name, out) {
         Ok(()) => write_report(alloc, report, archive, out),
@@ -132,7 +132,7 @@ fn write_report<I: Input, O: Output>(
         (O.written out.new) }
     ensures reads { CountsInput (answer_of result) (I.failures archive.old)
         (I.failures archive.new) }
-    ensures writes { CountsWrite (answer_of result) (O.failures out.old) (O.failures out.new) }
+    ensures writes { CountsIndexWrite (answer_of result) (O.failures out.old) (O.failures out.new) }
 {
     match report {
         ArchiveReport::Listing => outcome_of(list(alloc, archive, out)),

@@ -1,6 +1,6 @@
 //! The exit status, and which outcomes end a command.
 ghost use Rattle.std.specs.Prelude.{◌≡◌};
-ghost use Rattle.warcdx.specs.Outcome.{status_of, index_status, query_status, answer_status, capture_status, cause_status, is_memory, ends_command, worse_of};
+ghost use Rattle.warcdx.specs.Outcome.{exit_status_of, index_status, query_status, answer_status, capture_status, cause_status, is_memory, ends_command, worse_of};
 
 use crate::outcome::Outcome;
 use capture_core::CaptureFault;
@@ -12,7 +12,7 @@ use warc_core::Cause;
 /// too many indexes or archives, a digest that differs, or an offset where no record begins; 2 for a usage error; 3 if
 /// memory, a device or a file failed.
 pub fn status(outcome: &Outcome) -> u8
-    ensures { result ≡ status_of outcome.now }
+    ensures { result ≡ exit_status_of outcome.now }
 {
     match outcome {
         Outcome::Done => 0,

@@ -7,4 +7,5 @@ range_from-requires c =
     let text = c.args.text.now in
     let space : get_or text 14 0 ≡ 32 = ap (λ t. get_or t 14 0) (sym c.as_bytes.ensures.value)
     ∙ c.begins_with_stamp.ensures.space c.if-begins_with_stamp.true in
-    λ some. IsCharBoundary-after_ascii text 14 c.utf8.text (omega (arith, c.if-text-ge-LANES.true)) (omega (arith, space))
+    λ some. IsCharBoundary-after_ascii text 14 c.utf8.text
+    (omega (arith, c.if-text-ge-LANES.true)) (omega (arith, space))

@@ -26,7 +26,8 @@ loop-argument-preserved c =
 pub returns : goal.returns
 returns c =
     let inv = c.loop-argument.invariant in
-    let all = take_all c.loop-argument.argument-index c.args.arguments.now (omega (arith, c.loop-argument-test.false)) in
+    let all = take_all c.loop-argument.argument-index c.args.arguments.now
+    (omega (arith, c.loop-argument-test.false)) in
     let whole = inv.app ∙ ap (λ arguments. app_with c.args.name.now (map rule_for arguments)) all in
     IfOk-weaker c.subcommand.result _ _
     (λ more h. h.shape inv.globals ∙ ap (λ (a : App). with_subcommand (app_of c.args.program) a.top) whole)

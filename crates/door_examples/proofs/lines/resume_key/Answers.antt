@@ -28,4 +28,5 @@ returns-in_ok-text-clause-place c =
     let named : nat_lt 0 (length c.args.filename.now) ≡ true = search rules in
     let number : Some c.in-Some.offset ≡ offset_of c.args.offset.now = search rules in
     ap resume_place c.in_ok-text.ensures ∙ c.resume_key_is_read.ensures place c.place_is_good.ensures
-    ∙ sym (made c.args.key.now c.args.stamp c.args.filename.now c.args.offset.now c.in-Some.offset key stamp named number)
+    ∙ sym (made c.args.key.now c.args.stamp c.args.filename.now c.args.offset.now c.in-Some.offset
+    key stamp named number)

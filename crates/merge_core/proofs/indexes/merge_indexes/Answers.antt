@@ -5,7 +5,7 @@ use Rattle.std.proofs.lemmas.List.{length-map}
 use Rattle.std.proofs.lemmas.Bool.{true≢false}
 use Rattle.std.proofs.lemmas.List.Concat.{flat_map-append}
 use Rattle.cdxj_core.specs.declared.limit.TheConstants.{LINE_LIMIT}
-use Rattle.cdxj_core.specs.Members.{Member, member_pair, member_place}
+use Rattle.cdxj_core.specs.Members.{Member, line_row, member_pair, member_place}
 use Rattle.cdxj_places.specs.Pairs.{Pair}
 use Rattle.cdxj_places.specs.Places.{place_cmp}
 use Rattle.cdxj_places.specs.Rising.{rising}
@@ -17,7 +17,7 @@ use Rattle.line_queue.specs.WaitingLines.{WaitingLine}
 use Rattle.merge_core.specs.Collections.{KeepsSources, Known, OverIndexes, collection}
 use Rattle.merge_core.specs.Feeds.{AreFed}
 use Rattle.merge_core.specs.Reached.{Reached}
-use Rattle.merge_core.specs.Written.{line_row, lines_text}
+use Rattle.merge_core.specs.Written.{lines_text}
 use Rattle.merge_core.specs.SourceLines.{AreLinesOf, WroteLinesOf}
 use Rattle.merge_core.proofs.FailLemmas.{counts_merge, raised_by_read}
 use Rattle.merge_core.proofs.ReadLemmas.{sought_first}

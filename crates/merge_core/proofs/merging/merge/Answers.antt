@@ -19,14 +19,14 @@ use Rattle.merge_core.specs.Gathering.{Grouped, AreTold, all_done}
 use Rattle.line_queue.specs.PairOrders.{Alike}
 use Rattle.merge_core.specs.Reached.{Reached}
 use Rattle.merge_core.specs.SourceLines.{HasEntry}
-use Rattle.merge_core.specs.LineFaults.{IsFaultOf}
+use Rattle.merge_core.specs.LineFaults.{IsMergeFaultOf}
 use Rattle.merge_core.proofs.WholeLemmas.{texts_kept}
 use Rattle.merge_core.proofs.FailLemmas.{counts_merge, if_err, raised_by_read, raised_by_write}
 use Rattle.merge_core.proofs.Many.{Move, moved_trans, moved_still, told_moved}
 use Rattle.merge_core.proofs.HeldLemmas.{held_most, held_after}
 use Rattle.merge_core.proofs.MergeLemmas.{above_none, below_next, handed_none, handed_next, on_err, reached_same}
 use Rattle.merge_core.specs.Feeds.{AreSettled}
-use Rattle.merge_core.proofs.WrittenLemmas.{grows_not}
+use Rattle.devices.proofs.DeviceLemmas.{grows_not}
 use Rattle.merge_core.proofs.merging.merge.Given.{Over}
 use Rattle.merge_core.proofs.merging.merge.Goals.{In-Some, After-deref-in-Some, After-gather, After-hand_on}
 use Rattle.merge_core.proofs.merging.merge.Goals.{After-put_back}
@@ -269,8 +269,8 @@ returns-in_err-first-clause-fault g c =
     let texts = map text c.args.sources.now in
     let kept = texts_kept text extent gave c.args.sources.now c.loop-rest.sources c.args.streams.now.feeds.items
     c.loop-rest.streams.feeds.items c.requires.ready.same (omega arith) c.loop-rest.invariant.came.reached.moved in
-    if_err c.from_residual.result c.in_err-first.field-0.0 (IsFaultOf LINE_LIMIT texts) c.from_residual.ensures.1
-    (subst (λ ts. IsFaultOf LINE_LIMIT ts c.in_err-first.field-0.0) kept c.in_err-first.ensures.fault)
+    if_err c.from_residual.result c.in_err-first.field-0.0 (IsMergeFaultOf LINE_LIMIT texts) c.from_residual.ensures.1
+    (subst (λ ts. IsMergeFaultOf LINE_LIMIT ts c.in_err-first.field-0.0) kept c.in_err-first.ensures.fault)
 
 pub returns-then-not-more-clause-held : goal.returns-then-not-more-clause-held
 returns-then-not-more-clause-held g c = λ texts indexes known are most share h.

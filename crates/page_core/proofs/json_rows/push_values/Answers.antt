@@ -1,7 +1,7 @@
 use Rattle.std.proofs.Common.{◌≡◌, ◌∙◌, ◌++◌, ◌∷◌, [], ℕ, List, ap, append_assoc, map}
 use Rattle.std.specs.List.{join_by}
 use Rattle.json.specs.Print.{quoted}
-use Rattle.page_core.specs.Rows.{value_of}
+use Rattle.page_core.specs.Rows.{row_value}
 use Rattle.page_core.proofs.JsonLemmas.{values_plain}
 use Rattle.page_core.proofs.json_rows.push_values.Goals as goal
 use Rattle.page_core.proofs.json_rows.push_values.Goals.{then-needs_no_escapes+in_ok-push_plain_values}
@@ -13,7 +13,7 @@ closed old row = simp append_assoc
 pub returns : goal.returns
 returns c =
     let begun = c.extend_from_slice.new.self in
-    let value = value_of c.args.line.now in
+    let value = row_value c.args.line.now in
     let row = join_by quoted (44 ∷ []) (map value c.args.fields.now) in
     let written : c.if-needs_no_escapes.text.items ≡ begun.items ++ row = elim c.if-needs_no_escapes.branch [
       | then-needs_no_escapes+in_ok-push_plain_values w ↦

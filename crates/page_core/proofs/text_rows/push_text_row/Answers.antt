@@ -1,6 +1,6 @@
 use Rattle.std.proofs.Common.{◌≡◌, ◌∙◌, ◌++◌, ◌∷◌, [], ap, append_assoc, length, take, arith}
 use Rattle.std.specs.List.{join_by, count_by}
-use Rattle.page_core.specs.Rows.{value_of, escaped, is_hidden}
+use Rattle.page_core.specs.Rows.{row_value, escaped, is_hidden}
 use Rattle.page_core.proofs.HiddenLemmas.{taken_off, appended, text_same}
 use Rattle.page_core.proofs.text_rows.push_text_row.Goals as goal
 use Rattle.page_core.proofs.text_rows.push_text_row.Goals.{then-count_hidden-fields+in_ok-push_text_values}
@@ -10,7 +10,7 @@ pub returns : goal.returns
 returns c =
     let old = c.args.text.now.items in
     let fields = c.args.fields.now in
-    let value = value_of c.args.line.now in
+    let value = row_value c.args.line.now in
     let plain = join_by value (32 ∷ []) fields in
     let row = join_by (λ f. escaped (value f)) (32 ∷ []) fields in
     let start : c.len-start.result ≡ length old = omega (arith, c.len-start.ensures, c.args.text.now.ok) in

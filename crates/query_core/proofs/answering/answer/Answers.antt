@@ -12,10 +12,10 @@ use Rattle.query_text.specs.Matching.{is_past}
 use Rattle.page_core.specs.Pages.{Page}
 use Rattle.merge_core.specs.Runs.{IsPart}
 use Rattle.merge_core.specs.SourceLines.{AreLinesOf}
-use Rattle.merge_core.proofs.WrittenLemmas.{grows_by, grows_not, grows_part}
+use Rattle.devices.proofs.DeviceLemmas.{grows_by, grows_not, grows_part}
 use Rattle.merge_core.specs.Collections.{collection}
 use Rattle.query_core.specs.Answering.{Answered}
-use Rattle.query_core.specs.Passes.{IsWithin}
+use Rattle.query_core.specs.Passes.{AreAtMost}
 use Rattle.page_writers.specs.PageWriting.{PageStands, captures_over, page_over}
 use Rattle.page_writers.specs.QueryPages.{form_of, query_page}
 use Rattle.page_writers.specs.WriterView.{Wrote}
@@ -53,7 +53,7 @@ at g c w lines now wrote = stood c.in_ok-writer.writer c.args.query.now c.in_ok-
 within : (g : Over) (c : In_ok-writer g) (w : PageWriter) (lines : List Member) (now : Option (List ℕ))
     → Wrote c.in_ok-writer.writer w lines (g.O.Output.written c.args.out.now) now
     → ((c.in_ok-writer.writer.more ≡ true → ⊥) → w.more ≡ true → ⊥)
-    → IsWithin c.args.query.now.limit (captures_over c.args.query.now c.args.query.now.resume lines)
+    → AreAtMost c.args.query.now.limit (captures_over c.args.query.now c.args.query.now.resume lines)
 within g c w lines now wrote more =
     let q = c.args.query.now in
     let fresh : c.in_ok-writer.writer.more ≡ true

@@ -23,8 +23,8 @@ use Rattle.merge_core.proofs.RunLemmas.{parts_are, parts_count, parts_first, par
 use Rattle.merge_core.proofs.SourceLemmas.{taken_lines}
 use Rattle.merge_core.proofs.SpendLemmas.{are_read_to}
 use Rattle.merge_core.proofs.WholeLemmas.{extents_kept, texts_kept, told_known}
-use Rattle.merge_core.proofs.WrittenLemmas.{grows_not}
-use Rattle.query_core.specs.IndexFaults.{IsFaultOf}
+use Rattle.devices.proofs.DeviceLemmas.{grows_not}
+use Rattle.query_core.specs.IndexFaults.{IsAnswerFaultOf}
 use Rattle.page_writers.specs.PageWriting.{is_wanted, place_before, captures_over}
 use Rattle.query_core.specs.Reach.{in_reach}
 use Rattle.query_core.specs.Passes.{IsOfParts, Took}
@@ -89,7 +89,7 @@ returns-in_err-all-clause-fault g c =
     let p = err_from_is_err_and c.from_residual-in_err-all.result c.from_residual-in_err-all.ensures.1 in
     rw (p.1, p.2) (let e = c.in_err-all.field-0.0 in
     merge_line LINE_LIMIT (map g.S.Source.text c.args.sources.now) e
-    (subst (λ ts. merging.IsFaultOf LINE_LIMIT ts e) c.open_at.ensures.text c.in_err-all.ensures.fault))
+    (subst (λ ts. merging.IsMergeFaultOf LINE_LIMIT ts e) c.open_at.ensures.text c.in_err-all.ensures.fault))
 
 pub returns-clause-held : goal.returns-clause-held
 returns-clause-held g c = λ texts indexes known are most share.

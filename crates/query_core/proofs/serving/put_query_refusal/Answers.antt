@@ -1,7 +1,7 @@
 use Rattle.std.proofs.Common.{◌≡◌, sym, subst, refl}
 use Rattle.devices.specs.Writing.{WritesText}
 use Rattle.devices.proofs.WritingLemmas.{wrote_nothing}
-use Rattle.query_text.specs.FaultNames.{fault_name}
+use Rattle.query_text.specs.FaultNames.{query_fault_name}
 use Rattle.query_core.specs.AnyReplies.{IsQueryReply}
 use Rattle.query_core.specs.Conversations.{WritesSome}
 use Rattle.query_core.specs.Replies.{refusal_text, reply_to}
@@ -29,7 +29,7 @@ returns-in_default-clause-lines g c = λ told read is.
     let old = g.O.Output.written c.args.out.now in
     let new = g.O.Output.written c.put_refusal.new.out in
     subst (λ r. WritesSome c.put_refusal.result old new (IsQueryReply told r)) (sym (is c.in_default.not-Memory))
-    (writes_some c.put_refusal.result old new (λ reply. reply ≡ refusal_text (fault_name c.args.fault))
-    (refusal_text (fault_name c.args.fault)) refl
+    (writes_some c.put_refusal.result old new (λ reply. reply ≡ refusal_text (query_fault_name c.args.fault))
+    (refusal_text (query_fault_name c.args.fault)) refl
     (subst (λ name. WritesText c.put_refusal.result old new (refusal_text name)) c.name.ensures
     c.put_refusal.ensures.text))

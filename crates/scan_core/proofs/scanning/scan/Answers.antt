@@ -8,7 +8,7 @@ use Rattle.devices.specs.Gathered.{gathered}
 use Rattle.scan_core.specs.Archives.{index_members}
 use Rattle.scan_core.proofs.ArchiveLemmas.{map_length}
 use Rattle.query_core.specs.declared.fault.AnswerFault.{AnswerFault}
-use Rattle.scan_core.specs.Scanning.{IsEarly, IsPagesFault, IsScanFault, LeavesUnread}
+use Rattle.scan_core.specs.Scanning.{IsBeforeWriting, IsPagesFault, IsScanFault, LeavesUnread}
 use Rattle.scan_core.specs.declared.fault.ScanFault.TheVariants.{Answer}
 use Rattle.scan_core.proofs.ScanLemmas.{archive_fault, of_pages_fault, scanned_whole, scanned_part}
 use Rattle.scan_core.proofs.scanning.scan.Given.{Over}
@@ -97,7 +97,7 @@ pub returns-in_err-write_pages-clause-unwritten : goal.returns-in_err-write_page
 returns-in_err-write_pages-clause-unwritten g c =
     let r = c.from_residual-in_err-write_pages in
     let p = err_from_is_err_and r.result r.ensures.1 in
-    rw (p.1, p.2) (of_pages_fault (λ f. IsEarly (Answer f) → c.write_pages.new.out ≡ c.args.out.now) (λ e. absurd e) (λ e. absurd e) c.in_err-write_pages.field-0.0
+    rw (p.1, p.2) (of_pages_fault (λ f. IsBeforeWriting (Answer f) → c.write_pages.new.out ≡ c.args.out.now) (λ e. absurd e) (λ e. absurd e) c.in_err-write_pages.field-0.0
     (refused g (goal.at.returns-in_err-write_pages-clause-unwritten g c).In_err-write_pages))
 
 

@@ -1,5 +1,5 @@
 use Rattle.std.proofs.Common.{◌≡◌, ◌+◌, ◌≤◌, ℕ, Some, List, length, take, drop, arith, sym, ◌∙◌, subst}
-use Rattle.source_core.specs.Windows.{StandsAt}
+use Rattle.source_core.specs.Windows.{AreBytesAt}
 use Rattle.source_core.specs.IndexLines.{lines, longest}
 use Rattle.source_core.proofs.Pieces.{nowhere_in, found_in, begins_in}
 use Rattle.source_core.proofs.LongestLines.{gap_most}
@@ -18,10 +18,10 @@ gap g c t e =
 
 -- the window holds bytes of the source from here on
 stands : (g : Over) (c : After-min-count g)
-    → StandsAt (g.S.Source.text c.hold.new.source) (g.S.Source.extent c.hold.new.source) c.loop-at.at
+    → AreBytesAt (g.S.Source.text c.hold.new.source) (g.S.Source.extent c.hold.new.source) c.loop-at.at
     c.from-held.result.now
 stands g c =
-    subst (StandsAt (g.S.Source.text c.hold.new.source) (g.S.Source.extent c.hold.new.source) c.loop-at.at)
+    subst (AreBytesAt (g.S.Source.text c.hold.new.source) (g.S.Source.extent c.hold.new.source) c.loop-at.at)
     (sym c.from-held.ensures)
     (held_stands (g.S.Source.text c.hold.new.source) (g.S.Source.extent c.hold.new.source) c.hold.new.self c.loop-at.at
     (c.in_ok-hold.ensures.holds c.loop-at.invariant.holds)

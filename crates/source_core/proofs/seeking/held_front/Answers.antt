@@ -1,5 +1,5 @@
 use Rattle.std.proofs.Common.{rules, ◌≡◌, ◌+◌, [], take, arith, sym, subst}
-use Rattle.source_core.specs.Windows.{StandsAt}
+use Rattle.source_core.specs.Windows.{AreBytesAt}
 use Rattle.source_core.proofs.WindowLemmas.{held_reads, held_stands, nothing_read}
 use Rattle.source_core.proofs.seeking.held_front.Goals as goal
 
@@ -9,9 +9,9 @@ returns-clause-reads c = λ text extent holds inside t e.
     let n = c.line_part-length.result.0 in
     let new = c.extend_from_slice.new.self.items in
     let none : c.args.offset ≡ c.args.offset + 0 = omega arith in
-    let stands = subst (StandsAt text extent c.args.offset) (sym c.from-held.ensures)
+    let stands = subst (AreBytesAt text extent c.args.offset) (sym c.from-held.ensures)
     (held_stands text extent c.args.window.now c.args.offset holds inside) in
     held_reads text extent c.args.offset n [] held new t c.line_part-length.result.1
-    (subst (λ at. StandsAt text extent at held) none stands) e c.line_part-length.ensures.within
+    (subst (λ at. AreBytesAt text extent at held) none stands) e c.line_part-length.ensures.within
     (let grown : new ≡ take n held = search rules in grown) c.line_part-length.ensures.part
     (nothing_read t c.args.offset)

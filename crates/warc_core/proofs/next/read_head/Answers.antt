@@ -1,7 +1,7 @@
 use Rattle.std.proofs.Common.{◌∙◌, length, ap, arith}
 use Rattle.std.proofs.lemmas.Result.{err_from_is_err_and}
 use Rattle.warc_core.specs.HeadText.{head_text}
-use Rattle.warc_core.specs.Head.{parts_of, cause_of}
+use Rattle.warc_core.specs.Head.{parts_or_cause, cause_of}
 use Rattle.warc_core.specs.Next.{head_at}
 use Rattle.warc_core.specs.HeadView.{HeadView}
 use Rattle.warc_core.specs.declared.next.TheConstants.{HEAD_LIMIT}
@@ -29,7 +29,7 @@ pub returns-in_err-parts-clause-failures : goal.returns-in_err-parts-clause-fail
 returns-in_err-parts-clause-failures g c =
     let p = err_from_is_err_and c.from_residual-in_err-parts.result c.from_residual-in_err-parts.ensures.1 in
     let fault = c.in_err-parts.field-0.0 in
-    rw (p.1, p.2) (CountsRead-purely HeadView (cause_of fault) (parts_of c.in_ok-raw.raw.items) _ _
+    rw (p.1, p.2) (CountsRead-purely HeadView (cause_of fault) (parts_or_cause c.in_ok-raw.raw.items) _ _
     (purely-found fault c.in_ok-raw.raw.items c.in_err-parts.ensures.answer) c.in_ok-raw.ensures.failures)
 
 pub returns-then-end-gt-GREATEST_OFFSET-clause-bytes : goal.returns-then-end-gt-GREATEST_OFFSET-clause-bytes

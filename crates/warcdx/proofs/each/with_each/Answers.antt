@@ -10,7 +10,8 @@ returns-then-ends_command g c =
     let names = c.args.names.now in
     let left = drop_more names at c.name-item.result c.loop-name-test.true
     ∙ ap (λ name. name ∷ drop (at + 1) names) (sym c.name-item.is) in
-    let step : ReturnsWithState g.F.Fn c.args.act c.loop-name.state c.deref.result.now c.act-ended.result c.act-ended.new.arg2
+    let step : ReturnsWithState g.F.Fn c.args.act c.loop-name.state c.deref.result.now c.act-ended.result
+    c.act-ended.new.arg2
     = record { shown = _; shows = refl; named = _; names = refl; left = _; met = c.act-ended.ensures; leaves = refl } in
     c.loop-name.invariant _ _
     (rw (ap texts left, sym c.deref.ensures) (_, _, step, rw (sym c.if-ends_command.ensures) (refl, refl)))
@@ -21,7 +22,8 @@ loop-name-preserved g c =
     let names = c.args.names.now in
     let left = drop_more names at c.name-item.result c.loop-name-test.true
     ∙ ap (λ name. name ∷ drop (at + 1) names) (sym c.name-item.is) in
-    let step : ReturnsWithState g.F.Fn c.args.act c.loop-name.state c.deref.result.now c.act-ended.result c.act-ended.new.arg2
+    let step : ReturnsWithState g.F.Fn c.args.act c.loop-name.state c.deref.result.now c.act-ended.result
+    c.act-ended.new.arg2
     = record { shown = _; shows = refl; named = _; names = refl; left = _; met = c.act-ended.ensures; leaves = refl } in
     λ result last over. c.loop-name.invariant result last
     (rw (ap texts left, sym c.deref.ensures)

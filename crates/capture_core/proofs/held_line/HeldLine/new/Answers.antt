@@ -2,7 +2,7 @@ use Rattle.std.proofs.Common.{◌≡◌, ◌∙◌, ◌≤◌, ap, take, length,
 use Rattle.cdxj_core.specs.declared.limit.TheConstants.{LINE_LIMIT}
 use Rattle.cdxj_core.specs.Entries.{HasLine, line_text}
 use Rattle.cdxj_core.specs.EntryView.{entry_view}
-use Rattle.capture_core.specs.Spelling.{Holds}
+use Rattle.capture_core.specs.Spelling.{HoldsLine}
 use Rattle.capture_core.proofs.SpellingLemmas.{spells, holds_spelled}
 use Rattle.capture_core.proofs.held_line.HeldLine.new.Goals as goal
 
@@ -19,7 +19,9 @@ has_line c = (c.requires, subst (λ t. length t ≤ LINE_LIMIT) c.in_ok-bytes.en
 
 pub invariant_of-result : goal.invariant_of-result
 invariant_of-result c =
-    let h : Holds (entry_view c.args.entry) c.name_start.new.bytes.items c.len-line_length.result (length c.args.entry.key.now) c.in_ok-name_start.name_start (length c.as_bytes-name.result.now) c.args.entry.offset = record {
+    let h : HoldsLine (entry_view c.args.entry) c.name_start.new.bytes.items c.len-line_length.result
+    (length c.args.entry.key.now) c.in_ok-name_start.name_start (length c.as_bytes-name.result.now)
+    c.args.entry.offset = record {
       line = record {
         has_line = has_line c;
         line_is = line c;

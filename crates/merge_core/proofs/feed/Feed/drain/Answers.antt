@@ -19,7 +19,8 @@ use Rattle.merge_core.proofs.SpendLemmas.{read_to}
 use Rattle.merge_core.proofs.BadLines.{bad_named, order_named}
 use Rattle.merge_core.proofs.FailLemmas.{counts_feed, if_err}
 use Rattle.line_queue.proofs.PairOrder.{below_upto, same_upto, same_from}
-use Rattle.merge_core.proofs.FeedLemmas.{each_join, each_next, line_read, same_stays}
+use Rattle.cdxj_places.proofs.RisingLaws.{each_join}
+use Rattle.merge_core.proofs.FeedLemmas.{each_next, line_read, same_stays}
 use Rattle.merge_core.proofs.DrainLemmas.{settled, settled_done, taken, taken_done, at_end, taken_more}
 use Rattle.merge_core.proofs.feed.Feed.drain.Given.{Over}
 use Rattle.merge_core.proofs.feed.Feed.drain.Goals.{After-next_line, In-Greater}

@@ -4,7 +4,7 @@ use Rattle.devices.specs.Device.{AppendsPrefix}
 use Rattle.devices.proofs.WritingLemmas.{prefix_after, prefix_longer}
 use Rattle.merge_core.specs.declared.fault.SinkFault.TheVariants.{Write}
 use Rattle.merge_core.proofs.MergeLemmas.{on_err}
-use Rattle.merge_core.proofs.WrittenLemmas.{grows_by, grows_on, grows_part}
+use Rattle.devices.proofs.DeviceLemmas.{grows_by, grows_on, grows_part}
 use Rattle.merge_core.proofs.line_writer.LineWriter.put_line.Goals as goal
 
 pub returns-in_err-put-clause-part : goal.returns-in_err-put-clause-part

@@ -1,7 +1,8 @@
 use Rattle.std.proofs.Common.{Bor, ◌∙◌}
 use Rattle.std.proofs.lemmas.Result.{err_from_is_err_and}
 use Rattle.cdxj_core.specs.declared.line.Line.{Line}
-use Rattle.merge_core.proofs.WrittenLemmas.{broke_at, grows_on, wrote_more}
+use Rattle.devices.proofs.DeviceLemmas.{grows_on}
+use Rattle.merge_core.proofs.WrittenLemmas.{broke_at, wrote_more}
 use Rattle.merge_core.proofs.line_writer.LineWriterSink.take.Goals as goal
 
 pub returns-in_err-put_line-clause-wrote : goal.returns-in_err-put_line-clause-wrote

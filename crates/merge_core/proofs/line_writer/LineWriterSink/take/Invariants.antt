@@ -1,7 +1,7 @@
 use Rattle.std.proofs.Common.{◌≡◌, ◌++◌, ◌-◌, ◌^◌, ℕ, List, Option, length, take, map, min}
 use Rattle.std.specs.Io.KnownBytes.{Appends}
 use Rattle.cdxj_core.specs.Members.{Member}
-use Rattle.merge_core.specs.Reached.{Grows}
+use Rattle.devices.specs.Device.{Grows}
 use Rattle.merge_core.specs.Written.{lines_text}
 use Rattle.merge_core.proofs.line_writer.LineWriterSink.take.Given as goal
 

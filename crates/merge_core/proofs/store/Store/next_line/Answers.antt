@@ -3,7 +3,7 @@ use Rattle.cdxj_places.specs.TextLines.{lines}
 use Rattle.source_core.specs.IndexLines.{first_then, line_found}
 use Rattle.cdxj_core.specs.declared.limit.TheConstants.{LINE_LIMIT}
 use Rattle.cdxj_core.specs.Members.{line_entry}
-use Rattle.merge_core.specs.LineFaults.{IsFaultAt}
+use Rattle.merge_core.specs.LineFaults.{IsFeedFaultAt}
 use Rattle.merge_core.proofs.BadLines.{first_long, refused_at}
 use Rattle.merge_core.proofs.FeedLemmas.{one_more}
 use Rattle.merge_core.proofs.store.Store.next_line.Given.{Over}
@@ -14,7 +14,7 @@ use Rattle.merge_core.proofs.store.Store.next_line.Goals as goal
 held : (g : Over) (c : After-pass_line g) (t : List ℕ) → g.S.Source.text c.args.source.now ≡ Some t
     → lines (drop c.args.cursor.now.at t) ≡ c.in-Some.bytes.now ∷ lines (drop c.pass_line.new.self.at t)
 held g c t e = c.pass_line.ensures.given t e
-    ∙ ap (λ l. l ∷ lines (drop c.pass_line.new.self.at t)) (sym c.in-Some.ensures.0)
+    ∙ ap (λ l. l ∷ lines (drop c.pass_line.new.self.at t)) (sym c.in-Some.ensures.line.0)
 
 -- so is the one that was read
 found : (g : Over) (c : After-line_of g) (t : List ℕ) → g.S.Source.text c.args.source.now ≡ Some t
@@ -38,7 +38,7 @@ returns-in-Ok-clause-given g c = λ t e.
 pub returns-in-Err-clause-fault : goal.returns-in-Err-clause-fault
 returns-in-Err-clause-fault g c = λ t e.
     let line = held g (goal.at.returns-in-Err-clause-fault g c).After-pass_line t e in
-    subst (IsFaultAt LINE_LIMIT (lines (drop c.args.cursor.now.at t)) c.args.cursor.now.at) (sym c.fault_at.ensures)
+    subst (IsFeedFaultAt LINE_LIMIT (lines (drop c.args.cursor.now.at t)) c.args.cursor.now.at) (sym c.fault_at.ensures)
     (refused_at LINE_LIMIT _ _ c.in-Some.bytes.now c.args.cursor.now.at c.at-begin.result c.in-Err.fault
     c.at-begin.ensures line c.in-Err.ensures)
 
@@ -63,7 +63,7 @@ pub returns-in-Err-line_of-clause-fault : goal.returns-in-Err-line_of-clause-fau
 returns-in-Err-line_of-clause-fault g c = λ t e.
     let line = found g (goal.at.returns-in-Err-line_of-clause-fault g c).After-line_of t e
     ∙ ap (λ l. l ∷ lines (drop c.next.new.self.at t)) (sym c.deref.ensures.value) in
-    subst (IsFaultAt LINE_LIMIT (lines (drop c.args.cursor.now.at t)) c.args.cursor.now.at)
+    subst (IsFeedFaultAt LINE_LIMIT (lines (drop c.args.cursor.now.at t)) c.args.cursor.now.at)
     (sym c.fault_at-in-Err-line_of.ensures)
     (refused_at LINE_LIMIT _ _ c.deref.result.now c.args.cursor.now.at c.at-begin.result c.in-Err-line_of.fault
     c.at-begin.ensures line c.in-Err-line_of.ensures)

@@ -8,7 +8,7 @@ use Rattle.std.specs.List.Sorted.{IsPermutation}
 use Rattle.std.proofs.lemmas.Cmp.{tied_itself}
 use Rattle.std.proofs.lemmas.List.Sorted.{IsPermutation-sym}
 use Rattle.cdxj_places.proofs.PairLemmas.{pair_cmp_total}
-use Rattle.cdxj_places.proofs.RisingLaws.{each_weaker}
+use Rattle.cdxj_places.proofs.RisingLaws.{each_join, each_weaker}
 use Rattle.cdxj_core.specs.declared.limit.TheConstants.{LINE_LIMIT}
 use Rattle.cdxj_core.specs.declared.line.Line.{Line}
 use Rattle.cdxj_core.specs.Members.{Member, member_pair}
@@ -17,7 +17,7 @@ use Rattle.line_queue.specs.PairOrders.{Alike, Upto}
 use Rattle.line_queue.specs.WaitingLines.{WaitingLine, waiting_pair, turn_cmp}
 use Rattle.merge_core.specs.Feeds.{IsSettled, AreSettled, due}
 use Rattle.merge_core.specs.Gathering.{Gathered, Grouped, IsFrom, IsDue, WaitsAbove, Drained, AreTold, all_done, unread}
-use Rattle.merge_core.specs.LineFaults.{IsFaultOf}
+use Rattle.merge_core.specs.LineFaults.{IsMergeFaultOf}
 use Rattle.merge_core.specs.declared.fault.MergeFault.TheVariants.{Memory}
 use Rattle.merge_core.specs.Spending.{AreReadTo}
 use Rattle.line_queue.proofs.PairOrder.{upto_itself}
@@ -25,7 +25,6 @@ use Rattle.merge_core.proofs.MergeLemmas.{on_err}
 use Rattle.merge_core.proofs.SpendLemmas.{due_read}
 use Rattle.merge_core.proofs.WholeLemmas.{texts_kept}
 use Rattle.merge_core.proofs.FailLemmas.{counts_reads, if_err}
-use Rattle.merge_core.proofs.FeedLemmas.{each_join}
 use Rattle.merge_core.proofs.GroupLemmas.{AreAt, AreBelow, from_waited}
 use Rattle.merge_core.proofs.GatherSteps.{Gathers, TakenNext, gathers_start, taken_next, gathers_drained, gathers_all}
 use Rattle.line_queue.proofs.HeapLemmas.{each_permuted}
@@ -300,8 +299,8 @@ returns-in_err-drain-clause-fault g c =
     let texts = map text c.args.sources.now in
     let kept = texts_kept text extent gave c.args.sources.now c.sources.sources c.args.self.now.feeds.items
     c.sources.self.feeds.items c.requires.ready.same inv.gathers.as_many inv.gathers.moved in
-    if_err c.from_residual.result c.in_err-drain.field-0.0 (IsFaultOf LINE_LIMIT texts) c.from_residual.ensures.1
-    (subst (λ ts. IsFaultOf LINE_LIMIT ts c.in_err-drain.field-0.0) kept c.in_err-drain.ensures.fault)
+    if_err c.from_residual.result c.in_err-drain.field-0.0 (IsMergeFaultOf LINE_LIMIT texts) c.from_residual.ensures.1
+    (subst (λ ts. IsMergeFaultOf LINE_LIMIT ts c.in_err-drain.field-0.0) kept c.in_err-drain.ensures.fault)
 
 -- the sources were read up to the pair
 read_to : (g : Over) (c : After-drain g) → AreTold g.S.Source.text c.args.sources.now

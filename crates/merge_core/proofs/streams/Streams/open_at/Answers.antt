@@ -14,7 +14,7 @@ use Rattle.merge_core.specs.Openings.{IsCutAt}
 use Rattle.merge_core.specs.Spending.{CameWithin, OpenedWithin}
 use Rattle.merge_core.proofs.SpendLemmas.{opened_none, two_put, left_here, left_after}
 use Rattle.merge_core.proofs.FailLemmas.{raised_by_feed}
-use Rattle.merge_core.proofs.FeedLemmas.{each_join}
+use Rattle.cdxj_places.proofs.RisingLaws.{each_join}
 use Rattle.merge_core.proofs.Many.{map_set_same}
 use Rattle.merge_core.proofs.MergeLemmas.{map_seen}
 use Rattle.merge_core.proofs.OpenLemmas.{fed_added, fed_none, done_none, zip_none, zip_push, flat_push, fresh_of}

@@ -3,7 +3,7 @@ use Rattle.std.proofs.lemmas.Result.{err_from_is_err_and}
 use Rattle.std.proofs.lemmas.List.{take_all}
 use Rattle.cdxj_core.specs.declared.line.Line.{Line}
 use Rattle.devices.specs.Device.{AppendsPrefix}
-use Rattle.page_writers.proofs.GrowLemmas.{grows_on}
+use Rattle.devices.proofs.DeviceLemmas.{grows_on}
 use Rattle.page_core.specs.PageText.{begun}
 use Rattle.page_writers.specs.QueryPages.{form_of}
 use Rattle.page_writers.specs.PageWriting.{page_over}

@@ -1,6 +1,6 @@
 use Rattle.std.proofs.Common.{◌≡◌, ◌++◌, ℕ, List, Option, take, map}
 use Rattle.cdxj_core.specs.Members.{Member}
-use Rattle.page_writers.specs.Growing.{Grows}
+use Rattle.devices.specs.Device.{Grows}
 use Rattle.page_writers.specs.WriterView.{stands, Kept}
 use Rattle.page_writers.proofs.page_writer.PageWriter.take.Given as goal
 

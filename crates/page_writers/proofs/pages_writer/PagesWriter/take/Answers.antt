@@ -2,7 +2,7 @@ use Rattle.std.proofs.Common.{◌≡◌, ◌++◌, ◌∷◌, [], take, map, fil
 use Rattle.std.proofs.lemmas.Result.{err_from_is_err_and}
 use Rattle.std.proofs.lemmas.List.{take_all}
 use Rattle.cdxj_core.specs.declared.line.Line.{Line}
-use Rattle.page_writers.proofs.GrowLemmas.{grows_not, grows_on}
+use Rattle.devices.proofs.DeviceLemmas.{grows_not, grows_on}
 use Rattle.page_writers.specs.PageWriting.{captures_over, is_wanted, place_before}
 use Rattle.page_writers.specs.WriterView.{IsFront, pages_stand, from_view}
 use Rattle.page_writers.proofs.CaptureLemmas.{captures_append, kept_after}

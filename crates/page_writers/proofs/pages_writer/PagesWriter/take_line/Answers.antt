@@ -1,7 +1,7 @@
 use Rattle.std.proofs.Common.{rules, ◌≡◌, ◌++◌, ◌∷◌, [], true, false, cond, sym, ap, ap₂, refl, ◌∙◌, subst, append-nil}
 use Rattle.std.proofs.Common.{filter}
 use Rattle.std.proofs.lemmas.Result.{err_from_is_err_and}
-use Rattle.page_writers.proofs.GrowLemmas.{grows_on, grows_by, grows_part}
+use Rattle.devices.proofs.DeviceLemmas.{grows_on, grows_by, grows_part}
 use Rattle.page_writers.specs.PageWriting.{is_wanted, place_before}
 use Rattle.page_writers.specs.PagesWriting.{PagesStand}
 use Rattle.page_writers.specs.WriterView.{IsFront, Selects, captures_of, from_view}

@@ -1,13 +1,13 @@
 use Rattle.std.proofs.Common.{length, refl, ap, ◌∙◌, arith, sym, subst}
-use Rattle.source_core.specs.Windows.{HeldBytes, StandsAt, held_from}
+use Rattle.source_core.specs.Windows.{AreBytesAt, HeldBytes, held_from}
 use Rattle.source_core.proofs.WindowLemmas.{none_held, none_held_from}
 use Rattle.source_core.proofs.cursor.Cursor.new.Goals as goal
 
 pub returns-clause-stands : goal.returns-clause-stands
 returns-clause-stands c = λ text extent inside. record {
-  filled = subst (λ (w : HeldBytes). StandsAt text extent c.args.start (held_from w c.args.start))
+  filled = subst (λ (w : HeldBytes). AreBytesAt text extent c.args.start (held_from w c.args.start))
       (sym c.in_ok-new.ensures)
-      (subst (StandsAt text extent c.args.start) (sym (none_held_from c.args.start))
+      (subst (AreBytesAt text extent c.args.start) (sym (none_held_from c.args.start))
       (none_held text extent c.args.start inside));
   begun = omega arith;
   rest = λ t e. refl;

@@ -4,7 +4,7 @@ use Rattle.std.proofs.Common.{◌∙◌, subst, length-append, length-take, leng
 use Rattle.cdxj_places.specs.TextLines.{lines}
 use Rattle.source_core.specs.IndexLines.{first_length}
 use Rattle.source_core.specs.LineParts.{PartOf, NoFeed}
-use Rattle.source_core.specs.Windows.{StandsAt, held_from}
+use Rattle.source_core.specs.Windows.{AreBytesAt, held_from}
 use Rattle.source_core.proofs.Parts.{ended, goes_on, cut_short, given_more, given_out}
 use Rattle.source_core.proofs.LongLines.{first_at_least, part_of_first}
 use Rattle.source_core.proofs.WindowLemmas.{held_behind}
@@ -17,7 +17,7 @@ abbrev held : (g : Over) → After-line_part-length g → List ℕ
 held g c = held_from c.hold.new.self c.loop-self.self-inside.at
 
 -- these are the source's bytes
-stands : (g : Over) (c : After-line_part-length g) → StandsAt (g.S.Source.text c.hold.new.source)
+stands : (g : Over) (c : After-line_part-length g) → AreBytesAt (g.S.Source.text c.hold.new.source)
     (g.S.Source.extent c.hold.new.source) c.loop-self.self-inside.at (held g c)
 stands g c = c.in_ok-hold.ensures.stands c.loop-self.invariant.filled
 
@@ -54,11 +54,11 @@ longer g c =
     )
 
 -- and the source stands behind it
-behind : (g : Over) (c : After-line_part-length g) → StandsAt (g.S.Source.text c.hold.new.source)
+behind : (g : Over) (c : After-line_part-length g) → AreBytesAt (g.S.Source.text c.hold.new.source)
     (g.S.Source.extent c.hold.new.source) (c.loop-self.self-inside.at + c.line_part-length.result.0)
     (held_from c.hold.new.self (c.loop-self.self-inside.at + c.line_part-length.result.0))
 behind g c =
-    subst (StandsAt _ _ _)
+    subst (AreBytesAt _ _ _)
     (sym (held_behind c.hold.new.self c.loop-self.self-inside.at c.line_part-length.result.0 (inside g c)))
     (given_out _ _ c.loop-self.self-inside.at c.line_part-length.result.0 (held g c) (stands g c) (inside g c))
 

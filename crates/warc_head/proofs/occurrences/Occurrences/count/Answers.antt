@@ -1,6 +1,6 @@
 use Rattle.std.proofs.Common.{◌≡◌, ◌∙◌, ◌++◌, ◌∷◌, [], List, ℕ, codes, length, sym, subst, ap, arith}
 use Rattle.warc_head.specs.declared.occurrence.Occurrence.{Occurrence}
-use Rattle.warc_head.specs.Fields.{Field, values_of}
+use Rattle.warc_head.specs.Fields.{Field, field_values}
 use Rattle.warc_head.specs.Mandatory.{Occurs, values_in}
 use Rattle.warc_head.specs.Spans.{field_at}
 use Rattle.warc_head.proofs.MandatoryLemmas.{values_more, values_same}
@@ -8,15 +8,15 @@ use Rattle.warc_head.proofs.occurrences.Occurrences.count.Goals as goal
 
 -- the values of a name, with those that the last field adds
 counted : (text wanted : List ℕ) (last : Field) (fields : List Field) (o : Occurrence)
-    → Occurs text (values_of wanted fields ++ values_in wanted last) o
-    → Occurs text (values_of wanted (fields ++ last ∷ [])) o
+    → Occurs text (field_values wanted fields ++ values_in wanted last) o
+    → Occurs text (field_values wanted (fields ++ last ∷ [])) o
 counted text wanted last fields o h = subst (λ (values : List (List ℕ)). Occurs text values o)
     (sym (values_more wanted last fields)) h
 
 -- a field of a name of another length adds none
 kept : (text wanted : List ℕ) (last : Field) (fields : List Field) (o : Occurrence)
-    → (length last.name ≡ length wanted → ⊥) → Occurs text (values_of wanted fields) o
-    → Occurs text (values_of wanted (fields ++ last ∷ [])) o
+    → (length last.name ≡ length wanted → ⊥) → Occurs text (field_values wanted fields) o
+    → Occurs text (field_values wanted (fields ++ last ∷ [])) o
 kept text wanted last fields o other h = subst (λ (values : List (List ℕ)). Occurs text values o)
     (sym (values_same wanted last fields other)) h
 
@@ -29,9 +29,9 @@ returns-then-size-eq9 c =
       record_id = kept text (codes "WARC-Record-ID") last fields _ (λ e. omega (arith, e, size)) all.record_id;
       length = kept text (codes "Content-Length") last fields _ (λ e. omega (arith, e, size)) all.length;
       date = counted text (codes "WARC-Date") last fields _
-          (c.count.ensures (values_of (codes "WARC-Date") fields) all.date);
+          (c.count.ensures (field_values (codes "WARC-Date") fields) all.date);
       kind = counted text (codes "WARC-Type") last fields _
-          (c.count-then-size-eq9.ensures (values_of (codes "WARC-Type") fields) all.kind);
+          (c.count-then-size-eq9.ensures (field_values (codes "WARC-Type") fields) all.kind);
     }
 
 pub returns-then-size-eq14 : goal.returns-then-size-eq14
@@ -41,9 +41,9 @@ returns-then-size-eq14 c =
     let size : length last.name ≡ 14 = sym (ap length c.name-size.ensures) ∙ c.if-size-eq14.true in
     λ fields all. record {
       record_id = counted text (codes "WARC-Record-ID") last fields _
-          (c.count-then-size-eq14.ensures (values_of (codes "WARC-Record-ID") fields) all.record_id);
+          (c.count-then-size-eq14.ensures (field_values (codes "WARC-Record-ID") fields) all.record_id);
       length = counted text (codes "Content-Length") last fields _
-          (c.count-then-size-eq14-2.ensures (values_of (codes "Content-Length") fields) all.length);
+          (c.count-then-size-eq14-2.ensures (field_values (codes "Content-Length") fields) all.length);
       date = kept text (codes "WARC-Date") last fields _ (λ e. omega (arith, e, size)) all.date;
       kind = kept text (codes "WARC-Type") last fields _ (λ e. omega (arith, e, size)) all.kind;
     }

@@ -1,13 +1,13 @@
 use Rattle.std.proofs.Common.{◌∙◌, ◌&&◌, codes}
-use Rattle.warc_head.specs.Fields.{values_of}
+use Rattle.warc_head.specs.Fields.{field_values}
 use Rattle.warc_head.proofs.MandatoryLemmas.{repeated_regrouped}
 use Rattle.warc_head.proofs.occurrences.Occurrences.none_repeated.Goals as goal
 
 pub returns : goal.returns
 returns c =
     λ text fields all.
-    let a = c.is_repeated.ensures text (values_of (codes "WARC-Record-ID") fields) all.record_id in
-    let b = c.is_repeated-2.ensures text (values_of (codes "Content-Length") fields) all.length in
-    let d = c.is_repeated-3.ensures text (values_of (codes "WARC-Date") fields) all.date in
-    let e = c.is_repeated-4.ensures text (values_of (codes "WARC-Type") fields) all.kind in
+    let a = c.is_repeated.ensures text (field_values (codes "WARC-Record-ID") fields) all.record_id in
+    let b = c.is_repeated-2.ensures text (field_values (codes "Content-Length") fields) all.length in
+    let d = c.is_repeated-3.ensures text (field_values (codes "WARC-Date") fields) all.date in
+    let e = c.is_repeated-4.ensures text (field_values (codes "WARC-Type") fields) all.kind in
     (λ i. ((a i && b i) && d i) && e i) ∙ repeated_regrouped fields
