@@ -41,8 +41,6 @@ pub(crate) fn capture_closed<I: Input>(
         (option_map response_view response.entry) digest.now indexed.entry.url.now) result }
 {
     reader.finish(input)?;
-    match capture_line(alloc, indexed, response, digest) {
-        Ok(line) => Ok(Some(line)),
-        Err(fault) => Err(fault),
-    }
+    let line = capture_line(alloc, indexed, response, digest)?;
+    Ok(Some(line))
 }

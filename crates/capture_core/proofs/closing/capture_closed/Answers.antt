@@ -5,20 +5,21 @@ use Rattle.warc_core.proofs.OpenLemmas.{same_open}
 use Rattle.capture_core.proofs.CaptureLemmas.{rest-whole, rest-failed}
 use Rattle.capture_core.proofs.closing.capture_closed.Goals as goal
 
-pub returns-in-Ok-clause-reads : goal.returns-in-Ok-clause-reads
-returns-in-Ok-clause-reads g c left len e =
+pub returns-clause-reads : goal.returns-clause-reads
+returns-clause-reads g c left len e =
     let s = c.requires.stands in
     let q = same_open s.0 (record_length c.args.indexed.head.now) left len (sym s.1.phase_is ∙ e) in
     let f = rw (← q.1) at (c.in_ok-finish.ensures.open left len e) in
     rest-whole left c.args.indexed.head.now _ _ _ _ _ _ _ c.in_ok-finish.field-0 s.1.offset_is f refl tt
 
-pub returns-in-Err-clause-reads : goal.returns-in-Err-clause-reads
-returns-in-Err-clause-reads g c left len e =
+pub returns-in_err-line-clause-reads : goal.returns-in_err-line-clause-reads
+returns-in_err-line-clause-reads g c left len e =
     let s = c.requires.stands in
     let q = same_open s.0 (record_length c.args.indexed.head.now) left len (sym s.1.phase_is ∙ e) in
     let f = rw (← q.1) at (c.in_ok-finish.ensures.open left len e) in
-    rest-whole left c.args.indexed.head.now _ _ _ _ _ _ _ c.in_ok-finish.field-0 s.1.offset_is f c.in-Err.ensures.own
-    c.in-Err.ensures.fault
+    let p = err_from_is_err_and c.from_residual-in_err-line.result c.from_residual-in_err-line.ensures.1 in
+    rw (p.1, p.2) (rest-whole left c.args.indexed.head.now _ _ _ _ _ _ _ c.in_ok-finish.field-0 s.1.offset_is f
+    c.in_err-line.ensures.own c.in_err-line.ensures.fault)
 
 pub returns-in_err-finish-clause-reads : goal.returns-in_err-finish-clause-reads
 returns-in_err-finish-clause-reads g c left len e =
