@@ -60,7 +60,8 @@ Drained limit pair text old now old_rest rest = (t : List ℕ) → text ≡ Some
     × AllByRecursion (λ m. Alike (member_pair m) pair) taken
 
 -- the further lines with the pair were read of the source of this number, and of no other
-pub record DrainedSource {S : Type 0} (limit : ℕ) (text : S → Option (List ℕ)) (pair : Pair) (i : ℕ) (olds news : List S)
+pub record DrainedSource {S : Type 0} (limit : ℕ) (text : S → Option (List ℕ)) (pair : Pair) (i : ℕ)
+    (olds news : List S)
     (old_feeds feeds : List Feed) (old_rest rest : List Member) : Type 0 where
   pub source : S
   pub feed : Feed

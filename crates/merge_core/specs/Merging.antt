@@ -12,8 +12,10 @@ use Rattle.devices.specs.Device.{Grows}
 use Rattle.merge_core.specs.Reached.{Reached}
 use Rattle.merge_core.specs.Spending.{AreReadTo}
 
--- The lines of this pair, which no waiting line is below, were being taken: no source that tells its bytes was read beyond them
-pub record HaltedGroup {S : Type 0} (past : List ℕ → Bool) (text : S → Option (List ℕ)) (olds : List S) (begun : Streams)
+-- The lines of this pair, which no waiting line is below, were being taken. No source that tells its bytes was read
+-- beyond them.
+pub record HaltedGroup {S : Type 0} (past : List ℕ → Bool) (text : S → Option (List ℕ)) (olds : List S)
+    (begun : Streams)
     (news : List S) (streams : Streams) : Type 0 where
   pub pair : Pair
   pub above : (b : Option Pair) → AllByRecursion (λ w. IsAbove b (waiting_pair w)) begun.waiting → IsAbove b pair
@@ -29,8 +31,8 @@ module _ {K : Type 0} (Wrote : K → K → List Member → Option (List ℕ) →
   CameTo state now lines =
       (begin : K) → (start : Option (List ℕ)) → Wrote begin sink [] start old → Wrote begin state lines start now
 
--- A sink: what it wrote of lines, and that it wants no more. The sources, and the streams that read them; the sink and what was
--- written, before the merge.
+-- A sink: what it wrote of lines, and that it wants no more. The sources, and the streams that read them; the sink and
+-- what was written, before the merge.
 module _ {K S : Type 0} (Wrote : K → K → List Member → Option (List ℕ) → Option (List ℕ) → Type 0) (Enough : K → Type 0)
     (past : List ℕ → Bool) (text : S → Option (List ℕ)) (extent gave : S → ℕ) (olds : List S) (begun : Streams)
     (sink : K) (old : Option (List ℕ)) where

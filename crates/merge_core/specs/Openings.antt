@@ -17,7 +17,8 @@ IsCutAt limit start text c = (t : List ℕ) → (members : List Member) → text
 
 -- A feed was added, of a source with this text and size, whose cursor is this; its first line waits, if it has one
 pub record AddedFeed (limit : ℕ) (past : List ℕ → Bool) (text : Option (List ℕ)) (extent : ℕ)
-    (IsCursor : CursorState → Type 0) (old_feeds feeds : List Feed) (old_waiting waiting : List WaitingLine) : Type 0 where
+    (IsCursor : CursorState → Type 0) (old_feeds feeds : List Feed)
+    (old_waiting waiting : List WaitingLine) : Type 0 where
   pub feed : Feed
   pub first : Option Member
   pub feeds_are : feeds ≡ old_feeds ++ feed ∷ []

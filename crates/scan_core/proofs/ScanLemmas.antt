@@ -39,7 +39,8 @@ module _ (types : Kind → Bool) (names : List (List ℕ)) (inputs : List (Optio
   }
 
 -- the fault of an archive is one of the scan
-pub archive_fault : (types : Kind → Bool) (names : List (List ℕ)) (inputs : List (Option (List ℕ))) (sizes text : List ℕ)
+pub archive_fault : (types : Kind → Bool) (names : List (List ℕ)) (inputs : List (Option (List ℕ)))
+    (sizes text : List ℕ)
     (query : QueryValue) → IsAsked sizes text (length names) query → (fault : ScanFault)
     → IsArchiveFault types names inputs fault → IsScanFault types names inputs sizes text fault
 archive_fault types names inputs sizes text query asked (scan.Archive i fault) h = (query, asked, h)

@@ -108,26 +108,30 @@ pub returns-in_err-merge-clause-part : goal.returns-in_err-merge-clause-part
 returns-in_err-merge-clause-part g c =
     let at = goal.at.returns-in_err-merge-clause-part g c in
     let b = c.in_err-merge.ensures.broke in
-    front g at.After-merge b.sources b.streams.feeds.items b.streams.waiting b.bound b.taken b.reached _ _ (broke g at.In_err-merge)
+    front g at.After-merge b.sources b.streams.feeds.items b.streams.waiting b.bound b.taken b.reached _ _
+    (broke g at.In_err-merge)
 
 pub returns-in_err-merge-clause-lines : goal.returns-in_err-merge-clause-lines
 returns-in_err-merge-clause-lines g c =
     let at = goal.at.returns-in_err-merge-clause-lines g c in
     let b = c.in_err-merge.ensures.broke in
-    lines g at.After-merge b.sources b.streams.feeds.items b.streams.waiting b.bound b.taken b.reached _ _ (broke g at.In_err-merge)
+    lines g at.After-merge b.sources b.streams.feeds.items b.streams.waiting b.bound b.taken b.reached _ _
+    (broke g at.In_err-merge)
 
 pub returns-clause-part : goal.returns-clause-part
 returns-clause-part g c =
     let at = goal.at.returns-clause-part g c in
     let w = c.in_ok-merge.ensures.passed.so_far in
-    front g at.After-merge c.merge.new.sources c.merge.new.streams.feeds.items c.merge.new.streams.waiting w.bound w.taken
+    front g at.After-merge c.merge.new.sources c.merge.new.streams.feeds.items c.merge.new.streams.waiting w.bound
+    w.taken
     w.reached _ _ (wrote g at.In_ok-merge)
 
 pub returns-clause-lines : goal.returns-clause-lines
 returns-clause-lines g c =
     let at = goal.at.returns-clause-lines g c in
     let w = c.in_ok-merge.ensures.passed.so_far in
-    lines g at.After-merge c.merge.new.sources c.merge.new.streams.feeds.items c.merge.new.streams.waiting w.bound w.taken
+    lines g at.After-merge c.merge.new.sources c.merge.new.streams.feeds.items c.merge.new.streams.waiting w.bound
+    w.taken
     w.reached _ _ (wrote g at.In_ok-merge)
 
 -- the sources stay as they were

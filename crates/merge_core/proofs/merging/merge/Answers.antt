@@ -74,7 +74,8 @@ reached g c entries =
       handed = handed_next LINE_LIMIT g.S.Source.text g.S.Source.extent c.args.sources.now c.loop-rest.sources
           c.gather.new.sources c.loop-rest.streams.feeds.items c.gather.new.self.feeds.items c.loop-rest.streams.waiting
           c.gather.new.self.waiting
-          came.bound (member_pair c.in-Some.first.value) came.taken (group g c) came.reached.handed came.reached.above (grouped g c)
+          came.bound (member_pair c.in-Some.first.value) came.taken (group g c) came.reached.handed came.reached.above
+          (grouped g c)
           (told g c) entries;
     }
 
@@ -211,7 +212,8 @@ returns-then-not-more-clause-passed g c =
         reached = kept g here.After-put_back pair (taken g here.In-Some)
             (reached g here.In-Some (entries g here.After-hand_on));
         came = λ begin start w. subst
-            (λ l. g.K.Sink.Wrote begin c.hand_on.new.sink (came.taken ++ l) start (g.O.Output.written c.hand_on.new.out))
+            (λ l. g.K.Sink.Wrote begin c.hand_on.new.sink (came.taken ++ l) start
+            (g.O.Output.written c.hand_on.new.out))
             (order g here.After-deref-in-Some)
             (c.in_ok-more.ensures.wrote begin came.taken start (came.came begin start w));
       };
@@ -257,7 +259,8 @@ loop-rest-preserved g c =
         reached = kept g here.After-put_back pair (taken g here.In-Some)
             (reached g here.In-Some (entries g here.After-hand_on));
         came = λ begin start w. subst
-            (λ l. g.K.Sink.Wrote begin c.hand_on.new.sink (came.taken ++ l) start (g.O.Output.written c.hand_on.new.out))
+            (λ l. g.K.Sink.Wrote begin c.hand_on.new.sink (came.taken ++ l) start
+            (g.O.Output.written c.hand_on.new.out))
             (order g here.After-deref-in-Some)
             (c.in_ok-more.ensures.wrote begin came.taken start (came.came begin start w));
       };

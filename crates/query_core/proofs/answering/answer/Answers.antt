@@ -37,7 +37,8 @@ no_lines texts = record { rise = tt; each = tt }
 
 -- ---- the writer
 
-begun : (g : Over) (c : In_ok-writer g) → Wrote c.in_ok-writer.writer c.in_ok-writer.writer [] (g.O.Output.written c.args.out.now)
+begun : (g : Over) (c : In_ok-writer g) → Wrote c.in_ok-writer.writer c.in_ok-writer.writer []
+    (g.O.Output.written c.args.out.now)
     (g.O.Output.written c.begin.new.out)
 begun g c = (((refl, refl), refl), c.in_ok-writer.ensures.stands)
 
@@ -60,14 +61,16 @@ within g c w lines now wrote more =
     → ⊥ = λ e. true≢false
     (sym e ∙ (at g c c.in_ok-writer.writer [] (g.O.Output.written c.begin.new.out) (begun g c)).more_is
     ∙ none_follows q.limit) in
-    within_page q.limit (captures_over q q.resume lines) c.in_ok-writer.ensures.some (sym (at g c w lines now wrote).more_is
+    within_page q.limit (captures_over q q.resume lines) c.in_ok-writer.ensures.some
+    (sym (at g c w lines now wrote).more_is
     ∙ false_from_ne_true _ (more fresh))
 
 -- all lines that were taken
 came : (g : Over) (c : In_ok-pass g)
     → Wrote c.in_ok-writer.writer c.read_lines.new.sink.writer c.in_ok-pass.ensures.took.lines
     (g.O.Output.written c.args.out.now) (g.O.Output.written c.read_lines.new.out)
-came g c = c.in_ok-pass.ensures.took.came (record { writer = c.in_ok-writer.writer }) (g.O.Output.written c.args.out.now)
+came g c = c.in_ok-pass.ensures.took.came (record { writer = c.in_ok-writer.writer })
+    (g.O.Output.written c.args.out.now)
     (((refl, refl), refl), c.in_ok-writer.ensures.stands)
 
 -- the page of lines of which these were taken, if they settle it
@@ -83,7 +86,8 @@ settled g c all rest split ended =
     let sink = c.read_lines.new.sink.writer in
     page_settled c.args.query.now all took.lines c.in_ok-pass.pass.all sink.more rest split ended
     (λ e. c.in_ok-pass.ensures.enough e)
-    (stood c.in_ok-writer.writer c.args.query.now c.in_ok-writer.ensures.query sink took.lines (g.O.Output.written c.args.out.now)
+    (stood c.in_ok-writer.writer c.args.query.now c.in_ok-writer.ensures.query sink took.lines
+    (g.O.Output.written c.args.out.now)
     (g.O.Output.written c.read_lines.new.out) (came g c)).more_is
 
 -- ---- what is refused, and failures
@@ -116,7 +120,8 @@ returns-clause-refused g c = refuses_few (length c.args.sources.now) _ _ c.if-so
 pub returns-in_err-writer-clause-failures : goal.returns-in_err-writer-clause-failures
 returns-in_err-writer-clause-failures g c =
     let p = err_from_is_err_and c.from_residual.result c.from_residual.ensures.1 in
-    rw (p.1, p.2) (text_raised c.in_err-writer.field-0.0 (map g.S.Source.failures c.args.sources.now) (g.O.Output.failures c.args.out.now)
+    rw (p.1, p.2) (text_raised c.in_err-writer.field-0.0 (map g.S.Source.failures c.args.sources.now)
+    (g.O.Output.failures c.args.out.now)
     (g.O.Output.failures c.begin.new.out) c.in_err-writer.ensures.failures)
 
 pub returns-in_err-pass-clause-failures : goal.returns-in_err-pass-clause-failures
@@ -160,11 +165,11 @@ pub returns-in_err-writer-clause-lines : goal.returns-in_err-writer-clause-lines
 returns-in_err-writer-clause-lines g c =
     let p = err_from_is_err_and c.from_residual.result c.from_residual.ensures.1 in
     rw p.1 ((
-  [],
-  no_lines (map g.S.Source.text c.args.sources.now),
-  start_front c.args.query.now [] (g.O.Output.written c.args.out.now) (g.O.Output.written c.begin.new.out)
-      c.in_err-writer.ensures.front,
-))
+      [],
+      no_lines (map g.S.Source.text c.args.sources.now),
+      start_front c.args.query.now [] (g.O.Output.written c.args.out.now) (g.O.Output.written c.begin.new.out)
+          c.in_err-writer.ensures.front,
+    ))
 
 pub returns-in_err-pass-clause-lines : goal.returns-in_err-pass-clause-lines
 returns-in_err-pass-clause-lines g c =
@@ -177,7 +182,8 @@ returns-in_err-pass-clause-lines g c =
       broke.took.lines,
       page_broke q broke.lines broke.lines start now [] (sym (append-nil (captures_over q q.resume broke.lines)))
           (rows_front c.in_ok-writer.writer q c.in_ok-writer.ensures.query broke.lines start now
-          (broke.wrote (record { writer = c.in_ok-writer.writer }) start (((refl, refl), refl), c.in_ok-writer.ensures.stands))),
+          (broke.wrote (record { writer = c.in_ok-writer.writer }) start
+          (((refl, refl), refl), c.in_ok-writer.ensures.stands))),
     ))
 
 pub returns-in_err-end-clause-lines : goal.returns-in_err-end-clause-lines
@@ -231,7 +237,8 @@ returns-in_err-pass-clause-page g c =
     let first = broke.took.first texts indexes known are in
     page_broke q (collection indexes) broke.lines start now first.0 first.1
     (rows_front c.in_ok-writer.writer q c.in_ok-writer.ensures.query broke.lines start now
-    (broke.wrote (record { writer = c.in_ok-writer.writer }) start (((refl, refl), refl), c.in_ok-writer.ensures.stands))))
+    (broke.wrote (record { writer = c.in_ok-writer.writer }) start
+    (((refl, refl), refl), c.in_ok-writer.ensures.stands))))
 
 pub returns-in_err-end-clause-page : goal.returns-in_err-end-clause-page
 returns-in_err-end-clause-page g c =
@@ -240,7 +247,8 @@ returns-in_err-end-clause-page g c =
     let took = c.in_ok-pass.ensures.took in
     let first = took.took.first texts indexes known are in
     let here = (goal.at.returns-in_err-end-clause-page g c).In_ok-pass in
-    end_front c.in_ok-writer.writer c.args.query.now c.in_ok-writer.ensures.query c.read_lines.new.sink.writer (collection indexes)
+    end_front c.in_ok-writer.writer c.args.query.now c.in_ok-writer.ensures.query c.read_lines.new.sink.writer
+    (collection indexes)
     took.lines (g.O.Output.written c.args.out.now) (g.O.Output.written c.read_lines.new.out)
     (g.O.Output.written c.end.new.out)
     (came g here) (settled g here (collection indexes) first.0 first.1 (λ e. took.whole e texts indexes known are))
@@ -252,7 +260,8 @@ returns-clause-page g c = λ texts indexes known are.
     let end = c.in_ok-end.ensures in
     let first = took.took.first texts indexes known are in
     let here = (goal.at.returns-clause-page g c).In_ok-pass in
-    page_ended c.in_ok-writer.writer c.args.query.now c.in_ok-writer.ensures.query c.read_lines.new.sink.writer (collection indexes)
+    page_ended c.in_ok-writer.writer c.args.query.now c.in_ok-writer.ensures.query c.read_lines.new.sink.writer
+    (collection indexes)
     took.lines (g.O.Output.written c.args.out.now) (g.O.Output.written c.read_lines.new.out)
     (g.O.Output.written c.end.new.out)
     (came g here) (settled g here (collection indexes) first.0 first.1 (λ e. took.whole e texts indexes known are))
@@ -270,7 +279,8 @@ returns-clause-parts g c = λ texts known.
     let page = page_ended c.in_ok-writer.writer q c.in_ok-writer.ensures.query sink (collection read.parts) took.lines
     (g.O.Output.written c.args.out.now) (g.O.Output.written c.read_lines.new.out) (g.O.Output.written c.end.new.out)
     (came g here) is c.in_ok-end.end _ end.text end.end.0 end.end.1 refl c.is_some.ensures in
-    let stands = stood c.in_ok-writer.writer q c.in_ok-writer.ensures.query sink took.lines (g.O.Output.written c.args.out.now)
+    let stands = stood c.in_ok-writer.writer q c.in_ok-writer.ensures.query sink took.lines
+    (g.O.Output.written c.args.out.now)
     (g.O.Output.written c.read_lines.new.out) (came g here) in
     record {
       parts = read.parts;

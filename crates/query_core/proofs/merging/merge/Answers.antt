@@ -13,7 +13,8 @@ returns-then-sources-gt-SOURCES_LIMIT-clause-refused g c =
 pub returns-in_err-merged-clause-refused : goal.returns-in_err-merged-clause-refused
 returns-in_err-merged-clause-refused g c =
     let p = err_from_is_err_and c.from_residual.result c.from_residual.ensures.1 in
-    rw (p.1, p.2) (refuses_few (length c.args.sources.now) _ _ c.if-sources-gt-SOURCES_LIMIT.false (merge_late c.in_err-merged.field-0.0))
+    rw (p.1, p.2) (refuses_few (length c.args.sources.now) _ _ c.if-sources-gt-SOURCES_LIMIT.false
+    (merge_late c.in_err-merged.field-0.0))
 
 pub returns-clause-refused : goal.returns-clause-refused
 returns-clause-refused g c = refuses_few (length c.args.sources.now) _ _ c.if-sources-gt-SOURCES_LIMIT.false tt

@@ -55,7 +55,8 @@ pub returns-in_err-writer-clause-refused : goal.returns-in_err-writer-clause-ref
 returns-in_err-writer-clause-refused g c =
     let p = err_from_is_err_and c.from_residual.result c.from_residual.ensures.1 in
     rw (p.1, p.2) (refuses_sized (length c.args.sources.now) _ _ c.args.sizes.now (search rules)
-    (refuses_few (length c.args.sources.now) _ _ c.if-sources-gt-SOURCES_LIMIT.false (text_late c.in_err-writer.field-0.0)))
+    (refuses_few (length c.args.sources.now) _ _ c.if-sources-gt-SOURCES_LIMIT.false
+    (text_late c.in_err-writer.field-0.0)))
 
 pub returns-in_err-read_lines-clause-refused : goal.returns-in_err-read_lines-clause-refused
 returns-in_err-read_lines-clause-refused g c =
@@ -81,7 +82,8 @@ returns-clause-refused g c =
 pub returns-in_err-writer-clause-failures : goal.returns-in_err-writer-clause-failures
 returns-in_err-writer-clause-failures g c =
     let p = err_from_is_err_and c.from_residual.result c.from_residual.ensures.1 in
-    rw (p.1, p.2) (text_raised c.in_err-writer.field-0.0 (map g.S.Source.failures c.args.sources.now) (g.O.Output.failures c.args.out.now)
+    rw (p.1, p.2) (text_raised c.in_err-writer.field-0.0 (map g.S.Source.failures c.args.sources.now)
+    (g.O.Output.failures c.args.out.now)
     (g.O.Output.failures c.begin.new.out) c.in_err-writer.ensures.failures)
 
 pub returns-in_err-read_lines-clause-failures : goal.returns-in_err-read_lines-clause-failures
@@ -172,7 +174,8 @@ broken g c sized lines rise rest split =
     let broke = c.in_err-read_lines.ensures.broke in
     wrote_front q sizes positive lines rise (captures_over q q.resume broke.lines) start new rest split
     (any_front c.in_ok-writer.writer q sizes is.0 is.1 is.2 broke.lines start new
-    (broke.wrote (record { writer = c.in_ok-writer.writer }) start ((refl, refl), c.in_ok-writer.ensures.stands positive)))
+    (broke.wrote (record { writer = c.in_ok-writer.writer }) start
+    ((refl, refl), c.in_ok-writer.ensures.stands positive)))
 
 unended : (g : Over) (c : In_err-end g) (sized : are_sizes c.args.sizes.now ≡ true) (lines : List Member)
     → Rises member_place place_cmp lines
@@ -191,7 +194,8 @@ unended g c sized lines rise all =
     let took = c.in_ok-read_lines.ensures.took in
     wrote_most q sizes positive lines rise (captures_over q q.resume took.lines) start new all
     (at_end c.in_ok-writer.writer q sizes is.0 is.1 is.2 c.read_lines.new.sink.writer took.lines start mid
-    (took.came (record { writer = c.in_ok-writer.writer }) start ((refl, refl), c.in_ok-writer.ensures.stands positive)) new c.in_err-end.ensures.text)
+    (took.came (record { writer = c.in_ok-writer.writer }) start
+    ((refl, refl), c.in_ok-writer.ensures.stands positive)) new c.in_err-end.ensures.text)
 
 ended : (g : Over) (c : In_ok-end g) (sized : are_sizes c.args.sizes.now ≡ true) (lines : List Member)
     → Rises member_place place_cmp lines
@@ -211,7 +215,8 @@ ended g c sized lines rise all =
     let end = c.in_ok-end.ensures in
     wrote_whole q sizes positive lines rise (captures_over q q.resume took.lines) start new all c.in_ok-end.field-0
     (all_ended c.in_ok-writer.writer q sizes is.0 is.1 is.2 c.read_lines.new.sink.writer took.lines start mid
-    (took.came (record { writer = c.in_ok-writer.writer }) start ((refl, refl), c.in_ok-writer.ensures.stands positive)) new c.in_ok-end.field-0 end.text
+    (took.came (record { writer = c.in_ok-writer.writer }) start
+    ((refl, refl), c.in_ok-writer.ensures.stands positive)) new c.in_ok-end.field-0 end.text
     end.count)
 
 -- ---- lines of the sources
@@ -273,7 +278,8 @@ pub returns-in_err-writer-clause-pages : goal.returns-in_err-writer-clause-pages
 returns-in_err-writer-clause-pages g c =
     let p = err_from_is_err_and c.from_residual.result c.from_residual.ensures.1 in
     rw p.1 (λ texts indexes known are sized. before g
-    (goal.at.returns-in_err-writer-clause-pages g c).In_err-writer sized (collection indexes) (collection_rises indexes))
+    (goal.at.returns-in_err-writer-clause-pages g c).In_err-writer sized (collection indexes)
+    (collection_rises indexes))
 
 pub returns-in_err-read_lines-clause-pages : goal.returns-in_err-read_lines-clause-pages
 returns-in_err-read_lines-clause-pages g c =
@@ -288,7 +294,8 @@ returns-in_err-end-clause-pages g c =
     let p = err_from_is_err_and c.from_residual-in_err-end.result c.from_residual-in_err-end.ensures.1 in
     rw p.1 (λ texts indexes known are sized.
     let whole = true_from_ne_false c.in_ok-read_lines.field-0.all (λ e. c.in_ok-read_lines.ensures.enough e) in
-    unended g (goal.at.returns-in_err-end-clause-pages g c).In_err-end sized (collection indexes) (collection_rises indexes)
+    unended g (goal.at.returns-in_err-end-clause-pages g c).In_err-end sized (collection indexes)
+    (collection_rises indexes)
     (c.in_ok-read_lines.ensures.took.whole whole texts indexes known are))
 
 pub returns-clause-pages : goal.returns-clause-pages

@@ -29,11 +29,13 @@ pub returns-clause-text : goal.returns-clause-text
 returns-clause-text g c = λ texts indexes known are.
     marked_reply QUERY_LIMIT (Is indexes) c.args.line.now (g.O.Output.written c.args.out.now)
     (g.O.Output.written c.reply_to_line.new.out)
-    c.put_text.result (g.O.Output.written c.put_text.new.out) (c.in_ok-reply_to_line.ensures.text texts indexes known are)
+    c.put_text.result (g.O.Output.written c.put_text.new.out)
+    (c.in_ok-reply_to_line.ensures.text texts indexes known are)
     c.put_text.ensures.text
 
 pub returns-clause-lines : goal.returns-clause-lines
 returns-clause-lines g c =
     marked_reply QUERY_LIMIT (IsTextReply (map g.S.Source.text c.args.sources.now)) c.args.line.now
     (g.O.Output.written c.args.out.now) (g.O.Output.written c.reply_to_line.new.out)
-    c.put_text.result (g.O.Output.written c.put_text.new.out) c.in_ok-reply_to_line.ensures.lines c.put_text.ensures.text
+    c.put_text.result (g.O.Output.written c.put_text.new.out) c.in_ok-reply_to_line.ensures.lines
+    c.put_text.ensures.text

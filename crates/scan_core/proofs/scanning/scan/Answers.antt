@@ -83,38 +83,40 @@ returns-in_err-indexes-clause-fault g c =
     (record { sizes = sym c.if-not-are_sizes.ensures.value; meaning = c.in_ok-query.ensures.value; few = omega arith })
     c.in_err-indexes.field-0.0 c.in_err-indexes.ensures.refused)
 
-
 pub returns-in_err-write_pages-clause-fault : goal.returns-in_err-write_pages-clause-fault
 returns-in_err-write_pages-clause-fault g c =
     let r = c.from_residual-in_err-write_pages in
     let p = err_from_is_err_and r.result r.ensures.1 in
-    rw (p.1, p.2) (of_pages_fault (λ f. IsScanFault (includes c.args.types) (map (λ n. string_bytes n.name) c.args.inputs.now)
-    (map (λ n. g.I.Input.remaining n.input) c.args.inputs.now) c.args.sizes.now c.args.query.now (Answer f)) tt tt c.in_err-write_pages.field-0.0
+    rw (p.1, p.2) (of_pages_fault (λ f. IsScanFault (includes c.args.types)
+    (map (λ n. string_bytes n.name) c.args.inputs.now)
+    (map (λ n. g.I.Input.remaining n.input) c.args.inputs.now) c.args.sizes.now c.args.query.now
+    (Answer f)) tt tt c.in_err-write_pages.field-0.0
     (refused g (goal.at.returns-in_err-write_pages-clause-fault g c).In_err-write_pages))
-
 
 pub returns-in_err-write_pages-clause-unwritten : goal.returns-in_err-write_pages-clause-unwritten
 returns-in_err-write_pages-clause-unwritten g c =
     let r = c.from_residual-in_err-write_pages in
     let p = err_from_is_err_and r.result r.ensures.1 in
-    rw (p.1, p.2) (of_pages_fault (λ f. IsBeforeWriting (Answer f) → c.write_pages.new.out ≡ c.args.out.now) (λ e. absurd e) (λ e. absurd e) c.in_err-write_pages.field-0.0
+    rw (p.1, p.2) (of_pages_fault (λ f. IsBeforeWriting (Answer f) → c.write_pages.new.out ≡ c.args.out.now)
+    (λ e. absurd e) (λ e. absurd e) c.in_err-write_pages.field-0.0
     (refused g (goal.at.returns-in_err-write_pages-clause-unwritten g c).In_err-write_pages))
-
 
 pub returns-in_err-write_pages-clause-unread : goal.returns-in_err-write_pages-clause-unread
 returns-in_err-write_pages-clause-unread g c =
     let r = c.from_residual-in_err-write_pages in
     let p = err_from_is_err_and r.result r.ensures.1 in
-    rw (p.1, p.2) (of_pages_fault (λ f. LeavesUnread c.args.inputs.now c.index_archives.new.inputs (Answer f)) tt tt c.in_err-write_pages.field-0.0
+    rw (p.1, p.2) (of_pages_fault (λ f. LeavesUnread c.args.inputs.now c.index_archives.new.inputs
+    (Answer f)) tt tt c.in_err-write_pages.field-0.0
     (refused g (goal.at.returns-in_err-write_pages-clause-unread g c).In_err-write_pages))
-
 
 pub returns-in_err-write_pages-clause-inputs : goal.returns-in_err-write_pages-clause-inputs
 returns-in_err-write_pages-clause-inputs g c =
-    let p = err_from_is_err_and c.from_residual-in_err-write_pages.result c.from_residual-in_err-write_pages.ensures.1 in
+    let p = err_from_is_err_and c.from_residual-in_err-write_pages.result c.from_residual-in_err-write_pages.ensures.1
+    in
     rw (p.1, p.2) (search rules)
 
 pub returns-in_err-write_pages-clause-output : goal.returns-in_err-write_pages-clause-output
 returns-in_err-write_pages-clause-output g c =
-    let p = err_from_is_err_and c.from_residual-in_err-write_pages.result c.from_residual-in_err-write_pages.ensures.1 in
+    let p = err_from_is_err_and c.from_residual-in_err-write_pages.result c.from_residual-in_err-write_pages.ensures.1
+    in
     rw (p.1, p.2) (search rules)

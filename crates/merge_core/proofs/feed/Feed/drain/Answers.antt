@@ -197,7 +197,8 @@ pub returns-in-Less-clause-reads : goal.returns-in-Less-clause-reads
 returns-in-Less-clause-reads g c = reads g (goal.at.returns-in-Less-clause-reads g c).After-next_line
 
 pub returns-in_err-push-in-Equal-clause-reads : goal.returns-in_err-push-in-Equal-clause-reads
-returns-in_err-push-in-Equal-clause-reads g c = reads g (goal.at.returns-in_err-push-in-Equal-clause-reads g c).After-next_line
+returns-in_err-push-in-Equal-clause-reads g c = reads g
+    (goal.at.returns-in_err-push-in-Equal-clause-reads g c).After-next_line
 
 pub returns-clause-reads : goal.returns-clause-reads
 returns-clause-reads g c = reads g (goal.at.returns-clause-reads g c).After-next_line

@@ -14,7 +14,8 @@ returns-in_err-put_line-clause-wrote g c =
     c.in_err-put_line.ensures.part)
 
 pub returns-in_err-put_line-clause-grows : goal.returns-in_err-put_line-clause-grows
-returns-in_err-put_line-clause-grows g c = grows_on (g.O.Output.written c.args.out.now) (g.O.Output.written c.loop-line.out)
+returns-in_err-put_line-clause-grows g c = grows_on (g.O.Output.written c.args.out.now)
+    (g.O.Output.written c.loop-line.out)
     (g.O.Output.written c.put_line.new.out) c.loop-line.invariant.grows c.put_line.ensures.grows
 
 pub loop-line-preserved : goal.loop-line-preserved
@@ -25,7 +26,8 @@ loop-line-preserved g c =
           wrote_more (λ (l : Bor Line). l.now) start (g.O.Output.written c.loop-line.out)
           (g.O.Output.written c.put_line.new.out) taken c.args.lines.now c.loop-line.line-index c.line-item.result
           c.loop-line.self.count c.put_line.new.self.count
-          c.loop-line-test.true c.line-item.is (inv.wrote taken start w) c.in_ok-put_line.ensures.text c.in_ok-put_line.ensures.count;
+          c.loop-line-test.true c.line-item.is (inv.wrote taken start w) c.in_ok-put_line.ensures.text
+          c.in_ok-put_line.ensures.count;
       grows = grows_on (g.O.Output.written c.args.out.now) (g.O.Output.written c.loop-line.out)
           (g.O.Output.written c.put_line.new.out) inv.grows c.put_line.ensures.grows;
       failures = c.in_ok-put_line.ensures.failures ∙ inv.failures;

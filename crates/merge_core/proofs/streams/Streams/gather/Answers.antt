@@ -58,7 +58,8 @@ drained g c =
     c.new-keyed.result old new c.sources.invariant.gathers s f
     c.drain.new.sources c.drain.new.self.feeds.items c.drain.new.self.waiting s f
     c.sources.invariant.inside ok.ready ok.moved ok.drained.source_is ok.drained.feed_is (ok.drained.text_is s)
-    (subst (λ p. Drained LINE_LIMIT p (text (get_or ss i s)) (get_or fs i f) f old new) (same g c) (ok.drained.drained s f))
+    (subst (λ p. Drained LINE_LIMIT p (text (get_or ss i s)) (get_or fs i f) f old new) (same g c)
+    (ok.drained.drained s f))
 
 -- and of the feeds
 drained_settled : (g : Over) (c : In_ok-drain g) → AreSettled c.drain.new.self.feeds.items

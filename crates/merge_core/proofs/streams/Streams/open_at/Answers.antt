@@ -73,7 +73,8 @@ loop-i-preserved g c =
     let of = λ (x : g.row.S.Denot × Feed). done LINE_LIMIT (text_or (g.S.Source.text x.0)) x.1 in
     let Cut = λ (x : g.row.S.Denot × Feed). IsCutAt LINE_LIMIT (c.args.key.now, c.args.stamp.now) (g.S.Source.text x.0)
     x.1.cursor in
-    let both = fed_added LINE_LIMIT past g.S.Source.text g.S.Source.extent i ss fs ws ws' s f added.first inv.count inside
+    let both = fed_added LINE_LIMIT past g.S.Source.text g.S.Source.extent i ss fs ws ws' s f added.first inv.count
+    inside
     inv.placed inv.fed added.waits added.fed in
     let text = g.S.Source.text in let extent = g.S.Source.extent in let gave = g.S.Source.gave in
     let Came = λ (x : g.row.S.Denot) (y : g.row.S.Denot × Feed). CameWithin (text x) (extent x) (gave x) (gave y.0)
@@ -91,8 +92,10 @@ loop-i-preserved g c =
       failures = map_set_same g.S.Source.failures ss i a s inside ok.failures ∙ inv.failures;
       held = ok.held ∙ inv.held;
       count = ap length added.feeds_are ∙ length-append fs (f ∷ []) ∙ ap (λ n. n + 1) inv.count;
-      placed = subst (λ us. AllByRecursion (λ (w : WaitingLine). w.source < length us) ws') (sym added.feeds_are) both.0;
-      fed = subst (λ us. AreFed LINE_LIMIT past g.S.Source.text g.S.Source.extent 0 (set ss i s) us ws') (sym added.feeds_are)
+      placed = subst (λ us. AllByRecursion (λ (w : WaitingLine). w.source < length us) ws')
+          (sym added.feeds_are) both.0;
+      fed = subst (λ us. AreFed LINE_LIMIT past g.S.Source.text g.S.Source.extent 0 (set ss i s) us ws')
+          (sym added.feeds_are)
           both.1;
       cut = subst (λ us. AllByRecursion Cut (zip (set ss i s) us)) (sym added.feeds_are)
           (subst (AllByRecursion Cut) (sym (zip_push ss fs i s f inv.count inside))

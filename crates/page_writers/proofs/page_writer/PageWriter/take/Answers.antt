@@ -61,5 +61,6 @@ returns-in_err-take_line-clause-broke g c = λ taken start s.
     (broke_longer q from old.limit (before ++ item.now ∷ []) rest start now broke))
 
 pub returns-in_err-take_line-clause-grows : goal.returns-in_err-take_line-clause-grows
-returns-in_err-take_line-clause-grows g c = grows_on (g.O.Output.written c.args.out.now) (g.O.Output.written c.loop-line.out)
+returns-in_err-take_line-clause-grows g c = grows_on (g.O.Output.written c.args.out.now)
+    (g.O.Output.written c.loop-line.out)
     (g.O.Output.written c.take_line.new.out) c.loop-line.invariant.grows c.take_line.ensures.grows

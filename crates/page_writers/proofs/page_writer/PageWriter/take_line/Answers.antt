@@ -118,9 +118,11 @@ returns-in_err-put_capture-clause-broke g c = λ taken start s.
     let is : c.in_ok-takes.field-0 ≡ true = search rules in
     let room : is_full w.limit w.given ≡ false = search rules in
     let form = ap (λ r. form_of r.now) c.takes.ensures.same.0 in
-    let p = err_from_is_err_and c.from_residual-in_err-put_capture.result c.from_residual-in_err-put_capture.ensures.1 in
+    let p = err_from_is_err_and c.from_residual-in_err-put_capture.result c.from_residual-in_err-put_capture.ensures.1
+    in
     rw p.1 (subst (λ l. AppendsPrefix start new (begun (form_of w.selection.query.now) (page w.limit l).members))
-    (sym (c.in_ok-takes.ensures.capture taken selects ∙ ap (λ b. captures_of w.selection taken ++ cond b (m ∷ []) []) is))
+    (sym (c.in_ok-takes.ensures.capture taken selects ∙ ap
+    (λ b. captures_of w.selection taken ++ cond b (m ∷ []) []) is))
     (broke_row (form_of w.selection.query.now) w.limit (captures_of w.selection taken) m start old new w.given w.more
     w.last c.if-self.false room c.is_full.ensures.fits
     (subst (λ form. AppendsPrefix old new (row_text form m)) form c.in_err-put_capture.ensures.part) s.0))

@@ -33,6 +33,7 @@ returns-in_err-turn-clause-front g c = λ sizes captures start m s.
     let w = c.args.self.now in
     let full : (w.given == first_size w.sizes.now) ≡ true = search rules in
     let p = err_from_is_err_and c.from_residual.result c.from_residual.ensures.1 in
-    rw p.1 (turning_front w.selection.query.now sizes captures start (g.O.Output.written c.args.out.now) w.sizes.now w.given
+    rw p.1 (turning_front w.selection.query.now sizes captures start
+    (g.O.Output.written c.args.out.now) w.sizes.now w.given
     w.last w.count s (eqb-true w.given (first_size w.sizes.now) full)
     m (g.O.Output.written c.turn.new.out) c.in_err-turn.ensures.text)

@@ -29,7 +29,8 @@ loop-line-preserved g c =
       stands = λ sizes taken start s.
           subst (λ l. pages_stand sizes c.take_line.new.self l start (g.O.Output.written c.take_line.new.out))
           (one_more seen taken ls k c.line-item.result c.loop-line-test.true c.line-item.is)
-          (c.in_ok-take_line.ensures.stands sizes (taken ++ map seen (take k ls)) start (inv.stands sizes taken start s));
+          (c.in_ok-take_line.ensures.stands sizes (taken ++ map seen (take k ls)) start
+          (inv.stands sizes taken start s));
       same = (let n = c.take_line.ensures.same in (n.0 ∙ inv.same.0, n.1 ∙ inv.same.1));
       grows = grows_on (g.O.Output.written c.args.out.now) (g.O.Output.written c.loop-line.out)
           (g.O.Output.written c.take_line.new.out) inv.grows c.take_line.ensures.grows;
@@ -69,5 +70,6 @@ returns-in_err-take_line-clause-broke g c = λ sizes taken start s.
     broke))
 
 pub returns-in_err-take_line-clause-grows : goal.returns-in_err-take_line-clause-grows
-returns-in_err-take_line-clause-grows g c = grows_on (g.O.Output.written c.args.out.now) (g.O.Output.written c.loop-line.out)
+returns-in_err-take_line-clause-grows g c = grows_on (g.O.Output.written c.args.out.now)
+    (g.O.Output.written c.loop-line.out)
     (g.O.Output.written c.take_line.new.out) c.loop-line.invariant.grows c.take_line.ensures.grows

@@ -72,7 +72,8 @@ returns-in_err-put_capture-clause-broke g c = λ sizes taken start s.
     let room = c.in_ok-make_room.ensures.stands sizes (captures_of w.selection taken) start before in
     let front = capture_front r.selection.query.now sizes (captures_of w.selection taken) start mid r.sizes.now r.given
     r.last r.count room.0 m new room.1 c.in_err-put_capture.ensures.part in
-    let p = err_from_is_err_and c.from_residual-in_err-put_capture.result c.from_residual-in_err-put_capture.ensures.1 in
+    let p = err_from_is_err_and c.from_residual-in_err-put_capture.result c.from_residual-in_err-put_capture.ensures.1
+    in
     rw p.1 (subst (λ l. IsFront w.selection.query.now sizes l start new)
     (sym (c.in_ok-takes.ensures.capture taken s.0 ∙ ap (λ b. captures_of w.selection taken ++ cond b (m ∷ []) []) is))
     (subst (λ r. IsFront r.now sizes (captures_of w.selection taken ++ m ∷ []) start new)
