@@ -29,7 +29,6 @@ ROOMS = CRATES / PROGRAM / "out/rooms"
 SOURCES = ("src", "specs", "proofs")
 MEMORY = 4 << 30  # bytes, for each processor
 LAST_LINES = 30
-LOW_PRIORITY = 10  # of nice
 
 
 class NotProved(Exception):
@@ -124,25 +123,24 @@ class Builder:
         self.running: set[subprocess.Popen[bytes]] = set()
         self.is_ended = False
 
-    def prove(self, crate: Crate, jobs: int, niceness: int) -> float:
+    def prove(self, crate: Crate, jobs: int) -> float:
         """Proves the crate, or builds the program. Returns the seconds that it took."""
         began = time.monotonic()
         crate.log.parent.mkdir(parents=True, exist_ok=True)
         if crate.name == PROGRAM:
-            self.call_rt(["run", "--jobs", str(jobs)], niceness, crate.folder, crate.log)
+            self.call_rt(["run", "--jobs", str(jobs)], crate.folder, crate.log)
         else:
             room = make_room(crate)
             try:
-                self.call_rt(["lib", "--jobs", str(jobs)], niceness, room / "crates" / crate.name, crate.log)
+                self.call_rt(["lib", "--jobs", str(jobs)], room / "crates" / crate.name, crate.log)
                 keep(room, crate)
             finally:
                 shutil.rmtree(room, ignore_errors=True)
         return time.monotonic() - began
 
-    def call_rt(self, arguments: list[str], niceness: int, folder: Path, log: Path) -> None:
-        command = ["nice", "-n", str(niceness), "rt", *arguments]
+    def call_rt(self, arguments: list[str], folder: Path, log: Path) -> None:
         streams = {"stdin": subprocess.DEVNULL, "stderr": subprocess.STDOUT}
-        with log.open("wb") as output, subprocess.Popen(command, cwd=folder, stdout=output, **streams) as process:
+        with log.open("wb") as output, subprocess.Popen(["rt", *arguments], cwd=folder, stdout=output, **streams) as process:
             self.running.add(process)
             if self.is_ended:
                 process.terminate()
@@ -164,26 +162,35 @@ def free_memory() -> int:
     return int(found[1]) << 10 if found else MEMORY
 
 
+def shares(idle: int, least: list[tuple[Crate, int]]) -> list[tuple[Crate, int]]:
+    """Divides the idle processors among the crates, each with the least that it is to get. The first ones get more if there are more processors."""
+    chosen: list[tuple[Crate, int]] = []
+    for crate, share in least:
+        if share := min(share, idle):
+            chosen.append((crate, share))
+            idle -= share
+    return [(crate, share + (idle + len(chosen) - 1 - position) // len(chosen)) for position, (crate, share) in enumerate(chosen)]
+
+
 def build(crates: list[Crate], processors: int) -> None:
-    """Proves the crates. The build waits for the longest chain of crates, so the crate that begins it gets all processors. Half of them are left to
-    other crates, one each, which use what that crate leaves idle. Those with the longest chains above them come first."""
+    """Proves the crates; of those that can begin, the ones with the longest chains above them come first."""
     lengths = chain_lengths(crates)
     waiting = sorted(crates, key=lambda crate: -lengths[crate.name])
     proved: set[str] = set()
-    running: dict[Future[float], Crate] = {}
+    running: dict[Future[float], tuple[Crate, int]] = {}
     builder = Builder()
     with ThreadPoolExecutor(processors) as pool:
         while waiting or running:
-            longest = max(lengths[crate.name] for crate in (*waiting, *running.values()) if crate.below <= proved)
-            for crate in [crate for crate in waiting if crate.below <= proved]:
-                is_first = lengths[crate.name] == longest
-                if is_first or len(running) <= processors // 2:
-                    waiting.remove(crate)
-                    say(f"{crate.name} begins; its log is {crate.log.relative_to(ROOT)}")
-                    jobs, niceness = (processors, 0) if is_first else (1, LOW_PRIORITY)
-                    running[pool.submit(builder.prove, crate, jobs, niceness)] = crate
+            idle = processors - sum(share for _, share in running.values())
+            ready = [crate for crate in waiting if crate.below <= proved]
+            longest = max(lengths[crate.name] for crate in (*ready, *(crate for crate, _ in running.values())))
+            # The build waits for the longest chain, so the crate that begins it gets half of all processors.
+            for crate, share in shares(idle, [(crate, max(1, processors // 2) if lengths[crate.name] == longest else 1) for crate in ready]):
+                waiting.remove(crate)
+                say(f"{crate.name} begins; its log is {crate.log.relative_to(ROOT)}")
+                running[pool.submit(builder.prove, crate, share)] = crate, share
             for ended in wait(running, return_when=FIRST_COMPLETED).done:
-                crate = running.pop(ended)
+                crate, _ = running.pop(ended)
                 try:
                     seconds = ended.result()
                 except NotProved:
