@@ -50,6 +50,7 @@ def main() -> int:
         times = least_times({
             "sort -m, 4 files": lambda: run_time([*SORT, "-m", *parts[4]]),
             "merge, 4 files": lambda: run_time([*merging, *parts[4]]),
+            "sort -m, 1,024 files": lambda: run_time([*SORT, "-m", "--batch-size=1024", *parts[1024]]),
             "merge, 64 files": lambda: run_time([*merging, *parts[64]]),
             "merge, 1,024 files": lambda: run_time([*merging, *parts[1024]]),
             "merge, 4 files, half the lines": lambda: run_time([*merging, *half]),
@@ -58,6 +59,7 @@ def main() -> int:
         })
         figures = [
             Figure("merge of 4 over sort -m", times["merge, 4 files"] / times["sort -m, 4 files"], 1.7),
+            Figure("merge of 1,024 over sort -m", times["merge, 1,024 files"] / times["sort -m, 1,024 files"], 0.3),
             Figure("merge of 1,024 over merge of 4", times["merge, 1,024 files"] / times["merge, 4 files"], 2),
             Figure("twice the lines", times["merge, 4 files"] / times["merge, 4 files, half the lines"], 2.2),
             Figure("check over sort -c", times["check"] / times["sort -c"], 1.6),
