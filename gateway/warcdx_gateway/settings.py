@@ -74,7 +74,6 @@ class Settings:
     exact: int = 2
     wide: int = 2
     origins: tuple[str, ...] = ("*",)
-    log: bool = True
     limits: Limits = field(default_factory=Limits)
 
 
