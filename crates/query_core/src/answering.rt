@@ -53,7 +53,8 @@ pub fn answer<S: Source, O: Output>(
         IfOk result (AnsweredParts LINE_LIMIT query.now texts (O.written out.old)
         (O.written out.new))) }
     ensures page { OverIndexes LINE_LIMIT (map S.text sources.old) (λ texts indexes.
-        WritesAnswer query.now (collection indexes) result (O.written out.old) (O.written out.new)) }
+        WritesAnswer query.now (collection indexes) result (O.written out.old)
+        (O.written out.new)) }
     ensures reads { ReadsInReach S.text S.extent S.gave query.now (O.written out.old)
         (O.written out.new)
         sources.old sources.new result }

@@ -57,7 +57,8 @@ impl Parameters {
     }
 
     fn add_filter(&mut self, filter: Filter) -> Result<(), QueryFault>
-        ensures { IsReadingInto self.new (Ok (with_filter (parameter_values self.old) filter)) result }
+        ensures { IsReadingInto self.new (Ok (with_filter (parameter_values self.old) filter))
+            result }
     {
         match self.filters.push(filter) {
             Ok(()) => Ok(()),
