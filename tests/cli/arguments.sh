@@ -54,12 +54,12 @@ misplaced() { # OPTION
 }
 
 # check_help CASE LINES ARGUMENT..
-# Expects help that begins with these lines, and nothing on standard error.
+# Expects help that begins with these lines and has no line of more than 80 columns, and nothing on standard error.
 check_help() {
     local case=$1 lines=$2 status=0
     shift 2
     run file "$@" || status=$?
-    if [ "$status" = 0 ] && [[ $(< output) == "$lines"$'\n'* ]] && holds error ""; then
+    if [ "$status" = 0 ] && [[ $(< output) == "$lines"$'\n'* ]] && ! grep -q '.\{81\}' output && holds error ""; then
         say_ok "$case"
     else
         say_differs "$case" "$(printf 'status %s, %q, %q' "$status" "$(< output)" "$(< error)")"
@@ -128,6 +128,9 @@ check "get of twenty digits" "" "$(no_offset 00000000000000000000)"        2 get
 check "an unknown word"                 "" "$(unknown frob)"               2 frob
 check "a command misspelt"              "" "$misspelt"                     2 lst same.warc
 check "a name in place of a command"    "" "$(unknown same.warc)"          2 same.warc
+check "a name before a command"         "" "$(unknown same.warc)"          2 same.warc list
+check "an unknown word before -h"       "" "$(unknown frob)"               2 frob -h
+check "- in place of a command"         "" "$(unknown -)"                  2 -
 check "an empty word"                   "" "$(unknown "")"                 2 ""
 check "help"                            "" "$(unknown help)"               2 help
 check "help list"                       "" "$(unknown help)"               2 help list
@@ -140,6 +143,9 @@ check "list -- -x"                      "" "$(unexpected --)"              2 lis
 check "an option after a name"          "" "$(unexpected -dash.warc)"      2 list same.warc -dash.warc
 check "an option before a command"      "" "$(unexpected -x)"              2 -x list same.warc
 check "an option beside -h"             "" "$(unexpected -x)"              2 list -h -x
+check "an option behind -h"             "" "$(unexpected -x)"              2 -h -x
+check "an option before --help"         "" "$(unexpected -x)"              2 list -x --help
+check "an option that begins with -h"   "" "$(unexpected -hx)"             2 list same.warc -hx
 check "a word that isn't UTF-8"         "" "$(not_utf8 "argument 1")"      2 $'\xff'
 check "a name that isn't UTF-8"         "" "$(not_utf8 "argument 3")"      2 list same.warc $'\xff' $'\xfe'
 check "one in front of a valid one"     "" "$(not_utf8 "argument 2")"      2 list $'a\xc3' same.warc
@@ -160,6 +166,7 @@ of_verify=$(lines "Checks the digests of the records of archives" "" "Usage: war
 check_help "-h"                         "$of_program" -h
 check_help "--help"                     "$of_program" --help
 check_help "-h list"                    "$of_program" -h list
+check_help "--help frob NAME"           "$of_program" --help frob missing
 check_help "list -h"                    "$of_list"    list -h
 check_help "list NAME -h"               "$of_list"    list same.warc -h
 check_help "list --help NAME"           "$of_list"    list --help missing

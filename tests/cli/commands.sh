@@ -25,6 +25,7 @@ check "no arguments"                    "$one"           ""                0 < s
 check "-"                               "$one"           ""                0 list - < same.warc
 check "an archive"                      "$one"           ""                0 list same.warc
 check "a name after ./"                 "$one"           ""                0 list ./-dash.warc
+check "names of commands as names"      ""  "$(lines "warcdx: list: cannot open" "warcdx: get: cannot open")" 3 list list get
 check "two archives"                    "$two"           ""                0 list same.warc absent.warc
 check "- twice"                         "$twice"         ""                0 list - - < same.warc
 check "a missing file"                  ""               "$missing"        3 list missing
@@ -53,6 +54,7 @@ check "verify: differs, then same"      "$differs_first" ""                1 ver
 check "verify: a fault, then differs"   "$cut_first"     ""                1 verify cut.warc differs.warc
 check "verify: a fault, then missing"   "$cut"           "$missing"        3 verify cut.warc missing
 check "verify: a missing file"          ""               "$missing"        3 verify missing
+check "verify: differs, then missing" "$(lines differs.warc: "0 differs")" "$missing" 3 verify differs.warc missing
 
 of_r=$(capture r 0 r.warc)
 of_both=$(capture q 158 both.warc; capture r 0 both.warc)

@@ -5,7 +5,7 @@ use std::alloc::AllocError;
 use thiserror::Error;
 
 /// Why the arguments give no task.
-#[derive(Debug, Drop, Error, PartialEq, Eq)]
+#[derive(Debug, Drop, Error)]
 pub enum WordsFault {
     /// Memory could not be allocated.
     #[error("out of memory")]

@@ -2,7 +2,7 @@
 use capture_core::Types;
 
 /// What the program is asked to do. Names are the arguments as they were given. The archive `-` is standard input.
-#[derive(Debug, Drop, PartialEq, Eq)]
+#[derive(Debug, Drop)]
 pub enum Task {
     /// List the records of each archive.
     List {

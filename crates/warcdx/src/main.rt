@@ -18,8 +18,6 @@ mod queries;
 mod reports;
 mod scanning;
 mod status;
-#[cfg(test)]
-mod tests;
 
 use crate::status::status;
 use std::process::ExitCode;

@@ -6,7 +6,7 @@ use index_core::{IndexFault, Verified};
 use query_core::{AnswerFault, QueryFault};
 
 /// How a command ended.
-#[derive(Clone, Copy, Debug, PartialEq, Eq)]
+#[derive(Clone, Copy)]
 pub enum Outcome {
     /// Everything was done.
     Done,
