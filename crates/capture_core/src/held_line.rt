@@ -1,6 +1,7 @@
 //! Captures, held as their lines.
 use cdxj_core::{
-    Entry, EntryRef, Field, HasPlace, LineFault, LineRef, write_entry, written_line_is_read,
+    Entry, EntryRef, Field, HasPlace, LineFault, LineRef,
+    key_and_file_name_are_no_longer_than_their_line, write_entry, written_line_is_read,
 };
 use std::alloc::{AllocError, Global};
 use std::cmp::Ordering;
@@ -14,11 +15,11 @@ const CLOSING: usize = 3;
 pub struct HeldLine {
     /// The line. A file name that needs escapes in the line stands behind it.
     bytes: Vec<u8>,
-    line_length: usize,
-    key_length: usize,
-    name_start: usize,
-    name_length: usize,
     offset: u64,
+    line_length: u32,
+    key_length: u32,
+    name_start: u32,
+    name_length: u32,
 }
 
 impl Model for HeldLine {
@@ -50,17 +51,19 @@ impl HeldLine {
         ensures long { result ≡ Err LineFault.LineTooLong
             → LINE_LIMIT < length (line_text (entry_view entry.entry)) }
     {
+        written_line_is_read();
+        key_and_file_name_are_no_longer_than_their_line();
         let mut bytes = write_entry(alloc, entry)?;
-        let line_length = bytes.len();
+        let line_length = bytes.len() as u32;
         let name = entry.filename.as_bytes();
-        let name_start = name_start(&mut bytes, name)?;
+        let name_start = name_start(&mut bytes, name)? as u32;
         Ok(HeldLine {
             bytes,
-            line_length,
-            key_length: entry.key.len(),
-            name_start,
-            name_length: name.len(),
             offset: entry.offset,
+            line_length,
+            key_length: entry.key.len() as u32,
+            name_start,
+            name_length: name.len() as u32,
         })
     }
 
@@ -68,7 +71,7 @@ impl HeldLine {
     pub fn line(&self) -> &[u8]
         ensures { result.now ≡ line_text self.now }
     {
-        &self.bytes[..self.line_length]
+        &self.bytes[..self.line_length as usize]
     }
 
     /// Returns the entry with texts of its own, for a record of this length.
@@ -98,19 +101,21 @@ impl HeldLine {
     fn key(&self) -> &[u8]
         ensures { result.now ≡ self.now.key }
     {
-        &self.line()[..self.key_length]
+        &self.line()[..self.key_length as usize]
     }
 
     fn stamp(&self) -> &[u8]
         ensures { result.now ≡ self.now.stamp }
     {
-        &self.line()[self.key_length + 1..self.key_length + 15]
+        let key_length = self.key_length as usize;
+        &self.line()[key_length + 1..key_length + 15]
     }
 
     fn filename(&self) -> &[u8]
         ensures { result.now ≡ self.now.filename }
     {
-        &self.bytes[self.name_start..self.name_start + self.name_length]
+        let start = self.name_start as usize;
+        &self.bytes[start..start + self.name_length as usize]
     }
 
     fn offset(&self) -> u64
@@ -160,6 +165,7 @@ fn name_start(bytes: &mut Vec<u8>, name: &[u8]) -> Result<usize, AllocError>
     ensures line { IfOk result (λ _. take (length bytes.old.items) bytes.new.items
         ≡ bytes.old.items) }
     ensures longer { IfOk result (λ _. length bytes.old.items ≤ length bytes.new.items) }
+    ensures start { IfOk result (λ start. start ≤ length bytes.old.items) }
     ensures within { IfOk result (λ start. start + length name.now ≤ length bytes.new.items) }
     ensures name { IfOk result (λ start. take (length name.now) (drop start bytes.new.items)
         ≡ name.now) }

@@ -7,4 +7,5 @@ pub mod PairLemmas
 pub mod Abbreviations
 pub mod RisingLaws
 pub mod RisingAlike
+pub mod NumberedRising
 pub mod SortedRising

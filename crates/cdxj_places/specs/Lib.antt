@@ -5,4 +5,5 @@ pub mod Pairs
 pub mod TextLines
 pub mod PlaceViews
 pub mod Abbreviated
+pub mod Rows
 pub mod Rising

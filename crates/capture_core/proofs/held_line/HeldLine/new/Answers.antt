@@ -1,7 +1,8 @@
-use Rattle.std.proofs.Common.{◌≡◌, ◌∙◌, ◌≤◌, ap, take, length, refl, subst, sym, arith}
+use Rattle.std.proofs.Common.{◌≡◌, ◌∙◌, ◌≤◌, ◌++◌, [], ◌∷◌, length-append, ap, take, length, refl, subst, sym, arith}
 use Rattle.cdxj_core.specs.declared.limit.TheConstants.{LINE_LIMIT}
-use Rattle.cdxj_core.specs.Entries.{HasLine, line_text}
+use Rattle.cdxj_core.specs.Entries.{HasLine, body_text, line_text}
 use Rattle.cdxj_core.specs.EntryView.{entry_view}
+use Rattle.cdxj_core.specs.Members.{entry_member}
 use Rattle.capture_core.specs.Spelling.{HoldsLine}
 use Rattle.capture_core.proofs.SpellingLemmas.{spells, holds_spelled}
 use Rattle.capture_core.proofs.held_line.HeldLine.new.Goals as goal
@@ -17,10 +18,21 @@ line c =
 has_line : (c : goal.In_ok-name_start) → HasLine LINE_LIMIT (entry_view c.args.entry)
 has_line c = (c.requires, subst (λ t. length t ≤ LINE_LIMIT) c.in_ok-bytes.ensures.0 c.in_ok-bytes.ensures.1)
 
+pub overflow_cast-result-2 : goal.overflow_cast-result-2
+overflow_cast-result-2 c =
+    let e = entry_view c.args.entry in
+    let read = c.written_line_is_read.ensures LINE_LIMIT e (has_line c) in
+    let law : length e.filename ≤ length (body_text e) =
+    c.key_and_file_name_are_no_longer_than_their_line.ensures.filename LINE_LIMIT (line_text e) (entry_member e) read in
+    let whole = length-append (body_text e) (10 ∷ []) in
+    let limit : length (body_text e ++ 10 ∷ []) ≤ LINE_LIMIT = (has_line c).1 in
+    let same : length c.as_bytes-name.result.now ≡ length e.filename = ap length c.as_bytes-name.ensures.value in
+    omega (arith, law, whole, limit, same)
+
 pub invariant_of-result : goal.invariant_of-result
 invariant_of-result c =
     let h : HoldsLine (entry_view c.args.entry) c.name_start.new.bytes.items c.len-line_length.result
-    (length c.args.entry.key.now) c.in_ok-name_start.name_start (length c.as_bytes-name.result.now)
+    (length c.args.entry.key.now) c.in_ok-name_start.field-0 (length c.as_bytes-name.result.now)
     c.args.entry.offset = record {
       line = record {
         has_line = has_line c;
