@@ -11,7 +11,7 @@ use Rattle.page_core.specs.Rows.{row_value, field_name, json_row}
 use Rattle.page_core.specs.Form.{FormValue, Text, Cdxj, Json}
 use Rattle.page_core.specs.PageText.{page_text, page_start, row_text, page_end, later_row, key_rows, begun}
 use Rattle.page_core.specs.PageText.{PageInPieces, BegunIsFront}
-use Rattle.devices.proofs.WritingLemmas.{prefix_longer, prefix_after, prefix_whole}
+use Rattle.devices.proofs.WritingLemmas.{prefix_longer, prefix_after}
 
 flat_map-map : {X Y A : Type 0} (f : Y → List A) (g : X → Y) (xs : List X) → flat_map f (map g xs) ≡ flat_map
     (λ x. f (g x)) xs

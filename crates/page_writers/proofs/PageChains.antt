@@ -19,7 +19,6 @@ use Rattle.page_writers.specs.WrittenPages.{pages_text, WrotePages, WrotePagesIn
 use Rattle.page_writers.specs.WriterView.{IsFront}
 use Rattle.page_writers.proofs.PageKeys.{keys_but_last, one_empty}
 use Rattle.page_writers.proofs.CaptureLemmas.{filter_and}
-use Rattle.page_writers.proofs.WriterLemmas.{whole_prefix}
 use Rattle.page_writers.proofs.PagesLemmas.{Ended, EndedInPart, Pages, cut_there}
 use Rattle.page_writers.proofs.SizeLemmas.{first_positive, later_positive}
 

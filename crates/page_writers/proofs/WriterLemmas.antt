@@ -1,5 +1,5 @@
 -- A page by the lines that were taken for it.
-use Rattle.std.proofs.Common.{Result, Ok, Err, MatchResult, OnErr, flat_map, append_assoc, ◌≡◌, ℕ, zero, suc, ◌+◌, ◌-◌}
+use Rattle.std.proofs.Common.{Result, Ok, Err, OnErr, flat_map, append_assoc, ◌≡◌, ℕ, zero, suc, ◌+◌, ◌-◌}
 use Rattle.std.proofs.Common.{◌^◌, ◌<◌, ◌≤◌, List, [], ◌∷◌, ◌++◌, refl, sym, ap, ◌∙◌, subst, arith, Option, Some, None}
 use Rattle.std.proofs.Common.{Bool, true, false, filter, length, take, min, cond, append-nil, length-append}
 use Rattle.std.proofs.Common.{length-take, eqb, eqb-true, ◌⊎◌, inl, inr}

@@ -1,6 +1,5 @@
 -- The faults of merges and of texts, as faults of the calls on indexes.
 use Rattle.std.proofs.Common.{ℕ, List, Option, refl}
-use Rattle.merge_core.specs.declared.fault.FeedFault.{FeedFault}
 use Rattle.merge_core.specs.declared.fault.FeedFault.TheVariants as feed
 use Rattle.merge_core.specs.declared.fault.MergeFault.{MergeFault}
 use Rattle.merge_core.specs.declared.fault.MergeFault.TheVariants as merge
@@ -9,7 +8,6 @@ use Rattle.merge_core.specs.LineFaults as lines
 use Rattle.page_core.specs.declared.fault.TextFault.{TextFault}
 use Rattle.page_core.specs.declared.fault.TextFault.TheVariants as text
 use Rattle.page_core.specs.Faults.{RaisedByText}
-use Rattle.query_core.specs.declared.fault.AnswerFault.{AnswerFault}
 use Rattle.query_core.specs.AnswerCounts.{RaisedByAnswer}
 use Rattle.query_core.specs.Conversions.{fault_of_merge, fault_of_text}
 use Rattle.query_core.specs.IndexFaults.{IsAnswerFaultOf}

@@ -15,7 +15,7 @@ use Rattle.query_text.specs.FaultNames.{query_fault_name}
 use Rattle.query_text.specs.Queries.{QueryValue}
 use Rattle.merge_core.specs.SourceLines.{AreLinesOf}
 use Rattle.query_core.specs.declared.fault.AnswerFault.{AnswerFault}
-use Rattle.query_core.specs.AnyReplies.{EndsInFault, IsPageReply, IsQueryReply, fault_text}
+use Rattle.query_core.specs.AnyReplies.{IsPageReply, IsQueryReply, fault_text}
 use Rattle.query_core.specs.Conversations.{IsLineReply, IsMarkedReply, WritesSome}
 use Rattle.query_core.specs.IndexFaults.{IsAnswerFaultOf}
 use Rattle.page_writers.specs.QueryPages.{query_page, answer_text}

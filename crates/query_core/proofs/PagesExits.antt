@@ -1,5 +1,5 @@
 -- What a writer has written of pages, where it ends and where it fails.
-use Rattle.std.proofs.Common.{◌≡◌, ◌⊎◌, inl, inr, ℕ, ◌+◌, ◌-◌, ◌^◌, List, min, Bool, true, false, Option, None, refl}
+use Rattle.std.proofs.Common.{◌≡◌, ◌⊎◌, inl, inr, ℕ, ◌+◌, ◌-◌, ◌^◌, List, min, Option, None}
 use Rattle.std.proofs.Common.{ap, ap₂, ◌∙◌, subst}
 use Rattle.std.specs.Io.KnownBytes.{Appends}
 use Rattle.cdxj_core.specs.Members.{Member}

@@ -13,7 +13,7 @@ use Rattle.devices.proofs.DeviceLemmas.{Appends-none, Appends-join}
 use Rattle.devices.proofs.WritingLemmas.{wrote_nothing, prefix_longer, prefix_after, prefix_whole}
 use Rattle.devices.specs.LineCuts.{cut_lines, input_lines, without_carriage_return}
 use Rattle.devices.specs.LineReading.{TakesLine, CountsTaken}
-use Rattle.query_core.specs.Replies.{refusal_text, reply_text, marked_reply, replies}
+use Rattle.query_core.specs.Replies.{refusal_text, reply_text, marked_reply}
 use Rattle.devices.proofs.Takings.{taken-join}
 use Rattle.query_core.specs.declared.fault.AnswerFault.{AnswerFault}
 use Rattle.query_core.specs.Conversations.{Converses, IsLineReply, IsMarkedReply, IsOneReply, Replied, RepliedInPart}

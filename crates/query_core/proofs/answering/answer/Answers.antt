@@ -1,4 +1,4 @@
-use Rattle.std.proofs.Common.{◌≡◌, ◌++◌, ℕ, length, map, List, [], Option, Some, true, not, refl, sym, ap, ◌∙◌, subst}
+use Rattle.std.proofs.Common.{◌≡◌, ◌++◌, ℕ, length, map, List, [], Option, Some, true, refl, sym, ap, ◌∙◌}
 use Rattle.std.proofs.Common.{append-nil, arith}
 use Rattle.std.proofs.lemmas.Bool.{true≢false, false_from_ne_true}
 use Rattle.std.proofs.lemmas.List.{length-map}
@@ -8,13 +8,10 @@ use Rattle.devices.proofs.WritingLemmas.{wrote_nothing}
 use Rattle.cdxj_core.specs.declared.limit.TheConstants.{LINE_LIMIT}
 use Rattle.cdxj_core.specs.Members.{Member}
 use Rattle.cdxj_places.specs.Places.{PlaceValue}
-use Rattle.query_text.specs.Matching.{is_past}
 use Rattle.page_core.specs.Pages.{Page}
-use Rattle.merge_core.specs.Runs.{IsPart}
 use Rattle.merge_core.specs.SourceLines.{AreLinesOf}
 use Rattle.devices.proofs.DeviceLemmas.{grows_by, grows_not, grows_part}
 use Rattle.merge_core.specs.Collections.{collection}
-use Rattle.query_core.specs.Answering.{Answered}
 use Rattle.query_core.specs.Passes.{AreAtMost}
 use Rattle.page_writers.specs.PageWriting.{PageStands, captures_over, page_over}
 use Rattle.page_writers.specs.QueryPages.{form_of, query_page}

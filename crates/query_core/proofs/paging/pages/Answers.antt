@@ -1,4 +1,4 @@
-use Rattle.std.proofs.Common.{rules, ◌≡◌, ◌++◌, ◌∙◌, ℕ, List, [], append-nil, Bool, length, true, false, refl, sym, map}
+use Rattle.std.proofs.Common.{rules, ◌≡◌, ◌++◌, ◌∙◌, ℕ, List, [], append-nil, Bool, length, true, refl, sym, map}
 use Rattle.std.proofs.Common.{Option, None}
 use Rattle.std.proofs.lemmas.Bool.{true≢false, true_from_ne_false}
 use Rattle.std.proofs.lemmas.Result.{err_from_is_err_and}

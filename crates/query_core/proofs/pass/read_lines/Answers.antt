@@ -11,7 +11,7 @@ use Rattle.query_text.proofs.RangeLaw.{past_upward}
 use Rattle.merge_core.specs.Collections.{Known, collection}
 use Rattle.merge_core.specs.Failures.{RaisedBy}
 use Rattle.merge_core.specs.LineFaults as merging
-use Rattle.query_core.proofs.ConversionLemmas.{merge_late, merge_line, merge_raised}
+use Rattle.query_core.proofs.ConversionLemmas.{merge_line, merge_raised}
 use Rattle.merge_core.specs.Openings.{IsCutAt}
 use Rattle.merge_core.specs.Reached.{Reached}
 use Rattle.merge_core.specs.Runs.{parts}
@@ -24,7 +24,6 @@ use Rattle.merge_core.proofs.SourceLemmas.{taken_lines}
 use Rattle.merge_core.proofs.SpendLemmas.{are_read_to}
 use Rattle.merge_core.proofs.WholeLemmas.{extents_kept, texts_kept, told_known}
 use Rattle.devices.proofs.DeviceLemmas.{grows_not}
-use Rattle.query_core.specs.IndexFaults.{IsAnswerFaultOf}
 use Rattle.page_writers.specs.PageWriting.{is_wanted, place_before, captures_over}
 use Rattle.query_core.specs.Reach.{in_reach}
 use Rattle.query_core.specs.Passes.{IsOfParts, Took}

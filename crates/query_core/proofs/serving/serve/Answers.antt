@@ -1,4 +1,4 @@
-use Rattle.std.proofs.Common.{rules, ◌≡◌, ◌<◌, ◌∙◌, ℕ, List, map, refl, sym, subst, arith}
+use Rattle.std.proofs.Common.{rules, ◌<◌, ◌∙◌, ℕ, List, map, refl, sym, subst, arith}
 use Rattle.std.specs.Prelude.{Err}
 use Rattle.std.proofs.lemmas.Result.{err_from_is_err_and}
 use Rattle.std.specs.Io.KnownBytes.{Appends, prepend_known}
