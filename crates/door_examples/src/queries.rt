@@ -27,7 +27,8 @@ pub fn page<S: Source, O: Output>(
     out: &mut O,
 ) -> Result<Report, AnswerFault>
     ensures page { OverIndexes LINE_LIMIT (map S.text sources.old) (λ texts indexes.
-        WritesAnswer query.now (collection indexes) result (O.written out.old) (O.written out.new)) }
+        WritesAnswer query.now (collection indexes) result (O.written out.old)
+        (O.written out.new)) }
 {
     answer(alloc, sources, query, out)
 }
