@@ -7,7 +7,8 @@ A KIND is one of these; without one all three are checked:
 
 shell   `shellcheck` finds nothing in the shell scripts. Needs Debian's package shellcheck
 python  the Python scripts compile without warnings
-usage   each script that can be run prints its usage for -h with exit status 0, and ends with 2 after an unknown option
+usage   each script that can be run prints its usage for -h with exit status 0, and ends with 2 after an unknown option, or with 77 if a
+        package that it needs is missing
 
 The scripts are the files that git lists outside of crates/. Prints a line for each script, and the
 counts. The exit status is 0, or 1 if a script fails. Needs git.
@@ -24,7 +25,7 @@ from typing import Optional
 
 sys.path.insert(0, str(pathlib.Path(__file__).resolve().parents[1] / "tests"))
 
-from program import ROOT, USAGE, Report, need, parser_of
+from program import MISSING, ROOT, USAGE, Report, need, parser_of
 
 KINDS = ("shell", "python", "usage")
 SECONDS = 20
@@ -70,6 +71,8 @@ def fault_of_usage(path: pathlib.Path) -> Optional[str]:
             )
         except subprocess.TimeoutExpired:
             return f"{option} takes more than {SECONDS} s"
+        if done.returncode == MISSING:
+            return None
         if done.returncode != wanted:
             return f"{option} ends with exit status {done.returncode}"
         if option == "-h" and f"usage: {path.name}".encode() not in done.stdout:
