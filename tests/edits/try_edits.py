@@ -1,0 +1,59 @@
+#!/usr/bin/env python3
+"""Tries the must-fail edits that rt ci doesn't try: the prover has to refuse each.
+
+usage: try_edits.py [CRATE..]
+
+They are beside this script, in a folder for each crate. Without CRATE all are tried. `rt must-fail` tries them on copies of the crate and of those
+below it. It uses what tools/build.py has proved of these, and proves the rest first.
+
+Prints a line for each edit, and the counts. The exit status is 0, or 1 if an edit isn't refused. Needs the kit's rt.
+"""
+import pathlib
+import re
+import shutil
+import subprocess
+import sys
+
+HERE = pathlib.Path(__file__).resolve().parent
+sys.path[:0] = [str(HERE.parent), str(HERE.parents[1] / "tools")]
+
+from build import Crate, crates_of_program, make_room
+from program import Report, need, parser_of
+
+EDIT = re.compile(r"rt: must-fail (\S+): (.*)")
+
+
+def try_edits(crate: Crate, report: Report) -> None:
+    edits, room = HERE / crate.name, make_room(crate)
+    try:
+        shutil.copytree(edits, room / "crates" / crate.name / "must-fail")
+        done = subprocess.run(("rt", "must-fail", crate.name), cwd=room, stdout=subprocess.PIPE, stderr=subprocess.STDOUT, text=True, errors="replace")
+    finally:
+        shutil.rmtree(room, ignore_errors=True)
+    found = dict(EDIT.findall(done.stdout))
+    for edit in sorted(edits.glob("*.edit")):
+        name = f"{crate.name}/{edit.name}"
+        said = found.get(name, done.stdout[-500:])
+        if said.startswith("refused"):
+            report.add_ok(name)
+        else:
+            report.add_difference(name, said)
+
+
+def main() -> int:
+    parser = parser_of(__doc__)
+    parser.add_argument("crates", metavar="CRATE", nargs="*", help="a crate that has a folder here")
+    chosen = parser.parse_args().crates
+    need("rt:the Rattle kit")
+    crates = {crate.name: crate for crate in crates_of_program() if (HERE / crate.name).is_dir()}
+    if not set(chosen) <= crates.keys():
+        parser.error(f"a CRATE is {', '.join(crates)}")
+    report = Report()
+    for name, crate in crates.items():
+        if not chosen or name in chosen:
+            try_edits(crate, report)
+    return report.end()
+
+
+if __name__ == "__main__":
+    sys.exit(main())
