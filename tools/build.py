@@ -4,7 +4,7 @@
 usage: build.py [--processors N]
 
 rt works on one crate of a checkout at a time. So each crate is proved in a folder of its own, with its sources and those of the crates below it. What was made
-there is then moved into the crate's folder. A crate is begun as soon as the crates below it are proved. A crate that is proved already isn't proved again.
+there is then moved into the crate's folder. The crates that the build would wait for come first. A crate that is proved already isn't proved again.
 
 Prints a line on standard error when a crate begins and when it ends. The file crates/NAME/out/build.log contains what rt printed for a crate. If a crate
 isn't proved, the script ends the others and prints the last lines of that file. The exit status is 0, 1 if a crate isn't proved, or 2 after a usage error.
@@ -30,17 +30,42 @@ SOURCES = ("src", "specs", "proofs")
 MEMORY = 4 << 30  # bytes, for each processor
 LAST_LINES = 30
 
+# The seconds that each crate took alone, on one machine. They only decide which crates come first.
+SECONDS = {
+    "block_digests": 33,
+    "capture_core": 99,
+    "cdxj_core": 81,
+    "cdxj_keys": 49,
+    "cdxj_objects": 69,
+    "cdxj_places": 47,
+    "command_line": 133,
+    "devices": 62,
+    "index_core": 109,
+    "line_queue": 32,
+    "merge_core": 139,
+    "page_core": 65,
+    "page_writers": 83,
+    "query_core": 128,
+    "query_text": 116,
+    "scan_core": 146,
+    "source_core": 104,
+    "warc_core": 67,
+    "warc_head": 69,
+    "warcdx": 440,
+}
+OTHER_SECONDS = 80  # of a crate that isn't among these
+NEAR = 0.93  # of the longest chain: a chain of this part of it is as urgent
+
 
 class NotProved(Exception):
     """A crate isn't proved."""
 
 
 class Crate(NamedTuple):
-    """A crate, all crates below it, and the lines of its sources, proofs included."""
+    """A crate, and all crates below it."""
 
     name: str
     below: frozenset[str]
-    lines: int
 
     @property
     def folder(self) -> Path:
@@ -62,11 +87,6 @@ def direct_dependencies() -> dict[str, list[str]]:
     return {name: [other for other in names if other in named] for name, names in named.items()}
 
 
-def lines_of(crate: str) -> int:
-    files = (file for part in SOURCES for file in (CRATES / crate / part).rglob("*") if file.is_file())
-    return sum(file.read_bytes().count(b"\n") for file in files)
-
-
 def crates_of_program() -> list[Crate]:
     """Returns the crate of the program and those below it, each after the crates that it stands on."""
     direct = direct_dependencies()
@@ -75,7 +95,7 @@ def crates_of_program() -> list[Crate]:
     def find(name: str) -> frozenset[str]:
         if name not in found:
             below = frozenset(direct[name]).union(*map(find, direct[name]))
-            found[name] = Crate(name, below, lines_of(name))
+            found[name] = Crate(name, below)
         return found[name].below | {name}
 
     find(PROGRAM)
@@ -83,11 +103,11 @@ def crates_of_program() -> list[Crate]:
 
 
 def chain_lengths(crates: list[Crate]) -> dict[str, int]:
-    """Returns for each crate the lines of the longest chain of crates that begins with it, each standing on the one before."""
+    """Returns for each crate the seconds of the longest chain of crates that begins with it, each standing on the one before."""
     lengths: dict[str, int] = {}
     for crate in reversed(crates):
         above = (lengths[other.name] for other in crates if crate.name in other.below)
-        lengths[crate.name] = crate.lines + max(above, default=0)
+        lengths[crate.name] = SECONDS.get(crate.name, OTHER_SECONDS) + max(above, default=0)
     return lengths
 
 
@@ -123,24 +143,25 @@ class Builder:
         self.running: set[subprocess.Popen[bytes]] = set()
         self.is_ended = False
 
-    def prove(self, crate: Crate, jobs: int) -> float:
-        """Proves the crate, or builds the program. Returns the seconds that it took."""
+    def prove(self, crate: Crate, jobs: int, is_urgent: bool) -> float:
+        """Proves the crate, or builds the program. What isn't urgent yields to what is. Returns the seconds that it took."""
         began = time.monotonic()
         crate.log.parent.mkdir(parents=True, exist_ok=True)
         if crate.name == PROGRAM:
-            self.call_rt(["run", "--jobs", str(jobs)], crate.folder, crate.log)
+            self.call_rt(["run", "--jobs", str(jobs)], crate.folder, crate.log, is_urgent)
         else:
             room = make_room(crate)
             try:
-                self.call_rt(["lib", "--jobs", str(jobs)], room / "crates" / crate.name, crate.log)
+                self.call_rt(["lib", "--jobs", str(jobs)], room / "crates" / crate.name, crate.log, is_urgent)
                 keep(room, crate)
             finally:
                 shutil.rmtree(room, ignore_errors=True)
         return time.monotonic() - began
 
-    def call_rt(self, arguments: list[str], folder: Path, log: Path) -> None:
+    def call_rt(self, arguments: list[str], folder: Path, log: Path, is_urgent: bool) -> None:
+        words = ["rt", *arguments] if is_urgent else ["nice", "-n", "5", "rt", *arguments]
         streams = {"stdin": subprocess.DEVNULL, "stderr": subprocess.STDOUT}
-        with log.open("wb") as output, subprocess.Popen(["rt", *arguments], cwd=folder, stdout=output, **streams) as process:
+        with log.open("wb") as output, subprocess.Popen(words, cwd=folder, stdout=output, **streams) as process:
             self.running.add(process)
             if self.is_ended:
                 process.terminate()
@@ -162,33 +183,33 @@ def free_memory() -> int:
     return int(found[1]) << 10 if found else MEMORY
 
 
-def shares(idle: int, least: list[tuple[Crate, int]]) -> list[tuple[Crate, int]]:
-    """Divides the idle processors among the crates, each with the least that it is to get. The first ones get more if there are more processors."""
-    chosen: list[tuple[Crate, int]] = []
-    for crate, share in least:
-        if share := min(share, idle):
-            chosen.append((crate, share))
-            idle -= share
-    return [(crate, share + (idle + len(chosen) - 1 - position) // len(chosen)) for position, (crate, share) in enumerate(chosen)]
-
-
 def build(crates: list[Crate], processors: int) -> None:
-    """Proves the crates; of those that can begin, the ones with the longest chains above them come first."""
+    """Proves the crates.
+
+    The build waits for the longest chain. So the crates that begin chains of about that length are urgent, and share all processors. The others take
+    one processor each, if the urgent ones leave it idle.
+    """
     lengths = chain_lengths(crates)
     waiting = sorted(crates, key=lambda crate: -lengths[crate.name])
     proved: set[str] = set()
-    running: dict[Future[float], tuple[Crate, int]] = {}
+    running: dict[Future[float], tuple[Crate, bool]] = {}
     builder = Builder()
-    with ThreadPoolExecutor(processors) as pool:
+    with ThreadPoolExecutor(len(crates)) as pool:
         while waiting or running:
-            idle = processors - sum(share for _, share in running.values())
             ready = [crate for crate in waiting if crate.below <= proved]
-            longest = max(lengths[crate.name] for crate in (*ready, *(crate for crate, _ in running.values())))
-            # The build waits for the longest chain, so the crate that begins it gets half of all processors.
-            for crate, share in shares(idle, [(crate, max(1, processors // 2) if lengths[crate.name] == longest else 1) for crate in ready]):
+            begun = [*ready, *(crate for crate, _ in running.values())]
+            least = NEAR * max(lengths[crate.name] for crate in begun)
+            urgent = sum(lengths[crate.name] >= least for crate in begun)
+            others = sum(not is_urgent for _, is_urgent in running.values())
+            for crate in ready:
+                is_urgent = lengths[crate.name] >= least
+                if not is_urgent and others >= processors - 1:
+                    continue
+                others += not is_urgent
                 waiting.remove(crate)
                 say(f"{crate.name} begins; its log is {crate.log.relative_to(ROOT)}")
-                running[pool.submit(builder.prove, crate, share)] = crate, share
+                jobs = max(1, processors // urgent) if is_urgent else 1
+                running[pool.submit(builder.prove, crate, jobs, is_urgent)] = crate, is_urgent
             for ended in wait(running, return_when=FIRST_COMPLETED).done:
                 crate, _ = running.pop(ended)
                 try:
