@@ -13,7 +13,7 @@ use Rattle.warc_core.specs.HeadView.{HeadView}
 use Rattle.cdxj_core.specs.Entries.{EntryValue, entry_place, HasLine}
 use Rattle.cdxj_places.specs.Places.{place_cmp}
 use Rattle.capture_core.specs.CaptureAnswer.{IsEntryOf}
-use Rattle.index_core.specs.Indexing.{HaveOwnPlaces, AreSound, is_among}
+use Rattle.index_core.specs.Indexing.{HaveOwnPlaces, AreNamed, AreSound, is_among}
 use Rattle.index_core.specs.Captures.{StandBefore}
 
 -- ---- lists with one more
@@ -68,6 +68,12 @@ before_step name limit o p h xs None less at e before = subst (StandBefore name 
     (before_more name o p xs less before)
 before_step name limit o p h xs (Some x) less at e before = each_push (λ y. y.filename ≡ name → y.offset < p) xs x
     (before_more name o p xs less before) (λ n. omega (arith, less, at, e.offset))
+
+-- what a record adds has the archive's name
+pub named_step : (limit : ℕ) (name : List ℕ) (h : HeadView) (xs : List EntryValue) (captured : Option EntryValue)
+    → IfSome captured (IsEntryOf h name limit) → AreNamed name xs → AreNamed name (xs ++ option_to_list captured)
+named_step limit name h xs None e named = subst (AreNamed name) (sym (append-nil xs)) named
+named_step limit name h xs (Some x) e named = each_push (λ y. y.filename ≡ name) xs x named e.filename
 
 pub sound_step : (limit : ℕ) (names : List (List ℕ)) (name : List ℕ) (o : ℕ) (h : HeadView) (xs : List EntryValue)
     (captured : Option EntryValue) → is_among names name ≡ true → h.start ≡ o → IfSome captured (IsEntryOf h name limit)

@@ -7,7 +7,7 @@ use Rattle.capture_core.specs.CaptureAnswer.{Limits}
 use Rattle.index_core.specs.declared.fault.IndexFault.{IndexFault}
 use Rattle.index_core.specs.declared.fault.IndexFault.TheVariants as faults
 use Rattle.index_core.specs.Accepted.{IsAccepted, IsAcceptedTo}
-use Rattle.index_core.specs.Indexing.{Held}
+use Rattle.index_core.specs.Indexing.{Held, AreNamed}
 
 -- what is held with one more archive
 abbrev pub with_archive : List ℕ → List EntryValue → Held → Held
@@ -17,9 +17,10 @@ with_archive name captures held = record held { names = held.names ++ name ∷ [
 module _ (types : Kind → Bool) (limits : Limits) (limit : ℕ) (name : List ℕ) where
   -- which captures a list gains from an archive, and the number that is answered
   abbrev pub Gains : Option (List ℕ) → List EntryValue → Result ℕ CaptureFault → Type 0
-  Gains left captures (Ok n) = (n ≡ length captures)
+  Gains left captures (Ok n) = (n ≡ length captures) × AreNamed name captures
       × IfSome left (λ archive. IsAccepted types limits limit name archive captures)
-  Gains left captures (Err fault) = IfSome left (λ archive. IsAcceptedTo types limits limit name fault archive captures)
+  Gains left captures (Err fault) = AreNamed name captures
+      × IfSome left (λ archive. IsAcceptedTo types limits limit name fault archive captures)
 
   -- what an addition makes of what an indexer holds
   abbrev pub Adds : Option (List ℕ) → Held → Held → Result ℕ IndexFault → Type 0

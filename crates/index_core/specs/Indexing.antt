@@ -43,6 +43,10 @@ HaveOwnPlaces [] = Unit {0}
 HaveOwnPlaces (e ∷ captures) = AllByRecursion (λ other. place_cmp (entry_place e) (entry_place other) ≡ Equal → ⊥)
     captures × HaveOwnPlaces captures
 
+-- each capture has this file name
+abbrev pub AreNamed : List ℕ → List EntryValue → Type 0
+AreNamed name captures = AllByRecursion (λ e. e.filename ≡ name) captures
+
 -- What always holds of the captures of archives of these names.
 pub record AreSound (limit : ℕ) (names : List (List ℕ)) (captures : List EntryValue) : Type 0 where
   pub places : HaveOwnPlaces captures

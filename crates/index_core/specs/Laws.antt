@@ -1,5 +1,5 @@
 -- Laws of the definitions that the contracts cite.
-use Rattle.std.specs.Prelude.{◌≡◌, ℕ, ◌≤◌, ⊤, Bool, List, Some, Result, Err}
+use Rattle.std.specs.Prelude.{◌≡◌, ℕ, ◌≤◌, ⊤, Bool, List, Result}
 use Rattle.warc_core.specs.Kind.{Kind}
 use Rattle.cdxj_core.specs.Entries.{EntryValue}
 use Rattle.capture_core.specs.declared.fault.CaptureFault.{CaptureFault}
@@ -7,7 +7,6 @@ use Rattle.capture_core.specs.declared.fault.CaptureFault.TheVariants.{Archive, 
 use Rattle.capture_core.specs.CaptureAnswer.{Limits}
 use Rattle.index_core.specs.declared.fault.IndexFault.{IndexFault}
 use Rattle.index_core.specs.Accepted.{IsAccepted, IsAcceptedTo, IsAcceptedWhole}
-use Rattle.index_core.specs.Adding.{Gains}
 use Rattle.index_core.specs.Fetching.{StandsIn}
 use Rattle.index_core.specs.Report.{IsNoDamage}
 
@@ -35,7 +34,7 @@ IsNoFaultOfArchive (KeyTooLong offset) = ⊤
 abbrev pub WholeIsNotRefused : Type 0
 WholeIsNotRefused = (types : Kind → Bool) (limits : Limits) (limit : ℕ) (name archive : List ℕ)
     (gained : List EntryValue) (fault : CaptureFault)
-    → IsAcceptedWhole types limits limit name archive → Gains types limits limit name (Some archive) gained (Err fault)
+    → IsAcceptedWhole types limits limit name archive → IsAcceptedTo types limits limit name fault archive gained
     → IsNoFaultOfArchive fault
 
 -- an archive that is accepted with captures is accepted whole

@@ -12,10 +12,10 @@ use Rattle.capture_core.specs.CaptureAnswer.{usual_limits}
 use Rattle.capture_core.specs.declared.fault.CaptureFault.{CaptureFault}
 use Rattle.index_core.specs.declared.fault.IndexFault.{IndexFault}
 use Rattle.index_core.specs.declared.fault.IndexFault.TheVariants as index
-use Rattle.index_core.specs.Accepted.{IsAccepted, IsAcceptedTo}
+use Rattle.index_core.specs.Accepted.{IsAcceptedTo}
 use Rattle.index_core.specs.Adding.{Adds, with_archive}
 use Rattle.index_core.specs.Indexing.{Held, IsName, is_among}
-use Rattle.scan_core.specs.Archives.{HasIndex, IsNewName, IsFaultOfArchive, HaveLines, index_members}
+use Rattle.scan_core.specs.Archives.{HasIndex, IsAcceptedAs, IsNewName, IsFaultOfArchive, HaveLines, index_members}
 
 is_name : (name : List ℕ) → ((IsName name → ⊥) → ⊥) → IsName name
 is_name name h = go (nat_lt 0 (length name)) refl (nat_le (length name) 255) refl
@@ -63,7 +63,7 @@ fault_of types names name input old new index.Memory bad duplicate adds = is_new
 fault_of types names name input old new (index.Capture fault) bad duplicate adds = (
   is_new names name (Err (index.Capture fault)) bad duplicate (λ e. cc) (λ e. cc),
   accepted_to types name input fault
-      adds.0 adds.2,
+      adds.0 adds.2.1,
 )
 fault_of types names name input old new index.Write bad duplicate adds = absurd adds
 fault_of types names name input old new index.NoRecord bad duplicate adds = absurd adds
@@ -72,7 +72,7 @@ fault_of types names name input old new index.NoRecord bad duplicate adds = absu
 pub index_of_added : {I : Type 0} (text : I → List ℕ) (types : Kind → Bool) (names : List (List ℕ)) (name : List ℕ)
     (input : Option (List ℕ)) (old new : Held) (captures : List EntryValue) (r : Result I IndexFault)
     → old.captures ≡ [] → IsNewName names name → new ≡ with_archive name captures old
-    → IfSome input (λ archive. IsAccepted types usual_limits HEAD_LIMIT name archive captures)
+    → IsAcceptedAs types name input captures
     → HaveLines new.captures → IfOk r (λ index. IsIndex LINE_LIMIT (text index) (index_members new.captures))
     → IfOk r (λ index. HasIndex types names name input (text index))
 index_of_added text types names name input old new captures (Err fault) none fresh is accepted lines written = tt

@@ -24,7 +24,7 @@ module _ (types : Kind → Bool) (names : List (List ℕ)) (inputs : List (Optio
     asked = asked;
     captures = archives;
     indexed = indexed;
-    once = λ told known. once types names inputs archives told known indexed.named indexed.accepted indexed.lines;
+    once = once types names inputs archives indexed.named indexed.accepted indexed.lines;
     wrote = subst (λ lines. WrotePages query lines sizes old new number) (collected archives) w;
   }
 

@@ -12,7 +12,7 @@ use Rattle.capture_core.specs.CaptureAnswer.{usual_limits}
 use Rattle.index_core.specs.declared.fault.IndexFault.{IndexFault}
 use Rattle.index_core.specs.declared.fault.IndexFault.TheVariants as index
 use Rattle.index_core.specs.Accepted.{IsAccepted, IsAcceptedTo}
-use Rattle.index_core.specs.Indexing.{IsName, is_among, in_places, HaveOwnPlaces}
+use Rattle.index_core.specs.Indexing.{IsName, AreNamed, is_among, in_places, HaveOwnPlaces}
 
 -- a name that an archive may have, and none of the earlier ones
 pub record IsNewName (earlier : List (List ℕ)) (name : List ℕ) : Type 0 where
@@ -24,11 +24,12 @@ abbrev pub AreNewNames : List (List ℕ) → List (List ℕ) → Type 0
 AreNewNames earlier [] = ⊤
 AreNewNames earlier (name ∷ names) = IsNewName earlier name × AreNewNames (earlier ++ name ∷ []) names
 
--- what the input holds, where that is known, is accepted whole under the name, with these captures of records of these
--- types
+-- These captures have the archive's name. What the input holds, where that is known, is accepted whole with them, as
+-- the captures of its records of these types.
 abbrev pub IsAcceptedAs : (Kind → Bool) → List ℕ → Option (List ℕ) → List EntryValue → Type 0
-IsAcceptedAs types name input captures = IfSome input
-    (λ archive. IsAccepted types usual_limits HEAD_LIMIT name archive captures)
+IsAcceptedAs types name input captures =
+    AreNamed name captures
+    × IfSome input (λ archive. IsAccepted types usual_limits HEAD_LIMIT name archive captures)
 
 -- the same of each archive
 abbrev pub AreAcceptedAs : (Kind → Bool) → List (List ℕ) → List (Option (List ℕ)) → List (List EntryValue) → Type 0

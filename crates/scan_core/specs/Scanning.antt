@@ -4,7 +4,6 @@ use Rattle.warc_core.specs.Kind.{Kind}
 use Rattle.cdxj_core.specs.Entries.{EntryValue}
 use Rattle.index_core.specs.declared.fault.IndexFault.TheVariants as index
 use Rattle.index_core.specs.Indexing.{HaveOwnPlaces}
-use Rattle.merge_core.specs.Collections.{Known}
 use Rattle.query_text.specs.declared.fault.QueryFault.TheVariants as refusal
 use Rattle.query_text.specs.declared.query.TheConstants.{QUERY_LIMIT}
 use Rattle.query_text.specs.Queries.{QueryValue, query_of}
@@ -33,7 +32,7 @@ module _ (types : Kind → Bool) (names : List (List ℕ)) (inputs : List (Optio
     pub asked : IsAsked sizes text (length names) query
     pub captures : List (List EntryValue)
     pub indexed : AreIndexed types names inputs captures
-    pub once : (archives : List (List ℕ)) → Known inputs archives → HaveOwnPlaces (all_captures captures)
+    pub once : HaveOwnPlaces (all_captures captures)
     pub wrote : WrotePages query (captured_lines captures) sizes old new number
 
   -- a front of those pages was written

@@ -9,7 +9,7 @@ use Rattle.capture_core.specs.CaptureAnswer.{usual_limits}
 use Rattle.index_core.specs.Indexing.{AreSound}
 use Rattle.index_core.specs.Captures.{StandBefore}
 use Rattle.index_core.proofs.AddingLemmas.{AddedSoFar-more, AddedSoFar-end, AddedSoFar-refused, none_added}
-use Rattle.index_core.proofs.SoundLemmas.{before_step, sound_step}
+use Rattle.index_core.proofs.SoundLemmas.{before_step, named_step, sound_step}
 use Rattle.index_core.proofs.captures.add_captures.Goals as goal
 
 pub returns-in-Ok-None-clause-gains : goal.returns-in-Ok-None-clause-gains
@@ -27,6 +27,7 @@ returns-in-Ok-None-clause-gains g c =
           length-append
               c.args.captures.now.items s.0,
         ),
+        s.3,
         AddedSoFar-end (includes c.args.types) usual_limits HEAD_LIMIT c.args.name.now _
             _ _ c.loop-captures.reader.offset s.0 s.2 e.takes,
       ),
@@ -37,9 +38,11 @@ returns-in_err-reader-clause-gains g c =
     let p = err_from_is_err_and c.from_residual.result c.from_residual.ensures.1 in (
       [],
       sym (append-nil c.args.captures.now.items),
-      rw (p.1, p.2, c.in_err-reader.ensures.memory)
-          (none_added (includes c.args.types) usual_limits HEAD_LIMIT c.args.name.now
-          (g.I.Input.remaining c.args.input.now)),
+      rw (p.1, p.2, c.in_err-reader.ensures.memory) ((
+        tt,
+        none_added (includes c.args.types) usual_limits HEAD_LIMIT c.args.name.now
+            (g.I.Input.remaining c.args.input.now),
+      )),
     )
 
 pub returns-in-Err-clause-gains : goal.returns-in-Err-clause-gains
@@ -47,8 +50,11 @@ returns-in-Err-clause-gains g c =
     let i = c.loop-captures.invariant.gains in (
       i.0,
       i.1,
-      AddedSoFar-refused (includes c.args.types) usual_limits HEAD_LIMIT c.args.name.now _ _
-          c.loop-captures.reader.offset i.0 c.in-Err.fault i.2 c.in-Err.ensures.takes,
+      (
+        i.3,
+        AddedSoFar-refused (includes c.args.types) usual_limits HEAD_LIMIT c.args.name.now _ _
+            c.loop-captures.reader.offset i.0 c.in-Err.fault i.2 c.in-Err.ensures.takes,
+      ),
     )
 
 pub loop-captures-preserved : goal.loop-captures-preserved
@@ -68,6 +74,7 @@ loop-captures-preserved g c =
             ∙ append_assoc c.args.captures.now.items i.gains.0 more),
         rw t.stands.offset_is (AddedSoFar-more (includes c.args.types) usual_limits HEAD_LIMIT c.args.name.now _ _ _ o
             i.gains.0 c.in-Ok-Some.head c.in-Ok-Some.captured _ i.gains.2 t),
+        named_step LINE_LIMIT c.args.name.now c.in-Ok-Some.head i.gains.0 c.in-Ok-Some.captured t.entry i.gains.3,
       );
       before = subst (StandBefore c.args.name.now c.next_capture.new.reader.offset) (sym c.in-Ok.ensures.ok)
           (before_step c.args.name.now LINE_LIMIT o c.next_capture.new.reader.offset c.in-Ok-Some.head _

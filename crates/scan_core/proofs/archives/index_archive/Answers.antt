@@ -22,4 +22,4 @@ returns-clause-index g c =
     rw (← c.as_str.ensures.value) (index_of_added gathered (includes c.args.indexer.now.types) c.args.indexer.now.names
     c.as_str.result.now (g.I.Input.remaining c.args.archive.now.input) c.args.indexer.now c.add.new.self e.adds.0
     c.index_of-index.result
-    c.requires fresh e.adds.1 e.adds.2.1 c.index_of-index.ensures.lines c.index_of-index.ensures.index)
+    c.requires fresh e.adds.1 (e.adds.2.1, e.adds.2.2) c.index_of-index.ensures.lines c.index_of-index.ensures.index)
