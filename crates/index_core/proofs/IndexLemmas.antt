@@ -1,11 +1,11 @@
 -- The lines of an index, and captures that have their own places.
-use Rattle.std.proofs.Common.{◌≡◌, ◌∙◌, ℕ, suc, ◌+◌, ◌<◌, List, [], ◌∷◌, ◌++◌, append-nil, length, map, take, drop}
-use Rattle.std.proofs.Common.{get_or, refl, sym, ap}
-use Rattle.std.specs.List.{AllByRecursion}
+use Rattle.std.proofs.Common.{◌≡◌, ◌∙◌, ℕ, suc, ◌+◌, ◌<◌, List, [], ◌∷◌, ◌++◌, length, map, take, drop}
+use Rattle.std.proofs.Common.{Option, get_or, refl, sym, ap}
+use Rattle.std.specs.List.{AllByRecursion, filter_map}
 use Rattle.std.specs.declared.cmp.Ordering.TheVariants.{Less, Equal, Greater}
-use Rattle.std.proofs.lemmas.List.{take-append-drop, at_drop_more, map-append, take_more}
+use Rattle.std.proofs.lemmas.List.{take-append-drop, at_drop_more, take_more}
 use Rattle.std.proofs.lemmas.List.Concat.{flat_map-append}
-use denote.Ref.{Bor}
+use Rattle.std.proofs.lemmas.List.Elements.{filter_map-append}
 use Rattle.cdxj_core.specs.Entries.{EntryValue, HasLine, entry_place, line_text}
 use Rattle.cdxj_core.specs.Indexes.{IsIndex}
 use Rattle.cdxj_core.specs.Members.{entry_member}
@@ -18,28 +18,27 @@ use Rattle.index_core.specs.Indexing.{entries_text, index_text, in_places, HaveO
 
 -- ---- lines
 
-abbrev lines_now : List (Bor EntryValue) → List ℕ
-lines_now xs = entries_text (map (λ e. e.now) xs)
+-- the lines of what is found of each
+module _ {A : Type 0} (found : A → Option EntryValue) where
+  abbrev found_text : List A → List ℕ
+  found_text us = entries_text (filter_map found us)
 
-lines_now_append : (xs ys : List (Bor EntryValue)) → lines_now (xs ++ ys) ≡ lines_now xs ++ lines_now ys
-lines_now_append xs ys = ap entries_text (map-append (λ (e : Bor EntryValue). e.now) xs ys)
-    ∙ flat_map-append line_text (map (λ e. e.now) xs) (map (λ e. e.now) ys)
+  found_append : (us vs : List A) → found_text (us ++ vs) ≡ found_text us ++ found_text vs
+  found_append us vs = ap entries_text (filter_map-append found us vs)
+      ∙ flat_map-append line_text (filter_map found us) (filter_map found vs)
 
--- the lines before an entry, its line, and the lines after it
-pub lines_at : (xs : List (Bor EntryValue)) (k : ℕ) (x : Bor EntryValue) → k < length xs → x ≡ get_or xs k x
-    → lines_now xs ≡ lines_now (take k xs) ++ (line_text x.now ++ lines_now (drop (k + 1) xs))
-lines_at xs k x h e =
-    ap lines_now (sym (take-append-drop k xs)) ∙ lines_now_append (take k xs) (drop k xs)
-    ∙ ap (λ (t : List ℕ). lines_now (take k xs) ++ t)
-    (at_drop_more lines_now xs k x h ∙ ap (λ (y : Bor EntryValue). lines_now (y ∷ drop (k + 1) xs)) (sym e))
+  -- those before one, those of this one, and those after it
+  pub lines_at : (us : List A) (k : ℕ) (d : A) → k < length us → found_text us
+      ≡ found_text (take k us) ++ (found_text (get_or us k d ∷ []) ++ found_text (drop (k + 1) us))
+  lines_at us k d h =
+      ap found_text (sym (take-append-drop k us)) ∙ found_append (take k us) (drop k us)
+      ∙ ap (λ (t : List ℕ). found_text (take k us) ++ t)
+      (at_drop_more found_text us k d h ∙ found_append (get_or us k d ∷ []) (drop (k + 1) us))
 
--- one line more
-pub lines_more : (xs : List (Bor EntryValue)) (k : ℕ) (x : Bor EntryValue) → k < length xs → x ≡ get_or xs k x
-    → lines_now (take (k + 1) xs) ≡ lines_now (take k xs) ++ line_text x.now
-lines_more xs k x h e =
-    ap lines_now (take_more xs k x h ∙ ap (λ (y : Bor EntryValue). take k xs ++ y ∷ []) (sym e))
-    ∙ (lines_now_append (take k xs) (x ∷ [])
-    ∙ ap (λ (t : List ℕ). lines_now (take k xs) ++ t) (append-nil (line_text x.now)))
+  -- those of one more
+  pub lines_more : (us : List A) (k : ℕ) (d : A) → k < length us → found_text (take (k + 1) us)
+      ≡ found_text (take k us) ++ found_text (get_or us k d ∷ [])
+  lines_more us k d h = ap found_text (take_more us k d h) ∙ found_append (take k us) (get_or us k d ∷ [])
 
 -- ---- places
 

@@ -1,11 +1,12 @@
-use Rattle.std.proofs.Common.{◌≡◌, map, take}
+use Rattle.std.proofs.Common.{◌≡◌, take, slice_get}
 use Rattle.std.specs.Io.KnownBytes.{Appends}
+use Rattle.std.specs.List.{filter_map}
 use Rattle.index_core.specs.Indexing.{entries_text}
 use Rattle.index_core.proofs.index_lines.put_lines.Given as goal
 
-abbrev pub invariant-loop-line : goal.invariant-loop-line
-invariant-loop-line g l = record {
+abbrev pub invariant-loop-row : goal.invariant-loop-row
+invariant-loop-row g l = record {
   lines : Appends (g.O.Output.written l.fn.out) (g.O.Output.written l.out)
-      (entries_text (map (λ e. e.now) (take l.line-index l.lines)));
+      (entries_text (filter_map (λ row. slice_get l.captures row.number) (take l.row-index l.rows)));
   failures : g.O.Output.failures l.out ≡ g.O.Output.failures l.fn.out;
 }
