@@ -62,6 +62,7 @@ of_two=$(lines "$of_both" "$of_r")
 of_torn=$(capture q 158 torn.warc; capture r 0 torn.warc)
 torn_first=$(capture q 158 torn.warc; capture r 0 r.warc; capture r 0 torn.warc)
 of_input=$(capture r 0 -)
+of_escaped=$(capture r 0 'r\n.warc'; capture r 0 'r\".warc'; capture r 0 r.warc; capture r 0 'r\\.warc')
 input_among=$(capture q 158 both.warc; capture r 0 -; capture r 0 both.warc)
 torn="warcdx: torn.warc: fault 316 ShortHead"
 
@@ -72,6 +73,7 @@ check "index: no captures"              ""               ""                0 ind
 check "index: -"                        "$of_input"      ""                0 index - < r.warc
 check "index: - among others"           "$input_among"   ""                0 index both.warc - < r.warc
 check "index: - twice"    "$of_input"  "warcdx: -: DuplicateName"          1 index - - < r.warc
+check "index: names with escapes"       "$of_escaped"    ""                0 index 'r\.warc' r.warc 'r".warc' $'r\n.warc'
 check "index: a missing file"           ""               "$missing"        3 index missing
 check "index: a missing file among good ones"  "$of_two" "$missing"        3 index r.warc missing both.warc
 check "index: a fault"                  "$of_torn"       "$torn"           1 index torn.warc

@@ -25,6 +25,7 @@ make_archives() {
     resource "WARC-Target-URI: http://example.com/q" > q.warc
     resource "WARC-Target-URI: http://example.com/r" > r.warc
     cp r.warc folder
+    for name in 'r".warc' 'r\.warc' $'r\n.warc'; do cp r.warc "$name"; done
     sed 's/^WARC-Type: resource/WARC-Type: metadata/' r.warc > m.warc
     cat r.warc q.warc > both.warc
     { cat both.warc; head --bytes=100 r.warc; } > torn.warc

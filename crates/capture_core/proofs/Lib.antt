@@ -1,6 +1,7 @@
 pub mod TypeNames
 pub mod HeadLemmas
 pub mod SpellingLemmas
+pub mod HeldLines
 pub mod GoodEntries
 pub mod Captures
 pub mod CaptureLemmas

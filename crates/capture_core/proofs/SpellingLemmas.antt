@@ -1,6 +1,6 @@
 -- The line of an entry: what it spells, and where its key and its stamp stand.
 use Rattle.std.proofs.Common.{◌≡◌, ◌∙◌, ℕ, ◌+◌, ◌-◌, ◌<◌, ◌≤◌, ◌^◌, List, [], ◌∷◌, ◌++◌, length, take, drop, sym, ap}
-use Rattle.std.proofs.Common.{subst, length-append, append_assoc, arith}
+use Rattle.std.proofs.Common.{length-append, append_assoc, arith}
 use Rattle.std.proofs.lemmas.Bool.{and_parts, eqb-true}
 use Rattle.std.proofs.lemmas.Fmt.{digits_value-decimal}
 use Rattle.std.proofs.Math.Seq.{take-append_seam, drop-append-add}
@@ -9,7 +9,7 @@ use Rattle.cdxj_core.specs.Entries.{EntryValue, IsGood, line_text, members_of, H
 use Rattle.cdxj_core.specs.Objects.{object_text}
 use Rattle.cdxj_core.proofs.EntryUtf8.{line_law}
 use Rattle.cdxj_places.proofs.Offsets.{own}
-use Rattle.capture_core.specs.Spelling.{entry_or_nothing, entry_in, HoldsLine}
+use Rattle.capture_core.specs.Spelling.{entry_or_nothing, entry_in}
 
 entry_in_line_text : (e : EntryValue) → HasLine LINE_LIMIT e → entry_in (line_text e) ≡ e
 unfolding entry_in
@@ -22,27 +22,13 @@ entry_in_line_text e h =
 pub spells : (e : EntryValue) (line : List ℕ) → HasLine LINE_LIMIT e → line ≡ line_text e → entry_in line ≡ e
 spells e line h is = ap entry_in is ∙ entry_in_line_text e h
 
--- bytes that hold an entry hold the one that their line spells
-pub holds_spelled : (e : EntryValue) (bytes : List ℕ) (n k s m o : ℕ) → HoldsLine e bytes n k s m o
-    → HoldsLine (entry_in (take n bytes)) bytes n k s m o
-holds_spelled e bytes n k s m o h = subst (λ x. HoldsLine x bytes n k s m o)
-    (sym (spells e (take n bytes) h.line.has_line h.line.line_is)) h
-
--- of the entry that is held, as it is seen
-module _ {e seen : EntryValue} {bytes : List ℕ} {n k s m o : ℕ} where
-  pub held_good : HoldsLine e bytes n k s m o → e ≡ seen → IsGood seen
-  held_good h is = subst IsGood is h.line.has_line.0
-
-  pub held_key : HoldsLine e bytes n k s m o → e ≡ seen → k ≡ length seen.key
-  held_key h is = h.line.key_length_is ∙ ap (λ x. length x.key) is
-
 -- ---- the key and the stamp
 
 -- what stands behind the key and its space
-abbrev behind_key : EntryValue → List ℕ
+abbrev pub behind_key : EntryValue → List ℕ
 behind_key e = e.stamp ++ ((32 ∷ object_text (members_of e)) ++ 10 ∷ [])
 
-line_parts : (e : EntryValue) → line_text e ≡ e.key ++ 32 ∷ behind_key e
+pub line_parts : (e : EntryValue) → line_text e ≡ e.key ++ 32 ∷ behind_key e
 line_parts e = append_assoc e.key (32 ∷ (e.stamp ++ 32 ∷ object_text (members_of e))) (10 ∷ [])
     ∙ ap (λ (t : List ℕ). e.key ++ 32 ∷ t) (append_assoc e.stamp (32 ∷ object_text (members_of e)) (10 ∷ []))
 

@@ -1,9 +1,13 @@
 -- The entry that a line spells, and lines that are held.
-use Rattle.std.specs.Prelude.{◌≡◌, ℕ, ◌+◌, ◌≤◌, List, [], length, take, drop, Option, None, Some}
+use Rattle.std.specs.Prelude.{◌≡◌, ◌⊎◌, ℕ, ◌+◌, ◌-◌, ◌==◌, Bool, nat_lt, List, [], ◌++◌, length, take, drop, Option}
+use Rattle.std.specs.Prelude.{None, Some, if◌then◌else◌}
+use Rattle.std.specs.List.{after_last, before_first, position_or_len}
 use Rattle.std.specs.Str.Parse.{digits_value}
 use Rattle.cdxj_core.specs.declared.limit.TheConstants.{LINE_LIMIT}
 use Rattle.cdxj_core.specs.Entries.{EntryValue, line_text, HasLine}
 use Rattle.cdxj_core.specs.Lines.{LineValue, body_of, line_in}
+use Rattle.cdxj_places.specs.Bytes.{line_feed, quote}
+use Rattle.cdxj_places.specs.Pair.{is_space}
 
 -- the entry with these values
 abbrev pub entry_of_values : LineValue → EntryValue
@@ -38,17 +42,34 @@ entry_or_nothing None = record {
 unfoldable pub entry_in : List ℕ → EntryValue
 entry_in line = entry_or_nothing (line_in LINE_LIMIT (body_of line))
 
--- a line is that of an entry, whose key has this length and whose file name and offset are these
-pub record IsLineOf (e : EntryValue) (line : List ℕ) (key_length : ℕ) (filename : List ℕ) (offset : ℕ) : Type 0 where
-  pub has_line : HasLine LINE_LIMIT e
-  pub line_is : line ≡ line_text e
-  pub key_length_is : key_length ≡ length e.key
-  pub filename_is : filename ≡ e.filename
-  pub offset_is : offset ≡ e.offset
+abbrev pub is_line_feed : ℕ → Bool
+is_line_feed b = b == line_feed
 
--- bytes that begin with the line of an entry, and have its file name at this place
-pub record HoldsLine (e : EntryValue) (bytes : List ℕ)
-    (line_length key_length name_start name_length offset : ℕ) : Type 0 where
-  pub line : IsLineOf e (take line_length bytes) key_length (take name_length (drop name_start bytes)) offset
-  pub line_within : line_length ≤ length bytes
-  pub name_within : name_start + name_length ≤ length bytes
+abbrev pub is_quote : ℕ → Bool
+is_quote b = b == quote
+
+-- the first line, with its line feed
+abbrev pub first_line : List ℕ → List ℕ
+first_line bytes = take (position_or_len is_line_feed bytes + 1) bytes
+
+-- what stands between the last quote of a line and its closing: a quote, a brace and a line feed
+abbrev pub last_quoted : List ℕ → List ℕ
+last_quoted line = after_last is_quote (take (length line - 3) line)
+
+-- what stands behind the first line, or else in its end
+abbrev pub held_name : List ℕ → List ℕ
+held_name bytes =
+    if nat_lt (length (first_line bytes)) (length bytes) then drop (length (first_line bytes)) bytes
+    else last_quoted (first_line bytes)
+
+-- the file name stands in the line's end, or was put behind the line
+abbrev pub KeepsName : List ℕ → List ℕ → List ℕ → Type 0
+KeepsName line name bytes = ((last_quoted line ≡ name) × (bytes ≡ line)) ⊎ (bytes ≡ line ++ name)
+
+-- bytes that begin with the line of an entry, and have its file name; its offset
+pub record HoldsLine (e : EntryValue) (bytes : List ℕ) (offset : ℕ) : Type 0 where
+  pub has_line : HasLine LINE_LIMIT e
+  pub line_is : first_line bytes ≡ line_text e
+  pub key_is : before_first is_space bytes ≡ e.key
+  pub filename_is : held_name bytes ≡ e.filename
+  pub offset_is : offset ≡ e.offset

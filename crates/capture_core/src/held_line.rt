@@ -1,8 +1,8 @@
 //! Captures, held as their lines.
 use cdxj_core::{
-    Entry, EntryRef, Field, HasPlace, LineFault, LineRef,
-    key_and_file_name_are_no_longer_than_their_line, write_entry, written_line_is_read,
+    Entry, EntryRef, Field, HasPlace, LineFault, LineRef, write_entry, written_line_is_read,
 };
+use memchr::{memchr, memrchr};
 use std::alloc::{AllocError, Global};
 use std::cmp::Ordering;
 use std::marker::Model;
@@ -13,26 +13,21 @@ const CLOSING: usize = 3;
 /// A capture, held as its line in an index.
 #[derive(Debug, Drop)]
 pub struct HeldLine {
-    /// The line. A file name that needs escapes in the line stands behind it.
+    /// The line. A file name that has escapes in the line stands behind it.
     bytes: Vec<u8>,
     offset: u64,
-    line_length: u32,
-    key_length: u32,
-    name_start: u32,
-    name_length: u32,
 }
 
 impl Model for HeldLine {
-    ghost use Rattle.std.specs.Prelude.{take, drop};
     ghost use Rattle.cdxj_core.specs.Entries.{EntryValue};
-    ghost use Rattle.capture_core.specs.Spelling.{HoldsLine, entry_in};
+    ghost use Rattle.capture_core.specs.Spelling.{HoldsLine, entry_in, first_line};
 
     ghost Value = { EntryValue };
 
-    ghost view = { λ h. entry_in (take h.line_length h.bytes.items) };
+    ghost view = { λ h. entry_in (first_line h.bytes.items) };
 
-    ghost invariant = { λ h. HoldsLine (entry_in (take h.line_length h.bytes.items)) h.bytes.items
-        h.line_length h.key_length h.name_start h.name_length h.offset };
+    ghost invariant = { λ h.
+        HoldsLine (entry_in (first_line h.bytes.items)) h.bytes.items h.offset };
 }
 
 impl HeldLine {
@@ -51,19 +46,11 @@ impl HeldLine {
         ensures long { result ≡ Err LineFault.LineTooLong
             → LINE_LIMIT < length (line_text (entry_view entry.entry)) }
     {
-        written_line_is_read();
-        key_and_file_name_are_no_longer_than_their_line();
         let mut bytes = write_entry(alloc, entry)?;
-        let line_length = bytes.len() as u32;
-        let name = entry.filename.as_bytes();
-        let name_start = name_start(&mut bytes, name)? as u32;
+        keep_name(&mut bytes, entry.filename.as_bytes())?;
         Ok(HeldLine {
             bytes,
             offset: entry.offset,
-            line_length,
-            key_length: entry.key.len() as u32,
-            name_start,
-            name_length: name.len() as u32,
         })
     }
 
@@ -71,7 +58,7 @@ impl HeldLine {
     pub fn line(&self) -> &[u8]
         ensures { result.now ≡ line_text self.now }
     {
-        &self.bytes[..self.line_length as usize]
+        first_line(&self.bytes)
     }
 
     /// Returns the entry with texts of its own, for a record of this length.
@@ -101,21 +88,25 @@ impl HeldLine {
     fn key(&self) -> &[u8]
         ensures { result.now ≡ self.now.key }
     {
-        &self.line()[..self.key_length as usize]
+        before_space(&self.bytes)
     }
 
     fn stamp(&self) -> &[u8]
         ensures { result.now ≡ self.now.stamp }
     {
-        let key_length = self.key_length as usize;
-        &self.line()[key_length + 1..key_length + 15]
+        let key_length = before_space(&self.bytes).len();
+        &first_line(&self.bytes)[key_length + 1..key_length + 15]
     }
 
     fn filename(&self) -> &[u8]
         ensures { result.now ≡ self.now.filename }
     {
-        let start = self.name_start as usize;
-        &self.bytes[start..start + self.name_length as usize]
+        let line = self.line();
+        if line.len() < self.bytes.len() {
+            &self.bytes[line.len()..]
+        } else {
+            last_quoted(line)
+        }
     }
 
     fn offset(&self) -> u64
@@ -143,39 +134,49 @@ impl HasPlace for HeldLine {
     }
 }
 
-ghost use Rattle.std.specs.Prelude.{◌≡◌, ◌+◌, ◌≤◌, length, take, drop, IfOk, IfSome};
+ghost use Rattle.std.specs.Prelude.{◌≡◌, OnOk};
+ghost use Rattle.std.specs.List.{before_first};
+ghost use Rattle.cdxj_places.specs.Pair.{is_space};
+ghost use Rattle.capture_core.specs.Spelling.{KeepsName, first_line, last_quoted};
 
-/// Returns where this file name stands at the end of the line, if it has no escapes there.
-fn plain_start(line: &[u8], name: &[u8]) -> Option<usize>
-    ensures within { IfSome result (λ start. start + length name.now ≤ length line.now) }
-    ensures name { IfSome result (λ start. take (length name.now) (drop start line.now)
-        ≡ name.now) }
+/// Returns the first line, with its line feed.
+fn first_line(bytes: &[u8]) -> &[u8]
+    ensures { result.now ≡ first_line bytes.now }
 {
-    let end = line.len().checked_sub(CLOSING)?;
-    let start = end.checked_sub(name.len())?;
-    if &line[start..end] == name {
-        Some(start)
-    } else {
-        None
+    match memchr(b'\n', bytes) {
+        Some(end) => &bytes[..end + 1],
+        None => bytes,
     }
 }
 
-/// Returns where the file name stands. One that has escapes in the line is appended to it.
-fn name_start(bytes: &mut Vec<u8>, name: &[u8]) -> Result<usize, AllocError>
-    ensures line { IfOk result (λ _. take (length bytes.old.items) bytes.new.items
-        ≡ bytes.old.items) }
-    ensures longer { IfOk result (λ _. length bytes.old.items ≤ length bytes.new.items) }
-    ensures start { IfOk result (λ start. start ≤ length bytes.old.items) }
-    ensures within { IfOk result (λ start. start + length name.now ≤ length bytes.new.items) }
-    ensures name { IfOk result (λ start. take (length name.now) (drop start bytes.new.items)
-        ≡ name.now) }
+/// Returns what stands before the first space.
+fn before_space(bytes: &[u8]) -> &[u8]
+    ensures { result.now ≡ before_first is_space bytes.now }
 {
-    match plain_start(bytes, name) {
-        Some(start) => Ok(start),
-        None => {
-            let start = bytes.len();
-            bytes.extend_from_slice(name)?;
-            Ok(start)
-        }
+    match memchr(b' ', bytes) {
+        Some(end) => &bytes[..end],
+        None => bytes,
+    }
+}
+
+/// Returns what stands between the last quote of a line and its closing.
+fn last_quoted(line: &[u8]) -> &[u8]
+    ensures { result.now ≡ last_quoted line.now }
+{
+    let text = &line[..line.len().saturating_sub(CLOSING)];
+    match memrchr(b'"', text) {
+        Some(quote) => &text[quote + 1..],
+        None => text,
+    }
+}
+
+/// Appends the file name to its line, unless it stands in the line as it is.
+fn keep_name(line: &mut Vec<u8>, name: &[u8]) -> Result<(), AllocError>
+    ensures { OnOk result (KeepsName line.old.items name.now line.new.items) }
+{
+    if last_quoted(line) == name {
+        Ok(())
+    } else {
+        line.extend_from_slice(name)
     }
 }

@@ -7,7 +7,7 @@ use Rattle.capture_core.proofs.held_line.HeldLine.entry.Goals as goal
 pub returns : goal.returns
 returns c =
     let e = c.args.self.now in
-    let has = subst (HasLine LINE_LIMIT) c.self.view_is c.self.invariant.line.has_line in
+    let has = subst (HasLine LINE_LIMIT) c.self.view_is c.self.invariant.has_line in
     let read : c.in-Ok.line
     ≡ entry_member e = ap (λ o. unwrap_or o (entry_member e)) (sym c.in-Ok.ensures
     ∙ ap (line_entry LINE_LIMIT) c.line.ensures ∙ c.written_line_is_read.ensures LINE_LIMIT e has) in
@@ -19,6 +19,6 @@ returns c =
       status = (c.in_ok-from_str-4.ensures.ok ∙ c.value-3.ensures ∙ ap (λ m. m.values.statuscode) read) i;
       digest = (c.in_ok-from_str-5.ensures.ok ∙ c.value-4.ensures ∙ ap (λ m. m.values.digest) read) i;
       length = c.requires i;
-      offset = (c.self.invariant.line.offset_is ∙ ap (λ x. x.offset) c.self.view_is) i;
+      offset = (c.self.invariant.offset_is ∙ ap (λ x. x.offset) c.self.view_is) i;
       filename = (c.in_ok-from_str-6.ensures.ok ∙ c.value-5.ensures ∙ ap (λ m. m.values.filename) read) i;
     }

@@ -1,0 +1,20 @@
+use Rattle.std.proofs.Common.{◌∙◌, ◌+◌, ◌-◌, length, take, drop, length-drop, sym, ap, arith}
+use Rattle.std.proofs.lemmas.List.{take_all}
+use Rattle.std.specs.List.{after_last}
+use Rattle.capture_core.specs.Spelling.{is_quote}
+use Rattle.capture_core.proofs.HeldLines.{after_quote, no_quote}
+use Rattle.capture_core.proofs.held_line.last_quoted.Goals as goal
+
+pub returns-in-Some : goal.returns-in-Some
+returns-in-Some c =
+    let text = take c.saturating_sub.result c.args.line.now in
+    let next = c.in-Some.quote + 1 in
+    take_all (length text - next) (drop next text) (omega (arith, length-drop next text))
+    ∙ ap (λ n. drop n text) (sym (after_quote text c.in-Some.quote c.in-Some.ensures))
+    ∙ ap (λ n. after_last is_quote (take n c.args.line.now)) c.saturating_sub.ensures
+
+pub returns-in-None : goal.returns-in-None
+returns-in-None c =
+    let text = take c.saturating_sub.result c.args.line.now in
+    ap (λ n. drop n text) (sym (no_quote text c.in-None.ensures))
+    ∙ ap (λ n. after_last is_quote (take n c.args.line.now)) c.saturating_sub.ensures
