@@ -78,14 +78,19 @@ fn an_indexer_takes_each_name_once(rt: HostRuntime) -> Result<(), Fail> {
     Ok(())
 }
 
+/// Returns `true` if a capture is added and then forgotten.
+fn is_forgotten(alloc: Global, indexer: &mut Indexer) -> Result<bool, Refused> {
+    let count = added(indexer, "a.warc", RESOURCE)?;
+    indexer.forget_captures();
+    Ok(count == Ok(1) && writes(alloc, indexer, b"", 0)?)
+}
+
 /// Each archive gets its own index, and its name stays used.
 #[test]
 fn captures_are_forgotten_and_names_are_not(rt: HostRuntime) -> Result<(), Fail> {
     let alloc = rt.alloc();
     let mut indexer = Indexer::new(alloc, Types::usual());
-    assert!(rt; added(&mut indexer, "a.warc", RESOURCE)? == Ok(1));
-    indexer.forget_captures();
-    assert!(rt; writes(alloc, &indexer, b"", 0)?);
+    assert!(rt; is_forgotten(alloc, &mut indexer)?);
     assert!(rt; refuses(&mut indexer, "a.warc", IndexFault::DuplicateName));
     assert!(rt; added(&mut indexer, "b.warc", RESPONSE)? == Ok(1));
     assert!(rt; writes(alloc, &indexer, RESPONSE_LINE, 1)?);

@@ -107,11 +107,21 @@ fn all_gave(sources: &[SliceSource<'_>]) -> u64 {
 fn reads_once(alloc: Global, text: &str) -> Result<bool, Fail> {
     let texts = index_texts(alloc, &[APART[0], APART[1], APART[2], HOSTS])?;
     let query = Query::read(alloc, text)?;
-    let mut paged = slices(alloc, &texts)?;
-    let mut whole = slices(alloc, &texts)?;
-    let _count = in_memory(pages(alloc, &mut paged, &query, &[1], &mut Gather::new(alloc)))?;
-    let _report = in_memory(answer(alloc, &mut whole, &query, &mut Gather::new(alloc)))?;
-    Ok(all_gave(&paged) == all_gave(&whole))
+    Ok(gave_for_pages(alloc, &texts, &query)? == gave_for_page(alloc, &texts, &query)?)
+}
+
+/// Returns how many bytes the sources give for pages of one capture.
+fn gave_for_pages(alloc: Global, texts: &[Vec<u8>], query: &Query) -> Result<u64, Fail> {
+    let mut sources = slices(alloc, texts)?;
+    let _count = in_memory(pages(alloc, &mut sources, query, &[1], &mut Gather::new(alloc)))?;
+    Ok(all_gave(&sources))
+}
+
+/// Returns how many bytes the sources give for one page of all captures.
+fn gave_for_page(alloc: Global, texts: &[Vec<u8>], query: &Query) -> Result<u64, Fail> {
+    let mut sources = slices(alloc, texts)?;
+    let _report = in_memory(answer(alloc, &mut sources, query, &mut Gather::new(alloc)))?;
+    Ok(all_gave(&sources))
 }
 
 #[test]
@@ -130,6 +140,32 @@ fn cut_key(page: &str) -> (&str, Option<&str>) {
     }
 }
 
+fn query_after(alloc: Global, limit: u64, key: &str) -> Result<String, Fail> {
+    let text = format!(in alloc;
+        "url=*.example.com&fl=filename,offset&showResumeKey=true&limit={limit}{key}"
+    )?;
+    Ok(text)
+}
+
+/// Returns the page that answers a query.
+fn page(alloc: Global, sources: &mut [SliceSource<'_>], text: &str) -> Result<Gather, Fail> {
+    let query = Query::read(alloc, text)?;
+    let mut out = Gather::new(alloc);
+    let _report = in_memory(answer(alloc, sources, &query, &mut out))?;
+    Ok(out)
+}
+
+/// Appends the rows of a page, and returns what a query has to say for the next.
+fn append_rows(alloc: Global, page: &str, rows: &mut String) -> Result<Option<String>, Fail> {
+    let (page, next) = cut_key(page);
+    rows.push_str(page)?;
+    rows.push_str("\n")?;
+    match next {
+        Some(next) => Ok(Some(format!(in alloc; "&resumeKey={next}")?)),
+        None => Ok(None),
+    }
+}
+
 /// Appends the rows of the page after a resume key to those before it, and returns the next key.
 fn step(
     alloc: Global,
@@ -138,19 +174,9 @@ fn step(
     key: &str,
     rows: &mut String,
 ) -> Result<Option<String>, Fail> {
-    let text = format!(in alloc;
-        "url=*.example.com&fl=filename,offset&showResumeKey=true&limit={limit}{key}"
-    )?;
-    let query = Query::read(alloc, text.as_str())?;
-    let mut out = Gather::new(alloc);
-    let _report = in_memory(answer(alloc, sources, &query, &mut out))?;
-    let (page, next) = cut_key(str::from_utf8(out.bytes())?);
-    rows.push_str(page)?;
-    rows.push_str("\n")?;
-    match next {
-        Some(next) => Ok(Some(format!(in alloc; "&resumeKey={next}")?)),
-        None => Ok(None),
-    }
+    let text = query_after(alloc, limit, key)?;
+    let page = page(alloc, sources, text.as_str())?;
+    append_rows(alloc, str::from_utf8(page.bytes())?, rows)
 }
 
 const ALL_ROWS: &str = "a.warc 0\na.warc 5\na.warc 20\nb.warc 10\na.warc 1\na.warc 3\n";
