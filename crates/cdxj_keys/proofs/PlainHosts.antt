@@ -1,12 +1,12 @@
 -- The last label of a host.
 use Rattle.std.proofs.Common.{◌≡◌, ℕ, suc, ◌+◌, ◌<◌, ◌==◌, true, false, if◌then◌else◌, List, [], ◌∷◌, ◌++◌, Some, None}
 use Rattle.std.proofs.Common.{length, take, drop, get_or, refl, sym, ap, ◌∙◌, arith}
-use Rattle.std.proofs.lemmas.Bool.{cond-false, eqb-true, ne_eqb}
+use Rattle.std.proofs.lemmas.Bool.{cond-false, eqb-true, false_from_ne_true, ne_eqb}
 use Rattle.std.proofs.lemmas.List.{get_or-drop, length-drop}
 use Rattle.memchr.specs.Find.{IsLastByte, is_byte}
 use Rattle.url.specs.Input.{rsplit_once, rsplit_step}
 use Rattle.url.specs.Ipv4.{last_label, last_label_of}
-use Rattle.cdxj_keys.proofs.Labels.{cut_at, untrue}
+use Rattle.cdxj_keys.proofs.Labels.{cut_at}
 
 abbrev has_no_dot : List ℕ → Type 0
 has_no_dot [] = Unit {0}
@@ -14,7 +14,8 @@ has_no_dot (b ∷ bytes) = ((b == 46) ≡ false) × has_no_dot bytes
 
 no_dot : (bytes : List ℕ) → ((k : ℕ) → k < length bytes → (get_or bytes k 0 == 46) ≡ true → ⊥) → has_no_dot bytes
 no_dot [] h = tt
-no_dot (b ∷ bytes) h = (untrue (b == 46) (h 0 (omega arith)), no_dot bytes (λ k low. h (suc k) (omega arith)))
+no_dot (b ∷ bytes) h =
+    (false_from_ne_true (b == 46) (h 0 (omega arith)), no_dot bytes (λ k low. h (suc k) (omega arith)))
 
 split_none : (bytes : List ℕ) → has_no_dot bytes → rsplit_once 46 bytes ≡ (None, bytes)
 unfolding rsplit_once

@@ -12,21 +12,10 @@ use Rattle.std.proofs.lemmas.Slice.Eq.{bytes_eq-Decides}
 use Rattle.warc_core.specs.HeadView.{HeadView}
 use Rattle.cdxj_core.specs.Entries.{EntryValue, entry_place, HasLine}
 use Rattle.cdxj_places.specs.Places.{place_cmp}
+use Rattle.cdxj_places.proofs.RisingLaws.{each_join, each_weaker}
 use Rattle.capture_core.specs.CaptureAnswer.{IsEntryOf}
 use Rattle.index_core.specs.Indexing.{HaveOwnPlaces, AreNamed, AreSound, is_among}
 use Rattle.index_core.specs.Captures.{StandBefore}
-
--- ---- lists with one more
-
-each_push : (A : EntryValue → Type 0) (xs : List EntryValue) (e : EntryValue) → AllByRecursion A xs → A e
-    → AllByRecursion A (xs ++ e ∷ [])
-each_push A [] e h a = (a, tt)
-each_push A (x ∷ xs) e h a = (h.0, each_push A xs e h.1 a)
-
-each_weaker : (A B : EntryValue → Type 0) → ((x : EntryValue) → A x → B x) → (xs : List EntryValue)
-    → AllByRecursion A xs → AllByRecursion B xs
-each_weaker A B f [] h = tt
-each_weaker A B f (x ∷ xs) h = (f x h.0, each_weaker A B f xs h.1)
 
 -- ---- places
 
@@ -51,14 +40,15 @@ places_push : (name : List ℕ) (o : ℕ) (xs : List EntryValue) (e : EntryValue
     → StandBefore name o xs → HaveOwnPlaces xs → HaveOwnPlaces (xs ++ e ∷ [])
 places_push name o [] e at named before own = (tt, tt)
 places_push name o (x ∷ xs) e at named before own = (
-  each_push (λ other. place_cmp (entry_place x) (entry_place other) ≡ Equal → ⊥) xs e own.0
-      (apart name o x e at named before.0),
+  each_join (λ other. place_cmp (entry_place x) (entry_place other) ≡ Equal → ⊥) xs (e ∷ []) own.0
+      (apart name o x e at named before.0, tt),
   places_push name o xs e at named before.1 own.1,
 )
 
 before_more : (name : List ℕ) (o p : ℕ) (xs : List EntryValue) → o < p → StandBefore name o xs → StandBefore name p xs
-before_more name o p xs less h = each_weaker (λ e. e.filename ≡ name → e.offset < o) (λ e. e.filename ≡ name
-    → e.offset < p) (λ e k n. (let l = k n in omega (arith, l, less))) xs h
+before_more name o p xs less h = each_weaker {B = λ e. e.filename ≡ name → e.offset < p}
+    (λ (e : EntryValue) (k : e.filename ≡ name → e.offset < o) (n : e.filename ≡ name). (let l = k n in omega
+    (arith, l, less))) xs h
 
 -- what a record at the offset adds stands before its end
 pub before_step : (name : List ℕ) (limit o p : ℕ) (h : HeadView) (xs : List EntryValue) (captured : Option EntryValue)
@@ -66,14 +56,15 @@ pub before_step : (name : List ℕ) (limit o p : ℕ) (h : HeadView) (xs : List 
     → StandBefore name p (xs ++ option_to_list captured)
 before_step name limit o p h xs None less at e before = subst (StandBefore name p) (sym (append-nil xs))
     (before_more name o p xs less before)
-before_step name limit o p h xs (Some x) less at e before = each_push (λ y. y.filename ≡ name → y.offset < p) xs x
-    (before_more name o p xs less before) (λ n. omega (arith, less, at, e.offset))
+before_step name limit o p h xs (Some x) less at e before = each_join (λ y. y.filename ≡ name → y.offset < p) xs
+    (x ∷ []) (before_more name o p xs less before) ((λ n. omega (arith, less, at, e.offset)), tt)
 
 -- what a record adds has the archive's name
 pub named_step : (limit : ℕ) (name : List ℕ) (h : HeadView) (xs : List EntryValue) (captured : Option EntryValue)
     → IfSome captured (IsEntryOf h name limit) → AreNamed name xs → AreNamed name (xs ++ option_to_list captured)
 named_step limit name h xs None e named = subst (AreNamed name) (sym (append-nil xs)) named
-named_step limit name h xs (Some x) e named = each_push (λ y. y.filename ≡ name) xs x named e.filename
+named_step limit name h xs (Some x) e named = each_join (λ y. y.filename ≡ name) xs (x ∷ []) named
+    (e.filename, tt)
 
 pub sound_step : (limit : ℕ) (names : List (List ℕ)) (name : List ℕ) (o : ℕ) (h : HeadView) (xs : List EntryValue)
     (captured : Option EntryValue) → is_among names name ≡ true → h.start ≡ o → IfSome captured (IsEntryOf h name limit)
@@ -81,8 +72,9 @@ pub sound_step : (limit : ℕ) (names : List (List ℕ)) (name : List ℕ) (o : 
 sound_step limit names name o h xs None used at e before s = subst (AreSound limit names) (sym (append-nil xs)) s
 sound_step limit names name o h xs (Some x) used at e before s = record {
   places = places_push name o xs x (e.offset ∙ at) e.filename before s.places;
-  named = each_push (λ y. is_among names y.filename ≡ true) xs x s.named (ap (is_among names) e.filename ∙ used);
-  lines = each_push (HasLine limit) xs x s.lines (e.good, e.fits);
+  named = each_join (λ y. is_among names y.filename ≡ true) xs (x ∷ []) s.named
+      (ap (is_among names) e.filename ∙ used, tt);
+  lines = each_join (HasLine limit) xs (x ∷ []) s.lines ((e.good, e.fits), tt);
 }
 
 -- ---- names
@@ -106,7 +98,8 @@ pub sound_under : (limit : ℕ) (names new : List (List ℕ)) (name : List ℕ) 
     ++ name ∷ [] → AreSound limit names xs → AreSound limit new xs
 sound_under limit names new name xs e s = record {
   places = s.places;
-  named = each_weaker (λ y. is_among names y.filename ≡ true) (λ y. is_among new y.filename ≡ true)
-      (λ y k. ap (λ ns. is_among ns y.filename) e ∙ among_more names (name ∷ []) y.filename k) xs s.named;
+  named = each_weaker
+      (λ (y : EntryValue) (k : is_among names y.filename ≡ true). ap (λ ns. is_among ns y.filename) e
+      ∙ among_more names (name ∷ []) y.filename k) xs s.named;
   lines = s.lines;
 }

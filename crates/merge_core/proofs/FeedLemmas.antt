@@ -76,7 +76,7 @@ take_map f (suc k) zero xs h = absurd (omega arith)
 take_map f (suc k) (suc n) [] h = refl
 take_map f (suc k) (suc n) (x ∷ xs) h = ap (λ l. f x ∷ l) (take_map f k n xs (omega arith))
 
-falls_push : (xs : List Member) (y : Member) → NeverFalls member_pair pair_cmp xs
+pub falls_push : (xs : List Member) (y : Member) → NeverFalls member_pair pair_cmp xs
     → AllByRecursion (λ m. Upto (member_pair m) (member_pair y)) xs → NeverFalls member_pair pair_cmp (xs ++ y ∷ [])
 falls_push [] y h k = (tt, tt)
 falls_push (x ∷ xs) y h k = (

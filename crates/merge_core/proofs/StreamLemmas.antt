@@ -36,7 +36,7 @@ only_waits Past m ws h = absurd (cc)
 only_waits Ended m ws h = absurd (cc)
 
 -- what stands before the last of lines that never fall is not above it
-falls_last : (xs : List Member) (y : Member) → NeverFalls member_pair pair_cmp (xs ++ y ∷ [])
+pub falls_last : (xs : List Member) (y : Member) → NeverFalls member_pair pair_cmp (xs ++ y ∷ [])
     → AllByRecursion (λ m. Upto (member_pair m) (member_pair y)) xs
 falls_last [] y h = tt
 falls_last (x ∷ xs) y h = (at_end xs h.0, falls_last xs y h.1)

@@ -38,7 +38,7 @@ begun-more form members m =
     ∙ ap (λ l. flat_map (row_text form) members ++ l) (append-nil (row_text form m)))
     ∙ sym (append_assoc (page_start form) (flat_map (row_text form) members) (row_text form m))
 
-begun-append : (form : FormValue) (members later : List Member) → begun form (members ++ later) ≡ begun form members
+pub begun-append : (form : FormValue) (members later : List Member) → begun form (members ++ later) ≡ begun form members
     ++ flat_map (row_text form) later
 begun-append form members later =
     ap (λ l. page_start form ++ l) (flat_map-append (row_text form) members later)

@@ -13,7 +13,7 @@ use Rattle.cdxj_core.specs.Members.{Member, member_place}
 use Rattle.page_core.specs.Pages.{Page, at_most, next_after}
 use Rattle.page_core.specs.PageText.{begun, page_start, row_text}
 use Rattle.page_core.specs.Form.{FormValue}
-use Rattle.page_core.proofs.PageLemmas.{written-start, written-more, begun-more}
+use Rattle.page_core.proofs.PageLemmas.{written-start, written-more, begun-append, begun-more}
 use Rattle.devices.proofs.WritingLemmas.{prefix_after, prefix_longer, prefix_whole}
 use Rattle.devices.specs.Device.{AppendsPrefix}
 use Rattle.std.proofs.lemmas.List.Concat.{flat_map-append}
@@ -276,12 +276,6 @@ pub page_front : (limit : Option ℕ) (us vs : List Member) → (later : List Me
     × ((page limit (us ++ vs)).members ≡ (page limit us).members ++ later)
 page_front None us vs = (vs, refl)
 page_front (Some n) us vs = take_front n us vs
-
-begun-append : (form : FormValue) (members later : List Member) → begun form (members ++ later) ≡ begun form members
-    ++ flat_map (row_text form) later
-begun-append form members later =
-    ap (λ l. page_start form ++ l) (flat_map-append (row_text form) members later)
-    ∙ sym (append_assoc (page_start form) (flat_map (row_text form) members) (flat_map (row_text form) later))
 
 pub broke_longer : (q : QueryValue) (from : Option PlaceValue) (limit : Option ℕ) (taken later : List Member)
     (start now : Option (List ℕ))
