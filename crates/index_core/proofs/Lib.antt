@@ -1,4 +1,5 @@
 pub mod ReportLemmas
+pub mod FollowLemmas
 pub mod ListingLemmas
 pub mod VerdictLemmas
 mod IndexLemmas

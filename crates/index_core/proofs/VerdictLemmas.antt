@@ -16,7 +16,8 @@ use Rattle.block_digests.specs.declared.verdict.Verdict.{Verdict}
 use Rattle.block_digests.specs.declared.verdict.Verdict.TheVariants as verdicts
 use Rattle.capture_core.specs.BlockDigest.{judge_record}
 use Rattle.index_core.specs.Verifying.{verdict_on, verdict_in, verdict_line, verification_line, differing_by}
-use Rattle.index_core.specs.Verifying.{verified_in}
+use Rattle.index_core.specs.Verifying.{Judged, verified_in, verified_of}
+use Rattle.index_core.specs.declared.verified.Verified.{Verified}
 use Rattle.index_core.proofs.ReportLemmas.{IsLine, CountsOn, SoFar}
 
 judged : (judge : List ℕ → Verdict) (n : ℕ) (z w : List ℕ) (v : Verdict) (r : Result (Unit {0} × List ℕ) Cause)
@@ -111,6 +112,19 @@ one_verdict left h v n d t archive heads e k =
     ≡ sum_by by (heads ++ h ∷ []) = omega (arith, ap (λ y. y.differing) k, sum_by-append by heads (h ∷ []), last) in
     ap (λ a. record { records = a; differing = d + differing_by v }) records
     ∙ ap (λ b. record { records = length (heads ++ h ∷ []); differing = b }) differing
+
+pub one_judged : (judged : List Judged) (j : Judged) (n d : ℕ)
+    → ◌≡◌ {A = Verified} (record { records = n; differing = d }) (verified_of judged)
+    → ◌≡◌ {A = Verified} (record { records = n + 1; differing = d + differing_by j.1 }) (verified_of (judged ++ j ∷ []))
+one_judged judged j n d k =
+    let records : n + 1 ≡ length (judged ++ j ∷ []) = omega
+    (arith, ap (λ y. y.records) k, length-append judged (j ∷ [])) in
+    let by = λ (i : Judged). differing_by i.1 in
+    let last : sum_by by (j ∷ []) ≡ differing_by j.1 = omega arith in
+    let differing : d + differing_by j.1
+    ≡ sum_by by (judged ++ j ∷ []) = omega (arith, ap (λ y. y.differing) k, sum_by-append by judged (j ∷ []), last) in
+    ap (λ a. record { records = a; differing = d + differing_by j.1 }) records
+    ∙ ap (λ b. record { records = length (judged ++ j ∷ []); differing = b }) differing
 
 pub one_at_most : (v : Verdict) → differing_by v ≤ 1
 one_at_most verdicts.Same = omega arith

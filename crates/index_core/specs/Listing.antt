@@ -3,7 +3,7 @@ use Rattle.std.specs.Prelude.{ℕ, List, ◌++◌, length, Option, Result, codes
 use Rattle.warc_core.specs.Kind.{kind_name}
 use Rattle.warc_core.specs.HeadView.{HeadView, record_length}
 use Rattle.index_core.specs.declared.fault.IndexFault.{IndexFault}
-use Rattle.index_core.specs.Report.{Reports}
+use Rattle.index_core.specs.Report.{Reports, ReportsRecords}
 
 -- `OFFSET LENGTH KIND`
 abbrev pub record_line : HeadView → List ℕ
@@ -19,5 +19,7 @@ abbrev pub record_count : List ℕ → List HeadView → ℕ
 record_count archive heads = length heads
 
 -- what a listing wrote, by its answer
-abbrev pub Lists : ℕ → Option (List ℕ) → Result ℕ IndexFault → Option (List ℕ) → Option (List ℕ) → Type 0
-Lists limit left answer before after = Reports limit listing_line record_count left answer before after
+pub record Lists (limit : ℕ) (left : Option (List ℕ)) (answer : Result ℕ IndexFault) (before after : Option (List ℕ)) :
+    Type 0 where
+  pub report : Reports limit listing_line record_count left answer before after
+  pub records : ReportsRecords (λ h. h) record_line length answer before after

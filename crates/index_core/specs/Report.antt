@@ -1,6 +1,6 @@
 -- A report on an archive: a line for each of its records, and one for its fault.
-use Rattle.std.specs.Prelude.{◌≡◌, ℕ, ◌+◌, ⊤, ◌⊎◌, List, ◌++◌, flat_map, Option, None, Some, Result, Ok, Err, codes}
-use Rattle.std.specs.Prelude.{decimal}
+use Rattle.std.specs.Prelude.{◌≡◌, ℕ, ◌+◌, ⊤, ◌⊎◌, List, [], ◌∷◌, ◌++◌, flat_map, Option, None, Some, Result, Ok, Err}
+use Rattle.std.specs.Prelude.{codes, decimal}
 use Rattle.std.specs.Io.KnownBytes.{Appends}
 use Rattle.warc_core.specs.declared.fault.Cause.{Cause}
 use Rattle.warc_core.specs.declared.fault.Cause.TheVariants as causes
@@ -8,7 +8,7 @@ use Rattle.warc_core.specs.declared.fault.Fault.{Fault}
 use Rattle.warc_core.specs.declared.phase.Phase.TheVariants.{Between}
 use Rattle.warc_core.specs.Cause.{cause_name}
 use Rattle.devices.specs.Device.{AppendsPrefix, next_count}
-use Rattle.warc_core.specs.HeadView.{HeadView, record_length}
+use Rattle.warc_core.specs.HeadView.{HeadView, record_length, RecordBeginsAt}
 use Rattle.warc_core.specs.Reading.{IsFoundIn}
 use Rattle.warc_core.specs.ReaderView.{ReaderView, StandsAt}
 use Rattle.warc_core.specs.Walk.{Walks, AreRecords, IsDamaged, record_at}
@@ -78,6 +78,25 @@ Reports limit line tally left (Err (faults.Capture (Archive f))) before after = 
     after
 Reports limit line tally left (Err faults.Write) before after = ReportedInPart limit line left before after
 Reports limit line tally left (Err other) before after = ⊥
+
+-- records of which each begins where the one before it ends, from one offset to another
+abbrev pub Follow : {X : Type 0} → (X → HeadView) → ℕ → List X → ℕ → Type 0
+Follow head from [] to = from ≡ to
+Follow head from (x ∷ items) to = RecordBeginsAt from (head x) × Follow head (from + record_length (head x)) items to
+
+-- What a call wrote that reports on an archive of any bytes, by its answer: lines of records that follow one another
+-- from the offset 0, and the line of a fault where they end.
+abbrev pub ReportsRecords : {A X : Type 0} → (X → HeadView) → (X → List ℕ) → (List X → A) → Result A IndexFault
+    → Option (List ℕ) → Option (List ℕ) → Type 0
+ReportsRecords {X = X} head line tally (Ok answer) before after =
+    (items : List X) × (end : ℕ) × Follow head 0 items end × (answer ≡ tally items)
+    × Appends before after (flat_map line items)
+ReportsRecords {X = X} head line tally (Err (faults.Capture (Archive f))) before after =
+    (items : List X) × Follow head 0 items f.offset × Appends before after (flat_map line items ++ fault_line f)
+ReportsRecords {X = X} head line tally (Err faults.Write) before after =
+    (items : List X) × (f : Fault) × Follow head 0 items f.offset
+    × AppendsPrefix before after (flat_map line items ++ fault_line f)
+ReportsRecords head line tally (Err other) before after = ⊥
 
 -- a report is refused for the archive's fault, or where the output failed
 abbrev pub IsReportFault : IndexFault → Type 0

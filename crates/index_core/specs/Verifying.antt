@@ -9,7 +9,7 @@ use Rattle.block_digests.specs.declared.verdict.Verdict.TheVariants as verdicts
 use Rattle.capture_core.specs.BlockDigest.{verdict_of, verdict_name}
 use Rattle.index_core.specs.declared.fault.IndexFault.{IndexFault}
 use Rattle.index_core.specs.declared.verified.Verified.{Verified}
-use Rattle.index_core.specs.Report.{Reports}
+use Rattle.index_core.specs.Report.{Reports, ReportsRecords}
 
 -- what the head says of a block
 abbrev pub verdict_on : HeadView → List ℕ → Verdict
@@ -40,9 +40,21 @@ differing_in archive heads = sum_by (λ h. differing_by (verdict_in archive h)) 
 abbrev pub verified_in : List ℕ → List HeadView → Verified
 verified_in archive heads = record { records = length heads; differing = differing_in archive heads }
 
+-- a record with a verdict on its block
+abbrev pub Judged : Type 0
+Judged = HeadView × Verdict
+
+abbrev pub judged_line : Judged → List ℕ
+judged_line judged = verdict_line judged.0.start judged.1
+
+abbrev pub verified_of : List Judged → Verified
+verified_of judged = record { records = length judged; differing = sum_by (λ j. differing_by j.1) judged }
+
 -- what a verification wrote, by its answer
-abbrev pub Verifies : ℕ → Option (List ℕ) → Result Verified IndexFault → Option (List ℕ) → Option (List ℕ) → Type 0
-Verifies limit left answer before after = Reports limit verification_line verified_in left answer before after
+pub record Verifies (limit : ℕ) (left : Option (List ℕ)) (answer : Result Verified IndexFault)
+    (before after : Option (List ℕ)) : Type 0 where
+  pub report : Reports limit verification_line verified_in left answer before after
+  pub records : ReportsRecords (λ j. j.0) judged_line verified_of answer before after
 
 -- an answer without its verdicts
 abbrev pub heads_of : Result (Option (HeadView × Verdict)) Fault → Result (Option HeadView) Fault

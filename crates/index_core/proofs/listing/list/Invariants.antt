@@ -1,8 +1,9 @@
-use Rattle.std.proofs.Common.{◌≡◌, ◌≤◌, ◌-◌, ◌^◌}
+use Rattle.std.proofs.Common.{◌≡◌, ◌≤◌, ◌-◌, ◌^◌, length}
 use Rattle.std.specs.Io.KnownBytes.{prepend_known}
 use Rattle.warc_core.specs.declared.next.TheConstants.{HEAD_LIMIT}
 use Rattle.warc_core.specs.declared.phase.Phase.TheVariants.{Between}
-use Rattle.index_core.specs.Listing.{listing_line, record_count}
+use Rattle.index_core.specs.Listing.{listing_line, record_count, record_line}
+use Rattle.index_core.proofs.FollowLemmas.{Followed}
 use Rattle.index_core.proofs.ReportLemmas.{SoFar}
 use Rattle.index_core.proofs.listing.list.Given as goal
 
@@ -13,6 +14,8 @@ invariant-loop-reader g l = record {
   fewer : l.count ≤ l.reader.offset;
   lines : SoFar HEAD_LIMIT listing_line record_count (g.I.Input.remaining l.fn.input)
       (prepend_known l.reader.held (g.I.Input.remaining l.input)) l.reader.offset l.count (g.O.Output.written l.fn.out)
+      (g.O.Output.written l.out);
+  records : Followed (λ h. h) record_line length l.reader.offset l.count (g.O.Output.written l.fn.out)
       (g.O.Output.written l.out);
   reads : g.I.Input.failures l.input ≡ g.I.Input.failures l.fn.input;
   writes : g.O.Output.failures l.out ≡ g.O.Output.failures l.fn.out;
