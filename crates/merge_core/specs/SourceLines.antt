@@ -1,5 +1,7 @@
 -- Lines of sources of any bytes.
-use Rattle.std.specs.Prelude.{◌≡◌, ◌⊎◌, ℕ, List, [], ◌∷◌, Option, None, Some}
+use Rattle.std.specs.Prelude.{◌≡◌, ◌⊎◌, ℕ, ◌-◌, ◌^◌, List, [], ◌∷◌, length, min, Option, None, Some, Result}
+use Rattle.std.specs.Prelude.{MatchResult}
+use Rattle.std.specs.Io.KnownBytes.{Appends}
 use Rattle.std.specs.List.{AllByRecursion}
 use Rattle.cdxj_places.specs.Places.{place_cmp}
 use Rattle.cdxj_places.specs.Rising.{IsIn, Rises}
@@ -29,7 +31,11 @@ module _ (limit : ℕ) where
     pub rise : Rises member_place place_cmp members
     pub each : AllByRecursion (IsLineOf sources) members
 
-  -- such lines were written, the last of them whole or in part
-  abbrev pub WroteLinesOf : List (Option (List ℕ)) → Option (List ℕ) → Option (List ℕ) → Type 0
-  WroteLinesOf sources old new = (members : List Member) × AreLinesOf sources members
-      × AppendsPrefix old new (lines_text members)
+  -- such lines were written, and are so many, or after a fault a front of such lines
+  abbrev pub WritesLinesOf : {A E : Type 0} → (A → ℕ) → List (Option (List ℕ)) → Result A E → Option (List ℕ)
+      → Option (List ℕ) → Type 0
+  WritesLinesOf number sources result old new =
+      (members : List Member) × AreLinesOf sources members
+      × MatchResult result
+      (λ x. Appends old new (lines_text members) × (number x ≡ min (length members) (2 ^ 64 - 1)))
+      (λ _. AppendsPrefix old new (lines_text members))

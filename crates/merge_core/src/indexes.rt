@@ -6,7 +6,7 @@ ghost use Rattle.merge_core.specs.Collections.{KeepsSources, Merged, OverIndexes
 ghost use Rattle.merge_core.specs.Counts.{ShareAtMost};
 ghost use Rattle.merge_core.specs.Failures.{CountsMerge};
 ghost use Rattle.merge_core.specs.LineFaults.{IsMergeFaultOf};
-ghost use Rattle.merge_core.specs.SourceLines.{WroteLinesOf};
+ghost use Rattle.merge_core.specs.SourceLines.{WritesLinesOf};
 ghost use Rattle.merge_core.specs.Written.{lines_text};
 
 use crate::fault::MergeFault;
@@ -46,8 +46,8 @@ pub fn merge_indexes<S: Source, O: Output>(
         Merged LINE_LIMIT texts (O.written out.old) (O.written out.new) merged.count)) }
     ensures part { OverIndexes LINE_LIMIT (map S.text sources.old) (λ texts indexes.
         AppendsPrefix (O.written out.old) (O.written out.new) (lines_text (collection indexes))) }
-    ensures lines { WroteLinesOf LINE_LIMIT (map S.text sources.old) (O.written out.old)
-        (O.written out.new) }
+    ensures lines { WritesLinesOf LINE_LIMIT (λ merged. merged.count) (map S.text sources.old) result
+        (O.written out.old) (O.written out.new) }
     ensures held { OverIndexes LINE_LIMIT (map S.text sources.old) (λ texts indexes.
         (most : ℕ) → ShareAtMost most (all_lines indexes)
         → IfOk result (λ merged. merged.held ≤ length sources.old + most)) }

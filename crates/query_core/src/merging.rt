@@ -3,7 +3,7 @@ ghost use Rattle.std.specs.Prelude.{◌≡◌, length, map, IfOk, IfErr};
 ghost use Rattle.cdxj_core.specs.declared.limit.TheConstants.{LINE_LIMIT};
 ghost use Rattle.devices.specs.Device.{AppendsPrefix};
 ghost use Rattle.merge_core.specs.Collections.{KeepsSources, Merged, OverIndexes, OverTexts, collection};
-ghost use Rattle.merge_core.specs.SourceLines.{WroteLinesOf};
+ghost use Rattle.merge_core.specs.SourceLines.{WritesLinesOf};
 ghost use Rattle.merge_core.specs.Written.{lines_text};
 ghost use Rattle.query_core.specs.AnswerCounts.{CountsAnswer};
 ghost use Rattle.query_core.specs.IndexFaults.{IsAnswerFaultOf};
@@ -42,8 +42,8 @@ pub fn merge<S: Source, O: Output>(
         IfOk result (Merged LINE_LIMIT texts (O.written out.old) (O.written out.new))) }
     ensures part { OverIndexes LINE_LIMIT (map S.text sources.old) (λ texts indexes.
         AppendsPrefix (O.written out.old) (O.written out.new) (lines_text (collection indexes))) }
-    ensures lines { WroteLinesOf LINE_LIMIT (map S.text sources.old) (O.written out.old)
-        (O.written out.new) }
+    ensures lines { WritesLinesOf LINE_LIMIT (λ number. number) (map S.text sources.old) result
+        (O.written out.old) (O.written out.new) }
 {
     if sources.len() > SOURCES_LIMIT {
         return Err(AnswerFault::TooManySources);

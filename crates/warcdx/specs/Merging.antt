@@ -2,7 +2,7 @@
 use Rattle.std.specs.Prelude.{◌≡◌, ℕ, List, Option, Result, IfOk, IfErr}
 use Rattle.cdxj_core.specs.declared.limit.TheConstants.{LINE_LIMIT}
 use Rattle.merge_core.specs.Collections.{Merged, OverTexts}
-use Rattle.merge_core.specs.SourceLines.{WroteLinesOf}
+use Rattle.merge_core.specs.SourceLines.{WritesLinesOf}
 use Rattle.query_core.specs.declared.fault.AnswerFault.{AnswerFault}
 use Rattle.query_core.specs.IndexFaults.{IsAnswerFaultOf}
 use Rattle.warcdx.specs.declared.outcome.Outcome.{Outcome}
@@ -15,5 +15,5 @@ pub record MergesIndexes (told : List (Option (List ℕ))) (before after : Optio
     pub answer : Result ℕ AnswerFault
     pub outcome_is : outcome ≡ answered_outcome answer
     pub merged : OverTexts told (λ texts. IfOk answer (Merged LINE_LIMIT texts before after))
-    pub lines : WroteLinesOf LINE_LIMIT told before after
+    pub lines : WritesLinesOf LINE_LIMIT (λ number. number) told answer before after
     pub fault : IfErr answer (IsAnswerFaultOf LINE_LIMIT told)

@@ -2,6 +2,7 @@ use Rattle.std.proofs.Common.{◌≡◌, ◌-◌, ◌^◌, ℕ, List, Option, []
 use Rattle.std.proofs.Common.{false, refl, sym, ap, ◌∙◌, subst, arith, append-nil, inl, inr}
 use Rattle.std.specs.Io.KnownBytes.{Appends}
 use Rattle.std.proofs.lemmas.List.{length-map}
+use Rattle.std.proofs.lemmas.Result.{err_from_is_err_and}
 use Rattle.std.proofs.lemmas.Bool.{true≢false}
 use Rattle.std.proofs.lemmas.List.Concat.{flat_map-append}
 use Rattle.cdxj_core.specs.declared.limit.TheConstants.{LINE_LIMIT}
@@ -18,7 +19,7 @@ use Rattle.merge_core.specs.Collections.{KeepsSources, Known, OverIndexes, colle
 use Rattle.merge_core.specs.Feeds.{AreFed}
 use Rattle.merge_core.specs.Reached.{Reached}
 use Rattle.merge_core.specs.Written.{lines_text}
-use Rattle.merge_core.specs.SourceLines.{AreLinesOf, WroteLinesOf}
+use Rattle.merge_core.specs.SourceLines.{AreLinesOf}
 use Rattle.merge_core.proofs.FailLemmas.{counts_merge, raised_by_read}
 use Rattle.merge_core.proofs.ReadLemmas.{sought_first}
 use Rattle.source_core.proofs.SortedCuts.{none_below_least}
@@ -63,27 +64,24 @@ front g c ss fs ws b taken reached old new p texts indexes known are =
 -- and of any sources, it is lines of theirs
 lines : (g : Over) (c : After-merge g) (ss : List g.row.S.Denot) (fs : List Feed) (ws : List WaitingLine)
     (b : Option Pair) (taken : List Member) → ReachedFrom g c ss fs ws b taken
-    → (old new : Option (List ℕ)) → AppendsPrefix old new (lines_text taken)
-    → WroteLinesOf LINE_LIMIT (map g.S.Source.text c.args.sources.now) old new
-lines g c ss fs ws b taken reached old new p =
-    let opened = c.in_ok-opened.ensures in (
-      taken,
-      subst (λ ts. AreLinesOf LINE_LIMIT ts taken) opened.text
-          (taken_lines LINE_LIMIT g.S.Source.text g.S.Source.extent never g.S.Source.gave c.open_at.new.sources
-          c.in_ok-opened.opened.streams.feeds.items ss fs ws b taken opened.ready.same reached),
-      p,
-    )
+    → AreLinesOf LINE_LIMIT (map g.S.Source.text c.args.sources.now) taken
+lines g c ss fs ws b taken reached =
+    let opened = c.in_ok-opened.ensures in
+    subst (λ ts. AreLinesOf LINE_LIMIT ts taken) opened.text
+    (taken_lines LINE_LIMIT g.S.Source.text g.S.Source.extent never g.S.Source.gave c.open_at.new.sources
+    c.in_ok-opened.opened.streams.feeds.items ss fs ws b taken opened.ready.same reached)
 
 whole : (old new : Option (List ℕ)) (text : List ℕ) → Appends old new text → AppendsPrefix old new text
 whole old new text a = subst (AppendsPrefix old new) (append-nil text) (prefix_whole old new text [] a)
 
--- all lines that were taken were written
-wrote : (g : Over) (c : In_ok-merge g) → AppendsPrefix (g.O.Output.written c.args.out.now)
-    (g.O.Output.written c.merge.new.out) (lines_text c.in_ok-merge.ensures.passed.so_far.taken)
+-- all lines that were taken were written and counted
+wrote : (g : Over) (c : In_ok-merge g)
+    → Appends (g.O.Output.written c.args.out.now) (g.O.Output.written c.merge.new.out)
+    (lines_text c.in_ok-merge.ensures.passed.so_far.taken)
+    × (c.merge.new.sink.count ≡ min (length c.in_ok-merge.ensures.passed.so_far.taken) (2 ^ 64 - 1))
 wrote g c =
     let out = g.O.Output.written c.args.out.now in
-    whole out (g.O.Output.written c.merge.new.out) (lines_text c.in_ok-merge.ensures.passed.so_far.taken)
-    (c.in_ok-merge.ensures.passed.so_far.came c.new-writer.result out (Appends-none out, c.new-writer.ensures)).0
+    c.in_ok-merge.ensures.passed.so_far.came c.new-writer.result out (Appends-none out, c.new-writer.ensures)
 
 -- or a prefix of them
 broke : (g : Over) (c : In_err-merge g) → AppendsPrefix (g.O.Output.written c.args.out.now)
@@ -102,7 +100,8 @@ returns-in_err-opened-clause-part g c = λ texts indexes known are. wrote_nothin
 
 pub returns-in_err-opened-clause-lines : goal.returns-in_err-opened-clause-lines
 returns-in_err-opened-clause-lines g c =
-    ([], record { rise = tt; each = tt }, wrote_nothing (g.O.Output.written c.args.out.now) (lines_text []))
+    let p = err_from_is_err_and c.from_residual.result c.from_residual.ensures.1 in
+    rw p.1 (([], record { rise = tt; each = tt }, wrote_nothing (g.O.Output.written c.args.out.now) (lines_text [])))
 
 pub returns-in_err-merge-clause-part : goal.returns-in_err-merge-clause-part
 returns-in_err-merge-clause-part g c =
@@ -115,8 +114,12 @@ pub returns-in_err-merge-clause-lines : goal.returns-in_err-merge-clause-lines
 returns-in_err-merge-clause-lines g c =
     let at = goal.at.returns-in_err-merge-clause-lines g c in
     let b = c.in_err-merge.ensures.broke in
-    lines g at.After-merge b.sources b.streams.feeds.items b.streams.waiting b.bound b.taken b.reached _ _
-    (broke g at.In_err-merge)
+    let p = err_from_is_err_and c.from_residual-in_err-merge.result c.from_residual-in_err-merge.ensures.1 in
+    rw p.1 ((
+      b.taken,
+      lines g at.After-merge b.sources b.streams.feeds.items b.streams.waiting b.bound b.taken b.reached,
+      broke g at.In_err-merge,
+    ))
 
 pub returns-clause-part : goal.returns-clause-part
 returns-clause-part g c =
@@ -124,15 +127,18 @@ returns-clause-part g c =
     let w = c.in_ok-merge.ensures.passed.so_far in
     front g at.After-merge c.merge.new.sources c.merge.new.streams.feeds.items c.merge.new.streams.waiting w.bound
     w.taken
-    w.reached _ _ (wrote g at.In_ok-merge)
+    w.reached _ _
+    (whole _ (g.O.Output.written c.merge.new.out) (lines_text w.taken) (wrote g at.In_ok-merge).0)
 
 pub returns-clause-lines : goal.returns-clause-lines
 returns-clause-lines g c =
     let at = goal.at.returns-clause-lines g c in
-    let w = c.in_ok-merge.ensures.passed.so_far in
-    lines g at.After-merge c.merge.new.sources c.merge.new.streams.feeds.items c.merge.new.streams.waiting w.bound
-    w.taken
-    w.reached _ _ (wrote g at.In_ok-merge)
+    let w = c.in_ok-merge.ensures.passed.so_far in (
+      w.taken,
+      lines g at.After-merge c.merge.new.sources c.merge.new.streams.feeds.items c.merge.new.streams.waiting w.bound
+          w.taken w.reached,
+      wrote g at.In_ok-merge,
+    )
 
 -- the sources stay as they were
 kept : (g : Over) (c : After-merge g)

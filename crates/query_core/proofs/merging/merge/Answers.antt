@@ -35,3 +35,8 @@ returns-then-sources-gt-SOURCES_LIMIT-clause-part g c = λ texts indexes known a
 
 pub returns-then-sources-gt-SOURCES_LIMIT-clause-lines : goal.returns-then-sources-gt-SOURCES_LIMIT-clause-lines
 returns-then-sources-gt-SOURCES_LIMIT-clause-lines g c = ([], record { rise = tt; each = tt }, wrote_nothing _ _)
+
+pub returns-in_err-merged-clause-lines : goal.returns-in_err-merged-clause-lines
+returns-in_err-merged-clause-lines g c =
+    let p = err_from_is_err_and c.from_residual.result c.from_residual.ensures.1 in
+    rw p.1 c.in_err-merged.ensures.lines
