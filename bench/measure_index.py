@@ -110,7 +110,7 @@ def main() -> int:
         Figure("index over sha1sum, digests made", index_made / sha1sum, 1.25),
         Figure("1,000,000 captures over 500,000", index_many / index_half, 2.3),
         Figure("sorting and writing over sort", writing / sort, 1.5),
-        Figure("memory of a capture", peak / CAPTURES / 1000, 0.6, "kB"),
+        Figure("memory of a capture", peak / CAPTURES / 1000, 0.36, "kB"),
     ]
     return report(times, figures)
 

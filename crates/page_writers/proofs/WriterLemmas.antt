@@ -1,5 +1,5 @@
 -- A page by the lines that were taken for it.
-use Rattle.std.proofs.Common.{Result, Ok, Err, OnErr, flat_map, append_assoc, ◌≡◌, ℕ, zero, suc, ◌+◌, ◌-◌}
+use Rattle.std.proofs.Common.{Result, Ok, Err, OnErr, flat_map, ◌≡◌, ℕ, zero, suc, ◌+◌, ◌-◌}
 use Rattle.std.proofs.Common.{◌^◌, ◌<◌, ◌≤◌, List, [], ◌∷◌, ◌++◌, refl, sym, ap, ◌∙◌, subst, arith, Option, Some, None}
 use Rattle.std.proofs.Common.{Bool, true, false, filter, length, take, min, cond, append-nil, length-append}
 use Rattle.std.proofs.Common.{length-take, eqb, eqb-true, ◌⊎◌, inl, inr}
@@ -16,7 +16,6 @@ use Rattle.page_core.specs.Form.{FormValue}
 use Rattle.page_core.proofs.PageLemmas.{written-start, written-more, begun-append, begun-more}
 use Rattle.devices.proofs.WritingLemmas.{prefix_after, prefix_longer, prefix_whole}
 use Rattle.devices.specs.Device.{AppendsPrefix}
-use Rattle.std.proofs.lemmas.List.Concat.{flat_map-append}
 use Rattle.page_writers.specs.QueryPages.{form_of}
 use Rattle.page_writers.specs.PageWriting.{is_wanted, captures_over, place_before, page_over, place_at, last_place}
 use Rattle.page_writers.specs.PageWriting.{is_full, last_after, FitsWord, next_of, PageStands}

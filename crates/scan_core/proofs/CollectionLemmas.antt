@@ -14,7 +14,7 @@ use Rattle.cdxj_places.proofs.RisingLaws.{each_rising, rises_rising, rising_memb
 use Rattle.cdxj_core.specs.Entries.{EntryValue, entry_place}
 use Rattle.cdxj_core.specs.Members.{entry_member, member_place}
 use Rattle.index_core.specs.Indexing.{in_places}
-use Rattle.merge_core.specs.Collections.{collection, all_lines}
+use Rattle.merge_core.specs.Collections.{collection}
 use Rattle.scan_core.specs.Archives.{index_members}
 use Rattle.scan_core.specs.Captures.{captured_lines}
 

@@ -7,7 +7,6 @@ use Rattle.cdxj_core.specs.Indexes.{IsIndex}
 use Rattle.devices.specs.Gathered.{gathered}
 use Rattle.scan_core.specs.Archives.{index_members}
 use Rattle.scan_core.proofs.ArchiveLemmas.{map_length}
-use Rattle.query_core.specs.declared.fault.AnswerFault.{AnswerFault}
 use Rattle.scan_core.specs.Scanning.{IsBeforeWriting, IsPagesFault, IsScanFault, LeavesUnread}
 use Rattle.scan_core.specs.declared.fault.ScanFault.TheVariants.{Answer}
 use Rattle.scan_core.proofs.ScanLemmas.{archive_fault, of_pages_fault, scanned_whole, scanned_part}
