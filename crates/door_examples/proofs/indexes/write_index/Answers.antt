@@ -26,7 +26,7 @@ returns g c = record {
       let types = ap (λ (h : Held). h.types) begun ∙ c.usual.ensures in
       let held = ap (λ (h : Held). h.captures) adds.1 ∙ ap (λ (h : Held). h.captures ++ adds.0) begun in
       let accepted = subst (λ types. IfSome (g.I.Input.remaining c.args.archive.now)
-      (λ archive. IsAccepted (includes types) usual_limits HEAD_LIMIT name archive adds.0)) types adds.2.1 in
+      (λ archive. IsAccepted (includes types) usual_limits HEAD_LIMIT name archive adds.0)) types adds.2.2 in
       written (IsAccepted (includes usual_types) usual_limits HEAD_LIMIT name bytes) c.write.result
       (g.O.Output.written c.args.out.now) (g.O.Output.written c.write.new.out) adds.0 c.add.new.self.captures held
       (subst (λ left. IfSome left
