@@ -1,6 +1,7 @@
 //! The order of entries and of lines.
 use crate::writing::{HOME, Members, entry};
 use cdxj_core::{Entry, LineFault, LineRef, in_order};
+use cdxj_places::rows_in_order;
 use std::alloc::{AllocError, Global};
 
 fn entries(alloc: Global, rows: &[Members]) -> Result<Vec<Entry>, AllocError> {
@@ -62,6 +63,19 @@ fn rise_to(alloc: Global, rows: &[Members], places: &[(&str, u64)]) -> Result<bo
 #[test]
 fn entries_rise_by_place(rt: HostRuntime) -> Result<(), AllocError> {
     assert!(rt; rise_to(rt.alloc(), ENTRIES, IN_ORDER)?);
+    Ok(())
+}
+
+/// The numbers of the first entries at these places, in their order.
+const NUMBERS: &[usize] = &[2, 1, 0];
+
+#[test]
+fn rows_have_the_numbers_of_the_first_entries(rt: HostRuntime) -> Result<(), AllocError> {
+    let entries = entries(rt.alloc(), ENTRIES)?;
+    let rows = rows_in_order(rt.alloc(), &entries)?;
+    let mut pairs = rows.iter().zip(NUMBERS);
+    assert!(rt; rows.len() == NUMBERS.len());
+    assert!(rt; pairs.all(|(row, number)| row.number == *number));
     Ok(())
 }
 

@@ -46,8 +46,8 @@ pub fn merge_indexes<S: Source, O: Output>(
         Merged LINE_LIMIT texts (O.written out.old) (O.written out.new) merged.count)) }
     ensures part { OverIndexes LINE_LIMIT (map S.text sources.old) (λ texts indexes.
         AppendsPrefix (O.written out.old) (O.written out.new) (lines_text (collection indexes))) }
-    ensures lines { WritesLinesOf LINE_LIMIT (λ merged. merged.count) (map S.text sources.old) result
-        (O.written out.old) (O.written out.new) }
+    ensures lines { WritesLinesOf LINE_LIMIT (λ merged. merged.count) (map S.text sources.old)
+        result (O.written out.old) (O.written out.new) }
     ensures held { OverIndexes LINE_LIMIT (map S.text sources.old) (λ texts indexes.
         (most : ℕ) → ShareAtMost most (all_lines indexes)
         → IfOk result (λ merged. merged.held ≤ length sources.old + most)) }
