@@ -1,5 +1,5 @@
 -- The arguments of a command, as they are added.
-use Rattle.std.proofs.Common.{◌≡◌, ℕ, ◌+◌, ◌<◌, ◌++◌, ◌∷◌, List, [], length, get_or, map, take, ap, sym}
+use Rattle.std.proofs.Common.{arith, ◌≡◌, ℕ, ◌+◌, ◌<◌, ◌++◌, ◌∷◌, List, [], length, get_or, map, take}
 use Rattle.std.proofs.lemmas.List.{map_more}
 use Rattle.clap.specs.Words.{App, Rule}
 use Rattle.command_line.specs.Clap.{command_with}
@@ -12,4 +12,4 @@ app_with name rules = record { top = command_with name rules; subs = [] }
 -- one more
 pub one_more : {A : Type 0} (f : A → Rule) (name : Text) (xs : List A) (k : ℕ) (d : A) → k < length xs
     → app_with name (map f (take k xs) ++ f (get_or xs k d) ∷ []) ≡ app_with name (map f (take (k + 1) xs))
-one_more f name xs k d inside = ap (app_with name) (sym (map_more f xs k d inside))
+one_more f name xs k d inside = grind (arith, map_more)

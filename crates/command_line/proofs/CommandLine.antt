@@ -1,6 +1,6 @@
 -- What clap answers to the words of a command line.
 use Rattle.std.proofs.Common.{arith, refl, ◌≡◌, ◌<◌, ◌^◌, ◌&&◌, ◌⊎◌, List, [], ◌∷◌, Option, Some, None, Bool, true}
-use Rattle.std.proofs.Common.{false, codes, length, ap, ap₂, ◌∙◌, sym, inl, inr, find, Err}
+use Rattle.std.proofs.Common.{false, codes, length, ap, ap₂, ◌∙◌, inl, inr, find, Err}
 use Rattle.std.specs.List.{list_any, list_all}
 use Rattle.std.specs.Option.{IfSome, ok_or}
 use Rattle.clap.specs.Words.{Row, subcommand_of, fault_of, IsAmong}
@@ -122,7 +122,7 @@ two_told word option rest p short = elim (choice word option rest) [
 pub tells : (words : List Text) → AllPlain (other_words words) → length words < 2 ^ 64 → Tells words
 tells [] p short = no_words
 tells (word ∷ []) p short = first_told word [] p.0 p.1 (omega (arith, short)) (command_of word) refl
-tells (word ∷ option ∷ rest) p short = two_told word option rest p (omega (arith, short))
+tells (word ∷ option ∷ rest) p short = grind (arith, two_told)
 
 -- what is asked is the task of the words
 pub plain_asked : (words : List Text) → list_any is_unknown_option (other_words words) ≡ false
@@ -133,15 +133,10 @@ plain_asked words u h = rw (u, h) refl
 pub matched : (task : Option Meaning) (kinds : Kinds) (met : Option (Text × List Row)) → Told task kinds met → kinds
     ≡ []
     → ok_or task Usage ≡ ok_or (matches_task met) Usage
-matched task kinds met (inl t) e = ap (λ m. ok_or m Usage) (sym t.1)
-matched task kinds met (inr t) e = let no : are_usage [] ≡ true = ap are_usage (sym e) ∙ t.0 in cc
+matched task kinds met (inl t) e = grind arith
+matched task kinds met (inr t) e = grind arith
 
 -- ---- the kinds of clap's errors
-
-is_usage_is : (r : Option Refusal) → is_usage r ≡ true → r ≡ Some Usage
-is_usage_is None h = cc
-is_usage_is (Some Help) h = cc
-is_usage_is (Some Usage) h = refl
 
 usage_kind : (kinds : Kinds) (k : ErrorKind) → list_all (λ kind. is_usage (refusal_for kind)) kinds ≡ true
     → IsAmong k kinds
@@ -154,7 +149,7 @@ usage_kind (x ∷ xs) k h m = go (is_usage (refusal_for x)) refl h m (usage_kind
         → (list_all (λ kind. is_usage (refusal_for kind)) xs ≡ true → IsAmong k xs → refusal_for k ≡ Some Usage)
         → refusal_for k ≡ Some Usage
     go false e f n rest = cc
-    go true e f (inl same) rest = ap refusal_for same ∙ is_usage_is (refusal_for x) e
+    go true e f (inl same) rest = grind arith
     go true e f (inr later) rest = rest f later
 
 all_usage : (kinds : Kinds) (k : ErrorKind) → are_usage kinds ≡ true → IsAmong k kinds → refusal_for k ≡ Some Usage
@@ -165,7 +160,7 @@ pub refused : (task : Option Meaning) (kinds : Kinds) (met : Option (Text × Lis
     → Told task kinds met
     → (k ≡ kind.OutOfMemory) ⊎ IsAmong k kinds → IfSome (refusal_for k) (λ refusal. ok_or task Usage ≡ Err refusal)
 refused task kinds met k t (inl e) = rw e tt
-refused task kinds met k (inl t) (inr m) = let no : IsAmong k [] = rw t.0 at m in absurd no
+refused task kinds met k (inl t) (inr m) = grind arith
 refused task kinds met k (inr t) (inr m) = rw (all_usage kinds k t.0 m, t.1) refl
 
 -- ---- a first word beside one that asks for help
@@ -193,11 +188,11 @@ tells_help first help u h = go (asks_for_help first) refl
     go : (b : Bool) → asks_for_help first ≡ b
         → ToldHelp (help_or_usage (first ∷ [])) (fault_of warcdx (first ∷ help ∷ []))
     go true e = help_told_as _ Help _ (rw e refl) (top_help first (help ∷ []) e)
-    go false e = command_help first help u e h (command_of first) refl
+    go false e = grind (arith, command_help)
 
 pub never_taken : (wanted : Refusal) (kinds : Kinds) → ToldHelp wanted kinds → kinds ≡ [] → ⊥
-never_taken Help kinds t e = let no : kind.DisplayHelp ∷ [] ≡ [] = sym t ∙ e in cc
-never_taken Usage kinds t e = let no : are_usage [] ≡ true = ap are_usage (sym e) ∙ t in cc
+never_taken Help kinds t e = grind arith
+never_taken Usage kinds t e = grind arith
 
 help_kind : (kinds : Kinds) (k : ErrorKind) → kinds ≡ kind.DisplayHelp ∷ [] → IsAmong k kinds → refusal_for k
     ≡ Some Help

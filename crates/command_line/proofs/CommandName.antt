@@ -1,10 +1,10 @@
 -- What clap makes of a command's name, and of the words after it.
-use Rattle.std.proofs.Common.{rules, ap₂, refl, inl, inr, ◌≡◌, ◌&&◌, List, [], ◌∷◌, ◌++◌, Some, None, Bool, true, false}
-use Rattle.std.proofs.Common.{codes, bytes_eq, ap, ◌∙◌, append_assoc, fold, map, option_map, find}
+use Rattle.std.proofs.Common.{arith, rules, refl, ◌≡◌, ◌&&◌, List, [], ◌∷◌, ◌++◌, Some, None, Bool, true, false}
+use Rattle.std.proofs.Common.{bytes_eq, ap, ◌∙◌, append_assoc, fold, map, option_map, find}
 use Rattle.std.proofs.lemmas.Slice.Eq.{bytes_eq-Decides}
 use Rattle.std.specs.Char.{encode_utf8}
 use Rattle.std.specs.Str.{chars}
-use Rattle.clap.specs.Words.{App, Row, Shape, built, is_simple}
+use Rattle.clap.specs.Words.{App, Row, Shape, built}
 use Rattle.clap.specs.Simple.{names_of, label_of, entered}
 use Rattle.clap.specs.Walk.{Walk, Names, walked, walk, walk_from, stop_after, nothing_held, answers_to, finished}
 use Rattle.clap.specs.Faults.{flags_fault, walk_fault, defaults_fault, level_fault, built_fault, is_simple_and_free}
@@ -16,9 +16,6 @@ use Rattle.command_line.specs.Clap.{warcdx}
 use Rattle.command_line.proofs.PlainWords.{IsPlain, help_word}
 use Rattle.command_line.proofs.OperandWalk.{shaped, rules_of, are_usage}
 
-pub simple : is_simple warcdx ≡ true
-simple = refl
-
 pub free : is_simple_and_free warcdx ≡ true
 free = refl
 
@@ -28,9 +25,6 @@ head = (built warcdx).top
 -- the program as clap builds it, with any list of commands
 abbrev pub app_for : List (Text × Form) → App
 app_for cs = record { top = head; subs = map shaped cs }
-
-pub built_is : built warcdx ≡ app_for commands
-built_is = refl
 
 -- ---- finding a command by its name
 
@@ -71,12 +65,8 @@ same_name word (d ∷ cs) c h = go (bytes_eq d.0 word) refl h (same_name word cs
     go : (b : Bool) → bytes_eq d.0 word ≡ b → find (is_named word) (d ∷ cs) ≡ Some c
         → (find (is_named word) cs ≡ Some c → find (is_named word) cs ≡ Some (word, c.1))
         → find (is_named word) (d ∷ cs) ≡ Some (word, c.1)
-    go true e h k =
-        let n : d.0 ≡ word = (bytes_eq-Decides d.0 word).0 e in
-        let f : Some d ≡ Some c = rw e at h in
-        let g : d ≡ c = cc in
-        rw e (ap Some (ap₂ (λ (a : Text) (b : Form). (a, b)) n (ap (λ (x : Text × Form). x.1) g)))
-    go false e h k = let f : find (is_named word) cs ≡ Some c = rw e at h in rw e (k f)
+    go true e h k = grind (arith, bytes_eq-Decides)
+    go false e h k = grind arith
 
 -- ---- the walk: the name is met, and the words after it are the command's
 
@@ -97,15 +87,12 @@ all_more : (names : Names) (name : Text) (before words : List Text)
     → fold (walked head.rules names) (stopped_at name before) words ≡ stopped_at name (before ++ words)
 all_more names name before [] = search rules
 all_more names name before (word ∷ words) =
-    ap (λ w. fold (walked head.rules names) w words) (one_more names name before word)
-    ∙ all_more names name (before ++ word ∷ []) words ∙ ap (stopped_at name) (append_assoc before (word ∷ []) words)
+    grind (arith, fold, one_more, append_assoc, all_more names name (before ++ word ∷ []) words)
 
 stops : (word : Text) (form : Form) (cs : List (Text × Form)) (rest : List Text) → find (is_named word) cs
     ≡ Some (word, form)
     → walk head.rules (names_of (app_for cs)) nothing_held (word ∷ rest) ≡ stopped_at word rest
-stops word form cs rest e =
-    ap (λ w. fold (walked head.rules (names_of (app_for cs))) w rest) (met word form cs e)
-    ∙ all_more (names_of (app_for cs)) word [] rest
+stops word form cs rest e = grind (arith, fold, met, all_more)
 
 pub given : (word : Text) (form : Form) (cs : List (Text × Form)) (rest : List Text) (rows : List Row)
     → find (is_named word) cs ≡ Some (word, form)
@@ -127,9 +114,7 @@ all_clear : (names : Names) (name : Text) (before words : List Text)
     → walk_fault head names (stopped_at name before) words ≡ []
 all_clear names name before [] = unfold walk_fault in refl
 all_clear names name before (word ∷ words) =
-    one_more_clear names name before word words
-    ∙ ap (λ w. walk_fault head names w words) (one_more names name before word)
-    ∙ all_clear names name (before ++ word ∷ []) words
+    grind (arith, one_more_clear, one_more, all_clear names name (before ++ word ∷ []) words)
 
 never : (b : Bool) → (b && false) ≡ false
 never false = refl
@@ -141,14 +126,12 @@ name_clear : (word : Text) (form : Form) (cs : List (Text × Form)) (words : Lis
     ≡ walk_fault head (names_of (app_for cs)) (walked head.rules (names_of (app_for cs)) (walk_from nothing_held) word)
     words
 unfolding walk_fault
-name_clear word form cs words e = rw (met_in word cs, e, never (bytes_eq word (codes "help"))) refl
+name_clear word form cs words e = grind (arith, met_in, never, bytes_eq)
 
 above_clear : (word : Text) (form : Form) (cs : List (Text × Form)) (rest : List Text) → find (is_named word) cs
     ≡ Some (word, form)
     → walk_fault head (names_of (app_for cs)) (walk_from nothing_held) (word ∷ rest) ≡ []
-above_clear word form cs rest e =
-    name_clear word form cs rest e ∙ ap (λ w. walk_fault head (names_of (app_for cs)) w rest) (met word form cs e)
-    ∙ all_clear (names_of (app_for cs)) word [] rest
+above_clear word form cs rest e = grind (arith, name_clear, met, all_clear)
 
 or_nothing : (ks : Kinds) → or_else ks [] ≡ ks
 or_nothing [] = refl
@@ -167,12 +150,9 @@ below word form cs rest e =
 pub unknown : (word : Text) (cs : List (Text × Form)) (rest : List Text) → find (is_named word) cs ≡ None → IsPlain word
     → are_usage (built_fault (app_for cs) nothing_held (word ∷ rest)) ≡ true
 unfolding walk_fault
-unknown word cs rest e p = rw (met_in word cs, e, p.dashes, p.long, p.short) refl
+unknown word cs rest e p = grind (arith, met_in)
 
 pub top_help : (word : Text) (rest : List Text) → asks_for_help word ≡ true
     → built_fault (app_for commands) nothing_held (word ∷ rest) ≡ kind.DisplayHelp ∷ []
 unfolding walk_fault flags_fault chars encode_utf8
-top_help word rest h = elim (help_word word h) [
-  | inl e ↦ rw e refl
-  | inr e ↦ rw e refl
-]
+top_help word rest h = grind (arith, help_word)

@@ -1,6 +1,6 @@
 -- The first word that passes a test, as a text.
-use Rattle.std.proofs.Common.{refl, ◌≡◌, List, [], ◌∷◌, Option, Some, None, Bool, true, false, String, string_bytes}
-use Rattle.std.proofs.Common.{option_map, find, is_some}
+use Rattle.std.proofs.Common.{arith, refl, ◌≡◌, List, [], ◌∷◌, Option, Some, None, Bool, true, false, String}
+use Rattle.std.proofs.Common.{string_bytes, option_map, find, is_some}
 use Rattle.std.specs.Global.{Global}
 use Rattle.std.specs.List.{list_any}
 use Rattle.command_line.specs.Words.{Text}
@@ -18,8 +18,8 @@ any_found test (word ∷ words) found h = go (test word) refl h (any_found test 
   where
     go : (b : Bool) → test word ≡ b → found ≡ find test (word ∷ words)
         → (found ≡ find test words → list_any test words ≡ is_some found) → list_any test (word ∷ words) ≡ is_some found
-    go true e h rest = let some : found ≡ Some word = rw e at h in rw (e, some) refl
-    go false e h rest = let later : found ≡ find test words = rw e at h in rw e (rest later)
+    go true e h rest = grind arith
+    go false e h rest = grind arith
 
 -- what is found passes the test
 pub found_passes : (test : Text → Bool) (words : List Text) (word : Text) → find test words ≡ Some word → test word
@@ -29,5 +29,5 @@ found_passes test (first ∷ words) word h = go (test first) refl h (found_passe
   where
     go : (b : Bool) → test first ≡ b → find test (first ∷ words) ≡ Some word
         → (find test words ≡ Some word → test word ≡ true) → test word ≡ true
-    go true e h rest = let f : Some first ≡ Some word = rw e at h in let same : first ≡ word = cc in rw (← same) e
+    go true e h rest = grind arith
     go false e h rest = rest (rw e at h)

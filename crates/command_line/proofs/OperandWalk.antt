@@ -1,8 +1,7 @@
 -- How clap walks over the names after a command, and counts them.
 use Rattle.std.proofs.Common.{rules, arith, refl, ℕ, ◌≡◌, ◌<◌, ◌^◌, ◌==◌, List, [], ◌∷◌, ◌++◌, Some, None, Bool, true}
-use Rattle.std.proofs.Common.{false, codes, length, ap, ◌∙◌, append_assoc, fold, nat_lt, Option}
+use Rattle.std.proofs.Common.{false, codes, length, ◌∙◌, append_assoc, fold, Option}
 use Rattle.std.specs.List.{list_all}
-use Rattle.std.proofs.lemmas.Bool.Decides.{nat_tests}
 use Rattle.clap.specs.Words.{Row, Rule, Shape}
 use Rattle.clap.specs.Simple.{built_leaf, inherited, with_leaf_noted, marked_built}
 use Rattle.clap.specs.Walk.{Walk, walked, positional, reading_by}
@@ -68,20 +67,18 @@ after form rows words = record {
 next : (form : Form) (rows : List Row) (before : List Text) (word : Text) → takes_names form ≡ true → IsPlain word
     → walked (rules_of form) [] (after form rows before) word ≡ after form rows (before ++ word ∷ [])
 unfolding walked
-next (OfNames make) rows before word t p = rw (p.dashes, p.long, p.short) refl
-next (OfQuery make) rows before word t p = rw (p.dashes, p.long, p.short) refl
-next (OfSizes make) rows before word t p = rw (p.dashes, p.long, p.short) refl
-next (OfTyped make) rows before word t p = rw (p.dashes, p.long, p.short) refl
-next (OfTypedSizes make) rows before word t p = rw (p.dashes, p.long, p.short) refl
+next (OfNames make) rows before word t p = grind arith
+next (OfQuery make) rows before word t p = grind arith
+next (OfSizes make) rows before word t p = grind arith
+next (OfTyped make) rows before word t p = grind arith
+next (OfTypedSizes make) rows before word t p = grind arith
 next (OfOffset make) rows before word t p = cc
 
 pub walk_on : (form : Form) (rows : List Row) (before words : List Text) → takes_names form ≡ true → AllPlain words
     → fold (walked (rules_of form) []) (after form rows before) words ≡ after form rows (before ++ words)
 walk_on form rows before [] t p = search rules
 walk_on form rows before (word ∷ words) t p =
-    ap (λ w. fold (walked (rules_of form) []) w words) (next form rows before word t p.0)
-    ∙ walk_on form rows (before ++ word ∷ []) words t p.1
-    ∙ ap (after form rows) (append_assoc before (word ∷ []) words)
+    grind (arith, fold, next, append_assoc, walk_on form rows (before ++ word ∷ []) words t p.1)
 
 -- the row of a query, and the rows of sizes and a query
 abbrev pub query_row : Text → List Row
@@ -97,11 +94,11 @@ next_clear : (name : Text) (form : Form) (rows : List Row) (before : List Text) 
     → walk_fault (shaped (name, form)) [] (after form rows before) (word ∷ words)
     ≡ walk_fault (shaped (name, form)) [] (walked (rules_of form) [] (after form rows before) word) words
 unfolding walk_fault
-next_clear name (OfNames make) rows before word words t p = rw (p.dashes, p.long, p.short) refl
-next_clear name (OfQuery make) rows before word words t p = rw (p.dashes, p.long, p.short) refl
-next_clear name (OfSizes make) rows before word words t p = rw (p.dashes, p.long, p.short) refl
-next_clear name (OfTyped make) rows before word words t p = rw (p.dashes, p.long, p.short) refl
-next_clear name (OfTypedSizes make) rows before word words t p = rw (p.dashes, p.long, p.short) refl
+next_clear name (OfNames make) rows before word words t p = grind arith
+next_clear name (OfQuery make) rows before word words t p = grind arith
+next_clear name (OfSizes make) rows before word words t p = grind arith
+next_clear name (OfTyped make) rows before word words t p = grind arith
+next_clear name (OfTypedSizes make) rows before word words t p = grind arith
 next_clear name (OfOffset make) rows before word words t p = cc
 
 pub walk_clear : (name : Text) (form : Form) (rows : List Row) (before words : List Text) → takes_names form ≡ true
@@ -109,19 +106,13 @@ pub walk_clear : (name : Text) (form : Form) (rows : List Row) (before words : L
     → walk_fault (shaped (name, form)) [] (after form rows before) words ≡ []
 walk_clear name form rows before [] t p = unfold walk_fault in refl
 walk_clear name form rows before (word ∷ words) t p =
-    next_clear name form rows before word words t p.0
-    ∙ ap (λ w. walk_fault (shaped (name, form)) [] w words) (next form rows before word t p.0)
-    ∙ walk_clear name form rows (before ++ word ∷ []) words t p.1
+    grind (arith, next_clear, next, walk_clear name form rows (before ++ word ∷ []) words t p.1)
 
 -- ---- the number of names
 
 pub in_range : (words : List Text) → 0 < length words → length words < 2 ^ 64 → range_kinds 1 usize_max (length words)
     ≡ []
-in_range words some short =
-    let zero : (length words == 0) ≡ false = grind (arith, nat_tests) in
-    let few : nat_lt (length words) 1 ≡ false = grind (arith, nat_tests) in
-    let many : nat_lt 18446744073709551615 (length words) ≡ false = grind (arith, nat_tests) in
-    rw (zero, few, many) refl
+in_range words some short = grind arith
 
 pub any_text : (words : List Text) → values_fault names_rule words ≡ []
 any_text [] = refl

@@ -1,6 +1,6 @@
 -- What clap makes of the operands after a command's name.
 use Rattle.std.proofs.Common.{arith, refl, ℕ, ◌≡◌, ◌<◌, ◌^◌, List, [], ◌∷◌, ◌++◌, Some, None, true, false, codes}
-use Rattle.std.proofs.Common.{length, ap, ◌∙◌, fold, inl, inr}
+use Rattle.std.proofs.Common.{length, ap, ◌∙◌, fold}
 use Rattle.std.specs.Char.{encode_utf8}
 use Rattle.std.specs.Str.{chars}
 use Rattle.clap.specs.Words.{Row}
@@ -8,7 +8,6 @@ use Rattle.clap.specs.Walk.{Walk, walked, walk, walk_from, nothing_held, idle, f
 use Rattle.clap.specs.Faults.{flags_fault, walk_fault, defaults_fault, level_fault}
 use Rattle.clap.specs.declared.error.kind.ErrorKind.TheVariants as kind
 use Rattle.command_line.specs.Words.{Text, asks_for_help}
-use Rattle.command_line.specs.Sizes.{sizes_of}
 use Rattle.command_line.specs.Commands.{Meaning, Form, Names as OfNames, Query as OfQuery, Sizes as OfSizes}
 use Rattle.command_line.specs.Commands.{Offset as OfOffset, Typed as OfTyped, TypedSizes as OfTypedSizes, takes_types}
 use Rattle.command_line.specs.Commands.{operands_task}
@@ -16,8 +15,7 @@ use Rattle.command_line.specs.Clap.{values_task}
 use Rattle.command_line.proofs.PlainWords.{IsPlain, AllPlain, help_word}
 use Rattle.command_line.proofs.OperandWalk.{shaped, rules_of, fits, row, after, walk_on, walk_clear, query_row}
 use Rattle.command_line.proofs.OperandWalk.{sizes_rows, in_range, any_text, are_usage}
-use Rattle.command_line.proofs.TypedOperands.{typed_fits, typed_unfit, typed_rows, typed_values, typed_reads}
-use Rattle.command_line.proofs.TypedOperands.{typed_unfit_task, in_turn}
+use Rattle.command_line.proofs.TypedOperands.{typed_fits, typed_unfit, typed_rows, typed_values}
 
 -- ---- the walk over plain words
 
@@ -41,22 +39,22 @@ end_of _ _ = walk_from nothing_held
 first_in : (make : List Text → Meaning) (a : Text) → IsPlain a
     → walked (rules_of (OfNames make)) [] (walk_from nothing_held) a ≡ after (OfNames make) [] (a ∷ [])
 unfolding walked
-first_in make a p = rw (p.dashes, p.long, p.short) refl
+first_in make a p = grind arith
 
 two_in : (make : Text → List Text → Meaning) (a b : Text) → IsPlain a → IsPlain b
     → walk (rules_of (OfQuery make)) [] nothing_held (a ∷ b ∷ []) ≡ after (OfQuery make) (query_row a) (b ∷ [])
 unfolding walked
-two_in make a b p q = rw (p.dashes, p.long, p.short, q.dashes, q.long, q.short) refl
+two_in make a b p q = grind arith
 
 three_in : (make : List ℕ → Text → List Text → Meaning) (a b c : Text) → IsPlain a → IsPlain b → IsPlain c
     → walk (rules_of (OfSizes make)) [] nothing_held (a ∷ b ∷ c ∷ []) ≡ after (OfSizes make) (sizes_rows a b) (c ∷ [])
 unfolding walked
-three_in make a b c p q r = rw (p.dashes, p.long, p.short, q.dashes, q.long, q.short, r.dashes, r.long, r.short) refl
+three_in make a b c p q r = grind arith
 
 both_in : (make : ℕ → Text → Meaning) (a b : Text) → IsPlain a → IsPlain b
     → walk (rules_of (OfOffset make)) [] nothing_held (a ∷ b ∷ []) ≡ after_offset a b
 unfolding walked
-both_in make a b p q = rw (p.dashes, p.long, p.short, q.dashes, q.long, q.short) refl
+both_in make a b p q = grind arith
 
 ends : (form : Form) (words : List Text) → takes_types form ≡ false → fits form words ≡ true → AllPlain words
     → walk (rules_of form) [] nothing_held words ≡ end_of form words
@@ -78,26 +76,25 @@ first_clear : (name : Text) (make : List Text → Meaning) (a : Text) (more : Li
     → walk_fault (shaped (name, OfNames make)) [] (walk_from nothing_held) (a ∷ more)
     ≡ walk_fault (shaped (name, OfNames make)) [] (after (OfNames make) [] (a ∷ [])) more
 unfolding walk_fault walked
-first_clear name make a more p = rw (p.dashes, p.long, p.short) refl
+first_clear name make a more p = grind arith
 
 two_clear : (name : Text) (make : Text → List Text → Meaning) (a b : Text) (more : List Text) → IsPlain a → IsPlain b
     → walk_fault (shaped (name, OfQuery make)) [] (walk_from nothing_held) (a ∷ b ∷ more)
     ≡ walk_fault (shaped (name, OfQuery make)) [] (after (OfQuery make) (query_row a) (b ∷ [])) more
 unfolding walk_fault walked
-two_clear name make a b more p q = rw (p.dashes, p.long, p.short, q.dashes, q.long, q.short) refl
+two_clear name make a b more p q = grind arith
 
 three_clear : (name : Text) (make : List ℕ → Text → List Text → Meaning) (a b c : Text) (more : List Text) → IsPlain a
     → IsPlain b → IsPlain c
     → walk_fault (shaped (name, OfSizes make)) [] (walk_from nothing_held) (a ∷ b ∷ c ∷ more)
     ≡ walk_fault (shaped (name, OfSizes make)) [] (after (OfSizes make) (sizes_rows a b) (c ∷ [])) more
 unfolding walk_fault walked
-three_clear name make a b c more p q r =
-    rw (p.dashes, p.long, p.short, q.dashes, q.long, q.short, r.dashes, r.long, r.short) refl
+three_clear name make a b c more p q r = grind arith
 
 both_clear : (name : Text) (make : ℕ → Text → Meaning) (a b : Text) → IsPlain a → IsPlain b
     → walk_fault (shaped (name, OfOffset make)) [] (walk_from nothing_held) (a ∷ b ∷ []) ≡ []
 unfolding walk_fault walked
-both_clear name make a b p q = rw (p.dashes, p.long, p.short, q.dashes, q.long, q.short) refl
+both_clear name make a b p q = grind arith
 
 clear : (name : Text) (form : Form) (words : List Text) → takes_types form ≡ false → fits form words ≡ true
     → AllPlain words
@@ -119,29 +116,14 @@ pub level_fits : (name : Text) (form : Form) (words : List Text) → fits form w
     → level_fault (shaped (name, form)) [] nothing_held words false [] ≡ []
 unfolding defaults_fault
 level_fits name (OfNames make) (a ∷ more) f p short =
-    rw (
-      ends (OfNames make) (a ∷ more) refl f p,
-      clear name (OfNames make) (a ∷ more) refl f p,
-      in_range (a ∷ more)
-          (omega arith) short,
-      any_text more,
-    ) refl
+    rw (ends (OfNames make) (a ∷ more) refl f p, clear name (OfNames make) (a ∷ more) refl f p,
+        in_range (a ∷ more) (omega arith) short, any_text more) refl
 level_fits name (OfQuery make) (a ∷ b ∷ more) f p short =
-    rw (
-      ends (OfQuery make) (a ∷ b ∷ more) refl f p,
-      clear name (OfQuery make) (a ∷ b ∷ more) refl f p,
-      in_range
-          (b ∷ more) (omega arith) (omega (arith, short)),
-      any_text more,
-    ) refl
+    rw (ends (OfQuery make) (a ∷ b ∷ more) refl f p, clear name (OfQuery make) (a ∷ b ∷ more) refl f p,
+        in_range (b ∷ more) (omega arith) (omega (arith, short)), any_text more) refl
 level_fits name (OfSizes make) (a ∷ b ∷ c ∷ more) f p short =
-    rw (
-      ends (OfSizes make) (a ∷ b ∷ c ∷ more) refl f p,
-      clear name (OfSizes make) (a ∷ b ∷ c ∷ more) refl f p,
-      in_range
-          (c ∷ more) (omega arith) (omega (arith, short)),
-      any_text more,
-    ) refl
+    rw (ends (OfSizes make) (a ∷ b ∷ c ∷ more) refl f p, clear name (OfSizes make) (a ∷ b ∷ c ∷ more) refl f p,
+        in_range (c ∷ more) (omega arith) (omega (arith, short)), any_text more) refl
 level_fits name (OfOffset make) (a ∷ b ∷ []) f p short =
     rw (ends (OfOffset make) (a ∷ b ∷ []) refl f p, clear name (OfOffset make) (a ∷ b ∷ []) refl f p) refl
 level_fits name (OfTyped make) (a ∷ more) f p short = typed_fits name (OfTyped make) None (a ∷ more) refl f tt p short
@@ -162,17 +144,8 @@ level_unfit name (OfSizes make) (a ∷ b ∷ []) f p =
 level_unfit name (OfOffset make) [] f p = refl
 level_unfit name (OfOffset make) (a ∷ []) f p = rw (p.0.dashes, p.0.long, p.0.short) refl
 level_unfit name (OfOffset make) (a ∷ b ∷ c ∷ more) f p =
-    rw (
-      p.0.dashes,
-      p.0.long,
-      p.0.short,
-      p.1.0.dashes,
-      p.1.0.long,
-      p.1.0.short,
-      p.1.1.0.dashes,
-      p.1.1.0.long,
-      p.1.1.0.short,
-    ) refl
+    rw (p.0.dashes, p.0.long, p.0.short, p.1.0.dashes, p.1.0.long, p.1.0.short, p.1.1.0.dashes, p.1.1.0.long,
+        p.1.1.0.short) refl
 level_unfit name (OfTyped make) words f p = typed_unfit name (OfTyped make) None words refl f tt p
 level_unfit name (OfTypedSizes make) words f p = typed_unfit name (OfTypedSizes make) None words refl f tt p
 level_unfit _ _ _ f p = cc
@@ -181,30 +154,12 @@ level_unfit _ _ _ f p = cc
 pub level_help : (name : Text) (form : Form) (help : Text) → asks_for_help help ≡ true
     → level_fault (shaped (name, form)) [] nothing_held (help ∷ []) false [] ≡ kind.DisplayHelp ∷ []
 unfolding walk_fault flags_fault chars encode_utf8
-level_help name (OfNames make) help h = elim (help_word help h) [
-  | inl e ↦ rw e refl
-  | inr e ↦ rw e refl
-]
-level_help name (OfQuery make) help h = elim (help_word help h) [
-  | inl e ↦ rw e refl
-  | inr e ↦ rw e refl
-]
-level_help name (OfSizes make) help h = elim (help_word help h) [
-  | inl e ↦ rw e refl
-  | inr e ↦ rw e refl
-]
-level_help name (OfOffset make) help h = elim (help_word help h) [
-  | inl e ↦ rw e refl
-  | inr e ↦ rw e refl
-]
-level_help name (OfTyped make) help h = elim (help_word help h) [
-  | inl e ↦ rw e refl
-  | inr e ↦ rw e refl
-]
-level_help name (OfTypedSizes make) help h = elim (help_word help h) [
-  | inl e ↦ rw e refl
-  | inr e ↦ rw e refl
-]
+level_help name (OfNames make) help h = grind (arith, help_word)
+level_help name (OfQuery make) help h = grind (arith, help_word)
+level_help name (OfSizes make) help h = grind (arith, help_word)
+level_help name (OfOffset make) help h = grind (arith, help_word)
+level_help name (OfTyped make) help h = grind (arith, help_word)
+level_help name (OfTypedSizes make) help h = grind (arith, help_word)
 
 -- ---- the values of a command
 
@@ -231,11 +186,10 @@ pub reads : (form : Form) (words : List Text) → fits form words ≡ true → A
     → values_task form (rows_of form words) ≡ operands_task form words
 reads (OfNames make) (a ∷ more) f p = refl
 reads (OfQuery make) (a ∷ b ∷ more) f p = refl
-reads (OfSizes make) (a ∷ b ∷ c ∷ more) f p = in_turn (sizes_of a) (λ s. (s, b, c ∷ more))
-    (λ asked. make asked.0 asked.1 asked.2)
+reads (OfSizes make) (a ∷ b ∷ c ∷ more) f p = grind arith
 reads (OfOffset make) (a ∷ b ∷ []) f p = refl
-reads (OfTyped make) (a ∷ more) f p = typed_reads (OfTyped make) None (a ∷ more) refl f tt p
-reads (OfTypedSizes make) (a ∷ b ∷ c ∷ more) f p = typed_reads (OfTypedSizes make) None (a ∷ b ∷ c ∷ more) refl f tt p
+reads (OfTyped make) (a ∷ more) f p = grind arith
+reads (OfTypedSizes make) (a ∷ b ∷ c ∷ more) f p = grind arith
 reads _ _ f p = cc
 
 pub unfit_task : (form : Form) (words : List Text) → fits form words ≡ false → AllPlain words → operands_task form words
@@ -249,6 +203,6 @@ unfit_task (OfSizes make) (a ∷ b ∷ []) f p = refl
 unfit_task (OfOffset make) [] f p = refl
 unfit_task (OfOffset make) (a ∷ []) f p = refl
 unfit_task (OfOffset make) (a ∷ b ∷ c ∷ more) f p = refl
-unfit_task (OfTyped make) words f p = typed_unfit_task (OfTyped make) None words refl f tt p
-unfit_task (OfTypedSizes make) words f p = typed_unfit_task (OfTypedSizes make) None words refl f tt p
+unfit_task (OfTyped make) words f p = grind arith
+unfit_task (OfTypedSizes make) words f p = grind arith
 unfit_task _ _ f p = cc

@@ -1,8 +1,7 @@
 -- A choice of types, and the words beside it.
-use Rattle.std.proofs.Common.{refl, ◌≡◌, ◌⊎◌, inl, inr, ◌||◌, List, [], ◌∷◌, Bool, true, false, codes, bytes_eq, take}
-use Rattle.std.specs.List.{list_any}
+use Rattle.std.proofs.Common.{refl, ◌≡◌, ◌⊎◌, inl, inr, ◌||◌, List, ◌∷◌, Bool, true, false, codes, bytes_eq}
 use Rattle.std.proofs.lemmas.Slice.Eq.{bytes_eq-Decides}
-use Rattle.command_line.specs.Words.{Text, is_unknown_option}
+use Rattle.command_line.specs.Words.{Text}
 use Rattle.command_line.specs.Commands.{is_typed_command, chooses_types, other_words}
 
 -- the commands that take types
@@ -34,22 +33,6 @@ choice word option rest = go (is_typed_command word) refl (chooses_types option)
     go true e false f = inr (rw (e, f) refl)
     go false e b f = inr (rw e refl)
 
-known_command : (word : Text) → is_typed_command word ≡ true → is_unknown_option word ≡ false
-known_command word h = elim (typed_command word h) [
-  | inl e ↦ rw e refl
-  | inr e ↦ rw e refl
-]
-
 first_false : (a b : Bool) → (a || b) ≡ false → (a || false) ≡ false
 first_false false b h = refl
 first_false true b h = cc
-
--- the first word is known where the other words are
-pub first_known : (words : List Text) → list_any is_unknown_option (other_words words) ≡ false
-    → list_any is_unknown_option (take 1 words) ≡ false
-first_known [] h = refl
-first_known (word ∷ []) h = h
-first_known (word ∷ option ∷ rest) h = elim (choice word option rest) [
-  | inl c ↦ rw (known_command word c.takes) refl
-  | inr e ↦ first_false _ _ (rw e at h)
-]

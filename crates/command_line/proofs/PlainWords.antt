@@ -1,6 +1,6 @@
 -- How clap reads a word by itself.
-use Rattle.std.proofs.Common.{refl, ◌≡◌, ◌⊎◌, inl, inr, ◌||◌, ◌==◌, List, [], ◌∷◌, None, Bool, true, false, codes}
-use Rattle.std.proofs.Common.{bytes_eq}
+use Rattle.std.proofs.Common.{arith, refl, ◌≡◌, ◌⊎◌, inl, inr, ◌||◌, ◌==◌, List, [], ◌∷◌, None, Bool, true, false}
+use Rattle.std.proofs.Common.{codes, bytes_eq}
 use Rattle.std.specs.List.{list_any}
 use Rattle.std.proofs.lemmas.Slice.Eq.{bytes_eq-Decides}
 use Rattle.clap.specs.Lexer.{long_of, short_of}
@@ -40,7 +40,7 @@ plain_word word h k = go (is_option word) refl
   where
     go : (b : Bool) → is_option word ≡ b → IsPlain word
     go false e = plain word e
-    go true e = let f : is_unknown_option word ≡ true = rw (e, k) refl in cc
+    go true e = grind arith
 
 first_false : (a b : Bool) → (a || b) ≡ false → a ≡ false
 first_false false b h = refl

@@ -6,12 +6,11 @@ use Rattle.clap.specs.Words.{Row}
 use Rattle.clap.specs.Lexer.{long_of}
 use Rattle.clap.specs.Walk.{Walk, walked, walk, walk_from, nothing_held, finished}
 use Rattle.clap.specs.Faults.{walk_fault, defaults_fault, level_fault}
-use Rattle.capture_core.specs.Types.{types_of, usual_types}
+use Rattle.capture_core.specs.Types.{usual_types}
 use Rattle.capture_core.specs.declared.types.Types.{Types}
 use Rattle.command_line.specs.Words.{Text}
-use Rattle.command_line.specs.Sizes.{sizes_of}
 use Rattle.command_line.specs.Commands.{Meaning, Form, Typed as OfTyped, TypedSizes as OfTypedSizes, takes_types}
-use Rattle.command_line.specs.Commands.{chooses_types, typed_operands, names_task, sizes_task, operands_task}
+use Rattle.command_line.specs.Commands.{chooses_types, typed_operands, operands_task}
 use Rattle.command_line.specs.Clap.{values_task}
 use Rattle.command_line.proofs.PlainWords.{IsPlain, AllPlain}
 use Rattle.command_line.proofs.OperandWalk.{shaped, rules_of, fits, row, after, walk_on, walk_clear, sizes_rows}
@@ -40,22 +39,22 @@ start (Some text) = walk_from (record { rows = []; pending = Some (codes "types"
 chosen : (form : Form) (text : Text) → takes_types form ≡ true → IsPlain text
     → walk (rules_of form) [] nothing_held (codes "--types" ∷ text ∷ []) ≡ start (Some text)
 unfolding walked
-chosen (OfTyped make) text t p = rw (p.dashes, p.long, p.short) refl
-chosen (OfTypedSizes make) text t p = rw (p.dashes, p.long, p.short) refl
+chosen (OfTyped make) text t p = grind arith
+chosen (OfTypedSizes make) text t p = grind arith
 chosen _ text t p = cc
 
 begun : (form : Form) (choice : Option Text) (words : List Text) → takes_types form ≡ true → IsPlainChoice choice
     → walk (rules_of form) [] nothing_held (choice_words choice ++ words)
     ≡ fold (walked (rules_of form) []) (start choice) words
 begun form None words t p = refl
-begun form (Some text) words t p = ap (λ w. fold (walked (rules_of form) []) w words) (chosen form text t p)
+begun form (Some text) words t p = grind (arith, fold, rules_of, chosen)
 
 chosen_clear : (name : Text) (form : Form) (text : Text) (words : List Text) → takes_types form ≡ true → IsPlain text
     → walk_fault (shaped (name, form)) [] (walk_from nothing_held) (codes "--types" ∷ text ∷ words)
     ≡ walk_fault (shaped (name, form)) [] (start (Some text)) words
 unfolding walk_fault walked
-chosen_clear name (OfTyped make) text words t p = rw (p.dashes, p.long, p.short) refl
-chosen_clear name (OfTypedSizes make) text words t p = rw (p.dashes, p.long, p.short) refl
+chosen_clear name (OfTyped make) text words t p = grind arith
+chosen_clear name (OfTypedSizes make) text words t p = grind arith
 chosen_clear name _ text words t p = cc
 
 begun_clear : (name : Text) (form : Form) (choice : Option Text) (words : List Text) → takes_types form ≡ true
@@ -70,18 +69,16 @@ begun_clear name form (Some text) words t p = chosen_clear name form text words 
 first_in : (make : Types → List Text → Meaning) (choice : Option Text) (a : Text) → IsPlain a
     → walked (rules_of (OfTyped make)) [] (start choice) a ≡ after (OfTyped make) (choice_rows choice) (a ∷ [])
 unfolding walked
-first_in make None a p = rw (p.dashes, p.long, p.short) refl
-first_in make (Some text) a p = rw (p.dashes, p.long, p.short) refl
+first_in make None a p = grind arith
+first_in make (Some text) a p = grind arith
 
 three_in : (make : Types → List ℕ → Text → List Text → Meaning) (choice : Option Text) (a b c : Text) → IsPlain a
     → IsPlain b → IsPlain c
     → fold (walked (rules_of (OfTypedSizes make)) []) (start choice) (a ∷ b ∷ c ∷ [])
     ≡ after (OfTypedSizes make) (choice_rows choice ++ sizes_rows a b) (c ∷ [])
 unfolding walked
-three_in make None a b c p q r = rw (p.dashes, p.long, p.short, q.dashes, q.long, q.short, r.dashes, r.long, r.short)
-    refl
-three_in make (Some text) a b c p q r =
-    rw (p.dashes, p.long, p.short, q.dashes, q.long, q.short, r.dashes, r.long, r.short) refl
+three_in make None a b c p q r = grind arith
+three_in make (Some text) a b c p q r = grind arith
 
 abbrev end_of : Form → Option Text → List Text → Walk
 end_of (OfTyped make) choice words = after (OfTyped make) (choice_rows choice) words
@@ -108,8 +105,8 @@ first_clear : (name : Text) (make : Types → List Text → Meaning) (choice : O
     → walk_fault (shaped (name, OfTyped make)) [] (start choice) (a ∷ more)
     ≡ walk_fault (shaped (name, OfTyped make)) [] (after (OfTyped make) (choice_rows choice) (a ∷ [])) more
 unfolding walk_fault walked
-first_clear name make None a more p = rw (p.dashes, p.long, p.short) refl
-first_clear name make (Some text) a more p = rw (p.dashes, p.long, p.short) refl
+first_clear name make None a more p = grind arith
+first_clear name make (Some text) a more p = grind arith
 
 three_clear : (name : Text) (make : Types → List ℕ → Text → List Text → Meaning) (choice : Option Text) (a b c : Text)
     (more : List Text)
@@ -118,10 +115,8 @@ three_clear : (name : Text) (make : Types → List ℕ → Text → List Text �
     ≡ walk_fault (shaped (name, OfTypedSizes make)) []
     (after (OfTypedSizes make) (choice_rows choice ++ sizes_rows a b) (c ∷ [])) more
 unfolding walk_fault walked
-three_clear name make None a b c more p q r =
-    rw (p.dashes, p.long, p.short, q.dashes, q.long, q.short, r.dashes, r.long, r.short) refl
-three_clear name make (Some text) a b c more p q r =
-    rw (p.dashes, p.long, p.short, q.dashes, q.long, q.short, r.dashes, r.long, r.short) refl
+three_clear name make None a b c more p q r = grind arith
+three_clear name make (Some text) a b c more p q r = grind arith
 
 clear : (name : Text) (form : Form) (choice : Option Text) (words : List Text) → takes_types form ≡ true
     → fits form words ≡ true
@@ -142,36 +137,19 @@ pub typed_fits : (name : Text) (form : Form) (choice : Option Text) (words : Lis
     → level_fault (shaped (name, form)) [] nothing_held (choice_words choice ++ words) false [] ≡ []
 unfolding defaults_fault
 typed_fits name (OfTyped make) None (a ∷ more) t f q p short =
-    rw (
-      ends (OfTyped make) None (a ∷ more) t f q p,
-      clear name (OfTyped make) None (a ∷ more) t f q p,
-      in_range
-          (a ∷ more) (omega arith) short,
-      any_text more,
-    ) refl
+    rw (ends (OfTyped make) None (a ∷ more) t f q p, clear name (OfTyped make) None (a ∷ more) t f q p,
+        in_range (a ∷ more) (omega arith) short, any_text more) refl
 typed_fits name (OfTyped make) (Some text) (a ∷ more) t f q p short =
-    rw (
-      ends (OfTyped make) (Some text) (a ∷ more) t f q p,
-      clear name (OfTyped make) (Some text) (a ∷ more) t f q p,
-      in_range (a ∷ more) (omega arith) short,
-      any_text more,
-    ) refl
+    rw (ends (OfTyped make) (Some text) (a ∷ more) t f q p, clear name (OfTyped make) (Some text) (a ∷ more) t f q p,
+        in_range (a ∷ more) (omega arith) short, any_text more) refl
 typed_fits name (OfTypedSizes make) None (a ∷ b ∷ c ∷ more) t f q p short =
-    rw (
-      ends (OfTypedSizes make) None (a ∷ b ∷ c ∷ more) t f q p,
-      clear name (OfTypedSizes make) None (a ∷ b ∷ c ∷ more)
-          t f q p,
-      in_range (c ∷ more) (omega arith) (omega (arith, short)),
-      any_text more,
-    ) refl
+    rw (ends (OfTypedSizes make) None (a ∷ b ∷ c ∷ more) t f q p,
+        clear name (OfTypedSizes make) None (a ∷ b ∷ c ∷ more) t f q p,
+        in_range (c ∷ more) (omega arith) (omega (arith, short)), any_text more) refl
 typed_fits name (OfTypedSizes make) (Some text) (a ∷ b ∷ c ∷ more) t f q p short =
-    rw (
-      ends (OfTypedSizes make) (Some text) (a ∷ b ∷ c ∷ more) t f q p,
-      clear name (OfTypedSizes make) (Some text)
-          (a ∷ b ∷ c ∷ more) t f q p,
-      in_range (c ∷ more) (omega arith) (omega (arith, short)),
-      any_text more,
-    ) refl
+    rw (ends (OfTypedSizes make) (Some text) (a ∷ b ∷ c ∷ more) t f q p,
+        clear name (OfTypedSizes make) (Some text) (a ∷ b ∷ c ∷ more) t f q p,
+        in_range (c ∷ more) (omega arith) (omega (arith, short)), any_text more) refl
 typed_fits name _ choice _ t f q p short = cc
 
 -- ---- words that don't fit
@@ -260,14 +238,9 @@ pub typed_reads : (form : Form) (choice : Option Text) (words : List Text) → t
     → IsPlainChoice choice → AllPlain words → values_task form (typed_rows form choice words)
     ≡ operands_task form (choice_words choice ++ words)
 typed_reads (OfTyped make) None (a ∷ more) t f q p = rw (usual (a ∷ more) p) refl
-typed_reads (OfTyped make) (Some text) (a ∷ more) t f q p =
-    alike (types_of text) _ (λ types. (types, a ∷ more)) (λ typed. names_task (make typed.0) typed.1) (λ types. refl)
-typed_reads (OfTypedSizes make) None (a ∷ b ∷ c ∷ more) t f q p =
-    rw (usual (a ∷ b ∷ c ∷ more) p)
-    (in_turn (sizes_of a) (λ s. (s, b, c ∷ more)) (λ asked. make usual_types asked.0 asked.1 asked.2))
-typed_reads (OfTypedSizes make) (Some text) (a ∷ b ∷ c ∷ more) t f q p =
-    alike (types_of text) _ (λ types. (types, a ∷ b ∷ c ∷ more)) (λ typed. sizes_task (make typed.0) typed.1)
-    (λ types. in_turn (sizes_of a) (λ s. (s, b, c ∷ more)) (λ asked. make types asked.0 asked.1 asked.2))
+typed_reads (OfTyped make) (Some text) (a ∷ more) t f q p = grind (arith, alike)
+typed_reads (OfTypedSizes make) None (a ∷ b ∷ c ∷ more) t f q p = grind arith
+typed_reads (OfTypedSizes make) (Some text) (a ∷ b ∷ c ∷ more) t f q p = grind (arith, alike, in_turn)
 typed_reads _ choice _ t f q p = cc
 
 -- too few operands have no task, whatever the types
@@ -275,15 +248,11 @@ pub typed_unfit_task : (form : Form) (choice : Option Text) (words : List Text) 
     → fits form words ≡ false
     → IsPlainChoice choice → AllPlain words → operands_task form (choice_words choice ++ words) ≡ None
 typed_unfit_task (OfTyped make) None [] t f q p = refl
-typed_unfit_task (OfTyped make) (Some text) [] t f q p =
-    nowhere (types_of text) (λ types. (types, [])) (λ typed. names_task (make typed.0) typed.1) (λ types. refl)
+typed_unfit_task (OfTyped make) (Some text) [] t f q p = grind (arith, nowhere)
 typed_unfit_task (OfTypedSizes make) None [] t f q p = refl
 typed_unfit_task (OfTypedSizes make) None (a ∷ []) t f q p = rw (usual (a ∷ []) p) refl
 typed_unfit_task (OfTypedSizes make) None (a ∷ b ∷ []) t f q p = rw (usual (a ∷ b ∷ []) p) refl
-typed_unfit_task (OfTypedSizes make) (Some text) [] t f q p =
-    nowhere (types_of text) (λ types. (types, [])) (λ typed. sizes_task (make typed.0) typed.1) (λ types. refl)
-typed_unfit_task (OfTypedSizes make) (Some text) (a ∷ []) t f q p =
-    nowhere (types_of text) (λ types. (types, a ∷ [])) (λ typed. sizes_task (make typed.0) typed.1) (λ types. refl)
-typed_unfit_task (OfTypedSizes make) (Some text) (a ∷ b ∷ []) t f q p =
-    nowhere (types_of text) (λ types. (types, a ∷ b ∷ [])) (λ typed. sizes_task (make typed.0) typed.1) (λ types. refl)
+typed_unfit_task (OfTypedSizes make) (Some text) [] t f q p = grind (arith, nowhere)
+typed_unfit_task (OfTypedSizes make) (Some text) (a ∷ []) t f q p = grind (arith, nowhere)
+typed_unfit_task (OfTypedSizes make) (Some text) (a ∷ b ∷ []) t f q p = grind (arith, nowhere)
 typed_unfit_task _ choice _ t f q p = cc

@@ -1,4 +1,4 @@
-use Rattle.std.proofs.Common.{ap, ◌≡◌, ◌∙◌, true, []}
+use Rattle.std.proofs.Common.{arith, ap, ◌≡◌, ◌∙◌, true, []}
 use Rattle.clap.specs.Words.{App, Shape, app_of, with_subcommand}
 use Rattle.command_line.specs.Clap.{program}
 use Rattle.command_line.proofs.command.command_line.Goals as goal
@@ -8,18 +8,13 @@ without_commands = record { top = record program { is_leaf = true }; subs = [] }
 
 -- one more command, on what is known of those before it
 more : {x a b : App} (s : Shape) → x ≡ with_subcommand a s → a ≡ b → x ≡ with_subcommand b s
-more s h e = h ∙ ap (λ (y : App). with_subcommand y s) e
+more s h e = grind arith
 
 pub returns : goal.returns
 returns c =
     let bare : app_of c.disable_help_subcommand-program.result ≡ without_commands =
-    rw (
-      c.disable_help_subcommand-program.ensures,
-      c.no_binary_name.ensures,
-      c.after_help.ensures,
-      c.about.ensures,
-      c.in_ok-bin_name.ensures.0,
-    )
+    rw (c.disable_help_subcommand-program.ensures, c.no_binary_name.ensures, c.after_help.ensures, c.about.ensures,
+        c.in_ok-bin_name.ensures.0)
     (ap (λ (a : App). record a { top = record a.top { no_binary_name = true; disable_help_subcommand = true } })
     c.new.ensures.app) in
     more _ c.in_ok-scan.ensures

@@ -1,16 +1,12 @@
-use Rattle.std.proofs.Common.{◌≡◌, ◌∙◌, ◌||◌, ap, ap₂, arith, map, take}
+use Rattle.std.proofs.Common.{◌≡◌, ◌∙◌, ◌||◌, ap₂, arith}
 use Rattle.std.proofs.lemmas.List.{take_all}
-use Rattle.std.proofs.lemmas.Result.{IfOk-weaker}
-use Rattle.clap.specs.Words.{App, app_of, with_rule, with_subcommand}
+use Rattle.clap.specs.Words.{with_rule}
 use Rattle.command_line.specs.Arguments.{rule_for}
 use Rattle.command_line.proofs.CommandArguments.{app_with, one_more}
 use Rattle.command_line.proofs.command.with_command.Goals as goal
 
 pub loop-argument-init : goal.loop-argument-init
-loop-argument-init c = record {
-  app = rw (c.after_help-command.ensures, c.about.ensures) c.new.ensures.app;
-  globals = rw (c.after_help-command.ensures, c.about.ensures) c.new.ensures.local;
-}
+loop-argument-init c = grind arith
 
 pub loop-argument-preserved : goal.loop-argument-preserved
 loop-argument-preserved c =
@@ -24,11 +20,4 @@ loop-argument-preserved c =
     }
 
 pub returns : goal.returns
-returns c =
-    let inv = c.loop-argument.invariant in
-    let all = take_all c.loop-argument.argument-index c.args.arguments.now
-    (omega (arith, c.loop-argument-test.false)) in
-    let whole = inv.app ∙ ap (λ arguments. app_with c.args.name.now (map rule_for arguments)) all in
-    IfOk-weaker c.subcommand.result _ _
-    (λ more h. h.shape inv.globals ∙ ap (λ (a : App). with_subcommand (app_of c.args.program) a.top) whole)
-    c.subcommand.ensures
+returns c = grind (arith, take_all, app_with)

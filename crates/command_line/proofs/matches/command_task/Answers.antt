@@ -1,4 +1,4 @@
-use Rattle.std.proofs.Common.{◌≡◌, Bool, true, false, List, ℕ, bytes_eq, refl, sym}
+use Rattle.std.proofs.Common.{arith, ◌≡◌, Bool, true, false, List, ℕ, bytes_eq, refl}
 use Rattle.std.proofs.lemmas.Slice.Eq.{bytes_eq-Decides}
 use Rattle.command_line.proofs.matches.command_task.Goals as goal
 
@@ -7,22 +7,11 @@ other name word differ = go (bytes_eq word name) refl
   where
     go : (b : Bool) → bytes_eq word name ≡ b → b ≡ false
     go false e = refl
-    go true e = absurd (differ (sym ((bytes_eq-Decides word name).0 e)))
+    go true e = grind (arith, bytes_eq-Decides)
 
 pub returns-in_default : goal.returns-in_default
 returns-in_default c =
     let d = c.in_default in
-    rw (
-      other _ _ d.not-list,
-      other _ _ d.not-verify,
-      other _ _ d.not-index,
-      other _ _ d.not-merge,
-      other _ _
-          d.not-check,
-      other _ _ d.not-query,
-      other _ _ d.not-pages,
-      other _ _ d.not-serve,
-      other _ _ d.not-get,
-      other _ _
-          d.not-scan,
-    ) refl
+    rw (other _ _ d.not-list, other _ _ d.not-verify, other _ _ d.not-index, other _ _ d.not-merge,
+        other _ _ d.not-check, other _ _ d.not-query, other _ _ d.not-pages, other _ _ d.not-serve, other _ _ d.not-get,
+        other _ _ d.not-scan) refl

@@ -1,4 +1,4 @@
-use Rattle.std.proofs.Common.{refl, ◌≡◌, ◌∙◌, sym, ap, true, Some, None, [], ◌∷◌, String, string_bytes, List, Option}
+use Rattle.std.proofs.Common.{arith, refl, ◌≡◌, ◌∙◌, true, Some, None, [], ◌∷◌, String, string_bytes, List, Option}
 use Rattle.std.proofs.Common.{unwrap_or, slice_get, Bor}
 use Rattle.std.specs.Global.{Global}
 use Rattle.std.specs.Option.{IfSome, option_copied}
@@ -14,19 +14,13 @@ first_of : (words : List (String Global)) (first : Option (Bor (String Global)))
 first_of [] None help f h = rw h refl
 first_of [] (Some x) help f h = cc
 first_of (word ∷ words) None help f h = cc
-first_of (word ∷ words) (Some x) help f h = let same : x.now ≡ word = cc in rw same refl
+first_of (word ∷ words) (Some x) help f h = grind arith
 
 joined : (given : Option Refusal) (met : Option Refusal) (a b : Refusal) → IfSome met (λ refusal. refusal ≡ a) → a ≡ b
     → IfSome given (λ refusal. met ≡ Some refusal) → IfSome given (λ refusal. refusal ≡ b)
 joined None met a b m e g = tt
 joined (Some r) None a b m e g = cc
-joined (Some r) (Some s) a b m e g = let same : s ≡ r = cc in sym same ∙ m ∙ e
+joined (Some r) (Some s) a b m e g = grind arith
 
 pub returns : goal.returns
-returns c =
-    let first : string_bytes c.unwrap_or-first.result.now ≡ string_bytes (unwrap_or c.first.result c.args.help).now =
-    ap (λ (w : Bor (String Global)). string_bytes w.now) c.unwrap_or-first.ensures in
-    joined _ _ _ _ c.help_error.ensures
-    (ap (λ w. help_or_usage (w ∷ [])) (c.deref.ensures ∙ first)
-    ∙ first_of c.args.words.now c.first.result c.args.help c.first.ensures.value c.requires.asks)
-    c.fault_of.ensures
+returns c = grind (arith, string_bytes, joined, first_of)

@@ -1,4 +1,4 @@
-use Rattle.std.proofs.Common.{◌≡◌, ◌++◌, ◌∙◌, ℕ, List, Some, IfOk, IfSome, Option, Result, Ok, Err, ap, subst}
+use Rattle.std.proofs.Common.{◌≡◌, ◌++◌, ◌∙◌, ℕ, List, IfOk, IfSome, Option, Result, Ok, Err, ap, subst}
 use Rattle.std.specs.Io.KnownBytes.{Appends}
 use Rattle.index_core.specs.Accepted.{IsAccepted}
 use Rattle.index_core.specs.CaptureAnswer.{usual_limits}

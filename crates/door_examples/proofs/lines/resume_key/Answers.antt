@@ -1,4 +1,4 @@
-use Rattle.std.proofs.Common.{rules, ◌≡◌, ◌∙◌, ℕ, List, length, nat_lt, Option, None, Some, true, false, cond, ap, sym}
+use Rattle.std.proofs.Common.{rules, ◌≡◌, ◌∙◌, ℕ, List, length, nat_lt, None, Some, true, false, cond, ap, sym}
 use Rattle.std.specs.Str.Parse.{digits_value}
 use Rattle.cdxj_core.specs.Pair.{is_key, is_stamp}
 use Rattle.cdxj_core.specs.Places.{PlaceValue, is_offset, offset_of, place_from, resume_place}
