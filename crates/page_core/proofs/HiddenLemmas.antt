@@ -1,34 +1,27 @@
 -- Hidden bytes, counted by vectors.
-use Rattle.std.proofs.Common.{◌≡◌, ◌∙◌, ℕ, ◌+◌, ◌-◌, ◌≤◌, ◌<◌, ◌%◌, ◌^◌, ◌||◌, Bool, true, false, cond, List, [], ◌∷◌}
-use Rattle.std.proofs.Common.{◌++◌, map, length, take, drop, eqb, leb, bit_or, count_ones, flat_map, refl, sym, ap}
-use Rattle.std.proofs.Common.{length-append, arith}
+use Rattle.std.proofs.Common.{◌≡◌, ◌∙◌, ℕ, ◌+◌, ◌-◌, ◌≤◌, ◌<◌, ◌%◌, ◌^◌, ◌||◌, Bool, false, cond, List, [], ◌∷◌, ◌++◌}
+use Rattle.std.proofs.Common.{map, length, take, drop, eqb, leb, bit_or, count_ones, flat_map, refl, ap, length-append}
+use Rattle.std.proofs.Common.{arith}
 use Rattle.std.specs.List.{count_by, join_by}
 use Rattle.std.proofs.lemmas.List.{length-map, take_all}
 use Rattle.std.proofs.lemmas.List.Sums.{sum_by-append, sum_by-cons}
 use Rattle.std.proofs.Math.Seq.{take-append_seam, drop-append_seam}
-use Rattle.std.proofs.lemmas.Bool.{cond-false}
 use Rattle.std.proofs.lemmas.Simd.{map-map, mask_l-mod, ones-mask_l}
 use lib.Lanes.{mask_l, top}
-use Rattle.page_core.specs.Rows.{is_hidden, escaped_byte, escaped}
+use Rattle.page_core.specs.Rows.{is_hidden, escaped}
 
 -- what a vector has for a byte, once it was compared with the space and the delete
 abbrev pub lane : ℕ → ℕ
 lane x = bit_or (cond (leb x 32) 255 0) (cond (eqb x 127) 255 0)
 
-tops : (a b : Bool) → top 7 (bit_or (cond a 255 0) (cond b 255 0)) ≡ (a || b)
-tops true true = refl
-tops true false = refl
-tops false true = refl
-tops false false = refl
-
 tops_all : (v : List ℕ) → map (λ x. top 7 (lane x)) v ≡ map is_hidden v
 tops_all [] = refl
-tops_all (x ∷ v) = λ i. tops (leb x 32) (eqb x 127) i ∷ tops_all v i
+tops_all (x ∷ v) = grind arith
 
 pub lanes_counted : (v z : List ℕ) → length v ≡ 16 → z ≡ map lane v → count_ones (mask_l (map (top 7) z) % 2 ^ 64) ≡
     count_by is_hidden v
 lanes_counted v z long e =
-    ap (λ l. count_ones (mask_l l % 2 ^ 64)) (ap (map (top 7)) e ∙ map-map (top 7) lane v ∙ tops_all v)
+    ap (λ l. count_ones (mask_l l % 2 ^ 64)) (grind (arith, map-map))
     ∙ ap count_ones (mask_l-mod (map is_hidden v) 64 (omega (arith, length-map v is_hidden, long)))
     ∙ ones-mask_l is_hidden v
 
@@ -36,16 +29,12 @@ lanes_counted v z long e =
 
 -- what was appended after this many bytes is taken off again
 pub taken_off : (old row : List ℕ) (n : ℕ) → n ≡ length old → take n (old ++ row) ≡ old
-taken_off old row n e = ap (λ k. take k (old ++ row)) e ∙ take-append_seam old row
+taken_off old row n e = grind (arith, take-append_seam)
 
 -- what was appended after this many bytes, as a part of the text
 pub appended : (old row text : List ℕ) (n : ℕ) → n ≡ length old → text ≡ old ++ row → take (length text - n)
     (drop n text) ≡ row
-appended old row text n e is =
-    let size : length text - n ≡ length row = let whole = ap length is ∙ length-append old row in
-    omega (arith, whole, e) in
-    (λ i. take (size i) (drop (e i) (is i))) ∙ ap (take (length row)) (drop-append_seam old row) ∙ take_all (length row)
-    row (omega arith)
+appended old row text n e is = grind (arith, length-append, drop-append_seam, take_all)
 
 -- Texts with one hidden byte between them. If there are no more in all, the texts are as they would be escaped.
 module _ {X : Type 0} (p : ℕ → Bool) (plain escaped : X → List ℕ) (between : List ℕ)
@@ -55,8 +44,7 @@ module _ {X : Type 0} (p : ℕ → Bool) (plain escaped : X → List ℕ) (betwe
 
   later_count : (x : X) (xs : List X) → count_by p (later plain (x ∷ xs)) ≡ (1 + count_by p (plain x)) + count_by p
       (later plain xs)
-  later_count x xs = sum_by-append _ (between ++ plain x) (later plain xs) ∙ ap (λ k. k + count_by p (later plain xs))
-      (sum_by-append _ between (plain x) ∙ ap (λ k. k + count_by p (plain x)) seam)
+  later_count x xs = grind (arith, sum_by-append)
 
   later_least : (xs : List X) → length xs ≤ count_by p (later plain xs)
   later_least [] = omega arith
@@ -64,38 +52,26 @@ module _ {X : Type 0} (p : ℕ → Bool) (plain escaped : X → List ℕ) (betwe
 
   later_same : (xs : List X) → count_by p (later plain xs) ≤ length xs → later plain xs ≡ later escaped xs
   later_same [] h = refl
-  later_same (x ∷ xs) h =
-      let here = same x (omega (arith, later_count x xs, later_least xs)) in
-      let rest = later_same xs (omega (arith, later_count x xs)) in
-      λ i. (between ++ here i) ++ rest i
+  later_same (x ∷ xs) h = grind (arith, later_count, later_least, later_same xs (omega (arith, later_count x xs)))
 
   row_same : (x : X) (xs : List X) → count_by p (join_by plain between (x ∷ xs)) ≤ length xs → join_by plain between
       (x ∷ xs) ≡ join_by escaped between (x ∷ xs)
-  row_same x xs h =
-      let whole = sum_by-append (λ b. cond (p b) 1 0) (plain x) (later plain xs) in
-      let here = same x (omega (arith, whole, later_least xs)) in
-      let rest = later_same xs (omega (arith, whole)) in
-      λ i. here i ++ rest i
+  row_same x xs h = grind (arith, sum_by-append, later_least, later_same)
 
 -- ---- texts that need no escape
-
-none_false : (b : Bool) → cond b 1 0 ≤ 0 → b ≡ false
-none_false true h = absurd (omega arith)
-none_false false h = refl
 
 -- of no special bytes, neither the first one is one, nor one of the others
 none_parts : (p : ℕ → Bool) (x : ℕ) (xs : List ℕ) → count_by p (x ∷ xs) ≤ 0 → (p x ≡ false) × (count_by p xs ≤ 0)
 none_parts p x xs h =
     let whole = sum_by-cons (λ b. cond (p b) 1 0) x xs in
-    (none_false (p x) (omega (arith, whole)), omega (arith, whole))
+    grind arith
 
 -- a text without hidden bytes isn't escaped
 shown : (xs : List ℕ) → count_by is_hidden xs ≤ 0 → xs ≡ escaped xs
 shown [] h = refl
 shown (x ∷ xs) h =
     let parts = none_parts is_hidden x xs h in
-    let here : escaped_byte x ≡ x ∷ [] = cond-false (is_hidden x) _ _ parts.0 in
-    sym (λ i. here i ++ sym (shown xs parts.1) i)
+    grind (arith, shown xs parts.1)
 
 -- ---- rows
 

@@ -1,5 +1,5 @@
 -- Values that JSON writes without escapes.
-use Rattle.std.proofs.Common.{◌≡◌, List, [], ◌∷◌, ◌++◌, ℕ, true, map, flat_map, refl, sym, ap}
+use Rattle.std.proofs.Common.{arith, ◌≡◌, List, [], ◌∷◌, ◌++◌, ℕ, true, map, flat_map, refl}
 use Rattle.std.specs.List.{join_by, list_all}
 use Rattle.json.specs.Print.{quoted}
 use Rattle.json.specs.Run.{is_plain}
@@ -7,7 +7,7 @@ use Rattle.cdxj_objects.proofs.PlainLaw.{escape_plain}
 use Rattle.page_core.specs.Rows.{between_quotes}
 
 quoted_plain : (text : List ℕ) → list_all is_plain text ≡ true → between_quotes text ≡ quoted text
-quoted_plain text h = ap (λ t. 34 ∷ (t ++ 34 ∷ [])) (sym (escape_plain text h))
+quoted_plain text h = grind (arith, escape_plain)
 
 module _ {X : Type 0} (value : X → List ℕ) (plain : (x : X) → list_all is_plain (value x) ≡ true) where
   later_plain : (xs : List X) → flat_map (λ t. (44 ∷ []) ++ between_quotes t) (map value xs) ≡ flat_map (λ t. (44 ∷ [])

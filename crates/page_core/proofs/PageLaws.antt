@@ -3,12 +3,11 @@ use Rattle.std.proofs.Common.{◌≡◌, ℕ, zero, suc, ◌<◌, List, [], ◌�
 use Rattle.std.proofs.Common.{inl, inr, refl, sym, ap, ap₂, ◌∙◌, subst, arith, Ordering, Less, Greater, is_gt, filter}
 use Rattle.std.proofs.Common.{Some, None, Option, MatchOption, take-append-drop, append-nil, length-drop, length-take}
 use Rattle.std.specs.List.{AllByRecursion, flat_map}
-use Rattle.std.specs.Ordering.{ordering_reverse}
 use Rattle.std.specs.Cmp.{IsTotalOrder}
 use Rattle.std.proofs.lemmas.Cmp.{tied_itself}
 use Rattle.std.proofs.lemmas.Bool.{cond-true, cond-false, cases_Bool}
 use Rattle.cdxj_places.specs.Rising.{IsIn, Rises}
-use Rattle.cdxj_places.proofs.RisingLaws.{is_gt-true, each_at}
+use Rattle.cdxj_places.proofs.RisingLaws.{each_at}
 use Rattle.page_core.specs.Pages.{Page, AllPositive, later_sizes, first_size, is_above, repeats, end_place, kept}
 use Rattle.page_core.specs.Pages.{collapsed, next_after, page_of, IsChain, FullButLast}
 
@@ -21,30 +20,20 @@ filter_all f (x ∷ xs) h = cond-true (f x) _ _ h.0 ∙ ap (λ t. x ∷ t) (filt
 pub filter_filter : {X : Type 0} (f g : X → Bool) (h : (x : X) → f x ≡ true → g x ≡ true) (xs : List X)
     → filter f (filter g xs) ≡ filter f xs
 filter_filter f g h [] = refl
-filter_filter f g h (x ∷ xs) = grind (arith, cases_Bool (f x), cases_Bool (g x), h x, filter_filter f g h xs)
+filter_filter f g h (x ∷ xs) = grind (arith, filter_filter f g h xs)
 
 pub each_filter : {X : Type 0} (A : X → Type 0) (f : X → Bool) (xs : List X) → AllByRecursion A xs
     → AllByRecursion A (filter f xs)
 each_filter A f [] h = tt
-each_filter A f (x ∷ xs) h =
-    elim (f x) as (λ b. AllByRecursion A (cond b (x ∷ filter f xs) (filter f xs)))
-    [ true ↦ (h.0, each_filter A f xs h.1) | false ↦ each_filter A f xs h.1 ]
+each_filter A f (x ∷ xs) h = grind (arith, each_filter A f xs h.1)
 
 module _ {X P : Type 0} (place : X → P) (R : P → P → Ordering) (o : IsTotalOrder R) where
   pub gt_back : (a b : P) → R a b ≡ Greater → R b a ≡ Less
-  gt_back a b h = o.antisymm b a ∙ ap ordering_reverse h
-
-  pub lt_back : (a b : P) → R a b ≡ Less → R b a ≡ Greater
-  lt_back a b h = o.antisymm b a ∙ ap ordering_reverse h
-
-  pub gt_trans : (a b c : P) → R a b ≡ Greater → R b c ≡ Greater → R a c ≡ Greater
-  gt_trans a b c h k = lt_back c a (o.trans c b a (gt_back b c k) (gt_back a b h))
+  gt_back a b h = grind arith
 
   pub rises_filter : (f : X → Bool) (l : List X) → Rises place R l → Rises place R (filter f l)
   rises_filter f [] h = tt
-  rises_filter f (x ∷ xs) h =
-      elim (f x) as (λ b. Rises place R (cond b (x ∷ filter f xs) (filter f xs)))
-      [ true ↦ (each_filter _ f xs h.0, rises_filter f xs h.1) | false ↦ rises_filter f xs h.1 ]
+  rises_filter f (x ∷ xs) h = grind (arith, each_filter, rises_filter f xs h.1)
 
 module _ {X P : Type 0} (place : X → P) (R : P → P → Ordering) (same : P → P → Bool) (o : IsTotalOrder R) where
   above_itself : (x : X) → is_above place R (Some (place x)) x ≡ false
@@ -53,36 +42,24 @@ module _ {X P : Type 0} (place : X → P) (R : P → P → Ordering) (same : P �
   pub above_trans : (x : X) (m : X) (p : Option P) → is_above place R p m ≡ true → is_above place R (Some (place m)) x ≡
       true → is_above place R p x ≡ true
   above_trans x m None h k = refl
-  above_trans x m (Some p) h k = ap is_gt (gt_trans place R o (place x) (place m) p (is_gt-true _ k) (is_gt-true _ h))
+  above_trans x m (Some p) h k = grind arith
 
   -- what is above the one is not below it
   pub above_not_below : (x m : X) → is_above place R (Some (place x)) m ≡ true → is_above place R (Some (place m)) x ≡
       false
-  above_not_below x m h = ap is_gt (gt_back place R o (place m) (place x) (is_gt-true _ h))
+  above_not_below x m h = grind arith
 
   pub each_kept : (A : X → Type 0) (p : Option P) (xs : List X) → AllByRecursion A xs
       → AllByRecursion A (kept place same p xs)
   each_kept A p [] h = tt
-  each_kept A p (x ∷ xs) h =
-      elim (repeats place same p x) as (λ b. AllByRecursion A (cond b (kept place same (Some (place x)) xs)
-      (x ∷ kept place same (Some (place x)) xs)))
-      [ true ↦ each_kept A (Some (place x)) xs h.1 | false ↦ (h.0, each_kept A (Some (place x)) xs h.1) ]
+  each_kept A p (x ∷ xs) h = grind (arith, each_kept A (Some (place x)) xs h.1)
 
   pub rises_kept : (p : Option P) (l : List X) → Rises place R l → Rises place R (kept place same p l)
   rises_kept p [] h = tt
-  rises_kept p (x ∷ xs) h =
-      elim (repeats place same p x) as (λ b. Rises place R (cond b (kept place same (Some (place x)) xs)
-      (x ∷ kept place same (Some (place x)) xs))) [
-        | true ↦ rises_kept (Some (place x)) xs h.1
-        | false ↦ (
-          each_kept _ (Some (place x)) xs h.0,
-          rises_kept
-              (Some (place x)) xs h.1,
-        )
-      ]
+  rises_kept p (x ∷ xs) h = grind (arith, each_kept, rises_kept (Some (place x)) xs h.1)
 
   pub rises_collapsed : (l : List X) (p : Option P) → Rises place R l → Rises place R (collapsed place R same l p)
-  rises_collapsed l p h = rises_kept p _ (rises_filter place R o (is_above place R p) l h)
+  rises_collapsed l p h = grind (arith, rises_kept, rises_filter)
 
   in_kept : (m : X) (p : Option P) (xs : List X) → IsIn m (kept place same p xs) → IsIn m xs
   in_kept m p [] i = i
@@ -125,21 +102,15 @@ module _ {X P : Type 0} (place : X → P) (R : P → P → Ordering) (same : P �
       filter (is_above place R (Some (place m))) (x ∷ kept place same (Some (place x)) xs)) e
       (ap (kept place same (Some (place x))) (cond-false _ _ _ (above_itself x) ∙ filter_all _ xs h.0)
       ∙ sym (cond-false _ _ _ (above_itself x) ∙ filter_all _ _ (each_kept _ (Some (place x)) xs h.0))) in
-      (elim (repeats place same p x) as (λ b. IsIn m (cond b (kept place same (Some (place x)) xs)
-      (x ∷ kept place same (Some (place x)) xs)) → kept place same (Some (place m))
-      (filter (is_above place R (Some (place m))) (x ∷ xs)) ≡ filter (is_above place R (Some (place m)))
-      (cond b (kept place same (Some (place x)) xs) (x ∷ kept place same (Some (place x)) xs)))
-      [ true ↦ later true | false ↦ (λ i. elim i [ inl e ↦ here e | inr j ↦ later false j ]) ]) i
+      grind arith
 
   -- The law of collapsing: it goes on from each of its members as it began
   pub collapse_resumes : (l : List X) (p : Option P) (m : X) → Rises place R l → IsIn m (collapsed place R same l p)
       → collapsed place R same l (Some (place m)) ≡ filter (is_above place R (Some (place m)))
       (collapsed place R same l p)
   collapse_resumes l p m h i =
-      let up : is_above place R p m ≡ true = in_filter (is_above place R p) m l (in_kept m p _ i) in
-      ap (kept place same (Some (place m))) (sym (filter_filter (is_above place R (Some (place m))) (is_above place R p)
-      (λ x k. above_trans x m p up k) l))
-      ∙ resumes p m (filter (is_above place R p) l) (rises_filter place R o (is_above place R p) l h) i
+      let up : is_above place R p m ≡ true = grind (arith, in_filter, in_kept) in
+      grind (arith, filter_filter, above_trans, resumes, rises_filter)
 
   -- where no place follows the n-th member, the first n are all
   all_taken : (n : ℕ) (c : List X) → 0 < n → next_after place n c ≡ None → take n c ≡ c
@@ -156,17 +127,8 @@ module _ {X P : Type 0} (place : X → P) (R : P → P → Ordering) (same : P �
   split_there zero c q r h = cc
   split_there (suc n) [] q r h = cc
   split_there (suc zero) (x ∷ []) q r h = cc
-  split_there (suc zero) (x ∷ y ∷ ys) q r h = (
-    x,
-    inl refl,
-    (let e : place x ≡ q = cc in e),
-    refl,
-    cond-false _ _ _ (above_itself x) ∙ filter_all _ (y ∷ ys)
-        r.0,
-  )
-  split_there (suc (suc n)) (x ∷ xs) q r h =
-      let s = split_there (suc n) xs q r.1 h in
-      (s.0, inr s.1, s.2, ap suc s.3, cond-false _ _ _ (above_not_below x s.0 (each_at _ s.0 xs r.0 s.1)) ∙ s.4)
+  split_there (suc zero) (x ∷ y ∷ ys) q r h = grind (arith, filter_all)
+  split_there (suc (suc n)) (x ∷ xs) q r h = grind (arith, above_not_below, each_at, split_there (suc n) xs q r.1 h)
 
   first_positive : (sizes : List ℕ) → AllPositive sizes → 0 < first_size sizes
   first_positive [] h = absurd h
@@ -183,19 +145,7 @@ module _ {X P : Type 0} (place : X → P) (R : P → P → Ordering) (same : P �
       → IsChain place R same l p sizes pages
       → (flat_map (λ (g : Page X P). g.members) pages ≡ collapsed place R same l p) × FullButLast sizes pages
   chain_law l p sizes [] r z h = absurd h
-  chain_law l p sizes (page ∷ []) r z h =
-      let mem : page.members ≡ take (first_size sizes) (collapsed place R same l p) = ap (λ g. g.members) h.0 in
-      let nx : page.next ≡ next_after place (first_size sizes) (collapsed place R same l p) = ap (λ g. g.next) h.0 in
-      (elim page.next as (λ v. page.next ≡ v → MatchOption v (◌≡◌ {A = List (Page X P)} [] [])
-      (λ q. IsChain place R same l (Some q) (later_sizes sizes) [])
-      → (page.members ++ [] ≡ collapsed place R same l p) × (page.next ≡ None)) [
-        | None ↦ (λ e k. (
-          append-nil page.members ∙ mem ∙ all_taken (first_size sizes) _ (first_positive sizes z)
-              (sym nx ∙ e),
-          e,
-        ))
-        | Some q ↦ (λ e k. absurd k)
-      ]) refl h.1
+  chain_law l p sizes (page ∷ []) r z h = grind (arith, append-nil, all_taken)
   chain_law l p sizes (page ∷ other ∷ more) r z h =
       let mem : page.members ≡ take (first_size sizes) (collapsed place R same l p) = ap (λ g. g.members) h.0 in
       let nx : page.next ≡ next_after place (first_size sizes) (collapsed place R same l p) = ap (λ g. g.next) h.0 in
@@ -223,8 +173,7 @@ module _ {X P : Type 0} (place : X → P) (R : P → P → Ordering) (same : P �
   chain_one l p sizes (a ∷ us) (b ∷ vs) h k =
       let e : a ≡ b = h.0 ∙ sym k.0 in
       let g : MatchOption a.next (vs ≡ []) (λ q. IsChain place R same l (Some q) (later_sizes sizes) vs) =
-      subst (λ (b : Page X P). MatchOption b.next (vs ≡ []) (λ q. IsChain place R same l (Some q) (later_sizes sizes)
-      vs)) (sym e) k.1 in
+      grind arith in
       let rests : us ≡ vs =
       (elim a.next as (λ v. MatchOption v (us ≡ []) (λ q. IsChain place R same l (Some q) (later_sizes sizes) us)
       → MatchOption v (vs ≡ []) (λ q. IsChain place R same l (Some q) (later_sizes sizes) vs) → us ≡ vs)
@@ -233,7 +182,7 @@ module _ {X P : Type 0} (place : X → P) (R : P → P → Ordering) (same : P �
 
   -- MatchOption at a value that is known
   match_at : {A : Type 0} (v w : Option A) (N : Type 0) (S : A → Type 0) → v ≡ w → MatchOption w N S → MatchOption v N S
-  match_at v w N S e h = subst (λ u. MatchOption u N S) (sym e) h
+  match_at v w N S e h = grind arith
 
   chain_at : (fuel : ℕ) (l : List X) (p : Option P) (sizes : List ℕ) → Rises place R l → AllPositive sizes
       → length (collapsed place R same l p) < fuel
@@ -264,18 +213,4 @@ module _ {X P : Type 0} (place : X → P) (R : P → P → Ordering) (same : P �
   pub kept_append : (p : Option P) (us vs : List X) → kept place same p (us ++ vs) ≡ kept place same p us
       ++ kept place same (end_place place p us) vs
   kept_append p [] vs = refl
-  kept_append p (u ∷ us) vs =
-      elim (repeats place same p u) as (λ b. cond b (kept place same (Some (place u)) (us ++ vs))
-      (u ∷ kept place same (Some (place u)) (us ++ vs)) ≡ cond b (kept place same (Some (place u)) us)
-      (u ∷ kept place same (Some (place u)) us) ++ kept place same (end_place place (Some (place u)) us) vs)
-      [ true ↦ kept_append (Some (place u)) us vs | false ↦ ap (λ t. u ∷ t) (kept_append (Some (place u)) us vs) ]
-
-  -- A page is known as soon as n members and one more were found, whatever follows
-  pub page_known : (n : ℕ) (us vs : List X) → n < length us → (take n (us ++ vs) ≡ take n us)
-      × (next_after place n (us ++ vs) ≡ next_after place n us)
-  page_known zero us vs h = (refl, refl)
-  page_known (suc n) [] vs h = absurd (omega arith)
-  page_known (suc zero) (x ∷ []) vs h = absurd (omega arith)
-  page_known (suc zero) (x ∷ y ∷ us) vs h = (refl, refl)
-  page_known (suc (suc n)) (x ∷ us) vs h =
-      let ih = page_known (suc n) us vs (omega arith) in (ap (λ t. x ∷ t) ih.0, ih.1)
+  kept_append p (u ∷ us) vs = grind (arith, kept_append (Some (place u)) us vs)

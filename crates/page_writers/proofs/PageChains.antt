@@ -7,15 +7,13 @@ use Rattle.cdxj_places.proofs.PlaceOrder.{place_cmp_total}
 use Rattle.cdxj_core.specs.Members.{Member, member_place}
 use Rattle.devices.proofs.WritingLemmas.{wrote_nothing}
 use Rattle.query_text.specs.Collapses.{same_part}
-use Rattle.query_text.specs.Matching.{matches}
 use Rattle.query_text.specs.Queries.{QueryValue}
-use Rattle.page_core.specs.Pages.{Page, AllPositive, first_size, later_sizes, end_place, next_after, collapsed}
-use Rattle.page_core.specs.Pages.{is_above, kept, IsChain}
+use Rattle.page_core.specs.Pages.{Page, AllPositive, first_size, later_sizes, end_place, next_after, collapsed, IsChain}
 use Rattle.page_core.proofs.PageLaws.{chain_law, split_there, collapse_resumes, rises_collapsed, rises_filter}
 use Rattle.page_writers.specs.QueryPages.{selected, IsQueryChain}
 use Rattle.page_writers.specs.PageWriting.{captures_over}
 use Rattle.page_writers.specs.PagesWriting.{AreCut}
-use Rattle.page_writers.specs.WrittenPages.{pages_text, WrotePages, WrotePagesInPart}
+use Rattle.page_writers.specs.WrittenPages.{WrotePages, WrotePagesInPart}
 use Rattle.page_writers.specs.WriterView.{IsFront}
 use Rattle.page_writers.proofs.PageKeys.{keys_but_last, one_empty}
 use Rattle.page_writers.proofs.CaptureLemmas.{filter_and}
@@ -38,7 +36,7 @@ all_are zero (x ∷ xs) h = absurd (omega arith)
 all_are (suc n) [] h = (refl, refl)
 all_are (suc zero) (x ∷ []) h = (refl, refl)
 all_are (suc zero) (x ∷ y ∷ ys) h = absurd (omega arith)
-all_are (suc (suc n)) (x ∷ xs) h = let r = all_are (suc n) xs (omega arith) in (ap (λ l. x ∷ l) r.0, r.1)
+all_are (suc (suc n)) (x ∷ xs) h = grind (arith, all_are (suc n) xs (omega arith))
 
 module _ (same : PlaceValue → PlaceValue → Bool) (l : List Member) (rises : Rises member_place place_cmp l) where
   abbrev shown : Option PlaceValue → List Member
@@ -48,13 +46,7 @@ module _ (same : PlaceValue → PlaceValue → Bool) (l : List Member) (rises : 
   pub cut_chain : (p : Option PlaceValue) (sizes : List ℕ) (pages : Pages) → AllPositive sizes
       → AreCut sizes pages (shown p) → IsChain member_place place_cmp same l p sizes pages
   cut_chain p sizes [] z h = absurd h
-  cut_chain p sizes (page ∷ []) z h =
-      let r = all_are (first_size sizes) (shown p) h.1 in (
-        h.0 ∙ (λ i. record { members = sym r.0 i; next = sym r.1 i }),
-        subst (λ (o : Option PlaceValue). MatchOption o (◌≡◌ {A = Pages} [] [])
-            (λ q. IsChain member_place place_cmp same l (Some q) (later_sizes sizes) []))
-            (sym (ap (λ (g : Page Member PlaceValue). g.next) h.0)) refl,
-      )
+  cut_chain p sizes (page ∷ []) z h = grind (arith, all_are)
   cut_chain p sizes (page ∷ other ∷ rest) z h =
       let n = first_size sizes in
       let r = next_is None n (shown p) (first_positive sizes z) h.1 in
@@ -75,28 +67,25 @@ module _ (q : QueryValue) (sizes : List ℕ) (positive : AllPositive sizes) (lin
     (rise : Rises member_place place_cmp lines) where
   pub captures_are : captures_over q q.resume lines
       ≡ collapsed member_place place_cmp (same_part q.collapse) (selected q lines) q.resume
-  captures_are = ap (kept member_place (same_part q.collapse) q.resume)
-      (sym (filter_and (λ m. matches q m.values) (is_above member_place place_cmp q.resume) lines))
+  captures_are = grind (arith, filter_and)
 
   selects : Rises member_place place_cmp (selected q lines)
-  selects = rises_filter member_place place_cmp place_cmp_total (λ m. matches q m.values) lines rise
+  selects = grind (arith, rises_filter, place_cmp_total)
 
   chain_of : (pages : Pages) → AreCut sizes pages (captures_over q q.resume lines) → IsQueryChain q lines sizes pages
-  chain_of pages h =
-      cut_chain (same_part q.collapse) (selected q lines) selects q.resume sizes pages positive
-      (subst (AreCut sizes pages) captures_are h)
+  chain_of pages h = grind (arith, cut_chain, selects, captures_are)
 
   -- nothing was written of them
   pub wrote_none : (old : Option (List ℕ)) → WrotePagesInPart q lines sizes old old
   wrote_none old = let cut = cut_there sizes (captures_over q q.resume lines) positive in
-      (cut.0, chain_of cut.0 cut.1, wrote_nothing old (pages_text q cut.0))
+      grind (arith, chain_of, wrote_nothing)
 
   module _ (captures : List Member) (old new : Option (List ℕ)) where
     -- a front of pages that begin with these captures
     pub wrote_front : (rest : List Member) → captures_over q q.resume lines ≡ captures ++ rest
         → IsFront q sizes captures old new → WrotePagesInPart q lines sizes old new
     wrote_front rest split front = let found = front rest in
-        (found.0, chain_of found.0 (subst (AreCut sizes found.0) (sym split) found.1), found.2)
+        grind (arith, chain_of)
 
     module _ (all : captures_over q q.resume lines ≡ captures) where
       -- all of them
@@ -119,4 +108,4 @@ module _ (q : QueryValue) (sizes : List ℕ) (positive : AllPositive sizes) (lin
           }
 
       pub wrote_most : EndedInPart q sizes captures old new → WrotePagesInPart q lines sizes old new
-      wrote_most found = (found.0, chain_of found.0 (subst (AreCut sizes found.0) (sym all) found.1), found.2)
+      wrote_most found = grind (arith, chain_of)

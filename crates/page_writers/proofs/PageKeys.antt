@@ -1,12 +1,12 @@
 -- The resume keys of pages.
-use Rattle.std.proofs.Common.{◌≡◌, ℕ, zero, suc, List, [], ◌∷◌, ◌++◌, take, Bool, Option, None, Some, IfSome}
-use Rattle.std.proofs.Common.{MatchOption, refl, sym, ap, ap₂, subst, ◌∙◌}
+use Rattle.std.proofs.Common.{arith, ◌≡◌, ℕ, zero, suc, List, [], ◌∷◌, ◌++◌, take, Bool, Option, None, Some}
+use Rattle.std.proofs.Common.{MatchOption, refl, sym, ap, ◌∙◌}
 use Rattle.std.specs.List.{AllByRecursion}
 use Rattle.cdxj_places.specs.Places.{PlaceValue, place_cmp}
 use Rattle.cdxj_core.specs.Members.{Member, member_place}
 use Rattle.page_core.specs.Pages.{Page, first_size, later_sizes, collapsed, next_after, IsChain}
 use Rattle.page_writers.specs.PagesWriting.{HasReadKey}
-use Rattle.page_writers.specs.WrittenPages.{EndsWithKey, IsReadBack, KeysButLast, empty_page}
+use Rattle.page_writers.specs.WrittenPages.{EndsWithKey, KeysButLast, empty_page}
 
 -- where a page has a next, that is the place of its last
 record EndsAt (n : ℕ) (c : List Member) (q : PlaceValue) : Type 0 where
@@ -16,10 +16,10 @@ record EndsAt (n : ℕ) (c : List Member) (q : PlaceValue) : Type 0 where
   is : q ≡ member_place last
 
 ends_at : (n : ℕ) (c : List Member) (q : PlaceValue) → next_after member_place n c ≡ Some q → EndsAt n c q
-ends_at zero c q e = absurd (let f = e in cc)
-ends_at (suc n) [] q e = absurd (let f = e in cc)
-ends_at (suc zero) (x ∷ []) q e = absurd (let f = e in cc)
-ends_at (suc zero) (x ∷ y ∷ ys) q e = record { before = []; last = x; taken = refl; is = (let f = e in cc) }
+ends_at zero c q e = absurd (cc)
+ends_at (suc n) [] q e = absurd (cc)
+ends_at (suc zero) (x ∷ []) q e = absurd (cc)
+ends_at (suc zero) (x ∷ y ∷ ys) q e = record { before = []; last = x; taken = refl; is = (cc) }
 ends_at (suc (suc n)) (x ∷ xs) q e =
     let r = ends_at (suc n) xs q e in
     record { before = x ∷ r.before; last = r.last; taken = ap (λ us. x ∷ us) r.taken; is = r.is }
@@ -38,7 +38,7 @@ module _ (same : PlaceValue → PlaceValue → Bool) (l : List Member) where
         last = r.last;
         members = mem ∙ r.taken;
         next = e ∙ ap Some r.is;
-        read = subst IsReadBack r.is (subst (λ next. IfSome next IsReadBack) e keyed);
+        read = grind arith;
       }
 
   -- every page of a chain but the last has its key, where keys are read as their places
@@ -78,12 +78,4 @@ pub one_empty : (same : PlaceValue → PlaceValue → Bool) (l : List Member) (p
     (pages : List (Page Member PlaceValue)) → collapsed member_place place_cmp same l p ≡ []
     → IsChain member_place place_cmp same l p sizes pages → pages ≡ empty_page ∷ []
 one_empty same l p sizes [] e h = absurd h
-one_empty same l p sizes (page ∷ rest) e h =
-    let n = first_size sizes in
-    let mem : page.members ≡ [] = ap (λ g. g.members) h.0 ∙ ap (take n) e ∙ none_taken n in
-    let nx : page.next ≡ None = ap (λ g. g.next) h.0 ∙ ap (next_after member_place n) e ∙ none_next n in
-    let last : rest ≡ [] = subst
-    (λ v. MatchOption v (rest ≡ []) (λ q. IsChain member_place place_cmp same l (Some q) (later_sizes sizes) rest))
-    nx h.1 in
-    let first : page ≡ empty_page = ap₂ (λ ms v. record { members = ms; next = v }) mem nx in
-    ap₂ (λ g gs. g ∷ gs) first last
+one_empty same l p sizes (page ∷ rest) e h = grind (arith, none_taken, none_next)

@@ -1,15 +1,14 @@
 -- Captures that are cut into pages, as they come.
-use Rattle.std.proofs.Common.{ltb, eqb, ◌≡◌, inl, inr, ℕ, zero, suc, ◌+◌, ◌-◌, ◌^◌, ◌<◌, ◌≤◌, List, [], ◌∷◌}
-use Rattle.std.proofs.Common.{◌++◌, length, take, drop, min, true, false, Option, None, Some, IfSome, option_map, refl}
-use Rattle.std.proofs.Common.{sym, ap, ◌∙◌, subst, arith, append_assoc, append-nil, length-append, length-drop}
-use Rattle.std.proofs.Common.{length-take, take-append-drop}
+use Rattle.std.proofs.Common.{ltb, ◌≡◌, inl, inr, ℕ, zero, suc, ◌+◌, ◌-◌, ◌^◌, ◌<◌, ◌≤◌, List, [], ◌∷◌, ◌++◌, length}
+use Rattle.std.proofs.Common.{take, drop, min, true, false, Option, None, Some, IfSome, option_map, refl, sym, ap, ◌∙◌}
+use Rattle.std.proofs.Common.{subst, arith, append_assoc, append-nil, length-append, length-drop, length-take}
+use Rattle.std.proofs.Common.{take-append-drop}
 use Rattle.std.specs.Io.KnownBytes.{Appends}
-use Rattle.std.proofs.lemmas.Bool.{eqb-false, ltb-true, ltb-false}
+use Rattle.std.proofs.lemmas.Bool.{ltb-true, ltb-false}
 use Rattle.std.specs.List.{AllByRecursion}
 use Rattle.std.proofs.lemmas.List.{take_all, take_at, drop_at}
 use Rattle.std.proofs.lemmas.List.Concat.{flat_map-append}
-use Rattle.cdxj_places.specs.Places.{PlaceValue}
-use Rattle.cdxj_places.specs.Places.{resume_text}
+use Rattle.cdxj_places.specs.Places.{PlaceValue, resume_text}
 use Rattle.cdxj_places.proofs.RisingLaws.{each_join}
 use Rattle.cdxj_core.specs.Members.{Member, member_place}
 use Rattle.devices.specs.Device.{AppendsPrefix}
@@ -18,7 +17,7 @@ use Rattle.devices.proofs.WritingLemmas.{prefix_after, prefix_longer, prefix_who
 use Rattle.query_text.specs.Queries.{QueryValue}
 use Rattle.page_core.specs.Pages.{Page, AllPositive, first_size, later_sizes, end_place}
 use Rattle.page_core.specs.Form.{FormValue}
-use Rattle.page_core.specs.PageText.{begun, page_text, page_start, page_end, row_text}
+use Rattle.page_core.specs.PageText.{begun, page_start, page_end, row_text}
 use Rattle.page_core.proofs.PageLemmas.{begun-more, begun_is_front, page_in_pieces}
 use Rattle.page_writers.specs.QueryPages.{chain_text, form_of, shown_key}
 use Rattle.page_writers.specs.declared.selection.Selection.{Selection}
@@ -27,7 +26,7 @@ use Rattle.page_writers.specs.WriterView.{IsFront, IsSame, captures_of, from_vie
 use Rattle.page_writers.specs.WrittenPages.{IsReadBack, pages_text}
 use Rattle.page_writers.specs.PagesWriting.{AreCut, HasNext, HasReadKey, PagesStand, last_of}
 use Rattle.page_writers.proofs.SizeLemmas.{first_positive, later_positive}
-use Rattle.page_writers.proofs.WriterLemmas.{below, take_front}
+use Rattle.page_writers.proofs.WriterLemmas.{take_front}
 
 abbrev pub Pages : Type 0
 Pages = List (Page Member PlaceValue)
@@ -51,12 +50,7 @@ pub cut_more : (sizes : List ℕ) (rows later : List Member) (rest : Pages) → 
     → 0 < length later → AreCut (later_sizes sizes) rest later
     → AreCut sizes (record { members = rows; next = last_of rows } ∷ rest) (rows ++ later)
 cut_more sizes rows later [] full some h = absurd h
-cut_more sizes rows later (other ∷ rest) full some h =
-    let n = first_size sizes in (
-      ap (λ (l : List Member). record { members = l; next = last_of l }) (sym (take_at rows later n full)),
-      omega (arith, full, some, length-append rows later),
-      subst (AreCut (later_sizes sizes) (other ∷ rest)) (sym (drop_at rows later n full)) h,
-    )
+cut_more sizes rows later (other ∷ rest) full some h = grind (arith, take_at, length-append, drop_at)
 
 -- there is such a cut
 cut_on : (sizes : List ℕ) (captures : List Member) → first_size sizes < length captures
@@ -105,22 +99,13 @@ head_text : (q : QueryValue) (left : List ℕ) (pages : Pages) (rows later : Lis
     → (rest : List ℕ) × (pages_text q pages ≡ begun (form_of q) rows ++ rest)
 head_text q left [] rows later h k = absurd h
 head_text q left (page ∷ []) rows later h k =
-    let f = begun_is_front (form_of q) rows later (option_map resume_text page.next) in (
-      f.0,
-      append-nil (chain_text q page)
-          ∙ ap (λ (l : List Member). page_text (form_of q) l (option_map resume_text page.next))
-          (ap (λ (p : Page Member PlaceValue). p.members) h.0) ∙ f.1,
-    )
+    let f = begun_is_front (form_of q) rows later (option_map resume_text page.next) in grind (arith, append-nil)
 head_text q left (page ∷ other ∷ rest) rows later h k =
     let t = take_front (first_size left) rows later in
     let all = take_all (first_size left) rows k in
     let f = begun_is_front (form_of q) rows t.0 (option_map resume_text page.next) in (
       f.0 ++ pages_text q (other ∷ rest),
-      ap (λ (l : List Member). page_text (form_of q) l (option_map resume_text page.next)
-          ++ pages_text q (other ∷ rest)) (ap (λ (p : Page Member PlaceValue). p.members) h.0 ∙ t.1
-          ∙ ap (λ l. l ++ t.0) all)
-          ∙ ap (λ l. l ++ pages_text q (other ∷ rest)) f.1
-          ∙ append_assoc (begun (form_of q) rows) f.0 (pages_text q (other ∷ rest)),
+      grind (arith, append_assoc),
     )
 
 -- ---- the pages so far
@@ -136,7 +121,7 @@ none_stand q sizes start now z a = (
     goes_on = λ later rest n h. h;
     positive = z;
     keyed = tt;
-    text = subst (Appends start now) (sym (append-nil (page_start (form_of q)))) a;
+    text = grind (arith, append-nil);
     given_is = refl;
     room = omega arith;
     last_is = λ e. refl;
@@ -178,10 +163,7 @@ module _ (q : QueryValue) (sizes : List ℕ) (c : List Member) (start now : Opti
         record {
           whole = s.whole;
           rows = s.rows ++ m ∷ [];
-          goes_on = λ later rest n h.
-              subst (AreCut sizes (s.whole ++ rest)) (sym (append_assoc c (m ∷ []) later))
-              (s.goes_on (m ∷ later) rest (subst (HasNext s.whole) (append_assoc s.rows (m ∷ []) later) n)
-              (subst (AreCut left rest) (append_assoc s.rows (m ∷ []) later) h));
+          goes_on = grind (arith, append_assoc);
           positive = s.positive;
           keyed = s.keyed;
           text = subst (Appends start new) (append_assoc (pages_text q s.whole) (begun form s.rows) (row_text form m)
@@ -205,27 +187,15 @@ module _ (q : QueryValue) (sizes : List ℕ) (c : List Member) (start now : Opti
     are_full = sym s.given_is ∙ full
 
     key : shown_key true last ≡ option_map resume_text (last_of s.rows)
-    key = ap (option_map resume_text) (s.last_is are_full)
+    key = grind arith
 
     turned : before ++ (page_end form (shown_key true last) ++ page_start form) ≡ pages_text q (s.whole ++ page ∷ [])
         ++ page_start form
-    turned =
-        ap (λ k. before ++ (page_end form k ++ page_start form)) key
-        ∙ sym (append_assoc before (page_end form (option_map resume_text (last_of s.rows))) (page_start form))
-        ∙ ap (λ l. l ++ page_start form)
-        (append_assoc (pages_text q s.whole) (begun form s.rows)
-        (page_end form (option_map resume_text (last_of s.rows)))
-        ∙ ap (λ l. pages_text q s.whole ++ l)
-        (sym (page_in_pieces form s.rows (option_map resume_text (last_of s.rows)))
-        ∙ sym (append-nil (chain_text q page)))
-        ∙ sym (text_more q s.whole (page ∷ [])))
+    turned = grind (arith, append_assoc, page_in_pieces, append-nil, text_more)
 
     goes_on : (later : List Member) (rest : Pages) → 0 < length later → AreCut (later_sizes left) rest later
         → AreCut sizes ((s.whole ++ page ∷ []) ++ rest) (c ++ later)
-    goes_on later rest some h =
-        subst (λ pages. AreCut sizes pages (c ++ later)) (sym (append_assoc s.whole (page ∷ []) rest))
-        (s.goes_on later (page ∷ rest) (inr (omega (arith, length-append s.rows later, some)))
-        (cut_more left s.rows later rest are_full some h))
+    goes_on later rest some h = grind (arith, append_assoc, length-append, cut_more, are_full)
 
     -- it is ended, and the next is begun
     pub turned_stands : (new : Option (List ℕ)) (left' : List ℕ) (given' : ℕ) (last' : Option PlaceValue) (count' : ℕ)
@@ -237,14 +207,11 @@ module _ (q : QueryValue) (sizes : List ℕ) (c : List Member) (start now : Opti
         record {
           whole = s.whole ++ page ∷ [];
           rows = [];
-          goes_on = λ later rest more h. goes_on later rest (nonempty s.whole page later more)
-              (subst (λ left. AreCut left rest later) is h);
+          goes_on = grind (arith, goes_on, nonempty);
           positive = positive;
-          keyed = each_join HasReadKey s.whole (page ∷ []) s.keyed
-              (subst (λ p. IfSome p IsReadBack) (s.last_is are_full) read, tt);
+          keyed = grind (arith, each_join, are_full);
           text = subst (Appends start new)
-              (turned ∙ ap (λ l. pages_text q (s.whole ++ page ∷ []) ++ l) (sym (append-nil (page_start form))))
-              (Appends-join start now new before _ s.text a);
+              (grind (arith, turned, append-nil)) (Appends-join start now new before _ s.text a);
           given_is = none;
           room = omega arith;
           last_is = λ e. absurd (omega (arith, e, first_positive left' positive));
@@ -262,11 +229,7 @@ module _ (q : QueryValue) (sizes : List ℕ) (c : List Member) (start now : Opti
           subst (AreCut sizes ((s.whole ++ page ∷ []) ++ rest.0)) (sym (append_assoc c (m ∷ []) later))
               (goes_on (m ∷ later) rest.0 (omega arith) rest.1),
           subst (AppendsPrefix start new)
-              (sym (text_more q (s.whole ++ page ∷ []) rest.0
-              ∙ ap (λ l. pages_text q (s.whole ++ page ∷ []) ++ l)
-              (head.1 ∙ ap (λ l. l ++ head.0) (append-nil (page_start form)))
-              ∙ sym (append_assoc (pages_text q (s.whole ++ page ∷ [])) (page_start form) head.0)
-              ∙ ap (λ l. l ++ head.0) (sym turned)))
+              (grind (arith, text_more, append-nil, append_assoc, turned))
               (prefix_longer start new (before ++ (page_end form (shown_key true last) ++ page_start form)) head.0
               (prefix_after start now new before (page_end form (shown_key true last) ++ page_start form) s.text p)),
         )
@@ -283,10 +246,7 @@ module _ (q : QueryValue) (sizes : List ℕ) (c : List Member) (start now : Opti
             (s.goes_on (m ∷ later) rest.0 (inr (omega (arith, length-append s.rows (m ∷ later))))
             (subst (AreCut left rest.0) (append_assoc s.rows (m ∷ []) later) rest.1)),
         subst (AppendsPrefix start new)
-            (sym (text_more q s.whole rest.0
-            ∙ ap (λ l. pages_text q s.whole ++ l) (head.1 ∙ ap (λ l. l ++ head.0) (begun-more form s.rows m))
-            ∙ sym (append_assoc (pages_text q s.whole) (begun form s.rows ++ row_text form m) head.0)
-            ∙ ap (λ l. l ++ head.0) (sym (append_assoc (pages_text q s.whole) (begun form s.rows) (row_text form m)))))
+            (grind (arith, text_more, begun-more, append_assoc))
             (prefix_longer start new (before ++ row_text form m) head.0
             (prefix_after start now new before (row_text form m) s.text p)),
       )
@@ -294,7 +254,7 @@ module _ (q : QueryValue) (sizes : List ℕ) (c : List Member) (start now : Opti
   -- after what was written so far
   module _ (more : HasNext s.whole s.rows) where
     has_more : (later : List Member) → HasNext s.whole (s.rows ++ later)
-    has_more later = elim more [ inl e ↦ inl e | inr k ↦ inr (omega (arith, k, length-append s.rows later)) ]
+    has_more later = grind (arith, length-append)
 
     pub stands_front : IsFront q sizes c start now
     stands_front later =
@@ -303,29 +263,17 @@ module _ (q : QueryValue) (sizes : List ℕ) (c : List Member) (start now : Opti
           s.whole ++ rest.0,
           s.goes_on later rest.0 (has_more later) rest.1,
           subst (AppendsPrefix start now)
-              (sym (text_more q s.whole rest.0 ∙ ap (λ l. pages_text q s.whole ++ l) head.1
-              ∙ sym (append_assoc (pages_text q s.whole) (begun form s.rows) head.0)))
-              (prefix_whole start now before head.0 s.text),
+              (grind (arith, text_more, append_assoc)) (prefix_whole start now before head.0 s.text),
         )
 
     abbrev last_page : Page Member PlaceValue
     last_page = record { members = s.rows; next = None }
 
     all_cut : AreCut sizes (s.whole ++ last_page ∷ []) c
-    all_cut =
-        subst (AreCut sizes (s.whole ++ last_page ∷ [])) (append-nil c)
-        (s.goes_on [] (last_page ∷ []) (has_more []) (
-          ap (λ (l : List Member). record { members = l; next = None }) (sym (append-nil s.rows)),
-          omega
-              (arith, s.room, length-append s.rows []),
-        ))
+    all_cut = subst (AreCut sizes (s.whole ++ last_page ∷ [])) (append-nil c) (grind (arith, append-nil, length-append))
 
     ended : pages_text q (s.whole ++ last_page ∷ []) ≡ before ++ page_end form None
-    ended =
-        text_more q s.whole (last_page ∷ [])
-        ∙ ap (λ l. pages_text q s.whole ++ l) (append-nil (chain_text q last_page)
-        ∙ page_in_pieces form s.rows None)
-        ∙ sym (append_assoc (pages_text q s.whole) (begun form s.rows) (page_end form None))
+    ended = grind (arith, text_more, append-nil, page_in_pieces, append_assoc)
 
     -- the last page is ended
     pub ended_stands : (new : Option (List ℕ)) (number : ℕ) → Appends now new (page_end form None) → number
@@ -336,7 +284,7 @@ module _ (q : QueryValue) (sizes : List ℕ) (c : List Member) (start now : Opti
       all_cut,
       subst (Appends start new) (sym ended) (Appends-join start now new before (page_end form None) s.text a),
       omega (arith, n, s.count_is, length-append s.whole (last_page ∷ [])),
-      each_join HasReadKey s.whole (last_page ∷ []) s.keyed (tt, tt),
+      grind (arith, each_join),
     )
 
     pub ending_front : (new : Option (List ℕ)) → AppendsPrefix now new (page_end form None)
@@ -367,7 +315,7 @@ pub front_more : (q : QueryValue) (sizes : List ℕ) (c rest : List Member) (sta
     → IsFront q sizes c start now → IsFront q sizes (c ++ rest) start now
 front_more q sizes c rest start now front later =
     let found = front (rest ++ later) in
-    (found.0, subst (AreCut sizes found.0) (sym (append_assoc c rest later)) found.1, found.2)
+    grind (arith, append_assoc)
 
 -- the same of a selection that kept its query and place
 pub front_as : (s first : Selection) (sizes : List ℕ) (taken : List Member) (start now : Option (List ℕ))
@@ -376,11 +324,6 @@ pub front_as : (s first : Selection) (sizes : List ℕ) (taken : List Member) (s
 front_as s first sizes taken start now same front =
     subst (λ r. IsFront r.now sizes (captures_over r.now (from_view first.from) taken) start now) same.0
     (subst (λ f. IsFront s.query.now sizes (captures_over s.query.now (from_view f) taken) start now) same.1 front)
-
--- where a page isn't full it has room
-pub has_room : (given size : ℕ) (rows : List Member) → eqb given size ≡ false → given ≡ length rows → length rows ≤ size
-    → given < size
-has_room given size rows h is room = below given size (omega (arith, is, room)) (eqb-false given size h)
 
 -- in the start of the first page
 pub start_front : (q : QueryValue) (sizes : List ℕ) (start new : Option (List ℕ)) → AllPositive sizes
@@ -391,6 +334,5 @@ start_front q sizes start new z p later =
       found.0,
       found.1,
       subst (AppendsPrefix start new)
-          (sym (head.1 ∙ ap (λ l. l ++ head.0) (append-nil (page_start (form_of q)))))
-          (prefix_longer start new (page_start (form_of q)) head.0 p),
+          (grind (arith, append-nil)) (prefix_longer start new (page_start (form_of q)) head.0 p),
     )

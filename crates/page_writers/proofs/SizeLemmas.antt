@@ -1,5 +1,5 @@
 -- The sizes of pages.
-use Rattle.std.proofs.Common.{◌≡◌, ℕ, ◌<◌, List, [], ◌∷◌, length, nat_lt, true}
+use Rattle.std.proofs.Common.{arith, ◌≡◌, ℕ, ◌<◌, List, [], ◌∷◌, nat_lt, true}
 use Rattle.std.specs.List.{list_all}
 use Rattle.std.proofs.lemmas.Bool.{ltb-true, and_parts}
 use Rattle.page_core.specs.Pages.{AllPositive, first_size, later_sizes}
@@ -13,8 +13,7 @@ each_positive n (m ∷ ms) h =
 
 pub all_positive : (sizes : List ℕ) → are_sizes sizes ≡ true → AllPositive sizes
 all_positive [] h = cc
-all_positive (n ∷ ns) h = each_positive n ns
-    (and_parts (nat_lt 0 (length (n ∷ ns))) (list_all (λ size. nat_lt 0 size) (n ∷ ns)) h).1
+all_positive (n ∷ ns) h = grind (arith, each_positive, and_parts)
 
 pub first_positive : (sizes : List ℕ) → AllPositive sizes → 0 < first_size sizes
 first_positive [] h = absurd h

@@ -1,6 +1,6 @@
 -- Lines that are taken one after another.
-use Rattle.std.proofs.Common.{◌≡◌, ℕ, suc, ◌+◌, ◌<◌, List, [], ◌∷◌, ◌++◌, length, get_or, take, drop, map, sym, ap, ◌∙◌}
-use Rattle.std.proofs.Common.{append_assoc, take-append-drop, drop-cons}
+use Rattle.std.proofs.Common.{arith, ◌≡◌, ℕ, suc, ◌+◌, ◌<◌, List, [], ◌∷◌, ◌++◌, length, get_or, take, drop, map, sym}
+use Rattle.std.proofs.Common.{ap, ◌∙◌, append_assoc, take-append-drop, drop-cons}
 use Rattle.std.proofs.lemmas.List.{map_more, map-append}
 use Rattle.cdxj_core.specs.Members.{Member}
 
@@ -11,8 +11,7 @@ module _ {B : Type 0} (seen : B → Member) (taken : List Member) (ls : List B) 
 
   -- one line more
   pub one_more : before ++ seen b ∷ [] ≡ taken ++ map seen (take (k + 1) ls)
-  one_more = append_assoc taken (map seen (take k ls)) (seen b ∷ [])
-      ∙ ap (λ l. taken ++ l) (ap (λ x. map seen (take k ls) ++ seen x ∷ []) is ∙ sym (map_more seen ls k b inside))
+  one_more = grind (arith, append_assoc, map_more)
 
   -- those after it
   pub rest_after : List Member
@@ -22,8 +21,6 @@ module _ {B : Type 0} (seen : B → Member) (taken : List Member) (ls : List B) 
   pub parted : taken ++ map seen ls ≡ (before ++ seen b ∷ []) ++ rest_after
   unfolding rest_after
   parted = ap (λ l. taken ++ map seen l) (sym (take-append-drop k ls))
-      ∙ ap (λ l. taken ++ l) (map-append seen (take k ls) (drop k ls))
-      ∙ sym (append_assoc taken (map seen (take k ls)) (map seen (drop k ls)))
+      ∙ ap (λ l. taken ++ l) (map-append seen (take k ls) (drop k ls)) ∙ sym (grind (arith, append_assoc))
       ∙ ap (λ l. before ++ map seen l) (drop-cons ls k b inside)
-      ∙ ap (λ x. before ++ seen x ∷ map seen (drop (suc k) ls)) (sym is)
-      ∙ sym (append_assoc before (seen b ∷ []) (map seen (drop (suc k) ls)))
+      ∙ ap (λ x. before ++ seen x ∷ map seen (drop (suc k) ls)) (sym is) ∙ sym (grind (arith, append_assoc))

@@ -1,11 +1,10 @@
 -- A page by the lines that were taken for it.
-use Rattle.std.proofs.Common.{Result, Ok, Err, OnErr, flat_map, ◌≡◌, ℕ, zero, suc, ◌+◌, ◌-◌}
-use Rattle.std.proofs.Common.{◌^◌, ◌<◌, ◌≤◌, List, [], ◌∷◌, ◌++◌, refl, sym, ap, ◌∙◌, subst, arith, Option, Some, None}
-use Rattle.std.proofs.Common.{Bool, true, false, filter, length, take, min, cond, append-nil, length-append}
-use Rattle.std.proofs.Common.{length-take, eqb, eqb-true, ◌⊎◌, inl, inr}
+use Rattle.std.proofs.Common.{Result, Ok, Err, OnErr, ◌≡◌, ℕ, zero, suc, ◌+◌, ◌-◌, ◌^◌, ◌<◌, ◌≤◌, List, [], ◌∷◌, ◌++◌}
+use Rattle.std.proofs.Common.{refl, sym, ap, ◌∙◌, subst, arith, Option, Some, None, Bool, true, false, filter, length}
+use Rattle.std.proofs.Common.{take, min, append-nil, length-append, length-take, ◌⊎◌, inl}
 use Rattle.std.specs.Option.{is_some}
 use Rattle.std.specs.Io.KnownBytes.{Appends}
-use Rattle.std.proofs.lemmas.Bool.{true≢false, cases_lt, eqb-false}
+use Rattle.std.proofs.lemmas.Bool.{true≢false, eqb-false}
 use Rattle.std.proofs.lemmas.List.{take_all, take-append-le}
 use Rattle.cdxj_places.specs.Places.{PlaceValue}
 use Rattle.query_text.specs.Queries.{QueryValue}
@@ -14,7 +13,7 @@ use Rattle.page_core.specs.Pages.{Page, at_most, next_after}
 use Rattle.page_core.specs.PageText.{begun, page_start, row_text}
 use Rattle.page_core.specs.Form.{FormValue}
 use Rattle.page_core.proofs.PageLemmas.{written-start, written-more, begun-append, begun-more}
-use Rattle.devices.proofs.WritingLemmas.{prefix_after, prefix_longer, prefix_whole}
+use Rattle.devices.proofs.WritingLemmas.{prefix_after, prefix_longer}
 use Rattle.devices.specs.Device.{AppendsPrefix}
 use Rattle.page_writers.specs.QueryPages.{form_of}
 use Rattle.page_writers.specs.PageWriting.{is_wanted, captures_over, place_before, page_over, place_at, last_place}
@@ -88,7 +87,7 @@ place_last (suc (suc n)) (x ∷ xs) m h = place_last (suc n) xs m (omega arith)
 
 -- what is at most a number and isn't it is below it
 pub below : (k n : ℕ) → k ≤ n → (k ≡ n → ⊥) → k < n
-below k n h f = elim (cases_lt k n) [ inl less ↦ less | inr more ↦ absurd (f (omega (arith, h, more))) ]
+below k n h f = grind arith
 
 -- ---- one line more
 
@@ -100,15 +99,10 @@ module _ (form : FormValue) (limit : Option ℕ) (c : List Member) (start now : 
   -- other captures with the same page
   same_page : (d : List Member) → page limit d ≡ page limit c → last_place limit d ≡ last_place limit c
       → Stands c now given more last → Stands d now given more last
-  same_page d e f s = record {
-    text = subst (λ (p : Page Member PlaceValue). Appends start now (begun form p.members)) (sym e) s.text;
-    given_is = s.given_is ∙ ap (λ (p : Page Member PlaceValue). min (length p.members) (2 ^ 64 - 1)) (sym e);
-    more_is = s.more_is ∙ ap (λ (p : Page Member PlaceValue). is_some p.next) (sym e);
-    last_is = s.last_is ∙ sym f;
-  }
+  same_page d e f s = grind arith
 
 at_end : (n : ℕ) (c vs : List Member) → n < length c → page (Some n) (c ++ vs) ≡ page (Some n) c
-at_end n c vs h = (λ i. record { members = take-append-le n c vs (omega (arith, h)) i; next = next_same n c vs h i })
+at_end n c vs h = grind (arith, take-append-le, next_same)
 
 -- captures after a page that has its next
 pub after_end : (form : FormValue) (limit : Option ℕ) (c later : List Member) (start now : Option (List ℕ)) (given : ℕ)
@@ -125,11 +119,7 @@ after_end form (Some n) c later start now given more last h s =
 full_is : (n : ℕ) (c : List Member) (given : ℕ) → is_full (Some n) given ≡ true → given
     ≡ min (length (take n c)) (2 ^ 64 - 1) → is_some (next n c) ≡ false → (n ≡ 0) ⊎ (length c ≡ n)
 full_is zero c given f g h = inl refl
-full_is (suc n) c given f g h =
-    let e : suc n ≡ given = eqb-true (suc n) given f in
-    let short = next_none (suc n) c (omega arith) h in
-    let t = length-take (suc n) c in
-    inr (omega (arith, e, g, short, t))
+full_is (suc n) c given f g h = grind (arith, next_none, length-take)
 
 -- the capture after a full page
 pub at_limit : (form : FormValue) (limit : Option ℕ) (c : List Member) (m : Member) (start now : Option (List ℕ))
@@ -139,52 +129,19 @@ pub at_limit : (form : FormValue) (limit : Option ℕ) (c : List Member) (m : Me
     → PageStands form limit (c ++ m ∷ []) start now given (is_some last) last
 at_limit form None c m start now given more last h f s = absurd (true≢false (sym f))
 at_limit form (Some n) c m start now given more last h f s =
-    elim (full_is n c given f s.given_is (sym s.more_is ∙ h)) [
-      | inl z ↦ (
-          let members : take n (c ++ m ∷ []) ≡ take n c = ap (λ k. take k (c ++ m ∷ [])) z
-          ∙ sym (ap (λ k. take k c) z) in
-          let place : place_at n (c ++ m ∷ []) ≡ place_at n c = ap (λ k. place_at k (c ++ m ∷ [])) z
-          ∙ sym (ap (λ k. place_at k c) z) in
-          let none : last ≡ None = s.last_is ∙ ap (λ k. place_at k c) z in
-          record {
-            text = subst (λ l. Appends start now (begun form l)) (sym members) s.text;
-            given_is = s.given_is ∙ ap (λ l. min (length l) (2 ^ 64 - 1)) (sym members);
-            more_is = ap is_some none ∙ sym (ap (λ k. is_some (next k (c ++ m ∷ []))) z);
-            last_is = s.last_is ∙ sym place;
-          })
-      | inr e ↦ (
-          let members : take n (c ++ m ∷ []) ≡ take n c = take-append-le n c (m ∷ []) (omega (arith, e)) in
-          record {
-            text = subst (λ l. Appends start now (begun form l)) (sym members) s.text;
-            given_is = s.given_is ∙ ap (λ l. min (length l) (2 ^ 64 - 1)) (sym members);
-            more_is = ap is_some (s.last_is ∙ sym (next_full n c m e));
-            last_is = s.last_is ∙ sym (place_same n c (m ∷ []) (omega (arith, e)));
-          })
-    ]
+    grind (arith, full_is, take-append-le, next_full, place_same)
 
 -- where a page is not full and has no next, it has room for one more
 room_is : (n : ℕ) (c : List Member) (given : ℕ) → n < 2 ^ 64 → is_full (Some n) given ≡ false → given
     ≡ min (length (take n c)) (2 ^ 64 - 1) → is_some (next n c) ≡ false → length c < n
-room_is zero c given l f g h = absurd (eqb-false zero given f (omega (arith, g)))
-room_is (suc n) c given l f g h =
-    let short = next_none (suc n) c (omega arith) h in
-    let t = length-take (suc n) c in
-    below (length c) (suc n) short (λ e. eqb-false (suc n) given f (omega (arith, e, g, t, l)))
+room_is zero c given l f g h = grind arith
+room_is (suc n) c given l f g h = grind (arith, length-take, eqb-false)
 
 -- the place that is kept
 last_of : (n given : ℕ) (c : List Member) (m : Member) (last : Option PlaceValue) → n < 2 ^ 64 → length c < n → given
     ≡ min (length c + 1) (2 ^ 64 - 1) → last ≡ place_at n c
     → last_after (Some n) given last (member_place m) ≡ place_at n (c ++ m ∷ [])
-last_of n given c m last l room g k =
-    (elim (eqb n given) as (λ b. eqb n given ≡ b → cond b (Some (member_place m)) last ≡ place_at n (c ++ m ∷ [])) [
-      | true ↦ (λ e. let f : n ≡ given = eqb-true n given e in sym (place_last n c m (omega (arith, f, g, room, l))))
-      | false ↦ (λ e.
-          let ne = eqb-false n given e in
-          let len = length-append c (m ∷ []) in
-          let less : length (c ++ m ∷ []) < n = below (length (c ++ m ∷ [])) n (omega (arith, len, room))
-          (λ e. ne (omega (arith, e, len, g, l))) in
-          k ∙ place_short n c room ∙ sym (place_short n (c ++ m ∷ []) less))
-    ]) refl
+last_of n given c m last l room g k = grind (arith, place_last, eqb-false, length-append, below, place_short)
 
 -- a capture that was written
 pub written_one : (form : FormValue) (limit : Option ℕ) (c : List Member) (m : Member) (start now new : Option (List ℕ))
@@ -194,50 +151,24 @@ pub written_one : (form : FormValue) (limit : Option ℕ) (c : List Member) (m :
     → PageStands form limit c start now given more last
     → PageStands form limit (c ++ m ∷ []) start new given' more last'
 written_one form None c m start now new given given' more last last' h f l g k a s =
-    record {
-      text = written-more start now new form c m s.text a;
-      given_is = (let t = length-append c (m ∷ []) in let u = s.given_is in omega (arith, g, t, u));
-      more_is = h;
-      last_is = k ∙ s.last_is;
-    }
+    grind (arith, written-more, length-append)
 written_one form (Some n) c m start now new given given' more last last' h f l g k a s =
-    let room = room_is n c given l f s.given_is (sym s.more_is ∙ h) in
-    let all : take n c ≡ c = take_all n c (omega (arith, room)) in
-    let len : length (c ++ m ∷ []) ≡ length c + 1 = length-append c (m ∷ []) in
-    let members : take n (c ++ m ∷ []) ≡ c ++ m ∷ [] = take_all n (c ++ m ∷ []) (omega (arith, room, len)) in
-    let was : given ≡ min (length c) (2 ^ 64 - 1) = s.given_is ∙ ap (λ l. min (length l) (2 ^ 64 - 1)) all in
-    let count : given' ≡ min (length c + 1) (2 ^ 64 - 1) = omega (arith, g, was) in
-    record {
-      text = subst (λ l. Appends start new (begun form l)) (sym members)
-          (written-more start now new form c m (subst (λ l. Appends start now (begun form l)) all s.text) a);
-      given_is = count ∙ ap (λ k. min k (2 ^ 64 - 1)) (sym len) ∙ ap (λ l. min (length l) (2 ^ 64 - 1)) (sym members);
-      more_is = h ∙ sym (ap is_some (next_short n (c ++ m ∷ []) (omega (arith, room, len))));
-      last_is = k ∙ last_of n given' c m last l room count s.last_is;
-    }
+    grind (arith, room_is, take_all, length-append, written-more, next_short, last_of)
 
 -- before the first capture
 pub nothing_taken : (form : FormValue) (limit : Option ℕ) (start now : Option (List ℕ))
     → Appends start now (page_start form)
     → PageStands form limit [] start now 0 false None
-nothing_taken form None start now a =
-    record { text = written-start start now form a; given_is = omega arith; more_is = refl; last_is = refl }
-nothing_taken form (Some zero) start now a =
-    record { text = written-start start now form a; given_is = omega arith; more_is = refl; last_is = refl }
-nothing_taken form (Some (suc n)) start now a =
-    record { text = written-start start now form a; given_is = omega arith; more_is = refl; last_is = refl }
+nothing_taken form None start now a = grind (arith, written-start)
+nothing_taken form (Some zero) start now a = grind (arith, written-start)
+nothing_taken form (Some (suc n)) start now a = grind (arith, written-start)
 
 -- the same, of a writer that kept these
 pub as_kept : (form form' : FormValue) (limit limit' : Option ℕ) (c c' : List Member) (start now : Option (List ℕ))
     (given given' : ℕ) (more more' : Bool) (last last' : Option PlaceValue)
     → form' ≡ form → limit' ≡ limit → c' ≡ c → given' ≡ given → more' ≡ more → last' ≡ last
     → PageStands form limit c start now given more last → PageStands form' limit' c' start now given' more' last'
-as_kept form form' limit limit' c c' start now given given' more more' last last' a b d e f h s =
-    subst (λ x. PageStands x limit' c' start now given' more' last') (sym a)
-    (subst (λ x. PageStands form x c' start now given' more' last') (sym b)
-    (subst (λ x. PageStands form limit x start now given' more' last') (sym d)
-    (subst (λ x. PageStands form limit c start now x more' last') (sym e)
-    (subst (λ x. PageStands form limit c start now given x last') (sym f)
-    (subst (λ x. PageStands form limit c start now given more x) (sym h) s)))))
+as_kept form form' limit limit' c c' start now given given' more more' last last' a b d e f h s = grind arith
 
 -- ---- after a fault
 
@@ -256,20 +187,16 @@ broke_row form limit c m start now new given more last h f l p s =
         ≡ false → given ≡ min (length (page limit c).members) (2 ^ 64 - 1)
         → (page limit (c ++ m ∷ [])).members ≡ (page limit c).members ++ m ∷ []
     members_one None f l none g = refl
-    members_one (Some n) f l none g =
-        let room = room_is n c given l f g none in
-        let len : length (c ++ m ∷ []) ≡ length c + 1 = length-append c (m ∷ []) in
-        take_all n (c ++ m ∷ []) (omega (arith, room, len))
-        ∙ ap (λ l. l ++ m ∷ []) (sym (take_all n c (omega (arith, room))))
+    members_one (Some n) f l none g = grind (arith, room_is, length-append, take_all)
 
 pub whole_prefix : (old new : Option (List ℕ)) (text : List ℕ) → Appends old new text → AppendsPrefix old new text
-whole_prefix old new text a = subst (AppendsPrefix old new) (append-nil text) (prefix_whole old new text [] a)
+whole_prefix old new text a = grind (arith, append-nil)
 
 -- more of a list gives a page that begins alike
 pub take_front : {X : Type 0} (n : ℕ) (us vs : List X) → (later : List X) × (take n (us ++ vs) ≡ take n us ++ later)
 take_front zero us vs = ([], refl)
 take_front (suc n) [] vs = (take (suc n) vs, refl)
-take_front (suc n) (u ∷ us) vs = let r = take_front n us vs in (r.0, ap (λ l. u ∷ l) r.1)
+take_front (suc n) (u ∷ us) vs = grind (arith, take_front n us vs)
 
 pub page_front : (limit : Option ℕ) (us vs : List Member) → (later : List Member)
     × ((page limit (us ++ vs)).members ≡ (page limit us).members ++ later)
@@ -287,8 +214,7 @@ broke_longer q from limit taken later start now p =
     ap (λ l. (page limit l).members) (captures_append q from taken later) ∙ r.1 in
     subst (AppendsPrefix start now)
     (sym (ap (begun (form_of q)) members ∙ begun-append (form_of q) (page_over q from limit taken).members r.0))
-    (prefix_longer start now (begun (form_of q) (page_over q from limit taken).members)
-    (flat_map (row_text (form_of q)) r.0) p)
+    (grind (arith, prefix_longer))
 
 -- ---- the whole page
 
@@ -326,7 +252,4 @@ pub broke_as : (q q' : QueryValue) (from from' : Option PlaceValue) (limit limit
     (start now : Option (List ℕ)) → q ≡ q' → from ≡ from' → limit ≡ limit'
     → AppendsPrefix start now (begun (form_of q) (page_over q from limit taken).members)
     → AppendsPrefix start now (begun (form_of q') (page_over q' from' limit' taken).members)
-broke_as q q' from from' limit limit' taken start now a b c p =
-    subst (λ x. AppendsPrefix start now (begun (form_of x) (page_over x from' limit' taken).members)) a
-    (subst (λ x. AppendsPrefix start now (begun (form_of q) (page_over q x limit' taken).members)) b
-    (subst (λ x. AppendsPrefix start now (begun (form_of q) (page_over q from x taken).members)) c p))
+broke_as q q' from from' limit limit' taken start now a b c p = grind arith

@@ -1,18 +1,14 @@
 -- One page of a query, by what was taken of its sources.
-use Rattle.std.proofs.Common.{◌≡◌, ℕ, List, ◌++◌, refl, sym, ap, ◌∙◌, subst, Bool, true, false, not, ◌&&◌}
-use Rattle.std.proofs.Common.{Option, min, length, ◌-◌, ◌^◌}
+use Rattle.std.proofs.Common.{arith, ◌≡◌, ℕ, List, ◌++◌, refl, sym, ap, ◌∙◌, subst, Bool, true, false, not, ◌&&◌}
+use Rattle.std.proofs.Common.{Option, ◌-◌, ◌^◌}
 use Rattle.std.specs.Option.{is_some}
 use Rattle.std.specs.Io.KnownBytes.{Appends}
-use Rattle.cdxj_places.specs.Places.{PlaceValue, place_cmp}
+use Rattle.cdxj_places.specs.Places.{PlaceValue}
 use Rattle.devices.specs.Device.{AppendsPrefix}
 use Rattle.query_text.specs.Queries.{QueryValue}
-use Rattle.query_text.specs.Matching.{matches, key_matches, not_before, not_after, is_past}
-use Rattle.query_text.specs.Collapses.{same_part}
-use Rattle.query_text.specs.Filters.{holds}
-use Rattle.std.specs.List.{list_all}
-use Rattle.query_text.proofs.RangeLaw.{match_not_past}
-use Rattle.cdxj_core.specs.Members.{Member, member_place}
-use Rattle.page_core.specs.Pages.{Page, is_above, kept}
+use Rattle.query_text.specs.Matching.{is_past}
+use Rattle.cdxj_core.specs.Members.{Member}
+use Rattle.page_core.specs.Pages.{Page}
 use Rattle.page_core.specs.PageText.{page_text, page_end, begun}
 use Rattle.page_core.proofs.PageLemmas.{begun_is_front, written-whole, front-end}
 use Rattle.devices.proofs.WritingLemmas.{prefix_longer}
@@ -23,25 +19,15 @@ use Rattle.page_writers.specs.QueryPages.{answer_text, form_of, shown_key, query
 use Rattle.page_writers.specs.PageWriting.{is_wanted, captures_over, page_over, next_of, PageStands}
 use Rattle.page_writers.proofs.CaptureLemmas.{filter_and}
 use Rattle.page_writers.proofs.WriterLemmas.{page, decided, next_is, page_front}
-use Rattle.query_core.proofs.StartLemmas.{and_left}
 
 -- what is wanted lies within the target's range
 pub wanted_within : (q : QueryValue) (from : Option PlaceValue) (m : Member) → is_wanted q from m ≡ true
     → not (is_past q.target m.values.key) ≡ true
-wanted_within q from m h =
-    let a = key_matches q.target m.values.key in
-    let b = not_before q.from m.values.stamp in
-    let c = not_after q.to m.values.stamp in
-    let d = list_all (holds m.values) q.filters in
-    ap not (match_not_past q.target m.values.key
-    (and_left a b (and_left (a && b) c
-    (and_left (a && b && c) d (and_left (matches q m.values) (is_above member_place place_cmp from m) h)))))
+wanted_within q from m h = grind arith
 
 -- the query's page is that of the lines that are wanted
 pub asked_is : (q : QueryValue) (lines : List Member) → query_page q lines ≡ page_over q q.resume q.limit lines
-asked_is q lines =
-    ap (λ l. page q.limit (kept member_place (same_part q.collapse) q.resume l))
-    (filter_and (λ m. matches q m.values) (is_above member_place place_cmp q.resume) lines)
+asked_is q lines = grind (arith, page, filter_and)
 
 -- of all lines these were taken
 module _ (q : QueryValue) (all taken : List Member) where
@@ -56,36 +42,24 @@ module _ (q : QueryValue) (all taken : List Member) where
       → (whole ≡ true → captures all ≡ captures taken) → (whole ≡ false → more ≡ true)
       → more ≡ is_some taken_page.next → query_page q all ≡ taken_page
   page_settled true more rest first ended enough is = asked_is q all ∙ ap (page q.limit) (ended refl)
-  page_settled false more rest first ended enough is =
-      asked_is q all ∙ ap (page q.limit) first ∙ decided q.limit (captures taken) rest (sym is ∙ enough refl)
+  page_settled false more rest first ended enough is = grind (arith, asked_is, page, decided)
 
   module _ (start mid new : Option (List ℕ)) (given : ℕ) (more : Bool) (last : Option PlaceValue)
       (s : PageStands (form_of q) q.limit (captures taken) start mid given more last) (same : query_page q all
       ≡ taken_page) where
     next_same : next_of more last ≡ (query_page q all).next
-    next_same = next_is q.limit (captures taken) more last s.more_is s.last_is
-        ∙ ap (λ (p : Page Member PlaceValue). p.next) (sym same)
+    next_same = grind (arith, next_is)
 
     text_same : page_text (form_of q) taken_page.members (shown_key q.show_resume_key (next_of more last))
         ≡ answer_text q (query_page q all)
-    text_same =
-        ap (λ (p : Page Member PlaceValue). page_text (form_of q) p.members
-        (shown_key q.show_resume_key (next_of more last))) (sym same)
-        ∙ ap (λ n. page_text (form_of q) (query_page q all).members (shown_key q.show_resume_key n)) next_same
+    text_same = grind (arith, next_same)
 
     -- with its end it is written
     pub page_wrote : (end : PageEnd) (report : Report)
         → Appends mid new (page_end (form_of q) (shown_key q.show_resume_key (next_of more last))) → end.given ≡ given
         → end.next ≡ next_of more last
         → report.given ≡ end.given → report.more ≡ is_some end.next → Answered q all start new report
-    page_wrote end report a g n of_end is_more = record {
-      text = subst (Appends start new) text_same
-          (written-whole start mid new (form_of q) taken_page.members (shown_key q.show_resume_key (next_of more last))
-          s.text a);
-      given = of_end ∙ g ∙ s.given_is ∙ ap (λ (p : Page Member PlaceValue). min (length p.members) (2 ^ 64 - 1))
-          (sym same);
-      more = is_more ∙ ap is_some (n ∙ next_same);
-    }
+    page_wrote end report a g n of_end is_more = grind (arith, text_same, written-whole, next_same)
 
     pub page_cut : AppendsPrefix mid new (page_end (form_of q) (shown_key q.show_resume_key (next_of more last)))
         → AppendsPrefix start new (answer_text q (query_page q all))

@@ -11,8 +11,7 @@ use Rattle.source_core.proofs.SortedCuts.{begins_at}
 use Rattle.query_core.specs.declared.fault.AnswerFault.{AnswerFault}
 use Rattle.query_core.specs.declared.fault.AnswerFault.TheVariants as fault
 use Rattle.merge_core.specs.NextLine.{IsNextLine}
-use Rattle.query_core.specs.Checking.{IsLineFaultAt}
-use Rattle.query_core.specs.Checking.{IsLastOf, FallsAfter, EndsInBadLine, EndsOutOfOrder, IsChecked}
+use Rattle.query_core.specs.Checking.{IsLineFaultAt, IsLastOf, FallsAfter, EndsInBadLine, EndsOutOfOrder, IsChecked}
 use Rattle.query_core.proofs.Runs.{run_push, take_next}
 
 module _ (limit : ℕ) (t : List ℕ) where
@@ -29,7 +28,6 @@ module _ (limit : ℕ) (t : List ℕ) where
         → CheckedTo (count + 1) (Some m)
     checked_more to m next stays =
         let grown = take_next count (lines t) next.0 (lines (drop to t)) (sym rest ∙ next.1) in
-        let many = checked.as_many in
         record {
           members = checked.members ++ m ∷ [];
           run = subst (λ ls. IsRun limit ls (checked.members ++ m ∷ [])) (sym grown)
@@ -47,20 +45,16 @@ module _ (limit : ℕ) (t : List ℕ) where
         let whole : take count (lines t)
         ≡ lines t = take_all count (lines t)
         (omega (arith, ap length (sym rest ∙ none), length-drop count (lines t))) in
-        (checked.members, subst (λ ls. IsRun limit ls checked.members) whole checked.run, counted ∙ checked.as_many)
+        grind arith
     checked_whole to number (Some m) next counted end = absurd (end m refl)
 
     cut : lines t ≡ take count (lines t) ++ lines (drop at t)
-    cut = sym (take-append-drop count (lines t)) ∙ ap (λ ls. take count (lines t) ++ ls) (sym rest)
+    cut = grind (arith, take-append-drop)
 
     module _ (inside : at ≤ length t) where
       begins : (line : List ℕ) (after : List (List ℕ)) → lines (drop at t) ≡ line ∷ after
           → LineBeginsAt t at (take count (lines t)) line
-      begins line after e = record {
-        after = after;
-        lines_are = cut ∙ ap (λ ls. take count (lines t) ++ ls) e;
-        offset_is = begins_at t at (take count (lines t)) cut inside;
-      }
+      begins line after e = grind (arith, cut, begins_at)
 
       pub checked_falls : (to : ℕ) (m : Member) → IsNextLine limit t at to (Some m) → FallsAfter previous m
           → EndsOutOfOrder limit t at

@@ -1,6 +1,6 @@
 -- The reply to a line, by what the line is.
-use Rattle.std.proofs.Common.{◌≡◌, ℕ, List, [], ◌++◌, length, Bool, true, false, refl, sym, subst, inl, inr, nat_lt}
-use Rattle.std.proofs.Common.{Option, Some, Result, Ok, Err}
+use Rattle.std.proofs.Common.{arith, ◌≡◌, ℕ, List, [], ◌++◌, length, Bool, true, false, refl, nat_lt, Option, Some}
+use Rattle.std.proofs.Common.{Result, Ok, Err}
 use Rattle.std.specs.Prelude.{codes, MatchBool}
 use Rattle.std.specs.Str.{is_utf8}
 use Rattle.std.specs.Io.KnownBytes.{Appends}
@@ -11,7 +11,6 @@ use Rattle.devices.specs.Writing.{WritesText}
 use Rattle.devices.proofs.DeviceLemmas.{Appends-join}
 use Rattle.devices.proofs.WritingLemmas.{prefix_after, prefix_longer}
 use Rattle.query_text.specs.declared.fault.QueryFault.{QueryFault}
-use Rattle.query_text.specs.FaultNames.{query_fault_name}
 use Rattle.query_text.specs.Queries.{QueryValue}
 use Rattle.merge_core.specs.SourceLines.{AreLinesOf}
 use Rattle.query_core.specs.declared.fault.AnswerFault.{AnswerFault}
@@ -45,7 +44,7 @@ marked (Err e) old mid new text mark a w = prefix_after old mid new text mark a 
 module _ (told : List (Option (List ℕ))) (q : QueryValue) (lines : List Member) (are : AreLinesOf LINE_LIMIT told lines)
   where
     pub page_reply : IsPageReply told q (answer_text q (query_page q lines))
-    page_reply = record { lines = lines; are = are; page = inl refl }
+    page_reply = grind arith
 
     -- the fault of a line after a front of the page
     pub fault_reply : {A E : Type 0} (r : Result A E) (old mid new : Option (List ℕ)) (fault : AnswerFault)
@@ -53,29 +52,13 @@ module _ (told : List (Option (List ℕ))) (q : QueryValue) (lines : List Member
         → IsAnswerFaultOf LINE_LIMIT told fault → fault_text fault ≡ Some line → WritesText r mid new line
         → WritesSome r old new (IsPageReply told q)
     fault_reply r old mid new fault line (rest, wrote) named is w =
-        writes_some r old new (IsPageReply told q) (wrote.front ++ line)
-        (record {
-          lines = lines;
-          are = are;
-          page = inr
-              (record {
-                front = wrote.front;
-                rest = rest;
-                whole = wrote.whole;
-                fault = fault;
-                named = named;
-                line = line;
-                line_is = is;
-                ends = refl;
-              });
-        })
-        (marked r old mid new wrote.front line wrote.grown w)
+        writes_some r old new (IsPageReply told q) (wrote.front ++ line) (grind arith) (grind (arith, marked))
 
 -- there is one
 pub some_reply : (told : List (Option (List ℕ))) (r : Result QueryValue QueryFault) → (reply : List ℕ)
     × IsQueryReply told r reply
 some_reply told (Ok q) = (answer_text q (query_page q []), page_reply told q [] (record { rise = tt; each = tt }))
-some_reply told (Err fault) = (refusal_text (query_fault_name fault), refl)
+some_reply told (Err fault) = grind arith
 
 -- ---- the reply to a line
 
@@ -86,17 +69,13 @@ module _ (limit : ℕ) (IsReply : List ℕ → List ℕ → Type 0) (line reply 
   abbrev any : Bool → Type 0
   any b = MatchBool b (reply ≡ refusal_text (codes "QueryTooLong")) (short (is_utf8 line))
 
-  pub long_reply : nat_lt limit (length line) ≡ true → reply ≡ refusal_text (codes "QueryTooLong")
-      → IsLineReply limit IsReply line reply
-  long_reply long is = subst any (sym long) is
-
   pub text_reply : nat_lt limit (length line) ≡ false → is_utf8 line ≡ true → IsReply line reply
       → IsLineReply limit IsReply line reply
-  text_reply fits utf8 is = subst any (sym fits) (subst short (sym utf8) is)
+  text_reply fits utf8 is = grind arith
 
   pub no_text_reply : nat_lt limit (length line) ≡ false → is_utf8 line ≡ false → reply ≡ refusal_text (codes "NotText")
       → IsLineReply limit IsReply line reply
-  no_text_reply fits other is = subst any (sym fits) (subst short (sym other) is)
+  no_text_reply fits other is = grind arith
 
 -- with the line `.`
 module _ (limit : ℕ) (IsReply : List ℕ → List ℕ → Type 0) (line : List ℕ) (old mid : Option (List ℕ)) where

@@ -1,10 +1,9 @@
 -- Every line of an index has a stamp.
-use Rattle.std.proofs.Common.{◌≡◌, inl, inr, ℕ, List, [], ◌∷◌, map, Bool, true, false, ◌&&◌, cond, Some, None, refl, ap}
-use Rattle.std.proofs.Common.{subst}
+use Rattle.std.proofs.Common.{arith, ◌≡◌, inl, inr, ℕ, List, [], ◌∷◌, map, Bool, true, false, ◌&&◌, cond, Some, None}
+use Rattle.std.proofs.Common.{refl}
 use Rattle.std.specs.List.{AllByRecursion}
 use Rattle.std.proofs.lemmas.Bool.{and_parts}
-use Rattle.cdxj_places.specs.Pair.{is_key, is_stamp, key_part, stamp_part, tail_part, begins_with_space}
-use Rattle.cdxj_places.specs.Pair.{begins_with_pair, pair_of}
+use Rattle.cdxj_places.specs.Pair.{is_stamp, key_part, stamp_part, begins_with_pair, pair_of}
 use Rattle.cdxj_places.specs.Pairs.{Pair}
 use Rattle.cdxj_places.specs.Rising.{IsIn}
 use Rattle.cdxj_places.specs.TextLines.{lines}
@@ -19,16 +18,13 @@ line_stamp limit t m h = pair_stamp h.0 m (entry_pair_is limit h.0 m h.2)
   where
     some_pair : (b : Bool) (key stamp : List ℕ) (pair : Pair) → cond b (Some (key, stamp)) None ≡ Some pair → (b ≡ true)
         × (stamp ≡ pair.1)
-    some_pair true key stamp pair e = (refl, (let p : (key, stamp) ≡ pair = cc in ap (λ p. p.1) p))
+    some_pair true key stamp pair e = grind arith
     some_pair false key stamp pair e = cc
 
     pair_stamp : (line : List ℕ) (m : Member) → pair_of line ≡ Some (member_pair m) → is_stamp m.values.stamp ≡ true
     pair_stamp line m e =
         let found = some_pair (begins_with_pair line) (key_part line) (stamp_part line) (member_pair m) e in
-        subst (λ s. is_stamp s ≡ true) found.1
-        (and_parts (is_key (key_part line)) (is_stamp (stamp_part line))
-        (and_parts (is_key (key_part line) && is_stamp (stamp_part line)) (begins_with_space (tail_part line))
-        found.0).0).1
+        grind (arith, and_parts)
 
 entries_are : (limit : ℕ) (t : List ℕ) (ls : List (List ℕ)) (ms : List Member)
     → ((l : List ℕ) → IsIn l ls → IsIn l (lines t)) → map (line_entry limit) ls ≡ map Some ms
@@ -44,4 +40,4 @@ entries_are limit t (l ∷ ls) (m ∷ ms) sub e =
 -- the members of an index are lines of it
 pub index_lines : (limit : ℕ) (t : List ℕ) (ms : List Member) → IsIndex limit t ms
     → AllByRecursion (IsLineIn limit t) ms
-index_lines limit t ms run = entries_are limit t (lines t) ms (λ l i. i) run.entries
+index_lines limit t ms run = grind (arith, entries_are)

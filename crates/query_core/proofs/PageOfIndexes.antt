@@ -1,19 +1,17 @@
 -- What was taken of indexes, beside all that is wanted of their collection.
-use Rattle.std.specs.List.{AllZip}
-use Rattle.std.proofs.Common.{◌≡◌, inl, inr, ℕ, List, [], ◌∷◌, ◌++◌, length, map, filter, zip, Bool, true, false, not}
-use Rattle.std.proofs.Common.{◌&&◌, cond, Option, refl, sym, ap, ap₂, ◌∙◌, subst}
-use Rattle.std.specs.List.{AllByRecursion}
+use Rattle.std.proofs.Common.{arith, ◌≡◌, inl, inr, ℕ, List, [], ◌∷◌, ◌++◌, length, map, filter, zip, Bool, true, false}
+use Rattle.std.proofs.Common.{not, ◌&&◌, Option, refl, sym, ap, ◌∙◌, subst}
+use Rattle.std.specs.List.{AllZip, AllByRecursion}
 use Rattle.cdxj_places.specs.Pair.{is_stamp}
 use Rattle.cdxj_places.specs.Pairs.{Pair}
-use Rattle.cdxj_places.specs.Places.{PlaceValue, place_cmp}
+use Rattle.cdxj_places.specs.Places.{PlaceValue}
 use Rattle.cdxj_places.proofs.PlaceOrder.{place_cmp_total}
 use Rattle.cdxj_places.proofs.RisingLaws.{each_weaker, each_rising, each_join}
 use Rattle.cdxj_core.specs.declared.limit.TheConstants.{LINE_LIMIT}
 use Rattle.cdxj_core.specs.Indexes.{IsIndex}
-use Rattle.cdxj_core.specs.Members.{Member, member_pair, member_place}
+use Rattle.cdxj_core.specs.Members.{Member, member_pair}
 use Rattle.query_text.specs.Queries.{QueryValue}
 use Rattle.query_text.specs.Matching.{is_past}
-use Rattle.query_text.specs.Collapses.{same_part}
 use Rattle.query_text.proofs.RangeLaw.{past_upward}
 use Rattle.page_core.proofs.PageLaws.{each_kept}
 use Rattle.merge_core.specs.declared.feed.Feed.{Feed}
@@ -26,7 +24,6 @@ use Rattle.merge_core.proofs.ReadLemmas.{sought_before, sought_first, sought_who
 use Rattle.page_writers.specs.PageWriting.{is_wanted, captures_over, place_before}
 use Rattle.merge_core.specs.SourceLines.{IsLineIn, IsLineOf}
 use Rattle.query_core.specs.Starts.{start_pair}
-use Rattle.query_core.proofs.AskedLemmas.{wanted_within}
 use Rattle.page_writers.proofs.CaptureLemmas.{kept_after, captures_split}
 use Rattle.query_core.proofs.LineStamps.{index_lines, line_stamp}
 use Rattle.merge_core.proofs.SourceLemmas.{taken_lines}
@@ -40,7 +37,7 @@ and_true false b h = refl
 stamped : (f : Member → Bool) (xs : List Member) → AllByRecursion (λ m. is_stamp m.values.stamp ≡ true) xs
     → filter (λ m. f m && is_stamp m.values.stamp) xs ≡ filter f xs
 stamped f [] h = refl
-stamped f (x ∷ xs) h = ap₂ (λ b l. cond b (x ∷ l) l) (and_true (f x) (is_stamp x.values.stamp) h.0) (stamped f xs h.1)
+stamped f (x ∷ xs) h = grind (arith, and_true, stamped f xs h.1)
 
 index_stamps : (texts : List (List ℕ)) (indexes : List (List Member)) → AllZip (IsIndex LINE_LIMIT) texts indexes
     → AllByRecursion (λ m. is_stamp m.values.stamp ≡ true) (all_lines indexes)
@@ -74,22 +71,18 @@ module _ {S : Type 0} (text : S → Option (List ℕ)) (extent gave : S → ℕ)
   sought m = is_wanted q from m && is_stamp m.values.stamp
 
   within : (m : Member) → sought m ≡ true → not (is_past q.target m.values.key) ≡ true
-  within m h = wanted_within q from m (and_left (is_wanted q from m) (is_stamp m.values.stamp) h)
+  within m h = grind arith
 
   beyond : (m : Member) → sought m ≡ true → is_low (start_pair q from) m ≡ false
-  beyond m h = start_not_above q from m (and_right (is_wanted q from m) (is_stamp m.values.stamp) h)
-      (and_left (is_wanted q from m) (is_stamp m.values.stamp) h)
+  beyond m h = grind (arith, start_not_above, and_right, and_left)
 
   of_all : filter sought (collection indexes) ≡ filter (is_wanted q from) (collection indexes)
   of_all = stamped (is_wanted q from) (collection indexes)
-      (each_rising member_place place_cmp place_cmp_total (λ m. is_stamp m.values.stamp ≡ true) (all_lines indexes)
-      (index_stamps texts indexes are))
+      (grind (arith, each_rising, place_cmp_total, index_stamps))
 
   of_taken : filter sought taken ≡ filter (is_wanted q from) taken
   of_taken = stamped (is_wanted q from) taken
-      (each_weaker (λ (m : Member) (h : IsLineOf LINE_LIMIT (map text ss0) m). known_stamp (map text ss0) texts m known
-      h) taken
-      (taken_lines LINE_LIMIT text extent (is_past q.target) gave ss0 fs0 ss fs ws b taken same reached).each)
+      (grind (arith, each_weaker, known_stamp, taken_lines))
 
   abbrev captures : List Member → List Member
   captures lines = captures_over q from lines
@@ -99,8 +92,7 @@ module _ {S : Type 0} (text : S → Option (List ℕ)) (extent gave : S → ℕ)
   later rest = kept_after q from (place_before q from taken) rest
 
   later_each : (A : Member → Type 0) (rest : List Member) → AllByRecursion A rest → AllByRecursion A (later rest)
-  later_each A rest = each_kept member_place place_cmp (same_part q.collapse) place_cmp_total A
-      (place_before q from taken) rest
+  later_each A rest = grind (arith, each_kept, place_cmp_total)
 
   -- what was taken is a front of what is wanted
   pub wanted_first : (rest : List Member) × (captures (collection indexes) ≡ captures taken ++ rest)
@@ -109,9 +101,8 @@ module _ {S : Type 0} (text : S → Option (List ℕ)) (extent gave : S → ℕ)
       let f = sought_first text extent gave LINE_LIMIT (is_past q.target) (past_upward q.target) ss0 fs0 ss fs ws b
       taken same reached texts indexes known are sought within (start_pair q from) cut beyond in (
         later f.0,
-        captures_split q from (collection indexes) taken f.0 (sym of_all ∙ f.1 ∙ ap (λ l. l ++ f.0) of_taken),
-        later_each (λ m. IsAbove b (member_pair m)) f.0
-            (each_weaker (λ (m : Member) (h : (sought m ≡ true) × IsAbove b (member_pair m)). h.1) f.0 f.2),
+        grind (arith, captures_split, of_all, of_taken),
+        grind (arith, later_each, each_weaker),
       )
 
   -- where the lines that wait don't stand below a pair, the rest doesn't either
@@ -122,9 +113,8 @@ module _ {S : Type 0} (text : S → Option (List ℕ)) (extent gave : S → ℕ)
       let f = sought_before text extent gave LINE_LIMIT (is_past q.target) (past_upward q.target) ss0 fs0 ss fs ws b
       taken same reached texts indexes known are sought within (start_pair q from) cut beyond next above least in (
         later f.0,
-        captures_split q from (collection indexes) taken f.0 (sym of_all ∙ f.1 ∙ ap (λ l. l ++ f.0) of_taken),
-        later_each (λ m. Upto next (member_pair m)) f.0
-            (each_weaker (λ (m : Member) (h : (sought m ≡ true) × Upto next (member_pair m)). h.1) f.0 f.2),
+        grind (arith, captures_split, of_all, of_taken),
+        grind (arith, later_each, each_weaker),
       )
 
   -- where no line waits, it is all

@@ -1,9 +1,8 @@
 -- What was read for a page, beside its reach.
-use Rattle.std.proofs.Common.{◌≡◌, ℕ, zero, suc, ◌≤◌, List, [], ◌∷◌, ◌++◌, length, take, map, Bool, true, false, not}
-use Rattle.std.proofs.Common.{Option, None, Some, refl, sym, ap, ◌∙◌, subst, arith, length-append, length-take}
+use Rattle.std.proofs.Common.{◌≡◌, ℕ, zero, suc, ◌≤◌, List, [], ◌∷◌, ◌++◌, length, map, Bool, true, false, not, Option}
+use Rattle.std.proofs.Common.{None, Some, refl, sym, ap, ◌∙◌, subst, arith, length-append, length-take}
 use Rattle.std.specs.Io.KnownBytes.{Appends}
 use Rattle.std.specs.Option.{is_some}
-use Rattle.std.proofs.lemmas.Bool.{true≢false}
 use Rattle.std.proofs.Math.Seq.{take-append_seam}
 use Rattle.cdxj_places.specs.Places.{PlaceValue}
 use Rattle.cdxj_core.specs.Members.{Member}
@@ -43,7 +42,7 @@ within_page (Some (suc n)) c some none = next_none (suc n) c (omega arith) none
 has_all : (limit : Option ℕ) (c tail : List Member) → AreAtMost limit c
     → length c ≤ length (page limit (c ++ tail)).members
 has_all None c tail most = omega (arith, length-append c tail)
-has_all (Some n) c tail most = omega (arith, most, length-take n (c ++ tail), length-append c tail)
+has_all (Some n) c tail most = grind (arith, length-take, length-append)
 
 -- where a page is written at least so far
 front_written : (form : FormValue) (ms : List Member) (old middle new : Option (List ℕ))
@@ -56,7 +55,7 @@ front_written form [] old middle new a g =
       grows = grows_on old middle new
           (grows_by old middle (begun form []) a) g;
     }
-front_written form (m ∷ ms) old middle new a g = record { middle = middle; front = a; grows = g }
+front_written form (m ∷ ms) old middle new a g = grind arith
 
 -- What was written of the page of these lines, which come first, and what sources gave for the captures of the earlier
 -- of them
@@ -78,9 +77,7 @@ page_reached extent gave q texts indexes old middle new olds news taken rest c t
     record {
       whole = length mine;
       most = omega (arith, ap length members, length-append mine later.0);
-      wrote = subst (λ ms. WroteFirst old new (captures_text (form_of q) ms))
-          (sym (ap (take (length mine)) members ∙ take-append_seam mine later.0))
-          (front_written (form_of q) mine old middle new front grows);
+      wrote = grind (arith, take-append_seam, front_written);
       within = within (length mine)
           (subst (λ ms. length c ≤ length (page q.limit ms).members) (sym of_taken) (has_all q.limit c tail most));
     }
@@ -94,12 +91,11 @@ page_not_reached text extent gave q texts indexes old new sources known are grow
   whole = 0;
   most = omega arith;
   wrote = record { middle = old; front = Appends-none old; grows = grows };
-  within = within_opening text extent gave (in_reach q q.resume (Some 0) (collection indexes)) texts indexes sources
-      sources known are (opened_not text extent gave sources);
+  within = grind (arith, within_opening, opened_not);
 }
 
 -- where no capture follows the page, all lines were read
 pub all_read : (all more shown : Bool) (found : Option PlaceValue) → more ≡ is_some found → shown ≡ is_some found
     → (all ≡ false → more ≡ true) → not shown ≡ true → all ≡ true
 all_read true more shown found a b enough e = refl
-all_read false more shown found a b enough e = absurd (true≢false (sym (sym (ap not (b ∙ sym a ∙ enough refl)) ∙ e)))
+all_read false more shown found a b enough e = grind arith

@@ -1,6 +1,5 @@
 -- What a writer has written of pages, where it ends and where it fails.
-use Rattle.std.proofs.Common.{◌≡◌, ◌⊎◌, inl, inr, ℕ, ◌+◌, ◌-◌, ◌^◌, List, min, Option, None}
-use Rattle.std.proofs.Common.{ap, ap₂, ◌∙◌, subst}
+use Rattle.std.proofs.Common.{arith, ◌≡◌, ◌⊎◌, inl, inr, ℕ, ◌+◌, ◌-◌, ◌^◌, List, min, Option, None, ◌∙◌, subst}
 use Rattle.std.specs.Io.KnownBytes.{Appends}
 use Rattle.cdxj_core.specs.Members.{Member}
 use Rattle.devices.specs.Device.{AppendsPrefix}
@@ -22,10 +21,10 @@ module _ (first : PagesWriter) (q : QueryValue) (sizes : List ℕ) (query_is : f
   module _ (w : PagesWriter) (taken : List Member) (start now : Option (List ℕ))
       (wrote : PagesWrote first.sizes.now first w taken start now) where
     query_same : w.selection.query.now ≡ q
-    query_same = ap (λ r. r.now) wrote.0.0 ∙ query_is
+    query_same = cc
 
     captures_same : captures_of w.selection taken ≡ captures taken
-    captures_same = ap₂ (λ q from. captures_over q from taken) query_same (ap from_view wrote.0.1 ∙ from_is)
+    captures_same = cc
 
     -- between two lines
     pub between : IsFront q sizes (captures taken) start now
@@ -63,7 +62,6 @@ module _ (first : PagesWriter) (q : QueryValue) (sizes : List ℕ) (query_is : f
   any_front taken start now (inl k) = between k.0.writer taken start now k.1
   any_front taken start now (inr p) =
       subst (λ q. IsFront q sizes (captures taken) start now) query_is
-      (subst (λ l. IsFront first.selection.query.now sizes l start now)
-      (ap₂ (λ q from. captures_over q from taken) query_is from_is)
+      (subst (λ l. IsFront first.selection.query.now sizes l start now) (grind arith)
       (subst (λ sizes. IsFront first.selection.query.now sizes (captures_of first.selection taken) start now) sizes_is
       p))

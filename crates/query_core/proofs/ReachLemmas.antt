@@ -1,15 +1,14 @@
 -- What was read of indexes, beside the reach of a page.
 use Rattle.std.proofs.Common.{◌≡◌, ℕ, zero, suc, ◌+◌, ◌<◌, ◌≤◌, List, [], ◌∷◌, ◌++◌, length, map, filter, zip, Bool}
-use Rattle.std.proofs.Common.{true, false, not, ◌&&◌, cond, Option, None, Some, refl, sym, ap, ◌∙◌, subst, arith}
+use Rattle.std.proofs.Common.{true, false, not, ◌&&◌, Option, None, Some, refl, sym, ap, ◌∙◌, subst, arith}
 use Rattle.std.proofs.Common.{append_assoc, append-nil, Ordering, Less, Equal, Greater, nat_cmp, is_gt, is_lt}
-use Rattle.std.specs.List.{AllByRecursion, sum}
+use Rattle.std.specs.List.{AllByRecursion, sum, AllZip}
 use Rattle.std.specs.Ordering.{ordering_then, ordering_reverse}
 use Rattle.std.specs.Cmp.Lexicographic.{slice_cmp}
 use Rattle.std.proofs.lemmas.Bool.{false_from_ne_true, eq-eqb}
-use Rattle.std.proofs.lemmas.Cmp.{ranked, by_ranked}
 use Rattle.std.proofs.lemmas.List.{length-map}
 use Rattle.std.proofs.lemmas.Slice.Eq.{bytes_eq-Decides}
-use Rattle.cdxj_places.specs.Pairs.{Pair, pair_cmp, place_pair}
+use Rattle.cdxj_places.specs.Pairs.{Pair, pair_cmp}
 use Rattle.cdxj_places.specs.Places.{PlaceValue, place_cmp}
 use Rattle.cdxj_places.proofs.PlaceLaw.{both}
 use Rattle.cdxj_places.proofs.PlaceOrder.{place_cmp_total}
@@ -30,7 +29,6 @@ use Rattle.merge_core.specs.declared.feed.Feed.{Feed}
 use Rattle.merge_core.specs.PairOrders.{Alike, Below, IsAbove, IsUpto, Upto, is_low}
 use Rattle.merge_core.specs.WaitingLines.{WaitingLine, waiting_pair}
 use Rattle.merge_core.specs.Collections.{Known, all_lines, collection}
-use Rattle.std.specs.List.{AllZip}
 use Rattle.merge_core.specs.Openings.{IsCutAt}
 use Rattle.merge_core.specs.Reached.{Reached}
 use Rattle.merge_core.specs.Spending.{AllGaveWithin, AreReadTo, CameWithin, OpenedWithin}
@@ -44,7 +42,7 @@ use Rattle.merge_core.proofs.WholeLemmas.{told_known}
 use Rattle.page_writers.specs.PageWriting.{is_wanted, captures_over, place_before}
 use Rattle.query_core.specs.Reach.{pair_after, follower, is_within, in_reach}
 use Rattle.query_core.specs.Passes.{AreAtMost}
-use Rattle.query_core.specs.Starts.{first_stamp, later_pair, start_pair}
+use Rattle.query_core.specs.Starts.{later_pair, start_pair}
 use Rattle.page_writers.proofs.CaptureLemmas.{kept_after, captures_append}
 use Rattle.query_core.proofs.PageOfIndexes.{wanted_before, wanted_first, wanted_whole}
 
@@ -56,9 +54,7 @@ first_not_less Equal b h = refl
 first_not_less Greater b h = refl
 
 nat_met : (x y : ℕ) → nat_cmp x y ≡ Equal → x ≡ y
-nat_met x y h =
-    by_ranked (x < y) (x ≡ y) (y < x) (nat_cmp x y) (ranked x y (nat_cmp x y) refl) (λ o less. let e : Equal
-    ≡ Less = sym h ∙ o in cc) (λ o met. met) (λ o more. let e : Equal ≡ Greater = sym h ∙ o in cc)
+nat_met x y h = grind arith
 
 then_met : (a b : Ordering) → ordering_then a b ≡ Equal → (a ≡ Equal) × (b ≡ Equal)
 then_met Less b h = cc
@@ -97,8 +93,7 @@ covered_where_met t key past low =
       | true ↦ (λ e h. refl)
       | false ↦ (λ e h.
           let same : key ≡ t.text = text_met key t.text
-          (neither (slice_cmp nat_cmp key t.text) (sym (and_whole (is_gt (slice_cmp nat_cmp key t.text))) ∙ h)
-          low) in
+          (neither (slice_cmp nat_cmp key t.text) (sym (and_whole (is_gt (slice_cmp nat_cmp key t.text))) ∙ h) low) in
           sym e ∙ ap (covers t) same ∙ covers_itself t.kind t.text)
     ]) refl past
   where
@@ -122,18 +117,12 @@ not_low_above p q m e k =
 not_low_later : (pair : Pair) (from : Option PlaceValue) (m : Member) → is_low (later_pair pair from) m ≡ false
     → is_low pair m ≡ false
 not_low_later pair None m h = h
-not_low_later pair (Some p) m h =
-    (elim (is_gt (pair_cmp (place_pair p) pair)) as (λ b. is_gt (pair_cmp (place_pair p) pair) ≡ b
-    → is_low (cond b (place_pair p) pair) m ≡ false → is_low pair m ≡ false)
-    [ true ↦ (λ e k. not_low_above (place_pair p) pair m e k) | false ↦ (λ e k. k) ]) refl h
+not_low_later pair (Some p) m h = grind (arith, is_gt, not_low_above)
 
 -- a line of the range that isn't below the start is covered by the target
 pub covered_from_start : (q : QueryValue) (from : Option PlaceValue) (m : Member) → is_past q.target m.values.key
     ≡ false → is_low (start_pair q from) m ≡ false → covers q.target m.values.key ≡ true
-covered_from_start q from m past low =
-    covered_where_met q.target m.values.key past
-    (first_not_less (slice_cmp nat_cmp m.values.key q.target.text) (slice_cmp nat_cmp m.values.stamp first_stamp)
-    (not_low_later (q.target.text, first_stamp) from m low))
+covered_from_start q from m past low = grind (arith, covered_where_met, first_not_less, nat_cmp, not_low_later)
 
 -- ---- the line that follows a page
 
@@ -151,8 +140,7 @@ pub within_follower : (q : QueryValue) (from : Option PlaceValue) (limit : Optio
     → captures_over q from lines ≡ c ++ vs → AreAtMost limit c
     → (x : Pair) → AllByRecursion (λ v. Upto x (member_pair v)) vs → is_within (follower q from limit lines) x ≡ true
 within_follower q from None lines c vs split most x k = refl
-within_follower q from (Some n) lines c vs split most x k = ap (λ ms. is_within (pair_after n ms) x) split
-    ∙ past_front n c vs x most k
+within_follower q from (Some n) lines c vs split most x k = grind (arith, past_front)
 
 firsts : {X Y : Type 0} (xs : List X) (ys : List Y) → length (zip xs ys) ≡ length xs
     → map (λ (x : X × Y). x.0) (zip xs ys) ≡ xs
@@ -167,9 +155,7 @@ pub reach_passes : (q : QueryValue) (from : Option PlaceValue) (limit : Option �
     → is_within (follower q from limit lines) (member_pair m) ≡ true)
     → (m : Member) → is_past q.target m.values.key ≡ false → is_low (start_pair q from) m ≡ false
     → IsUpto b (member_pair m) → in_reach q from limit lines m ≡ true
-reach_passes q from limit lines b bound m past low upto =
-    both (covers q.target m.values.key && not (is_low (start_pair q from) m)) _
-    (both (covers q.target m.values.key) _ (covered_from_start q from m past low) (ap not low)) (bound m upto)
+reach_passes q from limit lines b bound m past low upto = grind (arith, both, covered_from_start)
 
 as_many : {X Y : Type 0} (R : X → Y → Type 0) (xs : List X) (ys : List Y) → AllZip R xs ys → length xs ≡ length ys
 as_many R [] [] h = refl
@@ -199,8 +185,7 @@ module _ {S : Type 0} (text : S → Option (List ℕ)) (extent gave : S → ℕ)
   pub cut_all : ws ≡ [] → Cut b taken
   cut_all none = record {
     back = [];
-    whole = wanted_whole text extent gave q from ss0 fs0 ss fs ws b taken same reached cut texts indexes known are none
-        ∙ sym (append-nil (wanted taken));
+    whole = grind (arith, wanted_whole, append-nil);
     later = λ m upto. tt;
   }
 
@@ -214,8 +199,7 @@ module _ {S : Type 0} (text : S → Option (List ℕ)) (extent gave : S → ℕ)
       let p = place_before q from earlier in
       record {
         back = kept_after q from p group ++ first.0;
-        whole = first.1 ∙ ap (λ ms. ms ++ first.0) (ap wanted parts ∙ captures_append q from earlier others)
-            ∙ append_assoc (wanted earlier) (kept_after q from p group) first.0;
+        whole = grind (arith, captures_append, append_assoc, kept_after);
         later = λ m upto.
             let low : Upto (member_pair m) pair = subst (λ o. IsUpto o (member_pair m)) bound upto in
             each_join (λ v. Upto (member_pair m) (member_pair v)) (kept_after q from p group) first.0
@@ -247,12 +231,11 @@ module _ {S : Type 0} (text : S → Option (List ℕ)) (extent gave : S → ℕ)
       (most : AreAtMost limit (wanted earlier)) where
     in_bound : (m : Member) → IsUpto bound (member_pair m)
         → is_within (follower q from limit (collection indexes)) (member_pair m) ≡ true
-    in_bound m upto = within_follower q from limit (collection indexes) (wanted earlier) c.back c.whole most
-        (member_pair m) (c.later m upto)
+    in_bound m upto = grind (arith, within_follower)
 
     passes : (m : Member) → is_past q.target m.values.key ≡ false → is_low (start_pair q from) m ≡ false
         → IsUpto bound (member_pair m) → in_reach q from limit (collection indexes) m ≡ true
-    passes = reach_passes q from limit (collection indexes) bound in_bound
+    passes = grind (arith, reach_passes, in_bound)
 
     -- what sources gave that were read up to the bound
     pub gave_within : (olds news : List S) (feeds : List Feed) → Known (map text olds) texts
@@ -285,14 +268,8 @@ module _ {S : Type 0} (text : S → Option (List ℕ)) (extent gave : S → ℕ)
       (λ x y m c. λ t members e i. subst (λ n. IsCut (start_pair q from) t members n) (sym m.start_kept)
       (c t members (sym m.text_kept ∙ e) i)) (zip ss0 fs0) (zip ss fs) reached.moved cut)
       reached.ready.fed (reached.handed.told (told_known text ss0 texts known)).1 in
-      omega (
-        arith,
-        h,
-        as_many (IsIndex LINE_LIMIT) texts indexes are,
-        as_many (λ told t. told ≡ Some t) (map text ss0)
-            texts known,
-        length-map ss0 text,
-      )
+      omega (arith, h, as_many (IsIndex LINE_LIMIT) texts indexes are,
+          as_many (λ told t. told ≡ Some t) (map text ss0) texts known, length-map ss0 text)
 
 pub within_opening : {S : Type 0} (text : S → Option (List ℕ)) (extent gave : S → ℕ) (test : Member → Bool)
     (texts : List (List ℕ)) (indexes : List (List Member)) (olds news : List S) → Known (map text olds) texts
@@ -306,14 +283,10 @@ within_opening text extent gave test [] (i ∷ is) xs ys known are opened = absu
 within_opening text extent gave test (t ∷ ts) [] xs ys known are opened = absurd are
 within_opening text extent gave test (t ∷ ts) (i ∷ is) [] ys known are opened = absurd known
 within_opening text extent gave test (t ∷ ts) (i ∷ is) (x ∷ xs) [] known are opened = absurd opened
-within_opening text extent gave test (t ∷ ts) (i ∷ is) (x ∷ xs) (y ∷ ys) known are opened = (
-  let h = opened.0 t known.0 in omega (arith, h),
-  within_opening text extent gave test ts is xs ys known.1 are.1
-      opened.1,
-)
+within_opening text extent gave test (t ∷ ts) (i ∷ is) (x ∷ xs) (y ∷ ys) known are
+    opened = grind (arith, within_opening text extent gave test ts is xs ys known.1 are.1 opened.1)
 
 -- nothing was read at all
 pub opened_not : {S : Type 0} (text : S → Option (List ℕ)) (extent gave : S → ℕ) (xs : List S)
     → AllZip (λ x y. OpenedWithin (text x) (extent x) (gave x) (gave y)) xs xs
-opened_not text extent gave = two_same (λ x y. OpenedWithin (text x) (extent x) (gave x) (gave y))
-    (λ x t e. omega arith)
+opened_not text extent gave = grind (arith, two_same)

@@ -1,6 +1,6 @@
 -- The replies to the lines of an input, so far and at its end.
 use Rattle.std.proofs.Common.{◌≡◌, ℕ, suc, ◌+◌, ◌-◌, ◌^◌, ◌<◌, ◌≤◌, List, [], ◌∷◌, ◌++◌, map, length, length-append}
-use Rattle.std.proofs.Common.{length-take, take, refl, sym, ap, ap₂, ◌∙◌, subst, arith, cond, Bool, true, false, Option}
+use Rattle.std.proofs.Common.{length-take, take, refl, sym, ap, ◌∙◌, subst, arith, cond, Bool, true, false, Option}
 use Rattle.std.proofs.Common.{Some, None, append_assoc, append-nil, lt-ltb, ltb-false, nat_lt, slice_index, ltb-true}
 use Rattle.std.specs.Prelude.{flat_map, ◌==◌, codes, IsErrAnd, MatchBool, Result, Ok, Err}
 use Rattle.std.specs.List.{AllZip}
@@ -43,7 +43,7 @@ abbrev joined : List (List ℕ) → List ℕ
 joined texts = flat_map (λ text. text) texts
 
 joined-more : (texts : List (List ℕ)) (text : List ℕ) → joined (texts ++ text ∷ []) ≡ joined texts ++ text
-joined-more texts text = flat_map-append (λ t. t) texts (text ∷ []) ∙ ap (λ l. joined texts ++ l) (append-nil text)
+joined-more texts text = grind (arith, flat_map-append, append-nil)
 
 -- ---- what is held of a line is enough
 
@@ -66,8 +66,7 @@ module _ (limit : ℕ) (IsReply : List ℕ → List ℕ → Type 0) where
         (reply ≡ refusal_text (codes "NotText")))
 
     is_long : nat_lt limit (length (without_carriage_return line)) ≡ true
-    is_long = let short = shorter (slice_index line (length line - 1) == 13) line in lt-ltb _ _
-        (omega (arith, long, short))
+    is_long = grind (arith, shorter, slice_index, lt-ltb)
 
     refused_long : Reply line reply → reply ≡ refusal_text (codes "QueryTooLong")
     refused_long h = subst by is_long h
@@ -77,19 +76,11 @@ module _ (limit : ℕ) (IsReply : List ℕ → List ℕ → Type 0) where
 
   held_by : (seen reply : List ℕ) (b : Bool) → nat_lt (limit + 2) (length seen) ≡ b
       → Reply (take (limit + 2) seen) reply → Reply seen reply
-  held_by seen reply true e h =
-      let long : limit + 2 < length seen = ltb-true _ _ e in
-      let held : limit + 1 < length (take (limit + 2) seen) = omega (arith, long, length-take (limit + 2) seen) in
-      long_refused seen reply (omega (arith, long)) (refused_long (take (limit + 2) seen) reply held h)
-  held_by seen reply false e h = subst (λ l. Reply l reply) (take_all (limit + 2) seen (ltb-false _ _ e)) h
+  held_by seen reply true e h = grind (arith, ltb-true, length-take, long_refused, refused_long)
+  held_by seen reply false e h = grind (arith, take_all, ltb-false)
 
   held : (line seen text : List ℕ) → line ≡ take (limit + 2) seen → Marked line text → Marked seen text
-  held line seen text is marked = (
-    marked.0,
-    held_by seen marked.0 (nat_lt (limit + 2) (length seen)) refl
-        (subst (λ l. Reply l marked.0) is marked.1),
-    marked.2,
-  )
+  held line seen text is marked = grind (arith, held_by, nat_lt)
 
   -- ---- the conversation
 
@@ -111,7 +102,7 @@ module _ (limit : ℕ) (IsReply : List ℕ → List ℕ → Type 0) where
       (done, texts, cut, counted, each, written) (seen, first, is) m a = (
         done ++ seen ∷ [],
         texts ++ text ∷ [],
-        cut ∙ (ap (λ l. done ++ l) first ∙ sym (append_assoc done (seen ∷ []) (cut_lines rest))),
+        grind (arith, append_assoc),
         omega (arith, counted, length-append done (seen ∷ [])),
         zip_more Marked done texts seen text each (held line seen text is m),
         subst (Appends old last) (sym (joined-more texts text))
@@ -129,7 +120,7 @@ module _ (limit : ℕ) (IsReply : List ℕ → List ℕ → Type 0) where
       (none, end) n small =
       let all : cut_lines input ≡ done = cut ∙ (ap (λ l. done ++ cut_lines l) none ∙ append-nil done) in (
         omega (arith, n, small, ap length end),
-        counted ∙ (ap length (sym all) ∙ sym (many without_carriage_return (cut_lines input))),
+        grind (arith, many),
         texts,
         zip_map (IsMarkedReply limit IsReply) without_carriage_return (cut_lines input) texts
             (subst (λ ls. AllZip Marked ls texts) (sym all) each),
@@ -140,7 +131,7 @@ module _ (limit : ℕ) (IsReply : List ℕ → List ℕ → Type 0) where
 
   split : (input : List ℕ) (done later : List (List ℕ)) → cut_lines input ≡ done ++ later
       → input_lines input ≡ map without_carriage_return done ++ map without_carriage_return later
-  split input done later cut = ap (map without_carriage_return) cut ∙ map-append without_carriage_return done later
+  split input done later cut = grind (arith, map-append)
 
   pub replied-front : (input now : Option (List ℕ)) (count : ℕ) (old new : Option (List ℕ))
       → RepliedSoFar limit IsReply input now count old new → RepliedToFirst limit IsReply input old new
@@ -151,8 +142,8 @@ module _ (limit : ℕ) (IsReply : List ℕ → List ℕ → Type 0) where
     map without_carriage_return (cut_lines now),
     texts,
     split input done (cut_lines now) cut,
-    zip_map (IsMarkedReply limit IsReply) without_carriage_return done texts each,
-    subst (AppendsPrefix old new) (append-nil (joined texts)) (prefix_whole old new (joined texts) [] written),
+    grind (arith, zip_map),
+    grind (arith, append-nil, prefix_whole),
   )
 
   pub replied-within : (input now after : Option (List ℕ)) (count : ℕ) (old new last : Option (List ℕ))
@@ -168,8 +159,7 @@ module _ (limit : ℕ) (IsReply : List ℕ → List ℕ → Type 0) where
         map without_carriage_return (done ++ seen ∷ []),
         map without_carriage_return (cut_lines rest),
         texts ++ text ∷ [],
-        split input (done ++ seen ∷ []) (cut_lines rest)
-            (cut ∙ (ap (λ l. done ++ l) first ∙ sym (append_assoc done (seen ∷ []) (cut_lines rest)))),
+        grind (arith, split, append_assoc),
         zip_map (IsMarkedReply limit IsReply) without_carriage_return (done ++ seen ∷ []) (texts ++ text ∷ [])
             (zip_more Marked done texts seen text each (held line seen text is m)),
         subst (AppendsPrefix old last) (sym (joined-more texts text))
@@ -188,17 +178,12 @@ module _ (limit : ℕ) (IsReply : List ℕ → List ℕ → Type 0) (input now a
     (takes : TakesLine (limit + 2) found now after line) where
   pub line-more : found ≡ true → (reply : List ℕ) × IsMarkedReply limit IsReply text reply × Appends new last reply
       → RepliedSoFar limit IsReply input after (count + 1) old last
-  line-more there (reply, m, a) =
-      replied-more limit IsReply input now after count old new last line reply so_far
-      (subst (λ f. TakesLine (limit + 2) f now after line) there takes)
-      (subst (λ t. IsMarkedReply limit IsReply t reply) is m) a
+  line-more there (reply, m, a) = grind (arith, replied-more)
 
   pub line-within : found ≡ true → (reply : List ℕ) × IsMarkedReply limit IsReply text reply
       × AppendsPrefix new last reply → RepliedToFirst limit IsReply input old last
   line-within there (reply, m, p) =
-      replied-within limit IsReply input now after count old new last line reply so_far
-      (subst (λ f. TakesLine (limit + 2) f now after line) there takes)
-      (subst (λ t. IsMarkedReply limit IsReply t reply) is m) p
+      replied-within limit IsReply input now after count old new last line reply so_far (grind arith) (grind arith) p
 
 module _ (limit : ℕ) (IsReply : List ℕ → List ℕ → Type 0) (input now after : Option (List ℕ)) (count taken before : ℕ)
     (old new : Option (List ℕ)) (line : List ℕ)
@@ -206,10 +191,7 @@ module _ (limit : ℕ) (IsReply : List ℕ → List ℕ → Type 0) (input now a
     (takes : TakesLine (limit + 2) found now after line) where
   pub line-none : found ≡ false → CountsTaken input now 0 before → CountsTaken now after before taken
       → taken < 2 ^ 63 - 1 → RepliedToAll limit IsReply input count old new
-  line-none none counts more small =
-      replied-whole limit IsReply input now after count taken old new line so_far
-      (subst (λ f. TakesLine (limit + 2) f now after line) none takes)
-      (taken-join input now after 0 before taken counts more) small
+  line-none none counts more small = grind (arith, replied-whole, taken-join)
 
 -- after a fault
 pub converses_err : (limit : ℕ) (IsReply : List ℕ → List ℕ → Type 0) (Q : AnswerFault → Type 0)
@@ -225,37 +207,23 @@ module _ (limit : ℕ) (reply : List ℕ → List ℕ) where
   Is = IsOneReply reply
 
   line_is : (line given : List ℕ) → IsLineReply limit Is line given → given ≡ reply_text limit reply line
-  line_is line given h =
-      (elim (nat_lt limit (length line)) as (λ b. MatchBool b (given ≡ refusal_text (codes "QueryTooLong"))
-      (MatchBool (is_utf8 line) (given ≡ reply line) (given ≡ refusal_text (codes "NotText")))
-      → given ≡ cond b (refusal_text (codes "QueryTooLong"))
-      (cond (is_utf8 line) (reply line) (refusal_text (codes "NotText")))) [
-        | true ↦ (λ long. long)
-        | false ↦ (λ short.
-            (elim (is_utf8 line) as (λ b. MatchBool b (given ≡ reply line) (given ≡ refusal_text (codes "NotText"))
-            → given ≡ cond b (reply line) (refusal_text (codes "NotText")))
-            [ true ↦ (λ k. k) | false ↦ (λ k. k) ]) short)
-      ]) h
+  line_is line given h = grind arith
 
   texts_are : (lines texts : List (List ℕ)) → AllZip (IsMarkedReply limit Is) lines texts → joined texts
       ≡ flat_map (marked_reply limit reply) lines
   texts_are [] [] each = refl
   texts_are [] (text ∷ texts) each = absurd each
   texts_are (line ∷ lines) [] each = absurd each
-  texts_are (line ∷ lines) (text ∷ texts) (m, each) =
-      ap₂ (λ t l. t ++ l) (m.2 ∙ ap (λ r. r ++ codes ".\n") (line_is line m.0 m.1)) (texts_are lines texts each)
+  texts_are (line ∷ lines) (text ∷ texts) (m, each) = grind (arith, line_is, texts_are lines texts each)
 
   pub one_reply : (input : Option (List ℕ)) (count : ℕ) (old new : Option (List ℕ))
       → RepliedToAll limit Is input count old new → Replied limit reply input count old new
   one_reply None count old new h = tt
-  one_reply (Some input) count old new (short, counted, texts, each, written) =
-      (short, counted, subst (Appends old new) (texts_are (input_lines input) texts each) written)
+  one_reply (Some input) count old new (short, counted, texts, each, written) = grind (arith, texts_are)
 
   pub one_reply_part : (input old new : Option (List ℕ)) → RepliedToFirst limit Is input old new
       → RepliedInPart limit reply input old new
   one_reply_part None old new h = tt
   one_reply_part (Some input) old new (first, later, texts, split, each, written) =
       subst (AppendsPrefix old new) (sym (flat_map-append (marked_reply limit reply) first later)
-      ∙ ap (flat_map (marked_reply limit reply)) (sym split))
-      (prefix_longer old new (flat_map (marked_reply limit reply) first) (flat_map (marked_reply limit reply) later)
-      (subst (AppendsPrefix old new) (texts_are first texts each) written))
+      ∙ ap (flat_map (marked_reply limit reply)) (sym split)) (grind (arith, prefix_longer, texts_are))

@@ -1,18 +1,17 @@
 -- The captures of pages that follow one another rise.
-use Rattle.std.proofs.Common.{◌≡◌, ◌↔◌, Bool, List, [], ◌∷◌, Option, None, Some, filter, true, false, cond, inl, inr}
-use Rattle.std.proofs.Common.{refl, ap, sym, subst, ◌∙◌}
+use Rattle.std.proofs.Common.{arith, ◌≡◌, ◌↔◌, Bool, List, [], ◌∷◌, Option, None, Some, filter, true, refl, ap, sym}
+use Rattle.std.proofs.Common.{subst, ◌∙◌}
 use Rattle.std.specs.List.{AllByRecursion}
 use Rattle.cdxj_places.specs.Places.{PlaceValue, place_cmp}
-use Rattle.cdxj_places.specs.Rising.{Rises}
+use Rattle.cdxj_places.specs.Rising.{Rises, IsIn}
 use Rattle.cdxj_places.proofs.PlaceOrder.{place_cmp_total}
-use Rattle.cdxj_places.specs.Rising.{IsIn}
 use Rattle.cdxj_places.proofs.RisingLaws.{rises_rising, rising_members}
 use Rattle.cdxj_core.specs.Members.{Member, member_place}
 use Rattle.query_text.specs.Collapses.{same_part}
 use Rattle.query_text.specs.Matching.{matches}
 use Rattle.page_core.proofs.PageLaws.{chain_law, rises_filter, rises_collapsed}
 use Rattle.merge_core.specs.Collections.{all_lines, collection}
-use Rattle.page_core.specs.Pages.{is_above, kept}
+use Rattle.page_core.specs.Pages.{kept}
 use Rattle.page_writers.specs.QueryPages.{selected}
 use Rattle.query_core.specs.QueryLaws.{AllAreKept, PagesRise, SelectedAreFirst, SelectedRise}
 use Rattle.page_writers.specs.PageWriting.{is_wanted}
@@ -32,35 +31,18 @@ pages_rise q lines sizes pages rise positive chain =
     )
 
 pub selected_rise : SelectedRise
-selected_rise q indexes =
-    rises_filter member_place place_cmp place_cmp_total (λ m. matches q m.values) (collection indexes)
-    (rises_rising member_place place_cmp place_cmp_total (all_lines indexes))
+selected_rise q indexes = grind (arith, rises_filter, place_cmp_total, rises_rising)
 
 -- what is in a list and passes a test is in what is left of it, and nothing else is
 filter_members : (f : Member → Bool) (m : Member) (l : List Member) → IsIn m (filter f l) ↔ (IsIn m l × (f m ≡ true))
-filter_members f m [] = ((λ i. absurd i), (λ i. absurd i.0))
-filter_members f m (x ∷ l) =
-    let rest = filter_members f m l in
-    (elim (f x) as (λ b. f x ≡ b → IsIn m (cond b (x ∷ filter f l) (filter f l)) ↔ (IsIn m (x ∷ l) × (f m ≡ true))) [
-      | true ↦ (λ e. (
-        (λ i. elim i [ inl is ↦ (inl is, ap f (sym is) ∙ e) | inr j ↦ (let r = rest.0 j in (inr r.0, r.1)) ]),
-        (λ i. elim i.0 [ inl is ↦ inl is | inr j ↦ inr (rest.1 (j, i.1)) ]),
-      ))
-      | false ↦ (λ e. (
-        (λ i. let r = rest.0 i in (inr r.0, r.1)),
-        (λ i. elim i.0 [
-          | inl is ↦ (let never : true ≡ false = sym i.1 ∙ ap f (sym is) ∙ e in cc)
-          | inr j ↦ rest.1
-              (j, i.1)
-        ]),
-      ))
-    ]) refl
+filter_members f m [] = grind arith
+filter_members f m (x ∷ l) = grind (arith, filter_members f m l)
 
 pub selected_are_first : SelectedAreFirst
 selected_are_first q indexes m =
     let lines = filter_members (λ m. matches q m.values) m (collection indexes) in
     let first = rising_members member_place place_cmp place_cmp_total m (all_lines indexes) in
-    ((λ i. (first.0 (lines.0 i).0, (lines.0 i).1)), (λ i. lines.1 (first.1 i.0, i.1)))
+    grind arith
 
 kept_all : (place : Option PlaceValue) (lines : List Member) → kept member_place (same_part None) place lines ≡ lines
 kept_all place [] = refl
@@ -68,4 +50,4 @@ kept_all None (m ∷ lines) = ap (λ l. m ∷ l) (kept_all (Some (member_place m
 kept_all (Some p) (m ∷ lines) = ap (λ l. m ∷ l) (kept_all (Some (member_place m)) lines)
 
 pub all_are_kept : AllAreKept
-all_are_kept lines place = kept_all place (filter (is_above member_place place_cmp place) lines)
+all_are_kept lines place = grind (arith, kept_all)

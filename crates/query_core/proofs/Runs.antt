@@ -1,9 +1,8 @@
 -- Runs of lines, one line more at a time.
-use Rattle.std.proofs.Common.{◌≡◌, ℕ, zero, suc, ◌+◌, List, [], ◌∷◌, ◌++◌, take, drop, Option, None, Some, sym, ap, ap₂}
-use Rattle.std.proofs.Common.{◌∙◌, subst, arith, is_gt}
+use Rattle.std.proofs.Common.{◌≡◌, ℕ, zero, suc, ◌+◌, List, [], ◌∷◌, ◌++◌, take, drop, Option, None, Some, sym, ap, ◌∙◌}
+use Rattle.std.proofs.Common.{subst, arith}
 use Rattle.std.proofs.lemmas.List.{map-append}
 use Rattle.std.specs.List.{AllByRecursion}
-use Rattle.std.proofs.lemmas.Bool.{false_from_ne_true}
 use Rattle.cdxj_places.specs.Pairs.{pair_cmp}
 use Rattle.cdxj_places.specs.Rising.{NeverFalls}
 use Rattle.cdxj_places.proofs.RisingLaws.{each_join, each_weaker}
@@ -20,11 +19,9 @@ use Rattle.query_core.specs.Checking.{IsLastOf, FallsAfter}
 all_upto : (members : List Member) (previous : Option Member) (m : Member) → IsLastOf members previous
     → (FallsAfter previous m → ⊥) → NeverFalls member_pair pair_cmp members
     → AllByRecursion (λ k. Upto (member_pair k) (member_pair m)) members
-all_upto members None m is stays ordered = subst (AllByRecursion (λ k. Upto (member_pair k) (member_pair m))) (sym is)
-    tt
+all_upto members None m is stays ordered = cc
 all_upto members (Some last) m is stays ordered =
-    let step : Upto (member_pair last) (member_pair m) = false_from_ne_true
-    (is_gt (pair_cmp (member_pair last) (member_pair m))) stays in
+    let step : Upto (member_pair last) (member_pair m) = grind arith in
     subst (AllByRecursion (λ k. Upto (member_pair k) (member_pair m))) (sym is.1)
     (each_join (λ k. Upto (member_pair k) (member_pair m)) is.0 (last ∷ [])
     (each_weaker (λ (k : Member) (h : Upto (member_pair k) (member_pair last)). upto_upto (member_pair k)
@@ -36,19 +33,15 @@ all_upto members (Some last) m is stays ordered =
 take_suc_at : {X : Type 0} (n : ℕ) (all : List X) (x : X) (rest : List X) → drop n all ≡ x ∷ rest → take (suc n) all
     ≡ take n all ++ x ∷ []
 take_suc_at zero [] x rest e = cc
-take_suc_at zero (y ∷ ys) x rest e = let q : y ≡ x = cc in ap (λ y. y ∷ []) q
+take_suc_at zero (y ∷ ys) x rest e = cc
 take_suc_at (suc n) [] x rest e = cc
 take_suc_at (suc n) (y ∷ ys) x rest e = ap (λ u. y ∷ u) (take_suc_at n ys x rest e)
 
 pub take_next : {X : Type 0} (n : ℕ) (all : List X) (x : X) (rest : List X) → drop n all ≡ x ∷ rest → take (n + 1) all
     ≡ take n all ++ x ∷ []
-take_next n all x rest e = ap (λ k. take k all) (let q : n + 1 ≡ suc n = omega arith in q) ∙ take_suc_at n all x rest e
+take_next n all x rest e = grind (arith, take_suc_at)
 
 pub run_push : (limit : ℕ) (ls : List (List ℕ)) (members : List Member) (previous : Option Member) (l : List ℕ)
     (m : Member) → IsRun limit ls members → IsLastOf members previous
     → line_entry limit l ≡ Some m → (FallsAfter previous m → ⊥) → IsRun limit (ls ++ l ∷ []) (members ++ m ∷ [])
-run_push limit ls members previous l m run is entry stays = record {
-  entries = map-append (line_entry limit) ls (l ∷ []) ∙ ap₂ (λ us v. us ++ v ∷ []) run.entries entry
-      ∙ sym (map-append Some members (m ∷ []));
-  ordered = falls_push members m run.ordered (all_upto members previous m is stays run.ordered);
-}
+run_push limit ls members previous l m run is entry stays = grind (arith, map-append, falls_push, all_upto)

@@ -1,8 +1,7 @@
 -- Of an index no line is at fault.
-use Rattle.std.specs.List.{AllZip}
+use Rattle.std.specs.List.{AllZip, AllByRecursion}
 use Rattle.std.proofs.Common.{◌≡◌, ◌<◌, ℕ, zero, suc, List, [], ◌∷◌, ◌++◌, length, get_or, map, Option, None, Some}
 use Rattle.std.proofs.Common.{arith, refl, sym, ap, ◌∙◌, subst, append_assoc, true, false, is_gt}
-use Rattle.std.specs.List.{AllByRecursion}
 use Rattle.std.proofs.lemmas.Bool.{true≢false}
 use Rattle.cdxj_places.specs.Pairs.{pair_cmp}
 use Rattle.cdxj_places.specs.Rising.{NeverFalls}
@@ -27,20 +26,19 @@ module _ (limit : ℕ) where
 
   entries_at : (before : List (List ℕ)) (line : List ℕ) (after : List (List ℕ)) (members : List Member)
       → map (line_entry limit) (before ++ line ∷ after) ≡ map Some members → EntriesAt line after members
-  entries_at [] line after [] e = absurd (let f = e in cc)
+  entries_at [] line after [] e = cc
   entries_at [] line after (m ∷ members) e =
       record {
         earlier = [];
         member = m;
         later = members;
         split = refl;
-        entry = let f = e in cc;
-        others = let f = e in
-            cc;
+        entry = cc;
+        others = cc;
       }
-  entries_at (b ∷ before) line after [] e = absurd (let f = e in cc)
+  entries_at (b ∷ before) line after [] e = cc
   entries_at (b ∷ before) line after (m ∷ members) e =
-      let rest : map (line_entry limit) (before ++ line ∷ after) ≡ map Some members = (let f = e in cc) in
+      let rest : map (line_entry limit) (before ++ line ∷ after) ≡ map Some members = (cc) in
       let found = entries_at before line after members rest in
       record {
         earlier = m ∷ found.earlier;
@@ -57,8 +55,7 @@ module _ (limit : ℕ) where
   no_bad_line text members offset index bad =
       let found = entries_at bad.before bad.line bad.begins.after members
       (ap (map (line_entry limit)) (sym bad.begins.lines_are) ∙ index.entries) in
-      let none : None ≡ Some found.member = sym bad.bad ∙ found.entry in
-      cc
+      grind arith
 
   stays : (us : List Member) (m : Member) (vs : List Member) → NeverFalls member_pair pair_cmp (us ++ m ∷ vs)
       → AllByRecursion (λ v. is_gt (pair_cmp (member_pair m) (member_pair v)) ≡ false) vs

@@ -1,22 +1,21 @@
 -- Nothing that is wanted stands below the start of a page.
-use Rattle.std.proofs.Common.{◌≡◌, ℕ, zero, suc, ◌<◌, ◌≤◌, List, [], ◌∷◌, length, Bool, true, false, ◌&&◌, cond, Option}
-use Rattle.std.proofs.Common.{None, Some, refl, sym, ap, ◌∙◌, arith, Ordering, Less, Equal, Greater, nat_cmp, is_gt}
-use Rattle.std.proofs.Common.{is_lt, All, eqb-true}
+use Rattle.std.proofs.Common.{◌≡◌, ℕ, zero, suc, ◌<◌, ◌≤◌, List, [], ◌∷◌, length, Bool, true, false, ◌&&◌, Option, None}
+use Rattle.std.proofs.Common.{Some, refl, ap, ◌∙◌, arith, Ordering, Less, Equal, Greater, nat_cmp, is_gt, is_lt, All}
+use Rattle.std.proofs.Common.{eqb-true}
 use Rattle.std.specs.Char.{is_ascii_digit}
 use Rattle.std.specs.Ordering.{ordering_then, ordering_reverse}
 use Rattle.std.specs.Cmp.Lexicographic.{slice_cmp}
-use Rattle.std.proofs.lemmas.Bool.{true≢false, and_parts}
+use Rattle.std.proofs.lemmas.Bool.{and_parts}
 use Rattle.std.proofs.lemmas.Bool.Decides.{nat_tests}
 use Rattle.std.proofs.lemmas.Cmp.{ranked, by_ranked}
-use Rattle.std.proofs.lemmas.List.Elements.{All-weaker, All-head, All-tail}
-use Rattle.std.proofs.lemmas.List.Sums.{AllPass-from_list_all}
+use Rattle.std.proofs.lemmas.List.Elements.{All-head, All-tail}
 use Rattle.cdxj_places.specs.Pair.{is_stamp}
-use Rattle.cdxj_places.specs.Pairs.{Pair, pair_cmp, place_pair}
+use Rattle.cdxj_places.specs.Pairs.{Pair, pair_cmp}
 use Rattle.cdxj_places.specs.Places.{PlaceValue, place_cmp}
 use Rattle.cdxj_places.proofs.PairLemmas.{pair_cmp_total}
 use Rattle.cdxj_core.specs.Members.{Member, member_pair, member_place}
 use Rattle.query_text.specs.Queries.{QueryValue}
-use Rattle.query_text.specs.Matching.{matches, key_matches, not_before, not_after, passes_filters}
+use Rattle.query_text.specs.Matching.{key_matches}
 use Rattle.query_text.proofs.RangeLaw.{match_not_below}
 use Rattle.page_core.specs.Pages.{is_above}
 use Rattle.merge_core.specs.PairOrders.{is_low}
@@ -25,11 +24,11 @@ use Rattle.query_core.specs.Starts.{first_stamp, later_pair, start_pair}
 
 pub and_left : (a b : Bool) → (a && b) ≡ true → a ≡ true
 and_left true b h = refl
-and_left false b h = absurd (true≢false (sym h))
+and_left false b h = cc
 
 pub and_right : (a b : Bool) → (a && b) ≡ true → b ≡ true
 and_right true b h = h
-and_right false b h = absurd (true≢false (sym h))
+and_right false b h = cc
 
 -- ---- orders
 
@@ -46,15 +45,6 @@ lt_reverse Greater h = cc
 -- a pair that isn't above that of a line
 not_low : (pair : Pair) (m : Member) → is_gt (pair_cmp pair (member_pair m)) ≡ false → is_low pair m ≡ false
 not_low pair m h = ap is_lt (pair_cmp_total.antisymm (member_pair m) pair) ∙ lt_reverse _ h
-
--- what is above in four parts isn't below in the first two
-above_not_low : (a b c : Ordering) → is_gt (ordering_then a (ordering_then b c)) ≡ true → is_lt (ordering_then a b)
-    ≡ false
-above_not_low Less b c h = cc
-above_not_low Equal Less c h = cc
-above_not_low Equal Equal c h = refl
-above_not_low Equal Greater c h = refl
-above_not_low Greater b c h = refl
 
 -- ---- the least stamp
 
@@ -79,33 +69,18 @@ least (suc n) (b ∷ s) e h =
 
 stamp_not_below : (stamp : List ℕ) → is_stamp stamp ≡ true → is_gt (slice_cmp nat_cmp first_stamp stamp) ≡ false
 unfolding zeros
-stamp_not_below stamp h =
-    least 14 stamp (eqb-true (length stamp) 14 (and_parts _ _ h).0)
-    (All-weaker (λ b. is_ascii_digit b ≡ true) (λ b. 48 ≤ b) digit_least stamp
-    (AllPass-from_list_all is_ascii_digit stamp (and_parts _ _ h).1))
+stamp_not_below stamp h = grind (arith, least, eqb-true, and_parts, digit_least)
 
 -- ---- the start
-
-above_place : (p : PlaceValue) (m : Member) → is_gt (place_cmp (member_place m) p) ≡ true → is_low (place_pair p) m
-    ≡ false
-above_place p m h = above_not_low (slice_cmp nat_cmp m.values.key p.key) (slice_cmp nat_cmp m.values.stamp p.stamp) _ h
 
 later_not_low : (pair : Pair) (from : Option PlaceValue) (m : Member) → is_low pair m ≡ false
     → is_above member_place place_cmp from m ≡ true → is_low (later_pair pair from) m ≡ false
 later_not_low pair None m h k = h
-later_not_low pair (Some p) m h k =
-    (elim (is_gt (pair_cmp (place_pair p) pair)) as (λ b. is_low (cond b (place_pair p) pair) m ≡ false)
-    [ true ↦ above_place p m k | false ↦ h ])
+later_not_low pair (Some p) m h k = grind arith
 
 wanted_key : (q : QueryValue) (from : Option PlaceValue) (m : Member) → is_wanted q from m ≡ true
     → key_matches q.target m.values.key ≡ true
-wanted_key q from m h =
-    let a = key_matches q.target m.values.key in
-    let b = not_before q.from m.values.stamp in
-    let c = not_after q.to m.values.stamp in
-    and_left a b (and_left (a && b) c
-    (and_left (a && b && c) (passes_filters q m.values)
-    (and_left (matches q m.values) (is_above member_place place_cmp from m) h)))
+wanted_key q from m h = grind arith
 
 -- a line with a stamp that is wanted doesn't stand below the start
 pub start_not_above : (q : QueryValue) (from : Option PlaceValue) (m : Member) → is_stamp m.values.stamp ≡ true
@@ -113,6 +88,4 @@ pub start_not_above : (q : QueryValue) (from : Option PlaceValue) (m : Member) �
 start_not_above q from m s h =
     later_not_low (q.target.text, first_stamp) from m
     (not_low (q.target.text, first_stamp) m
-    (then_not_above _ _ (match_not_below q.target m.values.key (wanted_key q from m h))
-    (stamp_not_below m.values.stamp s)))
-    (and_right (matches q m.values) (is_above member_place place_cmp from m) h)
+    (grind (arith, then_not_above, match_not_below, wanted_key, stamp_not_below))) (grind (arith, and_right))

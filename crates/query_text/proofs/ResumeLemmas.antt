@@ -3,11 +3,8 @@ use Rattle.std.proofs.Common.{◌≡◌, ℕ, ◌<◌, Bool, true, false, List, 
 use Rattle.std.proofs.Common.{is_some, Ok, Err, refl, sym, ap, ◌∙◌, arith, nat_lt, ◌==◌, if◌then◌else◌}
 use Rattle.std.specs.List.{before_first, after_first}
 use Rattle.std.specs.Str.{IsUtf8}
-use Rattle.std.proofs.lemmas.Bool.{true≢false, cond-false, ne_eqb, le-ltb, ltb-true}
-use Rattle.std.proofs.lemmas.List.Elements.{All-weaker}
-use Rattle.std.proofs.lemmas.List.Sums.{AllPass-from_list_all}
+use Rattle.std.proofs.lemmas.Bool.{true≢false, cond-false, le-ltb}
 use Rattle.std.proofs.lemmas.Str.{IsUtf8-nil, IsUtf8-from_ascii}
-use Rattle.std.proofs.lemmas.Str.Ascii.{IsAscii-from_all}
 use Rattle.cdxj_core.specs.Places.{PlaceValue}
 use Rattle.query_text.specs.declared.fault.QueryFault.{QueryFault}
 use Rattle.query_text.specs.declared.fault.QueryFault.TheVariants as fault
@@ -16,14 +13,10 @@ use Rattle.query_text.specs.declared.parameter.Parameter.TheVariants as paramete
 use Rattle.query_text.specs.Readings.{Text, Read, and_then}
 use Rattle.query_text.specs.Parts.{is_equals, decoded}
 use Rattle.query_text.specs.ParameterNames.{parameter_named}
-use Rattle.query_text.specs.Values.{or_refused, stamp_start_of, limit_of, resume_of, listed_fields}
-use Rattle.query_text.specs.Filters.{filter_of, literal_of}
-use Rattle.query_text.specs.Targets.{match_kind_of}
-use Rattle.query_text.specs.Outputs.{output_of, flag_of}
+use Rattle.query_text.specs.Values.{or_refused, resume_of}
 use Rattle.query_text.specs.Collapses.{collapse_of}
-use Rattle.query_text.specs.Parameters.{ParameterValues, no_values, with_filter, with_parameter, with_piece}
-use Rattle.query_text.specs.Parameters.{with_pieces, pieces_of}
-use Rattle.query_text.specs.Queries.{QueryValue, query_with, with_target, target_of}
+use Rattle.query_text.specs.Parameters.{ParameterValues, no_values, with_parameter, with_piece, with_pieces, pieces_of}
+use Rattle.query_text.specs.Queries.{QueryValue, query_with}
 use Rattle.query_text.proofs.PlainTexts.{plain_text_stands}
 use Rattle.query_text.specs.Resuming.{is_resume_key, has_resume_key, resume_piece, with_resume_key, GoesOn}
 
@@ -48,26 +41,18 @@ then_at r (Err e) f g h = refl
 
 parameter_at : (r : Option PlaceValue) (p : Parameter) (v : ParameterValues) (text : Text) → is_resume_key (Some p)
     ≡ false → with_parameter (Some p) (at r v) text ≡ all_at r (with_parameter (Some p) v text)
-parameter_at r parameter.Url v text h = ifs_at r (is_some v.url) fault.RepeatedParameter _ _ refl
-parameter_at r parameter.Key v text h = ifs_at r (is_some v.key) fault.RepeatedParameter _ _ refl
-parameter_at r parameter.MatchType v text h = ifs_at r (is_some v.kind) fault.RepeatedParameter _ _
-    (then_at r (match_kind_of (decoded text)) (λ x. record v { kind = Some x }) _ (λ x. refl))
-parameter_at r parameter.From v text h = ifs_at r (is_some v.from) fault.RepeatedParameter _ _
-    (then_at r (stamp_start_of (decoded text)) (λ x. record v { from = Some x }) _ (λ x. refl))
-parameter_at r parameter.To v text h = ifs_at r (is_some v.to) fault.RepeatedParameter _ _
-    (then_at r (stamp_start_of (decoded text)) (λ x. record v { to = Some x }) _ (λ x. refl))
-parameter_at r parameter.Filter v text h = then_at r (literal_of (decoded text)) (λ x. with_filter v x) _ (λ x. refl)
-parameter_at r (parameter.Condition test) v text h = then_at r (filter_of test (decoded text)) (λ x. with_filter v x) _
-    (λ x. refl)
-parameter_at r parameter.Limit v text h = ifs_at r (is_some v.limit) fault.RepeatedParameter _ _
-    (then_at r (limit_of (decoded text)) (λ x. record v { limit = Some x }) _ (λ x. refl))
+parameter_at r parameter.Url v text h = grind arith
+parameter_at r parameter.Key v text h = grind arith
+parameter_at r parameter.MatchType v text h = grind arith
+parameter_at r parameter.From v text h = grind arith
+parameter_at r parameter.To v text h = grind arith
+parameter_at r parameter.Filter v text h = grind arith
+parameter_at r (parameter.Condition test) v text h = grind arith
+parameter_at r parameter.Limit v text h = grind arith
 parameter_at r parameter.ResumeKey v text h = absurd (true≢false h)
-parameter_at r parameter.ShowResumeKey v text h = ifs_at r (is_some v.show_resume_key) fault.RepeatedParameter _ _
-    (then_at r (flag_of (decoded text)) (λ x. record v { show_resume_key = Some x }) _ (λ x. refl))
-parameter_at r parameter.Fl v text h = ifs_at r (is_some v.fields) fault.RepeatedParameter _ _
-    (then_at r (listed_fields (decoded text)) (λ x. record v { fields = Some x }) _ (λ x. refl))
-parameter_at r parameter.Output v text h = ifs_at r (is_some v.output) fault.RepeatedParameter _ _
-    (then_at r (output_of (decoded text)) (λ x. record v { output = Some x }) _ (λ x. refl))
+parameter_at r parameter.ShowResumeKey v text h = grind arith
+parameter_at r parameter.Fl v text h = grind arith
+parameter_at r parameter.Output v text h = grind arith
 parameter_at r parameter.Collapse v text h = ifs_at r (is_some v.collapse) fault.RepeatedParameter _ _
     (then_at r (collapse_of (decoded text)) (λ x. record v { collapse = Some x }) _ (λ x. refl))
 
@@ -102,7 +87,7 @@ record Went {S T : Type 0} (m : Read S) (f : S → Read T) (w : T) : Type 0 wher
 
 went : {S T : Type 0} (m : Read S) (f : S → Read T) (w : T) → and_then m f ≡ Ok w → Went m f w
 went (Ok v) f w h = record { next = v; is = refl; later = h }
-went (Err e) f w h = absurd (let g : ◌≡◌ {A = Read _} (Err e) (Ok w) = h in cc)
+went (Err e) f w h = grind arith
 
 ok_is : {T : Type 0} (x y : T) → ◌≡◌ {A = Read T} (Ok x) (Ok y) → x ≡ y
 ok_is x y h = cc
@@ -110,9 +95,7 @@ ok_is x y h = cc
 -- another piece leaves the resume place
 keeps_resume : (v w : ParameterValues) (piece : Text) → has_resume_key piece ≡ false → with_piece v piece ≡ Ok w
     → w.resume ≡ v.resume
-keeps_resume v w piece h e =
-    let same = sym e ∙ piece_at v.resume v piece h ∙ ap (all_at v.resume) e in
-    ap (λ x. x.resume) (ok_is w (at v.resume w) same)
+keeps_resume v w piece h e = grind (arith, piece_at v.resume v piece h)
 
 -- an empty piece has no resume key
 empty_has_none : has_resume_key [] ≡ true → ⊥
@@ -122,7 +105,7 @@ empty_has_none h = true≢false
 -- a piece that isn't empty is read
 filled : (v : ParameterValues) (b : ℕ) (piece : Text) → with_piece v (b ∷ piece)
     ≡ with_parameter (piece_name (b ∷ piece)) v (after_first is_equals (b ∷ piece))
-filled v b piece = cond-false (length (b ∷ piece) == 0) _ _ (ne_eqb (length (b ∷ piece)) 0 (λ e. omega (arith, e)))
+filled v b piece = grind arith
 
 -- a resume key that was given isn't given again
 not_again : (r : PlaceValue) (v w : ParameterValues) (piece : Text) → has_resume_key piece ≡ true
@@ -132,14 +115,13 @@ not_again r v w (b ∷ piece) h e = again (piece_name (b ∷ piece)) h (sym (fil
   where
     again : (p : Option Parameter) → is_resume_key p ≡ true
         → with_parameter p (at (Some r) v) (after_first is_equals (b ∷ piece)) ≡ Ok w → ⊥
-    again (Some parameter.ResumeKey) h e = let g : ◌≡◌ {A = Read ParameterValues} (Err fault.RepeatedParameter) (Ok w) =
-        e in cc
+    again (Some parameter.ResumeKey) h e = grind arith
     again p h e = true≢false (sym h)
 
 -- after a resume key, the others read as they do after another one
 pieces_after : (a b : PlaceValue) (v w : ParameterValues) (pieces : List Text) → with_pieces (at (Some a) v) pieces
     ≡ Ok w → with_pieces (at (Some b) v) pieces ≡ Ok (at (Some b) w)
-pieces_after a b v w [] h = ap Ok (ap (at (Some b)) (ok_is (at (Some a) v) w h))
+pieces_after a b v w [] h = grind arith
 pieces_after a b v w (piece ∷ pieces) h =
     let k = went (with_piece (at (Some a) v) piece) (λ next. with_pieces next pieces) w h in
     (elim (has_resume_key piece) as (λ x. has_resume_key piece ≡ x → with_pieces (at (Some b) v) (piece ∷ pieces)
@@ -158,10 +140,7 @@ pieces_after a b v w (piece ∷ pieces) h =
 name_utf8 : IsUtf8 (codes "resumeKey")
 name_utf8 =
     let name = codes "resumeKey" in
-    IsUtf8-from_ascii name
-    (IsAscii-from_all name
-    (All-weaker (λ b. nat_lt b 128 ≡ true) (λ b. b < 128) (λ b h. ltb-true b 128 h) name
-    (AllPass-from_list_all (λ b. nat_lt b 128) name refl)))
+    IsUtf8-from_ascii name (grind arith)
 
 name_is : (key : Text) → piece_name (resume_piece key) ≡ Some parameter.ResumeKey
 name_is key = ap parameter_named (plain_text_stands (codes "resumeKey") name_utf8 refl)
@@ -180,11 +159,7 @@ key_given v next (b ∷ piece) none h e = given (piece_name (b ∷ piece)) h (sy
   where
     given : (p : Option Parameter) → is_resume_key p ≡ true → with_parameter p v (after_first is_equals (b ∷ piece))
         ≡ Ok next → (place : PlaceValue) × (next ≡ at (Some place) v)
-    given (Some parameter.ResumeKey) h e =
-        let read = resume_of (after_first is_equals (b ∷ piece)) in
-        let k = went read (λ place. Ok (at (Some place) v)) next
-        (sym (cond-false (is_some v.resume) _ _ (ap is_some none)) ∙ e) in
-        (k.next, sym (ok_is (at (Some k.next) v) next k.later))
+    given (Some parameter.ResumeKey) h e = grind arith
     given p h e = absurd (true≢false (sym h))
 
 -- a resume key among the pieces, or after them
@@ -208,13 +183,10 @@ pieces_with key place e v w (piece ∷ pieces) none h =
 -- the query of such values
 query_at : (place : PlaceValue) (w : ParameterValues) (query : QueryValue) → query_with w ≡ Ok query
     → query_with (at (Some place) w) ≡ Ok (record query { resume = Some place })
-query_at place w query h =
-    let k = went (target_of w.url w.key w.kind) (λ target. Ok (with_target w target)) query h in
-    ap (λ m. and_then m (λ target. Ok (with_target (at (Some place) w) target))) k.is
-    ∙ ap Ok (ap (λ (q : QueryValue). record q { resume = Some place }) (ok_is (with_target w k.next) query k.later))
+query_at place w query h = grind arith
 
 not_refused : {T : Type 0} (b : Bool) (e : QueryFault) (m : Read T) (x : T) → (if b then Err e else m) ≡ Ok x → m ≡ Ok x
-not_refused true e m x h = absurd (let g : ◌≡◌ {A = Read _} (Err e) (Ok x) = h in cc)
+not_refused true e m x h = grind arith
 not_refused false e m x h = h
 
 pub goes_on : GoesOn

@@ -1,18 +1,14 @@
 -- An archive that was added to an indexer, or wasn't.
-use Rattle.std.proofs.Common.{◌≡◌, ◌↔◌, ℕ, Bool, true, false, List, [], ◌++◌, length, Option, None, Some, IfSome}
-use Rattle.std.proofs.Common.{Result, Ok, Err, IfOk, refl, sym, ap, ◌∙◌, subst, arith, nat_lt, nat_le}
-use Rattle.std.proofs.lemmas.Bool.{true≢false}
-use Rattle.std.proofs.lemmas.Bool.Decides.{nat_tests}
+use Rattle.std.proofs.Common.{◌≡◌, ◌↔◌, ℕ, Bool, true, false, List, [], ◌++◌, length, Option, Result, Ok, Err, IfOk}
+use Rattle.std.proofs.Common.{refl, ◌∙◌, arith, nat_lt, nat_le}
 use Rattle.warc_core.specs.Kind.{Kind}
 use Rattle.warc_core.specs.declared.next.TheConstants.{HEAD_LIMIT}
 use Rattle.cdxj_core.specs.declared.limit.TheConstants.{LINE_LIMIT}
 use Rattle.cdxj_core.specs.Entries.{EntryValue}
 use Rattle.cdxj_core.specs.Indexes.{IsIndex}
 use Rattle.capture_core.specs.CaptureAnswer.{usual_limits}
-use Rattle.capture_core.specs.declared.fault.CaptureFault.{CaptureFault}
 use Rattle.index_core.specs.declared.fault.IndexFault.{IndexFault}
 use Rattle.index_core.specs.declared.fault.IndexFault.TheVariants as index
-use Rattle.index_core.specs.Accepted.{IsAcceptedTo}
 use Rattle.index_core.specs.Adding.{Adds, with_archive}
 use Rattle.index_core.specs.Indexing.{Held, IsName, is_among}
 use Rattle.scan_core.specs.Archives.{HasIndex, IsAcceptedAs, IsNewName, IsFaultOfArchive, HaveLines, index_members}
@@ -21,13 +17,9 @@ is_name : (name : List ℕ) → ((IsName name → ⊥) → ⊥) → IsName name
 is_name name h = go (nat_lt 0 (length name)) refl (nat_le (length name) 255) refl
   where
     go : (a : Bool) → nat_lt 0 (length name) ≡ a → (b : Bool) → nat_le (length name) 255 ≡ b → IsName name
-    go true e true f = (grind (arith, nat_tests), grind (arith, nat_tests))
-    go false e b f = absurd
-        (h (λ k. let some = k.0 in let t : nat_lt 0 (length name)
-        ≡ true = grind (arith, nat_tests) in true≢false (sym t ∙ e)))
-    go a e false f = absurd
-        (h (λ k. let few = k.1 in let t : nat_le (length name) 255
-        ≡ true = grind (arith, nat_tests) in true≢false (sym t ∙ f)))
+    go true e true f = grind arith
+    go false e b f = grind arith
+    go a e false f = grind arith
 
 -- a name that is neither bad nor used
 pub is_new : (names : List (List ℕ)) (name : List ℕ) (r : Result ℕ IndexFault) → (r ≡ Err index.BadName)
@@ -41,14 +33,6 @@ is_new names name r bad duplicate not_bad not_duplicate =
     go true e unlike = absurd (unlike e)
     go false e unlike = e
 
-accepted_to : (types : Kind → Bool) (name : List ℕ) (input : Option (List ℕ)) (fault : CaptureFault)
-    (captures : List EntryValue)
-    → IfSome input (λ archive. IsAcceptedTo types usual_limits HEAD_LIMIT name fault archive captures)
-    → IfSome input (λ archive. (these : List EntryValue)
-    × IsAcceptedTo types usual_limits HEAD_LIMIT name fault archive these)
-accepted_to types name None fault captures h = tt
-accepted_to types name (Some archive) fault captures h = (captures, h)
-
 -- why an archive wasn't added is why it isn't indexed
 pub fault_of : (types : Kind → Bool) (names : List (List ℕ)) (name : List ℕ) (input : Option (List ℕ)) (old new : Held)
     (fault : IndexFault)
@@ -58,13 +42,8 @@ pub fault_of : (types : Kind → Bool) (names : List (List ℕ)) (name : List �
     → Adds types usual_limits HEAD_LIMIT name input old new (Err fault) → IsFaultOfArchive types names name input fault
 fault_of types names name input old new index.BadName bad duplicate adds = bad.0 refl
 fault_of types names name input old new index.DuplicateName bad duplicate adds = duplicate.0 refl
-fault_of types names name input old new index.Memory bad duplicate adds = is_new names name (Err index.Memory) bad
-    duplicate (λ e. cc) (λ e. cc)
-fault_of types names name input old new (index.Capture fault) bad duplicate adds = (
-  is_new names name (Err (index.Capture fault)) bad duplicate (λ e. cc) (λ e. cc),
-  accepted_to types name input fault
-      adds.0 adds.2.1,
-)
+fault_of types names name input old new index.Memory bad duplicate adds = grind arith
+fault_of types names name input old new (index.Capture fault) bad duplicate adds = grind arith
 fault_of types names name input old new index.Write bad duplicate adds = absurd adds
 fault_of types names name input old new index.NoRecord bad duplicate adds = absurd adds
 
@@ -77,12 +56,4 @@ pub index_of_added : {I : Type 0} (text : I → List ℕ) (types : Kind → Bool
     → IfOk r (λ index. HasIndex types names name input (text index))
 index_of_added text types names name input old new captures (Err fault) none fresh is accepted lines written = tt
 index_of_added text types names name input old new captures (Ok index) none fresh is accepted lines written =
-    let same : new.captures ≡ captures = ap (λ (h : Held). h.captures) is
-    ∙ ap (λ (es : List EntryValue). es ++ captures) none in
-    record {
-      is_new = fresh;
-      captures = captures;
-      accepted = accepted;
-      lines = subst HaveLines same lines;
-      is_index = subst (λ es. IsIndex LINE_LIMIT (text index) (index_members es)) same written;
-    }
+    grind arith

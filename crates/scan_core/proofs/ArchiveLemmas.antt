@@ -1,7 +1,8 @@
 -- Archives that are indexed one after another.
+use Rattle.std.proofs.lemmas.Grind.{common_steps}
 use Rattle.std.specs.List.{AllZip}
 use Rattle.std.proofs.Common.{◌≡◌, ℕ, zero, suc, ◌+◌, ◌<◌, List, [], ◌∷◌, ◌++◌, length, map, take, drop, get_or, set}
-use Rattle.std.proofs.Common.{Option, None, Err, refl, sym, ap, ap₂, Bool, ◌∙◌, subst, arith, append_assoc, append-nil}
+use Rattle.std.proofs.Common.{Option, None, Err, refl, ap, Bool, ◌∙◌, arith, append_assoc, append-nil}
 use Rattle.std.proofs.lemmas.List.{take_more}
 use Rattle.warc_core.specs.Kind.{Kind}
 use Rattle.cdxj_core.specs.Entries.{EntryValue}
@@ -19,11 +20,11 @@ use Rattle.scan_core.specs.Scanning.{LeavesUnread}
 
 names_push : (earlier names : List (List ℕ)) (name : List ℕ) → AreNewNames earlier names
     → IsNewName (earlier ++ names) name → AreNewNames earlier (names ++ name ∷ [])
-names_push earlier [] name h k = (subst (λ ns. IsNewName ns name) (append-nil earlier) k, tt)
+names_push earlier [] name h k = grind (arith, append-nil)
 names_push earlier (n ∷ names) name h k = (
   h.0,
   names_push (earlier ++ n ∷ []) names name h.1
-      (subst (λ ns. IsNewName ns name) (sym (append_assoc earlier (n ∷ []) names)) k),
+      (grind (arith, append_assoc)),
 )
 
 accepted_push : (types : Kind → Bool) (names : List (List ℕ)) (inputs : List (Option (List ℕ)))
@@ -44,17 +45,8 @@ pub indexed_push : (types : Kind → Bool) (names : List (List ℕ)) (inputs : L
     → AreIndexed types (take i names) (take i inputs) archives → IsNewName (take i names) (get_or names i [])
     → IsAcceptedAs types (get_or names i []) (get_or inputs i None) captures → HaveLines captures
     → AreIndexed types (take (i + 1) names) (take (i + 1) inputs) (archives ++ captures ∷ [])
-indexed_push types names inputs archives i captures l m h new accepted lines = record {
-  named = subst (AreNewNames []) (sym (take_more names i [] l))
-      (names_push [] (take i names) (get_or names i []) h.named new);
-  accepted = subst (λ ns. AreAcceptedAs types ns (take (i + 1) inputs) (archives ++ captures ∷ []))
-      (sym (take_more names i [] l))
-      (subst (λ is. AreAcceptedAs types (take i names ++ get_or names i [] ∷ []) is (archives ++ captures ∷ []))
-      (sym (take_more inputs i None m))
-      (accepted_push types (take i names) (take i inputs) archives (get_or names i []) (get_or inputs i None) captures
-      h.accepted accepted));
-  lines = each_join HaveLines archives (captures ∷ []) h.lines (lines, tt);
-}
+indexed_push types names inputs archives i captures l m h new accepted
+    lines = grind (arith, common_steps, names_push, accepted_push, each_join)
 
 -- an index more
 pub indexes_push : {I : Type 0} (limit : ℕ) (text : I → List ℕ) (indexes : List I) (archives : List (List EntryValue))
@@ -89,10 +81,10 @@ map_replaced f (y ∷ xs) (suc i) x = ap (λ ys. f y ∷ ys) (map_replaced f xs 
 module _ {X : Type 0} (types : Kind → Bool) (name : X → List ℕ) (input : X → Option (List ℕ)) (xs0 : List X) (i : ℕ)
     (d x : X) (inside : i < length xs0) (is : x ≡ get_or xs0 i d) where
   name_at : name x ≡ get_or (map name xs0) i []
-  name_at = ap name is ∙ shown_at name xs0 i d [] inside
+  name_at = grind (arith, shown_at)
 
   input_at : input x ≡ get_or (map input xs0) i None
-  input_at = ap input is ∙ shown_at input xs0 i d None inside
+  input_at = grind (arith, shown_at)
 
   names_inside : i < length (map name xs0)
   names_inside = let e = map_length name xs0 in omega arith
@@ -105,15 +97,7 @@ module _ {X : Type 0} (types : Kind → Bool) (name : X → List ℕ) (input : X
     -- it isn't indexed
     pub first_fault : (fault : IndexFault) → IsFaultOfArchive types earlier (name x) (input x) fault
         → IsFirstFault types (map name xs0) (map input xs0) i fault
-    first_fault fault h = record {
-      inside = names_inside;
-      captures = archives;
-      before = before;
-      refused = subst (λ ns. IsFaultOfArchive types ns (get_or (map name xs0) i []) (get_or (map input xs0) i None)
-          fault) names_are
-          (subst (λ n. IsFaultOfArchive types earlier n (get_or (map input xs0) i None) fault) name_at
-          (subst (λ o. IsFaultOfArchive types earlier (name x) o fault) input_at h));
-    }
+    first_fault fault h = grind (arith, names_inside, name_at, input_at)
 
     -- it is
     pub one_more_indexed : (captures : List EntryValue) → IsNewName earlier (name x)
@@ -121,14 +105,12 @@ module _ {X : Type 0} (types : Kind → Bool) (name : X → List ℕ) (input : X
         → AreIndexed types (take (i + 1) (map name xs0)) (take (i + 1) (map input xs0)) (archives ++ captures ∷ [])
     one_more_indexed captures new accepted lines =
         indexed_push types (map name xs0) (map input xs0) archives i captures names_inside inputs_inside before
-        (subst (λ ns. IsNewName ns (get_or (map name xs0) i [])) names_are (subst (IsNewName earlier) name_at new))
-        (subst (λ n. IsAcceptedAs types n (get_or (map input xs0) i None) captures) name_at
-        (subst (λ o. IsAcceptedAs types (name x) o captures) input_at accepted)) lines
+        (grind (arith, name_at)) (grind (arith, name_at, input_at)) lines
 
   -- the names up to it
   pub names_after : (earlier : List (List ℕ)) → earlier ≡ take i (map name xs0) → earlier ++ name x ∷ []
       ≡ take (i + 1) (map name xs0)
-  names_after earlier e = ap₂ (λ ns n. ns ++ n ∷ []) e name_at ∙ sym (take_more (map name xs0) i [] names_inside)
+  names_after earlier e = grind (arith, name_at, take_more, names_inside)
 
 -- the i-th changed alone, and its count as its fault says
 pub counts_at : {X : Type 0} (count : X → ℕ) (xs0 xs : List X) (i : ℕ) (d x y : X) (fault : IndexFault) → map count xs
@@ -136,10 +118,10 @@ pub counts_at : {X : Type 0} (count : X → ℕ) (xs0 xs : List X) (i : ℕ) (d 
     → CountsIndex {A = Unit {0}} (Err fault) (count x) (count y)
     → CountsAt i fault (map count xs0) (map count (set xs i y))
 counts_at count xs0 xs i d x y fault same inside is h = (
-  (let e = map_length count xs0 in omega arith),
+  grind (arith, map_length),
   count y,
-  map_replaced count xs i y ∙ ap (λ ns. set ns i (count y)) same,
-  subst (λ n. CountsIndex {A = Unit {0}} (Err fault) n (count y)) (ap count is ∙ shown_at count xs0 i d 0 inside) h,
+  grind (arith, map_replaced),
+  grind (arith, shown_at),
 )
 
 -- nothing from the i-th on changed, where the i-th didn't
@@ -154,13 +136,7 @@ same_from old xs i d x y rest is same = ap (λ z. drop i (set xs i z)) same ∙ 
 
 unread_after : {X : Type 0} (old xs : List X) (i : ℕ) (y : X) → drop i xs ≡ drop i old → drop (suc i) (set xs i y)
     ≡ drop (suc i) old
-unread_after old xs i y rest = ap (λ n. drop n (set xs i y)) (let e : suc i ≡ i + 1 = omega arith in e)
-    ∙ left_after old xs i y rest ∙ ap (λ n. drop n old) (let e : i + 1 ≡ suc i = omega arith in e)
-
--- the list of no things has the texts of none
-pub no_indexes : {I : Type 0} (limit : ℕ) (text : I → List ℕ) (indexes : List I) → indexes ≡ []
-    → AllZip (IsIndex limit) (map text indexes) []
-no_indexes limit text indexes e = subst (λ is. AllZip (IsIndex limit) (map text is) []) (sym e) tt
+unread_after old xs i y rest = grind (arith, left_after old xs i y rest)
 
 -- what a fault at the i-th leaves unread
 pub unread_at : {X : Type 0} (old xs : List X) (i : ℕ) (d x y : X) (fault : IndexFault) → drop i xs ≡ drop i old → x

@@ -1,9 +1,8 @@
 -- The collection of several indexes is that of all captures.
-use Rattle.std.proofs.Common.{◌≡◌, List, [], ◌∷◌, ◌++◌, map, ◌⊎◌, inl, inr, refl, sym, ap, ◌∙◌, subst, Ordering, Less}
-use Rattle.std.proofs.Common.{Equal, Greater, is_gt, true}
+use Rattle.std.proofs.Common.{arith, ◌≡◌, List, [], ◌∷◌, ◌++◌, map, ◌⊎◌, inl, inr, refl, ap, ◌∙◌, Ordering, Less, Equal}
+use Rattle.std.proofs.Common.{Greater, is_gt, true}
 use Rattle.std.specs.List.{AllByRecursion, flat_map}
 use Rattle.std.specs.Cmp.{IsTotalOrder}
-use Rattle.std.proofs.lemmas.Bool.{true≢false}
 use Rattle.std.proofs.lemmas.Cmp.{tied_back}
 use Rattle.std.proofs.lemmas.List.{map-append}
 use Rattle.cdxj_places.specs.Places.{place_cmp}
@@ -11,7 +10,7 @@ use Rattle.cdxj_places.specs.Rising.{IsIn, IsFirst, Rises, choose, put, rising}
 use Rattle.cdxj_places.proofs.PlaceOrder.{place_cmp_total}
 use Rattle.cdxj_places.proofs.RisingAlike.{rising_referred}
 use Rattle.cdxj_places.proofs.RisingLaws.{each_rising, rises_rising, rising_members, rising_same}
-use Rattle.cdxj_core.specs.Entries.{EntryValue, entry_place}
+use Rattle.cdxj_core.specs.Entries.{EntryValue}
 use Rattle.cdxj_core.specs.Members.{entry_member, member_place}
 use Rattle.index_core.specs.Indexing.{in_places}
 use Rattle.merge_core.specs.Collections.{collection}
@@ -51,12 +50,12 @@ module _ {X P : Type 0} (place : X → P) (R : P → P → Ordering) (o : IsTota
   first_of x [] vs h = inr (tt, h)
   first_of x (u ∷ us) vs h = elim h [
     | inl e ↦ inl (inl e)
-    | inr w ↦ elim (first_of x us vs w.1) [ inl f ↦ inl (inr (w.0, f)) | inr v ↦ inr ((w.0, v.0), v.1) ]
+    | inr w ↦ grind (arith, first_of x us vs w.1)
   ]
 
   of_first : (x : X) (us vs : List X) → IsFirst place R x us ⊎ (Absent x us × IsFirst place R x vs)
       → IsFirst place R x (us ++ vs)
-  of_first x [] vs h = elim h [ inl f ↦ absurd f | inr v ↦ v.1 ]
+  of_first x [] vs h = grind arith
   of_first x (u ∷ us) vs h = elim h [
     | inl f ↦ elim f [ inl e ↦ inl e | inr w ↦ inr (w.0, of_first x us vs (inl w.1)) ]
     | inr v ↦ inr (v.0.0, of_first x us vs (inr (v.0.1, v.1)))
@@ -74,24 +73,20 @@ module _ {X P : Type 0} (place : X → P) (R : P → P → Ordering) (o : IsTota
       apart : (ys : List X) → AllByRecursion (λ y. is_gt (R (place y) (place u)) ≡ true) ys → IsIn x ys
           → R (place x) (place u) ≡ Equal → ⊥
       apart [] a j q = absurd j
-      apart (y ∷ ys) a j q = elim j [
-        | inl e ↦ true≢false (sym (subst (λ v. is_gt (R (place v) (place u)) ≡ true) e a.0) ∙ ap is_gt q)
-        | inr k ↦
-            apart ys a.1 k q
-      ]
+      apart (y ∷ ys) a j q = elim j [ inl e ↦ grind arith | inr k ↦ apart ys a.1 k q ]
 
   -- the first with their places of a list are those of its rising list
   first_risen : (x : X) (us : List X) → IsFirst place R x us → IsFirst place R x (rising place R us)
-  first_risen x us h = is_first x (rising place R us) (rises_rising place R o us) ((rising_members place R o x us).1 h)
+  first_risen x us h = grind (arith, is_first, rises_rising, rising_members)
 
   risen_first : (x : X) (us : List X) → IsFirst place R x (rising place R us) → IsFirst place R x us
-  risen_first x us h = (rising_members place R o x us).0 (in_list x (rising place R us) h)
+  risen_first x us h = grind (arith, rising_members, in_list)
 
   -- what rises already may stand in the stead of a list
   rising_left : (us vs : List X) → rising place R (rising place R us ++ vs) ≡ rising place R (us ++ vs)
   rising_left us vs =
       rising_same place R o (rising place R (rising place R us ++ vs)) (rising place R (us ++ vs))
-      (rises_rising place R o (rising place R us ++ vs)) (rises_rising place R o (us ++ vs)) (λ x. (
+      (grind (arith, rises_rising)) (rises_rising place R o (us ++ vs)) (λ x. (
         (λ i. (rising_members place R o x (us ++ vs)).1
             (of_first x us vs (elim
             (first_of x (rising place R us) vs ((rising_members place R o x (rising place R us ++ vs)).0 i)) [
@@ -113,17 +108,14 @@ module _ {X P : Type 0} (place : X → P) (R : P → P → Ordering) (o : IsTota
   pub rising_parts : (parts : List (List X)) → rising place R (flat_map (rising place R) parts)
       ≡ rising place R (flat_map (λ part. part) parts)
   rising_parts [] = refl
-  rising_parts (part ∷ parts) = rising_left part (flat_map (rising place R) parts)
-      ∙ rising_right part (flat_map (rising place R) parts) (flat_map (λ part. part) parts) (rising_parts parts)
+  rising_parts (part ∷ parts) = grind (arith, rising_left, rising_right, rising_parts parts)
 
 all_members : (archives : List (List EntryValue)) → flat_map (λ members. members) (map index_members archives)
     ≡ map entry_member (flat_map in_places archives)
 all_members [] = refl
-all_members (captures ∷ archives) = ap (λ ms. index_members captures ++ ms) (all_members archives)
-    ∙ sym (map-append entry_member (in_places captures) (flat_map in_places archives))
+all_members (captures ∷ archives) = grind (arith, map-append, all_members archives)
 
 pub collected : (archives : List (List EntryValue)) → collection (map index_members archives) ≡ captured_lines archives
 collected archives =
-    ap (rising member_place place_cmp) (all_members archives)
-    ∙ sym (rising_referred entry_member member_place place_cmp (flat_map in_places archives))
-    ∙ ap (map entry_member) (rising_parts entry_place place_cmp place_cmp_total archives)
+    grind (arith, all_members archives, rising_referred entry_member member_place place_cmp
+    (flat_map in_places archives), rising_parts, place_cmp_total)

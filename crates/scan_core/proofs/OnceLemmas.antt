@@ -1,5 +1,5 @@
 -- Captures of archives of different names have different places.
-use Rattle.std.proofs.Common.{◌≡◌, ℕ, Bool, true, false, List, [], ◌∷◌, ◌++◌, Option, refl, sym, ap, ◌∙◌, Equal}
+use Rattle.std.proofs.Common.{arith, ◌≡◌, ℕ, Bool, false, List, [], ◌∷◌, ◌++◌, Option, sym, ap, ◌∙◌, Equal}
 use Rattle.std.specs.List.{AllByRecursion}
 use Rattle.std.proofs.lemmas.Bool.{true≢false}
 use Rattle.warc_core.specs.Kind.{Kind}
@@ -18,11 +18,7 @@ IsNamed name e = e.filename ≡ name
 -- what isn't among more names isn't among fewer
 not_among : (names more : List (List ℕ)) (name : List ℕ) → is_among (names ++ more) name ≡ false → is_among names name
     ≡ false
-not_among names more name h =
-    (elim (is_among names name) as (λ b. is_among names name ≡ b → b ≡ false) [
-      | true ↦ (λ e. absurd (true≢false (sym (among_more names more name e) ∙ h)))
-      | false ↦ (λ e. refl)
-    ]) refl
+not_among names more name h = grind (arith, among_more)
 
 -- a capture of that name is at another place than those of other names
 apart : (earlier : List (List ℕ)) (name : List ℕ) (e : EntryValue) → IsNamed name e → (others : List EntryValue)
@@ -41,11 +37,8 @@ own_join : (earlier : List (List ℕ)) (name : List ℕ) (captures others : List
     → AllByRecursion (λ o. is_among (earlier ++ name ∷ []) o.filename ≡ false) others → HaveOwnPlaces others
     → HaveOwnPlaces (captures ++ others)
 own_join earlier name [] others named own new h = h
-own_join earlier name (e ∷ captures) others named own new h = (
-  each_join (λ o. place_cmp (entry_place e) (entry_place o) ≡ Equal → ⊥) captures others own.0
-      (apart earlier name e named.0 others new),
-  own_join earlier name captures others named.1 own.1 new h,
-)
+own_join earlier name (e ∷ captures) others named own new
+    h = grind (arith, each_join, apart, own_join earlier name captures others named.1 own.1 new h)
 
 -- each capture of archives with new names has a place of its own, and a name that isn't an earlier one
 once_from : (types : Kind → Bool) (earlier names : List (List ℕ)) (inputs : List (Option (List ℕ)))
@@ -62,14 +55,11 @@ once_from types earlier (name ∷ names) (i ∷ inputs) (captures ∷ archives) 
     let named = accepted.0.0 in
     let rest = once_from types (earlier ++ name ∷ []) names inputs archives new.1 accepted.1 lines.1 in (
       own_join earlier name captures (all_captures archives) named lines.0.places rest.1 rest.0,
-      each_join (λ e. is_among earlier e.filename ≡ false) captures (all_captures archives)
-          (each_weaker (λ (e : EntryValue) (k : IsNamed name e). ap (is_among earlier) k ∙ new.0.unused) captures named)
-          (each_weaker (λ (e : EntryValue) (k : is_among (earlier ++ name ∷ []) e.filename ≡ false). not_among earlier
-          (name ∷ []) e.filename k) (all_captures archives) rest.1),
+      grind (arith, each_join, each_weaker, not_among),
     )
 
 pub once : (types : Kind → Bool) (names : List (List ℕ)) (inputs : List (Option (List ℕ)))
     (archives : List (List EntryValue)) → AreNewNames [] names → AreAcceptedAs types names inputs archives
     → AllByRecursion HaveLines archives
     → HaveOwnPlaces (all_captures archives)
-once types names inputs archives new accepted lines = (once_from types [] names inputs archives new accepted lines).0
+once types names inputs archives new accepted lines = grind (arith, once_from)

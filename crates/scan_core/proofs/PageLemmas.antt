@@ -1,8 +1,7 @@
 -- Pages over indexes in memory.
 use Rattle.std.specs.List.{AllZip}
-use Rattle.std.proofs.Common.{◌≡◌, ℕ, zero, suc, ◌<◌, ◌≤◌, nat_lt, true, false, List, [], ◌∷◌, length, map, get_or}
-use Rattle.std.proofs.Common.{set, Option, None, Some, Result, Ok, Err, IfErr, if◌then◌else◌, refl, sym, ap, ◌∙◌, subst}
-use Rattle.std.proofs.Common.{arith}
+use Rattle.std.proofs.Common.{◌≡◌, ℕ, zero, suc, ◌<◌, ◌≤◌, nat_lt, true, false, List, [], ◌∷◌, length, map, get_or, set}
+use Rattle.std.proofs.Common.{Option, Some, Result, Ok, Err, IfErr, if◌then◌else◌, refl, ◌∙◌, subst, arith}
 use Rattle.std.proofs.lemmas.Bool.Decides.{nat_tests}
 use Rattle.cdxj_core.specs.declared.limit.TheConstants.{LINE_LIMIT}
 use Rattle.cdxj_core.specs.Indexes.{IsIndex}
@@ -17,9 +16,8 @@ use Rattle.query_core.specs.IndexFaults.{IsAnswerFaultOf}
 use Rattle.query_core.specs.declared.merging.TheConstants.{SOURCES_LIMIT}
 use Rattle.query_core.specs.Paging.{are_sizes}
 use Rattle.query_core.specs.QueryLaws.{NoLineIsAtFault}
-use Rattle.query_core.specs.Refusals.{IsBeforeReading, Refuses, bad_sizes_or_too_many, too_many}
+use Rattle.query_core.specs.Refusals.{IsBeforeReading, Refuses, bad_sizes_or_too_many}
 use Rattle.scan_core.proofs.ArchiveLemmas.{map_length}
-use Rattle.scan_core.specs.Failures.{CountsWriting}
 use Rattle.scan_core.specs.Scanning.{IsPagesFault}
 
 -- sources in memory tell their bytes
@@ -34,7 +32,7 @@ known_texts text sources texts e = subst (Known (map (λ s. Some (text s)) sourc
 -- lists that show one list are of one length
 pub same_length : {X Y Z : Type 0} (f : X → Z) (g : Y → Z) (xs : List X) (ys : List Y) → map f xs ≡ map g ys → length xs
     ≡ length ys
-same_length f g xs ys e = sym (map_length f xs) ∙ ap length e ∙ map_length g ys
+same_length f g xs ys e = grind (arith, map_length)
 
 abbrev zeros : {S : Type 0} → List S → List ℕ
 zeros ss = map (λ s. 0) ss
@@ -52,10 +50,7 @@ put_at (m ∷ ns) (suc i) n l = put_at ns i n (omega arith)
 -- no count of 0 rises where all stay 0
 pub none_raised : {S : Type 0} (i : ℕ) (old new : List S) → RaisedAt i (zeros old) (zeros new) → ⊥
 none_raised i old new h =
-    let raised : 0 ≡ next_count (get_or (zeros old) i 0) = sym (zero_at new i) ∙ ap (λ ns. get_or ns i 0) h.1
-    ∙ put_at (zeros old) i (next_count (get_or (zeros old) i 0)) h.0 in
-    let none : 0 ≡ next_count 0 = raised ∙ ap next_count (zero_at old i) in
-    omega (arith, none)
+    grind (arith, zero_at new i, put_at (zeros old) i (next_count (get_or (zeros old) i 0)) h.0, zero_at)
 
 -- pages over indexes meet no fault of a line or of a source
 pub pages_fault : {S : Type 0} → NoLineIsAtFault
@@ -77,19 +72,6 @@ pages_fault law (Err answer.TooManySources) tolds texts members old new o o' kno
 pages_fault law (Err answer.BadSizes) tolds texts members old new o o' known are f counts late = late tt
 pages_fault law (Err answer.Input) tolds texts members old new o o' known are f counts late = counts
 
--- the output's count is that of the pages
-pub counts_writing : (r : Result ℕ AnswerFault) (ss ss' : List ℕ) (o o' : ℕ) → CountsAnswer r ss ss' o o'
-    → CountsWriting r o o'
-counts_writing (Ok n) ss ss' o o' counts = counts.1
-counts_writing (Err answer.Memory) ss ss' o o' counts = counts.1
-counts_writing (Err (answer.Read i)) ss ss' o o' counts = counts.1
-counts_writing (Err answer.Write) ss ss' o o' counts = counts.1
-counts_writing (Err (answer.BadLine i n)) ss ss' o o' counts = counts.1
-counts_writing (Err (answer.OutOfOrder i n)) ss ss' o o' counts = counts.1
-counts_writing (Err answer.TooManySources) ss ss' o o' counts = counts.1
-counts_writing (Err answer.BadSizes) ss ss' o o' counts = counts.1
-counts_writing (Err answer.Input) ss ss' o o' counts = absurd counts
-
 few : (limit count : ℕ) → count ≤ limit → nat_lt limit count ≡ false
 few limit count h = grind (arith, nat_tests)
 
@@ -97,6 +79,4 @@ few limit count h = grind (arith, nat_tests)
 pub not_refused : (r : Result ℕ AnswerFault) (sizes : List ℕ) (count : ℕ) (X : Type 0) → are_sizes sizes ≡ true
     → count ≤ SOURCES_LIMIT
     → Refuses (bad_sizes_or_too_many sizes count) r X → IfErr r (λ e. IsBeforeReading e → ⊥)
-not_refused r sizes count X sized h refused =
-    subst (λ b. Refuses (if b then Some answer.TooManySources else None) r X) (few SOURCES_LIMIT count h)
-    (subst (λ b. Refuses (if b then too_many count else Some answer.BadSizes) r X) sized refused)
+not_refused r sizes count X sized h refused = grind arith

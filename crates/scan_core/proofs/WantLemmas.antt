@@ -1,14 +1,11 @@
 -- A scan of which nothing is at fault is refused for want of memory.
-use Rattle.std.specs.List.{AllZip}
+use Rattle.std.specs.List.{AllZip, AllByRecursion}
 use Rattle.std.proofs.Common.{◌≡◌, ℕ, zero, suc, ◌<◌, Bool, List, [], ◌∷◌, ◌++◌, length, take, get_or, set, Option}
-use Rattle.std.proofs.Common.{None, Some, IfSome, Result, Ok, Err, refl, sym, ap, ◌∙◌, subst, arith, append_assoc}
-use Rattle.std.proofs.Common.{append-nil}
-use Rattle.std.specs.List.{AllByRecursion}
+use Rattle.std.proofs.Common.{None, Some, IfSome, refl, sym, ◌∙◌, subst, arith, append_assoc, append-nil}
 use Rattle.std.proofs.lemmas.Bool.{true≢false}
 use Rattle.warc_core.specs.Kind.{Kind}
 use Rattle.warc_core.specs.declared.fault.Cause.{Cause}
 use Rattle.warc_core.specs.declared.fault.Cause.TheVariants as causes
-use Rattle.warc_core.specs.Answers.{CountsRead}
 use Rattle.warc_core.specs.declared.next.TheConstants.{HEAD_LIMIT}
 use Rattle.devices.specs.Device.{next_count}
 use Rattle.capture_core.specs.declared.fault.CaptureFault.{CaptureFault}
@@ -21,9 +18,7 @@ use Rattle.index_core.specs.Accepted.{IsAcceptedWhole, IsAcceptedTo}
 use Rattle.index_core.specs.Laws.{IsNoFaultOfArchive, WholeIsNotRefused}
 use Rattle.index_core.specs.Report.{IsNoDamage}
 use Rattle.merge_core.specs.Collections.{Known}
-use Rattle.query_text.specs.declared.fault.QueryFault.{QueryFault}
 use Rattle.query_text.specs.declared.fault.QueryFault.TheVariants as refusal
-use Rattle.query_text.specs.Queries.{QueryValue}
 use Rattle.query_core.specs.declared.fault.AnswerFault.TheVariants as answer
 use Rattle.scan_core.specs.declared.fault.ScanFault.TheVariants.{Query, Archive, Answer}
 use Rattle.scan_core.specs.Archives.{IsNewName, AreNewNames, IsFaultOfArchive}
@@ -36,9 +31,9 @@ use Rattle.scan_core.proofs.PageLemmas.{put_at}
 new_at : (earlier names : List (List ℕ)) (i : ℕ) → AreNewNames earlier names → i < length names
     → IsNewName (earlier ++ take i names) (get_or names i [])
 new_at earlier [] i h l = absurd (omega arith)
-new_at earlier (n ∷ names) zero h l = subst (λ ns. IsNewName ns n) (sym (append-nil earlier)) h.0
-new_at earlier (n ∷ names) (suc i) h l = subst (λ ns. IsNewName ns (get_or names i []))
-    (append_assoc earlier (n ∷ []) (take i names)) (new_at (earlier ++ n ∷ []) names i h.1 (omega arith))
+new_at earlier (n ∷ names) zero h l = grind (arith, append-nil)
+new_at earlier (n ∷ names) (suc i) h
+    l = grind (arith, append_assoc, new_at (earlier ++ n ∷ []) names i h.1 (omega arith))
 
 -- the archive with this number is told, and accepted whole
 record ToldWhole (types : Kind → Bool) (name : List ℕ) (input : Option (List ℕ)) : Type 0 where
@@ -70,9 +65,7 @@ each_at (n ∷ ns) (suc i) h l = each_at ns i h.1 (omega arith)
 -- the count of an input stays, so it didn't fail
 stayed : (i : ℕ) (counts : List ℕ) (n : ℕ) → AllByRecursion MayRise counts → i < length counts → counts ≡ set counts i n
     → n ≡ next_count (get_or counts i 0) → ⊥
-stayed i counts n may l same e =
-    let here : get_or counts i 0 ≡ n = ap (λ ns. get_or ns i 0) same ∙ put_at counts i n l in
-    not_next (get_or counts i 0) (each_at counts i may l) (here ∙ e)
+stayed i counts n may l same e = grind (arith, put_at, each_at)
 
 memory_cause : (c : Cause) → IsNoDamage c → (c ≡ causes.Read → ⊥) → c ≡ causes.Memory
 memory_cause causes.Memory h n = refl
@@ -99,8 +92,7 @@ module _ (whole_is_not_refused : WholeIsNotRefused) (types : Kind → Bool) (nam
   read_counts : (offset : ℕ) (c : Cause)
       → CountsAt i (index.Capture (capture.Archive (record { offset = offset; cause = c }))) counts counts → c
       ≡ causes.Read → ⊥
-  read_counts offset c h e = stayed i counts h.1 may h.0 h.2
-      (subst (λ x. CountsRead {A = Unit {0}} (Err x) (get_or counts i 0) h.1) e h.3)
+  read_counts offset c h e = grind (arith, stayed)
 
   archive_want : (fault : IndexFault) → IsFaultOfArchive types (take i names) (get_or names i []) (get_or inputs i None)
       fault → CountsAt i fault counts counts → IsWantOfMemory (Archive i fault)
@@ -114,21 +106,16 @@ module _ (whole_is_not_refused : WholeIsNotRefused) (types : Kind → Bool) (nam
   archive_want index.Write h k = h
   archive_want index.NoRecord h k = h
 
-ok_not_err : (query : QueryValue) (fault : QueryFault) (r : Result QueryValue QueryFault) → r ≡ Ok query → r ≡ Err fault
-    → ⊥
-ok_not_err query fault r e f = let g : ◌≡◌ {A = Result QueryValue QueryFault} (Ok query) (Err fault) = sym e ∙ f in cc
-
 pub only_memory : WholeIsNotRefused → OnlyMemoryIsWanting
 only_memory law types names archives inputs sizes text (Query refusal.Memory) counts count s known h may k may' k' = tt
-only_memory law types names archives inputs sizes text (Query fault) counts count s known h may k may' k' = absurd
-    (ok_not_err s.query _ _ s.asked.meaning h.1)
+only_memory law types names archives inputs sizes text (Query fault) counts count s known h may k may' k' = grind arith
 only_memory law types names archives inputs sizes text (Archive i fault) counts count s known h may k may' k' =
-    archive_want law types names archives inputs i counts s.named known s.whole h.2.inside may fault h.2.refused k
+    grind (arith, archive_want)
 only_memory law types names archives inputs sizes text (Answer answer.Memory) counts count s known h may k may' k' = tt
 only_memory law types names archives inputs sizes text (Answer answer.Write) counts count s known h may k may' k' =
     not_next count may' k'
 only_memory law types names archives inputs sizes text (Answer answer.BadSizes) counts count s known h may k may' k' =
     true≢false (sym s.asked.sizes ∙ h)
 only_memory law types names archives inputs sizes text (Answer answer.TooManySources) counts count s known h may k may'
-    k' = let few = s.asked.few in let many = h.3 in omega (arith, few, many)
+    k' = grind arith
 only_memory law types names archives inputs sizes text (Answer fault) counts count s known h may k may' k' = absurd h

@@ -7,19 +7,7 @@ use Rattle.page_core.specs.Rows.{is_hidden}
 use Rattle.page_core.proofs.hidden.count_hidden.Goals as goal
 
 pub overflow_add-count : goal.overflow_add-count
-overflow_add-count c =
-    let bytes = c.args.bytes.now in
-    let lanes = chunk c.by_lanes.end 16 bytes in
-    let room : c.by_lanes.end + 16 ≤ length bytes = omega (arith, c.by_lanes.invariant.0, c.by_lanes-test.true) in
-    let few = count_by-le-length is_hidden lanes in
-    omega (
-      arith,
-      few,
-      room,
-      length-chunk c.by_lanes.end 16 bytes room,
-      c.count_lanes-count.ensures,
-      c.by_lanes.invariant.1,
-    )
+overflow_add-count c = grind (arith, count_by-le-length)
 
 pub by_lanes-preserved : goal.by_lanes-preserved
 by_lanes-preserved c =

@@ -1,5 +1,4 @@
-use Rattle.std.proofs.Common.{◌≡◌, ◌++◌, ℕ, length, map, List, [], Option, Some, true, refl, sym, ap, ◌∙◌}
-use Rattle.std.proofs.Common.{append-nil, arith}
+use Rattle.std.proofs.Common.{◌≡◌, ◌++◌, ℕ, map, List, [], Option, Some, true, refl, sym, ap, ◌∙◌, append-nil, arith}
 use Rattle.std.proofs.lemmas.Bool.{true≢false, false_from_ne_true}
 use Rattle.std.proofs.lemmas.List.{length-map}
 use Rattle.std.proofs.lemmas.Result.{err_from_is_err_and}
@@ -18,57 +17,44 @@ use Rattle.page_writers.specs.QueryPages.{form_of, query_page}
 use Rattle.page_writers.specs.WriterView.{Wrote}
 use Rattle.page_writers.specs.declared.page_writer.PageWriter.{PageWriter}
 use Rattle.query_core.proofs.AskedLemmas.{asked_is, page_broke, page_settled}
-use Rattle.query_core.specs.Conversions.{fault_of_text}
-use Rattle.query_core.proofs.ConversionLemmas.{text_late, text_line, text_raised}
-use Rattle.query_core.proofs.CountLemmas.{raised_after}
 use Rattle.query_core.proofs.FewerLines.{page_fewer}
 use Rattle.query_core.proofs.PageExits.{end_front, page_ended, rows_front, start_front, stood}
 use Rattle.query_core.proofs.PageReach.{all_read, none_follows, page_not_reached, page_reached, within_page}
-use Rattle.query_core.proofs.RefusalLemmas.{refuses_few, refuses_many}
+use Rattle.query_core.proofs.RefusalLemmas.{refuses_few}
 use Rattle.query_core.proofs.answering.answer.Given.{Over}
 use Rattle.query_core.proofs.answering.answer.Goals.{In_ok-writer, In_ok-pass}
 use Rattle.query_core.proofs.answering.answer.Goals as goal
 
 no_lines : (texts : List (Option (List ℕ))) → AreLinesOf LINE_LIMIT texts []
-no_lines texts = record { rise = tt; each = tt }
+no_lines texts = grind arith
 
 -- ---- the writer
 
 begun : (g : Over) (c : In_ok-writer g) → Wrote c.in_ok-writer.writer c.in_ok-writer.writer []
     (g.O.Output.written c.args.out.now)
     (g.O.Output.written c.begin.new.out)
-begun g c = (((refl, refl), refl), c.in_ok-writer.ensures.stands)
+begun g c = grind arith
 
 at : (g : Over) (c : In_ok-writer g) (w : PageWriter) (lines : List Member) (now : Option (List ℕ))
     → Wrote c.in_ok-writer.writer w lines (g.O.Output.written c.args.out.now) now
     → PageStands (form_of c.args.query.now) c.args.query.now.limit
     (captures_over c.args.query.now c.args.query.now.resume lines) (g.O.Output.written c.args.out.now) now w.given
     w.more w.last
-at g c w lines now wrote = stood c.in_ok-writer.writer c.args.query.now c.in_ok-writer.ensures.query w lines
-    (g.O.Output.written c.args.out.now) now wrote
+at g c w lines now wrote = grind arith
 
 -- captures after which it wanted more don't pass the page
 within : (g : Over) (c : In_ok-writer g) (w : PageWriter) (lines : List Member) (now : Option (List ℕ))
     → Wrote c.in_ok-writer.writer w lines (g.O.Output.written c.args.out.now) now
     → ((c.in_ok-writer.writer.more ≡ true → ⊥) → w.more ≡ true → ⊥)
     → AreAtMost c.args.query.now.limit (captures_over c.args.query.now c.args.query.now.resume lines)
-within g c w lines now wrote more =
-    let q = c.args.query.now in
-    let fresh : c.in_ok-writer.writer.more ≡ true
-    → ⊥ = λ e. true≢false
-    (sym e ∙ (at g c c.in_ok-writer.writer [] (g.O.Output.written c.begin.new.out) (begun g c)).more_is
-    ∙ none_follows q.limit) in
-    within_page q.limit (captures_over q q.resume lines) c.in_ok-writer.ensures.some
-    (sym (at g c w lines now wrote).more_is
-    ∙ false_from_ne_true _ (more fresh))
+within g c w lines now wrote more = grind (arith, true≢false, at, begun, none_follows, within_page, false_from_ne_true)
 
 -- all lines that were taken
 came : (g : Over) (c : In_ok-pass g)
     → Wrote c.in_ok-writer.writer c.read_lines.new.sink.writer c.in_ok-pass.ensures.took.lines
     (g.O.Output.written c.args.out.now) (g.O.Output.written c.read_lines.new.out)
 came g c = c.in_ok-pass.ensures.took.came (record { writer = c.in_ok-writer.writer })
-    (g.O.Output.written c.args.out.now)
-    (((refl, refl), refl), c.in_ok-writer.ensures.stands)
+    (g.O.Output.written c.args.out.now) (grind arith)
 
 -- the page of lines of which these were taken, if they settle it
 settled : (g : Over) (c : In_ok-pass g) (all rest : List Member)
@@ -90,73 +76,39 @@ settled g c all rest split ended =
 -- ---- what is refused, and failures
 
 pub returns-then-sources-gt-SOURCES_LIMIT-clause-refused : goal.returns-then-sources-gt-SOURCES_LIMIT-clause-refused
-returns-then-sources-gt-SOURCES_LIMIT-clause-refused g c =
-    refuses_many _ (length c.args.sources.now) _ c.if-sources-gt-SOURCES_LIMIT.true (refl, refl)
+returns-then-sources-gt-SOURCES_LIMIT-clause-refused g c = grind arith
 
 pub returns-in_err-writer-clause-refused : goal.returns-in_err-writer-clause-refused
-returns-in_err-writer-clause-refused g c =
-    let p = err_from_is_err_and c.from_residual.result c.from_residual.ensures.1 in
-    rw (p.1, p.2) (refuses_few (length c.args.sources.now) _ _ c.if-sources-gt-SOURCES_LIMIT.false
-    (text_late c.in_err-writer.field-0.0))
+returns-in_err-writer-clause-refused g c = grind arith
 
 pub returns-in_err-pass-clause-refused : goal.returns-in_err-pass-clause-refused
-returns-in_err-pass-clause-refused g c =
-    let p = err_from_is_err_and c.from_residual-in_err-pass.result c.from_residual-in_err-pass.ensures.1 in
-    rw (p.1, p.2) (refuses_few (length c.args.sources.now) _ _
-    c.if-sources-gt-SOURCES_LIMIT.false c.in_err-pass.ensures.late)
+returns-in_err-pass-clause-refused g c = grind arith
 
 pub returns-in_err-end-clause-refused : goal.returns-in_err-end-clause-refused
-returns-in_err-end-clause-refused g c =
-    let p = err_from_is_err_and c.from_residual-in_err-end.result c.from_residual-in_err-end.ensures.1 in
-    rw (p.1, p.2) (refuses_few (length c.args.sources.now) _ _ c.if-sources-gt-SOURCES_LIMIT.false
-    (text_late c.in_err-end.field-0.0))
+returns-in_err-end-clause-refused g c = grind arith
 
 pub returns-clause-refused : goal.returns-clause-refused
-returns-clause-refused g c = refuses_few (length c.args.sources.now) _ _ c.if-sources-gt-SOURCES_LIMIT.false tt
+returns-clause-refused g c = grind (arith, refuses_few)
 
 pub returns-in_err-writer-clause-failures : goal.returns-in_err-writer-clause-failures
-returns-in_err-writer-clause-failures g c =
-    let p = err_from_is_err_and c.from_residual.result c.from_residual.ensures.1 in
-    rw (p.1, p.2) (text_raised c.in_err-writer.field-0.0 (map g.S.Source.failures c.args.sources.now)
-    (g.O.Output.failures c.args.out.now)
-    (g.O.Output.failures c.begin.new.out) c.in_err-writer.ensures.failures)
+returns-in_err-writer-clause-failures g c = grind arith
 
 pub returns-in_err-pass-clause-failures : goal.returns-in_err-pass-clause-failures
-returns-in_err-pass-clause-failures g c =
-    let p = err_from_is_err_and c.from_residual-in_err-pass.result c.from_residual-in_err-pass.ensures.1 in
-    rw (p.1, p.2) (let ss = map g.S.Source.failures c.args.sources.now in
-    raised_after c.in_err-pass.field-0.0 ss ss (map g.S.Source.failures c.read_lines.new.sources)
-    (g.O.Output.failures c.args.out.now) (g.O.Output.failures c.begin.new.out)
-    (g.O.Output.failures c.read_lines.new.out)
-    refl c.in_ok-writer.ensures.failures c.in_err-pass.ensures.failures)
+returns-in_err-pass-clause-failures g c = grind arith
 
 pub returns-in_err-end-clause-failures : goal.returns-in_err-end-clause-failures
-returns-in_err-end-clause-failures g c =
-    let p = err_from_is_err_and c.from_residual-in_err-end.result c.from_residual-in_err-end.ensures.1 in
-    rw (p.1, p.2) (let now = map g.S.Source.failures c.read_lines.new.sources in
-    let mid = g.O.Output.failures c.read_lines.new.out in
-    let new = g.O.Output.failures c.end.new.out in
-    let read = c.in_ok-pass.ensures.failures in
-    raised_after (fault_of_text c.in_err-end.field-0.0) (map g.S.Source.failures c.args.sources.now) now now
-    (g.O.Output.failures c.args.out.now) mid new
-    read.0 (read.1 ∙ c.in_ok-writer.ensures.failures)
-    (text_raised c.in_err-end.field-0.0 now mid new c.in_err-end.ensures.failures))
+returns-in_err-end-clause-failures g c = grind arith
 
 pub returns-in_err-writer-clause-fault : goal.returns-in_err-writer-clause-fault
-returns-in_err-writer-clause-fault g c =
-    let p = err_from_is_err_and c.from_residual.result c.from_residual.ensures.1 in
-    rw (p.1, p.2) (text_line LINE_LIMIT (map g.S.Source.text c.args.sources.now) c.in_err-writer.field-0.0)
+returns-in_err-writer-clause-fault g c = grind arith
 
 pub returns-in_err-end-clause-fault : goal.returns-in_err-end-clause-fault
-returns-in_err-end-clause-fault g c =
-    let p = err_from_is_err_and c.from_residual-in_err-end.result c.from_residual-in_err-end.ensures.1 in
-    rw (p.1, p.2) (text_line LINE_LIMIT (map g.S.Source.text c.args.sources.now) c.in_err-end.field-0.0)
+returns-in_err-end-clause-fault g c = grind arith
 
 -- ---- the page of lines of the sources
 
 pub returns-then-sources-gt-SOURCES_LIMIT-clause-lines : goal.returns-then-sources-gt-SOURCES_LIMIT-clause-lines
-returns-then-sources-gt-SOURCES_LIMIT-clause-lines g c =
-    ([], no_lines (map g.S.Source.text c.args.sources.now), wrote_nothing _ _)
+returns-then-sources-gt-SOURCES_LIMIT-clause-lines g c = ([], grind arith, wrote_nothing _ _)
 
 pub returns-in_err-writer-clause-lines : goal.returns-in_err-writer-clause-lines
 returns-in_err-writer-clause-lines g c =
@@ -293,28 +245,10 @@ returns-clause-parts g c = λ texts known.
 -- ---- what was read
 
 pub returns-then-sources-gt-SOURCES_LIMIT-clause-reads : goal.returns-then-sources-gt-SOURCES_LIMIT-clause-reads
-returns-then-sources-gt-SOURCES_LIMIT-clause-reads g c = record {
-  probes = tt;
-  lines = λ texts indexes known are. tt;
-  bytes = λ texts indexes known are.
-      page_not_reached g.S.Source.text g.S.Source.extent g.S.Source.gave c.args.query.now texts indexes
-      (g.O.Output.written c.args.out.now) (g.O.Output.written c.args.out.now) c.args.sources.now known are
-      (grows_not _);
-  held = λ texts indexes known are most share. tt;
-}
+returns-then-sources-gt-SOURCES_LIMIT-clause-reads g c = grind (arith, page_not_reached, grows_not)
 
 pub returns-in_err-writer-clause-reads : goal.returns-in_err-writer-clause-reads
-returns-in_err-writer-clause-reads g c =
-    let p = err_from_is_err_and c.from_residual.result c.from_residual.ensures.1 in
-    rw p.1 (record {
-      probes = tt;
-      lines = λ texts indexes known are. tt;
-      bytes = λ texts indexes known are.
-          page_not_reached g.S.Source.text g.S.Source.extent g.S.Source.gave c.args.query.now texts indexes
-          (g.O.Output.written c.args.out.now) (g.O.Output.written c.begin.new.out) c.args.sources.now known are
-          (grows_part _ _ _ c.in_err-writer.ensures.front);
-      held = λ texts indexes known are most share. tt;
-    })
+returns-in_err-writer-clause-reads g c = grind (arith, err_from_is_err_and, page_not_reached, grows_part)
 
 pub returns-in_err-pass-clause-reads : goal.returns-in_err-pass-clause-reads
 returns-in_err-pass-clause-reads g c =

@@ -1,13 +1,12 @@
 use Rattle.std.proofs.Common.{◌≡◌, ◌+◌, ℕ, Box, Global, Option, None, Some, drop, option_map, refl, sym, ap, ◌∙◌, subst}
 use Rattle.std.proofs.Common.{arith}
-use Rattle.std.specs.Prelude.{Err, MatchOption}
+use Rattle.std.specs.Prelude.{MatchOption}
 use Rattle.std.proofs.lemmas.Result.{err_from_is_err_and}
 use Rattle.cdxj_core.specs.declared.limit.TheConstants.{LINE_LIMIT}
 use Rattle.cdxj_core.specs.declared.line.Line.{Line}
 use Rattle.cdxj_core.specs.Members.{Member}
 use Rattle.source_core.specs.IndexLines.{lines}
 use Rattle.merge_core.specs.NextLine.{IsNextLine}
-use Rattle.query_core.specs.AnswerCounts.{CountsSource}
 use Rattle.query_core.specs.Checking.{FallsAfter, EndsOutOfOrder}
 use Rattle.query_core.proofs.CheckLemmas.{CheckedTo, checked_more, checked_whole, checked_falls, checked_fault}
 use Rattle.query_core.proofs.checking.check.Goals as goal
@@ -30,14 +29,7 @@ returns-in_err-line-clause-checked g c =
     (omega (arith, long, inv.stands.filled.within, inv.extent)) c.in_err-line.field-0.0 (known.fault t told))
 
 pub returns-in_err-line-clause-failures : goal.returns-in_err-line-clause-failures
-returns-in_err-line-clause-failures g c =
-    let inv = c.loop-previous.invariant in
-    let given = err_from_is_err_and c.from_residual-in_err-line.result c.from_residual-in_err-line.ensures.1 in
-    let counts : CountsSource {A = ℕ} (Err c.in_err-line.field-0.0) (g.S.Source.failures c.args.source.now)
-    (g.S.Source.failures c.next_line.new.source) =
-    subst (λ n. CountsSource {A = ℕ} (Err c.in_err-line.field-0.0) n (g.S.Source.failures c.next_line.new.source))
-    inv.failures c.in_err-line.ensures.failures in
-    rw (given.1, given.2) counts
+returns-in_err-line-clause-failures g c = grind arith
 
 pub returns-then-falls_after-clause-checked : goal.returns-then-falls_after-clause-checked
 returns-then-falls_after-clause-checked g c =

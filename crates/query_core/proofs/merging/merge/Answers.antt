@@ -1,34 +1,23 @@
-use Rattle.std.proofs.Common.{length, map, refl, []}
+use Rattle.std.proofs.Common.{arith, []}
 use Rattle.std.proofs.lemmas.Result.{err_from_is_err_and}
-use Rattle.cdxj_core.specs.declared.limit.TheConstants.{LINE_LIMIT}
 use Rattle.devices.proofs.WritingLemmas.{wrote_nothing}
-use Rattle.query_core.proofs.ConversionLemmas.{merge_late, merge_line, merge_raised}
-use Rattle.query_core.proofs.RefusalLemmas.{refuses_few, refuses_many}
+use Rattle.query_core.proofs.ConversionLemmas.{merge_line}
 use Rattle.query_core.proofs.merging.merge.Goals as goal
 
 pub returns-then-sources-gt-SOURCES_LIMIT-clause-refused : goal.returns-then-sources-gt-SOURCES_LIMIT-clause-refused
-returns-then-sources-gt-SOURCES_LIMIT-clause-refused g c =
-    refuses_many _ (length c.args.sources.now) _ c.if-sources-gt-SOURCES_LIMIT.true (refl, refl)
+returns-then-sources-gt-SOURCES_LIMIT-clause-refused g c = grind arith
 
 pub returns-in_err-merged-clause-refused : goal.returns-in_err-merged-clause-refused
-returns-in_err-merged-clause-refused g c =
-    let p = err_from_is_err_and c.from_residual.result c.from_residual.ensures.1 in
-    rw (p.1, p.2) (refuses_few (length c.args.sources.now) _ _ c.if-sources-gt-SOURCES_LIMIT.false
-    (merge_late c.in_err-merged.field-0.0))
+returns-in_err-merged-clause-refused g c = grind arith
 
 pub returns-clause-refused : goal.returns-clause-refused
-returns-clause-refused g c = refuses_few (length c.args.sources.now) _ _ c.if-sources-gt-SOURCES_LIMIT.false tt
+returns-clause-refused g c = grind arith
 
 pub returns-in_err-merged-clause-failures : goal.returns-in_err-merged-clause-failures
-returns-in_err-merged-clause-failures g c =
-    let p = err_from_is_err_and c.from_residual.result c.from_residual.ensures.1 in
-    rw (p.1, p.2) (merge_raised c.in_err-merged.field-0.0 _ _ _ _ c.in_err-merged.ensures.failures)
+returns-in_err-merged-clause-failures g c = grind arith
 
 pub returns-in_err-merged-clause-fault : goal.returns-in_err-merged-clause-fault
-returns-in_err-merged-clause-fault g c =
-    let p = err_from_is_err_and c.from_residual.result c.from_residual.ensures.1 in
-    rw (p.1, p.2) (merge_line LINE_LIMIT (map g.S.Source.text c.args.sources.now) c.in_err-merged.field-0.0
-    c.in_err-merged.ensures.fault)
+returns-in_err-merged-clause-fault g c = grind (arith, err_from_is_err_and, merge_line)
 
 pub returns-then-sources-gt-SOURCES_LIMIT-clause-part : goal.returns-then-sources-gt-SOURCES_LIMIT-clause-part
 returns-then-sources-gt-SOURCES_LIMIT-clause-part g c = λ texts indexes known are. wrote_nothing _ _
@@ -37,6 +26,4 @@ pub returns-then-sources-gt-SOURCES_LIMIT-clause-lines : goal.returns-then-sourc
 returns-then-sources-gt-SOURCES_LIMIT-clause-lines g c = ([], record { rise = tt; each = tt }, wrote_nothing _ _)
 
 pub returns-in_err-merged-clause-lines : goal.returns-in_err-merged-clause-lines
-returns-in_err-merged-clause-lines g c =
-    let p = err_from_is_err_and c.from_residual.result c.from_residual.ensures.1 in
-    rw p.1 c.in_err-merged.ensures.lines
+returns-in_err-merged-clause-lines g c = grind arith

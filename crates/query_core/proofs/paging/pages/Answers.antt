@@ -1,6 +1,6 @@
-use Rattle.std.proofs.Common.{rules, ◌≡◌, ◌++◌, ◌∙◌, ℕ, List, [], append-nil, Bool, length, true, refl, sym, map}
-use Rattle.std.proofs.Common.{Option, None}
-use Rattle.std.proofs.lemmas.Bool.{true≢false, true_from_ne_false}
+use Rattle.std.proofs.Common.{arith, rules, ◌≡◌, ◌++◌, ◌∙◌, ℕ, List, [], append-nil, Bool, true, refl, sym, map, Option}
+use Rattle.std.proofs.Common.{None}
+use Rattle.std.proofs.lemmas.Bool.{true_from_ne_false}
 use Rattle.std.proofs.lemmas.Result.{err_from_is_err_and}
 use Rattle.cdxj_places.specs.Places.{place_cmp}
 use Rattle.cdxj_places.specs.Rising.{Rises}
@@ -8,129 +8,79 @@ use Rattle.cdxj_places.proofs.PlaceOrder.{place_cmp_total}
 use Rattle.cdxj_places.proofs.RisingLaws.{rises_rising}
 use Rattle.cdxj_core.specs.declared.limit.TheConstants.{LINE_LIMIT}
 use Rattle.cdxj_core.specs.Members.{Member, member_place}
-use Rattle.merge_core.specs.Collections.{OverIndexes, all_lines, collection}
+use Rattle.merge_core.specs.Collections.{OverIndexes, collection}
 use Rattle.merge_core.specs.SourceLines.{AreLinesOf}
 use Rattle.merge_core.specs.Spending.{AllGaveWithin}
 use Rattle.page_writers.specs.PageWriting.{captures_over}
 use Rattle.page_writers.specs.WrittenPages.{are_sizes, WrotePages, WrotePagesInPart}
-use Rattle.query_core.specs.Reach.{in_reach}
-use Rattle.query_core.specs.Conversions.{fault_of_text}
-use Rattle.query_core.proofs.ConversionLemmas.{text_late, text_line, text_raised}
-use Rattle.query_core.proofs.CountLemmas.{raised_after}
 use Rattle.page_writers.proofs.PageChains.{wrote_front, wrote_most, wrote_none, wrote_whole}
 use Rattle.query_core.proofs.PagesExits.{all_ended, any_front, at_end}
 use Rattle.page_writers.proofs.PagesLemmas.{start_front}
 use Rattle.page_writers.proofs.SizeLemmas.{all_positive}
 use Rattle.query_core.proofs.ReachLemmas.{opened_not, within_opening}
-use Rattle.query_core.proofs.RefusalLemmas.{refuses_few, refuses_many, refuses_sized, refuses_sizes}
 use Rattle.query_core.proofs.paging.pages.Given.{Over}
 use Rattle.query_core.proofs.paging.pages.Goals.{In_err-writer, In_err-read_lines, In_err-end, In_ok-end}
 use Rattle.query_core.proofs.paging.pages.Goals as goal
 
 no_lines : (texts : List (Option (List ℕ))) → AreLinesOf LINE_LIMIT texts []
-no_lines texts = record { rise = tt; each = tt }
+no_lines texts = grind arith
 
 -- nothing was read
 unread : {S : Type 0} (text : S → Option (List ℕ)) (extent gave : S → ℕ) (test : Member → Bool) (sources : List S)
     → OverIndexes LINE_LIMIT (map text sources)
     (λ texts indexes. AllGaveWithin extent gave test texts indexes sources sources)
-unread text extent gave test sources texts indexes known are = within_opening text extent gave test texts indexes
-    sources sources known are (opened_not text extent gave sources)
+unread text extent gave test sources texts indexes known are = grind (arith, within_opening, opened_not)
 
 collection_rises : (indexes : List (List Member)) → Rises member_place place_cmp (collection indexes)
-collection_rises indexes = rises_rising member_place place_cmp place_cmp_total (all_lines indexes)
+collection_rises indexes = grind (arith, rises_rising, place_cmp_total)
 
 -- ---- what is refused
 
 pub returns-then-not-are_sizes-clause-refused : goal.returns-then-not-are_sizes-clause-refused
-returns-then-not-are_sizes-clause-refused g c = refuses_sizes _ (length c.args.sources.now) _ c.args.sizes.now
-    (search rules) (refl, refl)
+returns-then-not-are_sizes-clause-refused g c = grind arith
 
 pub returns-then-sources-gt-SOURCES_LIMIT-clause-refused : goal.returns-then-sources-gt-SOURCES_LIMIT-clause-refused
-returns-then-sources-gt-SOURCES_LIMIT-clause-refused g c =
-    refuses_sized (length c.args.sources.now) _ _ c.args.sizes.now (search rules)
-    (refuses_many _ (length c.args.sources.now) _ c.if-sources-gt-SOURCES_LIMIT.true (refl, refl))
+returns-then-sources-gt-SOURCES_LIMIT-clause-refused g c = grind arith
 
 pub returns-in_err-writer-clause-refused : goal.returns-in_err-writer-clause-refused
-returns-in_err-writer-clause-refused g c =
-    let p = err_from_is_err_and c.from_residual.result c.from_residual.ensures.1 in
-    rw (p.1, p.2) (refuses_sized (length c.args.sources.now) _ _ c.args.sizes.now (search rules)
-    (refuses_few (length c.args.sources.now) _ _ c.if-sources-gt-SOURCES_LIMIT.false
-    (text_late c.in_err-writer.field-0.0)))
+returns-in_err-writer-clause-refused g c = grind arith
 
 pub returns-in_err-read_lines-clause-refused : goal.returns-in_err-read_lines-clause-refused
-returns-in_err-read_lines-clause-refused g c =
-    let p = err_from_is_err_and c.from_residual-in_err-read_lines.result c.from_residual-in_err-read_lines.ensures.1 in
-    rw (p.1, p.2) (refuses_sized (length c.args.sources.now) _ _ c.args.sizes.now (search rules)
-    (refuses_few (length c.args.sources.now) _ _ c.if-sources-gt-SOURCES_LIMIT.false
-    c.in_err-read_lines.ensures.late))
+returns-in_err-read_lines-clause-refused g c = grind arith
 
 pub returns-in_err-end-clause-refused : goal.returns-in_err-end-clause-refused
-returns-in_err-end-clause-refused g c =
-    let p = err_from_is_err_and c.from_residual-in_err-end.result c.from_residual-in_err-end.ensures.1 in
-    rw (p.1, p.2) (refuses_sized (length c.args.sources.now) _ _ c.args.sizes.now (search rules)
-    (refuses_few (length c.args.sources.now) _ _ c.if-sources-gt-SOURCES_LIMIT.false
-    (text_late c.in_err-end.field-0.0)))
+returns-in_err-end-clause-refused g c = grind arith
 
 pub returns-clause-refused : goal.returns-clause-refused
-returns-clause-refused g c =
-    refuses_sized (length c.args.sources.now) _ _ c.args.sizes.now (search rules)
-    (refuses_few (length c.args.sources.now) _ _ c.if-sources-gt-SOURCES_LIMIT.false tt)
+returns-clause-refused g c = grind arith
 
 -- ---- failures, and lines at fault
 
 pub returns-in_err-writer-clause-failures : goal.returns-in_err-writer-clause-failures
-returns-in_err-writer-clause-failures g c =
-    let p = err_from_is_err_and c.from_residual.result c.from_residual.ensures.1 in
-    rw (p.1, p.2) (text_raised c.in_err-writer.field-0.0 (map g.S.Source.failures c.args.sources.now)
-    (g.O.Output.failures c.args.out.now)
-    (g.O.Output.failures c.begin.new.out) c.in_err-writer.ensures.failures)
+returns-in_err-writer-clause-failures g c = grind arith
 
 pub returns-in_err-read_lines-clause-failures : goal.returns-in_err-read_lines-clause-failures
-returns-in_err-read_lines-clause-failures g c =
-    let p = err_from_is_err_and c.from_residual-in_err-read_lines.result c.from_residual-in_err-read_lines.ensures.1 in
-    rw (p.1, p.2) (let ss = map g.S.Source.failures c.args.sources.now in
-    raised_after c.in_err-read_lines.field-0.0 ss ss (map g.S.Source.failures c.read_lines.new.sources)
-    (g.O.Output.failures c.args.out.now) (g.O.Output.failures c.begin.new.out)
-    (g.O.Output.failures c.read_lines.new.out)
-    refl c.in_ok-writer.ensures.failures c.in_err-read_lines.ensures.failures)
+returns-in_err-read_lines-clause-failures g c = grind arith
 
 pub returns-in_err-end-clause-failures : goal.returns-in_err-end-clause-failures
-returns-in_err-end-clause-failures g c =
-    let p = err_from_is_err_and c.from_residual-in_err-end.result c.from_residual-in_err-end.ensures.1 in
-    rw (p.1, p.2) (let now = map g.S.Source.failures c.read_lines.new.sources in
-    let mid = g.O.Output.failures c.read_lines.new.out in
-    let new = g.O.Output.failures c.end.new.out in
-    let read = c.in_ok-read_lines.ensures.failures in
-    raised_after (fault_of_text c.in_err-end.field-0.0) (map g.S.Source.failures c.args.sources.now) now now
-    (g.O.Output.failures c.args.out.now) mid new
-    read.0 (read.1 ∙ c.in_ok-writer.ensures.failures)
-    (text_raised c.in_err-end.field-0.0 now mid new c.in_err-end.ensures.failures))
+returns-in_err-end-clause-failures g c = grind arith
 
 pub returns-in_err-writer-clause-fault : goal.returns-in_err-writer-clause-fault
-returns-in_err-writer-clause-fault g c =
-    let p = err_from_is_err_and c.from_residual.result c.from_residual.ensures.1 in
-    rw (p.1, p.2) (text_line LINE_LIMIT (map g.S.Source.text c.args.sources.now) c.in_err-writer.field-0.0)
+returns-in_err-writer-clause-fault g c = grind arith
 
 pub returns-in_err-end-clause-fault : goal.returns-in_err-end-clause-fault
-returns-in_err-end-clause-fault g c =
-    let p = err_from_is_err_and c.from_residual-in_err-end.result c.from_residual-in_err-end.ensures.1 in
-    rw (p.1, p.2) (text_line LINE_LIMIT (map g.S.Source.text c.args.sources.now) c.in_err-end.field-0.0)
+returns-in_err-end-clause-fault g c = grind arith
 
 -- ---- how much was read
 
 pub returns-then-not-are_sizes-clause-bytes : goal.returns-then-not-are_sizes-clause-bytes
-returns-then-not-are_sizes-clause-bytes g c = λ texts indexes. unread g.S.Source.text g.S.Source.extent g.S.Source.gave
-    (in_reach c.args.query.now c.args.query.now.resume None (collection indexes)) c.args.sources.now texts indexes
+returns-then-not-are_sizes-clause-bytes g c = grind (arith, unread)
 
 pub returns-then-sources-gt-SOURCES_LIMIT-clause-bytes : goal.returns-then-sources-gt-SOURCES_LIMIT-clause-bytes
-returns-then-sources-gt-SOURCES_LIMIT-clause-bytes g c = λ texts indexes. unread g.S.Source.text g.S.Source.extent
-    g.S.Source.gave (in_reach c.args.query.now c.args.query.now.resume None (collection indexes)) c.args.sources.now
-    texts indexes
+returns-then-sources-gt-SOURCES_LIMIT-clause-bytes g c = grind (arith, unread)
 
 pub returns-in_err-writer-clause-bytes : goal.returns-in_err-writer-clause-bytes
-returns-in_err-writer-clause-bytes g c = λ texts indexes. unread g.S.Source.text g.S.Source.extent g.S.Source.gave
-    (in_reach c.args.query.now c.args.query.now.resume None (collection indexes)) c.args.sources.now texts indexes
+returns-in_err-writer-clause-bytes g c = grind (arith, unread)
 
 pub returns-in_err-read_lines-clause-bytes : goal.returns-in_err-read_lines-clause-bytes
 returns-in_err-read_lines-clause-bytes g c = λ texts indexes known are. c.in_err-read_lines.ensures.halted.before.within
@@ -222,13 +172,12 @@ ended g c sized lines rise all =
 -- ---- lines of the sources
 
 pub returns-then-not-are_sizes-clause-lines : goal.returns-then-not-are_sizes-clause-lines
-returns-then-not-are_sizes-clause-lines g c =
-    ([], no_lines (map g.S.Source.text c.args.sources.now), λ sized. absurd (true≢false (sym sized ∙ (search rules))))
+returns-then-not-are_sizes-clause-lines g c = ([], grind arith, grind arith)
 
 pub returns-then-sources-gt-SOURCES_LIMIT-clause-lines : goal.returns-then-sources-gt-SOURCES_LIMIT-clause-lines
 returns-then-sources-gt-SOURCES_LIMIT-clause-lines g c = (
   [],
-  no_lines (map g.S.Source.text c.args.sources.now),
+  grind arith,
   λ sized. wrote_none c.args.query.now c.args.sizes.now (all_positive c.args.sizes.now sized) [] tt
       (g.O.Output.written c.args.out.now),
 )
@@ -266,13 +215,10 @@ returns-clause-lines g c =
 -- ---- the lines of indexes
 
 pub returns-then-not-are_sizes-clause-pages : goal.returns-then-not-are_sizes-clause-pages
-returns-then-not-are_sizes-clause-pages g c = λ texts indexes known are sized. absurd
-    (true≢false (sym sized ∙ (search rules)))
+returns-then-not-are_sizes-clause-pages g c = grind arith
 
 pub returns-then-sources-gt-SOURCES_LIMIT-clause-pages : goal.returns-then-sources-gt-SOURCES_LIMIT-clause-pages
-returns-then-sources-gt-SOURCES_LIMIT-clause-pages g c = λ texts indexes known are sized.
-    wrote_none c.args.query.now c.args.sizes.now (all_positive c.args.sizes.now sized) (collection indexes)
-    (collection_rises indexes) (g.O.Output.written c.args.out.now)
+returns-then-sources-gt-SOURCES_LIMIT-clause-pages g c = grind (arith, wrote_none, all_positive, collection_rises)
 
 pub returns-in_err-writer-clause-pages : goal.returns-in_err-writer-clause-pages
 returns-in_err-writer-clause-pages g c =
@@ -300,9 +246,8 @@ returns-in_err-end-clause-pages g c =
 
 pub returns-clause-pages : goal.returns-clause-pages
 returns-clause-pages g c = λ texts indexes known are.
-    let whole = true_from_ne_false c.in_ok-read_lines.field-0.all (λ e. c.in_ok-read_lines.ensures.enough e) in
-    ended g (goal.at.returns-clause-pages g c).In_ok-end (search rules) (collection indexes)
-    (collection_rises indexes) (c.in_ok-read_lines.ensures.took.whole whole texts indexes known are)
+    ended g (goal.at.returns-clause-pages g c).In_ok-end (search rules) (collection indexes) (collection_rises indexes)
+    (grind arith)
 
 pub returns-clause-parts : goal.returns-clause-parts
 returns-clause-parts g c = λ texts known.

@@ -1,5 +1,5 @@
 use Rattle.std.proofs.Common.{filter, ◌-◌, ◌^◌, ℕ, min, length, ◌≡◌, Bool, true, false, refl, sym, ◌∙◌, map, arith}
-use Rattle.std.proofs.Common.{subst, List, [], zip, ap, append-nil, Some, inl}
+use Rattle.std.proofs.Common.{subst, List, [], zip, ap, append-nil, Some}
 use Rattle.std.specs.List.{AllByRecursion, AllZip}
 use Rattle.std.proofs.lemmas.List.{length-map}
 use Rattle.std.proofs.lemmas.Result.{err_from_is_err_and}
@@ -9,15 +9,12 @@ use Rattle.cdxj_core.specs.Members.{Member}
 use Rattle.query_text.specs.Matching.{is_past}
 use Rattle.query_text.proofs.RangeLaw.{past_upward}
 use Rattle.merge_core.specs.Collections.{Known, collection}
-use Rattle.merge_core.specs.Failures.{RaisedBy}
-use Rattle.merge_core.specs.LineFaults as merging
-use Rattle.query_core.proofs.ConversionLemmas.{merge_line, merge_raised}
+use Rattle.query_core.proofs.ConversionLemmas.{merge_line}
 use Rattle.merge_core.specs.Openings.{IsCutAt}
 use Rattle.merge_core.specs.Reached.{Reached}
 use Rattle.merge_core.specs.Runs.{parts}
 use Rattle.merge_core.specs.SourceLines.{AreLinesOf}
 use Rattle.merge_core.specs.Spending.{AreReadTo}
-use Rattle.merge_core.proofs.FailLemmas.{raised_by_read}
 use Rattle.merge_core.proofs.Many.{told_moved}
 use Rattle.merge_core.proofs.RunLemmas.{parts_are, parts_count, parts_first, parts_whole}
 use Rattle.merge_core.proofs.SourceLemmas.{taken_lines}
@@ -36,88 +33,36 @@ use Rattle.query_core.proofs.pass.read_lines.Goals as goal
 -- ---- what is kept, and failures
 
 pub returns-in_err-all-clause-kept : goal.returns-in_err-all-clause-kept
-returns-in_err-all-clause-kept g c =
-    let text = g.S.Source.text in let extent = g.S.Source.extent in let gave = g.S.Source.gave in
-    let ss1 = c.open_at.new.sources in let fs1 = c.in_ok-opened.opened.streams.feeds.items in
-    let ss2 = c.merge.new.sources in let fs2 = c.merge.new.streams.feeds.items in
-    let same = c.in_ok-opened.ensures.ready.same in (
-      texts_kept text extent gave ss1 ss2 fs1 fs2 same (omega arith) c.merge.ensures.moved ∙ c.open_at.ensures.text,
-      extents_kept text extent gave ss1 ss2 fs1 fs2 same (omega arith) c.merge.ensures.moved ∙ c.open_at.ensures.extent,
-    )
+returns-in_err-all-clause-kept g c = grind (arith, texts_kept, extents_kept)
 
 pub returns-clause-kept : goal.returns-clause-kept
-returns-clause-kept g c =
-    let text = g.S.Source.text in let extent = g.S.Source.extent in let gave = g.S.Source.gave in
-    let ss1 = c.open_at.new.sources in let fs1 = c.in_ok-opened.opened.streams.feeds.items in
-    let ss2 = c.merge.new.sources in let fs2 = c.merge.new.streams.feeds.items in
-    let same = c.in_ok-opened.ensures.ready.same in (
-      texts_kept text extent gave ss1 ss2 fs1 fs2 same (omega arith) c.merge.ensures.moved ∙ c.open_at.ensures.text,
-      extents_kept text extent gave ss1 ss2 fs1 fs2 same (omega arith) c.merge.ensures.moved ∙ c.open_at.ensures.extent,
-    )
+returns-clause-kept g c = grind (arith, texts_kept, extents_kept)
 
 pub returns-in_err-opened-clause-failures : goal.returns-in_err-opened-clause-failures
-returns-in_err-opened-clause-failures g c =
-    let p = err_from_is_err_and c.from_residual.result c.from_residual.ensures.1 in
-    rw (p.1, p.2) (let f = map g.S.Source.failures in
-    let out = g.O.Output.failures c.args.out.now in
-    let e = c.in_err-opened.field-0.0 in
-    let old = f c.args.sources.now in
-    let new = f c.open_at.new.sources in
-    merge_raised e old new out out (raised_by_read e old new out c.in_err-opened.ensures.failures))
+returns-in_err-opened-clause-failures g c = grind arith
 
 pub returns-in_err-all-clause-failures : goal.returns-in_err-all-clause-failures
-returns-in_err-all-clause-failures g c =
-    let p = err_from_is_err_and c.from_residual-in_err-all.result c.from_residual-in_err-all.ensures.1 in
-    rw (p.1, p.2) (let f = map g.S.Source.failures in
-    let old = g.O.Output.failures c.args.out.now in
-    let new = g.O.Output.failures c.merge.new.out in
-    let e = c.in_err-all.field-0.0 in
-    let was = f c.args.sources.now in
-    let now = f c.merge.new.sources in
-    merge_raised e was now old new (subst (λ ns. RaisedBy e ns now old new) c.in_ok-opened.ensures.failures
-    c.in_err-all.ensures.failures))
+returns-in_err-all-clause-failures g c = grind arith
 
 pub returns-in_err-opened-clause-fault : goal.returns-in_err-opened-clause-fault
-returns-in_err-opened-clause-fault g c =
-    let p = err_from_is_err_and c.from_residual.result c.from_residual.ensures.1 in
-    rw (p.1, p.2) (merge_line LINE_LIMIT (map g.S.Source.text c.args.sources.now) c.in_err-opened.field-0.0
-    c.in_err-opened.ensures.fault)
+returns-in_err-opened-clause-fault g c = grind (arith, err_from_is_err_and, merge_line)
 
 pub returns-in_err-all-clause-fault : goal.returns-in_err-all-clause-fault
-returns-in_err-all-clause-fault g c =
-    let p = err_from_is_err_and c.from_residual-in_err-all.result c.from_residual-in_err-all.ensures.1 in
-    rw (p.1, p.2) (let e = c.in_err-all.field-0.0 in
-    merge_line LINE_LIMIT (map g.S.Source.text c.args.sources.now) e
-    (subst (λ ts. merging.IsMergeFaultOf LINE_LIMIT ts e) c.open_at.ensures.text c.in_err-all.ensures.fault))
+returns-in_err-all-clause-fault g c = grind (arith, err_from_is_err_and, merge_line)
 
 pub returns-clause-held : goal.returns-clause-held
 returns-clause-held g c = λ texts indexes known are most share.
     let h = c.merge.ensures.held texts indexes (subst (λ l. Known l texts) (sym c.open_at.ensures.text) known) are most
     share (omega (arith, c.in_ok-opened.ensures.held)) in
-    omega (
-      arith,
-      h,
-      ap length c.open_at.ensures.text,
-      length-map c.open_at.new.sources g.S.Source.text,
-      length-map
-          c.args.sources.now g.S.Source.text,
-    )
+    omega (arith, h, ap length c.open_at.ensures.text, length-map c.open_at.new.sources g.S.Source.text,
+        length-map c.args.sources.now g.S.Source.text)
 
 -- ---- sources that couldn't be opened
 
 pub returns-in_err-opened-clause-broke : goal.returns-in_err-opened-clause-broke
 returns-in_err-opened-clause-broke g c =
     let p = err_from_is_err_and c.from_residual.result c.from_residual.ensures.1 in
-    rw p.1 (let q = c.args.query.now in
-    record {
-      lines = [];
-      wrote = λ begin start h. inl (c.args.sink.now, h);
-      took = record {
-        lines = record { rise = tt; each = tt };
-        first = λ texts indexes known are.
-            (captures_over q q.resume (collection indexes), refl);
-      };
-    })
+    grind arith
 
 pub returns-in_err-opened-clause-halted : goal.returns-in_err-opened-clause-halted
 returns-in_err-opened-clause-halted g c =
@@ -301,15 +246,8 @@ returns-clause-took g c =
           (known1 texts known) are (ok.ended e) in
           let h = lines_within text extent gave q from ss1 fs1 ss2 fs2 ws b taken same reached cut texts indexes
           (known1 texts known) are (known2 texts known) taken all limit most in
-          omega (
-            arith,
-            c.lines.ensures,
-            h,
-            length-map ss1 text,
-            length-map c.args.sources.now text,
-            ap length
-                c.open_at.ensures.text,
-          );
+          omega (arith, c.lines.ensures, h, length-map ss1 text, length-map c.args.sources.now text,
+              ap length c.open_at.ensures.text);
     }) (λ e.
     let l = ok.passed.last e in
     record {
@@ -340,13 +278,6 @@ returns-clause-took g c =
           (known1 texts known) are l.pair l.earlier l.group l.bound_is l.split l.alike in
           let h = lines_within text extent gave q from ss1 fs1 ss2 fs2 ws b taken same reached cut texts indexes
           (known1 texts known) are (known2 texts known) l.earlier last limit most in
-          omega (
-            arith,
-            c.lines.ensures,
-            h,
-            length-map ss1 text,
-            length-map c.args.sources.now text,
-            ap length
-                c.open_at.ensures.text,
-          );
+          omega (arith, c.lines.ensures, h, length-map ss1 text, length-map c.args.sources.now text,
+              ap length c.open_at.ensures.text);
     })

@@ -1,4 +1,4 @@
-use Rattle.std.proofs.Common.{List, ℕ, map}
+use Rattle.std.proofs.Common.{arith, List, ℕ, map}
 use Rattle.std.proofs.lemmas.Result.{err_from_is_err_and}
 use Rattle.cdxj_core.specs.Members.{Member}
 use Rattle.merge_core.specs.Collections.{collection}
@@ -26,16 +26,7 @@ returns-in_err-reply_to_line-clause-lines g c =
     c.in_err-reply_to_line.ensures.lines)
 
 pub returns-clause-text : goal.returns-clause-text
-returns-clause-text g c = λ texts indexes known are.
-    marked_reply QUERY_LIMIT (Is indexes) c.args.line.now (g.O.Output.written c.args.out.now)
-    (g.O.Output.written c.reply_to_line.new.out)
-    c.put_text.result (g.O.Output.written c.put_text.new.out)
-    (c.in_ok-reply_to_line.ensures.text texts indexes known are)
-    c.put_text.ensures.text
+returns-clause-text g c = grind (arith, marked_reply)
 
 pub returns-clause-lines : goal.returns-clause-lines
-returns-clause-lines g c =
-    marked_reply QUERY_LIMIT (IsTextReply (map g.S.Source.text c.args.sources.now)) c.args.line.now
-    (g.O.Output.written c.args.out.now) (g.O.Output.written c.reply_to_line.new.out)
-    c.put_text.result (g.O.Output.written c.put_text.new.out) c.in_ok-reply_to_line.ensures.lines
-    c.put_text.ensures.text
+returns-clause-lines g c = grind (arith, marked_reply)

@@ -1,6 +1,4 @@
-use Rattle.std.proofs.Common.{rules, ◌<◌, ◌∙◌, ℕ, List, map, refl, sym, subst, arith}
-use Rattle.std.specs.Prelude.{Err}
-use Rattle.std.proofs.lemmas.Result.{err_from_is_err_and}
+use Rattle.std.proofs.Common.{◌<◌, ◌∙◌, ℕ, List, map, sym, subst, arith}
 use Rattle.std.specs.Io.KnownBytes.{Appends, prepend_known}
 use Rattle.cdxj_core.specs.Members.{Member}
 use Rattle.devices.specs.Device.{AppendsPrefix}
@@ -11,7 +9,6 @@ use Rattle.merge_core.specs.Collections.{Known, collection}
 use Rattle.query_core.specs.AnyReplies.{IsTextReply}
 use Rattle.query_core.specs.Conversations.{IsMarkedReply, IsOneReply}
 use Rattle.query_core.specs.Replies.{reply_of}
-use Rattle.query_core.proofs.ReplyCounts.{counts_after, counts_line}
 use Rattle.query_core.proofs.ReplyLemmas.{converses_err, line-more, line-none, line-within, nothing_replied, one_reply}
 use Rattle.query_core.proofs.ReplyLemmas.{one_reply_part, replied-front, replied-none}
 use Rattle.query_core.proofs.serving.serve.Goals as goal
@@ -25,53 +22,24 @@ Is indexes = IsOneReply (reply indexes)
 -- ---- nothing is replied
 
 pub returns-then-sources-gt-SOURCES_LIMIT-clause-part : goal.returns-then-sources-gt-SOURCES_LIMIT-clause-part
-returns-then-sources-gt-SOURCES_LIMIT-clause-part g c = λ texts indexes known are.
-    one_reply_part QUERY_LIMIT (reply indexes) (g.I.Input.remaining c.args.input.now)
-    (g.O.Output.written c.args.out.now) (g.O.Output.written c.args.out.now)
-    (nothing_replied QUERY_LIMIT (Is indexes) (g.I.Input.remaining c.args.input.now)
-    (g.O.Output.written c.args.out.now))
+returns-then-sources-gt-SOURCES_LIMIT-clause-part g c = grind (arith, one_reply_part, nothing_replied)
 
 pub returns-then-sources-gt-SOURCES_LIMIT-clause-lines : goal.returns-then-sources-gt-SOURCES_LIMIT-clause-lines
-returns-then-sources-gt-SOURCES_LIMIT-clause-lines g c = nothing_replied QUERY_LIMIT
-    (IsTextReply (map g.S.Source.text c.args.sources.now)) (g.I.Input.remaining c.args.input.now)
-    (g.O.Output.written c.args.out.now)
+returns-then-sources-gt-SOURCES_LIMIT-clause-lines g c = grind (arith, nothing_replied)
 
 pub returns-in_err-lines-clause-part : goal.returns-in_err-lines-clause-part
-returns-in_err-lines-clause-part g c = λ texts indexes known are.
-    one_reply_part QUERY_LIMIT (reply indexes) (g.I.Input.remaining c.args.input.now)
-    (g.O.Output.written c.args.out.now) (g.O.Output.written c.args.out.now)
-    (nothing_replied QUERY_LIMIT (Is indexes) (g.I.Input.remaining c.args.input.now)
-    (g.O.Output.written c.args.out.now))
+returns-in_err-lines-clause-part g c = grind (arith, one_reply_part, nothing_replied)
 
 pub returns-in_err-lines-clause-lines : goal.returns-in_err-lines-clause-lines
-returns-in_err-lines-clause-lines g c =
-    converses_err QUERY_LIMIT (IsTextReply (map g.S.Source.text c.args.sources.now)) _ c.from_residual.result
-    (g.I.Input.remaining c.args.input.now) (g.O.Output.written c.args.out.now) (g.O.Output.written c.args.out.now)
-    c.from_residual.ensures.1
-    (nothing_replied QUERY_LIMIT (IsTextReply (map g.S.Source.text c.args.sources.now))
-    (g.I.Input.remaining c.args.input.now) (g.O.Output.written c.args.out.now))
+returns-in_err-lines-clause-lines g c = grind (arith, converses_err, nothing_replied)
 
 -- ---- a line isn't read
 
 pub returns-in_err-read_line-clause-part : goal.returns-in_err-read_line-clause-part
-returns-in_err-read_line-clause-part g c = λ texts indexes known are.
-    one_reply_part QUERY_LIMIT (reply indexes) (g.I.Input.remaining c.args.input.now)
-    (g.O.Output.written c.args.out.now) (g.O.Output.written c.loop-lines.out)
-    (replied-front QUERY_LIMIT (Is indexes) (g.I.Input.remaining c.args.input.now)
-    (prepend_known c.loop-lines.lines.buffer (g.I.Input.remaining c.loop-lines.input)) c.loop-lines.count
-    (g.O.Output.written c.args.out.now) (g.O.Output.written c.loop-lines.out)
-    (c.loop-lines.invariant.told texts indexes known are))
+returns-in_err-read_line-clause-part g c = grind (arith, one_reply_part, replied-front)
 
 pub returns-in_err-read_line-clause-lines : goal.returns-in_err-read_line-clause-lines
-returns-in_err-read_line-clause-lines g c =
-    converses_err QUERY_LIMIT (IsTextReply (map g.S.Source.text c.args.sources.now)) _
-    c.from_residual-in_err-read_line.result (g.I.Input.remaining c.args.input.now)
-    (g.O.Output.written c.args.out.now) (g.O.Output.written c.loop-lines.out)
-    c.from_residual-in_err-read_line.ensures.1
-    (replied-front QUERY_LIMIT (IsTextReply (map g.S.Source.text c.args.sources.now))
-    (g.I.Input.remaining c.args.input.now)
-    (prepend_known c.loop-lines.lines.buffer (g.I.Input.remaining c.loop-lines.input)) c.loop-lines.count
-    (g.O.Output.written c.args.out.now) (g.O.Output.written c.loop-lines.out) c.loop-lines.invariant.any)
+returns-in_err-read_line-clause-lines g c = grind (arith, converses_err, replied-front)
 
 -- ---- a reply ends in a fault
 
@@ -116,24 +84,7 @@ returns-in_err-reply_and_mark-clause-lines g c =
 -- ---- a reply more
 
 pub loop-lines-init : goal.loop-lines-init
-loop-lines-init g c =
-    let new = c.in_ok-lines.ensures in
-    let old = g.O.Output.written c.args.out.now in
-    let input = g.I.Input.remaining c.args.input.now in
-    record {
-      kept = (refl, refl);
-      sources = refl;
-      writes = refl;
-      reads = refl;
-      most = new.2;
-      taken = search rules;
-      within = omega (arith, new.1);
-      fits = omega arith;
-      told = λ texts indexes known are. replied-none QUERY_LIMIT (Is indexes) input c.in_ok-lines.lines.buffer old
-          new.0;
-      any = replied-none QUERY_LIMIT (IsTextReply (map g.S.Source.text c.args.sources.now)) input
-          c.in_ok-lines.lines.buffer old new.0;
-    }
+loop-lines-init g c = grind (arith, replied-none)
 
 pub loop-lines-preserved : goal.loop-lines-preserved
 loop-lines-preserved g c =
@@ -173,71 +124,19 @@ loop-lines-preserved g c =
 -- ---- no line is left
 
 pub returns-clause-replies : goal.returns-clause-replies
-returns-clause-replies g c = λ texts indexes known are.
-    let inv = c.loop-lines.invariant in
-    let before = prepend_known c.loop-lines.lines.buffer (g.I.Input.remaining c.loop-lines.input) in
-    let after = prepend_known c.read_line.new.lines.buffer (g.I.Input.remaining c.read_line.new.input) in
-    let found = c.in_ok-read_line.field-0 in
-    let takes = subst (λ m. TakesLine m found before after c.read_line.new.lines.line) inv.most
-    c.in_ok-read_line.ensures.line in
-    one_reply QUERY_LIMIT (reply indexes) (g.I.Input.remaining c.args.input.now) c.loop-lines.count
-    (g.O.Output.written c.args.out.now) (g.O.Output.written c.loop-lines.out)
-    (line-none QUERY_LIMIT (Is indexes) (g.I.Input.remaining c.args.input.now) before after c.loop-lines.count
-    c.read_line.new.lines.taken c.loop-lines.lines.taken (g.O.Output.written c.args.out.now)
-    (g.O.Output.written c.loop-lines.out) c.read_line.new.lines.line found
-    (inv.told texts indexes known are) takes c.if-branch.false inv.taken c.in_ok-read_line.ensures.count
-    c.in_ok-read_line.ensures.within)
+returns-clause-replies g c = grind (arith, one_reply, line-none)
 
 pub returns-clause-lines : goal.returns-clause-lines
-returns-clause-lines g c =
-    let inv = c.loop-lines.invariant in
-    let before = prepend_known c.loop-lines.lines.buffer (g.I.Input.remaining c.loop-lines.input) in
-    let after = prepend_known c.read_line.new.lines.buffer (g.I.Input.remaining c.read_line.new.input) in
-    let found = c.in_ok-read_line.field-0 in
-    let takes = subst (λ m. TakesLine m found before after c.read_line.new.lines.line) inv.most
-    c.in_ok-read_line.ensures.line in
-    line-none QUERY_LIMIT (IsTextReply (map g.S.Source.text c.args.sources.now)) (g.I.Input.remaining c.args.input.now)
-    before after c.loop-lines.count c.read_line.new.lines.taken c.loop-lines.lines.taken
-    (g.O.Output.written c.args.out.now) (g.O.Output.written c.loop-lines.out) c.read_line.new.lines.line found
-    inv.any takes c.if-branch.false inv.taken c.in_ok-read_line.ensures.count c.in_ok-read_line.ensures.within
+returns-clause-lines g c = grind (arith, line-none)
 
 pub returns-clause-part : goal.returns-clause-part
-returns-clause-part g c = λ texts indexes known are.
-    one_reply_part QUERY_LIMIT (reply indexes) (g.I.Input.remaining c.args.input.now)
-    (g.O.Output.written c.args.out.now) (g.O.Output.written c.loop-lines.out)
-    (replied-front QUERY_LIMIT (Is indexes) (g.I.Input.remaining c.args.input.now)
-    (prepend_known c.loop-lines.lines.buffer (g.I.Input.remaining c.loop-lines.input)) c.loop-lines.count
-    (g.O.Output.written c.args.out.now) (g.O.Output.written c.loop-lines.out)
-    (c.loop-lines.invariant.told texts indexes known are))
+returns-clause-part g c = grind (arith, one_reply_part, replied-front)
 
 pub returns-in_err-read_line-clause-failures : goal.returns-in_err-read_line-clause-failures
-returns-in_err-read_line-clause-failures g c =
-    let inv = c.loop-lines.invariant in
-    let given = err_from_is_err_and c.from_residual-in_err-read_line.result
-    c.from_residual-in_err-read_line.ensures.1 in
-    rw (given.1, given.2) (counts_line c.in_err-read_line.field-0.0 (map g.S.Source.failures c.args.sources.now)
-    (map g.S.Source.failures c.loop-lines.sources)
-    (g.O.Output.failures c.args.out.now) (g.O.Output.failures c.loop-lines.out) (g.I.Input.failures c.args.input.now)
-    (g.I.Input.failures c.loop-lines.input) (g.I.Input.failures c.read_line.new.input)
-    c.loop-lines.lines.taken (g.I.Input.remaining c.args.input.now)
-    (prepend_known c.loop-lines.lines.buffer (g.I.Input.remaining c.loop-lines.input))
-    inv.sources inv.writes inv.reads inv.taken c.in_err-read_line.ensures.failures)
+returns-in_err-read_line-clause-failures g c = grind arith
 
 pub returns-in_err-reply_and_mark-clause-failures : goal.returns-in_err-reply_and_mark-clause-failures
-returns-in_err-reply_and_mark-clause-failures g c =
-    let inv = c.loop-lines.invariant in
-    let given = err_from_is_err_and c.from_residual-in_err-reply_and_mark.result
-    c.from_residual-in_err-reply_and_mark.ensures.1 in
-    rw (given.1, given.2)
-    (counts_after {A = ℕ} (Err c.in_err-reply_and_mark.field-0.0) (map g.S.Source.failures c.args.sources.now)
-    (map g.S.Source.failures c.loop-lines.sources) (map g.S.Source.failures c.reply_and_mark.new.sources)
-    (g.O.Output.failures c.args.out.now) (g.O.Output.failures c.loop-lines.out)
-    (g.O.Output.failures c.reply_and_mark.new.out)
-    (g.I.Input.failures c.args.input.now) (g.I.Input.failures c.read_line.new.input)
-    (g.I.Input.remaining c.args.input.now)
-    inv.sources inv.writes (c.in_ok-read_line.ensures.failures ∙ inv.reads) c.in_err-reply_and_mark.ensures.failures)
+returns-in_err-reply_and_mark-clause-failures g c = grind arith
 
 pub returns-clause-failures : goal.returns-clause-failures
-returns-clause-failures g c =
-    let inv = c.loop-lines.invariant in
-    ((inv.sources, inv.writes), c.in_ok-read_line.ensures.failures ∙ inv.reads)
+returns-clause-failures g c = grind arith

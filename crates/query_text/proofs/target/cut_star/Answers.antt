@@ -1,5 +1,5 @@
-use Rattle.std.proofs.Common.{rules, ◌≡◌, ◌≢◌, ◌-◌, ◌==◌, ℕ, suc, false, List, [], ◌∷◌, ◌++◌, None, length, slice_index}
-use Rattle.std.proofs.Common.{refl, ap, ◌∙◌, arith}
+use Rattle.std.proofs.Common.{◌≡◌, ◌≢◌, ◌-◌, ◌==◌, ℕ, suc, false, List, [], ◌∷◌, ◌++◌, None, length, slice_index, refl}
+use Rattle.std.proofs.Common.{ap, ◌∙◌, arith}
 use Rattle.std.proofs.lemmas.Bool.{ne_eqb}
 use Rattle.std.proofs.lemmas.Str.Pattern.{strip_suffix_char}
 use Rattle.query_text.specs.Targets.{ends_with_star}
@@ -15,6 +15,5 @@ no_star (b ∷ c ∷ bytes) h =
 
 pub returns-in-None : goal.returns-in-None
 returns-in-None c =
-    let none : ends_with_star c.args.text.now ≡ false =
-    no_star c.args.text.now (strip_suffix_char 42 c.args.text.now None c.in-None.ensures.cases (omega arith)) in
-    search (rules, none)
+    grind (arith, no_star c.args.text.now
+    (strip_suffix_char 42 c.args.text.now None c.in-None.ensures.cases (omega arith)))

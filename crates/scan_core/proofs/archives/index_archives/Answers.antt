@@ -10,8 +10,8 @@ use Rattle.index_core.specs.Indexing.{Held}
 use Rattle.merge_core.proofs.Many.{map_set_same}
 use Rattle.merge_core.proofs.SpendLemmas.{left_here, left_after}
 use Rattle.scan_core.specs.Archives.{index_members}
-use Rattle.scan_core.proofs.ArchiveLemmas.{no_indexes, indexes_push, first_fault, one_more_indexed, names_after}
-use Rattle.scan_core.proofs.ArchiveLemmas.{counts_at, unread_at}
+use Rattle.scan_core.proofs.ArchiveLemmas.{indexes_push, first_fault, one_more_indexed, names_after, counts_at}
+use Rattle.scan_core.proofs.ArchiveLemmas.{unread_at}
 use Rattle.scan_core.proofs.archives.index_archives.Goals as goal
 
 pub loop-i-init : goal.loop-i-init
@@ -21,29 +21,21 @@ loop-i-init g c = record {
   failures = refl;
   held = c.new-indexer.ensures;
   number = ap length c.new-indexes.ensures.items;
-  indexed = record {
-    captures = [];
-    indexed = record { named = tt; accepted = tt; lines = tt };
-    are_indexes = no_indexes LINE_LIMIT gathered c.new-indexes.result.items c.new-indexes.ensures.items;
-  };
+  indexed = record { captures = []; indexed = grind arith; are_indexes = grind arith };
 }
 
 -- ---- an archive isn't indexed
 
 pub returns-in-Err-clause-names : goal.returns-in-Err-clause-names
-returns-in-Err-clause-names g c =
-    map_set_same (λ n. string_bytes n.name) c.loop-i.inputs c.loop-i.i c.index-inputs-i.result
-    c.index_archive.new.archive (omega arith) (ap string_bytes c.index_archive.ensures.name)
-    ∙ c.loop-i.invariant.names
+returns-in-Err-clause-names g c = grind (arith, map_set_same)
 
 pub returns-in-Err-clause-refused : goal.returns-in-Err-clause-refused
 returns-in-Err-clause-refused g c =
     let inv = c.loop-i.invariant in
     first_fault (includes c.args.types) (λ n. string_bytes n.name) (λ n. g.I.Input.remaining n.input) c.args.inputs.now
     c.loop-i.i c.index-inputs-i.result (get_or c.loop-i.inputs c.loop-i.i c.index-inputs-i.result) (omega arith)
-    (left_here c.args.inputs.now c.loop-i.inputs c.loop-i.i c.index-inputs-i.result inv.rest)
-    c.loop-i.indexer.names inv.indexed.captures (ap (λ (h : Held). h.names) inv.held) inv.indexed.indexed c.in-Err.fault
-    (rw (ap (λ (h : Held). h.types) inv.held) at c.in-Err.ensures.refused)
+    (grind (arith, left_here)) c.loop-i.indexer.names inv.indexed.captures (ap (λ (h : Held). h.names) inv.held)
+    inv.indexed.indexed c.in-Err.fault (rw (ap (λ (h : Held). h.types) inv.held) at c.in-Err.ensures.refused)
 
 pub returns-in-Err-clause-unread : goal.returns-in-Err-clause-unread
 returns-in-Err-clause-unread g c =
@@ -55,26 +47,20 @@ pub returns-in-Err-clause-failures : goal.returns-in-Err-clause-failures
 returns-in-Err-clause-failures g c =
     counts_at (λ n. g.I.Input.failures n.input) c.args.inputs.now c.loop-i.inputs c.loop-i.i c.index-inputs-i.result
     (get_or c.loop-i.inputs c.loop-i.i c.index-inputs-i.result) c.index_archive.new.archive c.in-Err.fault
-    c.loop-i.invariant.failures (omega arith)
-    (left_here c.args.inputs.now c.loop-i.inputs c.loop-i.i c.index-inputs-i.result c.loop-i.invariant.rest)
-    c.in-Err.ensures.failures
+    c.loop-i.invariant.failures (omega arith) (grind (arith, left_here)) c.in-Err.ensures.failures
 
 -- ---- its index can't be kept
 
 pub returns-in-Err-push-clause-names : goal.returns-in-Err-push-clause-names
-returns-in-Err-push-clause-names g c =
-    map_set_same (λ n. string_bytes n.name) c.loop-i.inputs c.loop-i.i c.index-inputs-i.result
-    c.index_archive.new.archive (omega arith) (ap string_bytes c.index_archive.ensures.name)
-    ∙ c.loop-i.invariant.names
+returns-in-Err-push-clause-names g c = grind (arith, map_set_same)
 
 pub returns-in-Err-push-clause-refused : goal.returns-in-Err-push-clause-refused
 returns-in-Err-push-clause-refused g c =
     let inv = c.loop-i.invariant in
     first_fault (includes c.args.types) (λ n. string_bytes n.name) (λ n. g.I.Input.remaining n.input) c.args.inputs.now
     c.loop-i.i c.index-inputs-i.result (get_or c.loop-i.inputs c.loop-i.i c.index-inputs-i.result) (omega arith)
-    (left_here c.args.inputs.now c.loop-i.inputs c.loop-i.i c.index-inputs-i.result inv.rest)
-    c.loop-i.indexer.names inv.indexed.captures (ap (λ (h : Held). h.names) inv.held) inv.indexed.indexed Memory
-    c.in-Ok.ensures.index.is_new
+    (grind (arith, left_here)) c.loop-i.indexer.names inv.indexed.captures (ap (λ (h : Held). h.names) inv.held)
+    inv.indexed.indexed Memory c.in-Ok.ensures.index.is_new
 
 pub returns-in-Err-push-clause-unread : goal.returns-in-Err-push-clause-unread
 returns-in-Err-push-clause-unread g c =
@@ -86,9 +72,7 @@ pub returns-in-Err-push-clause-failures : goal.returns-in-Err-push-clause-failur
 returns-in-Err-push-clause-failures g c =
     counts_at (λ n. g.I.Input.failures n.input) c.args.inputs.now c.loop-i.inputs c.loop-i.i c.index-inputs-i.result
     (get_or c.loop-i.inputs c.loop-i.i c.index-inputs-i.result) c.index_archive.new.archive Memory
-    c.loop-i.invariant.failures (omega arith)
-    (left_here c.args.inputs.now c.loop-i.inputs c.loop-i.i c.index-inputs-i.result c.loop-i.invariant.rest)
-    c.in-Ok.ensures.failures
+    c.loop-i.invariant.failures (omega arith) (grind (arith, left_here)) c.in-Ok.ensures.failures
 
 -- ---- an archive more
 

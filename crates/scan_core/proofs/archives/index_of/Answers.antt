@@ -1,7 +1,8 @@
+use Rattle.std.proofs.Common.{arith}
 use Rattle.scan_core.proofs.archives.index_of.Goals as goal
 
 pub returns-in-Ok-clause-lines : goal.returns-in-Ok-clause-lines
-returns-in-Ok-clause-lines c = record { lines = c.write.ensures.sound.lines; places = c.write.ensures.sound.places }
+returns-in-Ok-clause-lines c = grind arith
 
 pub returns-in-Err-clause-lines : goal.returns-in-Err-clause-lines
-returns-in-Err-clause-lines c = record { lines = c.write.ensures.sound.lines; places = c.write.ensures.sound.places }
+returns-in-Err-clause-lines c = grind arith

@@ -1,5 +1,5 @@
 use Rattle.std.specs.List.{AllZip}
-use Rattle.std.proofs.Common.{◌≡◌, rules, map, sym, subst, arith, string_bytes}
+use Rattle.std.proofs.Common.{◌≡◌, map, sym, subst, arith, string_bytes}
 use Rattle.std.proofs.lemmas.Result.{err_from_is_err_and}
 use Rattle.capture_core.specs.Types.{includes}
 use Rattle.cdxj_core.specs.declared.limit.TheConstants.{LINE_LIMIT}
@@ -7,20 +7,15 @@ use Rattle.cdxj_core.specs.Indexes.{IsIndex}
 use Rattle.devices.specs.Gathered.{gathered}
 use Rattle.scan_core.specs.Archives.{index_members}
 use Rattle.scan_core.proofs.ArchiveLemmas.{map_length}
-use Rattle.scan_core.specs.Scanning.{IsBeforeWriting, IsPagesFault, IsScanFault, LeavesUnread}
-use Rattle.scan_core.specs.declared.fault.ScanFault.TheVariants.{Answer}
-use Rattle.scan_core.proofs.ScanLemmas.{archive_fault, of_pages_fault, scanned_whole, scanned_part}
+use Rattle.scan_core.specs.Scanning.{IsPagesFault}
+use Rattle.scan_core.proofs.ScanLemmas.{archive_fault, scanned_whole, scanned_part}
 use Rattle.scan_core.proofs.scanning.scan.Given.{Over}
 use Rattle.scan_core.proofs.scanning.scan.Goals.{In_err-write_pages}
 use Rattle.scan_core.proofs.scanning.scan.Goals as goal
 
 -- the pages couldn't be written for want of memory, or because the output failed
 refused : (g : Over) (c : In_err-write_pages g) → IsPagesFault c.in_err-write_pages.field-0.0
-refused g c =
-    let found = c.in_ok-indexes.ensures.indexes in
-    c.in_err-write_pages.ensures.refusals (map index_members found.captures)
-    (subst (λ is. AllZip (IsIndex LINE_LIMIT) (map gathered is) (map index_members found.captures))
-    (sym c.deref.ensures.value) found.are_indexes)
+refused g c = grind arith
 
 pub returns-clause-scanned : goal.returns-clause-scanned
 returns-clause-scanned g c =
@@ -30,9 +25,7 @@ returns-clause-scanned g c =
     (sym c.deref.ensures.value) found.are_indexes in
     scanned_whole (includes c.args.types) (map (λ n. string_bytes n.name) c.args.inputs.now)
     (map (λ n. g.I.Input.remaining n.input) c.args.inputs.now) c.args.sizes.now c.args.query.now c.in_ok-query.query
-    found.captures
-    (g.O.Output.written c.args.out.now) (g.O.Output.written c.write_pages.new.out)
-    (record { sizes = sym c.if-not-are_sizes.ensures.value; meaning = c.in_ok-query.ensures.value; few = omega arith })
+    found.captures (g.O.Output.written c.args.out.now) (g.O.Output.written c.write_pages.new.out) (grind arith)
     found.indexed c.in_ok-write_pages.field-0 (c.in_ok-write_pages.ensures.pages (map index_members found.captures) are)
 
 pub returns-in_err-write_pages-clause-part : goal.returns-in_err-write_pages-clause-part
@@ -53,69 +46,31 @@ returns-in_err-write_pages-clause-part g c =
     (c.in_err-write_pages.ensures.pages (map index_members found.captures) are (sym c.if-not-are_sizes.ensures.value)))
 
 pub returns-in_err-query-clause-fault : goal.returns-in_err-query-clause-fault
-returns-in_err-query-clause-fault g c =
-    let p = err_from_is_err_and c.from_residual.result c.from_residual.ensures.1 in
-    rw (p.1, p.2) (search rules)
+returns-in_err-query-clause-fault g c = grind arith
 
 pub returns-in_err-query-clause-part : goal.returns-in_err-query-clause-part
-returns-in_err-query-clause-part g c =
-    let p = err_from_is_err_and c.from_residual.result c.from_residual.ensures.1 in
-    rw (p.1, p.2) (search rules)
+returns-in_err-query-clause-part g c = grind arith
 
 pub returns-in_err-query-clause-inputs : goal.returns-in_err-query-clause-inputs
-returns-in_err-query-clause-inputs g c =
-    let p = err_from_is_err_and c.from_residual.result c.from_residual.ensures.1 in
-    rw (p.1, p.2) (search rules)
+returns-in_err-query-clause-inputs g c = grind arith
 
 pub returns-in_err-query-clause-output : goal.returns-in_err-query-clause-output
-returns-in_err-query-clause-output g c =
-    let p = err_from_is_err_and c.from_residual.result c.from_residual.ensures.1 in
-    rw (p.1, p.2) (search rules)
+returns-in_err-query-clause-output g c = grind arith
 
 pub returns-in_err-indexes-clause-fault : goal.returns-in_err-indexes-clause-fault
-returns-in_err-indexes-clause-fault g c =
-    let same = map_length (λ n. string_bytes n.name) c.args.inputs.now in
-    let r = c.from_residual-in_err-indexes in
-    let p = err_from_is_err_and r.result r.ensures.1 in
-    rw (p.1, p.2) (archive_fault (includes c.args.types) (map (λ n. string_bytes n.name) c.args.inputs.now)
-    (map (λ n. g.I.Input.remaining n.input) c.args.inputs.now) c.args.sizes.now c.args.query.now c.in_ok-query.query
-    (record { sizes = sym c.if-not-are_sizes.ensures.value; meaning = c.in_ok-query.ensures.value; few = omega arith })
-    c.in_err-indexes.field-0.0 c.in_err-indexes.ensures.refused)
+returns-in_err-indexes-clause-fault g c = grind (arith, map_length, err_from_is_err_and, archive_fault)
 
 pub returns-in_err-write_pages-clause-fault : goal.returns-in_err-write_pages-clause-fault
-returns-in_err-write_pages-clause-fault g c =
-    let r = c.from_residual-in_err-write_pages in
-    let p = err_from_is_err_and r.result r.ensures.1 in
-    rw (p.1, p.2) (of_pages_fault (λ f. IsScanFault (includes c.args.types)
-    (map (λ n. string_bytes n.name) c.args.inputs.now)
-    (map (λ n. g.I.Input.remaining n.input) c.args.inputs.now) c.args.sizes.now c.args.query.now
-    (Answer f)) tt tt c.in_err-write_pages.field-0.0
-    (refused g (goal.at.returns-in_err-write_pages-clause-fault g c).In_err-write_pages))
+returns-in_err-write_pages-clause-fault g c = grind arith
 
 pub returns-in_err-write_pages-clause-unwritten : goal.returns-in_err-write_pages-clause-unwritten
-returns-in_err-write_pages-clause-unwritten g c =
-    let r = c.from_residual-in_err-write_pages in
-    let p = err_from_is_err_and r.result r.ensures.1 in
-    rw (p.1, p.2) (of_pages_fault (λ f. IsBeforeWriting (Answer f) → c.write_pages.new.out ≡ c.args.out.now)
-    (λ e. absurd e) (λ e. absurd e) c.in_err-write_pages.field-0.0
-    (refused g (goal.at.returns-in_err-write_pages-clause-unwritten g c).In_err-write_pages))
+returns-in_err-write_pages-clause-unwritten g c = grind arith
 
 pub returns-in_err-write_pages-clause-unread : goal.returns-in_err-write_pages-clause-unread
-returns-in_err-write_pages-clause-unread g c =
-    let r = c.from_residual-in_err-write_pages in
-    let p = err_from_is_err_and r.result r.ensures.1 in
-    rw (p.1, p.2) (of_pages_fault (λ f. LeavesUnread c.args.inputs.now c.index_archives.new.inputs
-    (Answer f)) tt tt c.in_err-write_pages.field-0.0
-    (refused g (goal.at.returns-in_err-write_pages-clause-unread g c).In_err-write_pages))
+returns-in_err-write_pages-clause-unread g c = grind arith
 
 pub returns-in_err-write_pages-clause-inputs : goal.returns-in_err-write_pages-clause-inputs
-returns-in_err-write_pages-clause-inputs g c =
-    let p = err_from_is_err_and c.from_residual-in_err-write_pages.result c.from_residual-in_err-write_pages.ensures.1
-    in
-    rw (p.1, p.2) (search rules)
+returns-in_err-write_pages-clause-inputs g c = grind arith
 
 pub returns-in_err-write_pages-clause-output : goal.returns-in_err-write_pages-clause-output
-returns-in_err-write_pages-clause-output g c =
-    let p = err_from_is_err_and c.from_residual-in_err-write_pages.result c.from_residual-in_err-write_pages.ensures.1
-    in
-    rw (p.1, p.2) (search rules)
+returns-in_err-write_pages-clause-output g c = grind arith

@@ -1,14 +1,12 @@
 use Rattle.std.proofs.Common.{◌≤◌, length, map, Some, ap, ◌∙◌, arith}
-use Rattle.std.proofs.lemmas.Result.{err_from_is_err_and}
 use Rattle.devices.specs.Gathered.{gathered}
 use Rattle.devices.proofs.WritingLemmas.{wrote_nothing}
 use Rattle.merge_core.specs.Collections.{collection}
 use Rattle.source_core.specs.Slices.{slice_text}
 use Rattle.query_text.specs.Collapses.{same_part}
 use Rattle.query_core.specs.declared.merging.TheConstants.{SOURCES_LIMIT}
-use Rattle.query_core.specs.Paging.{pages_text}
 use Rattle.query_core.specs.QueryPages.{selected}
-use Rattle.scan_core.proofs.PageLemmas.{counts_writing, known_texts, not_refused, same_length, pages_fault}
+use Rattle.scan_core.proofs.PageLemmas.{known_texts, not_refused, same_length, pages_fault}
 use Rattle.scan_core.proofs.scanning.write_pages.Goals as goal
 
 pub returns-in_err-sources-clause-pages : goal.returns-in_err-sources-clause-pages
@@ -16,19 +14,14 @@ returns-in_err-sources-clause-pages g c = λ members are.
     let q = c.args.query.now in
     let chain = c.pages_join.ensures.one (same_part q.collapse) (selected q (collection members))
     (c.pages_are_selected.ensures.rise q members) q.resume c.args.sizes.now c.requires.positive in
-    let p = err_from_is_err_and c.from_residual.result c.from_residual.ensures.1 in
-    rw p.1 (λ sized. (chain.0, chain.1.0, wrote_nothing (g.O.Output.written c.args.out.now) (pages_text q chain.0)))
+    grind (arith, wrote_nothing)
 
 pub returns-clause-pages : goal.returns-clause-pages
-returns-clause-pages g c = λ members are.
-    c.pages.ensures.pages (map gathered c.args.indexes.now) members
-    (known_texts slice_text c.deref_mut.result.now (map gathered c.args.indexes.now)
-    (ap (map slice_text) c.deref_mut.ensures.value ∙ c.in_ok-sources.ensures)) are
+returns-clause-pages g c = grind (arith, known_texts slice_text c.deref_mut.result.now (map gathered c.args.indexes.now)
+    (grind arith))
 
 pub returns-clause-failures : goal.returns-clause-failures
-returns-clause-failures g c =
-    counts_writing c.pages.result (map (λ s. 0) c.deref_mut.result.now) (map (λ s. 0) c.pages.new.sources)
-    (g.O.Output.failures c.args.out.now) (g.O.Output.failures c.pages.new.out) c.pages.ensures.failures
+returns-clause-failures g c = grind arith
 
 pub returns-clause-refusals : goal.returns-clause-refusals
 returns-clause-refusals g c = λ members are.

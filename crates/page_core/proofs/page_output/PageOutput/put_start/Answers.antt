@@ -1,5 +1,6 @@
+use Rattle.std.proofs.Common.{arith}
 use Rattle.devices.proofs.WritingLemmas.{writes_nothing}
 use Rattle.page_core.proofs.page_output.PageOutput.put_start.Goals as goal
 
 pub returns-in_err-push_start-clause-text : goal.returns-in_err-push_start-clause-text
-returns-in_err-push_start-clause-text g c = writes_nothing _ c.from_residual.result _ _ c.from_residual.ensures.1
+returns-in_err-push_start-clause-text g c = grind (arith, writes_nothing)

@@ -30,11 +30,7 @@ loop-line-preserved g c =
     }
 
 pub returns-clause-stands : goal.returns-clause-stands
-returns-clause-stands g c = λ taken start s.
-    let all : take c.loop-line.line-index c.args.lines.now
-    ≡ c.args.lines.now = take_all c.loop-line.line-index c.args.lines.now (omega (arith, c.loop-line-test.false)) in
-    subst (λ l. stands c.loop-line.self (taken ++ map (λ (l : Bor Line). l.now) l) start
-    (g.O.Output.written c.loop-line.out)) all (c.loop-line.invariant.stands taken start s)
+returns-clause-stands g c = grind (arith, take_all)
 
 pub returns-in_err-take_line-clause-broke : goal.returns-in_err-take_line-clause-broke
 returns-in_err-take_line-clause-broke g c = λ taken start s.

@@ -1,11 +1,11 @@
-use Rattle.std.proofs.Common.{rules, ◌≡◌, ◌++◌, ◌∷◌, [], true, false, cond, refl, sym, ap, ap₂, ◌∙◌, subst, append-nil}
-use Rattle.std.proofs.Common.{filter}
+use Rattle.std.proofs.Common.{arith, rules, ◌≡◌, ◌++◌, ◌∷◌, [], true, false, cond, refl, sym, ap, ap₂, ◌∙◌, subst}
+use Rattle.std.proofs.Common.{append-nil, filter}
 use Rattle.std.proofs.lemmas.Result.{err_from_is_err_and}
 use Rattle.std.proofs.lemmas.Bool.{true≢false}
 use Rattle.devices.specs.Device.{AppendsPrefix}
 use Rattle.std.specs.Io.KnownBytes.{Appends}
 use Rattle.page_core.specs.PageText.{begun, row_text}
-use Rattle.page_writers.specs.PageWriting.{PageStands, captures_over, page_over, place_before, is_full, is_wanted}
+use Rattle.page_writers.specs.PageWriting.{PageStands, captures_over, place_before, is_full, is_wanted}
 use Rattle.page_writers.specs.QueryPages.{form_of}
 use Rattle.page_writers.specs.WriterView.{Selects, captures_of, from_view}
 use Rattle.page_writers.proofs.CaptureLemmas.{captures_append, kept_after}
@@ -87,7 +87,8 @@ returns-clause-stands g c = λ taken start s.
     let captures : captures_of k.selection (taken ++ m ∷ []) ≡ captures_of w.selection taken ++ m ∷ [] =
     ap₂ (λ q from. captures_over q from (taken ++ m ∷ [])) (ap (λ s. s.query.now) kept.0 ∙ ap (λ r. r.now) same.0)
     (ap (λ s. from_view s.from) kept.0 ∙ ap from_view same.1)
-    ∙ c.in_ok-takes.ensures.capture taken selects ∙ ap (λ b. captures_of w.selection taken ++ cond b (m ∷ []) []) is in (
+    ∙ c.in_ok-takes.ensures.capture taken selects ∙ ap (λ b. captures_of w.selection taken ++ cond b (m ∷ []) []) is in
+    (
       as_kept (form_of w.selection.query.now) (form_of k.selection.query.now) w.limit k.limit
           (captures_of w.selection taken ++ m ∷ []) (captures_of k.selection (taken ++ m ∷ [])) start new
           k.given k.given w.more k.more k.last k.last (ap (λ s. form_of s.query.now) kept.0 ∙ form) kept.1 captures refl
@@ -99,14 +100,7 @@ returns-clause-stands g c = λ taken start s.
     )
 
 pub returns-in_err-takes-clause-broke : goal.returns-in_err-takes-clause-broke
-returns-in_err-takes-clause-broke g c = λ taken start s.
-    let w = c.args.self.now in
-    let q = w.selection.query.now in
-    let from = from_view w.selection.from in
-    let now = g.O.Output.written c.args.out.now in
-    let p = err_from_is_err_and c.from_residual.result c.from_residual.ensures.1 in
-    rw p.1 (broke_longer q from w.limit taken (c.args.line.now ∷ []) start now
-    (whole_prefix start now (begun (form_of q) (page_over q from w.limit taken).members) s.0.text))
+returns-in_err-takes-clause-broke g c = grind (arith, broke_longer, whole_prefix)
 
 pub returns-in_err-put_capture-clause-broke : goal.returns-in_err-put_capture-clause-broke
 returns-in_err-put_capture-clause-broke g c = λ taken start s.

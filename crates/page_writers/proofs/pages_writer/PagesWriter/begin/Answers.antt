@@ -1,18 +1,13 @@
-use Rattle.std.proofs.Common.{ap, subst, sym, ◌∙◌}
-use Rattle.std.proofs.lemmas.Result.{err_from_is_err_and}
+use Rattle.std.proofs.Common.{arith, ap, subst, sym, ◌∙◌}
 use Rattle.std.specs.Io.KnownBytes.{Appends}
 use Rattle.page_core.specs.PageText.{page_start}
 use Rattle.devices.proofs.WritingLemmas.{wrote_nothing}
 use Rattle.page_writers.specs.QueryPages.{form_of}
-use Rattle.page_writers.proofs.WriterLemmas.{on_err}
 use Rattle.page_writers.proofs.PagesLemmas.{none_stand}
 use Rattle.page_writers.proofs.pages_writer.PagesWriter.begin.Goals as goal
 
 pub returns-in_err-selection-clause-front : goal.returns-in_err-selection-clause-front
-returns-in_err-selection-clause-front g c =
-    let p = err_from_is_err_and c.from_residual.result c.from_residual.ensures.1 in
-    on_err c.from_residual.result p.0 _ p.1
-    (wrote_nothing (g.O.Output.written c.args.out.now) (page_start (form_of c.args.query.now)))
+returns-in_err-selection-clause-front g c = grind (arith, wrote_nothing)
 
 pub returns-clause-stands : goal.returns-clause-stands
 returns-clause-stands g c = λ positive.

@@ -15,7 +15,7 @@ loop-line-init g c = record {
   stands = λ sizes taken start s. subst
       (λ l. pages_stand sizes c.args.self.now l start (g.O.Output.written c.args.out.now)) (sym (append-nil taken)) s;
   same = (refl, refl);
-  grows = grows_not (g.O.Output.written c.args.out.now);
+  grows = grind (arith, grows_not);
   failures = refl;
 }
 
@@ -39,8 +39,7 @@ loop-line-preserved g c =
 
 pub returns-clause-stands : goal.returns-clause-stands
 returns-clause-stands g c = λ sizes taken start s.
-    let all : take c.loop-line.line-index c.args.lines.now
-    ≡ c.args.lines.now = take_all c.loop-line.line-index c.args.lines.now (omega (arith, c.loop-line-test.false)) in
+    let all : take c.loop-line.line-index c.args.lines.now ≡ c.args.lines.now = grind (arith, take_all) in
     subst (λ l. pages_stand sizes c.loop-line.self (taken ++ map (λ (l : Bor Line). l.now) l) start
     (g.O.Output.written c.loop-line.out)) all (c.loop-line.invariant.stands sizes taken start s)
 

@@ -1,11 +1,10 @@
-use Rattle.std.proofs.Common.{rules, ◌≡◌, ◌++◌, ◌∷◌, [], true, false, cond, sym, ap, ap₂, refl, ◌∙◌, subst, append-nil}
-use Rattle.std.proofs.Common.{filter}
+use Rattle.std.proofs.Common.{arith, rules, ◌≡◌, ◌++◌, ◌∷◌, [], true, false, cond, sym, ap, ap₂, refl, ◌∙◌, subst}
+use Rattle.std.proofs.Common.{append-nil, filter}
 use Rattle.std.proofs.lemmas.Result.{err_from_is_err_and}
-use Rattle.devices.proofs.DeviceLemmas.{grows_on, grows_by, grows_part}
-use Rattle.page_writers.specs.PageWriting.{is_wanted, place_before}
+use Rattle.devices.proofs.DeviceLemmas.{grows_on}
+use Rattle.page_writers.specs.PageWriting.{is_wanted, place_before, captures_over}
 use Rattle.page_writers.specs.PagesWriting.{PagesStand}
 use Rattle.page_writers.specs.WriterView.{IsFront, Selects, captures_of, from_view}
-use Rattle.page_writers.specs.PageWriting.{captures_over}
 use Rattle.page_writers.proofs.CaptureLemmas.{captures_append, kept_after}
 use Rattle.page_writers.proofs.PagesLemmas.{stands_front, front_more, pages_kept, capture_stands, capture_front}
 use Rattle.page_writers.proofs.pages_writer.PagesWriter.take_line.Goals as goal
@@ -43,7 +42,6 @@ returns-else-branch-clause-stands g c = λ sizes taken start s.
 pub returns-in_err-make_room-clause-broke : goal.returns-in_err-make_room-clause-broke
 returns-in_err-make_room-clause-broke g c = λ sizes taken start s.
     let w = c.args.self.now in
-    let k = c.takes.new.self in
     let m = c.args.line.now in
     let old = g.O.Output.written c.args.out.now in
     let new = g.O.Output.written c.make_room.new.out in
@@ -113,12 +111,10 @@ pub returns-in_ok-put_capture-clause-grows : goal.returns-in_ok-put_capture-clau
 returns-in_ok-put_capture-clause-grows g c =
     let mid = g.O.Output.written c.make_room.new.out in
     let new = g.O.Output.written c.put_capture.new.out in
-    grows_on (g.O.Output.written c.args.out.now) mid new c.make_room.ensures.grows
-    (grows_by mid new _ c.in_ok-put_capture.ensures.text)
+    grows_on (g.O.Output.written c.args.out.now) mid new c.make_room.ensures.grows (grind arith)
 
 pub returns-in_err-put_capture-clause-grows : goal.returns-in_err-put_capture-clause-grows
 returns-in_err-put_capture-clause-grows g c =
     let mid = g.O.Output.written c.make_room.new.out in
     let new = g.O.Output.written c.put_capture.new.out in
-    grows_on (g.O.Output.written c.args.out.now) mid new c.make_room.ensures.grows
-    (grows_part mid new _ c.in_err-put_capture.ensures.part)
+    grows_on (g.O.Output.written c.args.out.now) mid new c.make_room.ensures.grows (grind arith)

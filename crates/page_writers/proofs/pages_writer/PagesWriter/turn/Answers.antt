@@ -1,4 +1,4 @@
-use Rattle.std.proofs.Common.{rules, true}
+use Rattle.std.proofs.Common.{arith, rules, true}
 use Rattle.std.proofs.lemmas.Result.{err_from_is_err_and}
 use Rattle.std.specs.Io.KnownBytes.{Appends}
 use Rattle.devices.specs.Device.{AppendsPrefix}
@@ -8,14 +8,7 @@ use Rattle.page_writers.specs.QueryPages.{form_of, shown_key}
 use Rattle.page_writers.proofs.pages_writer.PagesWriter.turn.Goals as goal
 
 pub returns-in_err-put_end-clause-text : goal.returns-in_err-put_end-clause-text
-returns-in_err-put_end-clause-text g c =
-    let w = c.args.self.now in
-    let old = g.O.Output.written c.args.out.now in
-    let now = g.O.Output.written c.put_end.new.out in
-    let form = form_of w.selection.query.now in
-    let end : AppendsPrefix old now (page_end form (shown_key true w.last)) = search rules in
-    let p = err_from_is_err_and c.from_residual.result c.from_residual.ensures.1 in
-    rw p.1 (prefix_longer old now (page_end form (shown_key true w.last)) (page_start form) end)
+returns-in_err-put_end-clause-text g c = grind (arith, prefix_longer)
 
 pub returns-in_err-put_start-clause-text : goal.returns-in_err-put_start-clause-text
 returns-in_err-put_start-clause-text g c =

@@ -1,13 +1,11 @@
-use Rattle.std.proofs.Common.{◌++◌, map, ap, ◌∙◌, Bor}
+use Rattle.std.proofs.Common.{arith, ◌++◌, map, ap, ◌∙◌, Bor}
 use Rattle.cdxj_core.specs.declared.line.Line.{Line}
 use Rattle.page_writers.specs.WriterView.{from_view}
 use Rattle.page_writers.proofs.WriterLemmas.{broke_as}
 use Rattle.query_core.proofs.sinks.PageSinkSink.take.Goals as goal
 
 pub returns-in-Ok-clause-wrote : goal.returns-in-Ok-clause-wrote
-returns-in-Ok-clause-wrote g c = λ first taken start s.
-    let kept = c.take.ensures.kept in
-    (((kept.0.0 ∙ s.0.0.0, kept.0.1 ∙ s.0.0.1), kept.1 ∙ s.0.1), c.in-Ok.ensures.stands taken start s.1)
+returns-in-Ok-clause-wrote g c = grind arith
 
 pub returns-in-Err-clause-wrote : goal.returns-in-Err-clause-wrote
 returns-in-Err-clause-wrote g c = λ first taken start s.
