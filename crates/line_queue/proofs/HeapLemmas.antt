@@ -1,12 +1,12 @@
 -- Which lines of each source wait, as lines come and go.
+use Rattle.std.proofs.lemmas.Grind.{common_steps}
 use Rattle.std.proofs.Common.{◌≡◌, ◌≢◌, ℕ, zero, suc, ◌==◌, ◌<◌, ◌≤◌, List, [], ◌∷◌, length, get_or, map, filter, true}
-use Rattle.std.proofs.Common.{false, cond, refl, sym, ap, ◌∙◌, subst, arith, sum_by, inl, inr}
+use Rattle.std.proofs.Common.{false, cond, refl, sym, ◌∙◌, subst, arith, sum_by}
 use Rattle.std.specs.List.{AllByRecursion, All}
 use Rattle.std.specs.List.Sorted.{IsPermutation}
-use Rattle.std.proofs.lemmas.Bool.{cond-true, cond-false, cases_Bool}
+use Rattle.std.proofs.lemmas.Bool.{cond-true, cond-false}
 use Rattle.std.proofs.lemmas.List.Sorted.{All-permutation, sum_by-IsPermutation}
 use Rattle.std.proofs.lemmas.List.Sums.{sum_by-cons}
-use Rattle.std.proofs.lemmas.Bool.Decides.{nat_tests}
 use Rattle.cdxj_places.proofs.RisingLaws.{each_weaker}
 use Rattle.cdxj_core.specs.Members.{Member}
 use Rattle.line_queue.specs.WaitingLines.{WaitingLine, is_of, waits_of}
@@ -29,12 +29,10 @@ each_permuted P xs ys p h = each_of P ys (All-permutation P xs ys p (λ k d l. e
 
 pub waits_here : (i : ℕ) (w : WaitingLine) (ws : List WaitingLine) → w.source ≡ i → waits_of i (w ∷ ws)
     ≡ w.member ∷ waits_of i ws
-waits_here i w ws e = ap (map (λ (w : WaitingLine). w.member))
-    (cond-true (is_of i w) _ _ (let h : (w.source == i) ≡ true = grind (arith, nat_tests, e) in h))
+waits_here i w ws e = grind arith
 
 pub waits_other : (i : ℕ) (w : WaitingLine) (ws : List WaitingLine) → w.source ≢ i → waits_of i (w ∷ ws) ≡ waits_of i ws
-waits_other i w ws n = ap (map (λ (w : WaitingLine). w.member))
-    (cond-false (is_of i w) _ _ (let h : (w.source == i) ≡ false = grind (arith, nat_tests, n) in h))
+waits_other i w ws n = grind arith
 
 -- how many are of the source
 abbrev many_of : ℕ → List WaitingLine → ℕ
@@ -42,31 +40,13 @@ many_of i ws = sum_by (λ w. cond (is_of i w) 1 0) ws
 
 length_waits : (i : ℕ) (ws : List WaitingLine) → length (waits_of i ws) ≡ many_of i ws
 length_waits i [] = refl
-length_waits i (w ∷ ws) = elim (cases_Bool (is_of i w)) [
-  | inl e ↦ (let h = length_waits i ws in let m = sum_by-cons (λ (w : WaitingLine). cond (is_of i w) 1 0) w ws in
-      let one : ◌≡◌ {A = ℕ} (cond (is_of i w) 1 0) 1 = cond-true (is_of i w) 1 0 e in
-      let l : length (waits_of i (w ∷ ws))
-      ≡ length (w.member ∷ waits_of i ws) = ap
-      (λ (vs : List WaitingLine). length (map (λ (w : WaitingLine). w.member) vs))
-      (cond-true (is_of i w) (w ∷ filter (is_of i) ws) (filter (is_of i) ws) e) in
-      omega (arith, l, m, one, h))
-  | inr e ↦ (let h = length_waits i ws in let m = sum_by-cons (λ (w : WaitingLine). cond (is_of i w) 1 0) w ws in
-      let none : ◌≡◌ {A = ℕ} (cond (is_of i w) 1 0) 0 = cond-false (is_of i w) 1 0 e in
-      let l : length (waits_of i (w ∷ ws))
-      ≡ length (waits_of i ws) = ap (λ (vs : List WaitingLine). length (map (λ (w : WaitingLine). w.member) vs))
-      (cond-false (is_of i w) (w ∷ filter (is_of i) ws) (filter (is_of i) ws) e) in
-      omega (arith, l, m, none, h))
-]
+length_waits i (w ∷ ws) = grind (arith, common_steps, sum_by-cons, cond-true, cond-false, length_waits i ws)
 
 module _ (P : Member → Type 0) (i : ℕ) where
   pub each_waits : (ws : List WaitingLine) → AllByRecursion (λ w. is_of i w ≡ true → P w.member) ws
       → AllByRecursion P (waits_of i ws)
   each_waits [] h = tt
-  each_waits (w ∷ ws) h =
-      (elim (is_of i w) as (λ b. (b ≡ true → P w.member)
-      → AllByRecursion P (map (λ (w : WaitingLine). w.member)
-      (cond b (w ∷ filter (is_of i) ws) (filter (is_of i) ws))))
-      [ true ↦ (λ k. (k refl, each_waits ws h.1)) | false ↦ (λ k. each_waits ws h.1) ]) h.0
+  each_waits (w ∷ ws) h = grind (arith, each_waits ws h.1)
 
   pub waits_each : (ws : List WaitingLine) → AllByRecursion P (waits_of i ws)
       → AllByRecursion (λ w. is_of i w ≡ true → P w.member) ws
@@ -82,7 +62,7 @@ all_same : (us vs : List Member) → length us ≤ 1 → length vs ≡ length us
 all_same [] [] l e h = refl
 all_same [] (v ∷ vs) l e h = absurd (omega arith)
 all_same (u ∷ []) [] l e h = absurd (omega arith)
-all_same (u ∷ []) (v ∷ []) l e h = let k = h u refl in ap (λ m. m ∷ []) k.0
+all_same (u ∷ []) (v ∷ []) l e h = grind arith
 all_same (u ∷ []) (v ∷ w ∷ vs) l e h = absurd (omega arith)
 all_same (u ∷ x ∷ us) vs l e h = absurd (omega arith)
 
@@ -91,7 +71,7 @@ pub waits_permuted : (i : ℕ) (xs ys : List WaitingLine) → IsPermutation xs y
     → waits_of i ys ≡ waits_of i xs
 waits_permuted i xs ys p few =
     let many = sum_by-IsPermutation (λ (w : WaitingLine). cond (is_of i w) 1 0) xs ys p in
-    all_same (waits_of i xs) (waits_of i ys) few (length_waits i ys ∙ many ∙ sym (length_waits i xs))
+    all_same (waits_of i xs) (waits_of i ys) few (grind (arith, length_waits))
     (λ m e. each_waits (λ k. k ≡ m) i ys
     (each_permuted (λ w. is_of i w ≡ true → w.member ≡ m) xs ys p
     (waits_each (λ k. k ≡ m) i xs (subst (AllByRecursion (λ k. k ≡ m)) (sym e) (refl, tt)))))
@@ -100,6 +80,5 @@ waits_permuted i xs ys p few =
 pub none_waits : (i : ℕ) (ws : List WaitingLine) → waits_of i ws ≡ []
     → AllByRecursion (λ (w : WaitingLine). w.source ≢ i) ws
 none_waits i ws e =
-    each_weaker (λ (w : WaitingLine) (h : is_of i w ≡ true → ⊥). λ (q : w.source ≡ i). h (let t : (w.source == i)
-    ≡ true = grind (arith, nat_tests, q) in t)) ws
-    (waits_each (λ k. ⊥) i ws (subst (AllByRecursion (λ (k : Member). ⊥)) (sym e) tt))
+    each_weaker (λ (w : WaitingLine) (h : is_of i w ≡ true → ⊥). λ (q : w.source ≡ i). h
+    (let t : (w.source == i) ≡ true = grind arith in t)) ws (waits_each (λ k. ⊥) i ws (grind arith))

@@ -1,7 +1,7 @@
 -- The order of pairs is total.
-use Rattle.std.proofs.Common.{◌≡◌, ◌⊎◌, inl, inr, refl, false, sym, ap, ◌∙◌, Less, Equal, Greater, is_gt, is_lt}
+use Rattle.std.proofs.Common.{arith, ◌≡◌, ◌⊎◌, inl, inr, refl, false, ap, ◌∙◌, Less, Equal, Greater, is_gt, is_lt}
 use Rattle.std.specs.Ordering.{ordering_reverse}
-use Rattle.std.proofs.lemmas.Cmp.{alike_right, tied_itself, tied_back}
+use Rattle.std.proofs.lemmas.Cmp.{tied_itself, tied_back}
 use Rattle.cdxj_places.specs.Pairs.{Pair, pair_cmp}
 use Rattle.cdxj_places.proofs.PairLemmas.{pair_cmp_total}
 use Rattle.line_queue.specs.PairOrders.{Below, Upto}
@@ -20,8 +20,7 @@ upto_itself p = ap is_gt (tied_itself pair_cmp_total p)
 
 -- not above: below, or the same
 pub not_above : (p q : Pair) → Upto p q → (pair_cmp p q ≡ Less) ⊎ (pair_cmp p q ≡ Equal)
-not_above p q h = (elim (pair_cmp p q) as (λ r. is_gt r ≡ false → (r ≡ Less) ⊎ (r ≡ Equal))
-    [ Less ↦ (λ e. inl refl) | Equal ↦ (λ e. inr refl) | Greater ↦ (λ e. cc) ]) h
+not_above p q h = grind arith
 
 pub from_not_below : (p q : Pair) → is_lt (pair_cmp p q) ≡ false → Upto q p
 from_not_below p q h = (elim (pair_cmp p q) as (λ r. pair_cmp p q ≡ r → is_lt r ≡ false → Upto q p) [
@@ -34,10 +33,7 @@ pub below_below : (p q r : Pair) → Below p q → Below q r → Below p r
 below_below p q r h k = pair_cmp_total.trans p q r h k
 
 pub below_then : (p q r : Pair) → Below p q → Upto q r → Below p r
-below_then p q r h k = elim (not_above q r k) [
-  | inl e ↦ pair_cmp_total.trans p q r h e
-  | inr e ↦ sym (alike_right pair_cmp_total q r p e) ∙ h
-]
+below_then p q r h k = grind (arith, pair_cmp_total)
 
 pub then_below : (p q r : Pair) → Upto p q → Below q r → Below p r
 then_below p q r h k = elim (not_above p q h) [
@@ -52,11 +48,8 @@ upto_upto p q r h k = elim (not_above p q h) [
 ]
 
 pub not_below_itself : (p q : Pair) → Below p q → Upto q p → ⊥
-not_below_itself p q h k = elim (not_above q p k) [
-  | inl e ↦ cc (sym (tied_itself pair_cmp_total p) ∙ pair_cmp_total.trans p q p h e)
-  | inr e ↦ cc (sym h ∙ tied_back pair_cmp_total q p e)
-]
+not_below_itself p q h k = grind (arith, pair_cmp_total, tied_back)
 
 -- not above, and not below
 pub upto_both : (p q : Pair) → Upto p q → Upto q p → pair_cmp p q ≡ Equal
-upto_both p q h k = elim (not_above p q h) [ inl e ↦ absurd (not_below_itself p q e k) | inr e ↦ e ]
+upto_both p q h k = grind (arith, not_below_itself)

@@ -1,12 +1,8 @@
 -- Whose turn comes first.
-use Rattle.std.proofs.Common.{◌≡◌, ◌<◌, ◌≤◌, List, [], ◌∷◌, length, Option, Some, None, MatchOption, IfSome, inl, inr}
-use Rattle.std.proofs.Common.{refl, sym, get_or, false, true, subst, arith, Ordering, Less, Equal, Greater, is_lt}
-use Rattle.std.proofs.Common.{is_eq}
-use Rattle.std.proofs.lemmas.Cmp.{tied_back}
+use Rattle.std.proofs.Common.{◌≡◌, ◌<◌, ◌≤◌, List, [], ◌∷◌, length, Option, Some, None, MatchOption, IfSome, sym}
+use Rattle.std.proofs.Common.{get_or, false, subst, arith, Equal, is_lt, is_eq}
 use Rattle.cdxj_places.proofs.PairLemmas.{pair_cmp_total}
 use Rattle.std.specs.List.{AllByRecursion}
-use Rattle.std.specs.Ordering.{nat_cmp, ordering_then}
-use Rattle.std.proofs.lemmas.Map.Keys.{ge_from_not_lt}
 use Rattle.cdxj_places.specs.Pairs.{Pair, pair_cmp}
 use Rattle.std.specs.List.Sorted.{IsPermutation}
 use Rattle.std.proofs.lemmas.List.Sorted.{length_permutation}
@@ -14,26 +10,15 @@ use Rattle.cdxj_places.proofs.RisingLaws.{each_weaker}
 use Rattle.line_queue.specs.PairOrders.{Below, Upto, Alike, IsAbove}
 use Rattle.line_queue.specs.WaitingLines.{WaitingLine, waiting_pair, turn_cmp}
 use Rattle.line_queue.proofs.HeapLemmas.{each_permuted}
-use Rattle.line_queue.proofs.PairOrder.{from_not_below, not_above, below_then}
-
-then_not_lt : (a b : Ordering) → is_lt (ordering_then a b) ≡ false → is_lt a ≡ false
-then_not_lt Less b e = e
-then_not_lt Equal b e = refl
-then_not_lt Greater b e = refl
-
-then_tied : (a b : Ordering) → a ≡ Equal → is_lt (ordering_then a b) ≡ false → is_lt b ≡ false
-then_tied Less b t e = cc
-then_tied Equal b t e = e
-then_tied Greater b t e = cc
+use Rattle.line_queue.proofs.PairOrder.{from_not_below, below_then}
 
 pub not_before : (v w : WaitingLine) → is_lt (turn_cmp v w) ≡ false → Upto (waiting_pair w) (waiting_pair v)
 not_before v w h = from_not_below (waiting_pair v) (waiting_pair w)
-    (then_not_lt (pair_cmp (waiting_pair v) (waiting_pair w)) (nat_cmp v.source w.source) h)
+    (grind arith)
 
 pub source_after : (v w : WaitingLine) → is_lt (turn_cmp v w) ≡ false → pair_cmp (waiting_pair v) (waiting_pair w)
     ≡ Equal → w.source ≤ v.source
-source_after v w h e = ge_from_not_lt v.source w.source
-    (then_tied (pair_cmp (waiting_pair v) (waiting_pair w)) (nat_cmp v.source w.source) e h)
+source_after v w h e = grind arith
 
 -- where the first in turn is above, all are
 pub all_later : (p : Pair) (w : WaitingLine) (ws : List WaitingLine) → Below p (waiting_pair w)
@@ -42,18 +27,9 @@ all_later p w ws b h = each_weaker
     (λ (v : WaitingLine) (q : is_lt (turn_cmp v w) ≡ false). below_then p (waiting_pair w) (waiting_pair v) b
     (not_before v w q)) ws h
 
-pub eq_is : (r : Ordering) → is_eq r ≡ true → r ≡ Equal
-eq_is Less e = cc
-eq_is Equal e = refl
-eq_is Greater e = cc
-
-pub eq_is_not : (r : Ordering) → is_eq r ≡ false → r ≡ Equal → ⊥
-eq_is_not r e p = cc
-
 -- what isn't above and doesn't have the pair is below
 pub below_unless : (p q : Pair) → Upto p q → is_eq (pair_cmp q p) ≡ false → Below p q
-below_unless p q h e = elim (not_above p q h)
-    [ inl b ↦ b | inr b ↦ absurd (eq_is_not (pair_cmp q p) e (tied_back pair_cmp_total p q b)) ]
+below_unless p q h e = grind (arith, pair_cmp_total)
 
 -- where the first in turn doesn't have the pair, all are above it
 pub all_later_unless : (p : Pair) (w : WaitingLine) (ws : List WaitingLine) → w ≡ get_or ws 0 w
@@ -62,7 +38,7 @@ pub all_later_unless : (p : Pair) (w : WaitingLine) (ws : List WaitingLine) → 
     → AllByRecursion (λ v. Below p (waiting_pair v)) ws
 all_later_unless p w [] e n u h = tt
 all_later_unless p w (v ∷ ws) e n u h = all_later p w (v ∷ ws)
-    (below_unless p (waiting_pair w) (subst (λ (x : WaitingLine). Upto p (waiting_pair x)) (sym e) u.0) n) h
+    (below_unless p (waiting_pair w) (grind arith) n) h
 
 -- the line that is taken out has the pair that the first in turn has
 pub popped_alike : (p : Pair) (old new : List WaitingLine) (r : Option WaitingLine)

@@ -1,6 +1,6 @@
 -- Lines at fault, by where the cursor stands.
 use Rattle.std.proofs.Common.{◌≡◌, ◌≢◌, ℕ, ◌+◌, ◌-◌, ◌<◌, ◌≤◌, List, [], ◌∷◌, ◌++◌, Bool, true, false, cond, length}
-use Rattle.std.proofs.Common.{take, drop, map, None, Some, inl, inr, refl, sym, ap, ap₂, ◌∙◌, subst, arith, length-take}
+use Rattle.std.proofs.Common.{take, drop, map, None, Some, refl, sym, ap, ap₂, ◌∙◌, subst, arith, length-take}
 use Rattle.std.proofs.Common.{append_assoc, take-append-drop, is_gt}
 use Rattle.std.specs.Ordering.{ordering_reverse}
 use Rattle.std.proofs.lemmas.Bool.{cases_lt}
@@ -8,7 +8,6 @@ use Rattle.std.proofs.lemmas.List.{drop_all}
 use Rattle.cdxj_places.specs.Pairs.{Pair}
 use Rattle.cdxj_places.specs.TextLines.{lines}
 use Rattle.cdxj_places.proofs.PairLemmas.{pair_cmp_total}
-use Rattle.cdxj_core.specs.Lines.{body_of}
 use Rattle.cdxj_core.specs.Members.{Member, member_pair, line_entry}
 use Rattle.cdxj_core.proofs.MemberLemmas.{long_line_none}
 use Rattle.source_core.specs.Cursors.{CursorState}
@@ -29,14 +28,12 @@ use Rattle.line_queue.proofs.PairOrder.{below_then}
 use Rattle.merge_core.proofs.FeedLemmas.{ReadNext, done_due, after_taken}
 
 body_length : (b : Bool) (line : List ℕ) → length line ≤ length (cond b (take (length line - 1) line) line) + 1
-body_length true line = omega (arith, length-take (length line - 1) line)
+body_length true line = grind (arith, length-take)
 body_length false line = omega arith
 
 -- a line that is too long, with its line feed, if it has one
 long_none : (limit : ℕ) (line : List ℕ) → limit < length line → line_entry limit line ≡ None
-long_none limit line long =
-    let most : length line ≤ length (body_of line) + 1 = body_length _ line in
-    long_line_none limit line (omega arith)
+long_none limit line long = grind (arith, body_length, long_line_none)
 
 pub first_long : (limit : ℕ) (ls : List (List ℕ)) → limit < first_length ls → IsBadFirst limit ls
 first_long limit [] long = absurd (omega arith)
@@ -47,17 +44,13 @@ pub refused_at : (limit : ℕ) (ls rest : List (List ℕ)) (line : List ℕ) (at
     ≡ line ∷ rest → (e ≢ reading.Memory → line_entry limit line ≡ None)
     → IsFeedFaultAt limit ls at (line_fault begin e)
 refused_at limit ls rest line at begin reading.Memory there is bad = tt
-refused_at limit ls rest line at begin reading.LineTooLong there is bad =
-    (there, (line, rest, is, bad (λ q. absurd (cc))))
-refused_at limit ls rest line at begin reading.BadLine there is bad = (there, (line, rest, is, bad (λ q. absurd (cc))))
+refused_at limit ls rest line at begin reading.LineTooLong there is bad = grind arith
+refused_at limit ls rest line at begin reading.BadLine there is bad = grind arith
 
 -- where lines are left, the offset lies within the text
 inside : (t : List ℕ) (at : ℕ) (line : List ℕ) (after : List (List ℕ)) → lines (drop at t) ≡ line ∷ after
     → at ≤ length t
-inside t at line after e = elim (cases_lt at (length t)) [
-  | inl l ↦ omega arith
-  | inr l ↦ absurd (let none : lines (drop at t) ≡ [] = ap lines (drop_all at t l) in cc)
-]
+inside t at line after e = grind (arith, cases_lt, drop_all)
 
 -- the last of these lines has the last of these entries
 last_line : (limit : ℕ) (ls : List (List ℕ)) (before : List Member) (last : Member) → map (line_entry limit) ls
@@ -79,11 +72,8 @@ module _ (limit : ℕ) (past : List ℕ → Bool) (t : List ℕ) (extent : ℕ) 
       → LineBeginsAt t f.cursor.at ((fed.told t refl).begins.0 ++ read_lines t f.cursor) line
   begins_here line after e =
       let told = fed.told t refl in
-      let from = lines (drop f.cursor.start t) in
       let cut : lines t ≡ (told.begins.0 ++ read_lines t f.cursor) ++ lines (drop f.cursor.at t) =
-      told.begins.1.0 ∙ ap (λ ls. told.begins.0 ++ ls) (sym (take-append-drop f.cursor.count from)
-      ∙ ap (λ ls. take f.cursor.count from ++ ls) (sym (fed.stands.rest t refl)))
-      ∙ sym (append_assoc told.begins.0 (read_lines t f.cursor) (lines (drop f.cursor.at t))) in
+      grind (arith, take-append-drop, append_assoc) in
       record {
         after = after;
         lines_are = cut ∙ ap (λ ls. (told.begins.0 ++ read_lines t f.cursor) ++ ls) e;
@@ -94,13 +84,7 @@ module _ (limit : ℕ) (past : List ℕ → Bool) (t : List ℕ) (extent : ℕ) 
   pub bad_named : (e : FeedFault) → IsFeedFaultAt limit (lines (drop f.cursor.at t)) f.cursor.at e → NamesLine limit t e
   bad_named fault.Memory h = tt
   bad_named fault.Read h = tt
-  bad_named (fault.BadLine offset) h =
-      subst (λ n. NamesLine limit t (fault.BadLine n)) (sym h.0) (record {
-        before = (fed.told t refl).begins.0 ++ read_lines t f.cursor;
-        line = h.1.0;
-        begins = begins_here h.1.0 h.1.1 h.1.2;
-        bad = h.1.3;
-      })
+  bad_named (fault.BadLine offset) h = grind (arith, begins_here)
   bad_named (fault.OutOfOrder offset) h = absurd h
 
   -- the next line has a pair below that of the last line before it

@@ -1,8 +1,7 @@
 -- How many bytes indexes gave.
-use Rattle.std.specs.List.{AllZip}
+use Rattle.std.specs.List.{AllZip, AllByRecursion}
 use Rattle.std.proofs.Common.{◌≡◌, ℕ, ◌+◌, ◌-◌, ◌≤◌, List, [], ◌∷◌, ◌++◌, length, take, map, filter, zip, Bool, true}
 use Rattle.std.proofs.Common.{false, cond, Option, Some, refl, sym, ap, ◌∙◌, subst, arith, length-append, length-take}
-use Rattle.std.specs.List.{AllByRecursion}
 use Rattle.std.proofs.lemmas.List.{map-append}
 use Rattle.std.proofs.lemmas.List.Concat.{flat_map-append}
 use Rattle.std.proofs.lemmas.List.Elements.{filter-append}
@@ -27,7 +26,7 @@ use Rattle.merge_core.proofs.Many.{Move}
 use Rattle.merge_core.proofs.StartLemmas.{run_after}
 
 text_append : (us vs : List Member) → length (lines_text (us ++ vs)) ≡ length (lines_text us) + length (lines_text vs)
-text_append us vs = ap length (flat_map-append line_row us vs) ∙ length-append (lines_text us) (lines_text vs)
+text_append us vs = grind (arith, flat_map-append, length-append)
 
 bytes_cons : (l : List ℕ) (ls : List (List ℕ)) → bytes_of (l ∷ ls) ≡ length l + bytes_of ls
 bytes_cons l ls = length-append l _
@@ -40,7 +39,7 @@ row_most limit l m e =
     omega (arith, length-append m.line (10 ∷ []))
   where
     body_most : (b : Bool) (line : List ℕ) → length line ≤ length (cond b (take (length line - 1) line) line) + 1
-    body_most true line = omega (arith, length-take (length line - 1) line)
+    body_most true line = grind (arith, length-take)
     body_most false line = omega arith
 
 rows_most : (limit : ℕ) (ls : List (List ℕ)) (ms : List Member) → map (line_entry limit) ls ≡ map Some ms
@@ -48,11 +47,8 @@ rows_most : (limit : ℕ) (ls : List (List ℕ)) (ms : List Member) → map (lin
 rows_most limit [] ms e = omega arith
 rows_most limit (l ∷ ls) [] e = cc
 rows_most limit (l ∷ ls) (m ∷ ms) e =
-    let here : line_entry limit l ≡ Some m = cc in
     let rest : map (line_entry limit) ls ≡ map Some ms = cc in
-    let a = row_most limit l m here in
-    let b = rows_most limit ls ms rest in
-    omega (arith, bytes_cons l ls, length-append (line_row m) (lines_text ms))
+    grind (arith, row_most, bytes_cons, length-append, rows_most limit ls ms rest)
 
 -- of equal lists of entries, the one is a front
 front_of : (us : List Member) (zs : List (Option Member)) (vs : List Member) → map Some us ++ zs ≡ map Some vs
@@ -60,9 +56,8 @@ front_of : (us : List Member) (zs : List (Option Member)) (vs : List Member) →
 front_of [] zs vs e = (vs, refl)
 front_of (u ∷ us) zs [] e = cc
 front_of (u ∷ us) zs (v ∷ vs) e =
-    let first : v ≡ u = cc in
     let rest = front_of us zs vs (let q : map Some us ++ zs ≡ map Some vs = cc in q) in
-    (rest.0, ap (λ x. x ∷ vs) first ∙ ap (λ l. u ∷ l) rest.1)
+    grind arith
 
 -- Indexes were read from where the search for a pair ended; this test holds of all lines that lie within the range,
 -- aren't below the pair and don't stand above the bound
@@ -84,19 +79,7 @@ module _ (limit : ℕ) (past : List ℕ → Bool) (start : Pair) (b : Option Pai
       × (is_low start m ≡ false)). passes m h.0.0 h.1 h.0.1) r.members
       (each_both (λ m. (past m.values.key ≡ false) × IsUpto b (member_pair m)) (λ m. is_low start m ≡ false) r.members
       r.within not_low) in
-      let whole : filter test ms ≡ filter test cut.low ++ (r.members ++ filter test tail.0) =
-      ap (filter test) (cut.members_are ∙ ap (λ l. cut.low ++ l) tail.1)
-      ∙ filter-append test cut.low (r.members ++ tail.0)
-      ∙ ap (λ l. filter test cut.low ++ l) (filter-append test r.members tail.0
-      ∙ ap (λ l. l ++ filter test tail.0) (filter_all test r.members all_pass)) in
-      let rows = rows_most limit r.read r.members r.entries in
-      omega (
-        arith,
-        ap (λ l. length (lines_text l)) whole,
-        text_append (filter test cut.low)
-            (r.members ++ filter test tail.0),
-        text_append r.members (filter test tail.0),
-      )
+      grind (arith, filter-append, filter_all, rows_most, text_append)
 
   module _ {S : Type 0} (text : S → Option (List ℕ)) (extent gave : S → ℕ) where
     -- sources that tell their bytes, beside their feeds
@@ -132,10 +115,4 @@ module _ (limit : ℕ) (past : List ℕ → Bool) (start : Pair) (b : Option Pai
         let from = m.start_kept in
         let here = source_bytes t i x.1.cursor are.0
         (subst (λ n. IsCut start t i n) (sym from) (cut.0 t i tells.0 are.0)) r in
-        let a = came.0 t known.0 in
-        let spent = m.spent in
-        let most = r.most in (
-          omega (arith, here, a, spent, most, from),
-          gave_most ss ys xs ts is known.1 tells.1 are.1 came.1 moved.1 cut.1
-              reads.1,
-        )
+        grind (arith, gave_most ss ys xs ts is known.1 tells.1 are.1 came.1 moved.1 cut.1 reads.1)

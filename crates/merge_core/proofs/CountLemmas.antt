@@ -1,11 +1,8 @@
 -- How many lines were read of indexes.
-use Rattle.std.proofs.lemmas.List.{take-map}
-use Rattle.std.specs.List.{AllZip}
+use Rattle.std.proofs.lemmas.List.{take-map, length-map}
+use Rattle.std.specs.List.{AllZip, AllByRecursion, sum}
 use Rattle.std.proofs.Common.{◌≡◌, ℕ, suc, ◌+◌, ◌-◌, ◌≤◌, List, [], ◌∷◌, length, drop, map, filter, zip, Bool, true}
-use Rattle.std.proofs.Common.{false, Option, Some, refl, sym, ap, subst, arith, length-append, length-take, Less, Equal}
-use Rattle.std.proofs.Common.{Greater}
-use Rattle.std.specs.List.{AllByRecursion, sum}
-use Rattle.std.proofs.lemmas.List.{length-map}
+use Rattle.std.proofs.Common.{false, Option, Some, refl, sym, ap, subst, arith, length-append, length-take}
 use Rattle.merge_core.proofs.Filters.{each_take, each_both}
 use Rattle.std.proofs.lemmas.List.Elements.{filter-append}
 use Rattle.std.proofs.lemmas.List.Sums.{sum_by-cons}
@@ -21,10 +18,10 @@ use Rattle.merge_core.specs.declared.feed.Feed.{Feed}
 use Rattle.line_queue.specs.PairOrders.{IsUpto, is_low}
 use Rattle.line_queue.specs.WaitingLines.{WaitingLine, waits_of}
 use Rattle.merge_core.specs.Collections.{Known, all_lines}
-use Rattle.merge_core.specs.Feeds.{AreFed, Fed, done, given, held, member_of, read_lines}
+use Rattle.merge_core.specs.Feeds.{AreFed, Fed, done, given, held, member_of}
 use Rattle.merge_core.specs.Gathering.{text_or, all_done}
 use Rattle.cdxj_places.specs.Places.{place_cmp}
-use Rattle.cdxj_places.specs.Rising.{choose, put, rising}
+use Rattle.cdxj_places.specs.Rising.{put, rising}
 use Rattle.merge_core.specs.Openings.{IsCutAt}
 use Rattle.merge_core.proofs.GroupLemmas.{each_cut, filter_all}
 use Rattle.merge_core.proofs.HeldLemmas.{done_fewer}
@@ -62,15 +59,7 @@ module _ (limit : ℕ) (past : List ℕ → Bool) (start : Pair) (b : Option Pai
       (each_both (λ (m : Member). past m.values.key ≡ false) (λ m. is_low start m ≡ false) (done limit t f) told.within
       not_low) upto) in
       let fewer = done_fewer limit past (λ (u : Unit {0}). Some t) (λ u. extent) t extent f ws ms test fed index in
-      let one = one_held f.progress in
-      let many = told.as_many in
-      let as_read = length-map (read_lines t f.cursor) (member_of limit) in
-      omega (
-        arith,
-        ap length (filter_all test (done limit t f) all_pass),
-        length-take
-            (f.cursor.count - held f.progress) (given limit t f.cursor),
-      )
+      grind (arith, one_held, length-map, filter_all, length-take)
 
   module _ {S : Type 0} (text : S → Option (List ℕ)) (extent : S → ℕ) (ws : List WaitingLine) where
     -- No more lines were read than those that pass, and one of each source
@@ -92,38 +81,15 @@ module _ (limit : ℕ) (past : List ℕ → Bool) (start : Pair) (b : Option Pai
         (subst (λ o. Fed limit past o (extent s) f (waits_of n ws)) known.0 fed.0) are.0 (cut.0 t i known.0 are.0)
         (subst (λ o. AllByRecursion (λ m. IsUpto b (member_pair m)) (done limit (text_or o) f)) known.0 parts.0) in
         let rest = lines_most (n + 1) ss fs ts is (omega arith) known.1 are.1 cut.1 fed.1 parts.1 in
-        omega (
-          arith,
-          sum_by-cons (λ (k : ℕ). k) f.cursor.count (map (λ (f : Feed). f.cursor.count) fs),
-          ap length
-              (filter-append test i (all_lines is)),
-          length-append (filter test i) (filter test (all_lines is)),
-        )
+        omega (arith, sum_by-cons (λ (k : ℕ). k) f.cursor.count (map (λ (f : Feed). f.cursor.count) fs),
+            ap length (filter-append test i (all_lines is)), length-append (filter test i) (filter test (all_lines is)))
 
 -- ---- lines that were taken
 
 put_fewer : (m : Member) (ms : List Member) → length (put member_place place_cmp m ms) ≤ suc (length ms)
 put_fewer m [] = omega arith
-put_fewer m (k ∷ ms) =
-    let h = put_fewer m ms in
-    elim (place_cmp (member_place m) (member_place k)) as (λ r. length
-    (choose r (m ∷ k ∷ ms) (m ∷ ms) (k ∷ put member_place place_cmp m ms)) ≤ suc (suc (length ms)))
-    [ Less ↦ omega arith | Equal ↦ omega arith | Greater ↦ omega arith ]
+put_fewer m (k ∷ ms) = grind (arith, put_fewer m ms)
 
 rising_fewer : (ms : List Member) → length (rising member_place place_cmp ms) ≤ length ms
 rising_fewer [] = omega arith
-rising_fewer (m ∷ ms) = let h = rising_fewer ms in let k = put_fewer m (rising member_place place_cmp ms) in omega arith
-
-done_count : {S : Type 0} (limit : ℕ) (text : S → Option (List ℕ)) (ss : List S) (fs : List Feed)
-    → length (all_done limit text ss fs) ≤ sum (map (λ (f : Feed). f.cursor.count) fs)
-done_count limit text [] fs = omega arith
-done_count limit text (s ∷ ss) [] = omega arith
-done_count limit text (s ∷ ss) (f ∷ fs) =
-    let t = text_or (text s) in
-    let h = done_count limit text ss fs in
-    omega (
-      arith,
-      length-append (done limit t f) (all_done limit text ss fs),
-      length-take (f.cursor.count - held f.progress) (given limit t f.cursor),
-      sum_by-cons (λ (k : ℕ). k) f.cursor.count (map (λ (f : Feed). f.cursor.count) fs),
-    )
+rising_fewer (m ∷ ms) = grind (arith, put_fewer, rising_fewer ms)

@@ -1,20 +1,18 @@
 -- What a call that reads the next line makes of a feed.
-use Rattle.std.proofs.Common.{◌≡◌, ◌≤◌, false, ℕ, ◌+◌, ◌∷◌, ◌++◌, List, [], sym, ap, ◌∙◌, subst, Bool, Option, Some}
+use Rattle.std.proofs.Common.{arith, ◌≡◌, ◌≤◌, false, ℕ, ◌+◌, ◌∷◌, ◌++◌, List, [], sym, ◌∙◌, subst, Bool, Option, Some}
 use Rattle.std.proofs.Common.{None, MatchOption, drop, append_assoc}
 use Rattle.std.specs.List.{AllByRecursion}
 use Rattle.cdxj_places.specs.Pairs.{Pair}
 use Rattle.cdxj_places.specs.TextLines.{lines}
 use Rattle.cdxj_core.specs.Members.{Member, member_pair}
-use Rattle.source_core.specs.Cursors.{CursorState}
-use Rattle.source_core.specs.Cursors.{Stands}
+use Rattle.source_core.specs.Cursors.{CursorState, Stands}
 use Rattle.source_core.specs.IndexLines.{first_length}
 use Rattle.merge_core.specs.declared.feed.Progress.TheVariants.{Due, Ended}
 use Rattle.merge_core.specs.declared.feed.Feed.{Feed}
 use Rattle.line_queue.specs.PairOrders.{Upto, Alike}
 use Rattle.merge_core.specs.Feeds.{IsNext, Fed, read_lines, done}
 use Rattle.cdxj_places.proofs.RisingLaws.{each_join}
-use Rattle.merge_core.proofs.FeedLemmas.{ReadNext, line_read, fed_same, fed_next, done_next, fed_taken}
-use Rattle.merge_core.proofs.FeedLemmas.{done_taken, fed_ended}
+use Rattle.merge_core.proofs.FeedLemmas.{ReadNext, line_read, fed_next, done_next, fed_taken, done_taken, fed_ended}
 
 module _ {L : Type 0} (limit : ℕ) (past : List ℕ → Bool) (seen : L → Member) (t0 t1 : Option (List ℕ)) (e0 e1 : ℕ)
     (old : Feed) (new : CursorState) (o : Option L) (text : t1 ≡ t0) (extent : e1 ≡ e0)
@@ -27,25 +25,23 @@ module _ {L : Type 0} (limit : ℕ) (past : List ℕ → Bool) (seen : L → Mem
     (near : (t : List ℕ) → t0 ≡ Some t → new.at ≤ old.cursor.at + first_length (lines (drop old.cursor.at t)))
     (f : Feed) (cursor : f.cursor ≡ new) where
   was_here : Fed limit past t1 e1 old []
-  was_here = fed_same limit past t0 t1 e0 e1 old [] text extent was
+  was_here = grind arith
 
   stands_here : Stands t1 e1 f.cursor
-  stands_here = subst (λ (k : CursorState). Stands t1 e1 k) (sym cursor) stands
+  stands_here = grind arith
 
   start_here : f.cursor.start ≡ old.cursor.start
-  start_here = ap (λ (k : CursorState). k.start) cursor ∙ start
+  start_here = cc
 
   near_here : (t : List ℕ) → t1 ≡ Some t → f.cursor.at ≤ old.cursor.at + first_length (lines (drop old.cursor.at t))
-  near_here t e = subst (λ (k : CursorState). k.at ≤ old.cursor.at + first_length (lines (drop old.cursor.at t)))
-      (sym cursor) (near t (sym text ∙ e))
+  near_here t e = grind arith
 
   -- where a line was read
   module _ (line : L) (is : o ≡ Some line) (low : Pair) (upto : (t : List ℕ) → t0 ≡ Some t
       → AllByRecursion (λ k. Upto (member_pair k) low) (done limit t old)) (up : Upto low (member_pair (seen line)))
     where
       count_here : f.cursor.count ≡ old.cursor.count + 1
-      count_here = ap (λ (k : CursorState). k.count) cursor
-          ∙ subst (λ p. MatchOption p (new.count ≡ old.cursor.count) (λ _. new.count ≡ old.cursor.count + 1)) is count
+      count_here = grind arith
 
       next_here : (t : List ℕ) → t1 ≡ Some t → ReadNext limit t old.cursor f.cursor (seen line)
       next_here t e = subst (λ (k : CursorState). ReadNext limit t old.cursor k (seen line)) (sym cursor)
@@ -77,14 +73,10 @@ module _ {L : Type 0} (limit : ℕ) (past : List ℕ → Bool) (seen : L → Mem
   module _ (is : o ≡ None) (ended : f.progress ≡ Ended) where
     pub at_end : Fed limit past t1 e1 f []
     at_end = fed_ended limit past t1 e1 old f is_due was_here stands_here start_here near_here
-        (ap (λ (k : CursorState). k.count) cursor
-        ∙ subst (λ p. MatchOption p (new.count ≡ old.cursor.count) (λ _. new.count ≡ old.cursor.count + 1)) is
-        count)
-        (λ t e. subst (λ (k : CursorState). (read_lines t k ≡ read_lines t old.cursor) × (lines (drop k.at t) ≡ []))
-        (sym cursor)
+        (grind arith) (λ t e. subst (λ (k : CursorState). (read_lines t k ≡ read_lines t old.cursor)
+        × (lines (drop k.at t) ≡ [])) (sym cursor)
         (subst (λ p. MatchOption p ((read_lines t new ≡ read_lines t old.cursor) × (lines (drop new.at t) ≡ []))
-        (λ l. ReadNext limit t old.cursor new (seen l))) is (given t (sym text ∙ e))))
-        ended
+        (λ l. ReadNext limit t old.cursor new (seen l))) is (given t (sym text ∙ e)))) ended
 
 -- one line more was taken
 pub taken_more : (pair : Pair) (before d1 d2 taken g0 g g' : List Member) (m : Member) → d1 ≡ before ++ taken → g ≡ g0
@@ -92,9 +84,4 @@ pub taken_more : (pair : Pair) (before d1 d2 taken g0 g g' : List Member) (m : M
     → d2 ≡ d1 ++ m ∷ [] → g' ≡ g ++ m ∷ [] → Alike (member_pair m) pair
     → (more : List Member) × (d2 ≡ before ++ more) × (g' ≡ g0 ++ more)
     × AllByRecursion (λ k. Alike (member_pair k) pair) more
-taken_more pair before d1 d2 taken g0 g g' m e f a h k b = (
-  taken ++ m ∷ [],
-  h ∙ ap (λ u. u ++ m ∷ []) e ∙ append_assoc before taken (m ∷ []),
-  k ∙ ap (λ u. u ++ m ∷ []) f ∙ append_assoc g0 taken (m ∷ []),
-  each_join (λ x. Alike (member_pair x) pair) taken (m ∷ []) a (b, tt),
-)
+taken_more pair before d1 d2 taken g0 g g' m e f a h k b = grind (arith, taken, append_assoc, each_join)

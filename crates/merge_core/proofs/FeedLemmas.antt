@@ -1,8 +1,8 @@
 -- What one line more makes of a feed.
 use Rattle.std.proofs.lemmas.List.{map-append}
 use Rattle.std.proofs.Common.{◌≡◌, Ordering, Less, Equal, Greater, ℕ, zero, suc, ◌+◌, ◌-◌, ◌≤◌, List, [], ◌∷◌, ◌++◌}
-use Rattle.std.proofs.Common.{length, refl, sym, ap, ap₂, ◌∙◌, subst, arith, Bool, false, Option, Some, None}
-use Rattle.std.proofs.Common.{MatchOption, take, drop, map, unwrap_or, flat_map, append-nil, length-append}
+use Rattle.std.proofs.Common.{length, refl, sym, ap, ◌∙◌, subst, arith, Bool, false, Option, Some, None, MatchOption}
+use Rattle.std.proofs.Common.{take, drop, map, append-nil, length-append}
 use Rattle.std.specs.List.{AllByRecursion}
 use Rattle.std.specs.Ordering.{nat_cmp, ordering_then}
 use Rattle.std.specs.Cmp.Lexicographic.{slice_cmp}
@@ -25,33 +25,30 @@ use Rattle.merge_core.specs.declared.feed.Progress.TheVariants.{Due, Waiting, Pa
 use Rattle.merge_core.specs.declared.feed.Feed.{Feed}
 use Rattle.line_queue.specs.PairOrders.{Alike, Upto}
 use Rattle.merge_core.specs.Gathering.{EndsAt}
-use Rattle.merge_core.specs.Feeds.{AreWaits, IsNext, IsHead, Fed, held, bytes_of, read_lines, member_of, no_member}
-use Rattle.merge_core.specs.Feeds.{given, done}
+use Rattle.merge_core.specs.Feeds.{AreWaits, IsNext, IsHead, Fed, held, bytes_of, read_lines, member_of, given, done}
 use Rattle.line_queue.proofs.PairOrder.{upto_upto, upto_both}
 
 pub no_entry : (limit : ℕ) (line : List ℕ) (o : Option Member) → o ≡ line_entry limit line
     → limit ≤ length (body_of line) → o ≡ None
 no_entry limit line None e h = refl
-no_entry limit line (Some m) e h = absurd (let short = entry_is_short limit line m (sym e) in omega arith)
+no_entry limit line (Some m) e h = grind (arith, entry_is_short)
 
 take_suc_at : {X : Type 0} (n : ℕ) (all : List X) (x : X) (rest : List X) → drop n all ≡ x ∷ rest → take (suc n) all
     ≡ take n all ++ x ∷ []
 take_suc_at zero [] x rest e = cc
-take_suc_at zero (y ∷ ys) x rest e = let q : y ≡ x = cc in ap (λ y. y ∷ []) q
+take_suc_at zero (y ∷ ys) x rest e = cc
 take_suc_at (suc n) [] x rest e = cc
 take_suc_at (suc n) (y ∷ ys) x rest e = ap (λ u. y ∷ u) (take_suc_at n ys x rest e)
 
 pub take_next : {X : Type 0} (n : ℕ) (all : List X) (x : X) (rest : List X) → drop n all ≡ x ∷ rest → take (n + 1) all
     ≡ take n all ++ x ∷ []
-take_next n all x rest e = ap (λ k. take k all) (let q : n + 1 ≡ suc n = omega arith in q) ∙ take_suc_at n all x rest e
+take_next n all x rest e = grind (arith, take_suc_at)
 
 -- one line more was read
 pub one_more : (t : List ℕ) (was now : CursorState) (line : List ℕ) → lines (drop was.at t)
     ≡ drop was.count (lines (drop was.start t)) → now.count ≡ was.count + 1 → now.start ≡ was.start
     → lines (drop was.at t) ≡ line ∷ lines (drop now.at t) → read_lines t now ≡ read_lines t was ++ line ∷ []
-one_more t was now line rest more start found =
-    ap₂ (λ n s. take n (lines (drop s t))) more start
-    ∙ take_next was.count (lines (drop was.start t)) line (lines (drop now.at t)) (sym rest ∙ found)
+one_more t was now line rest more start found = grind (arith, take_next)
 
 -- the line that was taken is the first of the others
 pub after_taken : {X : Type 0} (n : ℕ) (xs : List X) (x : X) → take (n + 1) xs ≡ take n xs ++ x ∷ [] → (after : List X)
@@ -63,11 +60,10 @@ after_taken {X = X} n xs x e = suc_taken n xs (ap (λ k. take k xs) (let q : suc
     suc_taken zero [] e = absurd (cc)
     suc_taken zero (u ∷ us) e = (us, let q : u ≡ x = cc in ap (λ y. y ∷ us) q)
     suc_taken (suc k) [] e = absurd (cc)
-    suc_taken (suc k) (u ∷ us) e = suc_taken k us (let q : take (suc k) us ≡ take k us ++ x ∷ [] = cc in q)
+    suc_taken (suc k) (u ∷ us) e = suc_taken k us (grind arith)
 
 pub bytes_push : (ls : List (List ℕ)) (l : List ℕ) → bytes_of (ls ++ l ∷ []) ≡ bytes_of ls + length l
-bytes_push ls l = ap length (flat_map-append (λ (l : List ℕ). l) ls (l ∷ []))
-    ∙ length-append (flat_map (λ (l : List ℕ). l) ls) (l ++ []) ∙ ap (λ u. bytes_of ls + length u) (append-nil l)
+bytes_push ls l = grind (arith, flat_map-append, length-append, append-nil)
 
 pub take_map : {X Y : Type 0} (f : X → Y) (k n : ℕ) (xs : List X) → k ≤ n → take k (map f (take n xs))
     ≡ map f (take k xs)
@@ -79,11 +75,7 @@ take_map f (suc k) (suc n) (x ∷ xs) h = ap (λ l. f x ∷ l) (take_map f k n x
 pub falls_push : (xs : List Member) (y : Member) → NeverFalls member_pair pair_cmp xs
     → AllByRecursion (λ m. Upto (member_pair m) (member_pair y)) xs → NeverFalls member_pair pair_cmp (xs ++ y ∷ [])
 falls_push [] y h k = (tt, tt)
-falls_push (x ∷ xs) y h k = (
-  each_join (λ m. Upto (member_pair x) (member_pair m)) xs (y ∷ []) h.0 (k.0, tt),
-  falls_push
-      xs y h.1 k.1,
-)
+falls_push (x ∷ xs) y h k = grind (arith, each_join, falls_push xs y h.1 k.1)
 
 next_waits : (past : List ℕ → Bool) (m : Member) (p : Progress) (ws : List Member) → IsNext past m p ws → AreWaits p ws
 next_waits past m Due ws n = absurd n
@@ -97,14 +89,6 @@ held_next past m Due ws count old n e = absurd n
 held_next past m Waiting ws count old n e = e
 held_next past m Past ws count old n e = e
 held_next past m Ended ws count old n e = absurd n
-
--- a property of the next line is one of the line that waits
-pub each_next : (P : Member → Type 0) (past : List ℕ → Bool) (m : Member) (p : Progress) (ws : List Member)
-    → IsNext past m p ws → P m → AllByRecursion P ws
-each_next P past m Due ws n h = absurd n
-each_next P past m Waiting ws n h = subst (AllByRecursion P) (sym n.0) (h, tt)
-each_next P past m Past ws n h = subst (AllByRecursion P) (sym n.0) tt
-each_next P past m Ended ws n h = absurd n
 
 -- a line that has the pair of the last one, which lies within the range, lies within it
 pub same_stays : (past : List ℕ → Bool) (pair : Pair) (m : Member) (ms : List Member)
@@ -140,8 +124,7 @@ module _ (limit : ℕ) where
       → AllByRecursion (λ k. Upto (member_pair k) low) ms → Upto low (member_pair m)
       → IsRun limit (ls ++ l ∷ []) (ms ++ m ∷ [])
   run_push ls ms l m low run e upto h = record {
-    entries = map-append (line_entry limit) ls (l ∷ []) ∙ ap₂ (λ us v. us ++ v ∷ []) run.entries e
-        ∙ sym (map-append Some ms (m ∷ []));
+    entries = grind (arith, map-append);
     ordered = falls_push ms m run.ordered
         (each_weaker (λ (k : Member) (q : Upto (member_pair k) low). upto_upto (member_pair k) low (member_pair m) q h)
         ms upto);
@@ -153,9 +136,7 @@ module _ (limit : ℕ) where
 
   pub given_next : (t : List ℕ) (old new : CursorState) (m : Member) → ReadNext t old new m → given limit t new
       ≡ given limit t old ++ m ∷ []
-  given_next t old new m r =
-      ap (map (member_of limit)) r.1 ∙ map-append (member_of limit) (read_lines t old) (r.0 ∷ [])
-      ∙ ap (λ (o : Option Member). given limit t old ++ unwrap_or o no_member ∷ []) r.2
+  given_next t old new m r = grind (arith, map-append)
 
   run_next : (t : List ℕ) (old new : CursorState) (m : Member) (low : Pair) → ReadNext t old new m
       → IsRun limit (read_lines t old) (given limit t old)
@@ -169,23 +150,15 @@ module _ (limit : ℕ) where
   -- what is done of a feed, beside what was read before
   pub done_is : (t : List ℕ) (f : Feed) (old : CursorState) → f.cursor.start ≡ old.start → f.cursor.count
       ≡ old.count + held f.progress → done limit t f ≡ given limit t old
-  done_is t f old start count =
-      take_map (member_of limit) (f.cursor.count - held f.progress) f.cursor.count (lines (drop f.cursor.start t))
-      (omega arith)
-      ∙ ap₂ (λ n s. map (member_of limit) (take n (lines (drop s t)))) (let q : f.cursor.count - held f.progress
-      ≡ old.count = omega (arith, count) in q) start
+  done_is t f old start count = grind (arith, take_map)
 
   pub done_due : (t : List ℕ) (f : Feed) → f.progress ≡ Due → done limit t f ≡ given limit t f.cursor
-  done_due t f e = done_is t f f.cursor refl (let h = ap held e in omega arith)
+  done_due t f e = grind (arith, done_is)
 
   head_next : (past : List ℕ → Bool) (before all : List Member) (rest : List (List ℕ)) (m : Member) (ws : List Member)
       (p : Progress) → all ≡ before ++ m ∷ [] → IsNext past m p ws → IsHead limit past before all rest ws p
   head_next past before all rest m ws Due e n = absurd n
-  head_next past before all rest m ws Waiting e n = (
-    e ∙ ap (λ l. before ++ l) (sym n.0),
-    subst (AllByRecursion (λ (m : Member). past m.values.key ≡ false)) (sym n.0)
-        (n.1, tt),
-  )
+  head_next past before all rest m ws Waiting e n = grind arith
   head_next past before all rest m ws Past e n = (m, e, n.1)
   head_next past before all rest m ws Ended e n = absurd n
 
@@ -197,20 +170,12 @@ module _ (limit : ℕ) where
       none_left : 0 - held f.progress ≡ 0
       none_left = omega arith
 
-  -- the same source
-  pub fed_same : (past : List ℕ → Bool) (t t' : Option (List ℕ)) (e e' : ℕ) (f : Feed) (ws : List Member) → t' ≡ t → e'
-      ≡ e → Fed limit past t e f ws → Fed limit past t' e' f ws
-  fed_same past t t' e e' f ws p q h = subst (λ o. Fed limit past o e' f ws) (sym p)
-      (subst (λ n. Fed limit past t n f ws) (sym q) h)
-
   -- what a read line says, where there was one
   pub line_read : {L : Type 0} (t : List ℕ) (old new : CursorState) (seen : L → Member) (o : Option L) (line : L) → o
       ≡ Some line
       → MatchOption o ((read_lines t new ≡ read_lines t old) × (lines (drop new.at t) ≡ []))
       (λ l. ReadNext t old new (seen l)) → ReadNext t old new (seen line)
-  line_read t old new seen o line e h = subst
-      (λ p. MatchOption p ((read_lines t new ≡ read_lines t old) × (lines (drop new.at t) ≡ []))
-      (λ l. ReadNext t old new (seen l))) e h
+  line_read t old new seen o line e h = grind arith
 
   -- what is known of a feed whose next line is to be read
   module _ (past : List ℕ → Bool) (text : Option (List ℕ)) (extent : ℕ) (old f : Feed) (is_due : old.progress ≡ Due)
@@ -230,24 +195,13 @@ module _ (limit : ℕ) where
         (up : Upto low (member_pair m)) where
       run_more : (t : List ℕ) → text ≡ Some t → IsRun limit (read_lines t f.cursor) (given limit t f.cursor)
       run_more t e = run_next t old.cursor f.cursor m low (next t e) (was.told t e).run
-          (subst (AllByRecursion (λ k. Upto (member_pair k) low)) (given_old t) (upto t e)) up
+          (grind arith) up
 
       stood_more : (t : List ℕ) → text ≡ Some t → f.cursor.at ≤ f.cursor.start + bytes_of (read_lines t f.cursor)
-      stood_more t e =
-          let n = next t e in
-          let from = lines (drop old.cursor.start t) in
-          let after = after_taken old.cursor.count from n.0
-          (ap₂ (λ k s. take k (lines (drop s t))) (sym count) (sym start) ∙ n.1) in
-          let first : first_length (lines (drop old.cursor.at t))
-          ≡ length n.0 = ap first_length (was.stands.rest t e ∙ after.1) in
-          let stood = (was.told t e).stood in
-          let step = near t e in
-          omega (arith, ap bytes_of n.1, bytes_push (read_lines t old.cursor) n.0, start)
+      stood_more t e = grind (arith, after_taken, bytes_push)
 
       many_more : (t : List ℕ) → text ≡ Some t → length (read_lines t f.cursor) ≡ f.cursor.count
-      many_more t e =
-          let n = next t e in let was_many = (was.told t e).as_many in
-          omega (arith, ap length n.1, length-append (read_lines t old.cursor) (n.0 ∷ []), was_many, count)
+      many_more t e = grind (arith, length-append)
 
       pub fed_next : (ws : List Member) → IsNext past m f.progress ws → Fed limit past text extent f ws
       fed_next ws n =
@@ -260,41 +214,32 @@ module _ (limit : ℕ) where
               begins = begins_still t e;
               stood = stood_more t e;
               as_many = many_more t e;
-              within = subst (AllByRecursion (λ (m : Member). past m.values.key ≡ false))
-                  (sym (done_is t f old.cursor start many ∙ sym (given_old t))) (was.told t e).within;
+              within = grind (arith, done_is, given_old);
               run = run_more t e;
-              head = head_next past (done limit t f) (given limit t f.cursor) (lines (drop f.cursor.at t)) m ws
-                  f.progress
-                  (given_next t old.cursor f.cursor m (next t e)
-                  ∙ ap (λ ms. ms ++ m ∷ []) (sym (done_is t f old.cursor start many))) n;
+              head = grind (arith, head_next, given_next, done_is);
             };
           }
 
       pub done_next : (ws : List Member) → IsNext past m f.progress ws → (t : List ℕ) → done limit t f
           ≡ done limit t old
-      done_next ws n t = done_is t f old.cursor start
-          (held_next past m f.progress ws f.cursor.count old.cursor.count n count) ∙ sym (given_old t)
+      done_next ws n t = grind (arith, done_is, held_next, given_old)
 
       pub done_taken : f.progress ≡ Due → (t : List ℕ) → text ≡ Some t → done limit t f ≡ done limit t old ++ m ∷ []
-      done_taken d t e = done_due t f d ∙ given_next t old.cursor f.cursor m (next t e)
-          ∙ ap (λ ms. ms ++ m ∷ []) (sym (given_old t))
+      done_taken d t e = grind (arith, done_due, given_next, given_old)
 
       pub fed_taken : f.progress ≡ Due → ((t : List ℕ) → text ≡ Some t → past m.values.key ≡ false)
           → Fed limit past text extent f []
       fed_taken d stays = record {
         stands = stands;
-        waits = subst (λ (p : Progress). AreWaits p []) (sym d) refl;
+        waits = grind arith;
         counted = (let h = ap held d in omega arith);
         told = λ t e. record {
           begins = begins_still t e;
           stood = stood_more t e;
           as_many = many_more t e;
-          within = subst (AllByRecursion (λ (m : Member). past m.values.key ≡ false)) (sym (done_taken d t e))
-              (each_join (λ (m : Member). past m.values.key ≡ false) (done limit t old) (m ∷ []) (was.told t e).within
-              (stays t e, tt));
+          within = grind (arith, done_taken, each_join);
           run = run_more t e;
-          head = subst (λ (p : Progress). IsHead limit past (done limit t f) (given limit t f.cursor)
-              (lines (drop f.cursor.at t)) [] p) (sym d) (sym (done_due t f d));
+          head = grind (arith, done_due);
         };
       }
 
@@ -303,34 +248,10 @@ module _ (limit : ℕ) where
         → (read_lines t f.cursor ≡ read_lines t old.cursor) × (lines (drop f.cursor.at t) ≡ []))
         (ended : f.progress ≡ Ended) where
       pub done_ended : (t : List ℕ) → done limit t f ≡ done limit t old
-      done_ended t = done_is t f old.cursor start (let h = ap held ended in omega (arith, count)) ∙ sym (given_old t)
+      done_ended t = cc
 
       stood_still : (t : List ℕ) → text ≡ Some t → f.cursor.at ≤ f.cursor.start + bytes_of (read_lines t f.cursor)
-      stood_still t e =
-          let gone : lines (drop old.cursor.at t) ≡ [] =
-          was.stands.rest t e ∙ ap₂ (λ k s. drop k (lines (drop s t))) (sym count) (sym start) ∙ sym (stands.rest t e)
-          ∙ (none t e).1 in
-          let first : first_length (lines (drop old.cursor.at t)) ≡ 0 = ap first_length gone in
-          let stood = (was.told t e).stood in
-          let step = near t e in
-          omega (arith, ap bytes_of (none t e).0, start)
+      stood_still t e = grind arith
 
       pub fed_ended : Fed limit past text extent f []
-      fed_ended = record {
-        stands = stands;
-        waits = subst (λ (p : Progress). AreWaits p []) (sym ended) refl;
-        counted = (let h = ap held ended in omega arith);
-        told = λ t e.
-            let same : given limit t f.cursor ≡ given limit t old.cursor = ap (map (member_of limit)) (none t e).0 in
-            record {
-              begins = begins_still t e;
-              stood = stood_still t e;
-              as_many = ap length (none t e).0 ∙ (was.told t e).as_many ∙ sym count;
-              within = subst (AllByRecursion (λ (m : Member). past m.values.key ≡ false)) (sym (done_ended t))
-                  (was.told t e).within;
-              run = subst (λ ls. IsRun limit ls (map (member_of limit) ls)) (sym (none t e).0) (was.told t e).run;
-              head = subst (λ (p : Progress). IsHead limit past (done limit t f) (given limit t f.cursor)
-                  (lines (drop f.cursor.at t)) [] p) (sym ended)
-                  (same ∙ sym (given_old t) ∙ sym (done_ended t), (none t e).1);
-            };
-      }
+      fed_ended = grind (arith, begins_still, stood_still, done_ended, given_old)

@@ -1,9 +1,8 @@
 -- The steps of a group's gathering.
-use Rattle.std.specs.List.{AllZip}
+use Rattle.std.specs.List.{AllZip, AllByRecursion}
 use Rattle.std.proofs.Common.{◌≡◌, ℕ, ◌+◌, ◌<◌, ◌≤◌, List, [], ◌∷◌, ◌++◌, length, get_or, set, take, drop, zip}
 use Rattle.std.proofs.Common.{flat_map, Bool, true, false, is_lt, Option, refl, sym, ap, ap₂, ◌∙◌, subst, arith}
 use Rattle.std.proofs.Common.{length-set, drop-set-lt}
-use Rattle.std.specs.List.{AllByRecursion}
 use Rattle.std.specs.List.Sorted.{IsPermutation}
 use Rattle.std.specs.Option.{is_some}
 use Rattle.std.proofs.lemmas.List.{set-get_or, get_or-set_same, get_or_default}
@@ -48,13 +47,13 @@ module _ (limit : ℕ) (past : List ℕ → Bool) {S : Type 0} (text : S → Opt
     as_many = refl;
     moved = moved_still text extent gave (zip ss0 fs0);
     rest = refl;
-    gathered = λ told low. record { before = refl; taken = refl; upto = tt };
+    gathered = grind arith;
   }
 
   module _ (n : ℕ) (ss : List S) (fs : List Feed) (ws : List WaitingLine) (group : List Member)
       (h : Gathers n ss fs ws group) where
     told_now : AreTold text ss0 → AreTold text ss
-    told_now told = told_moved text extent gave ss0 ss fs0 fs h.ready.same h.moved told
+    told_now told = grind (arith, told_moved)
 
     -- the next line is taken out
     module _ (w : WaitingLine) (ws' : List WaitingLine) (a : S) (b : Feed) (p : IsPermutation ws (w ∷ ws')) where
@@ -68,14 +67,12 @@ module _ (limit : ℕ) (past : List ℕ → Bool) {S : Type 0} (text : S → Opt
       same_sources = set-get_or ss w.source a
 
       zip_now : zip ss (set fs w.source f) ≡ set (zip ss fs) w.source (get_or ss w.source a, f)
-      zip_now = ap (λ us. zip us (set fs w.source f)) (sym same_sources)
-          ∙ zip_set ss fs w.source (get_or ss w.source a) f
+      zip_now = grind (arith, same_sources, zip_set)
 
       pub next_unread : unread extent ss (set fs w.source f) ≡ unread extent ss fs
       next_unread =
           let e = unread_set text extent gave ss fs w.source a (get_or ss w.source a) b f h.ready.same inside in
-          let q = ap (λ us. unread extent us (set fs w.source f)) same_sources in
-          omega (arith, e, q)
+          grind (arith, same_sources)
 
       pub next_fewer : unread extent ss (set fs w.source f) + length ws' < unread extent ss fs + length ws
       next_fewer = let e = next_unread in let l = length_permutation ws (w ∷ ws') p in omega arith
@@ -106,7 +103,7 @@ module _ (limit : ℕ) (past : List ℕ → Bool) {S : Type 0} (text : S → Opt
         where
           each_told : (us : List S) (i : ℕ) (d : S) → AreTold text us → i < length us → is_some (text (get_or us i d))
               ≡ true
-          each_told us i d t k = each_get (λ s. is_some (text s) ≡ true) us i d t k
+          each_told us i d t k = grind (arith, each_get)
 
       pub next_due : Alike (waiting_pair w) pair → (x : S) → (d : Feed)
           → IsDue limit pair (text (get_or ss w.source x)) (get_or (set fs w.source f) w.source d)
@@ -145,12 +142,12 @@ module _ (limit : ℕ) (past : List ℕ → Bool) {S : Type 0} (text : S → Opt
     taken_next w ws' fs' p feeds first l at =
         let placed = (each_permuted (λ (v : WaitingLine). v.source < length fs) ws (w ∷ ws') p h.ready.placed).0 in
         let b : Feed = any_of fs w.source placed in
-        let a : S = any_of ss w.source (let e = h.ready.same in omega arith) in
+        let a : S = any_of ss w.source (omega arith) in
         subst (TakenNext w ws') (sym (feeds b)) (record {
           gathers = gathers_next w ws' a b p l at;
           inside = inside w ws' a b p;
           due = next_due w ws' a b p at;
-          from = from_popped pair w ws' at first (none_left limit past text extent ss fs ws ws' w a b h.ready p);
+          from = grind (arith, from_popped, none_left);
           fewer = next_fewer w ws' a b p;
         })
 
@@ -196,6 +193,5 @@ module _ (limit : ℕ) (past : List ℕ → Bool) {S : Type 0} (text : S → Opt
       → AreBelow pair (all_done limit text ss0 fs0)
       → Gathered pair (all_done limit text ss0 fs0) (all_done limit text ss fs) [] group
   gathers_all n ss fs ws group h same l told low =
-      all_sources pair of (zip ss0 fs0) (zip ss fs) [] n group
-      (length_zip ss fs h.ready.same ∙ h.as_many ∙ sym (length_zip ss0 fs0 same))
-      (let e = length_zip ss fs h.ready.same in omega arith) h.rest low (h.gathered told low)
+      all_sources pair of (zip ss0 fs0) (zip ss fs) [] n group (grind (arith, length_zip)) (grind (arith, length_zip))
+      h.rest low (h.gathered told low)

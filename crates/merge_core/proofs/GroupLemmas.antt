@@ -1,7 +1,7 @@
 -- The lines of one pair, taken of one source after another.
 use Rattle.std.proofs.Common.{◌≡◌, ◌≢◌, ℕ, ◌+◌, ◌-◌, ◌<◌, ◌≤◌, List, [], ◌∷◌, ◌++◌, length, get_or, set, take, drop}
-use Rattle.std.proofs.Common.{flat_map, filter, Bool, true, false, not, is_lt, Equal, inl, inr, refl, sym, ap, ap₂, ◌∙◌}
-use Rattle.std.proofs.Common.{subst, arith, append-nil, append_assoc, drop-drop, drop-set-lt, take-append-drop}
+use Rattle.std.proofs.Common.{flat_map, filter, Bool, true, false, is_lt, Equal, inl, inr, refl, sym, ap, ◌∙◌, subst}
+use Rattle.std.proofs.Common.{arith, append-nil, append_assoc, drop-drop, drop-set-lt, take-append-drop}
 use Rattle.std.specs.List.{AllByRecursion}
 use Rattle.std.proofs.Math.Seq.{take-add}
 use Rattle.std.proofs.lemmas.Bool.{cond-false, cond-true}
@@ -13,7 +13,7 @@ use Rattle.cdxj_places.specs.Pairs.{Pair, pair_cmp}
 use Rattle.cdxj_places.proofs.PairLemmas.{pair_cmp_total}
 use Rattle.cdxj_places.proofs.RisingLaws.{each_join, each_weaker}
 use Rattle.cdxj_core.specs.Members.{Member, member_pair}
-use Rattle.line_queue.specs.PairOrders.{Alike, Below, Upto, is_low}
+use Rattle.line_queue.specs.PairOrders.{Alike, Below}
 use Rattle.line_queue.specs.WaitingLines.{WaitingLine, waiting_pair, turn_cmp, waits_of}
 use Rattle.merge_core.specs.Gathering.{Gathered, IsFrom, WaitsAbove}
 use Rattle.line_queue.proofs.PairOrder.{below_upto, same_upto, same_from, upto_upto, not_below_itself}
@@ -44,29 +44,16 @@ module _ (pair : Pair) where
   gathered_low : (old now g0 g more : List Member) → Gathered pair old now g0 g → AreBelow pair more
       → Gathered pair (old ++ more) (now ++ more) g0 g
   gathered_low old now g0 g more h low =
-      let is = each_weaker (λ (x : Member) (l : Below (member_pair x) pair). ap is_lt l) more low in record {
-        before = filter-append (is_low pair) now more ∙ ap₂ (λ u v. u ++ v) h.before (filter_all (is_low pair) more is);
-        taken = h.taken ∙ ap (λ u. g0 ++ u) (sym (filter-append (λ m. not (is_low pair m)) now more
-            ∙ ap (λ u. filter (λ m. not (is_low pair m)) now ++ u)
-            (filter_none _ more (each_weaker (λ (x : Member) (e : is_low pair x ≡ true). ap not e) more is))
-            ∙ append-nil _));
-        upto = each_join (λ m. Upto (member_pair m) pair) now more h.upto
-            (each_weaker (λ (x : Member) (l : Below (member_pair x) pair). below_upto (member_pair x) pair l) more low);
-      }
+      grind (arith, each_weaker, is_lt, filter-append, filter_all, filter_none, append-nil, each_join, below_upto)
 
   -- lines at the pair are taken
   gathered_at : (old now g0 g us : List Member) → Gathered pair old now g0 g → AreAt pair us
       → Gathered pair old (now ++ us) g0 (g ++ us)
   gathered_at old now g0 g us h at =
       let high = each_weaker (λ (x : Member) (e : Alike (member_pair x) pair). ap is_lt e) us at in record {
-        before = filter-append (is_low pair) now us ∙ ap₂ (λ u v. u ++ v) h.before (filter_none (is_low pair) us high)
-            ∙ append-nil old;
-        taken = ap (λ u. u ++ us) h.taken ∙ append_assoc g0 (filter (λ m. not (is_low pair m)) now) us
-            ∙ ap (λ u. g0 ++ u) (sym (filter-append (λ m. not (is_low pair m)) now us
-            ∙ ap (λ u. filter (λ m. not (is_low pair m)) now ++ u)
-            (filter_all _ us (each_weaker (λ (x : Member) (e : is_low pair x ≡ false). ap not e) us high))));
-        upto = each_join (λ m. Upto (member_pair m) pair) now us h.upto
-            (each_weaker (λ (x : Member) (e : Alike (member_pair x) pair). same_upto (member_pair x) pair e) us at);
+        before = grind (arith, filter-append, filter_none, append-nil);
+        taken = grind (arith, append_assoc, filter-append, filter_all, each_weaker);
+        upto = grind (arith, each_join, each_weaker, same_upto);
       }
 
   module _ {X : Type 0} (d : X → List Member) (xs0 xs : List X) (g0 : List Member) where
@@ -111,10 +98,9 @@ module _ (pair : Pair) where
         ++ d (get_or xs j x) = ap (flat_map d) (take_more xs j x l)
         ∙ flat_map-append d (take j xs) (get_or xs j x ∷ [])
         ∙ ap (λ u. flat_map d (take j xs) ++ u) (append-nil (d (get_or xs j x))) in
-        let now : flat_map d (take (j + 1) (set xs j y)) ≡ flat_map d (take (j + 1) xs)
-        ++ us = ap (flat_map d) (take_more_set xs j y l) ∙ flat_map-append d (take j xs) (y ∷ [])
-        ∙ ap (λ u. flat_map d (take j xs) ++ u) (append-nil (d y) ∙ e)
-        ∙ sym (append_assoc (flat_map d (take j xs)) (d (get_or xs j x)) us) ∙ ap (λ u. u ++ us) (sym was) in
+        let now : flat_map d (take (j + 1) (set xs j y))
+        ≡ flat_map d (take (j + 1) xs) ++
+        us = grind (arith, take_more_set, flat_map-append, append-nil, append_assoc) in
         subst (λ u. Gathered pair old u g0 (g ++ us)) (sym now)
         (gathered_at old (flat_map d (take (j + 1) xs)) g0 g us h at)
 
@@ -161,7 +147,7 @@ from_popped pair w ws e first none = both ws first (none_waits w.source ws none)
 
 pub from_waited : (pair : Pair) (n i : ℕ) (old new : List WaitingLine) → WaitsAbove pair i old new
     → AllByRecursion (IsFrom pair n) old → AllByRecursion (IsFrom pair n) new
-from_waited pair n i old new (inl e) h = subst (AllByRecursion (IsFrom pair n)) (sym e) h
+from_waited pair n i old new (inl e) h = grind arith
 from_waited pair n i old new (inr (w, p, e, b)) h =
     each_permuted (IsFrom pair n) (w ∷ old) new p (
       (

@@ -1,15 +1,10 @@
 -- How many lines are held at once.
-use Rattle.std.proofs.lemmas.List.{take-map}
-use Rattle.std.specs.List.{AllZip}
+use Rattle.std.proofs.lemmas.List.{take-map, length-map, map-append}
+use Rattle.std.specs.List.{AllZip, AllByRecursion}
 use Rattle.std.proofs.Common.{◌≡◌, ◌≢◌, ◌^◌, max, min, ℕ, zero, suc, ◌+◌, ◌-◌, ◌==◌, ◌<◌, ◌≤◌, List, [], ◌∷◌, ◌++◌}
-use Rattle.std.proofs.Common.{length, take, drop, map, filter, Bool, true, false, not, Option, Some, inl, inr, refl}
-use Rattle.std.proofs.Common.{sym, ap, ◌∙◌, subst, arith, length-append, Ordering, Less, Equal, Greater, is_gt, is_lt}
-use Rattle.std.proofs.Common.{is_eq}
-use Rattle.std.specs.List.{AllByRecursion}
-use Rattle.std.proofs.lemmas.List.{length-map, map-append}
+use Rattle.std.proofs.Common.{length, take, drop, map, filter, Bool, true, false, not, Option, Some, refl, sym, ap, ◌∙◌}
+use Rattle.std.proofs.Common.{subst, arith, length-append, Ordering, Less, Equal, Greater, is_gt, is_lt, is_eq}
 use Rattle.merge_core.proofs.Filters.{each_filter, filter_split, filter_fewer, filter_weaker, filter_front, filter_back}
-use Rattle.std.proofs.lemmas.Bool.{cases_Bool}
-use Rattle.std.proofs.lemmas.Bool.Decides.{nat_tests}
 use Rattle.std.proofs.lemmas.List.Elements.{filter-append}
 use Rattle.cdxj_places.specs.Pairs.{Pair, pair_cmp}
 use Rattle.cdxj_places.specs.TextLines.{lines}
@@ -21,12 +16,11 @@ use Rattle.line_queue.specs.PairOrders.{Upto, IsAbove, is_low}
 use Rattle.line_queue.specs.WaitingLines.{WaitingLine, waiting_pair, is_of, waits_of}
 use Rattle.merge_core.specs.Collections.{Known, all_lines}
 use Rattle.merge_core.specs.Counts.{is_at, ShareAtMost}
-use Rattle.merge_core.specs.Feeds.{Fed, AreFed, Ready, member_of, given, held, done}
-use Rattle.merge_core.specs.Gathering.{AreTold, Grouped, text_or, all_done}
+use Rattle.merge_core.specs.Feeds.{Fed, AreFed, Ready, member_of, given, done}
+use Rattle.merge_core.specs.Gathering.{AreTold, Grouped, all_done}
 use Rattle.merge_core.specs.Reached.{Handed}
 use Rattle.merge_core.proofs.MergeLemmas.{below_next}
 use Rattle.merge_core.proofs.ReadLines.{members_are}
-use Rattle.merge_core.proofs.StreamLemmas.{few_waits}
 use Rattle.merge_core.proofs.WholeLemmas.{told_known}
 
 -- ---- the lines that wait: one of each source at most
@@ -34,7 +28,7 @@ use Rattle.merge_core.proofs.WholeLemmas.{told_known}
 few_of : (n : ℕ) (ws : List WaitingLine) → AllByRecursion (λ (w : WaitingLine). w.source < n) ws
     → ((i : ℕ) → i < n → length (waits_of i ws) ≤ 1) → length ws ≤ n
 few_of zero [] placed few = omega arith
-few_of zero (w ∷ ws) placed few = absurd (let h = placed.0 in omega arith)
+few_of zero (w ∷ ws) placed few = grind arith
 few_of (suc n) ws placed few =
     let others = filter (λ w. not (is_of n w)) ws in
     let split = filter_split (is_of n) ws in
@@ -50,29 +44,22 @@ few_of (suc n) ws placed few =
     omega arith
   where
     before : (w : WaitingLine) → (w.source < suc n) × (not (is_of n w) ≡ true) → w.source < n
-    before w h = elim (cases_Bool (w.source == n)) [
-      | inl e ↦ absurd (let k = h.1 in cc)
-      | inr e ↦ (let l = h.0 in let k : w.source ≢ n = grind (arith, nat_tests, e) in omega arith)
-    ]
+    before w h = grind arith
 
 module _ (limit : ℕ) (past : List ℕ → Bool) {S : Type 0} (text : S → Option (List ℕ)) (extent : S → ℕ) where
   few_at : (n i : ℕ) (ss : List S) (fs : List Feed) (ws : List WaitingLine) → length ss ≡ length fs → i < length ss
       → AreFed limit past text extent n ss fs ws → length (waits_of (n + i) ws) ≤ 1
   few_at n i [] fs ws e l h = absurd (omega arith)
   few_at n i (s ∷ ss) [] ws e l h = absurd (omega arith)
-  few_at n zero (s ∷ ss) (f ∷ fs) ws e l h =
-      subst (λ k. length (waits_of k ws) ≤ 1) (let q : n ≡ n + 0 = omega arith in q)
-      (few_waits f.progress (waits_of n ws) h.0.waits)
-  few_at n (suc i) (s ∷ ss) (f ∷ fs) ws e l h =
-      subst (λ k. length (waits_of k ws) ≤ 1) (let q : (n + 1) + i ≡ n + suc i = omega arith in q)
-      (few_at (n + 1) i ss fs ws (omega arith) (omega arith) h.1)
+  few_at n zero (s ∷ ss) (f ∷ fs) ws e l h = grind arith
+  few_at n (suc i) (s ∷ ss) (f ∷ fs) ws e l h = grind (arith, few_at (n + 1) i ss fs ws (omega arith) (omega arith) h.1)
 
   pub few_wait : (ss : List S) (fs : List Feed) (ws : List WaitingLine) → Ready limit past text extent ss fs ws
       → length ws ≤ length fs
   few_wait ss fs ws ready =
-      few_of (length fs) ws ready.placed (λ i l.
-      subst (λ k. length (waits_of k ws) ≤ 1) (let q : 0 + i ≡ i = omega arith in q)
-      (few_at 0 i ss fs ws ready.same (let e = ready.same in omega arith) ready.fed))
+      few_of (length fs) ws ready.placed
+      (λ i l. subst (λ k. length (waits_of k ws) ≤ 1) (let q : 0 + i ≡ i = omega arith in q)
+      (few_at 0 i ss fs ws ready.same (omega arith) ready.fed))
 
   -- ---- the lines of a group
 
@@ -88,10 +75,7 @@ module _ (limit : ℕ) (past : List ℕ → Bool) {S : Type 0} (text : S → Opt
       ∙ map-append (member_of limit) told.begins.0 from in
       let read : given limit t f.cursor
       ≡ take f.cursor.count (map (member_of limit) from) = sym (take-map (member_of limit) f.cursor.count from) in
-      let a = filter_front test (f.cursor.count - held f.progress) (given limit t f.cursor) in
-      let b = filter_front test f.cursor.count (map (member_of limit) from) in
-      let c = filter_back test (map (member_of limit) told.begins.0) (map (member_of limit) from) in
-      omega (arith, ap (λ l. length (filter test l)) read, ap (λ l. length (filter test l)) whole)
+      grind (arith, filter_front, filter_back)
 
   all_fewer : (n : ℕ) (ss : List S) (fs : List Feed) (ws : List WaitingLine) (texts : List (List ℕ))
       (indexes : List (List Member)) (test : Member → Bool) → length ss ≡ length fs → Known (map text ss) texts
@@ -103,20 +87,10 @@ module _ (limit : ℕ) (past : List ℕ → Bool) {S : Type 0} (text : S → Opt
   all_fewer n (s ∷ ss) (f ∷ fs) ws [] indexes test e known are fed = absurd known
   all_fewer n (s ∷ ss) (f ∷ fs) ws (t ∷ ts) [] test e known are fed = absurd are
   all_fewer n (s ∷ ss) (f ∷ fs) ws (t ∷ ts) (i ∷ is) test e known are fed =
-      let first = done limit (text_or (text s)) f in
-      let others = all_done limit text ss fs in
-      let is_done : first ≡ done limit t f = ap (λ o. done limit (text_or o) f) known.0 in
       let here = done_fewer t (extent s) f (waits_of n ws) i test
       (subst (λ o. Fed limit past o (extent s) f (waits_of n ws)) known.0 fed.0) are.0 in
-      let rest = all_fewer (n + 1) ss fs ws ts is test (omega arith) known.1 are.1 fed.1 in
-      omega (
-        arith,
-        ap (λ l. length (filter test l)) is_done,
-        ap length (filter-append test first others),
-        length-append (filter test first) (filter test others),
-        ap length (filter-append test i (all_lines is)),
-        length-append (filter test i) (filter test (all_lines is)),
-      )
+      grind (arith, filter-append, length-append, all_fewer (n + 1) ss fs ws ts is test (omega arith) known.1 are.1
+      fed.1)
 
 pub held_after : {B : Type 0} (value : B → Member) (ws : List WaitingLine) (first : Member) (rest : List B)
     (old new bound : ℕ) → new ≡ max old (min (length ws + 1 + length rest) (2 ^ 64 - 1))
@@ -151,10 +125,8 @@ module _ (limit : ℕ) (past : List ℕ → Bool) {S : Type 0} (text : S → Opt
       (each_weaker (λ (m : Member) (u : Upto (member_pair m) pair). at_pair pair m u) all gathered.upto) in
       let there = all_fewer limit past text extent 0 ss fs ws texts indexes (is_at pair) ready.same known are
       ready.fed in
-      let few = share pair in
       omega (arith, ap length gathered.taken)
 
   -- with the lines that wait
   pub held_most : length ws + length group ≤ length ss + most
-  held_most = let g = group_most in let w = few_wait limit past text extent ss fs ws ready in let e = ready.same in
-      omega arith
+  held_most = grind (arith, group_most, few_wait)

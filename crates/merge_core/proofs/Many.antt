@@ -1,8 +1,7 @@
 -- Lists of sources and feeds, seen as one list of pairs.
-use Rattle.std.specs.List.{AllZip}
+use Rattle.std.specs.List.{AllZip, AllByRecursion, sum}
 use Rattle.std.proofs.Common.{◌≡◌, ℕ, zero, suc, ◌+◌, ◌-◌, ◌<◌, List, [], ◌∷◌, refl, sym, ap, ◌∙◌, subst, arith, Option}
 use Rattle.std.proofs.Common.{Some, None, true, length, get_or, set, map, zip}
-use Rattle.std.specs.List.{AllByRecursion, sum}
 use Rattle.std.specs.Option.{is_some}
 use Rattle.std.proofs.lemmas.List.Sums.{sum_by-cons}
 use Rattle.merge_core.specs.declared.feed.Feed.{Feed}
@@ -37,7 +36,7 @@ length_zip (x ∷ xs) (y ∷ ys) e = let h = length_zip xs ys (omega arith) in o
 pub map_set_same : {X Y : Type 0} (f : X → Y) (xs : List X) (i : ℕ) (d y : X) → i < length xs → f y ≡ f (get_or xs i d)
     → map f (set xs i y) ≡ map f xs
 map_set_same f [] i d y l e = refl
-map_set_same f (x ∷ xs) zero d y l e = ap (λ v. v ∷ map f xs) e
+map_set_same f (x ∷ xs) zero d y l e = cc
 map_set_same f (x ∷ xs) (suc i) d y l e = ap (λ v. f x ∷ v) (map_set_same f xs i d y (omega arith) e)
 
 pub two_set : {X : Type 0} (R : X → X → Type 0) → ((x y z : X) → R x y → R y z → R x z)
@@ -62,18 +61,10 @@ two_each R P Q f (x ∷ xs) (y ∷ ys) h p = (f x y h.0 p.0, two_each R P Q f xs
 
 pub moved_then : (t0 t1 t2 : Option (List ℕ)) (e0 e1 e2 g0 g1 g2 : ℕ) (f0 f1 f2 : CursorState)
     → Moved t0 t1 e0 e1 g0 g1 f0 f1 → Moved t1 t2 e1 e2 g1 g2 f1 f2 → Moved t0 t2 e0 e2 g0 g2 f0 f2
-moved_then t0 t1 t2 e0 e1 e2 g0 g1 g2 f0 f1 f2 a b =
-    let p = a.spent in let q = b.spent in
-    record {
-      text_kept = b.text_kept ∙ a.text_kept;
-      extent_kept = b.extent_kept
-          ∙ a.extent_kept;
-      spent = omega arith;
-      start_kept = b.start_kept ∙ a.start_kept;
-    }
+moved_then t0 t1 t2 e0 e1 e2 g0 g1 g2 f0 f1 f2 a b = grind arith
 
 pub moved_not : (t : Option (List ℕ)) (e g : ℕ) (f : CursorState) → Moved t t e e g g f f
-moved_not t e g f = record { text_kept = refl; extent_kept = refl; spent = omega arith; start_kept = refl }
+moved_not t e g f = grind arith
 
 two_trans : {X : Type 0} (R : X → X → Type 0) → ((x y z : X) → R x y → R y z → R x z) → (xs ys zs : List X)
     → AllZip R xs ys → AllZip R ys zs → AllZip R xs zs
@@ -101,15 +92,8 @@ sum_cons a ns = sum_by-cons (λ x. x) a ns
 sum_set : {X : Type 0} (n : X → ℕ) (xs : List X) (i : ℕ) (d y : X) → i < length xs
     → sum (map n (set xs i y)) + n (get_or xs i d) ≡ sum (map n xs) + n y
 sum_set n [] i d y l = absurd (omega arith)
-sum_set n (x ∷ xs) zero d y l =
-    let p = sum_cons (n y) (map n xs) in let q = sum_cons (n x) (map n xs) in
-    let r : (n y + sum (map n xs)) + n x ≡ (n x + sum (map n xs)) + n y = omega arith in
-    ap (λ k. k + n x) p ∙ r ∙ ap (λ k. k + n y) (sym q)
-sum_set n (x ∷ xs) (suc i) d y l =
-    let h = sum_set n xs i d y (omega arith) in
-    let p = sum_cons (n x) (map n (set xs i y)) in let q = sum_cons (n x) (map n xs) in
-    let r : (n x + sum (map n (set xs i y))) + n (get_or xs i d) ≡ (n x + sum (map n xs)) + n y = omega arith in
-    ap (λ k. k + n (get_or xs i d)) p ∙ r ∙ ap (λ k. k + n y) (sym q)
+sum_set n (x ∷ xs) zero d y l = grind (arith, sum_cons)
+sum_set n (x ∷ xs) (suc i) d y l = grind (arith, sum_cons, sum_set n xs i d y (omega arith))
 
 -- One source and its feed change
 module _ {S : Type 0} (text : S → Option (List ℕ)) (extent gave : S → ℕ) where
@@ -117,21 +101,16 @@ module _ {S : Type 0} (text : S → Option (List ℕ)) (extent gave : S → ℕ)
   Move x y = Moved (text x.0) (text y.0) (extent x.0) (extent y.0) (gave x.0) (gave y.0) x.1.cursor y.1.cursor
 
   pub moved_trans : (xs ys zs : List (S × Feed)) → AllZip Move xs ys → AllZip Move ys zs → AllZip Move xs zs
-  moved_trans = two_trans Move
-      (λ x y z. moved_then (text x.0) (text y.0) (text z.0) (extent x.0) (extent y.0) (extent z.0) (gave x.0) (gave y.0)
-      (gave z.0) x.1.cursor y.1.cursor z.1.cursor)
+  moved_trans = grind (arith, two_trans, moved_then)
 
   pub moved_still : (xs : List (S × Feed)) → AllZip Move xs xs
-  moved_still = two_same Move (λ x. moved_not (text x.0) (extent x.0) (gave x.0) x.1.cursor)
+  moved_still = grind (arith, two_same, moved_not)
 
   pub told_moved : (ss ss' : List S) (fs fs' : List Feed) → length ss' ≡ length fs'
       → AllZip Move (zip ss fs) (zip ss' fs') → AllByRecursion (λ s. is_some (text s) ≡ true) ss
       → AllByRecursion (λ s. is_some (text s) ≡ true) ss'
   told_moved ss ss' fs fs' e m h =
-      each_unzip (λ s. is_some (text s) ≡ true) ss' fs' e
-      (two_each Move (λ x. is_some (text x.0) ≡ true) (λ x. is_some (text x.0) ≡ true)
-      (λ x y (r : Move x y) (p : is_some (text x.0) ≡ true). ap is_some r.text_kept ∙ p) (zip ss fs) (zip ss' fs') m
-      (each_zip (λ s. is_some (text s) ≡ true) ss fs h))
+      each_unzip (λ s. is_some (text s) ≡ true) ss' fs' e (grind (arith, two_each, each_zip))
 
   module _ (ss : List S) (fs : List Feed) (i : ℕ) (a s : S) (b f : Feed) (same : length ss ≡ length fs)
       (inside : i < length ss) where
@@ -142,9 +121,8 @@ module _ {S : Type 0} (text : S → Option (List ℕ)) (extent gave : S → ℕ)
     moved_set m =
         subst (AllZip Move (zip ss fs)) (sym (zip_set ss fs i s f))
         (two_set Move (λ x y z. moved_then (text x.0) (text y.0) (text z.0) (extent x.0) (extent y.0) (extent z.0)
-        (gave x.0) (gave y.0) (gave z.0) x.1.cursor y.1.cursor z.1.cursor)
-        (zip ss fs) (zip ss fs) i (a, b) (s, f) (moved_still (zip ss fs)) within
-        (subst (λ x. Move x (s, f)) (sym (zip_at ss fs i a b same inside)) m))
+        (gave x.0) (gave y.0) (gave z.0) x.1.cursor y.1.cursor z.1.cursor) (zip ss fs) (zip ss fs) i (a, b) (s, f)
+        (moved_still (zip ss fs)) within (grind (arith, zip_at)))
 
     -- how many bytes weren't read
     pub unread_set : unread extent (set ss i s) (set fs i f) + (extent (get_or ss i a) - (get_or fs i b).cursor.at)

@@ -1,12 +1,11 @@
 -- One group more of a merge.
-use Rattle.std.proofs.Common.{◌≡◌, ℕ, Result, Ok, Err, IsErrAnd, OnErr, List, [], ◌∷◌, ◌++◌, refl, sym, ap, ap₂, ◌∙◌}
-use Rattle.std.proofs.Common.{subst, Bool, Option, Some, None, map, true, Less, Equal, Greater, Ordering, is_lt, is_gt}
+use Rattle.std.proofs.Common.{arith, ◌≡◌, ℕ, Result, Ok, Err, IsErrAnd, OnErr, List, [], ◌∷◌, ◌++◌, refl, sym, ap, ap₂}
+use Rattle.std.proofs.Common.{◌∙◌, Option, Some, None, map, true, Less, Equal, Greater, Ordering, is_lt, is_gt}
 use Rattle.std.specs.List.{AllByRecursion}
 use Rattle.std.specs.Ordering.{ordering_reverse}
 use Rattle.cdxj_places.specs.Pairs.{Pair}
 use Rattle.cdxj_places.specs.Places.{place_cmp}
 use Rattle.cdxj_places.specs.Rising.{IsLower, Rises, rising}
-use Rattle.cdxj_places.proofs.PairLemmas.{lower_pair}
 use Rattle.cdxj_places.proofs.PlaceOrder.{place_cmp_total}
 use Rattle.cdxj_places.proofs.RisingLaws.{each_weaker, each_rising, rises_rising, rising_split, each_join}
 use Rattle.cdxj_core.specs.Members.{Member, member_pair, member_place}
@@ -14,7 +13,7 @@ use Rattle.merge_core.specs.declared.feed.Feed.{Feed}
 use Rattle.line_queue.specs.PairOrders.{Alike, Below, Upto, IsAbove, IsUpto, is_low}
 use Rattle.line_queue.specs.WaitingLines.{WaitingLine, waiting_pair}
 use Rattle.merge_core.specs.Gathering.{Gathered, Grouped, AreTold, all_done}
-use Rattle.merge_core.specs.Reached.{Handed, Reached}
+use Rattle.merge_core.specs.Reached.{Handed}
 use Rattle.merge_core.specs.SourceLines.{HasEntry}
 use Rattle.line_queue.proofs.PairOrder.{from_not_below, below_then, then_below, below_upto, same_upto, same_from}
 use Rattle.merge_core.proofs.GroupLemmas.{AreAt, AreBelow}
@@ -27,13 +26,13 @@ above_none (w ∷ ws) = (tt, above_none ws)
 -- what is done stands below what comes next
 pub below_next : (b : Option Pair) (pair : Pair) → IsAbove b pair → (ms : List Member)
     → AllByRecursion (λ m. IsUpto b (member_pair m)) ms → AreBelow pair ms
-below_next None pair up ms h = each_weaker (λ (m : Member) (q : ⊥). absurd q) ms h
+below_next None pair up ms h = grind (arith, each_weaker)
 below_next (Some bound) pair up ms h = each_weaker
     (λ (m : Member) (q : Upto (member_pair m) bound). then_below (member_pair m) bound pair q up) ms h
 
 pub place_below : (x y : Member) → Below (member_pair x) (member_pair y) → place_cmp (member_place x) (member_place y)
     ≡ Less
-place_below x y h = lower_pair (member_place x) (member_place y) h
+place_below x y h = grind arith
 
 pub is_less : (r : Ordering) → is_lt r ≡ true → r ≡ Less
 is_less Less e = refl
@@ -55,11 +54,7 @@ rises_join : (us vs : List Member) → Rises member_place place_cmp us → Rises
     → AllByRecursion (λ u. AllByRecursion (λ v. is_gt (place_cmp (member_place v) (member_place u)) ≡ true) vs) us
     → Rises member_place place_cmp (us ++ vs)
 rises_join [] vs h k l = k
-rises_join (u ∷ us) vs h k l = (
-  each_join (λ v. is_gt (place_cmp (member_place v) (member_place u)) ≡ true) us vs h.0
-      l.0,
-  rises_join us vs h.1 k l.1,
-)
+rises_join (u ∷ us) vs h k l = grind (arith, each_join, is_gt, rises_join us vs h.1 k l.1)
 
 place_above : (pair : Pair) (u v : Member) → Below (member_pair u) pair → Alike (member_pair v) pair
     → is_gt (place_cmp (member_place v) (member_place u)) ≡ true
@@ -80,43 +75,20 @@ module _ {S : Type 0} (limit : ℕ) (text : S → Option (List ℕ)) (extent : S
   low = below_next b pair up taken was.upto
 
   at : AreAt pair (rising member_place place_cmp group)
-  at = each_rising member_place place_cmp place_cmp_total (λ m. Alike (member_pair m) pair) group grouped.each
+  at = grind (arith, each_rising, place_cmp_total)
 
   pub handed_next : AllByRecursion (HasEntry limit) group
       → Handed limit text old ss fs (Some pair) (taken ++ rising member_place place_cmp group)
   handed_next entries = record {
-    entries = each_join (HasEntry limit) taken (rising member_place place_cmp group) was.entries
-        (each_rising member_place place_cmp place_cmp_total (HasEntry limit) group entries);
-    upto = each_join (λ m. Upto (member_pair m) pair) taken (rising member_place place_cmp group)
-        (each_weaker (λ (m : Member) (h : Below (member_pair m) pair). below_upto (member_pair m) pair h) taken low)
-        (each_weaker (λ (m : Member) (h : Alike (member_pair m) pair). same_upto (member_pair m) pair h)
-        (rising member_place place_cmp group) at);
-    rises = rises_join taken (rising member_place place_cmp group) was.rises
-        (rises_rising member_place place_cmp place_cmp_total group)
-        (each_weaker (λ (u : Member) (h : Below (member_pair u) pair). each_weaker
-        (λ (v : Member) (k : Alike (member_pair v) pair). place_above pair u v h k)
-        (rising member_place place_cmp group) at) taken low);
-    told = λ t.
-        let h = was.told t in
-        let gathered = grouped.gathered (kept t) (below_next b pair up (all_done limit text ss0 fs0) h.1) in (
-          ap (λ l. l ++ rising member_place place_cmp group) h.0
-              ∙ risen_on pair (all_done limit text ss0 fs0) (all_done limit text ss fs) group gathered,
-          gathered.upto,
-        );
+    entries = grind (arith, each_join, each_rising, place_cmp_total);
+    upto = grind (arith, each_join, each_weaker, below_upto, low, same_upto, at);
+    rises = grind (arith, rises_join, rises_rising, place_cmp_total, each_weaker, place_above, at, low);
+    told = grind (arith, below_next, up, risen_on);
   }
 
 pub handed_none : {S : Type 0} (limit : ℕ) (text : S → Option (List ℕ)) (ss : List S) (fs : List Feed)
     → all_done limit text ss fs ≡ [] → Handed limit text ss ss fs None []
-handed_none limit text ss fs e = record {
-  entries = tt;
-  upto = tt;
-  rises = tt;
-  told = λ t. (
-    ap (rising member_place place_cmp) (sym e),
-    subst (AllByRecursion (λ m. IsUpto None (member_pair m)))
-        (sym e) tt,
-  );
-}
+handed_none limit text ss fs e = grind arith
 
 pub on_err : {A E : Type 0} (r : Result A E) (e : E) (P : Type 0) → IsErrAnd r (λ x. x ≡ e) → P → OnErr r P
 on_err (Ok x) e P h p = absurd h
@@ -125,14 +97,3 @@ on_err (Err x) e P h p = p
 pub map_seen : {A X Y : Type 0} (f : X → Y) (g : A → X) (xs : List A) → map (λ a. f (g a)) xs ≡ map f (map g xs)
 map_seen f g [] = refl
 map_seen f g (x ∷ xs) = ap (λ l. f (g x) ∷ l) (map_seen f g xs)
-
--- the same of equal lists
-pub reached_same : {S : Type 0} (limit : ℕ) (text : S → Option (List ℕ)) (past : List ℕ → Bool) (extent gave : S → ℕ)
-    (ss0 : List S) (fs0 : List Feed) (ss ss' : List S) (fs fs' : List Feed) (ws ws' : List WaitingLine)
-    (b : Option Pair) (taken : List Member) → ss' ≡ ss → fs' ≡ fs → ws' ≡ ws
-    → Reached limit text past extent gave ss0 fs0 ss fs ws b taken
-    → Reached limit text past extent gave ss0 fs0 ss' fs' ws' b taken
-reached_same limit text past extent gave ss0 fs0 ss ss' fs fs' ws ws' b taken e f h r =
-    subst (λ us. Reached limit text past extent gave ss0 fs0 us fs' ws' b taken) (sym e)
-    (subst (λ us. Reached limit text past extent gave ss0 fs0 ss us ws' b taken) (sym f)
-    (subst (λ us. Reached limit text past extent gave ss0 fs0 ss fs us b taken) (sym h) r))

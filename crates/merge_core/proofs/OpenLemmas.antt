@@ -1,24 +1,18 @@
 -- The opening of sources, one after another.
 use Rattle.std.proofs.Common.{◌≡◌, ◌≢◌, ℕ, zero, suc, ◌+◌, ◌-◌, ◌<◌, List, [], ◌∷◌, ◌++◌, length, set, zip, flat_map}
-use Rattle.std.proofs.Common.{map, take, drop, Bool, false, Option, Some, None, MatchOption, refl, sym, ap, ap₂, ◌∙◌}
-use Rattle.std.proofs.Common.{subst, arith, append-nil, length-append}
+use Rattle.std.proofs.Common.{map, take, Bool, Option, Some, None, MatchOption, refl, sym, ap, ◌∙◌, subst, arith}
+use Rattle.std.proofs.Common.{append-nil, length-append}
 use Rattle.std.specs.List.{AllByRecursion, sum}
 use Rattle.std.proofs.lemmas.List.Sums.{sum_by-cons}
 use Rattle.std.specs.List.Sorted.{IsPermutation}
-use Rattle.std.proofs.lemmas.List.{take_all, take_more_set, drop_all}
+use Rattle.std.proofs.lemmas.List.{take_more_set, drop_all}
 use Rattle.std.proofs.lemmas.List.Concat.{flat_map-append}
-use Rattle.cdxj_places.specs.TextLines.{lines}
 use Rattle.cdxj_places.proofs.RisingLaws.{each_weaker}
-use Rattle.cdxj_core.specs.Indexes.{IsRun}
 use Rattle.cdxj_core.specs.Members.{Member}
-use Rattle.source_core.specs.Cursors.{CursorState, Stands}
-use Rattle.source_core.specs.IndexLines.{BeginsAfter}
-use Rattle.merge_core.specs.declared.feed.Progress.TheVariants.{Due}
 use Rattle.merge_core.specs.declared.feed.Feed.{Feed}
 use Rattle.line_queue.specs.WaitingLines.{WaitingLine, waits_of}
-use Rattle.merge_core.specs.Feeds.{Fed, AreFed, option_list, given, held, member_of, done}
+use Rattle.merge_core.specs.Feeds.{Fed, AreFed, option_list, done}
 use Rattle.merge_core.specs.Gathering.{text_or}
-use Rattle.merge_core.proofs.FeedLemmas.{done_due, fresh_done}
 use Rattle.line_queue.proofs.HeapLemmas.{each_permuted, waits_here, waits_other}
 use Rattle.merge_core.proofs.StreamLemmas.{fed_permuted}
 
@@ -26,29 +20,9 @@ use Rattle.merge_core.proofs.StreamLemmas.{fed_permuted}
 waits_none : (n : ℕ) (ws : List WaitingLine) → AllByRecursion (λ (w : WaitingLine). w.source < n) ws → waits_of n ws
     ≡ []
 waits_none n [] h = refl
-waits_none n (w ∷ ws) h = (let l = h.0 in waits_other n w ws (λ e. absurd (omega arith))) ∙ waits_none n ws h.1
+waits_none n (w ∷ ws) h = grind (arith, waits_other, waits_none n ws h.1)
 
 module _ (limit : ℕ) (past : List ℕ → Bool) where
-  pub fed_fresh : (text : Option (List ℕ)) (extent : ℕ) (c : CursorState) → Stands text extent c → c.count ≡ 0 → c.at
-      ≡ c.start → ((t : List ℕ) → text ≡ Some t → (before : List (List ℕ)) × BeginsAfter t c.start before)
-      → Fed limit past text extent (record { cursor = c; progress = Due }) []
-  fed_fresh text extent c stands e first begins =
-      let f : Feed = record { cursor = c; progress = Due } in record {
-        stands = stands;
-        waits = refl;
-        counted = omega arith;
-        told = λ t q. record {
-          begins = begins t q;
-          stood = omega arith;
-          as_many = subst (λ n. length (take n (lines (drop c.start t))) ≡ n) (sym e) refl;
-          within = subst (AllByRecursion (λ (m : Member). past m.values.key ≡ false)) (sym (fresh_done limit t f e)) tt;
-          run = subst (λ n. IsRun limit (take n (lines (drop c.start t)))
-              (map (member_of limit) (take n (lines (drop c.start t))))) (sym e)
-              (record { entries = refl; ordered = tt });
-          head = sym (done_due limit t f refl);
-        };
-      }
-
   module _ {S : Type 0} (text : S → Option (List ℕ)) (extent : S → ℕ) where
     fed_nil : (n : ℕ) (ss : List S) (ws : List WaitingLine) → AreFed limit past text extent n ss [] ws
     fed_nil n [] ws = tt
@@ -60,18 +34,14 @@ module _ (limit : ℕ) (past : List ℕ → Bool) where
         → Fed limit past (text s) (extent s) f (waits_of (n + i) ws')
         → AreFed limit past text extent n (set ss i s) (fs ++ f ∷ []) ws'
     fed_push n i [] fs ws ws' s f e l h same k = absurd (omega arith)
-    fed_push n zero (x ∷ ss) [] ws ws' s f e l h same k = (
-      subst (λ j. Fed limit past (text s) (extent s) f (waits_of j ws')) (let q : n + 0 ≡ n = omega arith in q) k,
-      fed_nil (n + 1) ss ws',
-    )
+    fed_push n zero (x ∷ ss) [] ws ws' s f e l h same k = grind (arith, fed_nil)
     fed_push n (suc i) (x ∷ ss) [] ws ws' s f e l h same k = absurd (omega arith)
     fed_push n zero (x ∷ ss) (y ∷ fs) ws ws' s f e l h same k = absurd (omega arith)
     fed_push n (suc i) (x ∷ ss) (y ∷ fs) ws ws' s f e l h same k =
         let q : n + suc i ≡ (n + 1) + i = omega arith in (
-          subst (Fed limit past (text x) (extent x) y) (sym (same n (λ p. absurd (omega arith)))) h.0,
+          grind arith,
           fed_push (n + 1) i ss fs ws ws' s f (omega arith) (omega arith) h.1
-              (λ j p. same j (subst (λ m. j ≢ m) (sym q) p))
-              (subst (λ m. Fed limit past (text s) (extent s) f (waits_of m ws')) q k),
+              (λ j p. same j (subst (λ m. j ≢ m) (sym q) p)) (grind arith),
         )
 
     pub fed_added : (i : ℕ) (ss : List S) (fs : List Feed) (ws ws' : List WaitingLine) (s : S) (f : Feed)
@@ -83,15 +53,7 @@ module _ (limit : ℕ) (past : List ℕ → Bool) where
         → AllByRecursion (λ (w : WaitingLine). w.source < length (fs ++ f ∷ [])) ws'
         × AreFed limit past text extent 0 (set ss i s) (fs ++ f ∷ []) ws'
     fed_added i ss fs ws ws' s f None e l placed h m fed =
-        let long = length-append fs (f ∷ []) in (
-          subst (AllByRecursion (λ (w : WaitingLine). w.source < length (fs ++ f ∷ []))) (sym m)
-              (each_weaker (λ (w : WaitingLine) (p : w.source < length fs).
-              (let q : w.source < length (fs ++ f ∷ []) = omega arith in q)) ws placed),
-          subst (AreFed limit past text extent 0 (set ss i s) (fs ++ f ∷ [])) (sym m)
-              (fed_push 0 i ss fs ws ws s f e l h (λ j p. refl)
-              (subst (Fed limit past (text s) (extent s) f) (sym (waits_none (length fs) ws placed)
-              ∙ ap (λ n. waits_of n ws) (let q : length fs ≡ 0 + i = omega arith in q)) fed)),
-        )
+        grind (arith, length-append, each_weaker, fed_push, waits_none)
     fed_added i ss fs ws ws' s f (Some x) e l placed h m fed =
         let w : WaitingLine = record { member = x; source = length fs } in
         let long = length-append fs (f ∷ []) in
@@ -104,9 +66,7 @@ module _ (limit : ℕ) (past : List ℕ → Bool) where
                 (let q : w.source < length (fs ++ f ∷ []) = omega arith in q)) ws placed,
           ),
           fed_permuted limit past text extent 0 (set ss i s) (fs ++ f ∷ []) (w ∷ ws) ws' m
-              (fed_push 0 i ss fs ws (w ∷ ws) s f e l h (λ j p. waits_other j w ws (λ q. absurd (omega arith)))
-              (subst (Fed limit past (text s) (extent s) f)
-              (sym here ∙ ap (λ n. waits_of n (w ∷ ws)) (let q : length fs ≡ 0 + i = omega arith in q)) fed)),
+              (grind (arith, fed_push, waits_other)),
         )
 
 pub zip_none : {A B : Type 0} (xs : List A) (ys : List B) → ys ≡ [] → zip xs ys ≡ []
@@ -125,7 +85,7 @@ zip_push (a ∷ xs) (b ∷ ys) (suc i) x y e l = ap (λ l. (a, b) ∷ l) (zip_pu
 
 pub flat_push : {X Y : Type 0} (f : X → List Y) (xs : List X) (x : X) → flat_map f xs ≡ [] → f x ≡ []
     → flat_map f (xs ++ x ∷ []) ≡ []
-flat_push f xs x h k = flat_map-append f xs (x ∷ []) ∙ ap₂ (λ u v. u ++ v) h (append-nil (f x) ∙ k)
+flat_push f xs x h k = grind (arith, flat_map-append, append-nil)
 
 pub done_none : {A B Y : Type 0} (f : A × B → List Y) (xs : List A) (ys : List B) → ys ≡ [] → flat_map f (zip xs ys)
     ≡ []
@@ -133,20 +93,15 @@ done_none f xs ys e = ap (flat_map f) (zip_none xs ys e)
 
 pub fed_none : {S : Type 0} (limit : ℕ) (past : List ℕ → Bool) (text : S → Option (List ℕ)) (extent : S → ℕ)
     (ss : List S) (fs : List Feed) (ws : List WaitingLine) → fs ≡ [] → AreFed limit past text extent 0 ss fs ws
-fed_none limit past text extent ss fs ws e = subst (λ us. AreFed limit past text extent 0 ss us ws) (sym e)
-    (fed_nil limit past text extent 0 ss ws)
+fed_none limit past text extent ss fs ws e = grind (arith, fed_nil)
 
 take_none : {X : Type 0} (n : ℕ) (xs : List X) → xs ≡ [] → take n xs ≡ []
-take_none n xs e = take_all n xs (omega (arith, ap length e)) ∙ e
+take_none n xs e = grind arith
 
 pub fresh_of : (limit : ℕ) (text : Option (List ℕ)) (f : Feed) → ((t : List ℕ) → text ≡ Some t → done limit t f ≡ [])
     → done limit (text_or text) f ≡ []
 fresh_of limit (Some t) f h = h t refl
-fresh_of limit None f h =
-    let lines_none : lines (drop f.cursor.start []) ≡ [] = ap lines (drop_all f.cursor.start [] (omega arith)) in
-    let given_none : given limit [] f.cursor
-    ≡ [] = ap (map (member_of limit)) (take_none f.cursor.count (lines (drop f.cursor.start [])) lines_none) in
-    take_none (f.cursor.count - held f.progress) (given limit [] f.cursor) given_none
+fresh_of limit None f h = grind (arith, drop_all, take_none)
 
 -- one more of those that are summed
 pub sum_turn : {X : Type 0} (n : X → ℕ) (xs : List X) (i : ℕ) (y : X) → i < length xs
@@ -154,7 +109,7 @@ pub sum_turn : {X : Type 0} (n : X → ℕ) (xs : List X) (i : ℕ) (y : X) → 
 sum_turn n xs i y l = ap (λ us. sum (map n us)) (take_more_set xs i y l) ∙ sum_push n (take i xs) y
   where
     sum_push : {X : Type 0} (n : X → ℕ) (xs : List X) (x : X) → sum (map n (xs ++ x ∷ [])) ≡ sum (map n xs) + n x
-    sum_push n [] x = let p = sum_by-cons (λ (k : ℕ). k) (n x) [] in omega arith
+    sum_push n [] x = cc
     sum_push n (a ∷ xs) x =
         let p = sum_by-cons (λ (k : ℕ). k) (n a) (map n (xs ++ x ∷ [])) in let q = sum_by-cons (λ (k : ℕ). k) (n a)
         (map n xs) in let ih = sum_push n xs x in

@@ -1,8 +1,7 @@
 -- What was taken of sources that are indexes, beside all of their collection.
-use Rattle.std.specs.List.{AllZip}
+use Rattle.std.specs.List.{AllZip, AllByRecursion}
 use Rattle.std.proofs.Common.{◌≡◌, ℕ, ◌+◌, List, [], ◌∷◌, ◌++◌, length, map, filter, zip, Bool, true, false, not}
 use Rattle.std.proofs.Common.{Option, refl, sym, ap, ap₂, ◌∙◌, subst, arith}
-use Rattle.std.specs.List.{AllByRecursion}
 use Rattle.std.proofs.lemmas.List.Elements.{filter-append}
 use Rattle.cdxj_places.specs.Pairs.{Pair}
 use Rattle.cdxj_places.specs.Places.{place_cmp}
@@ -12,7 +11,7 @@ use Rattle.cdxj_core.specs.Indexes.{IsIndex}
 use Rattle.cdxj_core.specs.Members.{Member, member_pair, member_place}
 use Rattle.merge_core.specs.declared.feed.Feed.{Feed}
 use Rattle.line_queue.specs.PairOrders.{IsAbove, IsUpto, Upto, is_low}
-use Rattle.line_queue.specs.WaitingLines.{WaitingLine, waiting_pair, is_of, waits_of}
+use Rattle.line_queue.specs.WaitingLines.{WaitingLine, waiting_pair, waits_of}
 use Rattle.merge_core.specs.Collections.{Known, all_lines, collection}
 use Rattle.merge_core.specs.Feeds.{AreFed, AreSettled, Fed, done}
 use Rattle.merge_core.specs.Gathering.{AreTold, text_or, all_done}
@@ -25,8 +24,8 @@ use Rattle.merge_core.proofs.MergeLemmas.{lower_by_pair}
 use Rattle.merge_core.proofs.WholeLemmas.{told_known}
 use Rattle.merge_core.proofs.ReadLines.{IsUpward, stays, is_read, IsLate, fed_read, wanted_high}
 use Rattle.merge_core.proofs.TakenLemmas.{taken_first, taken_whole, taken_before}
-pub use Rattle.merge_core.proofs.TakenLemmas.{TakenFirst}
 use Rattle.merge_core.proofs.StartLemmas.{RunsFrom, runs_sought, runs_kept}
+pub use Rattle.merge_core.proofs.TakenLemmas.{TakenFirst}
 
 -- ---- all sources
 
@@ -34,9 +33,7 @@ module _ (limit : ℕ) (past : List ℕ → Bool) (upward : IsUpward past) (upto
     (text : S → Option (List ℕ)) (extent : S → ℕ) (ws : List WaitingLine)
     (late : AllByRecursion (λ (w : WaitingLine). IsLate limit past upward upto w.member) ws) where
   pub late_of : (n : ℕ) → AllByRecursion (IsLate limit past upward upto) (waits_of n ws)
-  late_of n = each_waits (IsLate limit past upward upto) n ws
-      (each_weaker (λ (w : WaitingLine) (h : IsLate limit past upward upto w.member). λ (e : is_of n w ≡ true). h) ws
-      late)
+  late_of n = grind (arith, each_waits, each_weaker)
 
   all_read : (n : ℕ) (ss : List S) (fs : List Feed) (highs : List (List Member)) → length ss ≡ length fs
       → AreTold text ss → AllZip (RunsFrom limit text) (zip ss fs) highs
@@ -72,12 +69,11 @@ module _ {S : Type 0} (text : S → Option (List ℕ)) (extent gave : S → ℕ)
     (are : AllZip (IsIndex limit) texts indexes)
     (wanted : Member → Bool) (within : (m : Member) → wanted m ≡ true → not (past m.values.key) ≡ true) where
   told_now : AreTold text ss
-  told_now = told_moved text extent gave ss0 ss fs0 fs reached.ready.same reached.moved
-      (told_known text ss0 texts known)
+  told_now = grind (arith, told_moved, told_known)
 
   handed : (taken ≡ rising member_place place_cmp (all_done limit text ss fs))
       × AllByRecursion (λ m. IsUpto b (member_pair m)) (all_done limit text ss fs)
-  handed = reached.handed.told (told_known text ss0 texts known)
+  handed = grind (arith, told_known)
 
   -- beside the lines that the sources have from where they are read on
   module _ (highs : List (List Member)) (runs : AllZip (RunsFrom limit text) (zip ss0 fs0) highs) where
@@ -85,10 +81,7 @@ module _ {S : Type 0} (text : S → Option (List ℕ)) (extent gave : S → ℕ)
         → AllByRecursion (λ m. upto m ≡ true) (all_done limit text ss fs)
         → filter (is_read limit past upward upto) (all_lines highs)
         ≡ filter (stays limit past upward) (all_done limit text ss fs)
-    read upto late each =
-        all_read limit past upward upto text extent ws late 0 ss fs highs reached.ready.same told_now
-        (runs_kept limit text extent gave (zip ss0 fs0) (zip ss fs) highs reached.moved runs) reached.ready.fed
-        reached.settled each
+    read upto late each = grind (arith, all_read, told_now, runs_kept)
 
     first_of : TakenFirst wanted b (rising member_place place_cmp (all_lines highs)) taken
     first_of = taken_first limit past upward wanted within b ws reached.above (all_done limit text ss fs) taken handed.1
@@ -109,7 +102,7 @@ module _ {S : Type 0} (text : S → Option (List ℕ)) (extent gave : S → ℕ)
       (beyond : (m : Member) → wanted m ≡ true → is_low start m ≡ false) where
     sought : (highs : List (List Member)) × AllZip (RunsFrom limit text) (zip ss0 fs0) highs
         × (filter (λ m. not (is_low start m)) (all_lines indexes) ≡ all_lines highs)
-    sought = runs_sought limit text start ss0 fs0 texts indexes same known are cut
+    sought = grind (arith, runs_sought)
 
     skipped : filter wanted (collection indexes) ≡ filter wanted (rising member_place place_cmp (all_lines sought.0))
     skipped = wanted_high wanted (is_low start) (lower_by_pair start) beyond (all_lines indexes)
@@ -117,7 +110,7 @@ module _ {S : Type 0} (text : S → Option (List ℕ)) (extent gave : S → ℕ)
 
     -- what was taken so far is a front of what is wanted
     pub sought_first : TakenFirst wanted b (collection indexes) taken
-    sought_first = let h = first_of sought.0 sought.1 in (h.0, skipped ∙ h.1, h.2)
+    sought_first = grind (arith, first_of, skipped)
 
     -- where no line waits, it is all
     pub sought_whole : ws ≡ [] → filter wanted (collection indexes) ≡ filter wanted taken
@@ -127,4 +120,4 @@ module _ {S : Type 0} (text : S → Option (List ℕ)) (extent gave : S → ℕ)
     pub sought_before : (next : Pair) → IsAbove b next → AllByRecursion (λ w. Upto next (waiting_pair w)) ws
         → (rest : List Member) × (filter wanted (collection indexes) ≡ filter wanted taken ++ rest)
         × AllByRecursion (λ m. (wanted m ≡ true) × Upto next (member_pair m)) rest
-    sought_before next above least = let h = before_of sought.0 sought.1 next above least in (h.0, skipped ∙ h.1, h.2)
+    sought_before next above least = grind (arith, before_of, skipped)

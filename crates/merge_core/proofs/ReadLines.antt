@@ -1,16 +1,14 @@
 -- The lines of one source that were come to, among all that it has from its start on.
-use Rattle.std.proofs.lemmas.Bool.{and_right as false_right, not-false, not-true}
-use Rattle.std.proofs.lemmas.List.{take-map}
-use Rattle.std.proofs.Common.{◌≡◌, inl, inr, ℕ, List, [], ◌∷◌, ◌++◌, refl, sym, ap, ap₂, ◌∙◌, subst, Bool, true, false}
-use Rattle.std.proofs.Common.{not, ◌&&◌, Some, unwrap_or, take, drop, map, filter, cond, append-nil, append_assoc}
-use Rattle.std.proofs.Common.{take-append-drop, Less, Equal, Greater, Ordering, is_gt}
+use Rattle.std.proofs.Common.{arith, ◌≡◌, inl, inr, ℕ, List, [], ◌∷◌, ◌++◌, refl, sym, ap, ◌∙◌, Bool, true, false, not}
+use Rattle.std.proofs.Common.{◌&&◌, Some, take, drop, map, filter, append-nil, append_assoc, take-append-drop, Less}
+use Rattle.std.proofs.Common.{Equal, Greater, Ordering, is_gt}
+use Rattle.std.proofs.lemmas.Bool.{and_right as false_right, cases_Bool}
+use Rattle.std.proofs.lemmas.List.{take-map, drop-map}
 use Rattle.std.specs.List.{AllByRecursion}
 use Rattle.merge_core.proofs.Filters.{filter_same, filter_out}
 use Rattle.std.specs.Ordering.{ordering_then, ordering_reverse, nat_cmp}
 use Rattle.std.specs.Cmp.Lexicographic.{slice_cmp}
-use Rattle.std.proofs.lemmas.Bool.{true≢false, cases_Bool}
 use Rattle.std.proofs.lemmas.Cmp.{nat_list_cmp_total}
-use Rattle.std.proofs.lemmas.List.{drop-map}
 use Rattle.std.proofs.lemmas.List.Elements.{filter-append}
 use Rattle.cdxj_places.specs.Pairs.{pair_cmp}
 use Rattle.cdxj_places.specs.Places.{place_cmp}
@@ -24,7 +22,7 @@ use Rattle.merge_core.specs.declared.feed.Progress.{Progress}
 use Rattle.merge_core.specs.declared.feed.Progress.TheVariants.{Due, Waiting, Past, Ended}
 use Rattle.merge_core.specs.declared.feed.Feed.{Feed}
 use Rattle.line_queue.specs.PairOrders.{Upto}
-use Rattle.merge_core.specs.Feeds.{AreWaits, IsHead, IsSettled, Fed, done, given, member_of, no_member}
+use Rattle.merge_core.specs.Feeds.{AreWaits, IsHead, IsSettled, Fed, done, given, member_of}
 use Rattle.line_queue.proofs.PairOrder.{upto_itself}
 use Rattle.merge_core.proofs.GroupLemmas.{filter_none}
 use Rattle.merge_core.proofs.MergeLemmas.{place_below}
@@ -40,17 +38,15 @@ falls_after (u ∷ us) y vs h = falls_after us y vs h.1
 
 pub and_left : (a b : Bool) → (a && b) ≡ true → a ≡ true
 and_left true b h = refl
-and_left false b h = absurd (true≢false (sym h))
+and_left false b h = cc
 
 pub and_right : (a b : Bool) → (a && b) ≡ true → b ≡ true
 and_right true b h = h
-and_right false b h = absurd (true≢false (sym h))
+and_right false b h = cc
 
 pub not_wanted : {X : Type 0} (f g : X → Bool) → ((x : X) → f x ≡ true → g x ≡ true) → (x : X) → g x ≡ false → f x
     ≡ false
-not_wanted f g h x e =
-    (elim (f x) as (λ b. f x ≡ b → b ≡ false)
-    [ true ↦ (λ k. absurd (true≢false (sym (h x k) ∙ e))) | false ↦ (λ k. refl) ]) refl
+not_wanted f g h x e = grind arith
 
 -- ---- keys
 
@@ -58,11 +54,6 @@ pub gt_is : (r : Ordering) → is_gt r ≡ true → r ≡ Greater
 gt_is Less h = cc
 gt_is Equal h = cc
 gt_is Greater h = refl
-
-then_gt : (a b : Ordering) → is_gt (ordering_then a b) ≡ false → is_gt a ≡ false
-then_gt Less b h = refl
-then_gt Equal b h = refl
-then_gt Greater b h = h
 
 -- a key above one past the range is past it
 abbrev pub IsUpward : (List ℕ → Bool) → Type 0
@@ -74,9 +65,7 @@ IsUpward past = (key later : List ℕ) → past key ≡ true → is_gt (slice_cm
 module _ (wanted test : Member → Bool) (passes : (m : Member) → wanted m ≡ true → test m ≡ true) where
   pub none_wanted : (xs : List Member) → AllByRecursion (λ m. test m ≡ false) xs
       → filter wanted (rising member_place place_cmp xs) ≡ []
-  none_wanted xs h = filter_none wanted (rising member_place place_cmp xs)
-      (each_weaker (not_wanted wanted test passes) (rising member_place place_cmp xs)
-      (each_rising member_place place_cmp place_cmp_total (λ m. test m ≡ false) xs h))
+  none_wanted xs h = grind (arith, filter_none, each_weaker, not_wanted, each_rising, place_cmp_total)
 
 -- the first lines
 pub wanted_low : (wanted low : Member → Bool) → IsLower member_place place_cmp low
@@ -84,11 +73,11 @@ pub wanted_low : (wanted low : Member → Bool) → IsLower member_place place_c
     → (xs : List Member) → filter wanted (rising member_place place_cmp xs)
     ≡ filter wanted (rising member_place place_cmp (filter low xs))
 wanted_low wanted low lower passes xs =
-    ap (filter wanted) (rising_split member_place place_cmp place_cmp_total low lower xs)
+    ap (filter wanted) (grind (arith, rising_split, place_cmp_total))
     ∙ filter-append wanted (rising member_place place_cmp (filter low xs))
     (rising member_place place_cmp (filter (λ m. not (low m)) xs))
     ∙ ap (λ l. filter wanted (rising member_place place_cmp (filter low xs)) ++ l)
-    (none_wanted wanted low passes (filter (λ m. not (low m)) xs) (filter_out low xs))
+    (grind (arith, none_wanted, filter_out))
     ∙ append-nil (filter wanted (rising member_place place_cmp (filter low xs)))
 
 -- the last lines
@@ -106,9 +95,7 @@ wanted_high wanted low lower passes xs =
   where
     filter_in : (us : List Member) → AllByRecursion (λ m. low m ≡ true) (filter low us)
     filter_in [] = tt
-    filter_in (u ∷ us) = (elim (low u) as (λ b. low u ≡ b
-        → AllByRecursion (λ y. low y ≡ true) (cond b (u ∷ filter low us) (filter low us)))
-        [ true ↦ (λ e. (e, filter_in us)) | false ↦ (λ e. filter_in us) ]) refl
+    filter_in (u ∷ us) = grind (arith, filter_in us)
 
 -- ---- one source
 
@@ -118,9 +105,8 @@ members_are limit [] [] e = refl
 members_are limit [] (m ∷ ms) e = cc
 members_are limit (l ∷ ls) [] e = cc
 members_are limit (l ∷ ls) (m ∷ ms) e =
-    let here : line_entry limit l ≡ Some m = cc in
     let rest : map (line_entry limit) ls ≡ map Some ms = cc in
-    ap₂ (λ u v. u ∷ v) (ap (λ o. unwrap_or o no_member) here) (members_are limit ls ms rest)
+    grind (arith, members_are limit ls ms rest)
 
 module _ (limit : ℕ) (past : List ℕ → Bool) (upward : IsUpward past) where
   -- the key doesn't lie past the range
@@ -128,8 +114,7 @@ module _ (limit : ℕ) (past : List ℕ → Bool) (upward : IsUpward past) where
   stays m = not (past m.values.key)
 
   later_past : (m k : Member) → past m.values.key ≡ true → Upto (member_pair m) (member_pair k) → stays k ≡ false
-  later_past m k h u = ap not
-      (upward m.values.key k.values.key h (then_gt _ (slice_cmp nat_cmp m.values.stamp k.values.stamp) u))
+  later_past m k h u = grind arith
 
   pub stays_lower : IsLower member_place place_cmp stays
   stays_lower x y h k = place_below x y
@@ -143,7 +128,7 @@ module _ (limit : ℕ) (past : List ℕ → Bool) (upward : IsUpward past) where
       less : slice_cmp nat_cmp x.values.key y.values.key ≡ Less
       less = elim (cases_Bool (is_gt (slice_cmp nat_cmp y.values.key x.values.key))) [
         | inl g ↦ nat_list_cmp_total.antisymm x.values.key y.values.key ∙ ap ordering_reverse (gt_is _ g)
-        | inr g ↦ absurd (true≢false (sym (upward y.values.key x.values.key (not-false _ k) g) ∙ not-true _ h))
+        | inr g ↦ grind arith
       ]
 
   -- which lines were come to
@@ -158,13 +143,7 @@ module _ (limit : ℕ) (past : List ℕ → Bool) (upward : IsUpward past) where
     read_is : (before tail ms : List Member) → ms ≡ before ++ tail → AllByRecursion (λ m. upto m ≡ true) before
         → AllByRecursion (λ m. is_read m ≡ false) tail
         → filter is_read ms ≡ filter stays before
-    read_is before tail ms e h k =
-        ap (filter is_read) e ∙ filter-append is_read before tail
-        ∙ ap₂ (λ u v. u ++ v)
-        (filter_same is_read stays before
-        (each_weaker (λ (m : Member) (q : upto m ≡ true). ap (λ b. b && stays m) q) before h))
-        (filter_none is_read tail k)
-        ∙ append-nil (filter stays before)
+    read_is before tail ms e h k = grind (arith, filter-append, filter_same, each_weaker, filter_none, append-nil)
 
     -- the first line of the rest isn't read, and so none
     rest_unread : (before : List Member) (m : Member) (rest ms : List Member) → ms ≡ before ++ m ∷ rest
@@ -173,9 +152,7 @@ module _ (limit : ℕ) (past : List ℕ → Bool) (upward : IsUpward past) where
         → AllByRecursion (λ m. is_read m ≡ false) (m ∷ rest)
     rest_unread before m rest ms e falls f = (
       f m (upto_itself (member_pair m)),
-      each_weaker
-          (λ (k : Member) (u : Upto (member_pair m) (member_pair k)). f k u) rest
-          (falls_after before m rest (subst (NeverFalls member_pair pair_cmp) e falls)),
+      grind (arith, each_weaker, falls_after),
     )
 
     head_read : (before all ms rest : List Member) (left : List (List ℕ)) (ws : List Member) (progress : Progress)
@@ -184,19 +161,10 @@ module _ (limit : ℕ) (past : List ℕ → Bool) (upward : IsUpward past) where
         → AllByRecursion (λ m. upto m ≡ true) before → filter is_read ms ≡ filter stays before
     head_read before all ms rest left ws Due settled waits h e falls end late each = absurd (settled refl)
     head_read before all ms rest left ws Waiting settled waits h e falls end late each =
-        let m = waits.0 in
-        let first : IsLate m = (subst (AllByRecursion IsLate) waits.1 late).0 in
-        let cut : ms ≡ before ++ m ∷ rest = e ∙ ap (λ l. l ++ rest) (h.0 ∙ ap (λ l. before ++ l) waits.1)
-        ∙ append_assoc before (m ∷ []) rest in
-        read_is before (m ∷ rest) ms cut each
-        (rest_unread before m rest ms cut falls (λ k u. ap (λ b. b && stays k) (first k u)))
+        grind (arith, append_assoc, read_is, rest_unread)
     head_read before all ms rest left ws Past settled waits h e falls end late each =
-        let m = h.0 in
-        let cut : ms ≡ before ++ m ∷ rest = e ∙ ap (λ l. l ++ rest) h.1 ∙ append_assoc before (m ∷ []) rest in
-        read_is before (m ∷ rest) ms cut each
-        (rest_unread before m rest ms cut falls (λ k u. false_right (upto k) (stays k) (later_past m k h.2 u)))
-    head_read before all ms rest left ws Ended settled waits h e falls end late each =
-        read_is before [] ms (e ∙ ap₂ (λ u v. u ++ v) h.0 (end h.1)) each tt
+        grind (arith, append_assoc, read_is, rest_unread, false_right, later_past)
+    head_read before all ms rest left ws Ended settled waits h e falls end late each = grind (arith, read_is)
 
     -- Of the lines from the start on, those that were come to are those that are done
     pub fed_read : (t : List ℕ) (extent : ℕ) (f : Feed) (ws ms : List Member) → Fed limit past (Some t) extent f ws

@@ -1,9 +1,7 @@
 -- What was taken of sources of any bytes, beside the lines that were read of them.
-use Rattle.std.specs.List.{AllZip}
-use Rattle.std.proofs.Common.{◌≡◌, ◌⊎◌, inl, inr, ℕ, ◌+◌, List, [], ◌∷◌, ◌++◌, length, take, drop, map, filter, Bool}
-use Rattle.std.proofs.Common.{true, not, Option, Some, refl, sym, ap, ap₂, ◌∙◌, subst, arith, take-append-drop}
-use Rattle.std.proofs.Common.{append_assoc}
-use Rattle.std.specs.List.{AllByRecursion, sum}
+use Rattle.std.specs.List.{AllZip, AllByRecursion, sum}
+use Rattle.std.proofs.Common.{◌≡◌, ◌⊎◌, inl, inr, ℕ, ◌+◌, List, [], ◌∷◌, ◌++◌, length, drop, map, filter, Bool, true}
+use Rattle.std.proofs.Common.{not, Option, Some, refl, sym, ap, ◌∙◌, subst, arith, take-append-drop, append_assoc}
 use Rattle.std.proofs.lemmas.List.{length-map}
 use Rattle.std.proofs.lemmas.List.Elements.{filter-append}
 use Rattle.std.proofs.lemmas.List.Sums.{sum_by-cons}
@@ -37,7 +35,7 @@ module _ (limit : ℕ) (past : List ℕ → Bool) where
       → (rest ≡ []) ⊎ ((earlier : List Member) × (last : Member) × (all ≡ earlier ++ last ∷ [])
       × (past last.values.key ≡ true))
   head_ended Due before all rest ws settled waits none h = absurd (settled refl)
-  head_ended Waiting before all rest ws settled waits none h = absurd (let e = waits.1 in cc)
+  head_ended Waiting before all rest ws settled waits none h = cc
   head_ended Past before all rest ws settled waits none h = inr (before, h.0, h.1, h.2)
   head_ended Ended before all rest ws settled waits none h = inl h.1
 
@@ -45,15 +43,11 @@ module _ (limit : ℕ) (past : List ℕ → Bool) where
       → IsSettled f → (whole ≡ true → ws ≡ []) → IsPart limit past whole t (given limit t f.cursor)
   part_is t extent f ws whole fed settled none =
       let told = fed.told t refl in
-      let from = lines (drop f.cursor.start t) in
       record {
         before = told.begins.0;
         read = read_lines t f.cursor;
         after = lines (drop f.cursor.at t);
-        cut = told.begins.1.0
-            ∙ ap (λ ls. told.begins.0 ++ ls) (sym (take-append-drop f.cursor.count from)
-            ∙ ap (λ ls. take f.cursor.count from ++ ls) (sym (fed.stands.rest t refl)))
-            ∙ sym (append_assoc told.begins.0 (read_lines t f.cursor) (lines (drop f.cursor.at t)));
+        cut = grind (arith, take-append-drop, append_assoc);
         run = told.run;
         ended = λ e. head_ended f.progress (done limit t f) (given limit t f.cursor) (lines (drop f.cursor.at t)) ws
             settled fed.waits (none e) told.head;
@@ -74,8 +68,7 @@ module _ (limit : ℕ) (past : List ℕ → Bool) {S : Type 0} (text : S → Opt
   parts_are n (s ∷ ss) (f ∷ fs) [] whole same known fed settled none = absurd known
   parts_are n (s ∷ ss) (f ∷ fs) (t ∷ ts) whole same known fed settled none = (
     subst (λ o. IsPart limit past whole t (given limit (text_or o) f.cursor)) (sym known.0)
-        (part_is limit past t (extent s) f (waits_of n ws) whole
-        (subst (λ o. Fed limit past o (extent s) f (waits_of n ws)) known.0 fed.0) settled.0
+        (part_is limit past t (extent s) f (waits_of n ws) whole (grind arith) settled.0
         (λ e. ap (waits_of n) (none e))),
     parts_are (n + 1) ss fs ts whole (omega arith) known.1 fed.1 settled.1 none,
   )
@@ -117,9 +110,8 @@ module _ (limit : ℕ) (past : List ℕ → Bool) {S : Type 0} (text : S → Opt
         given_read limit past upward upto t (extent s) f (waits_of n ws)
         (subst (λ o. Fed limit past o (extent s) f (waits_of n ws)) (is_told (text s) told.0) fed.0) settled.0
         (late_of limit past upward upto text extent ws late n) cut.0 in
-        filter-append (is_read limit past upward upto) (given limit t f.cursor) (all_lines (parts limit text ss fs))
-        ∙ ap₂ (λ u v. u ++ v) here (parts_read (n + 1) ss fs (omega arith) told.1 fed.1 settled.1 cut.1)
-        ∙ sym (filter-append (stays limit past upward) first others)
+        grind (arith, filter-append, is_read, stays, parts_read (n + 1) ss fs (omega arith) told.1 fed.1 settled.1
+        cut.1)
 
 -- ---- where a merge came to
 
@@ -129,7 +121,7 @@ module _ {S : Type 0} (text : S → Option (List ℕ)) (extent gave : S → ℕ)
     (reached : Reached limit text past extent gave ss0 fs0 ss fs ws b taken) (told : AreTold text ss0)
     (wanted : Member → Bool) (within : (m : Member) → wanted m ≡ true → not (past m.values.key) ≡ true) where
   told_now : AreTold text ss
-  told_now = told_moved text extent gave ss0 ss fs0 fs reached.ready.same reached.moved told
+  told_now = grind (arith, told_moved)
 
   handed : (taken ≡ rising member_place place_cmp (all_done limit text ss fs))
       × AllByRecursion (λ m. IsUpto b (member_pair m)) (all_done limit text ss fs)
@@ -139,8 +131,7 @@ module _ {S : Type 0} (text : S → Option (List ℕ)) (extent gave : S → ℕ)
       → AllByRecursion (λ m. upto m ≡ true) (all_done limit text ss fs)
       → filter (is_read limit past upward upto) (all_lines (parts limit text ss fs))
       ≡ filter (stays limit past upward) (all_done limit text ss fs)
-  read upto late each = parts_read limit past text extent ws upward upto late 0 ss fs reached.ready.same told_now
-      reached.ready.fed reached.settled each
+  read upto late each = grind (arith, parts_read, told_now)
 
   -- what was taken is a front of what is wanted of the lines that were read
   pub parts_first : TakenFirst wanted b (collection (parts limit text ss fs)) taken

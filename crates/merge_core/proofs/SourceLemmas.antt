@@ -1,7 +1,7 @@
 -- The lines that were taken of sources are lines of theirs.
+use Rattle.std.proofs.Common.{arith, ◌≡◌, ◌⊎◌, inl, inr, ℕ, zero, suc, ◌+◌, ◌-◌, List, [], ◌∷◌, ◌++◌, length, take}
+use Rattle.std.proofs.Common.{drop, map, zip, Bool, true, Option, None, Some, refl, sym, ◌∙◌, subst}
 use Rattle.std.proofs.lemmas.Slice.Zip.{AllZip-long}
-use Rattle.std.proofs.Common.{◌≡◌, ◌⊎◌, inl, inr, ℕ, zero, suc, ◌+◌, ◌-◌, List, [], ◌∷◌, ◌++◌, length, take, drop, map}
-use Rattle.std.proofs.Common.{zip, Bool, true, Option, None, Some, refl, sym, ◌∙◌, subst}
 use Rattle.std.specs.List.{AllByRecursion}
 use Rattle.std.specs.Option.{is_some}
 use Rattle.cdxj_places.specs.Pairs.{Pair}
@@ -18,7 +18,7 @@ use Rattle.merge_core.specs.Gathering.{AreTold, text_or, all_done}
 use Rattle.merge_core.specs.Reached.{Reached}
 use Rattle.merge_core.specs.SourceLines.{HasEntry, IsLineIn, IsLineOf, AreLinesOf}
 use Rattle.merge_core.proofs.Filters.{each_take}
-use Rattle.merge_core.proofs.Many.{Move, is_told, told_moved, length_zip}
+use Rattle.merge_core.proofs.Many.{Move, told_moved, length_zip}
 use Rattle.merge_core.proofs.WholeLemmas.{texts_kept}
 
 in_take : {X : Type 0} (x : X) (n : ℕ) (xs : List X) → IsIn x (take n xs) → IsIn x xs
@@ -73,8 +73,7 @@ module _ (limit : ℕ) where
         let t = text_or (text s) in
         each_join (IsLineOf limit (map text (s ∷ ss))) (done limit t f) (all_done limit text ss fs)
         (each_weaker (λ (m : Member) (h : IsLineIn limit t m). first_source (text s) (map text ss) m h) (done limit t f)
-        (done_lines past t (extent s) f (waits_of n ws)
-        (subst (λ o. Fed limit past o (extent s) f (waits_of n ws)) (is_told (text s) told.0) fed.0)))
+        (done_lines past t (extent s) f (waits_of n ws) (grind arith)))
         (each_weaker (λ (m : Member) (h : IsLineOf limit (map text ss) m). later_source (text s) (map text ss) m h)
         (all_done limit text ss fs) (all_lines_of past (n + 1) ss fs ws told.1 fed.1))
 

@@ -1,11 +1,10 @@
 -- How far sources were read.
 use Rattle.std.proofs.lemmas.List.{take-map}
-use Rattle.std.specs.List.{AllZip}
+use Rattle.std.specs.List.{AllZip, AllByRecursion}
 use Rattle.std.proofs.Common.{◌≡◌, ℕ, zero, suc, ◌+◌, ◌-◌, ◌*◌, ◌≤◌, List, [], ◌∷◌, ◌++◌, length, take, drop, map}
-use Rattle.std.proofs.Common.{flat_map, zip, get_or, set, Bool, false, Option, None, Some, refl, sym, ap, ◌∙◌, subst}
-use Rattle.std.proofs.Common.{arith, append_assoc, append-nil, take-append-drop, length-append, length-drop, drop-drop}
+use Rattle.std.proofs.Common.{flat_map, get_or, set, Bool, false, Option, None, Some, refl, sym, ap, ◌∙◌, subst, arith}
+use Rattle.std.proofs.Common.{append_assoc, append-nil, take-append-drop, length-append, length-drop, drop-drop}
 use Rattle.std.proofs.Common.{drop-set-lt, get_or-drop}
-use Rattle.std.specs.List.{AllByRecursion}
 use Rattle.std.proofs.lemmas.List.Concat.{flat_map-append}
 use Rattle.cdxj_places.specs.Pairs.{Pair}
 use Rattle.cdxj_places.specs.TextLines.{lines}
@@ -53,7 +52,6 @@ module _ (limit : ℕ) (past : List ℕ → Bool) where
       let all = read_lines t f.cursor in
       let k = f.cursor.count - held f.progress in
       let one = one_held f.progress in
-      let many = told.as_many in
       let stood = told.stood in
       let split = ap bytes_of (take-append-drop k all) in
       let parts = ap length (flat_map-append (λ (l : List ℕ). l) (take k all) (drop k all)) in
@@ -89,9 +87,8 @@ module _ (limit : ℕ) (past : List ℕ → Bool) where
         let parts = each_cut (λ m. IsUpto b (member_pair m)) (done limit (text_or (text s)) f)
         (all_done limit text ss fs) upto in (
           λ t e. read_to t (extent s) f (waits_of n ws) b
-              (subst (λ o. Fed limit past o (extent s) f (waits_of n ws)) e fed.0)
-              (subst (λ o. AllByRecursion (λ m. IsUpto b (member_pair m)) (done limit (text_or o) f)) e parts.0)
-              f.cursor refl (omega arith) (fed.0.stands.filled.most),
+              (subst (λ o. Fed limit past o (extent s) f (waits_of n ws)) e fed.0) (grind arith) f.cursor refl
+              (omega arith) (fed.0.stands.filled.most),
           are_read_to (n + 1) ss fs ws fed.1 parts.1,
         )
 
@@ -99,11 +96,7 @@ module _ (limit : ℕ) (past : List ℕ → Bool) where
     pub read_on : (ss : List S) (fs : List Feed) (i : ℕ) (s : S) (f : Feed) → AreReadTo limit past text b ss fs
         → ((t : List ℕ) → text s ≡ Some t → ReadTo limit past b t f.cursor)
         → AreReadTo limit past text b (set ss i s) (set fs i f)
-    read_on ss fs i s f h k =
-        subst (AllByRecursion (λ x. (t : List ℕ) → text x.0 ≡ Some t → ReadTo limit past b t x.1.cursor))
-        (sym (zip_set ss fs i s f))
-        (each_replaced (λ (x : S × Feed). (t : List ℕ) → text x.0 ≡ Some t → ReadTo limit past b t x.1.cursor)
-        (zip ss fs) i (s, f) h k)
+    read_on ss fs i s f h k = grind (arith, zip_set, each_replaced)
 
     -- the next line of one of them is to be read
     pub due_read : (ss : List S) (fs : List Feed) (i : ℕ) (d : Feed) → AreReadTo limit past text b ss fs
@@ -150,7 +143,7 @@ pub left_here : {X : Type 0} (old xs : List X) (i : ℕ) (d : X) → drop i xs �
 left_here {X = X} old xs i d e = sym (first xs) ∙ ap (λ l. get_or l 0 d) e ∙ first old
   where
     first : (us : List X) → get_or (drop i us) 0 d ≡ get_or us i d
-    first us = get_or-drop i us 0 d ∙ ap (λ k. get_or us k d) (let q : i + 0 ≡ i = omega arith in q)
+    first us = grind (arith, get_or-drop)
 
 pub left_after : {X : Type 0} (old xs : List X) (i : ℕ) (y : X) → drop i xs ≡ drop i old → drop (i + 1) (set xs i y)
     ≡ drop (i + 1) old

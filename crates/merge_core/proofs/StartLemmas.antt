@@ -1,8 +1,7 @@
 -- The lines that the sources have from where they are read on.
-use Rattle.std.specs.List.{AllZip}
-use Rattle.std.proofs.Common.{◌≡◌, ℕ, List, [], ◌∷◌, ◌++◌, length, map, drop, filter, zip, true, false, not, Option}
-use Rattle.std.proofs.Common.{Some, refl, sym, ap, ap₂, ◌∙◌, subst, arith}
-use Rattle.std.specs.List.{AllByRecursion}
+use Rattle.std.specs.List.{AllZip, AllByRecursion}
+use Rattle.std.proofs.Common.{◌≡◌, ℕ, List, [], ◌∷◌, ◌++◌, length, map, drop, filter, zip, not, Option, Some, refl, sym}
+use Rattle.std.proofs.Common.{ap₂, ◌∙◌, subst, arith}
 use Rattle.std.proofs.lemmas.List.{length-map, map-append}
 use Rattle.std.proofs.lemmas.List.Elements.{filter-append}
 use Rattle.cdxj_places.specs.Pairs.{Pair, pair_cmp}
@@ -10,7 +9,7 @@ use Rattle.cdxj_places.specs.Rising.{NeverFalls}
 use Rattle.cdxj_places.specs.TextLines.{lines}
 use Rattle.cdxj_places.proofs.RisingLaws.{each_weaker}
 use Rattle.cdxj_core.specs.Indexes.{IsRun, IsIndex}
-use Rattle.cdxj_core.specs.Members.{Member, member_pair, line_entry}
+use Rattle.cdxj_core.specs.Members.{Member, member_pair}
 use Rattle.source_core.specs.Search.{IsCut}
 use Rattle.merge_core.specs.declared.feed.Feed.{Feed}
 use Rattle.line_queue.specs.PairOrders.{is_low}
@@ -35,33 +34,12 @@ pub run_after : (limit : ℕ) (start : Pair) (t : List ℕ) (ms : List Member) (
     → (cut : IsCut start t ms offset)
     → IsRun limit (lines (drop offset t)) cut.high × (filter (λ m. not (is_low start m)) ms ≡ cut.high)
 run_after limit start t ms offset index cut =
-    let entries : map (line_entry limit) cut.before ++ map (line_entry limit) (lines (drop offset t)) ≡ map Some cut.low
-    ++ map Some cut.high =
-    sym (map-append (line_entry limit) cut.before (lines (drop offset t)))
-    ∙ ap (map (line_entry limit)) (sym cut.begins.0) ∙ index.entries
-    ∙ ap (map Some) cut.members_are ∙ map-append Some cut.low cut.high in (
-      record {
-        entries = after_front (map (line_entry limit) cut.before) (map (line_entry limit) (lines (drop offset t)))
-            (map Some cut.low) (map Some cut.high)
-            (length-map cut.before (line_entry limit) ∙ cut.as_many ∙ sym (length-map cut.low Some)) entries;
-        ordered = falls_back cut.low cut.high (subst (NeverFalls member_pair pair_cmp) cut.members_are index.ordered);
-      },
-      ap (filter (λ m. not (is_low start m))) cut.members_are
-          ∙ filter-append (λ m. not (is_low start m)) cut.low cut.high
-          ∙ ap₂ (λ u v. u ++ v)
-          (filter_none (λ m. not (is_low start m)) cut.low
-          (each_weaker (λ (m : Member) (e : is_low start m ≡ true). ap not e) cut.low cut.all_below))
-          (filter_all (λ m. not (is_low start m)) cut.high
-          (each_weaker (λ (m : Member) (e : is_low start m ≡ false). ap not e) cut.high cut.none_below)),
-    )
+    grind (arith, map-append, after_front, length-map, falls_back, filter-append, filter_none, each_weaker, filter_all)
 
 module _ {S : Type 0} (limit : ℕ) (text : S → Option (List ℕ)) where
   -- the lines from where the feed's source is read on are these members
   abbrev pub RunsFrom : S × Feed → List Member → Type 0
   RunsFrom x ms = (t : List ℕ) → text x.0 ≡ Some t → IsRun limit (lines (drop x.1.cursor.start t)) ms
-
-  told_once : (t u : List ℕ) (o : Option (List ℕ)) → o ≡ Some t → o ≡ Some u → t ≡ u
-  told_once t u o e f = let both : Some t ≡ Some u = sym e ∙ f in let q : t ≡ u = cc in q
 
   -- of sources that are read from where a search ended, those that aren't below the start
   pub runs_sought : (start : Pair) (ss : List S) (fs : List Feed) (texts : List (List ℕ)) (indexes : List (List Member))
@@ -80,11 +58,7 @@ module _ {S : Type 0} (limit : ℕ) (text : S → Option (List ℕ)) where
       let run = run_after limit start t i f.cursor.start are.0 here in
       let others = runs_sought start ss fs ts is (omega arith) known.1 are.1 cut.1 in (
         here.high ∷ others.0,
-        (
-          λ u e. subst (λ v. IsRun limit (lines (drop f.cursor.start v)) here.high) (told_once t u (text s) known.0 e)
-              run.0,
-          others.1,
-        ),
+        grind arith,
         filter-append (λ m. not (is_low start m)) i (all_lines is) ∙ ap₂ (λ u v. u ++ v) run.1 others.2,
       )
 

@@ -31,7 +31,7 @@ few_waits Ended ws h = omega (arith, ap length h)
 -- a line that waits is the only one
 only_waits : (p : Progress) (m : Member) (ws : List Member) → AreWaits p (m ∷ ws) → (p ≡ Waiting) × (ws ≡ [])
 only_waits Due m ws h = absurd (cc)
-only_waits Waiting m ws h = (refl, let q : ws ≡ [] = cc h.1 in q)
+only_waits Waiting m ws h = grind arith
 only_waits Past m ws h = absurd (cc)
 only_waits Ended m ws h = absurd (cc)
 
@@ -52,12 +52,9 @@ module _ (limit : ℕ) (past : List ℕ → Bool) {S : Type 0} (text : S → Opt
       → Fed limit past (text (get_or ss i a)) (extent (get_or ss i a)) (get_or fs i b) (waits_of (n + i) ws)
   fed_at n i [] fs ws a b e l h = absurd (omega arith)
   fed_at n i (s ∷ ss) [] ws a b e l h = absurd (omega arith)
-  fed_at n zero (s ∷ ss) (f ∷ fs) ws a b e l h = subst (λ k. Fed limit past (text s) (extent s) f (waits_of k ws))
-      (sym (add-zero n)) h.0
+  fed_at n zero (s ∷ ss) (f ∷ fs) ws a b e l h = grind arith
   fed_at n (suc i) (s ∷ ss) (f ∷ fs) ws a b e l h =
-      subst (λ k. Fed limit past (text (get_or ss i a)) (extent (get_or ss i a)) (get_or fs i b) (waits_of k ws))
-      (let q : (n + 1) + i ≡ n + suc i = omega arith in q)
-      (fed_at (n + 1) i ss fs ws a b (omega arith) (omega arith) h.1)
+      grind (arith, fed_at (n + 1) i ss fs ws a b (omega arith) (omega arith) h.1)
 
   -- where the waiting lines of each source stay the same
   fed_other : (n i : ℕ) (ss : List S) (fs : List Feed) (ws ws' : List WaitingLine) → i < n
@@ -65,11 +62,8 @@ module _ (limit : ℕ) (past : List ℕ → Bool) {S : Type 0} (text : S → Opt
       → AreFed limit past text extent n ss fs ws'
   fed_other n i [] fs ws ws' l same h = tt
   fed_other n i (s ∷ ss) [] ws ws' l same h = tt
-  fed_other n i (s ∷ ss) (f ∷ fs) ws ws' l same h = (
-    subst (Fed limit past (text s) (extent s) f) (sym (same n (λ e. absurd (omega arith)))) h.0,
-    fed_other (n + 1) i
-        ss fs ws ws' (omega arith) same h.1,
-  )
+  fed_other n i (s ∷ ss) (f ∷ fs) ws ws' l same
+      h = grind (arith, fed_other (n + 1) i ss fs ws ws' (omega arith) same h.1)
 
   -- one source, its feed and its waiting lines change
   pub fed_set : (n i : ℕ) (ss : List S) (fs : List Feed) (ws ws' : List WaitingLine) (s : S) (f : Feed)
@@ -79,16 +73,12 @@ module _ (limit : ℕ) (past : List ℕ → Bool) {S : Type 0} (text : S → Opt
   fed_set n i [] fs ws ws' s f same h k = tt
   fed_set n zero (x ∷ ss) [] ws ws' s f same h k = tt
   fed_set n (suc i) (x ∷ ss) [] ws ws' s f same h k = tt
-  fed_set n zero (x ∷ ss) (y ∷ fs) ws ws' s f same h k = (
-    subst (λ j. Fed limit past (text s) (extent s) f (waits_of j ws')) (add-zero n) k,
-    fed_other (n + 1) n ss fs ws
-        ws' (omega arith) (λ j q. same j (subst (λ l. j ≢ l) (sym (add-zero n)) q)) h.1,
-  )
+  fed_set n zero (x ∷ ss) (y ∷ fs) ws ws' s f same h k = grind (arith, add-zero, fed_other)
   fed_set n (suc i) (x ∷ ss) (y ∷ fs) ws ws' s f same h k =
       let e : n + suc i ≡ (n + 1) + i = omega arith in (
-        subst (Fed limit past (text x) (extent x) y) (sym (same n (λ q. absurd (omega arith)))) h.0,
+        grind arith,
         fed_set (n + 1) i ss fs ws ws' s f (λ j q. same j (subst (λ l. j ≢ l) (sym e) q)) h.1
-            (subst (λ l. Fed limit past (text s) (extent s) f (waits_of l ws')) e k),
+            (grind arith),
       )
 
   pub fed_permuted : (n : ℕ) (ss : List S) (fs : List Feed) (ws ws' : List WaitingLine) → IsPermutation ws ws'
@@ -97,7 +87,7 @@ module _ (limit : ℕ) (past : List ℕ → Bool) {S : Type 0} (text : S → Opt
   fed_permuted n (s ∷ ss) [] ws ws' p h = tt
   fed_permuted n (s ∷ ss) (f ∷ fs) ws ws' p h = (
     subst (Fed limit past (text s) (extent s) f)
-        (sym (waits_permuted n ws ws' p (few_waits f.progress (waits_of n ws) h.0.waits))) h.0,
+        (grind (arith, waits_permuted, few_waits)) h.0,
     fed_permuted (n + 1)
         ss fs ws ws' p h.1,
   )
@@ -110,7 +100,7 @@ module _ (limit : ℕ) (past : List ℕ → Bool) {S : Type 0} (text : S → Opt
       let only = only_waits f.progress m ws waits in
       let head = subst (λ (p : Progress). IsHead limit past (done limit t f) (given limit t f.cursor)
       (lines (drop f.cursor.at t)) (m ∷ ws) p) only.0 h.head in
-      let all : given limit t f.cursor ≡ done limit t f ++ m ∷ [] = head.0 ∙ ap (λ l. done limit t f ++ m ∷ l) only.1 in
+      let all : given limit t f.cursor ≡ done limit t f ++ m ∷ [] = grind arith in
       (all, done_due limit t (due f) refl ∙ all, head.1.0)
 
   pub fed_due : (text : Option (List ℕ)) (extent : ℕ) (f : Feed) (m : Member) (ws : List Member)
@@ -121,16 +111,7 @@ module _ (limit : ℕ) (past : List ℕ → Bool) {S : Type 0} (text : S → Opt
     counted = omega arith;
     told = λ t e.
         let was = h.told t e in
-        let both = due_of t f m ws h.waits was in
-        record {
-          begins = was.begins;
-          stood = was.stood;
-          as_many = was.as_many;
-          within = subst (AllByRecursion (λ (k : Member). past k.values.key ≡ false)) (sym both.1)
-              (each_join (λ (k : Member). past k.values.key ≡ false) (done limit t f) (m ∷ []) was.within (both.2, tt));
-          run = was.run;
-          head = sym (done_due limit t (due f) refl);
-        };
+        grind (arith, due_of, each_join, done_due);
   }
 
   -- the first in turn is taken out
@@ -146,7 +127,7 @@ module _ (limit : ℕ) (past : List ℕ → Bool) {S : Type 0} (text : S → Opt
     inside_feeds = placed_all.0
 
     pub inside_sources : w.source < length ss
-    inside_sources = let e = ready.same in let l = placed_all.0 in omega arith
+    inside_sources = let l = placed_all.0 in omega arith
 
     fed_all : AreFed limit past text extent 0 ss fs (w ∷ ws)
     fed_all = fed_permuted 0 ss fs ws0 (w ∷ ws) p ready.fed
@@ -154,10 +135,7 @@ module _ (limit : ℕ) (past : List ℕ → Bool) {S : Type 0} (text : S → Opt
     pub fed_here : Fed limit past (text (get_or ss w.source a)) (extent (get_or ss w.source a)) (get_or fs w.source b)
         (w.member ∷ waits_of w.source ws)
     fed_here = subst (Fed limit past (text (get_or ss w.source a)) (extent (get_or ss w.source a))
-        (get_or fs w.source b))
-        (ap (λ n. waits_of n (w ∷ ws)) (let q : 0 + w.source ≡ w.source = omega arith in q)
-        ∙ waits_here w.source w ws refl)
-        (fed_at 0 w.source ss fs (w ∷ ws) a b ready.same inside_sources fed_all)
+        (get_or fs w.source b)) (grind arith) (fed_at 0 w.source ss fs (w ∷ ws) a b ready.same inside_sources fed_all)
 
     pub none_left : waits_of w.source ws ≡ []
     none_left = (only_waits (get_or fs w.source b).progress w.member (waits_of w.source ws) fed_here.waits).1
@@ -212,7 +190,7 @@ module _ (limit : ℕ) (past : List ℕ → Bool) {S : Type 0} (text : S → Opt
           (fed_at 0 i ss fs ws a b ready.same inside ready.fed).waits)
 
       same_lengths : length (set ss i s) ≡ length (set fs i f)
-      same_lengths = length-set ss i s ∙ ready.same ∙ sym (length-set fs i f)
+      same_lengths = grind (arith, length-set)
 
       placed_still : AllByRecursion (λ (v : WaitingLine). v.source < length (set fs i f)) ws
       placed_still = subst (λ n. AllByRecursion (λ (v : WaitingLine). v.source < n) ws) (sym (length-set fs i f))
@@ -220,13 +198,7 @@ module _ (limit : ℕ) (past : List ℕ → Bool) {S : Type 0} (text : S → Opt
 
       pub drained_ready : Fed limit past (text s) (extent s) f []
           → Ready limit past text extent (set ss i s) (set fs i f) ws
-      drained_ready fed = record {
-        same = same_lengths;
-        placed = placed_still;
-        fed = fed_set 0 i ss fs ws ws s f (λ j q. refl) ready.fed
-            (subst (Fed limit past (text s) (extent s) f) (sym none_waits_here
-            ∙ ap (λ n. waits_of n ws) (let q : i ≡ 0 + i = omega arith in q)) fed);
-      }
+      drained_ready fed = grind (arith, same_lengths, placed_still, fed_set, none_waits_here)
 
       pub refilled_ready : (w : WaitingLine) (ws' : List WaitingLine) → w.source ≡ i → IsPermutation (w ∷ ws) ws'
           → Fed limit past (text s) (extent s) f (w.member ∷ [])
@@ -237,17 +209,14 @@ module _ (limit : ℕ) (past : List ℕ → Bool) {S : Type 0} (text : S → Opt
           record {
             same = same_lengths;
             placed = each_permuted (λ (v : WaitingLine). v.source < length (set fs i f)) (w ∷ ws) ws' p
-                (let l = ready.same in omega (arith, length-set fs i f, e), placed_still);
+                (omega (arith, length-set fs i f, e), placed_still);
             fed = fed_permuted 0 (set ss i s) (set fs i f) (w ∷ ws) ws' p
-                (fed_set 0 i ss fs ws (w ∷ ws) s f (λ j q. waits_other j w ws (λ h. absurd (omega arith))) ready.fed
-                (subst (Fed limit past (text s) (extent s) f)
-                (sym here ∙ ap (λ n. waits_of n (w ∷ ws)) (let q : i ≡ 0 + i = omega arith in q)) fed));
+                (grind (arith, fed_set, waits_other));
           }
 
       pub due_fed : Fed limit past (text (get_or ss i a)) (extent (get_or ss i a)) (get_or fs i b) []
       due_fed = subst (Fed limit past (text (get_or ss i a)) (extent (get_or ss i a)) (get_or fs i b))
-          (ap (λ n. waits_of n ws) (let q : 0 + i ≡ i = omega arith in q) ∙ none_waits_here)
-          (fed_at 0 i ss fs ws a b ready.same inside ready.fed)
+          (grind (arith, none_waits_here)) (fed_at 0 i ss fs ws a b ready.same inside ready.fed)
 
       module _ {B : Type 0} (value : B → Member) (ws' : List WaitingLine) where
         abbrev pub Waited : Option B → Type 0
@@ -256,13 +225,12 @@ module _ (limit : ℕ) (past : List ℕ → Bool) {S : Type 0} (text : S → Opt
         pub waited_ready : (o : Option B) → Waited o
             → Fed limit past (text s) (extent s) f (option_list (option_map value o))
             → Ready limit past text extent (set ss i s) (set fs i f) ws'
-        waited_ready None e fed = subst (Ready limit past text extent (set ss i s) (set fs i f)) (sym e)
-            (drained_ready fed)
+        waited_ready None e fed = grind (arith, drained_ready)
         waited_ready (Some x) p fed = refilled_ready (record { member = value x; source = i }) ws' refl p fed
 
         pub waited_length : (o : Option B) → Waited o
             → length ws' ≡ length ws + length (option_list (option_map value o))
-        waited_length None e = (let h = ap length e in omega arith)
+        waited_length None e = grind arith
         waited_length (Some x) p =
             (let w : WaitingLine = record { member = value x; source = i } in
             let h = length_permutation (w ∷ ws) ws' p in

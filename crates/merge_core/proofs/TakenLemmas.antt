@@ -1,11 +1,11 @@
 -- What was taken of lines, beside all that is wanted of them.
-use Rattle.std.proofs.lemmas.Bool.{and_cases, not-false, not-true}
-use Rattle.std.proofs.Common.{◌≡◌, inl, inr, ℕ, List, [], ◌∷◌, ◌++◌, filter, Bool, true, false, not, ◌&&◌, Option, None}
-use Rattle.std.proofs.Common.{Some, refl, sym, ap, ◌∙◌, subst, append-nil, is_gt, is_lt, Less, Equal, Greater, Ordering}
+use Rattle.std.proofs.Common.{arith, ◌≡◌, inl, inr, ℕ, List, [], ◌∷◌, ◌++◌, filter, Bool, true, false, not, ◌&&◌}
+use Rattle.std.proofs.Common.{Option, None, Some, refl, sym, ap, ◌∙◌, subst, append-nil, is_gt, is_lt, Less, Equal}
+use Rattle.std.proofs.Common.{Greater, Ordering}
+use Rattle.std.proofs.lemmas.Bool.{and_cases, not-false, not-true, true≢false}
 use Rattle.std.specs.List.{AllByRecursion}
 use Rattle.merge_core.proofs.Filters.{filter_out, each_filter}
 use Rattle.std.specs.Ordering.{ordering_reverse}
-use Rattle.std.proofs.lemmas.Bool.{true≢false}
 use Rattle.std.proofs.lemmas.List.Elements.{filter-append}
 use Rattle.cdxj_places.specs.Pairs.{Pair, pair_cmp}
 use Rattle.cdxj_places.specs.Places.{place_cmp}
@@ -46,7 +46,7 @@ bound_above (Some p) m h = gt_back (member_pair m) p (not-false _ h)
 
 bound_lower : (b : Option Pair) (x y : Member) → upto_bound b x ≡ true → upto_bound b y ≡ false
     → Below (member_pair x) (member_pair y)
-bound_lower None x y h k = absurd (true≢false (sym h))
+bound_lower None x y h k = cc
 bound_lower (Some p) x y h k = then_below (member_pair x) p (member_pair y) (not-true _ h)
     (gt_back (member_pair y) p (not-false _ k))
 
@@ -80,28 +80,16 @@ module _ (limit : ℕ) (past : List ℕ → Bool) (upward : IsUpward past) (want
       → AllByRecursion (λ m. upto m ≡ true) done
       → seen all ≡ filter wanted taken ++ seen (filter (λ m. not (low upto m)) all)
   split upto lower late each =
-      let is_lower : IsLower member_place place_cmp (low upto) = λ x y h k.
-      elim (and_cases (upto y) (not (past y.values.key)) k) [
-        | inl e ↦ place_below x y (lower x y (and_left (upto x) _ h) e)
-        | inr e ↦ stays_lower limit past upward x y (and_right (upto x) _ h) e
-      ] in
+      let is_lower : IsLower member_place place_cmp
+      (low upto) = grind (arith, and_cases, place_below, and_left, stays_lower, and_right) in
       ap (filter wanted) (rising_split member_place place_cmp place_cmp_total (low upto) is_lower all)
       ∙ filter-append wanted (rising member_place place_cmp (filter (low upto) all))
       (rising member_place place_cmp (filter (λ m. not (low upto m)) all))
-      ∙ ap (λ l. l ++ seen (filter (λ m. not (low upto m)) all))
-      (ap seen (read upto late each)
-      ∙ sym (wanted_low wanted (stays limit past upward) (stays_lower limit past upward) within done)
-      ∙ ap (filter wanted) (sym taken_is))
+      ∙ ap (λ l. l ++ seen (filter (λ m. not (low upto m)) all)) (grind (arith, wanted_low, stays, stays_lower))
 
   rest_above : (m : Member) → (low (upto_bound b) m ≡ false) × (wanted m ≡ true) → (wanted m ≡ true)
       × IsAbove b (member_pair m)
-  rest_above m h = (
-    h.1,
-    elim (and_cases (upto_bound b m) (not (past m.values.key)) h.0) [
-      | inl e ↦ bound_above b m e
-      | inr e ↦ absurd (true≢false (sym (within m h.1) ∙ e))
-    ],
-  )
+  rest_above m h = grind (arith, and_cases, bound_above, true≢false)
 
   -- it is a front of what is wanted
   pub taken_first : TakenFirst wanted b (rising member_place place_cmp all) taken
@@ -109,8 +97,7 @@ module _ (limit : ℕ) (past : List ℕ → Bool) (upward : IsUpward past) (want
       let others = filter (λ m. not (low (upto_bound b) m)) all in (
         seen others,
         split (upto_bound b) (bound_lower b)
-            (each_weaker (λ (w : WaitingLine) (h : IsAbove b (waiting_pair w)). λ k u. bound_late b w.member k h u) ws
-            above)
+            (grind (arith, each_weaker, bound_late))
             (each_weaker (λ (m : Member) (h : IsUpto b (member_pair m)). bound_upto b m h) done below),
         each_weaker rest_above (seen others)
             (each_filter (λ m. low (upto_bound b) m ≡ false) wanted (rising member_place place_cmp others)
@@ -164,8 +151,7 @@ module _ (limit : ℕ) (past : List ℕ → Bool) (upward : IsUpward past) (want
               (from_not_below (member_pair y) next k))
               (each_weaker (λ (w : WaitingLine) (h : Upto next (waiting_pair w)). λ k u. not_low k
               (upto_upto next (member_pair w.member) (member_pair k) h u)) ws least)
-              (each_weaker (λ (m : Member) (h : Below (member_pair m) next). ap is_lt h) done
-              (below_next b next later done below)),
+              (grind (arith, each_weaker, is_lt, below_next)),
           each_weaker from_next (seen others)
               (each_filter (λ m. low (is_low next) m ≡ false) wanted (rising member_place place_cmp others)
               (each_rising member_place place_cmp place_cmp_total (λ m. low (is_low next) m ≡ false) others

@@ -1,18 +1,15 @@
 -- Sources of which all lines were read: each that tells its bytes is an index, and all its lines are done.
-use Rattle.std.specs.List.{AllZip}
-use Rattle.std.proofs.Common.{◌≡◌, ℕ, ◌+◌, ◌≤◌, List, [], ◌∷◌, length, take, drop, map, Bool, false, true, Option, Some}
-use Rattle.std.proofs.Common.{◌++◌, flat_map, zip, refl, sym, ap, ap₂, ◌∙◌, subst, arith, length-drop}
-use Rattle.std.specs.List.{AllByRecursion}
+use Rattle.std.specs.List.{AllZip, AllByRecursion}
+use Rattle.std.proofs.Common.{◌≡◌, ℕ, ◌+◌, ◌≤◌, List, [], ◌∷◌, length, drop, map, Bool, false, true, Option, Some, ◌++◌}
+use Rattle.std.proofs.Common.{flat_map, zip, refl, sym, ap, ◌∙◌, subst, arith, length-drop}
 use Rattle.std.specs.Option.{is_some}
-use Rattle.std.proofs.lemmas.Bool.{true≢false}
 use Rattle.std.proofs.lemmas.List.{take_all}
-use Rattle.cdxj_places.specs.TextLines.{lines}
 use Rattle.cdxj_core.specs.Members.{Member}
-use Rattle.cdxj_core.specs.Indexes.{IsRun, IsIndex}
+use Rattle.cdxj_core.specs.Indexes.{IsIndex}
 use Rattle.merge_core.specs.declared.feed.Progress.{Progress}
 use Rattle.merge_core.specs.declared.feed.Progress.TheVariants.{Due, Waiting, Past, Ended}
 use Rattle.merge_core.specs.declared.feed.Feed.{Feed}
-use Rattle.merge_core.specs.Feeds.{AreWaits, IsHead, IsSettled, AreSettled, Fed, AreFed, read_lines, given, done}
+use Rattle.merge_core.specs.Feeds.{AreWaits, IsHead, IsSettled, AreSettled, Fed, AreFed, done}
 use Rattle.merge_core.specs.Gathering.{text_or, all_done}
 use Rattle.merge_core.proofs.Many.{Move}
 
@@ -25,22 +22,13 @@ module _ (limit : ℕ) (past : List ℕ → Bool) (never : (key : List ℕ) → 
       → IsHead limit past before all rest [] p → (all ≡ before) × (rest ≡ [])
   ended Due before all rest s w h = absurd (s refl)
   ended Waiting before all rest s w h = cc
-  ended Past before all rest s w h = absurd (true≢false (sym h.2 ∙ never h.0.values.key))
+  ended Past before all rest s w h = grind arith
   ended Ended before all rest s w h = h
 
   -- then its source is an index
   index_read : (t : List ℕ) (extent : ℕ) (f : Feed) → f.cursor.start ≡ 0 → IsSettled f
       → Fed limit past (Some t) extent f [] → IsIndex limit t (done limit t f)
-  index_read t extent f zero_start s fed =
-      let told = fed.told t refl in
-      let end = ended f.progress (done limit t f) (given limit t f.cursor) (lines (drop f.cursor.at t)) s fed.waits
-      told.head in
-      let from : lines (drop f.cursor.start t) ≡ lines t = ap (λ n. lines (drop n t)) zero_start in
-      let rest : drop f.cursor.count (lines t) ≡ [] = ap (drop f.cursor.count) (sym from) ∙ sym (fed.stands.rest t refl)
-      ∙ end.1 in
-      let whole : read_lines t f.cursor ≡ lines t = ap (take f.cursor.count) from
-      ∙ take_all f.cursor.count (lines t) (none_left (lines t) f.cursor.count rest) in
-      subst (λ ls. IsRun limit ls (done limit t f)) whole (subst (IsRun limit (read_lines t f.cursor)) end.0 told.run)
+  index_read t extent f zero_start s fed = grind (arith, ended, take_all, none_left)
 
   module _ {S : Type 0} (text : S → Option (List ℕ)) (extent : S → ℕ) where
     -- the lines of each
@@ -58,7 +46,7 @@ module _ (limit : ℕ) (past : List ℕ → Bool) (never : (key : List ℕ) → 
     are_read n (s ∷ ss) (f ∷ fs) [] same known start settled fed = absurd known
     are_read n (s ∷ ss) (f ∷ fs) (t ∷ texts) same known start settled fed = (
       subst (λ o. IsIndex limit t (done limit (text_or o) f)) (sym known.0)
-          (index_read t (extent s) f start.0 settled.0 (subst (λ o. Fed limit past o (extent s) f []) known.0 fed.0)),
+          (index_read t (extent s) f start.0 settled.0 (grind arith)),
       are_read (n + 1) ss fs texts (omega arith) known.1 start.1 settled.1 fed.1,
     )
 
@@ -66,7 +54,7 @@ module _ (limit : ℕ) (past : List ℕ → Bool) (never : (key : List ℕ) → 
         ≡ flat_map (λ (members : List Member). members) (its_lines ss fs)
     all_lines_are [] fs = refl
     all_lines_are (s ∷ ss) [] = refl
-    all_lines_are (s ∷ ss) (f ∷ fs) = ap (λ l. done limit (text_or (text s)) f ++ l) (all_lines_are ss fs)
+    all_lines_are (s ∷ ss) (f ∷ fs) = grind (arith, all_lines_are ss fs)
 
 -- ---- what a merge keeps of sources and feeds
 
@@ -84,8 +72,8 @@ module _ {S : Type 0} (text : S → Option (List ℕ)) (extent gave : S → ℕ)
   texts_kept (s ∷ ss) [] fs fs' e e' h = absurd (omega arith)
   texts_kept (s ∷ ss) (s' ∷ ss') [] fs' e e' h = absurd (omega arith)
   texts_kept (s ∷ ss) (s' ∷ ss') (f ∷ fs) [] e e' h = absurd h
-  texts_kept (s ∷ ss) (s' ∷ ss') (f ∷ fs) (f' ∷ fs') e e' h = ap₂ (λ t ts. t ∷ ts) h.0.text_kept
-      (texts_kept ss ss' fs fs' (omega arith) (omega arith) h.1)
+  texts_kept (s ∷ ss) (s' ∷ ss') (f ∷ fs) (f' ∷ fs') e e'
+      h = grind (arith, texts_kept ss ss' fs fs' (omega arith) (omega arith) h.1)
 
   pub extents_kept : (ss ss' : List S) (fs fs' : List Feed) → length ss ≡ length fs → length ss' ≡ length ss
       → AllZip (Move text extent gave) (zip ss fs) (zip ss' fs') → map extent ss' ≡ map extent ss
@@ -94,8 +82,8 @@ module _ {S : Type 0} (text : S → Option (List ℕ)) (extent gave : S → ℕ)
   extents_kept (s ∷ ss) [] fs fs' e e' h = absurd (omega arith)
   extents_kept (s ∷ ss) (s' ∷ ss') [] fs' e e' h = absurd (omega arith)
   extents_kept (s ∷ ss) (s' ∷ ss') (f ∷ fs) [] e e' h = absurd h
-  extents_kept (s ∷ ss) (s' ∷ ss') (f ∷ fs) (f' ∷ fs') e e' h = ap₂ (λ n ns. n ∷ ns) h.0.extent_kept
-      (extents_kept ss ss' fs fs' (omega arith) (omega arith) h.1)
+  extents_kept (s ∷ ss) (s' ∷ ss') (f ∷ fs) (f' ∷ fs') e e'
+      h = grind (arith, extents_kept ss ss' fs fs' (omega arith) (omega arith) h.1)
 
   pub starts_kept : (ss ss' : List S) (fs fs' : List Feed) → length ss ≡ length fs → length ss' ≡ length fs'
       → AllZip (Move text extent gave) (zip ss fs) (zip ss' fs')

@@ -1,10 +1,9 @@
 -- Lines written one after another.
-use Rattle.std.proofs.lemmas.List.{map-append}
+use Rattle.std.proofs.lemmas.List.{map-append, map_more}
 use Rattle.std.proofs.Common.{◌≡◌, ℕ, suc, ◌+◌, ◌-◌, ◌^◌, ◌<◌, min, List, [], ◌∷◌, ◌++◌, length, get_or, take, drop}
 use Rattle.std.proofs.Common.{map, Option, sym, ap, ◌∙◌, subst, arith, append_assoc, append-nil, length-append}
 use Rattle.std.proofs.Common.{take-append-drop, drop-cons}
 use Rattle.std.specs.Io.KnownBytes.{Appends}
-use Rattle.std.proofs.lemmas.List.{map_more}
 use Rattle.std.proofs.lemmas.List.Concat.{flat_map-append}
 use Rattle.cdxj_core.specs.Members.{Member, line_row}
 use Rattle.devices.specs.Device.{AppendsPrefix}
@@ -43,8 +42,7 @@ pub wrote_more : {B : Type 0} (seen : B → Member) (start mid new : Option (Lis
 wrote_more seen start mid new taken ls k b count count' l is h row next =
     let front = taken ++ map seen (take k ls) in
     let more : taken ++ map seen (take (k + 1) ls) ≡ front ++ seen b ∷ [] =
-    ap (λ xs. taken ++ xs) (map_more seen ls k b l ∙ ap (λ x. map seen (take k ls) ++ seen x ∷ []) (sym is))
-    ∙ sym (append_assoc taken (map seen (take k ls)) (seen b ∷ [])) in
+    grind (arith, map_more, append_assoc) in
     let text : lines_text (taken ++ map seen (take (k + 1) ls)) ≡ lines_text front ++ line_row (seen b) =
     ap lines_text more ∙ flat_map-append line_row front (seen b ∷ [])
     ∙ ap (λ t. lines_text front ++ t) (append-nil (line_row (seen b))) in (

@@ -15,12 +15,4 @@ module _ (text : Option (List ℕ)) (extent : ℕ) (c : CursorState) (size : ℕ
   -- and the cursor stands behind it
   pub passed : Stands text extent
       (record { ahead = drop size c.ahead; at = c.at + size; start = c.start; count = c.count + 1 })
-  passed =
-      let begun = h.begun in
-      let some = line.some in
-      record {
-        filled = given_out text extent c.at size c.ahead h.filled line.inside;
-        begun = omega arith;
-        rest = λ t e. given_more (lines (drop c.start t)) (lines (drop c.at t)) (lines (drop (c.at + size) t))
-            (take size c.ahead) c.count (h.rest t e) (passed_line t e);
-      }
+  passed = grind (arith, given_out text extent c.at size c.ahead h.filled line.inside, given_more, passed_line)

@@ -22,7 +22,4 @@ first_at_least t held m at n at0 line bytes inside is clean ends part =
 -- the bytes of a line so far end where the line ends, or before
 pub part_of_first : (t : List ℕ) (at0 at : ℕ) (line : List ℕ) → drop at0 t ≡ line ++ drop at t → NoFeed line
     → at ≡ at0 + length line → at ≤ at0 + first_length (lines (drop at0 t))
-part_of_first t at0 at line is clean e =
-    let same = ap (λ s. first_length (lines s)) is in
-    let most = no_feed_first line (drop at t) clean in
-    omega arith
+part_of_first t at0 at line is clean e = grind (arith, no_feed_first)

@@ -1,13 +1,11 @@
 -- Indexes, cut at a pair.
 use Rattle.std.proofs.Common.{◌≡◌, ℕ, zero, suc, ◌+◌, ◌-◌, ◌*◌, ◌^◌, ◌<◌, ◌≤◌, List, [], ◌∷◌, ◌++◌, Bool, true, false}
-use Rattle.std.proofs.Common.{None, Option, not, cond, length, take, drop, flat_map, map, Some, refl, sym, ap, inl}
-use Rattle.std.proofs.Common.{inr, ◌∙◌, arith, eqb}
-use Rattle.std.proofs.Common.{length-append, length-drop, length-take, Less, Equal, Greater, is_gt, is_lt}
-use Rattle.std.specs.List.{onto_first, AllByRecursion}
-use Rattle.std.proofs.lemmas.Bool.{cases_lt, true≢false}
+use Rattle.std.proofs.Common.{None, Option, not, cond, length, take, drop, flat_map, map, Some, refl, sym, ap, ◌∙◌}
+use Rattle.std.proofs.Common.{arith, length-append, length-drop, length-take, Less, Equal, Greater, is_gt, is_lt}
+use Rattle.std.specs.List.{AllByRecursion}
+use Rattle.std.proofs.lemmas.Bool.{true≢false}
 use Rattle.std.proofs.lemmas.Grind.{flat_map-append}
 use Rattle.std.proofs.lemmas.List.{take_all}
-use Rattle.std.proofs.Math.Nat.{mul-le-mul_right}
 use Rattle.std.proofs.Math.Pow.{pow_mono}
 use Rattle.cdxj_core.specs.Lines.{body_of}
 use Rattle.cdxj_core.specs.Members.{Member, member_pair, line_entry}
@@ -25,41 +23,21 @@ use Rattle.source_core.proofs.Seeks.{from_line_rest, sought, BelowFirst}
 
 -- ---- where lines begin
 
-concat_onto : (b : ℕ) (ls : List (List ℕ)) → length (flat_map (λ l. l) (onto_first b ls))
-    ≡ suc (length (flat_map (λ l. l) ls))
-concat_onto b [] = refl
-concat_onto b (l ∷ ls) = refl
-
 lines_length : (s : List ℕ) → length (flat_map (λ l. l) (lines s)) ≡ length s
 lines_length [] = refl
-lines_length (b ∷ bs) =
-    let ih = lines_length bs in
-    elim (eqb b 10) as (λ t. length (flat_map (λ l. l) (cond t ((b ∷ []) ∷ lines bs) (onto_first b (lines bs))))
-    ≡ suc (length bs))
-    [ true ↦ ap suc ih | false ↦ concat_onto b (lines bs) ∙ ap suc ih ]
+lines_length (b ∷ bs) = grind (arith, lines_length bs)
 
 pub begins_at : (t : List ℕ) (offset : ℕ) (before : List (List ℕ)) → lines t ≡ before ++ lines (drop offset t)
     → offset ≤ length t → offset ≡ length (flat_map (λ l. l) before)
 begins_at t offset before e inside =
     let whole = lines_length t in
-    let rest = lines_length (drop offset t) in
-    let cut : length (flat_map (λ (l : List ℕ). l) (lines t))
-    ≡ length (flat_map (λ (l : List ℕ). l) before ++ flat_map (λ (l : List ℕ). l) (lines (drop offset t))) =
-    ap (λ ls. length (flat_map (λ (l : List ℕ). l) ls)) e
-    ∙ ap length (flat_map-append (λ (l : List ℕ). l) before (lines (drop offset t))) in
-    omega (
-      arith,
-      length-append (flat_map (λ (l : List ℕ). l) before)
-          (flat_map (λ (l : List ℕ). l) (lines (drop offset t))),
-      length-drop offset t,
-    )
+    grind (arith, lines_length, flat_map-append, length-append, length-drop)
 
 pub begins_there : (t : List ℕ) (offset m : ℕ) → drop offset t ≡ from_line m t → offset ≤ length t
     → (before : List (List ℕ)) × BeginsAfter t offset before
 begins_there t offset m e inside =
     let front = from_line_rest m t in
-    let cut : lines t ≡ front.0 ++ lines (drop offset t) = front.1 ∙ ap (λ s. front.0 ++ lines s) (sym e) in
-    (front.0, (cut, begins_at t offset front.0 cut inside))
+    grind (arith, begins_at)
 
 -- ---- the order of pairs
 
@@ -91,12 +69,12 @@ least_stops limit start (l ∷ ls) e = least_not_some (pair_of (take limit l))
   where
     least_not_some : (o : Option Pair) → not (is_some_below start o) ≡ true
     least_not_some None = refl
-    least_not_some (Some p) = ap not (ap (λ s. is_below s p) e ∙ none_below_least p.0 p.1)
+    least_not_some (Some p) = grind (arith, none_below_least)
 
 -- ---- the pair of a line that has an entry
 
 body_length : (b : Bool) (line : List ℕ) → length line ≤ length (cond b (take (length line - 1) line) line) + 1
-body_length true line = omega (arith, length-take (length line - 1) line)
+body_length true line = grind (arith, length-take)
 body_length false line = omega arith
 
 module _ (limit : ℕ) (start : Pair) where
@@ -124,10 +102,7 @@ module _ (limit : ℕ) (start : Pair) where
   entries_short [] ms h = omega arith
   entries_short (l ∷ ls) [] h = absurd (cc)
   entries_short (l ∷ ls) (m ∷ ms) h =
-      let ih = entries_short ls ms (same_tail l ls m ms h) in
-      let short = entry_is_short limit l m (same_head l ls m ms h) in
-      let long : length l ≤ length (body_of l) + 1 = body_length _ l in
-      omega arith
+      grind (arith, entry_is_short, body_length, entries_short ls ms (same_tail l ls m ms h))
 
   pub lines_are_short : (t : List ℕ) (ms : List Member) → IsIndex limit t ms → longest (lines t) ≤ limit
   lines_are_short t ms index = entries_short (lines t) ms index.entries
@@ -191,7 +166,7 @@ module _ (limit : ℕ) (start : Pair) where
         high = ih.high;
         members_are = ap (λ ms. m ∷ ms) ih.members_are;
         as_many = ap suc ih.as_many;
-        all_below = (sym (entry_below l m (same_head l (before ++ rest) m ms h)) ∙ low.0, ih.all_below);
+        all_below = grind (arith, entry_below);
         none_below = ih.none_below;
       }
 
@@ -201,7 +176,7 @@ module _ (limit : ℕ) (start : Pair) where
       → IsCut start t ms offset
   cut_there t ms r offset index inside from here before =
       let s = sought (line_below limit start) t r (below_first (lines t) ms index.entries index.ordered) here before in
-      let cut : lines t ≡ s.before ++ lines (drop offset t) = s.cut ∙ ap (λ u. s.before ++ lines u) (sym from) in
+      let cut : lines t ≡ s.before ++ lines (drop offset t) = grind arith in
       let parts = split s.before (lines (from_line r t)) ms (ap (map (line_entry limit)) (sym s.cut) ∙ index.entries)
       s.low s.high in
       record {
@@ -217,24 +192,10 @@ module _ (limit : ℕ) (start : Pair) where
 
 -- ---- the bytes of turns
 
-pub turns_most : (gave probes turns w : ℕ) → probes ≤ turns → gave + probes * w ≤ gave + turns * w
-turns_most gave probes turns w h = let e = mul-le-mul_right w h in omega arith
-
-pub turn_more : (g0 g1 g2 probes w : ℕ) → g1 ≤ g0 + probes * w → g2 ≤ g1 + w → g2 ≤ g0 + (probes + 1) * w
-turn_more g0 g1 g2 probes w h k =
-    let e : (probes + 1) * w ≡ probes * w + w = omega arith in
-    omega arith
-
 paid_by : (d extent n : ℕ) → extent < 2 ^ d → n ≤ 8192 → n ≤ extent → n ≤ d * 1024
 paid_by zero extent n few most inside = omega arith
-paid_by (suc d) extent n few most inside = elim (cases_lt d 7) [
-  | inl l ↦ (let p : 2 ^ suc d ≤ 2 ^ 7 = pow_mono {i = suc d} {j = 7} (omega arith) in omega arith)
-  | inr l ↦ omega arith
-]
+paid_by (suc d) extent n few most inside = grind (arith, pow_mono)
 
 -- what is read at once of a source is no more than half of what its turns may read
 pub few_are_paid : (extent n : ℕ) → n ≤ 8192 → n ≤ extent → n ≤ digits extent * 1024
 few_are_paid extent n most inside = paid_by (digits extent) extent n (digits_below extent).0 most inside
-
-pub turns_paid : (turns long : ℕ) → turns * (2 * long + 1024) + turns * 1024 ≡ turns * (2 * long + 2048)
-turns_paid turns long = omega arith

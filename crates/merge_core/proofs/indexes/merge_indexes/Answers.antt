@@ -20,7 +20,6 @@ use Rattle.merge_core.specs.Feeds.{AreFed}
 use Rattle.merge_core.specs.Reached.{Reached}
 use Rattle.merge_core.specs.Written.{lines_text}
 use Rattle.merge_core.specs.SourceLines.{AreLinesOf}
-use Rattle.merge_core.proofs.FailLemmas.{counts_merge, raised_by_read}
 use Rattle.merge_core.proofs.ReadLemmas.{sought_first}
 use Rattle.source_core.proofs.SortedCuts.{none_below_least}
 use Rattle.merge_core.proofs.SourceLemmas.{taken_lines}
@@ -56,8 +55,7 @@ front g c ss fs ws b taken reached old new p texts indexes known are =
     ws b taken opened.ready.same reached texts indexes (subst (λ l. Known l texts) (sym opened.text) known) are
     (λ m. true) (λ m e. refl) ([], []) opened.cut
     (λ m e. none_below_least (member_pair m).0 (member_pair m).1) in
-    let whole : collection indexes ≡ taken ++ first.0 = sym (filter_every (collection indexes)) ∙ first.1
-    ∙ ap (λ l. l ++ first.0) (filter_every taken) in
+    let whole : collection indexes ≡ taken ++ first.0 = grind (arith, filter_every) in
     subst (AppendsPrefix old new) (sym (ap lines_text whole ∙ flat_map-append line_row taken first.0))
     (prefix_longer old new (lines_text taken) (lines_text first.0) p)
 
@@ -67,12 +65,10 @@ lines : (g : Over) (c : After-merge g) (ss : List g.row.S.Denot) (fs : List Feed
     → AreLinesOf LINE_LIMIT (map g.S.Source.text c.args.sources.now) taken
 lines g c ss fs ws b taken reached =
     let opened = c.in_ok-opened.ensures in
-    subst (λ ts. AreLinesOf LINE_LIMIT ts taken) opened.text
-    (taken_lines LINE_LIMIT g.S.Source.text g.S.Source.extent never g.S.Source.gave c.open_at.new.sources
-    c.in_ok-opened.opened.streams.feeds.items ss fs ws b taken opened.ready.same reached)
+    subst (λ ts. AreLinesOf LINE_LIMIT ts taken) opened.text (grind (arith, taken_lines))
 
 whole : (old new : Option (List ℕ)) (text : List ℕ) → Appends old new text → AppendsPrefix old new text
-whole old new text a = subst (AppendsPrefix old new) (append-nil text) (prefix_whole old new text [] a)
+whole old new text a = grind (arith, append-nil, prefix_whole)
 
 -- all lines that were taken were written and counted
 wrote : (g : Over) (c : In_ok-merge g)
@@ -90,13 +86,12 @@ broke g c =
     let out = g.O.Output.written c.args.out.now in
     let broke = c.in_err-merge.ensures.broke in
     elim (broke.wrote c.new-writer.result out (Appends-none out, c.new-writer.ensures)) [
-      | inl k ↦ whole out (g.O.Output.written c.merge.new.out) (lines_text broke.taken) k.1.0
+      | inl k ↦ grind (arith, whole)
       | inr p ↦ p
     ]
 
 pub returns-in_err-opened-clause-part : goal.returns-in_err-opened-clause-part
-returns-in_err-opened-clause-part g c = λ texts indexes known are. wrote_nothing (g.O.Output.written c.args.out.now)
-    (lines_text (collection indexes))
+returns-in_err-opened-clause-part g c = grind (arith, wrote_nothing)
 
 pub returns-in_err-opened-clause-lines : goal.returns-in_err-opened-clause-lines
 returns-in_err-opened-clause-lines g c =
@@ -112,46 +107,25 @@ returns-in_err-merge-clause-part g c =
 
 pub returns-in_err-merge-clause-lines : goal.returns-in_err-merge-clause-lines
 returns-in_err-merge-clause-lines g c =
-    let at = goal.at.returns-in_err-merge-clause-lines g c in
     let b = c.in_err-merge.ensures.broke in
-    let p = err_from_is_err_and c.from_residual-in_err-merge.result c.from_residual-in_err-merge.ensures.1 in
-    rw p.1 ((
-      b.taken,
-      lines g at.After-merge b.sources b.streams.feeds.items b.streams.waiting b.bound b.taken b.reached,
-      broke g at.In_err-merge,
-    ))
+    grind (arith, err_from_is_err_and, lines, broke)
 
 pub returns-clause-part : goal.returns-clause-part
 returns-clause-part g c =
     let at = goal.at.returns-clause-part g c in
     let w = c.in_ok-merge.ensures.passed.so_far in
     front g at.After-merge c.merge.new.sources c.merge.new.streams.feeds.items c.merge.new.streams.waiting w.bound
-    w.taken
-    w.reached _ _
-    (whole _ (g.O.Output.written c.merge.new.out) (lines_text w.taken) (wrote g at.In_ok-merge).0)
+    w.taken w.reached _ _ (grind (arith, whole, wrote))
 
 pub returns-clause-lines : goal.returns-clause-lines
 returns-clause-lines g c =
     let at = goal.at.returns-clause-lines g c in
-    let w = c.in_ok-merge.ensures.passed.so_far in (
-      w.taken,
-      lines g at.After-merge c.merge.new.sources c.merge.new.streams.feeds.items c.merge.new.streams.waiting w.bound
-          w.taken w.reached,
-      wrote g at.In_ok-merge,
-    )
+    let w = c.in_ok-merge.ensures.passed.so_far in (w.taken, grind (arith, lines), wrote g at.In_ok-merge)
 
 -- the sources stay as they were
 kept : (g : Over) (c : After-merge g)
     → KeepsSources g.S.Source.text g.S.Source.extent c.args.sources.now c.merge.new.sources
-kept g c =
-    let text = g.S.Source.text in let extent = g.S.Source.extent in let gave = g.S.Source.gave in
-    let ss1 = c.open_at.new.sources in let fs1 = c.in_ok-opened.opened.streams.feeds.items in
-    let ss2 = c.merge.new.sources in let fs2 = c.merge.new.streams.feeds.items in
-    let opened = c.in_ok-opened.ensures in
-    let moved = c.merge.ensures.moved in (
-      texts_kept text extent gave ss1 ss2 fs1 fs2 opened.ready.same (omega arith) moved ∙ opened.text,
-      extents_kept text extent gave ss1 ss2 fs1 fs2 opened.ready.same (omega arith) moved ∙ opened.extent,
-    )
+kept g c = grind (arith, texts_kept, extents_kept)
 
 pub returns-in_err-merge-clause-kept : goal.returns-in_err-merge-clause-kept
 returns-in_err-merge-clause-kept g c = kept g (goal.at.returns-in_err-merge-clause-kept g c).After-merge
@@ -197,33 +171,15 @@ returns-clause-merged g c = λ texts known.
     }
 
 pub returns-in_err-opened-clause-failures : goal.returns-in_err-opened-clause-failures
-returns-in_err-opened-clause-failures g c =
-    let f = map g.S.Source.failures in
-    let out = g.O.Output.failures c.args.out.now in
-    let e = c.in_err-opened.field-0.0 in
-    counts_merge c.from_residual.result e (f c.args.sources.now) (f c.args.sources.now) (f c.open_at.new.sources) out
-    out out c.from_residual.ensures.1 refl refl
-    (raised_by_read e (f c.args.sources.now) (f c.open_at.new.sources) out c.in_err-opened.ensures.failures)
+returns-in_err-opened-clause-failures g c = grind arith
 
 pub returns-in_err-merge-clause-failures : goal.returns-in_err-merge-clause-failures
-returns-in_err-merge-clause-failures g c =
-    let f = map g.S.Source.failures in
-    let out = g.O.Output.failures c.args.out.now in
-    counts_merge c.from_residual-in_err-merge.result c.in_err-merge.field-0.0 (f c.args.sources.now)
-    (f c.open_at.new.sources) (f c.merge.new.sources)
-    out out (g.O.Output.failures c.merge.new.out) c.from_residual-in_err-merge.ensures.1
-    c.in_ok-opened.ensures.failures refl c.in_err-merge.ensures.failures
+returns-in_err-merge-clause-failures g c = grind arith
 
 pub returns-clause-held : goal.returns-clause-held
 returns-clause-held g c = λ texts indexes known are most share.
     let opened = c.in_ok-opened.ensures in
     let known1 = subst (λ l. Known l texts) (sym opened.text) known in
     let few = c.merge.ensures.held texts indexes known1 are most share (omega (arith, opened.held)) in
-    omega (
-      arith,
-      few,
-      ap length opened.extent,
-      length-map c.open_at.new.sources g.S.Source.extent,
-      length-map
-          c.args.sources.now g.S.Source.extent,
-    )
+    omega (arith, few, ap length opened.extent, length-map c.open_at.new.sources g.S.Source.extent,
+        length-map c.args.sources.now g.S.Source.extent)

@@ -1,7 +1,6 @@
 use Rattle.std.specs.List.{AllByRecursion, AllZip}
 use Rattle.std.proofs.Common.{arith, ◌≡◌, ℕ, ◌+◌, ◌≤◌, length, ◌∷◌, ◌++◌, [], inl, inr, Box, Global, List, Some, None}
-use Rattle.std.proofs.Common.{MatchOption, map, zip, refl, sym, ap₂, ◌∙◌, subst}
-use Rattle.std.proofs.lemmas.Bool.{true≢false}
+use Rattle.std.proofs.Common.{map, zip, refl, sym, ◌∙◌, subst}
 use Rattle.cdxj_core.specs.declared.limit.TheConstants.{LINE_LIMIT}
 use Rattle.cdxj_core.specs.declared.line.Line.{Line}
 use Rattle.cdxj_core.specs.Members.{Member, member_pair, member_place}
@@ -11,7 +10,6 @@ use Rattle.cdxj_places.specs.Places.{place_cmp}
 use Rattle.cdxj_places.specs.Rising.{rising}
 use Rattle.cdxj_places.proofs.PlaceOrder.{place_cmp_total}
 use Rattle.cdxj_places.proofs.RisingLaws.{each_rising}
-use Rattle.merge_core.specs.declared.feed.Feed.{Feed}
 use Rattle.merge_core.proofs.SpendLemmas.{are_read_to}
 use Rattle.merge_core.specs.Collections.{Known, all_lines}
 use Rattle.merge_core.specs.Counts.{ShareAtMost}
@@ -19,12 +17,11 @@ use Rattle.merge_core.specs.Gathering.{Grouped, AreTold, all_done}
 use Rattle.line_queue.specs.PairOrders.{Alike}
 use Rattle.merge_core.specs.Reached.{Reached}
 use Rattle.merge_core.specs.SourceLines.{HasEntry}
-use Rattle.merge_core.specs.LineFaults.{IsMergeFaultOf}
 use Rattle.merge_core.proofs.WholeLemmas.{texts_kept}
-use Rattle.merge_core.proofs.FailLemmas.{counts_merge, if_err, raised_by_read, raised_by_write}
+use Rattle.merge_core.proofs.FailLemmas.{if_err}
 use Rattle.merge_core.proofs.Many.{Move, moved_trans, moved_still, told_moved}
 use Rattle.merge_core.proofs.HeldLemmas.{held_most, held_after}
-use Rattle.merge_core.proofs.MergeLemmas.{above_none, below_next, handed_none, handed_next, on_err, reached_same}
+use Rattle.merge_core.proofs.MergeLemmas.{above_none, below_next, handed_none, handed_next, on_err}
 use Rattle.merge_core.specs.Feeds.{AreSettled}
 use Rattle.devices.proofs.DeviceLemmas.{grows_not}
 use Rattle.merge_core.proofs.merging.merge.Given.{Over}
@@ -45,19 +42,11 @@ taken g c = c.loop-rest.invariant.came.taken ++ rising member_place place_cmp (g
 grouped : (g : Over) (c : In-Some g) → Grouped LINE_LIMIT g.S.Source.text g.S.Source.extent c.loop-rest.sources
     c.loop-rest.streams.feeds.items c.loop-rest.streams.waiting c.gather.new.sources c.gather.new.self.feeds.items
     c.gather.new.self.waiting (member_pair c.in-Some.first.value) (group g c)
-grouped g c = subst (λ o. MatchOption o ((c.gather.new.sources ≡ c.loop-rest.sources)
-    × (c.gather.new.self.feeds.items ≡ c.loop-rest.streams.feeds.items) × (c.loop-rest.streams.waiting ≡ [])
-    × (c.gather.new.self.waiting ≡ []))
-    (λ (b : Box Line Global). Grouped LINE_LIMIT g.S.Source.text g.S.Source.extent c.loop-rest.sources
-    c.loop-rest.streams.feeds.items c.loop-rest.streams.waiting c.gather.new.sources c.gather.new.self.feeds.items
-    c.gather.new.self.waiting (member_pair b.value) (b.value ∷ values c.gather.new.rest.items)))
-    c.in-Some.is c.in_ok-first.ensures.group
+grouped g c = grind arith
 
 told : (g : Over) (c : In-Some g) → AreTold g.S.Source.text c.args.sources.now
     → AreTold g.S.Source.text c.loop-rest.sources
-told g c = told_moved g.S.Source.text g.S.Source.extent g.S.Source.gave c.args.sources.now c.loop-rest.sources
-    c.args.streams.now.feeds.items c.loop-rest.streams.feeds.items c.loop-rest.invariant.came.reached.ready.same
-    c.loop-rest.invariant.came.reached.moved
+told g c = grind (arith, told_moved)
 
 reached : (g : Over) (c : In-Some g) → AllByRecursion (HasEntry LINE_LIMIT) (group g c)
     → Reached LINE_LIMIT g.S.Source.text (g.R.Range.past c.args.range.now) g.S.Source.extent g.S.Source.gave
@@ -69,7 +58,7 @@ reached g c entries =
     record {
       ready = ok.ready;
       settled = ok.settled;
-      moved = moved_trans g.S.Source.text g.S.Source.extent g.S.Source.gave _ _ _ came.reached.moved ok.moved;
+      moved = grind (arith, moved_trans);
       above = (grouped g c).later;
       handed = handed_next LINE_LIMIT g.S.Source.text g.S.Source.extent c.args.sources.now c.loop-rest.sources
           c.gather.new.sources c.loop-rest.streams.feeds.items c.gather.new.self.feeds.items c.loop-rest.streams.waiting
@@ -81,10 +70,7 @@ reached g c entries =
 
 entries : (g : Over) (c : After-hand_on g)
     → AllByRecursion (HasEntry LINE_LIMIT) (c.in-Some.first.value ∷ values c.gather.new.rest.items)
-entries g c =
-    subst (λ m. AllByRecursion (HasEntry LINE_LIMIT) (m ∷ values c.gather.new.rest.items)) c.deref.ensures
-    (subst (λ l. AllByRecursion (HasEntry LINE_LIMIT) (c.deref.result.now ∷ values l)) c.deref-in-Some.ensures.value
-    c.hand_on.ensures.entries)
+entries g c = grind arith
 
 -- the waiting lines and the group are one line of each source, and as many as share a pair
 group_most : (g : Over) (c : In-Some g) (texts : List (List ℕ)) (indexes : List (List Member)) (most : ℕ)
@@ -110,8 +96,7 @@ group_most g c texts indexes most known are share =
 order : (g : Over) (c : After-deref-in-Some g)
     → rising member_place place_cmp (c.deref.result.now ∷ values c.deref-in-Some.result.now)
     ≡ rising member_place place_cmp (c.in-Some.first.value ∷ values c.gather.new.rest.items)
-order g c = ap₂ (λ (m : Member) (l : List (Box Line Global)). rising member_place place_cmp (m ∷ values l))
-    c.deref.ensures c.deref-in-Some.ensures.value
+order g c = cc
 
 kept : (g : Over) (c : After-put_back g) (pair : Pair) (ms : List Member)
     → Reached LINE_LIMIT g.S.Source.text (g.R.Range.past c.args.range.now) g.S.Source.extent g.S.Source.gave
@@ -120,18 +105,12 @@ kept : (g : Over) (c : After-put_back g) (pair : Pair) (ms : List Member)
     → Reached LINE_LIMIT g.S.Source.text (g.R.Range.past c.args.range.now) g.S.Source.extent g.S.Source.gave
     c.args.sources.now c.args.streams.now.feeds.items c.gather.new.sources c.put_back.new.self.feeds.items
     c.put_back.new.self.waiting (Some pair) ms
-kept g c pair ms r = reached_same _ _ _ _ _ _ _ _ _ _ _ _ _ _ _ refl c.put_back.ensures.feeds
-    c.put_back.ensures.waiting r
+kept g c pair ms r = grind arith
 
 -- the sources moved on
 moved : (g : Over) (c : After-gather g) → AllZip (Move g.S.Source.text g.S.Source.extent g.S.Source.gave)
     (zip c.args.sources.now c.args.streams.now.feeds.items) (zip c.gather.new.sources c.gather.new.self.feeds.items)
-moved g c =
-    moved_trans g.S.Source.text g.S.Source.extent g.S.Source.gave
-    (zip c.args.sources.now c.args.streams.now.feeds.items)
-    (zip c.loop-rest.sources c.loop-rest.streams.feeds.items)
-    (zip c.gather.new.sources c.gather.new.self.feeds.items)
-    c.loop-rest.invariant.came.reached.moved c.gather.ensures.moved
+moved g c = grind (arith, moved_trans)
 
 pub loop-rest-init : goal.loop-rest-init
 loop-rest-init g c = record {
@@ -144,30 +123,19 @@ loop-rest-init g c = record {
   came = record {
     bound = None;
     taken = [];
-    reached = record {
-      ready = c.requires.ready;
-      settled = c.requires.settled;
-      moved = moved_still g.S.Source.text g.S.Source.extent g.S.Source.gave
-          (zip c.args.sources.now c.args.streams.now.feeds.items);
-      above = above_none c.args.streams.now.waiting;
-      handed = handed_none LINE_LIMIT g.S.Source.text c.args.sources.now c.args.streams.now.feeds.items
-          c.requires.fresh;
-    };
+    reached = grind (arith, moved, moved_still, above_none, handed_none);
     came = λ begin start w. w;
   };
 }
 
 pub returns-in_err-first-clause-moved : goal.returns-in_err-first-clause-moved
-returns-in_err-first-clause-moved g c = moved g (goal.at.returns-in_err-first-clause-moved g c).After-gather
+returns-in_err-first-clause-moved g c = grind (arith, moved)
 
 pub returns-in_err-more-clause-moved : goal.returns-in_err-more-clause-moved
-returns-in_err-more-clause-moved g c = moved g (goal.at.returns-in_err-more-clause-moved g c).After-gather
+returns-in_err-more-clause-moved g c = grind (arith, moved)
 
 pub returns-then-not-more-clause-moved : goal.returns-then-not-more-clause-moved
-returns-then-not-more-clause-moved g c =
-    subst (λ (fs : List Feed). AllZip (Move g.S.Source.text g.S.Source.extent g.S.Source.gave)
-    (zip c.args.sources.now c.args.streams.now.feeds.items) (zip c.gather.new.sources fs))
-    (sym c.put_back.ensures.feeds) (moved g (goal.at.returns-then-not-more-clause-moved g c).After-gather)
+returns-then-not-more-clause-moved g c = grind (arith, moved)
 
 pub returns-in_err-more-clause-broke : goal.returns-in_err-more-clause-broke
 returns-in_err-more-clause-broke g c =
@@ -206,17 +174,7 @@ returns-then-not-more-clause-passed g c =
     let came = c.loop-rest.invariant.came in
     let pair = member_pair c.in-Some.first.value in
     record {
-      so_far = record {
-        bound = Some pair;
-        taken = taken g here.In-Some;
-        reached = kept g here.After-put_back pair (taken g here.In-Some)
-            (reached g here.In-Some (entries g here.After-hand_on));
-        came = λ begin start w. subst
-            (λ l. g.K.Sink.Wrote begin c.hand_on.new.sink (came.taken ++ l) start
-            (g.O.Output.written c.hand_on.new.out))
-            (order g here.After-deref-in-Some)
-            (c.in_ok-more.ensures.wrote begin came.taken start (came.came begin start w));
-      };
+      so_far = grind (arith, reached, kept, entries, order);
       last = λ e. record {
         pair = pair;
         earlier = came.taken;
@@ -267,13 +225,7 @@ loop-rest-preserved g c =
     }
 
 pub returns-in_err-first-clause-fault : goal.returns-in_err-first-clause-fault
-returns-in_err-first-clause-fault g c =
-    let text = g.S.Source.text in let extent = g.S.Source.extent in let gave = g.S.Source.gave in
-    let texts = map text c.args.sources.now in
-    let kept = texts_kept text extent gave c.args.sources.now c.loop-rest.sources c.args.streams.now.feeds.items
-    c.loop-rest.streams.feeds.items c.requires.ready.same (omega arith) c.loop-rest.invariant.came.reached.moved in
-    if_err c.from_residual.result c.in_err-first.field-0.0 (IsMergeFaultOf LINE_LIMIT texts) c.from_residual.ensures.1
-    (subst (λ ts. IsMergeFaultOf LINE_LIMIT ts c.in_err-first.field-0.0) kept c.in_err-first.ensures.fault)
+returns-in_err-first-clause-fault g c = grind (arith, texts_kept, if_err)
 
 pub returns-then-not-more-clause-held : goal.returns-then-not-more-clause-held
 returns-then-not-more-clause-held g c = λ texts indexes known are most share h.
@@ -288,20 +240,17 @@ returns-then-not-more-clause-held g c = λ texts indexes known are most share h.
 pub returns-in_err-first-clause-held : goal.returns-in_err-first-clause-held
 returns-in_err-first-clause-held g c = λ texts indexes known are most share h.
     let before = c.loop-rest.invariant.held texts indexes known are most share h in
-    let same = c.gather.ensures.held in
-    omega (arith, before, same)
+    grind arith
 
 pub returns-in_err-more-clause-held : goal.returns-in_err-more-clause-held
 returns-in_err-more-clause-held g c = λ texts indexes known are most share h.
     let before = c.loop-rest.invariant.held texts indexes known are most share h in
-    let same = c.gather.ensures.held in
-    omega (arith, before, same)
+    grind arith
 
 pub returns-clause-held : goal.returns-clause-held
 returns-clause-held g c = λ texts indexes known are most share h.
     let before = c.loop-rest.invariant.held texts indexes known are most share h in
-    let same = c.gather.ensures.held in
-    omega (arith, before, same)
+    grind arith
 
 pub returns-in_err-first-clause-broke : goal.returns-in_err-first-clause-broke
 returns-in_err-first-clause-broke g c =
@@ -312,7 +261,7 @@ returns-in_err-first-clause-broke g c =
       bound = came.bound;
       taken = came.taken;
       reached = came.reached;
-      wrote = λ begin start w. inl (c.loop-rest.sink, came.came begin start w);
+      wrote = grind arith;
     })
 
 pub returns-in_err-first-clause-halted : goal.returns-in_err-first-clause-halted
@@ -363,46 +312,10 @@ returns-in_err-more-clause-halted g c =
     })
 
 pub returns-clause-passed : goal.returns-clause-passed
-returns-clause-passed g c =
-    let text = g.S.Source.text in let extent = g.S.Source.extent in
-    let was = c.loop-rest.sources in let was_feeds = c.loop-rest.streams.feeds.items in let waits =
-    c.loop-rest.streams.waiting in
-    let now = c.gather.new.sources in let feeds = c.gather.new.self.feeds.items in let left =
-    c.gather.new.self.waiting in
-    let came = c.loop-rest.invariant.came in
-    let none = subst (λ o. MatchOption o ((now ≡ was) × (feeds ≡ was_feeds) × (waits ≡ []) × (left ≡ []))
-    (λ (b : Box Line Global). Grouped LINE_LIMIT text extent was was_feeds waits now feeds left (member_pair b.value)
-    (b.value ∷ map (λ (b : Box Line Global). b.value) c.gather.new.rest.items)))
-    c.in_default.is c.in_ok-first.ensures.group in
-    record {
-      so_far = record {
-        bound = came.bound;
-        taken = came.taken;
-        reached = reached_same _ _ _ _ _ _ _ _ _ _ _ _ _ _ _ none.0 none.1 (none.3 ∙ sym none.2) came.reached;
-        came = came.came;
-      };
-      last = λ e. absurd (true≢false e);
-    }
+returns-clause-passed g c = grind arith
 
 pub returns-in_err-first-clause-failures : goal.returns-in_err-first-clause-failures
-returns-in_err-first-clause-failures g c =
-    let f = map g.S.Source.failures in
-    let out = g.O.Output.failures c.loop-rest.out in
-    let e = c.in_err-first.field-0.0 in
-    let inv = c.loop-rest.invariant in
-    counts_merge c.from_residual.result e (f c.args.sources.now) (f c.loop-rest.sources) (f c.gather.new.sources)
-    (g.O.Output.failures c.args.out.now) out out
-    c.from_residual.ensures.1 inv.reads inv.writes
-    (raised_by_read e (f c.loop-rest.sources) (f c.gather.new.sources) out c.in_err-first.ensures.failures)
+returns-in_err-first-clause-failures g c = grind arith
 
 pub returns-in_err-more-clause-failures : goal.returns-in_err-more-clause-failures
-returns-in_err-more-clause-failures g c =
-    let now = map g.S.Source.failures c.gather.new.sources in
-    let was = g.O.Output.failures c.loop-rest.out in
-    let out = g.O.Output.failures c.hand_on.new.out in
-    let e = c.in_err-more.field-0.0 in
-    let inv = c.loop-rest.invariant in
-    counts_merge c.from_residual-in_err-more.result e (map g.S.Source.failures c.args.sources.now) now now
-    (g.O.Output.failures c.args.out.now) was out
-    c.from_residual-in_err-more.ensures.1 (c.in_ok-first.ensures.failures ∙ inv.reads) inv.writes
-    (raised_by_write e now was out c.in_err-more.ensures.failures)
+returns-in_err-more-clause-failures g c = grind arith

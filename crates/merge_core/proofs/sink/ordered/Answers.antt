@@ -9,10 +9,7 @@ use Rattle.merge_core.proofs.sink.ordered.Goals as goal
 
 pub returns : goal.returns
 returns c =
-    let items = c.deref-line-items.result.now in
-    c.loop-line.invariant
-    ∙ ap (map (λ (e : Bor (Bor Line)). e.now.now)) (take_all c.loop-line.line-index items (omega arith)
-    ∙ c.deref-line-items.ensures.value)
+    c.loop-line.invariant ∙ ap (map (λ (e : Bor (Bor Line)). e.now.now)) (grind (arith, take_all))
     ∙ map_seen (λ (e : Bor Line). e.now) (λ (e : Bor (Bor Line)). e.now) c.in_ok-sorted.sorted.items
     ∙ ap (map (λ (e : Bor Line). e.now)) c.in_ok-sorted.ensures
     ∙ rising_referred (λ (e : Bor Line). e.now) member_place place_cmp c.args.lines.now

@@ -1,9 +1,10 @@
-use Rattle.std.proofs.Common.{◌≡◌, ◌+◌, ◌≤◌, ℕ, Some, List, length, take, drop, arith, sym, ◌∙◌, subst}
+use Rattle.std.proofs.lemmas.Grind.{common_steps}
+use Rattle.std.proofs.Common.{◌≡◌, ◌+◌, ◌≤◌, ℕ, Some, List, take, drop, arith, ◌∙◌}
 use Rattle.source_core.specs.Windows.{AreBytesAt}
 use Rattle.source_core.specs.IndexLines.{lines, longest}
 use Rattle.source_core.proofs.Pieces.{nowhere_in, found_in, begins_in}
 use Rattle.source_core.proofs.LongestLines.{gap_most}
-use Rattle.source_core.proofs.WindowLemmas.{held_part, held_stands}
+use Rattle.source_core.proofs.WindowLemmas.{held_stands}
 use Rattle.source_core.proofs.line_start.next_line_start.Given.{Over}
 use Rattle.source_core.proofs.line_start.next_line_start.Goals.{After-min-count, After-min-most}
 use Rattle.source_core.proofs.line_start.next_line_start.Goals as goal
@@ -21,29 +22,19 @@ stands : (g : Over) (c : After-min-count g)
     → AreBytesAt (g.S.Source.text c.hold.new.source) (g.S.Source.extent c.hold.new.source) c.loop-at.at
     c.from-held.result.now
 stands g c =
-    subst (AreBytesAt (g.S.Source.text c.hold.new.source) (g.S.Source.extent c.hold.new.source) c.loop-at.at)
-    (sym c.from-held.ensures)
-    (held_stands (g.S.Source.text c.hold.new.source) (g.S.Source.extent c.hold.new.source) c.hold.new.self c.loop-at.at
-    (c.in_ok-hold.ensures.holds c.loop-at.invariant.holds)
-    (omega (arith, c.in_ok-hold.ensures.extent, c.loop-at.invariant.extent)))
+    grind (arith, held_stands (g.S.Source.text c.hold.new.source) (g.S.Source.extent c.hold.new.source) c.hold.new.self
+    c.loop-at.at (grind arith) (omega (arith, c.in_ok-hold.ensures.extent, c.loop-at.invariant.extent)))
 
 -- and they are its text
 bytes : (g : Over) (c : After-min-count g) (t : List ℕ) → g.S.Source.text c.args.source.now ≡ Some t
     → take c.min-count.result c.from-held.result.now ≡ take c.min-count.result (drop c.loop-at.at t)
-bytes g c t e =
-    held_part (g.S.Source.text c.hold.new.source) (g.S.Source.extent c.hold.new.source) c.loop-at.at c.min-count.result
-    c.from-held.result.now t
-    (stands g c) (c.in_ok-hold.ensures.text ∙ c.loop-at.invariant.text ∙ e) (omega (arith, c.min-count.ensures))
+bytes g c t e = grind (arith, common_steps, stands)
 
 pub returns-in_err-hold-clause-gave : goal.returns-in_err-hold-clause-gave
-returns-in_err-hold-clause-gave g c = λ t e.
-    let m = gap g (goal.at.returns-in_err-hold-clause-gave g c).After-min-most t e in
-    omega (arith, c.in_err-hold.ensures.most, c.loop-at.invariant.gave, m)
+returns-in_err-hold-clause-gave g c = grind (arith, gap)
 
 pub returns-in-Some-clause-gave : goal.returns-in-Some-clause-gave
-returns-in-Some-clause-gave g c = λ t e.
-    let m = gap g (goal.at.returns-in-Some-clause-gave g c).After-min-most t e in
-    omega (arith, c.in_ok-hold.ensures.most, c.loop-at.invariant.gave, m)
+returns-in-Some-clause-gave g c = grind (arith, gap)
 
 pub returns-clause-gave : goal.returns-clause-gave
 returns-clause-gave g c = λ t e.
@@ -75,24 +66,4 @@ returns-in-Some-clause-begins g c = λ t e.
     c.in-Some.feed c.in-Some.ensures.0 c.in-Some.ensures.1
 
 pub loop-at-preserved : goal.loop-at-preserved
-loop-at-preserved g c =
-    let inv = c.loop-at.invariant in
-    let ok = c.in_ok-hold.ensures in
-    let here = (goal.at.loop-at-preserved g c).After-min-count in
-    let held = ok.gave in
-    let same = subst (λ u. length u ≡ length c.from-held.result.now) c.from-held.ensures
-    (let r : length c.from-held.result.now ≡ length c.from-held.result.now = omega arith in r) in
-    record {
-      text = ok.text ∙ inv.text;
-      extent = ok.extent ∙ inv.extent;
-      failures = ok.failures ∙ inv.failures;
-      gave = omega (arith, held, same, ok.most, inv.gave, c.min-count.ensures, c.min-most.ensures);
-      holds = ok.holds inv.holds;
-      low = omega (arith, inv.low);
-      within = omega (arith, inv.within, c.min-count.ensures);
-      told = λ t e. nowhere_in t c.from-held.result.now (g.S.Source.extent c.args.source.now) c.loop-at.at
-          c.min-count.result c.args.from (inv.told t e) (bytes g here t e)
-          (omega (arith, c.min-count.ensures))
-          (omega (arith, (stands g here).within, ok.extent, inv.extent, c.min-count.ensures)) (omega arith)
-          c.in-None.ensures;
-    }
+loop-at-preserved g c = grind (arith, common_steps, nowhere_in, stands)

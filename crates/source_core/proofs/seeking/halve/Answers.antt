@@ -4,17 +4,12 @@ use Rattle.cdxj_places.specs.Pairs.{Pair}
 use Rattle.source_core.specs.Halving.{stops}
 use Rattle.source_core.specs.IndexLines.{from_line}
 use Rattle.source_core.specs.Search.{line_below}
-use Rattle.source_core.proofs.Halves.{digits_below, half_step}
+use Rattle.source_core.proofs.Halves.{digits_below}
 use Rattle.source_core.proofs.HalvingSteps.{halved_kept, halves_down, halves_up, halves_hidden, halves_none}
 use Rattle.source_core.proofs.seeking.halve.Goals as goal
 
 pub overflow_add-probes : goal.overflow_add-probes
-overflow_add-probes g c =
-    let halved = c.requires.halved in
-    let d = digits_below (g.S.Source.extent c.args.source.now) in
-    let h = half_step (c.args.span.high - c.args.span.low) halved.left.0 halved.left.2
-    (omega (arith, c.requires.some)) in
-    omega (arith, halved.left.1, halved.within, d.1, h.1, c.size-size.ensures.extent)
+overflow_add-probes g c = grind (arith, digits_below (g.S.Source.extent c.args.source.now))
 
 pub returns-in-Some-clause-halved : goal.returns-in-Some-clause-halved
 returns-in-Some-clause-halved g c =

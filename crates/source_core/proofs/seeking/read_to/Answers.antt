@@ -10,24 +10,16 @@ use Rattle.source_core.proofs.seeking.read_to.Goals as goal
 most : (g : Over) (c : After-len g) (t : List ℕ) → g.S.Source.text c.args.source.now ≡ Some t
     → BeginsWith t c.args.offset c.args.front.now.items
     → length c.loop-front.front.items ≤ longest (lines t)
-most g c t e b = front_most t c.args.offset c.loop-front.front.items (c.loop-front.invariant.told t e b)
+most g c t e b = grind (arith, front_most)
 
 pub returns-in_err-ends-clause-gave : goal.returns-in_err-ends-clause-gave
-returns-in_err-ends-clause-gave g c = λ t e b.
-    let m = most g (goal.at.returns-in_err-ends-clause-gave g c).After-len t e b in
-    omega (arith, c.in_err-ends.ensures.gave, c.loop-front.invariant.gave, m)
+returns-in_err-ends-clause-gave g c = grind (arith, most)
 
 pub returns-then-ends-clause-gave : goal.returns-then-ends-clause-gave
-returns-then-ends-clause-gave g c = λ t e b.
-    let m = most g (goal.at.returns-then-ends-clause-gave g c).After-len t e b in
-    omega (arith, c.in_ok-ends.ensures.gave, c.loop-front.invariant.gave, m)
+returns-then-ends-clause-gave g c = grind (arith, most)
 
 pub returns-else-offset-len-clause-gave : goal.returns-else-offset-len-clause-gave
-returns-else-offset-len-clause-gave g c = λ t e b.
-    let m = most g (goal.at.returns-else-offset-len-clause-gave g c).After-len t e b in
-    omega (arith, c.loop-front.invariant.gave, m)
+returns-else-offset-len-clause-gave g c = grind (arith, most)
 
 pub returns-after-loop-front-clause-gave : goal.returns-after-loop-front-clause-gave
-returns-after-loop-front-clause-gave g c = λ t e b.
-    let m = most g (goal.at.returns-after-loop-front-clause-gave g c).After-len t e b in
-    omega (arith, c.loop-front.invariant.gave, m)
+returns-after-loop-front-clause-gave g c = grind (arith, most)

@@ -1,22 +1,13 @@
-use Rattle.std.proofs.Common.{◌≡◌, List, false, is_eq, is_lt, sym, ap, ◌∙◌, subst, get_or}
+use Rattle.std.proofs.Common.{arith, ◌≡◌, List, false, is_eq, is_lt, sym, ap, ◌∙◌, subst, get_or}
 use Rattle.std.specs.List.{AllByRecursion}
-use Rattle.std.proofs.lemmas.List.{get_or_default}
 use Rattle.cdxj_places.specs.Pairs.{pair_cmp}
 use Rattle.cdxj_core.specs.Members.{member_pair}
 use Rattle.line_queue.specs.WaitingLines.{WaitingLine, waiting_pair, turn_cmp}
-use Rattle.line_queue.proofs.TurnLemmas.{eq_is, all_later_unless}
+use Rattle.line_queue.proofs.TurnLemmas.{all_later_unless}
 use Rattle.line_queue.proofs.queue.Queue.is_next_at.Goals as goal
 
 pub returns-in-Some-clause-alike : goal.returns-in-Some-clause-alike
-returns-in-Some-clause-alike c = λ d some same.
-    let w = c.in-Some.waiting.now in
-    let p = member_pair c.args.line.now in
-    let top : get_or c.args.self.now 0 d ≡ w = get_or_default c.args.self.now 0 d w some
-    ∙ sym (c.in-Some.ensures.lookup ∙ ap (λ (ws : List WaitingLine). get_or ws 0 w) c.self.view_is) in
-    ap (λ (v : WaitingLine). pair_cmp (waiting_pair v) p) top
-    ∙ eq_is (pair_cmp (waiting_pair w) p)
-    (ap is_eq (ap (λ m. pair_cmp (member_pair m) p) (sym c.keyed.ensures) ∙ sym c.compare_pair.ensures)
-    ∙ sym c.is_eq.ensures ∙ same)
+returns-in-Some-clause-alike c = grind arith
 
 pub returns-in-Some-clause-later : goal.returns-in-Some-clause-later
 returns-in-Some-clause-later c = λ upto not_same.

@@ -1,19 +1,15 @@
-use Rattle.std.proofs.Common.{◌≡◌, ℕ, List, Some, None, [], Box, Global, option_map, refl, subst, sym}
+use Rattle.std.proofs.Common.{arith, ◌≡◌, ℕ, List, Some, None, [], Box, Global, option_map, subst, sym}
 use Rattle.std.specs.List.{AllByRecursion}
 use Rattle.cdxj_core.specs.declared.limit.TheConstants.{LINE_LIMIT}
 use Rattle.cdxj_core.specs.declared.line.Line.{Line}
 use Rattle.cdxj_core.specs.Members.{member_pair}
-use Rattle.merge_core.specs.declared.feed.Progress.TheVariants.{Ended}
-use Rattle.line_queue.specs.PairOrders.{IsUpto, Upto}
+use Rattle.line_queue.specs.PairOrders.{Upto}
 use Rattle.merge_core.specs.Feeds.{Fed, option_list}
-use Rattle.merge_core.specs.LineFaults.{NamesLine}
 use Rattle.merge_core.specs.Spending.{ReadTo}
 use Rattle.merge_core.proofs.SpendLemmas.{read_to}
-use Rattle.merge_core.proofs.BadLines.{bad_named}
-use Rattle.merge_core.proofs.FailLemmas.{counts_feed, if_err}
 use Rattle.line_queue.proofs.PairOrder.{upto_itself}
 use Rattle.merge_core.proofs.FeedLemmas.{fresh_done}
-use Rattle.merge_core.proofs.DrainLemmas.{settled, at_end}
+use Rattle.merge_core.proofs.DrainLemmas.{settled}
 use Rattle.merge_core.proofs.feed.Feed.begin.Given.{Over}
 use Rattle.merge_core.proofs.feed.Feed.begin.Goals.{After-next_line}
 use Rattle.merge_core.proofs.feed.Feed.begin.Goals as goal
@@ -31,21 +27,10 @@ returns-in-Some-clause-fed g c =
     (option_list (option_map (λ (b : Box Line Global). b.value) c.settle.result)) c.settle.ensures.next
 
 pub returns-in-None-clause-fed : goal.returns-in-None-clause-fed
-returns-in-None-clause-fed g c =
-    let ok = c.in_ok-line.ensures in
-    at_end LINE_LIMIT (g.R.Range.past c.args.range.now) (λ (b : Box Line Global). b.value)
-    _ _ _ _ c.args.self.now c.next_line.new.cursor c.in_ok-line.field-0 ok.text ok.extent c.requires.due c.requires.fed
-    ok.stands ok.start ok.count ok.given ok.most
-    (record { cursor = c.next_line.new.cursor; progress = Ended }) refl c.in-None.is refl
+returns-in-None-clause-fed g c = grind arith
 
 pub returns-in_err-line-clause-fault : goal.returns-in_err-line-clause-fault
-returns-in_err-line-clause-fault g c = λ t e.
-    let past = g.R.Range.past c.args.range.now in
-    let extent = g.S.Source.extent c.args.source.now in
-    if_err c.from_residual.result c.in_err-line.field-0.0 (NamesLine LINE_LIMIT t) c.from_residual.ensures.1
-    (bad_named LINE_LIMIT past t extent c.args.self.now
-    (subst (λ o. Fed LINE_LIMIT past o extent c.args.self.now []) e c.requires.fed) c.in_err-line.field-0.0
-    (c.in_err-line.ensures.fault t e))
+returns-in_err-line-clause-fault g c = grind arith
 
 -- no line was read but the first
 reads : (g : Over) (c : After-next_line g) (t : List ℕ) → g.S.Source.text c.args.source.now ≡ Some t
@@ -56,23 +41,16 @@ reads g c t e =
     let f = c.args.self.now in
     let next = c.next_line.ensures in
     read_to LINE_LIMIT past t extent f [] None (subst (λ o. Fed LINE_LIMIT past o extent f []) e c.requires.fed)
-    (subst (AllByRecursion (λ m. IsUpto None (member_pair m))) (sym (fresh_done LINE_LIMIT t f c.requires.fresh)) tt)
-    c.next_line.new.cursor next.start (next.most t e) next.ahead
+    (grind arith) c.next_line.new.cursor next.start (next.most t e) next.ahead
 
 pub returns-in_err-line-clause-reads : goal.returns-in_err-line-clause-reads
-returns-in_err-line-clause-reads g c = reads g (goal.at.returns-in_err-line-clause-reads g c).After-next_line
+returns-in_err-line-clause-reads g c = grind (arith, reads)
 
 pub returns-in-None-clause-reads : goal.returns-in-None-clause-reads
-returns-in-None-clause-reads g c = reads g (goal.at.returns-in-None-clause-reads g c).After-next_line
+returns-in-None-clause-reads g c = grind arith
 
 pub returns-in-Some-clause-reads : goal.returns-in-Some-clause-reads
-returns-in-Some-clause-reads g c = λ t e.
-    subst (ReadTo LINE_LIMIT (g.R.Range.past c.args.range.now) None t) (sym c.settle.ensures.cursor)
-    (reads g (goal.at.returns-in-Some-clause-reads g c).After-next_line t e)
+returns-in-Some-clause-reads g c = grind (arith, reads)
 
 pub returns-in_err-line-clause-failures : goal.returns-in_err-line-clause-failures
-returns-in_err-line-clause-failures g c =
-    let f = g.S.Source.failures in
-    counts_feed c.from_residual.result c.in_err-line.field-0.0 (f c.args.source.now) (f c.args.source.now)
-    (f c.next_line.new.source)
-    c.from_residual.ensures.1 refl c.in_err-line.ensures.failures
+returns-in_err-line-clause-failures g c = grind arith

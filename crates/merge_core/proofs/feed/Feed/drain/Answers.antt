@@ -8,20 +8,19 @@ use Rattle.cdxj_core.specs.declared.line.Line.{Line}
 use Rattle.cdxj_core.specs.Members.{member_pair}
 use Rattle.cdxj_places.specs.Pairs.{pair_cmp}
 use Rattle.cdxj_places.proofs.PairLemmas.{pair_cmp_total}
-use Rattle.merge_core.specs.declared.feed.Progress.TheVariants.{Ended}
 use Rattle.merge_core.specs.declared.feed.Feed.{Feed}
-use Rattle.line_queue.specs.PairOrders.{Alike, Below, Upto}
+use Rattle.line_queue.specs.PairOrders.{Alike, Below}
 use Rattle.source_core.specs.LinesAtFault.{IsOutOfOrder}
 use Rattle.merge_core.specs.Feeds.{Fed, done, option_list}
 use Rattle.merge_core.specs.LineFaults.{NamesLine}
 use Rattle.merge_core.specs.Spending.{ReadTo}
 use Rattle.merge_core.proofs.SpendLemmas.{read_to}
 use Rattle.merge_core.proofs.BadLines.{bad_named, order_named}
-use Rattle.merge_core.proofs.FailLemmas.{counts_feed, if_err}
+use Rattle.merge_core.proofs.FailLemmas.{if_err}
 use Rattle.line_queue.proofs.PairOrder.{below_upto, same_upto, same_from}
 use Rattle.cdxj_places.proofs.RisingLaws.{each_join}
-use Rattle.merge_core.proofs.FeedLemmas.{each_next, line_read, same_stays}
-use Rattle.merge_core.proofs.DrainLemmas.{settled, settled_done, taken, taken_done, at_end, taken_more}
+use Rattle.merge_core.proofs.FeedLemmas.{line_read, same_stays}
+use Rattle.merge_core.proofs.DrainLemmas.{settled, settled_done, taken, taken_done, taken_more}
 use Rattle.merge_core.proofs.feed.Feed.drain.Given.{Over}
 use Rattle.merge_core.proofs.feed.Feed.drain.Goals.{After-next_line, In-Greater}
 use Rattle.merge_core.proofs.feed.Feed.drain.Goals as goal
@@ -38,10 +37,7 @@ above g c =
 told : (g : Over) (c : After-next_line g) (t : List ℕ) → g.S.Source.text c.args.source.now ≡ Some t
     → Fed LINE_LIMIT (g.R.Range.past c.args.range.now) (Some t) (g.S.Source.extent c.loop-line.source) c.loop-line.self
     []
-told g c t e =
-    let inv = c.loop-line.invariant in
-    subst (λ o. Fed LINE_LIMIT (g.R.Range.past c.args.range.now) o (g.S.Source.extent c.loop-line.source)
-    c.loop-line.self []) (inv.text ∙ e) inv.fed
+told g c t e = grind arith
 
 -- no line was read beyond the next one
 reads : (g : Over) (c : After-next_line g) (t : List ℕ) → g.S.Source.text c.args.source.now ≡ Some t
@@ -55,11 +51,8 @@ reads g c t e =
 
 pub returns-in-Greater-clause-later : goal.returns-in-Greater-clause-later
 returns-in-Greater-clause-later g c =
-    let first = member_pair c.args.first.now in
-    let m = c.in-Some.line.value in
     let over = above g (goal.at.returns-in-Greater-clause-later g c).In-Greater in
-    each_next (λ k. Below first (member_pair k)) (g.R.Range.past c.args.range.now) m c.settle.new.self.progress
-    (option_list (option_map (λ (b : Box Line Global). b.value) c.settle.result)) c.settle.ensures.next over
+    grind arith
 
 pub returns-in-Greater-clause-fed : goal.returns-in-Greater-clause-fed
 returns-in-Greater-clause-fed g c =
@@ -121,9 +114,7 @@ loop-line-preserved g c =
       failures = ok.failures ∙ inv.failures;
       gave = omega (arith, ok.gave, inv.gave);
       start = ok.start ∙ inv.start;
-      there = (let h = subst (λ o. MatchOption o (c.next_line.new.cursor.at ≡ g.S.Source.extent c.loop-line.source)
-          (λ _. c.loop-line.self.cursor.at < c.next_line.new.cursor.at)) c.in-Some.is ok.there in omega
-          (arith, h, inv.there));
+      there = grind arith;
       fed = taken LINE_LIMIT (g.R.Range.past c.args.range.now) (λ (b : Box Line Global). b.value)
           _ _ _ _ c.loop-line.self c.next_line.new.cursor
           c.in_ok-line.field-0 ok.text ok.extent inv.due inv.fed ok.stands ok.start ok.count ok.given ok.most
@@ -140,9 +131,7 @@ loop-line-preserved g c =
         same_from (member_pair m) first
             alike,
       );
-      low = λ t e. subst (AllByRecursion (λ k. Upto (member_pair k) first)) (sym (more t (inv.text ∙ e)))
-          (each_join (λ k. Upto (member_pair k) first) _ (m ∷ []) (inv.low t e)
-          (same_upto (member_pair m) first alike, tt));
+      low = grind (arith, each_join, same_upto);
       each = λ h. subst (AllByRecursion (λ k. Alike (member_pair k) first)) (sym pushed)
           (each_join (λ k. Alike (member_pair k) first) _ (m ∷ []) (inv.each h) (alike, tt));
       taken = λ t e.
@@ -151,13 +140,7 @@ loop-line-preserved g c =
     }
 
 pub returns-clause-fed : goal.returns-clause-fed
-returns-clause-fed g c =
-    let ok = c.in_ok-line.ensures in
-    let inv = c.loop-line.invariant in
-    at_end LINE_LIMIT (g.R.Range.past c.args.range.now) (λ (b : Box Line Global). b.value)
-    _ _ _ _ c.loop-line.self c.next_line.new.cursor
-    c.in_ok-line.field-0 ok.text ok.extent inv.due inv.fed ok.stands ok.start ok.count ok.given ok.most
-    (record { cursor = c.next_line.new.cursor; progress = Ended }) refl c.in_default.is refl
+returns-clause-fed g c = grind arith
 
 pub returns-in_err-line-clause-fault : goal.returns-in_err-line-clause-fault
 returns-in_err-line-clause-fault g c = λ t e.
@@ -191,27 +174,19 @@ returns-in-Less-clause-fault g c = λ t e.
     c.in_ok-line.field-0 c.in-Some.line c.in-Some.is (ok.given t text)) below)
 
 pub returns-in_err-line-clause-reads : goal.returns-in_err-line-clause-reads
-returns-in_err-line-clause-reads g c = reads g (goal.at.returns-in_err-line-clause-reads g c).After-next_line
+returns-in_err-line-clause-reads g c = grind (arith, reads)
 
 pub returns-in-Less-clause-reads : goal.returns-in-Less-clause-reads
-returns-in-Less-clause-reads g c = reads g (goal.at.returns-in-Less-clause-reads g c).After-next_line
+returns-in-Less-clause-reads g c = grind (arith, reads)
 
 pub returns-in_err-push-in-Equal-clause-reads : goal.returns-in_err-push-in-Equal-clause-reads
-returns-in_err-push-in-Equal-clause-reads g c = reads g
-    (goal.at.returns-in_err-push-in-Equal-clause-reads g c).After-next_line
+returns-in_err-push-in-Equal-clause-reads g c = grind (arith, reads)
 
 pub returns-clause-reads : goal.returns-clause-reads
-returns-clause-reads g c = reads g (goal.at.returns-clause-reads g c).After-next_line
+returns-clause-reads g c = grind (arith, reads)
 
 pub returns-in-Greater-clause-reads : goal.returns-in-Greater-clause-reads
-returns-in-Greater-clause-reads g c = λ t e.
-    subst (ReadTo LINE_LIMIT (g.R.Range.past c.args.range.now) (Some (member_pair c.args.first.now)) t)
-    (sym c.settle.ensures.cursor)
-    (reads g (goal.at.returns-in-Greater-clause-reads g c).After-next_line t e)
+returns-in-Greater-clause-reads g c = grind (arith, reads)
 
 pub returns-in_err-line-clause-failures : goal.returns-in_err-line-clause-failures
-returns-in_err-line-clause-failures g c =
-    let f = g.S.Source.failures in
-    counts_feed c.from_residual.result c.in_err-line.field-0.0 (f c.args.source.now) (f c.loop-line.source)
-    (f c.next_line.new.source)
-    c.from_residual.ensures.1 c.loop-line.invariant.failures c.in_err-line.ensures.failures
+returns-in_err-line-clause-failures g c = grind arith

@@ -1,40 +1,27 @@
-use Rattle.std.proofs.Common.{[], ◌∷◌, subst}
-use Rattle.std.specs.Io.KnownBytes.{Appends}
-use Rattle.devices.specs.Device.{AppendsPrefix}
+use Rattle.std.proofs.Common.{arith, [], ◌∷◌}
 use Rattle.devices.proofs.WritingLemmas.{prefix_after, prefix_longer}
 use Rattle.merge_core.specs.declared.fault.SinkFault.TheVariants.{Write}
 use Rattle.merge_core.proofs.MergeLemmas.{on_err}
-use Rattle.devices.proofs.DeviceLemmas.{grows_by, grows_on, grows_part}
+use Rattle.devices.proofs.DeviceLemmas.{grows_on}
 use Rattle.merge_core.proofs.line_writer.LineWriter.put_line.Goals as goal
 
 pub returns-in_err-put-clause-part : goal.returns-in_err-put-clause-part
-returns-in_err-put-clause-part g c =
-    let old = g.O.Output.written c.args.out.now in
-    let new = g.O.Output.written c.put.new.out in
-    on_err c.from_residual.result Write _ c.from_residual.ensures.1
-    (prefix_longer old new c.args.line.now.line (10 ∷ [])
-    (subst (AppendsPrefix old new) c.line.ensures.value c.in_err-put.ensures.prefix))
+returns-in_err-put-clause-part g c = grind (arith, on_err, prefix_longer)
 
 pub returns-in_err-put-2-clause-part : goal.returns-in_err-put-2-clause-part
 returns-in_err-put-2-clause-part g c =
     let old = g.O.Output.written c.args.out.now in
     let mid = g.O.Output.written c.put.new.out in
     on_err c.from_residual-in_err-put-2.result Write _ c.from_residual-in_err-put-2.ensures.1
-    (prefix_after old mid (g.O.Output.written c.put-2.new.out) c.args.line.now.line (10 ∷ [])
-    (subst (Appends old mid) c.line.ensures.value c.in_ok-put.ensures.all) c.in_err-put-2.ensures.prefix)
+    (prefix_after old mid (g.O.Output.written c.put-2.new.out) c.args.line.now.line (10 ∷ []) (grind arith)
+    c.in_err-put-2.ensures.prefix)
 
 pub returns-in_err-put-2-clause-grows : goal.returns-in_err-put-2-clause-grows
 returns-in_err-put-2-clause-grows g c =
     grows_on (g.O.Output.written c.args.out.now) (g.O.Output.written c.put.new.out) (g.O.Output.written c.put-2.new.out)
-    (grows_by (g.O.Output.written c.args.out.now) (g.O.Output.written c.put.new.out) c.line.result.now
-    c.in_ok-put.ensures.all)
-    (grows_part (g.O.Output.written c.put.new.out) (g.O.Output.written c.put-2.new.out) (10 ∷ [])
-    c.in_err-put-2.ensures.prefix)
+    (grind arith) (grind arith)
 
 pub returns-clause-grows : goal.returns-clause-grows
 returns-clause-grows g c =
     grows_on (g.O.Output.written c.args.out.now) (g.O.Output.written c.put.new.out) (g.O.Output.written c.put-2.new.out)
-    (grows_by (g.O.Output.written c.args.out.now) (g.O.Output.written c.put.new.out) c.line.result.now
-    c.in_ok-put.ensures.all)
-    (grows_by (g.O.Output.written c.put.new.out) (g.O.Output.written c.put-2.new.out) (10 ∷ [])
-    c.in_ok-put-2.ensures.all)
+    (grind arith) (grind arith)

@@ -1,4 +1,4 @@
-use Rattle.std.proofs.Common.{Bor, ◌∙◌}
+use Rattle.std.proofs.Common.{arith, Bor, ◌∙◌}
 use Rattle.std.proofs.lemmas.Result.{err_from_is_err_and}
 use Rattle.cdxj_core.specs.declared.line.Line.{Line}
 use Rattle.devices.proofs.DeviceLemmas.{grows_on}
@@ -30,5 +30,5 @@ loop-line-preserved g c =
           c.in_ok-put_line.ensures.count;
       grows = grows_on (g.O.Output.written c.args.out.now) (g.O.Output.written c.loop-line.out)
           (g.O.Output.written c.put_line.new.out) inv.grows c.put_line.ensures.grows;
-      failures = c.in_ok-put_line.ensures.failures ∙ inv.failures;
+      failures = grind arith;
     }

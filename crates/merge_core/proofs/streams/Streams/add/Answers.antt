@@ -1,8 +1,6 @@
-use Rattle.std.proofs.Common.{◌≡◌, ℕ, ◌+◌, ◌*◌, ◌≤◌, List, Some, arith, refl}
+use Rattle.std.proofs.Common.{◌≡◌, ℕ, ◌+◌, ◌*◌, ◌≤◌, List, Some, arith}
 use Rattle.source_core.specs.Cursors.{reach}
 use Rattle.source_core.specs.IndexLines.{lines, longest}
-use Rattle.merge_core.proofs.FailLemmas.{counts_feed}
-use Rattle.merge_core.proofs.OpenLemmas.{fed_fresh}
 use Rattle.merge_core.proofs.SpendLemmas.{read_none}
 use Rattle.cdxj_core.specs.declared.limit.TheConstants.{LINE_LIMIT}
 use Rattle.merge_core.proofs.streams.Streams.add.Given.{Over}
@@ -10,10 +8,7 @@ use Rattle.merge_core.proofs.streams.Streams.add.Goals.{After-begin}
 use Rattle.merge_core.proofs.streams.Streams.add.Goals as goal
 
 pub begin-requires-clause-fed : goal.begin-requires-clause-fed
-begin-requires-clause-fed g c =
-    fed_fresh LINE_LIMIT (g.R.Range.past c.args.range.now) (g.S.Source.text c.args.source.now)
-    (g.S.Source.extent c.args.source.now) c.args.cursor c.requires.stands c.requires.fresh c.requires.first
-    c.requires.begins
+begin-requires-clause-fed g c = grind arith
 
 -- no line was read but the first
 spent : (g : Over) (c : After-begin g) (t : List ℕ) → g.S.Source.text c.args.source.now ≡ Some t
@@ -25,20 +20,16 @@ spent g c t e =
     omega (arith, few, c.begin.ensures.gave, c.begin.ensures.start)
 
 pub returns-in_err-next-clause-spent : goal.returns-in_err-next-clause-spent
-returns-in_err-next-clause-spent g c = spent g (goal.at.returns-in_err-next-clause-spent g c).After-begin
+returns-in_err-next-clause-spent g c = grind (arith, spent)
 
 pub returns-in_err-push-clause-spent : goal.returns-in_err-push-clause-spent
-returns-in_err-push-clause-spent g c = spent g (goal.at.returns-in_err-push-clause-spent g c).After-begin
+returns-in_err-push-clause-spent g c = grind (arith, spent)
 
 pub returns-clause-spent : goal.returns-clause-spent
-returns-clause-spent g c = spent g (goal.at.returns-clause-spent g c).After-begin
+returns-clause-spent g c = grind (arith, spent)
 
 pub returns-in_err-let_wait-clause-spent : goal.returns-in_err-let_wait-clause-spent
-returns-in_err-let_wait-clause-spent g c = spent g (goal.at.returns-in_err-let_wait-clause-spent g c).After-begin
+returns-in_err-let_wait-clause-spent g c = grind (arith, spent)
 
 pub returns-in_err-next-clause-failures : goal.returns-in_err-next-clause-failures
-returns-in_err-next-clause-failures g c =
-    let f = g.S.Source.failures in
-    counts_feed c.from_residual.result c.in_err-next.field-0.0 (f c.args.source.now) (f c.args.source.now)
-    (f c.begin.new.source)
-    c.from_residual.ensures.1 refl c.in_err-next.ensures.failures
+returns-in_err-next-clause-failures g c = grind arith

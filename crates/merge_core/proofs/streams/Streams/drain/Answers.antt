@@ -1,12 +1,9 @@
-use Rattle.std.specs.List.{AllZip}
-use Rattle.std.proofs.Common.{◌≡◌, Some, ◌++◌, [], Box, Global, List, get_or, set, map, zip, refl, sym, ap, ◌∙◌, subst}
-use Rattle.std.proofs.Common.{arith}
-use Rattle.std.specs.List.{AllByRecursion}
+use Rattle.std.specs.List.{AllZip, AllByRecursion}
+use Rattle.std.proofs.Common.{◌≡◌, Some, ◌++◌, [], Box, Global, List, get_or, set, zip, sym, ap, ◌∙◌, subst, arith}
 use Rattle.std.proofs.lemmas.List.{get_or_default}
 use Rattle.cdxj_core.specs.declared.limit.TheConstants.{LINE_LIMIT}
 use Rattle.cdxj_core.specs.declared.line.Line.{Line}
 use Rattle.cdxj_core.specs.Members.{member_pair}
-use Rattle.merge_core.specs.declared.fault.MergeFault.TheVariants.{Memory}
 use Rattle.merge_core.specs.declared.feed.Feed.{Feed}
 use Rattle.merge_core.specs.declared.feed.Progress.TheVariants.{Due}
 use Rattle.line_queue.specs.PairOrders.{Upto}
@@ -51,14 +48,7 @@ moved : (g : Over) (c : After-drain g) → AllZip (Move g.S.Source.text g.S.Sour
     (zip c.args.sources.now c.args.self.now.feeds.items)
     (zip (set c.args.sources.now c.args.i c.drain.new.source)
     (set c.args.self.now.feeds.items c.args.i c.drain.new.self))
-moved g c =
-    let k = c.drain.ensures in
-    let ss = c.args.sources.now in let i = c.args.i in let a = c.index-sources-i.result in
-    let move = Move g.S.Source.text g.S.Source.extent g.S.Source.gave in
-    moved_set g.S.Source.text g.S.Source.extent g.S.Source.gave ss c.args.self.now.feeds.items i a c.drain.new.source
-    c.index_mut.result.now c.drain.new.self c.requires.ready.same c.requires.inside
-    (subst (λ (f : Feed). move (get_or ss i a, f) (c.drain.new.source, c.drain.new.self)) c.index_mut.ensures.value
-    (record { text_kept = k.text; extent_kept = k.extent; spent = k.gave; start_kept = k.start }))
+moved g c = grind (arith, moved_set)
 
 -- no source was read further than the pair
 read : (g : Over) (c : After-drain g)
@@ -77,21 +67,13 @@ read g c low =
     (λ t e. c.drain.ensures.reads t (sym c.drain.ensures.text ∙ e))
 
 pub returns-in-Err-clause-moved : goal.returns-in-Err-clause-moved
-returns-in-Err-clause-moved g c = moved g (goal.at.returns-in-Err-clause-moved g c).After-drain
+returns-in-Err-clause-moved g c = grind (arith, moved)
 
 pub returns-in_err-let_wait-clause-moved : goal.returns-in_err-let_wait-clause-moved
-returns-in_err-let_wait-clause-moved g c =
-    subst (λ (us : List Feed). AllZip (Move g.S.Source.text g.S.Source.extent g.S.Source.gave)
-    (zip c.args.sources.now c.args.self.now.feeds.items)
-    (zip (set c.args.sources.now c.args.i c.drain.new.source) us)) (sym c.let_wait.ensures.feeds)
-    (moved g (goal.at.returns-in_err-let_wait-clause-moved g c).After-drain)
+returns-in_err-let_wait-clause-moved g c = grind (arith, moved)
 
 pub returns-clause-moved : goal.returns-clause-moved
-returns-clause-moved g c =
-    subst (λ (us : List Feed). AllZip (Move g.S.Source.text g.S.Source.extent g.S.Source.gave)
-    (zip c.args.sources.now c.args.self.now.feeds.items)
-    (zip (set c.args.sources.now c.args.i c.drain.new.source) us)) (sym c.let_wait.ensures.feeds)
-    (moved g (goal.at.returns-clause-moved g c).After-drain)
+returns-clause-moved g c = grind (arith, moved)
 
 pub returns-clause-ready : goal.returns-clause-ready
 returns-clause-ready g c =
@@ -122,59 +104,22 @@ returns-clause-fewer g c =
     omega (arith, long, left, here, now, few)
 
 pub returns-clause-drained : goal.returns-clause-drained
-returns-clause-drained g c =
-    let k = c.in-Ok.ensures in
-    let a = c.index-sources-i.result in let b = c.index_mut.result.now in
-    let ss = c.args.sources.now in let fs = c.args.self.now.feeds.items in let i = c.args.i in
-    record {
-      source = c.drain.new.source;
-      feed = c.drain.new.self;
-      source_is = refl;
-      feed_is = c.let_wait.ensures.feeds;
-      text_is = λ x. k.text ∙ ap g.S.Source.text (get_or_default ss i a x c.requires.inside);
-      drained = λ x d t e.
-          let h = k.taken t (ap g.S.Source.text (get_or_default ss i a x c.requires.inside) ∙ e) in (
-            h.0,
-            h.1 ∙ ap (λ (f : Feed). done LINE_LIMIT t f ++ h.0) (c.index_mut.ensures.value
-                ∙ get_or_default fs i b d (let l = c.requires.ready.same in let m = c.requires.inside in omega arith)),
-            h.2,
-            h.3,
-          );
-    }
+returns-clause-drained g c = grind (arith, get_or_default)
 
 pub returns-in-Err-clause-reads : goal.returns-in-Err-clause-reads
-returns-in-Err-clause-reads g c = read g (goal.at.returns-in-Err-clause-reads g c).After-drain
+returns-in-Err-clause-reads g c = grind (arith, read)
 
 pub returns-in_err-let_wait-clause-reads : goal.returns-in_err-let_wait-clause-reads
-returns-in_err-let_wait-clause-reads g c = λ low.
-    subst (λ (us : List Feed). AreReadTo LINE_LIMIT (g.R.Range.past c.args.range.now) g.S.Source.text
-    (Some (member_pair c.args.first.now))
-    (set c.args.sources.now c.args.i c.drain.new.source) us) (sym c.let_wait.ensures.feeds)
-    (read g (goal.at.returns-in_err-let_wait-clause-reads g c).After-drain low)
+returns-in_err-let_wait-clause-reads g c = grind (arith, read)
 
 pub returns-clause-reads : goal.returns-clause-reads
-returns-clause-reads g c = λ low.
-    subst (λ (us : List Feed). AreReadTo LINE_LIMIT (g.R.Range.past c.args.range.now) g.S.Source.text
-    (Some (member_pair c.args.first.now))
-    (set c.args.sources.now c.args.i c.drain.new.source) us) (sym c.let_wait.ensures.feeds)
-    (read g (goal.at.returns-clause-reads g c).After-drain low)
+returns-clause-reads g c = grind (arith, read)
 
 pub returns-in-Err-clause-failures : goal.returns-in-Err-clause-failures
-returns-in-Err-clause-failures g c =
-    raised_by_feed g.S.Source.failures c.args.sources.now c.args.sources.now c.args.i c.index-sources-i.result
-    c.drain.new.source c.in-Err.fault
-    refl c.requires.inside c.in-Err.ensures.failures
+returns-in-Err-clause-failures g c = grind (arith, raised_by_feed)
 
 pub returns-in_err-let_wait-clause-failures : goal.returns-in_err-let_wait-clause-failures
-returns-in_err-let_wait-clause-failures g c =
-    let f = map g.S.Source.failures in
-    let new = f (set c.args.sources.now c.args.i c.drain.new.source) in
-    let same = map_set_same g.S.Source.failures c.args.sources.now c.args.i c.index-sources-i.result c.drain.new.source
-    c.requires.inside c.in-Ok.ensures.failures in
-    counts_reads c.from_residual.result Memory (f c.args.sources.now) (f c.args.sources.now) new
-    c.from_residual.ensures.1 refl same
+returns-in_err-let_wait-clause-failures g c = grind (arith, map_set_same, counts_reads)
 
 pub returns-clause-failures : goal.returns-clause-failures
-returns-clause-failures g c =
-    map_set_same g.S.Source.failures c.args.sources.now c.args.i c.index-sources-i.result c.drain.new.source
-    c.requires.inside c.in-Ok.ensures.failures
+returns-clause-failures g c = grind (arith, map_set_same)

@@ -1,9 +1,7 @@
-use Rattle.std.proofs.lemmas.List.{map-append}
-use Rattle.std.proofs.lemmas.List.{set-set}
-use Rattle.std.specs.List.{AllZip}
-use Rattle.std.proofs.Common.{◌≡◌, ◌≤◌, Some, ◌+◌, ◌∷◌, ◌++◌, [], Box, Global, List, length, get_or, set, map, zip}
-use Rattle.std.proofs.Common.{false, is_lt, refl, sym, ap, ◌∙◌, subst, arith, length-set}
+use Rattle.std.proofs.lemmas.List.{map-append, set-set}
 use Rattle.std.specs.List.{AllByRecursion}
+use Rattle.std.proofs.Common.{◌≡◌, ◌≤◌, Some, ◌+◌, ◌∷◌, ◌++◌, [], Box, Global, List, length, get_or, set, map, false}
+use Rattle.std.proofs.Common.{is_lt, refl, sym, ap, ◌∙◌, subst, arith, length-set}
 use Rattle.std.specs.List.Sorted.{IsPermutation}
 use Rattle.std.proofs.lemmas.Cmp.{tied_itself}
 use Rattle.std.proofs.lemmas.List.Sorted.{IsPermutation-sym}
@@ -16,19 +14,18 @@ use Rattle.merge_core.specs.declared.feed.Feed.{Feed}
 use Rattle.line_queue.specs.PairOrders.{Alike, Upto}
 use Rattle.line_queue.specs.WaitingLines.{WaitingLine, waiting_pair, turn_cmp}
 use Rattle.merge_core.specs.Feeds.{IsSettled, AreSettled, due}
-use Rattle.merge_core.specs.Gathering.{Gathered, Grouped, IsFrom, IsDue, WaitsAbove, Drained, AreTold, all_done, unread}
-use Rattle.merge_core.specs.LineFaults.{IsMergeFaultOf}
+use Rattle.merge_core.specs.Gathering.{Gathered, Grouped, IsFrom, IsDue, Drained, AreTold, all_done, unread}
 use Rattle.merge_core.specs.declared.fault.MergeFault.TheVariants.{Memory}
 use Rattle.merge_core.specs.Spending.{AreReadTo}
 use Rattle.line_queue.proofs.PairOrder.{upto_itself}
 use Rattle.merge_core.proofs.MergeLemmas.{on_err}
 use Rattle.merge_core.proofs.SpendLemmas.{due_read}
 use Rattle.merge_core.proofs.WholeLemmas.{texts_kept}
-use Rattle.merge_core.proofs.FailLemmas.{counts_reads, if_err}
+use Rattle.merge_core.proofs.FailLemmas.{if_err}
 use Rattle.merge_core.proofs.GroupLemmas.{AreAt, AreBelow, from_waited}
 use Rattle.merge_core.proofs.GatherSteps.{Gathers, TakenNext, gathers_start, taken_next, gathers_drained, gathers_all}
 use Rattle.line_queue.proofs.HeapLemmas.{each_permuted}
-use Rattle.merge_core.proofs.Many.{Move, moved_trans, moved_still, set_own, each_replaced}
+use Rattle.merge_core.proofs.Many.{moved_trans, moved_still, set_own, each_replaced}
 use Rattle.line_queue.proofs.TurnLemmas.{above_popped, not_before}
 use Rattle.merge_core.proofs.streams.Streams.gather.Given.{Over}
 use Rattle.merge_core.proofs.streams.Streams.gather.Goals.{After-drain, After-push, In_ok-drain}
@@ -39,7 +36,7 @@ values = map (λ (b : Box Line Global). b.value)
 
 -- the lines are drained at the pair of the group
 same : (g : Over) (c : In_ok-drain g) → member_pair c.deref-in-sources.result.now ≡ member_pair c.new-keyed.result
-same g c = ap member_pair (c.deref-in-sources.ensures ∙ sym (c.new-keyed.ensures ∙ c.deref.ensures))
+same g c = cc
 
 -- what a source's further lines make of the group
 drained : (g : Over) (c : In_ok-drain g)
@@ -68,7 +65,7 @@ drained_settled g c =
     let f = ok.drained.feed in
     let own = ap (λ (l : List Feed). get_or l c.sources.i f) ok.drained.feed_is
     ∙ set_own c.sources.self.feeds.items c.sources.i f in
-    subst AreSettled (sym ok.drained.feed_is) (c.sources.invariant.settled f (subst IsSettled own (ok.settled f)))
+    grind arith
 
 -- its lines have the group's pair
 drained_each : (g : Over) (c : In_ok-drain g) → AreAt (member_pair c.new-keyed.result) (values c.drain.new.rest.items)
@@ -81,9 +78,7 @@ drained_from : (g : Over) (c : In_ok-drain g)
     → AllByRecursion (IsFrom (member_pair c.new-keyed.result) (c.sources.i + 1)) c.drain.new.self.waiting
 drained_from g c =
     let pair = member_pair c.new-keyed.result in
-    from_waited pair (c.sources.i + 1) c.sources.i c.sources.self.waiting c.drain.new.self.waiting
-    (subst (λ p. WaitsAbove p c.sources.i c.sources.self.waiting c.drain.new.self.waiting) (same g c)
-    c.in_ok-drain.ensures.waits)
+    from_waited pair (c.sources.i + 1) c.sources.i c.sources.self.waiting c.drain.new.self.waiting (grind arith)
     c.sources.invariant.from
 
 -- the line that is taken next
@@ -91,18 +86,12 @@ abbrev taken_line : (g : Over) → After-push g → WaitingLine
 taken_line g c = record { member = c.next-in-sources.inside.line.value; source = c.next-in-sources.inside.source }
 
 taken_alike : (g : Over) (c : After-push g) → Alike (waiting_pair (taken_line g c)) (member_pair c.new-keyed.result)
-taken_alike g c =
-    subst (λ (v : WaitingLine). Alike (waiting_pair v) (member_pair c.new-keyed.result)) (sym c.next-in-sources.view_is)
-    c.in-Some-take_at.ensures.alike
+taken_alike g c = grind arith
 
 taken_feeds : (g : Over) (c : After-push g) (d : Feed) → c.take_at.new.self.feeds.items
     ≡ set c.drain.new.self.feeds.items (taken_line g c).source
     (due (get_or c.drain.new.self.feeds.items (taken_line g c).source d))
-taken_feeds g c =
-    let feeds = c.drain.new.self.feeds.items in
-    subst (λ (v : WaitingLine). (d : Feed) → c.take_at.new.self.feeds.items
-    ≡ set feeds v.source (due (get_or feeds v.source d)))
-    (sym c.next-in-sources.view_is) c.in-Some-take_at.ensures.feeds
+taken_feeds g c = grind arith
 
 -- what it makes of the group
 taken : (g : Over) (c : After-push g)
@@ -133,11 +122,7 @@ taken g c h from =
     (mine.1 (taken_alike g c)) (taken_alike g c)
 
 pub returns-in_default-clause-moved : goal.returns-in_default-clause-moved
-returns-in_default-clause-moved g c =
-    subst (λ (fs : List Feed). AllZip (Move g.S.Source.text g.S.Source.extent g.S.Source.gave)
-    (zip c.args.sources.now c.args.self.now.feeds.items) (zip c.args.sources.now fs))
-    (sym c.in_default.ensures.feeds)
-    (moved_still g.S.Source.text g.S.Source.extent g.S.Source.gave (zip c.args.sources.now c.args.self.now.feeds.items))
+returns-in_default-clause-moved g c = grind (arith, moved_still)
 
 pub sources-init : goal.sources-init
 sources-init g c =
@@ -158,9 +143,7 @@ sources-init g c =
     w c.take_first.new.self.waiting c.take_first.new.self.feeds.items out feeds later (omega arith)
     (tied_itself pair_cmp_total pair) in
     record {
-      gathers = subst (λ (l : List (Box Line Global)). Gathers LINE_LIMIT past g.S.Source.text g.S.Source.extent
-          g.S.Source.gave ss fs pair (w.source + 1) ss c.take_first.new.self.feeds.items c.take_first.new.self.waiting
-          (w.member ∷ map (λ (b : Box Line Global). b.value) l)) (sym c.requires.empty) t.gathers;
+      gathers = grind arith;
       held = c.take_first.ensures.held;
       inside = t.inside;
       due = t.due;
@@ -185,15 +168,10 @@ sources-init g c =
 pub drain-requires-clause-due : goal.drain-requires-clause-due
 drain-requires-clause-due g c = λ a d.
     subst (λ p. IsDue LINE_LIMIT p (g.S.Source.text (get_or c.sources.sources c.sources.i a))
-    (get_or c.sources.self.feeds.items c.sources.i d))
-    (sym (ap member_pair (c.deref-in-sources.ensures ∙ sym (c.new-keyed.ensures ∙ c.deref.ensures))))
-    (c.sources.invariant.due a d)
+    (get_or c.sources.self.feeds.items c.sources.i d)) (grind arith) (c.sources.invariant.due a d)
 
 pub returns-in_err-drain-clause-moved : goal.returns-in_err-drain-clause-moved
-returns-in_err-drain-clause-moved g c =
-    moved_trans g.S.Source.text g.S.Source.extent g.S.Source.gave (zip c.args.sources.now c.args.self.now.feeds.items)
-    (zip c.sources.sources c.sources.self.feeds.items) (zip c.drain.new.sources c.drain.new.self.feeds.items)
-    c.sources.invariant.gathers.moved c.drain.ensures.moved
+returns-in_err-drain-clause-moved g c = grind (arith, moved_trans)
 
 pub take_at-requires-clause-from : goal.take_at-requires-clause-from
 take_at-requires-clause-from g c =
@@ -202,11 +180,7 @@ take_at-requires-clause-from g c =
     (drained_from g (goal.at.take_at-requires-clause-from g c).In_ok-drain)
 
 pub returns-in_default-take_at-clause-moved : goal.returns-in_default-take_at-clause-moved
-returns-in_default-take_at-clause-moved g c =
-    let now = drained g (goal.at.returns-in_default-take_at-clause-moved g c).In_ok-drain in
-    subst (λ (us : List Feed). AllZip (Move g.S.Source.text g.S.Source.extent g.S.Source.gave)
-    (zip c.args.sources.now c.args.self.now.feeds.items) (zip c.drain.new.sources us))
-    (sym c.in_default-take_at.ensures.feeds) now.moved
+returns-in_default-take_at-clause-moved g c = grind (arith, drained)
 
 pub returns-in_default-take_at-clause-group : goal.returns-in_default-take_at-clause-group
 returns-in_default-take_at-clause-group g c =
@@ -267,11 +241,7 @@ sources-preserved g c =
     ap values c.in_ok-push.ensures.items
     ∙ map-append (λ (b : Box Line Global). b.value) rest (c.next-in-sources.inside.line ∷ []) in
     record {
-      gathers = subst (λ l. Gathers LINE_LIMIT (g.R.Range.past c.args.range.now) g.S.Source.text g.S.Source.extent
-          g.S.Source.gave
-          c.args.sources.now c.args.self.now.feeds.items pair (w.source + 1)
-          c.drain.new.sources c.take_at.new.self.feeds.items c.take_at.new.self.waiting (c.new-keyed.result ∷ l))
-          (sym pushed) t.gathers;
+      gathers = grind arith;
       held = c.take_at.ensures.held ∙ ok.held ∙ inv.held;
       inside = t.inside;
       due = t.due;
@@ -294,14 +264,7 @@ returns-in_default-take_at-clause-settled g c =
     (drained_settled g (goal.at.returns-in_default-take_at-clause-settled g c).In_ok-drain)
 
 pub returns-in_err-drain-clause-fault : goal.returns-in_err-drain-clause-fault
-returns-in_err-drain-clause-fault g c =
-    let text = g.S.Source.text in let extent = g.S.Source.extent in let gave = g.S.Source.gave in
-    let inv = c.sources.invariant in
-    let texts = map text c.args.sources.now in
-    let kept = texts_kept text extent gave c.args.sources.now c.sources.sources c.args.self.now.feeds.items
-    c.sources.self.feeds.items c.requires.ready.same inv.gathers.as_many inv.gathers.moved in
-    if_err c.from_residual.result c.in_err-drain.field-0.0 (IsMergeFaultOf LINE_LIMIT texts) c.from_residual.ensures.1
-    (subst (λ ts. IsMergeFaultOf LINE_LIMIT ts c.in_err-drain.field-0.0) kept c.in_err-drain.ensures.fault)
+returns-in_err-drain-clause-fault g c = grind (arith, texts_kept, if_err)
 
 -- the sources were read up to the pair
 read_to : (g : Over) (c : After-drain g) → AreTold g.S.Source.text c.args.sources.now
@@ -317,8 +280,7 @@ read_to g c told low =
     let is = ap member_pair (c.deref-in-sources.ensures ∙ sym (c.new-keyed.ensures ∙ c.deref.ensures)) in
     let all = (gathers_all LINE_LIMIT past text g.S.Source.extent g.S.Source.gave c.args.sources.now
     c.args.self.now.feeds.items (member_pair c.new-keyed.result) (c.sources.i + 1) ss fs c.sources.self.waiting
-    (c.new-keyed.result ∷ values c.sources.rest.items) inv.gathers c.requires.ready.same
-    (let l = inv.inside in omega arith) told low).upto in
+    (c.new-keyed.result ∷ values c.sources.rest.items) inv.gathers c.requires.ready.same (omega arith) told low).upto in
     subst (λ q. AreReadTo LINE_LIMIT past text (Some q) c.drain.new.sources c.drain.new.self.feeds.items) is
     (c.drain.ensures.reads
     (subst (λ q. AllByRecursion (λ m. Upto (member_pair m) q) (all_done LINE_LIMIT text ss fs)) (sym is) all))
@@ -349,8 +311,4 @@ returns-in_err-push-clause-reads g c =
     })
 
 pub returns-in_err-drain-clause-failures : goal.returns-in_err-drain-clause-failures
-returns-in_err-drain-clause-failures g c =
-    let f = map g.S.Source.failures in
-    counts_reads c.from_residual.result c.in_err-drain.field-0.0 (f c.args.sources.now) (f c.sources.sources)
-    (f c.drain.new.sources)
-    c.from_residual.ensures.1 c.sources.invariant.failures c.in_err-drain.ensures.failures
+returns-in_err-drain-clause-failures g c = grind arith

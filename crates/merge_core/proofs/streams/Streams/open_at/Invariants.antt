@@ -1,6 +1,5 @@
-use Rattle.std.specs.List.{AllZip}
+use Rattle.std.specs.List.{AllZip, AllByRecursion, sum}
 use Rattle.std.proofs.Common.{◌≡◌, ◌<◌, ◌≤◌, [], length, map, take, drop, zip}
-use Rattle.std.specs.List.{AllByRecursion, sum}
 use Rattle.cdxj_core.specs.declared.limit.TheConstants.{LINE_LIMIT}
 use Rattle.source_core.specs.Halving.{digits}
 use Rattle.merge_core.specs.declared.feed.Feed.{Feed}
