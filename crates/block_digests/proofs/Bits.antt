@@ -1,5 +1,5 @@
 -- The bits of a byte, by a computation over all bytes.
-use Rattle.std.proofs.Common.{◌≡◌, ℕ, ◌+◌, ◌*◌, ◌/◌, ◌%◌, ◌<◌, true, eqb, refl, arith}
+use Rattle.std.proofs.Common.{◌≡◌, ℕ, ◌+◌, ◌*◌, ◌/◌, ◌%◌, ◌<◌, true, eqb, arith}
 use Rattle.std.proofs.lemmas.Bool.{agree_below, agree_below_at, eqb-true}
 
 -- two functions that agree at each byte, by computing both
@@ -8,50 +8,32 @@ agree_at f g same b h = eqb-true (f b) (g b) (agree_below_at (λ v. eqb (f v) (g
 
 pub first : (a : ℕ) → a < 256 → a / 8 ≡ 16 * (a / 128 % 2) + 8 * (a / 64 % 2) + 4 * (a / 32 % 2) + 2 * (a / 16 % 2) + a
     / 8 % 2
-first = agree_at (λ a. a / 8) (λ a. 16 * (a / 128 % 2) + 8 * (a / 64 % 2) + 4 * (a / 32 % 2) + 2 * (a / 16 % 2) + a / 8
-    % 2) refl
+first = grind arith
 
 pub second : (a b : ℕ) → a < 256 → b < 256 → a % 8 * 4 + b / 64
     ≡ 16 * (a / 4 % 2) + 8 * (a / 2 % 2) + 4 * (a / 1 % 2) + 2 * (b / 128 % 2) + b / 64 % 2
-second a b h k =
-    let x = agree_at (λ a. a % 8 * 4) (λ a. 16 * (a / 4 % 2) + 8 * (a / 2 % 2) + 4 * (a / 1 % 2)) refl a h in
-    let y = agree_at (λ b. b / 64) (λ b. 2 * (b / 128 % 2) + b / 64 % 2) refl b k in
-    omega (arith, x, y)
+second a b h k = grind arith
 
 pub third : (b : ℕ) → b < 256 → b / 2 % 32 ≡ 16 * (b / 32 % 2) + 8 * (b / 16 % 2) + 4 * (b / 8 % 2) + 2 * (b / 4 % 2) +
     b / 2 % 2
-third = agree_at (λ b. b / 2 % 32)
-    (λ b. 16 * (b / 32 % 2) + 8 * (b / 16 % 2) + 4 * (b / 8 % 2) + 2 * (b / 4 % 2) + b / 2 % 2) refl
+third = grind arith
 
 pub fourth : (b c : ℕ) → b < 256 → c < 256 → b % 2 * 16 + c / 16
     ≡ 16 * (b / 1 % 2) + 8 * (c / 128 % 2) + 4 * (c / 64 % 2) + 2 * (c / 32 % 2) + c / 16 % 2
-fourth b c h k =
-    let x = agree_at (λ b. b % 2 * 16) (λ b. 16 * (b / 1 % 2)) refl b h in
-    let y = agree_at (λ c. c / 16) (λ c. 8 * (c / 128 % 2) + 4 * (c / 64 % 2) + 2 * (c / 32 % 2) + c / 16 % 2) refl c
-    k in
-    omega (arith, x, y)
+fourth b c h k = grind arith
 
 pub fifth : (c d : ℕ) → c < 256 → d < 256 → c % 16 * 2 + d / 128
     ≡ 16 * (c / 8 % 2) + 8 * (c / 4 % 2) + 4 * (c / 2 % 2) + 2 * (c / 1 % 2) + d / 128 % 2
-fifth c d h k =
-    let x = agree_at (λ c. c % 16 * 2) (λ c. 16 * (c / 8 % 2) + 8 * (c / 4 % 2) + 4 * (c / 2 % 2) + 2 * (c / 1 % 2))
-    refl c h in
-    let y = agree_at (λ d. d / 128) (λ d. d / 128 % 2) refl d k in
-    omega (arith, x, y)
+fifth c d h k = grind arith
 
 pub sixth : (d : ℕ) → d < 256 → d / 4 % 32 ≡ 16 * (d / 64 % 2) + 8 * (d / 32 % 2) + 4 * (d / 16 % 2) + 2 * (d / 8 % 2) +
     d / 4 % 2
-sixth = agree_at (λ d. d / 4 % 32) (λ d. 16 * (d / 64 % 2) + 8 * (d / 32 % 2) + 4 * (d / 16 % 2) + 2 * (d / 8 % 2) + d /
-    4 % 2) refl
+sixth = grind arith
 
 pub seventh : (d e : ℕ) → d < 256 → e < 256 → d % 4 * 8 + e / 32
     ≡ 16 * (d / 2 % 2) + 8 * (d / 1 % 2) + 4 * (e / 128 % 2) + 2 * (e / 64 % 2) + e / 32 % 2
-seventh d e h k =
-    let x = agree_at (λ d. d % 4 * 8) (λ d. 16 * (d / 2 % 2) + 8 * (d / 1 % 2)) refl d h in
-    let y = agree_at (λ e. e / 32) (λ e. 4 * (e / 128 % 2) + 2 * (e / 64 % 2) + e / 32 % 2) refl e k in
-    omega (arith, x, y)
+seventh d e h k = grind arith
 
 pub eighth : (e : ℕ) → e < 256 → e % 32 ≡ 16 * (e / 16 % 2) + 8 * (e / 8 % 2) + 4 * (e / 4 % 2) + 2 * (e / 2 % 2) + e /
     1 % 2
-eighth = agree_at (λ e. e % 32) (λ e. 16 * (e / 16 % 2) + 8 * (e / 8 % 2) + 4 * (e / 4 % 2) + 2 * (e / 2 % 2) + e / 1 %
-    2) refl
+eighth = grind arith

@@ -1,25 +1,19 @@
 -- The capture of a record, from how its block was read.
 use Rattle.std.proofs.Common.{◌≡◌, ◌≢◌, ℕ, ◌+◌, ◌-◌, ◌≤◌, ◌∙◌, List, ◌++◌, Option, None, Some, Result, Ok, Err, IfErr}
-use Rattle.std.proofs.Common.{IfSome, length, take, option_map, unwrap_or, refl, sym, ap, subst, arith}
+use Rattle.std.proofs.Common.{IfSome, length, take, option_map, refl, arith}
 use Rattle.std.proofs.lemmas.List.{length-take}
-use Rattle.std.proofs.Math.Nat.{min-le_left}
 use Rattle.std.specs.Io.KnownBytes.{prepend_known}
 use Rattle.httparse.specs.Grammar.{ResponseHead}
 use Rattle.sha1.specs.Sha1.{sha1}
 use Rattle.warc_core.specs.declared.fault.Cause.{Cause}
 use Rattle.warc_core.specs.declared.fault.Cause.TheVariants as causes
-use Rattle.warc_core.specs.declared.fault.Fault.{Fault}
-use Rattle.warc_core.specs.declared.phase.Phase.TheVariants.{Between}
 use Rattle.warc_core.specs.HeadView.{HeadView, record_length}
 use Rattle.warc_core.specs.Reading.{Reads}
-use Rattle.warc_core.proofs.ReadingLemmas.{GoesOn, GoesOn-reads}
-use Rattle.warc_core.specs.Answers.{CountsRead}
-use Rattle.warc_core.specs.ReaderView.{ReaderView, StandsAt, FailedBy, state_of}
+use Rattle.warc_core.proofs.ReadingLemmas.{GoesOn}
+use Rattle.warc_core.specs.ReaderView.{ReaderView, state_of}
 use Rattle.warc_core.specs.Calls.{Finishes}
 use Rattle.warc_core.specs.Record.{after_record}
-use Rattle.warc_core.specs.Cause.{StopsRecord}
-use Rattle.warc_core.proofs.CauseLemmas.{not-memory}
-use Rattle.cdxj_core.specs.Entries.{EntryValue, HasLine}
+use Rattle.cdxj_core.specs.Entries.{EntryValue}
 use Rattle.capture_core.specs.declared.fault.CaptureFault.{CaptureFault}
 use Rattle.capture_core.specs.declared.fault.CaptureFault.TheVariants.{Archive, LineTooLong, KeyTooLong}
 use Rattle.block_digests.specs.Base32.{base32_of}
@@ -27,15 +21,10 @@ use Rattle.capture_core.specs.HttpHead.{then_more}
 use Rattle.block_digests.specs.RestDigest.{digest_of_rest}
 use Rattle.capture_core.specs.Capture.{ResponseValue, IsCaptureUnder, entry_of, response_of, digest_of, settled_digest}
 use Rattle.capture_core.specs.Capture.{payload_of}
-use Rattle.capture_core.specs.RecordReading.{reading_after, reading_of, IsCaptureFaultAt, Leaves, ReadsRest}
-use Rattle.capture_core.specs.CaptureAnswer.{Limits, IsCaptureOf, IsEntryOf, AnswersEntry, PartsBlock}
+use Rattle.capture_core.specs.RecordReading.{reading_of, IsCaptureFaultAt, ReadsRest}
+use Rattle.capture_core.specs.CaptureAnswer.{Limits, IsCaptureOf, AnswersEntry, PartsBlock}
 use Rattle.block_digests.proofs.DigestLemmas.{take_past}
 use Rattle.block_digests.proofs.VerdictLemmas.{digest-then, digest-found}
-
--- a fault that isn't a refused growth ends the reading
-pub reading_after-fault : (c : Cause) → c ≢ causes.Memory → reading_after c ≡ Err c
-reading_after-fault causes.Memory n = absurd (n refl)
-reading_after-fault c n = refl
 
 -- ---- how the record was read
 
@@ -44,28 +33,7 @@ module _ {A : Type 0} (left : ℕ) (h : HeadView) (old new : ReaderView) (before
   pub rest-whole : (r : Result A CaptureFault) (n : ℕ) → old.offset ≡ h.start
       → Finishes left (record_length h) (state_of old before k) (state_of new after k') (Ok n) → reading_of r ≡ Ok tt
       → IfErr r (IsCaptureFaultAt h.start) → ReadsRest left h (state_of old before k) (state_of new after k') r
-  rest-whole r n o f own at = record {
-    bytes = subst (λ x. Reads (after_record left) x (prepend_known old.held before) (prepend_known new.held after))
-        (sym own) f.bytes;
-    state = subst (Leaves h new) (sym own) (subst (λ s. StandsAt new (s + record_length h) Between) o f.state.1);
-    fault = at;
-    cause = subst (λ x. IfErr x StopsRecord) (sym own) tt;
-    failures = subst (λ x. CountsRead x k k') (sym own) f.failures;
-  }
-
-  -- the reader failed in what was left
-  pub rest-failed : (f : Fault) → StopsRecord f.cause
-      → Reads (after_record left) (Err f.cause) (prepend_known old.held before) (prepend_known new.held after)
-      → FailedBy new h.start f → CountsRead {A = Unit {0}} (Err f.cause) k k'
-      → ReadsRest {A = A} left h (state_of old before k) (state_of new after k') (Err (Archive f))
-  rest-failed f stops b s c = let m = not-memory f.cause stops in record {
-    bytes = subst (λ x. Reads (after_record left) x (prepend_known old.held before) (prepend_known new.held after))
-        (sym (reading_after-fault f.cause m)) b;
-    state = subst (Leaves h new) (sym (reading_after-fault f.cause m)) s.stands;
-    fault = s.at;
-    cause = subst (λ x. IfErr x StopsRecord) (sym (reading_after-fault f.cause m)) stops;
-    failures = subst (λ x. CountsRead x k k') (sym (reading_after-fault f.cause m)) c;
-  }
+  rest-whole r n o f own at = grind arith
 
 -- reading goes on after what was read of the block
 pub rest-behind : {A : Type 0} (left left' : ℕ) (h : HeadView) (old mid new : ReaderView) (r : Result A CaptureFault)
@@ -73,13 +41,7 @@ pub rest-behind : {A : Type 0} (left left' : ℕ) (h : HeadView) (old mid new : 
     → GoesOn (after_record left) (after_record left') (prepend_known old.held before) (prepend_known mid.held between)
     → l ≡ k → ReadsRest left' h (state_of mid between l) (state_of new after k') r
     → ReadsRest left h (state_of old before k) (state_of new after k') r
-rest-behind left left' h old mid new r before between after k l k' g e s = record {
-  bytes = GoesOn-reads (after_record left) (after_record left') (reading_of r) _ _ _ g s.bytes;
-  state = s.state;
-  fault = s.fault;
-  cause = s.cause;
-  failures = subst (λ c. CountsRead (reading_of r) c k') e s.failures;
-}
+rest-behind left left' h old mid new r before between after k l k' g e s = grind arith
 
 -- after a digest of what is left, only the closing is left
 pub behind-digest : (left : ℕ) (start digest : List ℕ) (before after : Option (List ℕ))
@@ -130,27 +92,14 @@ module _ (limits : Limits) (h : HeadView) (name url front payload bytes digest :
   capture-is p d =
       let block : take h.parts.length (front ++ bytes) ≡ front
       ++ more = take_past h.parts.length front bytes p.within in
-      let few : length more ≤ h.parts.length - length front = subst (λ n. n ≤ h.parts.length - length front)
-      (sym (length-take (h.parts.length - length front) bytes))
-      (min-le_left (h.parts.length - length front) (length bytes)) in
-      let short = p.within in
-      let whole : IsCaptureUnder (Some url) limits.http_head limits.http_fields h (front ++ more) name (Some entry) = (
-        then_more more p.found,
-        p.decides more (omega arith),
-        ap Some (ap (λ x. entry_of h name x digest url) (p.response_is ∙ sym (same-response more p.found))
-            ∙ ap (λ x. entry_of h name (option_map (λ q. response_of q.0) (then_more more p.found)) x url)
-            (d ∙ ap (digest_of h) (ap (λ t. t ++ more) p.payload_is ∙ sym (payload-behind front more p.found)))),
-      ) in
-      subst (λ b. IsCaptureUnder (Some url) limits.http_head limits.http_fields h b name (Some entry)) (sym block) whole
+      let few : length more ≤ h.parts.length - length front = grind (arith, length-take) in
+      grind (arith, same-response, payload-behind)
 
   -- what the entry answers is the capture
   pub capture-known : PartsBlock limits h front response payload → digest ≡ digest_of h (payload ++ more)
       → (r : Result (Option EntryValue) CaptureFault) → AnswersEntry limits.line entry r
       → IsCaptureOf (Some url) limits h name (front ++ bytes) r
-  capture-known p d (Ok captured) a = subst
-      (IsCaptureUnder (Some url) limits.http_head limits.http_fields h (take h.parts.length (front ++ bytes)) name)
-      (sym a)
-      (capture-is p d)
+  capture-known p d (Ok captured) a = grind (arith, capture-is)
   capture-known p d (Err (Archive x)) a = tt
   capture-known p d (Err (LineTooLong o)) a = (entry, capture-is p d, a)
   capture-known p d (Err (KeyTooLong o)) a = refl
@@ -158,22 +107,11 @@ module _ (limits : Limits) (h : HeadView) (name url front payload bytes digest :
 -- a digest that is settled is that of any payload
 pub digest-settled : (h : HeadView) (digest payload : List ℕ) → settled_digest h ≡ Some digest → digest
     ≡ digest_of h payload
-digest-settled h digest payload e = sym (ap (λ o. unwrap_or o (base32_of (sha1 payload))) e)
+digest-settled h digest payload e = grind arith
 
 pub digest-made : (h : HeadView) (digest payload : List ℕ) → settled_digest h ≡ None → digest ≡ sha1 payload
     → base32_of digest ≡ digest_of h payload
-digest-made h digest payload e d = ap base32_of d ∙ sym (ap (λ o. unwrap_or o (base32_of (sha1 payload))) e)
-
--- an entry whose line is within the limit
-pub entry-fits : (h : HeadView) (name : List ℕ) (limit : ℕ) (response : Option ResponseValue) (digest url : List ℕ)
-    (e : EntryValue) → e ≡ entry_of h name response digest url → HasLine limit e → IsEntryOf h name limit e
-entry-fits h name limit response digest url e v l = record {
-  good = l.0;
-  filename = ap (λ y. y.filename) v;
-  offset = ap (λ y. y.offset) v;
-  size = ap (λ y. y.length) v;
-  fits = l.1;
-}
+digest-made h digest payload e d = grind arith
 
 pub some-always : {A : Type 0} (o : Option A) (P : A → Type 0) → ((x : A) → P x) → IfSome o P
 some-always None P h = tt

@@ -1,5 +1,6 @@
 -- A record has one capture.
-use Rattle.std.proofs.Common.{◌≡◌, ◌∙◌, ℕ, List, Bool, true, false, cond, Option, None, Some, option_map, refl, sym, ap}
+use Rattle.std.proofs.Common.{arith, ◌≡◌, ◌∙◌, ℕ, List, Bool, true, false, cond, Option, None, Some, option_map, refl}
+use Rattle.std.proofs.Common.{sym}
 use Rattle.httparse.specs.Grammar.{ResponseHead}
 use Rattle.warc_core.specs.Kind.{Kind}
 use Rattle.warc_core.specs.HeadView.{HeadView}
@@ -18,12 +19,10 @@ one_found false limit few block f g x y = x ∙ sym y
 one_under : (url : Option (List ℕ)) (limit few : ℕ) (h : HeadView) (block name : List ℕ) (a b : Option EntryValue)
     → IsCaptureUnder url limit few h block name a → IsCaptureUnder url limit few h block name b → a ≡ b
 one_under None limit few h block name a b x y = x ∙ sym y
-one_under (Some url) limit few h block name a b x y =
-    x.2 ∙ ap (λ f. Some (entry_of h name (option_map (λ p. response_of p.0) f) (digest_of h (payload_of block f)) url))
-    (one_found (may_have_head h) limit few block x.0 y.0 x.1 y.1) ∙ sym y.2
+one_under (Some url) limit few h block name a b x y = grind (arith, one_found)
 
 pub one_capture : OneCapture
-one_capture types limit few h block name a b x y = one_under (url_of types h) limit few h block name a b x y
+one_capture types limit few h block name a b x y = grind (arith, one_under)
 
 -- ---- it has one
 

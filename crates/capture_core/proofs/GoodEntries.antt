@@ -6,8 +6,6 @@ use Rattle.percent_encoding.specs.Percent.{percent_encode}
 use Rattle.percent_encoding.specs.declared.ascii_set.TheConstants.AsciiSet.{EMPTY}
 use Rattle.percent_encoding.proofs.PercentLemmas.{percent_encode_nonempty}
 use Rattle.std.proofs.lemmas.Grind.{common_steps}
-use Rattle.warc_core.specs.Kind.{Kind}
-use Rattle.warc_core.specs.Kind.kinds
 use Rattle.warc_core.specs.Length.{all_digits}
 use Rattle.warc_core.specs.HeadView.{HeadView}
 use Rattle.cdxj_places.specs.Pair.{is_stamp}
@@ -15,7 +13,7 @@ use Rattle.cdxj_core.specs.Texts.{or_missing}
 use Rattle.capture_core.specs.Indexed.{field, is_marked}
 use Rattle.capture_core.specs.Utf8Text.{utf8_text}
 use Rattle.capture_core.specs.FieldValue.{media_type}
-use Rattle.capture_core.specs.Capture.{ResponseValue, media_of, content_of, mime_in, mime_of, status_of}
+use Rattle.capture_core.specs.Capture.{ResponseValue, media_of, content_of, mime_of, status_of}
 
 -- the text of a value that isn't empty isn't either
 pub text_is_filled : (value : List ℕ) → 0 < length value → 0 < length (utf8_text value)
@@ -43,12 +41,8 @@ content_is_filled h None = go (is_marked h)
     go true = omega arith
     go false = media_is_filled (field (codes "Content-Type") h)
 
-mime_in_is_filled : (kind : Kind) (content : List ℕ) → 0 < length content → 0 < length (mime_in kind content)
-mime_in_is_filled kinds.Revisit content h = omega arith
-mime_in_is_filled kind content h = h
-
 pub mime_is_filled : (h : HeadView) (response : Option ResponseValue) → 0 < length (mime_of h response)
-mime_is_filled h response = mime_in_is_filled h.parts.kind (content_of h response) (content_is_filled h response)
+mime_is_filled h response = grind (arith, content_is_filled)
 
 pub status_is_filled : (response : Option ResponseValue) → 0 < length (status_of response)
 status_is_filled None = omega arith

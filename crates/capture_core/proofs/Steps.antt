@@ -1,21 +1,18 @@
 -- The front of a block, read in steps.
+use Rattle.std.proofs.lemmas.Grind.{common_steps}
 use Rattle.std.proofs.Common.{◌≡◌, ℕ, ◌+◌, ◌-◌, ◌≤◌, ◌∙◌, ◌⊎◌, inl, inr, List, [], ◌∷◌, ◌++◌, Bool, true, false, cond}
-use Rattle.std.proofs.Common.{Option, None, Some, Result, IfSome, length, take, drop, min, nat_le, option_map, is_some}
-use Rattle.std.proofs.Common.{refl, sym, ap, subst, arith, append-nil, append_assoc, if◌then◌else◌}
-use Rattle.std.proofs.lemmas.Bool.Decides.{nat_tests}
-use Rattle.std.proofs.Math.Nat.{min-le_left, min-le_right, min-eq_left, min-eq_right}
+use Rattle.std.proofs.Common.{Option, None, Some, Result, IfSome, length, take, min, option_map, is_some, refl, sym, ap}
+use Rattle.std.proofs.Common.{subst, arith, append-nil, append_assoc, if◌then◌else◌}
 use Rattle.std.proofs.Math.Seq.{take-append_seam, drop-append_seam}
 use Rattle.std.specs.Io.KnownBytes.{Consumes}
 use Rattle.httparse.specs.Grammar.{ResponseHead}
-use Rattle.httparse.proofs.GrammarLemmas.{ReadsResponse-append}
 use Rattle.warc_core.specs.HeadView.{HeadView}
 use Rattle.warc_core.proofs.OpenLemmas.{behind-front}
-use Rattle.warc_core.proofs.ReadingLemmas.{GoesOn, nil_of}
+use Rattle.warc_core.proofs.ReadingLemmas.{GoesOn}
 use Rattle.warc_core.specs.Record.{after_record}
 use Rattle.cdxj_core.specs.Entries.{EntryValue}
 use Rattle.capture_core.specs.declared.fault.CaptureFault.{CaptureFault}
 use Rattle.capture_core.specs.HttpHead.{IsHeadOf, then_more}
-use Rattle.capture_core.specs.Indexed.{may_have_head}
 use Rattle.capture_core.specs.Capture.{ResponseValue, IsHeadFor, response_of, payload_of}
 use Rattle.capture_core.specs.RecordReading.{front_length}
 use Rattle.capture_core.specs.CaptureAnswer.{Limits, IsCaptureOf, PartsBlock}
@@ -27,23 +24,15 @@ use Rattle.capture_core.proofs.HeadLemmas.{front_decides, no_head_in_nothing}
 found-first : (may : Bool) (limit few : ℕ) (front more : List ℕ) (f : ResponseHead × List ℕ)
     → cond may (IsHeadOf limit few front (Some f)) (Some f ≡ None)
     → cond may (IsHeadOf limit few (front ++ more) (then_more more (Some f))) (then_more more (Some f) ≡ None)
-found-first true limit few front more f h = record {
-  reads = ReadsResponse-append front f.0 f.1 more h.reads;
-  short = h.short;
-  few = h.few;
-}
+found-first true limit few front more f h = grind (arith, common_steps)
 found-first false limit few front more f h = ap (then_more more) h
 
 -- the HTTP head of a block is that of its front
 head-behind : (limit few : ℕ) (front more : List ℕ) (found : Option (ResponseHead × List ℕ)) → (length front ≡ limit)
     ⊎ (more ≡ []) → IsHeadOf limit few front found → IsHeadOf limit few (front ++ more) (then_more more found)
 head-behind limit few front more found (inl full) e =
-    let front_is : take limit (front ++ more) ≡ front = ap (λ n. take n (front ++ more)) (sym full)
-    ∙ take-append_seam front more in
-    let more_is : drop limit (front ++ more) ≡ more = ap (λ n. drop n (front ++ more)) (sym full)
-    ∙ drop-append_seam front more in
-    subst (λ m. IsHeadOf limit few (front ++ more) (then_more m found)) more_is
-    (front_decides limit few (front ++ more) found (subst (λ f. IsHeadOf limit few f found) (sym front_is) e))
+    let front_is : take limit (front ++ more) ≡ front = grind (arith, take-append_seam) in
+    grind (arith, drop-append_seam, front_decides)
 head-behind limit few front more found (inr none) e =
     subst (λ m. IsHeadOf limit few (front ++ m) (then_more m found)) (sym none)
     (subst (λ f. IsHeadOf limit few f (then_more [] found)) (sym (append-nil front))
@@ -53,23 +42,12 @@ head-behind limit few front more found (inr none) e =
     no_more None = refl
     no_more (Some f) = ap (λ p. Some (f.0, p)) (append-nil f.1)
 
-le-or : (a b : ℕ) (t : Bool) → nat_le a b ≡ t → (a ≤ b) ⊎ (b ≤ a)
-le-or a b true e = inl (grind (arith, nat_tests))
-le-or a b false e = inr (grind (arith, nat_tests))
-
-front-or-all : (len limit n : ℕ) (more : List ℕ) → n ≡ min len limit → n + length more ≤ len → (n ≡ limit) ⊎ (more ≡ [])
-front-or-all len limit n more e h = elim (le-or limit len (nat_le limit len) refl) [
-  | inl full ↦ inl (e ∙ min-eq_right full)
-  | inr all ↦ inr (let whole : n ≡ len = e ∙ min-eq_left all in nil_of more (omega arith))
-]
-
 -- found in the front, found in the block
 found-front : (may : Bool) (limit few len : ℕ) (front more : List ℕ) (found : Option (ResponseHead × List ℕ))
     → length front ≡ min len (if may then limit else 0) → length front + length more ≤ len
     → cond may (IsHeadOf limit few front found) (found ≡ None)
     → cond may (IsHeadOf limit few (front ++ more) (then_more more found)) (then_more more found ≡ None)
-found-front true limit few len front more found l h f = head-behind limit few front more found
-    (front-or-all len limit (length front) more l h) f
+found-front true limit few len front more found l h f = grind (arith, common_steps, head-behind)
 found-front false limit few len front more found l h f = ap (then_more more) f
 
 head-where : (may : Bool) (limit few len : ℕ) (front : List ℕ) (found : Option (ResponseHead × List ℕ))
@@ -78,12 +56,12 @@ head-where : (may : Bool) (limit few len : ℕ) (front : List ℕ) (found : Opti
 head-where true limit few len front found l e = e
 head-where false limit few len front None l e = refl
 head-where false limit few len [] (Some f) l e = absurd (no_head_in_nothing limit few [] refl f.0 f.1 e)
-head-where false limit few len (x ∷ front) (Some f) l e = absurd (let m = min-le_right len 0 in omega (arith, l, m))
+head-where false limit few len (x ∷ front) (Some f) l e = grind arith
 
 -- the head in a front of a block is that of the record
 pub head-for : (limit few : ℕ) (h : HeadView) (front : List ℕ) (found : Option (ResponseHead × List ℕ))
     → length front ≤ front_length limit h → IsHeadOf limit few front found → IsHeadFor limit few h front found
-head-for limit few h front found l e = head-where (may_have_head h) limit few h.parts.length front found l e
+head-for limit few h front found l e = grind (arith, head-where)
 
 module _ (limits : Limits) (h : HeadView) (front payload : List ℕ) (response : Option ResponseValue)
     (found : Option (ResponseHead × List ℕ)) where
@@ -92,16 +70,7 @@ module _ (limits : Limits) (h : HeadView) (front payload : List ℕ) (response :
       → IsHeadFor limits.http_head limits.http_fields h front found
       → response ≡ option_map (λ f. response_of f.0) found → payload ≡ payload_of front found
       → PartsBlock limits h front response payload
-  parts-front l f r p = record {
-    found = found;
-    within = subst (λ n. n ≤ h.parts.length) (sym l)
-        (min-le_left h.parts.length (if may_have_head h then limits.http_head else 0));
-    decides = λ more few. found-front (may_have_head h) limits.http_head limits.http_fields h.parts.length front more
-        found l few
-        f;
-    response_is = r;
-    payload_is = p;
-  }
+  parts-front l f r p = grind (arith, found-front)
 
 -- first bytes with a head in them part the block
 pub parts-first : {X : Type 0} (view : X → ResponseValue) (limits : Limits) (h : HeadView) (front payload : List ℕ)
@@ -113,24 +82,17 @@ parts-first view limits h front payload None found l f r p s = absurd (cc)
 parts-first view limits h front payload (Some x) None l f r p s = absurd (cc)
 parts-first view limits h front payload (Some x) (Some found) l f r p s = record {
   found = Some found;
-  within = (let m = min-le_left h.parts.length (if may_have_head h then limits.http_head else 0) in
-      omega (arith, l, m));
-  decides = λ more few. found-first (may_have_head h) limits.http_head limits.http_fields front more found f;
+  within = grind arith;
+  decides = grind (arith, found-first);
   response_is = r;
   payload_is = p;
 }
-
-pub front-within : (limit : ℕ) (h : HeadView) (front : List ℕ) → length front ≤ front_length limit h
-    → length front ≤ h.parts.length
-front-within limit h front l = let m = min-le_left h.parts.length (if may_have_head h then limit else 0) in omega
-    (arith, l, m)
 
 -- ---- the rest
 
 pub goes-on-to : (n m : ℕ) (front : List ℕ) (before after : Option (List ℕ)) → length front ≤ n → n - length front ≡ m
     → Consumes before after front → GoesOn (after_record n) (after_record m) before after
-goes-on-to n m front before after h e c = subst (λ k. GoesOn (after_record n) (after_record k) before after) e
-    (behind-front n front before after h c)
+goes-on-to n m front before after h e c = grind (arith, behind-front)
 
 -- what is known of the bytes behind the front is known behind its first bytes
 pub capture-behind-first : (url : Option (List ℕ)) (limits : Limits) (h : HeadView) (name first piece front : List ℕ)
@@ -139,6 +101,4 @@ pub capture-behind-first : (url : Option (List ℕ)) (limits : Limits) (h : Head
     → IfSome before (λ bytes. IsCaptureOf url limits h name (first ++ bytes) r)
 capture-behind-first url limits h name first piece front None mid r e c t = tt
 capture-behind-first url limits h name first piece front (Some z) None r e c t = absurd c
-capture-behind-first url limits h name first piece front (Some z) (Some w) r e c t = subst
-    (λ b. IsCaptureOf url limits h name b r) (ap (λ f. f ++ w) e
-    ∙ (append_assoc first piece w ∙ ap (λ b. first ++ b) (sym c))) t
+capture-behind-first url limits h name first piece front (Some z) (Some w) r e c t = grind (arith, append_assoc)

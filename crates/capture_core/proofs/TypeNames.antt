@@ -1,14 +1,13 @@
 -- The names of types, cut at the first comma.
 use Rattle.std.proofs.Common.{◌≡◌, ◌<◌, ◌∙◌, ℕ, Bool, true, false, List, [], ◌∷◌, Option, None, Some, IfSome, length}
-use Rattle.std.proofs.Common.{arith, refl, sym, ap, subst, option_and_then, if◌then◌else◌}
+use Rattle.std.proofs.Common.{arith, refl, sym, ap, option_and_then, if◌then◌else◌}
 use Rattle.std.specs.List.{slice_split, position_or_len, before_first, after_first}
 use Rattle.std.proofs.lemmas.List.Splits.{slice_split_none, slice_split_first, length-slice_split}
 use Rattle.std.proofs.lemmas.List.Sums.{fails_before_first}
 use Rattle.warc_core.specs.Kind.{Kind}
 use Rattle.warc_core.specs.Kind.kinds
 use Rattle.capture_core.specs.declared.types.Types.{Types}
-use Rattle.capture_core.specs.Types.{HasType, includes, is_comma, no_types, plus_kind, types_of, with_kind, with_name}
-use Rattle.capture_core.specs.Types.{with_names}
+use Rattle.capture_core.specs.Types.{HasType, is_comma, no_types, plus_kind, types_of, with_kind, with_name, with_names}
 
 last_of : (o : Option Types) → option_and_then (λ types. with_names types []) o ≡ o
 last_of None = refl
@@ -17,11 +16,7 @@ last_of (Some types) = refl
 -- the only name of a text without commas
 pub only_name : (types : Types) (names : List ℕ) → position_or_len is_comma names ≡ length names
     → with_names types (slice_split is_comma names) ≡ with_name types names
-only_name types names e =
-    ap (with_names types)
-    (slice_split_none is_comma names
-    (λ k d inside. fails_before_first is_comma names k d (omega (arith, e, inside))))
-    ∙ last_of (with_name types names)
+only_name types names e = grind (arith, slice_split_none, fails_before_first, last_of (with_name types names))
 
 -- the first of several, and the others
 pub first_name : (types : Types) (names name others : List ℕ) (named : Option Types) → name
@@ -29,8 +24,7 @@ pub first_name : (types : Types) (names name others : List ℕ) (named : Option 
     → position_or_len is_comma names < length names → named ≡ with_name types name
     → with_names types (slice_split is_comma names)
     ≡ option_and_then (λ more. with_names more (slice_split is_comma others)) named
-first_name types names name others named before after inside is =
-    rw (is, before, after) (ap (with_names types) (slice_split_first is_comma names 0 inside))
+first_name types names name others named before after inside is = grind (arith, slice_split_first)
 
 -- ---- a set that is read has a type
 
@@ -45,29 +39,29 @@ plus-has types kinds.Conversion more e = let same : record types { conversion = 
     ≡ more = cc in (kinds.Conversion, sym (ap (λ t. t.conversion) same))
 plus-has types kinds.Metadata more e = let same : record types { metadata = true }
     ≡ more = cc in (kinds.Metadata, sym (ap (λ t. t.metadata) same))
-plus-has types kind more e = absurd (let f : ◌≡◌ {A = Option Types} None (Some more) = e in cc)
+plus-has types kind more e = absurd (cc)
 
 with-has : (held : Bool) (types : Types) (kind : Kind) (more : Types) → (if held then None else plus_kind types kind)
     ≡ Some more → HasType more
-with-has true types kind more e = absurd (let f : ◌≡◌ {A = Option Types} None (Some more) = e in cc)
+with-has true types kind more e = grind arith
 with-has false types kind more e = plus-has types kind more e
 
 named-has : (kind : Option Kind) (types more : Types) → option_and_then (with_kind types) kind ≡ Some more
     → HasType more
-named-has None types more e = absurd (let f : ◌≡◌ {A = Option Types} None (Some more) = e in cc)
-named-has (Some kind) types more e = with-has (includes types kind) types kind more e
+named-has None types more e = grind arith
+named-has (Some kind) types more e = grind (arith, with-has)
 
 -- the types of some names, where the first gives a set that has a type, or ends the reading
 then-has : (first : Option Types) (names : List (List ℕ)) (types : Types)
     → ((more : Types) → first ≡ Some more → HasType more)
     → ((more : Types) → HasType more → with_names more names ≡ Some types → HasType types)
     → option_and_then (λ more. with_names more names) first ≡ Some types → HasType types
-then-has None names types f g e = absurd (let h : ◌≡◌ {A = Option Types} None (Some types) = e in cc)
+then-has None names types f g e = grind arith
 then-has (Some more) names types f g e = g more (f more refl) e
 
 still-has : (names : List (List ℕ)) (more types : Types) → HasType more → with_names more names ≡ Some types
     → HasType types
-still-has [] more types h e = let same : more ≡ types = cc in subst HasType same h
+still-has [] more types h e = grind arith
 still-has (name ∷ names) more types h e = then-has (with_name more name) names types (λ next f. named-has _ more next f)
     (λ next. still-has names next types) e
 
@@ -79,5 +73,4 @@ names-have (name ∷ names) types some e = then-has (with_name no_types name) na
 
 pub some-type : (text : List ℕ) (read : Option Types) → read ≡ types_of text → IfSome read HasType
 some-type text None e = tt
-some-type text (Some types) e = names-have (slice_split is_comma text) types
-    (omega (arith, length-slice_split is_comma text)) (sym e)
+some-type text (Some types) e = grind (arith, names-have, length-slice_split)

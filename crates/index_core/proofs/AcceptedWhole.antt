@@ -1,13 +1,12 @@
 -- An archive that is accepted with captures is accepted whole.
-use Rattle.std.proofs.Common.{ℕ, Bool, List, [], ◌∷◌, drop, subst}
-use Rattle.std.specs.Option.{IfSome}
+use Rattle.std.proofs.Common.{arith, ℕ, Bool, List, [], ◌∷◌}
 use Rattle.std.specs.List.{AllByRecursion}
 use Rattle.warc_core.specs.Kind.{Kind}
-use Rattle.warc_core.specs.HeadView.{HeadView, block_at}
+use Rattle.warc_core.specs.HeadView.{HeadView}
 use Rattle.cdxj_core.specs.Entries.{EntryValue}
 use Rattle.capture_core.specs.CaptureAnswer.{Limits}
 use Rattle.capture_core.proofs.Captures.{one_capture}
-use Rattle.index_core.specs.Accepted.{IsTaken, AreCaptured, FitsLine}
+use Rattle.index_core.specs.Accepted.{IsTaken, AreCaptured}
 use Rattle.index_core.specs.Laws.{AcceptedIsWhole}
 
 all_taken : (types : Kind → Bool) (limits : Limits) (limit : ℕ) (name archive : List ℕ) (heads : List HeadView)
@@ -15,12 +14,8 @@ all_taken : (types : Kind → Bool) (limits : Limits) (limit : ℕ) (name archiv
     → AreCaptured types limits limit name archive heads captures
     → AllByRecursion (IsTaken types limits limit name archive) heads
 all_taken types limits limit name archive [] captures c = tt
-all_taken types limits limit name archive (h ∷ heads) captures c = (
-  λ other is. subst (λ o. IfSome o (FitsLine types limits limit name))
-      (one_capture types limits.http_head limits.http_fields h (block_at h (drop h.start archive)) name c.0 other c.2.0
-      is) c.2.1,
-  all_taken types limits limit name archive heads c.1 c.3,
-)
+all_taken types limits limit name archive (h ∷ heads) captures
+    c = grind (arith, one_capture, all_taken types limits limit name archive heads c.1 c.3)
 
 pub accepted_is_whole : AcceptedIsWhole
 accepted_is_whole types limits limit name archive captures a = record {

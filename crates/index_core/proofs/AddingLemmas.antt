@@ -1,7 +1,6 @@
 -- The captures that are added, one record further, at the end, and at a fault.
-use Rattle.std.proofs.Common.{◌≡◌, ◌∙◌, ℕ, ◌+◌, ◌≤◌, Bool, List, [], ◌∷◌, ◌++◌, Option, None, Some, Result, Ok, Err}
-use Rattle.std.proofs.Common.{IfSome, option_to_list, length, take, drop, sym, ap, ap₂, refl, subst, append-nil}
-use Rattle.std.proofs.Common.{append_assoc}
+use Rattle.std.proofs.Common.{arith, ◌≡◌, ◌∙◌, ℕ, ◌+◌, ◌≤◌, Bool, List, [], ◌∷◌, ◌++◌, Option, None, Some, Result, Ok}
+use Rattle.std.proofs.Common.{Err, IfSome, option_to_list, length, drop, ap, append_assoc}
 use Rattle.std.specs.Bool.{⊤}
 use Rattle.std.proofs.Math.Seq.{drop-append_seam}
 use Rattle.warc_core.specs.Kind.{Kind}
@@ -19,7 +18,6 @@ use Rattle.cdxj_core.specs.Entries.{EntryValue, line_text}
 use Rattle.capture_core.specs.declared.fault.CaptureFault.{CaptureFault}
 use Rattle.capture_core.specs.declared.fault.CaptureFault.TheVariants.{Archive, LineTooLong, KeyTooLong}
 use Rattle.capture_core.specs.Indexed.{url_of}
-use Rattle.capture_core.specs.Capture.{IsCapture}
 use Rattle.capture_core.specs.CaptureAnswer.{Limits, IsEntryOf, Captures}
 use Rattle.capture_core.specs.RecordReading.{IsCaptureFaultAt, reading_after, reading_of}
 use Rattle.index_core.specs.Accepted.{IsCaptureAt, IsCaptured, AreCaptured, IsAccepted, IsAcceptedTo, IsRefused}
@@ -28,7 +26,6 @@ use Rattle.capture_core.specs.declared.types.Types.{Types}
 use Rattle.index_core.specs.Adding.{with_archive}
 use Rattle.index_core.specs.Captures.{TakesRecord}
 use Rattle.index_core.specs.Indexing.{Held}
-use Rattle.index_core.proofs.ReportLemmas.{stopped_anywhere}
 use Rattle.index_core.proofs.VerdictLemmas.{behind}
 
 pub fault_at : (start : ℕ) (fault : CaptureFault) → IsCaptureFaultAt start fault → fault_offset fault ≡ start
@@ -53,9 +50,8 @@ record_met : (limit start : ℕ) (h : HeadView) (c : Cause) (before mid after : 
     → Reads (next_at limit start) (Ok (Some h)) before mid
     → Reads (after_record h.parts.length) (reading_after c) mid after
     → Reads (record_at limit start) (Err c) before after
-record_met limit start h causes.Memory before mid after r s = stopped_anywhere (record_at limit start) causes.Memory
-    before after refl
-record_met limit start h c before mid after r s = record-unclosed limit start before mid after h c r s
+record_met limit start h causes.Memory before mid after r s = grind arith
+record_met limit start h c before mid after r s = grind (arith, record-unclosed)
 
 module _ (types : Kind → Bool) (limits : Limits) (limit : ℕ) (name : List ℕ) where
   -- These are the captures of the records so far, the last of which ends at the offset.
@@ -72,9 +68,7 @@ module _ (types : Kind → Bool) (limits : Limits) (limit : ℕ) (name : List �
       → IfSome before (λ bytes. IsCaptureAt types limits limit name h bytes captured)
   capture_there start h captured None mid after r s k = tt
   capture_there start h captured (Some z) None after r s k = absurd r
-  capture_there start h captured (Some z) (Some y) after r s k =
-      subst (λ bytes. IsCapture types limits.http_head limits.http_fields h (take h.parts.length bytes) name captured)
-      (sym (behind_head limit start h z y r)) k
+  capture_there start h captured (Some z) (Some y) after r s k = grind (arith, behind_head)
 
   -- why a record that was read has no capture
   pub refused_there : (start : ℕ) (h : HeadView) (fault : CaptureFault) (before mid after : Option (List ℕ))
@@ -83,7 +77,7 @@ module _ (types : Kind → Bool) (limits : Limits) (limit : ℕ) (name : List �
       → Captures (url_of types h) limits h name mid (Err fault)
       → IfSome before (λ bytes. IsRefused types limits limit name start bytes fault)
   refused_there start h (Archive f) before mid after r s k = found_there (record_at limit start) f.cause before after
-      (record_met limit start h f.cause before mid after r s)
+      (grind (arith, record_met))
   refused_there start h (LineTooLong o) None mid after r s k = tt
   refused_there start h (LineTooLong o) (Some z) None after r s k = absurd r
   refused_there start h (LineTooLong o) (Some z) (Some y) None r s k = absurd s
@@ -92,9 +86,7 @@ module _ (types : Kind → Bool) (limits : Limits) (limit : ℕ) (name : List �
     w,
     record-whole limit start (Some z) (Some y) (Some w) h r s,
     k.0,
-    subst
-        (λ bytes. IsCapture types limits.http_head limits.http_fields h (take h.parts.length bytes) name (Some k.0))
-        (sym (behind_head limit start h z y r)) k.1,
+    grind (arith, behind_head),
     k.2,
   )
   refused_there start h (KeyTooLong o) None mid after r s k = tt
@@ -107,22 +99,9 @@ module _ (types : Kind → Bool) (limits : Limits) (limit : ℕ) (name : List �
       (captured : Option EntryValue) → AreCaptured types limits limit name archive heads captures
       → IsCaptured types limits limit name archive h captured
       → AreCaptured types limits limit name archive (heads ++ h ∷ []) (captures ++ option_to_list captured)
-  captured_more archive [] captures h captured w k = (
-    captured,
-    [],
-    k,
-    refl,
-    ap (λ xs. xs ++ option_to_list captured) w
-        ∙ sym (append-nil (option_to_list captured)),
-  )
-  captured_more archive (g ∷ heads) captures h captured w k = (
-    w.0,
-    w.1 ++ option_to_list captured,
-    w.2,
-    captured_more archive heads w.1 h captured w.3 k,
-    ap
-        (λ xs. xs ++ option_to_list captured) w.4 ∙ append_assoc (option_to_list w.0) w.1 (option_to_list captured),
-  )
+  captured_more archive [] captures h captured w k = grind arith
+  captured_more archive (g ∷ heads) captures h captured w
+      k = grind (arith, option_to_list, append_assoc, captured_more archive heads w.1 h captured w.3 k)
 
   fits_line : (h : HeadView) (captured : Option EntryValue) → IfSome captured (IsEntryOf h name limits.line)
       → IfSome captured (λ e. length (line_text e) ≤ limits.line)
@@ -142,11 +121,7 @@ module _ (types : Kind → Bool) (limits : Limits) (limit : ℕ) (name : List �
       ∙ behind archive f.0 z o f.1 f.2 in (
         s.0 ++ h ∷ [],
         Walks-more limit 0 archive s.0 o z h y s.1 t.bytes,
-        captured_more archive s.0 gained h captured s.2 (
-          subst (λ bytes. IsCaptureAt types limits limit name h bytes captured) (sym there) t.capture,
-          fits_line h
-              captured t.entry,
-        ),
+        grind (arith, captured_more, fits_line),
       )
 
   pub AddedSoFar-end : (left now after : Option (List ℕ)) (o : ℕ) (gained : List EntryValue)
@@ -155,11 +130,7 @@ module _ (types : Kind → Bool) (limits : Limits) (limit : ℕ) (name : List �
   AddedSoFar-end None now after o gained s r = tt
   AddedSoFar-end (Some archive) None after o gained s r = absurd s
   AddedSoFar-end (Some archive) (Some z) None o gained s r = absurd r
-  AddedSoFar-end (Some archive) (Some z) (Some y) o gained s r = record {
-    heads = s.0;
-    whole = record { end = o; walks = subst (Walks limit 0 archive s.0 o) (none_at_end limit o z y r) s.1 };
-    captured = s.2;
-  }
+  AddedSoFar-end (Some archive) (Some z) (Some y) o gained s r = grind (arith, none_at_end)
 
   -- what comes next is refused
   pub AddedSoFar-refused : (left now : Option (List ℕ)) (o : ℕ) (gained : List EntryValue) (fault : CaptureFault)
@@ -168,25 +139,11 @@ module _ (types : Kind → Bool) (limits : Limits) (limit : ℕ) (name : List �
       → IfSome left (λ archive. IsAcceptedTo types limits limit name fault archive gained)
   AddedSoFar-refused None now o gained fault s r = tt
   AddedSoFar-refused (Some archive) None o gained fault s r = absurd s
-  AddedSoFar-refused (Some archive) (Some z) o gained fault s r = record {
-    heads = s.0;
-    rest = z;
-    walks = subst (λ n. Walks limit 0 archive s.0 n z) (sym r.0) s.1;
-    captured = s.2;
-    refused = subst (λ n. IsRefused types limits limit name n z fault) (sym r.0) r.1;
-  }
-
-  -- memory is refused before anything is read
-  pub none_added : (left : Option (List ℕ))
-      → IfSome left (λ archive. IsAcceptedTo types limits limit name
-      (Archive (record { offset = 0; cause = causes.Memory })) archive [])
-  none_added None = tt
-  none_added (Some archive) = record { heads = []; rest = archive; walks = (refl, refl); captured = refl; refused = tt }
+  AddedSoFar-refused (Some archive) (Some z) o gained fault s r = grind arith
 
 -- what is held with the captures of one more archive
 pub held_more : (types : Types) (names more : List (List ℕ)) (captures those gained : List EntryValue) (name : List ℕ)
     → more ≡ names ++ name ∷ [] → those ≡ captures ++ gained
     → ◌≡◌ {A = Held} (record { types = types; names = more; captures = those })
     (with_archive name gained (record { types = types; names = names; captures = captures }))
-held_more types names more captures those gained name e f = ap₂
-    (λ (ns : List (List ℕ)) (es : List EntryValue). record { types = types; names = ns; captures = es }) e f
+held_more types names more captures those gained name e f = cc

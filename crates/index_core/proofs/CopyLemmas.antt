@@ -36,7 +36,7 @@ begins_behind : (known known' : Option (List ℕ)) (a front : List ℕ) → Cons
     → IfSome known (λ bytes. (more : List ℕ) × (bytes ≡ (a ++ front) ++ more))
 begins_behind None known' a front c b = tt
 begins_behind (Some z) None a front c b = absurd c
-begins_behind (Some z) (Some w) a front c b = (b.0, c ∙ (ap (λ t. a ++ t) b.1 ∙ sym (append_assoc a front b.0)))
+begins_behind (Some z) (Some w) a front c b = grind (arith, append_assoc)
 
 -- a head stands in front of what follows it
 pub consumes_head : (raw : List ℕ) (known : Option (List ℕ)) → Consumes (prepend_known raw known) known raw
@@ -63,7 +63,7 @@ wrote_part a (Some z) None old new c p = absurd c
 wrote_part a (Some z) (Some w) old new c p = record {
   front = p.1.front;
   most = omega (arith, ap length p.1.whole, length-append p.1.front p.0);
-  begins = (p.0 ++ w, c ∙ (ap (λ t. t ++ w) p.1.whole ∙ append_assoc p.1.front p.0 w));
+  begins = grind (arith, append_assoc);
   grown = p.1.grown;
 }
 
@@ -72,15 +72,14 @@ pub wrote_behind : (n : ℕ) (a : List ℕ) (known known' old mid new : Option (
     → Appends old mid a → WroteFront n known' mid new → WroteFront (length a + n) known old new
 wrote_behind n a known known' old mid new c k w = record {
   front = a ++ w.front;
-  most = (let most = w.most in omega (arith, most, length-append a w.front));
-  begins = begins_behind known known' a w.front c w.begins;
+  most = grind (arith, length-append);
+  begins = grind (arith, begins_behind);
   grown = Appends-join old mid new a w.front k w.grown;
 }
 
 pub wrote_within : (n m : ℕ) (known old new : Option (List ℕ)) → n ≤ m → WroteFront n known old new
     → WroteFront m known old new
-wrote_within n m known old new l w =
-    record { front = w.front; most = (let most = w.most in omega (arith, most, l)); begins = w.begins; grown = w.grown }
+wrote_within n m known old new l w = record { front = w.front; most = grind arith; begins = w.begins; grown = w.grown }
 
 -- ---- a block
 
@@ -116,7 +115,7 @@ module _ (left len rest : ℕ) (old now next : ReaderView) (before mid after w v
         taken = d.taken ++ take n piece;
         whole = omega (arith, low, long, whole, length-append d.taken (take n piece));
         given = Consumes-join _ _ _ d.taken (take n piece) d.given g.bytes;
-        stands = record { offset_is = g.state.offset_is ∙ d.stands.offset_is; phase_is = g.state.phase_is };
+        stands = grind arith;
         grown = Appends-join w v u d.taken (take n piece) d.grown a;
       }
 
@@ -166,15 +165,7 @@ Copying-end left len rest old now before mid w v e d =
         grown =
             d.grown;
       };
-      ends = (
-        omega (arith, whole, e),
-        d.given,
-        record {
-          offset_is = d.stands.offset_is;
-          phase_is = d.stands.phase_is
-              ∙ ap (λ n. Open n len) e;
-        },
-      );
+      ends = grind arith;
     }
 
 -- ---- a record
@@ -184,18 +175,15 @@ closing_taken : (before after : Option (List ℕ)) → Reads (after_record 0) (O
     → Consumes before after closing
 closing_taken None after r = tt
 closing_taken (Some z) None r = absurd r
-closing_taken (Some z) (Some w) r = let b = block-there 0 z w r in b.2
-    ∙ ap (λ block. block ++ (closing ++ w)) (nil_of b.0 b.1)
+closing_taken (Some z) (Some w) r = grind (arith, block-there, nil_of)
 
 -- what is read behind a block that was taken whole is read behind its record's head
 behind_block : (r : Result (Unit {0}) Cause) (n : ℕ) (block : List ℕ) (before mid after : Option (List ℕ))
     → length block ≡ n → Consumes before mid block → Reads (after_record 0) r mid after
     → Reads (after_record n) r before after
 behind_block r n block before mid after l c s =
-    let none : n - length block ≡ 0 = omega (arith, l) in
-    GoesOn-reads (after_record n) (after_record (n - length block)) r before mid after
-    (behind-front n block before mid (omega (arith, l)) c)
-    (subst (λ m. Reads (after_record m) r mid after) (sym none) s)
+    GoesOn-reads (after_record n) (after_record (n - length block)) r before mid after (grind (arith, behind-front))
+    (grind arith)
 
 module _ (h : HeadView) (w v : Option (List ℕ)) where
   -- the output failed in the head
@@ -225,13 +213,8 @@ module _ (h : HeadView) (w v : Option (List ℕ)) where
     block_cut faults.NoRecord after b = absurd b.ends
     block_cut (faults.Capture (LineTooLong o)) after b = absurd b.ends
     block_cut (faults.Capture (KeyTooLong o)) after b = absurd b.ends
-    block_cut (faults.Capture (Archive f)) after b =
-        record {
-          wrote = behind_head b.wrote;
-          ends =
-              (b.ends.0 ∙ unread, found-of-record f.cause h.parts.length _ after b.ends.1);
-        }
-    block_cut faults.Write after b = record { wrote = behind_head b.wrote; ends = tt }
+    block_cut (faults.Capture (Archive f)) after b = grind (arith, behind_head, found-of-record)
+    block_cut faults.Write after b = grind (arith, behind_head)
 
     module _ (block : CopiesBlock h.parts.length (record_length h) old mid (Ok tt) before between v u)
         (new : ReaderView) (after : Option (List ℕ)) (k k' : ℕ) where
@@ -239,14 +222,7 @@ module _ (h : HeadView) (w v : Option (List ℕ)) where
       pub finish_cut : (f : Fault) → Finishes 0 (record_length h) (state_of mid between k) (state_of new after k')
           (Err f) → CopiesRecord h (Err (faults.Capture (Archive f))) (prepend_known old.held before)
           (prepend_known new.held after) w u
-      finish_cut f s = record {
-        wrote = behind_head block.wrote;
-        ends = (
-          s.state.at ∙ (block.ends.2.offset_is ∙ unread),
-          behind_block (Err f.cause) h.parts.length
-              block.wrote.front _ _ _ block.ends.0 block.ends.1 s.bytes,
-        );
-      }
+      finish_cut f s = grind (arith, behind_head, behind_block)
 
       module _ (x : Option (List ℕ)) (n : ℕ)
           (s : Finishes 0 (record_length h) (state_of mid between k) (state_of new after k') (Ok n)) where

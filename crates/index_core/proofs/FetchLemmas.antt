@@ -1,6 +1,6 @@
 -- The walk to an offset, and what was copied there.
-use Rattle.std.proofs.Common.{◌≡◌, ◌∙◌, ℕ, ◌+◌, ◌-◌, ◌<◌, ◌≤◌, List, [], ◌∷◌, ◌++◌, ◌⊎◌, inl, inr, Option, None, Some}
-use Rattle.std.proofs.Common.{Result, Ok, Err, IfSome, length, take, drop, sym, ap, refl, subst, arith}
+use Rattle.std.proofs.Common.{◌≡◌, ◌∙◌, ℕ, ◌+◌, ◌-◌, ◌<◌, ◌≤◌, List, [], ◌∷◌, ◌++◌, ◌⊎◌, inr, Option, None, Some}
+use Rattle.std.proofs.Common.{Result, Ok, Err, IfSome, length, take, drop, refl, subst, arith}
 use Rattle.std.specs.Io.KnownBytes.{Appends}
 use Rattle.warc_core.specs.declared.fault.Cause.{Cause}
 use Rattle.warc_core.specs.declared.fault.Fault.{Fault}
@@ -8,10 +8,9 @@ use Rattle.devices.specs.Device.{AppendsPrefix}
 use Rattle.warc_core.specs.HeadView.{HeadView, record_length}
 use Rattle.warc_core.specs.Next.{next_at}
 use Rattle.warc_core.specs.Reading.{◌>>=◌, Reads, IsFoundIn}
-use Rattle.warc_core.specs.Record.{after_record}
-use Rattle.warc_core.specs.Walk.{record_at, closed_at, Walks}
+use Rattle.warc_core.specs.Walk.{record_at, Walks}
 use Rattle.warc_core.proofs.ArchiveLemmas.{walk-front, next-spelled}
-use Rattle.warc_core.proofs.ReadingLemmas.{answered, front_of}
+use Rattle.warc_core.proofs.ReadingLemmas.{front_of}
 use Rattle.warc_core.proofs.WalkLemmas.{Walks-more, none_at_end, record-stopped, record-end, record-unclosed}
 use Rattle.warc_core.proofs.WalkLemmas.{record-whole}
 use Rattle.capture_core.specs.declared.fault.CaptureFault.TheVariants.{Archive, LineTooLong, KeyTooLong}
@@ -21,7 +20,6 @@ use Rattle.index_core.specs.declared.fault.IndexFault.TheVariants as faults
 use Rattle.index_core.specs.Fetching.{IsInRecord, IsBehindRecords, StopsAt, most_written, most_written_at, Fetches}
 use Rattle.index_core.specs.Copying.{CopiesRecord, CopiesNext, WalkedTo}
 use Rattle.devices.proofs.WritingLemmas.{wrote_nothing}
-use Rattle.index_core.proofs.ReportLemmas.{found_or_not}
 use Rattle.index_core.proofs.VerdictLemmas.{behind}
 
 -- ---- the walk
@@ -41,8 +39,7 @@ module _ (limit : ℕ) where
   went_past o None now after offset h s r l m = tt
   went_past o (Some archive) None after offset h s r l m = absurd s
   went_past o (Some archive) (Some z) None offset h s r l m = absurd r
-  went_past o (Some archive) (Some z) (Some y) offset h s r l m =
-      (o, h, record { before = s.0; bytes = z; rest = y; walks = s.1; whole = r }, l, m)
+  went_past o (Some archive) (Some z) (Some y) offset h s r l m = grind arith
 
   -- the archive ended before the offset, or there
   pub ends_before : (o : ℕ) (left now after : Option (List ℕ)) (offset : ℕ) → WalkedTo limit o left now
@@ -57,11 +54,7 @@ module _ (limit : ℕ) where
   stops : (archive : List ℕ) (offset : ℕ) (f : Fault) (heads : List HeadView) (z : List ℕ)
       → Walks limit 0 archive heads f.offset z → IsFoundIn f.cause (record_at limit f.offset z) → f.offset ≤ offset
       → StopsAt limit archive offset f
-  stops archive offset f heads z w i l =
-      elim (found_or_not f.cause (record_at limit f.offset z) i) [
-        | inl e ↦ inl (heads, record { rest = z; walks = w; refused = e }, l)
-        | inr n ↦ inr (n, (heads, z, w))
-      ]
+  stops archive offset f heads z w i l = grind arith
 
   -- ---- what comes next
 
@@ -69,14 +62,13 @@ module _ (limit : ℕ) where
       → ◌≡◌ {A = Result (Option HeadView × List ℕ) Cause} (r >>= λ closed. Ok (Some h, closed.1)) (Ok (Some k, z)) → h
       ≡ k
   same_head h k z (Err c) e = absurd (cc)
-  same_head h k z (Ok (u, y)) e = let p = (answered (Some h) (Some k) y z e).0 in cc
+  same_head h k z (Ok (u, y)) e = grind arith
 
   -- the head that was read is that of the record which begins these bytes
   record_head : (o : ℕ) (h k : HeadView) (bytes y z : List ℕ) → next_at limit o bytes ≡ Ok (Some h, y)
       → record_at limit o bytes ≡ Ok (Some k, z) → h ≡ k
   unfolding record_at
-  record_head o h k bytes y z n r = same_head h k z (after_record h.parts.length y) (sym (ap (λ s. s >>= closed_at) n)
-      ∙ r)
+  record_head o h k bytes y z n r = grind arith
 
   -- what was written is in front of what may be written
   goes_on : (o : ℕ) (h : HeadView) (bytes y front more : List ℕ) (r : Result (Option HeadView × List ℕ) Cause)
@@ -87,15 +79,14 @@ module _ (limit : ℕ) where
   goes_on o h bytes y front more (Ok (Some k, z)) n e l r =
       let same = record_head o h k bytes y z n r in (
         take (record_length h - length front) more,
-        ap (λ k. take (record_length k) bytes) (sym same)
-            ∙ (ap (take (record_length h)) e ∙ take_past (record_length h) front more l),
+        grind (arith, take_past),
       )
 
   front_written : (o : ℕ) (h : HeadView) (bytes y front more : List ℕ) (w u : Option (List ℕ)) → next_at limit o bytes
       ≡ Ok (Some h, y) → bytes ≡ front ++ more → length front ≤ record_length h → Appends w u front
       → AppendsPrefix w u (most_written_at limit o bytes)
   front_written o h bytes y front more w u n e l a = let t = goes_on o h bytes y front more (record_at limit o bytes) n
-      e l refl in (t.0, record { front = front; whole = t.1; grown = a })
+      e l refl in grind arith
 
   -- how the copying of the record that comes next ended
   pub next_copied : (o : ℕ) (h : HeadView) (r : Result ℕ IndexFault) (before mid after w u : Option (List ℕ))
@@ -112,33 +103,21 @@ module _ (limit : ℕ) where
   next_copied o h (Err (faults.Capture (Archive f))) (Some z) (Some y) after w u n e c =
       let b = (next-spelled limit o z y h n).0 ∙ c.wrote.begins.1 in (
         c.ends.0 ∙ e,
-        (
-          record-unclosed limit o (Some z) (Some y) after h f.cause n c.ends.1,
-          front_written o h z y
-              c.wrote.front c.wrote.begins.0 w u n b c.wrote.most c.wrote.grown,
-        ),
+        (record-unclosed limit o (Some z) (Some y) after h f.cause n c.ends.1, grind (arith, front_written)),
       )
   next_copied o h (Err faults.Write) None mid after w u n e c = tt
   next_copied o h (Err faults.Write) (Some z) None after w u n e c = absurd n
-  next_copied o h (Err faults.Write) (Some z) (Some y) after w u n e c =
-      front_written o h z y c.wrote.front c.wrote.begins.0 w u n ((next-spelled limit o z y h n).0 ∙ c.wrote.begins.1)
-      c.wrote.most c.wrote.grown
-  next_copied o h (Ok l) None mid after w u n e c = (c.wrote.front, c.ends.0, c.wrote.grown, tt)
+  next_copied o h (Err faults.Write) (Some z) (Some y) after w u n e c = grind (arith, front_written, next-spelled)
+  next_copied o h (Ok l) None mid after w u n e c = grind arith
   next_copied o h (Ok l) (Some z) None after w u n e c = absurd n
   next_copied o h (Ok l) (Some z) (Some y) None w u n e c = absurd c.ends.2
   next_copied o h (Ok l) (Some z) (Some y) (Some x) w u n e c =
       let b = (next-spelled limit o z y h n).0 ∙ c.wrote.begins.1 in
-      let size : length c.wrote.front ≡ record_length h = sym c.ends.0 ∙ c.ends.1 in (
+      (
         c.wrote.front,
         c.ends.0,
         c.wrote.grown,
-        (
-          h,
-          x,
-          record-whole limit o (Some z) (Some y) (Some x) h n c.ends.2,
-          sym (ap (take (record_length h)) b
-              ∙ front_of (record_length h) c.wrote.front c.wrote.begins.0 size),
-        ),
+        (h, x, record-whole limit o (Some z) (Some y) (Some x) h n c.ends.2, grind (arith, front_of)),
       )
 
   -- no record came next
@@ -160,19 +139,18 @@ module _ (limit : ℕ) where
 
   pub from_offset : (archive : List ℕ) (heads : List HeadView) (o : ℕ) (z : List ℕ) → Walks limit 0 archive heads o z
       → drop o archive ≡ z
-  from_offset archive heads o z w = let f = walk-front limit 0 archive heads o z w in behind archive f.0 z o f.1 f.2
+  from_offset archive heads o z w = grind (arith, walk-front, behind)
 
   prefix_there : (archive : List ℕ) (heads : List HeadView) (o : ℕ) (z : List ℕ) (w u : Option (List ℕ))
       → Walks limit 0 archive heads o z → AppendsPrefix w u (most_written_at limit o z)
       → AppendsPrefix w u (most_written_at limit o (drop o archive))
-  prefix_there archive heads o z w u k p = subst (λ y. AppendsPrefix w u (most_written_at limit o y))
-      (sym (from_offset archive heads o z k)) p
+  prefix_there archive heads o z w u k p = grind (arith, from_offset)
 
   -- the walk couldn't go on, and nothing was written
   pub unfetched : (o : ℕ) (f : Fault) (left w : Option (List ℕ)) → f.offset ≤ o
       → IfSome left (λ archive. StopsAt limit archive o f) → Fetches limit o left (Err (faults.Capture (Archive f))) w w
   unfetched o f None w l s = (l, tt)
-  unfetched o f (Some archive) w l s = (l, (s, wrote_nothing w (most_written_at limit o (drop o archive))))
+  unfetched o f (Some archive) w l s = grind (arith, wrote_nothing)
 
   pub fetched : (o : ℕ) (r : Result ℕ IndexFault) (left known w u : Option (List ℕ)) → WalkedTo limit o left known
       → CopiesNext limit o r known w u → Fetches limit o left r w u
@@ -188,30 +166,11 @@ module _ (limit : ℕ) where
   fetched o (Err faults.Write) None known w u s c = tt
   fetched o (Err faults.Write) (Some archive) None w u s c = absurd s
   fetched o (Err faults.Write) (Some archive) (Some z) w u s c = ((s.0, z, s.1), prefix_there archive s.0 o z w u s.1 c)
-  fetched o (Err (faults.Capture (Archive f))) None known w u s c = (let e = c.0 in omega (arith, e), tt)
+  fetched o (Err (faults.Capture (Archive f))) None known w u s c = grind arith
   fetched o (Err (faults.Capture (Archive f))) (Some archive) None w u s c = absurd s
   fetched o (Err (faults.Capture (Archive f))) (Some archive) (Some z) w u s c =
       let at = c.0 in
-      let low : f.offset ≤ o = omega (arith, at) in (
-        low,
-        (
-          stops archive o f s.0 z (subst (λ p. Walks limit 0 archive s.0 p z) (sym at) s.1)
-              (subst (λ p. IsFoundIn f.cause (record_at limit p z)) (sym at) c.1.0) low,
-          prefix_there archive s.0 o z w u
-              s.1 c.1.1,
-        ),
-      )
+      let low : f.offset ≤ o = omega (arith, at) in (low, (grind arith, prefix_there archive s.0 o z w u s.1 c.1.1))
   fetched o (Ok n) None known w u s c = (c.0, c.1, c.2, tt)
   fetched o (Ok n) (Some archive) None w u s c = absurd s
-  fetched o (Ok n) (Some archive) (Some z) w u s c =
-      let t = c.3 in (
-        c.0,
-        c.1,
-        c.2,
-        (
-          t.0,
-          record { before = s.0; bytes = z; rest = t.1; walks = s.1; whole = t.2 },
-          t.3
-              ∙ ap (take (record_length t.0)) (sym (from_offset archive s.0 o z s.1)),
-        ),
-      )
+  fetched o (Ok n) (Some archive) (Some z) w u s c = grind (arith, from_offset)

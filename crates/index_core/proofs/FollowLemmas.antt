@@ -1,6 +1,6 @@
 -- Lines of records that follow one another, one record further, at the end and at a fault.
-use Rattle.std.proofs.Common.{◌≡◌, ◌∙◌, ℕ, ◌+◌, List, [], ◌∷◌, ◌++◌, Option, Ok, Err, sym, ap, refl, subst}
-use Rattle.std.proofs.Common.{append-nil, append_assoc}
+use Rattle.std.proofs.Common.{arith, ◌≡◌, ◌∙◌, ℕ, ◌+◌, List, [], ◌∷◌, ◌++◌, Option, Err, sym, refl, subst, append-nil}
+use Rattle.std.proofs.Common.{append_assoc}
 use Rattle.std.proofs.lemmas.List.Concat.{flat_map-append}
 use Rattle.std.specs.List.{flat_map}
 use Rattle.std.specs.Io.KnownBytes.{Appends}
@@ -24,13 +24,11 @@ module _ {A X : Type 0} (head : X → HeadView) (line : X → List ℕ) (tally :
 
   follow_push : (from : ℕ) (items : List X) (to : ℕ) (x : X) → Follow head from items to → RecordBeginsAt to (head x)
       → Follow head from (items ++ x ∷ []) (to + record_length (head x))
-  follow_push from [] to x h b =
-      (subst (λ n. RecordBeginsAt n (head x)) (sym h) b, ap (λ n. n + record_length (head x)) h)
+  follow_push from [] to x h b = grind arith
   follow_push from (y ∷ items) to x h b = (h.0, follow_push (from + record_length (head y)) items to x h.1 b)
 
   one_line : (items : List X) (x : X) → flat_map line (items ++ x ∷ []) ≡ flat_map line items ++ line x
-  one_line items x = flat_map-append line items (x ∷ [])
-      ∙ ap (λ t. flat_map line items ++ t) (append-nil (line x))
+  one_line items x = grind (arith, flat_map-append, append-nil)
 
   pub followed-start : (before : Option (List ℕ)) (answer : A) → answer ≡ tally [] → Followed 0 answer before before
   followed-start before answer e = record { items = []; follow = refl; answer_is = e; text = Appends-none before }
@@ -46,10 +44,6 @@ module _ {A X : Type 0} (head : X → HeadView) (line : X → List ℕ) (tally :
     text = subst (Appends before after) (sym (one_line s.items x)) (Appends-join before now after _ _ s.text a);
   }
 
-  pub followed-end : (offset : ℕ) (answer : A) (before now : Option (List ℕ)) → Followed offset answer before now
-      → ReportsRecords head line tally (Ok answer) before now
-  followed-end offset answer before now s = (s.items, offset, s.follow, s.answer_is, s.text)
-
   -- the output failed in the line of a record
   pub followed-stopped : (offset : ℕ) (answer : A) (x : X) (before now after : Option (List ℕ))
       → Followed offset answer before now → RecordBeginsAt offset (head x) → AppendsPrefix now after (line x)
@@ -60,14 +54,13 @@ module _ {A X : Type 0} (head : X → HeadView) (line : X → List ℕ) (tally :
         f,
         follow_push 0 s.items offset x s.follow b,
         subst (AppendsPrefix before after)
-            (sym (ap (λ t. t ++ fault_line f) (one_line s.items x)
-            ∙ append_assoc (flat_map line s.items) (line x) (fault_line f)))
+            (grind (arith, one_line, append_assoc))
             (AppendsPrefix-behind before now after (flat_map line s.items) (line x) (fault_line f) s.text p),
       )
 
   -- what the writing of a fault's line leaves
-  pub followed-fault : (fault : Fault) (given : IndexFault) (offset : ℕ) (answer : A) (before now after : Option (List ℕ))
-      (k k' : ℕ) → Followed offset answer before now → fault.offset ≡ offset → WritesFault fault given now after k k'
+  pub followed-fault : (fault : Fault) (given : IndexFault) (offset : ℕ) (answer : A)
+      (before now after : Option (List ℕ)) (k k' : ℕ) → Followed offset answer before now → fault.offset ≡ offset → WritesFault fault given now after k k'
       → ReportsRecords head line tally (Err given) before after
   followed-fault fault faults.Memory offset answer before now after k k' s e h = h
   followed-fault fault faults.BadName offset answer before now after k k' s e h = h
@@ -85,7 +78,7 @@ module _ {A X : Type 0} (head : X → HeadView) (line : X → List ℕ) (tally :
   followed-fault fault faults.Write offset answer before now after k k' s e h = (
     s.items,
     fault,
-    subst (Follow head 0 s.items) (sym e) s.follow,
+    grind arith,
     subst (λ t. AppendsPrefix before after (flat_map line s.items ++ t)) (append-nil (fault_line fault))
         (AppendsPrefix-behind before now after (flat_map line s.items) (fault_line fault) [] s.text h.0),
   )

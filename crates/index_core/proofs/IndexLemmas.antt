@@ -1,19 +1,19 @@
 -- The lines of an index, and captures that have their own places.
-use Rattle.std.proofs.Common.{◌≡◌, ◌∙◌, ℕ, suc, ◌+◌, ◌<◌, List, [], ◌∷◌, ◌++◌, length, map, take, drop}
-use Rattle.std.proofs.Common.{Option, get_or, refl, sym, ap}
+use Rattle.std.proofs.Common.{arith, ◌≡◌, ◌∙◌, ℕ, suc, ◌+◌, ◌<◌, List, [], ◌∷◌, ◌++◌, length, map, take, drop, Option}
+use Rattle.std.proofs.Common.{get_or, refl, sym, ap}
 use Rattle.std.specs.List.{AllByRecursion, filter_map}
-use Rattle.std.specs.declared.cmp.Ordering.TheVariants.{Less, Equal, Greater}
+use Rattle.std.specs.declared.cmp.Ordering.TheVariants.{Equal}
 use Rattle.std.proofs.lemmas.List.{take-append-drop, at_drop_more, take_more}
 use Rattle.std.proofs.lemmas.List.Concat.{flat_map-append}
 use Rattle.std.proofs.lemmas.List.Elements.{filter_map-append}
-use Rattle.cdxj_core.specs.Entries.{EntryValue, HasLine, entry_place, line_text}
+use Rattle.cdxj_core.specs.Entries.{EntryValue, HasLine, entry_place}
 use Rattle.cdxj_core.specs.Indexes.{IsIndex}
 use Rattle.cdxj_core.specs.Members.{entry_member}
 use Rattle.cdxj_core.proofs.IndexLemmas.{index_written, never_falls}
 use Rattle.cdxj_places.proofs.PlaceOrder.{place_cmp_total}
 use Rattle.cdxj_places.proofs.RisingLaws.{rises_rising}
 use Rattle.cdxj_places.specs.Places.{place_cmp}
-use Rattle.cdxj_places.specs.Rising.{choose, put}
+use Rattle.cdxj_places.specs.Rising.{put}
 use Rattle.index_core.specs.Indexing.{entries_text, index_text, in_places, HaveOwnPlaces}
 
 -- ---- lines
@@ -24,8 +24,7 @@ module _ {A : Type 0} (found : A → Option EntryValue) where
   found_text us = entries_text (filter_map found us)
 
   found_append : (us vs : List A) → found_text (us ++ vs) ≡ found_text us ++ found_text vs
-  found_append us vs = ap entries_text (filter_map-append found us vs)
-      ∙ flat_map-append line_text (filter_map found us) (filter_map found vs)
+  found_append us vs = grind (arith, filter_map-append, flat_map-append)
 
   -- those before one, those of this one, and those after it
   pub lines_at : (us : List A) (k : ℕ) (d : A) → k < length us → found_text us
@@ -45,10 +44,7 @@ module _ {A : Type 0} (found : A → Option EntryValue) where
 each_put : (A : EntryValue → Type 0) (e : EntryValue) (es : List EntryValue) → A e → AllByRecursion A es
     → AllByRecursion A (put entry_place place_cmp e es)
 each_put A e [] a h = (a, tt)
-each_put A e (f ∷ es) a h =
-    elim (place_cmp (entry_place e) (entry_place f)) as (λ r. AllByRecursion A
-    (choose r (e ∷ f ∷ es) (e ∷ es) (f ∷ put entry_place place_cmp e es)))
-    [ Less ↦ (a, h) | Equal ↦ (a, h.1) | Greater ↦ (h.0, each_put A e es a h.1) ]
+each_put A e (f ∷ es) a h = grind (arith, each_put A e es a h.1)
 
 -- what holds of each holds of each in the order of places
 each_in_places : (A : EntryValue → Type 0) (es : List EntryValue) → AllByRecursion A es
@@ -60,24 +56,14 @@ one_more : (e : EntryValue) (es : List EntryValue)
     → AllByRecursion (λ other. place_cmp (entry_place e) (entry_place other) ≡ Equal → ⊥) es
     → length (put entry_place place_cmp e es) ≡ suc (length es)
 one_more e [] h = refl
-one_more e (f ∷ es) h =
-    (elim (place_cmp (entry_place e) (entry_place f)) as (λ r. (r ≡ Equal → ⊥)
-    → length (choose r (e ∷ f ∷ es) (e ∷ es) (f ∷ put entry_place place_cmp e es)) ≡ suc (suc (length es))) [
-      | Less ↦ (λ n. refl)
-      | Equal ↦ (λ n. absurd (n refl))
-      | Greater ↦ (λ n. ap suc (one_more e es h.1))
-    ]) h.0
+one_more e (f ∷ es) h = grind (arith, one_more e es h.1)
 
 -- none is lost where each has its own place
 pub all_in_places : (es : List EntryValue) → HaveOwnPlaces es → length (in_places es) ≡ length es
 all_in_places [] h = refl
-all_in_places (e ∷ es) h = one_more e (in_places es)
-    (each_in_places (λ other. place_cmp (entry_place e) (entry_place other) ≡ Equal → ⊥) es h.0)
-    ∙ ap suc (all_in_places es h.1)
+all_in_places (e ∷ es) h = grind (arith, one_more, each_in_places, all_in_places es h.1)
 
 -- the lines of captures that can be written are an index, in the order of places
 pub index_in_places : (limit : ℕ) (es : List EntryValue) → AllByRecursion (HasLine limit) es
     → IsIndex limit (index_text es) (map entry_member (in_places es))
-index_in_places limit es h =
-    index_written limit (in_places es) (each_in_places (HasLine limit) es h)
-    (never_falls (in_places es) (rises_rising entry_place place_cmp place_cmp_total es))
+index_in_places limit es h = grind (arith, index_written, each_in_places, never_falls, rises_rising, place_cmp_total)

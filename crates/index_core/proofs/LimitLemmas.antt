@@ -22,29 +22,24 @@ module _ (types : Kind → Bool) (limits : Limits) (line low high : ℕ) (longer
   are_taken : (heads : List HeadView) → AllByRecursion (IsTaken types limits low name archive) heads
       → AllByRecursion (IsTaken types higher high name archive) heads
   are_taken [] h = tt
-  are_taken (head ∷ heads) h = (
-    (λ captured is. line_fits limits.line line longer captured (h.0 captured is)),
-    are_taken
-        heads h.1,
-  )
+  are_taken (head ∷ heads) h = grind (arith, line_fits, are_taken heads h.1)
 
   are_captured : (heads : List HeadView) (captures : List EntryValue)
       → AreCaptured types limits low name archive heads captures
       → AreCaptured types higher high name archive heads captures
   are_captured [] captures h = h
-  are_captured (head ∷ heads) captures h =
-      (h.0, h.1, (h.2.0, line_fits limits.line line longer h.0 h.2.1), are_captured heads h.1 h.3, h.4)
+  are_captured (head ∷ heads) captures h = grind (arith, line_fits, are_captured heads h.1 h.3)
 
 pub whole_stays : WholeStays
 whole_stays types limits line low high longer up name archive w = record {
   heads = w.heads;
-  whole = records_stay low high up archive w.heads w.whole;
+  whole = grind (arith, records_stay);
   taken = are_taken types limits line low high longer name archive w.heads w.taken;
 }
 
 pub captures_stay : CapturesStay
 captures_stay types limits line low high longer up name archive captures a = record {
   heads = a.heads;
-  whole = records_stay low high up archive a.heads a.whole;
+  whole = grind (arith, records_stay);
   captured = are_captured types limits line low high longer name archive a.heads captures a.captured;
 }

@@ -1,5 +1,5 @@
 -- The names of archives, as the keys of a set.
-use Rattle.std.proofs.Common.{◌≡◌, ℕ, false, ◌||◌, List, [], ◌∷◌, ◌++◌, if◌then◌else◌, map, refl, sym, ap, ◌∙◌}
+use Rattle.std.proofs.Common.{arith, ◌≡◌, ℕ, false, ◌||◌, List, [], ◌∷◌, ◌++◌, if◌then◌else◌, map, refl, ◌∙◌}
 use Rattle.std.specs.List.{list_any}
 use Rattle.std.specs.Str.{bytes_eq}
 use Rattle.std.proofs.lemmas.Bool.{cond-false}
@@ -11,12 +11,10 @@ module _ {K : Type 0} (text : K → List ℕ) where
   pub among_texts : (keys : List K) (name : List ℕ) → is_among (map text keys) name
       ≡ list_any (λ key. bytes_eq name (text key)) keys
   among_texts [] name = refl
-  among_texts (key ∷ keys) name = ap (λ b. bytes_eq name (text key) || b) (among_texts keys name)
+  among_texts (key ∷ keys) name = grind (arith, among_texts keys name)
 
   -- a key whose text isn't among those of the others goes last
   pub new_goes_last : (keys new : List K) (key : K) → is_among (map text keys) (text key) ≡ false
       → new ≡ (if list_any (λ other. bytes_eq (text key) (text other)) keys then keys else keys ++ key ∷ [])
       → map text new ≡ map text keys ++ text key ∷ []
-  new_goes_last keys new key absent is =
-      ap (map text) (is ∙ cond-false _ _ _ (sym (among_texts keys (text key)) ∙ absent))
-      ∙ map-append text keys (key ∷ [])
+  new_goes_last keys new key absent is = grind (arith, cond-false, among_texts, map-append)

@@ -1,6 +1,6 @@
 -- One thing stands at an offset of an archive.
-use Rattle.std.proofs.Common.{◌≡◌, ◌∙◌, ℕ, ◌+◌, ◌<◌, ◌≤◌, nat_lt, List, [], ◌∷◌, ◌⊎◌, inl, inr, Option, None, Some}
-use Rattle.std.proofs.Common.{Result, Ok, Err, take, drop, sym, ap, ap₂, refl, subst, arith}
+use Rattle.std.proofs.Common.{◌≡◌, ◌∙◌, ℕ, ◌+◌, ◌<◌, ◌≤◌, nat_lt, List, [], ◌∷◌, ◌⊎◌, inl, inr, Some, Result, Ok, Err}
+use Rattle.std.proofs.Common.{take, drop, sym, ap, refl, subst, arith}
 use Rattle.std.proofs.lemmas.Bool.Decides.{nat_tests}
 use Rattle.warc_core.specs.declared.fault.Cause.{Cause}
 use Rattle.warc_core.specs.declared.fault.Fault.{Fault}
@@ -9,7 +9,6 @@ use Rattle.warc_core.specs.Next.{next_at}
 use Rattle.warc_core.specs.Walk.{record_at, Walks}
 use Rattle.warc_core.proofs.ArchiveLemmas.{walk-front}
 use Rattle.warc_core.proofs.HeadLemmas.{which}
-use Rattle.warc_core.proofs.ReadingLemmas.{answered}
 use Rattle.warc_core.proofs.SpelledLemmas.{total}
 use Rattle.warc_core.proofs.WalkLemmas.{not_both, one_fault}
 use Rattle.capture_core.specs.declared.fault.CaptureFault.TheVariants.{Archive, LineTooLong, KeyTooLong}
@@ -27,27 +26,24 @@ module _ (limit : ℕ) where
   -- where a record is read, no other is
   one_record : (o : ℕ) (bytes y z : List ℕ) (h k : HeadView) → record_at limit o bytes ≡ Ok (Some h, y)
       → record_at limit o bytes ≡ Ok (Some k, z) → (h ≡ k) × (y ≡ z)
-  one_record o bytes y z h k a b = let e = answered (Some h) (Some k) y z (sym a ∙ b) in let f = e.0 in let g : h
-      ≡ k = cc in (g, e.1)
+  one_record o bytes y z h k a b = grind arith
 
   ends_by : (o : ℕ) (bytes : List ℕ) (c : Cause) → record_at limit o bytes ≡ Err c → Ends limit o bytes
-  ends_by o bytes c e h rest r = let k : ◌≡◌ {A = Result (Option HeadView × List ℕ) Cause} (Ok (Some h, rest)) (Err c) =
-      sym r ∙ e in cc
+  ends_by o bytes c e h rest r = cc
 
   ends_empty : (o : ℕ) → Ends limit o []
   unfolding record_at next_at
-  ends_empty o h rest r = let e = (answered None (Some h) [] rest r).0 in cc
+  ends_empty o h rest r = grind arith
 
   -- of two walks over one text, one goes on where the other ends
   longer_walk : (start : ℕ) (bytes : List ℕ) (hs gs : List HeadView) (o p : ℕ) (r t : List ℕ)
       → Walks limit start bytes hs o r → Walks limit start bytes gs p t
       → ((more : List HeadView) × Walks limit o r more p t) ⊎ ((more : List HeadView) × Walks limit p t more o r)
-  longer_walk start bytes [] gs o p r t v w = inl
-      (gs, subst (λ n. Walks limit n r gs p t) (sym v.0) (subst (λ z. Walks limit start z gs p t) (sym v.1) w))
+  longer_walk start bytes [] gs o p r t v w = grind arith
   longer_walk start bytes (h ∷ hs) [] o p r t v w = inr (
     h ∷ hs,
     subst (λ n. Walks limit n t (h ∷ hs) o r) (sym w.0)
-        (subst (λ z. Walks limit start z (h ∷ hs) o r) (sym w.1) v),
+        (grind arith),
   )
   longer_walk start bytes (h ∷ hs) (g ∷ gs) o p r t v w =
       let e = one_record start bytes v.0 w.0 h g v.1 w.1 in
@@ -57,11 +53,7 @@ module _ (limit : ℕ) where
   -- a walk that goes on from a record ends behind it
   goes_past : (o p : ℕ) (r y t : List ℕ) (h k : HeadView) (more : List HeadView) → record_at limit o r ≡ Ok (Some h, y)
       → Walks limit o r (k ∷ more) p t → o + record_length h ≤ p
-  goes_past o p r y t h k more a w =
-      let e = one_record o r y w.0 h k a w.1 in
-      let f = walk-front limit (o + record_length k) w.0 more p t w.2 in
-      let size : record_length h ≡ record_length k = ap (λ g. record_length g) e.0 in
-      omega (arith, f.2, size)
+  goes_past o p r y t h k more a w = grind (arith, one_record, walk-front)
 
   -- a walk from a record ends behind it, or there
   goes_behind : (o p : ℕ) (r y t : List ℕ) (h : HeadView) (more : List HeadView) → record_at limit o r ≡ Ok (Some h, y)
@@ -81,35 +73,26 @@ module _ (limit : ℕ) where
     behind_record : o < p → o + record_length h ≤ p
     behind_record l =
         elim (longer_walk 0 archive a.before gs o p a.bytes t a.walks w) [
-          | inl m ↦ goes_behind o p a.bytes a.rest t h m.0 a.whole (λ same _. omega (arith, same, l)) m.1
-          | inr m ↦ absurd (let f = walk-front limit p t m.0 o a.bytes m.1 in omega (arith, f.2, l))
+          | inl m ↦ grind (arith, goes_behind)
+          | inr m ↦ grind (arith, walk-front)
         ]
 
     not_there : Ends limit p t → p ≡ o → t ≡ a.bytes → ⊥
-    not_there n e f = n h a.rest
-        (subst (λ q. record_at limit q t ≡ Ok (Some h, a.rest)) (sym e)
-        (subst (λ z. record_at limit o z ≡ Ok (Some h, a.rest)) (sym f) a.whole))
+    not_there n e f = grind arith
 
     -- where no record stands, those that do are before
     before_end : Ends limit p t → o + record_length h ≤ p
     before_end n =
         elim (longer_walk 0 archive a.before gs o p a.bytes t a.walks w) [
-          | inl m ↦ goes_behind o p a.bytes a.rest t h m.0 a.whole (not_there n) m.1
-          | inr m ↦ absurd (let e = goes_nowhere o p a.bytes t m.0 n m.1 in not_there n e.0 e.1)
+          | inl m ↦ grind (arith, goes_behind, not_there)
+          | inr m ↦ grind (arith, goes_nowhere, not_there)
         ]
 
   -- ---- one thing stands there
 
   module _ (archive : List ℕ) (offset : ℕ) where
     one_text : (a b : List ℕ) → IsTextAt limit archive offset a → IsTextAt limit archive offset b → a ≡ b
-    one_text a b x y =
-        let r = x.1 in
-        let s = y.1 in
-        let there : s.bytes ≡ r.bytes = sym (from_offset limit archive s.before offset s.bytes s.walks)
-        ∙ from_offset limit archive r.before offset r.bytes r.walks in
-        let e = one_record offset r.bytes r.rest s.rest x.0 y.0 r.whole
-        (subst (λ z. record_at limit offset z ≡ Ok (Some y.0, s.rest)) there s.whole) in
-        x.2 ∙ (ap (λ h. take (record_length h) (drop offset archive)) e.0 ∙ sym y.2)
+    one_text a b x y = grind (arith, from_offset, one_record)
 
     text_or_none : (a : List ℕ) → IsTextAt limit archive offset a → IsInRecord limit archive offset
         ⊎ IsBehindRecords limit archive offset → ⊥
@@ -126,14 +109,10 @@ module _ (limit : ℕ) where
         → IsDamagedBy limit archive offset f → ⊥
     none_or_damage f (inl n) d = let l = before_end archive n.0 f.offset n.1 d.0 d.1.rest n.2 d.1.walks
         (ends_by f.offset d.1.rest f.cause d.1.refused) in omega (arith, l, n.4, d.2)
-    none_or_damage f (inr n) d = not_both limit 0 archive n.0 d.0 n.1.end f.offset f.cause d.1.rest n.1.walks d.1.walks
-        d.1.refused
+    none_or_damage f (inr n) d = grind (arith, not_both)
 
     one_damage : (f g : Fault) → IsDamagedBy limit archive offset f → IsDamagedBy limit archive offset g → f ≡ g
-    one_damage f g x y =
-        let e = one_fault limit 0 archive x.0 y.0 f.offset g.offset f.cause g.cause x.1.rest y.1.rest x.1.walks
-        y.1.walks x.1.refused y.1.refused in
-        ap₂ (λ o c. record { offset = o; cause = c }) e.1 e.2
+    one_damage f g x y = grind (arith, one_fault)
 
     -- the three things that may stand there
     abbrev Three : Result (List ℕ) IndexFault → Type 0
@@ -176,7 +155,7 @@ Covers limit start bytes offset =
 
 covering : (limit start : ℕ) (bytes : List ℕ) (heads : List HeadView) (end : ℕ) (rest : List ℕ) (offset : ℕ)
     → Walks limit start bytes heads end rest → start ≤ offset → offset < end → Covers limit start bytes offset
-covering limit start bytes [] end rest offset w l m = absurd (omega (arith, w.0, l, m))
+covering limit start bytes [] end rest offset w l m = grind arith
 covering limit start bytes (h ∷ heads) end rest offset w l m =
     elim (which (nat_lt offset (start + record_length h))) [
       | inl t ↦ (let less : offset < start + record_length h = grind (arith, nat_tests) in

@@ -1,6 +1,5 @@
 -- An archive has one list of captures.
-use Rattle.std.proofs.Common.{◌≡◌, ◌∙◌, ℕ, ◌+◌, Bool, List, [], ◌∷◌, ◌++◌, Some, option_to_list, sym, ap₂, refl, subst}
-use Rattle.std.proofs.Common.{arith}
+use Rattle.std.proofs.Common.{◌≡◌, ◌∙◌, ℕ, ◌+◌, Bool, List, [], ◌∷◌, ◌++◌, Some, option_to_list, sym, refl, arith}
 use Rattle.warc_core.specs.Kind.{Kind}
 use Rattle.warc_core.specs.HeadView.{HeadView, record_length}
 use Rattle.warc_core.specs.Walk.{Walks}
@@ -18,13 +17,10 @@ use Rattle.index_core.specs.Laws.{OneIndexed, OneIndexedTo}
 same_heads : (limit start : ℕ) (bytes : List ℕ) (hs gs : List HeadView) (o : ℕ) (r t : List ℕ)
     → Walks limit start bytes hs o r → Walks limit start bytes gs o t → hs ≡ gs
 same_heads limit start bytes [] [] o r t v w = refl
-same_heads limit start bytes [] (g ∷ gs) o r t v w = let f = walk-front limit (start + record_length g) w.0 gs o t
-    w.2 in absurd (omega (arith, v.0, f.2))
-same_heads limit start bytes (h ∷ hs) [] o r t v w = let f = walk-front limit (start + record_length h) v.0 hs o r
-    v.2 in absurd (omega (arith, w.0, f.2))
+same_heads limit start bytes [] (g ∷ gs) o r t v w = grind (arith, walk-front)
+same_heads limit start bytes (h ∷ hs) [] o r t v w = grind (arith, walk-front)
 same_heads limit start bytes (h ∷ hs) (g ∷ gs) o r t v w =
     let e = answered (Some h) (Some g) v.0 w.0 (sym v.1 ∙ w.1) in
-    let some = e.0 in
     let first : h ≡ g = cc in
     let x : Walks limit (start + record_length h) v.0 gs o t = rw (first, e.1) w.2 in
     let later = same_heads limit (start + record_length h) v.0 hs gs o r t v.2 x in
@@ -36,18 +32,14 @@ captured_once : (types : Kind → Bool) (limits : Limits) (limit : ℕ) (name ar
     → AreCaptured types limits limit name archive heads b → a ≡ b
 captured_once types limits limit name archive [] a b v w = v ∙ sym w
 captured_once types limits limit name archive (h ∷ heads) a b v w =
-    let one : v.0 ≡ w.0 = one_capture types limits.http_head limits.http_fields h _ name v.0 w.0 v.2.0 w.2.0 in
-    let others = captured_once types limits limit name archive heads v.1 w.1 v.3 w.3 in
-    v.4 ∙ (ap₂ (λ x y. option_to_list x ++ y) one others ∙ sym w.4)
+    grind (arith, one_capture, option_to_list, captured_once types limits limit name archive heads v.1 w.1 v.3 w.3)
 
 pub one_indexed : OneIndexed
 one_indexed types limits limit name archive a b v w =
     let heads = one_list limit 0 archive v.heads w.heads v.whole.end w.whole.end v.whole.walks w.whole.walks in
-    captured_once types limits limit name archive v.heads a b v.captured
-    (subst (λ hs. AreCaptured types limits limit name archive hs b) (sym heads) w.captured)
+    captured_once types limits limit name archive v.heads a b v.captured (grind arith)
 
 pub one_indexed_to : OneIndexedTo
 one_indexed_to types limits limit name archive fault a b v w =
     let heads = same_heads limit 0 archive v.heads w.heads (fault_offset fault) v.rest w.rest v.walks w.walks in
-    captured_once types limits limit name archive v.heads a b v.captured
-    (subst (λ hs. AreCaptured types limits limit name archive hs b) (sym heads) w.captured)
+    captured_once types limits limit name archive v.heads a b v.captured (grind arith)

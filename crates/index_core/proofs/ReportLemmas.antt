@@ -1,6 +1,6 @@
 -- The lines of a report, one record further, and at the end.
-use Rattle.std.proofs.Common.{◌≡◌, ◌∙◌, ℕ, ◌+◌, List, [], ◌∷◌, ◌++◌, ◌⊎◌, inl, inr, Option, None, Some, Result, Ok, Err}
-use Rattle.std.proofs.Common.{sym, ap, refl, subst, append-nil, append_assoc}
+use Rattle.std.proofs.Common.{arith, ◌≡◌, ◌∙◌, ℕ, ◌+◌, List, [], ◌∷◌, ◌++◌, ◌⊎◌, inl, inr, Option, None, Some, Result}
+use Rattle.std.proofs.Common.{Ok, Err, sym, ap, refl, subst, append-nil, append_assoc}
 use Rattle.std.proofs.lemmas.List.Concat.{flat_map-append}
 use Rattle.std.specs.Bool.{⊤}
 use Rattle.std.specs.Io.KnownBytes.{Appends, prepend_known}
@@ -9,8 +9,7 @@ use Rattle.warc_core.specs.declared.fault.Cause.TheVariants as causes
 use Rattle.warc_core.specs.declared.fault.Fault.{Fault}
 use Rattle.devices.specs.Device.{AppendsPrefix}
 use Rattle.warc_core.specs.HeadView.{HeadView, record_length}
-use Rattle.warc_core.specs.Reading.{Reads, IsFoundIn}
-use Rattle.warc_core.specs.Answers.{CountsRead}
+use Rattle.warc_core.specs.Reading.{Reads}
 use Rattle.warc_core.specs.Walk.{record_at, Walks}
 use Rattle.devices.proofs.DeviceLemmas.{Appends-none, Appends-join, AppendsPrefix-behind}
 use Rattle.warc_core.proofs.SpelledLemmas.{total}
@@ -18,8 +17,8 @@ use Rattle.warc_core.proofs.WalkLemmas.{Walks-more, none_at_end, walk-extends}
 use Rattle.capture_core.specs.declared.fault.CaptureFault.TheVariants.{Archive, LineTooLong, KeyTooLong}
 use Rattle.index_core.specs.declared.fault.IndexFault.{IndexFault}
 use Rattle.index_core.specs.declared.fault.IndexFault.TheVariants as faults
-use Rattle.index_core.specs.Report.{RecordLine, report_lines, fault_line, IsReport, IsCutReport, IsNoDamage, Reported}
-use Rattle.index_core.specs.Report.{ReportedToFault, ReportedInPart, Reports, WritesFault}
+use Rattle.index_core.specs.Report.{RecordLine, report_lines, fault_line, IsReport, Reported, ReportedToFault}
+use Rattle.index_core.specs.Report.{ReportedInPart, Reports, WritesFault}
 
 -- this text is the record's line, where the archive is known
 abbrev pub IsLine : RecordLine → Option (List ℕ) → HeadView → List ℕ → Type 0
@@ -43,28 +42,9 @@ SoFar limit line tally (Some archive) (Some rest) offset answer before after =
 pub stopped_anywhere : {A : Type 0} (f : List ℕ → Result (A × List ℕ) Cause) (c : Cause)
     (before after : Option (List ℕ)) → c ≡ causes.Memory → Reads f (Err c) before after
 stopped_anywhere f c None after e = tt
-stopped_anywhere f c (Some z) after e = subst (λ k. IsFoundIn k (f z)) (sym e) tt
-
--- a fault is the archive's, or its cause is no damage
-pub found_or_not : {A : Type 0} (c : Cause) (r : Result A Cause) → IsFoundIn c r → (r ≡ Err c) ⊎ IsNoDamage c
-found_or_not causes.Memory r h = inr tt
-found_or_not causes.Read r h = inr tt
-found_or_not c r h = inl h
-
--- counts of another answer with the same cause
-pub CountsRead-same : (A B : Type 0) (c : Cause) (old new : ℕ) → CountsRead {A = A} (Err c) old new
-    → CountsRead {A = B} (Err c) old new
-CountsRead-same A B causes.Read old new h = h
-CountsRead-same A B c old new h = h
+stopped_anywhere f c (Some z) after e = cc
 
 module _ (limit : ℕ) (line : RecordLine) where
-  report_to : (archive : List ℕ) (heads : List HeadView) (z : List ℕ) (f : Fault)
-      → Walks limit 0 archive heads f.offset z → (record_at limit f.offset z ≡ Err f.cause) ⊎ IsNoDamage f.cause
-      → IsReport limit line archive (report_lines line archive heads ++ fault_line f)
-      ⊎ IsCutReport limit line archive (report_lines line archive heads ++ fault_line f)
-  report_to archive heads z f w (inl e) = inl (inr (heads, f, record { rest = z; walks = w; refused = e }, refl))
-  report_to archive heads z f w (inr n) = inr (heads, f, z, n, w, refl)
-
   -- the archive's report goes on where the lines of its first records end
   report_behind : (archive : List ℕ) (heads : List HeadView) (o : ℕ) (rest : List ℕ)
       → Walks limit 0 archive heads o rest → (tail : List ℕ)
@@ -95,8 +75,7 @@ module _ (limit : ℕ) (line : RecordLine) where
   -- the lines with one more
   one_more : (archive : List ℕ) (heads : List HeadView) (h : HeadView) → report_lines line archive (heads ++ h ∷ [])
       ≡ report_lines line archive heads ++ line archive h
-  one_more archive heads h = flat_map-append (line archive) heads (h ∷ [])
-      ∙ ap (λ t. report_lines line archive heads ++ t) (append-nil (line archive h))
+  one_more archive heads h = grind (arith, flat_map-append, append-nil)
 
   module _ {A : Type 0} (tally : List ℕ → List HeadView → A) where
     pub SoFar-start : (left written : Option (List ℕ)) (x : A) → ((archive : List ℕ) → x ≡ tally archive [])
@@ -126,8 +105,7 @@ module _ (limit : ℕ) (line : RecordLine) where
     SoFar-end None now after o x w v s r = tt
     SoFar-end (Some archive) None after o x w v s r = absurd s
     SoFar-end (Some archive) (Some z) None o x w v s r = absurd r
-    SoFar-end (Some archive) (Some z) (Some y) o x w v s r =
-        (s.0, record { end = o; walks = subst (Walks limit 0 archive s.0 o) (none_at_end limit o z y r) s.1 }, s.2, s.3)
+    SoFar-end (Some archive) (Some z) (Some y) o x w v s r = grind (arith, none_at_end)
 
     SoFar-fault : (left now after : Option (List ℕ)) (o : ℕ) (x : A) (f : Fault) (w v u : Option (List ℕ))
         → SoFar limit line tally left now o x w v → Reads (record_at limit o) (Err f.cause) now after → f.offset ≡ o
@@ -137,9 +115,8 @@ module _ (limit : ℕ) (line : RecordLine) where
     SoFar-fault (Some archive) (Some z) after o x f w v u s r e a = (
       s.0,
       z,
-      subst (λ p. Walks limit 0 archive s.0 p z) (sym e) s.1,
-      subst
-          (λ p. IsFoundIn f.cause (record_at limit p z)) (sym e) r,
+      grind arith,
+      grind arith,
       Appends-join w v u (report_lines line archive s.0)
           (fault_line f) s.3 a,
     )
@@ -152,9 +129,7 @@ module _ (limit : ℕ) (line : RecordLine) where
     SoFar-cut (Some archive) None after o x f w v u s r e a = absurd s
     SoFar-cut (Some archive) (Some z) after o x f w v u s r e a = (
       report_lines line archive s.0 ++ fault_line f,
-      report_to archive s.0 z f (subst (λ p. Walks limit 0 archive s.0 p z) (sym e) s.1)
-          (found_or_not f.cause (record_at limit f.offset z)
-          (subst (λ p. IsFoundIn f.cause (record_at limit p z)) (sym e) r)),
+      grind arith,
       subst (λ t. AppendsPrefix w u (report_lines line archive s.0 ++ t)) (append-nil (fault_line f))
           (AppendsPrefix-behind w v u (report_lines line archive s.0) (fault_line f) [] s.3 a),
     )
@@ -172,8 +147,7 @@ module _ (limit : ℕ) (line : RecordLine) where
         (Walks-more limit 0 archive s.0 o z h y s.1 r) in
         let e : report_lines line archive (s.0 ++ h ∷ []) ++ t.0
         ≡ report_lines line archive s.0 ++ (line archive h ++ t.0) =
-        ap (λ x. x ++ t.0) (one_more archive s.0 h)
-        ∙ append_assoc (report_lines line archive s.0) (line archive h) t.0 in (
+        grind (arith, one_more, append_assoc) in (
           report_lines line archive s.0 ++ (line archive h ++ t.0),
           inl (subst (IsReport limit line archive) e t.1),
           AppendsPrefix-behind w v u (report_lines line archive s.0) (line archive h) t.0 s.3

@@ -1,15 +1,14 @@
 -- Captures that stay sound: each has its own place, under a name that was added.
-use Rattle.std.proofs.Common.{◌≡◌, ◌∙◌, ℕ, ◌<◌, true, false, ◌||◌, List, [], ◌∷◌, ◌++◌, Option, None, Some, IfSome}
-use Rattle.std.proofs.Common.{option_to_list, sym, ap, refl, subst, append-nil, arith}
+use Rattle.std.proofs.Common.{◌≡◌, ◌∙◌, ℕ, ◌<◌, true, ◌||◌, List, [], ◌∷◌, ◌++◌, Option, None, Some, IfSome}
+use Rattle.std.proofs.Common.{option_to_list, ap, refl, append-nil, arith}
 use Rattle.std.specs.Ordering.{ordering_then}
 use Rattle.std.specs.FinMap.{slice_cmp-IsAntisymmetric, nat_cmp-IsAntisymmetric}
-use Rattle.std.specs.Str.{bytes_eq}
 use Rattle.std.specs.declared.cmp.Ordering.{Ordering}
 use Rattle.std.specs.declared.cmp.Ordering.TheVariants.{Less, Equal, Greater}
 use Rattle.std.proofs.lemmas.List.Folds.{list_any-append}
 use Rattle.std.proofs.lemmas.Slice.Eq.{bytes_eq-Decides}
 use Rattle.warc_core.specs.HeadView.{HeadView}
-use Rattle.cdxj_core.specs.Entries.{EntryValue, entry_place, HasLine}
+use Rattle.cdxj_core.specs.Entries.{EntryValue, entry_place}
 use Rattle.cdxj_places.specs.Places.{place_cmp}
 use Rattle.cdxj_places.proofs.RisingLaws.{each_join, each_weaker}
 use Rattle.capture_core.specs.CaptureAnswer.{IsEntryOf}
@@ -26,14 +25,7 @@ both_equal Greater b e = cc
 -- a capture that stands before the offset has another place than one at the offset
 apart : (name : List ℕ) (o : ℕ) (x e : EntryValue) → e.offset ≡ o → e.filename ≡ name
     → (x.filename ≡ name → x.offset < o) → place_cmp (entry_place x) (entry_place e) ≡ Equal → ⊥
-apart name o x e at named before q =
-    let a = both_equal _ _ q in
-    let b = both_equal _ _ a.1 in
-    let d = both_equal _ _ b.1 in
-    let names : x.filename ≡ e.filename = slice_cmp-IsAntisymmetric nat_cmp-IsAntisymmetric x.filename e.filename d.0 in
-    let offsets : x.offset ≡ e.offset = nat_cmp-IsAntisymmetric x.offset e.offset d.1 in
-    let less = before (names ∙ named) in
-    absurd (omega (arith, less, offsets, at))
+apart name o x e at named before q = grind (arith, both_equal, slice_cmp-IsAntisymmetric, nat_cmp-IsAntisymmetric)
 
 places_push : (name : List ℕ) (o : ℕ) (xs : List EntryValue) (e : EntryValue) → e.offset ≡ o → e.filename ≡ name
     → StandBefore name o xs → HaveOwnPlaces xs → HaveOwnPlaces (xs ++ e ∷ [])
@@ -45,52 +37,39 @@ places_push name o (x ∷ xs) e at named before own = (
 )
 
 before_more : (name : List ℕ) (o p : ℕ) (xs : List EntryValue) → o < p → StandBefore name o xs → StandBefore name p xs
-before_more name o p xs less h = each_weaker {B = λ e. e.filename ≡ name → e.offset < p}
-    (λ (e : EntryValue) (k : e.filename ≡ name → e.offset < o) (n : e.filename ≡ name). (let l = k n in omega
-    (arith, l, less))) xs h
+before_more name o p xs less h = grind (arith, each_weaker)
 
 -- what a record at the offset adds stands before its end
 pub before_step : (name : List ℕ) (limit o p : ℕ) (h : HeadView) (xs : List EntryValue) (captured : Option EntryValue)
     → o < p → h.start ≡ o → IfSome captured (IsEntryOf h name limit) → StandBefore name o xs
     → StandBefore name p (xs ++ option_to_list captured)
-before_step name limit o p h xs None less at e before = subst (StandBefore name p) (sym (append-nil xs))
-    (before_more name o p xs less before)
-before_step name limit o p h xs (Some x) less at e before = each_join (λ y. y.filename ≡ name → y.offset < p) xs
-    (x ∷ []) (before_more name o p xs less before) ((λ n. omega (arith, less, at, e.offset)), tt)
+before_step name limit o p h xs None less at e before = grind (arith, append-nil, before_more)
+before_step name limit o p h xs (Some x) less at e before = grind (arith, each_join, before_more)
 
 -- what a record adds has the archive's name
 pub named_step : (limit : ℕ) (name : List ℕ) (h : HeadView) (xs : List EntryValue) (captured : Option EntryValue)
     → IfSome captured (IsEntryOf h name limit) → AreNamed name xs → AreNamed name (xs ++ option_to_list captured)
-named_step limit name h xs None e named = subst (AreNamed name) (sym (append-nil xs)) named
-named_step limit name h xs (Some x) e named = each_join (λ y. y.filename ≡ name) xs (x ∷ []) named
-    (e.filename, tt)
+named_step limit name h xs None e named = grind (arith, append-nil)
+named_step limit name h xs (Some x) e named = grind (arith, each_join)
 
 pub sound_step : (limit : ℕ) (names : List (List ℕ)) (name : List ℕ) (o : ℕ) (h : HeadView) (xs : List EntryValue)
     (captured : Option EntryValue) → is_among names name ≡ true → h.start ≡ o → IfSome captured (IsEntryOf h name limit)
     → StandBefore name o xs → AreSound limit names xs → AreSound limit names (xs ++ option_to_list captured)
-sound_step limit names name o h xs None used at e before s = subst (AreSound limit names) (sym (append-nil xs)) s
-sound_step limit names name o h xs (Some x) used at e before s = record {
-  places = places_push name o xs x (e.offset ∙ at) e.filename before s.places;
-  named = each_join (λ y. is_among names y.filename ≡ true) xs (x ∷ []) s.named
-      (ap (is_among names) e.filename ∙ used, tt);
-  lines = each_join (HasLine limit) xs (x ∷ []) s.lines ((e.good, e.fits), tt);
-}
+sound_step limit names name o h xs None used at e before s = grind (arith, append-nil)
+sound_step limit names name o h xs (Some x) used at e before s = grind (arith, places_push, each_join)
 
 -- ---- names
 
 pub among_more : (names more : List (List ℕ)) (name : List ℕ) → is_among names name ≡ true
     → is_among (names ++ more) name ≡ true
-among_more names more name h = list_any-append (bytes_eq name) names more ∙ ap (λ b. b || is_among more name) h
+among_more names more name h = grind (arith, list_any-append)
 
 pub among_last : (names : List (List ℕ)) (name : List ℕ) → is_among (names ++ name ∷ []) name ≡ true
-among_last names name =
-    list_any-append (bytes_eq name) names (name ∷ [])
-    ∙ ap (λ b. is_among names name || (b || false)) ((bytes_eq-Decides name name).1 refl)
-    ∙ elim (is_among names name) as (λ b. (b || true) ≡ true) [ true ↦ refl | false ↦ refl ]
+among_last names name = grind (arith, list_any-append, bytes_eq-Decides)
 
 -- a name that is kept is among the names
 pub is_among_kept : (names new : List (List ℕ)) (name : List ℕ) → new ≡ names ++ name ∷ [] → is_among new name ≡ true
-is_among_kept names new name e = ap (λ ns. is_among ns name) e ∙ among_last names name
+is_among_kept names new name e = grind (arith, among_last)
 
 -- captures stay sound under more names
 pub sound_under : (limit : ℕ) (names new : List (List ℕ)) (name : List ℕ) (xs : List EntryValue) → new ≡ names

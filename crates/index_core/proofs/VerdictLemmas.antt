@@ -1,7 +1,6 @@
 -- What a verification says of a record, and what it counts.
 use Rattle.std.proofs.Common.{◌≡◌, ◌∙◌, ℕ, ◌+◌, ◌≤◌, List, [], ◌∷◌, ◌++◌, Option, None, Some, Result, Ok, Err, IfSome}
-use Rattle.std.proofs.Common.{length, take, drop, sym, ap, refl, subst, length-append, arith}
-use Rattle.std.specs.List.{sum_by}
+use Rattle.std.proofs.Common.{length, take, drop, ap, length-append, arith}
 use Rattle.std.proofs.lemmas.List.Sums.{sum_by-append}
 use Rattle.std.proofs.Math.Seq.{drop-append_seam}
 use Rattle.warc_core.specs.declared.fault.Cause.{Cause}
@@ -11,33 +10,29 @@ use Rattle.warc_core.specs.Next.{next_at}
 use Rattle.warc_core.specs.Reading.{◌>>=◌, Reads, IsFoundIn}
 use Rattle.warc_core.specs.Record.{after_record}
 use Rattle.warc_core.proofs.ArchiveLemmas.{walk-front, next-spelled}
-use Rattle.warc_core.proofs.ReadingLemmas.{answered}
 use Rattle.block_digests.specs.declared.verdict.Verdict.{Verdict}
 use Rattle.block_digests.specs.declared.verdict.Verdict.TheVariants as verdicts
 use Rattle.capture_core.specs.BlockDigest.{judge_record}
-use Rattle.index_core.specs.Verifying.{verdict_on, verdict_in, verdict_line, verification_line, differing_by}
-use Rattle.index_core.specs.Verifying.{Judged, verified_in, verified_of}
+use Rattle.index_core.specs.Verifying.{verdict_on, verdict_in, verdict_line, verification_line, differing_by, Judged}
+use Rattle.index_core.specs.Verifying.{verified_in, verified_of}
 use Rattle.index_core.specs.declared.verified.Verified.{Verified}
 use Rattle.index_core.proofs.ReportLemmas.{IsLine, CountsOn, SoFar}
 
 judged : (judge : List ℕ → Verdict) (n : ℕ) (z w : List ℕ) (v : Verdict) (r : Result (Unit {0} × List ℕ) Cause)
     → after_record n z ≡ r → (◌>>=◌ {B = Verdict × List ℕ} r (λ rest. Ok (judge (take n z), rest.1))) ≡ Ok (v, w)
     → (after_record n z ≡ Ok (tt, w)) × (v ≡ judge (take n z))
-judged judge n z w v (Err c) e h = absurd
-    (let k : ◌≡◌ {A = Result (Verdict × List ℕ) Cause} (Err c) (Ok (v, w)) = h in cc)
-judged judge n z w v (Ok (u, rest)) e h = let a = answered (judge (take n z)) v rest w h in
-    (e ∙ ap (λ t. Ok (tt, t)) a.1, sym a.0)
+judged judge n z w v (Err c) e h = cc
+judged judge n z w v (Ok (u, rest)) e h = grind arith
 
 judged_record : (judge : List ℕ → Verdict) (n : ℕ) (z w : List ℕ) (v : Verdict) → judge_record judge n z ≡ Ok (v, w)
     → (after_record n z ≡ Ok (tt, w)) × (v ≡ judge (take n z))
 unfolding judge_record
-judged_record judge n z w v h = judged judge n z w v (after_record n z) refl h
+judged_record judge n z w v h = grind arith
 
 refused : (judge : List ℕ → Verdict) (n : ℕ) (z : List ℕ) (c : Cause) (r : Result (Unit {0} × List ℕ) Cause)
     → (◌>>=◌ {B = Verdict × List ℕ} r (λ rest. Ok (judge (take n z), rest.1))) ≡ Err c → r ≡ Err c
-refused judge n z c (Err d) h = let k : ◌≡◌ {A = Result (Verdict × List ℕ) Cause} (Err d) (Err c) = h in cc
-refused judge n z c (Ok (u, rest)) h = absurd
-    (let k : ◌≡◌ {A = Result (Verdict × List ℕ) Cause} (Ok (judge (take n z), rest)) (Err c) = h in cc)
+refused judge n z c (Err d) h = cc
+refused judge n z c (Ok (u, rest)) h = cc
 
 refused_record : (judge : List ℕ → Verdict) (n : ℕ) (z : List ℕ) (c : Cause) → judge_record judge n z ≡ Err c
     → after_record n z ≡ Err c
@@ -72,59 +67,37 @@ judged_verdict limit start h v (Some z) None after r j = absurd r
 judged_verdict limit start h v (Some z) (Some y) None r j = absurd j
 judged_verdict limit start h v (Some z) (Some y) (Some w) r j =
     let spelled = next-spelled limit start z y h r in
-    let rest : drop (length h.raw) z ≡ y = ap (drop (length h.raw)) spelled.0 ∙ drop-append_seam h.raw y in
-    (judged_record (verdict_on h) h.parts.length y w v j).1 ∙ ap (λ t. verdict_on h (take h.parts.length t)) (sym rest)
+    grind (arith, drop-append_seam, judged_record)
 
 -- what stands behind the first records of an archive
 pub behind : (archive front z : List ℕ) (o : ℕ) → archive ≡ front ++ z → o ≡ 0 + length front → drop o archive ≡ z
 behind archive front z o e l = ap (λ n. drop n archive) (let k : o ≡ length front = omega (arith, l) in k)
-    ∙ (ap (drop (length front)) e ∙ drop-append_seam front z)
+    ∙ (grind (arith, drop-append_seam))
 
 -- the line of a verdict is that of the record in the archive
 pub verdict_known : {A : Type 0} (limit : ℕ) (tally : List ℕ → List HeadView → A) (left now : Option (List ℕ)) (o : ℕ)
     (x : A) (w u : Option (List ℕ)) (h : HeadView) (v : Verdict) → SoFar limit verification_line tally left now o x w u
     → h.start ≡ o → IfSome now (λ bytes. v ≡ verdict_on h (block_at h bytes)) → (archive : List ℕ) → left ≡ Some archive
     → v ≡ verdict_in archive h
-verdict_known limit tally None now o x w u h v s b t archive e = absurd
-    (let k : ◌≡◌ {A = Option (List ℕ)} None (Some archive) = e in cc)
+verdict_known limit tally None now o x w u h v s b t archive e = cc
 verdict_known limit tally (Some a) None o x w u h v s b t archive e = absurd s
-verdict_known limit tally (Some a) (Some z) o x w u h v s b t archive e =
-    let same : a ≡ archive = (let k : ◌≡◌ {A = Option (List ℕ)} (Some a) (Some archive) = e in cc) in
-    let f = walk-front limit 0 a s.0 o z s.1 in
-    subst (λ r. v ≡ verdict_in r h) same
-    (t ∙ ap (λ y. verdict_on h (block_at h y)) (sym (ap (λ n. drop n a) b ∙ behind a f.0 z o f.1 f.2)))
+verdict_known limit tally (Some a) (Some z) o x w u h v s b t archive e = grind (arith, walk-front, behind)
 
 pub is_line : (left : Option (List ℕ)) (h : HeadView) (v : Verdict)
     → ((archive : List ℕ) → left ≡ Some archive → v ≡ verdict_in archive h)
     → IsLine verification_line left h (verdict_line h.start v)
-is_line left h v t archive e = ap (verdict_line h.start) (t archive e)
+is_line left h v t archive e = grind arith
 
 pub one_verdict : (left : Option (List ℕ)) (h : HeadView) (v : Verdict) (n d : ℕ)
     → ((archive : List ℕ) → left ≡ Some archive → v ≡ verdict_in archive h)
     → CountsOn verified_in left h (record { records = n; differing = d })
     (record { records = n + 1; differing = d + differing_by v })
-one_verdict left h v n d t archive heads e k =
-    let records : n + 1 ≡ length (heads ++ h ∷ []) = omega
-    (arith, ap (λ y. y.records) k, length-append heads (h ∷ [])) in
-    let by = λ (g : HeadView). differing_by (verdict_in archive g) in
-    let last : sum_by by (h ∷ []) ≡ differing_by v = omega (arith, ap differing_by (t archive e)) in
-    let differing : d + differing_by v
-    ≡ sum_by by (heads ++ h ∷ []) = omega (arith, ap (λ y. y.differing) k, sum_by-append by heads (h ∷ []), last) in
-    ap (λ a. record { records = a; differing = d + differing_by v }) records
-    ∙ ap (λ b. record { records = length (heads ++ h ∷ []); differing = b }) differing
+one_verdict left h v n d t archive heads e k = grind (arith, length-append, sum_by-append)
 
 pub one_judged : (judged : List Judged) (j : Judged) (n d : ℕ)
     → ◌≡◌ {A = Verified} (record { records = n; differing = d }) (verified_of judged)
     → ◌≡◌ {A = Verified} (record { records = n + 1; differing = d + differing_by j.1 }) (verified_of (judged ++ j ∷ []))
-one_judged judged j n d k =
-    let records : n + 1 ≡ length (judged ++ j ∷ []) = omega
-    (arith, ap (λ y. y.records) k, length-append judged (j ∷ [])) in
-    let by = λ (i : Judged). differing_by i.1 in
-    let last : sum_by by (j ∷ []) ≡ differing_by j.1 = omega arith in
-    let differing : d + differing_by j.1
-    ≡ sum_by by (judged ++ j ∷ []) = omega (arith, ap (λ y. y.differing) k, sum_by-append by judged (j ∷ []), last) in
-    ap (λ a. record { records = a; differing = d + differing_by j.1 }) records
-    ∙ ap (λ b. record { records = length (judged ++ j ∷ []); differing = b }) differing
+one_judged judged j n d k = grind (arith, judged, length-append, sum_by-append)
 
 pub one_at_most : (v : Verdict) → differing_by v ≤ 1
 one_at_most verdicts.Same = omega arith

@@ -1,6 +1,5 @@
 -- An archive that is accepted whole is refused for no fault of its own.
-use Rattle.std.proofs.Common.{◌≡◌, ◌∙◌, ℕ, ◌+◌, ◌<◌, Bool, List, [], ◌∷◌, None, Some, Ok, length, drop, sym, ap, subst}
-use Rattle.std.proofs.Common.{arith}
+use Rattle.std.proofs.Common.{◌≡◌, ◌∙◌, ℕ, ◌+◌, ◌<◌, Bool, List, [], ◌∷◌, Some, Ok, length, sym, arith}
 use Rattle.std.specs.List.{AllByRecursion}
 use Rattle.warc_core.specs.Kind.{Kind}
 use Rattle.warc_core.specs.declared.fault.Cause.{Cause}
@@ -25,7 +24,7 @@ use Rattle.index_core.proofs.VerdictLemmas.{behind}
 -- no record is read at the end
 none_behind : (limit start : ℕ) (h : HeadView) (rest : List ℕ) → record_at limit start [] ≡ Ok (Some h, rest) → ⊥
 unfolding record_at next_at
-none_behind limit start h rest r = let e = (answered None (Some h) [] rest r).0 in cc
+none_behind limit start h rest r = grind arith
 
 -- no cause is found in whole records
 no_damage : (limit : ℕ) (archive : List ℕ) (heads gs : List HeadView) (end o : ℕ) (c : Cause) (rest : List ℕ)
@@ -33,27 +32,18 @@ no_damage : (limit : ℕ) (archive : List ℕ) (heads gs : List HeadView) (end o
     → IsNoDamage c
 no_damage limit archive heads gs end o causes.Memory rest v w h = tt
 no_damage limit archive heads gs end o causes.Read rest v w h = tt
-no_damage limit archive heads gs end o c rest v w h = absurd (not_both limit 0 archive heads gs end o c rest v w h)
+no_damage limit archive heads gs end o c rest v w h = grind (arith, not_both)
 
 -- what holds of the records of an archive holds of one that is read where a walk stopped
 record_among : (A : HeadView → Type 0) (limit start : ℕ) (bytes : List ℕ) (heads gs : List HeadView) (end o : ℕ)
     (rest later : List ℕ) (h : HeadView)
     → Walks limit start bytes heads end [] → AllByRecursion A heads → Walks limit start bytes gs o rest
     → record_at limit o rest ≡ Ok (Some h, later) → A h
-record_among A limit start bytes [] [] end o rest later h v a w r =
-    absurd (none_behind limit o h later (subst (λ z. record_at limit o z ≡ Ok (Some h, later)) (w.1 ∙ sym v.1) r))
-record_among A limit start bytes [] (g ∷ gs) end o rest later h v a w r =
-    absurd (none_behind limit start g w.0 (subst (λ z. record_at limit start z ≡ Ok (Some g, w.0)) (sym v.1) w.1))
-record_among A limit start bytes (k ∷ heads) [] end o rest later h v a w r =
-    let here : record_at limit start bytes ≡ Ok (Some h, later) = ap (record_at limit start) (sym w.1)
-    ∙ (ap (λ n. record_at limit n rest) (sym w.0) ∙ r) in
-    let e = answered (Some k) (Some h) v.0 later (sym v.1 ∙ here) in
-    let some = e.0 in
-    let same : k ≡ h = cc in
-    subst A same a.0
+record_among A limit start bytes [] [] end o rest later h v a w r = grind (arith, none_behind)
+record_among A limit start bytes [] (g ∷ gs) end o rest later h v a w r = grind (arith, none_behind)
+record_among A limit start bytes (k ∷ heads) [] end o rest later h v a w r = grind arith
 record_among A limit start bytes (k ∷ heads) (g ∷ gs) end o rest later h v a w r =
     let e = answered (Some k) (Some g) v.0 w.0 (sym v.1 ∙ w.1) in
-    let some = e.0 in
     let same : k ≡ g = cc in
     let x : Walks limit (start + record_length k) v.0 gs o rest = rw (same, e.1) w.2 in
     record_among A limit (start + record_length k) v.0 heads gs end o rest later h v.2 a.1 x r
@@ -69,15 +59,12 @@ module _ (types : Kind → Bool) (limits : Limits) (limit : ℕ) (name archive :
       archive a.heads gs a.whole.end o rest later h a.whole.walks a.taken w r in
       let f = walk-front limit 0 archive gs o rest w in
       let starts : h.start ≡ o = (read-spelled limit o rest later h r).2.start_is in
-      let there : drop h.start archive ≡ rest = ap (λ n. drop n archive) starts ∙ behind archive f.0 rest o f.1 f.2 in
-      let fits = t (Some e) (subst (λ bytes. IsCaptureAt types limits limit name h bytes (Some e)) (sym there) k) in
-      omega (arith, fits, long)
+      grind (arith, behind)
 
   no_fault : (fault : CaptureFault) (gained : List EntryValue)
       → IsAcceptedTo types limits limit name fault archive gained → IsNoFaultOfArchive fault
-  no_fault (Archive f) gained t = no_damage limit archive a.heads t.heads a.whole.end f.offset f.cause t.rest
-      a.whole.walks t.walks t.refused
-  no_fault (LineTooLong o) gained t = let r = t.refused in no_long_line t.heads o t.rest r.1 r.0 r.3 t.walks r.2 r.4 r.5
+  no_fault (Archive f) gained t = grind (arith, no_damage)
+  no_fault (LineTooLong o) gained t = grind (arith, no_long_line)
   no_fault (KeyTooLong o) gained t = tt
 
 pub whole_is_not_refused : WholeIsNotRefused

@@ -1,4 +1,4 @@
-use Rattle.std.proofs.Common.{◌≡◌, ◌≤◌, ◌-◌, ◌∙◌, [], ◌++◌, Ok, Err, sym, ap, refl, subst, take, append-nil, arith}
+use Rattle.std.proofs.Common.{◌≡◌, ◌≤◌, ◌-◌, ◌∙◌, ◌++◌, Ok, Err, sym, ap, subst, take, append-nil, arith}
 use Rattle.std.proofs.lemmas.List.{length-take-le}
 use Rattle.std.proofs.lemmas.Result.{err_from_is_err_and}
 use Rattle.warc_core.specs.declared.phase.Phase.TheVariants.{Open}
@@ -6,20 +6,12 @@ use Rattle.sha1.specs.Sha1.{Holds}
 use Rattle.warc_core.specs.Calls.{ReadsTo}
 use Rattle.warc_core.specs.ReaderView.{state_of}
 use Rattle.block_digests.specs.RestDigest.{digest_of_rest}
-use Rattle.warc_core.proofs.OpenLemmas.{left_in, of_open, zero_of}
-use Rattle.block_digests.proofs.DigestLemmas.{Digesting-start, Digesting-more, Digesting-fault, Digesting-end}
+use Rattle.warc_core.proofs.OpenLemmas.{of_open, zero_of}
+use Rattle.block_digests.proofs.DigestLemmas.{Digesting-more, Digesting-fault, Digesting-end}
 use Rattle.block_digests.proofs.digest.digest_rest.Goals as goal
 
 pub pieces-init : goal.pieces-init
-pieces-init g c = (
-  c.requires.0,
-  c.requires.1,
-  c.requires.0,
-  c.requires.2,
-  Digesting-start _ _ _ _ _ _ c.requires.2
-      (c.update.ensures [] c.new-hasher.ensures),
-  refl,
-)
+pieces-init g c = grind arith
 
 pub returns-in_err-count : goal.returns-in_err-count
 returns-in_err-count g c left len e =
@@ -51,10 +43,7 @@ pieces-smaller g c =
     let i = c.pieces.invariant in
     let d = i.4 in
     let b = c.in_ok-count.ensures.open i.2 i.1 d.stands.phase_is in
-    let low : c.in_ok-count.count ≤ i.2 = b.bound.0 in
-    let old : left_in c.pieces.reader.phase ≡ i.2 = ap left_in d.stands.phase_is in
-    let new : left_in c.block.new.self.phase ≡ i.2 - c.in_ok-count.count = ap left_in b.state.phase_is in
-    omega (arith, old, new)
+    grind arith
 
 pub pieces-preserved : goal.pieces-preserved
 pieces-preserved g c =
@@ -76,8 +65,7 @@ returns g c left len e =
     let d = i.4 in
     let b = c.in_ok-count.ensures.open i.2 i.1 d.stands.phase_is in
     let zero : c.in_ok-count.count ≡ 0 = c.if-count-eq0.true in
-    let none : i.2 ≡ 0 = zero_of i.2
-    (λ some. let more = b.bound.2 some (omega (arith, c.block.auto.piece)) in omega (arith, zero)) in
+    let none : i.2 ≡ 0 = zero_of i.2 (λ some. omega (arith, zero)) in
     let last = Digesting-more i.0 i.1 i.2 _ _ _ _ _ _ _ _ d c.pieces.hasher c.in_ok-count.count c.block.new.piece _ _ b
     (λ m h. subst (Holds c.pieces.hasher) (sym (ap (λ n. m ++ take n c.block.new.piece) zero ∙ append-nil m)) h) in
     let r = Digesting-end i.0 i.1 _ _ _ _ _ _ (let rest : i.2 - c.in_ok-count.count

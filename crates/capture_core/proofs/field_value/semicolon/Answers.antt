@@ -1,4 +1,4 @@
-use Rattle.std.proofs.Common.{◌<◌, length, Option, None, Some, IfSome, ℕ, List}
+use Rattle.std.proofs.Common.{arith, ◌<◌, length, Option, None, Some, IfSome, ℕ, List}
 use Rattle.memchr.specs.Find.{IsFirstByte, is_byte}
 use Rattle.cdxj_places.proofs.Found.{IsFirstByte_position}
 use Rattle.warc_head.proofs.FirstPlace.{first_place}
@@ -18,8 +18,4 @@ returns-clause-place c =
     IsFirstByte_position (is_byte semicolon) value c.next.result first
 
 pub returns-clause-within : goal.returns-clause-within
-returns-clause-within c =
-    let value = c.args.value.now in
-    let first = first_place (is_byte semicolon) value c.memchr_iter.result c.next.new.self c.next.result
-    c.memchr_iter.ensures.value c.next.ensures.steps in
-    within value c.next.result first
+returns-clause-within c = grind (arith, first_place, within)

@@ -2,7 +2,6 @@ use Rattle.std.proofs.Common.{◌≡◌, ◌<◌, ◌∙◌, length, ap, arith}
 use Rattle.httparse.specs.Grammar.{ResponseHead, print_response}
 use Rattle.httparse.specs.Spans.{IsResponseAt}
 use Rattle.httparse.proofs.GrammarLemmas.{response_unique}
-use Rattle.capture_core.specs.declared.http_head.TheConstants.{HTTP_HEAD_LIMIT}
 use Rattle.capture_core.proofs.http_head.head_within.Goals as goal
 
 pub returns-else-head-le-HTTP_HEAD_LIMIT-clause-none : goal.returns-else-head-le-HTTP_HEAD_LIMIT-clause-none
@@ -13,6 +12,4 @@ returns-else-head-le-HTTP_HEAD_LIMIT-clause-none c = λ h payload begins.
     let same = response_unique c.args.block.now found.0 h _ payload found.1.reads begins.reads in
     let size : c.in-Ok-Complete.head.len ≡ length (print_response h) = found.1.len
     ∙ ap (λ x. length (print_response x)) same.0 in
-    let long : HTTP_HEAD_LIMIT < c.in-Ok-Complete.head.len = c.if-head-le-HTTP_HEAD_LIMIT.false in
-    let short = begins.short in
-    absurd (omega (arith, short, size, long))
+    grind arith

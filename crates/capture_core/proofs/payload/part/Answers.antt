@@ -8,6 +8,5 @@ returns-in-Some-clause-parts c =
       Some (f.0, drop c.in-Some.head.len c.args.front.now),
       f.1,
       rw (f.3, f.4) refl,
-      take_all _
-          (drop c.in-Some.head.len c.args.front.now) (omega (arith, length-drop c.in-Some.head.len c.args.front.now)),
+      grind (arith, take_all, length-drop),
     )

@@ -3,31 +3,22 @@ use Rattle.std.proofs.lemmas.List.{length-take-le, length-take, take-take}
 use Rattle.std.proofs.Math.Seq.{take-append_seam}
 use Rattle.std.proofs.lemmas.Result.{err_from_is_err_and}
 use Rattle.warc_core.specs.HeadView.{record_length}
-use Rattle.warc_core.proofs.CauseLemmas.{stops-record}
 use Rattle.warc_core.proofs.OpenLemmas.{found-of-record}
 use Rattle.capture_core.specs.declared.http_head.TheConstants.{HTTP_HEAD_LIMIT}
 use Rattle.capture_core.specs.RecordReading.{front_length}
-use Rattle.capture_core.proofs.RestLemmas.{captures-failed, filled-failed, filled-rest, filled-ready, given-behind}
+use Rattle.capture_core.proofs.RestLemmas.{filled-failed, filled-rest, filled-ready, given-behind}
 use Rattle.capture_core.proofs.record_capture.capture_indexed.Goals as goal
 
 pub returns-in-Err : goal.returns-in-Err
 returns-in-Err g c = c.refuse.ensures [] c.requires
 
 pub returns-in_err-filled : goal.returns-in_err-filled
-returns-in_err-filled g c =
-    let h = c.args.indexed.head.now in
-    let p = err_from_is_err_and c.from_residual.result c.from_residual.ensures.1 in
-    let f = c.in_err-filled.field-0.0 in
-    let b = c.in_err-filled.ensures _ (record_length h) c.requires.stands.phase_is in
-    rw (p.1, p.2) (captures-failed c.args.indexed [] _ _ _ _ _ _ f c.requires (stops-record f.cause b.cause)
-    (found-of-record f.cause (h.parts.length - 0) _ _ b.bytes) b.state b.failures)
+returns-in_err-filled g c = grind (arith, found-of-record)
 
 -- a buffer whose bytes were all written
 back_is : (n : ℕ) (new old : List ℕ) → length new ≡ length old → n ≡ length old → take n (new ++ drop (length new) old)
     ≡ new
-back_is n new old same size = (let whole : n
-    ≡ length new = omega (arith, same, size) in ap (λ m. take m (new ++ drop (length new) old)) whole)
-    ∙ take-append_seam new (drop (length new) old)
+back_is n new old same size = grind (arith, take-append_seam)
 
 pub steps-init : goal.steps-init
 steps-init g c =
@@ -60,9 +51,7 @@ returns-in-Some g c =
     c.steps.invariant.rest _ _ _ _ (rw bytes at c.capture_parted.ensures)
 
 pub returns-in-Err-make_room : goal.returns-in-Err-make_room
-returns-in-Err-make_room g c =
-    c.steps.invariant.rest _ _ _ _
-    (c.refuse-in-Err-make_room.ensures (take c.steps.filled c.steps.front.items) c.steps.invariant.ready)
+returns-in-Err-make_room g c = c.steps.invariant.rest _ _ _ _ (grind arith)
 
 pub returns-in_err-read_behind : goal.returns-in_err-read_behind
 returns-in_err-read_behind g c =

@@ -1,21 +1,17 @@
-use Rattle.std.proofs.Common.{◌≡◌, ◌∙◌, ◌-◌, ◌++◌, List, ℕ, length, take, option_map}
-use Rattle.std.proofs.lemmas.Result.{err_from_is_err_and}
+use Rattle.std.proofs.Common.{arith, ◌≡◌, ◌∙◌, ◌-◌, ◌++◌, length, take, option_map}
 use Rattle.sha1.specs.Sha1.{sha1}
 use Rattle.warc_core.specs.HeadView.{record_length}
 use Rattle.capture_core.specs.ResponseView.{response_view}
 use Rattle.capture_core.specs.CaptureAnswer.{usual_limits}
-use Rattle.warc_core.proofs.OpenLemmas.{CountsRead-as}
-use Rattle.warc_core.proofs.CauseLemmas.{not-memory}
 use Rattle.capture_core.proofs.CaptureLemmas.{rest-behind, behind-digest, digest-met, digest-known, digest-settled}
 use Rattle.capture_core.proofs.CaptureLemmas.{digest-made, capture-known, some-always, some-then}
-use Rattle.capture_core.proofs.RestLemmas.{captures-failed}
 use Rattle.capture_core.proofs.record_capture.capture_parted.Goals as goal
 
 pub capture_closed-requires-in-None-clause-stands : goal.capture_closed-requires-in-None-clause-stands
 capture_closed-requires-in-None-clause-stands g c =
     let d = c.in_ok-digest_rest-in-None.ensures _ (record_length c.args.indexed.head.now)
     c.requires.ready.stands.phase_is in
-    (0, record { offset_is = d.state.offset_is ∙ c.requires.ready.stands.offset_is; phase_is = d.state.phase_is })
+    grind arith
 
 pub returns-in-Some : goal.returns-in-Some
 returns-in-Some g c = record {
@@ -52,11 +48,6 @@ returns-in_ok-digest_rest-in-None g c =
 
 pub returns-in_err-digest_rest-in-None : goal.returns-in_err-digest_rest-in-None
 returns-in_err-digest_rest-in-None g c =
-    let p = err_from_is_err_and c.from_residual.result c.from_residual.ensures.1 in
     let d = c.in_err-digest_rest-in-None.ensures _ (record_length c.args.indexed.head.now)
     c.requires.ready.stands.phase_is in
-    rw (p.1, p.2) (captures-failed c.args.indexed c.args.parted.bytes.now _ _ _ _ _ _
-    c.in_err-digest_rest-in-None.field-0.0 c.requires.ready d.cause
-    (digest-met _ c.args.parted.payload.now c.in_err-digest_rest-in-None.field-0.0.cause _ _
-    (not-memory c.in_err-digest_rest-in-None.field-0.0.cause d.cause) d.bytes) d.state
-    (CountsRead-as (List ℕ) (Unit {0}) c.in_err-digest_rest-in-None.field-0.0.cause _ _ d.failures))
+    grind (arith, digest-met)

@@ -1,8 +1,6 @@
-use Rattle.std.proofs.Common.{refl}
-use Rattle.std.proofs.lemmas.Result.{err_from_is_err_and}
+use Rattle.std.proofs.Common.{arith, refl}
 use Rattle.warc_core.specs.HeadView.{record_length}
 use Rattle.capture_core.proofs.CaptureLemmas.{rest-whole, some-always}
-use Rattle.capture_core.proofs.RestLemmas.{captures-failed}
 use Rattle.capture_core.proofs.record_capture.refuse.Goals as goal
 
 pub returns : goal.returns
@@ -15,7 +13,5 @@ returns g c = λ first ready. rw c.memory.ensures (record {
 
 pub returns-in_err-finish : goal.returns-in_err-finish
 returns-in_err-finish g c = λ first ready.
-    let p = err_from_is_err_and c.from_residual.result c.from_residual.ensures.1 in
     let f = c.in_err-finish.ensures.open _ (record_length c.args.indexed.head.now) ready.stands.phase_is in
-    rw (p.1, p.2) (captures-failed c.args.indexed first _ _ _ _ _ _ c.in_err-finish.field-0.0 ready f.cause f.bytes
-    f.state f.failures)
+    grind arith

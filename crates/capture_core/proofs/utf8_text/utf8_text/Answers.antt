@@ -8,7 +8,7 @@ use Rattle.capture_core.proofs.utf8_text.utf8_text.Goals as goal
 
 pub returns-in-Ok : goal.returns-in-Ok
 unfolding utf8_text
-returns-in-Ok c = grind (arith, common_steps, is_utf8-from_IsUtf8 _ c.in-Ok.ensures.cases.1)
+returns-in-Ok c = grind (arith, is_utf8-from_IsUtf8)
 
 pub returns-in-Err : goal.returns-in-Err
 unfolding utf8_text

@@ -1,4 +1,3 @@
-use Rattle.std.proofs.lemmas.Result.{err_from_is_err_and}
 use Rattle.std.proofs.Common.{◌∙◌, ◌++◌, [], append-nil, List, length, length-append, option_to_list, ap, sym, subst}
 use Rattle.std.proofs.Common.{append_assoc, arith}
 use Rattle.warc_core.specs.declared.next.TheConstants.{HEAD_LIMIT}
@@ -8,7 +7,7 @@ use Rattle.capture_core.specs.Types.{includes}
 use Rattle.capture_core.specs.CaptureAnswer.{usual_limits}
 use Rattle.index_core.specs.Indexing.{AreSound}
 use Rattle.index_core.specs.Captures.{StandBefore}
-use Rattle.index_core.proofs.AddingLemmas.{AddedSoFar-more, AddedSoFar-end, AddedSoFar-refused, none_added}
+use Rattle.index_core.proofs.AddingLemmas.{AddedSoFar-more, AddedSoFar-end, AddedSoFar-refused}
 use Rattle.index_core.proofs.SoundLemmas.{before_step, named_step, sound_step}
 use Rattle.index_core.proofs.captures.add_captures.Goals as goal
 
@@ -19,14 +18,8 @@ returns-in-Ok-None-clause-gains g c =
       s.0,
       s.1,
       (
-        omega (
-          arith,
-          c.len.ensures,
-          c.loop-captures.invariant.held,
-          ap length s.1,
-          length-append
-              c.args.captures.now.items s.0,
-        ),
+        omega (arith, c.len.ensures, c.loop-captures.invariant.held, ap length s.1,
+            length-append c.args.captures.now.items s.0),
         s.3,
         AddedSoFar-end (includes c.args.types) usual_limits HEAD_LIMIT c.args.name.now _
             _ _ c.loop-captures.reader.offset s.0 s.2 e.takes,
@@ -35,15 +28,7 @@ returns-in-Ok-None-clause-gains g c =
 
 pub returns-in_err-reader-clause-gains : goal.returns-in_err-reader-clause-gains
 returns-in_err-reader-clause-gains g c =
-    let p = err_from_is_err_and c.from_residual.result c.from_residual.ensures.1 in (
-      [],
-      sym (append-nil c.args.captures.now.items),
-      rw (p.1, p.2, c.in_err-reader.ensures.memory) ((
-        tt,
-        none_added (includes c.args.types) usual_limits HEAD_LIMIT c.args.name.now
-            (g.I.Input.remaining c.args.input.now),
-      )),
-    )
+    ([], sym (append-nil c.args.captures.now.items), grind arith)
 
 pub returns-in-Err-clause-gains : goal.returns-in-Err-clause-gains
 returns-in-Err-clause-gains g c =

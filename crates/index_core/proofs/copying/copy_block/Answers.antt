@@ -1,9 +1,9 @@
-use Rattle.std.proofs.Common.{◌≡◌, ◌≤◌, ◌-◌, ◌∙◌, Err, Ok, sym, ap, refl, subst, take, arith}
+use Rattle.std.proofs.Common.{◌≡◌, ◌≤◌, ◌-◌, ◌∙◌, Err, Ok, sym, refl, subst, take, arith}
 use Rattle.std.proofs.lemmas.List.{length-take-le}
 use Rattle.std.proofs.lemmas.Result.{err_from_is_err_and}
 use Rattle.std.specs.Io.KnownBytes.{Appends}
 use Rattle.devices.proofs.DeviceLemmas.{Appends-none}
-use Rattle.warc_core.proofs.OpenLemmas.{left_in, of_open, zero_of}
+use Rattle.warc_core.proofs.OpenLemmas.{of_open, zero_of}
 use Rattle.index_core.specs.Copying.{CopiesBlock}
 use Rattle.index_core.specs.declared.fault.IndexFault.TheVariants as faults
 use Rattle.capture_core.specs.declared.fault.CaptureFault.TheVariants.{Archive}
@@ -56,10 +56,7 @@ pub loop-count-smaller : goal.loop-count-smaller
 loop-count-smaller g c =
     let i = c.loop-count.invariant in
     let b = c.in_ok-count.ensures.open i.rest i.len i.copying.stands.phase_is in
-    let low : c.in_ok-count.count ≤ i.rest = b.bound.0 in
-    let old : left_in c.loop-count.reader.phase ≡ i.rest = ap left_in i.copying.stands.phase_is in
-    let new : left_in c.block.new.self.phase ≡ i.rest - c.in_ok-count.count = ap left_in b.state.phase_is in
-    omega (arith, old, new, low, c.if-count-eq0.false)
+    grind arith
 
 pub loop-count-preserved : goal.loop-count-preserved
 loop-count-preserved g c =
@@ -73,7 +70,7 @@ loop-count-preserved g c =
       copying = Copying-more i.left i.len i.rest _ _ _ _ _ _ _ _ _ i.copying c.in_ok-count.count c.block.new.piece _ _ b
           c.in_ok-put_bytes.ensures.bytes;
       reads = b.failures ∙ i.reads;
-      writes = c.in_ok-put_bytes.ensures.failures ∙ i.writes;
+      writes = grind arith;
     }
 
 pub returns-in_err-put_bytes-clause-copies : goal.returns-in_err-put_bytes-clause-copies
@@ -91,10 +88,9 @@ returns-in_err-put_bytes-clause-copies g c left len e =
 
 pub returns-in_err-put_bytes-clause-reads : goal.returns-in_err-put_bytes-clause-reads
 returns-in_err-put_bytes-clause-reads g c =
-    let p = err_from_is_err_and c.from_residual-in_err-put_bytes.result c.from_residual-in_err-put_bytes.ensures.1 in
     let i = c.loop-count.invariant in
     let b = c.in_ok-count.ensures.open i.rest i.len i.copying.stands.phase_is in
-    rw (p.1, p.2, c.in_err-put_bytes.ensures.refusal) (b.failures ∙ i.reads)
+    grind arith
 
 pub returns-in_err-count-clause-copies : goal.returns-in_err-count-clause-copies
 returns-in_err-count-clause-copies g c left len e =

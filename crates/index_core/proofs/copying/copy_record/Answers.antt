@@ -1,4 +1,4 @@
-use Rattle.std.proofs.Common.{◌∙◌, Err, subst}
+use Rattle.std.proofs.Common.{arith, ◌∙◌, Err, subst}
 use Rattle.std.proofs.lemmas.Result.{err_from_is_err_and}
 use Rattle.warc_core.specs.HeadView.{record_length}
 use Rattle.warc_core.specs.Answers.{CountsRead}
@@ -6,11 +6,7 @@ use Rattle.index_core.proofs.CopyLemmas.{head_cut, block_cut, finish_cut, closin
 use Rattle.index_core.proofs.copying.copy_record.Goals as goal
 
 pub returns-in_err-put_bytes-clause-copies : goal.returns-in_err-put_bytes-clause-copies
-returns-in_err-put_bytes-clause-copies g c =
-    let p = err_from_is_err_and c.from_residual.result c.from_residual.ensures.1 in
-    let e = c.in_err-put_bytes.ensures in
-    rw (p.1, p.2) (head_cut c.args.head.now _ _ c.in_err-put_bytes.field-0.0 _ _ e.refusal
-    (rw c.raw.ensures.value at e.bytes))
+returns-in_err-put_bytes-clause-copies g c = grind (arith, err_from_is_err_and, head_cut)
 
 pub returns-in_err-copy_block-clause-copies : goal.returns-in_err-copy_block-clause-copies
 returns-in_err-copy_block-clause-copies g c =

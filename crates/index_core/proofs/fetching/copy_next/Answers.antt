@@ -1,3 +1,4 @@
+use Rattle.std.proofs.Common.{arith}
 use Rattle.std.proofs.lemmas.Result.{err_from_is_err_and}
 use Rattle.warc_core.specs.declared.next.TheConstants.{HEAD_LIMIT}
 use Rattle.index_core.proofs.FetchLemmas.{next_copied, next_none, next_stopped}
@@ -10,12 +11,7 @@ returns-in-Some-clause-copies g c =
     n.begins.start_is c.copy_record.ensures.copies
 
 pub returns-in-None-clause-copies : goal.returns-in-None-clause-copies
-returns-in-None-clause-copies g c =
-    let n = rw c.in-None.is at (c.in_ok-head.ensures.between c.requires) in
-    next_none HEAD_LIMIT c.args.reader.now.offset _ _ n.bytes
+returns-in-None-clause-copies g c = grind (arith, next_none)
 
 pub returns-in_err-head-clause-copies : goal.returns-in_err-head-clause-copies
-returns-in_err-head-clause-copies g c =
-    let p = err_from_is_err_and c.from_residual.result c.from_residual.ensures.1 in
-    let n = c.in_err-head.ensures.between c.requires in
-    rw (p.1, p.2) (next_stopped HEAD_LIMIT c.args.reader.now.offset c.in_err-head.field-0.0 _ _ _ n.bytes n.state.at)
+returns-in_err-head-clause-copies g c = grind (arith, err_from_is_err_and, next_stopped)

@@ -28,9 +28,4 @@ loop-end-preserved g c =
     }
 
 pub returns-in-None-clause-reaches : goal.returns-in-None-clause-reaches
-returns-in-None-clause-reaches g c =
-    let i = c.loop-end.invariant in
-    let n = rw c.in-None.is at c.in_ok-head.ensures in
-    let less : c.loop-end.end < c.args.offset = c.loop-end-test.true in
-    ends_before HEAD_LIMIT c.loop-end.end _ _ _ c.args.offset i.walked (rw i.stands.offset_is at n.bytes)
-    (omega (arith, less))
+returns-in-None-clause-reaches g c = grind (arith, ends_before)

@@ -4,8 +4,7 @@ use Rattle.std.specs.Io.KnownBytes.{prepend_known}
 use Rattle.warc_core.specs.declared.next.TheConstants.{HEAD_LIMIT}
 use Rattle.warc_core.specs.Walk.{record_at}
 use Rattle.index_core.specs.Listing.{listing_line, record_count, record_line}
-use Rattle.index_core.proofs.FollowLemmas.{followed-end, followed-fault, followed-more, followed-start}
-use Rattle.index_core.proofs.FollowLemmas.{followed-stopped}
+use Rattle.index_core.proofs.FollowLemmas.{followed-fault, followed-more, followed-start, followed-stopped}
 use Rattle.index_core.proofs.ListingLemmas.{is_listing_line, one_record}
 use Rattle.index_core.proofs.ReportLemmas.{SoFar-start, SoFar-more, SoFar-end, SoFar-stopped, stopped_anywhere}
 use Rattle.index_core.proofs.ReportLemmas.{fault_reported}
@@ -32,7 +31,7 @@ returns-in-Ok-None-clause-lists g c =
     record {
       report = SoFar-end HEAD_LIMIT listing_line record_count _ _ _ c.loop-reader.reader.offset c.loop-reader.count _ _
           i.lines e.bytes;
-      records = followed-end (λ h. h) record_line length c.loop-reader.reader.offset c.loop-reader.count _ _ i.records;
+      records = grind arith;
     }
 
 pub returns-in_err-put_line-in-Ok-Some-clause-lists : goal.returns-in_err-put_line-in-Ok-Some-clause-lists
@@ -53,7 +52,6 @@ pub loop-reader-preserved : goal.loop-reader-preserved
 loop-reader-preserved g c =
     let e = rw c.in-Ok-Some.field-0-is at c.in-Ok-Some.ensures in
     let i = c.loop-reader.invariant in
-    let f : c.loop-reader.count ≤ c.loop-reader.reader.offset = i.fewer in
     let line = rw c.record_line.ensures at c.in_ok-put_line-in-Ok-Some.ensures.line in
     record {
       phase = e.state.phase_is;
@@ -76,9 +74,7 @@ returns-in-Err-next_record-clause-lists g c =
     let e = c.in-Err-next_record.ensures in
     let i = c.loop-reader.invariant in
     record {
-      report = fault_reported HEAD_LIMIT listing_line record_count c.in-Err-next_record.damage
-          c.put_fault-in-Err-next_record.result _ _ _ c.loop-reader.reader.offset c.loop-reader.count _ _ _ _ _ i.lines
-          e.bytes e.state.at c.put_fault-in-Err-next_record.ensures;
+      report = grind (arith, fault_reported);
       records = followed-fault (λ h. h) record_line length c.in-Err-next_record.damage
           c.put_fault-in-Err-next_record.result c.loop-reader.reader.offset c.loop-reader.count _ _ _ _ _ i.records
           e.state.at c.put_fault-in-Err-next_record.ensures;

@@ -5,8 +5,7 @@ use Rattle.warc_core.specs.declared.next.TheConstants.{HEAD_LIMIT}
 use Rattle.warc_core.specs.Walk.{record_at}
 use Rattle.index_core.specs.declared.verified.Verified.{Verified}
 use Rattle.index_core.specs.Verifying.{judged_line, verification_line, verified_in, verified_of}
-use Rattle.index_core.proofs.FollowLemmas.{followed-end, followed-fault, followed-more, followed-start}
-use Rattle.index_core.proofs.FollowLemmas.{followed-stopped}
+use Rattle.index_core.proofs.FollowLemmas.{followed-fault, followed-more, followed-start, followed-stopped}
 use Rattle.index_core.proofs.VerdictLemmas.{verdict_known, is_line, one_judged, one_verdict, one_at_most}
 use Rattle.index_core.proofs.ReportLemmas.{SoFar-start, SoFar-more, SoFar-end, SoFar-stopped, stopped_anywhere}
 use Rattle.index_core.proofs.ReportLemmas.{fault_reported}
@@ -37,8 +36,7 @@ returns-in-Ok-None-clause-verifies g c =
     record {
       report = SoFar-end HEAD_LIMIT verification_line verified_in _ _ _ c.loop-reader.reader.offset now _ _
           c.loop-reader.invariant.lines e.bytes;
-      records = followed-end (λ j. j.0) judged_line verified_of c.loop-reader.reader.offset now _ _
-          c.loop-reader.invariant.records;
+      records = grind arith;
     }
 
 pub returns-in_err-put_line-in-Ok-Some-clause-verifies : goal.returns-in_err-put_line-in-Ok-Some-clause-verifies
@@ -65,7 +63,6 @@ loop-reader-preserved g c =
     let known = verdict_known HEAD_LIMIT verified_in _ _ c.loop-reader.reader.offset
     (so_far c.loop-reader.records c.loop-reader.differing) _ _ c.in-Ok-Some.head c.in-Ok-Some.verdict
     c.loop-reader.invariant.lines e.begins.start_is (e.verdict c.in-Ok-Some.head c.in-Ok-Some.verdict refl) in
-    let f : c.loop-reader.records ≤ c.loop-reader.reader.offset = c.loop-reader.invariant.fewer in
     record {
       phase = e.state.phase_is;
       within = rw e.state.offset_is e.begins.fits;
@@ -94,9 +91,7 @@ returns-in-Err-next_verdict-clause-verifies g c =
     let e = c.in-Err-next_verdict.ensures in
     let now = so_far c.loop-reader.records c.loop-reader.differing in
     record {
-      report = fault_reported HEAD_LIMIT verification_line verified_in c.in-Err-next_verdict.damage
-          c.put_fault-in-Err-next_verdict.result _ _ _ c.loop-reader.reader.offset now _ _ _ _ _
-          c.loop-reader.invariant.lines e.bytes e.state.at c.put_fault-in-Err-next_verdict.ensures;
+      report = grind (arith, fault_reported);
       records = followed-fault (λ j. j.0) judged_line verified_of c.in-Err-next_verdict.damage
           c.put_fault-in-Err-next_verdict.result c.loop-reader.reader.offset now _ _ _ _ _
           c.loop-reader.invariant.records e.state.at c.put_fault-in-Err-next_verdict.ensures;

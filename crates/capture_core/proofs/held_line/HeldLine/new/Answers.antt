@@ -1,4 +1,4 @@
-use Rattle.std.proofs.Common.{◌≤◌, length, subst, sym}
+use Rattle.std.proofs.Common.{arith, ◌≤◌, subst, sym}
 use Rattle.cdxj_core.specs.declared.limit.TheConstants.{LINE_LIMIT}
 use Rattle.cdxj_core.specs.Entries.{HasLine}
 use Rattle.cdxj_core.specs.EntryView.{entry_view}
@@ -8,7 +8,7 @@ use Rattle.capture_core.proofs.SpellingLemmas.{spells}
 use Rattle.capture_core.proofs.held_line.HeldLine.new.Goals as goal
 
 has_line : (c : goal.In_ok-keep_name) → HasLine LINE_LIMIT (entry_view c.args.entry)
-has_line c = (c.requires, subst (λ t. length t ≤ LINE_LIMIT) c.in_ok-bytes.ensures.0 c.in_ok-bytes.ensures.1)
+has_line c = grind arith
 
 holds : (c : goal.In_ok-keep_name) → HoldsLine (entry_view c.args.entry) c.keep_name.new.line.items c.args.entry.offset
 holds c = holds_line (entry_view c.args.entry) c.in_ok-bytes.bytes.items c.as_bytes.result.now

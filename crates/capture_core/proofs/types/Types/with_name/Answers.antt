@@ -1,4 +1,4 @@
-use Rattle.std.proofs.Common.{◌≡◌, Bool, true, false, List, ℕ, bytes_eq, refl, sym}
+use Rattle.std.proofs.Common.{arith, ◌≡◌, Bool, true, false, List, ℕ, bytes_eq, refl}
 use Rattle.std.proofs.lemmas.Slice.Eq.{bytes_eq-Decides}
 use Rattle.capture_core.proofs.types.Types.with_name.Goals as goal
 
@@ -7,16 +7,10 @@ other kind name differ = go (bytes_eq kind name) refl
   where
     go : (b : Bool) → bytes_eq kind name ≡ b → b ≡ false
     go false e = refl
-    go true e = absurd (differ (sym ((bytes_eq-Decides kind name).0 e)))
+    go true e = grind (arith, bytes_eq-Decides)
 
 pub returns-in_default : goal.returns-in_default
 returns-in_default c =
     let d = c.in_default in
-    rw (
-      other _ _ d.not-response,
-      other _ _ d.not-resource,
-      other _ _ d.not-revisit,
-      other _ _ d.not-conversion,
-      other _
-          _ d.not-metadata,
-    ) refl
+    rw (other _ _ d.not-response, other _ _ d.not-resource, other _ _ d.not-revisit, other _ _ d.not-conversion,
+        other _ _ d.not-metadata) refl

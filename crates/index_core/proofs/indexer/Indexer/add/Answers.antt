@@ -1,6 +1,5 @@
-use Rattle.std.proofs.Common.{◌≡◌, List, Ok, Err, subst}
+use Rattle.std.proofs.Common.{arith, ◌≡◌, List, Ok, Err, subst}
 use Rattle.std.proofs.lemmas.Result.{err_from_is_err_and}
-use Rattle.cdxj_core.specs.declared.limit.TheConstants.{LINE_LIMIT}
 use Rattle.warc_core.specs.declared.next.TheConstants.{HEAD_LIMIT}
 use Rattle.cdxj_core.specs.Entries.{EntryValue}
 use Rattle.capture_core.specs.Types.{includes}
@@ -13,15 +12,11 @@ use Rattle.index_core.proofs.indexer.Indexer.add.Goals as goal
 
 pub invariant_of-self-in_err-add_captures : goal.invariant_of-self-in_err-add_captures
 invariant_of-self-in_err-add_captures g c =
-    c.add_captures.ensures.sound c.add.new.self
-    (is_among_kept c.self.inside.names _ c.args.name.now c.in-Ok.ensures.ok)
-    (sound_under LINE_LIMIT c.self.inside.names _ c.args.name.now _ c.in-Ok.ensures.ok c.self.invariant)
+    c.add_captures.ensures.sound c.add.new.self (grind (arith, is_among_kept)) (grind (arith, sound_under))
 
 pub invariant_of-self-2 : goal.invariant_of-self-2
 invariant_of-self-2 g c =
-    c.add_captures.ensures.sound c.add.new.self
-    (is_among_kept c.self.inside.names _ c.args.name.now c.in-Ok.ensures.ok)
-    (sound_under LINE_LIMIT c.self.inside.names _ c.args.name.now _ c.in-Ok.ensures.ok c.self.invariant)
+    c.add_captures.ensures.sound c.add.new.self (grind (arith, is_among_kept)) (grind (arith, sound_under))
 
 -- what is held is seen before and after
 pub returns-in_err-add_captures-clause-adds : goal.returns-in_err-add_captures-clause-adds
@@ -42,7 +37,6 @@ returns-in_err-add_captures-clause-adds g c =
 
 pub returns-clause-adds : goal.returns-clause-adds
 returns-clause-adds g c =
-    let gains = c.in_ok-add_captures.ensures.gains in
     let old = c.self.inside in
     subst (λ (held : Held). (captures : List EntryValue)
     × (◌≡◌ {A = Held} (record {
@@ -51,5 +45,4 @@ returns-clause-adds g c =
       captures = c.add_captures.new.captures.items;
     }) (with_archive c.args.name.now captures held))
     × Gains (includes held.types) usual_limits HEAD_LIMIT c.args.name.now (g.I.Input.remaining c.args.input.now)
-    captures (Ok c.in_ok-add_captures.field-0))
-    c.self.view_is (gains.0, held_more old.types _ _ _ _ gains.0 c.args.name.now c.in-Ok.ensures.ok gains.1, gains.2)
+    captures (Ok c.in_ok-add_captures.field-0)) c.self.view_is (grind arith)

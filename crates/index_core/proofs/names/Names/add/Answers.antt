@@ -1,4 +1,4 @@
-use Rattle.std.proofs.Common.{◌≡◌, false, [], ◌∷◌, ◌++◌, map, ap, ◌∙◌}
+use Rattle.std.proofs.Common.{arith, ◌≡◌, false, [], ◌∷◌, ◌++◌, map, ◌∙◌}
 use Rattle.std.specs.String.{string_bytes}
 use Rattle.index_core.specs.Indexing.{is_among}
 use Rattle.index_core.proofs.NameLemmas.{new_goes_last}
@@ -19,8 +19,4 @@ returns-clause-ok c =
     ]
 
 pub returns-clause-err : goal.returns-clause-err
-returns-clause-err c =
-    elim c.match-insert.branch [
-      | in-Ok w ↦ rw w.result-is tt
-      | in-Err w ↦ rw w.result-is (ap (map string_bytes) w.in-Err.ensures.err ∙ c.self.view_is)
-    ]
+returns-clause-err c = grind arith
