@@ -1,11 +1,10 @@
 -- The line of a good entry is read as that entry.
-use Rattle.std.proofs.Common.{◌≡◌, ℕ, ◌-◌, ◌<◌, ◌≤◌, ◌^◌, ◌==◌, Bool, true, not, List, [], ◌∷◌, ◌++◌, length}
-use Rattle.std.proofs.Common.{take, decimal, Some, option_and_then, get_or, refl, ap, ◌∙◌, subst, arith}
-use Rattle.std.proofs.Common.{flat_map, ⊎_elim}
-use Rattle.std.specs.List.{join_by, before_first, after_first}
+use Rattle.std.proofs.lemmas.Grind.{common_steps}
+use Rattle.std.proofs.Common.{◌≡◌, ℕ, ◌-◌, ◌<◌, ◌≤◌, ◌^◌, ◌==◌, Bool, true, not, List, [], ◌∷◌, ◌++◌, length, Some}
+use Rattle.std.proofs.Common.{option_and_then, refl, ap, ◌∙◌, arith, flat_map, ⊎_elim}
+use Rattle.std.specs.List.{before_first, after_first}
 use Rattle.std.specs.Char.{is_ascii_digit}
-use Rattle.std.proofs.lemmas.Bool.{ne_eqb, eq-eqb, and_parts, cond-true, lt-ltb, ltb-true, cases_lt}
-use Rattle.std.proofs.lemmas.Bool.{agree_below_at}
+use Rattle.std.proofs.lemmas.Bool.{ne_eqb, eq-eqb, and_parts, cond-true, lt-ltb, cases_lt}
 use Rattle.std.proofs.lemmas.List.{length-append}
 use Rattle.std.proofs.lemmas.List.Folds.{list_all-append}
 use Rattle.std.proofs.Math.Seq.{take-append_seam, get_or-append_seam}
@@ -13,7 +12,6 @@ use Rattle.std.proofs.lemmas.Fmt.{digits_value-decimal, decimal_nonempty}
 use Rattle.json.specs.Print.{quoted, escape, escape_byte}
 use Rattle.json.proofs.Printed.Strings.{escape_byte_plain}
 use Rattle.cdxj_places.specs.Pair.{is_space, is_key_byte}
-use Rattle.cdxj_places.specs.Places.{offset_of}
 use Rattle.cdxj_places.proofs.PlaceLaw.{key_no_space, digits_no_space, before_first_at, after_first_at, both}
 use Rattle.cdxj_places.proofs.PlaceLaw.{offset_text}
 use Rattle.cdxj_places.proofs.Offsets.{own}
@@ -35,11 +33,10 @@ joined : (xs ys : List ℕ) → has_no_feed xs ≡ true → has_no_feed ys ≡ t
 joined xs ys h k = list_all-append no_feed xs ys ∙ both _ _ h k
 
 key_feed : (b : ℕ) → is_key_byte b ≡ true → no_feed b ≡ true
-key_feed b h = let above : 32 < b = ltb-true 32 b (and_parts _ _ h).0 in ap not (ne_eqb b 10 (λ e. omega arith))
+key_feed b h = grind arith
 
 digit_feed : (b : ℕ) → is_ascii_digit b ≡ true → no_feed b ≡ true
-digit_feed b h = ap not (ne_eqb b 10 (λ e. let bad : is_ascii_digit 10 ≡ true = subst (λ x. is_ascii_digit x ≡ true) e
-    h in cc))
+digit_feed b h = grind arith
 
 abbrev Escapes : ℕ → Type 0
 Escapes x = has_no_feed (escape_byte x) ≡ true
@@ -47,11 +44,10 @@ Escapes x = has_no_feed (escape_byte x) ≡ true
 -- by a computation over the bytes up to the backslash; no other is escaped
 low_escapes : (x : ℕ) → x < 93 → Escapes x
 unfolding escape_byte
-low_escapes x low = agree_below_at (λ x. has_no_feed (escape_byte x)) (λ _. true) 93 x refl low
+low_escapes x low = grind arith
 
 high_escapes : (x : ℕ) → 93 ≤ x → Escapes x
-high_escapes x high = ap has_no_feed (escape_byte_plain x (λ e. omega arith) (λ e. omega arith) (omega arith))
-    ∙ both (no_feed x) true (ap not (ne_eqb x 10 (λ e. omega arith))) refl
+high_escapes x high = grind (arith, escape_byte_plain, ne_eqb)
 
 escapes : (x : ℕ) → Escapes x
 escapes x = ⊎_elim (low_escapes x) (high_escapes x) (cases_lt x 93)
@@ -64,55 +60,29 @@ quoted_feed : (s : List ℕ) → has_no_feed (quoted s) ≡ true
 quoted_feed s = joined (escape s) (34 ∷ []) (escaped s) refl
 
 member_feed : (m : Pair) → has_no_feed (member_text m) ≡ true
-member_feed (n, v) = joined (quoted n ++ (58 ∷ 32 ∷ [])) (quoted v) (joined (quoted n) (58 ∷ 32 ∷ []) (quoted_feed n)
-    refl) (quoted_feed v)
+member_feed (n, v) = grind (arith, joined, quoted_feed)
 
 later_feed : (ms : List Pair) → has_no_feed (flat_map (λ m. (44 ∷ 32 ∷ []) ++ member_text m) ms) ≡ true
 later_feed [] = refl
-later_feed (m ∷ ms) = joined ((44 ∷ 32 ∷ []) ++ member_text m) _ (joined (44 ∷ 32 ∷ []) (member_text m) refl
-    (member_feed m)) (later_feed ms)
+later_feed (m ∷ ms) = grind (arith, joined, member_feed, later_feed ms)
 
 object_feed : (m : Pair) (ms : List Pair) → has_no_feed (object_text (m ∷ ms)) ≡ true
-object_feed m ms = joined (join_by member_text (44 ∷ 32 ∷ []) (m ∷ ms)) (125 ∷ [])
-    (joined (member_text m) _ (member_feed m) (later_feed ms)) refl
+object_feed m ms = grind (arith, joined, member_feed m, later_feed ms)
 
 pub body_feed : (e : EntryValue) → IsGood e → has_no_feed (body_text e) ≡ true
 body_feed e h =
-    let object = object_text (members_of e) in
-    joined e.key (32 ∷ (e.stamp ++ 32 ∷ object)) (weaker is_key_byte no_feed key_feed e.key (and_parts _ _ h.key).1)
-    (joined (32 ∷ []) (e.stamp ++ 32 ∷ object) refl (joined e.stamp (32 ∷ object)
-    (weaker is_ascii_digit no_feed digit_feed e.stamp (and_parts _ _ h.stamp).1)
-    (joined (32 ∷ []) object refl (object_feed (first_of (entry_texts e)) (later_of (entry_texts e))))))
+    grind (arith, joined, weaker, key_feed, and_parts, digit_feed, object_feed (first_of (entry_texts e))
+    (later_of (entry_texts e)))
 
 -- ---- the body
 
 pub body_of-feed : (xs : List ℕ) → body_of (xs ++ 10 ∷ []) ≡ xs
-body_of-feed xs =
-    let s = xs ++ 10 ∷ [] in
-    let last : length s - 1 ≡ length xs = omega (arith, length-append xs (10 ∷ [])) in
-    cond-true _ _ _ (ap (λ n. get_or s n 0 == 10) last ∙ eq-eqb (get_or s (length xs) 0) 10
-    (get_or-append_seam xs 10 [] 0)) ∙ ap (λ n. take n s) last ∙ take-append_seam xs (10 ∷ [])
+body_of-feed xs = grind (arith, common_steps, cond-true, eq-eqb, get_or-append_seam, take-append_seam)
 
 -- ---- the values
 
 values_read : (e : EntryValue) → IsGood e → line_from e.key e.stamp (data_of (entry_texts e)) ≡ Some (entry_values e)
-values_read e h =
-    let size_fits : e.length < 2 ^ 64 = omega (arith, h.size) in
-    let offset_fits : e.offset < 2 ^ 64 = omega (arith, h.offset) in
-    let offset_is : offset_of (decimal e.offset) ≡ Some e.offset = cond-true _ _ _ (offset_text e.offset h.offset)
-    ∙ ap Some (digits_value-decimal own e.offset offset_fits) in
-    texts_line e.key e.stamp (entry_texts e) e.offset offset_is h.filename
-    ∙ (λ i. Some (record {
-      key = e.key;
-      stamp = e.stamp;
-      original = text_stands e.url h.url i;
-      mimetype = text_stands e.mime h.mime i;
-      statuscode = text_stands e.status h.status i;
-      digest = text_stands e.digest h.digest i;
-      length = text_stands (decimal e.length) (decimal_nonempty e.length size_fits) i;
-      offset = e.offset;
-      filename = e.filename;
-    }))
+values_read e h = grind (arith, offset_text, digits_value-decimal, own, texts_line, text_stands, decimal_nonempty)
 
 pub line_in-body_text : (limit : ℕ) (e : EntryValue) → IsGood e → length (line_text e) ≤ limit
     → line_in limit (body_text e) ≡ Some (entry_values e)

@@ -1,11 +1,9 @@
 -- The line of an entry is UTF-8.
-use Rattle.std.proofs.Common.{◌≡◌, ℕ, ◌<◌, ◌≤◌, ◌^◌, true, List, [], ◌∷◌, ◌++◌, length, decimal, flat_map, Some}
-use Rattle.std.proofs.Common.{sym, ap, ◌∙◌, subst, arith, IsUtf8, refl, ltb}
+use Rattle.std.proofs.Common.{◌≡◌, ℕ, ◌<◌, ◌≤◌, ◌^◌, true, List, [], ◌∷◌, ◌++◌, length, decimal, flat_map, Some, ◌∙◌}
+use Rattle.std.proofs.Common.{arith, IsUtf8, refl, ltb}
 use Rattle.std.specs.List.{join_by, list_all}
 use Rattle.std.proofs.lemmas.Bool.{and_parts, ltb-true}
 use Rattle.std.proofs.lemmas.Str.{IsUtf8-append, IsUtf8-from_ascii, IsUtf8-nil}
-use Rattle.std.proofs.lemmas.Str.Ascii.{IsAscii-from_all}
-use Rattle.std.proofs.lemmas.List.Elements.{All-cons, All-nil}
 use Rattle.std.proofs.lemmas.Fmt.{digits_decimal}
 use Rattle.json.specs.Print.{quoted}
 use Rattle.json.proofs.Printed.Utf8.{IsUtf8-quoted}
@@ -23,22 +21,20 @@ AreTexts [] = Unit {0}
 AreTexts (m ∷ ms) = IsUtf8 m.0 × (IsUtf8 m.1 × AreTexts ms)
 
 byte : (b : ℕ) → b < 128 → IsUtf8 (b ∷ [])
-byte b h = IsUtf8-from_ascii (b ∷ []) (IsAscii-from_all (b ∷ [])
-    (All-cons (λ x. x < 128) b [] h (All-nil (λ x. x < 128))))
+byte b h = IsUtf8-from_ascii (b ∷ []) (grind arith)
 
 after : (b : ℕ) (s : List ℕ) → b < 128 → IsUtf8 s → IsUtf8 (b ∷ s)
 after b s h u = IsUtf8-append (b ∷ []) s (byte b h) u
 
 member_utf8 : (m : Pair) → IsUtf8 m.0 → IsUtf8 m.1 → IsUtf8 (member_text m)
 member_utf8 (n, v) a b =
-    IsUtf8-append (quoted n ++ (58 ∷ 32 ∷ [])) (quoted v) (IsUtf8-append (quoted n) (58 ∷ 32 ∷ []) (IsUtf8-quoted n a)
-    (after 58 (32 ∷ []) (omega arith) (byte 32 (omega arith)))) (IsUtf8-quoted v b)
+    IsUtf8-append (quoted n ++ (58 ∷ 32 ∷ [])) (quoted v)
+    (IsUtf8-append (quoted n) (58 ∷ 32 ∷ []) (IsUtf8-quoted n a) (grind (arith, after))) (IsUtf8-quoted v b)
 
 later_utf8 : (ms : List Pair) → AreTexts ms → IsUtf8 (flat_map (λ m. (44 ∷ 32 ∷ []) ++ member_text m) ms)
 later_utf8 [] h = IsUtf8-nil
 later_utf8 (m ∷ ms) h = IsUtf8-append ((44 ∷ 32 ∷ []) ++ member_text m) (flat_map (λ m. (44 ∷ 32 ∷ []) ++ member_text m)
-    ms) (after 44 (32 ∷ member_text m) (omega arith) (after 32 (member_text m) (omega arith) (member_utf8 m h.0 h.1.0)))
-    (later_utf8 ms h.1.1)
+    ms) (after 44 (32 ∷ member_text m) (omega arith) (grind (arith, after, member_utf8))) (later_utf8 ms h.1.1)
 
 object_utf8 : (m : Pair) (ms : List Pair) → AreTexts (m ∷ ms) → IsUtf8 (object_text (m ∷ ms))
 object_utf8 m ms h =
@@ -79,7 +75,7 @@ body_utf8 e h =
 
 pub line_law : (limit : ℕ) (e : EntryValue) → IsGood e → length (line_text e) ≤ limit
     → line_in limit (body_of (line_text e)) ≡ Some (entry_values e)
-line_law limit e h short = ap (line_in limit) (body_of-feed (body_text e)) ∙ line_in-body_text limit e h short
+line_law limit e h short = grind (arith, body_of-feed, line_in-body_text)
 
 pub line_utf8 : (e : EntryValue) → IsGood e → IsUtf8 (body_of (line_text e))
-line_utf8 e h = subst IsUtf8 (sym (body_of-feed (body_text e))) (body_utf8 e h)
+line_utf8 e h = grind (arith, body_of-feed, body_utf8)

@@ -1,16 +1,14 @@
 -- What is found in an object decides what its line says.
-use Rattle.std.proofs.Common.{◌≡◌, ℕ, List, decimal, Option, Some, None, option_map, option_and_then, refl, ap, ◌∙◌}
+use Rattle.std.proofs.Common.{arith, ◌≡◌, ℕ, List, decimal, Option, Some, None, option_map, option_and_then, refl, ◌∙◌}
 use Rattle.serde_json.specs.Data.{unsigned, negative, float, Data, null, boolean, number, string, array, object}
 use Rattle.serde_json.specs.Data.{Members}
 use Rattle.serde_json.specs.Find.{get_member}
-use Rattle.serde_json.specs.Read.{read as read_text}
 use Rattle.cdxj_objects.specs.FoundMembers.{FoundValue, member_data, found_of, object_found, members_in}
 use Rattle.cdxj_objects.specs.MemberValues.{value_text, filename_value, offset_value}
 use Rattle.cdxj_objects.specs.Names.{url_name, mime_name, status_name, digest_name, length_name, offset_name}
 use Rattle.cdxj_objects.specs.Names.{filename_name}
 use Rattle.cdxj_objects.specs.Texts.{TextsValue}
 use Rattle.cdxj_core.specs.Lines.{LineValue, line_value, line_from, line_object}
-use Rattle.cdxj_core.proofs.PairLaw.{and_then_some}
 
 value_text-seen : (o : Option Data) → value_text o ≡ value_text (option_map member_data o)
 value_text-seen None = refl
@@ -33,17 +31,6 @@ filename_value-seen (Some (number (float x))) = refl
 filename_value-seen (Some (string s)) = refl
 filename_value-seen (Some (array ds)) = refl
 filename_value-seen (Some (object ms)) = refl
-
-offset_value-seen : (o : Option Data) → offset_value o ≡ offset_value (option_map member_data o)
-offset_value-seen None = refl
-offset_value-seen (Some null) = refl
-offset_value-seen (Some (boolean b)) = refl
-offset_value-seen (Some (number (unsigned n))) = refl
-offset_value-seen (Some (number (negative z))) = refl
-offset_value-seen (Some (number (float x))) = refl
-offset_value-seen (Some (string s)) = refl
-offset_value-seen (Some (array ds)) = refl
-offset_value-seen (Some (object ms)) = refl
 
 -- the line of these five texts, where the file name and the offset are good
 abbrev line_of : List ℕ → List ℕ → List ℕ → List ℕ → List ℕ → List ℕ → List ℕ → Option ℕ → Option (List ℕ)
@@ -70,10 +57,7 @@ seven : (key stamp : List ℕ) (url mime status digest length offset filename : 
     (value_text (option_map member_data status)) (value_text (option_map member_data digest))
     (value_text (option_map member_data length)) (offset_value (option_map member_data offset))
     (filename_value (option_map member_data filename))
-seven key stamp url mime status digest length offset filename =
-    λ i. line_of key stamp (value_text-seen url i) (value_text-seen mime i) (value_text-seen status i)
-    (value_text-seen digest i) (value_text-seen length i) (offset_value-seen offset i)
-    (filename_value-seen filename i)
+seven key stamp url mime status digest length offset filename = grind (arith, value_text-seen, filename_value-seen)
 
 members_line : (key stamp : List ℕ) (ms : Members) → line_from key stamp (object ms) ≡ found_line key stamp
     (found_of ms)
@@ -89,29 +73,18 @@ object_line key stamp (boolean b) found e = absurd (cc)
 object_line key stamp (number n) found e = absurd (cc)
 object_line key stamp (string s) found e = absurd (cc)
 object_line key stamp (array ds) found e = absurd (cc)
-object_line key stamp (object ms) found e = let same : found_of ms ≡ found = cc in members_line key stamp ms
-    ∙ ap (found_line key stamp) same
+object_line key stamp (object ms) found e = grind (arith, members_line)
 
 pub line_found : (key stamp text : List ℕ) (found : FoundValue) → members_in text ≡ Some found → line_object key stamp
     text ≡ found_line key stamp found
-line_found key stamp text found h =
-    let d = and_then_some object_found (read_text text) found h in
-    ap (option_and_then (line_from key stamp)) d.1 ∙ object_line key stamp d.0 found d.2
-
-nothing : {A B : Type 0} (o : Option A) → option_and_then {U = B} (λ a. None) o ≡ None
-nothing None = refl
-nothing (Some a) = refl
+line_found key stamp text found h = grind (arith, object_line)
 
 pub no_filename : (key stamp : List ℕ) (f : FoundValue) → filename_value f.filename ≡ None → found_line key stamp f ≡
     None
-no_filename key stamp f e = ap (line_of key stamp (value_text f.url) (value_text f.mime) (value_text f.status)
-    (value_text f.digest) (value_text f.length) (offset_value f.offset)) e
+no_filename key stamp f e = grind arith
 
 pub no_offset : (key stamp : List ℕ) (f : FoundValue) → offset_value f.offset ≡ None → found_line key stamp f ≡ None
-no_offset key stamp f e =
-    ap (λ o. line_of key stamp (value_text f.url) (value_text f.mime) (value_text f.status) (value_text f.digest)
-    (value_text f.length) o (filename_value f.filename)) e
-    ∙ nothing (filename_value f.filename)
+no_offset key stamp f e = grind arith
 
 -- the texts of the members that were found are those of their line
 pub line_made : (key stamp : List ℕ) (f : FoundValue) (offset : ℕ) (t : TextsValue) → filename_value f.filename ≡ Some
@@ -119,5 +92,4 @@ pub line_made : (key stamp : List ℕ) (f : FoundValue) (offset : ℕ) (t : Text
     → t.url ≡ value_text f.url → t.mime ≡ value_text f.mime → t.status ≡ value_text f.status → t.digest ≡ value_text
     f.digest → t.length ≡ value_text f.length
     → found_line key stamp f ≡ Some (line_value key stamp t offset)
-line_made key stamp f offset t named placed url mime status digest size =
-    rw (named, placed, url, mime, status, digest, size)
+line_made key stamp f offset t named placed url mime status digest size = grind arith

@@ -1,17 +1,16 @@
 -- The lines of entries are an index.
-use Rattle.std.proofs.Common.{◌≡◌, ◌≤◌, ℕ, ◌==◌, true, false, not, cond, List, [], ◌∷◌, ◌++◌, map, flat_map, Some, refl}
-use Rattle.std.proofs.Common.{sym, ap, ap₂, ◌∙◌, append_assoc, Ordering, Less, Equal, Greater, is_gt}
-use Rattle.std.specs.List.{AllByRecursion, onto_first}
+use Rattle.std.proofs.Common.{arith, ◌≡◌, ◌≤◌, ℕ, ◌==◌, true, false, not, List, [], ◌∷◌, ◌++◌, map, flat_map, Some}
+use Rattle.std.proofs.Common.{refl, sym, ap, ap₂, ◌∙◌, append_assoc, Ordering, Less, Equal, Greater, is_gt}
+use Rattle.std.specs.List.{AllByRecursion}
 use Rattle.std.specs.Ordering.{ordering_reverse}
-use Rattle.std.proofs.lemmas.Bool.{and_parts, not-true, true≢false}
+use Rattle.std.proofs.lemmas.Bool.{and_parts, true≢false}
 use Rattle.cdxj_places.specs.Pairs.{pair_cmp}
 use Rattle.cdxj_places.specs.Places.{place_cmp}
 use Rattle.cdxj_places.specs.Rising.{Rises, NeverFalls}
 use Rattle.cdxj_places.specs.TextLines.{lines}
-use Rattle.cdxj_places.proofs.PairLemmas.{higher_pair}
 use Rattle.cdxj_places.proofs.PlaceOrder.{place_cmp_total}
 use Rattle.cdxj_places.proofs.RisingLaws.{each_weaker}
-use Rattle.cdxj_core.specs.Entries.{EntryValue, HasLine, entry_pair, entry_place, body_text, line_text}
+use Rattle.cdxj_core.specs.Entries.{EntryValue, HasLine, entry_pair, entry_place, line_text}
 use Rattle.cdxj_core.specs.Lines.{has_no_feed}
 use Rattle.cdxj_core.specs.Members.{Member, member_pair, entry_member, line_entry}
 use Rattle.cdxj_core.specs.Indexes.{IsIndex}
@@ -24,22 +23,17 @@ pub lines_front : (body rest : List ℕ) → has_no_feed body ≡ true → lines
 lines_front [] rest h = refl
 lines_front (b ∷ body) rest h =
     let parts = and_parts (not (b == 10)) (has_no_feed body) h in
-    ap (λ t. cond t ((b ∷ []) ∷ lines (body ++ 10 ∷ rest)) (onto_first b (lines (body ++ 10 ∷ rest))))
-    (not-true (b == 10) parts.0)
-    ∙ ap (onto_first b) (lines_front body rest parts.1)
+    grind (arith, lines_front body rest parts.1)
 
 lines_written : (limit : ℕ) (es : List EntryValue) → AllByRecursion (HasLine limit) es → lines (flat_map line_text es) ≡
     map line_text es
 lines_written limit [] h = refl
-lines_written limit (e ∷ es) h =
-    ap lines (append_assoc (body_text e) (10 ∷ []) (flat_map line_text es)) ∙ lines_front (body_text e)
-    (flat_map line_text es) (body_feed e h.0.0)
-    ∙ ap (λ ls. line_text e ∷ ls) (lines_written limit es h.1)
+lines_written limit (e ∷ es) h = grind (arith, append_assoc, lines_front, body_feed, lines_written limit es h.1)
 
 entries_written : (limit : ℕ) (es : List EntryValue) → AllByRecursion (HasLine limit) es → map (line_entry limit)
     (map line_text es) ≡ map Some (map entry_member es)
 entries_written limit [] h = refl
-entries_written limit (e ∷ es) h = ap₂ (λ m ms. m ∷ ms) (written_entry limit e h.0) (entries_written limit es h.1)
+entries_written limit (e ∷ es) h = grind (arith, written_entry, entries_written limit es h.1)
 
 -- ---- order
 
@@ -51,36 +45,25 @@ each_map f A (x ∷ xs) h = (h.0, each_map f A xs h.1)
 ordered_written : (es : List EntryValue) → NeverFalls entry_pair pair_cmp es → NeverFalls member_pair pair_cmp
     (map entry_member es)
 ordered_written [] h = tt
-ordered_written (e ∷ es) h = (
-  each_map entry_member (λ k. is_gt (pair_cmp (entry_pair e) (member_pair k)) ≡ false) es h.0,
-  ordered_written es
-      h.1,
-)
+ordered_written (e ∷ es) h = grind (arith, each_map, ordered_written es h.1)
 
 pub index_written : (limit : ℕ) (es : List EntryValue) → AllByRecursion (HasLine limit) es → NeverFalls entry_pair
     pair_cmp es → IsIndex limit (flat_map line_text es) (map entry_member es)
-index_written limit es h k = record {
-  entries = ap (map (line_entry limit)) (lines_written limit es h) ∙ entries_written limit es h;
-  ordered = ordered_written es k;
-}
+index_written limit es h k = grind (arith, lines_written, entries_written, ordered_written)
 
 not_above : (x y : EntryValue) (o : Ordering) → pair_cmp (entry_pair x) (entry_pair y) ≡ o
     → is_gt (place_cmp (entry_place y) (entry_place x)) ≡ true → is_gt o ≡ false
 not_above x y Less e h = refl
 not_above x y Equal e h = refl
 not_above x y Greater e h =
-    let up : place_cmp (entry_place x) (entry_place y) ≡ Greater = higher_pair (entry_place x) (entry_place y) e in
+    let up : place_cmp (entry_place x) (entry_place y) ≡ Greater = grind arith in
     let down : place_cmp (entry_place y) (entry_place x) ≡ Less = place_cmp_total.antisymm (entry_place y)
     (entry_place x) ∙ ap ordering_reverse up in
     absurd (true≢false (sym h ∙ ap is_gt down))
 
 pub never_falls : (es : List EntryValue) → Rises entry_place place_cmp es → NeverFalls entry_pair pair_cmp es
 never_falls [] h = tt
-never_falls (e ∷ es) h = (
-  each_weaker (λ (y : EntryValue) (k : is_gt (place_cmp (entry_place y) (entry_place e)) ≡ true). not_above e y _
-      refl k) es h.0,
-  never_falls es h.1,
-)
+never_falls (e ∷ es) h = grind (arith, each_weaker, not_above, never_falls es h.1)
 
 -- ---- members
 
@@ -95,7 +78,7 @@ one_list (x ∷ xs) (y ∷ ys) e =
 
 pub one_index : (limit : ℕ) (text : List ℕ) (these those : List Member) → IsIndex limit text these
     → IsIndex limit text those → these ≡ those
-one_index limit text these those h k = one_list these those (sym h.entries ∙ k.entries)
+one_index limit text these those h k = grind (arith, one_list)
 
 -- ---- a higher limit
 
@@ -105,13 +88,9 @@ entries_stay low high up [] [] e = refl
 entries_stay low high up [] (m ∷ members) e = cc
 entries_stay low high up (line ∷ these) [] e = cc
 entries_stay low high up (line ∷ these) (m ∷ members) e =
-    let first : line_entry low line ≡ Some m = cc in
     let rest : map (line_entry low) these ≡ map Some members = cc in
-    ap₂ (λ x xs. x ∷ xs) (entry-higher low high up line m first) (entries_stay low high up these members rest)
+    grind (arith, entry-higher, entries_stay low high up these members rest)
 
 pub index_stays : (low high : ℕ) → low ≤ high → (text : List ℕ) (members : List Member) → IsIndex low text members
     → IsIndex high text members
-index_stays low high up text members i = record {
-  entries = entries_stay low high up (lines text) members i.entries;
-  ordered = i.ordered;
-}
+index_stays low high up text members i = grind (arith, entries_stay low high up (lines text) members i.entries)

@@ -1,7 +1,7 @@
 -- A line that is kept in one text.
-use Rattle.std.proofs.Common.{◌≡◌, ℕ, ◌+◌, ◌<◌, ◌≤◌, ◌^◌, ◌==◌, true, false, cond, List, [], ◌∷◌, ◌++◌, take, drop}
-use Rattle.std.proofs.Common.{length, get_or, decimal, Some, unwrap_or, refl, sym, ap, ◌∙◌, subst, arith, append_assoc}
-use Rattle.std.proofs.Common.{append-nil, length-append, drop-drop, IsUtf8}
+use Rattle.std.proofs.Common.{◌≡◌, ℕ, ◌+◌, ◌<◌, ◌≤◌, ◌^◌, ◌==◌, true, List, [], ◌∷◌, ◌++◌, take, drop, length, get_or}
+use Rattle.std.proofs.Common.{decimal, Some, refl, sym, ap, ◌∙◌, subst, arith, append_assoc, append-nil, length-append}
+use Rattle.std.proofs.Common.{drop-drop, IsUtf8}
 use Rattle.std.specs.List.{list_all, before_first, after_first}
 use Rattle.std.specs.Str.{IsCharBoundary}
 use Rattle.std.proofs.lemmas.Bool.{and_parts, cond-true, eqb-true}
@@ -19,7 +19,7 @@ use Rattle.cdxj_objects.specs.MemberValues.{filename_value, offset_value}
 use Rattle.cdxj_objects.specs.Plain.{ArePlain, IsCutAtByte, plain_text, values_of_texts}
 use Rattle.cdxj_objects.specs.PlainPlaces.{AreEndsOf}
 use Rattle.cdxj_objects.specs.Spelling.{IsSpelled, raw_texts, found_texts}
-use Rattle.cdxj_objects.specs.Texts.{TextsValue, missing, or_missing}
+use Rattle.cdxj_objects.specs.Texts.{TextsValue}
 use Rattle.cdxj_objects.proofs.PlainBytes.{digits_plain, plain_decimal}
 use Rattle.cdxj_objects.proofs.PlainPlaces.{GoesOn, byte_at, next, parts_there, texts_there}
 use Rattle.cdxj_core.specs.declared.field.Field.{Field}
@@ -28,12 +28,12 @@ use Rattle.cdxj_core.specs.declared.field.Field.TheVariants.{Length, Offset, Fil
 use Rattle.cdxj_core.specs.declared.spans.Spans.{Spans}
 use Rattle.cdxj_core.specs.declared.spans.TheConstants.{TO_STAMP, TO_STAMP_END, TO_URL}
 use Rattle.cdxj_core.specs.Clean.{is_clean}
-use Rattle.cdxj_core.specs.KeptLine.{IsKept, no_member, member_in, texts_in}
+use Rattle.cdxj_core.specs.KeptLine.{IsKept, member_in, texts_in}
 use Rattle.cdxj_core.specs.Lines.{body_of, has_no_feed, field_value, line_object, line_value}
 use Rattle.cdxj_core.specs.Members.{Member, member_pair, line_entry}
 use Rattle.cdxj_core.proofs.FoundLines.{line_found, line_made}
 use Rattle.cdxj_core.proofs.LineCuts.{first_cut, first_stamp}
-use Rattle.cdxj_core.proofs.MemberLemmas.{body_entry, entry_pair_is, entry_of-body, entered}
+use Rattle.cdxj_core.proofs.MemberLemmas.{body_entry, entry_pair_is, entry_of-body}
 use Rattle.cdxj_core.proofs.ObjectLines.{line_object-plain}
 use Rattle.cdxj_core.proofs.PairLaw.{and_then_some, some_read}
 use Rattle.cdxj_core.proofs.UnescapedAscii.{all_parts, clean_feed, clean_key}
@@ -52,26 +52,13 @@ plain_entry limit text key rest stamp object t offset utf8 all short k r s o goo
     (cond-true _ _ _ (both _ _ good_key good_stamp) ∙ ap (line_object key stamp) plain.0 ∙ line_object-plain key stamp t
     offset plain.1 digits named)
 
--- a text that stands for itself, or for a value that is missing
-plain_or_missing : (s : List ℕ) → list_all is_plain s ≡ true → list_all is_plain (or_missing s) ≡ true
-plain_or_missing s h = elim (length s == 0) as (λ b. list_all is_plain (cond b missing s) ≡ true)
-    [ true ↦ refl | false ↦ h ]
-
 plain_values : (key stamp : List ℕ) (t : TextsValue) (offset : ℕ) → offset < 2 ^ 63 → ArePlain t
     → ArePlain (texts_in (line_value key stamp (values_of_texts t) offset))
-plain_values key stamp t offset small h = record {
-  url = plain_or_missing t.url h.url;
-  mime = plain_or_missing t.mime h.mime;
-  status = plain_or_missing t.status h.status;
-  digest = plain_or_missing t.digest h.digest;
-  length = plain_or_missing t.length h.length;
-  offset = plain_decimal offset small;
-  filename = h.filename;
-}
+plain_values key stamp t offset small h = grind (arith, plain_decimal)
 
 values_in : (key stamp : List ℕ) (t : TextsValue) (offset : ℕ) → t.offset ≡ decimal offset
     → values_of_texts t ≡ texts_in (line_value key stamp (values_of_texts t) offset)
-values_in key stamp t offset digits = λ i. record (values_of_texts t) { offset = digits i }
+values_in key stamp t offset digits = grind arith
 
 -- a line that was cut at its first two spaces, and what follows it in its text
 pub kept_line : (limit : ℕ) (text body tail key stamp object : List ℕ) (t : TextsValue) (offset at : ℕ) (s : Spans)
@@ -90,8 +77,7 @@ kept_line limit text body tail key stamp object t offset at s utf8 entry seam cu
     let line : take s.size text ≡ body = (λ i. take (size i) (seam i)) ∙ take-append_seam body tail in
     let rest = stamp ++ 32 ∷ (object ++ tail) in
     let whole : text ≡ key ++ 32 ∷ rest =
-    seam ∙ ap (λ b. b ++ tail) cut ∙ append_assoc key (32 ∷ (stamp ++ 32 ∷ object)) tail ∙ ap (λ r. key ++ 32 ∷ r)
-    (append_assoc stamp (32 ∷ object) tail) in
+    grind (arith, append_assoc) in
     let fourteen : length stamp ≡ 14 = eqb-true (length stamp) 14 (and_parts _ _ good_stamp).0 in
     let there = next text utf8 32 (omega arith) 0 key stamp (object ++ tail) (s.key + TO_STAMP) (s.key + TO_STAMP_END)
     (omega arith, whole) (omega (arith, key_size)) (omega (arith, fourteen)) in
@@ -101,13 +87,8 @@ kept_line limit text body tail key stamp object t offset at s utf8 entry seam cu
       line_is = line;
       line_ends = line_ends;
       key_is = (λ i. take (key_size i) (whole i)) ∙ take-append_seam key (32 ∷ rest);
-      key_ends = IsCharBoundary-before_ascii text s.key (omega (
-        arith,
-        key_size,
-        ap length whole,
-        length-append key
-            (32 ∷ rest),
-      )) (omega (arith, space));
+      key_ends = IsCharBoundary-before_ascii text s.key (omega (arith, key_size, ap length whole,
+          length-append key (32 ∷ rest))) (omega (arith, space));
       stamp_ends = there.ends;
       stamp_text = there.is;
       stamp_is = stamp_is;
@@ -146,14 +127,8 @@ plain_kept limit text key rest stamp object t offset s utf8 all short first some
     let one : length key + 16 ≡ length key + 15 + 1 = omega arith in
     let to_object : drop (length key + 16) text ≡ plain_text t =
     ap (λ n. drop n text) one ∙ sym (drop-drop 1 (length key + 15) text) ∙ ap (drop 1) there.goes_on.1 ∙ plain.0 in
-    let within : length key + 16 ≤ length text = omega (
-      arith,
-      ap length cut,
-      length-append key
-          (32 ∷ (stamp ++ 32 ∷ object)),
-      length-append stamp (32 ∷ object),
-      fourteen,
-    ) in
+    let within : length key + 16 ≤ length text = omega (arith, ap length cut,
+        length-append key (32 ∷ (stamp ++ 32 ∷ object)), length-append stamp (32 ∷ object), fourteen) in
     kept_line limit text text [] key stamp object t offset (length key + 16) s utf8 entry (sym (append-nil text)) cut
     good_key second.1 named small digits size
     (subst (IsCharBoundary text) (sym size) (IsCharBoundary-end text)) key_size stamp_is offset_is (within, to_object)
@@ -202,18 +177,13 @@ json_kept limit text body key rest stamp object filename f offset s utf8 body_ut
     key_size stamp_is offset_is (omega (arith, long), to_object) begins (subst (λ n. AreEndsOf n texts s.ends)
     (sym begins) spelled.ends) (λ e. absurd (omega (arith, e, size, long)))
 
--- the member of a line is the one that it is kept as
-pub kept_member : (limit : ℕ) (text : List ℕ) (s : Spans) (member : Member) → IsKept limit text s member
-    → member_in limit (take s.size text) ≡ member
-kept_member limit text s member h = ap (λ v. unwrap_or v no_member) h.entry
-
 pub kept_in : (limit : ℕ) (text : List ℕ) (s : Spans) (member : Member) → IsKept limit text s member
     → IsKept limit text s (member_in limit (take s.size text))
-kept_in limit text s member h = subst (IsKept limit text s) (sym (kept_member limit text s member h)) h
+kept_in limit text s member h = grind arith
 
 pub kept_entry : (limit : ℕ) (text : List ℕ) (s : Spans) (member : Member) → IsKept limit text s member
     → line_entry limit member.line ≡ Some (member_in limit (take s.size text))
-kept_entry limit text s member h = ap (line_entry limit) (sym h.line_is) ∙ (kept_in limit text s member h).entry
+kept_entry limit text s member h = grind arith
 
 -- the key ends before its line
 pub key_short : (limit : ℕ) (line : List ℕ) (member : Member) → line_entry limit line ≡ Some member
@@ -221,15 +191,14 @@ pub key_short : (limit : ℕ) (line : List ℕ) (member : Member) → line_entry
 key_short limit line member h =
     let whole = entry_of-body limit line member h in
     let front = pair_front (body_of line) (member_pair member) (entry_pair_is limit (body_of line) member whole) in
-    let body = (entered limit line member h).body in
-    omega (arith, ap length body, ap length front.1, length-append member.values.key (32 ∷ front.0))
+    grind (arith, length-append)
 
 -- the values of a plain line, whose key is plain too
 pub no_escapes : (limit : ℕ) (text : List ℕ) (s : Spans) (member : Member) → IsKept limit text s member
     → s.size ≡ length text → list_all is_plain member.values.key ≡ true
     → (field : Field) → list_all is_plain (field_value field member.values) ≡ true
 no_escapes limit text s member h whole key Urlkey = key
-no_escapes limit text s member h whole key Timestamp = digits_plain member.values.stamp (and_parts _ _ h.stamp_rule).1
+no_escapes limit text s member h whole key Timestamp = grind (arith, digits_plain)
 no_escapes limit text s member h whole key Original = (h.plain whole).url
 no_escapes limit text s member h whole key Mimetype = (h.plain whole).mime
 no_escapes limit text s member h whole key Statuscode = (h.plain whole).status

@@ -1,14 +1,12 @@
 -- The entry of a line.
-use Rattle.std.proofs.Common.{◌≡◌, ℕ, ◌-◌, ◌<◌, ◌≤◌, ◌==◌, ◌&&◌, Bool, nat_lt, true, false, not, cond, List, []}
-use Rattle.std.proofs.Common.{◌∷◌, length, take, get_or, Option, Some, None, option_map, refl, sym, ap, ◌∙◌, subst}
-use Rattle.std.proofs.Common.{arith}
+use Rattle.std.proofs.lemmas.Grind.{common_steps}
+use Rattle.std.proofs.Common.{◌≡◌, ℕ, ◌-◌, ◌<◌, ◌≤◌, ◌==◌, ◌&&◌, true, false, cond, List, [], ◌∷◌, length, take, get_or}
+use Rattle.std.proofs.Common.{Option, Some, None, option_map, refl, sym, ap, ◌∙◌, subst, arith}
 use Rattle.std.specs.Str.{IsUtf8, is_utf8}
-use Rattle.std.proofs.lemmas.Bool.{cond-true, cond-false, not-true, lt-ltb, le-ltb}
-use Rattle.std.proofs.lemmas.List.Sums.{AllPass-from_list_all}
+use Rattle.std.proofs.lemmas.Bool.{cond-false, le-ltb}
 use Rattle.std.proofs.lemmas.Str.{IsUtf8-from_is_utf8, is_utf8-from_IsUtf8}
 use Rattle.std.specs.List.{before_first, after_first}
-use Rattle.cdxj_places.specs.Pair.{is_space, is_key, is_stamp, pair_of}
-use Rattle.cdxj_places.proofs.PlaceLaw.{both}
+use Rattle.cdxj_places.specs.Pair.{is_space, pair_of}
 use Rattle.cdxj_core.specs.Entries.{EntryValue, HasLine, body_text, line_text}
 use Rattle.cdxj_core.specs.Lines.{LineValue, has_no_feed, line_object, line_parts, line_in, body_of}
 use Rattle.cdxj_core.specs.Members.{Member, member_pair, entry_member, line_entry}
@@ -22,12 +20,7 @@ with_line body values = record { values = values; line = body }
 pub entry_there : (limit : ℕ) (line : List ℕ) (values : LineValue) → IsUtf8 (body_of line)
     → line_in limit (body_of line) ≡ Some values
     → line_entry limit line ≡ Some (record { values = values; line = body_of line })
-entry_there limit line values utf8 e = cond-true (is_utf8 (body_of line)) _ _ (is_utf8-from_IsUtf8 _ utf8)
-    ∙ ap (option_map (with_line (body_of line))) e
-
-if_none : {A : Type 0} (b : Bool) (x : Option A) → x ≡ None → cond b x None ≡ None
-if_none true x h = h
-if_none false x h = refl
+entry_there limit line values utf8 e = grind (arith, is_utf8-from_IsUtf8)
 
 abbrev NoEntry : Option Member → Type 0
 NoEntry entry = entry ≡ None
@@ -43,7 +36,7 @@ entry_none limit line none =
 map_is : {A B : Type 0} (g : A → B) (o : Option A) (v : B) → option_map g o ≡ Some v → (a : A) × (o ≡ Some a)
     × (g a ≡ v)
 map_is g None v h = absurd (cc)
-map_is g (Some a) v h = (a, refl, let e : g a ≡ v = cc in e)
+map_is g (Some a) v h = grind arith
 
 -- what a line with an entry is
 pub record Entered (limit : ℕ) (line : List ℕ) (member : Member) : Type 0 where
@@ -65,8 +58,7 @@ entered limit line member h =
 
 pub entry_from : (limit : ℕ) (line : List ℕ) (member : Member) → Entered limit line member → line_entry limit line ≡
     Some member
-entry_from limit line member h = entry_there limit line member.values h.utf8 h.values
-    ∙ ap (λ b. Some (with_line b member.values)) (sym h.body)
+entry_from limit line member h = grind (arith, entry_there)
 
 -- a body without a line feed is its own
 pub body_of-body : (body : List ℕ) → has_no_feed body ≡ true → body_of body ≡ body
@@ -76,7 +68,7 @@ body_of-body (b ∷ body) h = cond-false (get_or (b ∷ body) (length (b ∷ bod
     h)
   where
     last_no_feed : (xs : List ℕ) (i : ℕ) → i < length xs → has_no_feed xs ≡ true → (get_or xs i 0 == 10) ≡ false
-    last_no_feed xs i l h = not-true (get_or xs i 0 == 10) (AllPass-from_list_all (λ b. not (b == 10)) xs h i 0 l)
+    last_no_feed xs i l h = grind (arith, common_steps)
 
 -- the body of a line with an entry has it too
 pub entry_of-body : (limit : ℕ) (line : List ℕ) (member : Member) → line_entry limit line ≡ Some member
@@ -96,12 +88,7 @@ pub entry-higher : (low high : ℕ) → low ≤ high → (line : List ℕ) (memb
     → line_entry high line ≡ Some member
 entry-higher low high le line member h =
     let e = entered low line member h in
-    entry_from high line member (record {
-      utf8 = e.utf8;
-      values = line_in-higher low high le (body_of line)
-          member.values e.values;
-      body = e.body;
-    })
+    entry_from high line member (record { utf8 = e.utf8; values = grind (arith, line_in-higher); body = e.body; })
 
 pub entry_pair_is : (limit : ℕ) (line : List ℕ) (member : Member) → line_entry limit line ≡ Some member
     → pair_of line ≡ Some (member_pair member)
@@ -124,10 +111,7 @@ body_values : (limit : ℕ) (body key rest stamp object : List ℕ) (v : LineVal
     → object ≡ after_first is_space rest
     → line_parts key stamp object ≡ Some v → line_in limit body ≡ Some v
 unfolding line_in
-body_values limit body key rest stamp object v short whole k r s o read =
-    cond-true _ _ _ (both _ _ (lt-ltb (length body) limit short) whole)
-    ∙ sym (λ i. line_parts (k i) ((s ∙ ap (before_first is_space) r) i) ((o ∙ ap (after_first is_space) r) i))
-    ∙ read
+body_values limit body key rest stamp object v short whole k r s o read = grind arith
 
 -- a body that was cut at its first two spaces
 pub body_entry : (limit : ℕ) (body text key rest stamp object : List ℕ) (v : LineValue) → text ≡ body → IsUtf8 body
@@ -150,19 +134,14 @@ pub body_none : (limit : ℕ) (body key rest stamp object : List ℕ) → key �
     → rest ≡ after_first is_space body → stamp ≡ before_first is_space rest → object ≡ after_first is_space rest
     → line_object key stamp object ≡ None → line_in limit body ≡ None
 unfolding line_in
-body_none limit body key rest stamp object k r s o none =
-    let cut : line_parts (before_first is_space body) (before_first is_space (after_first is_space body))
-    (after_first is_space (after_first is_space body)) ≡ None =
-    sym (λ i. line_parts (k i) ((s ∙ ap (before_first is_space) r) i) ((o ∙ ap (after_first is_space) r) i))
-    ∙ if_none (is_key key && is_stamp stamp) (line_object key stamp object) none in
-    if_none (nat_lt (length body) limit && has_no_feed body) _ cut
+body_none limit body key rest stamp object k r s o none = grind arith
 
 -- a line whose body has an entry
 pub line_of_body : (limit : ℕ) (line body text : List ℕ) (member : Member) → text ≡ body → body ≡ body_of line
     → true ≡ has_no_feed body → line_entry limit text ≡ Some member → line_entry limit line ≡ Some member
 line_of_body limit line body text member same its whole h =
     let e = entered limit text member h in
-    let bodies : body_of text ≡ body_of line = body_of-body text (ap has_no_feed same ∙ sym whole) ∙ same ∙ its in
+    let bodies : body_of text ≡ body_of line = grind (arith, body_of-body) in
     entry_from limit line member (record {
       utf8 = subst IsUtf8 bodies e.utf8;
       values = ap (line_in limit) (sym bodies)
@@ -177,9 +156,8 @@ long_has_none limit body long = rw (le-ltb (length body) limit long) refl
 
 -- a line that is too long has no entry
 pub long_line_none : (limit : ℕ) (line : List ℕ) → limit ≤ length (body_of line) → line_entry limit line ≡ None
-long_line_none limit line long = entry_none limit line (λ utf8. long_has_none limit (body_of line) long)
+long_line_none limit line long = grind (arith, long_has_none)
 
 pub entry_is_short : (limit : ℕ) (line : List ℕ) (member : Member) → line_entry limit line ≡ Some member
     → length (body_of line) < limit
-entry_is_short limit line member h = line_in-short limit (body_of line) member.values
-    (entered limit line member h).values
+entry_is_short limit line member h = grind (arith, line_in-short)

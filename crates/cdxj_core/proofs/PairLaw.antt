@@ -3,7 +3,7 @@ use Rattle.std.proofs.Common.{◌≡◌, ℕ, ◌-◌, ◌<◌, ◌≤◌, ◌==
 use Rattle.std.proofs.Common.{take, drop, Option, Some, None, option_map, option_and_then, get_or, append-nil, nat_lt}
 use Rattle.std.proofs.Common.{refl, sym, ap, ◌∙◌, arith, append_assoc, take-append-drop}
 use Rattle.std.specs.List.{before_first, after_first}
-use Rattle.std.proofs.lemmas.Bool.{and_parts, cond-true, eqb-true, ltb-true, lt-ltb}
+use Rattle.std.proofs.lemmas.Bool.{and_parts}
 use Rattle.std.proofs.lemmas.List.{length-append}
 use Rattle.serde_json.specs.Data.{Data}
 use Rattle.serde_json.specs.Find.{get}
@@ -11,10 +11,9 @@ use Rattle.serde_json.specs.Read.{read}
 use Rattle.serde_json.proofs.OnLiterals.{serde_json_on_literals}
 use Rattle.cdxj_places.specs.Pair.{is_space, is_key, is_stamp, pair_of}
 use Rattle.cdxj_core.specs.Lines.{LineValue, has_no_feed, body_of, line_object, line_parts, line_from, line_in}
+use Rattle.cdxj_core.specs.Lines.{object_values}
 use Rattle.cdxj_objects.specs.MemberValues.{offset_value, filename_value}
 use Rattle.cdxj_objects.specs.Names.{offset_name, filename_name}
-use Rattle.cdxj_core.specs.Lines.{object_values}
-use Rattle.cdxj_places.proofs.PlaceLaw.{both}
 use Rattle.cdxj_places.proofs.PairLemmas.{pair_of-parts, around}
 
 pub if_test : {A : Type 0} (b : Bool) (x : Option A) (v : A) → cond b x None ≡ Some v → (b ≡ true) × (x ≡ Some v)
@@ -35,7 +34,7 @@ map_some g None v h = absurd (cc)
 map_some g (Some a) v h = (a, let e : g a ≡ v = cc in e)
 
 pub some_read : (text : List ℕ) (d : Data) → read text ≡ Some d → 0 < length text
-some_read [] d h = absurd (let bad : None ≡ Some d = sym read_nil ∙ h in cc)
+some_read [] d h = grind (arith, read_nil)
 some_read (x ∷ xs) d h = omega arith
 
 body_split : (b : Bool) (line : List ℕ) → (t : List ℕ) × (line ≡ cond b (take (length line - 1) line) line ++ t)
@@ -61,7 +60,6 @@ line_pair line limit v h =
     let made = map_some (object_values key stamp was_read.0 named.0) (offset_value (get offset_name was_read.0)) v
     named.2 in
     let object_some : 0 < length object = some_read object was_read.0 was_read.1 in
-    let stamp_len : length stamp ≡ 14 = eqb-true (length stamp) 14 (and_parts _ _ tests.1).0 in
     let rest_is : rest ≡ stamp ++ 32 ∷ object = around rest object_some in
     let rest_some : 0 < length rest = omega (arith, ap length rest_is, length-append stamp (32 ∷ object)) in
     let body_is : body ≡ key ++ 32 ∷ rest = around body rest_some in
@@ -77,29 +75,14 @@ line_pair line limit v h =
 pub line_in-higher : (low high : ℕ) → low ≤ high → (body : List ℕ) (v : LineValue) → line_in low body ≡ Some v
     → line_in high body ≡ Some v
 unfolding line_in
-line_in-higher low high le body v h =
-    let key = before_first is_space body in
-    let rest = after_first is_space body in
-    let outer = if_test (nat_lt (length body) low && has_no_feed body) (line_parts key (before_first is_space rest)
-    (after_first is_space rest)) v h in
-    let tests = and_parts (nat_lt (length body) low) (has_no_feed body) outer.0 in
-    let below : length body < low = ltb-true (length body) low tests.0 in
-    cond-true _ _ _ (both _ _ (lt-ltb (length body) high (omega arith)) tests.1) ∙ outer.1
+line_in-higher low high le body v h = grind arith
 
 -- a body that has values has no line feed
 pub line_in-feed : (limit : ℕ) (body : List ℕ) (v : LineValue) → line_in limit body ≡ Some v → has_no_feed body ≡ true
 unfolding line_in
-line_in-feed limit body v h =
-    let rest = after_first is_space body in
-    let outer = if_test (nat_lt (length body) limit && has_no_feed body) (line_parts (before_first is_space body)
-    (before_first is_space rest) (after_first is_space rest)) v h in
-    (and_parts (nat_lt (length body) limit) (has_no_feed body) outer.0).1
+line_in-feed limit body v h = grind arith
 
 -- and is below the limit
 pub line_in-short : (limit : ℕ) (body : List ℕ) (v : LineValue) → line_in limit body ≡ Some v → length body < limit
 unfolding line_in
-line_in-short limit body v h =
-    let rest = after_first is_space body in
-    let outer = if_test (nat_lt (length body) limit && has_no_feed body) (line_parts (before_first is_space body)
-    (before_first is_space rest) (after_first is_space rest)) v h in
-    ltb-true (length body) limit (and_parts (nat_lt (length body) limit) (has_no_feed body) outer.0).0
+line_in-short limit body v h = grind arith

@@ -1,9 +1,8 @@
 -- Texts without controls, backslashes and deletes, of ASCII or not.
-use Rattle.std.proofs.Common.{◌≡◌, ℕ, ◌<◌, ◌==◌, ◌&&◌, Bool, true, not, nat_lt, nat_le, List, [], ◌∷◌, ◌++◌, length}
-use Rattle.std.proofs.Common.{refl, sym, ap, ◌∙◌, arith, IsUtf8}
+use Rattle.std.proofs.Common.{◌≡◌, ℕ, ◌<◌, ◌==◌, ◌&&◌, Bool, true, not, nat_lt, List, [], ◌∷◌, ◌++◌, length, refl, ◌∙◌}
+use Rattle.std.proofs.Common.{arith, IsUtf8}
 use Rattle.std.specs.List.{list_all}
 use Rattle.std.proofs.lemmas.Bool.{and_parts, lt-ltb}
-use Rattle.std.proofs.lemmas.Bool.Decides.{nat_tests}
 use Rattle.std.proofs.lemmas.List.Folds.{list_all-append}
 use Rattle.json.proofs.Printed.Utf8.{are_ascii, IsUtf8-are_ascii}
 use Rattle.cdxj_places.specs.Pair.{is_key_byte, is_key}
@@ -13,27 +12,14 @@ use Rattle.cdxj_objects.proofs.PlainBytes.{weaker}
 use Rattle.cdxj_core.specs.Clean.{is_clean, is_unescaped_ascii}
 use Rattle.cdxj_core.specs.Lines.{has_no_feed}
 
-clean_byte : (b : ℕ) → is_clean b ≡ true → (is_unescaped b ≡ true) × (not (b == 127) ≡ true)
-clean_byte b h = and_parts (is_unescaped b) (not (b == 127)) h
-
 byte_is_no_feed : (b : ℕ) → is_clean b ≡ true → not (b == 10) ≡ true
-byte_is_no_feed b h = let low : nat_le 32 b ≡ true = (and_parts (nat_le 32 b) (not (b == 92)) (clean_byte b h).0).0 in
-    grind (arith, nat_tests)
+byte_is_no_feed b h = grind arith
 
 byte_is_clean : (b : ℕ) → is_unescaped_ascii b ≡ true → is_clean b ≡ true
-byte_is_clean b h =
-    let parts = and_parts (is_unescaped b) (nat_lt b 127) h in
-    let other : not (b == 127) ≡ true = (let low : nat_lt b 127 ≡ true = parts.1 in grind (arith, nat_tests)) in
-    both (is_unescaped b) (not (b == 127)) parts.0 other
+byte_is_clean b h = grind arith
 
 key_byte : (b : ℕ) → (is_clean b && is_other 32 b) ≡ true → is_key_byte b ≡ true
-key_byte b h =
-    let parts = and_parts (is_clean b) (is_other 32 b) h in
-    let clean = clean_byte b parts.0 in
-    let low : nat_le 32 b ≡ true = (and_parts (nat_le 32 b) (not (b == 92)) clean.0).0 in
-    let space : not (b == 32) ≡ true = parts.1 in
-    let above : nat_lt 32 b ≡ true = grind (arith, nat_tests) in
-    both (nat_lt 32 b) (not (b == 127)) above clean.1
+key_byte b h = grind arith
 
 all_both : (p q : ℕ → Bool) (xs : List ℕ) → list_all p xs ≡ true → list_all q xs ≡ true → list_all (λ b. p b && q b) xs
     ≡ true
@@ -41,14 +27,13 @@ all_both p q [] h k = refl
 all_both p q (x ∷ xs) h k =
     let left = and_parts (p x) (list_all p xs) h in
     let right = and_parts (q x) (list_all q xs) k in
-    both (p x && q x) (list_all (λ b. p b && q b) xs) (both (p x) (q x) left.0 right.0) (all_both p q xs left.1 right.1)
+    grind (arith, all_both p q xs left.1 right.1)
 
 byte_is_ascii : (b : ℕ) → is_unescaped_ascii b ≡ true → nat_lt b 128 ≡ true
-byte_is_ascii b h = let high : nat_lt b 127 ≡ true = (and_parts (is_unescaped b) (nat_lt b 127) h).1 in
-    grind (arith, nat_tests)
+byte_is_ascii b h = grind arith
 
 pub unescaped_only : (xs : List ℕ) → list_all is_clean xs ≡ true → list_all is_unescaped xs ≡ true
-unescaped_only = weaker is_clean is_unescaped (λ b h. (clean_byte b h).0)
+unescaped_only = grind (arith, weaker)
 
 pub ascii_clean : (xs : List ℕ) → list_all is_unescaped_ascii xs ≡ true → list_all is_clean xs ≡ true
 ascii_clean = weaker is_unescaped_ascii is_clean byte_is_clean
@@ -74,6 +59,4 @@ ascii_utf8 xs h = IsUtf8-are_ascii xs (all_ascii xs h)
 -- the parts of a text that passes a test
 pub all_parts : (p : ℕ → Bool) (text front rest : List ℕ) (b : ℕ) → text ≡ front ++ b ∷ rest → list_all p text ≡ true
     → (list_all p front ≡ true) × (list_all p rest ≡ true)
-all_parts p text front rest b cut h =
-    let parts = and_parts _ _ (sym (list_all-append p front (b ∷ rest)) ∙ ap (list_all p) (sym cut) ∙ h) in
-    (parts.0, (and_parts (p b) (list_all p rest) parts.1).1)
+all_parts p text front rest b cut h = grind (arith, list_all-append)

@@ -1,7 +1,6 @@
 -- A folded text that isn't empty is a key.
 use Rattle.std.proofs.Common.{◌≡◌, ◌∙◌, ℕ, suc, ◌<◌, true, ◌&&◌, nat_lt, List, [], ◌∷◌, ◌++◌, length, length-append}
 use Rattle.std.proofs.Common.{All, refl, arith}
-use Rattle.std.proofs.lemmas.Bool.{agree_below_at}
 use Rattle.std.proofs.lemmas.List.Folds.{list_all-append}
 use Rattle.std.proofs.lemmas.Grind.{common_steps}
 use Rattle.std.specs.List.{list_all}
@@ -10,7 +9,7 @@ use Rattle.cdxj_keys.specs.Key.{key_byte, folded, web_text}
 use Rattle.cdxj_places.specs.Pair.{is_key_byte, is_key}
 
 byte_is_key : (b : ℕ) → b < 256 → list_all is_key_byte (key_byte b) ≡ true
-byte_is_key b h = agree_below_at (λ b. list_all is_key_byte (key_byte b)) (λ _. true) 256 b refl h
+byte_is_key b h = grind (arith, common_steps)
 
 bytes_are_key : (bytes : List ℕ) → All (λ b. b < 256) bytes → list_all is_key_byte (folded bytes) ≡ true
 bytes_are_key [] h = refl
@@ -35,4 +34,4 @@ folded_is_key bytes small h = λ i. is_filled bytes h i && bytes_are_key bytes s
 
 -- the key text of a web URL isn't empty
 pub web_text_is_filled : (url : Parts) → 0 < length (web_text url)
-web_text_is_filled url = grind (arith, common_steps, length-append {A = ℕ})
+web_text_is_filled url = grind (arith, length-append)

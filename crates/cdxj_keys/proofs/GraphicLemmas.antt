@@ -1,7 +1,5 @@
 -- Texts that need no escape.
-use Rattle.std.proofs.Common.{◌≡◌, ◌<◌, ℕ, nat_le, get_or, IsUtf8, arith, Bool, true, false, ◌&&◌, List, [], ◌∷◌, map}
-use Rattle.std.proofs.Common.{refl, ap}
-use Rattle.std.proofs.lemmas.Bool.Decides.{nat_tests}
+use Rattle.std.proofs.Common.{◌≡◌, ◌<◌, ℕ, get_or, IsUtf8, arith, Bool, true, false, ◌&&◌, List, [], ◌∷◌, map, refl}
 use Rattle.std.proofs.lemmas.List.Sums.{AllPass-from_list_all}
 use Rattle.std.proofs.lemmas.Str.{IsUtf8-from_ascii}
 use Rattle.std.proofs.lemmas.Str.Ascii.{IsAscii-from_all}
@@ -11,17 +9,16 @@ use Rattle.cdxj_keys.specs.Key.{is_graphic, folded}
 
 and_both : (t a : Bool) → (t && a) ≡ true → (t ≡ true) × (a ≡ true)
 and_both true a h = (refl, h)
-and_both false a h = absurd (let e : false ≡ true = h in cc)
+and_both false a h = grind arith
 
 pub folded-graphic : (text : List ℕ) → list_all is_graphic text ≡ true → folded text ≡ map to_ascii_lowercase text
 folded-graphic [] h = refl
 folded-graphic (b ∷ bytes) h =
     let p = and_both (is_graphic b) (list_all is_graphic bytes) h in
-    rw p.0 (ap (λ rest. to_ascii_lowercase b ∷ rest) (folded-graphic bytes p.1))
+    grind (arith, folded-graphic bytes p.1)
 
 byte_is_ascii : (b : ℕ) → is_graphic b ≡ true → b < 128
-byte_is_ascii b h = let high : nat_le b 126 ≡ true = (and_both (nat_le 33 b) (nat_le b 126) h).1 in
-    grind (arith, nat_tests)
+byte_is_ascii b h = grind arith
 
 pub graphic_utf8 : (text : List ℕ) → list_all is_graphic text ≡ true → IsUtf8 text
 graphic_utf8 text h = IsUtf8-from_ascii text (IsAscii-from_all text (λ k d within. byte_is_ascii (get_or text k d)

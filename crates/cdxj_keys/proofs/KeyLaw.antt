@@ -1,29 +1,24 @@
 -- The host key of a web URL begins its key.
-use Rattle.std.proofs.Common.{◌≡◌, ℕ, Bool, true, false, cond, List, [], ◌∷◌, ◌++◌, Some, None, Result, Ok, Err}
-use Rattle.std.proofs.Common.{option_map, ap, ◌∙◌, append_assoc}
+use Rattle.std.proofs.Common.{arith, ◌≡◌, ℕ, Bool, true, false, cond, List, [], ◌∷◌, ◌++◌, Some, None, Result, Ok, Err}
+use Rattle.std.proofs.Common.{option_map, ◌∙◌, append_assoc}
 use Rattle.std.proofs.lemmas.List.Concat.{flat_map-append}
 use Rattle.url.specs.declared.error.ParseError.{ParseError}
 use Rattle.url.specs.Parts.{Parts, host_or_empty}
 use Rattle.url.specs.Parser.{parse_url}
-use Rattle.cdxj_keys.specs.Key.{key_host, port_text, query_text, is_web, web_text, key_text, key_byte, folded, key_of}
+use Rattle.cdxj_keys.specs.Key.{key_host, port_text, query_text, is_web, web_text, key_text, folded, key_of}
 use Rattle.cdxj_keys.specs.Key.{host_text_of, host_key_of}
 
 abbrev Begins : List ℕ → List ℕ → Type 0
 Begins host key = (rest : List ℕ) × (key ≡ host ++ rest)
-
-some_is : {A : Type 0} (x y : A) → Some x ≡ Some y → x ≡ y
-some_is x y h = cc
 
 regroup : (a b c d e : List ℕ) → (((a ++ b) ++ c) ++ d) ++ e ≡ a ++ (b ++ (c ++ (d ++ e)))
 regroup a b c d e = simp append_assoc
 
 web_begins : (url : Parts) → Begins (folded (key_host (host_or_empty url))) (folded (web_text url))
 web_begins url =
-    let host = key_host (host_or_empty url) in
     let rest = port_text url.port ++ ((41 ∷ []) ++ (url.path ++ query_text url.query)) in (
       folded rest,
-      ap folded (regroup host (port_text url.port) (41 ∷ []) url.path (query_text url.query))
-          ∙ flat_map-append key_byte host rest,
+      grind (arith, regroup, flat_map-append),
     )
 
 begins : (read : Result Parts ParseError) (target host : List ℕ) → option_map folded (host_text_of read) ≡ Some host
@@ -32,7 +27,7 @@ begins (Ok url) target host h = go (is_web url) h
   where
     go : (web : Bool) → option_map folded (cond web (Some (key_host (host_or_empty url))) None) ≡ Some host
         → Begins host (folded (cond web (web_text url) target))
-    go true h = let w = web_begins url in (w.0, w.1 ∙ ap (λ host. host ++ w.0) (some_is _ _ h))
+    go true h = let w = web_begins url in grind arith
     go false h = absurd (cc)
 begins (Err e) target host h = absurd (cc)
 

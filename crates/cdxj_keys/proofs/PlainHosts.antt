@@ -1,11 +1,11 @@
 -- The last label of a host.
 use Rattle.std.proofs.Common.{◌≡◌, ℕ, suc, ◌+◌, ◌<◌, ◌==◌, true, false, if◌then◌else◌, List, [], ◌∷◌, ◌++◌, Some, None}
 use Rattle.std.proofs.Common.{length, take, drop, get_or, refl, sym, ap, ◌∙◌, arith}
-use Rattle.std.proofs.lemmas.Bool.{cond-false, eqb-true, false_from_ne_true, ne_eqb}
+use Rattle.std.proofs.lemmas.Bool.{eqb-true, false_from_ne_true, ne_eqb}
 use Rattle.std.proofs.lemmas.List.{get_or-drop, length-drop}
 use Rattle.memchr.specs.Find.{IsLastByte, is_byte}
-use Rattle.url.specs.Input.{rsplit_once, rsplit_step}
-use Rattle.url.specs.Ipv4.{last_label, last_label_of}
+use Rattle.url.specs.Input.{rsplit_once}
+use Rattle.url.specs.Ipv4.{last_label}
 use Rattle.cdxj_keys.proofs.Labels.{cut_at}
 
 abbrev has_no_dot : List ℕ → Type 0
@@ -20,24 +20,20 @@ no_dot (b ∷ bytes) h =
 split_none : (bytes : List ℕ) → has_no_dot bytes → rsplit_once 46 bytes ≡ (None, bytes)
 unfolding rsplit_once
 split_none [] h = refl
-split_none (b ∷ bytes) h =
-    ap (λ r. rsplit_step 46 b r.0 r.1) (split_none bytes h.1)
-    ∙ ap (λ dot. if dot then (Some [], bytes) else (None, b ∷ bytes)) h.0
+split_none (b ∷ bytes) h = grind (arith, split_none bytes h.1)
 
 split_at : (front last : List ℕ) → has_no_dot last → rsplit_once 46 (front ++ 46 ∷ last) ≡ (Some front, last)
 unfolding rsplit_once
-split_at [] last h = ap (λ r. rsplit_step 46 46 r.0 r.1) (split_none last h)
-split_at (b ∷ front) last h = ap (λ r. rsplit_step 46 b r.0 r.1) (split_at front last h)
+split_at [] last h = grind (arith, split_none)
+split_at (b ∷ front) last h = grind (arith, split_at front last h)
 
 behind : (front last : List ℕ) → has_no_dot last → 0 < length last → last_label (front ++ 46 ∷ last) ≡ last
 behind front [] h some = absurd (omega arith)
-behind front (b ∷ last) h some = ap (λ r. last_label_of r.0 r.1) (split_at front (b ∷ last) h)
-    ∙ cond-false _ _ _ (ne_eqb (length (b ∷ last)) 0 (λ e. omega arith))
+behind front (b ∷ last) h some = grind (arith, split_at, ne_eqb)
 
 -- a host without a dot is its last label
 pub lone_label : (host : List ℕ) → IsLastByte (is_byte 46) host None → host ≡ last_label host
-lone_label host none = sym (ap (λ r. last_label_of r.0 r.1) (split_none host
-    (no_dot host (λ k low. none k (omega arith) low))))
+lone_label host none = grind (arith, split_none, no_dot)
 
 -- what follows the last dot is the last label
 pub label_behind : (host : List ℕ) (dot : ℕ) → IsLastByte (is_byte 46) host (Some dot)
@@ -45,7 +41,5 @@ pub label_behind : (host : List ℕ) (dot : ℕ) → IsLastByte (is_byte 46) hos
 label_behind host dot found some =
     let last = drop (dot + 1) host in
     let free : has_no_dot last =
-    no_dot last (λ k low here. found.0.after (dot + 1 + k) (omega arith)
-    (omega (arith, low, length-drop (dot + 1) host)) (ap (λ b. b == 46) (sym (get_or-drop (dot + 1) host k 0))
-    ∙ here)) in
+    grind (arith, no_dot, length-drop, get_or-drop) in
     sym (ap last_label (cut_at host dot found.0.high (eqb-true _ _ found.1)) ∙ behind (take dot host) last free some)

@@ -1,39 +1,24 @@
 -- The key of a URL that the parser leaves as it is.
-use Rattle.std.proofs.Common.{◌≡◌, ℕ, inl, inr, true, List, [], ◌∷◌, ◌++◌, codes, Option, Some, None, IfSome, Ok, refl}
-use Rattle.std.proofs.Common.{sym, ap, ◌∙◌, append-nil, append_assoc}
-use Rattle.std.specs.List.{list_all}
+use Rattle.std.proofs.Common.{arith, ◌≡◌, ℕ, inl, inr, true, List, ◌∷◌, ◌++◌, codes, Option, Some, None, IfSome, Ok}
+use Rattle.std.proofs.Common.{refl, sym, ap, ◌∙◌, append-nil, append_assoc}
 use Rattle.std.proofs.lemmas.Bool.{cond-true}
 use Rattle.url.specs.Parser.{parse_url}
 use Rattle.url.specs.Parts.{serialize}
 use Rattle.url.specs.Scheme.{IsScheme, scheme_type}
 use Rattle.url.specs.declared.scheme.SchemeType.TheVariants.{SpecialNotFile}
 use Rattle.cdxj_keys.specs.Key.{domain_text, folded, key_of, key_text, is_web, query_text, web_text}
-use Rattle.cdxj_keys.specs.PlainUrls.{plain_parts, plain_key_text, is_plain_byte, IsPlainHost, IsPlainQuery}
-use Rattle.cdxj_keys.specs.PlainUrls.{IsPlainTail, IsPlainUrl}
+use Rattle.cdxj_keys.specs.PlainUrls.{plain_parts, plain_key_text, IsPlainHost, IsPlainQuery, IsPlainTail, IsPlainUrl}
 use Rattle.cdxj_keys.proofs.PlainLaws.{parses, http_scheme, https_scheme, http_kind, https_kind}
-use Rattle.cdxj_keys.proofs.PlainTails.{spelled}
-
-plain_bytes : (query : Option (List ℕ)) → IfSome query IsPlainQuery
-    → IfSome query (λ text. list_all is_plain_byte text ≡ true)
-plain_bytes None h = tt
-plain_bytes (Some text) h = h.1
 
 serialized : (scheme host path : List ℕ) (query : Option (List ℕ)) → IfSome query IsPlainQuery
     → serialize (plain_parts scheme host path query) ≡ scheme
     ++ (codes "://" ++ (host ++ (47 ∷ (path ++ query_text query))))
 serialized scheme host path None h = refl
-serialized scheme host path (Some text) h =
-    ap (λ l. scheme ++ (codes "://" ++ (host ++ (47 ∷ (path ++ l))))) (ap (λ t. 63 ∷ t) (append-nil text)
-    ∙ sym (spelled text h.0))
+serialized scheme host path (Some text) h = grind (arith, append-nil)
 
 key_is : (scheme host path : List ℕ) (query : Option (List ℕ)) → web_text (plain_parts scheme host path query) ≡
     domain_text host ++ (codes ")" ++ (47 ∷ (path ++ query_text query)))
-key_is scheme host path query =
-    let front = domain_text host in
-    let tail = 47 ∷ (path ++ query_text query) in
-    append_assoc ((front ++ []) ++ codes ")") (47 ∷ path) (query_text query)
-    ∙ append_assoc (front ++ []) (codes ")") tail
-    ∙ ap (λ l. l ++ (codes ")" ++ tail)) (append-nil front)
+key_is scheme host path query = grind (arith, append_assoc)
 
 with_scheme : (scheme target host tail : List ℕ) → IsScheme scheme → scheme_type scheme ≡ SpecialNotFile
     → ((path : List ℕ) (query : Option (List ℕ)) → is_web (plain_parts scheme host path query) ≡ true)
@@ -44,8 +29,7 @@ with_scheme scheme target host tail is_scheme kind web cut plain_host t =
     let text : target ≡ serialize url = cut ∙ ap (λ l. scheme ++ (codes "://" ++ (host ++ l))) t.cut
     ∙ sym (serialized scheme host t.path t.query t.plain_query) in
     let read : parse_url None target ≡ Ok url =
-    ap (parse_url None) text ∙ parses scheme is_scheme kind host t.path t.query plain_host t.plain_path
-    (plain_bytes t.query t.plain_query) in
+    grind (arith, parses) in
     ap (λ r. key_text r target) read ∙ cond-true _ (web_text url) target (web t.path t.query)
     ∙ key_is scheme host t.path t.query ∙ ap (λ l. domain_text host ++ (codes ")" ++ l)) (sym t.cut)
 

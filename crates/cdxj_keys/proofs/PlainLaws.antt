@@ -1,28 +1,29 @@
 -- The URL parser leaves a plain web URL as it is.
-use Rattle.std.proofs.Common.{◌≡◌, ℕ, ◌<◌, ◌==◌, cond, ◌&&◌, ◌||◌, inl, nat_le, eqb, Bool, true, false, not}
-use Rattle.std.proofs.Common.{if◌then◌else◌, List, [], ◌∷◌, codes, zip, drop, length, All, Option, Some, None, IfSome}
-use Rattle.std.proofs.Common.{Ok, refl, sym, ap, ap₂, ◌∙◌, subst, arith}
+use Rattle.std.proofs.lemmas.Grind.{common_steps}
+use Rattle.std.proofs.Common.{◌≡◌, ℕ, ◌<◌, ◌==◌, cond, ◌&&◌, ◌||◌, Bool, true, false, not, if◌then◌else◌, List, [], ◌∷◌}
+use Rattle.std.proofs.Common.{codes, zip, drop, length, All, Option, Some, None, IfSome, Ok, refl, sym, ap, ◌∙◌, subst}
+use Rattle.std.proofs.Common.{arith}
 use Rattle.std.specs.List.{list_all, slice_split, onto_first}
-use Rattle.std.specs.Char.{is_ascii_digit, is_ascii_lowercase, is_digit, to_ascii_lowercase}
+use Rattle.std.specs.Char.{is_ascii_digit, is_ascii_lowercase}
 use Rattle.std.specs.Prelude.{slice_index}
-use Rattle.std.proofs.lemmas.Bool.{agree_below, agree_below_at, cond-false, and_parts, not-true, or_from, or_parts}
-use Rattle.std.proofs.lemmas.Bool.{eqb-true, leb-true, ne_eqb}
-use Rattle.std.proofs.lemmas.List.Elements.{All-weaker, All-cons, All-nil}
+use Rattle.std.proofs.lemmas.Bool.{agree_below, agree_below_at, cond-false, and_parts, not-true, or_from, eqb-true}
+use Rattle.std.proofs.lemmas.Bool.{ne_eqb}
+use Rattle.std.proofs.lemmas.List.Elements.{All-weaker, All-cons}
 use Rattle.std.proofs.lemmas.List.Splits.{length-slice_split}
 use Rattle.std.proofs.lemmas.List.Sums.{AllPass-from_list_all}
 use Rattle.percent_encoding.specs.AsciiSet.{should_percent_encode}
 use Rattle.percent_encoding.specs.Percent.{IsKept}
-use Rattle.url.specs.declared.sets.TheConstants.{FORBIDDEN_DOMAIN, PATH, SPECIAL_QUERY, USERINFO}
+use Rattle.url.specs.declared.sets.TheConstants.{FORBIDDEN_DOMAIN, PATH, SPECIAL_QUERY}
 use Rattle.url.specs.declared.scheme.SchemeType.TheVariants.{SpecialNotFile}
 use Rattle.url.specs.declared.scheme.SchemeType.{SchemeType}
 use Rattle.url.specs.declared.host.Host.TheVariants.{Domain}
 use Rattle.url.specs.Host.{IsDomain, IsHostOf}
 use Rattle.url.specs.Parser.{parse_url}
-use Rattle.url.specs.Parts.{IsValid, query_set, serialize}
+use Rattle.url.specs.Parts.{IsValid, serialize}
 use Rattle.url.proofs.Theorems.{parse_url-serialize_special}
 use Rattle.url.specs.Input.{is_empty, lowercase, rsplit_once}
-use Rattle.url.specs.Ipv4.{ends_in_a_number, last_label, parse_number, number_of, is_number}
-use Rattle.url.specs.Path.{IsSegment, IsSegmentList, join_segments, dot_count, dot_len}
+use Rattle.url.specs.Ipv4.{ends_in_a_number, last_label, parse_number, is_number}
+use Rattle.url.specs.Path.{IsSegment, IsSegmentList, join_segments, dot_count}
 use Rattle.url.specs.Scheme.{IsScheme, default_port, is_slash, scheme_len, scheme_type}
 use Rattle.cdxj_keys.specs.Key.{is_graphic}
 use Rattle.cdxj_keys.specs.PlainUrls.{is_domain_byte, is_plain_byte, is_path_byte, begins_plain, plain_parts}
@@ -37,7 +38,7 @@ implied p q b all small h = sym (ap (λ t. not t || q b) h) ∙ agree_below_at (
     all small
 
 graphic_small : (b : ℕ) → is_graphic b ≡ true → b < 256
-graphic_small b h = omega (arith, leb-true b 126 (and_parts (nat_le 33 b) (nat_le b 126) h).1)
+graphic_small b h = grind arith
 
 domain_small : (b : ℕ) → is_domain_byte b ≡ true → b < 256
 domain_small b h = graphic_small b (and_parts _ _ h).0
@@ -56,48 +57,20 @@ unfolding should_percent_encode
 domain_kept b h = not-true _ (implied is_domain_byte (λ b. not (should_percent_encode FORBIDDEN_DOMAIN b)) b refl
     (domain_small b h) h)
 
-lower_same : (b : ℕ) → is_domain_byte b ≡ true → to_ascii_lowercase b ≡ b
-lower_same b h = eqb-true _ _ (implied is_domain_byte (λ b. eqb (to_ascii_lowercase b) b) b refl (domain_small b h) h)
-
 all_lower : (xs : List ℕ) → list_all is_domain_byte xs ≡ true → lowercase xs ≡ xs
 all_lower [] h = refl
 all_lower (x ∷ xs) h = let parts = and_parts (is_domain_byte x) (list_all is_domain_byte xs) h in
-    ap₂ (λ y ys. y ∷ ys) (lower_same x parts.0) (all_lower xs parts.1)
-
-letter_small : (c : ℕ) → is_ascii_lowercase c ≡ true → c < 256
-letter_small c h = omega (arith, leb-true c 122 (and_parts (nat_le 97 c) (nat_le c 122) h).1)
-
--- the radix of a label, by whether it begins with `0`, and the digits after its prefix
-abbrev radix : ℕ → List ℕ → Bool → ℕ × List ℕ
-radix c rest zero =
-    if zero && (slice_index (c ∷ rest) 1 == 120 || slice_index (c ∷ rest) 1 == 88) then (16, drop 2 (c ∷ rest))
-    else (if zero then (8, drop 1 (c ∷ rest)) else (10, c ∷ rest))
+    grind (arith, all_lower xs parts.1)
 
 no_number : (last : List ℕ) → is_ascii_lowercase (slice_index last 0) ≡ true
     → ((not (is_empty last) && list_all is_ascii_digit last) || is_number (parse_number last)) ≡ false
 unfolding parse_number
 no_number [] h = absurd (cc)
-no_number (c ∷ rest) h =
-    let small = letter_small c h in
-    let some : is_empty (c ∷ rest) ≡ false = ne_eqb (length (c ∷ rest)) 0 (λ e. omega arith) in
-    let digit : is_ascii_digit c ≡ false = not-true _ (implied is_ascii_lowercase (λ b. not (is_ascii_digit b)) c refl
-    small h) in
-    let zero : (c == 48) ≡ false = not-true _ (implied is_ascii_lowercase (λ b. not (b == 48)) c refl small h) in
-    let decimal : is_digit c 10 ≡ false = not-true _ (implied is_ascii_lowercase (λ b. not (is_digit b 10)) c refl small
-    h) in
-    or_from _ _
-    (λ i. not (some i) && (digit i && list_all is_ascii_digit rest))
-    (ap is_number (cond-false _ _ _ some)
-    ∙ ap (λ z. is_number (number_of (radix c rest z).0 (radix c rest z).1)) zero
-    ∙ ap is_number (cond-false _ _ _ (ap (λ t. t && list_all (λ b. is_digit b 10) rest) decimal)))
+no_number (c ∷ rest) h = grind (arith, common_steps, ne_eqb, not-true, implied, or_from, cond-false)
 
 pub domain_of_plain : (host : List ℕ) → IsPlainHost host → IsDomain host
 unfolding ends_in_a_number
-domain_of_plain host h = record {
-  allowed = all_of is_domain_byte (IsKept FORBIDDEN_DOMAIN) domain_kept host h.bytes;
-  lower = all_lower host h.bytes;
-  named = no_number (last_label host) h.letter;
-}
+domain_of_plain host h = grind (arith, common_steps, domain_kept, all_lower, no_number)
 
 -- ---- paths
 
@@ -114,8 +87,7 @@ segment_kept b h = not-true _ (implied is_segment_byte (λ b. not (should_percen
     (segment_small b h) h)
 
 segment_whole : (b : ℕ) → is_segment_byte b ≡ true → is_slash SpecialNotFile b ≡ false
-segment_whole b h = not-true _ (implied is_segment_byte (λ b. not (is_slash SpecialNotFile b)) b refl
-    (segment_small b h) h)
+segment_whole b h = grind arith
 
 -- a segment begins with neither `.` nor an escape
 abbrev Begins : List ℕ → Type 0
@@ -125,34 +97,17 @@ Begins (c ∷ segment) = begins_plain 47 c ≡ true
 resolved : (segment : List ℕ) → Begins segment → dot_count segment ≡ 0
 unfolding dot_count
 resolved [] h = refl
-resolved (c ∷ segment) h =
-    let parts = or_parts (c == 46) (c == 37) (not-true _ h) in
-    let none : dot_len (c ∷ segment) ≡ 0 =
-    ap (λ t. if t then 1 else (if c == 37 && slice_index (c ∷ segment) 1 == 50 && (slice_index (c ∷ segment) 2 == 101 ||
-    slice_index (c ∷ segment) 2 == 69) then 3 else 0)) parts.0
-    ∙ ap (λ t. if t && slice_index (c ∷ segment) 1 == 50 && (slice_index (c ∷ segment) 2 == 101 || slice_index
-    (c ∷ segment) 2 == 69) then 3 else 0) parts.1 in
-    ap (λ n. if n == 0 then 0 else (if is_empty (drop n (c ∷ segment)) then 1 else (if dot_len (drop n (c ∷ segment)) ==
-    length (drop n (c ∷ segment)) then 2 else 0))) none
+resolved (c ∷ segment) h = grind arith
 
 plain_segment : (segment : List ℕ) → list_all is_segment_byte segment ≡ true → Begins segment → IsSegment SpecialNotFile
     segment
-plain_segment segment bytes begins = record {
-  escaped = all_of is_segment_byte (IsKept PATH) segment_kept segment bytes;
-  whole = all_of is_segment_byte (λ b. is_slash SpecialNotFile b ≡ false) segment_whole segment bytes;
-  resolved = resolved segment begins;
-}
+plain_segment segment bytes begins = grind (arith, common_steps, segment_kept, segment_whole, resolved)
 
 abbrev segments_of : List ℕ → List (List ℕ)
 segments_of path = slice_split (λ b. b == 47) path
 
 some_segments : (path : List ℕ) → 0 < length (segments_of path)
-some_segments path = omega (arith, length-slice_split (λ b. b == 47) path)
-
-join_onto : (b : ℕ) (segments : List (List ℕ)) → 0 < length segments → join_segments (onto_first b segments) ≡ 47 ∷ b ∷
-    drop 1 (join_segments segments)
-join_onto b [] some = absurd (omega arith)
-join_onto b (x ∷ segments) some = refl
+some_segments path = grind (arith, length-slice_split)
 
 joined : (path : List ℕ) → join_segments (segments_of path) ≡ 47 ∷ path
 joined [] = refl
@@ -160,8 +115,8 @@ joined (b ∷ path) = by (b == 47) refl (joined path)
   where
     by : (t : Bool) → (b == 47) ≡ t → join_segments (segments_of path) ≡ 47 ∷ path
         → join_segments (cond t ([] ∷ segments_of path) (onto_first b (segments_of path))) ≡ 47 ∷ b ∷ path
-    by true e rest = ap (λ l. 47 ∷ l) rest ∙ ap (λ c. 47 ∷ c ∷ path) (sym (eqb-true b 47 e))
-    by false e rest = join_onto b (segments_of path) (some_segments path) ∙ ap (λ l. 47 ∷ b ∷ drop 1 l) rest
+    by true e rest = grind arith
+    by false e rest = grind arith
 
 -- the first segment has the bytes of one, and the others are segments
 abbrev Good : List (List ℕ) → Type 0
@@ -202,12 +157,8 @@ unfolding head_of
 all_good [] g first = absurd g
 all_good (x ∷ segments) g first = All-cons (IsSegment SpecialNotFile) x segments (plain_segment x g.0 first) g.1
 
-onto_good : (b : ℕ) (segments : List (List ℕ)) → is_segment_byte b ≡ true → Good segments → Good (onto_first b segments)
-onto_good b [] byte g = absurd g
-onto_good b (x ∷ segments) byte g = ((λ i. byte i && g.0 i), g.1)
-
 good : (path : List ℕ) → list_all is_path_byte path ≡ true → pairs path ≡ true → Good (segments_of path)
-good [] bytes h = (refl, All-nil (IsSegment SpecialNotFile))
+good [] bytes h = grind arith
 good (b ∷ path) bytes h = by (b == 47) refl (good path (and_parts _ _ bytes).1 (later_pairs b path h))
     (λ e. begins_head path (subst (λ c. pairs (c ∷ path) ≡ true) (eqb-true b 47 e) h)) (and_parts _ _ bytes).0
   where
@@ -215,14 +166,10 @@ good (b ∷ path) bytes h = by (b == 47) refl (good path (and_parts _ _ bytes).1
         → is_path_byte b ≡ true
         → Good (cond t ([] ∷ segments_of path) (onto_first b (segments_of path)))
     by true e rest first byte = (refl, all_good (segments_of path) rest (first e))
-    by false e rest first byte = onto_good b (segments_of path) (λ i. byte i && not (e i)) rest
+    by false e rest first byte = grind arith
 
 pub segments_of_plain : (path : List ℕ) → IsPlainPath (47 ∷ path) → IsSegmentList SpecialNotFile (47 ∷ path)
-segments_of_plain path h = record {
-  segments = segments_of path;
-  joined = sym (joined path);
-  each = (good (47 ∷ path) h.bytes h.segments).1;
-}
+segments_of_plain path h = grind (arith, joined path, good (47 ∷ path) h.bytes h.segments)
 
 -- ---- the URL
 
@@ -246,41 +193,21 @@ module _ (scheme : List ℕ) (is_scheme : IsScheme scheme) (kind : scheme_type s
     (plain_path : IsPlainPath (47 ∷ path))
     (plain_query : IfSome query (λ text. list_all is_plain_byte text ≡ true)) where
   valid_host : (kind : SchemeType) → kind ≡ SpecialNotFile → IsHostOf kind (Domain host)
-  valid_host kind is = subst (λ k. IsHostOf k (Domain host)) (sym is) (
-    domain_of_plain host plain_host,
-    some_host host
-        plain_host.letter,
-  )
+  valid_host kind is = grind (arith, domain_of_plain, some_host)
 
   valid : IsValid (plain_parts scheme host path query)
-  valid = record {
-    head = record {
-      scheme = is_scheme;
-      username = All-nil (IsKept USERINFO);
-      password = All-nil (IsKept USERINFO);
-      host = valid_host (scheme_type scheme) kind;
-      port = tt;
-      bare = λ _. (refl, refl, refl);
-    };
-    path = inl (
-      subst (λ k. IsSegmentList k (47 ∷ path)) (sym kind) (segments_of_plain path plain_path),
-      λ _. omega
-          arith,
-    );
-    query = subst (λ k. IfSome query (All (IsKept (query_set k)))) (sym kind) (all_query_kept query plain_query);
-    fragment = tt;
-  }
+  valid = grind (arith, valid_host, segments_of_plain, all_query_kept)
 
   pub parses : parse_url None (serialize (plain_parts scheme host path query)) ≡ Ok (plain_parts scheme host path query)
   parses = parse_url-serialize_special (plain_parts scheme host path query) None valid kind
 
 pub http_scheme : IsScheme (codes "http")
 unfolding scheme_len
-http_scheme = record { nonempty = omega arith; whole = refl; lower = refl }
+http_scheme = grind arith
 
 pub https_scheme : IsScheme (codes "https")
 unfolding scheme_len
-https_scheme = record { nonempty = omega arith; whole = refl; lower = refl }
+https_scheme = grind arith
 
 pub http_kind : scheme_type (codes "http") ≡ SpecialNotFile
 unfolding scheme_type default_port

@@ -1,8 +1,7 @@
 -- Where a path ends and a query begins.
-use Rattle.std.proofs.Common.{◌≡◌, ℕ, zero, suc, ◌+◌, ◌<◌, List, [], ◌∷◌, ◌++◌, Some, None, length, take, drop, get_or}
-use Rattle.std.proofs.Common.{sym, ap, ◌∙◌, subst, append-nil, arith}
+use Rattle.std.proofs.Common.{◌≡◌, ℕ, zero, suc, ◌+◌, ◌<◌, List, [], ◌∷◌, ◌++◌, Some, length, take, drop, get_or, sym}
+use Rattle.std.proofs.Common.{ap, ◌∙◌, subst, append-nil, arith}
 use Rattle.std.specs.Prelude.{slice_index}
-use Rattle.std.proofs.lemmas.Bool.{cond-false, ne_eqb}
 use Rattle.std.proofs.lemmas.List.{get_or-take}
 use Rattle.cdxj_keys.specs.Key.{query_text}
 use Rattle.cdxj_keys.specs.PlainUrls.{IsPlainPath, IsPlainQuery, IsPlainTail}
@@ -13,20 +12,14 @@ slash_first [] h = absurd (cc)
 slash_first (b ∷ text) h = ap (λ c. c ∷ text) h
 
 pub path_alone : (tail : List ℕ) → slice_index tail 0 ≡ 47 → IsPlainPath tail → IsPlainTail tail
-path_alone tail slash plain = record {
-  path = drop 1 tail;
-  query = None;
-  cut = slash_first tail slash ∙ ap (λ l. 47 ∷ l) (sym (append-nil (drop 1 tail)));
-  plain_path = subst IsPlainPath (slash_first tail slash) plain;
-  plain_query = tt;
-}
+path_alone tail slash plain = grind (arith, slash_first, append-nil)
 
 pub spelled : (query : List ℕ) → 0 < length query → query_text (Some query) ≡ 63 ∷ query
-spelled query some = cond-false _ _ _ (ne_eqb (length query) 0 (λ e. omega arith))
+spelled query some = grind arith
 
 pub path_and_query : (tail : List ℕ) (at : ℕ) → slice_index tail 0 ≡ 47 → at < length tail → get_or tail at 0 ≡ 63
     → IsPlainPath (take at tail) → IsPlainQuery (drop (at + 1) tail) → IsPlainTail tail
-path_and_query tail zero slash within mark plain query = absurd (omega (arith, slash, mark))
+path_and_query tail zero slash within mark plain query = grind arith
 path_and_query tail (suc n) slash within mark plain query =
     let front = take (suc n) tail in
     let first = slash_first front (get_or-take (suc n) tail 0 0 (omega arith) ∙ slash) in

@@ -1,6 +1,6 @@
 -- What is found in an object, as its members and its tokens are read.
-use Rattle.std.proofs.Common.{◌≡◌, ℕ, ◌-◌, List, [], ◌∷◌, Bool, true, false, cond, bytes_eq, length, Option}
-use Rattle.std.proofs.Common.{Some, None, option_map, option_and_then, refl, sym, ap, ◌∙◌, arith}
+use Rattle.std.proofs.Common.{◌≡◌, ℕ, ◌-◌, List, [], ◌∷◌, Bool, true, false, cond, bytes_eq, length, Option, Some, None}
+use Rattle.std.proofs.Common.{option_map, option_and_then, refl, ap, ◌∙◌, arith}
 use Rattle.std.proofs.lemmas.Slice.Eq.{bytes_eq-Decides}
 use Rattle.json.specs.Token.{Token}
 use Rattle.json.specs.Json as json
@@ -9,12 +9,9 @@ use Rattle.json.specs.Reads.{token_of, Yields}
 use Rattle.json.specs.declared.token.Token.TheVariants as read
 use Rattle.json.specs.declared.token.Token.{Token as ReadToken}
 use Rattle.json.proofs.Grammar.{value_is, value-begin_array, value-begin_object}
-use Rattle.serde_json.specs.Data.{Data, number, array, object, Members, no_members, put}
-use Rattle.serde_json.specs.Find.{get_member}
-use Rattle.serde_json.specs.Read.{number_of, of_json, of_items, of_members, converted}
+use Rattle.serde_json.specs.Data.{Data, object, Members, no_members, put}
+use Rattle.serde_json.specs.Read.{of_json, of_members, converted}
 use Rattle.serde_json.proofs.Views.{get_member-put, get_member-put_other}
-use Rattle.cdxj_objects.specs.Names.{url_name, mime_name, status_name, digest_name, length_name, offset_name}
-use Rattle.cdxj_objects.specs.Names.{filename_name}
 use Rattle.cdxj_objects.specs.FoundMembers.{FoundValue, member_data, found_at, found_of, with_member, object_found}
 use Rattle.cdxj_objects.specs.FoundMembers.{object_read, members_found}
 use Rattle.cdxj_objects.proofs.JsonReading.{value_or, rest_or}
@@ -23,27 +20,12 @@ use Rattle.cdxj_objects.proofs.JsonReading.{value_or, rest_or}
 
 found_put_at : (b : Bool) (k q : List ℕ) (d : Data) (ms : Members) → bytes_eq k q ≡ b → found_at q (put k d ms) ≡ cond b
     (Some (member_data d)) (found_at q ms)
-found_put_at true k q d ms is =
-    let same : k ≡ q = (bytes_eq-Decides k q).0 is in
-    ap (λ l. option_map member_data (get_member l (put k d ms))) (sym same) ∙ ap (option_map member_data)
-    (get_member-put k d ms)
-found_put_at false k q d ms is =
-    ap (option_map member_data) (get_member-put_other q k d ms (λ same. let bad : true ≡ false =
-    sym ((bytes_eq-Decides k q).1 (sym same)) ∙ is in cc))
+found_put_at true k q d ms is = grind (arith, bytes_eq-Decides, get_member-put)
+found_put_at false k q d ms is = grind (arith, get_member-put_other, bytes_eq-Decides)
 
 pub found_put : (k : List ℕ) (d : Data) (ms : Members) → found_of (put k d ms) ≡ with_member k (member_data d)
     (found_of ms)
-found_put k d ms =
-    let at = λ (q : List ℕ). found_put_at (bytes_eq k q) k q d ms refl in
-    rw (
-      at url_name,
-      at mime_name,
-      at status_name,
-      at digest_name,
-      at length_name,
-      at offset_name,
-      at filename_name,
-    )
+found_put k d ms = grind (arith, found_put_at)
 
 -- ---- the tokens of the object
 
@@ -56,36 +38,24 @@ none_of : {A : Type 0} (f : A → Data) → ((a : A) → object_found (f a) ≡ 
 none_of f h None = refl
 none_of f h (Some a) = h a
 
-other_json : (j : json.Json) → option_and_then object_found (of_json j) ≡ None → (r : List Token)
-    → whole_found (Some (j, r)) ≡ None
-other_json j e [] = e
-other_json j e (t ∷ r) = refl
-
-other_array : (o : Option (json.Items × List Token)) → whole_found (parse_map json.array o) ≡ None
-other_array None = refl
-other_array (Some p) = other_json (json.array p.0) (none_of array (λ ds. refl) (of_items p.0)) p.1
-
 other : (token : ReadToken) (ts : List Token) → (token ≡ read.BeginObject → ⊥) → object_read (token_of token ∷ ts) ≡
     None
 other read.BeginObject ts h = absurd (h refl)
-other read.EndObject ts h = ap whole_found (value_is 127 (Token.end_object ∷ ts))
-other read.BeginArray ts h = ap whole_found (value-begin_array 127 ts (omega arith))
-    ∙ other_array (json.items (value (127 - 1)) (length ts) ts)
-other read.EndArray ts h = ap whole_found (value_is 127 (Token.end_array ∷ ts))
-other (read.Key s) ts h = ap whole_found (value_is 127 (Token.key s.now ∷ ts))
-other (read.String s) ts h = ap whole_found (value_is 127 (Token.string s.now ∷ ts)) ∙ other_json (json.string s.now)
-    refl ts
-other (read.Number s) ts h = ap whole_found (value_is 127 (Token.number s.now ∷ ts)) ∙ other_json (json.number s.now)
-    (none_of number (λ n. refl) (number_of s.now)) ts
-other (read.Bool b) ts h = ap whole_found (value_is 127 (Token.boolean b ∷ ts)) ∙ other_json (json.boolean b) refl ts
-other read.Null ts h = ap whole_found (value_is 127 (Token.null ∷ ts)) ∙ other_json json.null refl ts
-other read.Bad ts h = ap whole_found (value_is 127 (Token.bad ∷ ts))
+other read.EndObject ts h = grind (arith, value_is)
+other read.BeginArray ts h = grind (arith, value-begin_array)
+other read.EndArray ts h = grind (arith, value_is)
+other (read.Key s) ts h = grind (arith, value_is)
+other (read.String s) ts h = grind (arith, value_is)
+other (read.Number s) ts h = grind (arith, value_is, none_of)
+other (read.Bool b) ts h = grind (arith, value_is)
+other read.Null ts h = grind (arith, value_is)
+other read.Bad ts h = grind (arith, value_is)
 
 -- tokens that don't begin with a brace are no object
 pub no_brace : (first : Option ReadToken) (ts rest : List Token) → Yields ts first rest
     → (first ≡ Some read.BeginObject → ⊥) → object_read ts ≡ None
-no_brace None ts rest h never = ap object_read h.0 ∙ ap whole_found (value_is 127 [])
-no_brace (Some token) ts rest h never = ap object_read h ∙ other token rest (λ e. never (ap Some e))
+no_brace None ts rest h never = grind (arith, value_is)
+no_brace (Some token) ts rest h never = grind (arith, other)
 
 abbrev read_all : json.Members → Option Members
 read_all ms = of_members ms no_members
@@ -130,18 +100,15 @@ refused (Some (ms, t ∷ r)) e = refl
 
 opened : (ts : List Token) → object_read (Token.begin_object ∷ ts) ≡ whole_found
     (parse_map json.object (members (value 126) (length ts) ts))
-opened ts =
-    let one_less : 127 - 1 ≡ 126 = omega arith in
-    ap whole_found (value-begin_object 127 ts (omega arith) ∙ ap
-    (λ depth. parse_map json.object (members (value depth) (length ts) ts)) one_less)
+opened ts = grind (arith, value-begin_object)
 
 pub object_ended : (ts : List Token) (f : FoundValue) → members_found ts ≡ Some (f, [])
     → object_read (Token.begin_object ∷ ts) ≡ Some f
-object_ended ts f e = opened ts ∙ ended (members (value 126) (length ts) ts) f e
+object_ended ts f e = grind (arith, opened)
 
 pub object_and_more : (ts r : List Token) (f : FoundValue) (t : Token) → members_found ts ≡ Some (f, t ∷ r)
     → object_read (Token.begin_object ∷ ts) ≡ None
-object_and_more ts r f t e = opened ts ∙ more (members (value 126) (length ts) ts) f t r e
+object_and_more ts r f t e = grind (arith, opened)
 
 pub object_refused : (ts : List Token) → members_found ts ≡ None → object_read (Token.begin_object ∷ ts) ≡ None
-object_refused ts e = opened ts ∙ refused (members (value 126) (length ts) ts) e
+object_refused ts e = grind (arith, opened)

@@ -1,21 +1,18 @@
 -- The text of an object is read as its members.
-use Rattle.std.proofs.Common.{◌≡◌, ℕ, ◌≤◌, Bool, true, false, cond, List, [], ◌∷◌, ◌++◌, map, Option, Some, option_map}
+use Rattle.std.proofs.Common.{◌≡◌, ℕ, ◌≤◌, true, false, cond, List, [], ◌∷◌, ◌++◌, map, Option, Some, option_map}
 use Rattle.std.proofs.Common.{option_and_then, refl, sym, ap, ◌∙◌, arith, append_assoc, append-nil, bytes_eq, flat_map}
 use Rattle.std.proofs.Common.{inl, max}
-use Rattle.std.proofs.lemmas.Slice.Eq.{bytes_eq-Decides}
 use Rattle.json.specs.Token.{Token, begin_object, end_object}
 use Rattle.json.specs.Token as tok
 use Rattle.json.specs.Lex.{tokens}
 use Rattle.json.specs.Json as json
 use Rattle.json.specs.Tree.{json_tokens, members_tokens, depth, members_depth}
-use Rattle.json.specs.Print.{quoted, ArePrintable}
+use Rattle.json.specs.Print.{ArePrintable}
 use Rattle.json.specs.Spaced.{print_spaced, AreGaps, IsGap}
 use Rattle.json.proofs.Printed.Tokens.{tokens-print_spaced}
 use Rattle.json.proofs.Printed.Trees.{value-json_tokens}
 use Rattle.serde_json.specs.Data.{Data, string, object, Members, no_members, put}
 use Rattle.serde_json.specs.Read.{read, of_json, of_members, max_depth}
-use Rattle.serde_json.specs.Find.{get_member}
-use Rattle.serde_json.proofs.Views.{get_member-put, get_member-put_other}
 use Rattle.cdxj_objects.specs.Objects.{member_text, object_text}
 
 abbrev pub Pair : Type 0
@@ -37,18 +34,12 @@ regroup n v p = simp append_assoc
 spaced_later : (ms : List Pair) → print_spaced true (spaced (32 ∷ []) ms) ≡ later_text ms ++ 125 ∷ []
 unfolding print_spaced
 spaced_later [] = refl
-spaced_later ((n, v) ∷ ms) =
-    ap (λ p. 44 ∷ 32 ∷ ((quoted n ++ 58 ∷ []) ++ (32 ∷ (quoted v ++ p)))) (spaced_later ms)
-    ∙ ap (λ p. 44 ∷ 32 ∷ p) (regroup (quoted n) (quoted v) (later_text ms ++ 125 ∷ []))
-    ∙ sym (append_assoc ((44 ∷ 32 ∷ []) ++ member_text (n, v)) (later_text ms) (125 ∷ []))
+spaced_later ((n, v) ∷ ms) = grind (arith, append_assoc, spaced_later ms)
 
 object_spaced : (m : Pair) (ms : List Pair) → print_spaced false (([], begin_object) ∷ spaced [] (m ∷ ms)) ≡ object_text
     (m ∷ ms)
 unfolding print_spaced
-object_spaced (n, v) ms =
-    ap (λ p. 123 ∷ ((quoted n ++ 58 ∷ []) ++ (32 ∷ (quoted v ++ p)))) (spaced_later ms)
-    ∙ ap (λ p. 123 ∷ p) (regroup (quoted n) (quoted v) (later_text ms ++ 125 ∷ []))
-    ∙ ap (λ p. 123 ∷ p) (sym (append_assoc (member_text (n, v)) (later_text ms) (125 ∷ [])))
+object_spaced (n, v) ms = grind (arith, spaced_later, append_assoc)
 
 -- ---- the tokens, as those of an object
 
@@ -58,7 +49,7 @@ jmembers (m ∷ ms) = json.member m.0 (json.string m.1) (jmembers ms)
 
 tokens_spaced : (gap : List ℕ) (ms : List Pair) → map (λ p. p.1) (spaced gap ms) ≡ members_tokens (jmembers ms)
 tokens_spaced gap [] = refl
-tokens_spaced gap (m ∷ ms) = ap (λ ts. tok.key m.0 ∷ tok.string m.1 ∷ ts) (tokens_spaced (32 ∷ []) ms)
+tokens_spaced gap (m ∷ ms) = grind (arith, tokens_spaced (32 ∷ []) ms)
 
 gaps : (gap : List ℕ) (ms : List Pair) → IsGap gap → AreGaps (spaced gap ms)
 gaps gap [] h = (tt, tt)
@@ -110,16 +101,3 @@ read_object m ms =
 abbrev pub found_in : List ℕ → List Pair → Option Data → Option Data
 found_in name [] before = before
 found_in name (m ∷ ms) before = found_in name ms (cond (bytes_eq name m.0) (Some (string m.1)) before)
-
-get_put : (b : Bool) (q k : List ℕ) (d : Data) (ms : Members) → bytes_eq q k ≡ b → get_member q (put k d ms) ≡ cond b
-    (Some d) (get_member q ms)
-get_put true q k d ms is = let same : q ≡ k = (bytes_eq-Decides q k).0 is in ap (λ l. get_member l (put k d ms)) same
-    ∙ get_member-put k d ms
-get_put false q k d ms is = get_member-put_other q k d ms (λ same. let bad : true ≡ false =
-    sym ((bytes_eq-Decides q k).1 same) ∙ is in cc)
-
-pub get_put_all : (name : List ℕ) (ms : List Pair) (found : Members) → get_member name (put_all ms found) ≡ found_in
-    name ms (get_member name found)
-get_put_all name [] found = refl
-get_put_all name (m ∷ ms) found = get_put_all name ms (put m.0 (string m.1) found) ∙ ap (found_in name ms)
-    (get_put _ name m.0 (string m.1) found refl)

@@ -1,6 +1,6 @@
 -- A text cut at one of its bytes.
-use Rattle.std.proofs.Common.{◌≡◌, ℕ, zero, suc, ◌+◌, ◌<◌, Bool, true, List, [], ◌∷◌, ◌++◌, length, take, drop}
-use Rattle.std.proofs.Common.{get_or, refl, ap, ◌∙◌, arith}
+use Rattle.std.proofs.Common.{◌≡◌, ℕ, zero, suc, ◌+◌, ◌<◌, Bool, true, List, [], ◌∷◌, ◌++◌, length, take, drop, get_or}
+use Rattle.std.proofs.Common.{refl, ap, ◌∙◌, arith}
 use Rattle.std.specs.List.{list_all, prefix_len}
 use Rattle.std.proofs.lemmas.List.{get_or-take}
 use Rattle.std.proofs.lemmas.List.Folds.{length-prefix_len}
@@ -12,12 +12,8 @@ cut_here (x ∷ xs) zero h = refl
 cut_here (x ∷ xs) (suc i) h = ap (λ ys. x ∷ ys) (cut_here xs i (omega arith))
 
 pub cut_at : (xs : List ℕ) (i : ℕ) → i < length xs → xs ≡ take i xs ++ get_or xs i 0 ∷ drop (i + 1) xs
-cut_at xs i h = let one : suc i ≡ i + 1 = omega arith in cut_here xs i h
-    ∙ ap (λ n. take i xs ++ get_or xs i 0 ∷ drop n xs) one
+cut_at xs i h = grind (arith, cut_here)
 
 -- the front of bytes that pass a test passes it whole
 pub front_passes : (p : ℕ → Bool) (xs : List ℕ) → list_all p (take (prefix_len p xs) xs) ≡ true
-front_passes p xs =
-    list_all-from_AllPass p (take (prefix_len p xs) xs) (λ k d low.
-    let early : k < prefix_len p xs = omega (arith, low, length-prefix_len p xs) in
-    ap p (get_or-take (prefix_len p xs) xs k d early) ∙ prefix_len_passes p xs k d early)
+front_passes p xs = grind (arith, list_all-from_AllPass, length-prefix_len, get_or-take, prefix_len_passes)

@@ -1,12 +1,12 @@
 -- What a plain object is read as.
-use Rattle.std.proofs.Common.{◌≡◌, ℕ, ◌<◌, ◌^◌, ◌==◌, Bool, true, false, cond, List, [], ◌∷◌, ◌++◌, length}
-use Rattle.std.proofs.Common.{decimal, Some, None, get_or, append_assoc, flat_map, codes, refl, sym, ap, ◌∙◌, arith}
+use Rattle.std.proofs.Common.{◌≡◌, ℕ, ◌<◌, ◌^◌, ◌==◌, Bool, true, false, cond, List, [], ◌∷◌, ◌++◌, length, decimal}
+use Rattle.std.proofs.Common.{Some, None, get_or, append_assoc, flat_map, codes, refl, sym, ap, ◌∙◌, arith}
 use Rattle.std.specs.List.{list_all}
 use Rattle.std.specs.Str.Parse.{digits_value}
-use Rattle.std.proofs.lemmas.Bool.{and_parts, or_parts, not-true, eqb-false, ltb-false, ltb-true}
+use Rattle.std.proofs.lemmas.Bool.{and_parts, eqb-false, ltb-false, ltb-true}
 use Rattle.std.proofs.lemmas.Fmt.{decimal-digits_value}
 use Rattle.json.specs.Print.{quoted, escape}
-use Rattle.json.specs.Run.{is_plain, is_stop}
+use Rattle.json.specs.Run.{is_plain}
 use Rattle.json.proofs.Printed.Strings.{escape_byte_plain}
 use Rattle.serde_json.specs.Read.{read}
 use Rattle.cdxj_places.specs.Places.{offset_of, is_offset}
@@ -25,10 +25,7 @@ pub escape_plain : (s : List ℕ) → list_all is_plain s ≡ true → escape s 
 escape_plain [] h = refl
 escape_plain (x ∷ xs) h =
     let parts = and_parts (is_plain x) (list_all is_plain xs) h in
-    let none = or_parts _ _ (not-true (is_stop x) parts.0) in
-    let tests = or_parts (x == 34) _ none.0 in
-    let rest = escape_plain xs parts.1 in
-    λ i. escape_byte_plain x (eqb-false x 34 tests.0) (eqb-false x 92 tests.1) (ltb-false x 32 none.1) i ++ rest i
+    grind (arith, escape_byte_plain, eqb-false, ltb-false, escape_plain xs parts.1)
 
 -- ---- the text, as that of members
 
@@ -50,42 +47,22 @@ regroup : (n v p : List ℕ) → ((34 ∷ (n ++ 34 ∷ [])) ++ (58 ∷ 32 ∷ []
 regroup n v p = simp append_assoc
 
 member_is : (m : Pair) (p : List ℕ) → Plain m → member_text m ++ p ≡ front m.0 m.1 p
-member_is (n, v) p h =
-    let name = escape_plain n h.0 in
-    let value = escape_plain v h.1 in
-    (λ i. ((34 ∷ (name i ++ 34 ∷ [])) ++ (58 ∷ 32 ∷ []) ++ (34 ∷ (value i ++ 34 ∷ []))) ++ p) ∙ regroup n v p
+member_is (n, v) p h = grind (arith, escape_plain, regroup)
 
 abbrev later : List Pair → List ℕ
 later ms = flat_map (λ m. (44 ∷ 32 ∷ []) ++ member_text m) ms
 
 rest_is : (ms : List Pair) → AllPlain ms → later ms ++ 125 ∷ [] ≡ rest_text ms
 rest_is [] h = refl
-rest_is (m ∷ ms) h =
-    append_assoc ((44 ∷ 32 ∷ []) ++ member_text m) (later ms) (125 ∷ [])
-    ∙ ap (λ r. 44 ∷ 32 ∷ (member_text m ++ r)) (rest_is ms h.1)
-    ∙ ap (λ r. 44 ∷ 32 ∷ r) (member_is m (rest_text ms) h.0)
+rest_is (m ∷ ms) h = grind (arith, append_assoc, member_is, rest_is ms h.1)
 
 object_is : (m : Pair) (ms : List Pair) → AllPlain (m ∷ ms) → object_text (m ∷ ms) ≡ 123 ∷ front m.0 m.1 (rest_text ms)
-object_is m ms h =
-    ap (λ r. 123 ∷ r) (append_assoc (member_text m) (later ms) (125 ∷ []) ∙ ap (λ r. member_text m ++ r)
-    (rest_is ms h.1) ∙ member_is m (rest_text ms) h.0)
+object_is m ms h = grind (arith, append_assoc, rest_is, member_is)
 
 -- ---- the seven members
 
 plain_text_is : (t : TextsValue) → ArePlain t → plain_text t ≡ object_text (first_of t ∷ later_of t)
-plain_text_is t h = sym (object_is (first_of t) (later_of t) (
-  (refl, h.url),
-  (
-    (refl, h.mime),
-    (
-      (refl, h.status),
-      (
-        (refl, h.digest),
-        ((refl, h.length), ((refl, h.offset), ((refl, h.filename), tt))),
-      ),
-    ),
-  ),
-))
+plain_text_is t h = sym (object_is (first_of t) (later_of t) (grind arith))
 
 pub read_plain : (t : TextsValue) → ArePlain t → read (plain_text t) ≡ Some (data_of t)
 read_plain t h = ap read (plain_text_is t h) ∙ read_texts t
@@ -93,7 +70,7 @@ read_plain t h = ap read (plain_text_is t h) ∙ read_texts t
 -- ---- the offset
 
 if_some : (b : Bool) (v n : ℕ) → cond b (Some v) None ≡ Some n → (b ≡ true) × (v ≡ n)
-if_some true v n h = (refl, let e : v ≡ n = cc in e)
+if_some true v n h = grind arith
 if_some false v n h = absurd (cc)
 
 pub canonical_decimal : (ds : List ℕ) (n : ℕ) → offset_of ds ≡ Some n → (get_or ds 0 0 ≡ 48 → length ds ≡ 1)
@@ -112,7 +89,7 @@ steps_of : (old s : List ℕ) → ((old ++ 34 ∷ []) ++ s) ++ 34 ∷ [] ≡ old
 steps_of old s = simp append_assoc
 
 pub quoted_plain : (old s : List ℕ) → list_all is_plain s ≡ true → ((old ++ 34 ∷ []) ++ s) ++ 34 ∷ [] ≡ old ++ quoted s
-quoted_plain old s h = steps_of old s ∙ ap (λ e. old ++ 34 ∷ (e ++ 34 ∷ [])) (sym (escape_plain s h))
+quoted_plain old s h = grind (arith, steps_of, escape_plain)
 
 -- what stands between two texts
 abbrev pub between : List ℕ → List ℕ

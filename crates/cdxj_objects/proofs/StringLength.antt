@@ -1,18 +1,17 @@
 -- No string among the tokens of a text is longer than the text.
-use Rattle.std.proofs.Common.{ℕ, ◌+◌, ◌≤◌, Bool, true, false, cond, ◌&&◌, ◌==◌, nat_lt, List, [], ◌∷◌, length, drop}
-use Rattle.std.proofs.Common.{nat_eq, codes, Option, Some, None, option_map, option_and_then, arith}
+use Rattle.std.proofs.Common.{ℕ, ◌+◌, ◌≤◌, Bool, true, false, cond, ◌&&◌, ◌==◌, List, [], ◌∷◌, length, codes, Option}
+use Rattle.std.proofs.Common.{Some, None, option_map, option_and_then, arith}
 use Rattle.std.specs.Prelude.{⊤}
-use Rattle.std.specs.List.{AllByRecursion, starts_with}
+use Rattle.std.specs.List.{AllByRecursion}
 use Rattle.std.specs.Char.{encode_utf8}
 use Rattle.std.proofs.lemmas.List.{length-append}
-use Rattle.json.specs.Text.{code_unit, short_escape, is_high_surrogate, is_low_surrogate, surrogate_pair, Within, plain}
+use Rattle.json.specs.Text.{code_unit, is_high_surrogate, is_low_surrogate, surrogate_pair, Within, plain}
 use Rattle.json.specs.Text.{after_backslash, after_u, after_high, prepend, content}
 use Rattle.json.specs.Token.{Token}
-use Rattle.json.specs.Word.{head, ends_word, after_number, number_before, literal, word}
+use Rattle.json.specs.Word.{head, after_number, number_before, literal, word}
 use Rattle.json.specs.Lex.{Lexeme, token, comma, colon, Class, quote, backslash, operator, space, other, class}
-use Rattle.json.specs.Lex.{operator_lexeme, string_token, Mode, between, in_word, in_string, in_escape, lex_byte, lex}
-use Rattle.json.specs.Lex.{Place, fresh, after_value, after_comma, after_key, begins_colon, may_begin, may_close}
-use Rattle.json.specs.Lex.{if_allowed, place_token, punctuate, tokens}
+use Rattle.json.specs.Lex.{operator_lexeme, Mode, between, in_word, in_string, in_escape, lex_byte, lex, Place, fresh}
+use Rattle.json.specs.Lex.{after_value, after_comma, after_key, begins_colon, place_token, punctuate, tokens}
 
 -- ---- what an option may have
 
@@ -57,15 +56,11 @@ short_content : (n : ℕ) (w : Within) (xs : List ℕ) → length xs ≤ n → E
 unfolding content
 short_content n plain [] le = tt
 short_content n plain (x ∷ xs) le =
-    either (Each (UpTo n)) (x == 34) _ _ (omega arith) (either (Each (UpTo n)) (x == 92) _ _
-    (short_content n after_backslash xs (omega arith))
-    (either (Each (UpTo n)) (nat_lt x 32) _ _ tt (prepended n (length xs) (x ∷ []) _ (omega arith)
-    (short_content (length xs) plain xs (omega arith)))))
+    grind (arith, short_content n after_backslash xs (omega arith), short_content (length xs) plain xs (omega arith))
 short_content n after_backslash [] le = tt
 short_content n after_backslash (x ∷ xs) le =
     either (Each (UpTo n)) (x == 117) _ _ (short_content n after_u xs (omega arith))
-    (after_unit n _ (short_escape x) (λ c. prepended n (length xs) (c ∷ []) _ (omega arith)
-    (short_content (length xs) plain xs (omega arith))))
+    (grind (arith, short_content (length xs) plain xs (omega arith)))
 short_content n after_u [] le = tt
 short_content n after_u (a ∷ []) le = tt
 short_content n after_u (a ∷ b ∷ []) le = tt
@@ -109,17 +104,12 @@ ShortLexeme n colon = ⊤
 abbrev pub AreShort : ℕ → List Token → Type 0
 AreShort n = AllByRecursion (ShortToken n)
 
-short_string : (n : ℕ) (o : Option (List ℕ)) → Each (UpTo n) o → ShortToken n (string_token o)
-short_string n None h = tt
-short_string n (Some s) h = h
-
 short_number : (n : ℕ) (t : List ℕ) (o : Option (List ℕ)) → ShortToken n (number_before t o)
 short_number n t None = tt
-short_number n t (Some rest) = either (ShortToken n) (ends_word rest) _ _ tt tt
+short_number n t (Some rest) = grind arith
 
 short_literal : (n : ℕ) (name : List ℕ) (k : Token) (t : List ℕ) → ShortToken n k → ShortToken n (literal name k t)
-short_literal n name k t h = either (ShortToken n) (starts_with nat_eq t name && ends_word (drop (length name) t)) k
-    Token.bad h tt
+short_literal n name k t h = grind arith
 
 short_word : (n : ℕ) (t : List ℕ) → ShortToken n (word t)
 unfolding word
@@ -130,14 +120,11 @@ short_word n t =
     (short_number n t (after_number t))))
 
 short_operator : (n x : ℕ) → ShortLexeme n (operator_lexeme x)
-short_operator n x =
-    either (ShortLexeme n) (x == 123) _ _ tt (either (ShortLexeme n) (x == 125) _ _ tt
-    (either (ShortLexeme n) (x == 91) _ _ tt
-    (either (ShortLexeme n) (x == 93) _ _ tt (either (ShortLexeme n) (x == 44) _ _ tt tt))))
+short_operator n x = grind arith
 
 short_byte : (n : ℕ) (m : Mode) (c : Class) (x : ℕ) (xs : List ℕ) (k : Mode → List Lexeme) → length xs ≤ n
     → ((next : Mode) → AllByRecursion (ShortLexeme n) (k next)) → AllByRecursion (ShortLexeme n) (lex_byte m c x xs k)
-short_byte n between quote x xs k le h = (short_string n (content plain xs) (short_content n plain xs le), h in_string)
+short_byte n between quote x xs k le h = grind (arith, short_content)
 short_byte n between backslash x xs k le h = (tt, h in_word)
 short_byte n between operator x xs k le h = (short_operator n x, h between)
 short_byte n between space x xs k le h = h between
@@ -160,23 +147,18 @@ short_lex n m [] le = tt
 short_lex n m (x ∷ xs) le = short_byte n m (class x) x xs (λ next. lex next xs) (omega arith)
     (λ next. short_lex n next xs (omega arith))
 
-short_allowed : (n : ℕ) (b : Bool) (t : Token) (k : Place → List Token) (next : Place) → ShortToken n t
-    → ((p : Place) → AreShort n (k p)) → AreShort n (if_allowed b t k next)
-short_allowed n true t k next h rest = (h, rest next)
-short_allowed n false t k next h rest = (tt, tt)
-
 short_placed : (n : ℕ) (p : Place) (t : Token) (before_colon : Bool) (k : Place → List Token) → ShortToken n t
     → ((next : Place) → AreShort n (k next)) → AreShort n (place_token p t before_colon k)
-short_placed n p Token.begin_object b k h rest = short_allowed n (may_begin p) Token.begin_object k fresh tt rest
-short_placed n p Token.end_object b k h rest = short_allowed n (may_close p) Token.end_object k after_value tt rest
-short_placed n p Token.begin_array b k h rest = short_allowed n (may_begin p) Token.begin_array k fresh tt rest
-short_placed n p Token.end_array b k h rest = short_allowed n (may_close p) Token.end_array k after_value tt rest
+short_placed n p Token.begin_object b k h rest = grind arith
+short_placed n p Token.end_object b k h rest = grind arith
+short_placed n p Token.begin_array b k h rest = grind arith
+short_placed n p Token.end_array b k h rest = grind arith
 short_placed n p (Token.key s) b k h rest = (tt, tt)
-short_placed n p (Token.string s) true k h rest = short_allowed n (may_begin p) (Token.key s) k after_key tt rest
-short_placed n p (Token.string s) false k h rest = short_allowed n (may_begin p) (Token.string s) k after_value h rest
-short_placed n p (Token.number s) b k h rest = short_allowed n (may_begin p) (Token.number s) k after_value tt rest
-short_placed n p (Token.boolean v) b k h rest = short_allowed n (may_begin p) (Token.boolean v) k after_value tt rest
-short_placed n p Token.null b k h rest = short_allowed n (may_begin p) Token.null k after_value tt rest
+short_placed n p (Token.string s) true k h rest = grind arith
+short_placed n p (Token.string s) false k h rest = grind arith
+short_placed n p (Token.number s) b k h rest = grind arith
+short_placed n p (Token.boolean v) b k h rest = grind arith
+short_placed n p Token.null b k h rest = grind arith
 short_placed n p Token.bad b k h rest = (tt, tt)
 
 short_punctuated : (n : ℕ) (p : Place) (ls : List Lexeme) → AllByRecursion (ShortLexeme n) ls
@@ -192,8 +174,7 @@ short_punctuated n after_value (token t ∷ ls) h = short_placed n after_value t
     (λ next. punctuate next ls) h.0 (λ next. short_punctuated n next ls h.1)
 short_punctuated n after_comma (token t ∷ ls) h = short_placed n after_comma t (begins_colon ls)
     (λ next. punctuate next ls) h.0 (λ next. short_punctuated n next ls h.1)
-short_punctuated n after_key (token t ∷ ls) h = short_placed n after_key t (begins_colon ls) (λ next. punctuate next ls)
-    h.0 (λ next. short_punctuated n next ls h.1)
+short_punctuated n after_key (token t ∷ ls) h = grind arith
 short_punctuated n fresh (comma ∷ ls) h = (tt, tt)
 short_punctuated n after_value (comma ∷ ls) h = short_punctuated n after_comma ls h.1
 short_punctuated n after_comma (comma ∷ ls) h = (tt, tt)
@@ -204,5 +185,4 @@ short_punctuated n after_comma (colon ∷ ls) h = (tt, tt)
 short_punctuated n after_key (colon ∷ ls) h = short_punctuated n fresh ls h.1
 
 pub short_tokens : (text : List ℕ) → AreShort (length text) (tokens text)
-short_tokens text = short_punctuated (length text) fresh (lex between text) (short_lex (length text) between text
-    (omega arith))
+short_tokens text = short_punctuated (length text) fresh (lex between text) (grind (arith, short_lex))

@@ -1,13 +1,12 @@
 -- The object of seven texts is read as these texts.
-use Rattle.std.proofs.Common.{◌≡◌, ℕ, List, [], ◌∷◌, Some, None, ◌∙◌}
+use Rattle.std.proofs.Common.{◌≡◌, List, [], ◌∷◌, Some, ◌∙◌}
 use Rattle.serde_json.specs.Data.{Data, object, no_members}
-use Rattle.serde_json.specs.Find.{get}
 use Rattle.serde_json.specs.Read.{read}
 use Rattle.cdxj_objects.specs.Names.{url_name, mime_name, status_name, digest_name, length_name, offset_name}
 use Rattle.cdxj_objects.specs.Names.{filename_name}
 use Rattle.cdxj_objects.specs.Objects.{object_text}
 use Rattle.cdxj_objects.specs.Texts.{TextsValue, text_members}
-use Rattle.cdxj_objects.proofs.ObjectLaw.{Pair, put_all, found_in, get_put_all, read_object}
+use Rattle.cdxj_objects.proofs.ObjectLaw.{Pair, put_all, read_object}
 
 abbrev pub first_of : TextsValue → Pair
 first_of t = (url_name, t.url)
@@ -23,7 +22,3 @@ data_of t = object (put_all (first_of t ∷ later_of t) no_members)
 
 pub read_texts : (t : TextsValue) → read (object_text (text_members t)) ≡ Some (data_of t)
 read_texts t = read_object (first_of t) (later_of t)
-
-pub text_at : (t : TextsValue) (name : List ℕ) (d : Data) → found_in name (first_of t ∷ later_of t) None ≡ Some d
-    → get name (data_of t) ≡ Some d
-text_at t name d h = get_put_all name (first_of t ∷ later_of t) no_members ∙ h

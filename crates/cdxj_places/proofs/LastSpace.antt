@@ -15,9 +15,7 @@ pub last_at : (s : List ℕ) (k : ℕ) → k < length s → get_or s k 0 ≡ 32
     → ((i : ℕ) → k < i → i < length s → get_or s i 0 ≢ 32) → suffix_len (λ x. not (is_space x)) s ≡ length s - (k + 1)
 last_at s k within here later =
     let back : k + 1 - 1 ≡ k = omega arith in
-    suffix_len_is (λ x. not (is_space x)) s (k + 1) 0 (omega arith)
-    (λ i low high. ap not (ne_eqb (get_or s i 0) 32 (later i (omega arith) high)))
-    (λ _. ap not (ap (λ n. get_or s n 0 == 32) back ∙ eq-eqb (get_or s k 0) 32 here))
+    grind (arith, suffix_len_is, eq-eqb)
 
 none_at : (s : List ℕ) → ((i : ℕ) → i < length s → get_or s i 0 ≢ 32) → suffix_len (λ x. not (is_space x)) s ≡ length s
     - 0
@@ -30,9 +28,7 @@ pub cuts_at_last : (s : List ℕ) (r : Option (Bor (List ℕ) × Bor (List ℕ))
     (λ x. (x.0.now ≡ before_last is_space s) × (x.1.now ≡ after_last is_space s))
 cuts_at_last s None h =
     let e = none_at s (λ i. NoCharPasses-char 32 s i h (omega arith)) in
-    let front : length s - suffix_len (λ x. not (is_space x)) s - 1 ≡ 0 = omega (arith, e) in
-    let back : length s - suffix_len (λ x. not (is_space x)) s ≡ 0 = omega (arith, e) in
-    (sym (ap (λ n. take n s) front), sym (ap (λ n. drop n s) back))
+    grind arith
 cuts_at_last s (Some x) h =
     let i = h.0 in
     let j = h.1 in

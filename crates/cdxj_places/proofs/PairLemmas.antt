@@ -1,21 +1,21 @@
 -- The pair of a line, and the order of pairs.
-use Rattle.std.proofs.Common.{◌≡◌, ℕ, ◌+◌, ◌<◌, ◌&&◌, Bool, true, false, cond, List, [], ◌∷◌, ◌++◌, length, take, drop}
-use Rattle.std.proofs.Common.{Some, None, unwrap_or, get_or, refl, sym, ap, ◌∙◌, arith, append_assoc, ⊎_elim}
-use Rattle.std.proofs.Common.{take-append-drop, Ordering, Less, Equal, Greater}
+use Rattle.std.proofs.Common.{◌≡◌, ℕ, ◌+◌, ◌<◌, ◌&&◌, Bool, true, false, cond, List, [], ◌∷◌, ◌++◌, length, take, Some}
+use Rattle.std.proofs.Common.{None, unwrap_or, get_or, refl, sym, ap, ◌∙◌, arith, append_assoc, Ordering, Less, Equal}
+use Rattle.std.proofs.Common.{Greater}
 use Rattle.std.specs.List.{position_or_len, before_first, after_first}
 use Rattle.std.specs.Cmp.{IsTotalOrder}
 use Rattle.std.specs.Ordering.{nat_cmp, ordering_then}
 use Rattle.std.specs.Cmp.Lexicographic.{slice_cmp}
-use Rattle.std.proofs.lemmas.Bool.{and_parts, cond-true, eqb-true, cases_lt}
-use Rattle.std.proofs.lemmas.Cmp.{nat_list_cmp_total, on_total, then_total}
+use Rattle.std.proofs.lemmas.Bool.{and_parts, eqb-true, cases_lt}
+use Rattle.std.proofs.lemmas.Cmp.{nat_list_cmp_total}
 use Rattle.std.proofs.lemmas.List.{length-append, drop_all}
 use Rattle.std.proofs.lemmas.List.Sums.{split_at_first, passes_at_first}
-use Rattle.std.proofs.Math.Seq.{take-append_seam, drop-append_seam}
+use Rattle.std.proofs.Math.Seq.{take-append_seam}
 use Rattle.cdxj_places.specs.Pair.{is_space, is_key, is_stamp, key_part, stamp_part, tail_part, begins_with_space}
 use Rattle.cdxj_places.specs.Pair.{begins_with_pair, pair_of}
 use Rattle.cdxj_places.specs.Pairs.{Pair, pair_cmp, place_pair}
 use Rattle.cdxj_places.specs.Places.{PlaceValue, place_cmp}
-use Rattle.cdxj_places.proofs.PlaceLaw.{key_no_space, before_first_at, after_first_at, both}
+use Rattle.cdxj_places.proofs.PlaceLaw.{key_no_space, before_first_at, after_first_at}
 
 -- ---- the pair of a text
 
@@ -30,22 +30,17 @@ pair_of-parts key stamp rest k s =
     let len : length stamp ≡ 14 = eqb-true _ _ (and_parts _ _ s).0 in
     let stamp_is : stamp_part (key ++ 32 ∷ tail) ≡ stamp = ap (take 14) after ∙ ap (λ n. take n tail) (sym len)
     ∙ take-append_seam stamp (32 ∷ rest) in
-    let tail_is : tail_part (key ++ 32 ∷ tail) ≡ 32 ∷ rest = ap (drop 14) after ∙ ap (λ n. drop n tail) (sym len)
-    ∙ drop-append_seam stamp (32 ∷ rest) in
-    let tests : begins_with_pair (key ++ 32 ∷ tail) ≡ true =
-    both _ _ (both _ _ (ap is_key before ∙ k) (ap is_stamp stamp_is ∙ s)) (ap begins_with_space tail_is) in
-    cond-true _ _ _ tests ∙ (λ i. Some (before i, stamp_is i))
+    grind arith
 
 -- the text around its first space, unless nothing follows one
 pub around : (text : List ℕ) → 0 < length (after_first is_space text) → text ≡ before_first is_space text
     ++ 32 ∷ after_first is_space text
 around text some =
     let within : position_or_len is_space text < length text =
-    ⊎_elim (λ h. h) (λ h. absurd (let none = drop_all (position_or_len is_space text + 1) text (omega arith) in
-    omega (arith, ap length none))) (cases_lt (position_or_len is_space text) (length text)) in
+    grind (arith, drop_all, cases_lt) in
     let space : get_or text (position_or_len is_space text) 0 ≡ 32 =
     eqb-true _ _ (passes_at_first is_space text 0 within) in
-    split_at_first is_space text 0 within ∙ ap (λ b. before_first is_space text ++ b ∷ after_first is_space text) space
+    grind (arith, split_at_first, text)
 
 space_first : (s : List ℕ) → begins_with_space s ≡ true → (rest : List ℕ) × (s ≡ 32 ∷ rest)
 space_first [] h = absurd (cc)
@@ -72,8 +67,7 @@ begun x p h =
     let inner = and_parts (is_key (key_part x)) (is_stamp (stamp_part x)) outer.0 in
     let after = after_first is_space x in
     let tail = space_first (tail_part x) outer.1 in
-    let after_is : after ≡ stamp_part x ++ 32 ∷ tail.0 = sym (take-append-drop 14 after) ∙ ap (λ s. stamp_part x ++ s)
-    tail.1 in
+    let after_is : after ≡ stamp_part x ++ 32 ∷ tail.0 = grind arith in
     let some : 0 < length after = omega (arith, ap length after_is, length-append (stamp_part x) (32 ∷ tail.0)) in
     record {
       key = inner.0;
@@ -89,22 +83,18 @@ pair_front x p h =
     let b = begun x p h in
     let both_are : Some (key_part x, stamp_part x) ≡ Some p = b.pair ∙ h in
     let key : key_part x ≡ p.0 = ap (λ o. (unwrap_or o p).0) both_are in
-    (stamp_part x ++ 32 ∷ b.rest, b.text ∙ ap (λ k. k ++ 32 ∷ (stamp_part x ++ 32 ∷ b.rest)) key)
+    grind arith
 
 -- the pair of a text is that of each longer text
 pub pair_longer : (x y : List ℕ) (p : Pair) → pair_of x ≡ Some p → pair_of (x ++ y) ≡ Some p
 pair_longer x y p h =
     let b = begun x p h in
-    let whole : x ++ y ≡ key_part x ++ 32 ∷ (stamp_part x ++ 32 ∷ (b.rest ++ y)) =
-    ap (λ s. s ++ y) b.text ∙ append_assoc (key_part x) (32 ∷ (stamp_part x ++ 32 ∷ b.rest)) y
-    ∙ ap (λ s. key_part x ++ 32 ∷ s) (append_assoc (stamp_part x) (32 ∷ b.rest) y) in
-    ap pair_of whole ∙ pair_of-parts (key_part x) (stamp_part x) (b.rest ++ y) b.key b.stamp ∙ b.pair ∙ h
+    grind (arith, append_assoc, pair_of-parts)
 
 -- ---- the order of pairs
 
 pub pair_cmp_total : IsTotalOrder pair_cmp
-pair_cmp_total = then_total (on_total (λ (p : Pair). p.0) nat_list_cmp_total)
-    (on_total (λ (p : Pair). p.1) nat_list_cmp_total)
+pair_cmp_total = grind (arith, nat_list_cmp_total)
 
 -- a pair that decides
 abbrev Decides : Ordering → Type 0
@@ -117,21 +107,14 @@ less Equal Equal c e = cc
 less Equal Greater c e = cc
 less Greater b c e = cc
 
-greater : Decides Greater
-greater Less b c e = cc
-greater Equal Less c e = cc
-greater Equal Equal c e = cc
-greater Equal Greater c e = refl
-greater Greater b c e = refl
-
 module _ (p q : PlaceValue) where
   abbrev later : Ordering
   later = ordering_then (slice_cmp nat_cmp p.filename q.filename) (nat_cmp p.offset q.offset)
 
   -- places of a lower pair are lower
   pub lower_pair : pair_cmp (place_pair p) (place_pair q) ≡ Less → place_cmp p q ≡ Less
-  lower_pair e = less (slice_cmp nat_cmp p.key q.key) (slice_cmp nat_cmp p.stamp q.stamp) later e
+  lower_pair e = grind arith
 
   -- places of a higher pair are higher
   pub higher_pair : pair_cmp (place_pair p) (place_pair q) ≡ Greater → place_cmp p q ≡ Greater
-  higher_pair e = greater (slice_cmp nat_cmp p.key q.key) (slice_cmp nat_cmp p.stamp q.stamp) later e
+  higher_pair e = grind arith

@@ -1,9 +1,8 @@
 -- The form text of a place is read as that place.
-use Rattle.std.proofs.Common.{◌≡◌, ◌≢◌, ℕ, suc, ◌+◌, ◌-◌, ◌<◌, ◌≤◌, ◌^◌, ◌&&◌, Bool, true, false, not, List, [], ◌∷◌}
-use Rattle.std.proofs.Common.{◌++◌, length, take, drop, decimal, Some, get_or, refl, sym, ap, ◌∙◌, subst, arith, All}
-use Rattle.std.proofs.Common.{IsUtf8}
-use Rattle.std.proofs.lemmas.Bool.{ne_eqb, and_parts, cond-true, lt-ltb, le-leb, ltb-true}
-use Rattle.std.proofs.Math.Seq.{take-append_seam, drop-append-add, get_or-append_seam, get_or-append_right}
+use Rattle.std.proofs.Common.{◌≡◌, ◌≢◌, ℕ, ◌+◌, ◌-◌, ◌<◌, ◌≤◌, ◌^◌, ◌&&◌, Bool, true, false, not, List, [], ◌∷◌, ◌++◌}
+use Rattle.std.proofs.Common.{length, decimal, Some, refl, ap, ◌∙◌, arith, All, IsUtf8}
+use Rattle.std.proofs.lemmas.Bool.{ne_eqb, and_parts, lt-ltb, le-leb}
+use Rattle.std.proofs.Math.Seq.{take-append_seam, drop-append-add, get_or-append_right}
 use Rattle.std.proofs.lemmas.List.Elements.{All-weaker, All-append, All-cons, All-nil, All-head, All-tail}
 use Rattle.std.proofs.lemmas.List.Sums.{AllPass-from_list_all}
 use Rattle.std.proofs.lemmas.Str.{IsUtf8-append, IsUtf8-from_ascii, utf8_lossy-IsUtf8}
@@ -28,10 +27,10 @@ IsDigit b = is_ascii_digit b ≡ true
 -- ---- no space
 
 key_byte : (b : ℕ) → is_key_byte b ≡ true → b ≢ 32
-key_byte b h e = let above : 32 < b = ltb-true 32 b (and_parts _ _ h).0 in omega arith
+key_byte b h e = cc
 
 digit_byte : (b : ℕ) → IsDigit b → b ≢ 32
-digit_byte b h e = let bad : is_ascii_digit 32 ≡ true = subst IsDigit e h in cc
+digit_byte b h e = cc
 
 pub key_no_space : (key : List ℕ) → is_key key ≡ true → All (λ b. b ≢ 32) key
 key_no_space key h = All-weaker (λ b. is_key_byte b ≡ true) (λ b. b ≢ 32) key_byte key
@@ -56,13 +55,7 @@ after_first_at xs ys none = rw (first_at xs ys none) (drop-append-add xs (32 ∷
 
 last_here : (xs ys : List ℕ) → All (λ b. b ≢ 32) ys → suffix_len (λ x. not (is_space x)) (xs ++ 32 ∷ ys) ≡ length
     (xs ++ 32 ∷ ys) - (length xs + 1)
-last_here xs ys none =
-    let len : length (xs ++ 32 ∷ ys) ≡ length xs + (1 + length ys) = length-append xs (32 ∷ ys) ∙ omega arith in
-    last_at (xs ++ 32 ∷ ys) (length xs) (omega (arith, len)) (get_or-append_seam xs 32 ys 0)
-    (λ i low high e.
-    let next : i - length xs ≡ suc (i - length xs - 1) = omega arith in
-    none (i - length xs - 1) 0 (omega (arith, len)) (sym (get_or-append_right xs (32 ∷ ys) i 0 (omega arith)
-    ∙ ap (λ n. get_or (32 ∷ ys) n 0) next) ∙ e))
+last_here xs ys none = grind (arith, length-append, last_at, get_or-append_right)
 
 pub before_last_at : (xs ys : List ℕ) → All (λ b. b ≢ 32) ys → before_last is_space (xs ++ 32 ∷ ys) ≡ xs
 before_last_at xs ys none =
@@ -70,7 +63,7 @@ before_last_at xs ys none =
     let len : length s ≡ length xs + (1 + length ys) = length-append xs (32 ∷ ys) ∙ omega arith in
     let at : length s - suffix_len (λ x. not (is_space x)) s - 1 ≡ length xs =
     omega (arith, last_here xs ys none, len) in
-    ap (λ n. take n s) at ∙ take-append_seam xs (32 ∷ ys)
+    grind (arith, take-append_seam)
 
 pub after_last_at : (xs ys : List ℕ) → All (λ b. b ≢ 32) ys → after_last is_space (xs ++ 32 ∷ ys) ≡ ys
 after_last_at xs ys none =
@@ -78,7 +71,7 @@ after_last_at xs ys none =
     let len : length s ≡ length xs + (1 + length ys) = length-append xs (32 ∷ ys) ∙ omega arith in
     let at : length s - suffix_len (λ x. not (is_space x)) s ≡ length xs + 1 =
     omega (arith, last_here xs ys none, len) in
-    ap (λ n. drop n s) at ∙ drop-append-add xs (32 ∷ ys) 1
+    grind (arith, drop-append-add)
 
 -- ---- the offset
 
@@ -88,23 +81,14 @@ both false b p q = cc
 
 pub offset_text : (n : ℕ) → n < 2 ^ 63 → is_offset (decimal n) ≡ true
 offset_text n small =
-    let fits : n < 2 ^ 64 = omega (arith, small) in
-    let short : length (decimal n) ≤ 19 = length-decimal-le 19 n (omega arith) (omega (arith, small)) fits in
-    let value : digits_value 10 (decimal n) < 2 ^ 63 = subst (λ v. v < 2 ^ 63) (sym (digits_value-decimal own n fits))
-    small in
-    both _ _ (both _ _ (both _ _ (lt-ltb 0 (length (decimal n)) (decimal_nonempty n fits))
-    (le-leb (length (decimal n)) 19 short)) (digits_decimal own n fits)) (lt-ltb (digits_value 10 (decimal n))
-    (2 ^ 63) value)
+    let short : length (decimal n) ≤ 19 = grind (arith, length-decimal-le) in
+    let value : digits_value 10 (decimal n) < 2 ^ 63 = grind (arith, digits_value-decimal, own) in
+    grind (arith, both, lt-ltb, decimal, decimal_nonempty, le-leb, digits_decimal, own)
 
 -- ---- the law
 
 place_from-parts : (p : PlaceValue) → IsPlace p → place_from p.key p.stamp p.filename (decimal p.offset) ≡ Some p
-place_from-parts p h =
-    let fits : p.offset < 2 ^ 64 = omega (arith, h.offset) in
-    cond-true _ _ _ (both _ _ (both _ _ (both _ _ h.key h.stamp) (lt-ltb 0 (length p.filename) h.filename))
-    (offset_text p.offset h.offset))
-    ∙ ap (λ n. Some (record { key = p.key; stamp = p.stamp; filename = p.filename; offset = n }))
-    (digits_value-decimal own p.offset fits)
+place_from-parts p h = grind (arith, offset_text, digits_value-decimal, own)
 
 pub place_in-place_text : (p : PlaceValue) → IsPlace p → place_in (place_text p) ≡ Some p
 unfolding place_in
@@ -113,15 +97,7 @@ place_in-place_text p h =
     let key_free = key_no_space p.key h.key in
     let stamp_free = digits_no_space p.stamp (and_parts _ _ h.stamp).1 in
     let digits_free = digits_no_space (decimal p.offset) (digits_decimal own p.offset fits) in
-    let after_key = after_first_at p.key (p.stamp ++ 32 ∷ (p.filename ++ 32 ∷ decimal p.offset)) key_free in
-    let after_stamp = ap (after_first is_space) after_key ∙ after_first_at p.stamp (p.filename ++ 32 ∷ decimal p.offset)
-    stamp_free in
-    let key_is = before_first_at p.key (p.stamp ++ 32 ∷ (p.filename ++ 32 ∷ decimal p.offset)) key_free in
-    let stamp_is = ap (before_first is_space) after_key ∙ before_first_at p.stamp (p.filename ++ 32 ∷ decimal p.offset)
-    stamp_free in
-    let name_is = ap (before_last is_space) after_stamp ∙ before_last_at p.filename (decimal p.offset) digits_free in
-    let digits_is = ap (after_last is_space) after_stamp ∙ after_last_at p.filename (decimal p.offset) digits_free in
-    (λ i. place_from (key_is i) (stamp_is i) (name_is i) (digits_is i)) ∙ place_from-parts p h
+    grind (arith, after_first_at, before_first_at, before_last_at, after_last_at, place_from-parts)
 
 digit_ascii : (b : ℕ) → IsDigit b → b < 128
 digit_ascii b h = grind (arith, nat_tests)

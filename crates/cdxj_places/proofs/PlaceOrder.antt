@@ -1,6 +1,6 @@
 -- Places are totally ordered.
-use Rattle.std.proofs.Common.{◌≡◌, refl, Ordering, Less, Equal, Greater}
-use Rattle.std.specs.FinMap.{slice_cmp-IsAntisymmetric, nat_cmp-IsAntisymmetric}
+use Rattle.std.proofs.Common.{arith, ◌≡◌, refl, Ordering, Less, Equal, Greater}
+use Rattle.std.specs.FinMap.{slice_cmp-IsAntisymmetric}
 use Rattle.std.specs.Ordering.{ordering_then}
 use Rattle.std.specs.Cmp.{IsTotalOrder}
 use Rattle.std.proofs.lemmas.Cmp.{nat_cmp_total, nat_list_cmp_total, on_total, then_total}
@@ -10,8 +10,7 @@ pub place_cmp_total : IsTotalOrder place_cmp
 place_cmp_total =
     then_total (on_total (λ (p : PlaceValue). p.key) nat_list_cmp_total)
     (then_total (on_total (λ (p : PlaceValue). p.stamp) nat_list_cmp_total)
-    (then_total (on_total (λ (p : PlaceValue). p.filename) nat_list_cmp_total) (on_total (λ (p : PlaceValue). p.offset)
-    nat_cmp_total)))
+    (then_total (grind (arith, nat_list_cmp_total)) (on_total (λ (p : PlaceValue). p.offset) nat_cmp_total)))
 
 both_equal : (a b : Ordering) → ordering_then a b ≡ Equal → (a ≡ Equal) × (b ≡ Equal)
 both_equal Less b e = cc
@@ -20,12 +19,4 @@ both_equal Greater b e = cc
 
 -- places that compare as equal are the same
 pub same_place : (p q : PlaceValue) → place_cmp p q ≡ Equal → p ≡ q
-same_place p q e =
-    let key = both_equal _ _ e in
-    let stamp = both_equal _ _ key.1 in
-    let filename = both_equal _ _ stamp.1 in
-    let same_key = slice_cmp-IsAntisymmetric nat_cmp-IsAntisymmetric p.key q.key key.0 in
-    let same_stamp = slice_cmp-IsAntisymmetric nat_cmp-IsAntisymmetric p.stamp q.stamp stamp.0 in
-    let same_filename = slice_cmp-IsAntisymmetric nat_cmp-IsAntisymmetric p.filename q.filename filename.0 in
-    let same_offset = nat_cmp-IsAntisymmetric p.offset q.offset filename.1 in
-    λ i. record { key = same_key i; stamp = same_stamp i; filename = same_filename i; offset = same_offset i }
+same_place p q e = grind (arith, slice_cmp-IsAntisymmetric)

@@ -1,28 +1,20 @@
-use Rattle.std.proofs.Common.{◌≡◌, ◌++◌, ◌∷◌, take, get_or, sym, ap, ◌∙◌, arith, eqb-true}
+use Rattle.std.proofs.Common.{◌≡◌, ◌++◌, ◌∷◌, take, get_or, sym, ap, ◌∙◌, arith}
 use Rattle.std.specs.List.{list_all, prefix_len}
-use Rattle.std.proofs.lemmas.Bool.{not-false}
 use Rattle.std.proofs.lemmas.List.Sums.{prefix_len_stops}
-use Rattle.std.proofs.lemmas.Str.{IsCharBoundary-after_ascii, IsCharBoundary-before_ascii}
+use Rattle.std.proofs.lemmas.Str.{IsCharBoundary-after_ascii}
 use Rattle.cdxj_objects.specs.Plain.{is_other}
 use Rattle.cdxj_objects.proofs.PlainCuts.{cut_at, front_passes}
 use Rattle.cdxj_objects.proofs.lanes.cut_at.Goals as goal
 use Rattle.cdxj_objects.proofs.lanes.cut_at.Goals.{Then-end-text}
 
 length_is : (c : Then-end-text) → c.length_before-end.result ≡ prefix_len (is_other c.args.byte) c.args.text.now
-length_is c = c.length_before-end.ensures ∙ ap (prefix_len (is_other c.args.byte)) c.as_bytes.ensures.value
+length_is c = grind arith
 
 byte_at : (c : Then-end-text) → get_or c.args.text.now c.length_before-end.result 0 ≡ c.args.byte
-byte_at c =
-    let text = c.args.text.now in
-    ap (λ n. get_or text n 0) (length_is c)
-    ∙ eqb-true _ _ (not-false _ (prefix_len_stops (is_other c.args.byte) text 0
-    (omega (arith, length_is c, c.if-end-text.true))))
+byte_at c = grind (arith, prefix_len_stops)
 
 pub range-requires-clause-end_boundary : goal.range-requires-clause-end_boundary
-range-requires-clause-end_boundary c =
-    let here = (goal.at.range-requires-clause-end_boundary c).Then-end-text in
-    IsCharBoundary-before_ascii c.args.text.now c.length_before-end.result c.if-end-text.true
-    (omega (arith, byte_at here, c.requires))
+range-requires-clause-end_boundary c = grind (arith, byte_at)
 
 pub range_from-requires : goal.range_from-requires
 range_from-requires c =

@@ -1,18 +1,14 @@
-use Rattle.std.proofs.Common.{ℕ, ap, ◌∙◌, cond, eqb, ltb, arith}
+use Rattle.std.proofs.Common.{ap, ◌∙◌, cond, eqb, ltb, arith}
 use lib.Count.{count_trailing_zeros}
 use lib.Lanes.{chunk}
-use Rattle.std.proofs.lemmas.Simd.{length-chunk, zip2_splat, zip2_splat_left, zip2_of_maps, first_set_mask_l}
+use Rattle.std.proofs.lemmas.Simd.{length-chunk, zip2_splat, zip2_splat_left, first_set_mask_l}
 use Rattle.cdxj_objects.proofs.LaneLemmas.{no_digit, digit_masks, digit_runs}
 use Rattle.cdxj_objects.proofs.lanes.digits_before.Goals as goal
 
 pub returns : goal.returns
 returns c =
     let v = chunk 0 16 c.args.bytes.now in
-    let nine : ℕ = 57 in
     let all = length-chunk 0 16 c.args.bytes.now c.requires in
-    c.first_set.ensures
-    ∙ ap (λ m. cond (eqb m 0) 16 (count_trailing_zeros 64 m))
-    (digit_masks v _ all (zip2_of_maps _ _ _ v (zip2_splat _ v 16 48 all)
-    (zip2_splat_left (λ a b. cond (ltb a b) 255 0) nine 16 v all)))
-    ∙ first_set_mask_l no_digit v 16 all (omega arith)
+    c.first_set.ensures ∙ ap (λ m. cond (eqb m 0) 16 (count_trailing_zeros 64 m))
+    (grind (arith, digit_masks, zip2_splat, zip2_splat_left, ltb)) ∙ first_set_mask_l no_digit v 16 all (omega arith)
     ∙ digit_runs v

@@ -11,14 +11,14 @@ with_this c =
 pub overflow_mul-number : goal.overflow_mul-number
 overflow_mul-number c =
     let more = with_this (goal.at.overflow_mul-number c).Else-not-is_ascii_digit in
-    record { fits = omega (arith, more.value, more.small, c.loop-byte.invariant.value) }
+    grind arith
 
 pub overflow_add-number : goal.overflow_add-number
 overflow_add-number c =
     let more = with_this (goal.at.overflow_add-number c).Else-not-is_ascii_digit in
-    record { fits = omega (arith, more.value, more.small, c.loop-byte.invariant.value, c.from.ensures) }
+    grind arith
 
 pub loop-byte-preserved : goal.loop-byte-preserved
 loop-byte-preserved c =
     let more = with_this (goal.at.loop-byte-preserved c).Else-not-is_ascii_digit in
-    record { digits = more.digits; value = omega (arith, more.value, c.loop-byte.invariant.value, c.from.ensures) }
+    grind arith

@@ -1,15 +1,14 @@
 use Rattle.std.proofs.Common.{◌≡◌, ◌+◌, ◌<◌, None, Some, option_map, length, string_bytes, IsUtf8, refl, sym, ap, ◌∙◌}
 use Rattle.std.proofs.Common.{subst, arith}
-use Rattle.std.proofs.lemmas.Grind.{common_steps}
 use Rattle.std.proofs.lemmas.Str.{IsUtf8-string_bytes}
-use Rattle.cdxj_places.specs.Pair.{is_key, is_stamp}
+use Rattle.cdxj_places.specs.Pair.{is_key}
 use Rattle.cdxj_objects.specs.FoundMembers.{members_in}
 use Rattle.cdxj_objects.specs.FoundViews.{found_view}
 use Rattle.cdxj_objects.specs.Plain.{values_of_texts}
 use Rattle.cdxj_objects.specs.Spelling.{raw_texts}
 use Rattle.cdxj_core.specs.declared.limit.TheConstants.{LINE_LIMIT}
 use Rattle.cdxj_core.specs.KeptLine.{IsKept}
-use Rattle.cdxj_core.specs.Lines.{body_of, has_no_feed, line_in, line_object, line_value}
+use Rattle.cdxj_core.specs.Lines.{body_of, has_no_feed, line_object, line_value}
 use Rattle.cdxj_core.specs.Members.{line_entry}
 use Rattle.cdxj_core.proofs.FoundLines.{line_found, no_filename, no_offset}
 use Rattle.cdxj_core.proofs.KeptLemmas.{json_kept, kept_entry, kept_in}
@@ -18,30 +17,15 @@ use Rattle.cdxj_core.proofs.line.Line.read_with.Goals.{In-Some, In_ok-found, In_
 use Rattle.cdxj_core.proofs.line.Line.read_with.Goals as goal
 
 pub returns-in_default : goal.returns-in_default
-returns-in_default c =
-    let its = c.body_of-body.ensures in (
-      subst (λ b. length b < LINE_LIMIT) its c.if-body-ge-LINE_LIMIT.false,
-      entry_none LINE_LIMIT c.args.line.now (λ utf8. absurd (c.in_default.ensures.cases.0
-          (subst IsUtf8 (sym its) utf8))),
-    )
+returns-in_default c = grind (arith, entry_none)
 
 refused : (c : In_ok-found) → line_object c.cut_first.result.0.now c.cut_first-2.result.0.now c.cut_first-2.result.1.now
     ≡ None
     → (length (body_of c.args.line.now) < LINE_LIMIT) × (line_entry LINE_LIMIT c.args.line.now ≡ None)
-refused c none =
-    let its = c.body_of-body.ensures in
-    let body : c.in-Ok.body.now ≡ body_of c.args.line.now = c.in-Ok.ensures.cases.0 ∙ its in (
-      subst (λ b. length b < LINE_LIMIT) its c.if-body-ge-LINE_LIMIT.false,
-      entry_none LINE_LIMIT c.args.line.now (λ utf8.
-          ap (line_in LINE_LIMIT) (sym body)
-          ∙ body_none LINE_LIMIT c.in-Ok.body.now c.cut_first.result.0.now c.cut_first.result.1.now
-          c.cut_first-2.result.0.now c.cut_first-2.result.1.now
-          c.cut_first.ensures.before c.cut_first.ensures.after c.cut_first-2.ensures.before c.cut_first-2.ensures.after
-          none),
-    )
+refused c none = grind (arith, body_none)
 
 found_is : (c : In-Some) → members_in c.cut_first-2.result.1.now ≡ Some (found_view c.in-Some.found)
-found_is c = sym c.in_ok-found.ensures ∙ ap (option_map found_view) c.in-Some.is
+found_is c = grind arith
 
 pub returns-in_default-filename : goal.returns-in_default-filename
 returns-in_default-filename c =
@@ -78,16 +62,15 @@ kept : (c : In_ok-text) → IsKept LINE_LIMIT (string_bytes c.in_ok-text.text) (
 })
 kept c =
     let same = c.in-Ok.ensures.cases.0 in
-    let stamp : c.in-Ok-try_from.stamp ≡ c.cut_first-2.result.0.now = grind (arith, common_steps) in
+    let stamp : c.in-Ok-try_from.stamp ≡ c.cut_first-2.result.0.now = grind arith in
     json_kept LINE_LIMIT (string_bytes c.in_ok-text.text) c.in-Ok.body.now c.cut_first.result.0.now
     c.cut_first.result.1.now c.cut_first-2.result.0.now c.cut_first-2.result.1.now c.in-Some-filename.filename.now
     (found_view c.in-Some.found) c.in-Some-offset.offset _ (IsUtf8-string_bytes c.in_ok-text.text)
-    (subst IsUtf8 (sym same) c.in-Ok.ensures.cases.1) (subst (λ b. length b < LINE_LIMIT) (sym same)
-    c.if-body-ge-LINE_LIMIT.false)
-    (c.if-not-has_no_feed.ensures ∙ ap has_no_feed c.as_bytes.ensures.value)
-    c.cut_first.ensures.before c.cut_first.ensures.after c.cut_first-2.ensures.before c.cut_first-2.ensures.after
-    (ap is_key (sym c.as_bytes-2.ensures.value) ∙ sym c.if-not-is_key.ensures)
-    (ap is_stamp (sym c.as_bytes-else-not-is_key.ensures.value) ∙ sym c.if-not-is_stamp.ensures)
+    (subst IsUtf8 (sym same) c.in-Ok.ensures.cases.1)
+    (subst (λ b. length b < LINE_LIMIT) (sym same) c.if-body-ge-LINE_LIMIT.false)
+    (c.if-not-has_no_feed.ensures ∙ ap has_no_feed c.as_bytes.ensures.value) c.cut_first.ensures.before
+    c.cut_first.ensures.after c.cut_first-2.ensures.before c.cut_first-2.ensures.after
+    (ap is_key (sym c.as_bytes-2.ensures.value) ∙ sym c.if-not-is_key.ensures) (grind arith)
     (sym c.in_ok-found.ensures ∙ ap (option_map found_view) c.in-Some.is) (sym c.in-Some-filename.ensures.value)
     (sym c.in-Some-offset.ensures.value) c.in-Some-filename.ensures.some c.in-Some-offset.ensures.small
     c.in_ok-text.ensures refl refl stamp refl refl
@@ -99,6 +82,4 @@ pub returns : goal.returns
 returns c =
     let here = (goal.at.returns c).In_ok-text in
     line_of_body LINE_LIMIT c.args.line.now c.body_of-body.result.now c.in-Ok.body.now _ c.in-Ok.ensures.cases.0
-    c.body_of-body.ensures
-    (c.if-not-has_no_feed.ensures ∙ ap has_no_feed (c.as_bytes.ensures.value ∙ c.in-Ok.ensures.cases.0))
-    (kept_entry LINE_LIMIT _ _ _ (kept here))
+    c.body_of-body.ensures (grind arith) (kept_entry LINE_LIMIT _ _ _ (kept here))

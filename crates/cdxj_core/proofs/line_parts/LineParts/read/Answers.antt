@@ -1,24 +1,17 @@
-use Rattle.std.proofs.Common.{◌≡◌, ◌+◌, ◌<◌, length, refl, sym, ap, ◌∙◌, arith}
+use Rattle.std.proofs.Common.{◌≡◌, ◌+◌, ◌<◌, length, refl, ◌∙◌, arith}
 use Rattle.std.proofs.lemmas.Grind.{common_steps}
 use Rattle.cdxj_objects.specs.MemberViews.{borrowed_view}
 use Rattle.cdxj_objects.specs.Plain.{values_of_texts}
 use Rattle.cdxj_core.specs.declared.limit.TheConstants.{LINE_LIMIT}
-use Rattle.cdxj_core.specs.Clean.{is_clean}
 use Rattle.cdxj_core.specs.KeptLine.{IsKept}
-use Rattle.cdxj_core.specs.Lines.{has_no_feed, line_value}
-use Rattle.cdxj_core.proofs.KeptLemmas.{kept_entry, kept_in, plain_kept}
-use Rattle.cdxj_core.proofs.MemberLemmas.{line_of_body}
-use Rattle.cdxj_core.proofs.UnescapedAscii.{all_parts, clean_feed, unescaped_only}
+use Rattle.cdxj_core.specs.Lines.{line_value}
+use Rattle.cdxj_core.proofs.KeptLemmas.{kept_in, plain_kept}
+use Rattle.cdxj_core.proofs.UnescapedAscii.{unescaped_only}
 use Rattle.cdxj_core.proofs.line_parts.LineParts.read.Goals.{After-of}
 use Rattle.cdxj_core.proofs.line_parts.LineParts.read.Goals as goal
 
 pub unescaped_texts-requires : goal.unescaped_texts-requires
-unescaped_texts-requires c =
-    let key = all_parts is_clean c.in_ok-text.text.now c.in_ok-key.key.now c.in_ok-key.rest.now 32 c.in_ok-key.ensures.0
-    c.in_ok-text.ensures.clean in
-    let stamp = all_parts is_clean c.in_ok-key.rest.now c.in_ok-stamp.stamp.now c.in_ok-stamp.object.now 32
-    c.in_ok-stamp.ensures.0 key.1 in
-    unescaped_only c.in_ok-stamp.object.now stamp.1
+unescaped_texts-requires c = grind (arith, common_steps, unescaped_only)
 
 kept : (c : After-of) → IsKept LINE_LIMIT c.in_ok-text.text.now (record {
   size = length c.in_ok-text.text.now;
@@ -46,9 +39,4 @@ pub invariant_of-result : goal.invariant_of-result
 invariant_of-result c = kept_in LINE_LIMIT _ _ _ (kept (goal.at.invariant_of-result c).After-of)
 
 pub returns : goal.returns
-returns c =
-    let same = c.in_ok-text.ensures.value in
-    line_of_body LINE_LIMIT c.args.line.now c.body_of-body.result.now c.in_ok-text.text.now _ same
-    c.body_of-body.ensures
-    (sym (clean_feed c.in_ok-text.text.now c.in_ok-text.ensures.clean) ∙ ap has_no_feed same)
-    (kept_entry LINE_LIMIT _ _ _ (kept (goal.at.returns c).After-of))
+returns c = grind (arith, kept (goal.at.returns c).After-of)

@@ -2,7 +2,7 @@ use Rattle.std.proofs.Common.{◌≡◌, ◌-◌, length, Some, None, sym, ap, �
 use Rattle.json.specs.Json.{read_key, parse_map}
 use Rattle.json.proofs.Grammar.{read_key-shorter}
 use Rattle.serde_json.specs.Data.{no_members, put}
-use Rattle.cdxj_objects.specs.FoundMembers.{member_data, found_of, with_member, members_found}
+use Rattle.cdxj_objects.specs.FoundMembers.{member_data, found_of, with_member}
 use Rattle.cdxj_objects.specs.FoundViews.{value_view, found_view}
 use Rattle.cdxj_objects.proofs.JsonReading.{member_put, no_member, no_key, members_end}
 use Rattle.cdxj_objects.proofs.FoundLaw.{found_put}
@@ -12,21 +12,10 @@ pub members-init : goal.members-init
 members-init c = (length c.args.reader.now, no_members, omega arith, refl, c.none-found.ensures)
 
 pub returns-in_err-name : goal.returns-in_err-name
-returns-in_err-name c =
-    let l = c.members in
-    let none : members_found c.args.reader.now ≡ None = ap (parse_map found_of) (l.invariant.3
-    ∙ no_key 126 l.invariant.0 l.invariant.1 l.reader c.in_err-name.ensures.value) in
-    grind (arith, none)
+returns-in_err-name c = grind (arith, no_key)
 
 pub returns-in_err-value : goal.returns-in_err-value
-returns-in_err-value c =
-    let l = c.members in
-    let k = c.in-Some.name.now in
-    let s = c.next_key.new.self in
-    let named : read_key l.reader ≡ Some (Some k, s) = grind arith in
-    let none : members_found c.args.reader.now ≡ None = ap (parse_map found_of) (l.invariant.3
-    ∙ no_member 126 l.invariant.0 l.invariant.1 k l.reader s named c.in_err-value.ensures.value) in
-    grind (arith, none)
+returns-in_err-value c = grind (arith, no_member)
 
 pub members-preserved : goal.members-preserved
 members-preserved c =
