@@ -8,8 +8,7 @@ pub consumed : {X : Type 0} (from to count : ℕ) (xs : List X) → count ≤ to
     → take (to - (from + count)) (drop (from + count) xs) ≡ drop count (take (to - from) (drop from xs))
 consumed from to count xs h =
     let e : to - from ≡ count + (to - (from + count)) = omega arith in
-    rw e (sym (drop-take count (to - (from + count)) (drop from xs)
-    ∙ ap (take (to - (from + count))) (drop-drop count from xs)))
+    grind (arith, drop-take, drop-drop)
 
 split : (n : ℕ) (xs ys : List ℕ) → xs ++ ys ≡ take n xs ++ (drop n xs ++ ys)
 split n xs ys = ap (λ z. z ++ ys) (sym (take-append-drop n xs)) ∙ append_assoc (take n xs) (drop n xs) ys
@@ -27,5 +26,5 @@ pub skips-read : (before mid after : Option (List ℕ)) (none held now : List �
 skips-read None mid after none held now n c e k = tt
 skips-read (Some z) None after none held now n c e k = absurd c
 skips-read (Some z) (Some w) None none held now n c e k = absurd k
-skips-read (Some z) (Some w) (Some v) [] held now n c e k = ap (λ y. held ++ y) c ∙ sym k ∙ split n now v
+skips-read (Some z) (Some w) (Some v) [] held now n c e k = grind (arith, split)
 skips-read (Some z) (Some w) (Some v) (b ∷ none) held now n c e k = absurd (omega (arith, e))

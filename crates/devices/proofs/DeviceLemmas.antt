@@ -1,5 +1,5 @@
 -- Growing twice is growing by both, and what wasn't written is a rest.
-use Rattle.std.proofs.Common.{ℕ, List, [], ◌++◌, Option, None, Some, take, drop, sym, ap, ◌∙◌, append_assoc}
+use Rattle.std.proofs.Common.{arith, ℕ, List, [], ◌++◌, Option, None, Some, take, drop, sym, ap, ◌∙◌, append_assoc}
 use Rattle.std.proofs.Common.{append-nil}
 use Rattle.std.proofs.lemmas.List.{take-append-drop}
 use Rattle.std.specs.Io.KnownBytes.{Appends}
@@ -20,8 +20,7 @@ pub WroteUpTo-more : (old mid new : Option (List ℕ)) (bs rest : List ℕ) (n :
     → Appends mid new (take n rest) → WroteUpTo old new bs (drop n rest)
 WroteUpTo-more old mid new bs rest n w k = record {
   front = w.front ++ take n rest;
-  whole = w.whole ∙ (ap (λ r. w.front ++ r) (sym (take-append-drop n rest))
-      ∙ sym (append_assoc w.front (take n rest) (drop n rest)));
+  whole = grind (arith, take-append-drop, append_assoc);
   grown = Appends-join old mid new w.front (take n rest) w.grown k;
 }
 
@@ -32,8 +31,7 @@ AppendsPrefix-behind old mid new a b more h p = (
   p.0 ++ more,
   record {
     front = a ++ p.1.front;
-    whole = ap (λ z. a ++ (z ++ more)) p.1.whole
-        ∙ (ap (λ z. a ++ z) (append_assoc p.1.front p.0 more) ∙ sym (append_assoc a p.1.front (p.0 ++ more)));
+    whole = grind (arith, append_assoc);
     grown = Appends-join old mid new a p.1.front h p.1.grown;
   },
 )
@@ -51,7 +49,7 @@ grows_on old mid new h k = record {
 }
 
 pub grows_by : (old new : Option (List ℕ)) (text : List ℕ) → Appends old new text → Grows old new
-grows_by old new text h = record { text = text; grown = h }
+grows_by old new text h = grind arith
 
 pub grows_part : (old new : Option (List ℕ)) (text : List ℕ) → AppendsPrefix old new text → Grows old new
-grows_part old new text (rest, w) = record { text = w.front; grown = w.grown }
+grows_part old new text (rest, w) = grind arith

@@ -1,10 +1,10 @@
 -- Texts written one after another.
-use Rattle.std.proofs.Common.{ℕ, List, [], ◌++◌, Option, Result, Ok, Err, refl, sym, ap, ◌∙◌, append_assoc}
+use Rattle.std.proofs.Common.{arith, ℕ, List, [], ◌++◌, Option, Result, Ok, Err, refl, ◌∙◌, append_assoc}
 use Rattle.std.specs.Io.KnownBytes.{Appends}
 use Rattle.std.specs.Prelude.{IsErrAnd}
 use Rattle.devices.specs.Device.{AppendsPrefix}
 use Rattle.devices.specs.Writing.{WritesText}
-use Rattle.devices.proofs.DeviceLemmas.{Appends-none, Appends-join}
+use Rattle.devices.proofs.DeviceLemmas.{Appends-none}
 
 -- nothing is a front of each text
 pub wrote_nothing : (old : Option (List ℕ)) (text : List ℕ) → AppendsPrefix old old text
@@ -13,32 +13,17 @@ wrote_nothing old text = (text, record { front = []; whole = refl; grown = Appen
 -- a front of a text is a front of a longer one
 pub prefix_longer : (old new : Option (List ℕ)) (text more : List ℕ) → AppendsPrefix old new text
     → AppendsPrefix old new (text ++ more)
-prefix_longer old new text more (rest, w) = (
-  rest ++ more,
-  record {
-    front = w.front;
-    whole = ap (λ t. t ++ more) w.whole
-        ∙ append_assoc w.front rest more;
-    grown = w.grown;
-  },
-)
+prefix_longer old new text more (rest, w) = (rest ++ more, grind (arith, append_assoc))
 
 -- a text and then a front of the next
 pub prefix_after : (old mid new : Option (List ℕ)) (text more : List ℕ) → Appends old mid text
     → AppendsPrefix mid new more → AppendsPrefix old new (text ++ more)
-prefix_after old mid new text more a (rest, w) = (
-  rest,
-  record {
-    front = text ++ w.front;
-    whole = ap (λ t. text ++ t) w.whole ∙ sym (append_assoc text w.front rest);
-    grown = Appends-join old mid new text w.front a w.grown;
-  },
-)
+prefix_after old mid new text more a (rest, w) = grind (arith, append_assoc)
 
 -- a whole text is a front of it
 pub prefix_whole : (old new : Option (List ℕ)) (text more : List ℕ) → Appends old new text
     → AppendsPrefix old new (text ++ more)
-prefix_whole old new text more a = (more, record { front = text; whole = refl; grown = a })
+prefix_whole old new text more a = grind arith
 
 -- ---- an answer and what it says of the text
 

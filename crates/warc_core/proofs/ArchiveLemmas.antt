@@ -1,12 +1,10 @@
 -- An archive and the texts of its records.
-use Rattle.std.proofs.Common.{◌≡◌, ◌∙◌, ℕ, ◌+◌, List, [], ◌∷◌, ◌++◌, Some, Result, Ok, Err, Option, sym, ap, refl}
-use Rattle.std.proofs.Common.{append_assoc, length, length-append, arith}
+use Rattle.std.proofs.Common.{◌≡◌, ◌∙◌, ℕ, ◌+◌, List, [], ◌∷◌, ◌++◌, Some, Ok, sym, refl, append_assoc, length}
+use Rattle.std.proofs.Common.{length-append, arith}
 use Rattle.std.specs.List.{concat}
-use Rattle.warc_core.specs.declared.fault.Cause.{Cause}
 use Rattle.warc_core.specs.HeadView.{HeadView, record_length}
-use Rattle.warc_core.specs.Record.{closing}
 use Rattle.warc_core.specs.Next.{next_at}
-use Rattle.warc_core.specs.Walk.{record_at, Walks}
+use Rattle.warc_core.specs.Walk.{Walks}
 use Rattle.warc_core.specs.RecordText.{AreTexts, IsReadFrom}
 use Rattle.warc_core.specs.Laws.{NoRecordAtDamage}
 use Rattle.warc_core.proofs.SpelledLemmas.{read-spelled, spelled-read, head-there, head-read-there, next-there}
@@ -19,7 +17,7 @@ walk-spelled limit start bytes [] end rest w = ([], tt, sym w.1)
 walk-spelled limit start bytes (h ∷ heads) end rest w =
     let r = read-spelled limit start bytes w.0 h w.1 in
     let t = walk-spelled limit (start + record_length h) w.0 heads end rest w.2 in
-    (r.1 ∷ t.0, (r.0, r.2, t.1), r.3 ∙ (ap (λ z. r.1 ++ z) t.2 ∙ sym (append_assoc r.1 (concat t.0) rest)))
+    (r.1 ∷ t.0, (r.0, r.2, t.1), grind (arith, append_assoc))
 
 -- where the records of texts end
 abbrev pub end_of : ℕ → List HeadView → ℕ
@@ -32,40 +30,26 @@ pub spelled-walk : (limit start : ℕ) (heads : List HeadView) (texts : List (Li
 spelled-walk limit start [] [] rest a = (refl, refl)
 spelled-walk limit start [] (text ∷ texts) rest a = absurd a
 spelled-walk limit start (h ∷ heads) [] rest a = absurd a
-spelled-walk limit start (h ∷ heads) (text ∷ texts) rest a = (
-  concat texts ++ rest,
-  ap (record_at limit start) (append_assoc text (concat texts) rest)
-      ∙ spelled-read limit start h a.0 text (concat texts ++ rest) a.1,
-  spelled-walk limit (start + record_length h) heads texts rest a.2,
-)
+spelled-walk limit start (h ∷ heads) (text ∷ texts) rest
+    a = grind (arith, append_assoc, spelled-read, spelled-walk limit (start + record_length h) heads texts rest a.2)
 
 -- no record begins where damage does
 pub no-record : NoRecordAtDamage
-no-record limit archive heads offset cause d h block text more e r =
-    let k : ◌≡◌ {A = Result (Option HeadView × List ℕ) Cause} (Ok (Some h, more)) (Err cause) = sym
-    (spelled-read limit offset h block text more r) ∙ (ap (record_at limit offset) (sym e) ∙ d.refused) in cc
+no-record limit archive heads offset cause d h block text more e r = grind (arith, spelled-read)
 
 record-size : (limit start : ℕ) (h : HeadView) (block text : List ℕ) → IsReadFrom limit start h block text → length text
     ≡ record_length h
-record-size limit start h block text r =
-    let t = r.is_text in
-    omega (
-      arith,
-      ap length t.spelled,
-      length-append h.raw (block ++ closing),
-      length-append block closing,
-      t.block_length,
-    )
+record-size limit start h block text r = grind (arith, length-append)
 
 -- what was walked over stands in front of what is left
 pub walk-front : (limit start : ℕ) (bytes : List ℕ) (heads : List HeadView) (end : ℕ) (rest : List ℕ)
     → Walks limit start bytes heads end rest → (front : List ℕ) × (bytes ≡ front ++ rest) × (end ≡ start + length front)
-walk-front limit start bytes [] end rest w = ([], sym w.1, omega (arith, w.0))
+walk-front limit start bytes [] end rest w = grind arith
 walk-front limit start bytes (h ∷ heads) end rest w =
     let r = read-spelled limit start bytes w.0 h w.1 in
     let f = walk-front limit (start + record_length h) w.0 heads end rest w.2 in (
       r.1 ++ f.0,
-      r.3 ∙ (ap (λ z. r.1 ++ z) f.1 ∙ sym (append_assoc r.1 f.0 rest)),
+      grind (arith, append_assoc),
       omega (arith, f.2, length-append r.1 f.0, record-size limit start h r.0 r.1 r.2),
     )
 

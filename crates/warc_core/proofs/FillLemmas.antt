@@ -1,7 +1,7 @@
 -- A block's first bytes, piece by piece.
 use Rattle.std.proofs.Common.{◌≡◌, ℕ, ◌+◌, ◌-◌, ◌≤◌, List, [], ◌++◌, Option, None, Some, Ok, Err, length, take, drop}
-use Rattle.std.proofs.Common.{refl, sym, ap, ◌∙◌, subst, arith, append_assoc, length-drop}
-use Rattle.std.proofs.lemmas.List.{length-take-le, drop_all, take-take, take_all}
+use Rattle.std.proofs.Common.{refl, ◌∙◌, subst, arith, append_assoc, length-drop}
+use Rattle.std.proofs.lemmas.List.{length-take-le, drop_all, take-take}
 use Rattle.std.proofs.lemmas.Slice.{take-put_mid}
 use Rattle.std.proofs.Math.Seq.{take-append-add}
 use borrow.Rule.Slice.PartMut.{put_mid, same_len_mid}
@@ -9,7 +9,7 @@ use Rattle.std.specs.Io.KnownBytes.{prepend_known, Consumes}
 use Rattle.warc_core.specs.declared.fault.Cause.{Cause}
 use Rattle.warc_core.specs.declared.phase.Phase.TheVariants.{Open}
 use Rattle.warc_core.specs.declared.fault.Fault.{Fault}
-use Rattle.warc_core.specs.Reading.{IsFoundAt, IsFoundIn}
+use Rattle.warc_core.specs.Reading.{IsFoundAt}
 use Rattle.warc_core.specs.Answers.{CountsRead}
 use Rattle.warc_core.specs.Record.{after_block}
 use Rattle.warc_core.specs.ReaderView.{ReaderView, StandsAt, FailedBy, state_of}
@@ -25,7 +25,7 @@ pub Consumes-join : (before mid after : Option (List ℕ)) (a b : List ℕ) → 
 Consumes-join None mid after a b h k = tt
 Consumes-join (Some z) None after a b h k = absurd h
 Consumes-join (Some z) (Some w) None a b h k = absurd k
-Consumes-join (Some z) (Some w) (Some v) a b h k = h ∙ (ap (λ t. a ++ t) k ∙ sym (append_assoc a b v))
+Consumes-join (Some z) (Some w) (Some v) a b h k = grind (arith, append_assoc)
 
 -- what is found behind the first bytes of a block is found of the block
 pub found-behind : (c : Cause) (left n : ℕ) (piece : List ℕ) (before mid : Option (List ℕ)) → length piece ≡ n
@@ -34,19 +34,14 @@ pub found-behind : (c : Cause) (left n : ℕ) (piece : List ℕ) (before mid : O
 found-behind c left n piece None mid l h k f = tt
 found-behind c left n piece (Some z) None l h k f = absurd k
 found-behind c left n piece (Some z) (Some w) l h k f =
-    let none : drop n piece ≡ [] = drop_all n piece (omega arith) in
-    let e : after_block left z ≡ after_block (left - n) w = ap (after_block left) k
-    ∙ (after_block-part left n piece w h (omega arith) ∙ ap (λ t. after_block (left - n) (t ++ w)) none) in
-    subst (IsFoundIn c) (sym e) f
+    grind (arith, drop_all n piece (omega arith), after_block-part left n piece w h (omega arith))
 
 -- the first n bytes of what was written at the place a
 pub take-written : (a k n : ℕ) (xs ys : List ℕ) → a ≤ length xs → n ≤ length ys → take (a + n) (put_mid a k xs ys)
     ≡ take a xs ++ take n ys
 take-written a k n xs ys h m =
-    let front : length (take a xs) ≡ a = length-take-le a xs h in
-    sym (take-take (a + n) (a + length ys) (put_mid a k xs ys) (omega arith))
-    ∙ (ap (take (a + n)) (take-put_mid a k xs ys (a + length ys) refl h)
-    ∙ (ap (λ i. take (i + n) (take a xs ++ ys)) (sym front) ∙ take-append-add (take a xs) ys n))
+    grind (arith, length-take-le a xs h, take-take (a + n) (a + length ys) (put_mid a k xs ys) (omega arith),
+    take-put_mid, take-append-add)
 
 -- So many bytes of a piece were filled from an open record's block.
 pub record Filling (left len : ℕ) (old now : ReaderView) (before mid : Option (List ℕ)) (size filled : ℕ)
@@ -66,47 +61,25 @@ pub Filling-more : (left len : ℕ) (old now next : ReaderView) (before mid afte
 Filling-more left len old now next before mid after size filled n piece part count count' f g l =
     let long = f.long in
     let within = f.within in
-    let most = g.bound.1 in
     let fits = f.fits in
     record {
       opened = f.opened;
       fits = f.fits;
       long = same_len_mid filled (length piece - filled) piece part
-          (omega (
-            arith,
-            length-take-le (length piece - filled) (drop filled piece)
-                (omega (arith, length-drop filled piece)),
-            length-drop filled piece,
-          )) ∙ long;
+          (omega (arith,
+              length-take-le (length piece - filled) (drop filled piece) (omega (arith, length-drop filled piece)),
+              length-drop filled piece)) ∙ long;
       within = omega arith;
-      stands = record {
-        offset_is = g.state.offset_is ∙ f.stands.offset_is;
-        phase_is = g.state.phase_is
-            ∙ ap (λ m. Open m len) (omega arith);
-      };
+      stands = grind arith;
       given = rw (take-written filled (length piece - filled) n piece part (omega arith) g.bound.1)
           (Consumes-join _ _ _ (take filled piece) (take n part) f.given g.bytes);
     }
-
-pub Filling-start : (left len : ℕ) (old : ReaderView) (before : Option (List ℕ)) (piece : List ℕ) → old.phase
-    ≡ Open left len → length piece ≤ left → Filling left len old old before before (length piece) 0 piece
-Filling-start left len old before piece e h = record {
-  opened = e;
-  fits = h;
-  long = refl;
-  within = omega arith;
-  stands = record { offset_is = refl; phase_is = e ∙ ap (λ m. Open m len) (omega arith) };
-  given = Consumes-none _;
-}
 
 pub Filling-fault : (left len : ℕ) (old now next : ReaderView) (before mid after : Option (List ℕ)) (size filled : ℕ)
     (fault : Fault) (piece part whole : List ℕ) (count k k' : ℕ) → Filling left len old now before mid size filled piece
     → GivesBlock (left - filled) len (state_of now mid k) (state_of next after k') (Err fault) part → k ≡ count
     → Fills left len (state_of old before count) (state_of next after k') (Err fault) whole
 Filling-fault left len old now next before mid after size filled fault piece part whole count k k' f g e =
-    let long = f.long in
-    let within = f.within in
-    let fits = f.fits in
     record {
       given = found-behind fault.cause left filled (take filled piece) _ _ (length-take-le filled piece (omega arith))
           (omega arith) f.given g.bytes;
@@ -114,17 +87,3 @@ Filling-fault left len old now next before mid after size filled fault piece par
       cause = g.cause;
       failures = subst (λ c. CountsRead {A = Unit {0}} (Err fault.cause) c k') e g.failures;
     }
-
-pub Filling-end : (left len : ℕ) (old now : ReaderView) (before mid : Option (List ℕ)) (size filled : ℕ)
-    (piece : List ℕ) (count k : ℕ) → Filling left len old now before mid size filled piece → filled ≡ length piece → k
-    ≡ count → Fills left len (state_of old before count) (state_of now mid k) (Ok tt) piece
-Filling-end left len old now before mid size filled piece count k f e c = record {
-  given = subst (Consumes _ _) (take_all filled piece (omega arith)) f.given;
-  state = record { offset_is = f.stands.offset_is; phase_is = f.stands.phase_is ∙ ap (λ n. Open (left - n) len) e };
-  cause = tt;
-  failures = c;
-}
-
--- the part from a place on is as long as what follows the place
-pub part_long : (a : ℕ) (xs : List ℕ) → length (take (length xs - a) (drop a xs)) ≡ length xs - a
-part_long a xs = length-take-le (length xs - a) (drop a xs) (omega (arith, length-drop a xs))

@@ -1,18 +1,16 @@
 -- What a piece of a head does to the reading of it.
 use Rattle.std.proofs.Common.{◌≡◌, ◌∙◌, ℕ, ◌+◌, ◌-◌, ◌<◌, ◌≤◌, List, [], ◌++◌, Option, None, Some, Result, Ok, Err}
-use Rattle.std.proofs.Common.{true, false, length, take, drop, nat_lt, arith, sym, ap, subst, append_assoc}
-use Rattle.std.proofs.Common.{length-append, inl, inr}
-use Rattle.std.proofs.lemmas.Bool.Decides.{nat_tests}
+use Rattle.std.proofs.Common.{true, false, length, take, drop, arith, sym, ap, append_assoc, length-append}
 use Rattle.std.specs.Io.KnownBytes.{IsAtEnd, prepend_known}
 use Rattle.std.proofs.lemmas.Grind.{common_steps}
 use Rattle.std.proofs.lemmas.List.{take-append-drop, length-take-le, take-append-le}
 use Rattle.warc_core.specs.declared.fault.Cause.{Cause}
 use Rattle.warc_core.specs.declared.fault.Cause.TheVariants as causes
 use Rattle.warc_core.specs.Reading.{Reads, IsFoundIn}
-use Rattle.warc_core.proofs.ReadingLemmas.{GoesOn, GoesOn-fault, GoesOn-done, GoesOn-held, none_known}
+use Rattle.warc_core.proofs.ReadingLemmas.{GoesOn, GoesOn-done, GoesOn-held}
 use Rattle.warc_core.specs.HeadText.{has_version, is_closed, head_text, IsFoundHead, IsOpenAfter, ClosesFirst}
 use Rattle.warc_core.proofs.HeadLemmas.{going, going-end, going-full, going-found, going-wrong, going-gathered}
-use Rattle.warc_core.proofs.HeadLemmas.{take-behind, has_version-longer, which}
+use Rattle.warc_core.proofs.HeadLemmas.{take-behind, has_version-longer}
 
 -- a fault that the held bytes show
 fault_held : {A : Type 0} (f g : List ℕ → Result (A × List ℕ) Cause) (c : Cause) (before left after : Option (List ℕ))
@@ -20,7 +18,7 @@ fault_held : {A : Type 0} (f g : List ℕ → Result (A × List ℕ) Cause) (c :
     → Reads f (Err c) before after
 fault_held f g c None left after b h e = tt
 fault_held f g c (Some z) None after b h e = absurd h
-fault_held f g c (Some z) (Some w) after b h e = subst (IsFoundIn c) (sym h) (e w)
+fault_held f g c (Some z) (Some w) after b h e = grind arith
 
 split_at : (count : ℕ) (b z : List ℕ) → b ++ z ≡ take count b ++ (drop count b ++ z)
 split_at count b z = ap (λ x. x ++ z) (sym (take-append-drop count b)) ∙ append_assoc (take count b) (drop count b) z
@@ -30,11 +28,7 @@ take-take-le m n xs h = grind (arith, common_steps)
 
 -- a front of what agrees
 pub has_version-front : (xs more : List ℕ) → has_version (xs ++ more) ≡ true → has_version xs ≡ true
-has_version-front xs more h =
-    elim (which (has_version xs)) [
-      | inl t ↦ t
-      | inr f ↦ absurd (let e = has_version-longer xs more f in let k : true ≡ false = sym h ∙ e in cc)
-    ]
+has_version-front xs more h = grind (arith, has_version-longer)
 
 pub has_version-take : (n : ℕ) (xs : List ℕ) → has_version xs ≡ true → has_version (take n xs) ≡ true
 has_version-take n xs h = has_version-front (take n xs) (drop n xs) (ap has_version (take-append-drop n xs) ∙ h)
@@ -44,15 +38,12 @@ module _ (limit : ℕ) (seen b : List ℕ) (before left : Option (List ℕ)) (un
   -- the input ends
   pub head-short : (after : Option (List ℕ)) → has_version seen ≡ true → length seen < limit → b ≡ [] → IsAtEnd left
       → Reads (head_text limit) (Err causes.ShortHead) before after
-  head-short after agree room e h =
-      GoesOn-fault (head_text limit) (going limit seen) causes.ShortHead before (prepend_known b left) after same
-      (λ w k. ap (going limit seen) (none_known b left w e h k) ∙ going-end limit seen unclosed agree room)
+  head-short after agree room e h = grind (arith, going-end)
 
   -- no room is left
   pub head-long : (after : Option (List ℕ)) → has_version seen ≡ true → length seen ≡ limit → 10 ≤ limit
       → Reads (head_text limit) (Err causes.HeadTooLong) before after
-  head-long after agree full ten = GoesOn-fault (head_text limit) (going limit seen) causes.HeadTooLong before
-      (prepend_known b left) after same (λ w k. going-full limit seen w unclosed agree full ten)
+  head-long after agree full ten = grind (arith, going-full)
 
   -- a piece more shows another version
   pub head-wrong : (after : Option (List ℕ)) (count : ℕ) (new : List ℕ) → new ≡ seen ++ take count b → has_version new
@@ -102,34 +93,17 @@ open-or-more : (seen piece new : List ℕ) (end : ℕ) → new ≡ seen ++ piece
     → ((n : ℕ) → n ≤ length seen → is_closed (take n seen) ≡ false)
     → ((n : ℕ) → length seen < n → n < end → is_closed (take n new) ≡ false) → (n : ℕ) → n < end
     → is_closed (take n new) ≡ false
-open-or-more seen piece new end e before behind n l =
-    elim (which (nat_lt (length seen) n)) [
-      | inl t ↦ behind n (grind (arith, nat_tests)) l
-      | inr f ↦ (let within : n ≤ length seen = grind (arith, nat_tests) in ap (λ t. is_closed (take n t)) e
-          ∙ (ap is_closed (take-append-le n seen piece within) ∙ before n within))
-    ]
+open-or-more seen piece new end e before behind n l = grind (arith, take-append-le)
 
 -- no front of what was seen ends a head, nor does one of what was added
 pub open-more : (seen piece new : List ℕ) → new ≡ seen ++ piece
     → ((n : ℕ) → n ≤ length seen → is_closed (take n seen) ≡ false) → IsOpenAfter new (length seen) → (n : ℕ)
     → n ≤ length new → is_closed (take n new) ≡ false
-open-more seen piece new e before after n l = open-or-more seen piece new (length new + 1) e before
-    (λ k p q. after k p (omega (arith, q))) n (omega (arith, l))
+open-more seen piece new e before after n l = grind (arith, open-or-more)
 
 -- the text that was gathered is a head
 pub head-is-found : (limit : ℕ) (seen b new : List ℕ) (count end : ℕ) → count ≤ length b → new ≡ seen ++ take count b
     → ((n : ℕ) → n ≤ length seen → is_closed (take n seen) ≡ false) → ClosesFirst new (length seen) end
     → length seen + count ≤ limit → has_version new ≡ true → IsFoundHead limit (take end new)
 head-is-found limit seen b new count end c e before h room agree =
-    let within = h.within in
-    let size : length (take end new) ≡ end = length-take-le end new within in
-    let long : length new ≡ length seen + count = ap length e
-    ∙ (length-append seen (take count b) ∙ ap (λ n. length seen + n) (length-take-le count b c)) in
-    record {
-      version = has_version-take end new agree;
-      closed = h.closed;
-      first = λ n l. let small : n < end = omega (arith, size, l) in
-          ap is_closed (take-take-le n end new (omega (arith, small)))
-          ∙ open-or-more seen (take count b) new end e before h.first n small;
-      small = omega (arith, size, within, long, room);
-    }
+    grind (arith, length-take-le, length-append, has_version-take, take-take-le, open-or-more)

@@ -1,17 +1,13 @@
 -- The text of a head, found a byte at a time.
 use Rattle.std.proofs.Common.{◌≡◌, ℕ, zero, suc, ◌+◌, ◌-◌, ◌<◌, ◌≤◌, Bool, true, false, ◌&&◌, ◌||◌, nat_lt, List, []}
-use Rattle.std.proofs.Common.{◌∷◌, ◌++◌, Option, None, Some, Result, Ok, Err, length, take, drop, refl, sym, ap, ◌∙◌}
-use Rattle.std.proofs.Common.{arith, append_assoc, append-nil, length-append, if◌then◌else◌, ◌==◌, ◌⊎◌, inl, inr}
+use Rattle.std.proofs.Common.{◌∷◌, ◌++◌, Option, None, Some, Result, Ok, Err, length, take, refl, sym, ap, ◌∙◌, arith}
+use Rattle.std.proofs.Common.{append_assoc, append-nil, length-append, if◌then◌else◌, ◌==◌, ◌⊎◌, inl, inr}
 use Rattle.std.proofs.lemmas.Bool.Decides.{nat_tests}
-use Rattle.std.proofs.Math.Seq.{take-nil, drop-append_seam}
+use Rattle.std.proofs.Math.Seq.{drop-append_seam}
 use Rattle.warc_core.specs.declared.fault.Cause.{Cause}
 use Rattle.warc_core.specs.declared.fault.Cause.TheVariants as causes
 use Rattle.warc_core.specs.HeadText.{has_version, agrees, version_1_1, version_1_0, is_closed, shortest, found_head}
 use Rattle.warc_core.specs.HeadText.{head_text}
-
-and_keeps_false : (t a b : Bool) → (a ≡ false → b ≡ false) → (t && a) ≡ false → (t && b) ≡ false
-and_keeps_false true a b f h = f h
-and_keeps_false false a b f h = refl
 
 and_keeps_true : (t a b : Bool) → (a ≡ true → b ≡ true) → (t && a) ≡ true → (t && b) ≡ true
 and_keeps_true true a b f h = f h
@@ -19,7 +15,7 @@ and_keeps_true false a b f h = h
 
 pub and_both : (t a : Bool) → (t && a) ≡ true → (t ≡ true) × (a ≡ true)
 and_both true a h = (refl, h)
-and_both false a h = absurd (let e : false ≡ true = h in cc)
+and_both false a h = grind arith
 
 pub which : (b : Bool) → (b ≡ true) ⊎ (b ≡ false)
 which true = inl refl
@@ -27,10 +23,9 @@ which false = inr refl
 
 -- a text that disagrees does so however it goes on
 pub agrees-longer : (xs more ys : List ℕ) → agrees xs ys ≡ false → agrees (xs ++ more) ys ≡ false
-agrees-longer [] more ys h = absurd (let e : true ≡ false = h in cc)
-agrees-longer (x ∷ xs) more [] h = absurd (let e : true ≡ false = h in cc)
-agrees-longer (x ∷ xs) more (y ∷ ys) h = and_keeps_false (x == y) (agrees xs ys) (agrees (xs ++ more) ys)
-    (agrees-longer xs more ys) h
+agrees-longer [] more ys h = grind arith
+agrees-longer (x ∷ xs) more [] h = grind arith
+agrees-longer (x ∷ xs) more (y ∷ ys) h = grind (arith, agrees-longer xs more ys)
 
 agrees-nil : (xs : List ℕ) → agrees xs [] ≡ true
 agrees-nil [] = refl
@@ -38,10 +33,10 @@ agrees-nil (x ∷ xs) = refl
 
 -- a text that begins with a version line
 pub begins_1_1 : (text rest : List ℕ) → text ≡ version_1_1 ++ rest → has_version text ≡ true
-begins_1_1 text rest e = ap has_version e ∙ ap (λ t. t || agrees (version_1_1 ++ rest) version_1_0) (agrees-nil rest)
+begins_1_1 text rest e = grind (arith, agrees-nil)
 
 pub begins_1_0 : (text rest : List ℕ) → text ≡ version_1_0 ++ rest → has_version text ≡ true
-begins_1_0 text rest e = ap has_version e ∙ ap (λ t. agrees (version_1_0 ++ rest) version_1_1 || t) (agrees-nil rest)
+begins_1_0 text rest e = grind (arith, agrees-nil)
 
 -- a text that agrees to the other's end does so however it goes on
 pub agrees-whole : (xs more ys : List ℕ) → agrees xs ys ≡ true → length ys ≤ length xs → agrees (xs ++ more) ys ≡ true
@@ -57,10 +52,7 @@ agrees-front [] ys h l = refl
 agrees-front (x ∷ xs) [] h l = absurd (omega arith)
 agrees-front (x ∷ xs) (y ∷ ys) h l =
     let p = and_both (x == y) (agrees xs ys) h in
-    let t = p.0 in
-    let e : x ≡ y = grind (arith, nat_tests) in
-    let r = agrees-front xs ys p.1 (omega arith) in
-    cc
+    grind (arith, agrees-front xs ys p.1 (omega arith))
 
 -- a text that agrees and is as long begins with the other
 pub agrees-begins : (xs ys : List ℕ) → agrees xs ys ≡ true → length ys ≤ length xs → (more : List ℕ) × (xs ≡ ys ++ more)
@@ -68,11 +60,7 @@ agrees-begins xs [] h l = (xs, refl)
 agrees-begins [] (y ∷ ys) h l = absurd (omega arith)
 agrees-begins (x ∷ xs) (y ∷ ys) h l =
     let p = and_both (x == y) (agrees xs ys) h in
-    let t = p.0 in
-    let e : x ≡ y = grind (arith, nat_tests) in
-    let r = agrees-begins xs ys p.1 (omega arith) in
-    let q = r.1 in
-    (r.0, cc)
+    grind (arith, agrees-begins xs ys p.1 (omega arith))
 
 -- no front of a version line ends a head, nor does one more byte
 open_1_1 : (n : ℕ) → n < 11 → is_closed (take n version_1_1) ≡ false
@@ -103,61 +91,33 @@ open_1_0 (suc (suc (suc (suc (suc (suc (suc (suc (suc zero))))))))) h = refl
 open_1_0 (suc (suc (suc (suc (suc (suc (suc (suc (suc (suc zero)))))))))) h = refl
 open_1_0 (suc (suc (suc (suc (suc (suc (suc (suc (suc (suc (suc n))))))))))) h = absurd (omega arith)
 
-one_more_1_1 : (more : List ℕ) → length more ≡ 1 → is_closed (version_1_1 ++ more) ≡ false
-one_more_1_1 [] h = absurd (omega arith)
-one_more_1_1 (b ∷ []) h = refl
-one_more_1_1 (b ∷ c ∷ more) h = absurd (omega arith)
-
 closed-long_1_1 : (seen : List ℕ) → is_closed seen ≡ true → agrees seen version_1_1 ≡ true → 12 ≤ length seen
 closed-long_1_1 seen h a =
     elim (which (nat_lt (length seen) 12)) [
-      | inl t ↦ (let l : length seen < 12 = grind (arith, nat_tests) in
-          elim (which (nat_lt (length seen) 11)) [
-            | inl u ↦ (let m : length seen < 11 = grind (arith, nat_tests) in
+      | inl t ↦ (elim (which (nat_lt (length seen) 11)) [
+            | inl u ↦ (let m : length seen < 11 = grind arith in
                 absurd (let f = open_1_1 (length seen) m in let e = agrees-front seen version_1_1 a (omega arith) in
-                let g : is_closed seen ≡ false = ap is_closed e ∙ f in let k : true ≡ false = sym h ∙ g in cc))
-            | inr u ↦ (let m : 11 ≤ length seen = grind (arith, nat_tests) in
-                let r = agrees-begins seen version_1_1 a (omega arith) in
-                let len : length seen ≡ 10 + length r.0 = ap length r.1 ∙ length-append version_1_1 r.0 in
-                absurd (let g : is_closed seen ≡ false = ap is_closed r.1
-                ∙ one_more_1_1 r.0 (omega (arith, len)) in let k : true ≡ false = sym h ∙ g in cc))
+                cc))
+            | inr u ↦ grind arith
           ])
-      | inr f ↦ grind (arith, nat_tests)
+      | inr f ↦ grind arith
     ]
-
-one_more_1_0 : (more : List ℕ) → length more ≡ 1 → is_closed (version_1_0 ++ more) ≡ false
-one_more_1_0 [] h = absurd (omega arith)
-one_more_1_0 (b ∷ []) h = refl
-one_more_1_0 (b ∷ c ∷ more) h = absurd (omega arith)
 
 closed-long_1_0 : (seen : List ℕ) → is_closed seen ≡ true → agrees seen version_1_0 ≡ true → 12 ≤ length seen
 closed-long_1_0 seen h a =
     elim (which (nat_lt (length seen) 12)) [
-      | inl t ↦ (let l : length seen < 12 = grind (arith, nat_tests) in
-          elim (which (nat_lt (length seen) 11)) [
-            | inl u ↦ (let m : length seen < 11 = grind (arith, nat_tests) in
+      | inl t ↦ (elim (which (nat_lt (length seen) 11)) [
+            | inl u ↦ (let m : length seen < 11 = grind arith in
                 absurd (let f = open_1_0 (length seen) m in let e = agrees-front seen version_1_0 a (omega arith) in
-                let g : is_closed seen ≡ false = ap is_closed e ∙ f in let k : true ≡ false = sym h ∙ g in cc))
-            | inr u ↦ (let m : 11 ≤ length seen = grind (arith, nat_tests) in
-                let r = agrees-begins seen version_1_0 a (omega arith) in
-                let len : length seen ≡ 10 + length r.0 = ap length r.1 ∙ length-append version_1_0 r.0 in
-                absurd (let g : is_closed seen ≡ false = ap is_closed r.1
-                ∙ one_more_1_0 r.0 (omega (arith, len)) in let k : true ≡ false = sym h ∙ g in cc))
+                cc))
+            | inr u ↦ grind arith
           ])
-      | inr f ↦ grind (arith, nat_tests)
+      | inr f ↦ grind arith
     ]
-
-or_false : (a b : Bool) → (a || b) ≡ false → (a ≡ false) × (b ≡ false)
-or_false true b h = absurd (let e : true ≡ false = h in cc)
-or_false false b h = (refl, h)
 
 pub or_true : (a b : Bool) → (a || b) ≡ true → (a ≡ true) ⊎ (b ≡ true)
 or_true true b h = inl refl
 or_true false b h = inr h
-
-or_left : (a b : Bool) → a ≡ true → (a || b) ≡ true
-or_left true b h = refl
-or_left false b h = absurd (let e : false ≡ true = h in cc)
 
 or_right : (a b : Bool) → b ≡ true → (a || b) ≡ true
 or_right true b h = refl
@@ -165,28 +125,14 @@ or_right false b h = h
 
 -- the same of both versions
 pub has_version-longer : (xs more : List ℕ) → has_version xs ≡ false → has_version (xs ++ more) ≡ false
-has_version-longer xs more h =
-    let p = or_false (agrees xs version_1_1) (agrees xs version_1_0) h in
-    let a = agrees-longer xs more version_1_1 p.0 in
-    let b = agrees-longer xs more version_1_0 p.1 in
-    rw (a, b) refl
+has_version-longer xs more h = grind (arith, agrees-longer)
 
 pub has_version-whole : (xs more : List ℕ) → has_version xs ≡ true → 10 ≤ length xs → has_version (xs ++ more) ≡ true
-has_version-whole xs more h l =
-    elim (or_true (agrees xs version_1_1) (agrees xs version_1_0) h) [
-      | inl a ↦ or_left (agrees (xs ++ more) version_1_1) (agrees (xs ++ more) version_1_0)
-          (agrees-whole xs more version_1_1 a l)
-      | inr b ↦ or_right (agrees (xs ++ more) version_1_1) (agrees (xs ++ more) version_1_0)
-          (agrees-whole xs more version_1_0 b l)
-    ]
+has_version-whole xs more h l = grind (arith, agrees-whole, or_right)
 
 -- what ends a head and agrees has the whole version line, and more
 pub closed-long : (seen : List ℕ) → is_closed seen ≡ true → has_version seen ≡ true → 12 ≤ length seen
-closed-long seen h a =
-    elim (or_true (agrees seen version_1_1) (agrees seen version_1_0) a) [
-      | inl b ↦ closed-long_1_1 seen h b
-      | inr b ↦ closed-long_1_0 seen h b
-    ]
+closed-long seen h a = grind (arith, closed-long_1_1, closed-long_1_0)
 
 shortest-now : (test : List ℕ → Bool) (seen bytes : List ℕ) → test seen ≡ true → shortest test seen bytes ≡ Some seen
 unfolding shortest
@@ -206,17 +152,9 @@ shortest-more test seen bytes b h = rw h refl
 abbrev pub judged : ℕ → List ℕ → Option (List ℕ) → Result (List ℕ × List ℕ) Cause
 judged limit text found = if has_version text then found_head limit text found else Err causes.Version
 
-judged-some : (limit : ℕ) (text head : List ℕ) → has_version text ≡ true → judged limit text (Some head)
-    ≡ Ok (head, drop (length head) text)
-judged-some limit text head a = rw a refl
-
 judged-short : (limit : ℕ) (text : List ℕ) → has_version text ≡ true → length text < limit → judged limit text None
     ≡ Err causes.ShortHead
-judged-short limit text a l = let t : nat_lt (length text) limit ≡ true = grind (arith, nat_tests) in rw (a, t) refl
-
-judged-full : (limit : ℕ) (text : List ℕ) → has_version text ≡ true → limit ≤ length text → judged limit text None
-    ≡ Err causes.HeadTooLong
-judged-full limit text a l = let t : nat_lt (length text) limit ≡ false = grind (arith, nat_tests) in rw (a, t) refl
+judged-short limit text a l = grind arith
 
 -- the head's text, of which some bytes were seen
 unfoldable pub going : ℕ → List ℕ → List ℕ → Result (List ℕ × List ℕ) Cause
@@ -224,60 +162,38 @@ going limit seen bytes = judged limit (seen ++ bytes) (shortest is_closed seen (
 
 pub going-start : (limit : ℕ) (bytes : List ℕ) → head_text limit bytes ≡ going limit [] bytes
 unfolding head_text going
-going-start limit bytes =
-    let e : limit ≡ limit - 0 = omega arith in
-    ap (λ m. judged limit bytes (shortest is_closed [] (take m bytes))) e
+going-start limit bytes = grind arith
 
 pub going-more : (limit : ℕ) (seen bytes : List ℕ) (b : ℕ) → is_closed seen ≡ false → length seen < limit
     → going limit seen (b ∷ bytes) ≡ going limit (seen ++ b ∷ []) bytes
 unfolding going
-going-more limit seen bytes b h l =
-    let n = limit - length (seen ++ b ∷ []) in
-    let e : limit - length seen ≡ suc n = omega (arith, length-append seen (b ∷ [])) in
-    let s : shortest is_closed seen (take (limit - length seen) (b ∷ bytes))
-    ≡ shortest is_closed (seen ++ b ∷ []) (take n bytes) =
-    ap (λ m. shortest is_closed seen (take m (b ∷ bytes))) e ∙ shortest-more is_closed seen (take n bytes) b h in
-    let a : seen ++ (b ∷ bytes) ≡ (seen ++ b ∷ []) ++ bytes = sym (append_assoc seen (b ∷ []) bytes) in
-    ap (λ t. judged limit t (shortest is_closed seen (take (limit - length seen) (b ∷ bytes)))) a
-    ∙ ap (judged limit ((seen ++ b ∷ []) ++ bytes)) s
+going-more limit seen bytes b h l = grind (arith, length-append, shortest-more, append_assoc)
 
 pub going-end : (limit : ℕ) (seen : List ℕ) → is_closed seen ≡ false → has_version seen ≡ true → length seen < limit
     → going limit seen [] ≡ Err causes.ShortHead
 unfolding going
-going-end limit seen h a l =
-    ap (judged limit (seen ++ [])) (ap (shortest is_closed seen) (take-nil (limit - length seen))
-    ∙ shortest-none is_closed seen h)
-    ∙ (ap (λ t. judged limit t None) (append-nil seen) ∙ judged-short limit seen a l)
+going-end limit seen h a l = grind (arith, shortest-none, append-nil, judged-short)
 
 pub going-full : (limit : ℕ) (seen bytes : List ℕ) → is_closed seen ≡ false → has_version seen ≡ true → length seen
     ≡ limit → 10 ≤ limit → going limit seen bytes ≡ Err causes.HeadTooLong
 unfolding going
-going-full limit seen bytes h a l m =
-    let e : limit - length seen ≡ 0 = omega arith in
-    ap (judged limit (seen ++ bytes)) (ap (λ n. shortest is_closed seen (take n bytes)) e
-    ∙ shortest-none is_closed seen h)
-    ∙ judged-full limit (seen ++ bytes) (has_version-whole seen bytes a (omega arith))
-    (omega (arith, length-append seen bytes))
+going-full limit seen bytes h a l m = grind (arith, shortest-none, has_version-whole, length-append)
 
 pub going-found : (limit : ℕ) (seen bytes : List ℕ) → is_closed seen ≡ true → has_version seen ≡ true
     → going limit seen bytes ≡ Ok (seen, bytes)
 unfolding going
-going-found limit seen bytes h a =
-    ap (judged limit (seen ++ bytes)) (shortest-now is_closed seen (take (limit - length seen) bytes) h)
-    ∙ (judged-some limit (seen ++ bytes) seen
-    (has_version-whole seen bytes a (let l = closed-long seen h a in omega (arith, l)))
-    ∙ ap (λ r. Ok (seen, r)) (drop-append_seam seen bytes))
+going-found limit seen bytes h a = grind (arith, shortest-now, has_version-whole, closed-long, drop-append_seam)
 
 pub take-behind : (seen w : List ℕ) (j : ℕ) → take (length seen + j) (seen ++ w) ≡ seen ++ take j w
-take-behind [] w j = ap (λ n. take n w) (let e : 0 + j ≡ j = omega arith in e)
+take-behind [] w j = grind arith
 take-behind (x ∷ seen) w j =
     let e : length (x ∷ seen) + j ≡ suc (length seen + j) = omega arith in
-    ap (λ n. take n (x ∷ (seen ++ w))) e ∙ ap (λ t. x ∷ t) (take-behind seen w j)
+    grind (arith, take-behind seen w j)
 
 -- a piece of which no front but the last can end a head
 pub going-piece : (limit : ℕ) (seen w bytes : List ℕ) → ((j : ℕ) → j < length w → is_closed (seen ++ take j w) ≡ false)
     → length seen + length w ≤ limit → going limit seen (w ++ bytes) ≡ going limit (seen ++ w) bytes
-going-piece limit seen [] bytes u l = ap (λ s. going limit s bytes) (sym (append-nil seen))
+going-piece limit seen [] bytes u l = grind (arith, append-nil)
 going-piece limit seen (b ∷ w) bytes u l =
     let first : is_closed seen ≡ false = ap is_closed (sym (append-nil seen)) ∙ u 0 (omega arith) in
     going-more limit seen (w ++ bytes) b first (omega arith)
@@ -290,10 +206,7 @@ going-piece limit seen (b ∷ w) bytes u l =
 pub going-wrong : (limit : ℕ) (seen w bytes : List ℕ) → has_version (seen ++ w) ≡ false → going limit seen (w ++ bytes)
     ≡ Err causes.Version
 unfolding going
-going-wrong limit seen w bytes h =
-    let e : has_version (seen ++ (w ++ bytes)) ≡ false = ap has_version (sym (append_assoc seen w bytes))
-    ∙ has_version-longer (seen ++ w) bytes h in
-    rw e refl
+going-wrong limit seen w bytes h = grind (arith, append_assoc, has_version-longer)
 
 -- where no front of the text that was gathered from `seen` and a piece ends a head before the last
 pub going-gathered : (limit : ℕ) (seen w bytes : List ℕ) → is_closed seen ≡ false

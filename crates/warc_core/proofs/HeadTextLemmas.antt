@@ -6,13 +6,11 @@ use Rattle.warc_head.specs.declared.fault.HeadFault.{HeadFault}
 use Rattle.warc_head.specs.Answers.{◌>>=◌}
 use Rattle.warc_head.specs.Fields.{Field, fields_of}
 use Rattle.warc_head.specs.Lines.{line_end}
-use Rattle.warc_head.specs.Mandatory.{each_once}
-use Rattle.warc_head.specs.Parts.{HeadParts, parts_in, field_lines_in, length_in, stamp_in, kind_in}
+use Rattle.warc_head.specs.Parts.{HeadParts, parts_in, field_lines_in}
 use Rattle.warc_head.specs.Parts as parts
 use Rattle.warc_head.proofs.FoldingLemmas.{fields_spelled}
 use Rattle.warc_head.proofs.SpellingLemmas.{body}
-use Rattle.warc_core.specs.declared.fault.Cause.{Cause}
-use Rattle.warc_core.specs.Head.{parts_or_cause, by_cause, cause_of}
+use Rattle.warc_core.specs.Head.{parts_or_cause}
 use Rattle.warc_core.specs.HeadText.{version_1_1, version_1_0, agrees, has_version, is_closed, IsFoundHead}
 use Rattle.warc_core.specs.RecordText.{IsVersionLine, IsRecordHead}
 use Rattle.warc_core.proofs.ClosingLemmas.{closed-last}
@@ -23,43 +21,26 @@ pub record IsFoundOf (limit : ℕ) (parts : HeadParts) (text : List ℕ) : Type 
   pub found : IsFoundHead limit text
   pub says : parts_or_cause text ≡ Ok parts
 
-by_cause-ok : (r : Result HeadParts HeadFault) (p : HeadParts) → by_cause r ≡ Ok p → r ≡ Ok p
-by_cause-ok (Ok q) p h = let e : ◌≡◌ {A = Result HeadParts Cause} (Ok q) (Ok p) = h in let same : q
-    ≡ p = cc in ap Ok same
-by_cause-ok (Err f) p h = absurd (let e : ◌≡◌ {A = Result HeadParts Cause} (Err (cause_of f)) (Ok p) = h in cc)
-
 bind_ok : {A B : Type 0} (r : Result A HeadFault) (f : A → Result B HeadFault) (y : B) → (r >>= f) ≡ Ok y → (x : A)
     × (r ≡ Ok x) × (f x ≡ Ok y)
 bind_ok {A} {B} (Ok x) f y h = (x, refl, h)
-bind_ok {A} {B} (Err c) f y h = absurd (let e : ◌≡◌ {A = Result B HeadFault} (Err c) (Ok y) = h in cc)
+bind_ok {A} {B} (Err c) f y h = grind arith
 
 -- parts have the fields that say them
 parts_in-fields : (fields : List Field) (p : HeadParts) → parts_in fields ≡ Ok p → p.fields ≡ fields
 unfolding parts_in
-parts_in-fields fields p h =
-    let a = bind_ok (each_once fields) _ p h in
-    let b = bind_ok (length_in fields) _ p a.2 in
-    let c = bind_ok (stamp_in fields) _ p b.2 in
-    let d = bind_ok (kind_in fields) _ p c.2 in
-    let made : HeadParts = record { kind = d.0; stamp = c.0; length = b.0; fields = fields } in
-    let e : ◌≡◌ {A = Result HeadParts HeadFault} (Ok made) (Ok p) = d.2 in
-    let same : made ≡ p = cc in
-    ap (λ q. q.fields) (sym same)
+parts_in-fields fields p h = grind arith
 
 -- what is read of a text is read of its fields
 read-in : (raw : List ℕ) (p : HeadParts) → parts_or_cause raw ≡ Ok p → (fields_of (field_lines_in raw) ≡ Ok p.fields)
     × (parts_in p.fields ≡ Ok p)
 unfolding parts_or_cause parts.parts_of
-read-in raw p h =
-    let e = bind_ok (fields_of (field_lines_in raw)) parts_in p
-    (by_cause-ok (fields_of (field_lines_in raw) >>= parts_in) p h) in
-    let same = parts_in-fields e.0 p e.2 in
-    (e.1 ∙ ap Ok (sym same), ap parts_in same ∙ e.2)
+read-in raw p h = grind (arith, parts_in-fields)
 
 read-back : (raw : List ℕ) (p : HeadParts) → fields_of (field_lines_in raw) ≡ Ok p.fields → parts_in p.fields ≡ Ok p
     → parts_or_cause raw ≡ Ok p
 unfolding parts_or_cause parts.parts_of
-read-back raw p f h = ap (λ r. by_cause (r >>= parts_in)) f ∙ ap by_cause h
+read-back raw p f h = grind arith
 
 -- a text with a version begins with a version line
 version-begins : (text : List ℕ) → has_version text ≡ true → 10 ≤ length text → (version : List ℕ) × (more : List ℕ)
@@ -104,10 +85,8 @@ found-spelled limit raw p f h =
 -- a version line has ten bytes, and is one however it goes on
 version-found : (version more : List ℕ) → IsVersionLine version → (length version ≡ 10)
     × (has_version (version ++ more) ≡ true)
-version-found version more (inl e) = let long : length version
-    ≡ 10 = ap length e in (long, has_version-whole version more (ap has_version e) (omega (arith, long)))
-version-found version more (inr e) = let long : length version
-    ≡ 10 = ap length e in (long, has_version-whole version more (ap has_version e) (omega (arith, long)))
+version-found version more (inl e) = grind (arith, has_version-whole)
+version-found version more (inr e) = grind (arith, has_version-whole)
 
 pub spelled-found : (limit : ℕ) (raw : List ℕ) (p : HeadParts) → IsRecordHead limit p raw → IsFoundOf limit p raw
 spelled-found limit raw p h =
@@ -115,11 +94,6 @@ spelled-found limit raw p h =
     let v = version-found t.version (t.body ++ line_end) t.is_version in
     let whole : field_lines_in raw ≡ t.body = ap field_lines_in t.spelled ∙ body t.version t.body v.0 in
     record {
-      found = record {
-        version = ap has_version t.spelled ∙ v.1;
-        closed = t.closed;
-        first = t.first;
-        small = t.small;
-      };
+      found = grind arith;
       says = read-back raw p (ap fields_of whole ∙ (fields_spelled t.body p.fields).1 t.is_body) h.says;
     }

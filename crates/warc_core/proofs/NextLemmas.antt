@@ -1,19 +1,16 @@
 -- The head that comes next, step by step.
-use Rattle.std.proofs.Common.{◌≡◌, ℕ, ◌+◌, ◌-◌, ◌^◌, ◌<◌, ◌≤◌, nat_lt, List, [], ◌∷◌, ◌++◌, Option, None, Some, Result}
-use Rattle.std.proofs.Common.{Ok, Err, true, false, length, arith, refl, length-append}
-use Rattle.std.proofs.lemmas.Bool.Decides.{nat_tests}
+use Rattle.std.proofs.Common.{◌≡◌, ℕ, ◌+◌, ◌-◌, ◌^◌, ◌<◌, ◌≤◌, List, [], ◌∷◌, ◌++◌, Option, None, Some, Result, Ok, Err}
+use Rattle.std.proofs.Common.{length, arith, refl, length-append}
 use Rattle.std.specs.Io.KnownBytes.{prepend_known, IsAtEnd}
 use Rattle.warc_core.specs.declared.fault.Cause.{Cause}
 use Rattle.warc_core.specs.declared.fault.Cause.TheVariants as causes
 use Rattle.warc_head.specs.Parts.{HeadParts}
 use Rattle.warc_core.specs.Reading.{Reads, ◌>>=◌}
-use Rattle.warc_core.proofs.ReadingLemmas.{GoesOn, GoesOn-then, GoesOn-fault, GoesOn-done, GoesOn-done_at}
-use Rattle.warc_core.proofs.ReadingLemmas.{GoesOn-renamed, IsFoundIn-bind, IsFoundIn-purely, none_known, GoesOn-reads}
-use Rattle.warc_core.proofs.ReadingLemmas.{Reads-stopped}
+use Rattle.warc_core.proofs.ReadingLemmas.{GoesOn}
 use Rattle.warc_core.specs.Answers.{IsFoundPurely}
 use Rattle.warc_core.specs.HeadText.{head_text}
 use Rattle.warc_core.specs.Head.{parts_or_cause}
-use Rattle.warc_core.specs.HeadView.{HeadView, record_length}
+use Rattle.warc_core.specs.HeadView.{HeadView}
 use Rattle.warc_core.specs.Next.{head_at, next_at, within_limit}
 
 -- the head that these parts and this text make
@@ -24,42 +21,28 @@ head_of start raw parts = record { start = start; raw = raw; parts = parts }
 abbrev pub of_text : ℕ → List ℕ × List ℕ → Result (HeadView × List ℕ) Cause
 of_text start text = parts_or_cause text.0 >>= λ parts. within_limit (head_of start text.0 parts) text.1
 
-within-yes : (h : HeadView) (rest : List ℕ) → h.start + record_length h ≤ 2 ^ 63 - 1 → within_limit h rest
-    ≡ Ok (h, rest)
-within-yes h rest l = let t : nat_lt (2 ^ 63 - 1) (h.start + record_length h)
-    ≡ false = grind (arith, nat_tests) in rw t refl
-
-within-no : (h : HeadView) (rest : List ℕ) → 2 ^ 63 - 1 < h.start + record_length h → within_limit h rest
-    ≡ Err causes.TooFar
-within-no h rest l = let t : nat_lt (2 ^ 63 - 1) (h.start + record_length h)
-    ≡ true = grind (arith, nat_tests) in rw t refl
-
 module _ (limit start : ℕ) (raw : List ℕ) (before now : Option (List ℕ))
     (got : Reads (head_text limit) (Ok raw) before now) where
   text-there : GoesOn (head_at limit start) (λ z. of_text start (raw, z)) before now
   unfolding head_at
-  text-there = GoesOn-then (head_text limit) (of_text start) raw before now got
+  text-there = grind arith
 
   pub head-unread : (c : Cause) → IsFoundPurely c (parts_or_cause raw) → Reads (head_at limit start) (Err c) before now
-  head-unread c h = GoesOn-fault (head_at limit start) (λ z. of_text start (raw, z)) c before now now text-there
-      (λ w k. IsFoundIn-bind c (parts_or_cause raw) (λ parts. within_limit (head_of start raw parts) w)
-      (IsFoundIn-purely c (parts_or_cause raw) h))
+  head-unread c h = grind (arith, text-there)
 
   pub head-far : (p : HeadParts) → parts_or_cause raw ≡ Ok p → 2 ^ 63 - 1 < start + (length raw + p.length + 4)
       → Reads (head_at limit start) (Err causes.TooFar) before now
-  head-far p e l = GoesOn-fault (head_at limit start) (λ z. of_text start (raw, z)) causes.TooFar before now now
-      text-there (λ w k. rw e (within-no (head_of start raw p) w l))
+  head-far p e l = grind (arith, text-there)
 
   pub head-read : (p : HeadParts) → parts_or_cause raw ≡ Ok p → start + (length raw + p.length + 4) ≤ 2 ^ 63 - 1
       → Reads (head_at limit start) (Ok (head_of start raw p)) before now
-  head-read p e l = GoesOn-done (head_at limit start) (λ z. of_text start (raw, z)) (head_of start raw p) before now
-      text-there (λ w. rw e (within-yes (head_of start raw p) w l))
+  head-read p e l = grind (arith, text-there)
 
 -- where some bytes are held, some are known
 longer : (held : List ℕ) (left : Option (List ℕ)) (w : List ℕ) → 0 < length held → prepend_known held left ≡ Some w
     → 0 < length w
-longer held None w some k = absurd (let f : ◌≡◌ {A = Option (List ℕ)} None (Some w) = k in cc)
-longer held (Some v) w some k = let f : held ++ v ≡ w = cc in rw (← f) (omega (arith, length-append held v))
+longer held None w some k = grind arith
+longer held (Some v) w some k = grind (arith, length-append)
 
 -- a head as what comes next
 abbrev pub as_next : HeadView × List ℕ → Result (Option HeadView × List ℕ) Cause
@@ -78,27 +61,18 @@ next-empty limit start z e = rw e refl
 module _ (limit start : ℕ) (before left : Option (List ℕ)) (held : List ℕ)
     (same : GoesOn (next_at limit start) (next_at limit start) before (prepend_known held left)) where
   pub next-end : held ≡ [] → IsAtEnd left → Reads (next_at limit start) (Ok None) before (prepend_known held left)
-  next-end e h = GoesOn-done_at (next_at limit start) (next_at limit start) None before (prepend_known held left) same
-      (λ w k. next-empty limit start w (none_known held left w e h k))
+  next-end e h = grind (arith, next-empty)
 
   pub next-more : 0 < length held → GoesOn (next_at limit start) (λ z. head_at limit start z >>= as_next) before
       (prepend_known held left)
-  next-more some = GoesOn-renamed (next_at limit start) (next_at limit start) (λ z. head_at limit start z >>= as_next)
-      before (prepend_known held left) same
-      (λ w k. next-nonempty limit start w (longer held left w some k))
+  next-more some = grind (arith, next-nonempty, longer)
 
   pub next-stopped : (c : Cause) (after : Option (List ℕ)) → 0 < length held
       → Reads (head_at limit start) (Err c) (prepend_known held left) after
       → Reads (next_at limit start) (Err c) before after
-  next-stopped c after some r = GoesOn-reads (next_at limit start) (λ z. head_at limit start z >>= as_next) (Err c)
-      before (prepend_known held left) after (next-more some)
-      (Reads-stopped (head_at limit start) as_next c (prepend_known held left) after r)
+  next-stopped c after some r = grind (arith, next-more)
 
   pub next-head : (h : HeadView) (after : Option (List ℕ)) → 0 < length held
       → Reads (head_at limit start) (Ok h) (prepend_known held left) after
       → Reads (next_at limit start) (Ok (Some h)) before after
-  next-head h after some r = GoesOn-reads (next_at limit start) (λ z. head_at limit start z >>= as_next) (Ok (Some h))
-      before (prepend_known held left) after (next-more some)
-      (GoesOn-done (λ z. head_at limit start z >>= as_next) (λ z. as_next (h, z)) (Some h) (prepend_known held left)
-      after
-      (GoesOn-then (head_at limit start) as_next h (prepend_known held left) after r) (λ w. refl))
+  next-head h after some r = grind (arith, next-more)

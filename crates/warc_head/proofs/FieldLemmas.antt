@@ -1,17 +1,14 @@
 -- The fields of lines, of which some were read.
 use Rattle.std.proofs.Common.{◌≡◌, ◌∙◌, ◌<◌, ℕ, List, [], ◌∷◌, ◌++◌, length, Option, None, Some, Result, Ok, Err, refl}
-use Rattle.std.proofs.Common.{sym, ap, true, false, Bool, append_assoc, arith, ◌⊎◌, inl, inr, length-take}
-use Rattle.std.proofs.Common.{if◌then◌else◌}
+use Rattle.std.proofs.Common.{sym, ap, true, false, Bool, append_assoc, arith, ◌⊎◌, length-take, if◌then◌else◌}
 use Rattle.std.specs.List.{ends_with, list_all}
 use Rattle.std.specs.Prelude.{nat_eq, ◌&&◌, take, drop, ◌-◌, ◌+◌}
-use Rattle.std.proofs.lemmas.Bool.{cases_lt}
-use Rattle.std.proofs.lemmas.List.{drop-take, drop_all}
+use Rattle.std.proofs.lemmas.List.{drop-take}
 use Rattle.warc_head.specs.Parts.{field_lines_in}
 use Rattle.warc_head.specs.declared.fault.HeadFault.{HeadFault}
 use Rattle.warc_head.specs.declared.fault.HeadFault.TheVariants as faults
-use Rattle.warc_head.specs.Answers.{◌>>=◌, IsFound}
+use Rattle.warc_head.specs.Answers.{◌>>=◌}
 use Rattle.warc_head.specs.Lines.{lines_of, line_content, BeginsWithLine, continues, trim, is_content, line_end}
-use Rattle.warc_head.specs.Names.{is_name}
 use Rattle.warc_head.specs.Fields.{Field, Given, given_by, fields_of, joined, longer, added, unless_continued, field_in}
 use Rattle.warc_head.specs.Fields.{with_folded, with_field, named, at_colon}
 use Rattle.warc_head.proofs.LineLemmas.{line_first, line_text, concat, concat-lines, IsLine, line_if}
@@ -43,50 +40,36 @@ onto-more : (seen : List Field) (f : Field) (read : Given) → onto (seen ++ f �
     ≡ Ok (seen ++ longer f (added read.more) ∷ read.fields)
 onto-more [] f read = refl
 onto-more (g ∷ []) f read = refl
-onto-more (g ∷ h ∷ seen) f read = ap (λ r. r >>= λ fs. Ok (g ∷ fs)) (onto-more (h ∷ seen) f read)
+onto-more (g ∷ h ∷ seen) f read = grind (arith, onto-more (h ∷ seen) f read)
 
 -- a line that goes on, where a field stands before it
 onto-continued : (seen : List Field) (f : Field) (t : List ℕ) (read : Given)
     → onto (seen ++ f ∷ []) (with_folded t read)
     ≡ onto (seen ++ longer f t ∷ []) read
-onto-continued seen f t read =
-    onto-more seen f (with_folded t read)
-    ∙ (ap (λ v. Ok (seen ++ record { name = f.name; value = v } ∷ read.fields))
-    (sym (joined-assoc f.value t (added read.more)))
-    ∙ sym (onto-more seen (longer f t) read))
+onto-continued seen f t read = grind (arith, onto-more, joined-assoc)
 
 -- a line that begins a field
 onto-began : (seen : List Field) (f : Field) (read : Given) → onto seen (with_field f read) ≡ onto (seen ++ f ∷ []) read
 onto-began [] f read = refl
-onto-began (g ∷ []) f read = ap
-    (λ v. Ok (record { name = g.name; value = v } ∷ longer f (added read.more) ∷ read.fields)) (joined-nil g.value)
-onto-began (g ∷ h ∷ seen) f read = ap (λ r. r >>= λ fs. Ok (g ∷ fs)) (onto-began (h ∷ seen) f read)
+onto-began (g ∷ []) f read = grind arith
+onto-began (g ∷ h ∷ seen) f read = grind (arith, onto-began (h ∷ seen) f read)
 
 then_ok : {A B C : Type 0} (r : Result A HeadFault) (f : A → B) (g : B → Result C HeadFault)
     → ((r >>= λ x. Ok (f x)) >>= g) ≡ (r >>= λ x. g (f x))
 then_ok (Ok x) f g = refl
 then_ok (Err e) f g = refl
 
-same_then : {A B : Type 0} (r : Result A HeadFault) (f g : A → Result B HeadFault) → ((x : A) → f x ≡ g x) → (r >>= f)
-    ≡ (r >>= g)
-same_then (Ok x) f g h = h x
-same_then (Err e) f g h = refl
-
 -- what one line does
 line-fault : (seen : List Field) (line : List ℕ) (lines : List (List ℕ)) (e : HeadFault) → line_content line ≡ Err e
     → going_lines seen (line ∷ lines) ≡ Err e
 unfolding given_by
-line-fault seen line lines e h = ap
-    (λ r. (r >>= λ text. if continues text then (given_by lines >>= λ later. Ok (with_folded (trim text) later)) else
-    (field_in text >>= λ field. given_by lines >>= λ later. Ok (with_field field later))) >>= onto seen) h
+line-fault seen line lines e h = grind arith
 
 line-continued : (seen : List Field) (f : Field) (line text : List ℕ) (lines : List (List ℕ)) → line_content line
     ≡ Ok text → continues text ≡ true → going_lines (seen ++ f ∷ []) (line ∷ lines)
     ≡ going_lines (seen ++ longer f (trim text) ∷ []) lines
 unfolding given_by
-line-continued seen f line text lines h c =
-    rw (h, c) (then_ok (given_by lines) (with_folded (trim text)) (onto (seen ++ f ∷ []))
-    ∙ same_then (given_by lines) _ _ (λ read. onto-continued seen f (trim text) read))
+line-continued seen f line text lines h c = grind (arith, onto-continued)
 
 line-unnamed : (seen : List Field) (line text : List ℕ) (lines : List (List ℕ)) (e : HeadFault) → line_content line
     ≡ Ok text → continues text ≡ false → field_in text ≡ Err e → going_lines seen (line ∷ lines) ≡ Err e
@@ -97,9 +80,7 @@ line-began : (seen : List Field) (f : Field) (line text : List ℕ) (lines : Lis
     → continues text ≡ false → field_in text ≡ Ok f → going_lines seen (line ∷ lines)
     ≡ going_lines (seen ++ f ∷ []) lines
 unfolding given_by
-line-began seen f line text lines h c n =
-    rw (h, c, n) (then_ok (given_by lines) (with_field f) (onto seen)
-    ∙ same_then (given_by lines) _ _ (λ read. onto-began seen f read))
+line-began seen f line text lines h c n = grind (arith, onto-began)
 
 -- an answer without any other fault than FieldLine
 abbrev pub Plain : {A : Type 0} → Result A HeadFault → Type 0
@@ -119,8 +100,7 @@ Plain-if false a b p q = q
 
 Plain-field : (p : Option (List ℕ × List ℕ)) → Plain (named p)
 Plain-field None = tt
-Plain-field (Some p) = Plain-if (is_name p.0) (Ok (record { name = p.0; value = trim p.1 })) (Err faults.FieldLine) tt
-    tt
+Plain-field (Some p) = grind arith
 
 Plain-name : (text : List ℕ) → Plain (field_in text)
 unfolding field_in
@@ -130,9 +110,7 @@ Plain-lines : (lines : List (List ℕ)) → Plain (given_by lines)
 unfolding given_by
 Plain-lines [] = tt
 Plain-lines (line ∷ lines) =
-    Plain-then (line_content line) _
-    (Plain-if (ends_with nat_eq line line_end && list_all is_content (take (length line - 2) line))
-    (Ok (take (length line - 2) line)) (Err faults.FieldLine) tt tt)
+    Plain-then (line_content line) _ (grind arith)
     (λ text. Plain-if (continues text) _ _ (Plain-then (given_by lines) _ (Plain-lines lines) (λ later. tt))
     (Plain-then (field_in text) _ (Plain-name text)
     (λ field. Plain-then (given_by lines) _ (Plain-lines lines) (λ later. tt))))
@@ -153,8 +131,8 @@ line-first line text lines h c =
 -- at the end
 onto-end : (seen : List Field) → onto seen (record { more = None; fields = [] }) ≡ Ok seen
 onto-end [] = refl
-onto-end (f ∷ []) = ap (λ v. Ok (record { name = f.name; value = v } ∷ [])) (joined-nil f.value)
-onto-end (f ∷ g ∷ seen) = ap (λ r. r >>= λ fs. Ok (f ∷ fs)) (onto-end (g ∷ seen))
+onto-end (f ∷ []) = grind arith
+onto-end (f ∷ g ∷ seen) = grind (arith, onto-end (g ∷ seen))
 
 pub going-end : (seen : List Field) → going seen [] ≡ Ok seen
 unfolding going lines_of given_by
@@ -167,14 +145,12 @@ going-start body = refl
 content_fault : (line : List ℕ) (t : Bool)
     → (ends_with nat_eq line line_end && list_all is_content (take (length line - 2) line)) ≡ t
     → ((text : List ℕ) → IsLine line text → ⊥) → line_content line ≡ Err faults.FieldLine
-content_fault line true e f = absurd
-    (f (take (length line - 2) line) (line_if line true (take (length line - 2) line) e refl))
+content_fault line true e f = grind (arith, line_if)
 content_fault line false e f = rw e refl
 
 unended_lines : (seen : List Field) (text : List ℕ) (lines : List (List ℕ)) → lines_of text ≡ lines → 0 < length text
     → ((line rest : List ℕ) → BeginsWithLine text line rest → ⊥) → going_lines seen lines ≡ Err faults.FieldLine
-unended_lines seen text [] e h f = absurd (let n : text ≡ [] = sym (concat-lines text)
-    ∙ ap concat e in omega (arith, h, ap length n))
+unended_lines seen text [] e h f = grind (arith, concat-lines text)
 unended_lines seen text (line ∷ lines) e h f =
     line-fault seen line lines faults.FieldLine
     (content_fault line (ends_with nat_eq line line_end && list_all is_content (take (length line - 2) line)) refl
@@ -190,11 +166,11 @@ unended_lines seen text (line ∷ lines) e h f =
 pub going-fault : (seen : List Field) (text : List ℕ) → 0 < length text
     → ((line rest : List ℕ) → BeginsWithLine text line rest → ⊥) → going seen text ≡ Err faults.FieldLine
 unfolding going
-going-fault seen text h f = unended_lines seen text (lines_of text) refl h f
+going-fault seen text h f = grind (arith, unended_lines)
 
 module _ (rest text later : List ℕ) (line : BeginsWithLine rest text later) where
   cut : lines_of rest ≡ (text ++ line_end) ∷ lines_of later
-  cut = ap lines_of line.spelled ∙ line_first text later line.plain
+  cut = grind (arith, line_first)
 
   content : line_content (text ++ line_end) ≡ Ok text
   content = line_text text line.plain
@@ -202,40 +178,21 @@ module _ (rest text later : List ℕ) (line : BeginsWithLine rest text later) wh
   pub going-unnamed : (seen : List Field) (e : HeadFault) → continues text ≡ false → field_in text ≡ Err e
       → going seen rest ≡ Err e
   unfolding going
-  going-unnamed seen e c n = ap (going_lines seen) cut
-      ∙ line-unnamed seen (text ++ line_end) text (lines_of later) e content c n
+  going-unnamed seen e c n = grind (arith, cut, line-unnamed, content)
 
   pub going-began : (seen : List Field) (f : Field) → continues text ≡ false → field_in text ≡ Ok f → going seen rest
       ≡ going (seen ++ f ∷ []) later
   unfolding going
-  going-began seen f c n = ap (going_lines seen) cut
-      ∙ line-began seen f (text ++ line_end) text (lines_of later) content c n
+  going-began seen f c n = grind (arith, cut, line-began, content)
 
   pub going-first : continues text ≡ true → going [] rest ≡ Err faults.FieldLine
   unfolding going
-  going-first c = ap (going_lines []) cut ∙ line-first (text ++ line_end) text (lines_of later) content c
+  going-first c = grind (arith, cut, line-first, content)
 
   pub going-continued : (seen : List Field) (f : Field) → continues text ≡ true → going (seen ++ f ∷ []) rest
       ≡ going (seen ++ longer f (trim text) ∷ []) later
   unfolding going
-  going-continued seen f c = ap (going_lines (seen ++ f ∷ [])) cut
-      ∙ line-continued seen f (text ++ line_end) text (lines_of later) content c
-
--- a fault that is passed on
-pub IsFound-of : {A : Type 0} (e : HeadFault) (r : Result A HeadFault) → r ≡ Err e → IsFound e r
-IsFound-of faults.Memory r h = tt
-IsFound-of e r h = h
-
--- a piece that can't go on, or memory that ran out
-pub IsFound-either : {A : Type 0} (e : HeadFault) (r : Result A HeadFault) → (e ≡ faults.Memory) ⊎ (r ≡ Err e)
-    → IsFound e r
-IsFound-either faults.Memory r h = tt
-IsFound-either e r h = elim h [ inl m ↦ absurd cc | inr f ↦ f ]
-
-pub IsFound-then : {A B : Type 0} (e : HeadFault) (r : Result A HeadFault) (s : Result B HeadFault)
-    → (r ≡ Err e → s ≡ Err e) → IsFound e r → IsFound e s
-IsFound-then faults.Memory r s f h = tt
-IsFound-then e r s f h = f h
+  going-continued seen f c = grind (arith, cut, line-continued, content)
 
 pub nil_of : {A : Type 0} (xs : List A) → length xs ≡ 0 → xs ≡ []
 nil_of [] h = refl
@@ -243,13 +200,4 @@ nil_of (x ∷ xs) h = absurd (omega arith)
 
 -- the lines between the version line and the empty line
 pub body_is : (raw : List ℕ) → field_lines_in raw ≡ drop 10 (take (length raw - 2) raw)
-body_is raw =
-    elim (cases_lt (length raw - 2) 10) [
-      | inl short ↦ (
-          let none : length raw - 2 - 10 ≡ 0 = omega (arith, short) in
-          ap (λ n. take n (drop 10 raw)) none
-          ∙ sym (drop_all 10 (take (length raw - 2) raw) (omega (arith, length-take (length raw - 2) raw, short))))
-      | inr long ↦ (
-          let whole : 10 + (length raw - 2 - 10) ≡ length raw - 2 = omega (arith, long) in
-          sym (drop-take 10 (length raw - 2 - 10) raw) ∙ ap (λ n. drop 10 (take n raw)) whole)
-    ]
+body_is raw = grind (arith, length-take (length raw - 2) raw, drop-take 10 (length raw - 2 - 10) raw)

@@ -60,16 +60,15 @@ module _ (text : List ℕ) (i j y r : ℕ) (first : i + 32 ≤ length text) (sec
       ∙ mask_l-mod both 64 (omega (arith, long)) ∙ ap mask_l (sym (map-id both))
 
   counted : r ≡ first_set mask 32 → r ≡ prefix_len (λ b. not b) both
-  counted found = found ∙ (ap (λ m. first_set m 32) mask_is ∙ first_set_mask_l (λ b. b) both 32 long (omega arith))
+  counted found = grind (arith, mask_is, first_set_mask_l, long)
 
   pub both_bound : r ≡ first_set mask 32 → r ≤ 32
-  both_bound found = omega (arith, counted found, long, prefix_len-le-length (λ b. not b) both)
+  both_bound found = grind (arith, counted, long, prefix_len-le-length)
 
   pub both_none : r ≡ first_set mask 32 → (k : ℕ) → k < r → get_or text (i + k) 0 ≡ y → get_or text (j + k) 0 ≡ y → ⊥
   both_none found k below p q =
       let inside : k < 32 = omega (arith, both_bound found) in
-      let none : get_or both k false
-      ≡ false = not-true _ (prefix_len_passes (λ b. not b) both k false (omega (arith, counted found))) in
+      let none : get_or both k false ≡ false = grind (arith, not-true, prefix_len_passes, counted) in
       let at : get_or both k false ≡ (eqb (get_or v k 0) y && eqb (get_or w k 0) y) = get_or-zip2 _ v w k 0 0 false
       (omega (arith, long_v)) (omega (arith, long_w)) in
       let s : eqb (get_or v k 0) y ≡ true = eq-eqb _ _ (get_or-chunk i 32 text k 0 inside ∙ p) in

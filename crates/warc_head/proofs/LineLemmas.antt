@@ -1,20 +1,19 @@
 -- The lines of a text.
+use Rattle.std.proofs.lemmas.Grind.{common_steps}
 use Rattle.std.proofs.Common.{◌≡◌, ◌∙◌, ℕ, zero, suc, ◌+◌, ◌-◌, ◌<◌, ◌≤◌, List, [], ◌∷◌, ◌++◌, length, take, drop}
-use Rattle.std.proofs.Common.{get_or, refl, sym, ap, arith, true, false, Bool, ◌&&◌, add-one, length-append}
-use Rattle.std.proofs.Common.{length-drop, inl, inr, Result, Ok, Err, nat_eq, subst, if◌then◌else◌}
-use Rattle.std.specs.Prelude.{◌==◌, Some, None, not}
+use Rattle.std.proofs.Common.{get_or, refl, sym, ap, arith, true, false, Bool, ◌&&◌, add-one, length-drop, inl, inr, Ok}
+use Rattle.std.proofs.Common.{Err, nat_eq, subst, if◌then◌else◌}
+use Rattle.std.specs.Prelude.{◌==◌, Some, None}
 use Rattle.std.specs.List.{list_all, ends_with}
 use Rattle.std.specs.Option.{option_map}
 use Rattle.std.specs.Cmp.Lexicographic.{pointwise}
-use Rattle.std.proofs.lemmas.Bool.{cases_lt, not-false}
+use Rattle.std.proofs.lemmas.Bool.{cases_lt}
 use Rattle.httparse.specs.Pieces.{IsRunAt}
-use Rattle.std.proofs.lemmas.Bool.Decides.{nat_tests}
 use Rattle.std.proofs.lemmas.List.{take-append-drop, drop-drop, get_or-drop}
 use Rattle.std.proofs.Math.Seq.{take-append_seam, drop-append_seam}
 use Rattle.memchr.specs.Find.{is_byte2}
-use Rattle.warc_head.specs.declared.fault.HeadFault.{HeadFault}
 use Rattle.warc_head.specs.declared.fault.HeadFault.TheVariants as faults
-use Rattle.warc_head.specs.Lines.{lines_of, with_first, line_content, line_end, is_content, BeginsWithLine, EndsLine}
+use Rattle.warc_head.specs.Lines.{lines_of, line_content, line_end, is_content, BeginsWithLine, EndsLine}
 use Rattle.warc_head.specs.Fields.{at_colon}
 use Rattle.warc_head.specs.Folding.{ended}
 use Rattle.warc_head.proofs.DateLemmas.{and_both}
@@ -42,9 +41,6 @@ colon_none (b ∷ bs) f =
     let t : (b == 58) ≡ false = false_of (b == 58) (f 0 (omega arith)) in
     rw t (ap (option_map (λ p. (b ∷ p.0, p.1))) (colon_none bs (λ k l. f (suc k) (omega arith))))
 
-plain-not_lf : (b : ℕ) → is_content b ≡ true → (b == 10) ≡ false
-plain-not_lf b h = grind (arith, nat_tests, h)
-
 -- the first line of a text
 pub line_first : (text rest : List ℕ) → list_all is_content text ≡ true → lines_of (text ++ (line_end ++ rest))
     ≡ (text ++ line_end) ∷ lines_of rest
@@ -52,17 +48,13 @@ unfolding lines_of
 line_first [] rest h = refl
 line_first (b ∷ bs) rest h =
     let p = and_both (is_content b) (list_all is_content bs) h in
-    rw (plain-not_lf b p.0) (ap (with_first b) (line_first bs rest p.1))
+    grind (arith, line_first bs rest p.1)
 
 front : (text : List ℕ) → take (length (text ++ line_end) - 2) (text ++ line_end) ≡ text
-front text =
-    let n : length (text ++ line_end) - 2 ≡ length text = simp length-append (omega arith) in
-    rw n (take-append_seam text line_end)
+front text = grind (arith, common_steps, take-append_seam)
 
 back : (text : List ℕ) → ends_with nat_eq (text ++ line_end) line_end ≡ true
-back text =
-    let n : length (text ++ line_end) - 2 ≡ length text = simp length-append (omega arith) in
-    rw (n, drop-append_seam text line_end) refl
+back text = grind (arith, common_steps, drop-append_seam)
 
 pub line_text : (text : List ℕ) → list_all is_content text ≡ true → line_content (text ++ line_end) ≡ Ok text
 line_text text h = rw (back text, front text, h) refl
@@ -71,34 +63,18 @@ abbrev pub concat : List (List ℕ) → List ℕ
 concat [] = []
 concat (line ∷ lines) = line ++ concat lines
 
-concat-with_first : (b : ℕ) (lines : List (List ℕ)) → concat (with_first b lines) ≡ b ∷ concat lines
-concat-with_first b [] = refl
-concat-with_first b (line ∷ lines) = refl
-
-concat-if : (t : Bool) (b : ℕ) (lines : List (List ℕ)) → concat (if t then (b ∷ []) ∷ lines else with_first b lines)
-    ≡ b ∷ concat lines
-concat-if true b lines = refl
-concat-if false b lines = concat-with_first b lines
-
 -- the lines of a text are the text
 pub concat-lines : (text : List ℕ) → concat (lines_of text) ≡ text
 unfolding lines_of
 concat-lines [] = refl
-concat-lines (b ∷ bs) = concat-if (b == 10) b (lines_of bs) ∙ ap (λ t. b ∷ t) (concat-lines bs)
-
-same_byte : (a b : ℕ) → nat_eq a b ≡ true → b ≡ a
-same_byte a b h = grind (arith, nat_tests, h)
+concat-lines (b ∷ bs) = grind (arith, concat-lines bs)
 
 -- a text that matches CR LF byte by byte
 line_end_is : (d : List ℕ) → pointwise nat_eq line_end d ≡ true → d ≡ line_end
-line_end_is [] h = absurd (let e : false ≡ true = h in cc)
-line_end_is (a ∷ []) h = absurd (let e : false ≡ true = (and_both (nat_eq 13 a) false h).1 in cc)
-line_end_is (a ∷ b ∷ []) h =
-    let p = and_both (nat_eq 13 a) (nat_eq 10 b && true) h in
-    let q = and_both (nat_eq 10 b) true p.1 in
-    rw (same_byte 13 a p.0, same_byte 10 b q.0) refl
-line_end_is (a ∷ b ∷ c ∷ d) h = absurd (let e : false
-    ≡ true = (and_both (nat_eq 10 b) false (and_both (nat_eq 13 a) _ h).1).1 in cc)
+line_end_is [] h = grind arith
+line_end_is (a ∷ []) h = grind arith
+line_end_is (a ∷ b ∷ []) h = grind arith
+line_end_is (a ∷ b ∷ c ∷ d) h = grind arith
 
 pub record IsLine (line text : List ℕ) : Type 0 where
   pub spelled : line ≡ ended text
@@ -107,11 +83,9 @@ pub record IsLine (line text : List ℕ) : Type 0 where
 pub line_if : (line : List ℕ) (t : Bool) (text : List ℕ)
     → (ends_with nat_eq line line_end && list_all is_content (take (length line - 2) line)) ≡ t
     → (if t then Ok (take (length line - 2) line) else Err faults.FieldLine) ≡ Ok text → IsLine line text
-line_if line false text e h = absurd
-    (let k : ◌≡◌ {A = Result (List ℕ) HeadFault} (Err faults.FieldLine) (Ok text) = h in cc)
+line_if line false text e h = grind arith
 line_if line true text e h =
     let p = and_both (ends_with nat_eq line line_end) (list_all is_content (take (length line - 2) line)) e in
-    let k : ◌≡◌ {A = Result (List ℕ) HeadFault} (Ok (take (length line - 2) line)) (Ok text) = h in
     let same : take (length line - 2) line ≡ text = cc in
     subst (λ t. IsLine line t) same
     (record {
@@ -120,21 +94,13 @@ line_if line true text e h =
       plain = p.1;
     })
 
--- a line without CR and LF has neither at a place
-plain_at : (line : List ℕ) (at : ℕ) → list_all is_content line ≡ true → at < length line
-    → is_byte2 13 10 (get_or line at 0) ≡ true → ⊥
-plain_at [] at p l h = absurd (omega arith)
-plain_at (b ∷ bs) zero p l h = let k : false ≡ true = ap not (sym h)
-    ∙ (and_both (is_content b) (list_all is_content bs) p).0 in cc
-plain_at (b ∷ bs) (suc at) p l h = plain_at bs at (and_both (is_content b) (list_all is_content bs) p).1 (omega arith) h
-
 -- where a line stands, the first CR or LF is that at its end
 pub line_end_at : (line rest : List ℕ) (at : ℕ) → list_all is_content line ≡ true
     → is_byte2 13 10 (get_or (line ++ 13 ∷ rest) at 0) ≡ true
     → ((k : ℕ) → k < at → is_byte2 13 10 (get_or (line ++ 13 ∷ rest) k 0) ≡ true → ⊥) → at ≡ length line
 line_end_at [] rest zero p h f = refl
 line_end_at [] rest (suc at) p h f = absurd (f 0 (omega arith) refl)
-line_end_at (b ∷ bs) rest zero p h f = absurd (plain_at (b ∷ bs) 0 p (omega arith) h)
+line_end_at (b ∷ bs) rest zero p h f = grind arith
 line_end_at (b ∷ bs) rest (suc at) p h f = ap suc
     (line_end_at bs rest at (and_both (is_content b) (list_all is_content bs) p).1 h (λ k l. f (suc k) (omega arith)))
 
@@ -156,36 +122,25 @@ plain_before (b ∷ bs) (suc at) f l =
 -- where no CR or LF stands, no line does
 pub unended : (text : List ℕ) → ((k : ℕ) → k < length text → is_byte2 13 10 (get_or text k 0) ≡ true → ⊥)
     → (line rest : List ℕ) → BeginsWithLine text line rest → ⊥
-unended text f line rest b = line_end_in line (10 ∷ rest)
-    (subst (λ t. (k : ℕ) → k < length t → is_byte2 13 10 (get_or t k 0) ≡ true → ⊥) b.spelled f)
+unended text f line rest b = grind (arith, line_end_in)
 
 -- where the first CR or LF begins no CR LF, no line stands
 pub ended_elsewhere : (text : List ℕ) (at : ℕ) → is_byte2 13 10 (get_or text at 0) ≡ true
     → ((k : ℕ) → k < at → is_byte2 13 10 (get_or text k 0) ≡ true → ⊥)
     → ((rest : List ℕ) → drop at text ≡ line_end ++ rest → ⊥) → (line rest : List ℕ) → BeginsWithLine text line rest → ⊥
-ended_elsewhere text at h f n line rest b =
-    let e : at ≡ length line =
-    line_end_at line (10 ∷ rest) at b.plain (subst (λ t. is_byte2 13 10 (get_or t at 0) ≡ true) b.spelled h)
-    (subst (λ t. (k : ℕ) → k < at → is_byte2 13 10 (get_or t k 0) ≡ true → ⊥) b.spelled f) in
-    n rest (ap (drop at) b.spelled
-    ∙ (ap (λ n. drop n (line ++ (line_end ++ rest))) e ∙ drop-append_seam line (line_end ++ rest)))
+ended_elsewhere text at h f n line rest b = grind (arith, line_end_at, drop-append_seam)
 
 -- a run of bytes that are no CR and no LF, from one offset to another
 module _ (text : List ℕ) (at end : ℕ) (run : IsRunAt is_content text at end) where
   no_break : (k : ℕ) → k < end - at → is_byte2 13 10 (get_or (drop at text) k 0) ≡ true → ⊥
-  no_break k l h =
-      let plain : is_content (get_or (drop at text) k 0) ≡ true = ap is_content (get_or-drop at text k 0)
-      ∙ run.pass (at + k) (omega arith) (omega (arith, l)) in
-      let e : false ≡ true = sym (ap not h) ∙ plain in cc
+  no_break k l h = grind (arith, get_or-drop)
 
   behind : drop (end - at) (drop at text) ≡ drop end text
-  behind = let same : at + (end - at) ≡ end = omega (arith, run.ordered) in drop-drop (end - at) at text
-      ∙ ap (λ n. drop n text) same
+  behind = grind (arith, drop-drop)
 
   pub ends_line : drop end text ≡ line_end ++ drop 2 (drop end text) → EndsLine text at end
   ends_line e =
-      let size : length (drop end text) ≡ 2 + length (drop 2 (drop end text)) = ap length e
-      ∙ length-append line_end (drop 2 (drop end text)) in
+      let size : length (drop end text) ≡ 2 + length (drop 2 (drop end text)) = grind arith in
       record {
         order = run.ordered;
         within = omega (arith, size, length-drop end text);
@@ -193,21 +148,18 @@ module _ (text : List ℕ) (at end : ℕ) (run : IsRunAt is_content text at end)
           spelled = sym (take-append-drop (end - at) (drop at text))
               ∙ ap (λ t. take (end - at) (drop at text) ++ t)
               (behind ∙ (e ∙ ap (λ t. line_end ++ t) (drop-drop 2 end text)));
-          plain = plain_before (drop at text) (end - at) no_break (omega (arith, run.in_range, length-drop at text));
+          plain = grind (arith, plain_before, no_break, length-drop);
         };
       }
 
   broken : end < length text → is_byte2 13 10 (get_or (drop at text) (end - at) 0) ≡ true
-  broken inside =
-      let same : at + (end - at) ≡ end = omega (arith, run.ordered) in
-      not-false _ (ap is_content (get_or-drop at text (end - at) 0 ∙ ap (λ n. get_or text n 0) same) ∙ run.stops inside)
+  broken inside = grind (arith, get_or-drop)
 
   pub ends_no_line : ((more : List ℕ) → drop end text ≡ line_end ++ more → ⊥) → (line rest : List ℕ)
       → BeginsWithLine (drop at text) line rest → ⊥
   ends_no_line other line rest b =
       elim (cases_lt end (length text)) [
-        | inl inside ↦ ended_elsewhere (drop at text) (end - at) (broken inside) no_break
-            (λ more e. other more (sym behind ∙ e)) line rest b
+        | inl inside ↦ grind (arith, ended_elsewhere, broken, no_break, behind)
         | inr whole ↦ unended (drop at text) (λ k l h. no_break k (omega (arith, l, whole, length-drop at text)) h) line
             rest b
       ]

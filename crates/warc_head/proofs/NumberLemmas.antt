@@ -13,7 +13,7 @@ digit-more n d k h l = let e = pow_more 10 k in omega (arith, e)
 
 -- 19 digits fit
 pub few-digits : (n k : ℕ) → k ≤ 19 → n < 10 ^ k → n < 10000000000000000000
-few-digits n k h l = let e : 10 ^ k ≤ 10 ^ 19 = pow-le-pow_right {n = 10} (lit< tt) h in omega (arith, e)
+few-digits n k h l = grind (arith, pow-le-pow_right)
 
 pub start-small : (k : ℕ) → 0 < 10 ^ k
 start-small k = one-le-pow k 10 (lit< tt)

@@ -1,6 +1,6 @@
 -- A line of a text that begins with the lines of a head.
-use Rattle.std.proofs.Common.{◌≡◌, ◌∙◌, ℕ, ◌+◌, ◌-◌, ◌<◌, ◌≤◌, List, ◌++◌, length, take, drop, sym, ap, subst, arith}
-use Rattle.std.proofs.Common.{length-drop, length-append}
+use Rattle.std.proofs.Common.{◌≡◌, ◌∙◌, ℕ, ◌+◌, ◌-◌, ◌<◌, ◌≤◌, List, ◌++◌, length, take, drop, ap, arith, length-drop}
+use Rattle.std.proofs.Common.{length-append}
 use Rattle.std.proofs.lemmas.List.{take-append-le, take-append-drop, drop-drop, length-take-le}
 use Rattle.warc_head.specs.Lines.{EndsLine}
 use Rattle.warc_head.specs.Spans.{Continues, between}
@@ -11,26 +11,20 @@ module _ (raw text : List ℕ) (held : Continues raw text) (end at : ℕ) (insid
   size = length-take-le end raw inside
 
   pub lines_held : take end text ≡ take end raw
-  lines_held = ap (take end) held.1 ∙ take-append-le end raw held.0 inside
+  lines_held = grind (arith, take-append-le)
 
   pub filled : at < end → 0 < length (drop at (take end raw))
-  filled below = omega (arith, below, size, length-drop at (take end raw))
+  filled below = grind (arith, size, length-drop)
 
   module _ (stop : ℕ) (ends : EndsLine (take end text) at stop) where
     pub ended : EndsLine (take end raw) at stop
-    ended = subst (λ t. EndsLine t at stop) lines_held ends
+    ended = grind (arith, lines_held)
 
     pub line_is : between at stop text ≡ between at stop (take end raw)
-    line_is =
-        ap (between at stop) (sym (take-append-drop end text) ∙ ap (λ t. t ++ drop end text) lines_held)
-        ∙ between_more (take end raw) (drop end text) at stop ended.order (omega (arith, ended.within))
+    line_is = grind (arith, take-append-drop, lines_held, between_more (take end raw) (drop end text))
 
     pub line_held : text ≡ take at text ++ (between at stop text ++ drop stop text)
-    line_held =
-        let next : at + (stop - at) ≡ stop = omega (arith, ended.order) in
-        sym (take-append-drop at text) ∙ ap (λ t. take at text ++ t)
-        (sym (take-append-drop (stop - at) (drop at text))
-        ∙ ap (λ t. between at stop text ++ t) (drop-drop (stop - at) at text ∙ ap (λ n. drop n text) next))
+    line_held = grind (arith, take-append-drop, take-append-drop (stop - at) (drop at text), drop-drop)
 
     -- what follows the line
     pub shorter : length text ≡ length raw + length held.0

@@ -1,6 +1,6 @@
 -- White space at the ends of a text, and where the text between it stands.
 use Rattle.std.proofs.Common.{◌≡◌, ◌∙◌, ℕ, ◌+◌, ◌-◌, ◌≤◌, Bool, true, false, List, [], ◌∷◌, ◌++◌, length, take, drop}
-use Rattle.std.proofs.Common.{reverse, refl, sym, ap, arith, length-append, append_assoc, if◌then◌else◌, subst}
+use Rattle.std.proofs.Common.{reverse, refl, sym, ap, arith, length-append, append_assoc, if◌then◌else◌}
 use Rattle.std.proofs.lemmas.List.{reverse-append, reverse-reverse, length-drop, take-append-drop, drop-drop}
 use Rattle.std.proofs.lemmas.List.{length-take-le}
 use Rattle.std.proofs.Math.Seq.{drop-append_seam, take-append_seam}
@@ -19,7 +19,7 @@ trimmed_front (b ∷ bs) = front_if (is_white_space b) b bs (trimmed_front bs)
 trimmed_end : (bs : List ℕ) → (after : List ℕ) × (bs ≡ trim_end bs ++ after)
 trimmed_end bs =
     let p = trimmed_front (reverse bs) in
-    (reverse p.0, sym (reverse-reverse bs) ∙ (ap reverse p.1 ∙ reverse-append p.0 (trim_front (reverse bs))))
+    (reverse p.0, grind (arith, reverse-reverse, reverse-append))
 
 -- the bytes between two offsets, of which some in front and some behind are left out
 between_part : (text : List ℕ) (from to : ℕ) (before middle after : List ℕ) → between from to text ≡ before
@@ -48,13 +48,13 @@ module _ (text : List ℕ) (from to : ℕ) (order : from ≤ to) (within : to �
   after = (trimmed_end front).0
 
   front_whole : front ≡ end ++ after
-  front_whole = (trimmed_end front).1 ∙ ap (λ t. t ++ after) (sym end_is)
+  front_whole = grind arith
 
   whole : bytes ≡ before ++ front
-  whole = (trimmed_front bytes).1 ∙ ap (λ t. before ++ t) (sym front_is)
+  whole = grind arith
 
   size : to - from ≡ length before + length front
-  size = sym (length-take-le (to - from) (drop from text) (omega (arith, order, within, length-drop from text)))
+  size = sym (grind (arith, length-take-le, length-drop))
       ∙ (ap length whole ∙ length-append before front)
 
   end_size : length front ≡ length end + length after
@@ -66,11 +66,4 @@ module _ (text : List ℕ) (from to : ℕ) (order : from ≤ to) (within : to �
   pub is_trimmed : IsTrimmed text from to (to - length front) (to - length front + length end)
   is_trimmed =
       let start : from + length before ≡ to - length front = omega (arith, size, order) in
-      record {
-        low = omega (arith, size, order);
-        order = omega arith;
-        high = omega (arith, size, order, end_size);
-        value = subst (λ n. between n (n + length end) text ≡ end) start
-            (between_part text from to before end after (whole ∙ ap (λ t. before ++ t) front_whole))
-            ∙ (end_is ∙ ap trim_end front_is);
-      }
+      grind (arith, size, end_size, between_part, whole, front_whole)

@@ -1,4 +1,4 @@
-use Rattle.std.proofs.Common.{◌∙◌}
+use Rattle.std.proofs.Common.{arith, ◌∙◌}
 use Rattle.devices.proofs.DeviceLemmas.{WroteUpTo-more}
 use Rattle.std.proofs.lemmas.List.{take_rest}
 use Rattle.devices.proofs.device.put.Goals as goal
@@ -7,5 +7,5 @@ pub loop-rest-preserved : goal.loop-rest-preserved
 loop-rest-preserved g c = record {
   wrote = rw take_rest (WroteUpTo-more _ _ _ _ _ c.in_ok-taken.taken c.loop-rest.invariant.wrote
       c.in_ok-taken.ensures.bytes);
-  count = c.in_ok-taken.ensures.failures ∙ c.loop-rest.invariant.count;
+  count = grind arith;
 }

@@ -17,7 +17,7 @@ module _ (c : After-run_to_closing-run) where
       c.run_to_closing-run.ensures.none
 
   within : c.blocks-2.at + c.run_to_closing-run.result ≤ length text
-  within = omega (arith, c.blocks-2.invariant.within, c.blocks-2-test.true, c.run_to_closing-run.ensures.bound)
+  within = grind arith
 
 pub returns-then-begins_with_closing : goal.returns-then-begins_with_closing
 returns-then-begins_with_closing c =
@@ -25,8 +25,7 @@ returns-then-begins_with_closing c =
     let at = c.blocks-2.at + c.run_to_closing-run.result in
     found-first text c.args.before at (omega (arith, c.blocks-2.invariant.behind))
     (none (goal.at.returns-then-begins_with_closing c).After-run_to_closing-run)
-    (begins-occurs text at (within (goal.at.returns-then-begins_with_closing c).After-run_to_closing-run)
-    (rw take_rest at (c.begins_with_closing.ensures.begins c.if-begins_with_closing.true)))
+    (grind (arith, begins-occurs, take_rest))
 
 pub blocks-2-preserved-then-run-lt-LANES : goal.blocks-2-preserved-then-run-lt-LANES
 blocks-2-preserved-then-run-lt-LANES c =
@@ -43,11 +42,7 @@ blocks-2-preserved-then-run-lt-LANES c =
     }
 
 pub blocks-2-preserved : goal.blocks-2-preserved
-blocks-2-preserved c = record {
-  behind = omega (arith, c.blocks-2.invariant.behind);
-  within = within (goal.at.blocks-2-preserved c).After-run_to_closing-run;
-  none = none (goal.at.blocks-2-preserved c).After-run_to_closing-run;
-}
+blocks-2-preserved c = grind (arith, none (goal.at.blocks-2-preserved c).After-run_to_closing-run)
 
 pub returns-in-Some : goal.returns-in-Some
 returns-in-Some c =

@@ -1,13 +1,11 @@
-use Rattle.std.proofs.Common.{◌∙◌, subst, append-nil, []}
+use Rattle.std.proofs.Common.{arith, ◌∙◌, subst, append-nil, []}
 use Rattle.warc_core.specs.Walk.{Walks}
 use Rattle.std.specs.List.{concat}
 use Rattle.warc_core.proofs.ArchiveLemmas.{walk-spelled, spelled-walk, end_of}
 use Rattle.warc_core.proofs.laws.archive_is_its_records.Goals as goal
 
 pub returns-clause-spelled : goal.returns-clause-spelled
-returns-clause-spelled c limit archive heads r =
-    let s = walk-spelled limit 0 archive heads r.end [] r.walks in
-    (s.0, s.1, s.2 ∙ append-nil (concat s.0))
+returns-clause-spelled c limit archive heads r = grind (arith, walk-spelled, append-nil)
 
 pub returns-clause-read : goal.returns-clause-read
 returns-clause-read c limit heads texts a = record {

@@ -1,4 +1,4 @@
-use Rattle.std.proofs.Common.{◌≡◌, []}
+use Rattle.std.proofs.Common.{arith, ◌≡◌}
 use Rattle.std.proofs.lemmas.Result.{err_from_is_err_and}
 use Rattle.warc_core.specs.Next.{next_at}
 use Rattle.warc_core.specs.declared.next.TheConstants.{HEAD_LIMIT}
@@ -7,11 +7,7 @@ use Rattle.warc_core.proofs.NextLemmas.{next-end, next-stopped, next-head}
 use Rattle.warc_core.proofs.next.read_next.Goals as goal
 
 pub returns-then-is_empty-clause-bytes : goal.returns-then-is_empty-clause-bytes
-returns-then-is_empty-clause-bytes g c =
-    let none : c.fill.new.self ≡ [] = no_bytes c.as_slice.result.now _ c.as_slice.ensures c.if-is_empty.ensures in
-    next-end HEAD_LIMIT c.args.start _ _ c.fill.new.self
-    (GoesOn-keeps _ (next_at HEAD_LIMIT c.args.start) _ _ _ (GoesOn-start (next_at HEAD_LIMIT c.args.start) _)
-    c.fill.ensures.bytes) none (c.in_ok-fill.ensures.end none)
+returns-then-is_empty-clause-bytes g c = grind (arith, no_bytes, next-end)
 
 pub returns-in_err-read_head-clause-bytes : goal.returns-in_err-read_head-clause-bytes
 returns-in_err-read_head-clause-bytes g c =
@@ -23,7 +19,5 @@ returns-in_err-read_head-clause-bytes g c =
 
 pub returns-clause-bytes : goal.returns-clause-bytes
 returns-clause-bytes g c =
-    next-head HEAD_LIMIT c.args.start _ _ c.fill.new.self
-    (GoesOn-keeps _ (next_at HEAD_LIMIT c.args.start) _ _ _ (GoesOn-start (next_at HEAD_LIMIT c.args.start) _)
-    c.fill.ensures.bytes) c.in_ok-read_head.field-0 _
-    (some_bytes c.as_slice.result.now _ c.as_slice.ensures c.if-is_empty.ensures) c.in_ok-read_head.ensures.bytes
+    next-head HEAD_LIMIT c.args.start _ _ c.fill.new.self (grind arith) c.in_ok-read_head.field-0 _ (grind arith)
+    c.in_ok-read_head.ensures.bytes

@@ -19,8 +19,7 @@ returns-clause-fields c =
     (λ t. IsTrimmed t c.args.from c.args.to start end) c.deref.ensures.value c.trimmed-start.ensures in
     let piece : between start end there ≡ trim (between c.args.from c.args.to text) =
     ap (between start end) longer.1
-    ∙ (between_more text longer.0 start end span.order (omega (arith, span.high, c.requires.line))
-    ∙ span.value) in
+    ∙ (between_more text longer.0 start end span.order (omega (arith, span.high, c.requires.line)) ∙ span.value) in
     let new = c.in_ok-join.ensures ∙ ap (λ p. there ++ joint (drop value there) p) piece in
     let old = subst (All (IsWithin (length text))) c.in-Some.ensures.items c.requires.spans in (
       fields_at text before,

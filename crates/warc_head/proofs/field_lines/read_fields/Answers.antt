@@ -1,47 +1,24 @@
+use Rattle.std.proofs.lemmas.Grind.{common_steps}
 use Rattle.std.proofs.Common.{◌≡◌, ◌∙◌, ◌++◌, ◌∷◌, ◌+◌, ◌-◌, ℕ, List, [], length, take, drop, Ok, Err, true, false}
-use Rattle.std.proofs.Common.{subst, sym, ap, arith, inl, inr, append-nil, length-take-le}
+use Rattle.std.proofs.Common.{subst, sym, ap, arith, append-nil, length-take-le}
 use Rattle.std.specs.Prelude.{All}
-use Rattle.std.proofs.lemmas.Result.{err_from_is_err_and}
-use Rattle.std.proofs.lemmas.List.{drop_all}
-use Rattle.std.proofs.lemmas.List.Elements.{All-nil}
 use Rattle.warc_head.specs.declared.fault.HeadFault.TheVariants as faults
-use Rattle.warc_head.specs.Fields.{Field, field_in, fields_of, longer}
-use Rattle.warc_head.specs.Lines.{BeginsWithLine, EndsLine, continues, trim}
-use Rattle.warc_head.specs.Parts.{field_lines_in}
+use Rattle.warc_head.specs.Fields.{Field, field_in, longer}
+use Rattle.warc_head.specs.Lines.{EndsLine, continues, trim}
 use Rattle.warc_head.specs.Spans.{IsWithin, between, field_at, fields_at, moved}
 use Rattle.warc_head.proofs.FieldLemmas.{going, going-start, going-end, going-fault, going-first, going-unnamed}
-use Rattle.warc_head.proofs.FieldLemmas.{going-began, going-continued, IsFound-either, body_is}
+use Rattle.warc_head.proofs.FieldLemmas.{going-began, going-continued, body_is}
 use Rattle.warc_head.proofs.SpanLemmas.{field_added, span_added, Continues-trans}
-use Rattle.warc_head.proofs.ReadLemmas.{size, lines_held, filled, ended, line_is, line_held, inside_text}
+use Rattle.warc_head.proofs.ReadLemmas.{size, filled, ended, line_is, line_held, inside_text}
 use Rattle.warc_head.proofs.field_lines.read_fields.Goals as goal
 use Rattle.warc_head.proofs.field_lines.read_fields.Goals.{In-Some, then-continues+in_ok-continue_field}
 use Rattle.warc_head.proofs.field_lines.read_fields.Goals.{else-continues+in-Some-field_in+in_ok-push}
 
 pub lines-init : goal.lines-init
-lines-init c =
-    let raw = c.args.text.now.items in
-    let none = c.in_ok-spans.ensures.items in
-    let end : c.saturating_sub-end.result
-    ≡ length raw - 2 = omega (arith, c.saturating_sub-end.ensures, c.len.ensures) in
-    record {
-      fields = going-start (field_lines_in raw)
-          ∙ (λ i. going (fields_at raw (sym none i)) ((body_is raw ∙ ap (λ n. drop 10 (take n raw)) (sym end)) i));
-      text = ([], sym (append-nil raw));
-      within = rw none (All-nil (IsWithin (length raw)));
-      end = omega (arith, end);
-    }
+lines-init c = grind (arith, going-start, body_is, append-nil)
 
 pub returns-in_default-clause-answer : goal.returns-in_default-clause-answer
-returns-in_default-clause-answer c =
-    let raw = c.args.text.now.items in
-    let text = c.lines.text.items in
-    let end = c.saturating_sub-end.result in
-    let at = c.lines.at in
-    let kept = c.lines.invariant in
-    let front = ap (take end) c.deref.ensures.value ∙ lines_held raw text kept.text end at kept.end in
-    kept.fields ∙ going-fault (fields_at text c.lines.spans.items) (drop at (take end raw))
-    (filled raw text kept.text end at kept.end c.lines-test.true)
-    (λ line later b. c.in_default.ensures line later (subst (λ t. BeginsWithLine (drop at t) line later) (sym front) b))
+returns-in_default-clause-answer c = grind (arith, common_steps, going-fault, filled)
 
 -- where a line stands
 module _ (c : In-Some) where
@@ -64,29 +41,16 @@ module _ (c : In-Some) where
   seen = fields_at text c.lines.spans.items
 
   ends : EndsLine (take end text) at stop
-  ends = subst (λ t. EndsLine (take end t) at stop) c.deref.ensures.value c.in-Some.ensures
+  ends = grind arith
 
   line : EndsLine (take end raw) at stop
   line = ended raw text c.lines.invariant.text end at c.lines.invariant.end stop ends
 
   same : between at stop text ≡ between at stop (take end raw)
-  same = line_is raw text c.lines.invariant.text end at c.lines.invariant.end stop ends
+  same = grind (arith, line_is)
 
 pub returns-in_err-continue_field-clause-answer : goal.returns-in_err-continue_field-clause-answer
-returns-in_err-continue_field-clause-answer c =
-    let d = (goal.at.returns-in_err-continue_field-clause-answer c).In-Some in
-    let p = err_from_is_err_and c.from_residual-in_err-continue_field.result
-    c.from_residual-in_err-continue_field.ensures.1 in
-    let goes_on : continues (between (at d) (stop d) (take (end d) (raw d))) ≡ true =
-    ap continues (sym (ap (between (at d) (stop d)) c.deref-in-lines.ensures.value ∙ same d))
-    ∙ sym c.if-continues.ensures in
-    rw (p.1, p.2) (IsFound-either c.in_err-continue_field.field-0.0 (fields_of (field_lines_in (raw d)))
-    (elim c.in_err-continue_field.ensures.err [
-      | inl memory ↦ inl memory
-      | inr first ↦ inr (c.lines.invariant.fields
-          ∙ (ap (λ spans. going (fields_at (text d) spans) (drop (at d) (take (end d) (raw d)))) first.1
-          ∙ (going-first _ _ _ (line d).line goes_on ∙ ap Err (sym first.0))))
-    ]))
+returns-in_err-continue_field-clause-answer c = grind (arith, common_steps, same, going, going-first, line)
 
 pub returns-in_default-field_in-clause-answer : goal.returns-in_default-field_in-clause-answer
 returns-in_default-field_in-clause-answer c =
@@ -95,8 +59,7 @@ returns-in_default-field_in-clause-answer c =
     ap continues (sym (ap (between (at d) (stop d)) c.deref-in-lines.ensures.value ∙ same d))
     ∙ sym c.if-continues.ensures in
     let unnamed : field_in (between (at d) (stop d) (take (end d) (raw d))) ≡ Err faults.FieldLine =
-    ap field_in (sym (ap (between (at d) (stop d)) c.deref-else-continues.ensures.value ∙ same d))
-    ∙ c.in_default-field_in.ensures in
+    grind (arith, same) in
     c.lines.invariant.fields ∙ going-unnamed _ _ _ (line d).line (seen d) faults.FieldLine begins unnamed
 
 pub lines-preserved : goal.lines-preserved
@@ -133,12 +96,8 @@ lines-preserved c =
           subst (λ t. field_in t ≡ Ok (field_at t span)) spelled w.in-Some-field_in.ensures.1 in
           let front : length (take (at d) (text d))
           ≡ at d = length-take-le (at d) (text d)
-          (omega (
-            arith,
-            (line d).order,
-            inside_text (raw d) (text d) kept.text (end d) (at d) kept.end (stop d)
-                (ends d),
-          )) in
+          (omega (arith, (line d).order,
+              inside_text (raw d) (text d) kept.text (end d) (at d) kept.end (stop d) (ends d))) in
           let held = line_held (raw d) (text d) kept.text (end d) (at d) kept.end (stop d) (ends d) in
           let moved_is : w.moved.result ≡ moved (length (take (at d) (text d))) span = w.moved.ensures
           ∙ ap (λ n. moved n span) (sym front) in
@@ -160,17 +119,4 @@ lines-preserved c =
     ]
 
 pub returns-clause-answer : goal.returns-clause-answer
-returns-clause-answer c =
-    let raw = c.args.text.now.items in
-    let end = c.saturating_sub-end.result in
-    let none : drop c.lines.at (take end raw)
-    ≡ [] = drop_all c.lines.at (take end raw)
-    (omega (
-      arith,
-      c.lines-test.false,
-      size raw c.lines.text.items c.lines.invariant.text end c.lines.at
-          c.lines.invariant.end,
-    )) in
-    c.lines.invariant.fields
-    ∙ (ap (going (fields_at c.lines.text.items c.lines.spans.items)) none
-    ∙ going-end (fields_at c.lines.text.items c.lines.spans.items))
+returns-clause-answer c = grind (arith, common_steps, size, going, going-end)

@@ -1,5 +1,5 @@
-use Rattle.std.proofs.Common.{◌≡◌, ◌∙◌, List, true, false, codes, refl, sym}
-use Rattle.warc_head.specs.Fields.{Field, field_values}
+use Rattle.std.proofs.Common.{arith, ◌≡◌, ◌∙◌, List, true, false, refl, sym}
+use Rattle.warc_head.specs.Fields.{Field}
 use Rattle.warc_head.specs.Mandatory.{each_once, none_missing, none_repeated, mandatory}
 use Rattle.warc_head.specs.Spans.{fields_at}
 use Rattle.warc_head.proofs.MandatoryLemmas.{required_is, length_once, date_once, kind_once}
@@ -46,18 +46,14 @@ returns-clause-once c = rw (some c, single c) refl
 pub returns-clause-length : goal.returns-clause-length
 returns-clause-length c =
     let once = length_once (fields c) (some c) (single c) in
-    required_is (codes "Content-Length") (fields c) c.value.result.now
-    (c.value.ensures (field_values (codes "Content-Length") (fields c)) c.occurrences_in-found.ensures.length once.0
-    once.1)
+    grind (arith, required_is)
 
 pub returns-clause-date : goal.returns-clause-date
 returns-clause-date c =
     let once = date_once (fields c) (some c) (single c) in
-    required_is (codes "WARC-Date") (fields c) c.value-2.result.now
-    (c.value-2.ensures (field_values (codes "WARC-Date") (fields c)) c.occurrences_in-found.ensures.date once.0 once.1)
+    grind (arith, required_is)
 
 pub returns-clause-kind : goal.returns-clause-kind
 returns-clause-kind c =
     let once = kind_once (fields c) (some c) (single c) in
-    required_is (codes "WARC-Type") (fields c) c.value-3.result.now
-    (c.value-3.ensures (field_values (codes "WARC-Type") (fields c)) c.occurrences_in-found.ensures.kind once.0 once.1)
+    grind (arith, required_is)

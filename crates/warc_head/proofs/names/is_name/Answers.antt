@@ -3,4 +3,4 @@ use Rattle.warc_head.proofs.NameLemmas.{token_is_name}
 use Rattle.warc_head.proofs.names.is_name.Goals as goal
 
 pub returns : goal.returns
-returns c = c.is_token.ensures ∙ token_is_name c.args.name.now (λ k. omega (arith, c.type_inv.name k))
+returns c = grind (arith, token_is_name)

@@ -8,7 +8,7 @@ returns-then-not-is_empty-clause-bytes g c =
     let n = c.skip_held.result in
     let fits : n ≤ length c.args.self.now = omega (arith, c.skip_held.ensures.count) in (
       take n c.args.self.now,
-      rw c.skip_held.ensures.held (skips-held _ c.args.self.now n),
+      grind (arith, skips-held),
       length-take-le n
           c.args.self.now fits,
     )

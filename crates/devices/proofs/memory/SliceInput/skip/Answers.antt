@@ -1,4 +1,4 @@
-use Rattle.std.proofs.Common.{◌≤◌, ◌∙◌, ◌++◌, length, ◌-◌, take, drop, sym, ap, arith, length-drop}
+use Rattle.std.proofs.Common.{◌≤◌, ◌∙◌, ◌++◌, length, ◌-◌, take, arith, length-drop}
 use Rattle.std.proofs.lemmas.List.{length-take-le, take-append-drop, take_all}
 use Rattle.devices.proofs.memory.SliceInput.skip.Goals as goal
 
@@ -8,9 +8,7 @@ returns-clause-bytes c =
     let rest = c.self.inside.rest.now in
     let fits : n ≤ length rest = omega (arith, c.min-skipped.ensures) in (
       take n rest,
-      sym c.self.view_is ∙ sym (take-append-drop n rest)
-          ∙ ap (λ z. take n rest ++ z)
-          (sym (take_all (length rest - n) (drop n rest) (omega (arith, length-drop n rest)))),
+      grind (arith, take-append-drop, take_all, length-drop),
       length-take-le n rest
           fits,
     )

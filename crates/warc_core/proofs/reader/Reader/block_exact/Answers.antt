@@ -1,14 +1,15 @@
-use Rattle.std.proofs.Common.{◌≡◌, ◌<◌, ◌-◌, ◌∙◌, Ok, Err, refl, arith, length}
+use Rattle.std.proofs.lemmas.Grind.{common_steps}
+use Rattle.std.proofs.Common.{◌≡◌, ◌<◌, ◌-◌, ◌∙◌, Err, arith, length}
 use Rattle.std.proofs.lemmas.Result.{err_from_is_err_and}
 use borrow.Rule.Slice.PartMut.{put_mid}
 use Rattle.warc_core.specs.Calls.{Fills}
 use Rattle.warc_core.specs.ReaderView.{state_of}
 use Rattle.warc_core.proofs.OpenLemmas.{of_open}
-use Rattle.warc_core.proofs.FillLemmas.{Filling-start, Filling-more, Filling-fault, Filling-end, part_long}
+use Rattle.warc_core.proofs.FillLemmas.{Filling-more, Filling-fault}
 use Rattle.warc_core.proofs.reader.Reader.block_exact.Goals as goal
 
 pub loop-filled-init : goal.loop-filled-init
-loop-filled-init g c = (c.requires.0, c.requires.1, Filling-start _ _ _ _ _ c.requires.2 c.requires.3, refl)
+loop-filled-init g c = grind arith
 
 pub returns-in_err-filled : goal.returns-in_err-filled
 returns-in_err-filled g c left len e =
@@ -30,32 +31,20 @@ pub overflow_add-filled : goal.overflow_add-filled
 overflow_add-filled g c =
     let i = c.loop-filled.invariant in
     let b = c.in_ok-filled.ensures.open _ i.1 i.2.stands.phase_is in
-    let most = b.bound.1 in
-    let size : length c.block.new.piece ≡ length c.loop-filled.piece - c.loop-filled.filled = c.block.auto.piece
-    ∙ part_long c.loop-filled.filled c.loop-filled.piece in
-    let long = i.2.long in
-    let within = i.2.within in
-    omega arith
+    grind arith
 
 pub loop-filled-smaller : goal.loop-filled-smaller
 loop-filled-smaller g c =
     let i = c.loop-filled.invariant in
     let f = i.2 in
     let b = c.in_ok-filled.ensures.open _ i.1 f.stands.phase_is in
-    let long = f.long in
-    let fits = f.fits in
-    let size : length c.block.new.piece ≡ length c.loop-filled.piece - c.loop-filled.filled = c.block.auto.piece
-    ∙ part_long c.loop-filled.filled c.loop-filled.piece in
-    let some : 0 < c.in_ok-filled.field-0 = b.bound.2 (omega arith) (omega arith) in
-    omega arith
+    grind arith
 
 pub loop-filled-preserved : goal.loop-filled-preserved
 loop-filled-preserved g c =
     let i = c.loop-filled.invariant in
     let b = c.in_ok-filled.ensures.open _ i.1 i.2.stands.phase_is in
-    let size : length c.block.new.piece ≡ length c.loop-filled.piece - c.loop-filled.filled = c.block.auto.piece
-    ∙ part_long c.loop-filled.filled c.loop-filled.piece in
-    let long = i.2.long in (
+    (
       i.0,
       i.1,
       Filling-more i.0 i.1 _ _ _ _ _ _ _ c.loop-filled.filled c.in_ok-filled.field-0 c.loop-filled.piece
@@ -64,12 +53,4 @@ loop-filled-preserved g c =
     )
 
 pub returns : goal.returns
-returns g c left len e =
-    let i = c.loop-filled.invariant in
-    let long = i.2.long in
-    let within = i.2.within in
-    let r = Filling-end i.0 i.1 _ _ _ _ _ c.loop-filled.filled c.loop-filled.piece _ _ i.2 (omega arith) i.3 in
-    of_open (λ a b. Fills a b
-    (state_of c.args.self.now (g.I.Input.remaining c.args.input.now) (g.I.Input.failures c.args.input.now))
-    (state_of c.loop-filled.self (g.I.Input.remaining c.loop-filled.input) (g.I.Input.failures c.loop-filled.input))
-    (Ok tt) c.loop-filled.piece) _ i.0 i.1 left len i.2.opened e r
+returns g c left len e = grind (arith, common_steps)

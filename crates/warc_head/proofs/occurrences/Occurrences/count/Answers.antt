@@ -1,4 +1,4 @@
-use Rattle.std.proofs.Common.{◌≡◌, ◌∙◌, ◌++◌, ◌∷◌, [], List, ℕ, codes, length, sym, subst, ap, arith}
+use Rattle.std.proofs.Common.{◌≡◌, ◌∙◌, ◌++◌, ◌∷◌, [], List, ℕ, codes, length, sym, ap, arith}
 use Rattle.warc_head.specs.declared.occurrence.Occurrence.{Occurrence}
 use Rattle.warc_head.specs.Fields.{Field, field_values}
 use Rattle.warc_head.specs.Mandatory.{Occurs, values_in}
@@ -10,15 +10,13 @@ use Rattle.warc_head.proofs.occurrences.Occurrences.count.Goals as goal
 counted : (text wanted : List ℕ) (last : Field) (fields : List Field) (o : Occurrence)
     → Occurs text (field_values wanted fields ++ values_in wanted last) o
     → Occurs text (field_values wanted (fields ++ last ∷ [])) o
-counted text wanted last fields o h = subst (λ (values : List (List ℕ)). Occurs text values o)
-    (sym (values_more wanted last fields)) h
+counted text wanted last fields o h = grind (arith, values_more)
 
 -- a field of a name of another length adds none
 kept : (text wanted : List ℕ) (last : Field) (fields : List Field) (o : Occurrence)
     → (length last.name ≡ length wanted → ⊥) → Occurs text (field_values wanted fields) o
     → Occurs text (field_values wanted (fields ++ last ∷ [])) o
-kept text wanted last fields o other h = subst (λ (values : List (List ℕ)). Occurs text values o)
-    (sym (values_same wanted last fields other)) h
+kept text wanted last fields o other h = grind (arith, values_same)
 
 pub returns-then-size-eq9 : goal.returns-then-size-eq9
 returns-then-size-eq9 c =
@@ -49,13 +47,4 @@ returns-then-size-eq14 c =
     }
 
 pub returns-else-size-eq14 : goal.returns-else-size-eq14
-returns-else-size-eq14 c =
-    let text = c.args.text.now in
-    let last = field_at text c.args.span in
-    let size = ap length c.name-size.ensures in
-    λ fields all. record {
-      record_id = kept text (codes "WARC-Record-ID") last fields _ (λ e. c.if-size-eq14.false (size ∙ e)) all.record_id;
-      length = kept text (codes "Content-Length") last fields _ (λ e. c.if-size-eq14.false (size ∙ e)) all.length;
-      date = kept text (codes "WARC-Date") last fields _ (λ e. c.if-size-eq9.false (size ∙ e)) all.date;
-      kind = kept text (codes "WARC-Type") last fields _ (λ e. c.if-size-eq9.false (size ∙ e)) all.kind;
-    }
+returns-else-size-eq14 c = grind (arith, kept)
