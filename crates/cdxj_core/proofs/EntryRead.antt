@@ -71,8 +71,16 @@ object_feed m ms = grind (arith, joined, member_feed m, later_feed ms)
 
 pub body_feed : (e : EntryValue) → IsGood e → has_no_feed (body_text e) ≡ true
 body_feed e h =
-    grind (arith, joined, weaker, key_feed, and_parts, digit_feed, object_feed (first_of (entry_texts e))
-    (later_of (entry_texts e)))
+    grind (
+      arith,
+      joined,
+      weaker,
+      key_feed,
+      and_parts,
+      digit_feed,
+      object_feed (first_of (entry_texts e))
+          (later_of (entry_texts e)),
+    )
 
 -- ---- the body
 

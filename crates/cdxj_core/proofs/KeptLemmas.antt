@@ -87,8 +87,12 @@ kept_line limit text body tail key stamp object t offset at s utf8 entry seam cu
       line_is = line;
       line_ends = line_ends;
       key_is = (λ i. take (key_size i) (whole i)) ∙ take-append_seam key (32 ∷ rest);
-      key_ends = IsCharBoundary-before_ascii text s.key (omega (arith, key_size, ap length whole,
-          length-append key (32 ∷ rest))) (omega (arith, space));
+      key_ends = IsCharBoundary-before_ascii text s.key (omega (
+        arith,
+        key_size,
+        ap length whole,
+        length-append key (32 ∷ rest),
+      )) (omega (arith, space));
       stamp_ends = there.ends;
       stamp_text = there.is;
       stamp_is = stamp_is;
@@ -127,8 +131,13 @@ plain_kept limit text key rest stamp object t offset s utf8 all short first some
     let one : length key + 16 ≡ length key + 15 + 1 = omega arith in
     let to_object : drop (length key + 16) text ≡ plain_text t =
     ap (λ n. drop n text) one ∙ sym (drop-drop 1 (length key + 15) text) ∙ ap (drop 1) there.goes_on.1 ∙ plain.0 in
-    let within : length key + 16 ≤ length text = omega (arith, ap length cut,
-        length-append key (32 ∷ (stamp ++ 32 ∷ object)), length-append stamp (32 ∷ object), fourteen) in
+    let within : length key + 16 ≤ length text = omega (
+      arith,
+      ap length cut,
+      length-append key (32 ∷ (stamp ++ 32 ∷ object)),
+      length-append stamp (32 ∷ object),
+      fourteen,
+    ) in
     kept_line limit text text [] key stamp object t offset (length key + 16) s utf8 entry (sym (append-nil text)) cut
     good_key second.1 named small digits size
     (subst (IsCharBoundary text) (sym size) (IsCharBoundary-end text)) key_size stamp_is offset_is (within, to_object)

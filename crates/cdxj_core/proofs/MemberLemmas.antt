@@ -88,7 +88,7 @@ pub entry-higher : (low high : ℕ) → low ≤ high → (line : List ℕ) (memb
     → line_entry high line ≡ Some member
 entry-higher low high le line member h =
     let e = entered low line member h in
-    entry_from high line member (record { utf8 = e.utf8; values = grind (arith, line_in-higher); body = e.body; })
+    entry_from high line member (record { utf8 = e.utf8; values = grind (arith, line_in-higher); body = e.body })
 
 pub entry_pair_is : (limit : ℕ) (line : List ℕ) (member : Member) → line_entry limit line ≡ Some member
     → pair_of line ≡ Some (member_pair member)

@@ -115,8 +115,13 @@ module _ (text : List ℕ) (utf8 : IsUtf8 text) where
 
     -- the text ends after the file name, a quote and a brace
     pub size_is : length text ≡ e.offset + TO_FILENAME + length t.filename + CLOSE
-    size_is = omega (arith, at_offset.goes_on.0, length-drop e.offset text, ap length at_offset.goes_on.1,
-        length-append t.filename (34 ∷ codes "}"))
+    size_is = omega (
+      arith,
+      at_offset.goes_on.0,
+      length-drop e.offset text,
+      ap length at_offset.goes_on.1,
+      length-append t.filename (34 ∷ codes "}"),
+    )
 
     at_filename : Next text (e.offset + TO_FILENAME) (length text - CLOSE) t.filename (34 ∷ codes "}")
     at_filename = next 34 (omega arith) e.offset (to_quote filename_name) t.filename (codes "}")

@@ -116,14 +116,26 @@ pub level_fits : (name : Text) (form : Form) (words : List Text) → fits form w
     → level_fault (shaped (name, form)) [] nothing_held words false [] ≡ []
 unfolding defaults_fault
 level_fits name (OfNames make) (a ∷ more) f p short =
-    rw (ends (OfNames make) (a ∷ more) refl f p, clear name (OfNames make) (a ∷ more) refl f p,
-        in_range (a ∷ more) (omega arith) short, any_text more) refl
+    rw (
+      ends (OfNames make) (a ∷ more) refl f p,
+      clear name (OfNames make) (a ∷ more) refl f p,
+      in_range (a ∷ more) (omega arith) short,
+      any_text more,
+    ) refl
 level_fits name (OfQuery make) (a ∷ b ∷ more) f p short =
-    rw (ends (OfQuery make) (a ∷ b ∷ more) refl f p, clear name (OfQuery make) (a ∷ b ∷ more) refl f p,
-        in_range (b ∷ more) (omega arith) (omega (arith, short)), any_text more) refl
+    rw (
+      ends (OfQuery make) (a ∷ b ∷ more) refl f p,
+      clear name (OfQuery make) (a ∷ b ∷ more) refl f p,
+      in_range (b ∷ more) (omega arith) (omega (arith, short)),
+      any_text more,
+    ) refl
 level_fits name (OfSizes make) (a ∷ b ∷ c ∷ more) f p short =
-    rw (ends (OfSizes make) (a ∷ b ∷ c ∷ more) refl f p, clear name (OfSizes make) (a ∷ b ∷ c ∷ more) refl f p,
-        in_range (c ∷ more) (omega arith) (omega (arith, short)), any_text more) refl
+    rw (
+      ends (OfSizes make) (a ∷ b ∷ c ∷ more) refl f p,
+      clear name (OfSizes make) (a ∷ b ∷ c ∷ more) refl f p,
+      in_range (c ∷ more) (omega arith) (omega (arith, short)),
+      any_text more,
+    ) refl
 level_fits name (OfOffset make) (a ∷ b ∷ []) f p short =
     rw (ends (OfOffset make) (a ∷ b ∷ []) refl f p, clear name (OfOffset make) (a ∷ b ∷ []) refl f p) refl
 level_fits name (OfTyped make) (a ∷ more) f p short = typed_fits name (OfTyped make) None (a ∷ more) refl f tt p short
@@ -144,8 +156,17 @@ level_unfit name (OfSizes make) (a ∷ b ∷ []) f p =
 level_unfit name (OfOffset make) [] f p = refl
 level_unfit name (OfOffset make) (a ∷ []) f p = rw (p.0.dashes, p.0.long, p.0.short) refl
 level_unfit name (OfOffset make) (a ∷ b ∷ c ∷ more) f p =
-    rw (p.0.dashes, p.0.long, p.0.short, p.1.0.dashes, p.1.0.long, p.1.0.short, p.1.1.0.dashes, p.1.1.0.long,
-        p.1.1.0.short) refl
+    rw (
+      p.0.dashes,
+      p.0.long,
+      p.0.short,
+      p.1.0.dashes,
+      p.1.0.long,
+      p.1.0.short,
+      p.1.1.0.dashes,
+      p.1.1.0.long,
+      p.1.1.0.short,
+    ) refl
 level_unfit name (OfTyped make) words f p = typed_unfit name (OfTyped make) None words refl f tt p
 level_unfit name (OfTypedSizes make) words f p = typed_unfit name (OfTypedSizes make) None words refl f tt p
 level_unfit _ _ _ f p = cc

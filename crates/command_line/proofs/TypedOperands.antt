@@ -137,19 +137,33 @@ pub typed_fits : (name : Text) (form : Form) (choice : Option Text) (words : Lis
     → level_fault (shaped (name, form)) [] nothing_held (choice_words choice ++ words) false [] ≡ []
 unfolding defaults_fault
 typed_fits name (OfTyped make) None (a ∷ more) t f q p short =
-    rw (ends (OfTyped make) None (a ∷ more) t f q p, clear name (OfTyped make) None (a ∷ more) t f q p,
-        in_range (a ∷ more) (omega arith) short, any_text more) refl
+    rw (
+      ends (OfTyped make) None (a ∷ more) t f q p,
+      clear name (OfTyped make) None (a ∷ more) t f q p,
+      in_range (a ∷ more) (omega arith) short,
+      any_text more,
+    ) refl
 typed_fits name (OfTyped make) (Some text) (a ∷ more) t f q p short =
-    rw (ends (OfTyped make) (Some text) (a ∷ more) t f q p, clear name (OfTyped make) (Some text) (a ∷ more) t f q p,
-        in_range (a ∷ more) (omega arith) short, any_text more) refl
+    rw (
+      ends (OfTyped make) (Some text) (a ∷ more) t f q p,
+      clear name (OfTyped make) (Some text) (a ∷ more) t f q p,
+      in_range (a ∷ more) (omega arith) short,
+      any_text more,
+    ) refl
 typed_fits name (OfTypedSizes make) None (a ∷ b ∷ c ∷ more) t f q p short =
-    rw (ends (OfTypedSizes make) None (a ∷ b ∷ c ∷ more) t f q p,
-        clear name (OfTypedSizes make) None (a ∷ b ∷ c ∷ more) t f q p,
-        in_range (c ∷ more) (omega arith) (omega (arith, short)), any_text more) refl
+    rw (
+      ends (OfTypedSizes make) None (a ∷ b ∷ c ∷ more) t f q p,
+      clear name (OfTypedSizes make) None (a ∷ b ∷ c ∷ more) t f q p,
+      in_range (c ∷ more) (omega arith) (omega (arith, short)),
+      any_text more,
+    ) refl
 typed_fits name (OfTypedSizes make) (Some text) (a ∷ b ∷ c ∷ more) t f q p short =
-    rw (ends (OfTypedSizes make) (Some text) (a ∷ b ∷ c ∷ more) t f q p,
-        clear name (OfTypedSizes make) (Some text) (a ∷ b ∷ c ∷ more) t f q p,
-        in_range (c ∷ more) (omega arith) (omega (arith, short)), any_text more) refl
+    rw (
+      ends (OfTypedSizes make) (Some text) (a ∷ b ∷ c ∷ more) t f q p,
+      clear name (OfTypedSizes make) (Some text) (a ∷ b ∷ c ∷ more) t f q p,
+      in_range (c ∷ more) (omega arith) (omega (arith, short)),
+      any_text more,
+    ) refl
 typed_fits name _ choice _ t f q p short = cc
 
 -- ---- words that don't fit

@@ -112,8 +112,7 @@ module _ (limit : ℕ) where
   next_copied o h (Ok l) (Some z) None after w u n e c = absurd n
   next_copied o h (Ok l) (Some z) (Some y) None w u n e c = absurd c.ends.2
   next_copied o h (Ok l) (Some z) (Some y) (Some x) w u n e c =
-      let b = (next-spelled limit o z y h n).0 ∙ c.wrote.begins.1 in
-      (
+      let b = (next-spelled limit o z y h n).0 ∙ c.wrote.begins.1 in (
         c.wrote.front,
         c.ends.0,
         c.wrote.grown,

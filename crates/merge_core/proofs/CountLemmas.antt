@@ -81,8 +81,12 @@ module _ (limit : ℕ) (past : List ℕ → Bool) (start : Pair) (b : Option Pai
         (subst (λ o. Fed limit past o (extent s) f (waits_of n ws)) known.0 fed.0) are.0 (cut.0 t i known.0 are.0)
         (subst (λ o. AllByRecursion (λ m. IsUpto b (member_pair m)) (done limit (text_or o) f)) known.0 parts.0) in
         let rest = lines_most (n + 1) ss fs ts is (omega arith) known.1 are.1 cut.1 fed.1 parts.1 in
-        omega (arith, sum_by-cons (λ (k : ℕ). k) f.cursor.count (map (λ (f : Feed). f.cursor.count) fs),
-            ap length (filter-append test i (all_lines is)), length-append (filter test i) (filter test (all_lines is)))
+        omega (
+          arith,
+          sum_by-cons (λ (k : ℕ). k) f.cursor.count (map (λ (f : Feed). f.cursor.count) fs),
+          ap length (filter-append test i (all_lines is)),
+          length-append (filter test i) (filter test (all_lines is)),
+        )
 
 -- ---- lines that were taken
 

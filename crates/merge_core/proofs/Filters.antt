@@ -39,9 +39,12 @@ filter_weaker f g (x ∷ xs) h = grind (arith, cond-true, filter_weaker f g xs h
 pub filter_front : {X : Type 0} (f : X → Bool) (n : ℕ) (xs : List X)
     → length (filter f (take n xs)) ≤ length (filter f xs)
 filter_front f n xs =
-    omega (arith, ap (λ l. length (filter f l)) (take-append-drop n xs),
-        ap length (filter-append f (take n xs) (drop n xs)),
-        length-append (filter f (take n xs)) (filter f (drop n xs)))
+    omega (
+      arith,
+      ap (λ l. length (filter f l)) (take-append-drop n xs),
+      ap length (filter-append f (take n xs) (drop n xs)),
+      length-append (filter f (take n xs)) (filter f (drop n xs)),
+    )
 
 pub filter_back : {X : Type 0} (f : X → Bool) (us vs : List X) → length (filter f vs) ≤ length (filter f (us ++ vs))
 filter_back f us vs = grind (arith, filter-append, length-append)

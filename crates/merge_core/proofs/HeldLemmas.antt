@@ -89,8 +89,13 @@ module _ (limit : ℕ) (past : List ℕ → Bool) {S : Type 0} (text : S → Opt
   all_fewer n (s ∷ ss) (f ∷ fs) ws (t ∷ ts) (i ∷ is) test e known are fed =
       let here = done_fewer t (extent s) f (waits_of n ws) i test
       (subst (λ o. Fed limit past o (extent s) f (waits_of n ws)) known.0 fed.0) are.0 in
-      grind (arith, filter-append, length-append, all_fewer (n + 1) ss fs ws ts is test (omega arith) known.1 are.1
-      fed.1)
+      grind (
+        arith,
+        filter-append,
+        length-append,
+        all_fewer (n + 1) ss fs ws ts is test (omega arith) known.1 are.1
+            fed.1,
+      )
 
 pub held_after : {B : Type 0} (value : B → Member) (ws : List WaitingLine) (first : Member) (rest : List B)
     (old new bound : ℕ) → new ≡ max old (min (length ws + 1 + length rest) (2 ^ 64 - 1))

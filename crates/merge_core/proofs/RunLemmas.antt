@@ -110,8 +110,14 @@ module _ (limit : ℕ) (past : List ℕ → Bool) {S : Type 0} (text : S → Opt
         given_read limit past upward upto t (extent s) f (waits_of n ws)
         (subst (λ o. Fed limit past o (extent s) f (waits_of n ws)) (is_told (text s) told.0) fed.0) settled.0
         (late_of limit past upward upto text extent ws late n) cut.0 in
-        grind (arith, filter-append, is_read, stays, parts_read (n + 1) ss fs (omega arith) told.1 fed.1 settled.1
-        cut.1)
+        grind (
+          arith,
+          filter-append,
+          is_read,
+          stays,
+          parts_read (n + 1) ss fs (omega arith) told.1 fed.1 settled.1
+              cut.1,
+        )
 
 -- ---- where a merge came to
 

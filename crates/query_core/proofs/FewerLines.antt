@@ -38,8 +38,11 @@ all_count : (parts : List (List Member)) → length (all_lines parts) ≡ sum (m
 all_count [] = omega arith
 all_count (ms ∷ parts) =
     let h = all_count parts in
-    omega (arith, length-append ms (all_lines parts),
-        sum_by-cons (λ (k : ℕ). k) (length ms) (map (λ (ms : List Member). length ms) parts))
+    omega (
+      arith,
+      length-append ms (all_lines parts),
+      sum_by-cons (λ (k : ℕ). k) (length ms) (map (λ (ms : List Member). length ms) parts),
+    )
 
 over_fewer : (q : QueryValue) (from : Option PlaceValue) (limit : Option ℕ) (lines : List Member)
     → length (page_over q from limit lines).members ≤ length lines

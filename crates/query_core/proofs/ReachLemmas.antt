@@ -268,8 +268,13 @@ module _ {S : Type 0} (text : S → Option (List ℕ)) (extent gave : S → ℕ)
       (λ x y m c. λ t members e i. subst (λ n. IsCut (start_pair q from) t members n) (sym m.start_kept)
       (c t members (sym m.text_kept ∙ e) i)) (zip ss0 fs0) (zip ss fs) reached.moved cut)
       reached.ready.fed (reached.handed.told (told_known text ss0 texts known)).1 in
-      omega (arith, h, as_many (IsIndex LINE_LIMIT) texts indexes are,
-          as_many (λ told t. told ≡ Some t) (map text ss0) texts known, length-map ss0 text)
+      omega (
+        arith,
+        h,
+        as_many (IsIndex LINE_LIMIT) texts indexes are,
+        as_many (λ told t. told ≡ Some t) (map text ss0) texts known,
+        length-map ss0 text,
+      )
 
 pub within_opening : {S : Type 0} (text : S → Option (List ℕ)) (extent gave : S → ℕ) (test : Member → Bool)
     (texts : List (List ℕ)) (indexes : List (List Member)) (olds news : List S) → Known (map text olds) texts

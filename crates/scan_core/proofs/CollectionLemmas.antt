@@ -117,5 +117,11 @@ all_members (captures ∷ archives) = grind (arith, map-append, all_members arch
 
 pub collected : (archives : List (List EntryValue)) → collection (map index_members archives) ≡ captured_lines archives
 collected archives =
-    grind (arith, all_members archives, rising_referred entry_member member_place place_cmp
-    (flat_map in_places archives), rising_parts, place_cmp_total)
+    grind (
+      arith,
+      all_members archives,
+      rising_referred entry_member member_place place_cmp
+          (flat_map in_places archives),
+      rising_parts,
+      place_cmp_total,
+    )

@@ -32,8 +32,16 @@ closed-occurs xs n l h = grind (arith, length-take-le, closed-last, get_or-take,
 
 occurs-closed : (xs : List ℕ) (k : ℕ) → OccursAt xs closing k → is_closed (take (k + 4) xs) ≡ true
 occurs-closed xs k h =
-    grind (arith, length-take-le (k + 4) xs h.fits, length-drop k (take (k + 4) xs), get_or-drop, get_or-take, four,
-    lit<, last-closed)
+    grind (
+      arith,
+      length-take-le (k + 4) xs h.fits,
+      length-drop k (take (k + 4) xs),
+      get_or-drop,
+      get_or-take,
+      four,
+      lit<,
+      last-closed,
+    )
 
 -- behind a place
 occurs-behind : (xs : List ℕ) (from k : ℕ) → from ≤ length xs → OccursAt xs closing (from + k)

@@ -40,8 +40,13 @@ found-behind c left n piece (Some z) (Some w) l h k f =
 pub take-written : (a k n : ℕ) (xs ys : List ℕ) → a ≤ length xs → n ≤ length ys → take (a + n) (put_mid a k xs ys)
     ≡ take a xs ++ take n ys
 take-written a k n xs ys h m =
-    grind (arith, length-take-le a xs h, take-take (a + n) (a + length ys) (put_mid a k xs ys) (omega arith),
-    take-put_mid, take-append-add)
+    grind (
+      arith,
+      length-take-le a xs h,
+      take-take (a + n) (a + length ys) (put_mid a k xs ys) (omega arith),
+      take-put_mid,
+      take-append-add,
+    )
 
 -- So many bytes of a piece were filled from an open record's block.
 pub record Filling (left len : ℕ) (old now : ReaderView) (before mid : Option (List ℕ)) (size filled : ℕ)
@@ -66,9 +71,11 @@ Filling-more left len old now next before mid after size filled n piece part cou
       opened = f.opened;
       fits = f.fits;
       long = same_len_mid filled (length piece - filled) piece part
-          (omega (arith,
-              length-take-le (length piece - filled) (drop filled piece) (omega (arith, length-drop filled piece)),
-              length-drop filled piece)) ∙ long;
+          (omega (
+            arith,
+            length-take-le (length piece - filled) (drop filled piece) (omega (arith, length-drop filled piece)),
+            length-drop filled piece,
+          )) ∙ long;
       within = omega arith;
       stands = grind arith;
       given = rw (take-written filled (length piece - filled) n piece part (omega arith) g.bound.1)

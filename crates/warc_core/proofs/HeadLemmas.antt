@@ -95,11 +95,11 @@ closed-long_1_1 : (seen : List ℕ) → is_closed seen ≡ true → agrees seen 
 closed-long_1_1 seen h a =
     elim (which (nat_lt (length seen) 12)) [
       | inl t ↦ (elim (which (nat_lt (length seen) 11)) [
-            | inl u ↦ (let m : length seen < 11 = grind arith in
-                absurd (let f = open_1_1 (length seen) m in let e = agrees-front seen version_1_1 a (omega arith) in
-                cc))
-            | inr u ↦ grind arith
-          ])
+        | inl u ↦ (let m : length seen < 11 = grind arith in
+            absurd (let f = open_1_1 (length seen) m in let e = agrees-front seen version_1_1 a (omega arith) in
+            cc))
+        | inr u ↦ grind arith
+      ])
       | inr f ↦ grind arith
     ]
 
@@ -107,11 +107,11 @@ closed-long_1_0 : (seen : List ℕ) → is_closed seen ≡ true → agrees seen 
 closed-long_1_0 seen h a =
     elim (which (nat_lt (length seen) 12)) [
       | inl t ↦ (elim (which (nat_lt (length seen) 11)) [
-            | inl u ↦ (let m : length seen < 11 = grind arith in
-                absurd (let f = open_1_0 (length seen) m in let e = agrees-front seen version_1_0 a (omega arith) in
-                cc))
-            | inr u ↦ grind arith
-          ])
+        | inl u ↦ (let m : length seen < 11 = grind arith in
+            absurd (let f = open_1_0 (length seen) m in let e = agrees-front seen version_1_0 a (omega arith) in
+            cc))
+        | inr u ↦ grind arith
+      ])
       | inr f ↦ grind arith
     ]
 

@@ -37,8 +37,12 @@ found-of-record c left (Some z) after f = grind arith
 pub block-part : (n : ℕ) (front w : List ℕ) → length front ≤ n → after_block n (front ++ w)
     ≡ after_block (n - length front) w
 block-part n front w l =
-    grind (arith, drop_all (length front) front (omega arith), after_block-part n (length front) front w l
-    (omega arith))
+    grind (
+      arith,
+      drop_all (length front) front (omega arith),
+      after_block-part n (length front) front w l
+          (omega arith),
+    )
 
 record-part : (n : ℕ) (front w : List ℕ) → length front ≤ n → after_record n (front ++ w)
     ≡ after_record (n - length front) w

@@ -233,8 +233,14 @@ no-prefix limit head head' parts parts' block block' text more t u =
     let is : parts ≡ parts' = cc in
     let size : length block ≡ length block' = t.block_length ∙ (ap (λ k. k.length) is ∙ sym u.block_length) in
     let sizes : length ((block ++ closing) ++ more) ≡ length (block' ++ closing) = ap length r.1 in
-    nil_of more (omega (arith, sizes, size, length-append (block ++ closing) more, length-append block closing,
-        length-append block' closing))
+    nil_of more (omega (
+      arith,
+      sizes,
+      size,
+      length-append (block ++ closing) more,
+      length-append block closing,
+      length-append block' closing,
+    ))
 
 abbrev pub Outcome : ℕ → ℕ → List ℕ → Type 0
 Outcome limit start bytes = (heads : List HeadView) × (end : ℕ) × (rest : List ℕ)

@@ -88,8 +88,12 @@ digit_at_most b h = grind arith
 pub two_small : (w : List ℕ) (i : ℕ) → fits to_the_second w ≡ true → get_or to_the_second i 0 ≡ 48
     → get_or to_the_second (i + 1) 0 ≡ 48 → two w i ≤ 99
 two_small w i h a b =
-    grind (arith, digit_at_most (get_or w i 0) (digit_at to_the_second w i h a), digit_at_most (get_or w (i + 1) 0)
-    (digit_at to_the_second w (i + 1) h b))
+    grind (
+      arith,
+      digit_at_most (get_or w i 0) (digit_at to_the_second w i h a),
+      digit_at_most (get_or w (i + 1) 0)
+          (digit_at to_the_second w (i + 1) h b),
+    )
 
 -- the stamp of a date text is of digits
 pub digits_of-digits : (w : List ℕ) → fits to_the_second w ≡ true → all_digits (digits_of w) ≡ true

@@ -44,8 +44,16 @@ more_read : (more : List (List ℕ)) (rest : List ℕ) (later : Given) → All I
 unfolding given_by
 more_read [] rest later h r = r
 more_read (text ∷ more) rest later h r =
-    grind (arith, all_first, append_assoc, line_first, line_text, all_later, more_read more rest later
-    (all_later IsContinuation text more h) r)
+    grind (
+      arith,
+      all_first,
+      append_assoc,
+      line_first,
+      line_text,
+      all_later,
+      more_read more rest later
+          (all_later IsContinuation text more h) r,
+    )
 
 first_plain : (f : Folded) → IsFolded f → list_all is_content (f.name ++ (58 ∷ f.rest)) ≡ true
 first_plain f h = grind (arith, list_all-append, names-plain, name_bytes)

@@ -36,8 +36,13 @@ last_of P (q ∷ before) p h = last_of P before p (later_of P q (before ++ p ∷
 
 before_of : (P : FieldSpan → Type 0) (before : List FieldSpan) (p : FieldSpan) → All P (before ++ p ∷ []) → All P before
 before_of P [] p h = All-nil P
-before_of P (q ∷ before) p h = grind (arith, first_of, later_of, before_of P before p
-    (later_of P q (before ++ p ∷ []) h))
+before_of P (q ∷ before) p h = grind (
+  arith,
+  first_of,
+  later_of,
+  before_of P before p
+      (later_of P q (before ++ p ∷ []) h),
+)
 
 fields_more : (text more : List ℕ) (spans : List FieldSpan) → All (IsWithin (length text)) spans
     → fields_at (text ++ more) spans ≡ fields_at text spans

@@ -17,8 +17,13 @@ by_lanes-preserved c =
     let lanes = chunk end 16 bytes in
     let room : end + 16 ≤ length bytes = omega (arith, c.by_lanes.invariant.0, c.by_lanes-test.true) in
     let all = length-chunk end 16 bytes room in
-    let whole : prefix_len other lanes ≡ length lanes = omega (arith, c.run_before-run.ensures, c.if-run-lt-LANES.false,
-        prefix_len-le-length other lanes, all) in
+    let whole : prefix_len other lanes ≡ length lanes = omega (
+      arith,
+      c.run_before-run.ensures,
+      c.if-run-lt-LANES.false,
+      prefix_len-le-length other lanes,
+      all,
+    ) in
     let cut = ap (prefix_len other) (chunk-drop end 16 bytes) ∙ prefix_len-append other lanes (drop (end + 16) bytes)
     ∙ cond-true _ _ _ (eq-eqb _ _ whole) in
     (room, omega (arith, cut, all, c.by_lanes.invariant.1))

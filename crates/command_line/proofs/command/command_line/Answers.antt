@@ -13,8 +13,13 @@ more s h e = grind arith
 pub returns : goal.returns
 returns c =
     let bare : app_of c.disable_help_subcommand-program.result ≡ without_commands =
-    rw (c.disable_help_subcommand-program.ensures, c.no_binary_name.ensures, c.after_help.ensures, c.about.ensures,
-        c.in_ok-bin_name.ensures.0)
+    rw (
+      c.disable_help_subcommand-program.ensures,
+      c.no_binary_name.ensures,
+      c.after_help.ensures,
+      c.about.ensures,
+      c.in_ok-bin_name.ensures.0,
+    )
     (ap (λ (a : App). record a { top = record a.top { no_binary_name = true; disable_help_subcommand = true } })
     c.new.ensures.app) in
     more _ c.in_ok-scan.ensures

@@ -12,6 +12,15 @@ other name word differ = go (bytes_eq word name) refl
 pub returns-in_default : goal.returns-in_default
 returns-in_default c =
     let d = c.in_default in
-    rw (other _ _ d.not-list, other _ _ d.not-verify, other _ _ d.not-index, other _ _ d.not-merge,
-        other _ _ d.not-check, other _ _ d.not-query, other _ _ d.not-pages, other _ _ d.not-serve, other _ _ d.not-get,
-        other _ _ d.not-scan) refl
+    rw (
+      other _ _ d.not-list,
+      other _ _ d.not-verify,
+      other _ _ d.not-index,
+      other _ _ d.not-merge,
+      other _ _ d.not-check,
+      other _ _ d.not-query,
+      other _ _ d.not-pages,
+      other _ _ d.not-serve,
+      other _ _ d.not-get,
+      other _ _ d.not-scan,
+    ) refl

@@ -18,8 +18,13 @@ returns-in-Ok-None-clause-gains g c =
       s.0,
       s.1,
       (
-        omega (arith, c.len.ensures, c.loop-captures.invariant.held, ap length s.1,
-            length-append c.args.captures.now.items s.0),
+        omega (
+          arith,
+          c.len.ensures,
+          c.loop-captures.invariant.held,
+          ap length s.1,
+          length-append c.args.captures.now.items s.0,
+        ),
         s.3,
         AddedSoFar-end (includes c.args.types) usual_limits HEAD_LIMIT c.args.name.now _
             _ _ c.loop-captures.reader.offset s.0 s.2 e.takes,

@@ -181,5 +181,10 @@ returns-clause-held g c = λ texts indexes known are most share.
     let opened = c.in_ok-opened.ensures in
     let known1 = subst (λ l. Known l texts) (sym opened.text) known in
     let few = c.merge.ensures.held texts indexes known1 are most share (omega (arith, opened.held)) in
-    omega (arith, few, ap length opened.extent, length-map c.open_at.new.sources g.S.Source.extent,
-        length-map c.args.sources.now g.S.Source.extent)
+    omega (
+      arith,
+      few,
+      ap length opened.extent,
+      length-map c.open_at.new.sources g.S.Source.extent,
+      length-map c.args.sources.now g.S.Source.extent,
+    )

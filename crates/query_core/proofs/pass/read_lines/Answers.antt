@@ -54,8 +54,13 @@ pub returns-clause-held : goal.returns-clause-held
 returns-clause-held g c = λ texts indexes known are most share.
     let h = c.merge.ensures.held texts indexes (subst (λ l. Known l texts) (sym c.open_at.ensures.text) known) are most
     share (omega (arith, c.in_ok-opened.ensures.held)) in
-    omega (arith, h, ap length c.open_at.ensures.text, length-map c.open_at.new.sources g.S.Source.text,
-        length-map c.args.sources.now g.S.Source.text)
+    omega (
+      arith,
+      h,
+      ap length c.open_at.ensures.text,
+      length-map c.open_at.new.sources g.S.Source.text,
+      length-map c.args.sources.now g.S.Source.text,
+    )
 
 -- ---- sources that couldn't be opened
 
@@ -246,8 +251,14 @@ returns-clause-took g c =
           (known1 texts known) are (ok.ended e) in
           let h = lines_within text extent gave q from ss1 fs1 ss2 fs2 ws b taken same reached cut texts indexes
           (known1 texts known) are (known2 texts known) taken all limit most in
-          omega (arith, c.lines.ensures, h, length-map ss1 text, length-map c.args.sources.now text,
-              ap length c.open_at.ensures.text);
+          omega (
+            arith,
+            c.lines.ensures,
+            h,
+            length-map ss1 text,
+            length-map c.args.sources.now text,
+            ap length c.open_at.ensures.text,
+          );
     }) (λ e.
     let l = ok.passed.last e in
     record {
@@ -278,6 +289,12 @@ returns-clause-took g c =
           (known1 texts known) are l.pair l.earlier l.group l.bound_is l.split l.alike in
           let h = lines_within text extent gave q from ss1 fs1 ss2 fs2 ws b taken same reached cut texts indexes
           (known1 texts known) are (known2 texts known) l.earlier last limit most in
-          omega (arith, c.lines.ensures, h, length-map ss1 text, length-map c.args.sources.now text,
-              ap length c.open_at.ensures.text);
+          omega (
+            arith,
+            c.lines.ensures,
+            h,
+            length-map ss1 text,
+            length-map c.args.sources.now text,
+            ap length c.open_at.ensures.text,
+          );
     })

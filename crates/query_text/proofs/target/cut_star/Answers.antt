@@ -15,5 +15,8 @@ no_star (b ∷ c ∷ bytes) h =
 
 pub returns-in-None : goal.returns-in-None
 returns-in-None c =
-    grind (arith, no_star c.args.text.now
-    (strip_suffix_char 42 c.args.text.now None c.in-None.ensures.cases (omega arith)))
+    grind (
+      arith,
+      no_star c.args.text.now
+          (strip_suffix_char 42 c.args.text.now None c.in-None.ensures.cases (omega arith)),
+    )

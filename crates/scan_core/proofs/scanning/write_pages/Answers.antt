@@ -17,8 +17,11 @@ returns-in_err-sources-clause-pages g c = λ members are.
     grind (arith, wrote_nothing)
 
 pub returns-clause-pages : goal.returns-clause-pages
-returns-clause-pages g c = grind (arith, known_texts slice_text c.deref_mut.result.now (map gathered c.args.indexes.now)
-    (grind arith))
+returns-clause-pages g c = grind (
+  arith,
+  known_texts slice_text c.deref_mut.result.now (map gathered c.args.indexes.now)
+      (grind arith),
+)
 
 pub returns-clause-failures : goal.returns-clause-failures
 returns-clause-failures g c = grind arith

@@ -22,8 +22,11 @@ stands : (g : Over) (c : After-min-count g)
     → AreBytesAt (g.S.Source.text c.hold.new.source) (g.S.Source.extent c.hold.new.source) c.loop-at.at
     c.from-held.result.now
 stands g c =
-    grind (arith, held_stands (g.S.Source.text c.hold.new.source) (g.S.Source.extent c.hold.new.source) c.hold.new.self
-    c.loop-at.at (grind arith) (omega (arith, c.in_ok-hold.ensures.extent, c.loop-at.invariant.extent)))
+    grind (
+      arith,
+      held_stands (g.S.Source.text c.hold.new.source) (g.S.Source.extent c.hold.new.source) c.hold.new.self
+          c.loop-at.at (grind arith) (omega (arith, c.in_ok-hold.ensures.extent, c.loop-at.invariant.extent)),
+    )
 
 -- and they are its text
 bytes : (g : Over) (c : After-min-count g) (t : List ℕ) → g.S.Source.text c.args.source.now ≡ Some t

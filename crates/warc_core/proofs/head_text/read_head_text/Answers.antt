@@ -38,8 +38,14 @@ returns-in-Some-clause-bytes g c = grind (arith, head-found)
 
 pub loop-buffer-preserved : goal.loop-buffer-preserved
 loop-buffer-preserved g c =
-    grind (arith, length-take-le, take_all (length c.extend_from_slice.new.self.items)
-    c.extend_from_slice.new.self.items (omega arith), open-more, head-piece)
+    grind (
+      arith,
+      length-take-le,
+      take_all (length c.extend_from_slice.new.self.items)
+          c.extend_from_slice.new.self.items (omega arith),
+      open-more,
+      head-piece,
+    )
 
 pub returns-clause-bytes : goal.returns-clause-bytes
 returns-clause-bytes g c = grind (arith, head-long)

@@ -25,5 +25,8 @@ returns-clause-bytes g c =
 
 pub from_parts-requires : goal.from_parts-requires
 from_parts-requires g c =
-    grind (arith, found-spelled HEAD_LIMIT c.in_ok-raw.raw.items c.in_ok-parts.parts.parts c.in_ok-raw.ensures.found
-    (read-ok c.in_ok-raw.raw.items c.in_ok-parts.parts.parts c.in_ok-parts.ensures.answer))
+    grind (
+      arith,
+      found-spelled HEAD_LIMIT c.in_ok-raw.raw.items c.in_ok-parts.parts.parts c.in_ok-raw.ensures.found
+          (read-ok c.in_ok-raw.raw.items c.in_ok-parts.parts.parts c.in_ok-parts.ensures.answer),
+    )

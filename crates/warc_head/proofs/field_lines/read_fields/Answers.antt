@@ -96,8 +96,11 @@ lines-preserved c =
           subst (λ t. field_in t ≡ Ok (field_at t span)) spelled w.in-Some-field_in.ensures.1 in
           let front : length (take (at d) (text d))
           ≡ at d = length-take-le (at d) (text d)
-          (omega (arith, (line d).order,
-              inside_text (raw d) (text d) kept.text (end d) (at d) kept.end (stop d) (ends d))) in
+          (omega (
+            arith,
+            (line d).order,
+            inside_text (raw d) (text d) kept.text (end d) (at d) kept.end (stop d) (ends d),
+          )) in
           let held = line_held (raw d) (text d) kept.text (end d) (at d) kept.end (stop d) (ends d) in
           let moved_is : w.moved.result ≡ moved (length (take (at d) (text d))) span = w.moved.ensures
           ∙ ap (λ n. moved n span) (sym front) in

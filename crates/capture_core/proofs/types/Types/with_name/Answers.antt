@@ -12,5 +12,10 @@ other kind name differ = go (bytes_eq kind name) refl
 pub returns-in_default : goal.returns-in_default
 returns-in_default c =
     let d = c.in_default in
-    rw (other _ _ d.not-response, other _ _ d.not-resource, other _ _ d.not-revisit, other _ _ d.not-conversion,
-        other _ _ d.not-metadata) refl
+    rw (
+      other _ _ d.not-response,
+      other _ _ d.not-resource,
+      other _ _ d.not-revisit,
+      other _ _ d.not-conversion,
+      other _ _ d.not-metadata,
+    ) refl

@@ -61,8 +61,16 @@ returns-then-length-len-clause-long g c = λ t e _.
     let told = inv.told t e in
     let first = first_at_least t (held g here) (length (held g here)) c.loop-self.self-inside.at n c.args.self.now.at
     c.loop-self.line.items (bytes g here t e) (inside g here) told.1 told.2 _ (part g here) in
-    omega (arith, inv.short, c.len.ensures, c.if-length-len.true,
-        length-append c.loop-self.line.items (take n (held g here)), length-take n (held g here), inside g here, first)
+    omega (
+      arith,
+      inv.short,
+      c.len.ensures,
+      c.if-length-len.true,
+      length-append c.loop-self.line.items (take n (held g here)),
+      length-take n (held g here),
+      inside g here,
+      first,
+    )
 
 pub returns-then-ends-clause-given : goal.returns-then-ends-clause-given
 returns-then-ends-clause-given g c = grind (arith, ended, inside, part, grown)

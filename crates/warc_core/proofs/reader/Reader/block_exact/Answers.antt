@@ -43,8 +43,7 @@ loop-filled-smaller g c =
 pub loop-filled-preserved : goal.loop-filled-preserved
 loop-filled-preserved g c =
     let i = c.loop-filled.invariant in
-    let b = c.in_ok-filled.ensures.open _ i.1 i.2.stands.phase_is in
-    (
+    let b = c.in_ok-filled.ensures.open _ i.1 i.2.stands.phase_is in (
       i.0,
       i.1,
       Filling-more i.0 i.1 _ _ _ _ _ _ _ c.loop-filled.filled c.in_ok-filled.field-0 c.loop-filled.piece
