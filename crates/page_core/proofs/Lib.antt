@@ -1,5 +1,4 @@
 pub mod PageLaws
 pub mod PageLemmas
-pub mod EscapeLemmas
 pub mod HiddenLemmas
 pub mod JsonLemmas

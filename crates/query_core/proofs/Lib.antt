@@ -1,4 +1,3 @@
-pub mod CountLemmas
 pub mod ConversionLemmas
 pub mod RefusalLemmas
 pub mod Runs
@@ -14,7 +13,6 @@ pub mod RisingPages
 pub mod SoundIndexes
 pub mod FieldNames
 pub mod LineReplies
-pub mod ReplyCounts
 pub mod ReplyLemmas
 pub mod ReachLemmas
 pub mod PageReach

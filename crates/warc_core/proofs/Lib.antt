@@ -10,7 +10,6 @@ pub mod ClosingLemmas
 pub mod ArchiveLemmas
 pub mod OpenLemmas
 pub mod FillLemmas
-pub mod CauseLemmas
 pub mod HeadTextLemmas
 pub mod DamageLemmas
 pub mod LimitLemmas

@@ -1,2 +1,0 @@
--- Which device failed, after several calls.
-use Rattle.std.proofs.Common.{◌≡◌}

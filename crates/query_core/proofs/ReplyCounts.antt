@@ -1,2 +1,0 @@
--- Which device failed in a conversation.
-use Rattle.std.proofs.Common.{◌≡◌, ◌∙◌}

@@ -1,2 +1,0 @@
--- Which causes end which reading.
-use Rattle.std.proofs.Common.{◌≢◌}
