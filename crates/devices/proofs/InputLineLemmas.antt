@@ -42,16 +42,16 @@ module _ (most : ℕ) where
   so_far-more None now after line new s p = tt
   so_far-more (Some text) None after line new s p = absurd s
   so_far-more (Some text) (Some now) None line new s p = absurd p
-  so_far-more (Some text) (Some now) (Some rest) line new (seen, whole, free, held)
-      (piece, part, free_part, kept) = grind (arith, append_assoc, no_line_feed-append, take-more)
+  so_far-more (Some text) (Some now) (Some rest) line new (seen, whole, free, held) (piece, part, free_part, kept) =
+      grind (arith, append_assoc, no_line_feed-append, take-more)
 
   pub so_far-ended : (before now after : Option (List ℕ)) (line new : List ℕ) → LineSoFar most before now line
       → TakesPart most Ended now after line new → TakesLine most true before after new
   so_far-ended None now after line new s p = tt
   so_far-ended (Some text) None after line new s p = absurd s
   so_far-ended (Some text) (Some now) None line new s p = absurd p
-  so_far-ended (Some text) (Some now) (Some rest) line new (seen, whole, free, held)
-      (piece, part, free_part, kept) = grind (arith, append_assoc, cut-front, no_line_feed-append, take-more)
+  so_far-ended (Some text) (Some now) (Some rest) line new (seen, whole, free, held) (piece, part, free_part, kept) =
+      grind (arith, append_assoc, cut-front, no_line_feed-append, take-more)
 
   last : (seen : List ℕ) → HasNoLineFeed seen → 0 < length seen → cut_lines seen ≡ seen ∷ []
   last [] free some = absurd (omega arith)

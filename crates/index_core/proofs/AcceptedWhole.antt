@@ -14,8 +14,8 @@ all_taken : (types : Kind → Bool) (limits : Limits) (limit : ℕ) (name archiv
     → AreCaptured types limits limit name archive heads captures
     → AllByRecursion (IsTaken types limits limit name archive) heads
 all_taken types limits limit name archive [] captures c = tt
-all_taken types limits limit name archive (h ∷ heads) captures
-    c = grind (arith, one_capture, all_taken types limits limit name archive heads c.1 c.3)
+all_taken types limits limit name archive (h ∷ heads) captures c =
+    grind (arith, one_capture, all_taken types limits limit name archive heads c.1 c.3)
 
 pub accepted_is_whole : AcceptedIsWhole
 accepted_is_whole types limits limit name archive captures a = record {

@@ -62,8 +62,8 @@ module _ (limit : ℕ) (past : List ℕ → Bool) {S : Type 0} (text : S → Opt
       → AreFed limit past text extent n ss fs ws'
   fed_other n i [] fs ws ws' l same h = tt
   fed_other n i (s ∷ ss) [] ws ws' l same h = tt
-  fed_other n i (s ∷ ss) (f ∷ fs) ws ws' l same
-      h = grind (arith, fed_other (n + 1) i ss fs ws ws' (omega arith) same h.1)
+  fed_other n i (s ∷ ss) (f ∷ fs) ws ws' l same h =
+      grind (arith, fed_other (n + 1) i ss fs ws ws' (omega arith) same h.1)
 
   -- one source, its feed and its waiting lines change
   pub fed_set : (n i : ℕ) (ss : List S) (fs : List Feed) (ws ws' : List WaitingLine) (s : S) (f : Feed)

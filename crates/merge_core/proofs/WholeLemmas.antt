@@ -72,8 +72,8 @@ module _ {S : Type 0} (text : S → Option (List ℕ)) (extent gave : S → ℕ)
   texts_kept (s ∷ ss) [] fs fs' e e' h = absurd (omega arith)
   texts_kept (s ∷ ss) (s' ∷ ss') [] fs' e e' h = absurd (omega arith)
   texts_kept (s ∷ ss) (s' ∷ ss') (f ∷ fs) [] e e' h = absurd h
-  texts_kept (s ∷ ss) (s' ∷ ss') (f ∷ fs) (f' ∷ fs') e e'
-      h = grind (arith, texts_kept ss ss' fs fs' (omega arith) (omega arith) h.1)
+  texts_kept (s ∷ ss) (s' ∷ ss') (f ∷ fs) (f' ∷ fs') e e' h =
+      grind (arith, texts_kept ss ss' fs fs' (omega arith) (omega arith) h.1)
 
   pub extents_kept : (ss ss' : List S) (fs fs' : List Feed) → length ss ≡ length fs → length ss' ≡ length ss
       → AllZip (Move text extent gave) (zip ss fs) (zip ss' fs') → map extent ss' ≡ map extent ss
@@ -82,8 +82,8 @@ module _ {S : Type 0} (text : S → Option (List ℕ)) (extent gave : S → ℕ)
   extents_kept (s ∷ ss) [] fs fs' e e' h = absurd (omega arith)
   extents_kept (s ∷ ss) (s' ∷ ss') [] fs' e e' h = absurd (omega arith)
   extents_kept (s ∷ ss) (s' ∷ ss') (f ∷ fs) [] e e' h = absurd h
-  extents_kept (s ∷ ss) (s' ∷ ss') (f ∷ fs) (f' ∷ fs') e e'
-      h = grind (arith, extents_kept ss ss' fs fs' (omega arith) (omega arith) h.1)
+  extents_kept (s ∷ ss) (s' ∷ ss') (f ∷ fs) (f' ∷ fs') e e' h =
+      grind (arith, extents_kept ss ss' fs fs' (omega arith) (omega arith) h.1)
 
   pub starts_kept : (ss ss' : List S) (fs fs' : List Feed) → length ss ≡ length fs → length ss' ≡ length fs'
       → AllZip (Move text extent gave) (zip ss fs) (zip ss' fs')

@@ -288,8 +288,8 @@ within_opening text extent gave test [] (i ∷ is) xs ys known are opened = absu
 within_opening text extent gave test (t ∷ ts) [] xs ys known are opened = absurd are
 within_opening text extent gave test (t ∷ ts) (i ∷ is) [] ys known are opened = absurd known
 within_opening text extent gave test (t ∷ ts) (i ∷ is) (x ∷ xs) [] known are opened = absurd opened
-within_opening text extent gave test (t ∷ ts) (i ∷ is) (x ∷ xs) (y ∷ ys) known are
-    opened = grind (arith, within_opening text extent gave test ts is xs ys known.1 are.1 opened.1)
+within_opening text extent gave test (t ∷ ts) (i ∷ is) (x ∷ xs) (y ∷ ys) known are opened =
+    grind (arith, within_opening text extent gave test ts is xs ys known.1 are.1 opened.1)
 
 -- nothing was read at all
 pub opened_not : {S : Type 0} (text : S → Option (List ℕ)) (extent gave : S → ℕ) (xs : List S)

@@ -45,8 +45,8 @@ pub indexed_push : (types : Kind → Bool) (names : List (List ℕ)) (inputs : L
     → AreIndexed types (take i names) (take i inputs) archives → IsNewName (take i names) (get_or names i [])
     → IsAcceptedAs types (get_or names i []) (get_or inputs i None) captures → HaveLines captures
     → AreIndexed types (take (i + 1) names) (take (i + 1) inputs) (archives ++ captures ∷ [])
-indexed_push types names inputs archives i captures l m h new accepted
-    lines = grind (arith, common_steps, names_push, accepted_push, each_join)
+indexed_push types names inputs archives i captures l m h new accepted lines =
+    grind (arith, common_steps, names_push, accepted_push, each_join)
 
 -- an index more
 pub indexes_push : {I : Type 0} (limit : ℕ) (text : I → List ℕ) (indexes : List I) (archives : List (List EntryValue))

@@ -37,8 +37,8 @@ own_join : (earlier : List (List ℕ)) (name : List ℕ) (captures others : List
     → AllByRecursion (λ o. is_among (earlier ++ name ∷ []) o.filename ≡ false) others → HaveOwnPlaces others
     → HaveOwnPlaces (captures ++ others)
 own_join earlier name [] others named own new h = h
-own_join earlier name (e ∷ captures) others named own new
-    h = grind (arith, each_join, apart, own_join earlier name captures others named.1 own.1 new h)
+own_join earlier name (e ∷ captures) others named own new h =
+    grind (arith, each_join, apart, own_join earlier name captures others named.1 own.1 new h)
 
 -- each capture of archives with new names has a place of its own, and a name that isn't an earlier one
 once_from : (types : Kind → Bool) (earlier names : List (List ℕ)) (inputs : List (Option (List ℕ)))

@@ -32,8 +32,8 @@ new_at : (earlier names : List (List ℕ)) (i : ℕ) → AreNewNames earlier nam
     → IsNewName (earlier ++ take i names) (get_or names i [])
 new_at earlier [] i h l = absurd (omega arith)
 new_at earlier (n ∷ names) zero h l = grind (arith, append-nil)
-new_at earlier (n ∷ names) (suc i) h
-    l = grind (arith, append_assoc, new_at (earlier ++ n ∷ []) names i h.1 (omega arith))
+new_at earlier (n ∷ names) (suc i) h l =
+    grind (arith, append_assoc, new_at (earlier ++ n ∷ []) names i h.1 (omega arith))
 
 -- the archive with this number is told, and accepted whole
 record ToldWhole (types : Kind → Bool) (name : List ℕ) (input : Option (List ℕ)) : Type 0 where

@@ -30,8 +30,8 @@ pub spelled-walk : (limit start : ℕ) (heads : List HeadView) (texts : List (Li
 spelled-walk limit start [] [] rest a = (refl, refl)
 spelled-walk limit start [] (text ∷ texts) rest a = absurd a
 spelled-walk limit start (h ∷ heads) [] rest a = absurd a
-spelled-walk limit start (h ∷ heads) (text ∷ texts) rest
-    a = grind (arith, append_assoc, spelled-read, spelled-walk limit (start + record_length h) heads texts rest a.2)
+spelled-walk limit start (h ∷ heads) (text ∷ texts) rest a =
+    grind (arith, append_assoc, spelled-read, spelled-walk limit (start + record_length h) heads texts rest a.2)
 
 -- no record begins where damage does
 pub no-record : NoRecordAtDamage

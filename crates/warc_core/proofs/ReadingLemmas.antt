@@ -76,8 +76,8 @@ pub gave : (before left : Option (List ℕ)) (b : List ℕ) (count : ℕ) (out :
     → out ≡ take count b → Consumes before (prepend_known (drop count b) left) out
 gave None left b count out h e = tt
 gave (Some z) None b count out h e = h
-gave (Some z) (Some v) b count out h
-    e = grind (arith, take-append-drop count b, append_assoc (take count b) (drop count b) v)
+gave (Some z) (Some v) b count out h e =
+    grind (arith, take-append-drop count b, append_assoc (take count b) (drop count b) v)
 
 pub at_end : (count : ℕ) (b : List ℕ) (left : Option (List ℕ)) → b ≡ [] → IsAtEnd left
     → IsAtEnd (prepend_known (drop count b) left)
