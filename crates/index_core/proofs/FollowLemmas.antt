@@ -60,7 +60,8 @@ module _ {A X : Type 0} (head : X → HeadView) (line : X → List ℕ) (tally :
 
   -- what the writing of a fault's line leaves
   pub followed-fault : (fault : Fault) (given : IndexFault) (offset : ℕ) (answer : A)
-      (before now after : Option (List ℕ)) (k k' : ℕ) → Followed offset answer before now → fault.offset ≡ offset → WritesFault fault given now after k k'
+      (before now after : Option (List ℕ)) (k k' : ℕ) → Followed offset answer before now → fault.offset ≡ offset
+      → WritesFault fault given now after k k'
       → ReportsRecords head line tally (Err given) before after
   followed-fault fault faults.Memory offset answer before now after k k' s e h = h
   followed-fault fault faults.BadName offset answer before now after k k' s e h = h

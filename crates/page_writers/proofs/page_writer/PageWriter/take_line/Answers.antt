@@ -87,7 +87,8 @@ returns-clause-stands g c = λ taken start s.
     let captures : captures_of k.selection (taken ++ m ∷ []) ≡ captures_of w.selection taken ++ m ∷ [] =
     ap₂ (λ q from. captures_over q from (taken ++ m ∷ [])) (ap (λ s. s.query.now) kept.0 ∙ ap (λ r. r.now) same.0)
     (ap (λ s. from_view s.from) kept.0 ∙ ap from_view same.1)
-    ∙ c.in_ok-takes.ensures.capture taken selects ∙ ap (λ b. captures_of w.selection taken ++ cond b (m ∷ []) []) is in (
+    ∙ c.in_ok-takes.ensures.capture taken selects
+    ∙ ap (λ b. captures_of w.selection taken ++ cond b (m ∷ []) []) is in (
       as_kept (form_of w.selection.query.now) (form_of k.selection.query.now) w.limit k.limit
           (captures_of w.selection taken ++ m ∷ []) (captures_of k.selection (taken ++ m ∷ [])) start new
           k.given k.given w.more k.more k.last k.last (ap (λ s. form_of s.query.now) kept.0 ∙ form) kept.1 captures refl
