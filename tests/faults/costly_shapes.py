@@ -5,7 +5,8 @@ usage: costly_shapes.py [--scale N] [PROGRAM]
 
 Each size is twice the one before. The cost is the number of bytes that are read, or the time of the processor: the
 least of three runs, and 20 ms. A shape is costly if the last doubling costs more than 2.5 times as much, or more than
-1.5 times if nothing that is added needs to be read.
+1.5 times if nothing that is added needs to be read, and does so in each of three tries: other work on the machine
+changes times.
 
 With --scale all sizes are N times those of the script.
 
@@ -27,6 +28,7 @@ LINEAR = 2.5  # the most that doubling may cost
 FLAT = 1.5  # the same, of an input of which no more needs to be read
 LEAST_SECONDS = 0.02  # what is shorter can't be measured
 RUNS = 3
+TRIES = 3
 MEGABYTE = 1 << 20
 
 
@@ -164,8 +166,11 @@ def main() -> int:
     arguments = parser.parse_args()
     program = find_program(arguments.program)
     for shape in SHAPES:
-        costs = costs_of(program, shape, arguments.scale)
-        ratio = costs[-1] / costs[-2]
+        for _ in range(TRIES):
+            costs = costs_of(program, shape, arguments.scale)
+            ratio = costs[-1] / costs[-2]
+            if ratio <= shape.most:
+                break
         figures = ", ".join(f"{cost:,.3f} s" if shape.cost is seconds else f"{cost:,} bytes" for cost in costs)
         title = f"{shape.name}: {figures}; doubling costs {ratio:.2f}"
         if ratio <= shape.most:
